@@ -1,0 +1,28 @@
+//! What a message is to everything above: a list of segments.
+
+ghost use Rattle.cap_spec.specs.Messages.{HasWord, IsMessage, segment_of};
+ghost use Rattle.std.specs.Prelude.{◌<◌, ◌≡◌, List, length, ℕ};
+
+/// The segments of a message: 1 to 512 of them, each of at most 4294967295 words.
+pub trait Segments {
+    // The words of each segment.
+    ghost segments: { Self → List (List ℕ) };
+
+    /// How many segments there are.
+    fn count(&self) -> u32
+        ensures { result ≡ length (segments self.now) };
+
+    /// How many words segment `s` has.
+    fn len(&self, s: u32) -> u32
+        requires { s < length (segments self.now) }
+        ensures { result ≡ length (segment_of (segments self.now) s) };
+
+    /// Word `w` of segment `s`.
+    fn word(&self, s: u32, w: u32) -> u64
+        requires exists { s < length (segments self.now) }
+        requires inside { w < length (segment_of (segments self.now) s) }
+        ensures { HasWord (segments self.now) s w result };
+
+    // There are 1 to 512 segments, and their lengths are numbers of 32 bits.
+    ghost is_message: { (m : Self) → IsMessage (segments m) };
+}

@@ -1,0 +1,101 @@
+-- Which tree a pointer word denotes, at what charge and depth (standard: Objects, Structs, Lists; charge and depth are the profile's reading of Security Considerations).
+use Rattle.std.specs.Prelude.{ℕ, suc, ◌+◌, ◌*◌, ◌/◌, ◌%◌, ◌<◌, ◌≡◌, max, List, [], ◌∷◌, map, pos, slice_index, slice_range}
+use Rattle.std.specs.List.{range_with_len}
+use Rattle.cap_spec.specs.Words.{field}
+use Rattle.cap_spec.specs.Messages.{HasWord, segment_of}
+use Rattle.cap_spec.specs.Pointers.{kind, middle, code, data_size, pointer_size, list_size, extent, element_bits}
+use Rattle.cap_spec.specs.Following.{to_null, to_cap, to_object, Leads, Sits, extra}
+use Rattle.cap_spec.specs.Tree.{Tree, null, cap, struct, scalars, pointers, structs, Trees, none, more}
+
+-- the places t:b, t:b+1 and so on, n of them
+abbrev pub places : ℕ → ℕ → ℕ → List (ℕ × ℕ)
+places t b n = map (λ w. (t, w)) (range_with_len b n)
+
+-- The pointer word at s:w isn't wrong and leads with k pads to the object of shape q at t:b.
+pub record Finds (m : List (List ℕ)) (s w k t b q : ℕ) : Type 0 where
+  pub leads : Leads m s w k (to_object t (pos b) q)
+  pub sits : Sits m t b q
+
+-- n words from b on
+abbrev pub words_from : List (List ℕ) → ℕ → ℕ → ℕ → List ℕ
+words_from m t b n = slice_range (segment_of m t) b (b + n)
+
+-- element i of a list of this many bits an element, which begins at b
+abbrev pub value_at : List ℕ → ℕ → ℕ → ℕ → ℕ
+value_at words b bits i = field (slice_index words (b + (i * bits) / 64)) ((i * bits) % 64) bits
+
+abbrev pub values_of : List (List ℕ) → ℕ → ℕ → ℕ → ℕ → List ℕ
+values_of m t b c n = map (value_at (segment_of m t) b (element_bits c)) (range_with_len 0 n)
+
+-- how many levels the n elements of a struct list take below their list: none (a later change of the rule is a change of this line)
+abbrev pub element_levels : ℕ → ℕ
+element_levels n = 0
+
+-- A struct with these data words is found at s:w. Its children's charges and greatest depth are inner and deep.
+pub record FindsStruct (m : List (List ℕ)) (s w : ℕ) (words : List ℕ) (k t b q inner deep c d : ℕ) : Type 0 where
+  pub finds : Finds m s w k t b q
+  pub kind : kind q ≡ 0
+  pub data_words : words ≡ words_from m t b (data_size q)
+  pub charge : c ≡ k + extent q + inner
+  pub depth : d ≡ 1 + deep
+
+-- a list of values that aren't pointers
+pub record FindsScalars (m : List (List ℕ)) (s w e : ℕ) (values : List ℕ) (k t b q c d : ℕ) : Type 0 where
+  pub finds : Finds m s w k t b q
+  pub kind : kind q ≡ 1
+  pub code : e ≡ code q
+  pub scalar : e < 6
+  pub elements : values ≡ values_of m t b e (list_size q)
+  pub charge : c ≡ k + extent q + extra q 0
+  pub depth : d ≡ 1
+
+-- a list of pointers
+pub record FindsPointers (m : List (List ℕ)) (s w k t b q inner deep c d : ℕ) : Type 0 where
+  pub finds : Finds m s w k t b q
+  pub kind : kind q ≡ 1
+  pub code : code q ≡ 6
+  pub charge : c ≡ k + extent q + inner
+  pub depth : d ≡ 1 + deep
+
+-- a list of structs of ds data words and ps pointers, with its tag
+pub record FindsStructs (m : List (List ℕ)) (s w ds ps k t b q tag inner deep c d : ℕ) : Type 0 where
+  pub finds : Finds m s w k t b q
+  pub kind : kind q ≡ 1
+  pub code : code q ≡ 7
+  pub has_tag : HasWord m t b tag
+  pub data_sizes : ds ≡ data_size tag
+  pub pointer_sizes : ps ≡ pointer_size tag
+  pub charge : c ≡ k + extent q + extra q tag + inner
+  pub depth : d ≡ 1 + element_levels (middle tag) + deep
+
+abbrev mutual
+  -- The pointer word at s:w denotes the tree t, at charge c and depth d. Since t is finite, this is the least such relation.
+  pub Denotes : List (List ℕ) → ℕ → ℕ → Tree → ℕ → ℕ → Type 0
+  Denotes m s w null c d = Leads m s w c to_null × (d ≡ 0)
+  Denotes m s w (cap i) c d = Leads m s w c (to_cap i) × (d ≡ 0)
+  Denotes m s w (struct words ts) c d =
+      (k t b q inner deep : ℕ) × FindsStruct m s w words k t b q inner deep c d
+      × DenoteEach m (places t (b + data_size q) (pointer_size q)) ts inner deep
+  Denotes m s w (scalars e values) c d = (k t b q : ℕ) × FindsScalars m s w e values k t b q c d
+  Denotes m s w (pointers ts) c d =
+      (k t b q inner deep : ℕ) × FindsPointers m s w k t b q inner deep c d
+      × DenoteEach m (places t b (list_size q)) ts inner deep
+  Denotes m s w (structs ds ps es) c d =
+      (k t b q tag inner deep : ℕ) × FindsStructs m s w ds ps k t b q tag inner deep c d
+      × AreElements m t (b + 1) ds ps (middle tag) es inner deep
+
+  -- pointer words at these places denote these trees, in order
+  pub DenoteEach : List (List ℕ) → List (ℕ × ℕ) → Trees → ℕ → ℕ → Type 0
+  DenoteEach m ps none c d = (ps ≡ []) × (c ≡ 0) × (d ≡ 0)
+  DenoteEach m ps (more t ts) c d =
+      (s w : ℕ) × (rest : List (ℕ × ℕ)) × (c1 d1 c2 d2 : ℕ) × (ps ≡ (s, w) ∷ rest)
+      × Denotes m s w t c1 d1 × DenoteEach m rest ts c2 d2 × (c ≡ c1 + c2) × (d ≡ max d1 d2)
+
+  -- n elements of ds data words and ps pointers, from t:b on, are these structs
+  pub AreElements : List (List ℕ) → ℕ → ℕ → ℕ → ℕ → ℕ → Trees → ℕ → ℕ → Type 0
+  AreElements m t b ds ps n none c d = (n ≡ 0) × (c ≡ 0) × (d ≡ 0)
+  AreElements m t b ds ps n (more (struct words ts) es) c d =
+      (n' c1 d1 c2 d2 : ℕ) × (n ≡ suc n') × (words ≡ words_from m t b ds)
+      × DenoteEach m (places t (b + ds) ps) ts c1 d1
+      × AreElements m t (b + ds + ps) ds ps n' es c2 d2 × (c ≡ c1 + c2) × (d ≡ max d1 d2)
+  AreElements m t b ds ps n (more _ es) c d = ⊥

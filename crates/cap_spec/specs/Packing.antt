@@ -1,0 +1,47 @@
+-- The one packed spelling that is written (profile).
+use Rattle.std.specs.Prelude.{ℕ, zero, suc, ◌+◌, ◌-◌, ◌*◌, ◌==◌, min, not, nat_le, if◌then◌else◌, List, [], ◌∷◌, ◌++◌, length, take, drop, take_while, filter}
+use Rattle.cap_spec.specs.Plain.{word_bytes, plain_text}
+
+-- how many bytes are zero, and how many of a word's
+abbrev pub zeros_in : List ℕ → ℕ
+zeros_in [] = 0
+zeros_in (b ∷ bytes) = (if b == 0 then 1 else 0) + zeros_in bytes
+
+abbrev pub zero_bytes : ℕ → ℕ
+zero_bytes x = zeros_in (word_bytes x)
+
+-- how long the front of zero words is, and that of words with at most one zero byte
+abbrev pub zero_run : List ℕ → ℕ
+zero_run ws = length (take_while (λ x. x == 0) ws)
+
+abbrev pub full_run : List ℕ → ℕ
+full_run ws = length (take_while (λ x. nat_le (zero_bytes x) 1) ws)
+
+-- a tag that marks the bytes that aren't zero
+abbrev pub tag_of : List ℕ → ℕ
+tag_of [] = 0
+tag_of (b ∷ bytes) = (if b == 0 then 0 else 1) + 2 * tag_of bytes
+
+-- how many words the group in front takes
+abbrev pub group_size : List ℕ → ℕ
+group_size [] = 0
+group_size (w ∷ ws) =
+    if w == 0 then min 256 (zero_run (w ∷ ws)) else
+    (if zero_bytes w == 0 then (1 + min 255 (full_run ws)) else 1)
+
+-- the group that spells a word and n further words
+abbrev pub group_text : ℕ → ℕ → List ℕ → List ℕ
+group_text w n more =
+    if w == 0 then 0 ∷ n ∷ [] else
+    (if zero_bytes w == 0 then (255 ∷ (word_bytes w ++ n ∷ plain_text more)) else (tag_of (word_bytes w) ∷ filter (λ b. not (b == 0)) (word_bytes w)))
+
+-- the text of at most so many groups
+abbrev pub pack_in : ℕ → List ℕ → List ℕ
+pack_in zero ws = []
+pack_in (suc n) [] = []
+pack_in (suc n) (w ∷ ws) =
+    group_text w (group_size (w ∷ ws) - 1) (take (group_size (w ∷ ws) - 1) ws) ++ pack_in n (drop (group_size (w ∷ ws) - 1) ws)
+
+-- the packed text of words
+abbrev pub pack_text : List ℕ → List ℕ
+pack_text ws = pack_in (length ws) ws

@@ -1,0 +1,96 @@
+-- Where the steps of a path lead in a message, and at what level (profile).
+use Rattle.std.specs.Prelude.{ℕ, ◌+◌, ◌*◌, ◌<◌, ◌≡◌, ◌⊎◌, List, [], ◌∷◌, ⊤}
+use Rattle.cap_spec.specs.Messages.{HasWord}
+use Rattle.cap_spec.specs.Pointers.{kind, middle, code, data_size, pointer_size, list_size, extent}
+use Rattle.cap_spec.specs.Following.{to_null, to_cap, Leads, extra}
+use Rattle.cap_spec.specs.Denoting.{Finds, element_levels}
+use Rattle.cap_spec.specs.declared.Step.{Step}
+use Rattle.cap_spec.specs.declared.Step.TheVariants.{Ptr, Item}
+
+-- Where a node stands: at a pointer word, or at an element of a struct list (its segment, its start, its sizes).
+pub data Spot : Type 0 where
+  word : ℕ → ℕ → Spot
+  element : ℕ → ℕ → ℕ → ℕ → Spot
+
+-- One step leads from one spot to another.
+abbrev pub Goes : List (List ℕ) → Spot → Step → Spot → Type 0
+Goes m (word s w) (Ptr i) spot =
+    (k t b q : ℕ) × Finds m s w k t b q × (kind q ≡ 0) × (i < pointer_size q) × (spot ≡ word t (b + data_size q + i))
+Goes m (word s w) (Item i) spot =
+    ((k t b q : ℕ) × Finds m s w k t b q × (kind q ≡ 1) × (code q ≡ 6) × (i < list_size q) × (spot ≡ word t (b + i)))
+    ⊎ ((k t b q tag : ℕ) × Finds m s w k t b q × (kind q ≡ 1) × (code q ≡ 7) × HasWord m t b tag × (i < middle tag)
+    × (spot ≡ element t (b + 1 + i * (data_size tag + pointer_size tag)) (data_size tag) (pointer_size tag)))
+Goes m (element t b ds ps) (Ptr i) spot = (i < ps) × (spot ≡ word t (b + ds + i))
+Goes m (element t b ds ps) (Item i) spot = ⊥
+
+-- a pointer word counts one level, an element what element_levels says
+abbrev pub level_of : Spot → ℕ
+level_of (word s w) = 1
+level_of (element t b ds ps) = element_levels 1
+
+-- The path leads from the first spot to the second, and arrives at n pointer words on its way.
+abbrev pub Walks : List (List ℕ) → Spot → List Step → ℕ → Spot → Type 0
+Walks m a [] n b = (n ≡ 0) × (b ≡ a)
+Walks m a (step ∷ path) n b =
+    (mid : Spot) × (n' : ℕ) × Goes m a step mid × Walks m mid path n' b × (n ≡ level_of mid + n')
+
+-- The path from the root comes to this spot, at this level, whether or not the pointer that stands there is wrong.
+abbrev pub Comes : List (List ℕ) → List Step → ℕ → Spot → Type 0
+Comes m path level spot =
+    (root n : ℕ) × HasWord m 0 0 root × Walks m (word 0 0) path n spot × (level ≡ 1 + n)
+
+-- The path reaches the pointer word at s:w.
+abbrev pub Reaches : List (List ℕ) → List Step → ℕ → ℕ → ℕ → Type 0
+Reaches m path level s w = Comes m path level (word s w)
+
+-- what following the pointer at s:w costs, where it isn't wrong
+abbrev pub Costs : List (List ℕ) → ℕ → ℕ → ℕ → Type 0
+Costs m s w cost =
+    Leads m s w cost to_null
+    ⊎ ((i : ℕ) × Leads m s w cost (to_cap i))
+    ⊎ ((k t b q tag : ℕ) × Finds m s w k t b q × (((kind q ≡ 1) × (code q ≡ 7)) → HasWord m t b tag) × (cost ≡ k + extent q + extra q tag))
+
+abbrev pub number_of : Step → ℕ
+number_of (Ptr i) = i
+number_of (Item i) = i
+
+-- preorder of paths: a beginning comes first, else the smaller number at the first step that differs
+abbrev pub Before : List Step → List Step → Type 0
+Before p [] = ⊥
+Before [] (y ∷ ys) = Unit {0}
+Before (x ∷ xs) (y ∷ ys) = (number_of x < number_of y) ⊎ ((x ≡ y) × Before xs ys)
+
+abbrev pub Rises : List (List Step) → Type 0
+Rises [] = ⊤
+Rises (p ∷ []) = ⊤
+Rises (p ∷ q ∷ ps) = Before p q × Rises (q ∷ ps)
+
+abbrev pub IsOneOf : List Step → List (List Step) → Type 0
+IsOneOf p [] = ⊥
+IsOneOf p (q ∷ qs) = (p ≡ q) ⊎ IsOneOf p qs
+
+-- the paths to pointer words up to p, in preorder
+pub record IsTour (m : List (List ℕ)) (p : List Step) (tour : List (List Step)) : Type 0 where
+  pub rising : Rises tour
+  pub reached : (q : List Step) → IsOneOf q tour → (level s w : ℕ) × Reaches m q level s w
+  pub all : (q : List Step) (level s w : ℕ) → Reaches m q level s w → (q ≡ p) ⊎ Before q p → IsOneOf q tour
+  pub none_after : (q : List Step) → IsOneOf q tour → (q ≡ p) ⊎ Before q p
+
+-- What stands at a spot: the object that its pointer finds, or the element, as segment, start and words.
+abbrev pub Stands : List (List ℕ) → Spot → ℕ → ℕ → ℕ → Type 0
+Stands m (word s w) t b n = (k q : ℕ) × Finds m s w k t b q × (n ≡ extent q)
+Stands m (element t' b' ds ps) t b n = (t ≡ t') × (b ≡ b') × (n ≡ ds + ps)
+
+-- the place of a path
+abbrev pub IsPlace : List (List ℕ) → List Step → ℕ → ℕ → ℕ → Type 0
+IsPlace m path t b n = (level : ℕ) × (spot : Spot) × Comes m path level spot × Stands m spot t b n
+
+-- The pointer word at s:w is the first in preorder that leads to a capability.
+pub record IsFirstCap (m : List (List ℕ)) (s w : ℕ) : Type 0 where
+  pub path : List Step
+  pub level : ℕ
+  pub k : ℕ
+  pub index : ℕ
+  pub reached : Reaches m path level s w
+  pub leads : Leads m s w k (to_cap index)
+  pub first : (other : List Step) (level' s' w' k' index' : ℕ) → Before other path → Reaches m other level' s' w' → ¬ Leads m s' w' k' (to_cap index')

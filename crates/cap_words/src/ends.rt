@@ -1,0 +1,71 @@
+//! The ends that bytes come in and go out by.
+
+ghost use Rattle.cap_words.specs.Ends.{DeviceFails, Failures, Fails, GrowthFails, WasSpent, Works};
+ghost use Rattle.std.specs.Io.KnownBytes.{ReadConsumes, WriteAppends};
+ghost use Rattle.std.specs.Prelude.{◌<◌, ◌≡◌, ◌≤◌, [], Bool, IfOk, IsErrOf, List, OnOk, Option, length, true, ℕ};
+
+/// Why a read gave no bytes.
+#[derive(Clone, Copy, Debug, PartialEq, Eq, Drop)]
+pub enum InFault {
+    /// The device failed in this call.
+    Device,
+    /// An earlier fault has ended the input.
+    Spent,
+}
+
+/// Why a write took no bytes.
+#[derive(Clone, Copy, Debug, PartialEq, Eq, Drop)]
+pub enum OutFault {
+    /// The device failed in this call.
+    Device,
+    /// A growth was refused in this call.
+    Memory,
+    /// An earlier fault has ended the output.
+    Spent,
+}
+
+/// Bytes that come in.
+pub trait ByteIn {
+    // The bytes still to come, where they are known.
+    ghost to_come: { Self → Option (List ℕ) };
+
+    // How often the device failed.
+    ghost failures: { Self → ℕ };
+
+    // An earlier fault has ended it.
+    ghost spent: { Self → Bool };
+
+    /// The next bytes, at most as many as there is room for. With room, 0 is the end of the input.
+    fn read(&mut self, buf: &mut [u8]) -> Result<usize, InFault>
+        ensures within { IfOk result (λ n. n ≤ length buf.new) }
+        ensures bytes { ReadConsumes (to_come self.old) (to_come self.new) result buf.new }
+        ensures no_room { buf.old ≡ [] → (result ≡ Ok 0) × (self.new ≡ self.old) }
+        ensures for_good { spent self.old ≡ true → self.new ≡ self.old }
+        ensures ok { 0 < length buf.old → OnOk result (Works (spent self.old) (spent self.new) (failures self.old) (failures self.new)) }
+        ensures device { IsErrOf result InFault.Device → Fails (spent self.old) (failures self.old) (failures self.new) × (spent self.new ≡ true) }
+        ensures was_spent { IsErrOf result InFault.Spent → WasSpent (spent self.old) (spent self.new) (failures self.old) (failures self.new) };
+}
+
+/// Bytes that go out.
+pub trait ByteOut {
+    // The bytes written so far, where they are known.
+    ghost written: { Self → Option (List ℕ) };
+
+    // How often the device failed, or a growth was refused.
+    ghost failures: { Self → Failures };
+
+    // An earlier fault has ended it.
+    ghost spent: { Self → Bool };
+
+    /// Takes a beginning of the bytes, at least one of them where there is one; with a fault none.
+    fn write(&mut self, buf: &[u8]) -> Result<usize, OutFault>
+        ensures within { IfOk result (λ n. n ≤ length buf.now) }
+        ensures bytes { WriteAppends (written self.old) (written self.new) result buf.now }
+        ensures no_bytes { buf.now ≡ [] → (result ≡ Ok 0) × (self.new ≡ self.old) }
+        ensures for_good { spent self.old ≡ true → self.new ≡ self.old }
+        ensures some { 0 < length buf.now → IfOk result (λ n. 0 < n) }
+        ensures ok { 0 < length buf.now → OnOk result (Works (spent self.old) (spent self.new) (failures self.old) (failures self.new)) }
+        ensures device { IsErrOf result OutFault.Device → DeviceFails (spent self.old) (failures self.old) (failures self.new) × (spent self.new ≡ true) }
+        ensures memory { IsErrOf result OutFault.Memory → GrowthFails (spent self.old) (failures self.old) (failures self.new) }
+        ensures was_spent { IsErrOf result OutFault.Spent → WasSpent (spent self.old) (spent self.new) (failures self.old) (failures self.new) };
+}

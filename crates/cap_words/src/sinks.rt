@@ -1,0 +1,61 @@
+//! Sinks of words.
+
+ghost use Rattle.cap_words.specs.Ends.{DeviceFails, Failures, GrowthFails, WasSpent};
+ghost use Rattle.cap_words.specs.Sinks.{Begins, WasFinished, WasPut};
+ghost use Rattle.std.specs.Io.KnownBytes.{Keeps};
+ghost use Rattle.std.specs.Prelude.{◌≡◌, [], ◌∷◌, Bool, IsErrOf, List, OnErr, OnOk, Option, false, true, ℕ};
+
+/// Why a sink didn't take a word, or wasn't finished.
+#[derive(Clone, Copy, Debug, PartialEq, Eq, Drop)]
+pub enum SinkFault {
+    /// The output's device failed in this call.
+    Device,
+    /// A growth of the output was refused in this call.
+    Memory,
+    /// The sink is finished, or an earlier fault has ended it or its output.
+    Spent,
+}
+
+/// Words that go out.
+pub trait WordSink {
+    // The bytes that the output took so far, where they are known.
+    ghost taken: { Self → Option (List ℕ) };
+
+    // The whole text, where it is known, if these words come next and no more after them.
+    ghost text: { Self → List ℕ → Option (List ℕ) };
+
+    // How often the output failed.
+    ghost failures: { Self → Failures };
+
+    // It is finished, or has answered a fault.
+    ghost closed: { Self → Bool };
+
+    // It is closed, or an earlier fault has ended its output.
+    ghost spent: { Self → Bool };
+
+    /// Takes one more word. After a fault every call answers `Spent`, and what the output took is a
+    /// beginning of the text.
+    fn put(&mut self, word: u64) -> Result<(), SinkFault>
+        ensures put { OnOk result (WasPut text self.old self.new (word ∷ [])) }
+        ensures ok { OnOk result ((closed self.old ≡ false) × (closed self.new ≡ false) × (spent self.new ≡ spent self.old) × (failures self.new ≡ failures self.old)) }
+        ensures err { OnErr result ((closed self.new ≡ true) × ((ws : List ℕ) → Begins (text self.old (word ∷ ws)) (taken self.new))) }
+        ensures stays { closed self.old ≡ true → (result ≡ Err SinkFault.Spent) × (self.new ≡ self.old) }
+        ensures device { IsErrOf result SinkFault.Device → DeviceFails (spent self.old) (failures self.old) (failures self.new) }
+        ensures memory { IsErrOf result SinkFault.Memory → GrowthFails (spent self.old) (failures self.old) (failures self.new) }
+        ensures was_spent { IsErrOf result SinkFault.Spent → WasSpent (spent self.old) (spent self.new) (failures self.old) (failures self.new)
+            × Keeps (taken self.old) (taken self.new) };
+
+    /// Writes what is held back. After `Ok` as after a fault every call answers `Spent`.
+    fn finish(&mut self) -> Result<(), SinkFault>
+        ensures finished { OnOk result (WasFinished text taken self.old self.new []) }
+        ensures ok { OnOk result ((closed self.old ≡ false) × (closed self.new ≡ true) × (failures self.new ≡ failures self.old)) }
+        ensures err { OnErr result ((closed self.new ≡ true) × Begins (text self.old []) (taken self.new)) }
+        ensures stays { closed self.old ≡ true → (result ≡ Err SinkFault.Spent) × (self.new ≡ self.old) }
+        ensures device { IsErrOf result SinkFault.Device → DeviceFails (spent self.old) (failures self.old) (failures self.new) }
+        ensures memory { IsErrOf result SinkFault.Memory → GrowthFails (spent self.old) (failures self.old) (failures self.new) }
+        ensures was_spent { IsErrOf result SinkFault.Spent → WasSpent (spent self.old) (spent self.new) (failures self.old) (failures self.new)
+            × Keeps (taken self.old) (taken self.new) };
+
+    // What was taken begins each text that may come of it.
+    ghost begins: { (s : Self) (ws : List ℕ) → Begins (text s ws) (taken s) };
+}

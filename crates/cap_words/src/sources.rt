@@ -1,0 +1,73 @@
+//! Sources of words.
+
+ghost use Rattle.cap_words.specs.Ends.{Fails, WasSpent, Works};
+ghost use Rattle.std.specs.Io.KnownBytes.{Consumes, Keeps};
+ghost use Rattle.std.specs.Option.{option_to_list};
+ghost use Rattle.std.specs.Prelude.{◌+◌, ◌-◌, ◌^◌, ◌≡◌, [], ◌∷◌, Bool, IfOk, IfSome, IsErrOf, List, OnErr, OnOk, OnSome, Option, false, length, min, true, ℕ};
+
+/// Why a source gave no word.
+#[derive(Clone, Copy, Debug, PartialEq, Eq, Drop)]
+pub enum SourceFault {
+    /// The input ended inside a word, or inside a group of packed words. `byte` is the position then.
+    Truncated { byte: u64 },
+    /// The input's device failed in this call.
+    Device,
+    /// An earlier fault has ended the source, or its input.
+    Spent,
+}
+
+/// Words that come in.
+pub trait WordSource {
+    // The words still to come, where they are known.
+    ghost words: { Self → Option (List ℕ) };
+
+    // Whether the input then ends inside a word.
+    ghost is_cut: { Self → Bool };
+
+    // How many bytes were read so far, which stops at 2 ^ 64 - 1.
+    ghost place: { Self → ℕ };
+
+    // The place after each further word, and last the one at the end of the input.
+    ghost places: { Self → List ℕ };
+
+    // The bytes of the input still to come, where they are known.
+    ghost unread: { Self → Option (List ℕ) };
+
+    // It has answered that there are no more words.
+    ghost ended: { Self → Bool };
+
+    // It has answered a fault.
+    ghost failed: { Self → Bool };
+
+    // How often the input failed.
+    ghost failures: { Self → ℕ };
+
+    // An earlier fault has ended it, or its input.
+    ghost spent: { Self → Bool };
+
+    /// The next word, or `None` where the input ends between words, and from then on. After a fault
+    /// every call answers `Spent`.
+    fn next(&mut self) -> Result<Option<u64>, SourceFault>
+        ensures words { IfOk result (λ r. Consumes (words self.old) (words self.new) (option_to_list r)) }
+        ensures word { IfOk result (λ r. IfSome r (λ _. OnSome (words self.old)
+            ((is_cut self.new ≡ is_cut self.old) × (places self.old ≡ place self.new ∷ places self.new)))) }
+        ensures none { result ≡ Ok None → OnSome (words self.old)
+            ((words self.old ≡ Some []) × (is_cut self.old ≡ false) × (places self.old ≡ place self.new ∷ [])) }
+        ensures ended { result ≡ Ok None → ended self.new ≡ true }
+        ensures stays { ended self.old ≡ true → (result ≡ Ok None) × (self.new ≡ self.old) }
+        ensures err { OnErr result (failed self.new ≡ true) }
+        ensures for_good { failed self.old ≡ true → (result ≡ Err SourceFault.Spent) × (self.new ≡ self.old) }
+        ensures reads { (bs : List ℕ) × Consumes (unread self.old) (unread self.new) bs × (place self.new ≡ min (place self.old + length bs) (2 ^ 64 - 1)) }
+        ensures ok { OnOk result (Works (spent self.old) (spent self.new) (failures self.old) (failures self.new)) }
+        ensures truncated { (byte : ℕ) → IsErrOf result (SourceFault.Truncated byte) → OnSome (words self.old)
+            ((words self.old ≡ Some []) × (is_cut self.old ≡ true) × (places self.old ≡ place self.new ∷ [])) }
+        ensures at { (byte : ℕ) → IsErrOf result (SourceFault.Truncated byte) → (byte ≡ place self.new)
+            × (spent self.old ≡ false) × (spent self.new ≡ true) × (failures self.new ≡ failures self.old) }
+        ensures device { IsErrOf result SourceFault.Device → Fails (spent self.old) (failures self.old) (failures self.new) × (spent self.new ≡ true) }
+        ensures was_spent { IsErrOf result SourceFault.Spent → WasSpent (spent self.old) (spent self.new) (failures self.old) (failures self.new)
+            × (place self.new ≡ place self.old) × Keeps (unread self.old) (unread self.new) };
+
+    /// How many bytes of the input were read so far, or 2^64 - 1 where there were more.
+    fn position(&self) -> u64
+        ensures { result ≡ place self.now };
+}
