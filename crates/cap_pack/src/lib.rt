@@ -1,0 +1,6 @@
+//! Packed words: the source that unpacks them, and the sink that packs them.
+#![tactic(auto)]
+
+pub mod unpacker;
+
+pub use unpacker::Unpacker;
