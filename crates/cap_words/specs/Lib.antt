@@ -1,2 +1,4 @@
 pub mod Ends
+pub mod Inner
 pub mod Sinks
+pub mod Vectors

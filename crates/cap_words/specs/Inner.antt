@@ -1,0 +1,11 @@
+-- What the ends, sources and sinks that stand on another end stand on.
+use Rattle.cap_words.specs.declared.from_read.FromRead.{FromRead}
+use Rattle.cap_words.specs.declared.from_write.FromWrite.{FromWrite}
+
+-- `input.into_inner()`
+abbrev pub reader_of : {R : Type 0} → FromRead R → R
+reader_of input = input.reader
+
+-- `output.into_inner()`
+abbrev pub writer_of : {W : Type 0} → FromWrite W → W
+writer_of output = output.writer

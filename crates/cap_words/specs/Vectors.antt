@@ -1,0 +1,16 @@
+-- What an output into memory says of itself.
+use Rattle.std.specs.Prelude.{ℕ, ◌-◌, ◌^◌, ◌==◌, Bool, Option, Some, List}
+use Rattle.cap_words.specs.Ends.{Failures}
+use Rattle.cap_words.specs.declared.vec_out.VecOut.{VecOut}
+
+-- the bytes written so far
+abbrev pub vec_written : VecOut → Option (List ℕ)
+vec_written output = Some output.bytes.items
+
+-- each growth that was refused
+abbrev pub vec_failures : VecOut → Failures
+vec_failures output = record { device = 0; memory = output.refused }
+
+-- its count of refused growths can't go up any more
+abbrev pub vec_spent : VecOut → Bool
+vec_spent output = output.refused == 2 ^ 64 - 1

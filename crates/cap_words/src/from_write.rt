@@ -1,0 +1,65 @@
+//! An output over std's writers.
+
+ghost use Rattle.cap_words.specs.Inner.{writer_of};
+ghost use Rattle.cap_words.specs.declared.from_write.FromWrite.{FromWrite};
+ghost use Rattle.std.specs.Prelude.{◌≡◌, false, if◌then◌else◌, ℕ};
+
+use super::ends::{ByteOut, OutFault};
+use std::io::Write;
+
+/// Writes to a std writer, which it never flushes. Each error of the writer, an interruption too,
+/// is one failure, and so is a write that takes none of some bytes. The writer isn't called again
+/// after it.
+#[derive(Drop)]
+pub struct FromWrite<W: Write> {
+    writer: W,
+    failed: bool,
+}
+
+impl<W: Write> FromWrite<W> {
+    /// An output that goes on behind what `writer` holds.
+    pub fn new(writer: W) -> FromWrite<W>
+        ensures writer { writer_of result ≡ writer }
+        ensures starts { ⟦<FromWrite<W> as ByteOut>⟧.written result ≡ W.contents writer }
+        ensures usable { ⟦<FromWrite<W> as ByteOut>⟧.spent result ≡ false }
+        ensures written { (s : FromWrite W) → ⟦<FromWrite<W> as ByteOut>⟧.written s ≡ W.contents (writer_of s) }
+        ensures failures { (s : FromWrite W) → (⟦<FromWrite<W> as ByteOut>⟧.failures s).device ≡ (if ⟦<FromWrite<W> as ByteOut>⟧.spent s then 1 else 0) }
+        ensures no_growths { (s : FromWrite W) → (⟦<FromWrite<W> as ByteOut>⟧.failures s).memory ≡ 0 }
+    {
+        FromWrite {
+            writer,
+            failed: false,
+        }
+    }
+
+    /// Gives the writer back as it is. Nothing is written or flushed.
+    pub fn into_inner(self) -> W
+        ensures { result ≡ writer_of self }
+    {
+        self.writer
+    }
+}
+
+impl<W: Write> ByteOut for FromWrite<W> {
+    ghost written = { λ s. W.contents s.writer };
+
+    ghost failures = { λ s. record { device = if s.failed then 1 else 0; memory = 0 } };
+
+    ghost spent = { λ s. s.failed };
+
+    fn write(&mut self, buf: &[u8]) -> Result<usize, OutFault> {
+        if buf.is_empty() {
+            return Ok(0);
+        }
+        if self.failed {
+            return Err(OutFault::Spent);
+        }
+        match self.writer.write(buf) {
+            Ok(count) if count > 0 => Ok(count),
+            _ => {
+                self.failed = true;
+                Err(OutFault::Device)
+            }
+        }
+    }
+}

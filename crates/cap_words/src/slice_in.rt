@@ -1,0 +1,43 @@
+//! An input over bytes in memory.
+
+ghost use Rattle.cap_words.specs.declared.slice_in.SliceIn.{SliceIn};
+ghost use Rattle.std.specs.Prelude.{◌≡◌, Some, false, ℕ};
+
+use super::ends::{ByteIn, InFault};
+
+/// Reads a byte slice. It never fails.
+#[derive(Clone, Copy, Debug, Drop)]
+pub struct SliceIn<'a> {
+    // what is still to come
+    rest: &'a [u8],
+}
+
+impl<'a> SliceIn<'a> {
+    /// An input with all of `bytes` still to come.
+    pub fn new(bytes: &'a [u8]) -> SliceIn<'a>
+        ensures to_come { ⟦<SliceIn<'a> as ByteIn>⟧.to_come result ≡ Some bytes.now }
+        ensures never_spent { (s : SliceIn) → ⟦<SliceIn<'a> as ByteIn>⟧.spent s ≡ false }
+        ensures never_fails { (s : SliceIn) → ⟦<SliceIn<'a> as ByteIn>⟧.failures s ≡ 0 }
+    {
+        SliceIn { rest: bytes }
+    }
+}
+
+impl ByteIn for SliceIn<'_> {
+    ghost to_come = { λ s. Some s.rest.now };
+
+    ghost failures = { λ _. 0 };
+
+    ghost spent = { λ _. false };
+
+    fn read(&mut self, buf: &mut [u8]) -> Result<usize, InFault> {
+        if buf.is_empty() {
+            return Ok(0);
+        }
+        let count = buf.len().min(self.rest.len());
+        let (given, rest) = self.rest.split_at(count);
+        buf[..count].copy_from_slice(given);
+        self.rest = rest;
+        Ok(count)
+    }
+}

@@ -1,0 +1,74 @@
+//! An output into memory.
+
+ghost use Rattle.cap_words.specs.Ends.{DeviceFails, GrowthFails, WasSpent, Works};
+ghost use Rattle.cap_words.specs.Vectors.{vec_failures, vec_spent, vec_written};
+ghost use Rattle.cap_words.specs.declared.vec_out.VecOut.{VecOut};
+ghost use Rattle.std.specs.Io.KnownBytes.{WriteAppends};
+ghost use Rattle.std.specs.Prelude.{◌-◌, ◌<◌, ◌==◌, ◌^◌, ◌≡◌, ◌≤◌, [], IfOk, IsErrOf, OnOk, Some, length, true, ℕ};
+
+use super::ends::{ByteOut, OutFault};
+use std::alloc::Global;
+
+/// Appends to a vector: all that it is given, or nothing where the vector can't grow. A later
+/// call may succeed then. It is spent once 2^64 - 1 growths were refused.
+#[derive(Drop)]
+pub struct VecOut {
+    bytes: Vec<u8>,
+    refused: u64,
+}
+
+impl VecOut {
+    /// An output that holds no bytes yet.
+    pub fn new(alloc: Global) -> VecOut
+        ensures written { ⟦<VecOut as ByteOut>⟧.written result ≡ Some [] }
+        ensures none_failed { ⟦<VecOut as ByteOut>⟧.failures result ≡ record { device = 0; memory = 0 } }
+        ensures when_spent { (s : VecOut) → ⟦<VecOut as ByteOut>⟧.spent s ≡ ((⟦<VecOut as ByteOut>⟧.failures s).memory == 2 ^ 64 - 1) }
+        ensures no_device { (s : VecOut) → (⟦<VecOut as ByteOut>⟧.failures s).device ≡ 0 }
+    {
+        VecOut {
+            bytes: Vec::new(alloc),
+            refused: 0,
+        }
+    }
+
+    /// The bytes that were written so far.
+    pub fn bytes(&self) -> &[u8]
+        ensures { ⟦<VecOut as ByteOut>⟧.written self.now ≡ Some result.now }
+    {
+        self.bytes.as_slice()
+    }
+}
+
+impl ByteOut for VecOut {
+    ghost written = { vec_written };
+
+    ghost failures = { vec_failures };
+
+    ghost spent = { vec_spent };
+
+    /// Takes all the bytes, or none where the vector can't grow.
+    fn write(&mut self, buf: &[u8]) -> Result<usize, OutFault>
+        ensures within { IfOk result (λ n. n ≤ length buf.now) }
+        ensures all { IfOk result (λ n. n ≡ length buf.now) }
+        ensures bytes { WriteAppends (vec_written self.old) (vec_written self.new) result buf.now }
+        ensures no_bytes { buf.now ≡ [] → (result ≡ Ok 0) × (self.new ≡ self.old) }
+        ensures for_good { vec_spent self.old ≡ true → self.new ≡ self.old }
+        ensures some { 0 < length buf.now → IfOk result (λ n. 0 < n) }
+        ensures ok { 0 < length buf.now → OnOk result (Works (vec_spent self.old) (vec_spent self.new) (vec_failures self.old) (vec_failures self.new)) }
+        ensures device { IsErrOf result OutFault.Device → DeviceFails (vec_spent self.old) (vec_failures self.old) (vec_failures self.new) × (vec_spent self.new ≡ true) }
+        ensures memory { IsErrOf result OutFault.Memory → GrowthFails (vec_spent self.old) (vec_failures self.old) (vec_failures self.new) }
+        ensures was_spent { IsErrOf result OutFault.Spent → WasSpent (vec_spent self.old) (vec_spent self.new) (vec_failures self.old) (vec_failures self.new) }
+    {
+        if buf.is_empty() {
+            return Ok(0);
+        }
+        if self.refused == u64::MAX {
+            return Err(OutFault::Spent);
+        }
+        if self.bytes.extend_from_slice(buf).is_err() {
+            self.refused += 1;
+            return Err(OutFault::Memory);
+        }
+        Ok(buf.len())
+    }
+}
