@@ -1,2 +1,3 @@
 mod Examples
 pub mod Framing
+pub mod Endings
