@@ -1,6 +1,12 @@
 //! Framed messages: reading them from a source of words, and writing them to a sink.
 #![tactic(auto)]
 
+pub mod fault;
+pub mod limit;
+pub mod message;
 pub mod segments;
 
+pub use fault::FrameFault;
+pub use limit::SizeLimit;
+pub use message::{OneSegment, WordMessage};
 pub use segments::Segments;

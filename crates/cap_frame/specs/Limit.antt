@@ -1,0 +1,7 @@
+-- What contracts see of a limit.
+use Rattle.std.specs.Prelude.{ℕ}
+use Rattle.cap_frame.specs.declared.limit.SizeLimit.{SizeLimit}
+
+-- how many words it allows
+abbrev pub limit_of : SizeLimit → ℕ
+limit_of limit = limit.words
