@@ -1,0 +1,32 @@
+-- The words of a message at their places.
+use Rattle.std.proofs.Common.{◌≡◌, ℕ, ◌<◌, ◌≤◌, inl, inr, List, [], length, get_or, sym, ap, ◌∙◌, subst, arith}
+use Rattle.std.proofs.lemmas.Option.{same_Some, slice_get_within, slice_get-get_or}
+use Rattle.std.proofs.lemmas.List.{get_or_past}
+use Rattle.std.proofs.lemmas.Bool.{cases_lt}
+use Rattle.cap_spec.specs.Messages.{HasWord, segment_of}
+
+-- the word at a place is one word
+pub one_word : (m : List (List ℕ)) (s w x y : ℕ) → HasWord m s w x → HasWord m s w y → x ≡ y
+one_word m s w x y p q = same_Some x y (sym p ∙ q)
+
+-- a word stands inside its segment
+pub HasWord-inside : (m : List (List ℕ)) (s w x : ℕ) → HasWord m s w x → w < length (segment_of m s)
+HasWord-inside m s w x h = slice_get_within (segment_of m s) w x h
+
+-- each place inside a segment has a word
+pub HasWord-at : (m : List (List ℕ)) (s w : ℕ) → w < length (segment_of m s) → (x : ℕ) × HasWord m s w x
+HasWord-at m s w h = (get_or (segment_of m s) w 0, slice_get-get_or (segment_of m s) w 0 h)
+
+-- a segment that there isn't has no words
+pub length-segment_of-past : (m : List (List ℕ)) (s : ℕ) → length m ≤ s → length (segment_of m s) ≡ 0
+length-segment_of-past m s h = ap length (get_or_past m s [] h)
+
+-- a word stands in a segment that there is
+pub HasWord-segment : (m : List (List ℕ)) (s w x : ℕ) → HasWord m s w x → s < length m
+HasWord-segment m s w x h =
+    let i : w < length (segment_of m s) = HasWord-inside m s w x h in
+    elim (cases_lt s (length m)) [ inl y ↦ y | inr y ↦ absurd (omega (arith, length-segment_of-past m s y)) ]
+
+-- what is so of the word at a place is so of each name of that word
+pub at_word : (P : ℕ → Type 0) (m : List (List ℕ)) (s w x y : ℕ) → HasWord m s w x → HasWord m s w y → P x → P y
+at_word P m s w x y p q = subst P (one_word m s w x y p q)
