@@ -4,3 +4,4 @@ pub mod Endings
 pub mod Messages
 pub mod Conditions
 pub mod Following
+pub mod Packing
