@@ -1,7 +1,9 @@
 mod Examples
+pub mod Lists
 pub mod Framing
 pub mod Endings
 pub mod Messages
 pub mod Conditions
 pub mod Following
 pub mod Packing
+pub mod OneEnding

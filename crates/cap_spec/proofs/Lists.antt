@@ -1,0 +1,30 @@
+-- What holds of each member of a list holds of each member of its parts.
+use Rattle.std.proofs.Common.{ℕ, zero, suc, List, [], ◌∷◌, ◌++◌, take, drop}
+use Rattle.std.specs.List.{AllByRecursion}
+
+-- of a front
+pub all_take : {A : Type 0} (P : A → Type 0) (n : ℕ) (xs : List A) → AllByRecursion P xs → AllByRecursion P (take n xs)
+all_take P zero xs a = tt
+all_take P (suc n) [] a = tt
+all_take P (suc n) (x ∷ xs) a = (a.0, all_take P n xs a.1)
+
+-- of what stands behind it
+pub all_drop : {A : Type 0} (P : A → Type 0) (n : ℕ) (xs : List A) → AllByRecursion P xs → AllByRecursion P (drop n xs)
+all_drop P zero xs a = a
+all_drop P (suc n) [] a = tt
+all_drop P (suc n) (x ∷ xs) a = all_drop P n xs a.1
+
+-- of two lists joined, where it holds in both
+pub all_append : {A : Type 0} (P : A → Type 0) (xs ys : List A) → AllByRecursion P xs → AllByRecursion P ys → AllByRecursion P (xs ++ ys)
+all_append P [] ys a b = b
+all_append P (x ∷ xs) ys a b = (a.0, all_append P xs ys a.1 b)
+
+-- of the first of two lists joined
+pub all_front : {A : Type 0} (P : A → Type 0) (xs ys : List A) → AllByRecursion P (xs ++ ys) → AllByRecursion P xs
+all_front P [] ys a = tt
+all_front P (x ∷ xs) ys a = (a.0, all_front P xs ys a.1)
+
+-- of the second
+pub all_back : {A : Type 0} (P : A → Type 0) (xs ys : List A) → AllByRecursion P (xs ++ ys) → AllByRecursion P ys
+all_back P [] ys a = a
+all_back P (x ∷ xs) ys a = all_back P xs ys a.1
