@@ -1,15 +1,9 @@
 -- A pointer word leads to one thing. Either that is null, a capability or an object that sits, or exactly one reason is wrong there.
-use Rattle.std.proofs.Common.{◌≡◌, ◌≢◌, ℕ, suc, ◌+◌, ◌*◌, ◌<◌, ◌≤◌, ◌⊎◌, inl, inr, List, [], length, ℤ, pos, ◌+ℤ◌, ◌<ℤ◌, refl, sym, ap, ◌∙◌, subst, arith}
-use Rattle.std.proofs.lemmas.Bool.{cases_lt}
-use Rattle.cap_spec.specs.Words.{signed_offset_of}
-use Rattle.cap_spec.specs.Messages.{HasWord, segment_of}
-use Rattle.cap_spec.specs.Pointers.{kind, middle, code, two, pad, far_segment, cap_index, data_size, pointer_size, list_size, extent, IsFar, IsReserved, IsCap}
-use Rattle.cap_spec.specs.Following.{Lead, to_null, to_cap, to_object, Says, IsOnePad, IsTwoPad, IsTag, Leads, near, one_pad, two_pads, IsComposite, TagFits, Sits, PadMissing, Outside, Condition, rank, Wrong}
-use Rattle.cap_spec.specs.Denoting.{Finds}
-use Rattle.cap_spec.specs.declared.Reason.{Reason}
-use Rattle.cap_spec.specs.declared.Reason.TheVariants.{NoRoot, Reserved, SegmentMissing, PadOutside, PadIsFar, PadNotFar, TagKind, TagOffset, OutOfSegment, CompositeTag, CompositeOverrun, DepthLimit, WordLimit}
-use Rattle.cap_spec.proofs.Messages.{one_word, HasWord-at, HasWord-inside, HasWord-segment, at_word}
-use Rattle.cap_spec.proofs.Conditions.{near-not_reserved, near-not_missing, near-not_outside, near-not_pad_far, near-not_pad_near, near-not_tag_kind, near-not_tag_offset, missing-not_reserved, outside-not_reserved, outside-not_missing, one-not_reserved, one-not_missing, one-not_outside, one-not_pad_far, one-not_pad_near, one-not_tag_kind, one-not_tag_offset, two-not_reserved, two-not_missing, two-not_outside, two-not_pad_far, two-not_pad_near, two-not_tag_kind, two-not_tag_offset, NoneBelow, none_below_reserved, and_not}
+use Rattle.std.proofs.Common.{◌≡◌, ◌≢◌, ℕ, ◌+◌, ◌<◌, List, pos, refl, sym, ap, ◌∙◌, subst, arith}
+use Rattle.cap_spec.specs.Messages.{HasWord}
+use Rattle.cap_spec.specs.Pointers.{kind, two, pad, far_segment, IsFar}
+use Rattle.cap_spec.specs.Following.{Lead, to_null, to_cap, to_object, Says, IsOnePad, IsTwoPad, Leads, near, one_pad, two_pads}
+use Rattle.cap_spec.proofs.Messages.{one_word, at_word}
 
 -- a word by itself says one thing
 Says-unique : (t w q : ℕ) (r r' : Lead) → Says t w q r → Says t w q r' → r ≡ r'

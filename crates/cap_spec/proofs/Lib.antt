@@ -1,5 +1,7 @@
 mod Examples
 pub mod Lists
+pub mod WordBytes
+pub mod Plain
 pub mod Framing
 pub mod Endings
 pub mod Messages
