@@ -9,3 +9,4 @@ pub mod Conditions
 pub mod Following
 pub mod Packing
 pub mod OneEnding
+pub mod Fates
