@@ -10,3 +10,7 @@ pub mod Following
 pub mod Packing
 pub mod OneEnding
 pub mod Fates
+pub mod Finding
+pub mod OneTree
+pub mod Charges
+pub mod Shapes
