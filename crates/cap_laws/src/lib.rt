@@ -2,4 +2,5 @@
 //! body, named for what it says.
 #![tactic(auto)]
 
+pub mod following;
 pub mod trees;
