@@ -1,4 +1,5 @@
 pub mod Ends
 pub mod Inner
+pub mod PlainSource
 pub mod Sinks
 pub mod Vectors

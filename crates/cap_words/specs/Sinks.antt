@@ -1,6 +1,10 @@
 -- What is known of the text of a sink.
-use Rattle.std.specs.Prelude.{ℕ, ◌≡◌, Option, None, Some, List, ◌++◌, ⊤}
-use Rattle.std.specs.Io.KnownBytes.{Keeps}
+use Rattle.std.specs.Prelude.{ℕ, ◌≡◌, Option, None, Some, List, ◌++◌, ⊤, refl}
+use Rattle.std.specs.Io.KnownBytes.{Keeps, append_known}
+use Rattle.cap_words.specs.declared.ends.OutFault.{OutFault}
+use Rattle.cap_words.specs.declared.ends.OutFault.TheVariants.{Device, Memory, Spent}
+use Rattle.cap_words.specs.declared.sinks.SinkFault.{SinkFault}
+use Rattle.cap_words.specs.declared.sinks.SinkFault.TheVariants.{Device as of_device, Memory as of_memory, Spent as was_spent}
 
 -- a known text begins with the known bytes
 abbrev pub Begins : Option (List ℕ) → Option (List ℕ) → Type 0
@@ -19,3 +23,14 @@ StoppedPutting text taken old new xs = (ws : List ℕ) → Begins (text old (xs 
 -- the sink was put exactly these words and finished: the bytes taken are what its text after them was before
 abbrev pub WasFinished : {K : Type 0} → (K → List ℕ → Option (List ℕ)) → (K → Option (List ℕ)) → K → K → List ℕ → Type 0
 WasFinished text taken old new xs = Keeps (text old xs) (taken new)
+
+-- bytes begin what they are continued to
+pub begins_appended : (known : Option (List ℕ)) (more : List ℕ) → Begins (append_known known more) known
+begins_appended None more = tt
+begins_appended (Some bytes) more = (more, refl)
+
+-- an output's fault as its sink answers it
+abbrev pub sink_fault_of : OutFault → SinkFault
+sink_fault_of Device = of_device
+sink_fault_of Memory = of_memory
+sink_fault_of Spent = was_spent

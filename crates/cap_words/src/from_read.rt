@@ -19,10 +19,10 @@ impl<R: Read> FromRead<R> {
     /// An input with all that `reader` has still to come.
     pub fn new(reader: R) -> FromRead<R>
         ensures reader { reader_of result ≡ reader }
-        ensures starts { ⟦<FromRead<R> as ByteIn>⟧.to_come result ≡ R.remaining reader }
-        ensures usable { ⟦<FromRead<R> as ByteIn>⟧.spent result ≡ false }
-        ensures to_come { (s : FromRead R) → ⟦<FromRead<R> as ByteIn>⟧.to_come s ≡ R.remaining (reader_of s) }
-        ensures failures { (s : FromRead R) → ⟦<FromRead<R> as ByteIn>⟧.failures s ≡ (if ⟦<FromRead<R> as ByteIn>⟧.spent s then 1 else 0) }
+        ensures to_come { ⟦<FromRead<R> as ByteIn>⟧.to_come result ≡ R.remaining reader }
+        ensures spent { ⟦<FromRead<R> as ByteIn>⟧.spent result ≡ false }
+        ensures shows_to_come { (s : FromRead R) → ⟦<FromRead<R> as ByteIn>⟧.to_come s ≡ R.remaining (reader_of s) }
+        ensures fails_once { (s : FromRead R) → ⟦<FromRead<R> as ByteIn>⟧.failures s ≡ (if ⟦<FromRead<R> as ByteIn>⟧.spent s then 1 else 0) }
     {
         FromRead {
             reader,

@@ -1,9 +1,11 @@
 //! Sinks of words.
 
 ghost use Rattle.cap_words.specs.Ends.{DeviceFails, Failures, GrowthFails, WasSpent};
-ghost use Rattle.cap_words.specs.Sinks.{Begins, WasFinished, WasPut};
+ghost use Rattle.cap_words.specs.Sinks.{Begins, WasFinished, WasPut, sink_fault_of};
 ghost use Rattle.std.specs.Io.KnownBytes.{Keeps};
 ghost use Rattle.std.specs.Prelude.{◌≡◌, [], ◌∷◌, Bool, IsErrOf, List, OnErr, OnOk, Option, false, true, ℕ};
+
+use super::ends::OutFault;
 
 /// Why a sink didn't take a word, or wasn't finished.
 #[derive(Clone, Copy, Debug, PartialEq, Eq, Drop)]
@@ -14,6 +16,18 @@ pub enum SinkFault {
     Memory,
     /// The sink is finished, or an earlier fault has ended it or its output.
     Spent,
+}
+
+impl From<OutFault> for SinkFault {
+    ghost from_gives = { λ fault given. given ≡ sink_fault_of fault };
+
+    fn from(fault: OutFault) -> SinkFault {
+        match fault {
+            OutFault::Device => SinkFault::Device,
+            OutFault::Memory => SinkFault::Memory,
+            OutFault::Spent => SinkFault::Spent,
+        }
+    }
 }
 
 /// Words that go out.

@@ -1,0 +1,14 @@
+use Rattle.std.proofs.Common.{◌-◌, ◌≤◌, take, length}
+use Rattle.std.specs.Io.KnownBytes.{Consumes}
+use Rattle.cap_words.proofs.Turns.{Moved}
+use Rattle.cap_words.proofs.transfer.fill.Given as goal
+
+abbrev pub invariant-loop-len : goal.invariant-loop-len
+invariant-loop-len g l = record {
+  within : l.len ≤ length l.buf;
+  taken : Consumes (g.I.ByteIn.to_come l.initial.input) (g.I.ByteIn.to_come l.input) (take l.len l.buf);
+  moved : Moved g.I.ByteIn.spent g.I.ByteIn.failures l.len l.initial.input l.input;
+}
+
+abbrev pub decreases-loop-len : goal.decreases-loop-len
+decreases-loop-len g l = length l.buf - l.len

@@ -1,0 +1,27 @@
+-- What a source of the plain spelling says of itself, by its phase.
+use Rattle.std.specs.Prelude.{ℕ, Bool, true, false, Option, List, []}
+use Rattle.std.specs.Option.{option_map}
+use Rattle.cap_words.specs.declared.plain_words.Phase.{Phase}
+use Rattle.cap_words.specs.declared.plain_words.Phase.TheVariants.{Open, Ended, Failed}
+
+abbrev pub has_ended : Phase → Bool
+has_ended Open = false
+has_ended Ended = true
+has_ended Failed = false
+
+abbrev pub has_failed : Phase → Bool
+has_failed Open = false
+has_failed Ended = false
+has_failed Failed = true
+
+-- by its own phase and whether its input is spent
+abbrev pub source_spent : Phase → Bool → Bool
+source_spent Open input = input
+source_spent Ended input = false
+source_spent Failed input = true
+
+-- what it will still read of the bytes to come
+abbrev pub bytes_left : Phase → Option (List ℕ) → Option (List ℕ)
+bytes_left Open known = known
+bytes_left Ended known = option_map (λ _. []) known
+bytes_left Failed known = known

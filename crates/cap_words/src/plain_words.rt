@@ -1,0 +1,115 @@
+//! Words from the plain spelling, eight bytes a word.
+
+ghost use Rattle.cap_spec.specs.Plain.{plain_ends, plain_is_cut, plain_words};
+ghost use Rattle.cap_words.specs.Inner.{input_of};
+ghost use Rattle.cap_words.specs.PlainSource.{bytes_left, has_ended, has_failed, source_spent};
+ghost use Rattle.cap_words.specs.declared.plain_words.PlainWords.{PlainWords};
+ghost use Rattle.std.specs.Option.{option_map};
+ghost use Rattle.std.specs.Prelude.{◌≡◌, [], OnSome, false, unwrap_or, ℕ};
+
+use super::ends::{ByteIn, InFault};
+use super::sources::{SourceFault, WordSource};
+use super::transfer::fill;
+use super::word::word_of;
+
+/// Reads words of eight bytes, the lowest byte first (encoding: 64-bit Words).
+#[derive(Drop)]
+pub struct PlainWords<I: ByteIn> {
+    input: I,
+    // how many bytes were read so far, or 2^64 - 1 where there were more
+    read: u64,
+    phase: Phase,
+}
+
+// What a source does at its next call.
+#[derive(Clone, Copy)]
+enum Phase {
+    Open,
+    Ended,
+    Failed,
+}
+
+impl<I: ByteIn> PlainWords<I> {
+    /// The words that the bytes of `input` spell.
+    pub fn new(input: I) -> PlainWords<I>
+        ensures input { input_of result ≡ input }
+        ensures words { ⟦<PlainWords<I> as WordSource>⟧.words result ≡ option_map plain_words (I.to_come input) }
+        ensures is_cut { ⟦<PlainWords<I> as WordSource>⟧.is_cut result ≡ plain_is_cut (unwrap_or (I.to_come input) []) }
+        ensures place { ⟦<PlainWords<I> as WordSource>⟧.place result ≡ 0 }
+        ensures places { OnSome (I.to_come input) (⟦<PlainWords<I> as WordSource>⟧.places result ≡ plain_ends 0 (unwrap_or (I.to_come input) [])) }
+        ensures unread { ⟦<PlainWords<I> as WordSource>⟧.unread result ≡ I.to_come input }
+        ensures ended { ⟦<PlainWords<I> as WordSource>⟧.ended result ≡ false }
+        ensures failed { ⟦<PlainWords<I> as WordSource>⟧.failed result ≡ false }
+        ensures failures { ⟦<PlainWords<I> as WordSource>⟧.failures result ≡ I.failures input }
+        ensures spent { ⟦<PlainWords<I> as WordSource>⟧.spent result ≡ I.spent input }
+        ensures shows_unread { (s : PlainWords I) → ⟦<PlainWords<I> as WordSource>⟧.unread s ≡ I.to_come (input_of s) }
+        ensures shows_failures { (s : PlainWords I) → ⟦<PlainWords<I> as WordSource>⟧.failures s ≡ I.failures (input_of s) }
+    {
+        PlainWords {
+            input,
+            read: 0,
+            phase: Phase::Open,
+        }
+    }
+
+    /// Gives the input back as it is.
+    pub fn into_inner(self) -> I
+        ensures { result ≡ input_of self }
+    {
+        self.input
+    }
+}
+
+impl<I: ByteIn> WordSource for PlainWords<I> {
+    ghost words = { λ s. option_map plain_words (bytes_left s.phase (I.to_come s.input)) };
+
+    ghost is_cut = { λ s. plain_is_cut (unwrap_or (bytes_left s.phase (I.to_come s.input)) []) };
+
+    ghost place = { λ s. s.read };
+
+    ghost places = { λ s. plain_ends s.read (unwrap_or (bytes_left s.phase (I.to_come s.input)) []) };
+
+    ghost unread = { λ s. I.to_come s.input };
+
+    ghost ended = { λ s. has_ended s.phase };
+
+    ghost failed = { λ s. has_failed s.phase };
+
+    ghost failures = { λ s. I.failures s.input };
+
+    ghost spent = { λ s. source_spent s.phase (I.spent s.input) };
+
+    fn next(&mut self) -> Result<Option<u64>, SourceFault> {
+        let read = self.read;
+        match self.phase {
+            Phase::Ended => return Ok(None),
+            Phase::Failed => return Err(SourceFault::Spent),
+            Phase::Open => {}
+        }
+        let mut bytes = [0; 8];
+        let filled = fill(&mut self.input, &mut bytes);
+        self.read = read.saturating_add(filled.len as u64);
+        if let Some(fault) = filled.fault {
+            self.phase = Phase::Failed;
+            return Err(match fault {
+                InFault::Device => SourceFault::Device,
+                InFault::Spent => SourceFault::Spent,
+            });
+        }
+        match filled.len {
+            8 => Ok(Some(word_of(&bytes))),
+            0 => {
+                self.phase = Phase::Ended;
+                Ok(None)
+            }
+            _ => {
+                self.phase = Phase::Failed;
+                Err(SourceFault::Truncated { byte: self.read })
+            }
+        }
+    }
+
+    fn position(&self) -> u64 {
+        self.read
+    }
+}

@@ -1,0 +1,63 @@
+//! Filling a whole buffer from an input, and writing a whole buffer to an output.
+
+ghost use Rattle.cap_words.specs.Ends.{DeviceFails, Fails, GrowthFails, WasSpent, Works};
+ghost use Rattle.std.specs.Io.KnownBytes.{Appends, Consumes, IsAtEnd, Keeps};
+ghost use Rattle.std.specs.Prelude.{◌<◌, ◌≡◌, ◌≤◌, [], IfNone, IfSome, IsErrOf, OnErr, OnOk, length, take, true, ℕ};
+
+use super::ends::{ByteIn, ByteOut, InFault, OutFault};
+
+/// How many bytes of a buffer were filled, and the fault that came before it was full.
+#[derive(Clone, Copy, Debug, PartialEq, Eq, Drop)]
+pub struct Filled {
+    /// The bytes at the front of the buffer that came from the input.
+    pub len: usize,
+    /// Why there are no more of them, where it isn't that the input ended.
+    pub fault: Option<InFault>,
+}
+
+/// Reads until the buffer is full, the input ends or a fault comes. The bytes before a fault are
+/// kept. An empty buffer is full, and the input isn't called.
+pub fn fill<I: ByteIn>(input: &mut I, buf: &mut [u8]) -> Filled
+    ensures len { result.len ≤ length buf.new }
+    ensures bytes { Consumes (I.to_come input.old) (I.to_come input.new) (take result.len buf.new) }
+    ensures no_room { buf.old ≡ [] → (result.fault ≡ None) × (input.new ≡ input.old) }
+    ensures end { IfNone result.fault (result.len < length buf.new → IsAtEnd (I.to_come input.new)) }
+    ensures short { IfSome result.fault (λ _. result.len < length buf.new) }
+    ensures ok { 0 < length buf.old → IfNone result.fault (Works (I.spent input.old) (I.spent input.new) (I.failures input.old) (I.failures input.new)) }
+    ensures device { result.fault ≡ Some InFault.Device → Fails (I.spent input.old) (I.failures input.old) (I.failures input.new) × (I.spent input.new ≡ true) }
+    ensures was_spent { result.fault ≡ Some InFault.Spent → (I.spent input.old ≡ true) × (result.len ≡ 0) × (input.new ≡ input.old) }
+{
+    let mut len = 0;
+    while len < buf.len() {
+        match input.read(&mut buf[len..]) {
+            Ok(0) => break,
+            Ok(count) => len += count,
+            Err(fault) => return Filled {
+                len,
+                fault: Some(fault),
+            },
+        }
+    }
+    Filled { len, fault: None }
+}
+
+/// Writes all the bytes. After a fault the output took a beginning of them. With no bytes the
+/// output isn't called.
+pub fn write_all<O: ByteOut>(output: &mut O, bytes: &[u8]) -> Result<(), OutFault>
+    ensures ok { OnOk result (Appends (O.written output.old) (O.written output.new) bytes.now) }
+    ensures err { OnErr result ((n : ℕ) × (n < length bytes.now) × Appends (O.written output.old) (O.written output.new) (take n bytes.now)) }
+    ensures no_bytes { bytes.now ≡ [] → (result ≡ Ok tt) × (output.new ≡ output.old) }
+    ensures works { 0 < length bytes.now → OnOk result (Works (O.spent output.old) (O.spent output.new) (O.failures output.old) (O.failures output.new)) }
+    ensures device { IsErrOf result OutFault.Device → DeviceFails (O.spent output.old) (O.failures output.old) (O.failures output.new) × (O.spent output.new ≡ true) }
+    ensures memory { IsErrOf result OutFault.Memory → GrowthFails (O.spent output.old) (O.failures output.old) (O.failures output.new) }
+    ensures was_spent { IsErrOf result OutFault.Spent → (O.spent output.old ≡ true) × (output.new ≡ output.old) }
+{
+    let mut done = 0;
+    while done < bytes.len() {
+        match output.write(&bytes[done..]) {
+            Ok(count) => done += count,
+            Err(fault) => return Err(fault),
+        }
+    }
+    Ok(())
+}

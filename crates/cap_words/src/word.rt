@@ -1,0 +1,50 @@
+//! A word's bit fields, and the eight bytes that spell it.
+
+ghost use Rattle.byteorder.specs.Endian.{little_number};
+ghost use Rattle.cap_spec.specs.Plain.{word_bytes};
+ghost use Rattle.cap_spec.specs.Words.{field, signed_offset_of};
+ghost use Rattle.std.specs.Prelude.{◌+◌, ◌≡◌, ◌≤◌};
+
+use byteorder::{ByteOrder, LittleEndian};
+
+/// The `count` bits of a word from bit `low` on, as a number.
+pub fn bits(word: u64, low: u32, count: u32) -> u64
+    requires { low + count ≤ 64 }
+    ensures { result ≡ field word low count }
+{
+    if count == 0 {
+        return 0;
+    }
+    (word >> low) & (u64::MAX >> (64 - count))
+}
+
+/// The signed number in bits 2 to 31 of a word: the offset of a struct or list pointer, in words
+/// (encoding: Structs, Lists).
+pub fn signed_offset(word: u64) -> i64
+    ensures { result ≡ signed_offset_of word }
+{
+    let offset = bits(word, 2, 30) as i64;
+    if offset < 1 << 29 {
+        offset
+    } else {
+        offset - (1 << 30)
+    }
+}
+
+/// The word that eight bytes spell, the lowest byte first.
+pub fn word_of(bytes: &[u8; 8]) -> u64
+    ensures value { result ≡ little_number 8 bytes.now }
+    ensures inverse { word_bytes result ≡ bytes.now }
+{
+    LittleEndian::read_u64(bytes)
+}
+
+/// The eight bytes that spell a word, the lowest byte first.
+pub fn bytes_of(word: u64) -> [u8; 8]
+    ensures value { result ≡ word_bytes word }
+    ensures inverse { little_number 8 result ≡ word }
+{
+    let mut bytes = [0; 8];
+    LittleEndian::write_u64(&mut bytes, word);
+    bytes
+}
