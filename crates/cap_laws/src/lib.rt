@@ -1,3 +1,6 @@
 //! Theorems about the definitions alone. Each is the contract of a public function with an empty
 //! body, named for what it says.
 #![tactic(auto)]
+
+pub mod following;
+pub mod trees;

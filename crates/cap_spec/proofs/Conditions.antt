@@ -3,7 +3,7 @@ use Rattle.std.proofs.Common.{if◌then◌else◌, ◌==◌, ◌≡◌, ◌≢�
 use Rattle.std.proofs.lemmas.Bool.{cases_lt}
 use Rattle.cap_spec.specs.Messages.{HasWord, segment_of}
 use Rattle.cap_spec.specs.Pointers.{kind, middle, two, pad, far_segment, IsFar, IsReserved}
-use Rattle.cap_spec.specs.Following.{IsOnePad, IsTwoPad, Condition, rank, Wrong}
+use Rattle.cap_spec.specs.Following.{IsOnePad, IsTwoPad, Condition, rank}
 use Rattle.cap_spec.specs.declared.Reason.{Reason}
 use Rattle.cap_spec.specs.declared.Reason.TheVariants.{NoRoot, Reserved, SegmentMissing, PadOutside, PadIsFar, PadNotFar, TagKind, TagOffset, OutOfSegment, CompositeTag, CompositeOverrun, DepthLimit, WordLimit}
 use Rattle.cap_spec.proofs.Messages.{one_word, HasWord-inside, HasWord-segment, at_word}
@@ -46,19 +46,19 @@ module _ (m : List (List ℕ)) (s w p : ℕ) (h : HasWord m s w p) (far : IsFar 
   pub missing-not_reserved : length m ≤ far_segment p → ¬ Condition m s w Reserved
   missing-not_reserved past =
       far-not_reserved (λ x q hx one hq.
-        let e : x ≡ p = one_word m s w x p hx h in
-        let i : far_segment x < length m = HasWord-segment m (far_segment x) (pad x) q hq in
-        let j : far_segment p < length m = subst (λ y. far_segment y < length m) e i in
-        absurd (omega arith))
+      let e : x ≡ p = one_word m s w x p hx h in
+      let i : far_segment x < length m = HasWord-segment m (far_segment x) (pad x) q hq in
+      let j : far_segment p < length m = subst (λ y. far_segment y < length m) e i in
+      absurd (omega arith))
 
   pub outside-not_reserved : length (segment_of m (far_segment p)) < pad p + (two p + 1) → ¬ Condition m s w Reserved
   outside-not_reserved past =
       far-not_reserved (λ x q hx one hq.
-        let e : x ≡ p = one_word m s w x p hx h in
-        let t : two p ≡ 0 = subst (λ y. two y ≡ 0) e one.1 in
-        let i : pad x < length (segment_of m (far_segment x)) = HasWord-inside m (far_segment x) (pad x) q hq in
-        let j : pad p < length (segment_of m (far_segment p)) = subst (λ y. pad y < length (segment_of m (far_segment y))) e i in
-        absurd (omega arith))
+      let e : x ≡ p = one_word m s w x p hx h in
+      let t : two p ≡ 0 = subst (λ y. two y ≡ 0) e one.1 in
+      let i : pad x < length (segment_of m (far_segment x)) = HasWord-inside m (far_segment x) (pad x) q hq in
+      let j : pad p < length (segment_of m (far_segment p)) = subst (λ y. pad y < length (segment_of m (far_segment y))) e i in
+      absurd (omega arith))
 
   pub outside-not_missing : far_segment p < length m → length (segment_of m (far_segment p)) < pad p + (two p + 1) → ¬ Condition m s w SegmentMissing
   outside-not_missing exists past (x, hx, f, inl missing) =
@@ -204,15 +204,6 @@ reason_at-rank WordLimit = refl
 pub rank-injective : (u v : Reason) → rank u ≡ rank v → u ≡ v
 rank-injective u v e = sym (reason_at-rank u) ∙ ap reason_at e ∙ reason_at-rank v
 
--- at most one reason is wrong at a word
-pub Wrong-unique : (m : List (List ℕ)) (s w : ℕ) (u v : Reason) → Wrong m s w u → Wrong m s w v → u ≡ v
-Wrong-unique m s w u v a b =
-    elim (cases_lt (rank u) (rank v)) [
-      inl lt ↦ absurd (b.first u lt a.holds)
-    | inr ge ↦ elim (cases_lt (rank v) (rank u)) [
-        inl lt ↦ absurd (a.first v lt b.holds)
-      | inr le ↦ rank-injective u v (omega arith) ] ]
-
 -- no condition of a reason before place n of the order holds
 abbrev pub NoneBelow : List (List ℕ) → ℕ → ℕ → ℕ → Type 0
 NoneBelow m s w n = (u : Reason) → rank u < n → ¬ Condition m s w u
@@ -225,5 +216,19 @@ none_below_reserved m s w u lt c = absurd (omega arith)
 pub and_not : (m : List (List ℕ)) (s w : ℕ) (v : Reason) → NoneBelow m s w (rank v) → ¬ Condition m s w v → NoneBelow m s w (rank v + 1)
 and_not m s w v below n u lt c =
     elim (cases_lt (rank u) (rank v)) [
-      inl less ↦ below u less c
-    | inr ge ↦ n (subst (Condition m s w) (rank-injective u v (omega arith)) c) ]
+      | inl less ↦ below u less c
+      | inr ge ↦ n (subst (Condition m s w) (rank-injective u v (omega arith)) c)
+    ]
+
+-- With a two-word pad inside its segment, nothing is wrong up to the first word of the pad, or up to its tag.
+module _ (m : List (List ℕ)) (s w p f q : ℕ) (h : HasWord m s w p) (both : IsTwoPad p) (hf : HasWord m (far_segment p) (pad p) f) (hq : HasWord m (far_segment p) (pad p + 1) q) where
+  pub two-none_below_far : (IsOnePad f → far_segment f < length m) → NoneBelow m s w (rank PadNotFar)
+  two-none_below_far n =
+      let c2 = and_not m s w Reserved (none_below_reserved m s w) (two-not_reserved m s w p f q h both hf hq) in
+      let c3 = and_not m s w SegmentMissing c2 (two-not_missing m s w p f q h both hf hq n) in
+      let c4 = and_not m s w PadOutside c3 (two-not_outside m s w p f q h both hf hq) in
+      and_not m s w PadIsFar c4 (two-not_pad_far m s w p f q h both hf hq)
+
+  pub two-none_below_tag : IsOnePad f → far_segment f < length m → NoneBelow m s w (rank TagKind)
+  two-none_below_tag one there =
+      and_not m s w PadNotFar (two-none_below_far (λ x. there)) (two-not_pad_near m s w p f q h both hf hq one)

@@ -1,0 +1,5 @@
+use Rattle.cap_spec.proofs.Following.{one_lead}
+use Rattle.cap_laws.proofs.following.one_lead.Goals as goal
+
+pub returns : goal.returns
+returns c = one_lead

@@ -1,0 +1,5 @@
+use Rattle.cap_spec.proofs.Charges.{pointers_charged}
+use Rattle.cap_laws.proofs.trees.pointers_are_charged.Goals as goal
+
+pub returns : goal.returns
+returns c = pointers_charged

@@ -1,0 +1,77 @@
+-- The bytes of a word: they tell the word, and each eight bytes are those of one.
+use Rattle.std.proofs.Common.{◌≡◌, ℕ, zero, suc, ◌+◌, ◌*◌, ◌/◌, ◌%◌, ◌^◌, ◌<◌, List, [], ◌∷◌, ◌++◌, length, refl, sym, ap, ◌∙◌, arith}
+use Rattle.std.proofs.Math.Nat.{pow-succ', div-div-eq-div-mul}
+use Rattle.std.specs.List.{AllByRecursion, flat_map}
+use Rattle.std.specs.Int.{byte_at, bytes_low_first}
+use Rattle.byteorder.specs.Endian.{little_bytes, little_number}
+use Rattle.byteorder.specs.Numbers.{little_from-cons, little_number-reads_back}
+use Rattle.cap_spec.specs.Words.{IsWord}
+use Rattle.cap_spec.specs.Plain.{word_bytes}
+use Rattle.cap_spec.specs.Frames.{halves}
+
+-- with one byte more below, each byte stands one place further up
+byte_at_up : (i a y : ℕ) → a < 256 → byte_at (suc i) (a + 256 * y) ≡ byte_at i y
+byte_at_up zero a y h = omega arith
+byte_at_up (suc i) a y h =
+    let q : (a + 256 * y) / 256 ≡ y = omega arith in
+    let p : 256 ^ suc (suc i) ≡ 256 * 256 ^ suc i = pow-succ' 256 (suc i) in
+    ap (λ d. (a + 256 * y) / d % 256) p ∙ (ap (λ k. k % 256) (sym (div-div-eq-div-mul (a + 256 * y) 256 (256 ^ suc i))) ∙ ap (λ k. k / 256 ^ suc i % 256) q)
+
+-- so do all of them
+bytes_up : (i k a y : ℕ) → a < 256 → bytes_low_first (suc i) k (a + 256 * y) ≡ bytes_low_first i k y
+bytes_up i zero a y h = refl
+bytes_up i (suc k) a y h =
+    let p : byte_at (suc i) (a + 256 * y) ≡ byte_at i y = byte_at_up i a y h in
+    let q : bytes_low_first (suc (suc i)) k (a + 256 * y) ≡ bytes_low_first (suc i) k y = bytes_up (suc i) k a y h in
+    ap (λ b. b ∷ bytes_low_first (suc (suc i)) k (a + 256 * y)) p ∙ ap (λ bs. byte_at i y ∷ bs) q
+
+-- the bytes of the number that bytes make are these bytes
+pub bytes_back : (bytes : List ℕ) → AllByRecursion (λ b. b < 256) bytes → little_bytes (length bytes) (little_number (length bytes) bytes) ≡ bytes
+bytes_back [] a = refl
+bytes_back (b ∷ bytes) a =
+    let h : b < 256 = a.0 in
+    let n = length bytes in
+    let y = little_number n bytes in
+    let e : little_number (suc n) (b ∷ bytes) ≡ b + 256 * y = ap (λ r. b + 256 * r) (little_from-cons 0 n b bytes) in
+    let low : (b + 256 * y) % 256 ≡ b = omega arith in
+    let u : bytes_low_first 1 n (b + 256 * y) ≡ little_bytes n y = bytes_up 0 n b y h in
+    let t : little_bytes n y ≡ bytes = bytes_back bytes a.1 in
+    ap (λ x. little_bytes (suc n) x) e ∙ (ap (λ k. k ∷ bytes_low_first 1 n (b + 256 * y)) low ∙ ap (λ bs. b ∷ bs) (u ∙ t))
+
+-- bytes make a number that is so large at most
+pub bytes_below : (bytes : List ℕ) → AllByRecursion (λ b. b < 256) bytes → little_number (length bytes) bytes < 256 ^ length bytes
+bytes_below [] a = omega arith
+bytes_below (b ∷ bytes) a =
+    let h : b < 256 = a.0 in
+    let n = length bytes in
+    let e = little_from-cons 0 n b bytes in
+    let t = bytes_below bytes a.1 in
+    let p = pow-succ' 256 n in
+    omega arith
+
+-- the bytes of a number are below 256
+pub bytes_fit : (i k x : ℕ) → AllByRecursion (λ b. b < 256) (bytes_low_first i k x)
+bytes_fit i zero x = tt
+bytes_fit zero (suc k) x = ((omega arith), bytes_fit 1 k x)
+bytes_fit (suc i) (suc k) x = ((omega arith), bytes_fit (suc (suc i)) k x)
+
+-- the bytes of a word, whatever stands behind them, make the word
+pub word_back : (x : ℕ) (rest : List ℕ) → IsWord x → little_number 8 (word_bytes x ++ rest) ≡ x
+word_back x rest h = little_number-reads_back 8 x rest (omega arith)
+
+-- a half of a word in bytes
+abbrev pub four_bytes : ℕ → List ℕ
+four_bytes x = little_bytes 4 x
+
+-- a word's bytes are those of its low half and then those of its high half
+pub word_halves : (x : ℕ) → word_bytes x ≡ flat_map four_bytes (halves x)
+word_halves x =
+    let a : byte_at 0 x ≡ byte_at 0 (x % 2 ^ 32) = omega arith in
+    let b : byte_at 1 x ≡ byte_at 1 (x % 2 ^ 32) = omega arith in
+    let c : byte_at 2 x ≡ byte_at 2 (x % 2 ^ 32) = omega arith in
+    let d : byte_at 3 x ≡ byte_at 3 (x % 2 ^ 32) = omega arith in
+    let e : byte_at 4 x ≡ byte_at 0 (x / 2 ^ 32) = omega arith in
+    let f : byte_at 5 x ≡ byte_at 1 (x / 2 ^ 32) = omega arith in
+    let g : byte_at 6 x ≡ byte_at 2 (x / 2 ^ 32) = omega arith in
+    let h : byte_at 7 x ≡ byte_at 3 (x / 2 ^ 32) = omega arith in
+    cc
