@@ -2,6 +2,7 @@ mod Examples
 pub mod Lists
 pub mod WordBytes
 pub mod Plain
+pub mod Unpacking
 pub mod Framing
 pub mod Endings
 pub mod Messages
