@@ -3,4 +3,5 @@
 #![tactic(auto)]
 
 pub mod following;
+pub mod paths;
 pub mod trees;

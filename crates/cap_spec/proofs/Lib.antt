@@ -16,3 +16,5 @@ pub mod OneTree
 pub mod Charges
 pub mod Shapes
 pub mod PlainText
+pub mod Walks
+pub mod Arrivals

@@ -16,13 +16,13 @@ pub record Same {A : Type 0} (t t' : A) (c c' d d' : ℕ) : Type 0 where
   pub depth : d ≡ d'
 
 -- a number for each form of a lead
-abbrev form_of : Lead → ℕ
+abbrev pub form_of : Lead → ℕ
 form_of to_null = 0
 form_of (to_cap i) = 1
 form_of (to_object t b q) = 2 + kind q * (1 + code q)
 
 -- the number of the form that a tree asks of the lead
-abbrev HasForm : Tree → ℕ → Type 0
+abbrev pub HasForm : Tree → ℕ → Type 0
 HasForm null n = n ≡ 0
 HasForm (cap i) n = n ≡ 1
 HasForm (struct words ts) n = n ≡ 2
@@ -31,21 +31,21 @@ HasForm (pointers ts) n = n ≡ 9
 HasForm (structs d p es) n = n ≡ 10
 
 -- a lead of the form that the tree asks
-record Formed (m : List (List ℕ)) (s w : ℕ) (t : Tree) : Type 0 where
-  k : ℕ
-  r : Lead
-  leads : Leads m s w k r
-  form : HasForm t (form_of r)
+pub record Formed (m : List (List ℕ)) (s w : ℕ) (t : Tree) : Type 0 where
+  pub k : ℕ
+  pub r : Lead
+  pub leads : Leads m s w k r
+  pub form : HasForm t (form_of r)
 
 -- the numbers of a struct and of a list
-number_struct : (x y : ℕ) → x ≡ 0 → 2 + x * (1 + y) ≡ 2
+pub number_struct : (x y : ℕ) → x ≡ 0 → 2 + x * (1 + y) ≡ 2
 number_struct x y e = rw e (omega arith)
 
-number_list : (x y : ℕ) → x ≡ 1 → 2 + x * (1 + y) ≡ 3 + y
+pub number_list : (x y : ℕ) → x ≡ 1 → 2 + x * (1 + y) ≡ 3 + y
 number_list x y e = rw e (omega arith)
 
 -- what a word denotes has the form of what it leads to
-formed : (m : List (List ℕ)) (s w : ℕ) (t : Tree) (c d : ℕ) → Denotes m s w t c d → Formed m s w t
+pub formed : (m : List (List ℕ)) (s w : ℕ) (t : Tree) (c d : ℕ) → Denotes m s w t c d → Formed m s w t
 formed m s w null c d h = record { k = c; r = to_null; leads = h.0; form = refl }
 formed m s w (cap i) c d h = record { k = c; r = to_cap i; leads = h.0; form = refl }
 formed m s w (struct words ts) c d h = record { k = h.0; r = to_object h.1 (pos h.2) h.3; leads = h.6.finds.leads; form = number_struct (kind h.3) (code h.3) h.6.kind }
@@ -69,7 +69,7 @@ same_form m s w t t' c d c' d' h h' =
     (form_of f.r, f.form, rw e.1 g.form)
 
 -- the parts of equal lists
-cons_parts : {A : Type 0} (x y : A) (xs ys : List A) → x ∷ xs ≡ y ∷ ys → (x ≡ y) × (xs ≡ ys)
+pub cons_parts : {A : Type 0} (x y : A) (xs ys : List A) → x ∷ xs ≡ y ∷ ys → (x ≡ y) × (xs ≡ ys)
 cons_parts x y xs ys e = (cc, cc)
 
 -- sums of equal parts are equal
