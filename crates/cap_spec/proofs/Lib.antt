@@ -3,6 +3,7 @@ pub mod Lists
 pub mod WordBytes
 pub mod Plain
 pub mod Unpacking
+pub mod Groups
 pub mod Framing
 pub mod Endings
 pub mod Messages
