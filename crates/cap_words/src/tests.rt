@@ -1,0 +1,251 @@
+//! What no contract can say: that calls succeed, and how often a device is called.
+
+use super::{
+    ByteIn, ByteOut, FromRead, FromWrite, InFault, OutFault, PlainSink, PlainWords, SinkFault,
+    SliceIn, SourceFault, VecOut, WordSink, WordSource, bits, bytes_of, fill, signed_offset,
+    word_of, write_all,
+};
+use std::io::{self, ErrorKind, Read, Write};
+use std::process::Abort;
+use std::test::Fail;
+
+// Two words, and half of one more.
+const TEXT: [u8; 20] = [
+    1, 0, 0, 0, 0, 0, 0, 0, 8, 7, 6, 5, 4, 3, 2, 1, 0, 0, 0, 0xff,
+];
+
+const WORDS: [u64; 2] = [1, 0x0102_0304_0506_0708];
+
+// A reader that gives few bytes a call, fails in one of its calls and counts them.
+#[derive(Drop)]
+struct SlowReader<'a> {
+    rest: &'a [u8],
+    most: usize,
+    fails_at: u32,
+    kind: ErrorKind,
+    calls: u32,
+}
+
+impl Read for SlowReader<'_> {
+    fn read(&mut self, buf: &mut [u8]) -> io::Result<usize> {
+        self.calls = self.calls.saturating_add(1);
+        if self.calls == self.fails_at {
+            return Err(io::Error::from(self.kind));
+        }
+        let count = buf.len().min(self.rest.len()).min(self.most);
+        let (given, rest) = self.rest.split_at(count);
+        buf[..count].copy_from_slice(given);
+        self.rest = rest;
+        Ok(count)
+    }
+}
+
+// A writer that takes few bytes a call, fails in one of its calls, by taking none where it has no
+// error to answer, and counts them.
+#[derive(Drop)]
+struct SlowWriter {
+    taken: Vec<u8>,
+    most: usize,
+    fails_at: u32,
+    kind: Option<ErrorKind>,
+    calls: u32,
+}
+
+impl Write for SlowWriter {
+    fn write(&mut self, buf: &[u8]) -> io::Result<usize> {
+        self.calls = self.calls.saturating_add(1);
+        if self.calls == self.fails_at {
+            return match self.kind {
+                Some(kind) => Err(io::Error::from(kind)),
+                None => Ok(0),
+            };
+        }
+        let count = buf.len().min(self.most);
+        self.taken.extend_from_slice(&buf[..count])?;
+        Ok(count)
+    }
+
+    fn flush(&mut self) -> io::Result<()> {
+        self.calls = self.calls.saturating_add(1);
+        Ok(())
+    }
+}
+
+// The source gives these words, then this answer, and from then on the other one.
+fn expect_words<S: WordSource>(
+    rt: &impl Abort,
+    source: &mut S,
+    words: &[u64],
+    end: Result<Option<u64>, SourceFault>,
+    then: Result<Option<u64>, SourceFault>,
+) {
+    for word in words {
+        assert_eq!(rt; source.next(), Ok(Some(*word)));
+    }
+    assert_eq!(rt; source.next(), end);
+    let position = source.position();
+    assert_eq!(rt; source.next(), then);
+    assert_eq!(rt; source.next(), then);
+    assert_eq!(rt; source.position(), position);
+}
+
+// The sink takes the words up to one where it answers a fault, if any, and after it, or after it
+// is finished, nothing.
+fn put_words<K: WordSink>(rt: &impl Abort, sink: &mut K, words: &[u64], fault_at: usize) {
+    let mut fault = None;
+    for (i, word) in words.iter().enumerate() {
+        let answer = sink.put(*word);
+        if fault.is_some() {
+            assert_eq!(rt; answer, Err(SinkFault::Spent));
+        } else if i == fault_at {
+            assert_eq!(rt; answer, Err(SinkFault::Device));
+            fault = Some(i);
+        } else {
+            assert_eq!(rt; answer, Ok(()));
+        }
+    }
+    if fault.is_none() {
+        assert_eq!(rt; sink.finish(), Ok(()));
+    }
+    assert_eq!(rt; sink.put(0), Err(SinkFault::Spent));
+    assert_eq!(rt; sink.finish(), Err(SinkFault::Spent));
+}
+
+#[test]
+fn fields_and_bytes_of_words(rt: HostRuntime) {
+    let word = 0x8123_4567_89ab_cdef;
+    assert_eq!(rt; bits(word, 0, 64), 0x8123_4567_89ab_cdef);
+    assert_eq!(rt; bits(word, 64, 0), 0);
+    assert_eq!(rt; bits(word, 0, 0), 0);
+    assert_eq!(rt; bits(word, 4, 8), 0xde);
+    assert_eq!(rt; bits(word, 60, 4), 8);
+    assert_eq!(rt; bits(word, 63, 1), 1);
+    assert_eq!(rt; bits(word, 1, 63), 0x4091_a2b3_c4d5_e6f7);
+    for (word, want) in [
+        (0x0001_0002_0000_0000, 0),
+        (0xffff_ffff_ffff_fffc, -1),
+        (0x0000_0000_7fff_ffff, 536_870_911),
+        (0x0000_0000_8000_0003, -536_870_912),
+        (0x0000_0000_0000_0004, 1),
+    ] {
+        assert_eq!(rt; signed_offset(word), want, "{word}");
+    }
+    assert_eq!(rt; word_of(&[8, 7, 6, 5, 4, 3, 2, 1]), WORDS[1]);
+    assert_eq!(rt; bytes_of(WORDS[1]), [8, 7, 6, 5, 4, 3, 2, 1]);
+}
+
+#[test]
+fn words_of_a_slice(rt: HostRuntime) {
+    let mut whole = PlainWords::new(SliceIn::new(&TEXT[..16]));
+    expect_words(&rt, &mut whole, &WORDS, Ok(None), Ok(None));
+    assert_eq!(rt; whole.position(), 16);
+
+    let cut = Err(SourceFault::Truncated { byte: 20 });
+    let mut cut_short = PlainWords::new(SliceIn::new(&TEXT));
+    expect_words(&rt, &mut cut_short, &WORDS, cut, Err(SourceFault::Spent));
+
+    let mut input = PlainWords::new(SliceIn::new(&TEXT)).into_inner();
+    let mut buf = [9; 24];
+    let filled = fill(&mut input, &mut buf);
+    assert_eq!(rt; filled.len, 20);
+    assert_eq!(rt; filled.fault, None);
+    assert_eq!(rt; &buf[..20], TEXT.as_slice());
+    assert_eq!(rt; input.read(&mut buf), Ok(0));
+}
+
+#[test]
+fn a_reader_that_fails_is_not_called_again(rt: HostRuntime) {
+    let spent = Err(SourceFault::Spent);
+    for (most, fails_at, words, position) in [
+        (1, 1, &WORDS[..0], 0),
+        (1, 10, &WORDS[..1], 9),
+        (3, 4, &WORDS[..1], 8),
+        (3, 5, &WORDS[..1], 11),
+        (7, 4, &WORDS[..1], 15),
+        (7, 5, &WORDS[..2], 16),
+    ] {
+        for kind in [ErrorKind::Interrupted, ErrorKind::BrokenPipe] {
+            let reader = SlowReader {
+                rest: &TEXT,
+                most,
+                fails_at,
+                kind,
+                calls: 0,
+            };
+            let mut source = PlainWords::new(FromRead::new(reader));
+            expect_words(&rt, &mut source, words, Err(SourceFault::Device), spent);
+            assert_eq!(rt; source.position(), position, "{most} a call, to {fails_at}");
+
+            let mut input = source.into_inner();
+            assert_eq!(rt; input.read(&mut []), Ok(0));
+            assert_eq!(rt; input.read(&mut [0]), Err(InFault::Spent));
+            let reader = input.into_inner();
+            assert_eq!(rt; reader.calls, fails_at, "{most} a call");
+        }
+    }
+    for (most, calls) in [(1, 21), (3, 9), (7, 6)] {
+        let reader = SlowReader {
+            rest: &TEXT,
+            most,
+            fails_at: 0,
+            kind: ErrorKind::Other,
+            calls: 0,
+        };
+        let mut source = PlainWords::new(FromRead::new(reader));
+        let cut = Err(SourceFault::Truncated { byte: 20 });
+        expect_words(&rt, &mut source, &WORDS, cut, spent);
+        assert_eq!(rt;
+            source.into_inner().into_inner().calls,
+            calls,
+            "{most} a call"
+        );
+    }
+}
+
+#[test]
+fn a_writer_that_fails_is_not_called_again(rt: HostRuntime) {
+    for (most, fails_at, fault_at, taken) in [
+        (1, 1, 0, &TEXT[..0]),
+        (3, 5, 1, &TEXT[..11]),
+        (7, 4, 1, &TEXT[..15]),
+        (8, 2, 1, &TEXT[..8]),
+        (7, 0, 2, &TEXT[..16]),
+    ] {
+        for kind in [Some(ErrorKind::Interrupted), Some(ErrorKind::Other), None] {
+            let writer = SlowWriter {
+                taken: Vec::new(rt.alloc()),
+                most,
+                fails_at,
+                kind,
+                calls: 0,
+            };
+            let mut sink = PlainSink::new(FromWrite::new(writer));
+            put_words(&rt, &mut sink, &WORDS, fault_at);
+
+            let mut output = sink.into_inner();
+            assert_eq!(rt; output.write(&[]), Ok(0));
+            if fails_at > 0 {
+                assert_eq!(rt; output.write(&[0]), Err(OutFault::Spent));
+            }
+            let writer = output.into_inner();
+            let calls = if fails_at > 0 { fails_at } else { 4 };
+            assert_eq!(rt; writer.calls, calls, "{most} a call");
+            assert_eq!(rt; writer.taken.as_slice(), taken, "{most} a call");
+        }
+    }
+}
+
+#[test]
+fn words_into_memory(rt: HostRuntime) -> Result<(), Fail> {
+    let mut sink = PlainSink::new(VecOut::new(rt.alloc()));
+    put_words(&rt, &mut sink, &WORDS, 2);
+    let mut output = sink.into_inner();
+    assert_eq!(rt; output.bytes(), &TEXT[..16]);
+
+    assert_eq!(rt; output.write(&TEXT[16..]), Ok(4));
+    assert_eq!(rt; output.write(&[]), Ok(0));
+    write_all(&mut output, &[5])?;
+    assert_eq!(rt; output.bytes().len(), 21);
+    assert_eq!(rt; &output.bytes()[16..], [0, 0, 0, 0xff, 5].as_slice());
+    Ok(())
+}
