@@ -1,10 +1,11 @@
 //! Where paths lead in a message.
 
-ghost use Rattle.std.specs.Prelude.{ℕ, List, [], ◌∷◌, ◌++◌, ◌≡◌, ◌↔◌, ◌+◌, Some};
+ghost use Rattle.std.specs.Prelude.{ℕ, List, [], ◌∷◌, ◌++◌, ◌≡◌, ◌↔◌, ◌⊎◌, ◌+◌, Some};
 ghost use Rattle.cap_spec.specs.declared.Step.{Step};
 ghost use Rattle.cap_spec.specs.Tree.{Tree, node_at};
 ghost use Rattle.cap_spec.specs.Denoting.{Denotes};
-ghost use Rattle.cap_spec.specs.Paths.{Spot, Goes, Walks, Comes, Reaches, level_of};
+ghost use Rattle.cap_spec.specs.Paths.{Spot, Goes, Walks, Comes, Reaches, Before, Rises, IsTour, IsFirstCap, level_of};
+ghost use Rattle.cap_spec.specs.Verdicts.{AreDistinct};
 ghost use Rattle.cap_spec.specs.Standing.{DenotesAt};
 
 /// A path reaches at most one pointer word, at one level: one step leads from a spot to one spot,
@@ -40,4 +41,37 @@ pub fn path_arrives_at_node()
     ensures spot { (m : List (List ℕ)) (t : Tree) (c d : ℕ) → Denotes m 0 0 t c d →
         (path : List Step) (u : Tree) → node_at t path ≡ Some u →
         (level : ℕ) × (spot : Spot) × Comes m path level spot × DenotesAt m spot u }
+{}
+
+/// Preorder is a strict order of all paths, and of two paths that lead somewhere in one message one
+/// comes before the other unless they are one. (A step to a struct's pointer and one to a list's
+/// element may have one number, but no spot has both.)
+pub fn preorder_is_a_strict_total_order()
+    ensures irreflexive { (p : List Step) → ¬ Before p p }
+    ensures transitive { (p q r : List Step) → Before p q → Before q r → Before p r }
+    ensures total { (m : List (List ℕ)) (p q : List Step) (level level' : ℕ) (a b : Spot) →
+        Comes m p level a → Comes m q level' b → (p ≡ q) ⊎ Before p q ⊎ Before q p }
+    ensures beginning_first { (p : List Step) (step : Step) (q : List Step) → Before p (p ++ step ∷ q) }
+{}
+
+/// The tour up to a path is the only one, and has no path twice. The first capability in preorder
+/// is one pointer word.
+pub fn one_tour()
+    ensures one { (m : List (List ℕ)) (p : List Step) (tour tour' : List (List Step)) →
+        IsTour m p tour → IsTour m p tour' → tour ≡ tour' }
+    ensures distinct { (m : List (List ℕ)) (p : List Step) (tour : List (List Step)) →
+        IsTour m p tour → AreDistinct tour }
+    ensures first_cap { (m : List (List ℕ)) (s w s' w' : ℕ) →
+        IsFirstCap m s w → IsFirstCap m s' w' → (s ≡ s') × (w ≡ w') }
+{}
+
+/// Where a path reaches a pointer word, and a longer path through it reaches the same word again,
+/// neither that word nor the root denotes a tree.
+pub fn reached_cycle_denotes_no_tree()
+    ensures root { (m : List (List ℕ)) (path : List Step) (step : Step) (on : List Step) (level level' s w : ℕ) →
+        Reaches m path level s w → Reaches m (path ++ step ∷ on) level' s w →
+        (t : Tree) (c d : ℕ) → ¬ Denotes m 0 0 t c d }
+    ensures word { (m : List (List ℕ)) (path : List Step) (step : Step) (on : List Step) (level level' s w : ℕ) →
+        Reaches m path level s w → Reaches m (path ++ step ∷ on) level' s w →
+        (t : Tree) (c d : ℕ) → ¬ Denotes m s w t c d }
 {}

@@ -170,7 +170,7 @@ path_to_node m a (step ∷ path) n b x h g =
     (z.0, node_behind x r.0 step path r.1 ∙ z.1, z.2)
 
 -- a node behind one step is a node of a part
-node_parts : (x u : Tree) (step : Step) (path : List Step) → node_at x (step ∷ path) ≡ Some u → (v : Tree) × (part_at x step ≡ Some v) × (node_at v path ≡ Some u)
+pub node_parts : (x u : Tree) (step : Step) (path : List Step) → node_at x (step ∷ path) ≡ Some u → (v : Tree) × (part_at x step ≡ Some v) × (node_at v path ≡ Some u)
 node_parts x u step path e = go (part_at x step) refl
   where
     go : (o : Option Tree) → part_at x step ≡ o → (v : Tree) × (part_at x step ≡ Some v) × (node_at v path ≡ Some u)

@@ -19,3 +19,5 @@ pub mod Shapes
 pub mod PlainText
 pub mod Walks
 pub mod Arrivals
+pub mod Preorder
+pub mod Cycles
