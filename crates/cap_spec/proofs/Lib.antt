@@ -11,6 +11,7 @@ pub mod Conditions
 pub mod Following
 pub mod Packing
 pub mod OneEnding
+pub mod FrameTexts
 pub mod Fates
 pub mod Finding
 pub mod OneTree
