@@ -3,5 +3,7 @@
 #![tactic(auto)]
 
 pub mod following;
+pub mod framing;
 pub mod paths;
+pub mod plain;
 pub mod trees;

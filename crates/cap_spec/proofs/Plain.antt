@@ -106,3 +106,8 @@ plain_cut_of bytes words (x ∷ rest) s =
     let p = s.partial in
     let t : plain_is_cut bytes ≡ true = ap plain_is_cut s.whole ∙ (plain_cut_back words (x ∷ rest) ∙ plain_cut_short x rest (omega arith)) in
     ((λ e h. cc), (λ n. t))
+
+-- these words and this rest are such a split
+pub plain_split_by : (bytes words rest : List ℕ) → AllByRecursion (λ b. b < 256) bytes → words ≡ plain_words bytes → rest ≡ drop (8 * length (plain_words bytes)) bytes → PlainSplits bytes words rest
+plain_split_by bytes words rest all w r =
+    subst (λ k. PlainSplits bytes k rest) (sym w) (subst (λ k. PlainSplits bytes (plain_words bytes) k) (sym r) (plain_split bytes all))
