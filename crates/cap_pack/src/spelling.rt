@@ -1,0 +1,86 @@
+//! The bytes of a group, as they are written.
+
+ghost use Rattle.cap_spec.specs.Packing.{tag_of, zeros_in};
+ghost use Rattle.cap_spec.specs.Plain.{plain_text, word_bytes};
+ghost use Rattle.std.specs.Prelude.{◌*◌, ◌+◌, ◌++◌, ◌==◌, ◌≡◌, ◌≤◌, ◌∷◌, filter, if◌then◌else◌, length, not, take};
+
+
+use cap_words::bytes_of;
+
+/// The most bytes that a group has: a tag, a word, a count, and 255 further words.
+pub(crate) const GROUP_BYTES: usize = 2050;
+
+// 1 where the byte is zero, and 0 where it isn't.
+fn is_zero(byte: u8) -> u8
+    ensures value { result ≡ (if byte == 0 then 1 else 0) }
+    ensures small { result ≤ 1 }
+{
+    u8::from(byte == 0)
+}
+
+// 0 where the byte is zero, and 1 where it isn't.
+fn is_present(byte: u8) -> u8
+    ensures value { result ≡ (if byte == 0 then 0 else 1) }
+    ensures small { result ≤ 1 }
+{
+    u8::from(byte != 0)
+}
+
+/// How many of eight bytes are zero.
+pub(crate) fn count_zeros(bytes: &[u8; 8]) -> u8
+    ensures { result ≡ zeros_in bytes.now }
+{
+    is_zero(bytes[0])
+        + is_zero(bytes[1])
+        + is_zero(bytes[2])
+        + is_zero(bytes[3])
+        + is_zero(bytes[4])
+        + is_zero(bytes[5])
+        + is_zero(bytes[6])
+        + is_zero(bytes[7])
+}
+
+/// The tag that marks the bytes that aren't zero, the first in the lowest bit.
+pub(crate) fn mark(bytes: &[u8; 8]) -> u8
+    ensures { result ≡ tag_of bytes.now }
+{
+    is_present(bytes[0])
+        + 2 * is_present(bytes[1])
+        + 4 * is_present(bytes[2])
+        + 8 * is_present(bytes[3])
+        + 16 * is_present(bytes[4])
+        + 32 * is_present(bytes[5])
+        + 64 * is_present(bytes[6])
+        + 128 * is_present(bytes[7])
+}
+
+/// Spells one word by its tag and its bytes that aren't zero. Answers how many bytes that takes.
+pub(crate) fn spell_marked(bytes: &[u8; 8], text: &mut [u8; 9]) -> usize
+    ensures within { result ≤ 9 }
+    ensures spelled { take result text.new ≡ tag_of bytes.now ∷ filter (λ b. not (b == 0)) bytes.now }
+{
+    text[0] = mark(bytes);
+    let mut len = 1;
+    for byte in bytes {
+        text[len] = *byte;
+        len += usize::from(is_present(*byte));
+    }
+    len
+}
+
+/// Spells a word as it is, and at most 255 more. Answers how many bytes that takes.
+pub(crate) fn spell_plain(head: u64, more: &[u64], text: &mut [u8; GROUP_BYTES]) -> usize
+    requires { length more.now ≤ 255 }
+    ensures within { result ≤ 2050 }
+    ensures spelled { take result text.new ≡ 255 ∷ (word_bytes head ++ length more.now ∷ plain_text more.now) }
+{
+    text[0] = 255;
+    text[1..9].copy_from_slice(&bytes_of(head));
+    text[9] = more.len() as u8;
+    let mut len = 10;
+    for word in more {
+        text[len..len + 8].copy_from_slice(&bytes_of(*word));
+        len += 8;
+    }
+    len
+}
