@@ -1,7 +1,10 @@
 //! Packed words: the source that unpacks them, and the sink that packs them.
 #![tactic(auto)]
 
+mod group;
+pub mod packer;
 mod spelling;
 pub mod unpacker;
 
+pub use packer::Packer;
 pub use unpacker::Unpacker;

@@ -4,7 +4,6 @@ ghost use Rattle.cap_spec.specs.Packing.{tag_of, zeros_in};
 ghost use Rattle.cap_spec.specs.Plain.{plain_text, word_bytes};
 ghost use Rattle.std.specs.Prelude.{◌*◌, ◌+◌, ◌++◌, ◌==◌, ◌≡◌, ◌≤◌, ◌∷◌, filter, if◌then◌else◌, length, not, take};
 
-
 use cap_words::bytes_of;
 
 /// The most bytes that a group has: a tag, a word, a count, and 255 further words.

@@ -1,5 +1,4 @@
-use Rattle.std.proofs.Common.{◌≡◌, [], ◌∷◌, ◌++◌, length, set, take, arith, ap, ◌∙◌}
-use borrow.Rule.Slice.PartMut.{put_mid}
+use Rattle.std.proofs.Common.{◌≡◌, [], ◌∷◌, ◌++◌, length, arith, ap, ◌∙◌}
 use Rattle.cap_spec.specs.Plain.{word_bytes}
 use Rattle.cap_pack.proofs.Written.{take-head, take-word}
 use Rattle.cap_pack.proofs.spelling.spell_plain.Goals as goal

@@ -1,0 +1,21 @@
+use Rattle.std.proofs.Common.{[], ◌++◌, refl, arith}
+use Rattle.cap_spec.specs.Packing.{pack_text}
+use Rattle.cap_words.proofs.PlainSpelling.{part_begins}
+use Rattle.cap_pack.specs.Holding.{held, group_bytes}
+use Rattle.cap_pack.proofs.Joining.{no_more, group_written}
+use Rattle.cap_pack.proofs.packer.PackerWordSink.finish.Goals as goal
+
+pub returns-in-Ok-clause-finished : goal.returns-in-Ok-clause-finished
+returns-in-Ok-clause-finished g c =
+    let s = c.args.self.now in
+    group_written (g.O.ByteOut.written s.output) (g.O.ByteOut.written c.write_group.new.output) (group_bytes s.group s.words) (pack_text (held s.group s.words ++ [])) c.in-Ok.ensures.ok
+    (no_more s.group s.words s.one_group s.full_first (omega arith))
+
+pub returns-in-Err-clause-err : goal.returns-in-Err-clause-err
+returns-in-Err-clause-err g c =
+    let s = c.args.self.now in
+    let part = c.in-Err.ensures.err in (
+      refl,
+      part_begins (g.O.ByteOut.written s.output) (g.O.ByteOut.written c.write_group.new.output) part.0 (group_bytes s.group s.words) [] (pack_text (held s.group s.words ++ []))
+          (no_more s.group s.words s.one_group s.full_first (omega arith)) part.1,
+    )

@@ -1,0 +1,24 @@
+-- The open group of a packer: the words that it stands for so far, and the bytes that spell it.
+use Rattle.std.specs.Prelude.{ℕ, List, [], ◌∷◌, ◌++◌, length, take, replicate}
+use Rattle.cap_spec.specs.Packing.{zero_bytes}
+use Rattle.cap_spec.specs.Plain.{word_bytes, plain_text}
+use Rattle.cap_pack.specs.declared.group.Group.{Group}
+use Rattle.cap_pack.specs.declared.group.Group.TheVariants.{Empty, Zeros, Plain}
+
+-- the words of the group
+abbrev pub held : Group → List ℕ → List ℕ
+held Empty words = []
+held (Zeros more) words = 0 ∷ replicate more 0
+held (Plain first more) words = first ∷ take more words
+
+-- how many zero bytes the word has that a run of words as they are begins with
+abbrev pub first_zeros : Group → ℕ
+first_zeros Empty = 0
+first_zeros (Zeros more) = 0
+first_zeros (Plain first more) = zero_bytes first
+
+-- the bytes of the group, as far as it goes
+abbrev pub group_bytes : Group → List ℕ → List ℕ
+group_bytes Empty words = []
+group_bytes (Zeros more) words = 0 ∷ more ∷ []
+group_bytes (Plain first more) words = 255 ∷ (word_bytes first ++ length (take more words) ∷ plain_text (take more words))

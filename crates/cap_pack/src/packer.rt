@@ -1,0 +1,168 @@
+//! A sink of words over packed bytes.
+
+ghost use Rattle.cap_pack.specs.Holding.{first_zeros, group_bytes, held};
+ghost use Rattle.cap_spec.specs.Packing.{group_size, pack_text, zero_bytes};
+ghost use Rattle.cap_words.specs.Ends.{DeviceFails, GrowthFails};
+ghost use Rattle.cap_words.specs.Sinks.{Begins, begins_appended};
+ghost use Rattle.std.specs.Io.KnownBytes.{Keeps, append_known};
+ghost use Rattle.std.specs.Prelude.{◌++◌, ◌≡◌, ◌||◌, [], ◌∷◌, IsErrOf, List, OnErr, OnOk, false, length, true, ℕ};
+
+use super::group::{Group, MORE_WORDS, write_group, write_marked};
+use super::spelling::{GROUP_BYTES, count_zeros};
+use cap_words::{ByteOut, OutFault, SinkFault, WordSink, bytes_of};
+
+/// Writes words in one packed spelling (encoding: Packing). At a zero word that is the longest run
+/// of zero words, at most 256. At a word without a zero byte it is the word as it is, with the
+/// words behind it that have at most one zero byte each, at most 255. Any other word is spelled by
+/// itself. It holds at most one group back, which `finish` writes.
+#[derive(Drop)]
+pub struct Packer<O> {
+    output: O,
+    closed: bool,
+    group: Group,
+    // behind the first word of a run of words as they are
+    words: [u64; MORE_WORDS],
+    // where a group is spelled before it is written
+    room: [u8; GROUP_BYTES],
+    ghost one_group: { group_size (held group words) ≡ length (held group words) },
+    ghost full_first: { first_zeros group ≡ 0 },
+}
+
+impl<O: ByteOut> Packer<O> {
+    ghost use Rattle.cap_pack.specs.Output.{output_of};
+    ghost use Rattle.cap_pack.specs.declared.packer.Packer.{Packer};
+
+    /// A sink that writes to `output`, behind what it took before.
+    pub fn new(output: O) -> Packer<O>
+        ensures output { output_of result ≡ output }
+        ensures starts { ⟦<Packer<O> as WordSink>⟧.taken result ≡ O.written output }
+        ensures empty { (ws : List ℕ) → ⟦<Packer<O> as WordSink>⟧.text result ws ≡ append_known (O.written output) (pack_text ws) }
+        ensures open { ⟦<Packer<O> as WordSink>⟧.closed result ≡ false }
+        ensures spent { ⟦<Packer<O> as WordSink>⟧.spent result ≡ O.spent output }
+        ensures taken { (s : Packer O) → ⟦<Packer<O> as WordSink>⟧.taken s ≡ O.written (output_of s) }
+        ensures when_spent { (s : Packer O) → ⟦<Packer<O> as WordSink>⟧.spent s ≡ (⟦<Packer<O> as WordSink>⟧.closed s || O.spent (output_of s)) }
+        ensures failures { (s : Packer O) → ⟦<Packer<O> as WordSink>⟧.failures s ≡ O.failures (output_of s) }
+        ensures text { (s : Packer O) → (h : List ℕ) × (group_size h ≡ length h) × ((ws : List ℕ) → ⟦<Packer<O> as WordSink>⟧.text s ws ≡ append_known (⟦<Packer<O> as WordSink>⟧.taken s) (pack_text (h ++ ws))) }
+    {
+        Packer {
+            output,
+            closed: false,
+            group: Group::Empty,
+            words: [0; MORE_WORDS],
+            room: [0; GROUP_BYTES],
+        }
+    }
+
+    /// Gives the output back as it is. Nothing is written: a group that is still open is lost.
+    pub fn into_inner(self) -> O
+        ensures { result ≡ output_of self }
+    {
+        self.output
+    }
+
+    // Takes the word into the open group, where it goes on with it.
+    fn join(&mut self, word: u64, zeros: u8) -> bool
+        requires { zeros ≡ zero_bytes word }
+        ensures output { (self.new.output ≡ self.old.output) × (self.new.closed ≡ self.old.closed) }
+        ensures joined { result ≡ true → held self.new.group self.new.words ≡ held self.old.group self.old.words ++ word ∷ [] }
+        ensures apart { result ≡ false → (self.new ≡ self.old) × ((ws : List ℕ) → pack_text (held self.old.group self.old.words ++ word ∷ ws) ≡ group_bytes self.old.group self.old.words ++ pack_text (word ∷ ws)) }
+    {
+        match self.group {
+            Group::Empty => false,
+            Group::Zeros { more } => {
+                if word != 0 || more == 255 {
+                    return false;
+                }
+                self.group = Group::Zeros { more: more + 1 };
+                true
+            }
+            Group::Plain { first, more } => {
+                if zeros > 1 || more == 255 {
+                    return false;
+                }
+                self.words[more as usize] = word;
+                self.group = Group::Plain {
+                    first,
+                    more: more + 1,
+                };
+                true
+            }
+        }
+    }
+
+    // Writes the open group, which the word doesn't go on with, and begins the next one with it.
+    fn start(&mut self, word: u64, zeros: u8) -> Result<(), OutFault>
+        requires zeros { zeros ≡ zero_bytes word }
+        requires apart { (ws : List ℕ) → pack_text (held self.old.group self.old.words ++ word ∷ ws) ≡ group_bytes self.old.group self.old.words ++ pack_text (word ∷ ws) }
+        ensures ok { OnOk result ((ws : List ℕ) → Keeps (append_known (O.written self.old.output) (pack_text (held self.old.group self.old.words ++ word ∷ ws))) (append_known (O.written self.new.output) (pack_text (held self.new.group self.new.words ++ ws)))) }
+        ensures err { OnErr result ((ws : List ℕ) → Begins (append_known (O.written self.old.output) (pack_text (held self.old.group self.old.words ++ word ∷ ws))) (O.written self.new.output)) }
+        ensures works { OnOk result ((O.spent self.new.output ≡ O.spent self.old.output) × (O.failures self.new.output ≡ O.failures self.old.output)) }
+        ensures device { IsErrOf result OutFault.Device → DeviceFails (O.spent self.old.output) (O.failures self.old.output) (O.failures self.new.output) }
+        ensures memory { IsErrOf result OutFault.Memory → GrowthFails (O.spent self.old.output) (O.failures self.old.output) (O.failures self.new.output) }
+        ensures was_spent { IsErrOf result OutFault.Spent → (O.spent self.old.output ≡ true) × (self.new.output ≡ self.old.output) }
+        ensures closed { self.new.closed ≡ self.old.closed }
+    {
+        match write_group(&mut self.output, self.group, &self.words, &mut self.room) {
+            Ok(()) => {}
+            Err(fault) => return Err(fault),
+        }
+        self.group = Group::Empty;
+        if word == 0 {
+            self.group = Group::Zeros { more: 0 };
+            return Ok(());
+        }
+        if zeros == 0 {
+            self.group = Group::Plain {
+                first: word,
+                more: 0,
+            };
+            return Ok(());
+        }
+        write_marked(&mut self.output, word)
+    }
+}
+
+impl<O: ByteOut> WordSink for Packer<O> {
+    ghost taken = { λ s. O.written s.output };
+
+    ghost text = { λ s ws. append_known (O.written s.output) (pack_text (held s.group s.words ++ ws)) };
+
+    ghost failures = { λ s. O.failures s.output };
+
+    ghost closed = { λ s. s.closed };
+
+    ghost spent = { λ s. s.closed || O.spent s.output };
+
+    fn put(&mut self, word: u64) -> Result<(), SinkFault> {
+        if self.closed {
+            return Err(SinkFault::Spent);
+        }
+        let zeros = count_zeros(&bytes_of(word));
+        if self.join(word, zeros) {
+            return Ok(());
+        }
+        match self.start(word, zeros) {
+            Ok(()) => Ok(()),
+            Err(fault) => {
+                self.closed = true;
+                Err(SinkFault::from(fault))
+            }
+        }
+    }
+
+    fn finish(&mut self) -> Result<(), SinkFault> {
+        if self.closed {
+            return Err(SinkFault::Spent);
+        }
+        self.closed = true;
+        match write_group(&mut self.output, self.group, &self.words, &mut self.room) {
+            Ok(()) => {
+                self.group = Group::Empty;
+                Ok(())
+            }
+            Err(fault) => Err(SinkFault::from(fault)),
+        }
+    }
+
+    ghost begins = { λ s ws. begins_appended (O.written s.output) (pack_text (held s.group s.words ++ ws)) };
+}
