@@ -4,6 +4,8 @@ pub mod WordBytes
 pub mod Plain
 pub mod Unpacking
 pub mod Groups
+pub mod MakingGroups
+pub mod OneUnpacking
 pub mod Framing
 pub mod Endings
 pub mod Messages
