@@ -4,6 +4,7 @@
 
 pub mod following;
 pub mod framing;
+pub mod packing;
 pub mod paths;
 pub mod plain;
 pub mod trees;

@@ -1,0 +1,7 @@
+use Rattle.cap_spec.specs.Unpacking.{unpacked}
+use Rattle.cap_spec.proofs.OneUnpacking.{becomes, either, words_of_either, unpacks_not_cut}
+use Rattle.cap_laws.proofs.packing.one_unpacking.Goals as goal
+
+pub returns : goal.returns
+returns c = λ bytes all.
+    ((unpacked bytes, either bytes (becomes bytes all), words_of_either bytes), unpacks_not_cut bytes)

@@ -1,0 +1,9 @@
+use Rattle.std.proofs.Common.{sym, subst}
+use Rattle.cap_spec.specs.Unpacking.{Unpacks}
+use Rattle.cap_spec.proofs.Groups.{unpacks_words, unpacks_whole}
+use Rattle.cap_spec.proofs.OneUnpacking.{unpacks_unless_cut}
+use Rattle.cap_laws.proofs.packing.unpacks_as_computed.Goals as goal
+
+pub returns : goal.returns
+returns c = λ bytes all words.
+    ((λ u. (unpacks_whole bytes words u, unpacks_words bytes words u)), (λ e. subst (λ k. Unpacks bytes k) (sym e.1) (unpacks_unless_cut bytes all e.0)))

@@ -1,0 +1,21 @@
+//! Words in their packed spellings.
+
+ghost use Rattle.cap_laws.specs.Packing.{CutAsComputed, OneUnpacking, UnpacksAsComputed};
+
+/// Each list of bytes is a packed text of words, or is cut inside a group behind words that it
+/// gives: one of the two and not the other, for exactly one list of words.
+pub fn one_unpacking()
+    ensures { OneUnpacking }
+{}
+
+/// Bytes are a packed text of words just where `packed_is_cut` says no and `unpacked` gives these
+/// words.
+pub fn unpacks_as_computed()
+    ensures { UnpacksAsComputed }
+{}
+
+/// Bytes are cut inside a group just where `packed_is_cut` says so, and give then the words that
+/// `unpacked` gives.
+pub fn cut_as_computed()
+    ensures { CutAsComputed }
+{}
