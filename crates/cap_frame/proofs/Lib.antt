@@ -1,1 +1,4 @@
 pub mod Held
+pub mod Taking
+pub mod Tables
+pub mod Contents

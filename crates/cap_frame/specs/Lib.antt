@@ -1,1 +1,4 @@
 pub mod Limit
+pub mod Taking
+pub mod Faults
+pub mod Rooms

@@ -5,6 +5,8 @@ pub mod fault;
 pub mod limit;
 pub mod message;
 pub mod segments;
+mod table;
+mod words;
 
 pub use fault::FrameFault;
 pub use limit::SizeLimit;
