@@ -2,3 +2,4 @@ pub mod Held
 pub mod Taking
 pub mod Tables
 pub mod Contents
+pub mod Behind

@@ -1,5 +1,5 @@
 -- What each fault of reading a message says of the source and of its words.
-use Rattle.std.specs.Prelude.{⊤, ℕ, ◌+◌, ◌%◌, ◌^◌, ◌≡◌, ◌<◌, ◌≤◌, ◌⊎◌, true, false, List, [], ◌∷◌, length, drop, sum, IfSome, Result, Ok, Err}
+use Rattle.std.specs.Prelude.{⊤, ℕ, ◌+◌, ◌%◌, ◌^◌, ◌≡◌, ◌<◌, ◌≤◌, ◌⊎◌, Bool, true, false, List, [], ◌∷◌, length, drop, sum, IfSome, Result, Ok, Err}
 use Rattle.cap_spec.specs.Frames.{IsTable, IsPartial}
 use Rattle.cap_words.specs.declared.sources.WordSource as source
 use Rattle.cap_frame.specs.Taking.{Takes, IsUsable, Breaks, Refuses}
@@ -56,3 +56,26 @@ module _ {X : Type 0} (g : source.Ghosts X) where
   Faults limit old new Device = Breaks g old new
   Faults limit old new Memory = ((sizes : List ℕ) × TakesTable old new sizes × (sum sizes ≤ limit)) × IsUsable g old new
   Faults limit old new Spent = Refuses g old new
+
+  -- Behind the first word, the rest of a table of at most 512 segments was taken, and no more.
+  pub record TakesTableBehind (first : ℕ) (old new : X) (sizes : List ℕ) : Type 0 where
+    pub more : List ℕ
+    pub takes : Takes g old new more
+    pub is_table : IsTable (first ∷ more) sizes
+
+  -- Behind its first word the source ended inside a message.
+  pub record EndsBehind (limit first : ℕ) (old new : X) (byte : ℕ) : Type 0 where
+    pub partial : IfSome (g.words old) (λ ws. ((cut : Bool) → IsPartial limit (first ∷ ws) cut) × (drop (length ws) (g.places old) ≡ byte ∷ []))
+    pub place : byte ≡ g.place new
+    pub usable : g.spent old ≡ false
+    pub none_failed : g.failures new ≡ g.failures old
+    pub over : (g.ended new ≡ true) ⊎ (g.failed new ≡ true)
+
+  -- what each fault says where the first word was taken before
+  abbrev pub FaultsBehind : ℕ → ℕ → X → X → FrameFault → Type 0
+  FaultsBehind limit first old new (TooManySegments count) = (count ≡ first % 2 ^ 32 + 1) × (512 < count) × (new ≡ old)
+  FaultsBehind limit first old new (TooLarge words) = ((sizes : List ℕ) × TakesTableBehind first old new sizes × (words ≡ sum sizes) × (limit < words)) × IsUsable g old new
+  FaultsBehind limit first old new (Truncated byte) = EndsBehind limit first old new byte
+  FaultsBehind limit first old new Device = Breaks g old new
+  FaultsBehind limit first old new Memory = ((sizes : List ℕ) × TakesTableBehind first old new sizes × (sum sizes ≤ limit)) × IsUsable g old new
+  FaultsBehind limit first old new Spent = Refuses g old new

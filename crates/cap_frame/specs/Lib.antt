@@ -2,3 +2,4 @@ pub mod Limit
 pub mod Taking
 pub mod Faults
 pub mod Rooms
+pub mod SourceFaults

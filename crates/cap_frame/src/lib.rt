@@ -4,6 +4,7 @@
 pub mod fault;
 pub mod limit;
 pub mod message;
+pub mod reader;
 pub mod segments;
 mod table;
 mod words;

@@ -1,13 +1,17 @@
 //! The table in front of a message: how many segments it has, and how many words each of them.
 
 ghost use Rattle.arrayvec.specs.ArrayVec.{array_vec_len};
-ghost use Rattle.cap_frame.specs.Taking.{IsUsable, Stops, Takes};
-ghost use Rattle.cap_spec.specs.Frames.{IsTable, halves};
-ghost use Rattle.std.specs.Prelude.{◌%◌, ◌*◌, ◌+◌, ◌++◌, ◌/◌, ◌<◌, ◌^◌, ◌≡◌, ◌≤◌, [], ◌∷◌, IfErr, List, OnOk, false, length, sum, take, ℕ};
+ghost use Rattle.cap_frame.specs.Faults.{FaultsBehind, TakesTableBehind};
+ghost use Rattle.cap_frame.specs.Limit.{limit_of};
+ghost use Rattle.cap_frame.specs.Taking.{IsUsable, Stops};
+ghost use Rattle.cap_spec.specs.Frames.{halves};
+ghost use Rattle.std.specs.Prelude.{◌%◌, ◌*◌, ◌+◌, ◌++◌, ◌/◌, ◌<◌, ◌^◌, ◌≡◌, ◌≤◌, [], IfErr, OnOk, false, length, sum, take};
 
 use arrayvec::ArrayVec;
 use cap_words::{SourceFault, WordSource};
 
+use crate::fault::{FrameFault, frame_fault};
+use crate::limit::SizeLimit;
 use crate::words::next_word;
 
 /// The sizes of a message's segments, in words.
@@ -44,7 +48,7 @@ pub(crate) fn read_sizes<S: WordSource>(source: &mut S, first: u64, sizes: &mut 
     requires few { first % 2 ^ 32 < 512 }
     requires usable { S.spent source.old ≡ false }
     requires empty { sizes.old.items ≡ [] }
-    ensures ok { OnOk result ((more : List ℕ) × Takes S.WordSource source.old source.new more × IsTable (first ∷ more) sizes.new.items) }
+    ensures ok { OnOk result (TakesTableBehind S.WordSource first source.old source.new sizes.new.items) }
     ensures works { OnOk result (IsUsable S.WordSource source.old source.new) }
     ensures err { IfErr result (Stops S.WordSource ((first % 2 ^ 32 + 1) / 2) source.old source.new) }
 {
@@ -65,4 +69,27 @@ pub(crate) fn total(sizes: &[u32]) -> u64
     ensures { result ≡ sum sizes.now }
 {
     sizes.iter().map(|size| u64::from(*size)).sum()
+}
+
+/// Reads the rest of a table, behind its first word, and looks at its numbers.
+pub(crate) fn read_table<S: WordSource>(source: &mut S, first: u64, limit: SizeLimit, sizes: &mut Sizes) -> Result<(), FrameFault>
+    requires usable { S.spent source.old ≡ false }
+    requires empty { sizes.old.items ≡ [] }
+    ensures ok { OnOk result (TakesTableBehind S.WordSource first source.old source.new sizes.new.items) }
+    ensures within { OnOk result (sum sizes.new.items ≤ limit_of limit) }
+    ensures works { OnOk result (IsUsable S.WordSource source.old source.new) }
+    ensures err { IfErr result (FaultsBehind S.WordSource (limit_of limit) first source.old source.new) }
+{
+    let last = low_half(first);
+    if last >= 512 {
+        return Err(FrameFault::TooManySegments { count: u64::from(last) + 1 });
+    }
+    if let Err(fault) = read_sizes(source, first, sizes) {
+        return Err(frame_fault(fault));
+    }
+    let words = total(sizes);
+    if words > limit.words() {
+        return Err(FrameFault::TooLarge { words });
+    }
+    Ok(())
 }

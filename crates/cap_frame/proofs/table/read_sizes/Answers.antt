@@ -21,4 +21,4 @@ pub returns-clause-ok : goal.returns-clause-ok
 returns-clause-ok g c =
     let t = c.table.invariant in
     let whole = is_table c.args.first t.more c.ranges.first.fits c.requires.few t.fit (omega (arith, t.length_is)) in
-    (t.more, t.takes, rw (← t.sizes_are) at whole)
+    record { more = t.more; takes = t.takes; is_table = rw (← t.sizes_are) at whole }
