@@ -1,8 +1,8 @@
 -- Reading the words of segments, one segment after the other.
-use Rattle.std.proofs.Common.{◌≡◌, ◌∙◌, ℕ, ◌+◌, ◌<◌, ◌≤◌, zero, suc, false, List, [], ◌∷◌, ◌++◌, length, take, drop, map, sum, get_or, flat_map, refl, sym, ap, subst, arith, add-one, zero-add, append-nil, length-append}
+use Rattle.std.proofs.Common.{◌≡◌, ◌∙◌, ℕ, ◌+◌, ◌<◌, ◌≤◌, suc, false, List, [], ◌∷◌, ◌++◌, length, take, drop, map, sum, get_or, refl, sym, ap, subst, arith, add-one, zero-add, append-nil, length-append}
 use Rattle.std.proofs.Math.ListN.{set}
-use Rattle.std.proofs.Math.Seq.{drop-cons, take-length}
-use Rattle.std.proofs.lemmas.List.{take_more, map-append, take_more_set, drop-set-lt, length-set, take_all, length-take, length-drop, take-append-drop}
+use Rattle.std.proofs.Math.Seq.{drop-cons}
+use Rattle.std.proofs.lemmas.List.{take_more, map-append, take_more_set, drop-set-lt, length-set, take_all}
 use Rattle.std.proofs.lemmas.List.Sums.{sum_by-append, sum_by-take-le}
 use Rattle.std.proofs.lemmas.Grind.{flat_map-append}
 use Rattle.cap_words.specs.declared.sources.WordSource as source
@@ -108,7 +108,7 @@ module _ {X : Type 0} (g : source.Ghosts X) where
         let back : drop (s + 1) longer ≡ drop (s + 1) segments = ap (drop (s + 1)) e ∙ drop-set-lt (s + 1) segments s v (omega arith) in
         let parts : map f (take (s + 1) longer) ≡ map f (take s segments) ++ f v ∷ [] = ap (map f) front ∙ map-append f (take s segments) (v ∷ []) in
         let words : joined (map f (take (s + 1) longer)) ≡ joined (map f (take s segments)) ++ f v =
-            ap joined parts ∙ (flat_map-append (λ (ws : List ℕ). ws) (map f (take s segments)) (f v ∷ []) ∙ ap (λ (ws : List ℕ). joined (map f (take s segments)) ++ ws) (append-nil (f v))) in
+        ap joined parts ∙ (flat_map-append (λ (ws : List ℕ). ws) (map f (take s segments)) (f v ∷ []) ∙ ap (λ (ws : List ℕ). joined (map f (take s segments)) ++ ws) (append-nil (f v))) in
         let r = rooms_from f room s segments sizes v inside h t.rooms in
         record {
           takes = subst (Takes g old new) (sym words) (takes_both g old now new (joined (map f (take s segments))) (f v) t.takes takes);
@@ -131,7 +131,7 @@ module _ {X : Type 0} (g : source.Ghosts X) where
     -- all were read
     pub segments_end : (old now : X) (s : ℕ) (segments : List V) (sizes : List ℕ) → length sizes ≤ s → SegmentsSoFar old now s segments sizes
         → Takes g old now (joined (map f segments)) × (sizes_of (map f segments) ≡ sizes)
-    segments_end old now s segments sizes h t = 
+    segments_end old now s segments sizes h t =
         let vs : take s segments ≡ segments = take_all s segments (omega (arith, t.many)) in
         let ns : take s sizes ≡ sizes = take_all s sizes h in
         (rw vs at t.takes, rw vs at (t.sizes_are ∙ ns))

@@ -3,3 +3,4 @@ pub mod Taking
 pub mod Tables
 pub mod Contents
 pub mod Behind
+pub mod Before

@@ -1,17 +1,22 @@
 -- Words taken from a source in several calls.
-use Rattle.std.proofs.Common.{◌≡◌, ◌∙◌, ℕ, ◌+◌, ◌<◌, ◌≤◌, suc, Bool, true, false, Option, Some, None, List, [], ◌∷◌, ◌++◌, length, drop, IfSome, OnSome, refl, sym, ap, subst, arith, append_assoc, length-append}
+use Rattle.std.proofs.Common.{◌≡◌, ◌∙◌, ℕ, ◌+◌, ◌<◌, ◌≤◌, suc, Bool, Option, Some, None, List, [], ◌∷◌, ◌++◌, length, drop, IfSome, OnSome, refl, sym, ap, arith, length-append}
 use Rattle.std.specs.Io.KnownBytes.{Consumes}
 use Rattle.std.proofs.KnownBytes.{Consumes-nil, Consumes-trans}
 use Rattle.std.proofs.lemmas.List.{drop-drop}
 use Rattle.cap_words.specs.declared.sources.WordSource as source
 use Rattle.cap_words.specs.declared.sources.SourceFault.{SourceFault}
 use Rattle.cap_words.specs.declared.sources.SourceFault.TheVariants.{Truncated, Device, Spent}
-use Rattle.cap_frame.specs.Taking.{Takes, IsUsable, EndsEarly, Breaks, Refuses, Stops}
+use Rattle.cap_frame.specs.Taking.{Takes, IsUsable, Breaks, Stops}
 
 -- what holds is said of a known value
 pub on_some : {A : Type 0} (o : Option A) (P : Type 0) → P → OnSome o P
 on_some None P h = tt
 on_some (Some x) P h = h
+
+-- the places after the next word, turned round
+pub goes_on_one : (o : Option (List ℕ)) (A : Type 0) (p q : ℕ) (ps qs : List ℕ) → OnSome o (A × (ps ≡ q ∷ qs)) → OnSome o (A × (q ∷ qs ≡ drop 1 (p ∷ ps)))
+goes_on_one None A p q ps qs h = tt
+goes_on_one (Some x) A p q ps qs h = (h.0, sym h.1)
 
 -- the places go on over two lists of words
 pub goes_on_both : (a b : Option (List ℕ)) (taken own : List ℕ) (c d e : Bool) (p q r : ℕ) (ps qs rs : List ℕ)
@@ -47,6 +52,11 @@ module _ {X : Type 0} (g : source.Ghosts X) where
   -- no words
   pub takes_none : (s : X) → Takes g s s []
   takes_none s = record { words = Consumes-nil (g.words s); goes_on = on_some (g.words s) _ (refl, refl) }
+
+  -- the next word
+  pub takes_one : (old new : X) (word : ℕ) → Consumes (g.words old) (g.words new) (word ∷ [])
+      → OnSome (g.words old) ((g.is_cut new ≡ g.is_cut old) × (g.places old ≡ g.place new ∷ g.places new)) → Takes g old new (word ∷ [])
+  takes_one old new word c f = record { words = c; goes_on = goes_on_one (g.words old) (g.is_cut new ≡ g.is_cut old) (g.place old) (g.place new) (g.places old) (g.places new) f }
 
   -- some words, and then others
   pub takes_both : (old mid new : X) (taken own : List ℕ) → Takes g old mid taken → Takes g mid new own → Takes g old new (taken ++ own)

@@ -12,4 +12,5 @@ mod words;
 pub use fault::FrameFault;
 pub use limit::SizeLimit;
 pub use message::{OneSegment, WordMessage};
+pub use reader::read_message;
 pub use segments::Segments;

@@ -7,12 +7,11 @@ ghost use Rattle.cap_frame.specs.Taking.{IsUsable, Stops};
 ghost use Rattle.cap_spec.specs.Frames.{halves};
 ghost use Rattle.std.specs.Prelude.{◌%◌, ◌*◌, ◌+◌, ◌++◌, ◌/◌, ◌<◌, ◌^◌, ◌≡◌, ◌≤◌, [], IfErr, OnOk, false, length, sum, take};
 
-use arrayvec::ArrayVec;
-use cap_words::{SourceFault, WordSource};
-
 use crate::fault::{FrameFault, frame_fault};
 use crate::limit::SizeLimit;
 use crate::words::next_word;
+use arrayvec::ArrayVec;
+use cap_words::{SourceFault, WordSource};
 
 /// The sizes of a message's segments, in words.
 pub(crate) type Sizes = ArrayVec<u32, 512>;
@@ -44,7 +43,11 @@ fn push_halves(sizes: &mut Sizes, count: usize, word: u64)
 }
 
 /// Reads the rest of a table, behind its first word, which tells of at most 512 segments.
-pub(crate) fn read_sizes<S: WordSource>(source: &mut S, first: u64, sizes: &mut Sizes) -> Result<(), SourceFault>
+pub(crate) fn read_sizes<S: WordSource>(
+    source: &mut S,
+    first: u64,
+    sizes: &mut Sizes,
+) -> Result<(), SourceFault>
     requires few { first % 2 ^ 32 < 512 }
     requires usable { S.spent source.old ≡ false }
     requires empty { sizes.old.items ≡ [] }
@@ -72,7 +75,12 @@ pub(crate) fn total(sizes: &[u32]) -> u64
 }
 
 /// Reads the rest of a table, behind its first word, and looks at its numbers.
-pub(crate) fn read_table<S: WordSource>(source: &mut S, first: u64, limit: SizeLimit, sizes: &mut Sizes) -> Result<(), FrameFault>
+pub(crate) fn read_table<S: WordSource>(
+    source: &mut S,
+    first: u64,
+    limit: SizeLimit,
+    sizes: &mut Sizes,
+) -> Result<(), FrameFault>
     requires usable { S.spent source.old ≡ false }
     requires empty { sizes.old.items ≡ [] }
     ensures ok { OnOk result (TakesTableBehind S.WordSource first source.old source.new sizes.new.items) }
@@ -82,7 +90,9 @@ pub(crate) fn read_table<S: WordSource>(source: &mut S, first: u64, limit: SizeL
 {
     let last = low_half(first);
     if last >= 512 {
-        return Err(FrameFault::TooManySegments { count: u64::from(last) + 1 });
+        return Err(FrameFault::TooManySegments {
+            count: u64::from(last) + 1,
+        });
     }
     if let Err(fault) = read_sizes(source, first, sizes) {
         return Err(frame_fault(fault));

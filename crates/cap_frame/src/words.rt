@@ -6,9 +6,8 @@ ghost use Rattle.cap_spec.specs.Frames.{joined, sizes_of};
 ghost use Rattle.std.specs.Prelude.{◌<◌, ◌^◌, ◌≡◌, ◌≤◌, [], ◌∷◌, IfErr, IfOk, OnOk, false, length, map, sum};
 ghost use Rattle.std.specs.Vec.{vec_capacity};
 
-use std::alloc::{AllocError, Global};
-
 use cap_words::{SourceFault, WordSource};
+use std::alloc::{AllocError, Global};
 
 /// The next word of a message. That there is none is then a fault.
 pub(crate) fn next_word<S: WordSource>(source: &mut S) -> Result<u64, SourceFault>
@@ -19,13 +18,19 @@ pub(crate) fn next_word<S: WordSource>(source: &mut S) -> Result<u64, SourceFaul
 {
     match source.next() {
         Ok(Some(word)) => Ok(word),
-        Ok(None) => Err(SourceFault::Truncated { byte: source.position() }),
+        Ok(None) => Err(SourceFault::Truncated {
+            byte: source.position(),
+        }),
         Err(fault) => Err(fault),
     }
 }
 
 /// Reads as many words as a segment has, into a vector with room for them.
-pub(crate) fn read_words<S: WordSource>(source: &mut S, size: u32, words: &mut Vec<u64>) -> Result<(), SourceFault>
+pub(crate) fn read_words<S: WordSource>(
+    source: &mut S,
+    size: u32,
+    words: &mut Vec<u64>,
+) -> Result<(), SourceFault>
     requires usable { S.spent source.old ≡ false }
     requires empty { words.old.items ≡ [] }
     requires room { size ≤ vec_capacity words.old }
@@ -55,7 +60,11 @@ pub(crate) fn rooms(alloc: Global, sizes: &[u32]) -> Result<Vec<Vec<u64>>, Alloc
 }
 
 /// Reads the words of all segments.
-pub(crate) fn read_contents<S: WordSource>(source: &mut S, sizes: &[u32], segments: &mut Vec<Vec<u64>>) -> Result<(), SourceFault>
+pub(crate) fn read_contents<S: WordSource>(
+    source: &mut S,
+    sizes: &[u32],
+    segments: &mut Vec<Vec<u64>>,
+) -> Result<(), SourceFault>
     requires usable { S.spent source.old ≡ false }
     requires rooms { AreRooms (λ v. v.items) (λ v. vec_capacity v) segments.old.items sizes.now }
     ensures ok { OnOk result (Takes S.WordSource source.old source.new (joined (map (λ v. v.items) segments.new.items))) }

@@ -1,5 +1,5 @@
 -- Each word appends its halves to the sizes, as far as there are sizes to come.
-use Rattle.std.proofs.Common.{arith, ◌%◌, ◌+◌, ◌/◌, ◌<◌, ◌^◌, ◌≡◌, ◌∙◌, ap}
+use Rattle.std.proofs.Common.{arith, ◌%◌, ◌+◌, ◌/◌, ◌<◌, ◌^◌}
 use Rattle.cap_frame.proofs.Tables.{is_table, table_more, table_room, table_stops}
 use Rattle.cap_frame.proofs.table.read_sizes.Goals as goal
 

@@ -1,4 +1,4 @@
-use Rattle.cap_frame.proofs.Contents.{segments_start, segments_room, segments_more, segments_stop, segments_end}
+use Rattle.cap_frame.proofs.Contents.{segments_start, segments_stop}
 use Rattle.std.proofs.Common.{get_or, refl}
 use Rattle.std.specs.Vec.{vec_capacity}
 use Rattle.cap_frame.proofs.words.read_contents.Goals as goal

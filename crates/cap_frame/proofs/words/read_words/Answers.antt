@@ -1,4 +1,4 @@
-use Rattle.std.proofs.Common.{rules, arith, ◌<◌, ◌^◌, ◌≡◌, ◌≤◌, [], ◌∷◌, ◌++◌}
+use Rattle.std.proofs.Common.{arith}
 use Rattle.cap_frame.proofs.Contents.{words_more, words_stop}
 use Rattle.cap_frame.proofs.words.read_words.Goals as goal
 
