@@ -1,6 +1,1 @@
 pub mod Held
-pub mod Taking
-pub mod Tables
-pub mod Contents
-pub mod Behind
-pub mod Before

@@ -1,5 +1,1 @@
 pub mod Limit
-pub mod Taking
-pub mod Faults
-pub mod Rooms
-pub mod SourceFaults

@@ -1,7 +1,9 @@
 //! Packed words: the source that unpacks them, and the sink that packs them.
 #![tactic(auto)]
 
+mod counted;
 mod group;
+mod head;
 pub mod packer;
 mod spelling;
 pub mod unpacker;

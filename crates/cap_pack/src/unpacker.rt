@@ -1,15 +1,134 @@
 //! A source of words over packed bytes.
 
-use cap_words::ByteIn;
+ghost use Rattle.cap_pack.specs.Course.{is_cut_of, packed_ends, places_of, words_of};
+ghost use Rattle.cap_pack.specs.State.{ahead, has_ended, has_failed, source_spent};
+ghost use Rattle.cap_spec.specs.Unpacking.{packed_is_cut, unpacked};
+ghost use Rattle.std.specs.Option.{option_map};
+ghost use Rattle.std.specs.Prelude.{◌<◌, ◌≡◌, [], OnSome, false, unwrap_or, ℕ};
 
-/// The words that packed bytes spell.
+use super::counted::Counted;
+use cap_words::{ByteIn, SourceFault, WordSource};
+
+/// Reads the words that packed bytes spell (encoding: Packing). Every spelling is taken: a byte that
+/// its tag marks may be zero, and a run may be shorter than it could be. The head of a group is read
+/// whole before the group's first word is given, and each word of a run of words as they are when
+/// it is asked for. Its size is fixed.
+#[derive(Drop)]
 pub struct Unpacker<I: ByteIn> {
-    input: I,
+    bytes: Counted<I>,
+    phase: Phase,
+    // how many zero words of a run are still to be given
+    zeros: u8,
+    // how many words as they are are still to be read
+    plain: u8,
+    // while zero words are held the input works
+    ghost ready: { 0 < zeros → I.spent bytes.input ≡ false },
+}
+
+// What a source does at its next call.
+#[derive(Clone, Copy)]
+pub(crate) enum Phase {
+    Open,
+    Ended,
+    Failed,
 }
 
 impl<I: ByteIn> Unpacker<I> {
-    /// Unpacks the bytes of an input from the next one on.
-    pub fn new(input: I) -> Unpacker<I> {
-        Unpacker { input }
+    ghost use Rattle.cap_pack.specs.Input.{input_of};
+
+    /// The words that the packed bytes of `input` spell, from its next byte on.
+    pub fn new(input: I) -> Unpacker<I>
+        ensures input { input_of result ≡ input }
+        ensures words { ⟦<Unpacker<I> as WordSource>⟧.words result ≡ option_map unpacked (I.to_come input) }
+        ensures is_cut { ⟦<Unpacker<I> as WordSource>⟧.is_cut result ≡ packed_is_cut (unwrap_or (I.to_come input) []) }
+        ensures place { ⟦<Unpacker<I> as WordSource>⟧.place result ≡ 0 }
+        ensures places { OnSome (I.to_come input) (⟦<Unpacker<I> as WordSource>⟧.places result ≡ packed_ends 0 (unwrap_or (I.to_come input) [])) }
+        ensures unread { ⟦<Unpacker<I> as WordSource>⟧.unread result ≡ I.to_come input }
+        ensures ended { ⟦<Unpacker<I> as WordSource>⟧.ended result ≡ false }
+        ensures failed { ⟦<Unpacker<I> as WordSource>⟧.failed result ≡ false }
+        ensures failures { ⟦<Unpacker<I> as WordSource>⟧.failures result ≡ I.failures input }
+        ensures spent { ⟦<Unpacker<I> as WordSource>⟧.spent result ≡ I.spent input }
+    {
+        Unpacker {
+            bytes: Counted { input, read: 0 },
+            phase: Phase::Open,
+            zeros: 0,
+            plain: 0,
+        }
+    }
+
+    /// Gives the input back as it is: behind the bytes of the last word that was given, or of its
+    /// group's head.
+    pub fn into_inner(self) -> I
+        ensures { result ≡ input_of self }
+    {
+        self.bytes.input
     }
 }
+
+impl<I: ByteIn> WordSource for Unpacker<I> {
+    ghost words = { λ s. option_map (λ bs. words_of (ahead s.phase s.zeros s.plain s.bytes.read bs)) (I.to_come s.bytes.input) };
+
+    ghost is_cut = { λ s. is_cut_of (ahead s.phase s.zeros s.plain s.bytes.read (unwrap_or (I.to_come s.bytes.input) [])) };
+
+    ghost place = { λ s. s.bytes.read };
+
+    ghost places = { λ s. places_of (ahead s.phase s.zeros s.plain s.bytes.read (unwrap_or (I.to_come s.bytes.input) [])) };
+
+    ghost unread = { λ s. I.to_come s.bytes.input };
+
+    ghost ended = { λ s. has_ended s.phase };
+
+    ghost failed = { λ s. has_failed s.phase };
+
+    ghost failures = { λ s. I.failures s.bytes.input };
+
+    ghost spent = { λ s. source_spent s.phase (I.spent s.bytes.input) };
+
+    fn next(&mut self) -> Result<Option<u64>, SourceFault> {
+        let _position = self.bytes.read;
+        match self.phase {
+            Phase::Ended => return Ok(None),
+            Phase::Failed => return Err(SourceFault::Spent),
+            Phase::Open => {}
+        }
+        if self.zeros > 0 {
+            self.zeros -= 1;
+            return Ok(Some(0));
+        }
+        if self.plain > 0 {
+            return match self.bytes.word() {
+                Ok(word) => {
+                    self.plain -= 1;
+                    Ok(Some(word))
+                }
+                Err(fault) => {
+                    self.phase = Phase::Failed;
+                    Err(fault)
+                }
+            };
+        }
+        match self.bytes.head() {
+            Ok(Some(head)) => {
+                self.zeros = head.zeros;
+                self.plain = head.plain;
+                Ok(Some(head.word))
+            }
+            Ok(None) => {
+                self.phase = Phase::Ended;
+                Ok(None)
+            }
+            Err(fault) => {
+                self.phase = Phase::Failed;
+                Err(fault)
+            }
+        }
+    }
+
+    fn position(&self) -> u64 {
+        self.bytes.read
+    }
+}
+
+#[cfg(test)]
+mod tests;

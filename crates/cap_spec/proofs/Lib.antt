@@ -24,5 +24,3 @@ pub mod Walks
 pub mod Arrivals
 pub mod Preorder
 pub mod Cycles
-pub mod PathLists
-pub mod PathCounts

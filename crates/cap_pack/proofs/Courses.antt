@@ -1,0 +1,67 @@
+-- How the course of packed bytes goes on after the bytes in front.
+use Rattle.std.proofs.Common.{◌≡◌, ℕ, lit<, ltb-false, zero, suc, ◌+◌, ◌<◌, ◌≤◌, cond, Bool, true, false, List, [], ◌∷◌, ◌++◌, length, drop, refl, sym, ap, ◌∙◌, arith, length-drop}
+use Rattle.std.proofs.Math.Seq.{drop-append_seam}
+use Rattle.std.proofs.lemmas.List.{length-append}
+use Rattle.std.proofs.lemmas.Bool.{cond-true, cond-false, lt-ltb, le-ltb}
+use Rattle.cap_pack.proofs.Heads.{first_word-append, zeros_of-append, plain_of-append}
+use Rattle.byteorder.specs.Endian.{little_number}
+use Rattle.cap_spec.specs.Plain.{capped}
+use Rattle.cap_pack.specs.Course.{ends, stops, gives, course, course_in, head_rest, first_word, zeros_of, plain_of, zeros_then}
+
+-- two choices are the same where they are so in the branch that is taken
+branches_same : {A : Type 0} (b : Bool) (x y z : A) → (b ≡ false → y ≡ z) → cond b x y ≡ cond b x z
+branches_same true x y z h = refl
+branches_same false x y z h = h refl
+
+-- what is left behind some of the bytes is shorter
+left_shorter : (k f : ℕ) (bytes : List ℕ) → 0 < k → k ≤ length bytes → length bytes < suc f → length (drop k bytes) < f
+left_shorter k f bytes a b p = omega (arith, length-drop k bytes)
+
+-- any number of steps above the length of the bytes is enough
+pub enough : (f g n at : ℕ) (bytes : List ℕ) → length bytes < f → length bytes < g → course_in f n at bytes ≡ course_in g n at bytes
+unfolding course_in
+enough zero g n at bytes p q = absurd (omega arith)
+enough (suc f) zero n at bytes p q = absurd (omega arith)
+enough (suc f) (suc g) zero at [] p q = refl
+enough (suc f) (suc g) zero at (tag ∷ bytes) p q =
+    let l = length-drop (head_rest tag) bytes in
+    let a : length (drop (head_rest tag) bytes) < f = omega arith in
+    let b : length (drop (head_rest tag) bytes) < g = omega arith in
+    let e = enough f g (plain_of tag bytes) (capped (at + (suc (head_rest tag)))) (drop (head_rest tag) bytes) a b in
+    rw e refl
+enough (suc f) (suc g) (suc n) at bytes p q = branches_same _ _ _ _ (λ t.
+    ap (gives (little_number 8 bytes) (capped (at + 8))) (enough f g n (capped (at + 8)) (drop 8 bytes) (left_shorter 8 f bytes (lit< tt) (ltb-false (length bytes) 8 t) p) (left_shorter 8 g bytes (lit< tt) (ltb-false (length bytes) 8 t) q)))
+
+-- a word as it is, and what comes after it
+pub course_plain : (n at : ℕ) (bs ys : List ℕ) → length bs ≡ 8 → course (suc n) at (bs ++ ys) ≡ gives (little_number 8 bs) (capped (at + length bs)) (course n (capped (at + length bs)) ys)
+unfolding course course_in
+course_plain n at (a ∷ b ∷ c ∷ d ∷ e ∷ f ∷ g ∷ h ∷ []) ys l =
+    cond-false _ _ _ (le-ltb (suc (suc (suc (suc (suc (suc (suc (suc (length ys))))))))) 8 (omega arith)) ∙ ap (gives (little_number 8 (a ∷ b ∷ c ∷ d ∷ e ∷ f ∷ g ∷ h ∷ [])) (capped (at + 8))) (enough (suc (suc (suc (suc (suc (suc (suc (suc (length ys))))))))) (suc (length ys)) n (capped (at + 8)) ys (omega arith) (omega arith))
+course_plain n at _ ys l = absurd (omega (arith, l))
+
+-- the input ends inside one
+pub course_plain_stops : (n at : ℕ) (bs : List ℕ) → length bs < 8 → course (suc n) at bs ≡ stops (capped (at + length bs))
+unfolding course course_in
+course_plain_stops n at bs l = cond-true _ _ _ (lt-ltb (length bs) 8 l)
+
+-- a group behind its head
+pub course_head : (at tag : ℕ) (bs ys : List ℕ) → length bs ≡ head_rest tag →
+    course 0 at (tag ∷ bs ++ ys) ≡ gives (first_word tag bs) (capped (at + length (tag ∷ bs))) (zeros_then (zeros_of tag bs) (capped (at + length (tag ∷ bs))) (course (plain_of tag bs) (capped (at + length (tag ∷ bs))) ys))
+unfolding course course_in
+course_head at tag bs ys l =
+    let long : head_rest tag ≤ length (bs ++ ys) = omega (arith, length-append bs ys) in
+    let behind : drop (head_rest tag) (bs ++ ys) ≡ ys = rw (← l) (drop-append_seam bs ys) in
+    let short : length ys < suc (length (bs ++ ys)) = omega (arith, length-append bs ys) in
+    let place : capped (at + suc (head_rest tag)) ≡ capped (at + suc (length bs)) = ap (λ n. capped (at + suc n)) (sym l) in
+    let rest = enough (suc (length (bs ++ ys))) (suc (length ys)) (plain_of tag bs) (capped (at + suc (length bs))) ys short (omega arith) in
+    cond-false _ _ _ (le-ltb _ _ long) ∙ rw (first_word-append tag bs ys l, zeros_of-append tag bs ys l, plain_of-append tag bs ys l, behind, place, rest) refl
+
+-- the input ends inside a head
+pub course_head_stops : (at tag : ℕ) (bs : List ℕ) → length bs < head_rest tag → course 0 at (tag ∷ bs) ≡ stops (capped (at + length (tag ∷ bs)))
+unfolding course course_in
+course_head_stops at tag bs l = cond-true _ _ _ (lt-ltb (length bs) (head_rest tag) l)
+
+-- no group is left
+pub course_none : (at : ℕ) → course 0 at [] ≡ ends at
+unfolding course course_in
+course_none at = refl

@@ -1,0 +1,140 @@
+-- The head of a group by its bytes alone, whatever comes behind them.
+use Rattle.std.proofs.Common.{◌≡◌, ◌≢◌, subst, ℕ, zero, suc, ◌+◌, ◌*◌, ◌/◌, ◌%◌, ◌<◌, ◌≤◌, ◌^◌, eqb, cond, Bool, true, false, List, [], ◌∷◌, ◌++◌, length, take, length-take, refl, sym, ap, ◌∙◌, arith, get_or, ⊎_elim}
+use Rattle.std.proofs.lemmas.Bool.{eqb-true, eqb-false, eq-eqb, ne_eqb, cond-true, cond-false, cases_lt}
+use Rattle.std.proofs.Math.Nat.{pow-succ'}
+use lib.Count.{ones, ones_step}
+use Rattle.std.proofs.Math.ListN.{get_or-append}
+use Rattle.byteorder.specs.Endian.{little_number}
+use Rattle.cap_spec.specs.Unpacking.{marks, spread}
+use Rattle.cap_pack.specs.Course.{head_rest, first_word, zeros_of, plain_of}
+
+-- two choices are the same where both their branches are
+pub both_same : {A : Type 0} (b : Bool) (x y v w : A) → (b ≡ true → x ≡ v) → (b ≡ false → y ≡ w) → cond b x y ≡ cond b v w
+both_same true x y v w h k = h refl
+both_same false x y v w h k = k refl
+
+-- a tag with no bit set spreads to zero
+spread_none : (n tag : ℕ) (bytes : List ℕ) → marks n tag ≡ 0 → spread n tag bytes ≡ 0
+spread_none zero tag bytes e = refl
+spread_none (suc n) tag [] e = refl
+spread_none (suc n) tag (b ∷ bytes) e =
+    let rest : marks n (tag / 2) ≡ 0 = omega arith in
+    let low : tag % 2 ≡ 0 = omega arith in
+    cond-true (eqb (tag % 2) 0) _ _ (eq-eqb (tag % 2) 0 low) ∙ ap (λ x. 256 * x) (spread_none n (tag / 2) (b ∷ bytes) rest)
+
+-- a tag spreads only the bytes that it marks
+pub spread-append : (n tag : ℕ) (bs ys : List ℕ) → length bs ≡ marks n tag → spread n tag (bs ++ ys) ≡ spread n tag bs
+spread-append zero tag bs ys e = refl
+spread-append (suc n) tag [] ys e = spread_none (suc n) tag ys (sym e)
+spread-append (suc n) tag (b ∷ bs) ys e =
+    both_same (eqb (tag % 2) 0) _ _ _ _
+    (λ t. let low = eqb-true (tag % 2) 0 t in
+    let rest : length (b ∷ bs) ≡ marks n (tag / 2) = omega arith in
+    ap (λ x. 256 * x) (spread-append n (tag / 2) (b ∷ bs) ys rest))
+    (λ t. let low = eqb-false (tag % 2) 0 t in
+    let one : tag % 2 ≡ 1 = omega arith in
+    let rest : length bs ≡ marks n (tag / 2) = omega arith in
+    ap (λ x. b + 256 * x) (spread-append n (tag / 2) bs ys rest))
+
+-- a tag that isn't zero marks a byte
+pub marks_some : (n tag : ℕ) → 0 < tag → tag < 2 ^ n → 0 < marks n tag
+marks_some zero tag p q = absurd (omega arith)
+marks_some (suc n) tag p q = ⊎_elim
+    (λ h. let half : tag / 2 < 2 ^ n = omega (arith, pow-succ' 2 n) in let rest : 0 < marks n (tag / 2) = marks_some n (tag / 2) h half in omega arith)
+    (λ h. let low : tag ≡ 1 = omega arith in omega arith) (cases_lt 0 (tag / 2))
+
+-- the number of the first eight bytes
+pub little-append : (bs ys : List ℕ) → 8 ≤ length bs → little_number 8 (bs ++ ys) ≡ little_number 8 bs
+little-append (a ∷ b ∷ c ∷ d ∷ e ∷ f ∷ g ∷ h ∷ bs) ys l = refl
+little-append _ ys l = absurd (omega (arith, l))
+
+first_same : (zero_run plain_run : Bool) (tag : ℕ) (bs ys : List ℕ) → length bs ≡ cond zero_run 1 (cond plain_run 9 (marks 8 tag)) →
+    cond zero_run 0 (cond plain_run (little_number 8 (bs ++ ys)) (spread 8 tag (bs ++ ys))) ≡ cond zero_run 0 (cond plain_run (little_number 8 bs) (spread 8 tag bs))
+first_same true q tag bs ys e = refl
+first_same false true tag bs ys e = little-append bs ys (omega arith)
+first_same false false tag bs ys e = spread-append 8 tag bs ys e
+
+-- what a head says goes by its own bytes
+pub first_word-append : (tag : ℕ) (bs ys : List ℕ) → length bs ≡ head_rest tag → first_word tag (bs ++ ys) ≡ first_word tag bs
+unfolding head_rest first_word
+first_word-append tag bs ys e = first_same (eqb tag 0) (eqb tag 255) tag bs ys e
+
+zeros_same : (zero_run plain_run : Bool) (tag : ℕ) (bs ys : List ℕ) → length bs ≡ cond zero_run 1 (cond plain_run 9 (marks 8 tag)) →
+    cond zero_run (get_or (bs ++ ys) 0 0) 0 ≡ cond zero_run (get_or bs 0 0) 0
+zeros_same true q tag bs ys e = get_or-append bs ys 0 0 (omega arith)
+zeros_same false q tag bs ys e = refl
+
+pub zeros_of-append : (tag : ℕ) (bs ys : List ℕ) → length bs ≡ head_rest tag → zeros_of tag (bs ++ ys) ≡ zeros_of tag bs
+unfolding head_rest zeros_of
+zeros_of-append tag bs ys e = zeros_same (eqb tag 0) (eqb tag 255) tag bs ys e
+
+plain_same : (zero_run plain_run : Bool) (tag : ℕ) (bs ys : List ℕ) → (zero_run ≡ true → plain_run ≡ false) → length bs ≡ cond zero_run 1 (cond plain_run 9 (marks 8 tag)) →
+    cond plain_run (get_or (bs ++ ys) 8 0) 0 ≡ cond plain_run (get_or bs 8 0) 0
+plain_same true true tag bs ys o e = absurd (let h = o refl in cc)
+plain_same false true tag bs ys o e = get_or-append bs ys 0 8 (omega arith)
+plain_same q false tag bs ys o e = refl
+
+pub plain_of-append : (tag : ℕ) (bs ys : List ℕ) → length bs ≡ head_rest tag → plain_of tag (bs ++ ys) ≡ plain_of tag bs
+unfolding head_rest plain_of
+plain_of-append tag bs ys e = plain_same (eqb tag 0) (eqb tag 255) tag bs ys (λ t. let z = eqb-true tag 0 t in ap (λ x. eqb x 255) z) e
+
+-- how many bytes the tags of runs name, and any other
+pub head_rest-zeros : (tag : ℕ) → tag ≡ 0 → head_rest tag ≡ 1
+unfolding head_rest
+head_rest-zeros tag e = cond-true (eqb tag 0) _ _ (eq-eqb tag 0 e)
+
+pub head_rest-plain : (tag : ℕ) → tag ≡ 255 → head_rest tag ≡ 9
+unfolding head_rest
+head_rest-plain tag e = ap head_rest e
+
+pub head_rest-marked : (tag : ℕ) → tag ≢ 0 → tag ≢ 255 → head_rest tag ≡ marks 8 tag
+unfolding head_rest
+head_rest-marked tag z f = cond-false (eqb tag 0) _ _ (ne_eqb tag 0 z) ∙ cond-false (eqb tag 255) _ _ (ne_eqb tag 255 f)
+
+-- the bits that a tag has set
+marks-ones : (n tag : ℕ) → tag < 2 ^ n → marks n tag ≡ ones tag
+unfolding ones
+marks-ones zero tag p = let e : 0 ≡ tag = omega arith in ap ones e
+marks-ones (suc n) tag p = let half : tag / 2 < 2 ^ n = omega (arith, pow-succ' 2 n) in ap (λ x. tag % 2 + x) (marks-ones n (tag / 2) half) ∙ sym (ones_step tag)
+
+pub head_rest-ones : (tag : ℕ) → tag < 256 → tag ≢ 0 → tag ≢ 255 → ones tag ≡ head_rest tag
+head_rest-ones tag p z f = sym (head_rest-marked tag z f ∙ marks-ones 8 tag p)
+
+pub ones_some : (tag : ℕ) → tag < 256 → tag ≢ 0 → 0 < ones tag
+ones_some tag p z = let e = marks-ones 8 tag p in let s = marks_some 8 tag (omega arith) p in subst (λ n. 0 < n) e s
+
+pub first_word-zeros : (tag : ℕ) (bs : List ℕ) → tag ≡ 0 → 0 ≡ first_word tag bs
+unfolding first_word
+first_word-zeros tag bs e = ap (λ n. first_word n bs) (sym e)
+
+pub first_word-plain : (tag : ℕ) (bs : List ℕ) → tag ≡ 255 → little_number 8 bs ≡ first_word tag bs
+unfolding first_word
+first_word-plain tag bs e = ap (λ n. first_word n bs) (sym e)
+
+pub first_word-marked : (tag : ℕ) (bs : List ℕ) → tag ≢ 0 → tag ≢ 255 → spread 8 tag bs ≡ first_word tag bs
+unfolding first_word
+first_word-marked tag bs z f = sym (cond-false (eqb tag 0) _ _ (ne_eqb tag 0 z) ∙ cond-false (eqb tag 255) _ _ (ne_eqb tag 255 f))
+
+pub zeros_of-zeros : (tag : ℕ) (bs : List ℕ) → tag ≡ 0 → get_or bs 0 0 ≡ zeros_of tag bs
+unfolding zeros_of
+zeros_of-zeros tag bs e = ap (λ n. zeros_of n bs) (sym e)
+
+pub zeros_of-others : (tag : ℕ) (bs : List ℕ) → tag ≢ 0 → 0 ≡ zeros_of tag bs
+unfolding zeros_of
+zeros_of-others tag bs z = sym (cond-false (eqb tag 0) _ _ (ne_eqb tag 0 z))
+
+pub plain_of-plain : (tag : ℕ) (bs : List ℕ) → tag ≡ 255 → get_or bs 8 0 ≡ plain_of tag bs
+unfolding plain_of
+plain_of-plain tag bs e = ap (λ n. plain_of n bs) (sym e)
+
+pub plain_of-others : (tag : ℕ) (bs : List ℕ) → tag ≢ 255 → 0 ≡ plain_of tag bs
+unfolding plain_of
+plain_of-others tag bs f = sym (cond-false (eqb tag 255) _ _ (ne_eqb tag 255 f))
+
+-- the bytes of a head that a tag marks are all there
+pub marks_fit : (tag : ℕ) (bs : List ℕ) → tag ≢ 0 → tag ≢ 255 → length bs ≡ head_rest tag → marks 8 tag ≤ length bs
+marks_fit tag bs z f l = let e : length bs ≡ marks 8 tag = l ∙ head_rest-marked tag z f in let P : ℕ → Type 0 = λ n. n ≤ length bs in subst P e (omega arith)
+
+-- the front of a buffer of nine bytes
+pub front_of_nine : (n : ℕ) → n ≤ 9 → length {A = ℕ} (take n (0 ∷ 0 ∷ 0 ∷ 0 ∷ 0 ∷ 0 ∷ 0 ∷ 0 ∷ 0 ∷ [])) ≡ n
+front_of_nine n p = let nine : List ℕ = 0 ∷ 0 ∷ 0 ∷ 0 ∷ 0 ∷ 0 ∷ 0 ∷ 0 ∷ 0 ∷ [] in omega (arith, length-take n nine)

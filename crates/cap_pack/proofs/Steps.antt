@@ -1,0 +1,112 @@
+-- What one answer of the unpacker does to what is known of it.
+use Rattle.std.proofs.Common.{◌≡◌, ℕ, zero, suc, ◌-◌, ◌<◌, true, false, List, [], ◌∷◌, ◌++◌, Option, None, Some, refl, ap, sym, ◌∙◌, arith, append-nil}
+use Rattle.std.specs.Prelude.{OnSome, unwrap_or}
+use Rattle.std.specs.Option.{option_map}
+use Rattle.std.specs.Io.KnownBytes.{Consumes, IsAtEnd}
+use Rattle.cap_spec.specs.Unpacking.{unpacked, packed_is_cut}
+use Rattle.cap_pack.specs.Course.{Course, ends, stops, gives, words_of, is_cut_of, places_of, course, zeros_then}
+use Rattle.cap_pack.specs.State.{ahead}
+use Rattle.cap_pack.specs.declared.unpacker.Phase.{Phase}
+use Rattle.cap_pack.specs.declared.unpacker.Phase.TheVariants.{Open, Ended, Failed}
+use Rattle.cap_pack.proofs.Courses.{course_none}
+use Rattle.cap_pack.proofs.Ties.{course_tells}
+
+-- what a new unpacker tells
+pub new_words : (known : Option (List ℕ)) → option_map (λ bs. words_of (course 0 0 bs)) known ≡ option_map unpacked known
+new_words None = refl
+new_words (Some bytes) = ap Some (course_tells 0 bytes).0
+
+pub new_cut : (known : Option (List ℕ)) → is_cut_of (course 0 0 (unwrap_or known [])) ≡ packed_is_cut (unwrap_or known [])
+new_cut known = (course_tells 0 (unwrap_or known [])).1
+
+-- A word was given for these bytes: one course came to the other.
+module _ (f g : List ℕ → Course) (w to : ℕ) (bs : List ℕ) (step : (ys : List ℕ) → f (bs ++ ys) ≡ gives w to (g ys)) where
+  pub given_words : (a b : Option (List ℕ)) → Consumes a b bs → Consumes (option_map (λ l. words_of (f l)) a) (option_map (λ l. words_of (g l)) b) (w ∷ [])
+  given_words None b p = tt
+  given_words (Some x) None p = absurd p
+  given_words (Some x) (Some y) p = ap (λ l. words_of (f l)) p ∙ ap words_of (step y)
+
+  pub given_rest : (a b : Option (List ℕ)) → Consumes a b bs →
+      OnSome (option_map (λ l. words_of (f l)) a) ((is_cut_of (g (unwrap_or b [])) ≡ is_cut_of (f (unwrap_or a []))) × (places_of (f (unwrap_or a [])) ≡ to ∷ places_of (g (unwrap_or b []))))
+  given_rest None b p = tt
+  given_rest (Some x) None p = absurd p
+  given_rest (Some x) (Some y) p = (sym (ap (λ l. is_cut_of (f l)) p ∙ ap is_cut_of (step y)), ap (λ l. places_of (f l)) p ∙ ap places_of (step y))
+
+-- these were the last bytes
+all_taken : (x y bs : List ℕ) → x ≡ bs ++ y → y ≡ [] → x ≡ bs
+all_taken x y bs p e = p ∙ ap (λ l. bs ++ l) e ∙ append-nil bs
+
+pub left_none : (f : List ℕ → Course) (to : ℕ) (a b : Option (List ℕ)) → f [] ≡ ends to → Consumes a b [] → IsAtEnd b →
+    OnSome (option_map (λ l. words_of (f l)) a) ((option_map (λ l. words_of (f l)) a ≡ Some []) × (is_cut_of (f (unwrap_or a [])) ≡ false) × (places_of (f (unwrap_or a [])) ≡ to ∷ []))
+left_none f to None b e p q = tt
+left_none f to (Some x) None e p q = absurd p
+left_none f to (Some x) (Some y) e p q =
+    let c : f x ≡ ends to = ap f (all_taken x y [] p q) ∙ e in
+    (ap (λ l. Some (words_of l)) c, ap is_cut_of c, ap places_of c)
+
+pub left_cut : (f : List ℕ → Course) (to : ℕ) (bs : List ℕ) (a b : Option (List ℕ)) → f bs ≡ stops to → Consumes a b bs → IsAtEnd b →
+    OnSome (option_map (λ l. words_of (f l)) a) ((option_map (λ l. words_of (f l)) a ≡ Some []) × (is_cut_of (f (unwrap_or a [])) ≡ true) × (places_of (f (unwrap_or a [])) ≡ to ∷ []))
+left_cut f to bs None b e p q = tt
+left_cut f to bs (Some x) None e p q = absurd p
+left_cut f to bs (Some x) (Some y) e p q =
+    let c : f x ≡ stops to = ap f (all_taken x y bs p q) ∙ e in
+    (ap (λ l. Some (words_of l)) c, ap is_cut_of c, ap places_of c)
+
+pub none_words : (f g : List ℕ → Course) (to at : ℕ) (a b : Option (List ℕ)) → f [] ≡ ends to → ((l : List ℕ) → g l ≡ ends at) → Consumes a b [] → IsAtEnd b →
+    Consumes (option_map (λ l. words_of (f l)) a) (option_map (λ l. words_of (g l)) b) []
+none_words f g to at None b e h p q = tt
+none_words f g to at (Some x) None e h p q = absurd p
+none_words f g to at (Some x) (Some y) e h p q = ap words_of (ap f (all_taken x y [] p q) ∙ e) ∙ sym (ap words_of (h y))
+
+-- a source that has ended has nothing left
+pub left_ended : (phase : Phase) (z p at : ℕ) (a : Option (List ℕ)) → phase ≡ Ended →
+    OnSome (option_map (λ l. words_of (ahead phase z p at l)) a) ((option_map (λ l. words_of (ahead phase z p at l)) a ≡ Some []) × (is_cut_of (ahead phase z p at (unwrap_or a [])) ≡ false) × (places_of (ahead phase z p at (unwrap_or a [])) ≡ at ∷ []))
+left_ended Ended z p at None e = tt
+left_ended Ended z p at (Some x) e = (refl, refl, refl)
+left_ended Open z p at a e = absurd (cc)
+left_ended Failed z p at a e = absurd (cc)
+
+-- a zero word that was held
+pub zero_step : (phase : Phase) (z p at : ℕ) → phase ≡ Open → 0 < z → (ys : List ℕ) → ahead phase z p at ([] ++ ys) ≡ gives 0 at (ahead phase (z - 1) p at ys)
+zero_step Open zero p at e q ys = absurd (omega arith)
+zero_step Open (suc z) p at e q ys = let less : z ≡ suc z - 1 = omega arith in ap (λ n. gives 0 at (zeros_then n at (course p at ys))) less
+zero_step Ended z p at e q ys = absurd (cc)
+zero_step Failed z p at e q ys = absurd (cc)
+
+-- a word as it is
+pub word_step : (phase : Phase) (z p at to w : ℕ) (bs : List ℕ) → phase ≡ Open → z ≡ 0 → 0 < p → ((n : ℕ) (ys : List ℕ) → course (suc n) at (bs ++ ys) ≡ gives w to (course n to ys)) →
+    (ys : List ℕ) → ahead phase z p at (bs ++ ys) ≡ gives w to (ahead phase z (p - 1) to ys)
+word_step Open (suc z) p at to w bs e o q s ys = absurd (omega arith)
+word_step Open zero zero at to w bs e o q s ys = absurd (omega arith)
+word_step Open zero (suc p) at to w bs e o q s ys = let less : p ≡ suc p - 1 = omega arith in s p ys ∙ ap (λ n. gives w to (course n to ys)) less
+word_step Ended z p at to w bs e o q s ys = absurd (cc)
+word_step Failed z p at to w bs e o q s ys = absurd (cc)
+
+-- the input ends inside it
+pub word_cut_step : (phase : Phase) (z p at to : ℕ) (bs : List ℕ) → phase ≡ Open → z ≡ 0 → 0 < p → ((n : ℕ) → course (suc n) at bs ≡ stops to) → ahead phase z p at bs ≡ stops to
+word_cut_step Open (suc z) p at to bs e o q s = absurd (omega arith)
+word_cut_step Open zero zero at to bs e o q s = absurd (omega arith)
+word_cut_step Open zero (suc p) at to bs e o q s = s p
+word_cut_step Ended z p at to bs e o q s = absurd (cc)
+word_cut_step Failed z p at to bs e o q s = absurd (cc)
+
+-- the head of a group
+pub head_step : (phase : Phase) (z p at to w n m : ℕ) (bs : List ℕ) → phase ≡ Open → z ≡ 0 → p ≡ 0 → ((ys : List ℕ) → course 0 at (bs ++ ys) ≡ gives w to (zeros_then n to (course m to ys))) →
+    (ys : List ℕ) → ahead phase z p at (bs ++ ys) ≡ gives w to (ahead phase n m to ys)
+head_step Open zero zero at to w n m bs e o q s ys = s ys
+head_step Open (suc z) p at to w n m bs e o q s ys = absurd (omega arith)
+head_step Open zero (suc p) at to w n m bs e o q s ys = absurd (omega arith)
+head_step Ended z p at to w n m bs e o q s ys = absurd (cc)
+head_step Failed z p at to w n m bs e o q s ys = absurd (cc)
+
+-- between groups the bytes are those of groups
+pub between : (phase : Phase) (z p at : ℕ) (bs : List ℕ) (c : Course) → phase ≡ Open → z ≡ 0 → p ≡ 0 → course 0 at bs ≡ c → ahead phase z p at bs ≡ c
+between Open zero zero at bs c e o q s = s
+between Open (suc z) p at bs c e o q s = absurd (omega arith)
+between Open zero (suc p) at bs c e o q s = absurd (omega arith)
+between Ended z p at bs c e o q s = absurd (cc)
+between Failed z p at bs c e o q s = absurd (cc)
+
+-- no group is left
+pub no_group : (phase : Phase) (z p at : ℕ) → phase ≡ Open → z ≡ 0 → p ≡ 0 → ahead phase z p at [] ≡ ends at
+no_group phase z p at e o q = between phase z p at [] (ends at) e o q (course_none at)

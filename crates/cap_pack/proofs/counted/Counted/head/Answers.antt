@@ -1,0 +1,27 @@
+use Rattle.std.proofs.Common.{◌≡◌, arith}
+use Rattle.cap_pack.proofs.Heads.{front_of_nine}
+use Rattle.cap_pack.proofs.Turns.{head_taken, group_taken, group_cut}
+use Rattle.cap_pack.proofs.counted.Counted.head.Goals as goal
+
+pub returns-in-Ok-whole-clause-head : goal.returns-in-Ok-whole-clause-head
+returns-in-Ok-whole-clause-head g c =
+    let one : c.in-Ok.field-0 ≡ 1 = omega (arith, c.in-Ok.ensures.len) in
+    let took = head_taken c.fill.new.buf (omega arith) one c.in-Ok.ensures.took c.in-Ok-whole.ensures.took in
+    (_, took, group_taken (omega (arith, front_of_nine c.head_len.result c.head_len.ensures.few)) c.head_of.ensures.word c.head_of.ensures.zeros c.head_of.ensures.plain took)
+
+pub returns-in-Ok-whole-clause-reads : goal.returns-in-Ok-whole-clause-reads
+returns-in-Ok-whole-clause-reads g c =
+    let one : c.in-Ok.field-0 ≡ 1 = omega (arith, c.in-Ok.ensures.len) in
+    (_, head_taken c.fill.new.buf (omega arith) one c.in-Ok.ensures.took c.in-Ok-whole.ensures.took)
+
+pub returns-in-Err-clause-truncated : goal.returns-in-Err-clause-truncated
+returns-in-Err-clause-truncated g c = λ byte is.
+    let one : c.in-Ok.field-0 ≡ 1 = omega (arith, c.in-Ok.ensures.len) in
+    let t = c.in-Err.ensures.truncated byte (cc) in
+    let took = head_taken c.fill.new.buf (omega arith) one c.in-Ok.ensures.took t.1.1 in
+    (t.0, (_, took, t.1.2, group_cut (omega (arith, t.1.3, front_of_nine c.head_len.result c.head_len.ensures.few)) took))
+
+pub returns-in-Err-clause-reads : goal.returns-in-Err-clause-reads
+returns-in-Err-clause-reads g c =
+    let one : c.in-Ok.field-0 ≡ 1 = omega (arith, c.in-Ok.ensures.len) in
+    (_, head_taken c.fill.new.buf (omega arith) one c.in-Ok.ensures.took c.whole.ensures.reads.1)

@@ -1,0 +1,8 @@
+use Rattle.cap_pack.proofs.Steps.{new_words, new_cut}
+use Rattle.cap_pack.proofs.unpacker.Unpacker.new.Goals as goal
+
+pub returns-clause-words : goal.returns-clause-words
+returns-clause-words g c = new_words (g.I.ByteIn.to_come c.args.input)
+
+pub returns-clause-is_cut : goal.returns-clause-is_cut
+returns-clause-is_cut g c = new_cut (g.I.ByteIn.to_come c.args.input)

@@ -1,0 +1,70 @@
+-- What an unpacker gives of packed bytes, in order: the words, each with the position after it, and then the end.
+use Rattle.std.specs.Prelude.{ℕ, zero, suc, ◌+◌, ◌==◌, nat_lt, if◌then◌else◌, Bool, true, false, List, [], ◌∷◌, length, drop, slice_index}
+use Rattle.byteorder.specs.Endian.{little_number}
+use Rattle.cap_spec.specs.Plain.{capped}
+use Rattle.cap_spec.specs.Unpacking.{marks, spread}
+
+pub data Course : Type 0 where
+  -- the input ends between groups, at this position
+  ends : ℕ → Course
+  -- it ends inside a group
+  stops : ℕ → Course
+  -- a word, the position after it, and what comes then
+  gives : ℕ → ℕ → Course → Course
+
+abbrev pub words_of : Course → List ℕ
+words_of (ends at) = []
+words_of (stops at) = []
+words_of (gives word at more) = word ∷ words_of more
+
+abbrev pub is_cut_of : Course → Bool
+is_cut_of (ends at) = false
+is_cut_of (stops at) = true
+is_cut_of (gives word at more) = is_cut_of more
+
+abbrev pub places_of : Course → List ℕ
+places_of (ends at) = at ∷ []
+places_of (stops at) = at ∷ []
+places_of (gives word at more) = at ∷ places_of more
+
+-- so many zero words first, all given at one position
+abbrev pub zeros_then : ℕ → ℕ → Course → Course
+zeros_then zero at more = more
+zeros_then (suc n) at more = gives 0 at (zeros_then n at more)
+
+-- how many bytes of a group's head follow its tag: the bytes that the tag names, and the number of further words where there is one
+unfoldable pub head_rest : ℕ → ℕ
+head_rest tag = if tag == 0 then 1 else (if tag == 255 then 9 else marks 8 tag)
+
+-- by its tag and the bytes of its head after that: the group's first word,
+unfoldable pub first_word : ℕ → List ℕ → ℕ
+first_word tag bytes = if tag == 0 then 0 else (if tag == 255 then little_number 8 bytes else spread 8 tag bytes)
+
+-- how many zero words come after that one,
+unfoldable pub zeros_of : ℕ → List ℕ → ℕ
+zeros_of tag bytes = if tag == 0 then slice_index bytes 0 else 0
+
+-- and how many words as they are, each behind its own eight bytes
+unfoldable pub plain_of : ℕ → List ℕ → ℕ
+plain_of tag bytes = if tag == 255 then slice_index bytes 8 else 0
+
+-- From a position on, so many words as they are and then groups, in fewer steps than this. A head is read whole before its first word is given.
+unfoldable pub course_in : ℕ → ℕ → ℕ → List ℕ → Course
+course_in zero plain at bytes = ends at
+course_in (suc f) zero at [] = ends at
+course_in (suc f) zero at (tag ∷ bytes) =
+    if nat_lt (length bytes) (head_rest tag) then stops (capped (at + length (tag ∷ bytes))) else
+    gives (first_word tag bytes) (capped (at + suc (head_rest tag)))
+    (zeros_then (zeros_of tag bytes) (capped (at + suc (head_rest tag)))
+    (course_in f (plain_of tag bytes) (capped (at + suc (head_rest tag))) (drop (head_rest tag) bytes)))
+course_in (suc f) (suc n) at bytes =
+    if nat_lt (length bytes) 8 then stops (capped (at + length bytes)) else
+    gives (little_number 8 bytes) (capped (at + 8)) (course_in f n (capped (at + 8)) (drop 8 bytes))
+
+-- from a position on, so many words as they are and then groups
+unfoldable pub course : ℕ → ℕ → List ℕ → Course
+course plain at bytes = course_in (suc (length bytes)) plain at bytes
+
+-- From a position on, the position after each word that packed bytes give, and at the end that of the whole input. A position stops at 2 ^ 64 - 1.
+abbrev pub packed_ends : ℕ → List ℕ → List ℕ
+packed_ends at bytes = places_of (course 0 at bytes)

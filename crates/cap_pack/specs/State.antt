@@ -1,0 +1,27 @@
+-- What an unpacker says of itself, by its phase and what it holds.
+use Rattle.std.specs.Prelude.{ℕ, Bool, true, false, List}
+use Rattle.cap_pack.specs.Course.{Course, ends, course, zeros_then}
+use Rattle.cap_pack.specs.declared.unpacker.Phase.{Phase}
+use Rattle.cap_pack.specs.declared.unpacker.Phase.TheVariants.{Open, Ended, Failed}
+
+abbrev pub has_ended : Phase → Bool
+has_ended Open = false
+has_ended Ended = true
+has_ended Failed = false
+
+abbrev pub has_failed : Phase → Bool
+has_failed Open = false
+has_failed Ended = false
+has_failed Failed = true
+
+-- by its own phase and whether its input is spent
+abbrev pub source_spent : Phase → Bool → Bool
+source_spent Open input = input
+source_spent Ended input = false
+source_spent Failed input = true
+
+-- what it gives, with so many zero words held and so many words as they are to read, of these bytes to come behind this position
+abbrev pub ahead : Phase → ℕ → ℕ → ℕ → List ℕ → Course
+ahead Open held plain at bytes = zeros_then held at (course plain at bytes)
+ahead Ended held plain at bytes = ends at
+ahead Failed held plain at bytes = ends at
