@@ -1,6 +1,11 @@
 //! Words in their packed spellings.
 
 ghost use Rattle.cap_laws.specs.Packing.{CutAsComputed, OneUnpacking, UnpacksAsComputed};
+ghost use Rattle.cap_spec.specs.Packing.{pack_text};
+ghost use Rattle.cap_spec.specs.Unpacking.{Unpacks};
+ghost use Rattle.cap_spec.specs.Words.{IsWord};
+ghost use Rattle.std.specs.List.{AllByRecursion};
+ghost use Rattle.std.specs.Prelude.{List, ℕ};
 
 /// Each list of bytes is a packed text of words, or is cut inside a group behind words that it
 /// gives: one of the two and not the other, for exactly one list of words.
@@ -18,4 +23,9 @@ pub fn unpacks_as_computed()
 /// `unpacked` gives.
 pub fn cut_as_computed()
     ensures { CutAsComputed }
+{}
+
+/// The one packed spelling that is written is a packed text of its words.
+pub fn pack_text_unpacks()
+    ensures { (words : List ℕ) → AllByRecursion IsWord words → Unpacks (pack_text words) words }
 {}

@@ -6,6 +6,7 @@ pub mod Unpacking
 pub mod Groups
 pub mod MakingGroups
 pub mod OneUnpacking
+pub mod Repacking
 pub mod Framing
 pub mod Endings
 pub mod Messages

@@ -32,7 +32,7 @@ becomes_part tag bytes all h =
     })
 
 -- with a group in front of words that unpack, so do they together
-unpacks_with : (own words rest more : List ℕ) → IsGroup own words → Unpacks rest more → Unpacks (own ++ rest) (words ++ more)
+pub unpacks_with : (own words rest more : List ℕ) → IsGroup own words → Unpacks rest more → Unpacks (own ++ rest) (words ++ more)
 unpacks_with own words rest more g u = record {
   groups = (own, words) ∷ u.groups;
   each = (g, u.each);
@@ -41,7 +41,7 @@ unpacks_with own words rest more g u = record {
 }
 
 -- with a group in front of words that are cut, so are they together
-cut_with : (own words rest more : List ℕ) → IsGroup own words → Cut rest more → Cut (own ++ rest) (words ++ more)
+pub cut_with : (own words rest more : List ℕ) → IsGroup own words → Cut rest more → Cut (own ++ rest) (words ++ more)
 cut_with own words rest more g c = record {
   whole = own ++ c.whole;
   before = words ++ c.before;

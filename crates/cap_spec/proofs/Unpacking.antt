@@ -90,7 +90,7 @@ pub spread_set : (n tag b : ℕ) (present : List ℕ) → tag % 2 ≡ 1 → spre
 spread_set n tag b present e = ap (λ t. if t == 0 then 256 * spread n (tag / 2) (b ∷ present) else (b + 256 * spread n (tag / 2) present)) e
 
 -- no bits set, no byte taken
-spread_none : (n tag : ℕ) (present : List ℕ) → marks n tag ≡ 0 → spread n tag present ≡ 0
+pub spread_none : (n tag : ℕ) (present : List ℕ) → marks n tag ≡ 0 → spread n tag present ≡ 0
 spread_none zero tag present e = refl
 spread_none (suc n) tag [] e = refl
 spread_none (suc n) tag (b ∷ present) e =
