@@ -1,1 +1,6 @@
 pub mod Held
+pub mod Taking
+pub mod Tables
+pub mod Contents
+pub mod Behind
+pub mod Before

@@ -1,1 +1,5 @@
 pub mod Limit
+pub mod Taking
+pub mod Faults
+pub mod Rooms
+pub mod SourceFaults

@@ -1,5 +1,10 @@
 //! Why no message was read.
 
+ghost use Rattle.cap_frame.specs.SourceFaults.{frame_fault_of};
+ghost use Rattle.std.specs.Prelude.{◌≡◌};
+
+use cap_words::SourceFault;
+
 /// Why a source of words gave no message.
 #[derive(Clone, Copy, Debug, PartialEq, Eq, Drop)]
 pub enum FrameFault {
@@ -17,4 +22,15 @@ pub enum FrameFault {
     Memory,
     /// An earlier fault has ended the source.
     Spent,
+}
+
+/// What a fault of the source is to the reading of a message.
+pub(crate) fn frame_fault(fault: SourceFault) -> FrameFault
+    ensures { result ≡ frame_fault_of fault }
+{
+    match fault {
+        SourceFault::Truncated { byte } => FrameFault::Truncated { byte },
+        SourceFault::Device => FrameFault::Device,
+        SourceFault::Spent => FrameFault::Spent,
+    }
 }

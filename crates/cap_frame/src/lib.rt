@@ -4,9 +4,13 @@
 pub mod fault;
 pub mod limit;
 pub mod message;
+pub mod reader;
 pub mod segments;
+mod table;
+mod words;
 
 pub use fault::FrameFault;
 pub use limit::SizeLimit;
 pub use message::{OneSegment, WordMessage};
+pub use reader::read_message;
 pub use segments::Segments;

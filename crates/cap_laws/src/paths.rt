@@ -1,10 +1,11 @@
 //! Where paths lead in a message.
 
-ghost use Rattle.std.specs.Prelude.{ℕ, List, [], ◌∷◌, ◌++◌, ◌≡◌, ◌↔◌, ◌⊎◌, ◌+◌, Some};
+ghost use Rattle.std.specs.Prelude.{ℕ, true, length, List, [], ◌∷◌, ◌++◌, ◌≡◌, ◌↔◌, ◌⊎◌, ◌+◌, Some};
 ghost use Rattle.cap_spec.specs.declared.Step.{Step};
-ghost use Rattle.cap_spec.specs.Tree.{Tree, node_at};
+ghost use Rattle.cap_spec.specs.Tree.{Tree, node_at, pointer_count, cap_count, has_cap};
+ghost use Rattle.cap_spec.specs.Following.{Leads, to_cap};
 ghost use Rattle.cap_spec.specs.Denoting.{Denotes};
-ghost use Rattle.cap_spec.specs.Paths.{Spot, Goes, Walks, Comes, Reaches, Before, Rises, IsTour, IsFirstCap, level_of};
+ghost use Rattle.cap_spec.specs.Paths.{Spot, Goes, Walks, Comes, Reaches, Before, Rises, IsOneOf, IsTour, IsFirstCap, level_of};
 ghost use Rattle.cap_spec.specs.Verdicts.{AreDistinct};
 ghost use Rattle.cap_spec.specs.Standing.{DenotesAt};
 
@@ -74,4 +75,19 @@ pub fn reached_cycle_denotes_no_tree()
     ensures word { (m : List (List ℕ)) (path : List Step) (step : Step) (on : List Step) (level level' s w : ℕ) →
         Reaches m path level s w → Reaches m (path ++ step ∷ on) level' s w →
         (t : Tree) (c d : ℕ) → ¬ Denotes m s w t c d }
+{}
+
+/// Where the root denotes a tree, the pointers of the tree are as many as the paths that reach a
+/// pointer word, and its capabilities as many as those that reach a capability: there is a rising
+/// list of exactly these paths, of that length. A tree has a capability exactly where some pointer
+/// word is the first in preorder that leads to one.
+pub fn counts_are_numbers_of_paths()
+    ensures pointers { (m : List (List ℕ)) (t : Tree) (c d : ℕ) → Denotes m 0 0 t c d →
+        (paths : List (List Step)) × Rises paths × (length paths ≡ pointer_count t)
+        × ((q : List Step) → IsOneOf q paths ↔ ((level s w : ℕ) × Reaches m q level s w)) }
+    ensures caps { (m : List (List ℕ)) (t : Tree) (c d : ℕ) → Denotes m 0 0 t c d →
+        (paths : List (List Step)) × Rises paths × (length paths ≡ cap_count t)
+        × ((q : List Step) → IsOneOf q paths ↔ ((level s w k i : ℕ) × Reaches m q level s w × Leads m s w k (to_cap i))) }
+    ensures first_cap { (m : List (List ℕ)) (t : Tree) (c d : ℕ) → Denotes m 0 0 t c d →
+        (has_cap t ≡ true) ↔ ((s w : ℕ) × IsFirstCap m s w) }
 {}

@@ -16,7 +16,7 @@ use Rattle.cap_spec.proofs.Following.{one_lead}
 use Rattle.cap_spec.proofs.OneTree.{Formed, HasForm, form_of, formed, number_struct, number_list, cons_parts}
 
 -- the tree of a word has the form of the object that the word finds
-found_form : (m : List (List ℕ)) (s w : ℕ) (x : Tree) (c d k t b q : ℕ) → Denotes m s w x c d → Finds m s w k t b q → HasForm x (2 + kind q * (1 + code q))
+pub found_form : (m : List (List ℕ)) (s w : ℕ) (x : Tree) (c d k t b q : ℕ) → Denotes m s w x c d → Finds m s w k t b q → HasForm x (2 + kind q * (1 + code q))
 found_form m s w x c d k t b q h f =
     let g : Formed m s w x = formed m s w x c d h in
     let e : to_object t (pos b) q ≡ g.r = (one_lead m s w k g.k (to_object t (pos b) q) g.r f.leads g.leads).1 in

@@ -25,3 +25,5 @@ pub mod Walks
 pub mod Arrivals
 pub mod Preorder
 pub mod Cycles
+pub mod PathLists
+pub mod PathCounts

@@ -1,0 +1,78 @@
+-- A message behind its first word: what was read, and why nothing was.
+use Rattle.std.proofs.Common.{◌≡◌, ℕ, ◌+◌, ◌/◌, ◌%◌, ◌^◌, ◌<◌, ◌≤◌, Bool, Option, Some, None, List, [], ◌∷◌, ◌++◌, length, drop, sum, IfSome, refl, sym, ap, subst, arith}
+use Rattle.std.specs.Io.KnownBytes.{Consumes}
+use Rattle.std.proofs.lemmas.List.{get_or-map, length-map}
+use Rattle.std.proofs.lemmas.List.Elements.{All-from_recursion}
+use Rattle.cap_words.specs.declared.sources.WordSource as source
+use Rattle.cap_words.specs.declared.sources.SourceFault.{SourceFault}
+use Rattle.cap_words.specs.declared.sources.SourceFault.TheVariants.{Truncated, Device, Spent}
+use Rattle.cap_spec.specs.Messages.{IsMessage}
+use Rattle.cap_spec.specs.Frames.{joined, sizes_of, IsTable, Frames, IsPartial, in_table, in_contents}
+use Rattle.cap_frame.specs.Taking.{Takes, IsUsable, Stops}
+use Rattle.cap_frame.specs.Faults.{TakesTableBehind, FaultsBehind}
+use Rattle.cap_frame.specs.SourceFaults.{frame_fault_of}
+use Rattle.cap_frame.proofs.Taking.{takes_both, breaks_later, stops_later}
+
+-- where fewer words are left than the table wants, they are a part of a frame
+pub partial_table : (o : Option (List ℕ)) (limit first byte : ℕ) (ps : List ℕ) → first % 2 ^ 32 < 512
+    → IfSome o (λ ws. (length ws < (first % 2 ^ 32 + 1) / 2) × (drop (length ws) ps ≡ byte ∷ []))
+    → IfSome o (λ ws. ((cut : Bool) → IsPartial limit (first ∷ ws) cut) × (drop (length ws) ps ≡ byte ∷ []))
+partial_table None limit first byte ps few s = tt
+partial_table (Some ws) limit first byte ps few s = (λ cut. in_table first ws refl few s.0, s.1)
+
+-- and so where fewer are left than the contents want
+pub partial_contents : (a b : Option (List ℕ)) (limit first n byte : ℕ) (more sizes ps qs : List ℕ) → IsTable (first ∷ more) sizes → sum sizes ≤ limit
+    → Consumes a b more
+    → IfSome b (λ ws. (length ws < sum sizes) × (drop (length ws) qs ≡ byte ∷ []))
+    → IfSome a (λ ws. (length ws < n) × (drop (length ws) ps ≡ byte ∷ []))
+    → IfSome a (λ ws. ((cut : Bool) → IsPartial limit (first ∷ ws) cut) × (drop (length ws) ps ≡ byte ∷ []))
+partial_contents None b limit first n byte more sizes ps qs t l c s u = tt
+partial_contents (Some ws) None limit first n byte more sizes ps qs t l c s u = absurd c
+partial_contents (Some ws) (Some rest) limit first n byte more sizes ps qs t l c s u =
+    (λ cut. in_contents (first ∷ more) sizes rest (ap (λ (xs : List ℕ). first ∷ xs) c) t l s.0, u.1)
+
+module _ {X : Type 0} (g : source.Ghosts X) where
+  -- the source stopped inside the table
+  pub behind_table : (limit first : ℕ) (old new : X) (fault : SourceFault) → first % 2 ^ 32 < 512
+      → Stops g ((first % 2 ^ 32 + 1) / 2) old new fault → FaultsBehind g limit first old new (frame_fault_of fault)
+  behind_table limit first old new (Truncated byte) few s = record {
+    partial = partial_table (g.words old) limit first byte (g.places old) few s.short;
+    place = s.place;
+    usable = s.usable;
+    none_failed = s.none_failed;
+    over = s.over;
+  }
+  behind_table limit first old new Device few s = s
+  behind_table limit first old new Spent few s = s
+
+  -- the source stopped inside the contents
+  pub behind_contents : (limit first : ℕ) (old mid new : X) (sizes : List ℕ) (fault : SourceFault) → TakesTableBehind g first old mid sizes → IsUsable g old mid → sum sizes ≤ limit
+      → Stops g (sum sizes) mid new fault → FaultsBehind g limit first old new (frame_fault_of fault)
+  behind_contents limit first old mid new sizes (Truncated byte) t u l s =
+      let later = stops_later g old mid new t.more (sum sizes) (Truncated byte) t.takes u s in
+      record {
+        partial = partial_contents (g.words old) (g.words mid) limit first (length t.more + sum sizes) byte t.more sizes (g.places old) (g.places mid) t.is_table l t.takes.words s.short later.short;
+        place = s.place;
+        usable = later.usable;
+        none_failed = later.none_failed;
+        over = s.over;
+      }
+  behind_contents limit first old mid new sizes Device t u l s = breaks_later g old mid new u s
+  behind_contents limit first old mid new sizes Spent t u l s = stops_later g old mid new t.more (sum sizes) Spent t.takes u s
+
+  -- the table and the contents frame the message
+  pub behind_message : (first : ℕ) (old mid new : X) (sizes : List ℕ) (m : List (List ℕ)) → TakesTableBehind g first old mid sizes → Takes g mid new (joined m) → sizes_of m ≡ sizes
+      → (more : List ℕ) × Takes g old new more × Frames (first ∷ more) m
+  behind_message first old mid new sizes m t u e =
+      (t.more ++ joined m, takes_both g old mid new t.more (joined m) t.takes u, record { table = first ∷ t.more; is_table = subst (IsTable (first ∷ t.more)) (sym e) t.is_table; whole = refl })
+
+-- segments of the sizes of a table are a message
+pub message_of : (table : List ℕ) (m : List (List ℕ)) → IsTable table (sizes_of m) → IsMessage m
+message_of table m t = record {
+  some = omega (arith, t.some, length-map m (λ (ws : List ℕ). length ws));
+  few = omega (arith, t.few, length-map m (λ (ws : List ℕ). length ws));
+  lengths = λ k d h.
+      let all = All-from_recursion (λ (n : ℕ). n < 2 ^ 32) (sizes_of m) t.fit in
+      let inside : k < length (sizes_of m) = omega (arith, length-map m (λ (ws : List ℕ). length ws)) in
+      subst (λ (n : ℕ). n < 2 ^ 32) (get_or-map (λ (ws : List ℕ). length ws) m k d 0 h) (all k 0 inside);
+}

@@ -1,0 +1,137 @@
+-- Reading the words of segments, one segment after the other.
+use Rattle.std.proofs.Common.{◌≡◌, ◌∙◌, ℕ, ◌+◌, ◌<◌, ◌≤◌, suc, false, List, [], ◌∷◌, ◌++◌, length, take, drop, map, sum, get_or, refl, sym, ap, subst, arith, add-one, zero-add, append-nil, length-append}
+use Rattle.std.proofs.Math.ListN.{set}
+use Rattle.std.proofs.Math.Seq.{drop-cons}
+use Rattle.std.proofs.lemmas.List.{take_more, map-append, take_more_set, drop-set-lt, length-set, take_all}
+use Rattle.std.proofs.lemmas.List.Sums.{sum_by-append, sum_by-take-le}
+use Rattle.std.proofs.lemmas.Grind.{flat_map-append}
+use Rattle.cap_words.specs.declared.sources.WordSource as source
+use Rattle.cap_words.specs.declared.sources.SourceFault.{SourceFault}
+use Rattle.cap_spec.specs.Frames.{joined, sizes_of}
+use Rattle.cap_spec.proofs.Endings.{length_joined}
+use Rattle.cap_frame.specs.Taking.{Takes, IsUsable, Stops}
+use Rattle.cap_frame.specs.Rooms.{AreRooms}
+use Rattle.cap_frame.proofs.Taking.{takes_none, takes_both, usable_both, stops_later, stops_weaker}
+
+-- as many rooms as sizes
+pub rooms_many : {V : Type 0} (f : V → List ℕ) (room : V → ℕ) (vs : List V) (ns : List ℕ) → AreRooms f room vs ns → length vs ≡ length ns
+rooms_many f room [] [] r = refl
+rooms_many f room [] (n ∷ ns) r = absurd r
+rooms_many f room (v ∷ vs) [] r = absurd r
+rooms_many f room (v ∷ vs) (n ∷ ns) r = ap suc (rooms_many f room vs ns r.1)
+
+-- one more room
+pub rooms_more : {V : Type 0} (f : V → List ℕ) (room : V → ℕ) (vs : List V) (ns : List ℕ) (v : V) (n : ℕ) → f v ≡ [] → n ≤ room v
+    → AreRooms f room vs ns → AreRooms f room (vs ++ v ∷ []) (ns ++ n ∷ [])
+rooms_more f room [] [] v n e h r = ((e, h), tt)
+rooms_more f room [] (m ∷ ns) v n e h r = absurd r
+rooms_more f room (w ∷ vs) [] v n e h r = absurd r
+rooms_more f room (w ∷ vs) (m ∷ ns) v n e h r = (r.0, rooms_more f room vs ns v n e h r.1)
+
+-- the first numbers and the next one sum to no more than all
+pub sum_front : (ns : List ℕ) (s n : ℕ) → s < length ns → n ≡ get_or ns s 0 → sum (take s ns) + n ≤ sum ns
+sum_front ns s n h d =
+    let front : take (s + 1) ns ≡ take s ns ++ get_or ns s 0 ∷ [] = take_more ns s 0 h in
+    let whole : sum (take (s + 1) ns) ≡ sum (take s ns) + sum (get_or ns s 0 ∷ []) = ap sum front ∙ sum_by-append (λ x. x) (take s ns) (get_or ns s 0 ∷ []) in
+    let one : sum (get_or ns s 0 ∷ []) ≡ get_or ns s 0 = zero-add (get_or ns s 0) in
+    omega (arith, sum_by-take-le (λ x. x) ns (s + 1))
+
+-- the room at s, and those behind it
+pub rooms_from : {V : Type 0} (f : V → List ℕ) (room : V → ℕ) (s : ℕ) (vs : List V) (ns : List ℕ) (v : V) → s < length vs → s < length ns
+    → AreRooms f room (drop s vs) (drop s ns)
+    → ((f (get_or vs s v) ≡ []) × (get_or ns s 0 ≤ room (get_or vs s v))) × AreRooms f room (drop (s + 1) vs) (drop (s + 1) ns)
+rooms_from f room s vs ns v h k r = rw add-one (rw (drop-cons vs s v h, drop-cons ns s 0 k) at r)
+
+module _ {X : Type 0} (g : source.Ghosts X) where
+  -- These words were read for a segment, so many.
+  pub record WordsSoFar (old now : X) (words : List ℕ) (many : ℕ) : Type 0 where
+    pub takes : Takes g old now words
+    pub usable : IsUsable g old now
+    pub length_is : length words ≡ many
+
+  -- none yet
+  pub words_start : (s : X) (words : List ℕ) → g.spent s ≡ false → words ≡ [] → WordsSoFar s s words 0
+  words_start s words u e = record {
+    takes = subst (Takes g s s) (sym e) (takes_none g s);
+    usable = record { usable = u; still = u; none_failed = refl };
+    length_is = ap length e;
+  }
+
+  -- one more
+  pub words_more : (old now new : X) (words longer : List ℕ) (many word : ℕ) → WordsSoFar old now words many → Takes g now new (word ∷ []) → IsUsable g now new
+      → longer ≡ words ++ word ∷ [] → WordsSoFar old new longer (many + 1)
+  words_more old now new words longer many word w t u e = record {
+    takes = subst (Takes g old new) (sym e) (takes_both g old now new words (word ∷ []) w.takes t);
+    usable = usable_both g old now new w.usable u;
+    length_is = ap length e ∙ omega (arith, length-append words (word ∷ []), w.length_is);
+  }
+
+  -- the source stopped before the segment had its size
+  pub words_stop : (old now new : X) (words : List ℕ) (many size : ℕ) (fault : SourceFault) → many < size → WordsSoFar old now words many → Stops g 1 now new fault → Stops g size old new fault
+  words_stop old now new words many size fault h w s =
+      stops_weaker g old new (length words + 1) size fault (omega (arith, w.length_is)) (stops_later g old now new words 1 fault w.takes w.usable s)
+
+  module _ {V : Type 0} (f : V → List ℕ) (room : V → ℕ) where
+    -- The first s segments were read, and there is room for the others.
+    pub record SegmentsSoFar (old now : X) (s : ℕ) (segments : List V) (sizes : List ℕ) : Type 0 where
+      pub takes : Takes g old now (joined (map f (take s segments)))
+      pub usable : IsUsable g old now
+      pub sizes_are : sizes_of (map f (take s segments)) ≡ take s sizes
+      pub many : length segments ≡ length sizes
+      pub rooms : AreRooms f room (drop s segments) (drop s sizes)
+
+    -- none yet
+    pub segments_start : (s : X) (segments : List V) (sizes : List ℕ) → g.spent s ≡ false → AreRooms f room segments sizes → SegmentsSoFar s s 0 segments sizes
+    segments_start s segments sizes u r = record {
+      takes = takes_none g s;
+      usable = record { usable = u; still = u; none_failed = refl };
+      sizes_are = refl;
+      many = rooms_many f room segments sizes r;
+      rooms = r;
+    }
+
+    -- the next room
+    pub segments_room : (old now : X) (s : ℕ) (segments : List V) (sizes : List ℕ) (v : V) (n : ℕ) → s < length sizes → v ≡ get_or segments s v → n ≡ get_or sizes s 0
+        → SegmentsSoFar old now s segments sizes → (f v ≡ []) × (n ≤ room v)
+    segments_room old now s segments sizes v n h e d t =
+        let inside : s < length segments = omega (arith, t.many) in
+        let r = rooms_from f room s segments sizes v inside h t.rooms in
+        (ap f e ∙ r.0.0, subst (λ (w : V). n ≤ room w) (sym e) (omega (arith, r.0.1)))
+
+    -- one more segment
+    pub segments_more : (old now new : X) (s : ℕ) (segments longer : List V) (sizes : List ℕ) (v : V) (n : ℕ) → s < length sizes → n ≡ get_or sizes s 0
+        → SegmentsSoFar old now s segments sizes → Takes g now new (f v) → length (f v) ≡ n → IsUsable g now new
+        → longer ≡ set segments s v → SegmentsSoFar old new (s + 1) longer sizes
+    segments_more old now new s segments longer sizes v n h d t takes l u e =
+        let inside : s < length segments = omega (arith, t.many) in
+        let front : take (s + 1) longer ≡ take s segments ++ v ∷ [] = ap (take (s + 1)) e ∙ take_more_set segments s v inside in
+        let back : drop (s + 1) longer ≡ drop (s + 1) segments = ap (drop (s + 1)) e ∙ drop-set-lt (s + 1) segments s v (omega arith) in
+        let parts : map f (take (s + 1) longer) ≡ map f (take s segments) ++ f v ∷ [] = ap (map f) front ∙ map-append f (take s segments) (v ∷ []) in
+        let words : joined (map f (take (s + 1) longer)) ≡ joined (map f (take s segments)) ++ f v =
+        ap joined parts ∙ (flat_map-append (λ (ws : List ℕ). ws) (map f (take s segments)) (f v ∷ []) ∙ ap (λ (ws : List ℕ). joined (map f (take s segments)) ++ ws) (append-nil (f v))) in
+        let r = rooms_from f room s segments sizes v inside h t.rooms in
+        record {
+          takes = subst (Takes g old new) (sym words) (takes_both g old now new (joined (map f (take s segments))) (f v) t.takes takes);
+          usable = usable_both g old now new t.usable u;
+          sizes_are =
+              ap sizes_of parts ∙ (map-append (λ (ws : List ℕ). length ws) (map f (take s segments)) (f v ∷ [])
+              ∙ (ap (λ (ns : List ℕ). ns ++ length (f v) ∷ []) t.sizes_are ∙ (ap (λ (k : ℕ). take s sizes ++ k ∷ []) (l ∙ d) ∙ sym (take_more sizes s 0 h))));
+          many = ap length e ∙ (length-set segments s v ∙ t.many);
+          rooms = subst (λ (vs : List V). AreRooms f room vs (drop (s + 1) sizes)) (sym back) r.1;
+        }
+
+    -- the source stopped inside a segment
+    pub segments_stop : (old now new : X) (s : ℕ) (segments : List V) (sizes : List ℕ) (n : ℕ) (fault : SourceFault) → s < length sizes → n ≡ get_or sizes s 0
+        → SegmentsSoFar old now s segments sizes → Stops g n now new fault → Stops g (sum sizes) old new fault
+    segments_stop old now new s segments sizes n fault h d t stops =
+        let words : length (joined (map f (take s segments))) ≡ sum (take s sizes) = length_joined (map f (take s segments)) ∙ ap sum t.sizes_are in
+        let enough : length (joined (map f (take s segments))) + n ≤ sum sizes = omega (arith, words, sum_front sizes s n h d) in
+        stops_weaker g old new (length (joined (map f (take s segments))) + n) (sum sizes) fault enough (stops_later g old now new (joined (map f (take s segments))) n fault t.takes t.usable stops)
+
+    -- all were read
+    pub segments_end : (old now : X) (s : ℕ) (segments : List V) (sizes : List ℕ) → length sizes ≤ s → SegmentsSoFar old now s segments sizes
+        → Takes g old now (joined (map f segments)) × (sizes_of (map f segments) ≡ sizes)
+    segments_end old now s segments sizes h t =
+        let vs : take s segments ≡ segments = take_all s segments (omega (arith, t.many)) in
+        let ns : take s sizes ≡ sizes = take_all s sizes h in
+        (rw vs at t.takes, rw vs at (t.sizes_are ∙ ns))

@@ -1,0 +1,110 @@
+-- Reading the table of segments word by word.
+use Rattle.std.proofs.Common.{◌≡◌, ◌∙◌, ℕ, zero, suc, ◌+◌, ◌-◌, ◌*◌, ◌/◌, ◌%◌, ◌^◌, ◌<◌, false, List, [], ◌∷◌, ◌++◌, length, take, drop, flat_map, refl, sym, ap, subst, arith, length-append, length-drop}
+use Rattle.std.specs.List.{AllByRecursion}
+use Rattle.std.proofs.lemmas.List.{length-take, take_all, take-append-drop}
+use Rattle.std.proofs.lemmas.Grind.{flat_map-append}
+use Rattle.cap_words.specs.declared.sources.WordSource as source
+use Rattle.cap_words.specs.declared.sources.SourceFault.{SourceFault}
+use Rattle.cap_spec.specs.Frames.{halves, IsTable}
+use Rattle.cap_spec.proofs.Framing.{length_halves}
+use Rattle.cap_frame.specs.Taking.{Takes, IsUsable, Stops}
+use Rattle.cap_frame.proofs.Taking.{takes_none, takes_both, usable_both, stops_later, stops_weaker}
+
+-- what holds of each element of two lists holds of each of both
+pub all_both : {A : Type 0} (P : A → Type 0) (xs ys : List A) → AllByRecursion P xs → AllByRecursion P ys → AllByRecursion P (xs ++ ys)
+all_both P [] ys a b = b
+all_both P (x ∷ xs) ys a b = (a.0, all_both P xs ys a.1 b)
+
+-- what holds of each element holds of each of a front, and of each behind it
+pub all_take : {A : Type 0} (P : A → Type 0) (n : ℕ) (xs : List A) → AllByRecursion P xs → AllByRecursion P (take n xs)
+all_take P zero xs a = tt
+all_take P (suc n) [] a = tt
+all_take P (suc n) (x ∷ xs) a = (a.0, all_take P n xs a.1)
+
+pub all_drop : {A : Type 0} (P : A → Type 0) (n : ℕ) (xs : List A) → AllByRecursion P xs → AllByRecursion P (drop n xs)
+all_drop P zero xs a = a
+all_drop P (suc n) [] a = tt
+all_drop P (suc n) (x ∷ xs) a = all_drop P n xs a.1
+
+-- the halves of a word are numbers of 32 bits
+pub halves_fit : (word : ℕ) → word < 2 ^ 64 → AllByRecursion (λ n. n < 2 ^ 32) (halves word)
+halves_fit word h = (omega arith, (omega arith, tt))
+
+-- the numbers of a table: those of its further words, behind the high half of its first
+abbrev pub behind : ℕ → List ℕ → List ℕ
+behind first more = first / 2 ^ 32 ∷ flat_map halves more
+
+pub length_behind : (first : ℕ) (more : List ℕ) → length (behind first more) ≡ 1 + 2 * length more
+length_behind first more = omega (arith, length_halves more)
+
+-- enough further words make the table of these sizes
+pub is_table : (first : ℕ) (more : List ℕ) → first < 2 ^ 64 → first % 2 ^ 32 < 512 → AllByRecursion (λ n. n < 2 ^ 32) (flat_map halves more)
+    → length more ≡ (first % 2 ^ 32 + 1) / 2 → IsTable (first ∷ more) (take (first % 2 ^ 32 + 1) (behind first more))
+is_table first more word few fit many =
+    let count : ℕ = first % 2 ^ 32 + 1 in
+    let all : List ℕ = behind first more in
+    let k : length all ≡ 1 + 2 * length more = length_behind first more in
+    let l : length (take count all) ≡ count = omega (arith, length-take count all) in
+    let r : length (drop count all) + count ≡ length all = omega (arith, length-drop count all) in
+    let c : length (take count all) - 1 ≡ first % 2 ^ 32 = omega arith in
+    let w : length (drop count all) ≡ (1 + length (take count all)) % 2 = omega arith in
+    record {
+      some = omega arith;
+      few = omega arith;
+      fit = all_take (λ (n : ℕ). n < 2 ^ 32) count all (omega arith, fit);
+      padding = drop count all;
+      padding_fits = all_drop (λ (n : ℕ). n < 2 ^ 32) count all (omega arith, fit);
+      width = w;
+      numbers = ap (λ (n : ℕ). n ∷ all) (sym c) ∙ ap (λ (ns : List ℕ). (length (take count all) - 1) ∷ ns) (sym (take-append-drop count all));
+    }
+
+module _ {X : Type 0} (g : source.Ghosts X) where
+  -- So many further words of a table were read, and these sizes found in them.
+  pub record TableSoFar (first many : ℕ) (old now : X) (sizes : List ℕ) : Type 0 where
+    pub more : List ℕ
+    pub length_is : length more ≡ many
+    pub takes : Takes g old now more
+    pub usable : IsUsable g old now
+    pub fit : AllByRecursion (λ n. n < 2 ^ 32) (flat_map halves more)
+    pub sizes_are : sizes ≡ take (first % 2 ^ 32 + 1) (behind first more)
+
+  -- only the first word was read
+  pub table_start : (first : ℕ) (s : X) (sizes : List ℕ) → g.spent s ≡ false → sizes ≡ first / 2 ^ 32 ∷ [] → TableSoFar first 0 s s sizes
+  table_start first s sizes u e = record {
+    more = [];
+    length_is = refl;
+    takes = takes_none g s;
+    usable = record { usable = u; still = u; none_failed = refl };
+    fit = tt;
+    sizes_are = e ∙ sym (take_all (first % 2 ^ 32 + 1) (first / 2 ^ 32 ∷ []) (omega arith));
+  }
+
+  -- one more word
+  pub table_more : (first many : ℕ) (old now new : X) (sizes longer : List ℕ) (word : ℕ) → word < 2 ^ 64 → many < (first % 2 ^ 32 + 1) / 2
+      → TableSoFar first many old now sizes → Takes g now new (word ∷ []) → IsUsable g now new
+      → longer ≡ take (first % 2 ^ 32 + 1) (sizes ++ halves word) → TableSoFar first (many + 1) old new longer
+  table_more first many old now new sizes longer word w h t takes usable e = record {
+    more = t.more ++ word ∷ [];
+    length_is = omega (arith, length-append t.more (word ∷ []), t.length_is);
+    takes = takes_both g old now new t.more (word ∷ []) t.takes takes;
+    usable = usable_both g old now new t.usable usable;
+    fit = subst (λ (ns : List ℕ). AllByRecursion (λ n. n < 2 ^ 32) ns) (sym (flat_map-append halves t.more (word ∷ []))) (all_both (λ n. n < 2 ^ 32) (flat_map halves t.more) (flat_map halves (word ∷ [])) t.fit (halves_fit word w));
+    sizes_are =
+        let short : sizes ≡ behind first t.more = t.sizes_are ∙ take_all (first % 2 ^ 32 + 1) (behind first t.more) (omega (arith, length_behind first t.more, t.length_is)) in
+        let longer_is : sizes ++ halves word ≡ behind first (t.more ++ word ∷ []) = ap (λ (ns : List ℕ). ns ++ halves word) short ∙ ap (λ (ns : List ℕ). first / 2 ^ 32 ∷ ns) (sym (flat_map-append halves t.more (word ∷ []))) in
+        e ∙ ap (take (first % 2 ^ 32 + 1)) longer_is;
+  }
+
+  -- there is room for one more number at least
+  pub table_room : (first many : ℕ) (old now : X) (sizes : List ℕ) → many < (first % 2 ^ 32 + 1) / 2 → TableSoFar first many old now sizes → length sizes < first % 2 ^ 32 + 1
+  table_room first many old now sizes h t =
+      let l = length_behind first t.more in
+      let k = length-take (first % 2 ^ 32 + 1) (behind first t.more) in
+      let e = ap length t.sizes_are in
+      omega (arith, t.length_is)
+
+  -- the source stopped
+  pub table_stops : (first many : ℕ) (old now new : X) (sizes : List ℕ) (fault : SourceFault) → many < (first % 2 ^ 32 + 1) / 2
+      → TableSoFar first many old now sizes → Stops g 1 now new fault → Stops g ((first % 2 ^ 32 + 1) / 2) old new fault
+  table_stops first many old now new sizes fault h t s =
+      stops_weaker g old new (length t.more + 1) ((first % 2 ^ 32 + 1) / 2) fault (omega (arith, t.length_is)) (stops_later g old now new t.more 1 fault t.takes t.usable s)

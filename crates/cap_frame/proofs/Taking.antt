@@ -1,0 +1,102 @@
+-- Words taken from a source in several calls.
+use Rattle.std.proofs.Common.{◌≡◌, ◌∙◌, ℕ, ◌+◌, ◌<◌, ◌≤◌, suc, Bool, Option, Some, None, List, [], ◌∷◌, ◌++◌, length, drop, IfSome, OnSome, refl, sym, ap, arith, length-append}
+use Rattle.std.specs.Io.KnownBytes.{Consumes}
+use Rattle.std.proofs.KnownBytes.{Consumes-nil, Consumes-trans}
+use Rattle.std.proofs.lemmas.List.{drop-drop}
+use Rattle.cap_words.specs.declared.sources.WordSource as source
+use Rattle.cap_words.specs.declared.sources.SourceFault.{SourceFault}
+use Rattle.cap_words.specs.declared.sources.SourceFault.TheVariants.{Truncated, Device, Spent}
+use Rattle.cap_frame.specs.Taking.{Takes, IsUsable, Breaks, Stops}
+
+-- what holds is said of a known value
+pub on_some : {A : Type 0} (o : Option A) (P : Type 0) → P → OnSome o P
+on_some None P h = tt
+on_some (Some x) P h = h
+
+-- the places after the next word, turned round
+pub goes_on_one : (o : Option (List ℕ)) (A : Type 0) (p q : ℕ) (ps qs : List ℕ) → OnSome o (A × (ps ≡ q ∷ qs)) → OnSome o (A × (q ∷ qs ≡ drop 1 (p ∷ ps)))
+goes_on_one None A p q ps qs h = tt
+goes_on_one (Some x) A p q ps qs h = (h.0, sym h.1)
+
+-- the places go on over two lists of words
+pub goes_on_both : (a b : Option (List ℕ)) (taken own : List ℕ) (c d e : Bool) (p q r : ℕ) (ps qs rs : List ℕ)
+    → Consumes a b taken
+    → OnSome a ((d ≡ c) × (q ∷ qs ≡ drop (length taken) (p ∷ ps)))
+    → OnSome b ((e ≡ d) × (r ∷ rs ≡ drop (length own) (q ∷ qs)))
+    → OnSome a ((e ≡ c) × (r ∷ rs ≡ drop (length (taken ++ own)) (p ∷ ps)))
+goes_on_both None b taken own c d e p q r ps qs rs t f s = tt
+goes_on_both (Some x) None taken own c d e p q r ps qs rs t f s = absurd t
+goes_on_both (Some x) (Some y) taken own c d e p q r ps qs rs t f s = (s.0 ∙ f.0, s.1 ∙ (ap (drop (length own)) f.1 ∙ (drop-drop (length own) (length taken) (p ∷ ps) ∙ ap (λ n. drop n (p ∷ ps)) (sym (length-append taken own)))))
+
+-- the source ended after these words and fewer than n more
+pub short_both : (a b : Option (List ℕ)) (taken : List ℕ) (n byte p q : ℕ) (ps qs : List ℕ) (P : Type 0)
+    → Consumes a b taken
+    → OnSome a (P × (q ∷ qs ≡ drop (length taken) (p ∷ ps)))
+    → IfSome b (λ ws. (length ws < n) × (drop (length ws) qs ≡ byte ∷ []))
+    → IfSome a (λ ws. (length ws < length taken + n) × (drop (length ws) ps ≡ byte ∷ []))
+short_both None b taken n byte p q ps qs P t f s = tt
+short_both (Some x) None taken n byte p q ps qs P t f s = absurd t
+short_both (Some x) (Some y) taken n byte p q ps qs P t f s =
+    let l : length x ≡ length taken + length y = ap length t ∙ length-append taken y in
+    let k : length taken + suc (length y) ≡ suc (length x) = omega arith in
+    (omega (arith, s.0), ap (λ n. drop n (p ∷ ps)) (sym k) ∙ (sym (drop-drop (suc (length y)) (length taken) (p ∷ ps)) ∙ (ap (drop (suc (length y))) (sym f.1) ∙ s.1)))
+
+-- fewer than m words are fewer than n
+pub short_weaker : (o : Option (List ℕ)) (m n : ℕ) (ps : List ℕ) (byte : ℕ) → m ≤ n
+    → IfSome o (λ ws. (length ws < m) × (drop (length ws) ps ≡ byte ∷ []))
+    → IfSome o (λ ws. (length ws < n) × (drop (length ws) ps ≡ byte ∷ []))
+short_weaker None m n ps byte h s = tt
+short_weaker (Some x) m n ps byte h s = (omega (arith, s.0), s.1)
+
+module _ {X : Type 0} (g : source.Ghosts X) where
+  -- no words
+  pub takes_none : (s : X) → Takes g s s []
+  takes_none s = record { words = Consumes-nil (g.words s); goes_on = on_some (g.words s) _ (refl, refl) }
+
+  -- the next word
+  pub takes_one : (old new : X) (word : ℕ) → Consumes (g.words old) (g.words new) (word ∷ [])
+      → OnSome (g.words old) ((g.is_cut new ≡ g.is_cut old) × (g.places old ≡ g.place new ∷ g.places new)) → Takes g old new (word ∷ [])
+  takes_one old new word c f = record { words = c; goes_on = goes_on_one (g.words old) (g.is_cut new ≡ g.is_cut old) (g.place old) (g.place new) (g.places old) (g.places new) f }
+
+  -- some words, and then others
+  pub takes_both : (old mid new : X) (taken own : List ℕ) → Takes g old mid taken → Takes g mid new own → Takes g old new (taken ++ own)
+  takes_both old mid new taken own t u = record {
+    words = Consumes-trans (g.words old) (g.words mid) (g.words new) taken own t.words u.words;
+    goes_on = goes_on_both (g.words old) (g.words mid) taken own (g.is_cut old) (g.is_cut mid) (g.is_cut new) (g.place old) (g.place mid) (g.place new) (g.places old) (g.places mid) (g.places new) t.words t.goes_on u.goes_on;
+  }
+
+  -- two calls without a fault
+  pub usable_both : (old mid new : X) → IsUsable g old mid → IsUsable g mid new → IsUsable g old new
+  usable_both old mid new a b = record { usable = a.usable; still = b.still; none_failed = b.none_failed ∙ a.none_failed }
+
+  -- a device's fault after calls without one
+  pub breaks_later : (old mid new : X) → IsUsable g old mid → Breaks g mid new → Breaks g old new
+  breaks_later old mid new a b = record {
+    fails = record { usable = a.usable; failed = b.fails.failed ∙ ap (λ n. n + 1) a.none_failed };
+    spent = b.spent;
+    failed = b.failed;
+  }
+
+  -- the source stopped where n words were wanted after these
+  pub stops_later : (old mid new : X) (taken : List ℕ) (n : ℕ) (fault : SourceFault) → Takes g old mid taken → IsUsable g old mid → Stops g n mid new fault → Stops g (length taken + n) old new fault
+  stops_later old mid new taken n (Truncated byte) t a s = record {
+    short = short_both (g.words old) (g.words mid) taken n byte (g.place old) (g.place mid) (g.places old) (g.places mid) (g.is_cut mid ≡ g.is_cut old) t.words t.goes_on s.short;
+    place = s.place;
+    usable = a.usable;
+    none_failed = s.none_failed ∙ a.none_failed;
+    over = s.over;
+  }
+  stops_later old mid new taken n Device t a s = breaks_later old mid new a s
+  stops_later old mid new taken n Spent t a s = absurd (let e = s.was_spent.spent in let f = a.still in cc)
+
+  -- more words were wanted
+  pub stops_weaker : (old new : X) (m n : ℕ) (fault : SourceFault) → m ≤ n → Stops g m old new fault → Stops g n old new fault
+  stops_weaker old new m n (Truncated byte) h s = record {
+    short = short_weaker (g.words old) m n (g.places old) byte h s.short;
+    place = s.place;
+    usable = s.usable;
+    none_failed = s.none_failed;
+    over = s.over;
+  }
+  stops_weaker old new m n Device h s = s
+  stops_weaker old new m n Spent h s = s

@@ -1,0 +1,26 @@
+-- The table and the contents behind it frame the message.
+use Rattle.std.proofs.Common.{◌∙◌, ◌∷◌, subst, sym, map}
+use Rattle.cap_spec.specs.Frames.{IsTable}
+use Rattle.cap_frame.specs.Limit.{limit_of}
+use Rattle.cap_frame.specs.Faults.{FaultsBehind}
+use Rattle.cap_frame.proofs.Behind.{behind_contents, behind_message, message_of}
+use Rattle.cap_frame.proofs.reader.read_behind.Goals as goal
+
+pub returns-in-Err-read_contents-clause-err : goal.returns-in-Err-read_contents-clause-err
+returns-in-Err-read_contents-clause-err g c =
+    let stops = rw c.deref-2.ensures.0 at c.in-Err-read_contents.ensures.err in
+    let stopped = behind_contents g.S.WordSource (limit_of c.args.limit) c.args.first c.args.source.now c.read_table.new.source c.read_contents.new.source c.read_table.new.sizes.items c.in-Err-read_contents.fault c.in_default.ensures.ok c.in_default.ensures.works c.in_default.ensures.within stops in
+    subst (FaultsBehind g.S.WordSource (limit_of c.args.limit) c.args.first c.args.source.now c.read_contents.new.source) (sym c.frame_fault.ensures) stopped
+
+pub unwrap-requires : goal.unwrap-requires
+unwrap-requires g c =
+    let table = c.in_default.ensures.ok in
+    let sizes = c.in_default-read_contents.ensures.sizes ∙ c.deref-2.ensures.0 in
+    c.new.ensures.some.1 (message_of (c.args.first ∷ table.more) (map (λ v. v.items) c.read_contents.new.segments.items) (subst (IsTable (c.args.first ∷ table.more)) (sym sizes) table.is_table))
+
+pub returns-clause-ok : goal.returns-clause-ok
+returns-clause-ok g c =
+    let sizes = c.in_default-read_contents.ensures.sizes ∙ c.deref-2.ensures.0 in
+    let read = behind_message g.S.WordSource c.args.first c.args.source.now c.read_table.new.source c.read_contents.new.source c.read_table.new.sizes.items (map (λ v. v.items) c.read_contents.new.segments.items) c.in_default.ensures.ok c.in_default-read_contents.ensures.ok sizes in
+    let held = rw c.unwrap.ensures at c.new.ensures.segments in
+    rw held read

@@ -1,0 +1,11 @@
+-- A fault behind the first word, seen from before it.
+use Rattle.cap_frame.specs.Limit.{limit_of}
+use Rattle.cap_frame.proofs.Taking.{takes_one}
+use Rattle.cap_frame.proofs.Before.{faults_before}
+use Rattle.cap_frame.proofs.reader.read_framed.Goals as goal
+
+pub returns-in-Err-read_behind-clause-err : goal.returns-in-Err-read_behind-clause-err
+returns-in-Err-read_behind-clause-err g c =
+    let words = rw c.in-Ok-Some.field-0-is at c.in-Ok-Some.ensures.words in
+    let word = rw c.in-Ok-Some.field-0-is at c.in-Ok-Some.ensures.word in
+    faults_before g.S.WordSource (limit_of c.args.limit) c.in-Ok-Some.first c.args.source.now c.next.new.self c.read_behind.new.source c.in-Err-read_behind.fault (takes_one g.S.WordSource c.args.source.now c.next.new.self c.in-Ok-Some.first words word) c.in-Ok-Some.ensures.ok c.in-Err-read_behind.ensures.err

@@ -1,0 +1,24 @@
+-- Each word appends its halves to the sizes, as far as there are sizes to come.
+use Rattle.std.proofs.Common.{arith, ◌%◌, ◌+◌, ◌/◌, ◌<◌, ◌^◌}
+use Rattle.cap_frame.proofs.Tables.{is_table, table_more, table_room, table_stops}
+use Rattle.cap_frame.proofs.table.read_sizes.Goals as goal
+
+pub push_halves-requires-clause-room : goal.push_halves-requires-clause-room
+push_halves-requires-clause-room g c =
+    let more : c.table.counter < (c.args.first % 2 ^ 32 + 1) / 2 = omega arith in
+    let room = table_room g.S.WordSource c.args.first c.table.counter c.args.source.now c.table.source c.table.sizes.items more c.table.invariant in
+    omega arith
+
+pub returns-in-Err-clause-err : goal.returns-in-Err-clause-err
+returns-in-Err-clause-err g c =
+    table_stops g.S.WordSource c.args.first c.table.counter c.args.source.now c.table.source c.next_word.new.source c.table.sizes.items c.in-Err.fault (omega arith) c.table.invariant c.in-Err.ensures.err
+
+pub table-preserved : goal.table-preserved
+table-preserved g c =
+    table_more g.S.WordSource c.args.first c.table.counter c.args.source.now c.table.source c.next_word.new.source c.table.sizes.items c.push_halves.new.sizes.items c.in-Ok.word c.in-Ok.ensures.word (omega arith) c.table.invariant c.in-Ok.ensures.ok c.in-Ok.ensures.works (cc)
+
+pub returns-clause-ok : goal.returns-clause-ok
+returns-clause-ok g c =
+    let t = c.table.invariant in
+    let whole = is_table c.args.first t.more c.ranges.first.fits c.requires.few t.fit (omega (arith, t.length_is)) in
+    record { more = t.more; takes = t.takes; is_table = rw (← t.sizes_are) at whole }

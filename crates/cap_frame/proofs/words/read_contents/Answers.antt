@@ -1,0 +1,11 @@
+use Rattle.cap_frame.proofs.Contents.{segments_start, segments_stop}
+use Rattle.std.proofs.Common.{get_or, refl}
+use Rattle.std.specs.Vec.{vec_capacity}
+use Rattle.cap_frame.proofs.words.read_contents.Goals as goal
+
+pub segments-init : goal.segments-init
+segments-init g c = segments_start g.S.WordSource (λ v. v.items) (λ v. vec_capacity v) c.args.source.now c.args.segments.now.items c.args.sizes.now c.requires.usable c.requires.rooms
+
+pub returns-in-Err-clause-err : goal.returns-in-Err-clause-err
+returns-in-Err-clause-err g c =
+    segments_stop g.S.WordSource (λ v. v.items) (λ v. vec_capacity v) c.args.source.now c.segments.source c.read_words.new.source c.segments.s c.segments.segments.items c.args.sizes.now (get_or c.args.sizes.now c.segments.s 0) c.in-Err.fault c.segments-test.true refl c.segments.invariant c.in-Err.ensures.err

@@ -1,0 +1,13 @@
+use Rattle.std.proofs.Common.{arith}
+use Rattle.cap_frame.proofs.Contents.{words_more, words_stop}
+use Rattle.cap_frame.proofs.words.read_words.Goals as goal
+
+pub returns-in-Err-clause-err : goal.returns-in-Err-clause-err
+returns-in-Err-clause-err g c =
+    words_stop g.S.WordSource c.args.source.now c.words.source c.next_word.new.source c.words.words.items c.words.counter c.args.size c.in-Err.fault c.words-test.true c.words.invariant.far c.in-Err.ensures.err
+
+pub words-preserved : goal.words-preserved
+words-preserved g c = record {
+  far = words_more g.S.WordSource c.args.source.now c.words.source c.next_word.new.source c.words.words.items c.push.new.self.items c.words.counter c.in-Ok.word c.words.invariant.far c.in-Ok.ensures.ok c.in-Ok.ensures.works (rw c.unwrap.ensures at c.push.ensures.items);
+  room = let h = c.push.ensures.capacity in let i = c.words.invariant.room in omega arith;
+}

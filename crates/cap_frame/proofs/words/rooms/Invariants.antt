@@ -1,0 +1,7 @@
+use Rattle.std.proofs.Common.{take}
+use Rattle.std.specs.Vec.{vec_capacity}
+use Rattle.cap_frame.specs.Rooms.{AreRooms}
+use Rattle.cap_frame.proofs.words.rooms.Given as goal
+
+abbrev pub invariant-sizes : goal.invariant-sizes
+invariant-sizes l = AreRooms (λ v. v.items) (λ v. vec_capacity v) l.rooms.items (take l.size-index l.sizes)

@@ -1,0 +1,81 @@
+-- What each fault of reading a message says of the source and of its words.
+use Rattle.std.specs.Prelude.{⊤, ℕ, ◌+◌, ◌%◌, ◌^◌, ◌≡◌, ◌<◌, ◌≤◌, ◌⊎◌, Bool, true, false, List, [], ◌∷◌, length, drop, sum, IfSome, Result, Ok, Err}
+use Rattle.cap_spec.specs.Frames.{IsTable, IsPartial}
+use Rattle.cap_words.specs.declared.sources.WordSource as source
+use Rattle.cap_frame.specs.Taking.{Takes, IsUsable, Breaks, Refuses}
+use Rattle.cap_frame.specs.declared.fault.FrameFault.{FrameFault}
+use Rattle.cap_frame.specs.declared.fault.FrameFault.TheVariants.{TooManySegments, TooLarge, Truncated, Device, Memory, Spent}
+
+-- P, unless the answer is a fault of the device, of memory, or that the source was spent
+abbrev pub Answered : {A : Type 0} → Result A FrameFault → Type 0 → Type 0
+Answered (Ok x) P = P
+Answered (Err (TooManySegments n)) P = P
+Answered (Err (TooLarge n)) P = P
+Answered (Err (Truncated n)) P = P
+Answered (Err Device) P = ⊤
+Answered (Err Memory) P = ⊤
+Answered (Err Spent) P = ⊤
+
+-- P, unless the answer is a fault of the source, which includes that it ended
+abbrev pub OnUsable : {A : Type 0} → Result A FrameFault → Type 0 → Type 0
+OnUsable (Ok x) P = P
+OnUsable (Err (TooManySegments n)) P = P
+OnUsable (Err (TooLarge n)) P = P
+OnUsable (Err (Truncated n)) P = ⊤
+OnUsable (Err Device) P = ⊤
+OnUsable (Err Memory) P = P
+OnUsable (Err Spent) P = ⊤
+
+module _ {X : Type 0} (g : source.Ghosts X) where
+  -- The first word tells of too many segments.
+  pub record TakesTooMany (old new : X) (count : ℕ) : Type 0 where
+    pub first : ℕ
+    pub takes : Takes g old new (first ∷ [])
+    pub count_is : count ≡ first % 2 ^ 32 + 1
+    pub many : 512 < count
+
+  -- A table of at most 512 segments was taken, and no more.
+  pub record TakesTable (old new : X) (sizes : List ℕ) : Type 0 where
+    pub table : List ℕ
+    pub takes : Takes g old new table
+    pub is_table : IsTable table sizes
+
+  -- The source ended inside a message.
+  pub record EndsInside (limit : ℕ) (old new : X) (byte : ℕ) : Type 0 where
+    pub partial : IfSome (g.words old) (λ ws. IsPartial limit ws (g.is_cut old) × (drop (length ws) (g.places old) ≡ byte ∷ []))
+    pub place : byte ≡ g.place new
+    pub usable : g.spent old ≡ false
+    pub none_failed : g.failures new ≡ g.failures old
+    pub over : (g.ended new ≡ true) ⊎ (g.failed new ≡ true)
+
+  -- what each fault says
+  abbrev pub Faults : ℕ → X → X → FrameFault → Type 0
+  Faults limit old new (TooManySegments count) = TakesTooMany old new count × IsUsable g old new
+  Faults limit old new (TooLarge words) = ((sizes : List ℕ) × TakesTable old new sizes × (words ≡ sum sizes) × (limit < words)) × IsUsable g old new
+  Faults limit old new (Truncated byte) = EndsInside limit old new byte
+  Faults limit old new Device = Breaks g old new
+  Faults limit old new Memory = ((sizes : List ℕ) × TakesTable old new sizes × (sum sizes ≤ limit)) × IsUsable g old new
+  Faults limit old new Spent = Refuses g old new
+
+  -- Behind the first word, the rest of a table of at most 512 segments was taken, and no more.
+  pub record TakesTableBehind (first : ℕ) (old new : X) (sizes : List ℕ) : Type 0 where
+    pub more : List ℕ
+    pub takes : Takes g old new more
+    pub is_table : IsTable (first ∷ more) sizes
+
+  -- Behind its first word the source ended inside a message.
+  pub record EndsBehind (limit first : ℕ) (old new : X) (byte : ℕ) : Type 0 where
+    pub partial : IfSome (g.words old) (λ ws. ((cut : Bool) → IsPartial limit (first ∷ ws) cut) × (drop (length ws) (g.places old) ≡ byte ∷ []))
+    pub place : byte ≡ g.place new
+    pub usable : g.spent old ≡ false
+    pub none_failed : g.failures new ≡ g.failures old
+    pub over : (g.ended new ≡ true) ⊎ (g.failed new ≡ true)
+
+  -- what each fault says where the first word was taken before
+  abbrev pub FaultsBehind : ℕ → ℕ → X → X → FrameFault → Type 0
+  FaultsBehind limit first old new (TooManySegments count) = (count ≡ first % 2 ^ 32 + 1) × (512 < count) × (new ≡ old)
+  FaultsBehind limit first old new (TooLarge words) = ((sizes : List ℕ) × TakesTableBehind first old new sizes × (words ≡ sum sizes) × (limit < words)) × IsUsable g old new
+  FaultsBehind limit first old new (Truncated byte) = EndsBehind limit first old new byte
+  FaultsBehind limit first old new Device = Breaks g old new
+  FaultsBehind limit first old new Memory = ((sizes : List ℕ) × TakesTableBehind first old new sizes × (sum sizes ≤ limit)) × IsUsable g old new
+  FaultsBehind limit first old new Spent = Refuses g old new

@@ -1,0 +1,9 @@
+-- Empty vectors with room for the segments of a message.
+use Rattle.std.specs.Prelude.{⊤, ℕ, ◌≡◌, ◌≤◌, List, [], ◌∷◌}
+
+-- vectors without words, each with room for its size. The two functions give a vector's words and how many it has room for
+abbrev pub AreRooms : {V : Type 0} → (V → List ℕ) → (V → ℕ) → List V → List ℕ → Type 0
+AreRooms words room [] [] = ⊤
+AreRooms words room [] (n ∷ ns) = ⊥
+AreRooms words room (v ∷ vs) [] = ⊥
+AreRooms words room (v ∷ vs) (n ∷ ns) = ((words v ≡ []) × (n ≤ room v)) × AreRooms words room vs ns

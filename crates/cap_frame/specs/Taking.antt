@@ -1,0 +1,44 @@
+-- What taking words from a source does to it. g has the members of its type.
+use Rattle.std.specs.Prelude.{ℕ, ◌≡◌, ◌<◌, ◌⊎◌, true, false, List, [], ◌∷◌, length, drop, IfSome, OnSome}
+use Rattle.std.specs.Io.KnownBytes.{Consumes, Keeps}
+use Rattle.cap_words.specs.Ends.{Works, Fails, WasSpent}
+use Rattle.cap_words.specs.declared.sources.WordSource as source
+use Rattle.cap_words.specs.declared.sources.SourceFault.{SourceFault}
+use Rattle.cap_words.specs.declared.sources.SourceFault.TheVariants.{Truncated, Device, Spent}
+
+module _ {X : Type 0} (g : source.Ghosts X) where
+  -- These words were taken, and no more. How the input ends and the places of the other words stay as they were.
+  pub record Takes (old new : X) (own : List ℕ) : Type 0 where
+    pub words : Consumes (g.words old) (g.words new) own
+    pub goes_on : OnSome (g.words old) ((g.is_cut new ≡ g.is_cut old) × (g.place new ∷ g.places new ≡ drop (length own) (g.place old ∷ g.places old)))
+
+  -- no fault came: it wasn't spent before, and isn't now
+  abbrev pub IsUsable : X → X → Type 0
+  IsUsable old new = Works (g.spent old) (g.spent new) (g.failures old) (g.failures new)
+
+  -- It ended before it gave n words.
+  pub record EndsEarly (n : ℕ) (old new : X) (byte : ℕ) : Type 0 where
+    pub short : IfSome (g.words old) (λ ws. (length ws < n) × (drop (length ws) (g.places old) ≡ byte ∷ []))
+    pub place : byte ≡ g.place new
+    pub usable : g.spent old ≡ false
+    pub none_failed : g.failures new ≡ g.failures old
+    pub over : (g.ended new ≡ true) ⊎ (g.failed new ≡ true)
+
+  -- Its device failed.
+  pub record Breaks (old new : X) : Type 0 where
+    pub fails : Fails (g.spent old) (g.failures old) (g.failures new)
+    pub spent : g.spent new ≡ true
+    pub failed : g.failed new ≡ true
+
+  -- An earlier fault had ended it.
+  pub record Refuses (old new : X) : Type 0 where
+    pub was_spent : WasSpent (g.spent old) (g.spent new) (g.failures old) (g.failures new)
+    pub failed : g.failed new ≡ true
+    pub place : g.place new ≡ g.place old
+    pub unread : Keeps (g.unread old) (g.unread new)
+
+  -- why it didn't give n words
+  abbrev pub Stops : ℕ → X → X → SourceFault → Type 0
+  Stops n old new (Truncated byte) = EndsEarly n old new byte
+  Stops n old new Device = Breaks old new
+  Stops n old new Spent = Refuses old new

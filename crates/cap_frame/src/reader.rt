@@ -1,0 +1,115 @@
+//! Reading messages from a source of words.
+
+ghost use Rattle.cap_frame.specs.Faults.{EndsInside, Faults, FaultsBehind, OnUsable, TakesTable, TakesTooMany};
+ghost use Rattle.cap_frame.specs.Limit.{limit_of};
+ghost use Rattle.cap_frame.specs.Taking.{Breaks, IsUsable, Refuses, Takes};
+ghost use Rattle.cap_spec.specs.Frames.{Frames, sizes_of};
+ghost use Rattle.std.specs.Prelude.{◌<◌, ◌≡◌, ◌≤◌, [], ◌∷◌, IfErr, IfOk, IfSome, IsErrOf, List, OnOk, OnSome, false, sum, true, ℕ};
+
+use crate::fault::{FrameFault, frame_fault};
+use crate::limit::SizeLimit;
+use crate::message::WordMessage;
+use crate::segments::Segments;
+use crate::table::{Sizes, read_table};
+use crate::words::{read_contents, rooms};
+use cap_words::WordSource;
+use std::alloc::Global;
+
+// Reads the message whose first word was read before.
+fn read_behind<S: WordSource>(
+    alloc: Global,
+    source: &mut S,
+    first: u64,
+    limit: SizeLimit,
+) -> Result<WordMessage, FrameFault>
+    requires usable { S.spent source.old ≡ false }
+    ensures ok { IfOk result (λ m. (more : List ℕ) × Takes S.WordSource source.old source.new more × Frames (first ∷ more) (⟦<WordMessage as Segments>⟧.segments m)) }
+    ensures within { IfOk result (λ m. sum (sizes_of (⟦<WordMessage as Segments>⟧.segments m)) ≤ limit_of limit) }
+    ensures works { OnOk result (IsUsable S.WordSource source.old source.new) }
+    ensures err { IfErr result (FaultsBehind S.WordSource (limit_of limit) first source.old source.new) }
+{
+    let mut sizes = Sizes::new();
+    if let Err(fault) = read_table(source, first, limit, &mut sizes) {
+        return Err(fault);
+    }
+    let Ok(mut segments) = rooms(alloc, &sizes) else {
+        return Err(FrameFault::Memory);
+    };
+    if let Err(fault) = read_contents(source, &sizes, &mut segments) {
+        return Err(frame_fault(fault));
+    }
+    Ok(WordMessage::new(segments).unwrap())
+}
+
+// Reads a message. Its clauses say what each answer tells of the source's words.
+fn read_framed<S: WordSource>(
+    alloc: Global,
+    source: &mut S,
+    limit: SizeLimit,
+) -> Result<Option<WordMessage>, FrameFault>
+    ensures message { IfOk result (λ r. IfSome r (λ m. (own : List ℕ) × Takes S.WordSource source.old source.new own
+        × Frames own (⟦<WordMessage as Segments>⟧.segments m) × (sum (sizes_of (⟦<WordMessage as Segments>⟧.segments m)) ≤ limit_of limit))) }
+    ensures works { OnOk result (IsUsable S.WordSource source.old source.new) }
+    ensures none { result ≡ Ok None → OnSome (S.words source.old)
+        ((S.words source.old ≡ Some []) × (S.is_cut source.old ≡ false) × (S.places source.old ≡ S.place source.new ∷ [])) }
+    ensures ended { result ≡ Ok None → S.ended source.new ≡ true }
+    ensures stays { S.ended source.old ≡ true → (result ≡ Ok None) × (source.new ≡ source.old) }
+    ensures for_good { S.failed source.old ≡ true → (result ≡ Err FrameFault.Spent) × (source.new ≡ source.old) }
+    ensures err { IfErr result (Faults S.WordSource (limit_of limit) source.old source.new) }
+{
+    match source.next() {
+        Ok(Some(first)) => match read_behind(alloc, source, first, limit) {
+            Ok(message) => Ok(Some(message)),
+            Err(fault) => Err(fault),
+        },
+        Ok(None) => Ok(None),
+        Err(fault) => Err(frame_fault(fault)),
+    }
+}
+
+/// Reads the next message of a stream, or `None` where the stream ends before its first word.
+///
+/// A message is a table of its segments' sizes and then the words of the segments, in order. The
+/// table's padding may hold anything. The faults, and where the source then stands:
+///
+/// - [`FrameFault::TooManySegments`]: the first word tells of more than 512 segments. It was taken,
+///   and no more.
+/// - [`FrameFault::TooLarge`]: the sizes sum to more words than the limit. The table was taken, and
+///   no more.
+/// - [`FrameFault::Truncated`]: the source ended inside the message, at this byte.
+/// - [`FrameFault::Device`]: the device of the source failed.
+/// - [`FrameFault::Memory`]: a growth was refused. The table was taken, and no more.
+/// - [`FrameFault::Spent`]: an earlier fault had ended the source.
+///
+/// After an answer, and after too many segments, too many words and want of memory, the source can
+/// be used on. All memory is asked for behind the table and before the first word of a segment: as
+/// much as the message holds, and a vector for each segment.
+pub fn read_message<S: WordSource>(
+    alloc: Global,
+    source: &mut S,
+    limit: SizeLimit,
+) -> Result<Option<WordMessage>, FrameFault>
+    // The words that were taken frame the message, within the limit.
+    ensures message { IfOk result (λ r. IfSome r (λ m. (own : List ℕ) × Takes S.WordSource source.old source.new own
+        × Frames own (⟦<WordMessage as Segments>⟧.segments m) × (sum (sizes_of (⟦<WordMessage as Segments>⟧.segments m)) ≤ limit_of limit))) }
+    ensures works { OnUsable result (IsUsable S.WordSource source.old source.new) }
+    ensures none { result ≡ Ok None → OnSome (S.words source.old)
+        ((S.words source.old ≡ Some []) × (S.is_cut source.old ≡ false) × (S.places source.old ≡ S.place source.new ∷ [])) }
+    ensures ended { result ≡ Ok None → S.ended source.new ≡ true }
+    ensures stays { S.ended source.old ≡ true → (result ≡ Ok None) × (source.new ≡ source.old) }
+    ensures for_good { S.failed source.old ≡ true → (result ≡ Err FrameFault.Spent) × (source.new ≡ source.old) }
+    ensures spent { S.spent source.old ≡ true → result ≡ Err FrameFault.Spent }
+    // The first word was taken, and no more.
+    ensures too_many { (count : ℕ) → IsErrOf result (FrameFault.TooManySegments count) → TakesTooMany S.WordSource source.old source.new count }
+    // The table was taken, and no more.
+    ensures too_large { (words : ℕ) → IsErrOf result (FrameFault.TooLarge words) →
+        (sizes : List ℕ) × TakesTable S.WordSource source.old source.new sizes × (words ≡ sum sizes) × (limit_of limit < words) }
+    ensures truncated { (byte : ℕ) → IsErrOf result (FrameFault.Truncated byte) → EndsInside S.WordSource (limit_of limit) source.old source.new byte }
+    ensures device { IsErrOf result FrameFault.Device → Breaks S.WordSource source.old source.new }
+    // The table was taken, and no more.
+    ensures memory { IsErrOf result FrameFault.Memory →
+        (sizes : List ℕ) × TakesTable S.WordSource source.old source.new sizes × (sum sizes ≤ limit_of limit) }
+    ensures was_spent { IsErrOf result FrameFault.Spent → Refuses S.WordSource source.old source.new }
+{
+    read_framed(alloc, source, limit)
+}

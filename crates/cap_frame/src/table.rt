@@ -1,0 +1,105 @@
+//! The table in front of a message: how many segments it has, and how many words each of them.
+
+ghost use Rattle.arrayvec.specs.ArrayVec.{array_vec_len};
+ghost use Rattle.cap_frame.specs.Faults.{FaultsBehind, TakesTableBehind};
+ghost use Rattle.cap_frame.specs.Limit.{limit_of};
+ghost use Rattle.cap_frame.specs.Taking.{IsUsable, Stops};
+ghost use Rattle.cap_spec.specs.Frames.{halves};
+ghost use Rattle.std.specs.Prelude.{◌%◌, ◌*◌, ◌+◌, ◌++◌, ◌/◌, ◌<◌, ◌^◌, ◌≡◌, ◌≤◌, [], IfErr, OnOk, false, length, sum, take};
+
+use crate::fault::{FrameFault, frame_fault};
+use crate::limit::SizeLimit;
+use crate::words::next_word;
+use arrayvec::ArrayVec;
+use cap_words::{SourceFault, WordSource};
+
+/// The sizes of a message's segments, in words.
+pub(crate) type Sizes = ArrayVec<u32, 512>;
+
+// The number in the low four bytes of a word.
+fn low_half(word: u64) -> u32
+    ensures { result ≡ word % 2 ^ 32 }
+{
+    (word % 0x1_0000_0000) as u32
+}
+
+// The number in the high four bytes of a word.
+fn high_half(word: u64) -> u32
+    ensures { result ≡ word / 2 ^ 32 }
+{
+    (word / 0x1_0000_0000) as u32
+}
+
+// Appends the numbers of a word, as far as there are sizes to come. What is left over is padding.
+fn push_halves(sizes: &mut Sizes, count: usize, word: u64)
+    requires few { count ≤ 512 }
+    requires room { array_vec_len sizes.old < count }
+    ensures { sizes.new.items ≡ take count (sizes.old.items ++ halves word) }
+{
+    sizes.push(low_half(word));
+    if sizes.len() < count {
+        sizes.push(high_half(word));
+    }
+}
+
+/// Reads the rest of a table, behind its first word, which tells of at most 512 segments.
+pub(crate) fn read_sizes<S: WordSource>(
+    source: &mut S,
+    first: u64,
+    sizes: &mut Sizes,
+) -> Result<(), SourceFault>
+    requires few { first % 2 ^ 32 < 512 }
+    requires usable { S.spent source.old ≡ false }
+    requires empty { sizes.old.items ≡ [] }
+    ensures ok { OnOk result (TakesTableBehind S.WordSource first source.old source.new sizes.new.items) }
+    ensures works { OnOk result (IsUsable S.WordSource source.old source.new) }
+    ensures err { IfErr result (Stops S.WordSource ((first % 2 ^ 32 + 1) / 2) source.old source.new) }
+{
+    let count = low_half(first) as usize + 1;
+    sizes.push(high_half(first));
+    'table: for _ in 0..count / 2 {
+        match next_word(source) {
+            Ok(word) => push_halves(sizes, count, word),
+            Err(fault) => return Err(fault),
+        }
+    }
+    Ok(())
+}
+
+/// The sum of the sizes of at most 512 segments.
+pub(crate) fn total(sizes: &[u32]) -> u64
+    requires { length sizes.now ≤ 512 }
+    ensures { result ≡ sum sizes.now }
+{
+    sizes.iter().map(|size| u64::from(*size)).sum()
+}
+
+/// Reads the rest of a table, behind its first word, and looks at its numbers.
+pub(crate) fn read_table<S: WordSource>(
+    source: &mut S,
+    first: u64,
+    limit: SizeLimit,
+    sizes: &mut Sizes,
+) -> Result<(), FrameFault>
+    requires usable { S.spent source.old ≡ false }
+    requires empty { sizes.old.items ≡ [] }
+    ensures ok { OnOk result (TakesTableBehind S.WordSource first source.old source.new sizes.new.items) }
+    ensures within { OnOk result (sum sizes.new.items ≤ limit_of limit) }
+    ensures works { OnOk result (IsUsable S.WordSource source.old source.new) }
+    ensures err { IfErr result (FaultsBehind S.WordSource (limit_of limit) first source.old source.new) }
+{
+    let last = low_half(first);
+    if last >= 512 {
+        return Err(FrameFault::TooManySegments {
+            count: u64::from(last) + 1,
+        });
+    }
+    if let Err(fault) = read_sizes(source, first, sizes) {
+        return Err(frame_fault(fault));
+    }
+    let words = total(sizes);
+    if words > limit.words() {
+        return Err(FrameFault::TooLarge { words });
+    }
+    Ok(())
+}
