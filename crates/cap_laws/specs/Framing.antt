@@ -1,8 +1,10 @@
 -- What the laws of framing say.
-use Rattle.std.specs.Prelude.{ℕ, ◌≡◌, Bool, List}
-use Rattle.std.specs.List.{AllByRecursion}
+use Rattle.std.specs.Prelude.{ℕ, ◌+◌, ◌-◌, ◌*◌, ◌%◌, ◌^◌, ◌<◌, ◌≤◌, ◌≡◌, ◌↔◌, Bool, List, ◌++◌, length}
+use Rattle.std.specs.List.{AllByRecursion, flat_map}
 use Rattle.byteorder.specs.Endian.{little_bytes}
 use Rattle.cap_spec.specs.Words.{IsWord}
+use Rattle.cap_spec.specs.Plain.{plain_text}
+use Rattle.cap_spec.specs.Frames.{joined, sizes_of, Frames}
 use Rattle.cap_spec.specs.Endings.{Ending, EndsIn}
 
 -- a number of four bytes, the lowest first
@@ -13,3 +15,18 @@ four_bytes x = little_bytes 4 x
 abbrev pub OneEnding : Type 0
 OneEnding = (limit : ℕ) (words : List ℕ) (cut : Bool) → AllByRecursion IsWord words →
     (ending : Ending) × EndsIn limit words cut ending × ((other : Ending) → EndsIn limit words cut other → other ≡ ending)
+
+-- The bytes of a frame: the number of segments less one and the size of each, four bytes each, then no or four bytes of any padding, up to the next word, and the words of the segments.
+pub record FramesInBytes (bytes : List ℕ) (m : List (List ℕ)) : Type 0 where
+  pub some : 1 ≤ length m
+  pub few : length m ≤ 512
+  pub fit : AllByRecursion (λ n. n < 2 ^ 32) (sizes_of m)
+  pub padding : List ℕ
+  pub are_bytes : AllByRecursion (λ b. b < 256) padding
+  pub width : length padding ≡ 4 * ((1 + length m) % 2)
+  pub whole : bytes ≡ four_bytes (length m - 1) ++ (flat_map four_bytes (sizes_of m) ++ (padding ++ plain_text (joined m)))
+
+-- words frame a message just where their bytes do
+abbrev pub FramesByBytes : Type 0
+FramesByBytes = (words : List ℕ) (m : List (List ℕ)) → AllByRecursion IsWord words → AllByRecursion (AllByRecursion IsWord) m →
+    Frames words m ↔ FramesInBytes (plain_text words) m

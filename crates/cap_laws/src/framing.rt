@@ -1,6 +1,6 @@
 //! What words frame, and how reading a message from words ends.
 
-ghost use Rattle.cap_laws.specs.Framing.{OneEnding, four_bytes};
+ghost use Rattle.cap_laws.specs.Framing.{FramesByBytes, OneEnding, four_bytes};
 ghost use Rattle.cap_spec.specs.Frames.{Frames, IsTable, Stream, frame_text, halves};
 ghost use Rattle.cap_spec.specs.Messages.{IsMessage};
 ghost use Rattle.cap_spec.specs.Plain.{plain_text};
@@ -41,4 +41,10 @@ pub fn frame_text_frames()
 /// that of their halves.
 pub fn halves_are_four_bytes()
     ensures { (words : List ℕ) → plain_text words ≡ flat_map four_bytes (flat_map halves words) }
+{}
+
+/// Words frame a message just where their bytes do: a table of numbers of four bytes, the lowest
+/// first, with any padding up to the next word, and the words of the segments behind it.
+pub fn frames_by_bytes()
+    ensures { FramesByBytes }
 {}
