@@ -1,1 +1,4 @@
 pub mod Masks
+pub mod Objects
+pub mod Pads
+pub mod Answers

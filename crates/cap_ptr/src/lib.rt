@@ -2,7 +2,12 @@
 #![tactic(auto)]
 
 mod fields;
+pub mod following;
 pub mod forms;
+mod placing;
+pub mod shapes;
 
 pub use cap_spec::Reason;
+pub use following::follow;
 pub use forms::Pointer;
+pub use shapes::{Followed, Shape, Target};
