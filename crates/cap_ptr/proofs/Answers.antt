@@ -1,10 +1,10 @@
 -- What is so of a pointer word tells the answer of following it.
-use Rattle.std.proofs.Common.{◌≡◌, ℕ, List, pos, Result, Ok, Err, IfOk, IfErr, refl, sym, ap, subst}
-use Rattle.cap_spec.specs.Following.{Lead, to_null, to_cap, to_object, Leads, Wrong}
+use Rattle.std.proofs.Common.{◌≡◌, ℕ, List, pos, Result, Ok, Err, IfOk, IfErr, refl, ap, subst}
+use Rattle.cap_spec.specs.Following.{to_null, to_cap, to_object, Leads, Wrong}
 use Rattle.cap_spec.specs.Denoting.{Finds}
 use Rattle.cap_spec.specs.declared.Reason.{Reason}
 use Rattle.cap_spec.proofs.Following.{one_lead, one_wrong, null-not_wrong, cap-not_wrong, object-not_wrong}
-use Rattle.cap_ptr.specs.Shapes.{IsObject, FindsObject, IsFollowed, AnswersObject}
+use Rattle.cap_ptr.specs.Shapes.{IsObject, IsFollowed, AnswersObject}
 use Rattle.cap_ptr.specs.declared.shapes.Target.{Target}
 use Rattle.cap_ptr.specs.declared.shapes.Followed.{Followed}
 use Rattle.cap_ptr.specs.declared.shapes.Followed.TheVariants as followed
@@ -44,12 +44,15 @@ same_object : (m : List (List ℕ)) (k t b q k' t' b' q' : ℕ) (x : Target) (ta
 same_object m k t b q k' t' b' q' x tag (e, f) h =
     let et : t' ≡ t = cc in
     let eb : b' ≡ b = cc in
-    let eq : q' ≡ q = cc in
-    (e, et, eb,
+    let eq : q' ≡ q = cc in (
+      e,
+      et,
+      eb,
       subst (λ y. IsObject m k t b y tag x.words x.charge x.shape) eq
-        (subst (λ y. IsObject m k t y q' tag x.words x.charge x.shape) eb
+          (subst (λ y. IsObject m k t y q' tag x.words x.charge x.shape) eb
           (subst (λ y. IsObject m k y b' q' tag x.words x.charge x.shape) et
-            (subst (λ y. IsObject m y t' b' q' tag x.words x.charge x.shape) e h))))
+          (subst (λ y. IsObject m y t' b' q' tag x.words x.charge x.shape) e h))),
+    )
 
 -- a word that leads to an object that sits has it as the answer
 pub object-answer : (m : List (List ℕ)) (s w : ℕ) (r : Result Followed Reason) → IfOk r (IsFollowed m s w) → IfErr r (Wrong m s w)

@@ -1,4 +1,3 @@
-pub mod Masks
 pub mod Objects
 pub mod Pads
 pub mod Answers

@@ -1,12 +1,12 @@
 -- What the words of an object tell of its place and its charge.
-use Rattle.std.proofs.Common.{◌≡◌, ◌≢◌, ℕ, ◌+◌, ◌*◌, ◌^◌, ◌<◌, ◌≤◌, inr, inl, List, length, pos, ℤ, ◌<ℤ◌, if◌then◌else◌, ◌==◌, refl, sym, ap, ◌∙◌, arith}
+use Rattle.std.proofs.Common.{◌≡◌, ℕ, ◌+◌, ◌*◌, ◌^◌, ◌<◌, ◌≤◌, inr, List, length, pos, if◌then◌else◌, ◌==◌, refl, sym, ◌∙◌, arith}
 use Rattle.std.proofs.lemmas.Int.{ints}
 use Rattle.cap_spec.specs.Words.{field}
 use Rattle.cap_spec.specs.Messages.{HasWord, segment_of}
-use Rattle.cap_spec.specs.Pointers.{kind, middle, code, data_size, pointer_size, list_size, extent}
-use Rattle.cap_spec.specs.Following.{to_object, Leads, IsComposite, Sits, extra, Wrong}
-use Rattle.cap_spec.specs.declared.Reason.TheVariants.{OutOfSegment, CompositeTag, CompositeOverrun}
-use Rattle.cap_spec.proofs.Following.{wrong-out, wrong-composite_tag, wrong-overrun}
+use Rattle.cap_spec.specs.Pointers.{middle, data_size, pointer_size, list_size, extent}
+use Rattle.cap_spec.specs.Following.{IsComposite, extra, Wrong}
+use Rattle.cap_spec.specs.declared.Reason.TheVariants.{OutOfSegment}
+use Rattle.cap_spec.proofs.Following.{wrong-out}
 use Rattle.cap_ptr.specs.Reaching.{LeadsTo}
 use Rattle.cap_ptr.specs.Shapes.{IsShape, FindsObject}
 use Rattle.cap_ptr.specs.declared.shapes.Shape.{Shape}
@@ -39,14 +39,17 @@ module _ (m : List (List ℕ)) (s w k t b q : ℕ) (leads : LeadsTo m s w k t b 
           words = omega arith;
           charge = omega arith;
           small = omega arith;
-          shape = record { kind = composite.0; code = composite.1; words = size_is; count = count_is; data_words = d_is; pointers = p_is } } }
+          shape = record { kind = composite.0; code = composite.1; words = size_is; count = count_is; data_words = d_is; pointers = p_is };
+        };
+      }
 
   -- another object that lies inside its segment is found
   pub found-plain : (none n c : ℕ) (x : Shape) → k ≤ 2 → ¬ IsComposite q → n ≡ extent q → n ≤ 2 ^ 29 → b + n ≤ length (segment_of m t)
       → none ≡ extra q 0 → none < 2 ^ 29 → c ≡ k + n + none → IsShape q 0 x → FindsObject m s w k t b q 0 n c x
   found-plain none n c x few plain n_is below inside none_is few_none c_is shape = record {
     finds = record { leads = leads; sits = record { exists = there; inside = omega arith; composite = λ y. absurd (plain y) } };
-    object = record { tagged = λ y. absurd (plain y); words = n_is; charge = omega arith; small = omega arith; shape = shape } }
+    object = record { tagged = λ y. absurd (plain y); words = n_is; charge = omega arith; small = omega arith; shape = shape };
+  }
 
 -- a list of structs whose elements are more than its words overruns them
 pub overruns : (q tag size count d p : ℕ) → size ≡ field q 35 29 → count ≡ field tag 2 30 → d ≡ field tag 32 16 → p ≡ field tag 48 16 → size < count * (d + p)

@@ -1,11 +1,11 @@
 -- Which word stands for a pointer word over its pads, and what a two-word pad leads to.
-use Rattle.std.proofs.Common.{◌≡◌, ◌≢◌, ℕ, ◌+◌, ◌<◌, ◌≤◌, List, length, pos, ℤ, ◌+ℤ◌, ◌<ℤ◌, inl, refl, sym, ap, ◌∙◌, subst, arith}
+use Rattle.std.proofs.Common.{◌≡◌, ◌≢◌, ℕ, ◌+◌, ◌<◌, ◌≤◌, List, length, pos, ℤ, ◌+ℤ◌, ◌<ℤ◌, inl, refl, subst, arith}
 use Rattle.cap_spec.specs.Words.{field, signed_offset_of}
-use Rattle.cap_spec.specs.Messages.{HasWord, segment_of}
-use Rattle.cap_spec.specs.Pointers.{kind, middle, two, pad, far_segment, IsReserved, IsFar}
+use Rattle.cap_spec.specs.Messages.{HasWord}
+use Rattle.cap_spec.specs.Pointers.{kind, middle, pad, far_segment}
 use Rattle.cap_spec.specs.Following.{Lead, to_null, to_cap, to_object, Says, IsOnePad, Leads, near, one_pad, two_pads, Wrong}
-use Rattle.cap_spec.specs.declared.Reason.TheVariants.{PadNotFar, SegmentMissing, TagKind, TagOffset, OutOfSegment}
-use Rattle.cap_spec.proofs.Following.{wrong-reserved, wrong-pad_reserved, wrong-pad_far, wrong-pad_near, wrong-content_missing, wrong-tag_kind, wrong-tag_offset, wrong-out}
+use Rattle.cap_spec.specs.declared.Reason.TheVariants.{PadNotFar, TagKind, TagOffset, OutOfSegment}
+use Rattle.cap_spec.proofs.Following.{wrong-reserved, wrong-pad_reserved, wrong-pad_far, wrong-pad_near, wrong-tag_kind, wrong-tag_offset, wrong-out}
 use Rattle.cap_ptr.specs.Reaching.{StandsFor, HasTwoPad, LeadsTo}
 
 -- a word that says something isn't far
@@ -23,7 +23,8 @@ pub stands-near : (m : List (List ℕ)) (s w p : ℕ) → HasWord m s w p → ki
 stands-near m s w p h n = record {
   leads = λ r says. near p h n says refl;
   reserved = wrong-reserved m s w p h;
-  far = λ f. absurd (n f) }
+  far = λ f. absurd (n f);
+}
 
 -- the word of a one-word pad stands for its pointer word
 pub stands-one_pad : (m : List (List ℕ)) (s w p t b q : ℕ) → HasWord m s w p → IsOnePad p → t ≡ far_segment p → b ≡ pad p → HasWord m t b q → StandsFor m s w 1 t b q
@@ -32,7 +33,8 @@ stands-one_pad m s w p t b q h one t_is b_is hq =
     record {
       leads = λ r says. one_pad p q h one hq' (says_near t b q r says) (subst (λ y. Says (far_segment p) y q r) b_is (subst (λ x. Says x b q r) t_is says)) refl;
       reserved = wrong-pad_reserved m s w p q h one hq';
-      far = wrong-pad_far m s w p q h one hq' }
+      far = wrong-pad_far m s w p q h one hq';
+    }
 
 -- bits 0 to 2 tell a far pointer to one word
 pub one_pad-bits : (f : ℕ) → field f 0 3 ≡ 2 → IsOnePad f

@@ -1,5 +1,5 @@
 -- Which word stands for a pointer word, once its landing pads are passed (standard: Inter-Segment Pointers).
-use Rattle.std.specs.Prelude.{ℕ, ◌+◌, ◌<◌, List, pos}
+use Rattle.std.specs.Prelude.{ℕ, ◌+◌, List, pos}
 use Rattle.cap_spec.specs.Messages.{HasWord}
 use Rattle.cap_spec.specs.Pointers.{pad, far_segment, IsFar, IsReserved}
 use Rattle.cap_spec.specs.Following.{Lead, to_object, Leads, Says, IsTwoPad, Wrong}

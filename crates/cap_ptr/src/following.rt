@@ -11,13 +11,12 @@ ghost use Rattle.cap_spec.specs.declared.Reason.{Reason};
 ghost use Rattle.cap_ptr.specs.declared.shapes.Target.{Target};
 ghost use Rattle.std.specs.Prelude.{◌+◌, ◌^◌, ◌<◌, ◌≡◌, ◌≢◌, ◌≤◌, ◌+ℤ◌, ◌<ℤ◌, pos, IfErr, IfNone, IfOk, IfSome, length, ℕ};
 
-use cap_frame::Segments;
-use cap_spec::Reason;
-
-use crate::fields::{bits, signed_offset};
 use crate::forms::Pointer;
 use crate::placing::target_at;
 use crate::shapes::Followed;
+use cap_frame::Segments;
+use cap_spec::Reason;
+use cap_words::{bits, signed_offset};
 
 /// What word `w` of segment `s`, a pointer, leads to: null, a capability, or an object that lies
 /// inside its segment. Asks that the word exists. Takes no memory.
@@ -59,7 +58,13 @@ fn followed<M: Segments>(message: &M, s: u32, w: u32) -> Result<Followed, Reason
 }
 
 // What the word at t:b, which stands for a pointer word over some pads, leads to.
-fn resolved<M: Segments>(message: &M, pads: u8, t: u32, b: u32, word: u64) -> Result<Followed, Reason>
+fn resolved<M: Segments>(
+    message: &M,
+    pads: u8,
+    t: u32,
+    b: u32,
+    word: u64,
+) -> Result<Followed, Reason>
     requires exists { t < length (M.segments message.now) }
     requires pads { pads ≤ 2 }
     ensures ok { (s w : ℕ) → StandsFor (M.segments message.now) s w pads t b word → IfOk result (IsFollowed (M.segments message.now) s w) }
@@ -134,7 +139,11 @@ fn over_two_pads<M: Segments>(message: &M, word: u64) -> Result<Followed, Reason
     if pad + 2 > message.len(segment) {
         return Err(Reason::PadOutside);
     }
-    content(message, message.word(segment, pad), message.word(segment, pad + 1))
+    content(
+        message,
+        message.word(segment, pad),
+        message.word(segment, pad + 1),
+    )
 }
 
 // The content that the two words of a pad lead to: a far pointer to it, and a tag.

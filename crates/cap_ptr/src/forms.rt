@@ -4,7 +4,7 @@ ghost use Rattle.cap_spec.specs.Words.{IsWord, field, signed_offset_of};
 ghost use Rattle.cap_ptr.specs.Forms.{IsOffset};
 ghost use Rattle.std.specs.Prelude.{◌%◌, ◌<◌, ◌^◌, ◌≡◌, ℕ};
 
-use crate::fields::{bits, signed_offset};
+use cap_words::{bits, signed_offset};
 
 /// A pointer word, by its form (encoding: Structs, Lists, Inter-Segment Pointers, Capabilities).
 #[derive(Clone, Copy, Debug, PartialEq, Eq, Drop)]
@@ -82,7 +82,9 @@ impl Pointer {
             },
             _ => {
                 if bits(word, 2, 30) == 0 {
-                    Pointer::Cap { index: bits(word, 32, 32) as u32 }
+                    Pointer::Cap {
+                        index: bits(word, 32, 32) as u32,
+                    }
                 } else {
                     Pointer::Reserved { word }
                 }
@@ -99,7 +101,11 @@ impl Pointer {
     {
         match *self {
             Pointer::Null => 0,
-            Pointer::Struct { offset, data_words, pointers } => {
+            Pointer::Struct {
+                offset,
+                data_words,
+                pointers,
+            } => {
                 offset_field(offset) + (u64::from(data_words) << 32) + (u64::from(pointers) << 48)
             }
             Pointer::List { offset, code, size } => {
@@ -121,6 +127,10 @@ fn offset_field(offset: i32) -> u64
     ensures below { result < 2 ^ 32 }
     ensures value { signed_offset_of result ≡ offset }
 {
-    let bits = if offset < 0 { offset + (1 << 30) } else { offset };
+    let bits = if offset < 0 {
+        offset + (1 << 30)
+    } else {
+        offset
+    };
     (bits as u64) << 2
 }

@@ -1,7 +1,6 @@
 //! Pointer words: their six forms, and what following one leads to.
 #![tactic(auto)]
 
-mod fields;
 pub mod following;
 pub mod forms;
 mod placing;

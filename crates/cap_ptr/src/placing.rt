@@ -7,14 +7,19 @@ ghost use Rattle.cap_spec.specs.Messages.{segment_of};
 ghost use Rattle.cap_spec.specs.Pointers.{code, extent, kind, list_words};
 ghost use Rattle.std.specs.Prelude.{◌+◌, ◌<◌, ◌^◌, ◌≡◌, ◌≢◌, ◌≤◌, ◌↔◌, IfErr, IfOk, IsTrue, if◌then◌else◌, ◌==◌, length, ℕ};
 
+use crate::shapes::{Shape, Target};
 use cap_frame::Segments;
 use cap_spec::Reason;
-
-use crate::fields::bits;
-use crate::shapes::{Shape, Target};
+use cap_words::bits;
 
 /// The target of the word `word`, which tells its shape, from word `start` of a segment on.
-pub(crate) fn target_at<M: Segments>(message: &M, pads: u8, segment: u32, start: u64, word: u64) -> Result<Target, Reason>
+pub(crate) fn target_at<M: Segments>(
+    message: &M,
+    pads: u8,
+    segment: u32,
+    start: u64,
+    word: u64,
+) -> Result<Target, Reason>
     requires exists { segment < length (M.segments message.now) }
     requires object { kind word < 2 }
     requires pads { pads ≤ 2 }
@@ -31,11 +36,24 @@ pub(crate) fn target_at<M: Segments>(message: &M, pads: u8, segment: u32, start:
         return composite(message, pads, segment, start, word);
     }
     let charge = u64::from(pads) + u64::from(words) + empty_elements(word);
-    Ok(Target { segment, start, words, pads, charge, shape: plain_shape(word) })
+    Ok(Target {
+        segment,
+        start,
+        words,
+        pads,
+        charge,
+        shape: plain_shape(word),
+    })
 }
 
 // The target of the word `word` of a list of structs, whose words lie inside their segment.
-fn composite<M: Segments>(message: &M, pads: u8, segment: u32, start: u32, word: u64) -> Result<Target, Reason>
+fn composite<M: Segments>(
+    message: &M,
+    pads: u8,
+    segment: u32,
+    start: u32,
+    word: u64,
+) -> Result<Target, Reason>
     requires exists { segment < length (M.segments message.now) }
     requires composite { IsComposite word }
     requires inside { start + extent word ≤ length (segment_of (M.segments message.now) segment) }
@@ -61,7 +79,12 @@ fn composite<M: Segments>(message: &M, pads: u8, segment: u32, start: u32, word:
         words: 1 + size as u32,
         pads,
         charge,
-        shape: Shape::Structs { words: size as u32, count: count as u32, data_words: data_words as u16, pointers: pointers as u16 },
+        shape: Shape::Structs {
+            words: size as u32,
+            count: count as u32,
+            data_words: data_words as u16,
+            pointers: pointers as u16,
+        },
     })
 }
 
@@ -86,7 +109,11 @@ fn empty_elements(word: u64) -> u64
     ensures value { (kind word ≡ 1 → code word ≢ 7) → (tag : ℕ) → result ≡ extra word tag }
     ensures below { result < 2 ^ 29 }
 {
-    if bits(word, 0, 2) == 1 && bits(word, 32, 3) == 0 { bits(word, 35, 29) } else { 0 }
+    if bits(word, 0, 2) == 1 && bits(word, 32, 3) == 0 {
+        bits(word, 35, 29)
+    } else {
+        0
+    }
 }
 
 // The shape of an object that isn't a list of structs.
@@ -96,12 +123,18 @@ fn plain_shape(word: u64) -> Shape
     ensures { (tag : ℕ) → IsShape word tag result }
 {
     if bits(word, 0, 2) == 0 {
-        return Shape::Struct { data_words: bits(word, 32, 16) as u16, pointers: bits(word, 48, 16) as u16 };
+        return Shape::Struct {
+            data_words: bits(word, 32, 16) as u16,
+            pointers: bits(word, 48, 16) as u16,
+        };
     }
     let count = bits(word, 35, 29) as u32;
     match bits(word, 32, 3) {
         6 => Shape::Pointers { count },
-        code => Shape::Scalars { code: code as u8, count },
+        code => Shape::Scalars {
+            code: code as u8,
+            count,
+        },
     }
 }
 
