@@ -1,0 +1,39 @@
+use Rattle.std.proofs.Common.{◌∙◌, subst, arith}
+use Rattle.std.proofs.lemmas.Result.{IfOk-weaker}
+use Rattle.cap_frame.specs.Limit.{limit_of}
+use Rattle.cap_cmd.specs.Running.{Appended}
+use Rattle.cap_cmd.specs.Telling.{messages_of}
+use Rattle.cap_cmd.proofs.Shown.{shows, stops_showing, outcome_shown, texts_shown, length-messages_of}
+use Rattle.cap_cmd.proofs.engines.segments.run_segments.Goals as goal
+
+pub returns-clause-ok : goal.returns-clause-ok
+returns-clause-ok g c =
+    IfOk-weaker c.tell_all.result _ _
+    (λ o e. (
+      messages_of e.0,
+      e.1,
+      subst (Appended g.O.ByteOut c.args.out.now c.tell_all.new.out) (texts_shown 0 e.0 e.2) e.3,
+      rw (length-messages_of e.0) e.4,
+      outcome_shown e.0 o e.2 e.5,
+    )) c.tell_all.ensures.ok
+
+pub returns-clause-too_many : goal.returns-clause-too_many
+returns-clause-too_many g c n h =
+    let e = rw h at c.tell_all.ensures.err in (
+      e.2 ∙ e.6.0,
+      (e.1, e.6.2.0, shows g.S.WordSource g.O.ByteOut (limit_of c.args.settings.now.size) n _ _ _ _ e.0 e.2 e.4 e.5 e.6.1, e.6.2.1),
+    )
+
+pub returns-clause-frame : goal.returns-clause-frame
+returns-clause-frame g c n fault h =
+    let e = rw h at c.tell_all.ensures.err in (
+      omega (arith, e.2, e.3),
+      (e.1, shows g.S.WordSource g.O.ByteOut (limit_of c.args.settings.now.size) n _ _ _ _ e.0 e.2 e.4 e.5 e.6.0, e.6.1),
+    )
+
+pub returns-clause-output : goal.returns-clause-output
+returns-clause-output g c n fault h =
+    let e = rw h at c.tell_all.ensures.err in (
+      omega (arith, e.2, e.6.1),
+      stops_showing g.S.WordSource g.O.ByteOut (limit_of c.args.settings.now.size) n _ _ _ _ _ _ e.0 e.6.0 e.2 e.4 e.5 e.6.2 e.6.3 e.6.4,
+    )

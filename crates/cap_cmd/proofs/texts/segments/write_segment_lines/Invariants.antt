@@ -1,0 +1,9 @@
+use Rattle.std.proofs.Common.{drop}
+use Rattle.cap_spec.specs.Texts.{segment_lines}
+use Rattle.cap_cmd.proofs.Writing.{Left}
+use Rattle.cap_cmd.proofs.texts.segments.write_segment_lines.Given as goal
+
+abbrev pub invariant-loop-s : goal.invariant-loop-s
+invariant-loop-s g l =
+    Left g.O.ByteOut l.initial.out l.out
+    (segment_lines 0 (g.M.Segments.segments l.message)) (segment_lines l.s (drop l.s (g.M.Segments.segments l.message)))

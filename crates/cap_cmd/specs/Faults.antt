@@ -1,0 +1,56 @@
+-- The lines of faults on standard error, and the exit statuses.
+use Rattle.std.specs.Prelude.{ℕ, ◌==◌, ◌&&◌, if◌then◌else◌, List, [], ◌∷◌, ◌++◌, codes, Result, Ok, Err}
+use Rattle.cap_spec.specs.Texts.{then_number}
+use Rattle.cap_frame.specs.declared.fault.FrameFault.{FrameFault}
+use Rattle.cap_frame.specs.declared.fault.FrameFault.TheVariants.{TooManySegments, TooLarge, Truncated, Device, Memory, Spent}
+use Rattle.cap_cmd.specs.declared.fault.Cause.{Cause}
+use Rattle.cap_cmd.specs.declared.fault.Cause.TheVariants.{TooManyMessages, Frame, Output}
+use Rattle.cap_cmd.specs.declared.fault.RunFault.{RunFault}
+use Rattle.cap_cmd.specs.declared.settings.Outcome.{Outcome}
+
+-- what is said of a message that couldn't be read
+abbrev pub frame_fault_text : FrameFault → List ℕ
+frame_fault_text (TooManySegments count) = codes "TooManySegments" ++ then_number count
+frame_fault_text (TooLarge words) = codes "TooLarge" ++ then_number words
+frame_fault_text (Truncated byte) = codes "Truncated at byte" ++ then_number byte
+frame_fault_text Device = codes "Device"
+frame_fault_text Memory = codes "Memory"
+frame_fault_text Spent = codes "Spent"
+
+-- what is said of a message at which an engine ended
+abbrev pub cause_text : Cause → List ℕ
+cause_text TooManyMessages = codes "TooManyMessages"
+cause_text (Frame fault) = frame_fault_text fault
+cause_text (Output fault) = codes "output failed"
+
+-- a line on message n
+abbrev pub message_line : ℕ → List ℕ → List ℕ
+message_line n text = codes "capvet: message" ++ then_number n ++ codes ": " ++ text ++ 10 ∷ []
+
+-- the line of a fault
+abbrev pub fault_line : ℕ → Cause → List ℕ
+fault_line n TooManyMessages = message_line n (cause_text TooManyMessages)
+fault_line n (Frame fault) = message_line n (cause_text (Frame fault))
+fault_line n (Output fault) = codes "capvet: output failed" ++ 10 ∷ []
+
+-- the status of a message that couldn't be read
+abbrev pub frame_status : FrameFault → ℕ
+frame_status (TooManySegments count) = 1
+frame_status (TooLarge words) = 1
+frame_status (Truncated byte) = 1
+frame_status Device = 3
+frame_status Memory = 3
+frame_status Spent = 3
+
+abbrev pub cause_status : Cause → ℕ
+cause_status TooManyMessages = 1
+cause_status (Frame fault) = frame_status fault
+cause_status (Output fault) = 3
+
+-- 0 where every message was accepted, and canonical where that was asked
+abbrev pub outcome_status : Outcome → ℕ
+outcome_status o = if (o.refused == 0) && (o.noncanonical == 0) then 0 else 1
+
+abbrev pub run_status : Result Outcome RunFault → ℕ
+run_status (Ok outcome) = outcome_status outcome
+run_status (Err fault) = cause_status fault.cause

@@ -1,0 +1,30 @@
+-- What a call that writes a text says of its output before and after. g has the members of the output's type.
+use Rattle.std.specs.Prelude.{ℕ, ◌≡◌, true, List, ◌++◌, Option, Result, MatchResult}
+use Rattle.std.specs.Io.KnownBytes.{Appends}
+use Rattle.cap_words.specs.Ends.{Works, DeviceFails, GrowthFails}
+use Rattle.cap_words.specs.declared.ends.ByteOut as output
+use Rattle.cap_words.specs.declared.ends.OutFault.{OutFault}
+use Rattle.cap_words.specs.declared.ends.OutFault.TheVariants.{Device, Memory, Spent}
+
+-- a beginning of the text was written
+pub record WritesPart (before after : Option (List ℕ)) (text : List ℕ) : Type 0 where
+  pub part : List ℕ
+  pub rest : List ℕ
+  pub whole : text ≡ part ++ rest
+  pub appended : Appends before after part
+
+module _ {O : Type 0} (g : output.Ghosts O) where
+  -- the whole text was written, with no fault
+  pub record Wrote (old new : O) (text : List ℕ) : Type 0 where
+    pub appended : Appends (g.written old) (g.written new) text
+    pub works : Works (g.spent old) (g.spent new) (g.failures old) (g.failures new)
+
+  -- the output answered this fault, after a beginning of the text
+  abbrev pub Stopped : O → O → OutFault → List ℕ → Type 0
+  Stopped old new Device text = DeviceFails (g.spent old) (g.failures old) (g.failures new) × (g.spent new ≡ true) × WritesPart (g.written old) (g.written new) text
+  Stopped old new Memory text = GrowthFails (g.spent old) (g.failures old) (g.failures new) × WritesPart (g.written old) (g.written new) text
+  Stopped old new Spent text = (g.spent old ≡ true) × (new ≡ old)
+
+  -- the text was written, or a fault came after a beginning of it
+  abbrev pub Writes : {T : Type 0} → O → O → Result T OutFault → List ℕ → Type 0
+  Writes old new r text = MatchResult r (λ _. Wrote old new text) (λ fault. Stopped old new fault text)

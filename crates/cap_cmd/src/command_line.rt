@@ -1,0 +1,117 @@
+//! The command line: what the program's words ask for.
+
+use crate::job::{Job, JobFault, Task};
+use crate::limits::Limits;
+use crate::settings::Settings;
+use cap_frame::SizeLimit;
+use clap::error::ErrorKind;
+use clap::{Arg, ArgMatches, Command, Error, value_parser};
+use std::alloc::{AllocError, Global};
+
+/// The most words of a message, where no option says it.
+const DEFAULT_SIZE: u64 = 8388608;
+
+/// The most words that a walk may charge, where no option says it.
+const DEFAULT_WORDS: u64 = 8388608;
+
+/// The most levels that a walk may go down, where no option says it.
+const DEFAULT_DEPTH: u32 = 64;
+
+// The option on the size of a message.
+fn size_option<'a>(alloc: Global) -> Arg<'a> {
+    Arg::new(alloc, "size")
+        .long("size")
+        .value_name("N")
+        .help("The most words of a message, in all its segments together")
+        .value_parser(value_parser!(u64).range(0..=268435456))
+        .default_value("8388608")
+}
+
+// The file that is read.
+fn file_argument<'a>(alloc: Global) -> Arg<'a> {
+    Arg::new(alloc, "file")
+        .value_name("FILE")
+        .help("The file to read, in place of standard input")
+}
+
+// The command that shows segments.
+fn segments_command<'a>(alloc: Global) -> Result<Command<'a>, AllocError> {
+    Command::new(alloc, "segments")
+        .about("Shows the segments of each message, their sizes and the root word")
+        .arg(size_option(alloc))?
+        .arg(file_argument(alloc))
+}
+
+// The program's command, with its subcommands.
+fn capvet_command<'a>(alloc: Global) -> Result<Command<'a>, AllocError> {
+    Command::new(alloc, "capvet")
+        .about("Vets Cap'n Proto messages")
+        .subcommand_required(true)
+        .subcommand(segments_command(alloc)?)
+}
+
+// A mistake that the parser let through.
+fn usage_fault(alloc: Global, text: &str) -> JobFault {
+    match String::from_str(alloc, text) {
+        Ok(text) => JobFault::Usage { text },
+        Err(_) => JobFault::Memory,
+    }
+}
+
+// What a parse that gave no matches says to the user.
+fn parse_fault(alloc: Global, error: &Error) -> JobFault {
+    let kind = error.kind();
+    if kind == ErrorKind::OutOfMemory {
+        return JobFault::Memory;
+    }
+    match format!(in alloc; "{error}") {
+        Ok(text) => if kind == ErrorKind::DisplayHelp {
+            JobFault::Help { text }
+        } else {
+            JobFault::Usage { text }
+        },
+        Err(_) => JobFault::Memory,
+    }
+}
+
+// The job of a subcommand.
+fn job_of(alloc: Global, task: Task, options: &ArgMatches<'_>) -> Result<Job, JobFault> {
+    let words = options.get_one::<u64>("size").unwrap_or(DEFAULT_SIZE);
+    let Some(size) = SizeLimit::new(words) else {
+        return Err(usage_fault(alloc, "error: the size is past 268435456\n"));
+    };
+    let file = match options.get_str("file") {
+        Some(name) => match String::from_str(alloc, name) {
+            Ok(name) => Some(name),
+            Err(_) => return Err(JobFault::Memory),
+        },
+        None => None,
+    };
+    let settings = Settings {
+        limits: Limits::new(DEFAULT_WORDS, DEFAULT_DEPTH).unwrap(),
+        size,
+        messages: u32::MAX,
+    };
+    Ok(Job {
+        task,
+        settings,
+        file,
+    })
+}
+
+/// Reads the program's words, its name first.
+///
+/// A request for help is a `Help`, and a mistake a `Usage`, each with the text for the user.
+/// `Memory` comes only where a growth was refused.
+pub fn read_job(alloc: Global, words: Vec<String>) -> Result<Job, JobFault> {
+    let Ok(command) = capvet_command(alloc) else {
+        return Err(JobFault::Memory);
+    };
+    match command.try_get_matches_from(words.as_slice()) {
+        Ok(matches) => match matches.subcommand() {
+            Some(("segments", options)) => job_of(alloc, Task::Segments, options),
+            _ => Err(usage_fault(alloc, "error: a command is needed\n")),
+        },
+        Err(error) => Err(parse_fault(alloc, &error)),
+    }
+}

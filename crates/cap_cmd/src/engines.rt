@@ -1,0 +1,4 @@
+//! The engines: each reads the messages of a source, and writes what is asked about each of them.
+
+pub mod segments;
+pub(crate) mod stream;

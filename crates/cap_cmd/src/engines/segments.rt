@@ -1,0 +1,64 @@
+//! The engine that shows how each message is cut into segments.
+
+ghost use Rattle.cap_cmd.specs.Running.{Appended, ShowsSegments, StopsShowing};
+ghost use Rattle.cap_cmd.specs.Streams.{ReadsAll, ReadsStream};
+ghost use Rattle.cap_cmd.specs.Telling.{segments_texts};
+ghost use Rattle.cap_cmd.specs.declared.engines.stream.Mark.TheVariants.{Accepted};
+ghost use Rattle.cap_spec.specs.Texts.{segments_text};
+ghost use Rattle.cap_frame.specs.Faults.{Faults};
+ghost use Rattle.cap_frame.specs.Limit.{limit_of};
+ghost use Rattle.std.specs.Prelude.{◌<◌, ◌≡◌, ◌≤◌, [], ◌∷◌, IfOk, IsErrOf, List, length, ℕ};
+
+use crate::engines::stream::{Mark, Teller, tell_all};
+use crate::fault::{Cause, RunFault};
+use crate::settings::{Outcome, Settings};
+use crate::texts::segments::write_segments_text;
+use cap_frame::{FrameFault, Segments};
+use cap_words::{ByteOut, OutFault, WordSource};
+use std::alloc::Global;
+
+/// Tells how a message is cut into segments.
+#[derive(Clone, Copy)]
+struct SegmentsTeller;
+
+impl Teller for SegmentsTeller {
+    ghost tells = { λ _ n m text mark. (text ≡ segments_text n m) × (mark ≡ Accepted) };
+
+    fn tell<M: Segments, O: ByteOut>(
+        &self,
+        out: &mut O,
+        number: u32,
+        message: &M,
+    ) -> Result<Mark, OutFault> {
+        match write_segments_text(out, number, message) {
+            Ok(()) => Ok(Mark::Accepted),
+            Err(fault) => Err(fault),
+        }
+    }
+}
+
+/// Reads the messages of a stream to its end, and shows of each its segments, their sizes and the
+/// root word. The text of a message is written before the next is read. A fault comes behind the
+/// messages whose text is out, and tells how many they are.
+pub fn run_segments<S: WordSource, O: ByteOut>(
+    alloc: Global,
+    source: &mut S,
+    out: &mut O,
+    settings: &Settings,
+) -> Result<Outcome, RunFault>
+    // All words of the source are frames of these messages.
+    ensures ok { IfOk result (λ outcome. (ms : List (List (List ℕ))) × ReadsAll S.WordSource (limit_of settings.now.size) source.old source.new ms
+        × Appended O.ByteOut out.old out.new (segments_texts ms) × (length ms ≤ settings.now.messages)
+        × (outcome ≡ record { messages = length ms; refused = 0; noncanonical = 0 })) }
+    // In each of these the source stood at `mid` when the messages before the fault had been read.
+    ensures too_many { (n : ℕ) → IsErrOf result (record { message = n; cause = Cause.TooManyMessages }) → (n ≡ settings.now.messages)
+        × ((mid : S) × (m : List (List ℕ)) × ShowsSegments S.WordSource O.ByteOut (limit_of settings.now.size) n source.old mid out.old out.new
+        × ReadsStream S.WordSource (limit_of settings.now.size) mid source.new (m ∷ [])) }
+    ensures frame { (n : ℕ) (fault : FrameFault) → IsErrOf result (record { message = n; cause = Cause.Frame fault }) → (n ≤ settings.now.messages)
+        × ((mid : S) × ShowsSegments S.WordSource O.ByteOut (limit_of settings.now.size) n source.old mid out.old out.new
+        × Faults S.WordSource (limit_of settings.now.size) mid source.new fault) }
+    ensures output { (n : ℕ) (fault : OutFault) → IsErrOf result (record { message = n; cause = Cause.Output fault }) → (n < settings.now.messages)
+        × StopsShowing S.WordSource O.ByteOut (limit_of settings.now.size) n source.old source.new out.old out.new fault }
+{
+    tell_all(alloc, source, out, settings, &SegmentsTeller)
+}

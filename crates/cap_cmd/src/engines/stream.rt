@@ -1,0 +1,138 @@
+//! Going through the messages of a stream, and telling something about each.
+
+ghost use Rattle.cap_cmd.specs.Running.{Appended, EndStops, RunStops, StepStops};
+ghost use Rattle.cap_cmd.specs.Streams.{EndsStream, ReadsAll, ReadsStream};
+ghost use Rattle.cap_cmd.specs.Telling.{TellsEach, Told, messages_of, one_noncanonical, one_refused, outcome_of, texts_of};
+ghost use Rattle.cap_cmd.specs.Writing.{Stopped, Wrote};
+ghost use Rattle.cap_frame.specs.Limit.{limit_of};
+ghost use Rattle.std.specs.Prelude.{◌+◌, ◌-◌, ◌<◌, ◌^◌, ◌≡◌, ◌≤◌, [], ◌∷◌, IfErr, IfOk, IfSome, List, OnOk, length, ℕ};
+
+use crate::fault::{Cause, RunFault};
+use crate::settings::{Outcome, Settings};
+use cap_frame::{Segments, SizeLimit, read_message};
+use cap_words::{ByteOut, OutFault, WordSource};
+use std::alloc::Global;
+
+/// What is counted of a message.
+#[derive(Clone, Copy)]
+pub(crate) enum Mark {
+    /// It was accepted.
+    Accepted,
+    /// It was refused.
+    Refused,
+    /// It was accepted and isn't canonical.
+    NotCanonical,
+}
+
+/// What an engine writes about each message.
+pub(crate) trait Teller {
+    ghost use Rattle.cap_cmd.specs.declared.engines.stream.Mark.{Mark};
+
+    // The texts that may be written of a message by its number, each with what is counted then.
+    ghost tells: { Self → ℕ → List (List ℕ) → List ℕ → Mark → Type 0 };
+
+    /// Writes the text of a message. After a fault the output took a beginning of it.
+    fn tell<M: Segments, O: ByteOut>(
+        &self,
+        out: &mut O,
+        number: u32,
+        message: &M,
+    ) -> Result<Mark, OutFault>
+        ensures ok { IfOk result (λ mark. (text : List ℕ) × tells self.now number (M.segments message.now) text mark × Wrote O.ByteOut out.old out.new text) }
+        ensures err { IfErr result (λ fault. (text : List ℕ) × (mark : Mark) × tells self.now number (M.segments message.now) text mark × Stopped O.ByteOut out.old out.new fault text) };
+}
+
+/// Reads the next message and writes its text. `None` where the stream ends before it.
+fn tell_next<S: WordSource, O: ByteOut, T: Teller>(
+    alloc: Global,
+    source: &mut S,
+    out: &mut O,
+    limit: SizeLimit,
+    teller: &T,
+    number: u32,
+) -> Result<Option<Mark>, Cause>
+    ensures some { IfOk result (λ r. IfSome r (λ mark. (t : Told) × (t.mark ≡ mark) × T.tells teller.now number t.message t.text t.mark
+        × ReadsStream S.WordSource (limit_of limit) source.old source.new (t.message ∷ []) × Wrote O.ByteOut out.old out.new t.text)) }
+    ensures none { result ≡ Ok None → EndsStream S.WordSource source.old source.new × (out.new ≡ out.old) }
+    ensures err { IfErr result (λ cause. StepStops S.WordSource O.ByteOut (T.tells teller.now) (limit_of limit) number source.old source.new out.old out.new cause) }
+{
+    match read_message(alloc, source, limit) {
+        Ok(Some(message)) => match teller.tell(out, number, &message) {
+            Ok(mark) => Ok(Some(mark)),
+            Err(fault) => Err(Cause::Output(fault)),
+        },
+        Ok(None) => Ok(None),
+        Err(fault) => Err(Cause::Frame(fault)),
+    }
+}
+
+/// The stream has to end here: a message more is one too many.
+fn end_stream<S: WordSource>(alloc: Global, source: &mut S, limit: SizeLimit) -> Result<(), Cause>
+    ensures ok { OnOk result (EndsStream S.WordSource source.old source.new) }
+    ensures err { IfErr result (λ cause. EndStops S.WordSource (limit_of limit) source.old source.new cause) }
+{
+    match read_message(alloc, source, limit) {
+        Ok(Some(_)) => Err(Cause::TooManyMessages),
+        Ok(None) => Ok(()),
+        Err(fault) => Err(Cause::Frame(fault)),
+    }
+}
+
+/// Counts one more message.
+fn count(outcome: Outcome, mark: Mark) -> Outcome
+    requires messages { outcome.messages < 2 ^ 32 - 1 }
+    requires refused { outcome.refused ≤ outcome.messages }
+    requires noncanonical { outcome.noncanonical ≤ outcome.messages }
+    ensures { result ≡ record {
+      messages = outcome.messages + 1;
+      refused = outcome.refused + one_refused mark;
+      noncanonical = outcome.noncanonical + one_noncanonical mark;
+    } }
+{
+    let mut counted = outcome;
+    counted.messages += 1;
+    match mark {
+        Mark::Accepted => {}
+        Mark::Refused => counted.refused += 1,
+        Mark::NotCanonical => counted.noncanonical += 1,
+    }
+    counted
+}
+
+/// Reads the messages of a stream to its end, and writes the text of each before it reads the next.
+pub(crate) fn tell_all<S: WordSource, O: ByteOut, T: Teller>(
+    alloc: Global,
+    source: &mut S,
+    out: &mut O,
+    settings: &Settings,
+    teller: &T,
+) -> Result<Outcome, RunFault>
+    ensures ok { IfOk result (λ outcome. (ts : List Told) × ReadsAll S.WordSource (limit_of settings.now.size) source.old source.new (messages_of ts)
+        × TellsEach (T.tells teller.now) 0 ts × Appended O.ByteOut out.old out.new (texts_of ts) × (length ts ≤ settings.now.messages) × (outcome ≡ outcome_of ts)) }
+    ensures err { IfErr result (λ fault. (ts : List Told) × (mid : S) × (fault.message ≡ length ts) × (length ts ≤ settings.now.messages)
+        × ReadsStream S.WordSource (limit_of settings.now.size) source.old mid (messages_of ts) × TellsEach (T.tells teller.now) 0 ts
+        × RunStops S.WordSource O.ByteOut (T.tells teller.now) (limit_of settings.now.size) settings.now.messages ts mid source.new out.old out.new fault.cause) }
+{
+    let mut outcome = Outcome {
+        messages: 0,
+        refused: 0,
+        noncanonical: 0,
+    };
+    for number in 0..settings.messages {
+        match tell_next(alloc, source, out, settings.size, teller, number) {
+            Ok(Some(mark)) => outcome = count(outcome, mark),
+            Ok(None) => return Ok(outcome),
+            Err(cause) => return Err(RunFault {
+                message: number,
+                cause,
+            }),
+        }
+    }
+    match end_stream(alloc, source, settings.size) {
+        Ok(()) => Ok(outcome),
+        Err(cause) => Err(RunFault {
+            message: settings.messages,
+            cause,
+        }),
+    }
+}

@@ -1,0 +1,6 @@
+//! The lines that the program writes.
+
+pub(crate) mod faults;
+pub(crate) mod line;
+pub(crate) mod output;
+pub(crate) mod segments;

@@ -1,0 +1,67 @@
+//! The lines of faults.
+
+ghost use Rattle.arrayvec.specs.ArrayVec.{array_vec_len};
+ghost use Rattle.cap_cmd.specs.Faults.{cause_text, fault_line, frame_fault_text};
+ghost use Rattle.cap_spec.specs.Texts.{then_number};
+ghost use Rattle.std.specs.Prelude.{◌+◌, ◌++◌, ◌≡◌, ◌≤◌, ◌∷◌, [], codes, decimal, length};
+
+use crate::fault::{Cause, RunFault};
+use crate::texts::line::{LINE, push_number, push_text};
+use arrayvec::ArrayVec;
+use cap_frame::FrameFault;
+
+/// Appends what is said of a message that couldn't be read.
+fn push_frame_fault(line: &mut ArrayVec<u8, LINE>, fault: FrameFault)
+    requires { array_vec_len line.old + 40 ≤ 128 }
+    ensures items { line.new.items ≡ line.old.items ++ frame_fault_text fault }
+    ensures few { array_vec_len line.new ≤ array_vec_len line.old + 40 }
+{
+    match fault {
+        FrameFault::TooManySegments { count } => push_named(line, b"TooManySegments ", count),
+        FrameFault::TooLarge { words } => push_named(line, b"TooLarge ", words),
+        FrameFault::Truncated { byte } => push_named(line, b"Truncated at byte ", byte),
+        FrameFault::Device => push_text(line, b"Device"),
+        FrameFault::Memory => push_text(line, b"Memory"),
+        FrameFault::Spent => push_text(line, b"Spent"),
+    }
+}
+
+/// Appends what is said of a message at which an engine ended.
+fn push_cause(line: &mut ArrayVec<u8, LINE>, cause: Cause)
+    requires { array_vec_len line.old + 40 ≤ 128 }
+    ensures items { line.new.items ≡ line.old.items ++ cause_text cause }
+    ensures few { array_vec_len line.new ≤ array_vec_len line.old + 40 }
+{
+    match cause {
+        Cause::TooManyMessages => push_text(line, b"TooManyMessages"),
+        Cause::Frame(fault) => push_frame_fault(line, fault),
+        Cause::Output(_) => push_text(line, b"output failed"),
+    }
+}
+
+/// Appends a name that has a number.
+fn push_named(line: &mut ArrayVec<u8, LINE>, name: &[u8], number: u64)
+    requires room { array_vec_len line.old + length name.now + 20 ≤ 128 }
+    ensures items { line.new.items ≡ line.old.items ++ (name.now ++ decimal number) }
+    ensures few { array_vec_len line.new ≤ array_vec_len line.old + length name.now + 20 }
+{
+    push_text(line, name);
+    push_number(line, number);
+}
+
+/// The line of a fault of message `number`.
+pub(crate) fn fault_text(fault: &RunFault) -> ArrayVec<u8, LINE>
+    ensures { result.items ≡ fault_line fault.now.message fault.now.cause }
+{
+    let mut line = ArrayVec::new();
+    if let Cause::Output(_) = fault.cause {
+        push_text(&mut line, b"capvet: output failed\n");
+        return line;
+    }
+    push_text(&mut line, b"capvet: message ");
+    push_number(&mut line, u64::from(fault.message));
+    push_text(&mut line, b": ");
+    push_cause(&mut line, fault.cause);
+    push_text(&mut line, b"\n");
+    line
+}

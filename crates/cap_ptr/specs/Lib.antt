@@ -1,3 +1,0 @@
-pub mod Forms
-pub mod Shapes
-pub mod Reaching
