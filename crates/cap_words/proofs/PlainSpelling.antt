@@ -40,13 +40,14 @@ part_consumed (Some x) (Some y) bytes at some few p end =
     let all : x ≡ bytes = p ∙ ap (λ l. bytes ++ l) end ∙ append-nil bytes in
     (ap (λ l. Some (plain_words l)) all ∙ ap Some part.words, ap plain_is_cut all ∙ part.is_cut, ap (plain_ends at) all ∙ part.ends)
 
--- the same of a source that is open, and of its buffer
+-- the first word, taken by a source that is open
 pub word_taken : (phase : Phase) (a b : Option (List ℕ)) (bytes : List ℕ) (n word : ℕ) → phase ≡ Open → n ≡ 8 → length bytes ≡ 8 → word ≡ little_number 8 bytes
     → Consumes a b (take n bytes) → Consumes (option_map plain_words (bytes_left phase a)) (option_map plain_words (bytes_left phase b)) (word ∷ [])
 word_taken phase a b bytes n word is_open eight long value p =
     let whole : take n bytes ≡ bytes = take_all n bytes (omega arith) in
     rw (is_open, value) (word_consumed a b bytes long (subst (Consumes a b) whole p))
 
+-- the place behind it, and whether the input is cut
 pub place_taken : (phase : Phase) (a b : Option (List ℕ)) (bytes : List ℕ) (n at next : ℕ) → phase ≡ Open → n ≡ 8 → length bytes ≡ 8 → next ≡ capped (at + n)
     → Consumes a b (take n bytes) → OnSome (option_map plain_words (bytes_left phase a)) ((plain_is_cut (unwrap_or (bytes_left phase b) []) ≡ plain_is_cut (unwrap_or (bytes_left phase a) []))
     × (plain_ends at (unwrap_or (bytes_left phase a) []) ≡ next ∷ plain_ends next (unwrap_or (bytes_left phase b) [])))
@@ -55,6 +56,7 @@ place_taken phase a b bytes n at next is_open eight long value p =
     let moved : next ≡ capped (at + 8) = value ∙ ap (λ m. capped (at + m)) eight in
     rw (is_open, moved) (place_consumed a b bytes at long (subst (Consumes a b) whole p))
 
+-- a part of a word, taken by a source that is open
 pub part_taken : (phase : Phase) (a b : Option (List ℕ)) (bytes : List ℕ) (n at next : ℕ) → phase ≡ Open → 0 < n → n < 8 → length bytes ≡ 8 → next ≡ capped (at + n)
     → Consumes a b (take n bytes) → IsAtEnd b → OnSome (option_map plain_words (bytes_left phase a)) ((option_map plain_words (bytes_left phase a) ≡ Some [])
     × (plain_is_cut (unwrap_or (bytes_left phase a) []) ≡ true) × (plain_ends at (unwrap_or (bytes_left phase a) []) ≡ next ∷ []))

@@ -4,17 +4,19 @@ use Rattle.std.specs.Option.{option_map}
 use Rattle.cap_words.specs.declared.plain_words.Phase.{Phase}
 use Rattle.cap_words.specs.declared.plain_words.Phase.TheVariants.{Open, Ended, Failed}
 
+-- it has answered that there are no more words
 abbrev pub has_ended : Phase → Bool
 has_ended Open = false
 has_ended Ended = true
 has_ended Failed = false
 
+-- it has answered a fault
 abbrev pub has_failed : Phase → Bool
 has_failed Open = false
 has_failed Ended = false
 has_failed Failed = true
 
--- by its own phase and whether its input is spent
+-- it can't be used on, by its own phase and whether its input is spent
 abbrev pub source_spent : Phase → Bool → Bool
 source_spent Open input = input
 source_spent Ended input = false

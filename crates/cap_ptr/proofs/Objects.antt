@@ -1,0 +1,57 @@
+-- What the words of an object tell of its place and its charge.
+use Rattle.std.proofs.Common.{◌≡◌, ℕ, ◌+◌, ◌*◌, ◌^◌, ◌<◌, ◌≤◌, inr, List, length, pos, if◌then◌else◌, ◌==◌, refl, sym, ◌∙◌, arith}
+use Rattle.std.proofs.lemmas.Int.{ints}
+use Rattle.cap_spec.specs.Words.{field}
+use Rattle.cap_spec.specs.Messages.{HasWord, segment_of}
+use Rattle.cap_spec.specs.Pointers.{middle, data_size, pointer_size, list_size, extent}
+use Rattle.cap_spec.specs.Following.{IsComposite, extra, Wrong}
+use Rattle.cap_spec.specs.declared.Reason.TheVariants.{OutOfSegment}
+use Rattle.cap_spec.proofs.Following.{wrong-out}
+use Rattle.cap_ptr.specs.Reaching.{LeadsTo}
+use Rattle.cap_ptr.specs.Shapes.{IsShape, FindsObject}
+use Rattle.cap_ptr.specs.declared.shapes.Shape.{Shape}
+use Rattle.cap_ptr.specs.declared.shapes.Shape.TheVariants.{Structs}
+
+extent-composite : (q : ℕ) → IsComposite q → extent q ≡ 1 + list_size q
+extent-composite q (k, c) = rw (k, c) refl
+
+extra-composite : (q tag : ℕ) → IsComposite q → extra q tag ≡ (if (data_size tag + pointer_size tag) == 0 then middle tag else 0)
+extra-composite q tag (k, c) = rw (k, c) refl
+
+module _ (m : List (List ℕ)) (s w k t b q : ℕ) (leads : LeadsTo m s w k t b q) (there : t < length m) where
+  -- an object that goes past its segment's end is outside
+  pub wrong-past : length (segment_of m t) < b + extent q → Wrong m s w OutOfSegment
+  wrong-past h = wrong-out m s w k t (pos b) q leads (there, inr (omega (arith, ints)))
+
+  -- a list of structs whose elements lie inside it is found
+  pub found-structs : (tag size count d p none n c : ℕ) → k ≤ 2 → b + extent q ≤ length (segment_of m t) → IsComposite q → HasWord m t b tag
+      → size ≡ field q 35 29 → field tag 0 2 ≡ 0 → count ≡ field tag 2 30 → d ≡ field tag 32 16 → p ≡ field tag 48 16 → count * (d + p) ≤ size
+      → none ≡ (if (d + p) == 0 then count else 0) → none ≤ count → n ≡ 1 + size → c ≡ k + 1 + size + none
+      → FindsObject m s w k t b q tag n c (Structs size count d p)
+  found-structs tag size count d p none n c few inside composite has size_is struct count_is d_is p_is fits none_is at_most n_is c_is =
+      let fits' : middle tag * (data_size tag + pointer_size tag) ≤ list_size q = rw (← size_is, ← count_is, ← d_is, ← p_is) fits in
+      let e = extent-composite q composite in
+      let x : extra q tag ≡ none = extra-composite q tag composite ∙ rw (← count_is, ← d_is, ← p_is) (sym none_is) in
+      record {
+        finds = record { leads = leads; sits = record { exists = there; inside = inside; composite = λ y. (tag, has, (struct, fits')) } };
+        object = record {
+          tagged = λ y. (has, (struct, fits'));
+          words = omega arith;
+          charge = omega arith;
+          small = omega arith;
+          shape = record { kind = composite.0; code = composite.1; words = size_is; count = count_is; data_words = d_is; pointers = p_is };
+        };
+      }
+
+  -- another object that lies inside its segment is found
+  pub found-plain : (none n c : ℕ) (x : Shape) → k ≤ 2 → ¬ IsComposite q → n ≡ extent q → n ≤ 2 ^ 29 → b + n ≤ length (segment_of m t)
+      → none ≡ extra q 0 → none < 2 ^ 29 → c ≡ k + n + none → IsShape q 0 x → FindsObject m s w k t b q 0 n c x
+  found-plain none n c x few plain n_is below inside none_is few_none c_is shape = record {
+    finds = record { leads = leads; sits = record { exists = there; inside = omega arith; composite = λ y. absurd (plain y) } };
+    object = record { tagged = λ y. absurd (plain y); words = n_is; charge = omega arith; small = omega arith; shape = shape };
+  }
+
+-- a list of structs whose elements are more than its words overruns them
+pub overruns : (q tag size count d p : ℕ) → size ≡ field q 35 29 → count ≡ field tag 2 30 → d ≡ field tag 32 16 → p ≡ field tag 48 16 → size < count * (d + p)
+    → list_size q < middle tag * (data_size tag + pointer_size tag)
+overruns q tag size count d p size_is count_is d_is p_is h = rw (← size_is, ← count_is, ← d_is, ← p_is) h

@@ -1,0 +1,65 @@
+-- Which word stands for a pointer word over its pads, and what a two-word pad leads to.
+use Rattle.std.proofs.Common.{◌≡◌, ◌≢◌, ℕ, ◌+◌, ◌<◌, ◌≤◌, List, length, pos, ℤ, ◌+ℤ◌, ◌<ℤ◌, inl, refl, subst, arith}
+use Rattle.cap_spec.specs.Words.{field, signed_offset_of}
+use Rattle.cap_spec.specs.Messages.{HasWord}
+use Rattle.cap_spec.specs.Pointers.{kind, middle, pad, far_segment}
+use Rattle.cap_spec.specs.Following.{Lead, to_null, to_cap, to_object, Says, IsOnePad, Leads, near, one_pad, two_pads, Wrong}
+use Rattle.cap_spec.specs.declared.Reason.TheVariants.{PadNotFar, TagKind, TagOffset, OutOfSegment}
+use Rattle.cap_spec.proofs.Following.{wrong-reserved, wrong-pad_reserved, wrong-pad_far, wrong-pad_near, wrong-tag_kind, wrong-tag_offset, wrong-out}
+use Rattle.cap_ptr.specs.Reaching.{StandsFor, HasTwoPad, LeadsTo}
+
+-- a word that says something isn't far
+says_near : (t b q : ℕ) (r : Lead) → Says t b q r → kind q ≢ 2
+says_near t b q to_null h f = absurd (omega arith)
+says_near t b q (to_cap i) h f =
+    let k : kind q ≡ 3 = h.0.0 in
+    absurd (omega arith)
+says_near t b q (to_object u x y) h f =
+    let k : kind q < 2 = h.0 in
+    absurd (omega arith)
+
+-- a word that isn't far stands for itself
+pub stands-near : (m : List (List ℕ)) (s w p : ℕ) → HasWord m s w p → kind p ≢ 2 → StandsFor m s w 0 s w p
+stands-near m s w p h n = record {
+  leads = λ r says. near p h n says refl;
+  reserved = wrong-reserved m s w p h;
+  far = λ f. absurd (n f);
+}
+
+-- the word of a one-word pad stands for its pointer word
+pub stands-one_pad : (m : List (List ℕ)) (s w p t b q : ℕ) → HasWord m s w p → IsOnePad p → t ≡ far_segment p → b ≡ pad p → HasWord m t b q → StandsFor m s w 1 t b q
+stands-one_pad m s w p t b q h one t_is b_is hq =
+    let hq' : HasWord m (far_segment p) (pad p) q = subst (λ y. HasWord m (far_segment p) y q) b_is (subst (λ x. HasWord m x b q) t_is hq) in
+    record {
+      leads = λ r says. one_pad p q h one hq' (says_near t b q r says) (subst (λ y. Says (far_segment p) y q r) b_is (subst (λ x. Says x b q r) t_is says)) refl;
+      reserved = wrong-pad_reserved m s w p q h one hq';
+      far = wrong-pad_far m s w p q h one hq';
+    }
+
+-- bits 0 to 2 tell a far pointer to one word
+pub one_pad-bits : (f : ℕ) → field f 0 3 ≡ 2 → IsOnePad f
+one_pad-bits f e = (omega arith, omega arith)
+
+pub bits-one_pad : (f : ℕ) → IsOnePad f → field f 0 3 ≡ 2
+bits-one_pad f (k, t) = omega arith
+
+module _ (m : List (List ℕ)) (s w p f q : ℕ) (h : HasTwoPad m s w p f q) where
+  pub content-not_far : field f 0 3 ≢ 2 → Wrong m s w PadNotFar
+  content-not_far n = wrong-pad_near m s w p f q h.word h.both h.first h.second (λ one. n (bits-one_pad f one))
+
+  pub content-tag_kind : field f 0 3 ≡ 2 → far_segment f < length m → 2 ≤ kind q → Wrong m s w TagKind
+  content-tag_kind e there k = wrong-tag_kind m s w p f q h.word h.both h.first h.second (one_pad-bits f e) there k
+
+  pub content-tag_offset : field f 0 3 ≡ 2 → far_segment f < length m → kind q < 2 → middle q ≢ 0 → Wrong m s w TagOffset
+  content-tag_offset e there k n = wrong-tag_offset m s w p f q h.word h.both h.first h.second (one_pad-bits f e) there k n
+
+  pub content-lead : (t b : ℕ) → t ≡ far_segment f → b ≡ pad f → field f 0 3 ≡ 2 → kind q < 2 → middle q ≡ 0 → LeadsTo m s w 2 t b q
+  content-lead t b t_is b_is e k z = two_pads p f q h.word h.both h.first h.second (one_pad-bits f e) (k, z) (cc) refl
+
+-- the word of an object leads there
+pub object-lead : (m : List (List ℕ)) (s w k t b q : ℕ) (start : ℤ) → StandsFor m s w k t b q → kind q < 2 → q ≢ 0 → start ≡ pos (b + 1) +ℤ signed_offset_of q → Leads m s w k (to_object t start q)
+object-lead m s w k t b q start stands kind_below some e = stands.leads (to_object t start q) (kind_below, some, refl, e, refl)
+
+-- an object that starts before its segment is outside
+pub wrong-before : (m : List (List ℕ)) (s w k t : ℕ) (start : ℤ) (q : ℕ) → Leads m s w k (to_object t start q) → t < length m → start <ℤ pos 0 → Wrong m s w OutOfSegment
+wrong-before m s w k t start q leads there before = wrong-out m s w k t start q leads (there, inl before)

@@ -1,0 +1,13 @@
+use Rattle.std.proofs.Common.{◌∙◌}
+use Rattle.cap_ptr.proofs.Pads.{stands-near}
+use Rattle.cap_ptr.proofs.following.followed.Goals as goal
+
+pub returns-then-bits-ne2-clause-ok : goal.returns-then-bits-ne2-clause-ok
+returns-then-bits-ne2-clause-ok g c =
+    c.resolved.ensures.ok c.args.s c.args.w
+    (stands-near (g.M.Segments.segments c.args.message.now) c.args.s c.args.w c.word-word.result c.word-word.ensures (λ e. c.if-bits-ne2.true (c.bits.ensures ∙ e)))
+
+pub returns-then-bits-ne2-clause-err : goal.returns-then-bits-ne2-clause-err
+returns-then-bits-ne2-clause-err g c =
+    c.resolved.ensures.err c.args.s c.args.w
+    (stands-near (g.M.Segments.segments c.args.message.now) c.args.s c.args.w c.word-word.result c.word-word.ensures (λ e. c.if-bits-ne2.true (c.bits.ensures ∙ e)))

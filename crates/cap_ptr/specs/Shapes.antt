@@ -1,0 +1,78 @@
+-- What the answer of a following says of a pointer word (standard: Structs, Lists; the charge is the profile's).
+use Rattle.std.specs.Prelude.{ℕ, ◌+◌, ◌^◌, ◌<◌, ◌≡◌, List, Result, Ok}
+use Rattle.cap_spec.specs.Messages.{HasWord}
+use Rattle.cap_spec.specs.Pointers.{kind, middle, code, data_size, pointer_size, list_size, extent}
+use Rattle.cap_spec.specs.Following.{Leads, to_null, to_cap, IsComposite, TagFits, extra}
+use Rattle.cap_spec.specs.Denoting.{Finds}
+use Rattle.cap_spec.specs.declared.Reason.{Reason}
+use Rattle.cap_ptr.specs.declared.shapes.Shape.{Shape}
+use Rattle.cap_ptr.specs.declared.shapes.Shape.TheVariants.{Struct, Scalars, Pointers, Structs}
+use Rattle.cap_ptr.specs.declared.shapes.Target.{Target}
+use Rattle.cap_ptr.specs.declared.shapes.Followed.{Followed}
+use Rattle.cap_ptr.specs.declared.shapes.Followed.TheVariants as followed
+
+-- the word q tells a struct of d data words and n pointers
+pub record IsStructShape (q d n : ℕ) : Type 0 where
+  pub kind : kind q ≡ 0
+  pub data_words : d ≡ data_size q
+  pub pointers : n ≡ pointer_size q
+
+-- a list of n values of code c that aren't pointers
+pub record IsScalarsShape (q c n : ℕ) : Type 0 where
+  pub kind : kind q ≡ 1
+  pub code : c ≡ code q
+  pub scalar : c < 6
+  pub count : n ≡ list_size q
+
+-- a list of n pointers
+pub record IsPointersShape (q n : ℕ) : Type 0 where
+  pub kind : kind q ≡ 1
+  pub code : code q ≡ 6
+  pub count : n ≡ list_size q
+
+-- a list of n structs of d data words and p pointers, as its tag word tells, in size words
+pub record IsStructsShape (q tag size n d p : ℕ) : Type 0 where
+  pub kind : kind q ≡ 1
+  pub code : code q ≡ 7
+  pub words : size ≡ list_size q
+  pub count : n ≡ middle tag
+  pub data_words : d ≡ data_size tag
+  pub pointers : p ≡ pointer_size tag
+
+-- the shape that the word q tells, for a list of structs with its tag word
+abbrev pub IsShape : ℕ → ℕ → Shape → Type 0
+IsShape q tag (Struct d p) = IsStructShape q d p
+IsShape q tag (Scalars c n) = IsScalarsShape q c n
+IsShape q tag (Pointers n) = IsPointersShape q n
+IsShape q tag (Structs size n d p) = IsStructsShape q tag size n d p
+
+-- The object of the word q at t:b, with this tag word if it is a list of structs, has n words, charge c over k pads, and shape x.
+pub record IsObject (m : List (List ℕ)) (k t b q tag n c : ℕ) (x : Shape) : Type 0 where
+  pub tagged : IsComposite q → HasWord m t b tag × TagFits tag (list_size q)
+  pub words : n ≡ extent q
+  pub charge : c ≡ k + extent q + extra q tag
+  pub small : c < 2 ^ 31
+  pub shape : IsShape q tag x
+
+-- The pointer word at s:w leads to this object, which sits.
+pub record FindsObject (m : List (List ℕ)) (s w k t b q tag n c : ℕ) (x : Shape) : Type 0 where
+  pub finds : Finds m s w k t b q
+  pub object : IsObject m k t b q tag n c x
+
+-- the pointer word at s:w leads to this target
+abbrev pub FindsTarget : List (List ℕ) → ℕ → ℕ → Target → Type 0
+FindsTarget m s w x = (q tag : ℕ) × FindsObject m s w x.pads x.segment x.start q tag x.words x.charge x.shape
+
+-- what the pointer word at s:w leads to
+abbrev pub IsFollowed : List (List ℕ) → ℕ → ℕ → Followed → Type 0
+IsFollowed m s w (followed.Null k) = Leads m s w k to_null
+IsFollowed m s w (followed.Cap k i) = Leads m s w k (to_cap i)
+IsFollowed m s w (followed.Target x) = FindsTarget m s w x
+
+-- The answer is the object of the word q at t:b, over k pads.
+pub record AnswersObject (m : List (List ℕ)) (k t b q : ℕ) (answer : Result Followed Reason) (x : Target) (tag : ℕ) : Type 0 where
+  pub ok : answer ≡ Ok (followed.Target x)
+  pub pads : x.pads ≡ k
+  pub segment : x.segment ≡ t
+  pub start : x.start ≡ b
+  pub object : IsObject m k t b q tag x.words x.charge x.shape

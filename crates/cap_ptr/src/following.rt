@@ -1,0 +1,171 @@
+//! Following a pointer word, through its landing pads.
+
+ghost use Rattle.cap_ptr.specs.Reaching.{HasTwoPad, StandsFor};
+ghost use Rattle.cap_ptr.specs.Shapes.{AnswersObject, IsFollowed};
+ghost use Rattle.cap_spec.specs.Denoting.{Finds};
+ghost use Rattle.cap_spec.specs.Following.{IsOnePad, IsTwoPad, Leads, Wrong, to_cap, to_null};
+ghost use Rattle.cap_spec.specs.Messages.{HasWord, segment_of};
+ghost use Rattle.cap_spec.specs.Pointers.{kind};
+ghost use Rattle.cap_spec.specs.Words.{signed_offset_of};
+ghost use Rattle.cap_spec.specs.declared.Reason.{Reason};
+ghost use Rattle.cap_ptr.specs.declared.shapes.Target.{Target};
+ghost use Rattle.std.specs.Prelude.{◌+◌, ◌^◌, ◌<◌, ◌≡◌, ◌≢◌, ◌≤◌, ◌+ℤ◌, ◌<ℤ◌, pos, IfErr, IfNone, IfOk, IfSome, length, ℕ};
+
+use crate::forms::Pointer;
+use crate::placing::target_at;
+use crate::shapes::Followed;
+use cap_frame::Segments;
+use cap_spec::Reason;
+use cap_words::{bits, signed_offset};
+
+/// What word `w` of segment `s`, a pointer, leads to: null, a capability, or an object that lies
+/// inside its segment. Asks that the word exists. Takes no memory.
+///
+/// A far pointer leads through a landing pad of one or two words, which may stand in any segment
+/// (encoding: Inter-Segment Pointers). The error is the first reason, in the order of `Reason`,
+/// whose condition holds.
+pub fn follow<M: Segments>(message: &M, s: u32, w: u32) -> Result<Followed, Reason>
+    requires exists { s < length (M.segments message.now) }
+    requires inside { w < length (segment_of (M.segments message.now) s) }
+    ensures ok { IfOk result (IsFollowed (M.segments message.now) s w) }
+    ensures err { IfErr result (Wrong (M.segments message.now) s w) }
+
+    // The other direction: what is so of the word tells the answer.
+    ensures wrong { (v : Reason) → Wrong (M.segments message.now) s w v → result ≡ Err v }
+    ensures null { (k : ℕ) → Leads (M.segments message.now) s w k to_null → result ≡ Ok (Followed.Null k) }
+    ensures cap { (k i : ℕ) → Leads (M.segments message.now) s w k (to_cap i) → result ≡ Ok (Followed.Cap k i) }
+    ensures object { (k t b q : ℕ) → Finds (M.segments message.now) s w k t b q →
+        (x : Target) × (tag : ℕ) × AnswersObject (M.segments message.now) k t b q result x tag }
+{
+    followed(message, s, w)
+}
+
+// What a pointer word leads to.
+fn followed<M: Segments>(message: &M, s: u32, w: u32) -> Result<Followed, Reason>
+    requires exists { s < length (M.segments message.now) }
+    requires inside { w < length (segment_of (M.segments message.now) s) }
+    ensures ok { IfOk result (IsFollowed (M.segments message.now) s w) }
+    ensures err { IfErr result (Wrong (M.segments message.now) s w) }
+{
+    let word = message.word(s, w);
+    if bits(word, 0, 2) != 2 {
+        return resolved(message, 0, s, w, word);
+    }
+    if bits(word, 2, 1) == 0 {
+        return over_one_pad(message, word);
+    }
+    over_two_pads(message, word)
+}
+
+// What the word at t:b, which stands for a pointer word over some pads, leads to.
+fn resolved<M: Segments>(
+    message: &M,
+    pads: u8,
+    t: u32,
+    b: u32,
+    word: u64,
+) -> Result<Followed, Reason>
+    requires exists { t < length (M.segments message.now) }
+    requires pads { pads ≤ 2 }
+    ensures ok { (s w : ℕ) → StandsFor (M.segments message.now) s w pads t b word → IfOk result (IsFollowed (M.segments message.now) s w) }
+    ensures err { (s w : ℕ) → StandsFor (M.segments message.now) s w pads t b word → IfErr result (Wrong (M.segments message.now) s w) }
+{
+    match Pointer::of(word) {
+        Pointer::Null => Ok(Followed::Null { pads }),
+        Pointer::Cap { index } => Ok(Followed::Cap { pads, index }),
+        Pointer::Reserved { .. } => Err(Reason::Reserved),
+        Pointer::Far { .. } => Err(Reason::PadIsFar),
+        Pointer::Struct { .. } => object(message, pads, t, b, word),
+        Pointer::List { .. } => object(message, pads, t, b, word),
+    }
+}
+
+// The object of the struct or list pointer at t:b, which stands for a pointer word over some pads.
+fn object<M: Segments>(message: &M, pads: u8, t: u32, b: u32, word: u64) -> Result<Followed, Reason>
+    requires exists { t < length (M.segments message.now) }
+    requires pads { pads ≤ 2 }
+    requires object { kind word < 2 }
+    requires not_null { word ≢ 0 }
+    ensures ok { (s w : ℕ) → StandsFor (M.segments message.now) s w pads t b word → IfOk result (IsFollowed (M.segments message.now) s w) }
+    ensures err { (s w : ℕ) → StandsFor (M.segments message.now) s w pads t b word → IfErr result (Wrong (M.segments message.now) s w) }
+{
+    let Some(start) = start_of(b, word) else {
+        return Err(Reason::OutOfSegment);
+    };
+    match target_at(message, pads, t, start, word) {
+        Ok(target) => Ok(Followed::Target(target)),
+        Err(reason) => Err(reason),
+    }
+}
+
+// The word that the object of a struct or list pointer at word b starts at, if it isn't negative.
+fn start_of(b: u32, word: u64) -> Option<u64>
+    ensures some { IfSome result (λ start. pos start ≡ pos (b + 1) +ℤ signed_offset_of word) }
+    ensures near { IfSome result (λ start. start < 2 ^ 33) }
+    ensures none { IfNone result ((pos (b + 1) +ℤ signed_offset_of word) <ℤ pos 0) }
+{
+    let start = i64::from(b) + 1 + signed_offset(word);
+    if start < 0 { None } else { Some(start as u64) }
+}
+
+// What a far pointer with a one-word pad leads to.
+fn over_one_pad<M: Segments>(message: &M, word: u64) -> Result<Followed, Reason>
+    requires { IsOnePad word }
+    ensures ok { (s w : ℕ) → HasWord (M.segments message.now) s w word → IfOk result (IsFollowed (M.segments message.now) s w) }
+    ensures err { (s w : ℕ) → HasWord (M.segments message.now) s w word → IfErr result (Wrong (M.segments message.now) s w) }
+{
+    let segment = bits(word, 32, 32) as u32;
+    let pad = bits(word, 3, 29) as u32;
+    if segment >= message.count() {
+        return Err(Reason::SegmentMissing);
+    }
+    if pad + 1 > message.len(segment) {
+        return Err(Reason::PadOutside);
+    }
+    resolved(message, 1, segment, pad, message.word(segment, pad))
+}
+
+// What a far pointer with a two-word pad leads to.
+fn over_two_pads<M: Segments>(message: &M, word: u64) -> Result<Followed, Reason>
+    requires { IsTwoPad word }
+    ensures ok { (s w : ℕ) → HasWord (M.segments message.now) s w word → IfOk result (IsFollowed (M.segments message.now) s w) }
+    ensures err { (s w : ℕ) → HasWord (M.segments message.now) s w word → IfErr result (Wrong (M.segments message.now) s w) }
+{
+    let segment = bits(word, 32, 32) as u32;
+    let pad = bits(word, 3, 29) as u32;
+    if segment >= message.count() {
+        return Err(Reason::SegmentMissing);
+    }
+    if pad + 2 > message.len(segment) {
+        return Err(Reason::PadOutside);
+    }
+    content(
+        message,
+        message.word(segment, pad),
+        message.word(segment, pad + 1),
+    )
+}
+
+// The content that the two words of a pad lead to: a far pointer to it, and a tag.
+fn content<M: Segments>(message: &M, far: u64, tag: u64) -> Result<Followed, Reason>
+    ensures ok { (s w p : ℕ) → HasTwoPad (M.segments message.now) s w p far tag → IfOk result (IsFollowed (M.segments message.now) s w) }
+    ensures err { (s w p : ℕ) → HasTwoPad (M.segments message.now) s w p far tag → IfErr result (Wrong (M.segments message.now) s w) }
+{
+    if bits(far, 0, 3) != 2 {
+        return Err(Reason::PadNotFar);
+    }
+    let segment = bits(far, 32, 32) as u32;
+    if segment >= message.count() {
+        return Err(Reason::SegmentMissing);
+    }
+    if bits(tag, 0, 2) > 1 {
+        return Err(Reason::TagKind);
+    }
+    if bits(tag, 2, 30) != 0 {
+        return Err(Reason::TagOffset);
+    }
+    match target_at(message, 2, segment, bits(far, 3, 29), tag) {
+        Ok(target) => Ok(Followed::Target(target)),
+        Err(reason) => Err(reason),
+    }
+}

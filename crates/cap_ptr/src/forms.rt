@@ -1,0 +1,136 @@
+//! The six forms of a pointer word.
+
+ghost use Rattle.cap_spec.specs.Words.{IsWord, field, signed_offset_of};
+ghost use Rattle.cap_ptr.specs.Forms.{IsOffset};
+ghost use Rattle.std.specs.Prelude.{◌%◌, ◌<◌, ◌^◌, ◌≡◌, ℕ};
+
+use cap_words::{bits, signed_offset};
+
+/// A pointer word, by its form (encoding: Structs, Lists, Inter-Segment Pointers, Capabilities).
+#[derive(Clone, Copy, Debug, PartialEq, Eq, Drop)]
+pub enum Pointer {
+    /// The word of all zeros.
+    Null,
+    /// A struct, which starts `offset` words behind the pointer's end.
+    Struct {
+        /// In words, from -536870912 to 536870911.
+        offset: i32,
+        /// How many words its data section has.
+        data_words: u16,
+        /// How many pointers its pointer section has.
+        pointers: u16,
+    },
+    /// A list, which starts `offset` words behind the pointer's end.
+    List {
+        /// In words, from -536870912 to 536870911.
+        offset: i32,
+        /// What its elements are, from 0 to 7.
+        code: u8,
+        /// At most 536870911: for code 7 the list's words without its tag, else its elements.
+        size: u32,
+    },
+    /// A landing pad, which lies `pad` words behind the start of segment `segment`.
+    Far {
+        /// The pad has two words, not one.
+        two: bool,
+        /// In words, at most 536870911.
+        pad: u32,
+        /// Counted from 0.
+        segment: u32,
+    },
+    /// A capability.
+    Cap {
+        /// Its place in the capability table.
+        index: u32,
+    },
+    /// A word of a kind that has no meaning yet.
+    Reserved {
+        /// The whole word.
+        word: u64,
+    },
+}
+
+impl Pointer {
+    ghost use Rattle.cap_ptr.specs.Forms.{HasForm, IsPointer, pointer_of};
+
+    /// The form of a word. Each word has exactly one, and `word` gives the word back.
+    pub fn of(word: u64) -> Pointer
+        ensures value { result ≡ pointer_of word }
+        ensures form { HasForm word result }
+        ensures one_form { (other : Pointer) → HasForm word other → other ≡ result }
+        ensures fields { IsPointer result }
+        ensures inverse { (other : ℕ) → IsWord other → pointer_of other ≡ result → other ≡ word }
+    {
+        if word == 0 {
+            return Pointer::Null;
+        }
+        match bits(word, 0, 2) {
+            0 => Pointer::Struct {
+                offset: signed_offset(word) as i32,
+                data_words: bits(word, 32, 16) as u16,
+                pointers: bits(word, 48, 16) as u16,
+            },
+            1 => Pointer::List {
+                offset: signed_offset(word) as i32,
+                code: bits(word, 32, 3) as u8,
+                size: bits(word, 35, 29) as u32,
+            },
+            2 => Pointer::Far {
+                two: bits(word, 2, 1) == 1,
+                pad: bits(word, 3, 29) as u32,
+                segment: bits(word, 32, 32) as u32,
+            },
+            _ => {
+                if bits(word, 2, 30) == 0 {
+                    Pointer::Cap {
+                        index: bits(word, 32, 32) as u32,
+                    }
+                } else {
+                    Pointer::Reserved { word }
+                }
+            }
+        }
+    }
+    /// The word of this form. Asks that the fields are in the ranges told of them, that a struct
+    /// isn't all zeros, which is the form of null, and that a reserved word is one.
+    pub fn word(&self) -> u64
+        requires { IsPointer self.now }
+        ensures value { pointer_of result ≡ self.now }
+        ensures form { HasForm result self.now }
+        ensures inverse { (other : ℕ) → IsWord other → pointer_of other ≡ self.now → other ≡ result }
+    {
+        match *self {
+            Pointer::Null => 0,
+            Pointer::Struct {
+                offset,
+                data_words,
+                pointers,
+            } => {
+                offset_field(offset) + (u64::from(data_words) << 32) + (u64::from(pointers) << 48)
+            }
+            Pointer::List { offset, code, size } => {
+                1 + offset_field(offset) + (u64::from(code) << 32) + (u64::from(size) << 35)
+            }
+            Pointer::Far { two, pad, segment } => {
+                2 + (u64::from(two) << 2) + (u64::from(pad) << 3) + (u64::from(segment) << 32)
+            }
+            Pointer::Cap { index } => 3 + (u64::from(index) << 32),
+            Pointer::Reserved { word } => word,
+        }
+    }
+}
+
+// The 30 bits of an offset, in their place.
+fn offset_field(offset: i32) -> u64
+    requires { IsOffset offset }
+    ensures low { result % 4 ≡ 0 }
+    ensures below { result < 2 ^ 32 }
+    ensures value { signed_offset_of result ≡ offset }
+{
+    let bits = if offset < 0 {
+        offset + (1 << 30)
+    } else {
+        offset
+    };
+    (bits as u64) << 2
+}
