@@ -1,2 +1,3 @@
 pub mod Outcomes
 pub mod FrameBytes
+mod Examples

@@ -2,10 +2,10 @@
 
 ghost use Rattle.cap_laws.specs.Packing.{CutAsComputed, OneUnpacking, UnpacksAsComputed};
 ghost use Rattle.cap_spec.specs.Packing.{pack_text};
-ghost use Rattle.cap_spec.specs.Unpacking.{Unpacks};
+ghost use Rattle.cap_spec.specs.Unpacking.{Unpacks, unpacked};
 ghost use Rattle.cap_spec.specs.Words.{IsWord};
 ghost use Rattle.std.specs.List.{AllByRecursion};
-ghost use Rattle.std.specs.Prelude.{List, ℕ};
+ghost use Rattle.std.specs.Prelude.{List, ℕ, ◌<◌};
 
 /// Each list of bytes is a packed text of words, or is cut inside a group behind words that it
 /// gives: one of the two and not the other, for exactly one list of words.
@@ -28,4 +28,9 @@ pub fn cut_as_computed()
 /// The one packed spelling that is written is a packed text of its words.
 pub fn pack_text_unpacks()
     ensures { (words : List ℕ) → AllByRecursion IsWord words → Unpacks (pack_text words) words }
+{}
+
+/// What packed bytes give are words: numbers below 2^64.
+pub fn unpacked_are_words()
+    ensures { (bytes : List ℕ) → AllByRecursion (λ b. b < 256) bytes → AllByRecursion IsWord (unpacked bytes) }
 {}

@@ -7,6 +7,7 @@ pub mod Groups
 pub mod MakingGroups
 pub mod OneUnpacking
 pub mod Repacking
+pub mod UnpackedWords
 pub mod Framing
 pub mod Endings
 pub mod Messages
@@ -15,6 +16,7 @@ pub mod Following
 pub mod Packing
 pub mod OneEnding
 pub mod FrameTexts
+pub mod Streams
 pub mod Fates
 pub mod Finding
 pub mod OneTree

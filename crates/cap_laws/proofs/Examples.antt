@@ -1,0 +1,62 @@
+-- Small examples: the premises of the laws of framing and packing are met, and each of the ways in which reading ends comes about.
+use Rattle.std.proofs.Common.{false, true, [], ◌∷◌, replicate, refl, arith}
+use Rattle.cap_spec.specs.Frames.{IsTable, Frames, Stream, in_word, in_table, in_contents}
+use Rattle.cap_spec.specs.Endings.{EndsIn, message, none, too_many, too_large, partial}
+use Rattle.cap_spec.specs.Unpacking.{Unpacks, Cut}
+use Rattle.cap_spec.proofs.Streams.{stream_none, stream_cons}
+use Rattle.cap_spec.proofs.OneUnpacking.{unpacks_unless_cut, cut_if_cut}
+
+-- the table of one segment of one word
+table-one : IsTable (0x100000000 ∷ []) (1 ∷ [])
+table-one = record {
+  some = omega arith;
+  few = omega arith;
+  fit = ((omega arith), tt);
+  padding = [];
+  padding_fits = tt;
+  width = refl;
+  numbers = refl;
+}
+
+-- and its frame
+frame-one : Frames (0x100000000 ∷ 7 ∷ []) ((7 ∷ []) ∷ [])
+frame-one = record { table = 0x100000000 ∷ []; is_table = table-one; whole = refl }
+
+-- two of them are a stream
+stream-two : Stream (0x100000000 ∷ 7 ∷ 0x100000000 ∷ 7 ∷ []) (((7 ∷ []) ∷ []) ∷ ((7 ∷ []) ∷ []) ∷ [])
+stream-two = stream_cons (0x100000000 ∷ 7 ∷ []) (0x100000000 ∷ 7 ∷ []) ((7 ∷ []) ∷ []) (((7 ∷ []) ∷ []) ∷ []) frame-one
+    (stream_cons (0x100000000 ∷ 7 ∷ []) [] ((7 ∷ []) ∷ []) [] frame-one stream_none)
+
+-- a message within the limit, with a word behind it
+ends-message : EndsIn 1 (0x100000000 ∷ 7 ∷ 9 ∷ []) false message
+ends-message = record { own = 0x100000000 ∷ 7 ∷ []; rest = 9 ∷ []; message = (7 ∷ []) ∷ []; whole = refl; frames = frame-one; within = omega arith }
+
+-- nothing, between words
+ends-none : EndsIn 1 [] false none
+ends-none = (refl, refl)
+
+-- 513 segments
+ends-too_many : EndsIn 1 (512 ∷ []) false too_many
+ends-too_many = record { first = 512; rest = []; whole = refl; many = omega arith }
+
+-- one word past a limit of none
+ends-too_large : EndsIn 0 (0x100000000 ∷ 7 ∷ []) false too_large
+ends-too_large = record { table = 0x100000000 ∷ []; rest = 7 ∷ []; sizes = 1 ∷ []; whole = refl; is_table = table-one; past = omega arith }
+
+-- inside a word, inside a table of two words, and inside the contents
+ends-in_word : EndsIn 1 [] true partial
+ends-in_word = in_word refl refl
+
+ends-in_table : EndsIn 1 (1 ∷ []) false partial
+ends-in_table = in_table 1 [] refl (omega arith) (omega arith)
+
+ends-in_contents : EndsIn 1 (0x100000000 ∷ []) false partial
+ends-in_contents = in_contents (0x100000000 ∷ []) (1 ∷ []) [] refl table-one (omega arith) (omega arith)
+
+-- four zero words, packed
+unpacks-zeros : Unpacks (0 ∷ 3 ∷ []) (replicate 4 0)
+unpacks-zeros = unpacks_unless_cut (0 ∷ 3 ∷ []) ((omega arith), ((omega arith), tt)) refl
+
+-- a run of zero words without its count, behind a word
+cut-zeros : Cut (1 ∷ 9 ∷ 0 ∷ []) (9 ∷ [])
+cut-zeros = cut_if_cut (1 ∷ 9 ∷ 0 ∷ []) ((omega arith), ((omega arith), ((omega arith), tt))) refl
