@@ -1,0 +1,160 @@
+ghost use Rattle.std.specs.Prelude.{None};
+
+use super::*;
+use cap_words::VecOut;
+use std::alloc::{AllocError, Global};
+use std::process::Abort;
+use std::test::Fail;
+
+// Takes one byte a call.
+#[derive(Drop)]
+struct OneByte {
+    taken: VecOut,
+}
+
+impl ByteOut for OneByte {
+    ghost written = { λ s. None };
+
+    ghost failures = { λ s. ⟦<VecOut as ByteOut>⟧.failures s.taken };
+
+    ghost spent = { λ s. ⟦<VecOut as ByteOut>⟧.spent s.taken };
+
+    fn write(&mut self, buf: &[u8]) -> Result<usize, OutFault> {
+        match buf {
+            [] => Ok(0),
+            [first, ..] => self.taken.write(&[*first]),
+        }
+    }
+}
+
+fn put_all<K: WordSink>(sink: &mut K, words: &[u64]) -> Result<(), SinkFault> {
+    for word in words {
+        sink.put(*word)?;
+    }
+    sink.finish()
+}
+
+// Packs the words, at once and a byte at a time.
+fn check<R: AllocGlobal + Abort>(rt: &R, words: &[u64], packed: &[u8]) -> Result<(), Fail> {
+    let mut sink = Packer::new(VecOut::new(rt.alloc()));
+    put_all(&mut sink, words)?;
+    assert_eq!(rt; sink.put(0), Err(SinkFault::Spent));
+    assert_eq!(rt; sink.into_inner().bytes(), packed);
+    let mut slow = Packer::new(OneByte {
+        taken: VecOut::new(rt.alloc()),
+    });
+    put_all(&mut slow, words)?;
+    assert_eq!(rt; slow.into_inner().taken.bytes(), packed);
+    Ok(())
+}
+
+// Appends one byte so often.
+fn repeat(bytes: &mut Vec<u8>, byte: u8, count: u32) -> Result<(), AllocError> {
+    for _ in 0..count {
+        bytes.push(byte)?;
+    }
+    Ok(())
+}
+
+// The groups of so many zero words.
+fn zeros_packed(alloc: Global, count: u32) -> Result<Vec<u8>, AllocError> {
+    let mut bytes = Vec::new(alloc);
+    for _ in 0..count / 256 {
+        bytes.extend_from_slice(&[0, 255])?;
+    }
+    if count % 256 > 0 {
+        bytes.extend_from_slice(&[0, (count % 256 - 1) as u8])?;
+    }
+    Ok(bytes)
+}
+
+// The groups of so many words of 8a bytes.
+fn plain_packed(alloc: Global, count: u32) -> Result<Vec<u8>, AllocError> {
+    let mut bytes = Vec::new(alloc);
+    for _ in 0..count / 256 {
+        bytes.push(0xff)?;
+        repeat(&mut bytes, 0x8a, 8)?;
+        bytes.push(255)?;
+        repeat(&mut bytes, 0x8a, 8 * 255)?;
+    }
+    if count % 256 > 0 {
+        bytes.push(0xff)?;
+        repeat(&mut bytes, 0x8a, 8)?;
+        bytes.push((count % 256 - 1) as u8)?;
+        repeat(&mut bytes, 0x8a, 8 * (count % 256 - 1))?;
+    }
+    Ok(bytes)
+}
+
+// The groups of so many words, zero and of 8a bytes in turn.
+fn mixed_packed(alloc: Global, count: u32) -> Result<Vec<u8>, AllocError> {
+    let mut bytes = Vec::new(alloc);
+    for i in 0..count {
+        if i % 2 == 0 {
+            bytes.extend_from_slice(&[0, 0])?;
+        } else {
+            bytes.push(0xff)?;
+            repeat(&mut bytes, 0x8a, 8)?;
+            bytes.push(0)?;
+        }
+    }
+    Ok(bytes)
+}
+
+#[test]
+fn packs_each_kind_of_group(rt: HostRuntime) -> Result<(), Fail> {
+    check(&rt, &[], &[])?;
+    check(&rt, &[0], &[0, 0])?;
+    check(&rt, &[0x0002_0003_0000_0008, 0x0000_01aa_0000_0019], &[0x51, 8, 3, 2, 0x31, 0x19, 0xaa, 1])?;
+    check(
+        &rt,
+        &[0x0101_0101_0101_0101, 0x0101_0101_0101_0001, 0x0101_0101_0101_0000],
+        &[0xff, 1, 1, 1, 1, 1, 1, 1, 1, 1, 1, 0, 1, 1, 1, 1, 1, 1, 0xfc, 1, 1, 1, 1, 1, 1],
+    )?;
+    check(
+        &rt,
+        &[4 << 32, 2 << 48, 1 << 32 | 4, 1 << 32, 7],
+        &[0x10, 4, 0x40, 2, 0x11, 4, 1, 0x10, 1, 1, 7],
+    )
+}
+
+#[test]
+fn packs_long_runs(rt: HostRuntime) -> Result<(), Fail> {
+    let mut zeros = Vec::new(rt.alloc());
+    let mut plain = Vec::new(rt.alloc());
+    let mut mixed = Vec::new(rt.alloc());
+    for count in 0..=600 {
+        check(&rt, &zeros, &zeros_packed(rt.alloc(), count)?)?;
+        check(&rt, &plain, &plain_packed(rt.alloc(), count)?)?;
+        check(&rt, &mixed, &mixed_packed(rt.alloc(), count)?)?;
+        zeros.push(0)?;
+        plain.push(0x8a8a_8a8a_8a8a_8a8a)?;
+        mixed.push(if count % 2 == 0 { 0 } else { 0x8a8a_8a8a_8a8a_8a8a })?;
+    }
+    Ok(())
+}
+
+// Behind a word without a zero byte, words with one: 255 of them go on with it, and no more.
+#[test]
+fn goes_on_with_one_zero_byte(rt: HostRuntime) -> Result<(), Fail> {
+    for count in [0u8, 1, 254, 255] {
+        for further in [0u8, 1, 2] {
+            let mut words = [0x8a8a_8a8a_8a8a_8a8a].to_vec(rt.alloc())?;
+            let mut packed = plain_packed(rt.alloc(), 1)?;
+            let _ = packed.pop();
+            packed.push(count)?;
+            for _ in 0..count {
+                words.push(0x0001_0101_0101_0101)?;
+                packed.extend_from_slice(&[1, 1, 1, 1, 1, 1, 1, 0])?;
+            }
+            if count == 255 {
+                for _ in 0..further {
+                    words.push(0x0001_0101_0101_0101)?;
+                    packed.extend_from_slice(&[0x7f, 1, 1, 1, 1, 1, 1, 1])?;
+                }
+            }
+            check(&rt, &words, &packed)?;
+        }
+    }
+    Ok(())
+}
