@@ -3,8 +3,10 @@ use Rattle.std.proofs.Common.{◌≡◌, ℕ, List, pos, Result, Ok, Err, IfOk, 
 use Rattle.cap_spec.specs.Following.{to_null, to_cap, to_object, Leads, Wrong}
 use Rattle.cap_spec.specs.Denoting.{Finds}
 use Rattle.cap_spec.specs.declared.Reason.{Reason}
+use Rattle.cap_spec.proofs.Finding.{SameObject, one_object}
 use Rattle.cap_spec.proofs.Following.{one_lead, one_wrong, null-not_wrong, cap-not_wrong, object-not_wrong}
 use Rattle.cap_ptr.specs.Shapes.{IsObject, IsFollowed, AnswersObject}
+use Rattle.cap_ptr.specs.declared.shapes.Shape.{Shape}
 use Rattle.cap_ptr.specs.declared.shapes.Target.{Target}
 use Rattle.cap_ptr.specs.declared.shapes.Followed.{Followed}
 use Rattle.cap_ptr.specs.declared.shapes.Followed.TheVariants as followed
@@ -38,21 +40,13 @@ cap-answer m s w (Ok (followed.Cap l j)) ok err k i h =
     cc
 cap-answer m s w (Ok (followed.Target x)) (q, tag, ok) err k i h = let e = (one_lead m s w x.pads k (to_object x.segment (pos x.start) q) (to_cap i) ok.finds.leads h).1 in cc
 
--- an object of one start and another of the same
-same_object : (m : List (List ℕ)) (k t b q k' t' b' q' : ℕ) (x : Target) (tag : ℕ) → (k' ≡ k) × (to_object t' (pos b') q' ≡ to_object t (pos b) q)
-    → IsObject m k' t' b' q' tag x.words x.charge x.shape → (k' ≡ k) × (t' ≡ t) × (b' ≡ b) × IsObject m k t b q tag x.words x.charge x.shape
-same_object m k t b q k' t' b' q' x tag (e, f) h =
-    let et : t' ≡ t = cc in
-    let eb : b' ≡ b = cc in
-    let eq : q' ≡ q = cc in (
-      e,
-      et,
-      eb,
-      subst (λ y. IsObject m k t b y tag x.words x.charge x.shape) eq
-          (subst (λ y. IsObject m k t y q' tag x.words x.charge x.shape) eb
-          (subst (λ y. IsObject m k y b' q' tag x.words x.charge x.shape) et
-          (subst (λ y. IsObject m y t' b' q' tag x.words x.charge x.shape) e h))),
-    )
+-- what is so of an object is so of each name of it
+same_object : (m : List (List ℕ)) (k t b q k' t' b' q' tag n c : ℕ) (x : Shape) → SameObject k' t' b' q' k t b q → IsObject m k' t' b' q' tag n c x → IsObject m k t b q tag n c x
+same_object m k t b q k' t' b' q' tag n c x e h =
+    subst (λ y. IsObject m k t b y tag n c x) e.shape
+    (subst (λ y. IsObject m k t y q' tag n c x) e.start
+    (subst (λ y. IsObject m k y b' q' tag n c x) e.segment
+    (subst (λ y. IsObject m y t' b' q' tag n c x) e.pads h)))
 
 -- a word that leads to an object that sits has it as the answer
 pub object-answer : (m : List (List ℕ)) (s w : ℕ) (r : Result Followed Reason) → IfOk r (IsFollowed m s w) → IfErr r (Wrong m s w)
@@ -61,6 +55,14 @@ object-answer m s w (Err u) ok err k t b q h = absurd (object-not_wrong m s w k 
 object-answer m s w (Ok (followed.Null l)) ok err k t b q h = absurd (let e = (one_lead m s w l k to_null (to_object t (pos b) q) ok h.leads).1 in cc)
 object-answer m s w (Ok (followed.Cap l i)) ok err k t b q h = absurd (let e = (one_lead m s w l k (to_cap i) (to_object t (pos b) q) ok h.leads).1 in cc)
 object-answer m s w (Ok (followed.Target x)) (q', tag, ok) err k t b q h =
-    let e = one_lead m s w x.pads k (to_object x.segment (pos x.start) q') (to_object t (pos b) q) ok.finds.leads h.leads in
-    let o = same_object m k t b q x.pads x.segment x.start q' x tag (e.0, e.1) ok.object in
-    (x, tag, record { ok = refl; pads = o.0; segment = o.1; start = o.2; object = o.3 })
+    let e = one_object m s w x.pads x.segment x.start q' k t b q ok.finds h in (
+      x,
+      tag,
+      record {
+        ok = refl;
+        pads = e.pads;
+        segment = e.segment;
+        start = e.start;
+        object = same_object m k t b q x.pads x.segment x.start q' tag x.words x.charge x.shape e ok.object;
+      },
+    )

@@ -6,15 +6,14 @@ use Rattle.cap_spec.specs.Messages.{HasWord, segment_of}
 use Rattle.cap_spec.specs.Pointers.{middle, data_size, pointer_size, list_size, extent}
 use Rattle.cap_spec.specs.Following.{IsComposite, extra, Wrong}
 use Rattle.cap_spec.specs.declared.Reason.TheVariants.{OutOfSegment}
+use Rattle.cap_spec.proofs.Charges.{extent_structs}
 use Rattle.cap_spec.proofs.Following.{wrong-out}
 use Rattle.cap_ptr.specs.Reaching.{LeadsTo}
 use Rattle.cap_ptr.specs.Shapes.{IsShape, FindsObject}
 use Rattle.cap_ptr.specs.declared.shapes.Shape.{Shape}
 use Rattle.cap_ptr.specs.declared.shapes.Shape.TheVariants.{Structs}
 
-extent-composite : (q : ℕ) → IsComposite q → extent q ≡ 1 + list_size q
-extent-composite q (k, c) = rw (k, c) refl
-
+-- the elements of a composite list without words are charged one each
 extra-composite : (q tag : ℕ) → IsComposite q → extra q tag ≡ (if (data_size tag + pointer_size tag) == 0 then middle tag else 0)
 extra-composite q tag (k, c) = rw (k, c) refl
 
@@ -30,7 +29,7 @@ module _ (m : List (List ℕ)) (s w k t b q : ℕ) (leads : LeadsTo m s w k t b 
       → FindsObject m s w k t b q tag n c (Structs size count d p)
   found-structs tag size count d p none n c few inside composite has size_is struct count_is d_is p_is fits none_is at_most n_is c_is =
       let fits' : middle tag * (data_size tag + pointer_size tag) ≤ list_size q = rw (← size_is, ← count_is, ← d_is, ← p_is) fits in
-      let e = extent-composite q composite in
+      let e = extent_structs q composite.0 composite.1 in
       let x : extra q tag ≡ none = extra-composite q tag composite ∙ rw (← count_is, ← d_is, ← p_is) (sym none_is) in
       record {
         finds = record { leads = leads; sits = record { exists = there; inside = inside; composite = λ y. (tag, has, (struct, fits')) } };

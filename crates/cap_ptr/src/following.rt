@@ -57,54 +57,61 @@ fn followed<M: Segments>(message: &M, s: u32, w: u32) -> Result<Followed, Reason
     over_two_pads(message, word)
 }
 
-// What the word at t:b, which stands for a pointer word over some pads, leads to.
+// What the word at this place, which stands for a pointer word over some pads, leads to.
 fn resolved<M: Segments>(
     message: &M,
     pads: u8,
-    t: u32,
-    b: u32,
+    segment: u32,
+    place: u32,
     word: u64,
 ) -> Result<Followed, Reason>
-    requires exists { t < length (M.segments message.now) }
+    requires exists { segment < length (M.segments message.now) }
     requires pads { pads ≤ 2 }
-    ensures ok { (s w : ℕ) → StandsFor (M.segments message.now) s w pads t b word → IfOk result (IsFollowed (M.segments message.now) s w) }
-    ensures err { (s w : ℕ) → StandsFor (M.segments message.now) s w pads t b word → IfErr result (Wrong (M.segments message.now) s w) }
+    ensures ok { (s w : ℕ) → StandsFor (M.segments message.now) s w pads segment place word → IfOk result (IsFollowed (M.segments message.now) s w) }
+    ensures err { (s w : ℕ) → StandsFor (M.segments message.now) s w pads segment place word → IfErr result (Wrong (M.segments message.now) s w) }
 {
     match Pointer::of(word) {
         Pointer::Null => Ok(Followed::Null { pads }),
         Pointer::Cap { index } => Ok(Followed::Cap { pads, index }),
         Pointer::Reserved { .. } => Err(Reason::Reserved),
         Pointer::Far { .. } => Err(Reason::PadIsFar),
-        Pointer::Struct { .. } => object(message, pads, t, b, word),
-        Pointer::List { .. } => object(message, pads, t, b, word),
+        Pointer::Struct { .. } => object(message, pads, segment, place, word),
+        Pointer::List { .. } => object(message, pads, segment, place, word),
     }
 }
 
-// The object of the struct or list pointer at t:b, which stands for a pointer word over some pads.
-fn object<M: Segments>(message: &M, pads: u8, t: u32, b: u32, word: u64) -> Result<Followed, Reason>
-    requires exists { t < length (M.segments message.now) }
+// The object of the struct or list pointer at this place, which stands for a pointer word over some
+// pads.
+fn object<M: Segments>(
+    message: &M,
+    pads: u8,
+    segment: u32,
+    place: u32,
+    word: u64,
+) -> Result<Followed, Reason>
+    requires exists { segment < length (M.segments message.now) }
     requires pads { pads ≤ 2 }
     requires object { kind word < 2 }
     requires not_null { word ≢ 0 }
-    ensures ok { (s w : ℕ) → StandsFor (M.segments message.now) s w pads t b word → IfOk result (IsFollowed (M.segments message.now) s w) }
-    ensures err { (s w : ℕ) → StandsFor (M.segments message.now) s w pads t b word → IfErr result (Wrong (M.segments message.now) s w) }
+    ensures ok { (s w : ℕ) → StandsFor (M.segments message.now) s w pads segment place word → IfOk result (IsFollowed (M.segments message.now) s w) }
+    ensures err { (s w : ℕ) → StandsFor (M.segments message.now) s w pads segment place word → IfErr result (Wrong (M.segments message.now) s w) }
 {
-    let Some(start) = start_of(b, word) else {
+    let Some(start) = start_of(place, word) else {
         return Err(Reason::OutOfSegment);
     };
-    match target_at(message, pads, t, start, word) {
+    match target_at(message, pads, segment, start, word) {
         Ok(target) => Ok(Followed::Target(target)),
         Err(reason) => Err(reason),
     }
 }
 
-// The word that the object of a struct or list pointer at word b starts at, if it isn't negative.
-fn start_of(b: u32, word: u64) -> Option<u64>
-    ensures some { IfSome result (λ start. pos start ≡ pos (b + 1) +ℤ signed_offset_of word) }
+// The word that the object of a struct or list pointer starts at, if it isn't negative.
+fn start_of(place: u32, word: u64) -> Option<u64>
+    ensures some { IfSome result (λ start. pos start ≡ pos (place + 1) +ℤ signed_offset_of word) }
     ensures near { IfSome result (λ start. start < 2 ^ 33) }
-    ensures none { IfNone result ((pos (b + 1) +ℤ signed_offset_of word) <ℤ pos 0) }
+    ensures none { IfNone result ((pos (place + 1) +ℤ signed_offset_of word) <ℤ pos 0) }
 {
-    let start = i64::from(b) + 1 + signed_offset(word);
+    let start = i64::from(place) + 1 + signed_offset(word);
     if start < 0 { None } else { Some(start as u64) }
 }
 

@@ -10,15 +10,13 @@ use Rattle.cap_spec.specs.Following.{Lead, to_null, to_cap, to_object, Says, IsO
 use Rattle.cap_spec.specs.Denoting.{Finds}
 use Rattle.cap_spec.specs.declared.Reason.{Reason}
 use Rattle.cap_spec.specs.declared.Reason.TheVariants.{Reserved, SegmentMissing, PadOutside, PadIsFar, PadNotFar, TagKind, TagOffset, OutOfSegment, CompositeTag, CompositeOverrun}
+use Rattle.cap_spec.proofs.Charges.{extent_structs}
 use Rattle.cap_spec.proofs.Messages.{HasWord-at, HasWord-segment}
 use Rattle.cap_spec.proofs.Following.{HasSegment, wrong-reserved, wrong-pad_reserved, wrong-missing, wrong-outside, wrong-pad_far, wrong-pad_near, wrong-content_missing, wrong-tag_kind, wrong-tag_offset, wrong-out, wrong-composite_tag, wrong-overrun}
 
 -- Every word of a message has a fate: a reason is wrong there, or it leads to null, to a capability or to an object that sits.
 abbrev pub Fate : List (List ℕ) → ℕ → ℕ → Type 0
 Fate m s w = ((v : Reason) × Wrong m s w v) ⊎ (((k : ℕ) × Leads m s w k to_null) ⊎ (((k i : ℕ) × Leads m s w k (to_cap i)) ⊎ ((k t b q : ℕ) × Finds m s w k t b q)))
-
-extent-composite : (q : ℕ) → IsComposite q → extent q ≡ 1 + list_size q
-extent-composite q (k, c) = rw (k, c) refl
 
 -- a lead to an object, whose segment exists
 object-fate : (m : List (List ℕ)) (s w k t : ℕ) (b : ℤ) (q : ℕ) → Leads m s w k (to_object t b q) → t < length m → Fate m s w
@@ -47,7 +45,7 @@ object-fate m s w k t (pos b) q leads there =
 
     composite-fate : (b + extent q ≤ length (segment_of m t)) → IsComposite q → Fate m s w
     composite-fate inside composite =
-        let has = HasWord-at m t b (omega (arith, extent-composite q composite)) in
+        let has = HasWord-at m t b (omega (arith, extent_structs q composite.0 composite.1)) in
         tagged inside composite has.0 has.1
 
 -- what a word that isn't far says

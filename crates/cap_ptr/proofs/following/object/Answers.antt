@@ -5,16 +5,16 @@ use Rattle.cap_ptr.proofs.following.object.Goals as goal
 
 pub returns-in_default-clause-err : goal.returns-in_default-clause-err
 returns-in_default-clause-err g c = λ s w h.
-    wrong-before (g.M.Segments.segments c.args.message.now) s w c.args.pads c.args.t (pos (c.args.b + 1) +ℤ signed_offset_of c.args.word) c.args.word
-    (object-lead (g.M.Segments.segments c.args.message.now) s w c.args.pads c.args.t c.args.b c.args.word (pos (c.args.b + 1) +ℤ signed_offset_of c.args.word) h c.requires.object c.requires.not_null refl)
+    wrong-before (g.M.Segments.segments c.args.message.now) s w c.args.pads c.args.segment (pos (c.args.place + 1) +ℤ signed_offset_of c.args.word) c.args.word
+    (object-lead (g.M.Segments.segments c.args.message.now) s w c.args.pads c.args.segment c.args.place c.args.word (pos (c.args.place + 1) +ℤ signed_offset_of c.args.word) h c.requires.object c.requires.not_null refl)
     c.requires.exists c.in_default.ensures.none
 
 pub returns-in-Ok-clause-ok : goal.returns-in-Ok-clause-ok
 returns-in-Ok-clause-ok g c = λ s w h.
     c.in-Ok.ensures.ok s w
-    (object-lead (g.M.Segments.segments c.args.message.now) s w c.args.pads c.args.t c.args.b c.args.word _ h c.requires.object c.requires.not_null c.in-Some.ensures.some)
+    (object-lead (g.M.Segments.segments c.args.message.now) s w c.args.pads c.args.segment c.args.place c.args.word _ h c.requires.object c.requires.not_null c.in-Some.ensures.some)
 
 pub returns-in-Err-clause-err : goal.returns-in-Err-clause-err
 returns-in-Err-clause-err g c = λ s w h.
     c.in-Err.ensures.err s w
-    (object-lead (g.M.Segments.segments c.args.message.now) s w c.args.pads c.args.t c.args.b c.args.word _ h c.requires.object c.requires.not_null c.in-Some.ensures.some)
+    (object-lead (g.M.Segments.segments c.args.message.now) s w c.args.pads c.args.segment c.args.place c.args.word _ h c.requires.object c.requires.not_null c.in-Some.ensures.some)
