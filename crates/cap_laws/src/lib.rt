@@ -8,3 +8,4 @@ pub mod packing;
 pub mod paths;
 pub mod plain;
 pub mod trees;
+pub mod verdicts;

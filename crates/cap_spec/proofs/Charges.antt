@@ -111,10 +111,10 @@ one_cost m s w x y (inr (inr h)) (inr (inr h')) =
     h.7 ∙ ap (λ z. h.0 + extent h.3 + z) e ∙ ap₂ (λ u z. u + extent z + extra z h'.4) o.pads o.shape ∙ sym h'.7
 
 -- structs and lists of pointers cost nothing beside words
-extra_struct : (q : ℕ) → kind q ≡ 0 → extra q 0 ≡ 0
+pub extra_struct : (q : ℕ) → kind q ≡ 0 → extra q 0 ≡ 0
 extra_struct q e = rw e refl
 
-extra_pointers : (q : ℕ) → kind q ≡ 1 → code q ≡ 6 → extra q 0 ≡ 0
+pub extra_pointers : (q : ℕ) → kind q ≡ 1 → code q ≡ 6 → extra q 0 ≡ 0
 extra_pointers q e f = rw (e, f) refl
 
 -- a part of a sum is at most the sum

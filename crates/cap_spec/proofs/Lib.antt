@@ -29,3 +29,6 @@ pub mod Preorder
 pub mod Cycles
 pub mod PathLists
 pub mod PathCounts
+pub mod PathCosts
+pub mod Depths
+pub mod OneVerdict

@@ -14,7 +14,7 @@ use Rattle.cap_spec.proofs.Arrivals.{found_form, lead_word, step_to_part, part_t
 use Rattle.cap_spec.proofs.Preorder.{Before-irreflexive, Before-asymmetric, Rises-first}
 use Rattle.cap_spec.proofs.PathLists.{with_own, paths_below, Wants, is_structs, is_pointer, is_cap, wants_cap, listed_wanted, wanted_listed, listed_rise, pointers_listed, caps_listed}
 
-abbrev is_element : Spot → Bool
+abbrev pub is_element : Spot → Bool
 is_element (word s w) = false
 is_element (element t b ds ps) = true
 
@@ -33,7 +33,7 @@ all_structs (pointers ts) f = absurd (omega arith)
 all_structs (structs d p es) f = refl
 
 -- a step leads to an element where the tree of the spot is a struct list
-step_kind : (m : List (List ℕ)) (a : Spot) (step : Step) (b : Spot) (t : Tree) → DenotesAt m a t → Goes m a step b → is_element b ≡ is_structs t
+pub step_kind : (m : List (List ℕ)) (a : Spot) (step : Step) (b : Spot) (t : Tree) → DenotesAt m a t → Goes m a step b → is_element b ≡ is_structs t
 step_kind m (word s w) (Ptr i) b t h g =
     let f = found_form m s w t h.0 h.1 g.0 g.1 g.2 g.3 h.2 g.4 in
     ap is_element g.7 ∙ sym (no_structs t (2 + kind g.3 * (1 + code g.3)) f (omega (arith, number_struct (kind g.3) (code g.3) g.5)))

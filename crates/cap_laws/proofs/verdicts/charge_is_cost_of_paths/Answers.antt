@@ -1,0 +1,12 @@
+use Rattle.cap_spec.proofs.PathLists.{is_pointer, listed_rise}
+use Rattle.cap_spec.proofs.PathCounts.{pointer_paths, pointer_path_reached}
+use Rattle.cap_spec.proofs.PathCosts.{charge_is_cost}
+use Rattle.cap_spec.proofs.OneVerdict.{paths_cost_charge}
+use Rattle.std.proofs.Common.{false}
+use Rattle.cap_laws.proofs.verdicts.charge_is_cost_of_paths.Goals as goal
+
+pub returns-clause-all : goal.returns-clause-all
+returns-clause-all c = λ m t x d h. (pointer_paths t, listed_rise is_pointer false t, charge_is_cost m t x d h, pointer_path_reached m t x d h)
+
+pub returns-clause-some : goal.returns-clause-some
+returns-clause-some c = paths_cost_charge

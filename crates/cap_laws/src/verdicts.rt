@@ -1,0 +1,38 @@
+//! What a message's root denotes, and how a message may be refused.
+
+ghost use Rattle.std.specs.Prelude.{ℕ, List, ◌≡◌, ◌≤◌, ◌+◌, ◌↔◌};
+ghost use Rattle.cap_spec.specs.declared.Step.{Step};
+ghost use Rattle.cap_spec.specs.declared.Reason.{Reason};
+ghost use Rattle.cap_spec.specs.declared.Refusal.{Refusal};
+ghost use Rattle.cap_spec.specs.Messages.{HasWord};
+ghost use Rattle.cap_spec.specs.Following.{Wrong, IsComposite};
+ghost use Rattle.cap_spec.specs.Tree.{Tree};
+ghost use Rattle.cap_spec.specs.Denoting.{Finds, Denotes};
+ghost use Rattle.cap_spec.specs.Paths.{Reaches, Rises, IsOneOf};
+ghost use Rattle.cap_spec.specs.Verdicts.{CostOf, AreDistinct, Justified, levels_below};
+
+/// The charge of the root's tree is what following the pointer words that its paths reach costs,
+/// each path counted once; so distinct paths cost at most the charge.
+pub fn charge_is_cost_of_paths()
+    ensures all { (m : List (List ℕ)) (t : Tree) (c d : ℕ) → Denotes m 0 0 t c d →
+        (paths : List (List Step)) × Rises paths × CostOf m paths c
+        × ((q : List Step) → IsOneOf q paths ↔ ((level s w : ℕ) × Reaches m q level s w)) }
+    ensures some { (m : List (List ℕ)) (t : Tree) (c d : ℕ) → Denotes m 0 0 t c d →
+        (paths : List (List Step)) (cost : ℕ) → AreDistinct paths → CostOf m paths cost → cost ≤ c }
+{}
+
+/// Where the root denotes a tree, nothing is wrong at a pointer word that a path reaches, and no
+/// path leads to an object past the depth of the tree.
+pub fn reached_pointers_of_tree()
+    ensures right { (m : List (List ℕ)) (t : Tree) (c d : ℕ) → Denotes m 0 0 t c d →
+        (p : List Step) (level s w : ℕ) (v : Reason) → Reaches m p level s w → ¬ Wrong m s w v }
+    ensures shallow { (m : List (List ℕ)) (t : Tree) (c d : ℕ) → Denotes m 0 0 t c d →
+        (p : List Step) (level s w k u b q tag : ℕ) → Reaches m p level s w → Finds m s w k u b q →
+        (IsComposite q → HasWord m u b tag) → level + levels_below q tag ≤ d }
+{}
+
+/// A message whose root denotes a tree within the limits has no justified refusal.
+pub fn tree_within_limits_is_not_refused()
+    ensures { (m : List (List ℕ)) (t : Tree) (c d words depth : ℕ) (refusal : Refusal) →
+        Denotes m 0 0 t c d → c ≤ words → d ≤ depth → ¬ Justified m words depth refusal }
+{}
