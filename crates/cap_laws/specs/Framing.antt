@@ -1,11 +1,11 @@
 -- What the laws of framing say.
-use Rattle.std.specs.Prelude.{ℕ, ◌+◌, ◌-◌, ◌*◌, ◌%◌, ◌^◌, ◌<◌, ◌≤◌, ◌≡◌, ◌↔◌, Bool, List, ◌++◌, length}
+use Rattle.std.specs.Prelude.{ℕ, ◌+◌, ◌-◌, ◌*◌, ◌%◌, ◌^◌, ◌<◌, ◌≤◌, ◌≡◌, ◌↔◌, Bool, false, List, [], ◌++◌, length}
 use Rattle.std.specs.List.{AllByRecursion, flat_map}
 use Rattle.byteorder.specs.Endian.{little_bytes}
 use Rattle.cap_spec.specs.Words.{IsWord}
 use Rattle.cap_spec.specs.Plain.{plain_text}
-use Rattle.cap_spec.specs.Frames.{joined, sizes_of, Frames}
-use Rattle.cap_spec.specs.Endings.{Ending, EndsIn}
+use Rattle.cap_spec.specs.Frames.{joined, sizes_of, Frames, IsPartial}
+use Rattle.cap_spec.specs.Endings.{BeginsMessage, TellsTooMany, TellsTooMuch, Ending, EndsIn}
 
 -- a number of four bytes, the lowest first
 abbrev pub four_bytes : ℕ → List ℕ
@@ -30,3 +30,9 @@ pub record FramesInBytes (bytes : List ℕ) (m : List (List ℕ)) : Type 0 where
 abbrev pub FramesByBytes : Type 0
 FramesByBytes = (words : List ℕ) (m : List (List ℕ)) → AllByRecursion IsWord words → AllByRecursion (AllByRecursion IsWord) m →
     Frames words m ↔ FramesInBytes (plain_text words) m
+
+-- words end inside a frame just where none of the other four is so
+abbrev pub PartialElse : Type 0
+PartialElse = (limit : ℕ) (words : List ℕ) (cut : Bool) → AllByRecursion IsWord words →
+    IsPartial limit words cut
+    ↔ ((BeginsMessage limit words → ⊥) × (((words ≡ []) × (cut ≡ false)) → ⊥) × (TellsTooMany words → ⊥) × (TellsTooMuch limit words → ⊥))

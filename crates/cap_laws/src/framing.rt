@@ -1,6 +1,6 @@
 //! What words frame, and how reading a message from words ends.
 
-ghost use Rattle.cap_laws.specs.Framing.{FramesByBytes, OneEnding, four_bytes};
+ghost use Rattle.cap_laws.specs.Framing.{FramesByBytes, OneEnding, PartialElse, four_bytes};
 ghost use Rattle.cap_spec.specs.Frames.{Frames, IsTable, Stream, frame_text, halves};
 ghost use Rattle.cap_spec.specs.Messages.{IsMessage};
 ghost use Rattle.cap_spec.specs.Plain.{plain_text};
@@ -30,6 +30,12 @@ pub fn one_stream()
 /// inside the table or the contents of a frame that is within both limits.
 pub fn one_ending()
     ensures { OneEnding }
+{}
+
+/// Words, with what their input ends in, end inside a frame just where none of the other four
+/// things is so.
+pub fn partial_else()
+    ensures { PartialElse }
 {}
 
 /// The frame with zero padding is one.

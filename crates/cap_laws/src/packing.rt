@@ -1,11 +1,11 @@
 //! Words in their packed spellings.
 
-ghost use Rattle.cap_laws.specs.Packing.{CutAsComputed, OneUnpacking, UnpacksAsComputed};
+ghost use Rattle.cap_laws.specs.Packing.{CutAsComputed, OneUnpacking, PackedByGroups, UnpacksAsComputed};
 ghost use Rattle.cap_spec.specs.Packing.{pack_text};
-ghost use Rattle.cap_spec.specs.Unpacking.{Unpacks, unpacked};
+ghost use Rattle.cap_spec.specs.Unpacking.{Unpacks, packed_is_cut, unpacked};
 ghost use Rattle.cap_spec.specs.Words.{IsWord};
 ghost use Rattle.std.specs.List.{AllByRecursion};
-ghost use Rattle.std.specs.Prelude.{List, ℕ, ◌<◌};
+ghost use Rattle.std.specs.Prelude.{List, false, ℕ, ◌<◌, ◌≡◌};
 
 /// Each list of bytes is a packed text of words, or is cut inside a group behind words that it
 /// gives: one of the two and not the other, for exactly one list of words.
@@ -33,4 +33,20 @@ pub fn pack_text_unpacks()
 /// What packed bytes give are words: numbers below 2^64.
 pub fn unpacked_are_words()
     ensures { (bytes : List ℕ) → AllByRecursion (λ b. b < 256) bytes → AllByRecursion IsWord (unpacked bytes) }
+{}
+
+/// A packed text of words is a list of bytes.
+pub fn unpacks_are_bytes()
+    ensures { (bytes words : List ℕ) → Unpacks bytes words → AllByRecursion (λ b. b < 256) bytes }
+{}
+
+/// The one packed spelling, group by group: the group that takes the longest front of the words,
+/// and then the spelling of the words behind it.
+pub fn packed_by_groups()
+    ensures { PackedByGroups }
+{}
+
+/// The one packed spelling of words gives just these words, and isn't cut.
+pub fn pack_text_reads_back()
+    ensures { (words : List ℕ) → AllByRecursion IsWord words → (unpacked (pack_text words) ≡ words) × (packed_is_cut (pack_text words) ≡ false) }
 {}

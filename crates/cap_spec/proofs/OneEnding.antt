@@ -162,3 +162,15 @@ one_ending limit words cut too_many partial a b = absurd (too_many_partial limit
 one_ending limit words cut partial too_many a b = absurd (too_many_partial limit words cut b a)
 one_ending limit words cut too_large partial a b = absurd (too_large_partial limit words cut a b)
 one_ending limit words cut partial too_large a b = absurd (too_large_partial limit words cut b a)
+
+-- words that end in none of the other four ways are part of a frame
+pub partial_else : (limit : ℕ) (words : List ℕ) (cut : Bool) → AllByRecursion IsWord words →
+    (BeginsMessage limit words → ⊥) → ((words ≡ []) × (cut ≡ false) → ⊥) → (TellsTooMany words → ⊥) → (TellsTooMuch limit words → ⊥) → IsPartial limit words cut
+partial_else limit words cut all a b c d = (let e = some_ending limit words cut all in pick e.0 e.1)
+  where
+    pick : (e : Ending) → EndsIn limit words cut e → IsPartial limit words cut
+    pick message h = absurd (a h)
+    pick none h = absurd (b h)
+    pick too_many h = absurd (c h)
+    pick too_large h = absurd (d h)
+    pick partial h = h

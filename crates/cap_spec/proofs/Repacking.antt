@@ -1,5 +1,5 @@
 -- The packed text that is written unpacks to the words that it is written for.
-use Rattle.std.proofs.Common.{◌≡◌, ◌≢◌, ℕ, zero, suc, ◌+◌, ◌-◌, ◌*◌, ◌/◌, ◌%◌, ◌^◌, ◌<◌, ◌≤◌, min, cond, not, nat_le, if◌then◌else◌, ◌==◌, List, [], ◌∷◌, ◌++◌, length, take, drop, replicate, filter, refl, sym, ap, ◌∙◌, subst, inl, inr, arith, length-take-le, length-drop, take-append-drop}
+use Rattle.std.proofs.Common.{◌≡◌, ◌≢◌, ℕ, zero, suc, ◌+◌, ◌-◌, ◌*◌, ◌/◌, ◌%◌, ◌^◌, ◌<◌, ◌≤◌, min, false, cond, not, nat_le, if◌then◌else◌, ◌==◌, List, [], ◌∷◌, ◌++◌, length, take, drop, replicate, filter, refl, sym, ap, ◌∙◌, subst, inl, inr, arith, length-take-le, length-drop, take-append-drop}
 use Rattle.std.specs.List.{AllByRecursion}
 use Rattle.std.proofs.Math.Nat.{pow-succ'}
 use Rattle.std.proofs.lemmas.Bool.{cases_eq, ne_eqb}
@@ -8,11 +8,12 @@ use Rattle.byteorder.specs.Numbers.{little_from-cons}
 use Rattle.cap_spec.specs.Words.{IsWord}
 use Rattle.cap_spec.specs.Plain.{word_bytes, plain_text}
 use Rattle.cap_spec.specs.Packing.{zeros_in, zero_bytes, zero_run, full_run, tag_of, group_size, group_text, pack_in, pack_text}
-use Rattle.cap_spec.specs.Unpacking.{marks, spread, IsGroup, zeros, plain, marked, Unpacks}
+use Rattle.cap_spec.specs.Unpacking.{marks, spread, IsGroup, zeros, plain, marked, Unpacks, unpacked, packed_is_cut}
 use Rattle.cap_spec.proofs.Packing.{zero_run-append, zero_run-ends, front-le, nonzero_word, group_size-marked}
 use Rattle.cap_spec.proofs.Lists.{all_take, all_drop}
 use Rattle.cap_spec.proofs.WordBytes.{bytes_fit, word_back}
 use Rattle.cap_spec.proofs.Unpacking.{spread_none, spread_clear, spread_set}
+use Rattle.cap_spec.proofs.Groups.{unpacks_words, unpacks_whole}
 use Rattle.cap_spec.proofs.OneUnpacking.{unpacks_with}
 
 -- the bytes of a word that aren't zero
@@ -219,3 +220,9 @@ pack_in_unpacks (suc n) (x ∷ words) l all =
 -- the packed text of words unpacks to these words
 pub pack_text_unpacks : (words : List ℕ) → AllByRecursion IsWord words → Unpacks (pack_text words) words
 pack_text_unpacks words all = pack_in_unpacks (length words) words (omega arith) all
+
+-- and gives them, to the end
+pub pack_text_reads : (words : List ℕ) → AllByRecursion IsWord words → (unpacked (pack_text words) ≡ words) × (packed_is_cut (pack_text words) ≡ false)
+pack_text_reads words all =
+    let u = pack_text_unpacks words all in
+    (sym (unpacks_words (pack_text words) words u), unpacks_whole (pack_text words) words u)

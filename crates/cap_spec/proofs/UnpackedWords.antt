@@ -4,8 +4,9 @@ use Rattle.std.specs.List.{AllByRecursion}
 use Rattle.std.proofs.Math.Nat.{pow-succ'}
 use Rattle.std.proofs.lemmas.Bool.{cases_eq}
 use Rattle.cap_spec.specs.Words.{IsWord}
-use Rattle.cap_spec.specs.Plain.{plain_words}
-use Rattle.cap_spec.specs.Unpacking.{spread, IsGroup, zeros, plain, marked, Groups, words_of, Unpacks, given_of, unpacked}
+use Rattle.cap_spec.specs.Plain.{word_bytes, plain_text, plain_words}
+use Rattle.cap_spec.proofs.WordBytes.{bytes_fit}
+use Rattle.cap_spec.specs.Unpacking.{spread, IsGroup, zeros, plain, marked, Groups, text_of, words_of, Unpacks, given_of, unpacked}
 use Rattle.cap_spec.proofs.Lists.{all_take, all_drop, all_append, all_back}
 use Rattle.cap_spec.proofs.Plain.{plain_split}
 use Rattle.cap_spec.proofs.Unpacking.{spread_clear, spread_set}
@@ -75,3 +76,25 @@ unpacked_by bytes all (part k c) =
 -- packed bytes give words
 pub unpacked_are_words : (bytes : List ℕ) → AllByRecursion (λ b. b < 256) bytes → AllByRecursion IsWord (unpacked bytes)
 unpacked_are_words bytes all = unpacked_by bytes all (becomes bytes all)
+
+-- the plain text of words is bytes
+pub plain_are_bytes : (words : List ℕ) → AllByRecursion (λ b. b < 256) (plain_text words)
+plain_are_bytes [] = tt
+plain_are_bytes (x ∷ words) = all_append (λ b. b < 256) (word_bytes x) (plain_text words) (bytes_fit 0 8 x) (plain_are_bytes words)
+
+-- a group is bytes
+pub group_are_bytes : (bytes words : List ℕ) → IsGroup bytes words → AllByRecursion (λ b. b < 256) bytes
+group_are_bytes bytes words (zeros n h e w) = subst (AllByRecursion (λ b. b < 256)) (sym e) ((omega arith), (h, tt))
+group_are_bytes bytes words (plain x more h all l e w) =
+    subst (AllByRecursion (λ b. b < 256)) (sym e)
+    ((omega arith), all_append (λ b. b < 256) (word_bytes x) (length more ∷ plain_text more) (bytes_fit 0 8 x) (l, plain_are_bytes more))
+group_are_bytes bytes words (marked tag present p q all l e w) = subst (AllByRecursion (λ b. b < 256)) (sym e) ((omega (arith, q)), all)
+
+-- so are groups
+groups_are_bytes : (groups : Groups) → AllByRecursion (λ g. IsGroup g.0 g.1) groups → AllByRecursion (λ b. b < 256) (text_of groups)
+groups_are_bytes [] all = tt
+groups_are_bytes (g ∷ groups) all = all_append (λ b. b < 256) g.0 (text_of groups) (group_are_bytes g.0 g.1 all.0) (groups_are_bytes groups all.1)
+
+-- what unpacks to words is bytes
+pub unpacks_are_bytes : (bytes words : List ℕ) → Unpacks bytes words → AllByRecursion (λ b. b < 256) bytes
+unpacks_are_bytes bytes words u = subst (AllByRecursion (λ b. b < 256)) (sym u.text) (groups_are_bytes u.groups u.each)

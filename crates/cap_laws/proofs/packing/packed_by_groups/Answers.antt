@@ -1,0 +1,6 @@
+use Rattle.std.proofs.Common.{refl}
+use Rattle.cap_spec.proofs.Packing.{pack_text-front}
+use Rattle.cap_laws.proofs.packing.packed_by_groups.Goals as goal
+
+pub returns : goal.returns
+returns c = (refl, pack_text-front)
