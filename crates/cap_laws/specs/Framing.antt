@@ -11,7 +11,7 @@ use Rattle.cap_spec.specs.Endings.{BeginsMessage, TellsTooMany, TellsTooMuch, En
 abbrev pub four_bytes : ℕ → List ℕ
 four_bytes x = little_bytes 4 x
 
--- reading a message ends in exactly one of the five ways, for each limit and each list of words
+-- Reading a message ends in exactly one of the five ways, for each limit and each list of words. (The number 2 ^ 64 alone, which is no word, would end in none.)
 abbrev pub OneEnding : Type 0
 OneEnding = (limit : ℕ) (words : List ℕ) (cut : Bool) → AllByRecursion IsWord words →
     (ending : Ending) × EndsIn limit words cut ending × ((other : Ending) → EndsIn limit words cut other → other ≡ ending)

@@ -26,14 +26,15 @@ pub fn one_stream()
 
 /// Of the words still to come exactly one of five things is so: a front of them frames a message
 /// within the limit; there are none, and the input ends between words; the first tells more than
-/// 512 segments; they begin with a table whose sizes are past the limit together; or they end
-/// inside the table or the contents of a frame that is within both limits.
+/// 512 segments; they begin with a table whose sizes are past the limit together; or they begin a
+/// frame of at most 512 segments and end inside its first word, its table, or its contents, which
+/// are then within the limit.
 pub fn one_ending()
     ensures { OneEnding }
 {}
 
-/// Words, with what their input ends in, end inside a frame just where none of the other four
-/// things is so.
+/// The last of these five things is so just where none of the other four is: the words begin a frame
+/// and end inside it.
 pub fn partial_else()
     ensures { PartialElse }
 {}

@@ -19,12 +19,7 @@ pub all_append : {A : Type 0} (P : A → Type 0) (xs ys : List A) → AllByRecur
 all_append P [] ys a b = b
 all_append P (x ∷ xs) ys a b = (a.0, all_append P xs ys a.1 b)
 
--- of the first of two lists joined
-pub all_front : {A : Type 0} (P : A → Type 0) (xs ys : List A) → AllByRecursion P (xs ++ ys) → AllByRecursion P xs
-all_front P [] ys a = tt
-all_front P (x ∷ xs) ys a = (a.0, all_front P xs ys a.1)
-
--- of the second
+-- of the second of two lists joined
 pub all_back : {A : Type 0} (P : A → Type 0) (xs ys : List A) → AllByRecursion P (xs ++ ys) → AllByRecursion P ys
 all_back P [] ys a = a
 all_back P (x ∷ xs) ys a = all_back P xs ys a.1
