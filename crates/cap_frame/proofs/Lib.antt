@@ -4,3 +4,5 @@ pub mod Tables
 pub mod Contents
 pub mod Behind
 pub mod Before
+pub mod Converse
+pub mod Putting

@@ -3,3 +3,5 @@ pub mod Taking
 pub mod Faults
 pub mod Rooms
 pub mod SourceFaults
+pub mod Putting
+pub mod Numbers

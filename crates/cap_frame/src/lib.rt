@@ -8,9 +8,11 @@ pub mod reader;
 pub mod segments;
 mod table;
 mod words;
+pub mod writer;
 
 pub use fault::FrameFault;
 pub use limit::SizeLimit;
 pub use message::{OneSegment, WordMessage};
 pub use reader::read_message;
 pub use segments::Segments;
+pub use writer::write_message;

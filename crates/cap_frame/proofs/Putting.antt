@@ -1,0 +1,155 @@
+-- Words put to a sink in several calls.
+use Rattle.std.proofs.Common.{◌≡◌, ◌∙◌, ℕ, zero, suc, ◌+◌, ◌*◌, ◌/◌, ◌^◌, ◌<◌, true, false, Option, Some, None, Result, Err, List, [], ◌∷◌, ◌++◌, length, drop, get_or, refl, sym, ap, subst, arith, append_assoc, append-nil}
+use Rattle.std.proofs.Math.Seq.{drop-cons}
+use Rattle.std.proofs.lemmas.List.{length-map}
+use Rattle.std.specs.Io.KnownBytes.{Keeps}
+use Rattle.std.specs.Prelude.{slice_get}
+use Rattle.std.proofs.KnownBytes.{Keeps-refl, Keeps-trans}
+use Rattle.cap_words.specs.Sinks.{Begins, WasPut}
+use Rattle.cap_words.specs.Ends.{Failures, DeviceFails, GrowthFails, WasSpent}
+use Rattle.cap_words.specs.declared.sinks.WordSink as sink
+use Rattle.cap_words.specs.declared.sinks.SinkFault.{SinkFault}
+use Rattle.cap_words.specs.declared.sinks.SinkFault.TheVariants.{Device, Memory, Spent}
+use Rattle.cap_spec.specs.Frames.{paired, joined, frame_text}
+use Rattle.cap_spec.specs.Messages.{segment_of}
+use Rattle.cap_frame.specs.Numbers.{numbers_of, pair_at}
+use Rattle.cap_frame.specs.Putting.{Puts, Halts, Blames}
+
+-- what begins the kept text begins the text
+pub begins_kept : (a b part : Option (List ℕ)) → Keeps a b → Begins b part → Begins a part
+begins_kept None b part k h = tt
+begins_kept (Some x) None part k h = absurd k
+begins_kept (Some x) (Some y) None k h = absurd h
+begins_kept (Some x) (Some y) (Some p) k h = (h.0, sym k ∙ h.1)
+
+module _ {K : Type 0} (g : sink.Ghosts K) where
+  -- some words, and then others
+  pub puts_both : (old mid new : K) (a b : List ℕ) → Puts g old mid a → Puts g mid new b → Puts g old new (a ++ b)
+  puts_both old mid new a b p q = record {
+    put = λ ws. subst (λ (xs : List ℕ). Keeps (g.text old xs) (g.text new ws)) (sym (append_assoc a b ws)) (Keeps-trans (g.text old (a ++ (b ++ ws))) (g.text mid (b ++ ws)) (g.text new ws) (p.put (b ++ ws)) (q.put ws));
+    was_open = p.was_open;
+    is_open = q.is_open;
+    spent = q.spent ∙ p.spent;
+    none_failed = q.none_failed ∙ p.none_failed;
+  }
+
+  -- a fault tells the same of the output as it was before words were put
+  pub blames_later : (old mid new : K) (fault : SinkFault) → g.spent mid ≡ g.spent old → g.failures mid ≡ g.failures old → Blames g mid new fault → Blames g old new fault
+  blames_later old mid new Device s n b = record {
+    usable = sym s ∙ b.usable;
+    failed = b.failed ∙ ap (λ (f : Failures). f.device + 1) n;
+    memory = b.memory ∙ ap (λ (f : Failures). f.memory) n;
+  }
+  blames_later old mid new Memory s n b = record {
+    usable = sym s ∙ b.usable;
+    device = b.device ∙ ap (λ (f : Failures). f.device) n;
+    failed = b.failed ∙ ap (λ (f : Failures). f.memory + 1) n;
+  }
+  blames_later old mid new Spent s n b = record { spent = sym s ∙ b.spent; still = b.still; none_failed = b.none_failed ∙ n }
+
+  -- the next word
+  pub puts_one : (old new : K) (word : ℕ) → WasPut g.text old new (word ∷ [])
+      → (g.closed old ≡ false) × (g.closed new ≡ false) × (g.spent new ≡ g.spent old) × (g.failures new ≡ g.failures old) → Puts g old new (word ∷ [])
+  puts_one old new word p o = record { put = p; was_open = o.0; is_open = o.1; spent = o.2; none_failed = o.3 }
+
+  -- a fault at the next word
+  pub halts_one : (old new : K) (word : ℕ) (r : Result (Unit {0}) SinkFault) (fault : SinkFault) → r ≡ Err fault
+      → (g.closed new ≡ true) × ((ws : List ℕ) → Begins (g.text old (word ∷ ws)) (g.taken new))
+      → (r ≡ Err Device → DeviceFails (g.spent old) (g.failures old) (g.failures new))
+      → (r ≡ Err Memory → GrowthFails (g.spent old) (g.failures old) (g.failures new))
+      → (r ≡ Err Spent → WasSpent (g.spent old) (g.spent new) (g.failures old) (g.failures new) × Keeps (g.taken old) (g.taken new))
+      → Halts g old new (word ∷ []) fault
+  halts_one old new word r Device e h d m s = record { stopped = h.1; closed = h.0; blames = d e }
+  halts_one old new word r Memory e h d m s = record { stopped = h.1; closed = h.0; blames = m e }
+  halts_one old new word r Spent e h d m s = record { stopped = h.1; closed = h.0; blames = (s e).0 }
+
+  -- a fault before other words
+  pub halts_before : (old new : K) (b c : List ℕ) (fault : SinkFault) → Halts g old new b fault → Halts g old new (b ++ c) fault
+  halts_before old new b c fault h = record {
+    stopped = λ ws. subst (λ (xs : List ℕ). Begins (g.text old xs) (g.taken new)) (sym (append_assoc b c ws)) (h.stopped (c ++ ws));
+    closed = h.closed;
+    blames = h.blames;
+  }
+
+  -- a fault behind some words, and before others
+  pub halts_within : (old mid new : K) (a b c : List ℕ) (fault : SinkFault) → Puts g old mid a → Halts g mid new b fault → Halts g old new (a ++ (b ++ c)) fault
+  halts_within old mid new a b c fault p h = record {
+    stopped = λ ws.
+        let same : a ++ (b ++ (c ++ ws)) ≡ (a ++ (b ++ c)) ++ ws = sym (append_assoc a (b ++ c) ws ∙ ap (λ (xs : List ℕ). a ++ xs) (append_assoc b c ws)) in
+        subst (λ (xs : List ℕ). Begins (g.text old xs) (g.taken new)) same (begins_kept (g.text old (a ++ (b ++ (c ++ ws)))) (g.text mid (b ++ (c ++ ws))) (g.taken new) (p.put (b ++ (c ++ ws))) (h.stopped (c ++ ws)));
+    closed = h.closed;
+    blames = blames_later old mid new fault p.spent p.none_failed h.blames;
+  }
+
+  -- Of all these words the rest is left to put.
+  pub record Leaves (old now : K) (all rest : List ℕ) : Type 0 where
+    pub done : List ℕ
+    pub whole : all ≡ done ++ rest
+    pub puts : Puts g old now done
+
+  -- none was put
+  pub leaves_all : (s : K) (all : List ℕ) → g.closed s ≡ false → Leaves s s all all
+  leaves_all s all o = record {
+    done = [];
+    whole = refl;
+    puts = record { put = λ ws. Keeps-refl (g.text s ws); was_open = o; is_open = o; spent = refl; none_failed = refl };
+  }
+
+  -- the next ones were put
+  pub leaves_less : (old now new : K) (all rest front less : List ℕ) → rest ≡ front ++ less → Leaves old now all rest → Puts g now new front → Leaves old new all less
+  leaves_less old now new all rest front less e l p = record {
+    done = l.done ++ front;
+    whole = l.whole ∙ (ap (λ (ws : List ℕ). l.done ++ ws) e ∙ sym (append_assoc l.done front less));
+    puts = puts_both old now new l.done front l.puts p;
+  }
+
+  -- none is left
+  pub leaves_none : (old now : K) (all rest : List ℕ) → rest ≡ [] → Leaves old now all rest → Puts g old now all
+  leaves_none old now all rest e l = subst (Puts g old now) (sym (l.whole ∙ (ap (λ (ws : List ℕ). l.done ++ ws) e ∙ append-nil l.done))) l.puts
+
+  -- the next ones were refused
+  pub leaves_halts : (old now new : K) (all rest front less : List ℕ) (fault : SinkFault) → rest ≡ front ++ less → Leaves old now all rest → Halts g now new front fault → Halts g old new all fault
+  leaves_halts old now new all rest front less fault e l h =
+      subst (λ (ws : List ℕ). Halts g old new ws fault) (sym (l.whole ∙ ap (λ (ws : List ℕ). l.done ++ ws) e)) (halts_within old now new l.done front less fault l.puts h)
+
+-- the pair in front of numbers from k on
+paired_at : (numbers : List ℕ) (k : ℕ) → k < length numbers → paired (drop k numbers) ≡ (get_or numbers k 0 + 2 ^ 32 * get_or numbers (suc k) 0) ∷ paired (drop (suc (suc k)) numbers)
+paired_at [] k h = absurd (omega arith)
+paired_at (x ∷ []) zero h = let e : x ≡ x + 2 ^ 32 * 0 = omega arith in ap (λ (y : ℕ). y ∷ []) e
+paired_at (x ∷ y ∷ numbers) zero h = refl
+paired_at (x ∷ numbers) (suc k) h = paired_at numbers k (omega arith)
+
+pub paired_from : (numbers : List ℕ) (k : ℕ) → k < length numbers → paired (drop k numbers) ≡ pair_at numbers k ∷ paired (drop (k + 2) numbers)
+paired_from numbers k h =
+    let one : suc k ≡ k + 1 = omega arith in
+    let two : suc (suc k) ≡ k + 2 = omega arith in
+    paired_at numbers k h ∙ (ap (λ (j : ℕ). (get_or numbers k 0 + 2 ^ 32 * get_or numbers j 0) ∷ paired (drop (suc (suc k)) numbers)) one
+    ∙ ap (λ (j : ℕ). pair_at numbers k ∷ paired (drop j numbers)) two)
+
+-- the word in front of a table from word w + 1 on
+pub table_from : (m : List (List ℕ)) (w x : ℕ) → w < length m / 2 → x ≡ pair_at (numbers_of m) (2 * (w + 1))
+    → paired (drop (2 * w + 2) (numbers_of m)) ≡ (x ∷ []) ++ paired (drop (2 * (w + 1) + 2) (numbers_of m))
+table_from m w x h e =
+    let same : 2 * w + 2 ≡ 2 * (w + 1) = omega arith in
+    let inside : 2 * (w + 1) < length (numbers_of m) = omega (arith, length-map m (λ (ws : List ℕ). length ws)) in
+    ap (λ (j : ℕ). paired (drop j (numbers_of m))) same ∙ (paired_from (numbers_of m) (2 * (w + 1)) inside
+    ∙ ap (λ (y : ℕ). y ∷ paired (drop (2 * (w + 1) + 2) (numbers_of m))) (sym e))
+
+-- the first word of a framed message, the rest of its table, and its contents
+pub frame_from : (m : List (List ℕ)) (x : ℕ) → x ≡ pair_at (numbers_of m) 0 → frame_text m ≡ (x ∷ []) ++ (paired (drop 2 (numbers_of m)) ++ joined m)
+frame_from m x e =
+    let first : paired (numbers_of m) ≡ pair_at (numbers_of m) 0 ∷ paired (drop 2 (numbers_of m)) = paired_from (numbers_of m) 0 (omega arith) in
+    ap (λ (ws : List ℕ). ws ++ joined m) (first ∙ ap (λ (y : ℕ). y ∷ paired (drop 2 (numbers_of m))) (sym e))
+
+-- the word in front of words from w on
+words_at : (words : List ℕ) (w x : ℕ) → slice_get words w ≡ Some x → drop w words ≡ x ∷ drop (suc w) words
+words_at [] w x e = absurd (cc)
+words_at (y ∷ words) zero x e = let h : y ≡ x = cc in ap (λ (z : ℕ). z ∷ words) h
+words_at (y ∷ words) (suc w) x e = words_at words w x e
+
+pub words_from : (words : List ℕ) (w x : ℕ) → slice_get words w ≡ Some x → drop w words ≡ (x ∷ []) ++ drop (w + 1) words
+words_from words w x e = let one : suc w ≡ w + 1 = omega arith in words_at words w x e ∙ ap (λ (j : ℕ). x ∷ drop j words) one
+
+-- the segment in front of segments from s on
+pub segments_from : (m : List (List ℕ)) (s : ℕ) → s < length m → joined (drop s m) ≡ segment_of m s ++ joined (drop (s + 1) m)
+segments_from m s h = let one : suc s ≡ s + 1 = omega arith in ap joined (drop-cons m s [] h) ∙ ap (λ (j : ℕ). segment_of m s ++ joined (drop j m)) one

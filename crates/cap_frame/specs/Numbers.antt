@@ -1,0 +1,11 @@
+-- The numbers of the table of a message, without its padding.
+use Rattle.std.specs.Prelude.{ℕ, ◌+◌, ◌-◌, ◌*◌, ◌^◌, List, ◌∷◌, length, slice_index}
+use Rattle.cap_spec.specs.Frames.{sizes_of}
+
+-- how many segments there are besides the first, and the size of each
+abbrev pub numbers_of : List (List ℕ) → List ℕ
+numbers_of m = (length m - 1) ∷ sizes_of m
+
+-- number k and the one behind it in one word, 0 where there is none
+abbrev pub pair_at : List ℕ → ℕ → ℕ
+pair_at numbers k = slice_index numbers k + 2 ^ 32 * slice_index numbers (k + 1)

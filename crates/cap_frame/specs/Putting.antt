@@ -1,0 +1,28 @@
+-- What putting the words of a message does to a sink. g has the members of its type.
+use Rattle.std.specs.Prelude.{◌≡◌, List, ℕ, true, false}
+use Rattle.cap_words.specs.Ends.{DeviceFails, GrowthFails, WasSpent}
+use Rattle.cap_words.specs.Sinks.{WasPut, StoppedPutting}
+use Rattle.cap_words.specs.declared.sinks.WordSink as sink
+use Rattle.cap_words.specs.declared.sinks.SinkFault.{SinkFault}
+use Rattle.cap_words.specs.declared.sinks.SinkFault.TheVariants.{Device, Memory, Spent}
+
+module _ {K : Type 0} (g : sink.Ghosts K) where
+  -- These words were put, and the sink wasn't finished.
+  pub record Puts (old new : K) (words : List ℕ) : Type 0 where
+    pub put : WasPut g.text old new words
+    pub was_open : g.closed old ≡ false
+    pub is_open : g.closed new ≡ false
+    pub spent : g.spent new ≡ g.spent old
+    pub none_failed : g.failures new ≡ g.failures old
+
+  -- what each fault says of the output
+  abbrev pub Blames : K → K → SinkFault → Type 0
+  Blames old new Device = DeviceFails (g.spent old) (g.failures old) (g.failures new)
+  Blames old new Memory = GrowthFails (g.spent old) (g.failures old) (g.failures new)
+  Blames old new Spent = WasSpent (g.spent old) (g.spent new) (g.failures old) (g.failures new)
+
+  -- A fault came while these words were put.
+  pub record Halts (old new : K) (words : List ℕ) (fault : SinkFault) : Type 0 where
+    pub stopped : StoppedPutting g.text g.taken old new words
+    pub closed : g.closed new ≡ true
+    pub blames : Blames old new fault

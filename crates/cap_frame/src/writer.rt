@@ -1,0 +1,115 @@
+//! Writing messages to a sink of words.
+
+ghost use Rattle.cap_frame.specs.Numbers.{numbers_of, pair_at};
+ghost use Rattle.cap_frame.specs.Putting.{Halts, Puts};
+ghost use Rattle.cap_spec.specs.Frames.{frame_text, joined, paired};
+ghost use Rattle.cap_spec.specs.Messages.{segment_of};
+ghost use Rattle.cap_words.specs.Ends.{DeviceFails, GrowthFails, WasSpent};
+ghost use Rattle.cap_words.specs.Sinks.{StoppedPutting, WasPut};
+ghost use Rattle.std.specs.Prelude.{◌*◌, ◌<◌, ◌≡◌, ◌≤◌, IfErr, IsErrOf, OnErr, OnOk, drop, false, length, slice_index, true};
+
+use crate::segments::Segments;
+use cap_words::{SinkFault, WordSink};
+
+// Number k of the table: how many segments there are besides the first, then the size of each, then
+// padding.
+fn number<M: Segments>(message: &M, k: u32) -> u32
+    ensures { result ≡ slice_index (numbers_of (M.segments message.now)) k }
+{
+    if k == 0 {
+        message.count() - 1
+    } else if k <= message.count() {
+        message.len(k - 1)
+    } else {
+        0
+    }
+}
+
+// Word w of the table.
+fn table_word<M: Segments>(message: &M, w: u32) -> u64
+    requires { w ≤ 256 }
+    ensures { result ≡ pair_at (numbers_of (M.segments message.now)) (2 * w) }
+{
+    let low = number(message, 2 * w);
+    let high = number(message, 2 * w + 1);
+    u64::from(low) + u64::from(high) * 0x1_0000_0000
+}
+
+// Puts the table behind its first word.
+fn put_sizes<K: WordSink, M: Segments>(sink: &mut K, message: &M) -> Result<(), SinkFault>
+    requires open { K.closed sink.old ≡ false }
+    ensures ok { OnOk result (Puts K.WordSink sink.old sink.new (paired (drop 2 (numbers_of (M.segments message.now))))) }
+    ensures err { IfErr result (Halts K.WordSink sink.old sink.new (paired (drop 2 (numbers_of (M.segments message.now))))) }
+{
+    'table: for w in 0..message.count() / 2 {
+        if let Err(fault) = sink.put(table_word(message, w + 1)) {
+            return Err(fault);
+        }
+    }
+    Ok(())
+}
+
+// Puts the words of segment s.
+fn put_segment<K: WordSink, M: Segments>(sink: &mut K, message: &M, s: u32) -> Result<(), SinkFault>
+    requires exists { s < length (M.segments message.now) }
+    requires open { K.closed sink.old ≡ false }
+    ensures ok { OnOk result (Puts K.WordSink sink.old sink.new (segment_of (M.segments message.now) s)) }
+    ensures err { IfErr result (Halts K.WordSink sink.old sink.new (segment_of (M.segments message.now) s)) }
+{
+    'words: for w in 0..message.len(s) {
+        if let Err(fault) = sink.put(message.word(s, w)) {
+            return Err(fault);
+        }
+    }
+    Ok(())
+}
+
+// Puts the words of all segments.
+fn put_contents<K: WordSink, M: Segments>(sink: &mut K, message: &M) -> Result<(), SinkFault>
+    requires open { K.closed sink.old ≡ false }
+    ensures ok { OnOk result (Puts K.WordSink sink.old sink.new (joined (M.segments message.now))) }
+    ensures err { IfErr result (Halts K.WordSink sink.old sink.new (joined (M.segments message.now))) }
+{
+    'segments: for s in 0..message.count() {
+        if let Err(fault) = put_segment(sink, message, s) {
+            return Err(fault);
+        }
+    }
+    Ok(())
+}
+
+// Puts a framed message.
+fn put_framed<K: WordSink, M: Segments>(sink: &mut K, message: &M) -> Result<(), SinkFault>
+    ensures ok { OnOk result (Puts K.WordSink sink.old sink.new (frame_text (M.segments message.now))) }
+    ensures err { IfErr result (Halts K.WordSink sink.old sink.new (frame_text (M.segments message.now))) }
+    ensures for_good { K.closed sink.old ≡ true → (result ≡ Err SinkFault.Spent) × (sink.new ≡ sink.old) }
+{
+    if let Err(fault) = sink.put(table_word(message, 0)) {
+        return Err(fault);
+    }
+    if let Err(fault) = put_sizes(sink, message) {
+        return Err(fault);
+    }
+    if let Err(fault) = put_contents(sink, message) {
+        return Err(fault);
+    }
+    Ok(())
+}
+
+/// Puts a framed message: the table of its segments' sizes with zero padding, and then the words of
+/// the segments, in order. It doesn't finish the sink, so that another message may follow.
+///
+/// A fault is that of the sink at some word. The sink then answers `Spent` for good, and what its
+/// output took is a beginning of the text.
+pub fn write_message<K: WordSink, M: Segments>(sink: &mut K, message: &M) -> Result<(), SinkFault>
+    ensures ok { OnOk result (WasPut K.text sink.old sink.new (frame_text (M.segments message.now))) }
+    ensures was_open { OnOk result (K.closed sink.old ≡ false) }
+    ensures works { OnOk result ((K.closed sink.new ≡ K.closed sink.old) × (K.spent sink.new ≡ K.spent sink.old) × (K.failures sink.new ≡ K.failures sink.old)) }
+    ensures err { OnErr result ((K.closed sink.new ≡ true) × StoppedPutting K.text K.taken sink.old sink.new (frame_text (M.segments message.now))) }
+    ensures for_good { K.closed sink.old ≡ true → (result ≡ Err SinkFault.Spent) × (sink.new ≡ sink.old) }
+    ensures device { IsErrOf result SinkFault.Device → DeviceFails (K.spent sink.old) (K.failures sink.old) (K.failures sink.new) }
+    ensures memory { IsErrOf result SinkFault.Memory → GrowthFails (K.spent sink.old) (K.failures sink.old) (K.failures sink.new) }
+    ensures was_spent { IsErrOf result SinkFault.Spent → WasSpent (K.spent sink.old) (K.spent sink.new) (K.failures sink.old) (K.failures sink.new) }
+{
+    put_framed(sink, message)
+}
