@@ -1,3 +1,4 @@
 pub mod Outcomes
 pub mod FrameBytes
 mod Examples
+mod TreeExamples

@@ -1,0 +1,149 @@
+-- Small messages that meet what the laws on trees, paths and verdicts ask.
+use Rattle.std.proofs.Common.{ℕ, List, [], ◌∷◌, ◌≡◌, ◌⊎◌, refl, sym, subst, arith, lit<, lit≤, inl, inr}
+use Rattle.std.specs.List.{AllByRecursion}
+use Rattle.cap_spec.specs.Words.{IsWord}
+use Rattle.cap_spec.specs.Following.{near}
+use Rattle.cap_spec.specs.Tree.{Tree, cap, struct, structs, none, more, IsTree, pointer_count, cap_count}
+use Rattle.cap_spec.specs.Denoting.{Finds, Denotes, DenoteEach, AreElements}
+use Rattle.cap_spec.specs.Paths.{word, Reaches, Before, IsOneOf, IsTour, IsFirstCap}
+use Rattle.cap_spec.specs.Verdicts.{CostOf}
+use Rattle.cap_spec.specs.declared.Step.{Step}
+use Rattle.cap_spec.specs.declared.Step.TheVariants.{Ptr}
+use Rattle.cap_spec.proofs.Shapes.{denoted_is_tree}
+use Rattle.cap_spec.proofs.PathCounts.{pointer_path_reached, first_cap}
+use Rattle.cap_spec.proofs.PathCosts.{charge_is_cost}
+
+-- a struct of two pointers: to a struct of the word 7, and to capability 5
+abbrev two_pointers : List (List ℕ)
+two_pointers = (0x0002000000000000 ∷ 0x0000000100000004 ∷ 0x0000000500000003 ∷ 7 ∷ []) ∷ []
+
+abbrev two_pointers_tree : Tree
+two_pointers_tree = struct [] (more (struct (7 ∷ []) none) (more (cap 5) none))
+
+-- what the root finds
+finds_two : Finds two_pointers 0 0 0 0 1 0x0002000000000000
+finds_two = record {
+  leads = near 0x0002000000000000 refl (λ e. omega (arith, e)) (lit< tt, (λ e. omega (arith, e)), refl, refl, refl) refl;
+  sits = record { exists = lit< tt; inside = lit≤ tt; composite = λ (a, b). absurd (omega (arith, a)) };
+}
+
+-- and its first pointer
+finds_seven : Finds two_pointers 0 1 0 0 3 0x0000000100000004
+finds_seven = record {
+  leads = near 0x0000000100000004 refl (λ e. omega (arith, e)) (lit< tt, (λ e. omega (arith, e)), refl, refl, refl) refl;
+  sits = record { exists = lit< tt; inside = lit≤ tt; composite = λ (a, b). absurd (omega (arith, a)) };
+}
+
+denotes_seven : Denotes two_pointers 0 1 (struct (7 ∷ []) none) 1 1
+denotes_seven = (0, 0, 3, 0x0000000100000004, 0, 0, record { finds = finds_seven; kind = refl; data_words = refl; charge = refl; depth = refl }, (refl, refl, refl))
+
+denotes_five : Denotes two_pointers 0 2 (cap 5) 0 0
+denotes_five = (near 0x0000000500000003 refl (λ e. omega (arith, e)) ((refl, refl), refl) refl, refl)
+
+denotes_both : DenoteEach two_pointers ((0, 1) ∷ (0, 2) ∷ []) (more (struct (7 ∷ []) none) (more (cap 5) none)) 1 1
+denotes_both = (0, 1, (0, 2) ∷ [], 1, 1, 0, 0, refl, denotes_seven, (0, 2, [], 0, 0, 0, 0, refl, denotes_five, (refl, refl, refl), refl, refl), refl, refl)
+
+-- the root denotes the tree, at a charge of 3 and a depth of 2
+denotes_two : Denotes two_pointers 0 0 two_pointers_tree 3 2
+denotes_two = (0, 0, 1, 0x0002000000000000, 1, 1, record { finds = finds_two; kind = refl; data_words = refl; charge = refl; depth = refl }, denotes_both)
+
+-- its words are words, so that it is a tree
+words_two : AllByRecursion (AllByRecursion IsWord) two_pointers
+words_two = ((lit< tt, (lit< tt, (lit< tt, (lit< tt, tt)))), tt)
+
+is_tree_two : IsTree two_pointers_tree
+is_tree_two = denoted_is_tree two_pointers words_two 0 0 two_pointers_tree 3 2 denotes_two
+
+-- the second pointer is reached at level 2
+reaches_five : Reaches two_pointers (Ptr 1 ∷ []) 2 0 2
+reaches_five = (0x0002000000000000, 1, refl, (word 0 2, 0, (0, 0, 1, 0x0002000000000000, finds_two, refl, lit< tt, refl), (refl, refl), refl), refl)
+
+-- three pointers, one capability, and a charge that is the cost of the paths
+counts_two : (pointer_count two_pointers_tree ≡ 3) × (cap_count two_pointers_tree ≡ 1)
+counts_two = (refl, refl)
+
+costs_two : CostOf two_pointers ([] ∷ (Ptr 0 ∷ []) ∷ (Ptr 1 ∷ []) ∷ []) 3
+costs_two = charge_is_cost two_pointers two_pointers_tree 3 2 denotes_two
+
+-- the first capability stands at the second pointer
+first_cap_two : (s w : ℕ) × IsFirstCap two_pointers s w
+first_cap_two = (first_cap two_pointers two_pointers_tree 3 2 denotes_two).0 refl
+
+-- the tour up to the first pointer
+tour_two : IsTour two_pointers (Ptr 0 ∷ []) ([] ∷ (Ptr 0 ∷ []) ∷ [])
+tour_two = record {
+  rising = (tt, tt);
+  reached = λ q i. (pointer_path_reached two_pointers two_pointers_tree 3 2 denotes_two q).0 (wider q i);
+  all = λ q level s w g before. upto q before ((pointer_path_reached two_pointers two_pointers_tree 3 2 denotes_two q).1 (level, s, w, g));
+  none_after = after;
+}
+  where
+    wider : (q : List Step) → IsOneOf q ([] ∷ (Ptr 0 ∷ []) ∷ []) → IsOneOf q ([] ∷ (Ptr 0 ∷ []) ∷ (Ptr 1 ∷ []) ∷ [])
+    wider q (inl e) = inl e
+    wider q (inr (inl e)) = inr (inl e)
+    wider q (inr (inr e)) = absurd e
+
+    after : (q : List Step) → IsOneOf q ([] ∷ (Ptr 0 ∷ []) ∷ []) → (q ≡ Ptr 0 ∷ []) ⊎ Before q (Ptr 0 ∷ [])
+    after q (inl e) = inr (subst (λ (x : List Step). Before x (Ptr 0 ∷ [])) (sym e) tt)
+    after q (inr (inl e)) = inl e
+    after q (inr (inr e)) = absurd e
+
+    late : (Ptr 1 ∷ [] ≡ Ptr 0 ∷ []) ⊎ Before (Ptr 1 ∷ []) (Ptr 0 ∷ []) → ⊥
+    late (inl e) = cc e
+    late (inr (inl e)) = omega (arith, e)
+    late (inr (inr e)) = e.1
+
+    upto : (q : List Step) → (q ≡ Ptr 0 ∷ []) ⊎ Before q (Ptr 0 ∷ []) → IsOneOf q ([] ∷ (Ptr 0 ∷ []) ∷ (Ptr 1 ∷ []) ∷ []) → IsOneOf q ([] ∷ (Ptr 0 ∷ []) ∷ [])
+    upto q b (inl e) = inl e
+    upto q b (inr (inl e)) = inr (inl e)
+    upto q b (inr (inr (inl e))) = absurd (late (subst (λ (x : List Step). (x ≡ Ptr 0 ∷ []) ⊎ Before x (Ptr 0 ∷ [])) e b))
+    upto q b (inr (inr (inr e))) = absurd e
+
+-- a struct whose one pointer is the root word itself
+abbrev round : List (List ℕ)
+round = (0x00010000fffffffc ∷ []) ∷ []
+
+finds_round : Finds round 0 0 0 0 0 0x00010000fffffffc
+finds_round = record {
+  leads = near 0x00010000fffffffc refl (λ e. omega (arith, e)) (lit< tt, (λ e. omega (arith, e)), refl, refl, refl) refl;
+  sits = record { exists = lit< tt; inside = lit≤ tt; composite = λ (a, b). absurd (omega (arith, a)) };
+}
+
+-- the empty path reaches it, and so does a longer one
+reaches_round : Reaches round [] 1 0 0
+reaches_round = (0x00010000fffffffc, 0, refl, (refl, refl), refl)
+
+reaches_round_again : Reaches round (Ptr 0 ∷ []) 2 0 0
+reaches_round_again = (0x00010000fffffffc, 1, refl, (word 0 0, 0, (0, 0, 0, 0x00010000fffffffc, finds_round, refl, lit< tt, refl), (refl, refl), refl), refl)
+
+-- a list of one struct of the word 9
+abbrev one_element : List (List ℕ)
+one_element = (0x0000000f00000001 ∷ 0x0000000100000004 ∷ 9 ∷ []) ∷ []
+
+elements_one : AreElements one_element 0 2 1 0 1 (more (struct (9 ∷ []) none) none) 0 0
+elements_one = (0, 0, 0, 0, 0, refl, refl, (refl, refl, refl), (refl, refl, refl), refl, refl)
+
+denotes_one : Denotes one_element 0 0 (structs 1 0 (more (struct (9 ∷ []) none) none)) 2 1
+denotes_one = (
+  0,
+  0,
+  1,
+  0x0000000f00000001,
+  0x0000000100000004,
+  0,
+  0,
+  record {
+    finds = record {
+      leads = near 0x0000000f00000001 refl (λ e. omega (arith, e)) (lit< tt, (λ e. omega (arith, e)), refl, refl, refl) refl;
+      sits = record { exists = lit< tt; inside = lit≤ tt; composite = λ x. (0x0000000100000004, refl, (refl, lit≤ tt)) };
+    };
+    kind = refl;
+    code = refl;
+    has_tag = refl;
+    data_sizes = refl;
+    pointer_sizes = refl;
+    charge = refl;
+    depth = refl;
+  },
+  elements_one,
+)
