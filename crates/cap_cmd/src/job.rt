@@ -1,6 +1,8 @@
 //! A job that the command line names, and how it is done.
 
 ghost use Rattle.cap_cmd.specs.Faults.{cause_status, outcome_status, run_status};
+ghost use Rattle.cap_cmd.specs.Running.{ShowsInput};
+ghost use Rattle.cap_frame.specs.Limit.{limit_of};
 ghost use Rattle.std.specs.Prelude.{◌≡◌};
 
 use crate::engines::segments::run_segments;
@@ -75,13 +77,19 @@ fn status(answer: &Result<Outcome, RunFault>) -> u8
 
 /// Does a job: reads the input, writes to the output, and writes the line of a fault to `err`. It
 /// answers the exit status and the output. A line that can't be written changes no status.
+///
+/// The status is 0 where every message was accepted, 1 where one was refused or the input is no
+/// stream of messages within the limits, and 3 where a device failed or a growth was refused.
 pub fn run_job<I: ByteIn + Drop, O: ByteOut, E: ByteOut>(
     alloc: Global,
     job: &Job,
     input: I,
     out: O,
     err: &mut E,
-) -> (u8, O) {
+) -> (u8, O)
+    ensures segments { job.now.task ≡ Task.Segments → result.0 ≡ 0 →
+        ShowsInput (I.to_come input) (O.written out) (O.written result.1) (limit_of job.now.settings.size) job.now.settings.messages }
+{
     let mut source = PlainWords::new(input);
     let mut out = out;
     let answer = match job.task {

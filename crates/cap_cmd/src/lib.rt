@@ -7,6 +7,8 @@ pub mod fault;
 pub mod job;
 pub mod limits;
 pub mod settings;
+#[cfg(test)]
+mod tests;
 pub mod texts;
 
 pub use command_line::read_job;

@@ -1,0 +1,184 @@
+//! The command line, which no clause speaks of, and a run of each public call.
+
+use crate::texts::faults::fault_text;
+use crate::{Cause, Job, JobFault, Limits, RunFault, Task, read_job, run_job};
+use cap_frame::FrameFault;
+use cap_words::{OutFault, SliceIn, VecOut};
+use std::alloc::{AllocError, Global};
+use std::test::Fail;
+
+// The job of these words.
+fn job_of(alloc: Global, line: &[&str]) -> Result<Result<Job, JobFault>, AllocError> {
+    let mut words = Vec::new(alloc);
+    for word in line {
+        words.push(String::from_str(alloc, word)?)?;
+    }
+    Ok(read_job(alloc, words))
+}
+
+#[test]
+fn reads_the_command_line(rt: HostRuntime) -> Result<(), Fail> {
+    let alloc = rt.alloc();
+    let jobs: [(&[&str], u64, Option<&str>); 5] = [
+        (&["capvet", "segments"], 8388608, None),
+        (&["capvet", "segments", "a.bin"], 8388608, Some("a.bin")),
+        (&["capvet", "segments", "--size", "0", "-"], 0, Some("-")),
+        (&["capvet", "segments", "--size=268435456"], 268435456, None),
+        (&["capvet", "segments", "f", "--size", "1"], 1, Some("f")),
+    ];
+    for (line, size, file) in &jobs {
+        let Ok(job) = job_of(alloc, line)? else {
+            return Err("a job is refused".into());
+        };
+        assert!(rt; job.task == Task::Segments);
+        assert_eq!(rt; job.settings.size.words(), *size);
+        assert_eq!(rt; job.settings.messages, 4294967295);
+        assert!(rt; Limits::new(8388608, 64) == Some(job.settings.limits));
+        assert!(rt; job.file.as_ref().map(|name| name.as_str()) == *file);
+    }
+    Ok(())
+}
+
+#[test]
+fn refuses_and_helps(rt: HostRuntime) -> Result<(), Fail> {
+    let alloc = rt.alloc();
+    let helps: [&[&str]; 5] = [
+        &["capvet", "--help"],
+        &["capvet", "-h"],
+        &["capvet", "help"],
+        &["capvet", "segments", "--help"],
+        &["capvet", "help", "segments"],
+    ];
+    for line in &helps {
+        let Err(JobFault::Help { text }) = job_of(alloc, line)? else {
+            return Err("no help".into());
+        };
+        assert!(rt; text.contains("Usage: capvet"));
+    }
+    let mistakes: [(&[&str], &str); 7] = [
+        (
+            &["capvet"],
+            "error: 'capvet' requires a subcommand but one was not provided",
+        ),
+        (
+            &[],
+            "error: 'capvet' requires a subcommand but one was not provided",
+        ),
+        (&["capvet", "vat"], "error: unrecognized subcommand 'vat'"),
+        (
+            &["capvet", "segments", "--nothing", "1"],
+            "error: unexpected argument '--nothing' found",
+        ),
+        (
+            &["capvet", "segments", "--size", "268435457"],
+            "error: invalid value '268435457' for '--size <N>'",
+        ),
+        (
+            &["capvet", "segments", "--size", "x"],
+            "error: invalid value 'x' for '--size <N>'",
+        ),
+        (
+            &["capvet", "segments", "a", "b"],
+            "error: unexpected argument 'b' found",
+        ),
+    ];
+    for (line, part) in &mistakes {
+        let Err(JobFault::Usage { text }) = job_of(alloc, line)? else {
+            return Err("no usage".into());
+        };
+        assert!(rt; text.contains(part));
+    }
+    Ok(())
+}
+
+#[test]
+fn does_a_job(rt: HostRuntime) -> Result<(), Fail> {
+    let alloc = rt.alloc();
+    let two = b"\0\0\0\0\0\0\0\0\0\0\0\0\x02\0\0\0\0\0\0\0\x01\0\0\0\x2a\0\0\0\0\0\0\0\0\0\0\0";
+    let runs: [(&[&str], &[u8], u8, &str, &str); 4] = [
+        (
+            &["capvet", "segments"],
+            &two[..32],
+            0,
+            "message 0: segments 1 words 0\nsegment 0: 0\nroot none\nmessage 1: segments 1 words 2\nsegment 0: 2\nroot 0000000001000000\n",
+            "",
+        ),
+        (
+            &["capvet", "segments"],
+            &two[..],
+            1,
+            "message 0: segments 1 words 0\nsegment 0: 0\nroot none\nmessage 1: segments 1 words 2\nsegment 0: 2\nroot 0000000001000000\n",
+            "capvet: message 2: Truncated at byte 36\n",
+        ),
+        (
+            &["capvet", "segments", "--size", "1"],
+            &two[8..32],
+            1,
+            "",
+            "capvet: message 0: TooLarge 2\n",
+        ),
+        (&["capvet", "segments"], &two[..0], 0, "", ""),
+    ];
+    for (line, input, status, output, errors) in &runs {
+        let Ok(job) = job_of(alloc, line)? else {
+            return Err("a job is refused".into());
+        };
+        let mut err = VecOut::new(alloc);
+        let (answer, out) = run_job(
+            alloc,
+            &job,
+            SliceIn::new(input),
+            VecOut::new(alloc),
+            &mut err,
+        );
+        assert_eq!(rt; answer, *status);
+        assert!(rt; out.bytes() == output.as_bytes());
+        assert!(rt; err.bytes() == errors.as_bytes());
+    }
+    Ok(())
+}
+
+#[test]
+fn tells_the_faults(rt: HostRuntime) -> Result<(), Fail> {
+    let faults: [(Cause, &str); 8] = [
+        (
+            Cause::TooManyMessages,
+            "capvet: message 7: TooManyMessages\n",
+        ),
+        (
+            Cause::Frame(FrameFault::TooManySegments { count: 4294967296 }),
+            "capvet: message 7: TooManySegments 4294967296\n",
+        ),
+        (
+            Cause::Frame(FrameFault::TooLarge {
+                words: 18446744073709551615,
+            }),
+            "capvet: message 7: TooLarge 18446744073709551615\n",
+        ),
+        (
+            Cause::Frame(FrameFault::Truncated { byte: 10 }),
+            "capvet: message 7: Truncated at byte 10\n",
+        ),
+        (
+            Cause::Frame(FrameFault::Device),
+            "capvet: message 7: Device\n",
+        ),
+        (
+            Cause::Frame(FrameFault::Memory),
+            "capvet: message 7: Memory\n",
+        ),
+        (
+            Cause::Frame(FrameFault::Spent),
+            "capvet: message 7: Spent\n",
+        ),
+        (Cause::Output(OutFault::Device), "capvet: output failed\n"),
+    ];
+    for (cause, text) in &faults {
+        let line = fault_text(&RunFault {
+            message: 7,
+            cause: *cause,
+        });
+        assert!(rt; line.as_slice() == text.as_bytes());
+    }
+    Ok(())
+}
