@@ -1,5 +1,5 @@
 -- Bytes spread over a word, one bit of the tag after the other.
-use Rattle.std.proofs.Common.{◌≡◌, ℕ, zero, suc, ◌+◌, ◌-◌, ◌*◌, ◌/◌, ◌%◌, ◌<◌, ◌≤◌, eqb, cond, Bool, true, false, List, [], ◌∷◌, ◌++◌, length, take, drop, set, get_or, refl, sym, ap, ◌∙◌, arith, append_assoc, get_or-drop, append-nil, zero-add, add-zero, add-one}
+use Rattle.std.proofs.Common.{◌≡◌, ℕ, zero, suc, ◌+◌, ◌-◌, ◌*◌, ◌/◌, ◌%◌, ◌<◌, ◌≤◌, eqb, cond, Bool, true, false, List, [], ◌∷◌, ◌++◌, length, take, drop, set, get_or, refl, sym, ap, ◌∙◌, arith, append_assoc, get_or-drop, le_trans, append-nil, zero-add, add-zero, add-one, subst}
 use Rattle.std.proofs.lemmas.List.{length-set, take_all}
 use Rattle.std.proofs.Math.Seq.{take-suc-set}
 use Rattle.std.proofs.lemmas.Bool.{eqb-true, eqb-false, eq-eqb, ne_eqb, cond-true, cond-false}
@@ -50,10 +50,11 @@ little_value bytes l = absurd (omega (arith, l))
 pub record Spreading (tag : ℕ) (present : List ℕ) (i bits next : ℕ) (bytes : List ℕ) : Type 0 where
   pub size : length bytes ≡ 8
   pub room : next + marks (8 - i) bits ≤ length present
+  pub steps : next ≤ i
   pub front : take i bytes ++ scatter (8 - i) bits (drop next present) ≡ scatter 8 tag present
 
 pub spreading_none : (tag : ℕ) (present bytes : List ℕ) → length bytes ≡ 8 → marks 8 tag ≤ length present → Spreading tag present 0 tag 0 bytes
-spreading_none tag present bytes l p = record { size = l; room = omega arith; front = refl }
+spreading_none tag present bytes l p = record { size = l; room = omega arith; steps = omega arith; front = refl }
 
 one_less : (i : ℕ) → i < 8 → 8 - i ≡ suc (8 - (i + 1))
 one_less i p = omega arith
@@ -88,7 +89,7 @@ spreading_set tag present i bits next bytes p one s =
     ∙ cond-false (eqb (bits % 2) 0) (0 ∷ scatter m (bits / 2) (drop next present)) (get_or (drop next present) 0 0 ∷ scatter m (bits / 2) (drop 1 (drop next present))) set_bit
     ∙ ap (λ x. x ∷ scatter m (bits / 2) (drop 1 (drop next present))) first ∙ ap (λ l. get_or present next 0 ∷ scatter m (bits / 2) l) behind in
     let size : length (set bytes i (get_or present next 0)) ≡ 8 = length-set bytes i (get_or present next 0) ∙ s.size in
-    record { size = size; room = omega (arith, left); front = front_more i (get_or present next 0) bytes _ _ _ p s.size rest s.front }
+    record { size = size; room = omega (arith, left); steps = omega arith; front = front_more i (get_or present next 0) bytes _ _ _ p s.size rest s.front }
 
 -- a bit that is clear takes none
 pub spreading_clear : (tag : ℕ) (present : List ℕ) (i bits next : ℕ) (bytes : List ℕ) → i < 8 → bits % 2 ≡ 0 → Spreading tag present i bits next bytes →
@@ -101,11 +102,27 @@ spreading_clear tag present i bits next bytes p none s =
     ap (λ n. scatter n bits (drop next present)) (one_less i p)
     ∙ cond-true (eqb (bits % 2) 0) (0 ∷ scatter m (bits / 2) (drop next present)) (get_or (drop next present) 0 0 ∷ scatter m (bits / 2) (drop 1 (drop next present))) (eq-eqb (bits % 2) 0 none) in
     let size : length (set bytes i 0) ≡ 8 = length-set bytes i 0 ∙ s.size in
-    record { size = size; room = omega (arith, left); front = front_more i 0 bytes _ _ _ p s.size rest s.front }
+    record { size = size; room = omega (arith, left); steps = omega arith; front = front_more i 0 bytes _ _ _ p s.size rest s.front }
 
--- a set bit has a byte
-pub spreading_within : (tag : ℕ) (present : List ℕ) (i bits next : ℕ) (bytes : List ℕ) → i < 8 → bits % 2 ≡ 1 → Spreading tag present i bits next bytes → next < length present
-spreading_within tag present i bits next bytes p one s = let left = marks_left i bits p in omega (arith, left)
+-- the same, where the next place is counted by the bit
+pub spreading_more : (tag : ℕ) (present : List ℕ) (i bits next : ℕ) (bytes : List ℕ) → i < 8 → bits % 2 ≡ 1 → Spreading tag present i bits next bytes →
+    Spreading tag present (i + 1) (bits / 2) (next + bits % 2) (set bytes i (get_or present next 0))
+spreading_more tag present i bits next bytes p one s =
+    let e : next + 1 ≡ next + bits % 2 = omega arith in
+    let P : ℕ → Type 0 = λ n. Spreading tag present (i + 1) (bits / 2) n (set bytes i (get_or present next 0)) in
+    subst P e (spreading_set tag present i bits next bytes p one s)
+
+pub spreading_same : (tag : ℕ) (present : List ℕ) (i bits next : ℕ) (bytes : List ℕ) → i < 8 → bits % 2 ≡ 0 → Spreading tag present i bits next bytes →
+    Spreading tag present (i + 1) (bits / 2) (next + bits % 2) (set bytes i 0)
+spreading_same tag present i bits next bytes p none s =
+    let e : next ≡ next + bits % 2 = omega arith in
+    let P : ℕ → Type 0 = λ n. Spreading tag present (i + 1) (bits / 2) n (set bytes i 0) in
+    subst P e (spreading_clear tag present i bits next bytes p none s)
+
+-- a tag marks no more bytes than it has bits
+pub marks-le : (n tag : ℕ) → marks n tag ≤ n
+marks-le zero tag = omega arith
+marks-le (suc n) tag = let rest = marks-le n (tag / 2) in omega arith
 
 scatter_none : (tag : ℕ) (present : List ℕ) → scatter 0 tag present ≡ []
 unfolding scatter
@@ -118,3 +135,7 @@ spreading_all tag present i bits next bytes e p s =
     let same : bytes ≡ scatter 8 tag present =
     sym (append-nil bytes) ∙ ap (λ l. l ++ []) (sym all) ∙ ap (λ l. take i bytes ++ l) (sym (ap (λ n. scatter n bits (drop next present)) none ∙ scatter_none bits (drop next present))) ∙ s.front in
     little_value bytes s.size ∙ ap value same ∙ value_scatter 8 tag present p
+
+-- nine bytes are enough
+pub marks_within : (tag : ℕ) (present : List ℕ) → length present ≡ 9 → marks 8 tag ≤ length present
+marks_within tag present l = le_trans (marks-le 8 tag) (omega arith)

@@ -41,9 +41,8 @@ impl<I: ByteIn> Counted<I> {
         }
         let tag = tag[0];
         let mut room = [0; 9];
-        let rest = &mut room[..head_len(tag)];
-        match self.whole(rest) {
-            Ok(()) => Ok(Some(head_of(tag, rest))),
+        match self.whole(&mut room[..head_len(tag)]) {
+            Ok(()) => Ok(Some(head_of(tag, &room))),
             Err(fault) => Err(fault),
         }
     }

@@ -2,8 +2,8 @@
 //! what comes after that one (encoding: Packing).
 
 ghost use Rattle.cap_pack.specs.Course.{first_word, head_rest, plain_of, zeros_of};
-ghost use Rattle.cap_spec.specs.Unpacking.{marks, spread};
-ghost use Rattle.std.specs.Prelude.{◌<◌, ◌≡◌, ◌≤◌, length};
+ghost use Rattle.cap_spec.specs.Unpacking.{spread};
+ghost use Rattle.std.specs.Prelude.{◌<◌, ◌≡◌, ◌≤◌};
 
 use byteorder::{ByteOrder, LittleEndian};
 use cap_words::word_of;
@@ -32,26 +32,25 @@ pub(crate) fn head_len(tag: u8) -> usize
     }
 }
 
-/// What a head tells, by its tag and the bytes behind the tag.
-pub(crate) fn head_of(tag: u8, rest: &[u8]) -> Head
-    requires { length rest.now ≡ head_rest tag }
-    ensures word { result.word ≡ first_word tag rest.now }
-    ensures zeros { result.zeros ≡ zeros_of tag rest.now }
-    ensures plain { result.plain ≡ plain_of tag rest.now }
+/// What a head tells, by its tag and the bytes behind the tag. Bytes behind the head change nothing.
+pub(crate) fn head_of(tag: u8, room: &[u8; 9]) -> Head
+    ensures word { result.word ≡ first_word tag room.now }
+    ensures zeros { result.zeros ≡ zeros_of tag room.now }
+    ensures plain { result.plain ≡ plain_of tag room.now }
 {
     match tag {
         0 => Head {
             word: 0,
-            zeros: rest[0],
+            zeros: room[0],
             plain: 0,
         },
         0xff => Head {
-            word: LittleEndian::read_u64(rest),
+            word: LittleEndian::read_u64(room),
             zeros: 0,
-            plain: rest[8],
+            plain: room[8],
         },
         _ => Head {
-            word: spread_word(tag, rest),
+            word: spread_word(tag, room),
             zeros: 0,
             plain: 0,
         },
@@ -59,20 +58,18 @@ pub(crate) fn head_of(tag: u8, rest: &[u8]) -> Head
 }
 
 /// The word whose byte `i` is the next of these bytes where bit `i` of the tag is set, and else zero.
-fn spread_word(tag: u8, present: &[u8]) -> u64
-    requires { marks 8 tag ≤ length present.now }
-    ensures { result ≡ spread 8 tag present.now }
+// Each turn reads a byte and then keeps it or not, so that no jump hangs on the bits of the tag.
+fn spread_word(tag: u8, room: &[u8; 9]) -> u64
+    ensures { result ≡ spread 8 tag room.now }
 {
     let mut bytes = [0; 8];
     let mut bits = tag;
     let mut next = 0;
     for i in 0..8usize {
-        if bits % 2 == 1 {
-            bytes[i] = present[next];
-            next += 1;
-        } else {
-            bytes[i] = 0;
-        }
+        let present = room[next];
+        let byte = if bits % 2 == 1 { present } else { 0 };
+        bytes[i] = byte;
+        next += (bits % 2) as usize;
         bits /= 2;
     }
     word_of(&bytes)

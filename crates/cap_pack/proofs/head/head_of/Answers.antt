@@ -1,42 +1,30 @@
 use Rattle.std.proofs.Common.{arith, ◌∙◌}
-use Rattle.cap_pack.proofs.Heads.{head_rest-zeros, head_rest-plain, marks_fit, first_word-zeros, first_word-plain, first_word-marked, zeros_of-zeros, zeros_of-others, plain_of-plain, plain_of-others}
+use Rattle.cap_pack.proofs.Heads.{first_word-zeros, first_word-plain, first_word-marked, zeros_of-zeros, zeros_of-others, plain_of-plain, plain_of-others}
 use Rattle.cap_pack.proofs.head.head_of.Goals as goal
 
-pub bounds-rest-0 : goal.bounds-rest-0
-bounds-rest-0 c = omega (arith, head_rest-zeros c.args.tag c.in-0.is)
-
-pub read_u64-requires : goal.read_u64-requires
-read_u64-requires c = omega (arith, head_rest-plain c.args.tag c.in-255.is)
-
-pub bounds-rest-8 : goal.bounds-rest-8
-bounds-rest-8 c = omega (arith, head_rest-plain c.args.tag c.in-255.is)
-
-pub spread_word-requires : goal.spread_word-requires
-spread_word-requires c = marks_fit c.args.tag c.args.rest.now (omega arith) (omega arith) c.requires
-
 pub returns-in-0-clause-word : goal.returns-in-0-clause-word
-returns-in-0-clause-word c = first_word-zeros c.args.tag c.args.rest.now c.in-0.is
+returns-in-0-clause-word c = first_word-zeros c.args.tag c.args.room.now c.in-0.is
 
 pub returns-in-0-clause-zeros : goal.returns-in-0-clause-zeros
-returns-in-0-clause-zeros c = zeros_of-zeros c.args.tag c.args.rest.now c.in-0.is
+returns-in-0-clause-zeros c = zeros_of-zeros c.args.tag c.args.room.now c.in-0.is
 
 pub returns-in-0-clause-plain : goal.returns-in-0-clause-plain
-returns-in-0-clause-plain c = plain_of-others c.args.tag c.args.rest.now (omega arith)
+returns-in-0-clause-plain c = plain_of-others c.args.tag c.args.room.now (omega arith)
 
 pub returns-in-255-clause-word : goal.returns-in-255-clause-word
-returns-in-255-clause-word c = c.read_u64.ensures ∙ first_word-plain c.args.tag c.args.rest.now c.in-255.is
+returns-in-255-clause-word c = c.read_u64.ensures ∙ first_word-plain c.args.tag c.args.room.now c.in-255.is
 
 pub returns-in-255-clause-zeros : goal.returns-in-255-clause-zeros
-returns-in-255-clause-zeros c = zeros_of-others c.args.tag c.args.rest.now (omega arith)
+returns-in-255-clause-zeros c = zeros_of-others c.args.tag c.args.room.now (omega arith)
 
 pub returns-in-255-clause-plain : goal.returns-in-255-clause-plain
-returns-in-255-clause-plain c = plain_of-plain c.args.tag c.args.rest.now c.in-255.is
+returns-in-255-clause-plain c = plain_of-plain c.args.tag c.args.room.now c.in-255.is
 
 pub returns-in_default-clause-word : goal.returns-in_default-clause-word
-returns-in_default-clause-word c = c.spread_word.ensures ∙ first_word-marked c.args.tag c.args.rest.now (omega arith) (omega arith)
+returns-in_default-clause-word c = c.spread_word.ensures ∙ first_word-marked c.args.tag c.args.room.now (omega arith) (omega arith)
 
 pub returns-in_default-clause-zeros : goal.returns-in_default-clause-zeros
-returns-in_default-clause-zeros c = zeros_of-others c.args.tag c.args.rest.now (omega arith)
+returns-in_default-clause-zeros c = zeros_of-others c.args.tag c.args.room.now (omega arith)
 
 pub returns-in_default-clause-plain : goal.returns-in_default-clause-plain
-returns-in_default-clause-plain c = plain_of-others c.args.tag c.args.rest.now (omega arith)
+returns-in_default-clause-plain c = plain_of-others c.args.tag c.args.room.now (omega arith)
