@@ -131,10 +131,6 @@ pub plain_of-others : (tag : ℕ) (bs : List ℕ) → tag ≢ 255 → 0 ≡ plai
 unfolding plain_of
 plain_of-others tag bs f = sym (cond-false (eqb tag 255) _ _ (ne_eqb tag 255 f))
 
--- the bytes of a head that a tag marks are all there
-pub marks_fit : (tag : ℕ) (bs : List ℕ) → tag ≢ 0 → tag ≢ 255 → length bs ≡ head_rest tag → marks 8 tag ≤ length bs
-marks_fit tag bs z f l = let e : length bs ≡ marks 8 tag = l ∙ head_rest-marked tag z f in let P : ℕ → Type 0 = λ n. n ≤ length bs in subst P e (omega arith)
-
 -- the front of a buffer of nine bytes
 pub front_of_nine : (n : ℕ) → n ≤ 9 → length {A = ℕ} (take n (0 ∷ 0 ∷ 0 ∷ 0 ∷ 0 ∷ 0 ∷ 0 ∷ 0 ∷ 0 ∷ [])) ≡ n
 front_of_nine n p = let nine : List ℕ = 0 ∷ 0 ∷ 0 ∷ 0 ∷ 0 ∷ 0 ∷ 0 ∷ 0 ∷ 0 ∷ [] in omega (arith, length-take n nine)

@@ -9,9 +9,12 @@ returns-in-Ok-whole-clause-head g c =
     let one : c.in-Ok.field-0 ≡ 1 = omega (arith, c.in-Ok.ensures.len) in
     let tag : ℕ = get_or c.fill.new.buf 0 0 in
     let size : length c.whole.new.buf ≡ head_rest tag = omega (arith, front_of_nine c.head_len.result c.head_len.ensures.few) in
-    let took = head_taken c.fill.new.buf (omega arith) one c.in-Ok.ensures.took c.in-Ok-whole.ensures.took in
-    (_, took, group_taken size (c.head_of.ensures.word ∙ first_word-append tag c.whole.new.buf _ size) (c.head_of.ensures.zeros ∙ zeros_of-append tag c.whole.new.buf _ size)
-        (c.head_of.ensures.plain ∙ plain_of-append tag c.whole.new.buf _ size) took)
+    let took = head_taken c.fill.new.buf (omega arith) one c.in-Ok.ensures.took c.in-Ok-whole.ensures.took in (
+      _,
+      took,
+      group_taken size (c.head_of.ensures.word ∙ first_word-append tag c.whole.new.buf _ size) (c.head_of.ensures.zeros ∙ zeros_of-append tag c.whole.new.buf _ size)
+          (c.head_of.ensures.plain ∙ plain_of-append tag c.whole.new.buf _ size) took,
+    )
 
 pub returns-in-Ok-whole-clause-reads : goal.returns-in-Ok-whole-clause-reads
 returns-in-Ok-whole-clause-reads g c =
