@@ -91,6 +91,7 @@ impl Pointer {
             }
         }
     }
+
     /// The word of this form. Asks that the fields are in the ranges told of them, that a struct
     /// isn't all zeros, which is the form of null, and that a reserved word is one.
     pub fn word(&self) -> u64
