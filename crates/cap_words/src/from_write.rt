@@ -32,6 +32,13 @@ impl<W: Write> FromWrite<W> {
         }
     }
 
+    /// Whether the writer has failed, so that it isn't called any more.
+    pub fn has_failed(&self) -> bool
+        ensures { result ≡ ⟦<FromWrite<W> as ByteOut>⟧.spent self.now }
+    {
+        self.failed
+    }
+
     /// Gives the writer back as it is. Nothing is written or flushed.
     pub fn into_inner(self) -> W
         ensures { result ≡ writer_of self }

@@ -1,0 +1,142 @@
+#!/usr/bin/env python3
+"""Times the built program beside plain copying of the same bytes, and prints a table.
+
+    bench.py [--rounds N] [--only WORD] [--program PATH]
+
+The inputs are made anew in a temporary folder. In each round every command runs once, in turn, so that
+a busy machine slows them alike; the table has the median of the rounds. `ratio` is against `dd` with
+blocks of 64 KiB on the same file. Memory is the largest resident size of any round.
+"""
+import argparse
+import os
+import random
+import statistics
+import struct
+import sys
+import tempfile
+import time
+from dataclasses import dataclass
+from pathlib import Path
+
+TOP = Path(__file__).resolve().parent.parent
+MIB = 1 << 20
+
+
+def word(number):
+    return struct.pack("<Q", number)
+
+
+def struct_pointer(offset, data, pointers):
+    return word((offset & 0x3FFFFFFF) << 2 | data << 32 | pointers << 48)
+
+
+def list_pointer(offset, code, size):
+    return word(1 | (offset & 0x3FFFFFFF) << 2 | code << 32 | size << 35)
+
+
+def framed(words):
+    """One message of one segment."""
+    return struct.pack("<II", 0, len(words) // 8) + words
+
+
+def small_message(rng):
+    """A struct of two data words with a text and a list of three structs."""
+    text = bytes(rng.randrange(97, 123) for _ in range(16))
+    records = b"".join(word(rng.randrange(1 << 32)) for _ in range(3))
+    tag = word(3 << 2 | 1 << 32)
+    root = struct_pointer(0, 2, 2)
+    data = word(rng.randrange(1 << 20)) + word(rng.randrange(1 << 40))
+    pointers = list_pointer(1, 2, 16) + list_pointer(2, 7, 3)
+    return framed(root + data + pointers + text + tag + records)
+
+
+def write_big(path):
+    """A message of 64 MiB in all: a struct with one blob of random bytes."""
+    words = 64 * MIB // 8 - 1
+    size = (words - 2) * 8
+    with open(path, "wb") as out:
+        out.write(struct.pack("<II", 0, words))
+        out.write(struct_pointer(0, 0, 1) + list_pointer(0, 5, words - 2))
+        rng = random.Random(1)
+        while size > 0:
+            part = min(size, MIB)
+            out.write(rng.randbytes(part))
+            size -= part
+
+
+def write_small(path):
+    """A stream of some 300,000 small messages."""
+    rng = random.Random(2)
+    kinds = [small_message(rng) for _ in range(1000)]
+    with open(path, "wb") as out:
+        for _ in range(300):
+            out.write(b"".join(kinds))
+
+
+INPUTS = {"big": write_big, "small": write_small}
+
+
+@dataclass
+class Case:
+    """A row of the table: what runs, on which input."""
+    name: str
+    input: str
+    command: list
+
+
+def cases(program):
+    for name in INPUTS:
+        yield Case("cat", name, ["cat", "FILE"])
+        yield Case("dd bs=64K", name, ["dd", "if=FILE", "of=/dev/null", "bs=64K"])
+        yield Case("capvet segments", name, [program, "segments", "--size", "268435456", "FILE"])
+
+
+def run(command, file):
+    """Seconds, and the largest resident size in KiB. A command that fails ends the run."""
+    words = [it.replace("FILE", str(file)) for it in command]
+    null = os.open(os.devnull, os.O_WRONLY)
+    started = time.perf_counter()
+    pid = os.posix_spawnp(words[0], words, os.environ, file_actions=[
+        (os.POSIX_SPAWN_DUP2, null, 1), (os.POSIX_SPAWN_DUP2, null, 2)])
+    _, status, usage = os.wait4(pid, 0)
+    seconds = time.perf_counter() - started
+    os.close(null)
+    if status != 0:
+        sys.exit(f"{' '.join(words)} ended with status {os.waitstatus_to_exitcode(status)}")
+    return seconds, usage.ru_maxrss
+
+
+def main():
+    parser = argparse.ArgumentParser()
+    parser.add_argument("--rounds", type=int, default=5)
+    parser.add_argument("--only", default="", help="run the rows whose name or input has this word")
+    parser.add_argument("--program", default=str(TOP / "crates/capvet/out/capvet"))
+    args = parser.parse_args()
+    if not Path(args.program).is_file():
+        sys.exit(f"{args.program} isn't there: build it by `make run`")
+    chosen = [it for it in cases(args.program)
+              if args.only in it.name or args.only in it.input or it.name == "dd bs=64K"]
+    with tempfile.TemporaryDirectory() as folder:
+        files = {}
+        for name in {it.input for it in chosen}:
+            files[name] = Path(folder) / name
+            INPUTS[name](files[name])
+        seconds = {id(it): [] for it in chosen}
+        memory = {id(it): 0 for it in chosen}
+        for _ in range(args.rounds):
+            for it in chosen:
+                took, resident = run(it.command, files[it.input])
+                seconds[id(it)].append(took)
+                memory[id(it)] = max(memory[id(it)], resident)
+        sizes = {name: file.stat().st_size for name, file in files.items()}
+    middle = {key: statistics.median(values) for key, values in seconds.items()}
+    dd = {it.input: middle[id(it)] for it in chosen if it.name == "dd bs=64K"}
+    print(f"{'input':8} {'command':20} {'MiB':>7} {'seconds':>9} {'MB/s':>8} {'ratio':>7} {'MiB used':>9}")
+    for it in chosen:
+        took, size = middle[id(it)], sizes[it.input]
+        print(f"{it.input:8} {it.name:20} {size / MIB:7.1f} {took:9.4f} {size / took / 1e6:8.0f}"
+              f" {took / dd[it.input]:7.2f} {memory[id(it)] / 1024:9.1f}")
+
+
+if __name__ == "__main__":
+    main()

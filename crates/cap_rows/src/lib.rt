@@ -1,0 +1,9 @@
+//! Tests that cross crates: whole command lines, on whole streams.
+#![tactic(auto)]
+
+#[cfg(test)]
+mod segments;
+#[cfg(test)]
+mod usage;
+#[cfg(test)]
+mod whole;

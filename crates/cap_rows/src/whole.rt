@@ -1,0 +1,41 @@
+//! A run of the program over memory: the words of a command line and the bytes that come in.
+
+use cap_cmd::{read_job, run_job};
+use cap_words::{SliceIn, VecOut};
+use std::alloc::Global;
+use std::test::Fail;
+
+/// What a run left: its status, and what it wrote.
+#[derive(Drop)]
+pub struct Left {
+    pub status: u8,
+    pub out: VecOut,
+    pub err: VecOut,
+}
+
+/// The words of a command line, the program's name in front.
+pub fn words(alloc: Global, line: &[&str]) -> Result<Vec<String>, Fail> {
+    let mut all = Vec::new(alloc);
+    all.push(String::from_str(alloc, "capvet")?)?;
+    for word in line {
+        all.push(String::from_str(alloc, *word)?)?;
+    }
+    Ok(all)
+}
+
+/// Runs a command line on the bytes that these hexadecimal digits tell.
+pub fn run(alloc: Global, line: &[&str], stream: &str) -> Result<Left, Fail> {
+    let bytes = hex::decode(alloc, stream)?;
+    let Ok(job) = read_job(alloc, words(alloc, line)?) else {
+        return Err(Fail::from("no job"));
+    };
+    let mut err = VecOut::new(alloc);
+    let (status, out) = run_job(
+        alloc,
+        &job,
+        SliceIn::new(bytes.as_slice()),
+        VecOut::new(alloc),
+        &mut err,
+    );
+    Ok(Left { status, out, err })
+}
