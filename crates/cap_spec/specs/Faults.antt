@@ -1,0 +1,52 @@
+-- The first pointer in preorder at which anything is wrong, or a limit is passed (profile; standard: Security Considerations).
+use Rattle.std.specs.Prelude.{ℕ, ◌+◌, ◌<◌, ◌≤◌, ◌≡◌, ◌⊎◌, List, [], ◌∷◌, ◌++◌, length, Some, slice_get}
+use Rattle.cap_spec.specs.Messages.{HasWord}
+use Rattle.cap_spec.specs.Following.{IsComposite, Wrong}
+use Rattle.cap_spec.specs.Denoting.{Finds}
+use Rattle.cap_spec.specs.Paths.{Costs, IsOneOf, IsTour, Reaches}
+use Rattle.cap_spec.specs.Verdicts.{CostOf, levels_below}
+use Rattle.cap_spec.specs.declared.Refusal.{Refusal}
+use Rattle.cap_spec.specs.declared.Reason.{Reason}
+use Rattle.cap_spec.specs.declared.Reason.TheVariants.{NoRoot, DepthLimit, WordLimit}
+use Rattle.cap_spec.specs.declared.Step.{Step}
+
+-- the pointer at s:w leads to an object of this level that takes levels past the limit
+abbrev pub IsDeepAt : List (List ℕ) → ℕ → ℕ → ℕ → ℕ → Type 0
+IsDeepAt m depth s w level = (k t b q tag : ℕ) × Finds m s w k t b q × (IsComposite q → HasWord m t b tag) × (depth < level + levels_below q tag)
+
+-- none of these paths leads to an object past the depth limit
+abbrev pub AreShallow : List (List ℕ) → ℕ → List (List Step) → Type 0
+AreShallow m depth paths = (p : List Step) (level s w : ℕ) → IsOneOf p paths → Reaches m p level s w → ¬ IsDeepAt m depth s w level
+
+-- The first reason that applies at a pointer word, where so many words were charged before: it is wrong, else past the depth limit, else past the word limit.
+pub data IsFirstReason (m : List (List ℕ)) (words depth before s w level : ℕ) (v : Reason) : Type 0 where
+  is_wrong : Wrong m s w v → IsFirstReason m words depth before s w level v
+  is_deep : v ≡ DepthLimit → IsDeepAt m depth s w level → IsFirstReason m words depth before s w level v
+  is_past : (cost : ℕ) → v ≡ WordLimit → ¬ IsDeepAt m depth s w level → Costs m s w cost → words < before + cost → IsFirstReason m words depth before s w level v
+
+-- The refusal names the pointer that this path reaches: the paths before it, in preorder, keep to the limits, and the reason is the first that applies there.
+pub record IsFirstFault (m : List (List ℕ)) (words depth : ℕ) (refusal : Refusal) : Type 0 where
+  pub path : List Step
+  pub before : List (List Step)
+  pub level : ℕ
+  pub charge : ℕ
+  pub reached : Reaches m path level refusal.segment refusal.word
+  pub tour : IsTour m path (before ++ path ∷ [])
+  pub costs : CostOf m before charge
+  pub within : charge ≤ words
+  pub shallow : AreShallow m depth before
+  pub reason : IsFirstReason m words depth charge refusal.segment refusal.word level refusal.reason
+  pub pointers : refusal.pointers ≡ length (before ++ path ∷ [])
+  pub few : refusal.pointers ≤ words + 1
+
+-- there is no root pointer
+pub record HasNoRoot (m : List (List ℕ)) (refusal : Refusal) : Type 0 where
+  pub empty : slice_get m 0 ≡ Some []
+  pub segment : refusal.segment ≡ 0
+  pub word : refusal.word ≡ 0
+  pub reason : refusal.reason ≡ NoRoot
+  pub pointers : refusal.pointers ≡ 0
+
+-- why a message is refused
+abbrev pub IsRefused : List (List ℕ) → ℕ → ℕ → Refusal → Type 0
+IsRefused m words depth refusal = HasNoRoot m refusal ⊎ IsFirstFault m words depth refusal

@@ -1,0 +1,130 @@
+-- The children of a pointer word on a trail.
+use Rattle.std.proofs.Common.{◌≡◌, ℕ, zero, suc, ◌+◌, ◌<◌, inl, inr, List, [], ◌∷◌, ◌++◌, refl, sym, ap, subst, arith, append_assoc}
+use Rattle.cap_spec.specs.Pointers.{kind, code, data_size, pointer_size, list_size}
+use Rattle.cap_spec.specs.Denoting.{Finds}
+use Rattle.cap_spec.proofs.Finding.{SameObject, one_object}
+use Rattle.cap_spec.specs.Paths.{Goes, Reaches, Spot, Walks, number_of, word}
+use Rattle.cap_spec.specs.declared.Step.{Step}
+use Rattle.cap_spec.specs.declared.Step.TheVariants.{Ptr, Item}
+use Rattle.cap_vet.specs.Trails.{AreApart, AreReached, GoOnFrom, IsUnder, row}
+use Rattle.cap_vet.proofs.Apart.{Apart-steps}
+use Rattle.cap_vet.proofs.Trails.{AreChildren}
+use Rattle.cap_spec.proofs.Walks.{walk_parts, walk_on, one_walk}
+
+-- what reaches a pointer word behind one that is reached goes on from it by steps of its own
+pub beyond : (m : List (List ℕ)) (base : List Step) (x : Step) (v : List Step) (level level' s w s' w' : ℕ)
+    → Reaches m base level s w → Reaches m (base ++ x ∷ v) level' s' w'
+    → (mid : Spot) × (n : ℕ) × Goes m (word s w) x mid × Walks m mid v n (word s' w')
+beyond m base x v level level' s w s' w' (root, n, has, walks, e) (root', n', has', walks', e') =
+    let (b, n1, n2, first, rest, total) = walk_parts m (word 0 0) (word s' w') base (x ∷ v) n' walks' in
+    let same = one_walk m (word 0 0) base n1 n b (word s w) first walks in
+    let here : Walks m (word s w) (x ∷ v) n2 (word s' w') = subst (λ u. Walks m u (x ∷ v) n2 (word s' w')) same.1 rest in
+    (here.0, here.1, here.2, here.3)
+
+-- a path goes on by a step
+pub reaches_on : (m : List (List ℕ)) (base : List Step) (x : Step) (v : List Step) (level n s w s' w' : ℕ)
+    → Reaches m base level s w → Walks m (word s w) (x ∷ v) n (word s' w') → Reaches m (base ++ x ∷ v) (level + n) s' w'
+reaches_on m base x v level n s w s' w' (root, k, has, walks, e) on =
+    (root, k + n, has, walk_on m (word 0 0) (word s w) (word s' w') base (x ∷ v) k n walks on, omega (arith, e))
+
+-- Each number below n is 0 more than it, or is below the rest.
+-- the step i + j of a row
+pub IsUnder-row : (base : List Step) (level : ℕ) (step : ℕ → Step) (t b i n j : ℕ) (v : List Step) → j < n → IsUnder (base ++ step (i + j) ∷ v) (row base level step t b i n)
+IsUnder-row base level step t b i zero j v h = absurd (omega arith)
+IsUnder-row base level step t b i (suc n) zero v h = inl (v, subst (λ u. base ++ step u ∷ v ≡ (base ++ step i ∷ []) ++ v) (omega arith) (sym (append_assoc base (step i ∷ []) v)))
+IsUnder-row base level step t b i (suc n) (suc j) v h =
+    let e : (i + 1) + j ≡ i + suc j = omega arith in
+    inr (subst (λ u. IsUnder (base ++ step u ∷ v) (row base level step t (b + 1) (i + 1) n)) e (IsUnder-row base level step t (b + 1) (i + 1) n j v (omega arith)))
+
+pub GoOnFrom-row : (base : List Step) (level : ℕ) (step : ℕ → Step) (t b i n : ℕ) → GoOnFrom base (row base level step t b i n)
+GoOnFrom-row base level step t b i zero = tt
+GoOnFrom-row base level step t b i (suc n) = ((step i, [], refl), GoOnFrom-row base level step t (b + 1) (i + 1) n)
+
+-- A row of steps whose numbers rise is apart.
+pub AreApart-row : (base : List Step) (level : ℕ) (step : ℕ → Step) → ((i : ℕ) → number_of (step i) ≡ i) → (t b i n : ℕ) → AreApart (row base level step t b i n)
+AreApart-row base level step e t b i zero = tt
+AreApart-row base level step e t b i (suc zero) = tt
+AreApart-row base level step e t b i (suc (suc n)) =
+    (Apart-steps base (step i) (step (i + 1)) [] [] (omega (arith, e i, e (i + 1))), AreApart-row base level step e t (b + 1) (i + 1) (suc n))
+
+-- each step of a row reaches its word
+pub AreReached-row : (m : List (List ℕ)) (base : List Step) (level : ℕ) (step : ℕ → Step) (t b i n : ℕ)
+    → ((j : ℕ) → j < n → Reaches m (base ++ step (i + j) ∷ []) level t (b + j)) → AreReached m (row base level step t b i n)
+AreReached-row m base level step t b i zero h = tt
+AreReached-row m base level step t b i (suc n) h = (
+  subst (λ u. Reaches m (base ++ step u ∷ []) level t b) (omega arith) (subst (λ u. Reaches m (base ++ step (i + 0) ∷ []) level t u) (omega arith) (h 0 (omega arith))),
+  AreReached-row m base level step t (b + 1) (i + 1) n (λ j k.
+      let e : i + suc j ≡ (i + 1) + j = omega arith in
+      let f : b + suc j ≡ (b + 1) + j = omega arith in
+      subst (λ u. Reaches m (base ++ step u ∷ []) level t ((b + 1) + j)) e (subst (λ u. Reaches m (base ++ step (i + suc j) ∷ []) level t u) f (h (suc j) (omega arith)))),
+)
+
+-- one step that leads to a pointer word
+pub one_step : (m : List (List ℕ)) (base : List Step) (x : Step) (level s w t v : ℕ) → Reaches m base level s w → Goes m (word s w) x (word t v) → Reaches m (base ++ x ∷ []) (level + 1) t v
+one_step m base x level s w t v h g = reaches_on m base x [] level 1 s w t v h (word t v, 0, g, (refl, refl), refl)
+
+-- what has no step to go on by has no children
+pub no_children : (m : List (List ℕ)) (base : List Step) (level s w : ℕ) → Reaches m base level s w
+    → ((x : Step) (v : List Step) (mid : Spot) (n s' w' : ℕ) → Goes m (word s w) x mid → Walks m mid v n (word s' w') → ⊥) → AreChildren m base []
+no_children m base level s w h none = record {
+  apart = tt;
+  go_on = tt;
+  reached = tt;
+  complete = λ x v level' s' w' k. let (mid, n, goes, walks) = beyond m base x v level level' s w s' w' h k in none x v mid n s' w' goes walks;
+}
+
+-- one object isn't of two kinds
+pub struct_no_list : (k t b q k' t' b' q' : ℕ) → SameObject k t b q k' t' b' q' → kind q ≡ 0 → kind q' ≡ 1 → ⊥
+struct_no_list k t b q k' t' b' q' same e e' =
+    let f : kind q ≡ kind q' = ap kind same.shape in
+    omega (arith, e, e', f)
+
+-- the children of a struct
+pub struct_children : (m : List (List ℕ)) (base : List Step) (level s w k t b q : ℕ) → Reaches m base level s w → Finds m s w k t b q → kind q ≡ 0
+    → AreChildren m base (row base (level + 1) Ptr t (b + data_size q) 0 (pointer_size q))
+struct_children m base level s w k t b q h f e = record {
+  apart = AreApart-row base (level + 1) Ptr (λ i. refl) t (b + data_size q) 0 (pointer_size q);
+  go_on = GoOnFrom-row base (level + 1) Ptr t (b + data_size q) 0 (pointer_size q);
+  reached = AreReached-row m base (level + 1) Ptr t (b + data_size q) 0 (pointer_size q) (λ j l.
+      subst (λ u. Reaches m (base ++ Ptr u ∷ []) (level + 1) t (b + data_size q + j)) (omega arith)
+      (one_step m base (Ptr j) level s w t (b + data_size q + j) h (k, t, b, q, f, e, l, refl)));
+  complete = λ x v level' s' w' r. let (mid, n, goes, walks) = beyond m base x v level level' s w s' w' h r in under x v mid goes;
+}
+  where
+    under : (x : Step) (v : List Step) (mid : Spot) → Goes m (word s w) x mid → IsUnder (base ++ x ∷ v) (row base (level + 1) Ptr t (b + data_size q) 0 (pointer_size q))
+    under (Ptr i) v mid (k', t', b', q', f', e', l, spot) =
+        let same = one_object m s w k t b q k' t' b' q' f f' in
+        let inside : i < pointer_size q = subst (λ u. i < pointer_size u) (sym same.shape) l in
+        subst (λ u. IsUnder (base ++ Ptr u ∷ v) (row base (level + 1) Ptr t (b + data_size q) 0 (pointer_size q))) (omega arith)
+        (IsUnder-row base (level + 1) Ptr t (b + data_size q) 0 (pointer_size q) i v inside)
+    under (Item i) v mid (inl (k', t', b', q', f', e', c', l, spot)) = absurd (struct_no_list k t b q k' t' b' q' (one_object m s w k t b q k' t' b' q' f f') e e')
+    under (Item i) v mid (inr (k', t', b', q', tag, f', e', c', ht, l, spot)) = absurd (struct_no_list k t b q k' t' b' q' (one_object m s w k t b q k' t' b' q' f f') e e')
+
+-- one object isn't of two codes
+pub list_no_other : (k t b q k' t' b' q' : ℕ) → SameObject k t b q k' t' b' q' → code q ≡ 6 → code q' ≡ 7 → ⊥
+list_no_other k t b q k' t' b' q' same e e' =
+    let f : code q ≡ code q' = ap code same.shape in
+    omega (arith, e, e', f)
+
+-- the children of a list of pointers
+pub pointers_children : (m : List (List ℕ)) (base : List Step) (level s w k t b q : ℕ) → Reaches m base level s w → Finds m s w k t b q → kind q ≡ 1 → code q ≡ 6
+    → AreChildren m base (row base (level + 1) Item t b 0 (list_size q))
+pointers_children m base level s w k t b q h f e c = record {
+  apart = AreApart-row base (level + 1) Item (λ i. refl) t b 0 (list_size q);
+  go_on = GoOnFrom-row base (level + 1) Item t b 0 (list_size q);
+  reached = AreReached-row m base (level + 1) Item t b 0 (list_size q) (λ j l.
+      subst (λ u. Reaches m (base ++ Item u ∷ []) (level + 1) t (b + j)) (omega arith)
+      (one_step m base (Item j) level s w t (b + j) h (inl (k, t, b, q, f, e, c, l, refl))));
+  complete = λ x v level' s' w' r. let (mid, n, goes, walks) = beyond m base x v level level' s w s' w' h r in under x v mid goes;
+}
+  where
+    under : (x : Step) (v : List Step) (mid : Spot) → Goes m (word s w) x mid → IsUnder (base ++ x ∷ v) (row base (level + 1) Item t b 0 (list_size q))
+    under (Ptr i) v mid (k', t', b', q', f', e', l, spot) =
+        let same = one_object m s w k t b q k' t' b' q' f f' in
+        absurd (struct_no_list k' t' b' q' k t b q record { pads = sym same.pads; segment = sym same.segment; start = sym same.start; shape = sym same.shape } e' e)
+    under (Item i) v mid (inl (k', t', b', q', f', e', c', l, spot)) =
+        let same = one_object m s w k t b q k' t' b' q' f f' in
+        let inside : i < list_size q = subst (λ u. i < list_size u) (sym same.shape) l in
+        subst (λ u. IsUnder (base ++ Item u ∷ v) (row base (level + 1) Item t b 0 (list_size q))) (omega arith)
+        (IsUnder-row base (level + 1) Item t b 0 (list_size q) i v inside)
+    under (Item i) v mid (inr (k', t', b', q', tag, f', e', c', ht, l, spot)) = absurd (list_no_other k t b q k' t' b' q' (one_object m s w k t b q k' t' b' q' f f') c c')

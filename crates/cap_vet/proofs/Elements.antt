@@ -1,0 +1,142 @@
+-- The children of a list of structs on a trail: the pointers of its elements, element by element.
+use Rattle.std.proofs.Common.{◌≡◌, ℕ, zero, suc, ◌+◌, ◌*◌, ◌<◌, inl, inr, List, [], ◌∷◌, ◌++◌, refl, sym, ◌∙◌, subst, arith, append_assoc}
+use Rattle.cap_spec.specs.Messages.{HasWord}
+use Rattle.cap_spec.specs.Pointers.{kind, middle, code, data_size, pointer_size}
+use Rattle.cap_spec.specs.Denoting.{Finds, element_levels}
+use Rattle.cap_spec.specs.Paths.{Goes, Reaches, Spot, Walks, element, word}
+use Rattle.cap_spec.specs.declared.Step.{Step}
+use Rattle.cap_spec.specs.declared.Step.TheVariants.{Ptr, Item}
+use Rattle.cap_spec.proofs.Finding.{one_object}
+use Rattle.cap_spec.proofs.Messages.{one_word}
+use Rattle.cap_vet.specs.Trails.{Ahead, Apart, AreApart, AreReached, GoOnFrom, IsUnder, row, element_rows}
+use Rattle.cap_vet.proofs.Apart.{Apart-right, Apart-steps, Apart-left}
+use Rattle.cap_vet.proofs.Trails.{AreChildren, AreReached-append, IsUnder-left, IsUnder-right}
+use Rattle.cap_vet.proofs.Children.{beyond, reaches_on, struct_no_list, list_no_other, IsUnder-row, GoOnFrom-row, AreApart-row, AreReached-row}
+
+-- the first of these, where there is one, is apart from a path
+abbrev HeadApart : List Step → List Ahead → Type 0
+HeadApart base [] = Unit {0}
+HeadApart base (b ∷ rest) = Apart base b.path
+
+append-apart : (base : List Step) (xs ys : List Ahead) → AreApart xs → GoOnFrom base xs → HeadApart base ys → AreApart ys → AreApart (xs ++ ys)
+append-apart base [] ys h g k l = l
+append-apart base (a ∷ []) [] h g k l = h
+append-apart base (a ∷ []) (b ∷ ys) h g k l = (subst (λ u. Apart u b.path) (sym g.0.2) (Apart-left base b.path (g.0.0 ∷ g.0.1) k), l)
+append-apart base (a ∷ c ∷ xs) ys h g k l = (h.0, append-apart base (c ∷ xs) ys h.1 g.1 k l)
+
+go_on-append : (base : List Step) (xs ys : List Ahead) → GoOnFrom base xs → GoOnFrom base ys → GoOnFrom base (xs ++ ys)
+go_on-append base [] ys h k = k
+go_on-append base (a ∷ xs) ys h k = (h.0, go_on-append base xs ys h.1 k)
+
+-- what goes on from an element goes on from its list
+go_on-further : (base : List Step) (y : Step) (xs : List Ahead) → GoOnFrom (base ++ y ∷ []) xs → GoOnFrom base xs
+go_on-further base y [] h = tt
+go_on-further base y (a ∷ xs) h = ((y, h.0.0 ∷ h.0.1, h.0.2 ∙ append_assoc base (y ∷ []) (h.0.0 ∷ h.0.1)), go_on-further base y xs h.1)
+
+-- pointer j of element i + e
+IsUnder-elements : (base : List Step) (level t b ds ps i n e j : ℕ) (v : List Step) → e < n → j < ps → IsUnder (base ++ Item (i + e) ∷ Ptr j ∷ v) (element_rows base level t b ds ps i n)
+IsUnder-elements base level t b ds ps i zero e j v h l = absurd (omega arith)
+IsUnder-elements base level t b ds ps i (suc n) zero j v h l =
+    let own = IsUnder-row (base ++ Item i ∷ []) level Ptr t (b + ds) 0 ps j v l in
+    let here : IsUnder ((base ++ Item i ∷ []) ++ Ptr j ∷ v) (row (base ++ Item i ∷ []) level Ptr t (b + ds) 0 ps) = subst (λ u. IsUnder ((base ++ Item i ∷ []) ++ Ptr u ∷ v) (row (base ++ Item i ∷ []) level Ptr t (b + ds) 0 ps)) (omega arith) own in
+    let moved : IsUnder (base ++ Item i ∷ Ptr j ∷ v) (row (base ++ Item i ∷ []) level Ptr t (b + ds) 0 ps) = subst (λ u. IsUnder u (row (base ++ Item i ∷ []) level Ptr t (b + ds) 0 ps)) (append_assoc base (Item i ∷ []) (Ptr j ∷ v)) here in
+    IsUnder-left (base ++ Item (i + 0) ∷ Ptr j ∷ v) (row (base ++ Item i ∷ []) level Ptr t (b + ds) 0 ps) (element_rows base level t (b + ds + ps) ds ps (i + 1) n)
+    (subst (λ u. IsUnder (base ++ Item u ∷ Ptr j ∷ v) (row (base ++ Item i ∷ []) level Ptr t (b + ds) 0 ps)) (omega arith) moved)
+IsUnder-elements base level t b ds ps i (suc n) (suc e) j v h l =
+    let f : (i + 1) + e ≡ i + suc e = omega arith in
+    IsUnder-right (base ++ Item (i + suc e) ∷ Ptr j ∷ v) (row (base ++ Item i ∷ []) level Ptr t (b + ds) 0 ps) (element_rows base level t (b + ds + ps) ds ps (i + 1) n)
+    (subst (λ u. IsUnder (base ++ Item u ∷ Ptr j ∷ v) (element_rows base level t (b + ds + ps) ds ps (i + 1) n)) f (IsUnder-elements base level t (b + ds + ps) ds ps (i + 1) n e j v (omega arith) l))
+
+go_on-elements : (base : List Step) (level t b ds ps i n : ℕ) → GoOnFrom base (element_rows base level t b ds ps i n)
+go_on-elements base level t b ds ps i zero = tt
+go_on-elements base level t b ds ps i (suc n) =
+    go_on-append base (row (base ++ Item i ∷ []) level Ptr t (b + ds) 0 ps) (element_rows base level t (b + ds + ps) ds ps (i + 1) n)
+    (go_on-further base (Item i) (row (base ++ Item i ∷ []) level Ptr t (b + ds) 0 ps) (GoOnFrom-row (base ++ Item i ∷ []) level Ptr t (b + ds) 0 ps))
+    (go_on-elements base level t (b + ds + ps) ds ps (i + 1) n)
+
+-- the elements behind one are apart from it
+head-elements : (base : List Step) (level t b ds ps i j n : ℕ) → i < j → HeadApart (base ++ Item i ∷ []) (element_rows base level t b ds ps j n)
+head-elements base level t b ds ps i j zero h = tt
+head-elements base level t b ds zero i j (suc n) h = head-elements base level t (b + ds + 0) ds 0 i (j + 1) n (omega arith)
+head-elements base level t b ds (suc ps) i j (suc n) h = Apart-right (base ++ Item i ∷ []) (base ++ Item j ∷ []) (Ptr 0 ∷ []) (Apart-steps base (Item i) (Item j) [] [] h)
+
+apart-elements : (base : List Step) (level t b ds ps i n : ℕ) → AreApart (element_rows base level t b ds ps i n)
+apart-elements base level t b ds ps i zero = tt
+apart-elements base level t b ds ps i (suc n) =
+    append-apart (base ++ Item i ∷ []) (row (base ++ Item i ∷ []) level Ptr t (b + ds) 0 ps) (element_rows base level t (b + ds + ps) ds ps (i + 1) n)
+    (AreApart-row (base ++ Item i ∷ []) level Ptr (λ x. refl) t (b + ds) 0 ps) (GoOnFrom-row (base ++ Item i ∷ []) level Ptr t (b + ds) 0 ps)
+    (head-elements base level t (b + ds + ps) ds ps i (i + 1) n (omega arith)) (apart-elements base level t (b + ds + ps) ds ps (i + 1) n)
+
+-- an equal path reaches an equal word
+reached-at : (m : List (List ℕ)) (level t : ℕ) (p p' : List Step) (w w' : ℕ) → p ≡ p' → w ≡ w' → Reaches m p level t w → Reaches m p' level t w'
+reached-at m level t p p' w w' e f h = subst (λ u. Reaches m u level t w') e (subst (λ u. Reaches m p level t u) f h)
+
+first_pointer : (base : List Step) (i j : ℕ) → base ++ Item (i + 0) ∷ Ptr j ∷ [] ≡ (base ++ Item i ∷ []) ++ Ptr (0 + j) ∷ []
+first_pointer base i j =
+    let e : i + 0 ≡ i = omega arith in
+    let f : 0 + j ≡ j = omega arith in
+    let g : (base ++ Item i ∷ []) ++ Ptr (0 + j) ∷ [] ≡ base ++ Item i ∷ Ptr (0 + j) ∷ [] = append_assoc base (Item i ∷ []) (Ptr (0 + j) ∷ []) in
+    cc
+
+later_pointer : (base : List Step) (i e j : ℕ) → base ++ Item (i + suc e) ∷ Ptr j ∷ [] ≡ base ++ Item ((i + 1) + e) ∷ Ptr j ∷ []
+later_pointer base i e j = let f : i + suc e ≡ (i + 1) + e = omega arith in cc
+
+-- Where each pointer of each element is reached, the rows are.
+reached-elements : (m : List (List ℕ)) (base : List Step) (level t b ds ps i n : ℕ)
+    → ((e j : ℕ) → e < n → j < ps → Reaches m (base ++ Item (i + e) ∷ Ptr j ∷ []) level t (b + e * (ds + ps) + ds + j)) → AreReached m (element_rows base level t b ds ps i n)
+reached-elements m base level t b ds ps i zero h = tt
+reached-elements m base level t b ds ps i (suc n) h =
+    AreReached-append m (row (base ++ Item i ∷ []) level Ptr t (b + ds) 0 ps) (element_rows base level t (b + ds + ps) ds ps (i + 1) n)
+    (AreReached-row m (base ++ Item i ∷ []) level Ptr t (b + ds) 0 ps (λ j l.
+    reached-at m level t (base ++ Item (i + 0) ∷ Ptr j ∷ []) ((base ++ Item i ∷ []) ++ Ptr (0 + j) ∷ []) (b + 0 * (ds + ps) + ds + j) (b + ds + j) (first_pointer base i j) (omega arith) (h 0 j (omega arith) l)))
+    (reached-elements m base level t (b + ds + ps) ds ps (i + 1) n (λ e j k l.
+    reached-at m level t (base ++ Item (i + suc e) ∷ Ptr j ∷ []) (base ++ Item ((i + 1) + e) ∷ Ptr j ∷ []) (b + suc e * (ds + ps) + ds + j) (b + ds + ps + e * (ds + ps) + ds + j) (later_pointer base i e j) (omega arith) (h (suc e) j (omega arith) l)))
+
+-- two steps, to an element and to a pointer of it
+two_steps : (m : List (List ℕ)) (base : List Step) (level s w k t b q tag e j : ℕ) → Reaches m base level s w → Finds m s w k t b q → kind q ≡ 1 → code q ≡ 7 → HasWord m t b tag
+    → e < middle tag → j < pointer_size tag
+    → Reaches m (base ++ Item e ∷ Ptr j ∷ []) (level + (element_levels 1 + 1)) t (b + 1 + e * (data_size tag + pointer_size tag) + data_size tag + j)
+two_steps m base level s w k t b q tag e j h f is_list is_structs has l k' =
+    let spot : Spot = element t (b + 1 + e * (data_size tag + pointer_size tag)) (data_size tag) (pointer_size tag) in
+    let last : Spot = word t (b + 1 + e * (data_size tag + pointer_size tag) + data_size tag + j) in
+    reaches_on m base (Item e) (Ptr j ∷ []) level (element_levels 1 + 1) s w t (b + 1 + e * (data_size tag + pointer_size tag) + data_size tag + j) h
+    (spot, 1, inr (k, t, b, q, tag, f, is_list, is_structs, has, l, refl), (last, 0, (k', refl), (refl, refl), refl), refl)
+
+-- a pointer word is no element
+word_no_element : (s w t b ds ps : ℕ) → word s w ≡ element t b ds ps → ⊥
+word_no_element s w t b ds ps e = cc
+
+-- the children of a list of structs
+pub structs_children : (m : List (List ℕ)) (base : List Step) (level s w k t b q tag : ℕ) → Reaches m base level s w → Finds m s w k t b q → kind q ≡ 1 → code q ≡ 7 → HasWord m t b tag
+    → AreChildren m base (element_rows base (level + (element_levels 1 + 1)) t (b + 1) (data_size tag) (pointer_size tag) 0 (middle tag))
+structs_children m base level s w k t b q tag h f is_list is_structs has = record {
+  apart = apart-elements base (level + (element_levels 1 + 1)) t (b + 1) (data_size tag) (pointer_size tag) 0 (middle tag);
+  go_on = go_on-elements base (level + (element_levels 1 + 1)) t (b + 1) (data_size tag) (pointer_size tag) 0 (middle tag);
+  reached = reached-elements m base (level + (element_levels 1 + 1)) t (b + 1) (data_size tag) (pointer_size tag) 0 (middle tag) (λ e j l l'.
+      let g : e ≡ 0 + e = omega arith in
+      subst (λ u. Reaches m (base ++ Item u ∷ Ptr j ∷ []) (level + (element_levels 1 + 1)) t (b + 1 + e * (data_size tag + pointer_size tag) + data_size tag + j)) g
+      (two_steps m base level s w k t b q tag e j h f is_list is_structs has l l'));
+  complete = λ x v level' s' w' r. let (mid, n, goes, walks) = beyond m base x v level level' s w s' w' h r in under x v mid n s' w' goes walks;
+}
+  where
+    under : (x : Step) (v : List Step) (mid : Spot) (n s' w' : ℕ) → Goes m (word s w) x mid → Walks m mid v n (word s' w')
+        → IsUnder (base ++ x ∷ v) (element_rows base (level + (element_levels 1 + 1)) t (b + 1) (data_size tag) (pointer_size tag) 0 (middle tag))
+    under (Ptr i) v mid n s' w' (k', t', b', q', f', e', l, spot) walks =
+        let same = one_object m s w k' t' b' q' k t b q f' f in
+        absurd (struct_no_list k' t' b' q' k t b q same e' is_list)
+    under (Item i) v mid n s' w' (inl (k', t', b', q', f', e', c', l, spot)) walks =
+        let same = one_object m s w k' t' b' q' k t b q f' f in
+        absurd (list_no_other k' t' b' q' k t b q same c' is_structs)
+    under (Item i) [] mid n s' w' (inr (k', t', b', q', tag', f', e', c', has', l, spot)) walks =
+        absurd (word_no_element s' w' t' (b' + 1 + i * (data_size tag' + pointer_size tag')) (data_size tag') (pointer_size tag') (walks.1 ∙ spot))
+    under (Item i) (Item j ∷ v) mid n s' w' (inr (k', t', b', q', tag', f', e', c', has', l, spot)) walks =
+        let here = subst (λ u. Walks m u (Item j ∷ v) n (word s' w')) spot walks in absurd here.2
+    under (Item i) (Ptr j ∷ v) mid n s' w' (inr (k', t', b', q', tag', f', e', c', has', l, spot)) walks =
+        let here = subst (λ u. Walks m u (Ptr j ∷ v) n (word s' w')) spot walks in
+        let same = one_object m s w k' t' b' q' k t b q f' f in
+        let one : tag' ≡ tag = one_word m t b tag' tag (subst (λ u. HasWord m t u tag') same.start (subst (λ u. HasWord m u b' tag') same.segment has')) has in
+        let inside : i < middle tag = subst (λ u. i < middle u) one l in
+        let below : j < pointer_size tag = subst (λ u. j < pointer_size u) one here.2.0 in
+        let e : 0 + i ≡ i = omega arith in
+        subst (λ u. IsUnder (base ++ Item u ∷ Ptr j ∷ v) (element_rows base (level + (element_levels 1 + 1)) t (b + 1) (data_size tag) (pointer_size tag) 0 (middle tag))) e
+        (IsUnder-elements base (level + (element_levels 1 + 1)) t (b + 1) (data_size tag) (pointer_size tag) 0 (middle tag) i j v inside below)

@@ -1,0 +1,51 @@
+-- The pointer words of a frame, word by word.
+use Rattle.std.proofs.Common.{◌≡◌, ℕ, zero, suc, ◌+◌, ◌-◌, ◌*◌, ◌<◌, ◌≤◌, List, [], ◌∷◌, ◌++◌, length, map, refl, ap, ◌∙◌, arith, Some}
+use Rattle.std.proofs.lemmas.List.{map-append}
+use Rattle.cap_spec.specs.Messages.{segment_of}
+use Rattle.cap_spec.specs.declared.Step.{Step}
+use Rattle.cap_spec.specs.declared.Step.TheVariants.{Ptr, Item}
+use Rattle.cap_vet.specs.Trails.{row, element_rows}
+use Rattle.cap_vet.specs.Frames.{place_of, row_places, element_places, IsRest}
+
+-- behind the first of several words in a row
+pub rest_of_row : (s b n more ds ps level : ℕ) → 1 < n → IsRest record { segment = s; at = b; left = n; more = more; data_words = ds; pointers = ps; level = level } (Some record { segment = s; at = b + 1; left = n - 1; more = more; data_words = ds; pointers = ps; level = level })
+rest_of_row s b zero more ds ps level h = absurd (omega arith)
+rest_of_row s b (suc n) more ds ps level h =
+    let e : suc n - 1 ≡ n = omega arith in
+    let f : b + 1 + n ≡ b + suc n = omega arith in record {
+      words = rw (e, f) refl;
+      inside = λ m i. record {
+        exists = i.exists;
+        some = omega arith;
+        each = i.each;
+        inside = let g : b + suc n + more * (ds + ps) ≤ length (segment_of m s) = i.inside in omega (arith, g);
+      };
+      level = refl;
+    }
+
+-- behind the last of them, the next element's
+pub rest_of_elements : (s b n more ds ps level : ℕ) → n ≡ 1 → 0 < more → IsRest record { segment = s; at = b; left = n; more = more; data_words = ds; pointers = ps; level = level } (Some record { segment = s; at = b + 1 + ds; left = ps; more = more - 1; data_words = ds; pointers = ps; level = level })
+rest_of_elements s b n zero ds ps level e h = absurd (omega arith)
+rest_of_elements s b n (suc more) ds ps level e h =
+    let f : suc more - 1 ≡ more = omega arith in record {
+      words = rw (e, f) refl;
+      inside = λ m i. record {
+        exists = i.exists;
+        some = i.each (omega arith);
+        each = λ k. i.each (omega arith);
+        inside = let g : b + n + suc more * (ds + ps) ≤ length (segment_of m s) = i.inside in rw f (omega (arith, g, e));
+      };
+      level = refl;
+    }
+
+-- where a row of words stands
+pub places-row : (base : List Step) (level : ℕ) (step : ℕ → Step) (t b i n : ℕ) → map place_of (row base level step t b i n) ≡ row_places level t b n
+places-row base level step t b i zero = refl
+places-row base level step t b i (suc n) = ap (λ u. (t, b, level) ∷ u) (places-row base level step t (b + 1) (i + 1) n)
+
+-- where the rows of elements stand
+pub places-elements : (base : List Step) (level t b ds ps i n : ℕ) → map place_of (element_rows base level t b ds ps i n) ≡ element_places level t b ds ps n
+places-elements base level t b ds ps i zero = refl
+places-elements base level t b ds ps i (suc n) =
+    map-append place_of (row (base ++ Item i ∷ []) level Ptr t (b + ds) 0 ps) (element_rows base level t (b + ds + ps) ds ps (i + 1) n)
+    ∙ rw (places-row (base ++ Item i ∷ []) level Ptr t (b + ds) 0 ps, places-elements base level t (b + ds + ps) ds ps (i + 1) n) refl

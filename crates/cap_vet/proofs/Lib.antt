@@ -1,0 +1,15 @@
+mod Apart
+mod Trails
+mod Tours
+mod Children
+mod Elements
+mod Owing
+mod Counting
+mod Steps
+mod Frames
+mod Objects
+mod Turning
+mod Stacks
+mod Verdicts
+mod ObjectFrames
+mod Looks

@@ -1,0 +1,78 @@
+-- The frames of objects: their words, and that they lie inside their segments.
+use Rattle.std.proofs.Common.{◌≡◌, ℕ, zero, suc, ◌+◌, ◌-◌, ◌*◌, ◌^◌, ◌<◌, ◌≤◌, ◌⊎◌, Fits, w32, inl, inr, List, [], length, refl, sym, ◌∙◌, arith}
+use Rattle.cap_spec.specs.Messages.{IsMessage, segment_of}
+use Rattle.cap_spec.specs.Pointers.{middle, data_size, pointer_size, list_size}
+use Rattle.cap_spec.specs.Denoting.{element_levels}
+use Rattle.cap_spec.specs.Following.{TagFits}
+use Rattle.cap_spec.proofs.Charges.{extent_struct, extent_structs}
+use Rattle.cap_ptr.specs.Shapes.{FindsObject}
+use Rattle.cap_ptr.specs.declared.shapes.Shape.TheVariants.{Struct, Structs}
+use Rattle.cap_vet.specs.Frames.{FrameIn, Place, element_places, spots}
+use Rattle.cap_vet.specs.Looking.{object_places}
+
+-- a struct's frame
+pub struct_inside : (m : List (List ℕ)) (s w k t b q tag n c d p at left level : ℕ) → FindsObject m s w k t b q tag n c (Struct d p) → at ≡ b + d → left ≡ p → 0 < p
+    → FrameIn m record { segment = t; at = at; left = left; more = 0; data_words = 0; pointers = 0; level = level }
+struct_inside m s w k t b q tag n c d p at left level f e1 e2 some = record {
+  exists = f.finds.sits.exists;
+  some = omega arith;
+  each = λ h. absurd (omega arith);
+  inside = omega (arith, f.finds.sits.inside, extent_struct q f.object.shape.kind, f.object.shape.data_words, f.object.shape.pointers);
+}
+
+-- elements that have no pointers, or aren't there, have no pointer words
+no_pointers : (level t b ds n : ℕ) → element_places level t b ds 0 n ≡ []
+no_pointers level t b ds zero = refl
+no_pointers level t b ds (suc n) = no_pointers level t (b + ds + 0) ds n
+
+pub structs_empty : (m : List (List ℕ)) (s w k t b q tag n c size count d p level : ℕ) → FindsObject m s w k t b q tag n c (Structs size count d p) → (count ≡ 0) ⊎ (p ≡ 0)
+    → ◌≡◌ {A = List Place} [] (object_places q tag t b level)
+structs_empty m s w k t b q tag n c size count d p level f (inl e) =
+    let x : middle tag ≡ 0 = sym f.object.shape.count ∙ e in
+    rw (f.object.shape.kind, f.object.shape.code, x) refl
+structs_empty m s w k t b q tag n c size count d p level f (inr e) =
+    let x : pointer_size tag ≡ 0 = sym f.object.shape.pointers ∙ e in
+    rw (f.object.shape.kind, f.object.shape.code, x) (sym (no_pointers (level + (element_levels 1 + 1)) t (b + 1) (data_size tag) (middle tag)))
+
+-- the elements' words fit the list
+pub structs_fit : (m : List (List ℕ)) (s w k t b q tag n c size count d p : ℕ) → FindsObject m s w k t b q tag n c (Structs size count d p) → b + 1 + count * (d + p) ≤ length (segment_of m t)
+structs_fit m s w k t b q tag n c size count d p f =
+    let fits : TagFits tag (list_size q) = (f.object.tagged (f.object.shape.kind, f.object.shape.code)).1 in
+    let room : count * (d + p) ≤ list_size q = rw (f.object.shape.count, f.object.shape.data_words, f.object.shape.pointers) fits.1 in
+    omega (arith, room, f.finds.sits.inside, extent_structs q f.object.shape.kind f.object.shape.code)
+
+-- the frame of a list of structs
+pub structs_inside : (m : List (List ℕ)) (s w k t b q tag n c size count d p at left more ds ps level : ℕ) → FindsObject m s w k t b q tag n c (Structs size count d p)
+    → at ≡ b + 1 + d → left ≡ p → more ≡ count - 1 → ds ≡ d → ps ≡ p → 0 < count → 0 < p
+    → FrameIn m record { segment = t; at = at; left = left; more = more; data_words = ds; pointers = ps; level = level }
+structs_inside m s w k t b q tag n c size zero d p at left more ds ps level f e1 e2 e3 e4 e5 some each = absurd (omega arith)
+structs_inside m s w k t b q tag n c size (suc count) d p at left more ds ps level f e1 e2 e3 e4 e5 some each =
+    let e : more ≡ count = omega (arith, e3) in record {
+      exists = f.finds.sits.exists;
+      some = omega arith;
+      each = λ h. omega arith;
+      inside = rw (e, e4, e5) (omega (arith, e1, e2, structs_fit m s w k t b q tag n c size (suc count) d p f));
+    }
+
+pub structs_places : (m : List (List ℕ)) (s w k t b q tag n c size count d p at left more ds ps level here : ℕ) → FindsObject m s w k t b q tag n c (Structs size count d p)
+    → at ≡ b + 1 + d → left ≡ p → more ≡ count - 1 → ds ≡ d → ps ≡ p → 0 < count → here ≡ level + (element_levels 1 + 1)
+    → spots record { segment = t; at = at; left = left; more = more; data_words = ds; pointers = ps; level = here } ≡ object_places q tag t b level
+structs_places m s w k t b q tag n c size zero d p at left more ds ps level here f e1 e2 e3 e4 e5 some e6 = absurd (omega arith)
+structs_places m s w k t b q tag n c size (suc count) d p at left more ds ps level here f e1 e2 e3 e4 e5 some e6 =
+    let e : more ≡ count = omega (arith, e3) in
+    let x : middle tag ≡ suc count = sym f.object.shape.count in
+    let y : data_size tag ≡ d = sym f.object.shape.data_words in
+    let z : pointer_size tag ≡ p = sym f.object.shape.pointers in
+    rw (f.object.shape.kind, f.object.shape.code, x, y, z, e, e1, e2, e4, e5, e6) refl
+
+-- a segment's places are numbers of 32 bits
+short_segment : (m : List (List ℕ)) (t : ℕ) → IsMessage m → t < length m → length (segment_of m t) < 2 ^ 32
+short_segment m t h l = h.lengths t [] l
+
+-- an element's start is a number of 32 bits
+pub start_fits : (m : List (List ℕ)) (s w k t b q tag n c size count d p at : ℕ) → IsMessage m → FindsObject m s w k t b q tag n c (Structs size count d p) → at ≡ d → (count ≡ 0 → ⊥)
+    → Fits w32 (b + 1 + at)
+start_fits m s w k t b q tag n c size zero d p at h f e some = absurd (some refl)
+start_fits m s w k t b q tag n c size (suc count) d p at h f e some =
+    let short = short_segment m t h f.finds.sits.exists in
+    omega (arith, e, short, structs_fit m s w k t b q tag n c size (suc count) d p f)

@@ -1,0 +1,185 @@
+-- What an object brings to a walk: its children, its cost, and how deep it goes.
+use Rattle.std.proofs.Common.{◌≡◌, ℕ, zero, suc, ◌+◌, ◌*◌, ◌<◌, ◌≤◌, ◌==◌, max, inl, inr, ◌⊎◌, List, [], ◌∷◌, ◌++◌, length, map, refl, ap, subst, arith, true, false}
+use Rattle.std.specs.Prelude.{pos}
+use Rattle.std.proofs.lemmas.List.{length-append}
+use Rattle.std.proofs.lemmas.Bool.Decides.{eqb_tells}
+use Rattle.cap_spec.specs.Messages.{HasWord}
+use Rattle.cap_spec.specs.Pointers.{kind, middle, code, data_size, pointer_size, list_size, extent}
+use Rattle.cap_spec.specs.Following.{IsComposite, TagFits, extra}
+use Rattle.cap_spec.specs.Denoting.{Finds, element_levels}
+use Rattle.cap_spec.specs.Paths.{Goes, Reaches, Spot, Walks, word}
+use Rattle.cap_spec.specs.Verdicts.{levels_below}
+use Rattle.cap_spec.specs.declared.Step.{Step}
+use Rattle.cap_spec.specs.declared.Step.TheVariants.{Ptr, Item}
+use Rattle.cap_spec.proofs.Charges.{extent_struct, extent_pointers, extent_structs, extra_same, lead_kind}
+use Rattle.cap_spec.proofs.Finding.{one_object}
+use Rattle.cap_spec.proofs.Messages.{one_word}
+use Rattle.cap_vet.specs.Trails.{Ahead, row, element_rows}
+use Rattle.cap_vet.specs.Owing.{AreNear}
+use Rattle.cap_vet.specs.Frames.{place_of, row_places, element_places}
+use Rattle.cap_vet.specs.Looking.{object_places, object_children}
+use Rattle.cap_vet.proofs.Children.{no_children, pointers_children, struct_children}
+use Rattle.cap_vet.proofs.Counting.{Counts}
+use Rattle.cap_vet.proofs.Elements.{structs_children}
+use Rattle.cap_vet.proofs.Frames.{places-elements, places-row}
+use Rattle.cap_vet.proofs.Steps.{pointers-counts, scalars-counts, struct-counts, structs-counts}
+use Rattle.cap_vet.proofs.Trails.{AreChildren}
+
+length-row : (base : List Step) (level : ℕ) (step : ℕ → Step) (t b i n : ℕ) → length (row base level step t b i n) ≡ n
+length-row base level step t b i zero = refl
+length-row base level step t b i (suc n) = ap suc (length-row base level step t (b + 1) (i + 1) n)
+
+length-elements : (base : List Step) (level t b ds ps i n : ℕ) → length (element_rows base level t b ds ps i n) ≡ n * ps
+length-elements base level t b ds ps i zero = omega arith
+length-elements base level t b ds ps i (suc n) =
+    let e = length-append (row (base ++ Item i ∷ []) level Ptr t (b + ds) 0 ps) (element_rows base level t (b + ds + ps) ds ps (i + 1) n) in
+    omega (arith, e, length-row (base ++ Item i ∷ []) level Ptr t (b + ds) 0 ps, length-elements base level t (b + ds + ps) ds ps (i + 1) n)
+
+near-row : (base : List Step) (depth level : ℕ) (step : ℕ → Step) (t b i n : ℕ) → 1 ≤ level → level ≤ depth + 1 → AreNear depth (row base level step t b i n)
+near-row base depth level step t b i zero h k = tt
+near-row base depth level step t b i (suc n) h k = (h, k, near-row base depth level step t (b + 1) (i + 1) n h k)
+
+pub near-append : (depth : ℕ) (xs ys : List Ahead) → AreNear depth xs → AreNear depth ys → AreNear depth (xs ++ ys)
+near-append depth [] ys h k = k
+near-append depth (a ∷ xs) ys h k = (h.0, h.1, near-append depth xs ys h.2 k)
+
+near-elements : (base : List Step) (depth level t b ds ps i n : ℕ) → 1 ≤ level → level ≤ depth + 1 → AreNear depth (element_rows base level t b ds ps i n)
+near-elements base depth level t b ds ps i zero h k = tt
+near-elements base depth level t b ds ps i (suc n) h k =
+    near-append depth (row (base ++ Item i ∷ []) level Ptr t (b + ds) 0 ps) (element_rows base level t (b + ds + ps) ds ps (i + 1) n)
+    (near-row (base ++ Item i ∷ []) depth level Ptr t (b + ds) 0 ps h k) (near-elements base depth level t (b + ds + ps) ds ps (i + 1) n h k)
+
+-- what is near stays so where the walk goes deeper
+pub near-deeper : (depth deeper : ℕ) (xs : List Ahead) → depth ≤ deeper → AreNear depth xs → AreNear deeper xs
+near-deeper depth deeper [] h k = tt
+near-deeper depth deeper (a ∷ xs) h k = (k.0, omega (arith, k.1), near-deeper depth deeper xs h k.2)
+
+-- What an object brings to a walk.
+pub record Brings (m : List (List ℕ)) (a : Ahead) (q tag t b cost low deep : ℕ) : Type 0 where
+  pub children : AreChildren m a.path (object_children a.path q tag t b a.level)
+  pub counts : Counts m a (object_children a.path q tag t b a.level) cost low (max low deep) 0
+  pub places : map place_of (object_children a.path q tag t b a.level) ≡ object_places q tag t b a.level
+  pub few : length (object_children a.path q tag t b a.level) ≤ cost
+  pub near : AreNear (max low deep) (object_children a.path q tag t b a.level)
+
+-- one cost and one depth in place of equal ones
+counts-at : (m : List (List ℕ)) (a : Ahead) (children : List Ahead) (cost cost' low low' low'' caps : ℕ) → cost ≡ cost' → low' ≡ low'' → Counts m a children cost low low' caps → Counts m a children cost' low low'' caps
+counts-at m a children cost cost' low low' low'' caps e f h = subst (λ u. Counts m a children u low low'' caps) e (subst (λ u. Counts m a children cost low u caps) f h)
+
+struct-brings : (m : List (List ℕ)) (a : Ahead) (k t b q tag low : ℕ) → Reaches m a.path a.level a.segment a.word → Finds m a.segment a.word k t b q → kind q ≡ 0
+    → Brings m a q tag t b (k + extent q + extra q tag) low (a.level + levels_below q tag)
+struct-brings m a k t b q tag low r f e =
+    let x : extra q tag ≡ 0 = rw e refl in
+    let l : levels_below q tag ≡ 0 = rw e refl in
+    let ch : object_children a.path q tag t b a.level ≡ row a.path (a.level + 1) Ptr t (b + data_size q) 0 (pointer_size q) = rw e refl in
+    let pl : object_places q tag t b a.level ≡ row_places (a.level + 1) t (b + data_size q) (pointer_size q) = rw e refl in record {
+      children = rw ch (struct_children m a.path a.level a.segment a.word k t b q r f e);
+      counts = rw ch (counts-at m a (row a.path (a.level + 1) Ptr t (b + data_size q) 0 (pointer_size q)) (k + extent q) (k + extent q + extra q tag) low (max low a.level) (max low (a.level + levels_below q tag)) 0 (omega (arith, x)) (omega (arith, l)) (struct-counts m a k t b q low f e));
+      places = rw (ch, pl) (places-row a.path (a.level + 1) Ptr t (b + data_size q) 0 (pointer_size q));
+      few = rw ch (omega (arith, length-row a.path (a.level + 1) Ptr t (b + data_size q) 0 (pointer_size q), extent_struct q e));
+      near = rw ch (near-row a.path (max low (a.level + levels_below q tag)) (a.level + 1) Ptr t (b + data_size q) 0 (pointer_size q) (omega arith) (omega arith));
+    }
+
+-- a list of values has no step to go on by
+scalars_end : (m : List (List ℕ)) (s w k t b q : ℕ) → Finds m s w k t b q → kind q ≡ 1 → (code q == 6) ≡ false → (code q == 7) ≡ false
+    → (x : Step) (v : List Step) (mid : Spot) (n s' w' : ℕ) → Goes m (word s w) x mid → Walks m mid v n (word s' w') → ⊥
+scalars_end m s w k t b q f e no_pointers no_structs (Ptr i) v mid n s' w' (k', t', b', q', f', e', l, spot) walks =
+    let g : kind q ≡ kind q' = ap kind (one_object m s w k t b q k' t' b' q' f f').shape in
+    omega (arith, e, e', g)
+scalars_end m s w k t b q f e no_pointers no_structs (Item i) v mid n s' w' (inl (k', t', b', q', f', e', c', l, spot)) walks =
+    let g : code q ≡ code q' = ap code (one_object m s w k t b q k' t' b' q' f f').shape in
+    let h : (code q' == 6) ≡ false = subst (λ u. (u == 6) ≡ false) g no_pointers in
+    let x : true ≡ false = subst (λ u. (u == 6) ≡ false) c' h in
+    cc
+scalars_end m s w k t b q f e no_pointers no_structs (Item i) v mid n s' w' (inr (k', t', b', q', tag, f', e', c', has, l, spot)) walks =
+    let g : code q ≡ code q' = ap code (one_object m s w k t b q k' t' b' q' f f').shape in
+    let h : (code q' == 7) ≡ false = subst (λ u. (u == 7) ≡ false) g no_structs in
+    let x : true ≡ false = subst (λ u. (u == 7) ≡ false) c' h in
+    cc
+
+scalars-brings : (m : List (List ℕ)) (a : Ahead) (k t b q tag low : ℕ) → Reaches m a.path a.level a.segment a.word → Finds m a.segment a.word k t b q → kind q ≡ 1
+    → (code q == 6) ≡ false → (code q == 7) ≡ false → code q < 6 → Brings m a q tag t b (k + extent q + extra q tag) low (a.level + levels_below q tag)
+scalars-brings m a k t b q tag low r f e no_pointers no_structs below =
+    let x : extra q tag ≡ extra q 0 = extra_same q tag 0 (omega (arith, e)) (λ g h. absurd (omega (arith, h))) in
+    let l : levels_below q tag ≡ 0 = rw (e, no_structs) refl in
+    let ch : object_children a.path q tag t b a.level ≡ [] = rw (e, no_pointers, no_structs) refl in
+    let pl : object_places q tag t b a.level ≡ [] = rw (e, no_pointers, no_structs) refl in record {
+      children = rw ch (no_children m a.path a.level a.segment a.word r (scalars_end m a.segment a.word k t b q f e no_pointers no_structs));
+      counts = rw ch (counts-at m a [] (k + extent q + extra q 0) (k + extent q + extra q tag) low (max low a.level) (max low (a.level + levels_below q tag)) 0 (omega (arith, x)) (omega (arith, l)) (scalars-counts m a k t b q low f e below));
+      places = rw (ch, pl) refl;
+      few = rw ch (omega arith);
+      near = rw ch tt;
+    }
+
+pointers-brings : (m : List (List ℕ)) (a : Ahead) (k t b q tag low : ℕ) → Reaches m a.path a.level a.segment a.word → Finds m a.segment a.word k t b q → kind q ≡ 1 → code q ≡ 6
+    → Brings m a q tag t b (k + extent q + extra q tag) low (a.level + levels_below q tag)
+pointers-brings m a k t b q tag low r f e c =
+    let x : extra q tag ≡ 0 = rw (e, c) refl in
+    let l : levels_below q tag ≡ 0 = rw (e, c) refl in
+    let ch : object_children a.path q tag t b a.level ≡ row a.path (a.level + 1) Item t b 0 (list_size q) = rw (e, c) refl in
+    let pl : object_places q tag t b a.level ≡ row_places (a.level + 1) t b (list_size q) = rw (e, c) refl in record {
+      children = rw ch (pointers_children m a.path a.level a.segment a.word k t b q r f e c);
+      counts = rw ch (counts-at m a (row a.path (a.level + 1) Item t b 0 (list_size q)) (k + extent q) (k + extent q + extra q tag) low (max low a.level) (max low (a.level + levels_below q tag)) 0 (omega (arith, x)) (omega (arith, l)) (pointers-counts m a k t b q low f e c));
+      places = rw (ch, pl) (places-row a.path (a.level + 1) Item t b 0 (list_size q));
+      few = rw ch (omega (arith, length-row a.path (a.level + 1) Item t b 0 (list_size q), extent_pointers q e c));
+      near = rw ch (near-row a.path (max low (a.level + levels_below q tag)) (a.level + 1) Item t b 0 (list_size q) (omega arith) (omega arith));
+    }
+
+structs-brings : (m : List (List ℕ)) (a : Ahead) (k t b q tag low : ℕ) → Reaches m a.path a.level a.segment a.word → Finds m a.segment a.word k t b q → kind q ≡ 1 → code q ≡ 7 → HasWord m t b tag
+    → Brings m a q tag t b (k + extent q + extra q tag) low (a.level + levels_below q tag)
+structs-brings m a k t b q tag low r f e c has =
+    let l : levels_below q tag ≡ element_levels (middle tag) = rw (e, c) refl in
+    let ch : object_children a.path q tag t b a.level ≡ element_rows a.path (a.level + (element_levels 1 + 1)) t (b + 1) (data_size tag) (pointer_size tag) 0 (middle tag) = rw (e, c) refl in
+    let pl : object_places q tag t b a.level ≡ element_places (a.level + (element_levels 1 + 1)) t (b + 1) (data_size tag) (pointer_size tag) (middle tag) = rw (e, c) refl in
+    let fits : (tag' : ℕ) × HasWord m t b tag' × TagFits tag' (list_size q) = f.sits.composite (e, c) in
+    let one : fits.0 ≡ tag = one_word m t b fits.0 tag fits.1 has in
+    let room : middle tag * (data_size tag + pointer_size tag) ≤ list_size q = subst (λ u. middle u * (data_size u + pointer_size u) ≤ list_size q) one fits.2.1 in record {
+      children = rw ch (structs_children m a.path a.level a.segment a.word k t b q tag r f e c has);
+      counts = rw ch (counts-at m a (element_rows a.path (a.level + (element_levels 1 + 1)) t (b + 1) (data_size tag) (pointer_size tag) 0 (middle tag)) (k + extent q + extra q tag) (k + extent q + extra q tag) low (max low (a.level + element_levels (middle tag))) (max low (a.level + levels_below q tag)) 0 refl (omega (arith, l)) (structs-counts m a k t b q tag low f e c has));
+      places = rw (ch, pl) (places-elements a.path (a.level + (element_levels 1 + 1)) t (b + 1) (data_size tag) (pointer_size tag) 0 (middle tag));
+      few = rw ch (omega (arith, length-elements a.path (a.level + (element_levels 1 + 1)) t (b + 1) (data_size tag) (pointer_size tag) 0 (middle tag), extent_structs q e c, room));
+      near = rw ch (near-elements a.path (max low (a.level + levels_below q tag)) (a.level + (element_levels 1 + 1)) t (b + 1) (data_size tag) (pointer_size tag) 0 (middle tag) (omega arith) (omega arith));
+    }
+
+-- the kinds and codes of an object
+pub data Cases (q : ℕ) : Type 0 where
+  a_struct : kind q ≡ 0 → Cases q
+  values : kind q ≡ 1 → (code q == 6) ≡ false → (code q == 7) ≡ false → code q < 6 → Cases q
+  a_row : kind q ≡ 1 → code q ≡ 6 → Cases q
+  a_table : kind q ≡ 1 → code q ≡ 7 → Cases q
+
+pub cases_of : (m : List (List ℕ)) (s w k t b q : ℕ) → Finds m s w k t b q → Cases q
+cases_of m s w k t b q f = by_kind (eqb_tells (kind q) 0) (eqb_tells (code q) 6) (eqb_tells (code q) 7)
+  where
+    below : kind q < 2
+    below = lead_kind m s w k t (pos b) q f.leads
+
+    by_kind : (((kind q == 0) ≡ true) × (kind q ≡ 0)) ⊎ (((kind q == 0) ≡ false) × (kind q ≡ 0 → ⊥))
+        → (((code q == 6) ≡ true) × (code q ≡ 6)) ⊎ (((code q == 6) ≡ false) × (code q ≡ 6 → ⊥))
+        → (((code q == 7) ≡ true) × (code q ≡ 7)) ⊎ (((code q == 7) ≡ false) × (code q ≡ 7 → ⊥)) → Cases q
+    by_kind (inl h) i j = a_struct h.1
+    by_kind (inr h) (inl i) j = a_row (omega (arith, h.1, below)) i.1
+    by_kind (inr h) (inr i) (inl j) = a_table (omega (arith, h.1, below)) j.1
+    by_kind (inr h) (inr i) (inr j) = values (omega (arith, h.1, below)) i.0 j.0 (omega (arith, i.1, j.1))
+
+-- what any object brings
+pub object-brings : (m : List (List ℕ)) (a : Ahead) (k t b q tag low : ℕ) → Reaches m a.path a.level a.segment a.word → Finds m a.segment a.word k t b q → (IsComposite q → HasWord m t b tag)
+    → Brings m a q tag t b (k + extent q + extra q tag) low (a.level + levels_below q tag)
+object-brings m a k t b q tag low r f tagged = elim (cases_of m a.segment a.word k t b q f) [
+  | a_struct e ↦ struct-brings m a k t b q tag low r f e
+  | values e g h l ↦ scalars-brings m a k t b q tag low r f e g h l
+  | a_row e c ↦ pointers-brings m a k t b q tag low r f e c
+  | a_table e c ↦ structs-brings m a k t b q tag low r f e c (tagged (e, c))
+]
+
+-- the children stand at the object's pointer words
+pub object_places-children : (base : List Step) (q tag t b level : ℕ) → map place_of (object_children base q tag t b level) ≡ object_places q tag t b level
+object_places-children base q tag t b level = by_kind (eqb_tells (kind q) 0) (eqb_tells (code q) 6) (eqb_tells (code q) 7)
+  where
+    by_kind : (((kind q == 0) ≡ true) × (kind q ≡ 0)) ⊎ (((kind q == 0) ≡ false) × (kind q ≡ 0 → ⊥))
+        → (((code q == 6) ≡ true) × (code q ≡ 6)) ⊎ (((code q == 6) ≡ false) × (code q ≡ 6 → ⊥))
+        → (((code q == 7) ≡ true) × (code q ≡ 7)) ⊎ (((code q == 7) ≡ false) × (code q ≡ 7 → ⊥)) → map place_of (object_children base q tag t b level) ≡ object_places q tag t b level
+    by_kind (inl h) i j = rw h.0 (places-row base (level + 1) Ptr t (b + data_size q) 0 (pointer_size q))
+    by_kind (inr h) (inl i) j = rw (h.0, i.0) (places-row base (level + 1) Item t b 0 (list_size q))
+    by_kind (inr h) (inr i) (inl j) = rw (h.0, i.0, j.0) (places-elements base (level + (element_levels 1 + 1)) t (b + 1) (data_size tag) (pointer_size tag) 0 (middle tag))
+    by_kind (inr h) (inr i) (inr j) = rw (h.0, i.0, j.0) refl

@@ -1,0 +1,166 @@
+-- What one turn of a walk leaves of its frames.
+use Rattle.std.proofs.Common.{◌≡◌, ℕ, ◌+◌, ◌≤◌, List, [], ◌∷◌, ◌++◌, length, map, reverse, refl, sym, ap, ◌∙◌, subst, arith, Option, None, Some, ◌<◌, ◌^◌, suc}
+use Rattle.std.specs.Option.{option_to_list}
+use Rattle.std.specs.List.{AllByRecursion}
+use Rattle.std.proofs.lemmas.List.{append-nil, map-append, reverse-append, length-append, length-map, length-reverse}
+use Rattle.cap_spec.specs.Following.{Leads, extra, to_cap, to_null}
+use Rattle.cap_spec.specs.Pointers.{extent}
+use Rattle.cap_spec.specs.Denoting.{Finds}
+use Rattle.cap_spec.specs.Verdicts.{levels_below}
+use Rattle.cap_vet.specs.Trails.{Ahead}
+use Rattle.cap_vet.specs.Frames.{FrameIn, IsRest, LevelIs, OptionIn, all_spots, option_spots, place_of, spots}
+use Rattle.cap_vet.specs.Looking.{FrameRises, IsLooked, object_children}
+use Rattle.cap_vet.specs.Turning.{added, frame_below}
+use Rattle.cap_vet.specs.Walking.{IsNext, AreStacked, IsWalking, Progress, work_left}
+use Rattle.cap_vet.specs.declared.frame.Frame.{Frame}
+use Rattle.cap_vet.specs.declared.looking.Looked.{Looked}
+use Rattle.cap_vet.specs.declared.looking.Looked.TheVariants as looked
+use Rattle.cap_vet.specs.declared.report.Report.{Report}
+use Rattle.cap_vet.proofs.Objects.{object-brings, object_places-children}
+use Rattle.cap_vet.proofs.Turning.{next_ahead, turn_cap, turn_null, turn_object}
+
+-- the frames with one more, where there is one
+pub reverse-more : (frames : List Frame) (r : Option Frame) → reverse (frames ++ option_to_list r) ≡ option_to_list r ++ reverse frames
+reverse-more frames None = ap reverse (append-nil frames)
+reverse-more frames (Some r) = reverse-append frames (r ∷ [])
+
+spots-more : (r : Option Frame) (frames : List Frame) → all_spots (option_to_list r ++ frames) ≡ option_spots r ++ all_spots frames
+spots-more None frames = refl
+spots-more (Some r) frames = refl
+
+inside-more : (m : List (List ℕ)) (r : Option Frame) (frames : List Frame) → OptionIn m r → AllByRecursion (FrameIn m) frames → AllByRecursion (FrameIn m) (option_to_list r ++ frames)
+inside-more m None frames h l = l
+inside-more m (Some r) frames h l = (h, l)
+
+-- what is left of a frame is as high as it
+stacked-rest : (depth level : ℕ) (r : Option Frame) (frames : List Frame) → length frames + 2 ≤ level → level ≤ depth + 1 → LevelIs level r → AreStacked depth frames → AreStacked depth (option_to_list r ++ frames)
+stacked-rest depth level None frames h u k s = s
+stacked-rest depth level (Some r) frames h u k s = (omega (arith, k), omega (arith, k), s)
+
+high-rest : (level : ℕ) (r : Option Frame) (frames : List Frame) → length frames + 2 ≤ level → length (option_to_list r ++ frames) + 1 ≤ level
+high-rest level None frames h = omega arith
+high-rest level (Some r) frames h = omega arith
+
+-- and what is below a word is higher
+stacked-below : (depth level : ℕ) (r : Option Frame) (frames : List Frame) → length frames + 1 ≤ level → FrameRises level depth r → AreStacked depth frames → AreStacked depth (option_to_list r ++ frames)
+stacked-below depth level None frames h l s = s
+stacked-below depth level (Some r) frames h l s = (omega (arith, l.0), l.1, s)
+
+-- The first word of the topmost frame is the next to look at.
+pub next_of : (m : List (List ℕ)) (words depth : ℕ) (frames : List Frame) (f : Frame) (r : Option Frame) (report : Report) → IsWalking m words depth (frames ++ f ∷ []) report → IsRest f r
+    → IsNext m words depth f.segment f.at f.level (frames ++ option_to_list r) report
+next_of m words depth frames f r report (seen, aheads, w) rest =
+    let e : reverse (frames ++ f ∷ []) ≡ f ∷ reverse frames = reverse-append frames (f ∷ []) in
+    let places : map place_of aheads ≡ spots f ++ all_spots (reverse frames) = rw e at w.places in
+    let inside : AllByRecursion (FrameIn m) (f ∷ reverse frames) = rw e at w.inside in
+    let stacked : AreStacked depth (f ∷ reverse frames) = rw e at w.stacked in
+    let more = reverse-more frames r in
+    let next = next_ahead (f.segment, f.at, f.level) (option_spots r ++ all_spots (reverse frames)) aheads (places ∙ ap (λ u. u ++ all_spots (reverse frames)) rest.words) in record {
+      seen = seen;
+      a = next.a;
+      ahead = next.ahead;
+      progress = subst (λ u. Progress m words depth report.charge report.depth report.pointers report.caps report.first_cap seen u) next.whole w.progress;
+      segment = next.segment;
+      at = next.word;
+      leads_to = next.level;
+      exists = inside.0.exists;
+      within = omega (arith, inside.0.some, inside.0.inside);
+      places = rw more (next.rest ∙ sym (spots-more r (reverse frames)));
+      inside = rw more (inside-more m r (reverse frames) (rest.inside m inside.0) inside.1);
+      stacked = rw more (stacked-rest depth f.level r (reverse frames) stacked.0 stacked.1 rest.level stacked.2);
+      high = rw more (high-rest f.level r (reverse frames) stacked.0);
+      low = stacked.1;
+    }
+
+-- Looking at the next word keeps the walk.
+pub walk_on : (m : List (List ℕ)) (words depth s w level : ℕ) (frames : List Frame) (report : Report) (l : Looked) → IsNext m words depth s w level frames report
+    → IsLooked m words depth report.charge s w level l → IsWalking m words depth (frames ++ option_to_list (frame_below l)) (added report s w l)
+walk_on m words depth s w level frames report (looked.Null cost) t (h, within) =
+    let own : Leads m t.a.segment t.a.word cost to_null = rw (t.segment, t.at) h in
+    let more = reverse-more frames None in (
+      t.a.path ∷ t.seen,
+      t.ahead,
+      record {
+        progress = turn_null m words depth report.charge report.depth report.pointers report.caps cost report.first_cap t.seen t.a t.ahead t.progress own within;
+        places = rw more t.places;
+        inside = rw more t.inside;
+        stacked = rw more t.stacked;
+      },
+    )
+walk_on m words depth s w level frames report (looked.Cap cost) t ((i, h), within) =
+    let own : Leads m t.a.segment t.a.word cost (to_cap i) = rw (t.segment, t.at) h in
+    let more = reverse-more frames None in (
+      t.a.path ∷ t.seen,
+      t.ahead,
+      record {
+        progress = rw (← t.segment, ← t.at) (turn_cap m words depth report.charge report.depth report.pointers report.caps cost i report.first_cap t.seen t.a t.ahead t.progress own within);
+        places = rw more t.places;
+        inside = rw more t.inside;
+        stacked = rw more t.stacked;
+      },
+    )
+walk_on m words depth s w level frames report (looked.Object cost deep below) t (k, u, b, q, tag, o) =
+    let own : Finds m t.a.segment t.a.word k u b q = rw (t.segment, t.at) o.finds in
+    let children : List Ahead = object_children t.a.path q tag u b t.a.level in
+    let within : report.charge + (k + extent q + extra q tag) ≤ words = omega (arith, o.within, o.charge) in
+    let shallow : t.a.level + levels_below q tag ≤ depth = omega (arith, o.shallow, o.deepest, t.leads_to) in
+    let done = turn_object m words depth report.charge report.depth report.pointers report.caps k u b q tag report.first_cap t.seen t.a t.ahead t.progress own o.tagged within shallow in
+    let e : k + extent q + extra q tag ≡ cost = sym o.charge in
+    let g : t.a.level + levels_below q tag ≡ deep = omega (arith, o.deepest, t.leads_to) in
+    let places : map place_of (children ++ t.ahead) ≡ option_spots below ++ all_spots (reverse frames) =
+    map-append place_of children t.ahead ∙ rw (object_places-children t.a.path q tag u b t.a.level, t.leads_to, o.places, t.places) refl in
+    let more = reverse-more frames below in (
+      t.a.path ∷ t.seen,
+      children ++ t.ahead,
+      record {
+        progress = rw (e, g) at done;
+        places = rw more (places ∙ sym (spots-more below (reverse frames)));
+        inside = rw more (inside-more m below (reverse frames) o.inside t.inside);
+        stacked = rw more (stacked-below depth level below (reverse frames) t.high o.rises t.stacked);
+      },
+    )
+
+-- a word has no more words below it than it costs
+few_below : (m : List (List ℕ)) (words depth s w level : ℕ) (frames : List Frame) (report : Report) (l : Looked) → IsNext m words depth s w level frames report
+    → IsLooked m words depth report.charge s w level l → (length (option_spots (frame_below l)) + report.charge ≤ (added report s w l).charge) × ((added report s w l).charge ≤ words)
+few_below m words depth s w level frames report (looked.Null cost) t (h, within) = (omega arith, within)
+few_below m words depth s w level frames report (looked.Cap cost) t (h, within) = (omega arith, within)
+few_below m words depth s w level frames report (looked.Object cost deep below) t (k, u, b, q, tag, o) =
+    let own : Finds m t.a.segment t.a.word k u b q = rw (t.segment, t.at) o.finds in
+    let brings = object-brings m t.a k u b q tag report.depth t.progress.trail.ahead_reached.0 own o.tagged in
+    let e : option_spots below ≡ map place_of (object_children t.a.path q tag u b t.a.level) = o.places ∙ rw (← t.leads_to) (sym (object_places-children t.a.path q tag u b t.a.level)) in
+    let n : length (option_spots below) ≡ length (object_children t.a.path q tag u b t.a.level) = ap length e ∙ length-map (object_children t.a.path q tag u b t.a.level) place_of in
+    (omega (arith, n, brings.few, o.charge), o.within)
+
+-- so the work that is left falls
+pub work_falls : (m : List (List ℕ)) (words depth s w level : ℕ) (frames : List Frame) (report : Report) (l : Looked) → IsNext m words depth s w level frames report
+    → IsLooked m words depth report.charge s w level l → work_left words (frames ++ option_to_list (frame_below l)) (added report s w l) < suc (work_left words frames report)
+work_falls m words depth s w level frames report l t h =
+    let few = few_below m words depth s w level frames report l t h in
+    let more = reverse-more frames (frame_below l) in
+    let spot = spots-more (frame_below l) (reverse frames) in
+    let n : length (all_spots (reverse (frames ++ option_to_list (frame_below l)))) ≡ length (option_spots (frame_below l)) + length (all_spots (reverse frames)) =
+    ap (λ u. length (all_spots u)) more ∙ ap length spot ∙ length-append (option_spots (frame_below l)) (all_spots (reverse frames)) in
+    omega (arith, n, few.0, few.1)
+
+-- what is added to a report fits its numbers
+pub added_fits : (m : List (List ℕ)) (words depth s w level : ℕ) (frames : List Frame) (report : Report) (l : Looked) → words ≤ 268435456 → IsNext m words depth s w level frames report
+    → IsLooked m words depth report.charge s w level l → ((added report s w l).charge < 2 ^ 64) × ((added report s w l).pointers < 2 ^ 64) × ((added report s w l).caps < 2 ^ 64)
+added_fits m words depth s w level frames report (looked.Null cost) few t (h, within) = (omega arith, omega (arith, t.progress.bound, t.progress.within), omega (arith, t.progress.few, t.progress.bound, t.progress.within))
+added_fits m words depth s w level frames report (looked.Cap cost) few t (h, within) = (omega arith, omega (arith, t.progress.bound, t.progress.within), omega (arith, t.progress.few, t.progress.bound, t.progress.within))
+added_fits m words depth s w level frames report (looked.Object cost deep below) few t (k, u, b, q, tag, o) = (omega (arith, o.within), omega (arith, t.progress.bound, t.progress.within), omega (arith, t.progress.few, t.progress.bound, t.progress.within))
+
+-- the stack has room for what is below a word
+pub stack_fits : (m : List (List ℕ)) (words depth s w level : ℕ) (frames : List Frame) (report : Report) (l : Looked) → depth ≤ 256 → IsNext m words depth s w level frames report
+    → IsLooked m words depth report.charge s w level l → length (frames ++ option_to_list (frame_below l)) ≤ 256
+stack_fits m words depth s w level frames report l shallow t h =
+    let a = length-append frames (option_to_list (frame_below l)) in
+    let b = length-reverse frames in
+    below l h a b
+  where
+    below : (l : Looked) → IsLooked m words depth report.charge s w level l → length (frames ++ option_to_list (frame_below l)) ≡ length frames + length (option_to_list (frame_below l)) → length (reverse frames) ≡ length frames
+        → length (frames ++ option_to_list (frame_below l)) ≤ 256
+    below (looked.Null cost) h a b = omega (arith, a, b, t.high, t.low)
+    below (looked.Cap cost) h a b = omega (arith, a, b, t.high, t.low)
+    below (looked.Object cost deep None) h a b = omega (arith, a, b, t.high, t.low)
+    below (looked.Object cost deep (Some f)) (k, u, b', q, tag, o) a b = omega (arith, a, b, t.high, t.low, o.rises.0, o.rises.1)

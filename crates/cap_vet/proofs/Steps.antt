@@ -1,0 +1,105 @@
+-- How the count goes on at each kind of word.
+use Rattle.std.proofs.Common.{◌≡◌, ℕ, ◌+◌, ◌<◌, ◌≤◌, max, List, [], refl, subst, arith}
+use Rattle.std.specs.Prelude.{pos}
+use Rattle.cap_spec.specs.Messages.{HasWord}
+use Rattle.cap_spec.specs.Pointers.{kind, middle, code, data_size, pointer_size, list_size, extent}
+use Rattle.cap_spec.specs.Following.{Leads, to_null, to_cap, to_object, extra}
+use Rattle.cap_spec.specs.Denoting.{Finds, element_levels, values_of, words_from}
+use Rattle.cap_spec.specs.Tree.{null, cap, struct, scalars, pointers, structs}
+use Rattle.cap_spec.specs.declared.Step.TheVariants.{Ptr, Item}
+use Rattle.cap_spec.proofs.Following.{one_lead}
+use Rattle.cap_vet.specs.Trails.{Ahead, row, element_rows}
+use Rattle.cap_vet.proofs.Counting.{Counts}
+use Rattle.cap_vet.proofs.Owing.{owes-row, owes-elements}
+
+-- null is no object, and no capability is one
+pub null_no_object : (m : List (List ℕ)) (s w k k' t b q : ℕ) → Leads m s w k to_null → Finds m s w k' t b q → ⊥
+null_no_object m s w k k' t b q h f = let e = one_lead m s w k k' to_null (to_object t (pos b) q) h f.leads in let e1 : to_null ≡ to_object t (pos b) q = e.1 in cc
+
+pub cap_no_object : (m : List (List ℕ)) (s w k i k' t b q : ℕ) → Leads m s w k (to_cap i) → Finds m s w k' t b q → ⊥
+cap_no_object m s w k i k' t b q h f = let e = one_lead m s w k k' (to_cap i) (to_object t (pos b) q) h f.leads in let e1 : to_cap i ≡ to_object t (pos b) q = e.1 in cc
+
+pub null_no_cap : (m : List (List ℕ)) (s w k k' i : ℕ) → Leads m s w k to_null → Leads m s w k' (to_cap i) → ⊥
+null_no_cap m s w k k' i h f = let e = one_lead m s w k k' to_null (to_cap i) h f in let e1 : to_null ≡ to_cap i = e.1 in cc
+
+-- null costs its pads
+pub null-counts : (m : List (List ℕ)) (a : Ahead) (k low : ℕ) → Leads m a.segment a.word k to_null → 1 ≤ a.level → a.level ≤ low + 1 → Counts m a [] k low low 0
+null-counts m a k low h up near = record {
+  build = λ c top p k' (e1, e2, e3, e4). record {
+    tree = null;
+    depth = 0;
+    denotes = (subst (λ u. Leads m a.segment a.word u to_null) (omega (arith, e1)) h, refl);
+    level = omega (arith, e2);
+    pointers = omega (arith, e3);
+    cap_total = omega (arith, e4);
+  };
+}
+
+-- so does a capability
+pub cap-counts : (m : List (List ℕ)) (a : Ahead) (k i low : ℕ) → Leads m a.segment a.word k (to_cap i) → 1 ≤ a.level → a.level ≤ low + 1 → Counts m a [] k low low 1
+cap-counts m a k i low h up near = record {
+  build = λ c top p k' (e1, e2, e3, e4). record {
+    tree = cap i;
+    depth = 0;
+    denotes = (subst (λ u. Leads m a.segment a.word u (to_cap i)) (omega (arith, e1)) h, refl);
+    level = omega (arith, e2);
+    pointers = omega (arith, e3);
+    cap_total = omega (arith, e4);
+  };
+}
+
+-- a struct costs its pads and its words
+pub struct-counts : (m : List (List ℕ)) (a : Ahead) (k t b q low : ℕ) → Finds m a.segment a.word k t b q → kind q ≡ 0
+    → Counts m a (row a.path (a.level + 1) Ptr t (b + data_size q) 0 (pointer_size q)) (k + extent q) low (max low a.level) 0
+struct-counts m a k t b q low f is_struct = record {
+  build = λ c top p k' owe. let r = owes-row m a.path (a.level + 1) Ptr t (b + data_size q) 0 (pointer_size q) c top p k' owe in record {
+    tree = struct (words_from m t b (data_size q)) r.trees;
+    depth = 1 + r.deep;
+    denotes = (k, t, b, q, c, r.deep, record { finds = f; kind = is_struct; data_words = refl; charge = refl; depth = refl }, r.denote);
+    level = omega (arith, r.depth);
+    pointers = omega (arith, r.pointers);
+    cap_total = omega (arith, r.caps);
+  };
+}
+
+-- a list of values costs its pads, its words and its elements without bits
+pub scalars-counts : (m : List (List ℕ)) (a : Ahead) (k t b q low : ℕ) → Finds m a.segment a.word k t b q → kind q ≡ 1 → code q < 6
+    → Counts m a [] (k + extent q + extra q 0) low (max low a.level) 0
+scalars-counts m a k t b q low f is_list below = record {
+  build = λ c top p k' (e1, e2, e3, e4). record {
+    tree = scalars (code q) (values_of m t b (code q) (list_size q));
+    depth = 1;
+    denotes = (k, t, b, q, record { finds = f; kind = is_list; code = refl; scalar = below; elements = refl; charge = omega (arith, e1); depth = refl });
+    level = omega (arith, e2);
+    pointers = omega (arith, e3);
+    cap_total = omega (arith, e4);
+  };
+}
+
+-- a list of pointers costs its pads and its words
+pub pointers-counts : (m : List (List ℕ)) (a : Ahead) (k t b q low : ℕ) → Finds m a.segment a.word k t b q → kind q ≡ 1 → code q ≡ 6
+    → Counts m a (row a.path (a.level + 1) Item t b 0 (list_size q)) (k + extent q) low (max low a.level) 0
+pointers-counts m a k t b q low f is_list is_pointers = record {
+  build = λ c top p k' owe. let r = owes-row m a.path (a.level + 1) Item t b 0 (list_size q) c top p k' owe in record {
+    tree = pointers r.trees;
+    depth = 1 + r.deep;
+    denotes = (k, t, b, q, c, r.deep, record { finds = f; kind = is_list; code = is_pointers; charge = refl; depth = refl }, r.denote);
+    level = omega (arith, r.depth);
+    pointers = omega (arith, r.pointers);
+    cap_total = omega (arith, r.caps);
+  };
+}
+
+-- a list of structs costs its pads, its words and its elements without words
+pub structs-counts : (m : List (List ℕ)) (a : Ahead) (k t b q tag low : ℕ) → Finds m a.segment a.word k t b q → kind q ≡ 1 → code q ≡ 7 → HasWord m t b tag
+    → Counts m a (element_rows a.path (a.level + (element_levels 1 + 1)) t (b + 1) (data_size tag) (pointer_size tag) 0 (middle tag)) (k + extent q + extra q tag) low (max low (a.level + element_levels (middle tag))) 0
+structs-counts m a k t b q tag low f is_list is_structs has = record {
+  build = λ c top p k' owe. let r = owes-elements m a.path (a.level + (element_levels 1 + 1)) t (b + 1) (data_size tag) (pointer_size tag) 0 (middle tag) c top p k' owe in record {
+    tree = structs (data_size tag) (pointer_size tag) r.elements;
+    depth = 1 + element_levels (middle tag) + r.deep;
+    denotes = (k, t, b, q, tag, c, r.deep, record { finds = f; kind = is_list; code = is_structs; has_tag = has; data_sizes = refl; pointer_sizes = refl; charge = refl; depth = refl }, r.are);
+    level = omega (arith, r.depth);
+    pointers = omega (arith, r.pointers);
+    cap_total = omega (arith, r.caps);
+  };
+}

@@ -1,0 +1,185 @@
+-- How a walk ends: at the first fault, or with the whole tree.
+use Rattle.cap_vet.specs.Reports.{IsAccepted, IsFirstCapOf}
+use Rattle.cap_vet.specs.Owing.{IsCount}
+use Rattle.cap_spec.proofs.Messages.{HasWord-at}
+use Rattle.std.proofs.Common.{◌≡◌, ℕ, ◌+◌, ◌<◌, inl, inr, List, [], ◌∷◌, ◌++◌, length, map, refl, sym, subst, arith, Option, None, Some}
+use Rattle.std.proofs.lemmas.List.{length-append}
+use Rattle.cap_spec.specs.Messages.{segment_of}
+use Rattle.cap_spec.specs.Denoting.{Denotes}
+use Rattle.cap_spec.specs.Faults.{IsFirstFault, IsFirstReason, IsRefused, is_deep, is_past, is_wrong}
+use Rattle.cap_spec.specs.Paths.{IsOneOf, IsTour, Reaches}
+use Rattle.cap_spec.specs.Verdicts.{AreDistinct, CostOf, IsNoneOf, Justified}
+use Rattle.cap_spec.specs.Verdicts.{no_root, too_deep, past_limit, is_wrong as wrong_there}
+use Rattle.cap_spec.specs.declared.Reason.{Reason}
+use Rattle.cap_spec.specs.declared.Refusal.{Refusal}
+use Rattle.cap_spec.specs.declared.Step.{Step}
+use Rattle.cap_spec.proofs.Preorder.{Rises-distinct}
+use Rattle.cap_vet.specs.Trails.{Ahead, IsTrail}
+use Rattle.cap_vet.specs.Frames.{place_of}
+use Rattle.cap_vet.specs.Walking.{IsFirstOf, IsNext, IsWalking, Progress}
+use Rattle.cap_vet.specs.declared.frame.Frame.{Frame}
+use Rattle.cap_vet.specs.declared.report.Report.{Report}
+use Rattle.cap_vet.proofs.Tours.{in_order, in_order-IsOneOf, length-in_order, onto, tour_of}
+
+-- paths in order, and one more
+onto-append : (seen later more : List (List Step)) → onto seen (later ++ more) ≡ onto seen later ++ more
+onto-append [] later more = refl
+onto-append (p ∷ seen) later more = onto-append seen (p ∷ later) more
+
+-- what paths cost, in order
+CostOf-onto : (m : List (List ℕ)) (seen later : List (List Step)) (c d : ℕ) → CostOf m seen c → CostOf m later d → CostOf m (onto seen later) (c + d)
+CostOf-onto m [] later c d h k = subst (CostOf m later) (omega (arith, h)) k
+CostOf-onto m (p ∷ seen) later c d (level, s, w, one, rest, r, cost, others, e) k =
+    subst (CostOf m (onto seen (p ∷ later))) (omega (arith, e)) (CostOf-onto m seen (p ∷ later) rest (one + d) others (level, s, w, one, d, r, cost, k, refl))
+
+CostOf-in_order : (m : List (List ℕ)) (seen : List (List Step)) (c : ℕ) → CostOf m seen c → CostOf m (in_order seen) c
+CostOf-in_order m seen c h = subst (CostOf m (in_order seen)) (omega arith) (CostOf-onto m seen [] c 0 h refl)
+
+-- The first reason that applies at the next word makes it the first fault.
+pub first_fault : (m : List (List ℕ)) (words depth s w level : ℕ) (frames : List Frame) (report : Report) (v : Reason) → IsNext m words depth s w level frames report
+    → IsFirstReason m words depth report.charge s w level v → IsFirstFault m words depth record { segment = s; word = w; reason = v; pointers = report.pointers + 1 }
+first_fault m words depth s w level frames report v t h =
+    let e : in_order (t.a.path ∷ t.seen) ≡ in_order t.seen ++ t.a.path ∷ [] = onto-append t.seen [] (t.a.path ∷ []) in
+    let many : length (in_order t.seen ++ t.a.path ∷ []) ≡ report.pointers + 1 = omega (arith, length-append (in_order t.seen) (t.a.path ∷ []), length-in_order t.seen, t.progress.number) in record {
+      path = t.a.path;
+      before = in_order t.seen;
+      level = level;
+      charge = report.charge;
+      reached = rw (t.segment, t.at, t.leads_to) at t.progress.trail.ahead_reached.0;
+      tour = subst (IsTour m t.a.path) e (tour_of m t.seen t.a t.ahead t.progress.trail);
+      costs = CostOf-in_order m t.seen report.charge t.progress.costs;
+      within = t.progress.within;
+      shallow = λ p l s' w' i r. t.progress.levels p l s' w' (in_order-IsOneOf p t.seen i) r;
+      reason = h;
+      pointers = sym many;
+      few = omega (arith, t.progress.bound, t.progress.within);
+    }
+
+-- distinct paths without the last one, and the last one
+distinct_last : (paths : List (List Step)) (p : List Step) → AreDistinct (paths ++ p ∷ []) → AreDistinct (p ∷ paths)
+distinct_last paths p h = (none paths h, front paths h)
+  where
+    others : (x : List Step) (ps : List (List Step)) → IsNoneOf x (ps ++ p ∷ []) → IsNoneOf x ps × (x ≡ p → ⊥)
+    others x [] k = (tt, k.0)
+    others x (q ∷ ps) k = let r = others x ps k.1 in ((k.0, r.0), r.1)
+
+    none : (ps : List (List Step)) → AreDistinct (ps ++ p ∷ []) → IsNoneOf p ps
+    none [] k = tt
+    none (q ∷ ps) k = (λ e. (others q ps k.0).1 (sym e), none ps k.1)
+
+    front : (ps : List (List Step)) → AreDistinct (ps ++ p ∷ []) → AreDistinct ps
+    front [] k = tt
+    front (q ∷ ps) k = ((others q ps k.0).0, front ps k.1)
+
+-- a refusal is justified
+pub refused_justified : (m : List (List ℕ)) (words depth : ℕ) (r : Refusal) → IsRefused m words depth r → Justified m words depth r
+refused_justified m words depth r (inl h) = no_root h.reason h.empty h.segment h.word
+refused_justified m words depth r (inr f) = by_reason f.reason
+  where
+    by_reason : IsFirstReason m words depth f.charge r.segment r.word f.level r.reason → Justified m words depth r
+    by_reason (is_wrong h) = wrong_there (f.path, f.level, f.reached, h)
+    by_reason (is_deep e (k, t, b, q, tag, finds, tagged, past)) = too_deep e (f.path, f.level, k, t, b, q, tag, f.reached, finds, tagged, past)
+    by_reason (is_past cost e not_deep costs past) = past_limit e record {
+      paths = f.before;
+      last = f.path;
+      level = f.level;
+      before = f.charge;
+      one = cost;
+      reached = f.reached;
+      costs = costs;
+      others = f.costs;
+      distinct = distinct_last f.before f.path (Rises-distinct (f.before ++ f.path ∷ []) f.tour.rising);
+      within = f.within;
+      past = past;
+    }
+
+-- where no word is ahead, none is left on the frames
+none_ahead : (ahead : List Ahead) → map place_of ahead ≡ [] → ahead ≡ []
+none_ahead [] e = refl
+none_ahead (a ∷ ahead) e = absurd (let h : place_of a ∷ map place_of ahead ≡ [] = e in cc)
+
+-- all that a path reaches was looked at
+all_seen : (m : List (List ℕ)) (seen : List (List Step)) (q : List Step) (level s w : ℕ) → IsTrail m seen [] → Reaches m q level s w → IsOneOf q seen
+all_seen m seen q level s w t r = elim (t.complete q level s w r) [ inl h ↦ h | inr h ↦ absurd h ]
+
+-- the first capability of all paths
+whole_first_cap : (m : List (List ℕ)) (seen : List (List Step)) (first : Option (ℕ × ℕ)) → IsTrail m seen [] → IsFirstOf m seen first → IsFirstCapOf m first
+whole_first_cap m seen None t h = λ path level s w k i r lead. h path s w (all_seen m seen path level s w t r) (level, k, i, r, lead)
+whole_first_cap m seen (Some place) t (p, one, (level, k, i, r, lead), first) = record {
+  path = p;
+  level = level;
+  k = k;
+  index = i;
+  reached = r;
+  leads = lead;
+  first = λ other level' s' w' k' i' before r' lead'. first other s' w' (all_seen m seen other level' s' w' t r') before (level', k', i', r', lead');
+}
+
+-- A walk with nothing ahead has the whole tree.
+pub accepted_at_end : (m : List (List ℕ)) (words depth : ℕ) (report : Report) → IsWalking m words depth [] report → IsAccepted m words depth report
+accepted_at_end m words depth report (seen, ahead, w) =
+    let none : ahead ≡ [] = none_ahead ahead w.places in
+    let p : Progress m words depth report.charge report.depth report.pointers report.caps report.first_cap seen [] = subst (Progress m words depth report.charge report.depth report.pointers report.caps report.first_cap seen) none w.progress in
+    let (t, d, whole) = p.count.completes 0 0 0 0 (refl, refl, refl, refl) in
+    let e : report.charge + 0 ≡ report.charge = omega arith in
+    let f : d ≡ report.depth = omega (arith, whole.depth) in (
+      t,
+      record {
+        denotes = subst (λ u. Denotes m 0 0 t u report.depth) e (subst (λ u. Denotes m 0 0 t (report.charge + 0) u) f whole.denotes);
+        within = p.within;
+        shallow = p.shallow;
+        pointers = omega (arith, whole.pointer_total);
+        caps = omega (arith, whole.cap_total);
+        first_cap = whole_first_cap m seen report.first_cap p.trail p.first_cap;
+        few = omega (arith, p.bound, p.within);
+      },
+    )
+
+-- what the root's word completes is the root's tree
+count_at_start : (m : List (List ℕ)) → IsCount m record { charge = 0; depth = 0; pointers = 0; caps = 0 } (record { path = []; segment = 0; word = 0; level = 1 } ∷ [])
+count_at_start m = record {
+  completes = λ charge top pointers caps (t, c, d, c', top', p', k', own, (f1, f2, f3, f4), e1, e2, e3, e4).
+      let e : c ≡ 0 + charge = omega (arith, e1, f1) in
+      (t, d, record { denotes = subst (λ u. Denotes m 0 0 t u d) e own; depth = omega (arith, e2, f2); pointer_total = omega (arith, e3, f3); cap_total = omega (arith, e4, f4) });
+}
+
+-- Before the first word nothing was looked at, and the root is ahead.
+pub starts : (m : List (List ℕ)) (words depth : ℕ) (report : Report) → 0 < length m → 0 < length (segment_of m 0)
+    → report.charge ≡ 0 → report.depth ≡ 0 → report.pointers ≡ 0 → report.caps ≡ 0 → report.first_cap ≡ None → IsNext m words depth 0 0 1 [] report
+starts m words depth report some root e1 e2 e3 e4 e5 =
+    let x = HasWord-at m 0 0 root in
+    let r : Reaches m [] 1 0 0 = (x.0, 0, x.1, (refl, refl), refl) in record {
+      seen = [];
+      a = record { path = []; segment = 0; word = 0; level = 1 };
+      ahead = [];
+      progress = record {
+        trail = record {
+          falls = tt;
+          precedes = tt;
+          apart = tt;
+          seen_reached = λ q h. absurd h;
+          ahead_reached = (r, tt);
+          complete = λ q level s w h. inr (inl (q, refl));
+        };
+        count = rw (e1, e2, e3, e4) (count_at_start m);
+        near = (omega arith, omega arith, tt);
+        within = omega arith;
+        shallow = omega arith;
+        costs = e1;
+        levels = λ p level s w h. absurd h;
+        number = e3;
+        bound = omega arith;
+        few = omega arith;
+        first_cap = rw e5 (λ p s w h. absurd h);
+      };
+      segment = refl;
+      at = refl;
+      leads_to = refl;
+      exists = some;
+      within = root;
+      places = refl;
+      inside = tt;
+      stacked = tt;
+      high = omega arith;
+      low = omega arith;
+    }

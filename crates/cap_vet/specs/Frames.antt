@@ -1,0 +1,57 @@
+-- The pointer words of a frame, and what is left of it behind the first.
+use Rattle.std.specs.Prelude.{ℕ, zero, suc, ◌+◌, ◌*◌, ◌<◌, ◌≤◌, ◌≡◌, List, [], ◌∷◌, ◌++◌, length, Option, None, Some, ⊤}
+use Rattle.std.specs.List.{flat_map}
+use Rattle.cap_spec.specs.Messages.{segment_of}
+use Rattle.cap_vet.specs.Trails.{Ahead}
+use Rattle.cap_vet.specs.declared.frame.Frame.{Frame}
+
+-- a pointer word: its segment, its word, and the level of what it leads to
+abbrev pub Place : Type 0
+Place = ℕ × ℕ × ℕ
+
+-- where a word ahead stands
+abbrev pub place_of : Ahead → Place
+place_of a = (a.segment, a.word, a.level)
+
+-- n pointer words in a row
+abbrev pub row_places : ℕ → ℕ → ℕ → ℕ → List Place
+row_places level t b zero = []
+row_places level t b (suc n) = (t, b, level) ∷ row_places level t (b + 1) n
+
+-- those of n elements of ds data words and ps pointers
+abbrev pub element_places : ℕ → ℕ → ℕ → ℕ → ℕ → ℕ → List Place
+element_places level t b ds ps zero = []
+element_places level t b ds ps (suc n) = row_places level t (b + ds) ps ++ element_places level t (b + ds + ps) ds ps n
+
+-- the pointer words of a frame
+abbrev pub spots : Frame → List Place
+spots f = row_places f.level f.segment f.at f.left ++ element_places f.level f.segment (f.at + f.left) f.data_words f.pointers f.more
+
+abbrev pub option_spots : Option Frame → List Place
+option_spots None = []
+option_spots (Some f) = spots f
+
+-- the pointer words of frames, the topmost first
+abbrev pub all_spots : List Frame → List Place
+all_spots frames = flat_map spots frames
+
+-- A frame isn't empty, and its words lie inside its segment.
+pub record FrameIn (m : List (List ℕ)) (f : Frame) : Type 0 where
+  pub exists : f.segment < length m
+  pub some : 0 < f.left
+  pub each : 0 < f.more → 0 < f.pointers
+  pub inside : f.at + f.left + f.more * (f.data_words + f.pointers) ≤ length (segment_of m f.segment)
+
+abbrev pub OptionIn : List (List ℕ) → Option Frame → Type 0
+OptionIn m None = ⊤
+OptionIn m (Some f) = FrameIn m f
+
+abbrev pub LevelIs : ℕ → Option Frame → Type 0
+LevelIs level None = ⊤
+LevelIs level (Some f) = f.level ≡ level
+
+-- what is left of a frame behind its first pointer word
+pub record IsRest (f : Frame) (rest : Option Frame) : Type 0 where
+  pub words : spots f ≡ (f.segment, f.at, f.level) ∷ option_spots rest
+  pub inside : (m : List (List ℕ)) → FrameIn m f → OptionIn m rest
+  pub level : LevelIs f.level rest

@@ -1,0 +1,10 @@
+pub mod Frames
+pub mod Limits
+pub mod Looking
+pub mod Owing
+pub mod Reports
+pub mod Shapes
+pub mod Trails
+pub mod Turning
+pub mod Vettings
+pub mod Walking

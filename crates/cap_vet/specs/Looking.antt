@@ -1,0 +1,50 @@
+-- What comes of looking at one pointer word of a walk.
+use Rattle.std.specs.Prelude.{ℕ, ◌+◌, ◌≤◌, ◌≡◌, ◌==◌, if◌then◌else◌, List, [], Option, None, Some, ⊤}
+use Rattle.cap_spec.specs.Messages.{HasWord}
+use Rattle.cap_spec.specs.Pointers.{kind, middle, code, data_size, pointer_size, list_size, extent}
+use Rattle.cap_spec.specs.Following.{Leads, to_null, to_cap, extra, IsComposite}
+use Rattle.cap_spec.specs.Denoting.{Finds, element_levels}
+use Rattle.cap_spec.specs.Verdicts.{levels_below}
+use Rattle.cap_spec.specs.declared.Step.{Step}
+use Rattle.cap_spec.specs.declared.Step.TheVariants.{Ptr, Item}
+use Rattle.cap_vet.specs.Trails.{Ahead, row, element_rows}
+use Rattle.cap_vet.specs.Frames.{Place, row_places, element_places, option_spots, OptionIn}
+use Rattle.cap_vet.specs.declared.frame.Frame.{Frame}
+use Rattle.cap_vet.specs.declared.looking.Looked.{Looked}
+use Rattle.cap_vet.specs.declared.looking.Looked.TheVariants.{Null, Cap, Object}
+
+-- the pointer words of the object of shape q at t:b, of this level
+abbrev pub object_places : ℕ → ℕ → ℕ → ℕ → ℕ → List Place
+object_places q tag t b level =
+    if kind q == 0 then row_places (level + 1) t (b + data_size q) (pointer_size q) else
+    (if code q == 6 then row_places (level + 1) t b (list_size q) else
+    (if code q == 7 then element_places (level + (element_levels 1 + 1)) t (b + 1) (data_size tag) (pointer_size tag) (middle tag) else []))
+
+-- and as words ahead, reached from base
+abbrev pub object_children : List Step → ℕ → ℕ → ℕ → ℕ → ℕ → List Ahead
+object_children base q tag t b level =
+    if kind q == 0 then row base (level + 1) Ptr t (b + data_size q) 0 (pointer_size q) else
+    (if code q == 6 then row base (level + 1) Item t b 0 (list_size q) else
+    (if code q == 7 then element_rows base (level + (element_levels 1 + 1)) t (b + 1) (data_size tag) (pointer_size tag) 0 (middle tag) else []))
+
+-- the words of the frame lead to levels above this one, and to none past the limit
+abbrev pub FrameRises : ℕ → ℕ → Option Frame → Type 0
+FrameRises level depth None = ⊤
+FrameRises level depth (Some f) = (level + 1 ≤ f.level) × (f.level ≤ depth + 1)
+
+-- An object is found, which keeps to the limits. Its pointer words are those of the frame.
+pub record LooksObject (m : List (List ℕ)) (words depth spent s w level cost deep : ℕ) (frame : Option Frame) (k t b q tag : ℕ) : Type 0 where
+  pub finds : Finds m s w k t b q
+  pub tagged : IsComposite q → HasWord m t b tag
+  pub charge : cost ≡ k + extent q + extra q tag
+  pub within : spent + cost ≤ words
+  pub deepest : deep ≡ level + levels_below q tag
+  pub shallow : deep ≤ depth
+  pub places : option_spots frame ≡ object_places q tag t b level
+  pub inside : OptionIn m frame
+  pub rises : FrameRises level depth frame
+
+abbrev pub IsLooked : List (List ℕ) → ℕ → ℕ → ℕ → ℕ → ℕ → ℕ → Looked → Type 0
+IsLooked m words depth spent s w level (Null cost) = Leads m s w cost to_null × (spent + cost ≤ words)
+IsLooked m words depth spent s w level (Cap cost) = ((i : ℕ) × Leads m s w cost (to_cap i)) × (spent + cost ≤ words)
+IsLooked m words depth spent s w level (Object cost deep frame) = (k t b q tag : ℕ) × LooksObject m words depth spent s w level cost deep frame k t b q tag

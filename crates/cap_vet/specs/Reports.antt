@@ -1,0 +1,27 @@
+-- What an accepted message's report says of its tree.
+use Rattle.std.specs.Prelude.{ℕ, ◌+◌, ◌≤◌, ◌≡◌, List, Option, None, Some}
+use Rattle.cap_spec.specs.Following.{Leads, to_cap}
+use Rattle.cap_spec.specs.Denoting.{Denotes}
+use Rattle.cap_spec.specs.Paths.{IsFirstCap, Reaches}
+use Rattle.cap_spec.specs.Tree.{Tree, pointer_count, cap_count}
+use Rattle.cap_spec.specs.declared.Step.{Step}
+use Rattle.cap_vet.specs.declared.report.Report.{Report}
+
+-- the place of the first capability in preorder, or that no path leads to one
+abbrev pub IsFirstCapOf : List (List ℕ) → Option (ℕ × ℕ) → Type 0
+IsFirstCapOf m None = (path : List Step) (level s w k i : ℕ) → Reaches m path level s w → ¬ Leads m s w k (to_cap i)
+IsFirstCapOf m (Some place) = IsFirstCap m place.0 place.1
+
+-- The root denotes this tree, of these numbers, within the limits.
+pub record IsReport (m : List (List ℕ)) (words depth : ℕ) (r : Report) (t : Tree) : Type 0 where
+  pub denotes : Denotes m 0 0 t r.charge r.depth
+  pub within : r.charge ≤ words
+  pub shallow : r.depth ≤ depth
+  pub pointers : r.pointers ≡ pointer_count t
+  pub caps : r.caps ≡ cap_count t
+  pub first_cap : IsFirstCapOf m r.first_cap
+  pub few : r.pointers ≤ words + 1
+
+-- the root denotes a tree within the limits, of the reported numbers
+abbrev pub IsAccepted : List (List ℕ) → ℕ → ℕ → Report → Type 0
+IsAccepted m words depth r = (t : Tree) × IsReport m words depth r t

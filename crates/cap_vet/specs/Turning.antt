@@ -1,0 +1,23 @@
+-- How a report changes at one pointer word.
+use Rattle.std.specs.Prelude.{ℕ, ◌+◌, max, Option, None, Some}
+use Rattle.cap_vet.specs.declared.frame.Frame.{Frame}
+use Rattle.cap_vet.specs.declared.looking.Looked.{Looked}
+use Rattle.cap_vet.specs.declared.looking.Looked.TheVariants.{Null, Cap, Object}
+use Rattle.cap_vet.specs.declared.report.Report.{Report}
+
+-- the first of two places, where there is a first
+abbrev pub or_place : Option (ℕ × ℕ) → ℕ → ℕ → Option (ℕ × ℕ)
+or_place None s w = Some (s, w)
+or_place (Some place) s w = Some place
+
+-- the report with what was found at s:w
+abbrev pub added : Report → ℕ → ℕ → Looked → Report
+added r s w (Null cost) = record { charge = r.charge + cost; depth = r.depth; pointers = r.pointers + 1; caps = r.caps; first_cap = r.first_cap }
+added r s w (Cap cost) = record { charge = r.charge + cost; depth = r.depth; pointers = r.pointers + 1; caps = r.caps + 1; first_cap = or_place r.first_cap s w }
+added r s w (Object cost deep frame) = record { charge = r.charge + cost; depth = max r.depth deep; pointers = r.pointers + 1; caps = r.caps; first_cap = r.first_cap }
+
+-- the frame of the pointer words below
+abbrev pub frame_below : Looked → Option Frame
+frame_below (Null cost) = None
+frame_below (Cap cost) = None
+frame_below (Object cost deep frame) = frame

@@ -1,0 +1,79 @@
+-- What holds of a walk between two turns.
+use Rattle.std.specs.Prelude.{ℕ, suc, ◌+◌, ◌-◌, ◌≤◌, ◌≡◌, List, [], ◌∷◌, length, map, reverse, Option, None, Some, ⊤, ◌<◌}
+use Rattle.std.specs.List.{AllByRecursion}
+use Rattle.cap_spec.specs.Messages.{segment_of}
+use Rattle.cap_spec.specs.Following.{Leads, to_cap}
+use Rattle.cap_spec.specs.Paths.{Before, IsOneOf, Reaches}
+use Rattle.cap_spec.specs.Verdicts.{CostOf}
+use Rattle.cap_spec.specs.Faults.{AreShallow}
+use Rattle.cap_spec.specs.declared.Step.{Step}
+use Rattle.cap_vet.specs.Trails.{Ahead, IsTrail}
+use Rattle.cap_vet.specs.Owing.{AreNear, IsCount}
+use Rattle.cap_vet.specs.Frames.{FrameIn, all_spots, place_of}
+use Rattle.cap_vet.specs.declared.frame.Frame.{Frame}
+use Rattle.cap_vet.specs.declared.report.Report.{Report}
+
+-- each frame's level is higher than there are frames below it
+abbrev pub AreStacked : ℕ → List Frame → Type 0
+AreStacked depth [] = ⊤
+AreStacked depth (f ∷ frames) = (length frames + 2 ≤ f.level) × (f.level ≤ depth + 1) × AreStacked depth frames
+
+-- the path leads to a capability from this word
+abbrev pub LeadsToCap : List (List ℕ) → List Step → ℕ → ℕ → Type 0
+LeadsToCap m p s w = (level k i : ℕ) × Reaches m p level s w × Leads m s w k (to_cap i)
+
+-- the first of these paths, in preorder, that leads to a capability: the place that it reaches
+abbrev pub IsFirstOf : List (List ℕ) → List (List Step) → Option (ℕ × ℕ) → Type 0
+IsFirstOf m seen None = (p : List Step) (s w : ℕ) → IsOneOf p seen → ¬ LeadsToCap m p s w
+IsFirstOf m seen (Some place) =
+    (p : List Step) × IsOneOf p seen × LeadsToCap m p place.0 place.1 × ((q : List Step) (s w : ℕ) → IsOneOf q seen → Before q p → ¬ LeadsToCap m q s w)
+
+-- What was looked at and what is ahead make a trail, whose numbers are these and whose first capability stands at first.
+pub record Progress (m : List (List ℕ)) (words depth : ℕ) (charge deepest pointers caps : ℕ) (first : Option (ℕ × ℕ)) (seen : List (List Step)) (ahead : List Ahead) : Type 0 where
+  pub trail : IsTrail m seen ahead
+  pub count : IsCount m record { charge = charge; depth = deepest; pointers = pointers; caps = caps } ahead
+  pub near : AreNear deepest ahead
+  pub within : charge ≤ words
+  pub shallow : deepest ≤ depth
+  pub costs : CostOf m seen charge
+  pub levels : AreShallow m depth seen
+  pub number : pointers ≡ length seen
+  pub bound : pointers + length ahead ≤ charge + 1
+  pub few : caps ≤ pointers
+  pub first_cap : IsFirstOf m seen first
+
+-- The words of the frames are ahead, the topmost frame's first, and those that were looked at are in the report.
+pub record Walks (m : List (List ℕ)) (words depth : ℕ) (frames : List Frame) (report : Report) (seen : List (List Step)) (ahead : List Ahead) : Type 0 where
+  pub progress : Progress m words depth report.charge report.depth report.pointers report.caps report.first_cap seen ahead
+  pub places : map place_of ahead ≡ all_spots (reverse frames)
+  pub inside : AllByRecursion (FrameIn m) (reverse frames)
+  pub stacked : AreStacked depth (reverse frames)
+
+-- the walk has come this far
+abbrev pub IsWalking : List (List ℕ) → ℕ → ℕ → List Frame → Report → Type 0
+IsWalking m words depth frames report = (seen : List (List Step)) × (ahead : List Ahead) × Walks m words depth frames report seen ahead
+
+-- The next word to look at stands at s:w, and leads to this level; then come the words of the frames.
+pub record IsNext (m : List (List ℕ)) (words depth s w level : ℕ) (frames : List Frame) (report : Report) : Type 0 where
+  pub seen : List (List Step)
+  pub a : Ahead
+  pub ahead : List Ahead
+  pub progress : Progress m words depth report.charge report.depth report.pointers report.caps report.first_cap seen (a ∷ ahead)
+  pub segment : a.segment ≡ s
+  pub at : a.word ≡ w
+  pub leads_to : a.level ≡ level
+  pub exists : s < length m
+  pub within : w < length (segment_of m s)
+  pub places : map place_of ahead ≡ all_spots (reverse frames)
+  pub inside : AllByRecursion (FrameIn m) (reverse frames)
+  pub stacked : AreStacked depth (reverse frames)
+  pub high : length (reverse frames) + 1 ≤ level
+  pub low : level ≤ depth + 1
+
+-- how much is left of a walk: it falls at each turn
+abbrev pub work_left : ℕ → List Frame → Report → ℕ
+work_left words frames report = length (all_spots (reverse frames)) + (words - report.charge)
+
+-- and with one more word to look at
+abbrev pub work_next : ℕ → List Frame → Report → ℕ
+work_next words frames report = suc (work_left words frames report)

@@ -1,0 +1,51 @@
+//! The limits of a walk through a message.
+
+ghost use Rattle.std.specs.Prelude.{◌≡◌, ◌≤◌, ◌↔◌, IfSome, IsSome};
+
+/// The most words that a word limit may have.
+const MOST_WORDS: u64 = 268435456;
+
+/// The deepest level that a depth limit may have.
+const MOST_DEPTH: u32 = 256;
+
+/// The most words that a walk may be charged, and the deepest level of an object
+/// (encoding: Security Considerations).
+#[derive(Clone, Copy, Debug, PartialEq, Eq)]
+pub struct Limits {
+    words: u64,
+    depth: u32,
+    ghost few: { words ≤ 268435456 },
+    ghost shallow: { depth ≤ 256 },
+}
+
+impl Limits {
+    ghost use Rattle.cap_vet.specs.Limits.{depth_of, words_of};
+
+    /// Limits of so many words and levels, or `None` for more than 268435456 words or more than
+    /// 256 levels.
+    pub fn new(words: u64, depth: u32) -> Option<Limits>
+        ensures some { IsSome result ↔ ((words ≤ 268435456) × (depth ≤ 256)) }
+        ensures holds { IfSome result (λ limits. (words_of limits ≡ words) × (depth_of limits ≡ depth)) }
+    {
+        if words > MOST_WORDS || depth > MOST_DEPTH {
+            return None;
+        }
+        Some(Limits { words, depth })
+    }
+
+    /// How many words a walk may be charged, at most 268435456.
+    pub fn words(&self) -> u64
+        ensures value { result ≡ words_of self.now }
+        ensures few { result ≤ 268435456 }
+    {
+        self.words
+    }
+
+    /// The deepest level that an object may have, at most 256.
+    pub fn depth(&self) -> u32
+        ensures value { result ≡ depth_of self.now }
+        ensures shallow { result ≤ 256 }
+    {
+        self.depth
+    }
+}

@@ -1,0 +1,95 @@
+//! What of an object a walk goes on with.
+
+ghost use Rattle.cap_ptr.specs.Shapes.{FindsObject};
+ghost use Rattle.cap_spec.specs.Denoting.{element_levels};
+ghost use Rattle.cap_spec.specs.Messages.{IsMessage};
+ghost use Rattle.cap_vet.specs.Frames.{OptionIn, option_spots};
+ghost use Rattle.cap_vet.specs.Looking.{FrameRises, object_places};
+ghost use Rattle.cap_vet.specs.Shapes.{levels_of};
+ghost use Rattle.std.specs.Prelude.{◌+◌, ◌<◌, ◌^◌, ◌≡◌, ◌≤◌, List, ℕ};
+
+use crate::frame::Frame;
+use cap_ptr::{Shape, Target};
+
+// How many levels the structs of a list of so many take below their list.
+pub(crate) fn levels_of_elements(_count: u32) -> u32
+    ensures value { result ≡ element_levels _count }
+    ensures few { result ≤ 1 }
+{
+    0
+}
+
+// How many levels an object takes below its own.
+pub(crate) fn levels_taken(shape: &Shape) -> u32
+    ensures value { result ≡ levels_of shape.now }
+    ensures few { result ≤ 1 }
+{
+    match shape {
+        Shape::Structs { count, .. } => levels_of_elements(*count),
+        _ => 0,
+    }
+}
+
+// The pointer words of an object of this level.
+pub(crate) fn frame_of(target: &Target, level: u32) -> Option<Frame>
+    requires found { (m : List (List ℕ)) × (s w q tag : ℕ) × IsMessage m × FindsObject m s w target.now.pads target.now.segment target.now.start q tag target.now.words target.now.charge target.now.shape }
+    requires level { level < 2 ^ 31 }
+    ensures places { (m : List (List ℕ)) (s w q tag : ℕ) → FindsObject m s w target.now.pads target.now.segment target.now.start q tag target.now.words target.now.charge target.now.shape →
+        option_spots result ≡ object_places q tag target.now.segment target.now.start level }
+    ensures inside { (m : List (List ℕ)) (s w q tag : ℕ) → FindsObject m s w target.now.pads target.now.segment target.now.start q tag target.now.words target.now.charge target.now.shape → OptionIn m result }
+    ensures rises { (depth : ℕ) → level + levels_of target.now.shape ≤ depth → FrameRises level depth result }
+{
+    match target.shape {
+        Shape::Struct {
+            data_words,
+            pointers,
+        } => {
+            if pointers == 0 {
+                return None;
+            }
+            Some(Frame {
+                segment: target.segment,
+                at: target.start + u32::from(data_words),
+                left: u32::from(pointers),
+                more: 0,
+                data_words: 0,
+                pointers: 0,
+                level: level + 1,
+            })
+        }
+        Shape::Scalars { .. } => None,
+        Shape::Pointers { count } => {
+            if count == 0 {
+                return None;
+            }
+            Some(Frame {
+                segment: target.segment,
+                at: target.start,
+                left: count,
+                more: 0,
+                data_words: 0,
+                pointers: 0,
+                level: level + 1,
+            })
+        }
+        Shape::Structs {
+            count,
+            data_words,
+            pointers,
+            ..
+        } => {
+            if count == 0 || pointers == 0 {
+                return None;
+            }
+            Some(Frame {
+                segment: target.segment,
+                at: target.start + 1 + u32::from(data_words),
+                left: u32::from(pointers),
+                more: count - 1,
+                data_words: u32::from(data_words),
+                pointers: u32::from(pointers),
+                level: level + 1 + levels_of_elements(1),
+            })
+        }
+    }
+}
