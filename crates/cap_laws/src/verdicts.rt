@@ -1,6 +1,6 @@
 //! What a message's root denotes, and how a message may be refused.
 
-ghost use Rattle.std.specs.Prelude.{ℕ, List, ◌≡◌, ◌≤◌, ◌+◌, ◌↔◌};
+ghost use Rattle.std.specs.Prelude.{ℕ, List, ◌≡◌, ◌≤◌, ◌<◌, ◌+◌, ◌↔◌};
 ghost use Rattle.cap_spec.specs.declared.Step.{Step};
 ghost use Rattle.cap_spec.specs.declared.Reason.{Reason};
 ghost use Rattle.cap_spec.specs.declared.Refusal.{Refusal};
@@ -21,14 +21,17 @@ pub fn charge_is_cost_of_paths()
         (paths : List (List Step)) (cost : ℕ) → AreDistinct paths → CostOf m paths cost → cost ≤ c }
 {}
 
-/// Where the root denotes a tree, nothing is wrong at a pointer word that a path reaches, and no
-/// path leads to an object past the depth of the tree.
+/// Where the root denotes a tree, nothing is wrong at a pointer word that a path reaches, no path
+/// leads to an object past the depth of the tree, and some path leads as deep, unless that is 0.
 pub fn reached_pointers_of_tree()
     ensures right { (m : List (List ℕ)) (t : Tree) (c d : ℕ) → Denotes m 0 0 t c d →
         (p : List Step) (level s w : ℕ) (v : Reason) → Reaches m p level s w → ¬ Wrong m s w v }
     ensures shallow { (m : List (List ℕ)) (t : Tree) (c d : ℕ) → Denotes m 0 0 t c d →
         (p : List Step) (level s w k u b q tag : ℕ) → Reaches m p level s w → Finds m s w k u b q →
         (IsComposite q → HasWord m u b tag) → level + levels_below q tag ≤ d }
+    ensures deepest { (m : List (List ℕ)) (t : Tree) (c d : ℕ) → Denotes m 0 0 t c d → 0 < d →
+        (p : List Step) × (level s w k u b q tag : ℕ) × Reaches m p level s w × Finds m s w k u b q
+        × (IsComposite q → HasWord m u b tag) × (d ≡ level + levels_below q tag) }
 {}
 
 /// A message whose root denotes a tree within the limits has no justified refusal.

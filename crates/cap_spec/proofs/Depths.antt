@@ -128,16 +128,16 @@ walk_depth m a (step ∷ path) n b t h g =
     (z.0, z.1, omega (arith, z.2, x, l, g.4))
 
 -- the levels of what stands in an object, by its form
-below_struct : (q tag : ℕ) → kind q ≡ 0 → levels_below q tag ≡ 0
+pub below_struct : (q tag : ℕ) → kind q ≡ 0 → levels_below q tag ≡ 0
 below_struct q tag e = rw e refl
 
-below_pointers : (q tag : ℕ) → kind q ≡ 1 → code q ≡ 6 → levels_below q tag ≡ 0
+pub below_pointers : (q tag : ℕ) → kind q ≡ 1 → code q ≡ 6 → levels_below q tag ≡ 0
 below_pointers q tag e f = rw (e, f) refl
 
-below_structs : (q tag : ℕ) → kind q ≡ 1 → code q ≡ 7 → levels_below q tag ≡ element_levels (middle tag)
+pub below_structs : (q tag : ℕ) → kind q ≡ 1 → code q ≡ 7 → levels_below q tag ≡ element_levels (middle tag)
 below_structs q tag e f = rw (e, f) refl
 
-below_scalars : (q tag : ℕ) → kind q ≡ 1 → code q < 6 → levels_below q tag ≡ 0
+pub below_scalars : (q tag : ℕ) → kind q ≡ 1 → code q < 6 → levels_below q tag ≡ 0
 below_scalars q tag e f = let g : eqb (code q) 7 ≡ false = ne_eqb (code q) 7 (omega arith) in rw (e, g) refl
 
 -- an object and the levels of what stands in it are within the depth of what its pointer denotes

@@ -31,4 +31,5 @@ pub mod PathLists
 pub mod PathCounts
 pub mod PathCosts
 pub mod Depths
+pub mod Deepest
 pub mod OneVerdict

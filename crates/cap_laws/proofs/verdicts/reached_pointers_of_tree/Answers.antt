@@ -1,3 +1,4 @@
+use Rattle.cap_spec.proofs.Deepest.{deepest_reached}
 use Rattle.cap_spec.proofs.OneVerdict.{reached_not_wrong, paths_within_depth}
 use Rattle.cap_laws.proofs.verdicts.reached_pointers_of_tree.Goals as goal
 
@@ -6,3 +7,6 @@ returns-clause-right c = reached_not_wrong
 
 pub returns-clause-shallow : goal.returns-clause-shallow
 returns-clause-shallow c = paths_within_depth
+
+pub returns-clause-deepest : goal.returns-clause-deepest
+returns-clause-deepest c = deepest_reached
