@@ -6,3 +6,5 @@ pub mod Courses
 pub mod Ties
 pub mod Turns
 pub mod Steps
+pub mod FullWords
+pub mod Telling

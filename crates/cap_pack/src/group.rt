@@ -25,6 +25,7 @@ pub(crate) enum Group {
 }
 
 /// Writes the group, of which `words` holds the words behind the first.
+#[inline(always)]
 pub(crate) fn write_group<O: ByteOut>(
     output: &mut O,
     group: Group,

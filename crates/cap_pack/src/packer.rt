@@ -1,15 +1,15 @@
 //! A sink of words over packed bytes.
 
 ghost use Rattle.cap_pack.specs.Holding.{first_zeros, group_bytes, held};
-ghost use Rattle.cap_spec.specs.Packing.{group_size, pack_text, zero_bytes};
+ghost use Rattle.cap_spec.specs.Packing.{group_size, pack_text};
 ghost use Rattle.cap_words.specs.Ends.{DeviceFails, GrowthFails};
 ghost use Rattle.cap_words.specs.Sinks.{Begins, begins_appended};
 ghost use Rattle.std.specs.Io.KnownBytes.{Keeps, append_known};
 ghost use Rattle.std.specs.Prelude.{◌++◌, ◌≡◌, ◌||◌, [], ◌∷◌, IsErrOf, List, OnErr, OnOk, false, length, true, ℕ};
 
 use super::group::{Group, MORE_WORDS, write_group, write_marked};
-use super::spelling::{GROUP_BYTES, count_zeros};
-use cap_words::{ByteOut, OutFault, SinkFault, WordSink, bytes_of};
+use super::spelling::{GROUP_BYTES, count_zeros, is_full};
+use cap_words::{ByteOut, OutFault, SinkFault, WordSink};
 
 /// Writes words in one packed spelling (encoding: Packing). At a zero word that is the longest run
 /// of zero words, at most 256. At a word without a zero byte it is the word as it is, with the
@@ -61,8 +61,7 @@ impl<O: ByteOut> Packer<O> {
     }
 
     // Takes the word into the open group, where it goes on with it.
-    fn join(&mut self, word: u64, zeros: u8) -> bool
-        requires { zeros ≡ zero_bytes word }
+    fn join(&mut self, word: u64) -> bool
         ensures output { (self.new.output ≡ self.old.output) × (self.new.closed ≡ self.old.closed) }
         ensures joined { result ≡ true → held self.new.group self.new.words ≡ held self.old.group self.old.words ++ word ∷ [] }
         ensures apart { result ≡ false → (self.new ≡ self.old) × ((ws : List ℕ) → pack_text (held self.old.group self.old.words ++ word ∷ ws) ≡ group_bytes self.old.group self.old.words ++ pack_text (word ∷ ws)) }
@@ -77,6 +76,7 @@ impl<O: ByteOut> Packer<O> {
                 true
             }
             Group::Plain { first, more } => {
+                let zeros = count_zeros(word);
                 if zeros > 1 || more == 255 {
                     return false;
                 }
@@ -91,9 +91,8 @@ impl<O: ByteOut> Packer<O> {
     }
 
     // Writes the open group, which the word doesn't go on with, and begins the next one with it.
-    fn start(&mut self, word: u64, zeros: u8) -> Result<(), OutFault>
-        requires zeros { zeros ≡ zero_bytes word }
-        requires apart { (ws : List ℕ) → pack_text (held self.old.group self.old.words ++ word ∷ ws) ≡ group_bytes self.old.group self.old.words ++ pack_text (word ∷ ws) }
+    fn start(&mut self, word: u64) -> Result<(), OutFault>
+        requires { (ws : List ℕ) → pack_text (held self.old.group self.old.words ++ word ∷ ws) ≡ group_bytes self.old.group self.old.words ++ pack_text (word ∷ ws) }
         ensures ok { OnOk result ((ws : List ℕ) → Keeps (append_known (O.written self.old.output) (pack_text (held self.old.group self.old.words ++ word ∷ ws))) (append_known (O.written self.new.output) (pack_text (held self.new.group self.new.words ++ ws)))) }
         ensures err { OnErr result ((ws : List ℕ) → Begins (append_known (O.written self.old.output) (pack_text (held self.old.group self.old.words ++ word ∷ ws))) (O.written self.new.output)) }
         ensures works { OnOk result ((O.spent self.new.output ≡ O.spent self.old.output) × (O.failures self.new.output ≡ O.failures self.old.output)) }
@@ -111,7 +110,7 @@ impl<O: ByteOut> Packer<O> {
             self.group = Group::Zeros { more: 0 };
             return Ok(());
         }
-        if zeros == 0 {
+        if is_full(word) {
             self.group = Group::Plain {
                 first: word,
                 more: 0,
@@ -137,11 +136,10 @@ impl<O: ByteOut> WordSink for Packer<O> {
         if self.closed {
             return Err(SinkFault::Spent);
         }
-        let zeros = count_zeros(&bytes_of(word));
-        if self.join(word, zeros) {
+        if self.join(word) {
             return Ok(());
         }
-        match self.start(word, zeros) {
+        match self.start(word) {
             Ok(()) => Ok(()),
             Err(fault) => {
                 self.closed = true;

@@ -1,8 +1,8 @@
 //! The bytes of a group, as they are written.
 
-ghost use Rattle.cap_spec.specs.Packing.{tag_of, zeros_in};
+ghost use Rattle.cap_spec.specs.Packing.{tag_of, zero_bytes};
 ghost use Rattle.cap_spec.specs.Plain.{plain_text, word_bytes};
-ghost use Rattle.std.specs.Prelude.{◌*◌, ◌+◌, ◌++◌, ◌==◌, ◌≡◌, ◌≤◌, ◌∷◌, filter, if◌then◌else◌, length, not, take};
+ghost use Rattle.std.specs.Prelude.{◌*◌, ◌+◌, ◌++◌, ◌==◌, ◌≡◌, ◌≢◌, ◌≤◌, ◌∷◌, false, filter, if◌then◌else◌, length, not, take, true};
 
 use cap_words::bytes_of;
 
@@ -25,10 +25,11 @@ fn is_present(byte: u8) -> u8
     u8::from(byte != 0)
 }
 
-/// How many of eight bytes are zero.
-pub(crate) fn count_zeros(bytes: &[u8; 8]) -> u8
-    ensures { result ≡ zeros_in bytes.now }
+/// How many of a word's bytes are zero.
+pub(crate) fn count_zeros(word: u64) -> u8
+    ensures { result ≡ zero_bytes word }
 {
+    let bytes = bytes_of(word);
     is_zero(bytes[0])
         + is_zero(bytes[1])
         + is_zero(bytes[2])
@@ -53,6 +54,15 @@ pub(crate) fn mark(bytes: &[u8; 8]) -> u8
         + 128 * is_present(bytes[7])
 }
 
+/// No byte of the word is zero.
+pub(crate) fn is_full(word: u64) -> bool
+    ensures yes { result ≡ true → zero_bytes word ≡ 0 }
+    ensures no { result ≡ false → zero_bytes word ≢ 0 }
+{
+    let tag = mark(&bytes_of(word));
+    tag == 255
+}
+
 /// Spells one word by its tag and its bytes that aren't zero. Answers how many bytes that takes.
 pub(crate) fn spell_marked(bytes: &[u8; 8], text: &mut [u8; 9]) -> usize
     ensures within { result ≤ 9 }
@@ -68,6 +78,7 @@ pub(crate) fn spell_marked(bytes: &[u8; 8], text: &mut [u8; 9]) -> usize
 }
 
 /// Spells a word as it is, and at most 255 more. Answers how many bytes that takes.
+#[inline(never)]
 pub(crate) fn spell_plain(head: u64, more: &[u64], text: &mut [u8; GROUP_BYTES]) -> usize
     requires { length more.now ≤ 255 }
     ensures within { result ≤ 2050 }

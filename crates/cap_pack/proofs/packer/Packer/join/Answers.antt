@@ -17,12 +17,12 @@ pub returns-then-zeros-gt1-clause-apart : goal.returns-then-zeros-gt1-clause-apa
 returns-then-zeros-gt1-clause-apart g c =
     let s = c.args.self.now in
     elim c.then-zeros-gt1.branch [
-      | then-zeros-gt1-via-then-zeros-gt1 w ↦ λ _. (refl, λ ws. plain_ends s.group s.words (c.args.word ∷ ws) c.in-Plain.first c.in-Plain.more c.in-Plain.is s.one_group s.full_first (omega arith) (λ _. full_run-ends c.args.word ws (omega arith)))
+      | then-zeros-gt1-via-then-zeros-gt1 w ↦ λ _. (refl, λ ws. plain_ends s.group s.words (c.args.word ∷ ws) c.in-Plain.first c.in-Plain.more c.in-Plain.is s.one_group s.full_first (omega arith) (λ _. full_run-ends c.args.word ws (omega (arith, c.count_zeros-zeros.ensures))))
       | then-zeros-gt1-via-else-zeros-gt1+then-more-2 w ↦ λ _. (refl, λ ws. plain_ends s.group s.words (c.args.word ∷ ws) c.in-Plain.first c.in-Plain.more c.in-Plain.is s.one_group s.full_first (omega arith) (λ h. absurd (omega arith)))
     ]
 
 pub invariant_of-self-in-Plain : goal.invariant_of-self-in-Plain
 invariant_of-self-in-Plain g c = record {
-  one_group = one_group-push c.args.self.now.group c.args.self.now.words c.in-Plain.first c.in-Plain.more c.args.word c.in-Plain.is c.args.self.now.one_group c.args.self.now.full_first (omega arith) (omega arith) (omega arith);
+  one_group = one_group-push c.args.self.now.group c.args.self.now.words c.in-Plain.first c.in-Plain.more c.args.word c.in-Plain.is c.args.self.now.one_group c.args.self.now.full_first (omega arith) (omega arith) (omega (arith, c.count_zeros-zeros.ensures));
   full_first = ap first_zeros (sym c.in-Plain.is) ∙ c.args.self.now.full_first;
 }

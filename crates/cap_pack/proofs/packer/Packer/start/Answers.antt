@@ -14,24 +14,24 @@ returns-in-Err-clause-err g c = λ ws.
     let s = c.args.self.now in
     let part = c.in-Err.ensures.err in
     part_begins (g.O.ByteOut.written s.output) (g.O.ByteOut.written c.write_group.new.output) part.0 (group_bytes s.group s.words) (pack_text (c.args.word ∷ ws))
-    (pack_text (held s.group s.words ++ c.args.word ∷ ws)) (c.requires.apart ws) part.1
+    (pack_text (held s.group s.words ++ c.args.word ∷ ws)) (c.requires ws) part.1
 
 pub returns-then-word-eq0-clause-ok : goal.returns-then-word-eq0-clause-ok
 returns-then-word-eq0-clause-ok g c = λ ws.
     let s = c.args.self.now in
     append_known-moved (g.O.ByteOut.written s.output) (g.O.ByteOut.written c.write_group.new.output) (group_bytes s.group s.words) (pack_text (0 ∷ ws))
-    (pack_text (held s.group s.words ++ c.args.word ∷ ws)) c.in-Ok.ensures.ok (c.requires.apart ws ∙ ap (λ w. group_bytes s.group s.words ++ pack_text (w ∷ ws)) c.if-word-eq0.true)
+    (pack_text (held s.group s.words ++ c.args.word ∷ ws)) c.in-Ok.ensures.ok (c.requires ws ∙ ap (λ w. group_bytes s.group s.words ++ pack_text (w ∷ ws)) c.if-word-eq0.true)
 
-pub invariant_of-self-then-zeros-eq0 : goal.invariant_of-self-then-zeros-eq0
-invariant_of-self-then-zeros-eq0 g c =
-    let none = sym c.requires.zeros ∙ c.if-zeros-eq0.true in
+pub invariant_of-self-then-is_full : goal.invariant_of-self-then-is_full
+invariant_of-self-then-is_full g c =
+    let none = c.is_full.ensures.yes c.if-is_full.true in
     record { one_group = group_size-plain c.args.word [] [] none refl (omega arith) (λ _. refl); full_first = none }
 
-pub returns-then-zeros-eq0-clause-ok : goal.returns-then-zeros-eq0-clause-ok
-returns-then-zeros-eq0-clause-ok g c = λ ws.
+pub returns-then-is_full-clause-ok : goal.returns-then-is_full-clause-ok
+returns-then-is_full-clause-ok g c = λ ws.
     let s = c.args.self.now in
     append_known-moved (g.O.ByteOut.written s.output) (g.O.ByteOut.written c.write_group.new.output) (group_bytes s.group s.words) (pack_text (c.args.word ∷ ws))
-    (pack_text (held s.group s.words ++ c.args.word ∷ ws)) c.in-Ok.ensures.ok (c.requires.apart ws)
+    (pack_text (held s.group s.words ++ c.args.word ∷ ws)) c.in-Ok.ensures.ok (c.requires ws)
 
 pub returns-clause-ok : goal.returns-clause-ok
 returns-clause-ok g c =
@@ -40,7 +40,7 @@ returns-clause-ok g c =
     on_ok_weaker c.write_marked.result
     (λ p ws. both_written (g.O.ByteOut.written s.output) (g.O.ByteOut.written c.write_group.new.output) (g.O.ByteOut.written c.write_marked.new.output) (group_bytes s.group s.words) marked (pack_text ws)
     (pack_text (held s.group s.words ++ c.args.word ∷ ws)) c.in-Ok.ensures.ok p
-    (c.requires.apart ws ∙ ap (λ t. group_bytes s.group s.words ++ t) (pack_text-marked c.args.word ws c.if-word-eq0.false (λ e. c.if-zeros-eq0.false (c.requires.zeros ∙ e)))))
+    (c.requires ws ∙ ap (λ t. group_bytes s.group s.words ++ t) (pack_text-marked c.args.word ws c.if-word-eq0.false (c.is_full.ensures.no c.if-is_full.false))))
     c.write_marked.ensures.ok
 
 pub returns-clause-err : goal.returns-clause-err
@@ -50,5 +50,9 @@ returns-clause-err g c =
     on_err_weaker c.write_marked.result
     (λ part ws. second_begins (g.O.ByteOut.written s.output) (g.O.ByteOut.written c.write_group.new.output) (g.O.ByteOut.written c.write_marked.new.output) (group_bytes s.group s.words) marked (pack_text ws)
     (pack_text (held s.group s.words ++ c.args.word ∷ ws)) part.0 c.in-Ok.ensures.ok part.1
-    (c.requires.apart ws ∙ ap (λ t. group_bytes s.group s.words ++ t) (pack_text-marked c.args.word ws c.if-word-eq0.false (λ e. c.if-zeros-eq0.false (c.requires.zeros ∙ e)))))
+    (c.requires ws ∙ ap (λ t. group_bytes s.group s.words ++ t) (pack_text-marked c.args.word ws c.if-word-eq0.false (c.is_full.ensures.no c.if-is_full.false))))
     c.write_marked.ensures.err
+
+pub returns-clause-works : goal.returns-clause-works
+returns-clause-works g c =
+    on_ok_weaker c.write_marked.result (λ p. (p.0 ∙ c.in-Ok.ensures.works.0, p.1 ∙ c.in-Ok.ensures.works.1)) c.write_marked.ensures.works
