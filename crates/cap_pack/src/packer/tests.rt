@@ -105,11 +105,21 @@ fn mixed_packed(alloc: Global, count: u32) -> Result<Vec<u8>, AllocError> {
 fn packs_each_kind_of_group(rt: HostRuntime) -> Result<(), Fail> {
     check(&rt, &[], &[])?;
     check(&rt, &[0], &[0, 0])?;
-    check(&rt, &[0x0002_0003_0000_0008, 0x0000_01aa_0000_0019], &[0x51, 8, 3, 2, 0x31, 0x19, 0xaa, 1])?;
     check(
         &rt,
-        &[0x0101_0101_0101_0101, 0x0101_0101_0101_0001, 0x0101_0101_0101_0000],
-        &[0xff, 1, 1, 1, 1, 1, 1, 1, 1, 1, 1, 0, 1, 1, 1, 1, 1, 1, 0xfc, 1, 1, 1, 1, 1, 1],
+        &[0x0002_0003_0000_0008, 0x0000_01aa_0000_0019],
+        &[0x51, 8, 3, 2, 0x31, 0x19, 0xaa, 1],
+    )?;
+    check(
+        &rt,
+        &[
+            0x0101_0101_0101_0101,
+            0x0101_0101_0101_0001,
+            0x0101_0101_0101_0000,
+        ],
+        &[
+            0xff, 1, 1, 1, 1, 1, 1, 1, 1, 1, 1, 0, 1, 1, 1, 1, 1, 1, 0xfc, 1, 1, 1, 1, 1, 1,
+        ],
     )?;
     check(
         &rt,
@@ -129,7 +139,11 @@ fn packs_long_runs(rt: HostRuntime) -> Result<(), Fail> {
         check(&rt, &mixed, &mixed_packed(rt.alloc(), count)?)?;
         zeros.push(0)?;
         plain.push(0x8a8a_8a8a_8a8a_8a8a)?;
-        mixed.push(if count % 2 == 0 { 0 } else { 0x8a8a_8a8a_8a8a_8a8a })?;
+        mixed.push(if count % 2 == 0 {
+            0
+        } else {
+            0x8a8a_8a8a_8a8a_8a8a
+        })?;
     }
     Ok(())
 }

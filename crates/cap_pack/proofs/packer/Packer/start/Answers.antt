@@ -1,4 +1,4 @@
-use Rattle.std.proofs.Common.{[], ◌∷◌, ◌++◌, ◌==◌, not, filter, refl, ap, sym, ◌∙◌, arith}
+use Rattle.std.proofs.Common.{[], ◌∷◌, ◌++◌, ◌==◌, not, filter, refl, ap, ◌∙◌, arith}
 use Rattle.std.proofs.KnownBytes.{append_known-moved}
 use Rattle.std.proofs.lemmas.Result.{on_ok_weaker, on_err_weaker}
 use Rattle.cap_spec.specs.Plain.{word_bytes}
