@@ -16,3 +16,6 @@ pub use message::{OneSegment, WordMessage};
 pub use reader::read_message;
 pub use segments::Segments;
 pub use writer::write_message;
+
+#[cfg(test)]
+mod tests;

@@ -1,0 +1,189 @@
+//! What no contract can say: that calls succeed, and values from outside.
+
+use super::{
+    FrameFault, OneSegment, Segments, SizeLimit, WordMessage, read_message, write_message,
+};
+use cap_words::{
+    PlainSink, PlainWords, SliceIn, SourceFault, VecOut, WordSink, WordSource, bytes_of,
+};
+use std::alloc::{AllocError, Global};
+use std::process::Abort;
+use std::test::Fail;
+
+// The plain bytes of words.
+fn plain(alloc: Global, words: &[u64]) -> Result<Vec<u8>, AllocError> {
+    let mut bytes = Vec::new(alloc);
+    for word in words {
+        bytes.extend_from_slice(&bytes_of(*word))?;
+    }
+    Ok(bytes)
+}
+
+// The message has these segments.
+fn is_message<M: Segments>(message: &M, want: &[&[u64]]) -> bool {
+    if message.count() as usize != want.len() {
+        return false;
+    }
+    for s in 0..message.count() {
+        let words = want[s as usize];
+        if message.len(s) as usize != words.len() {
+            return false;
+        }
+        for w in 0..message.len(s) {
+            if message.word(s, w) != words[w as usize] {
+                return false;
+            }
+        }
+    }
+    true
+}
+
+// The first bytes of these words give this message, none, or this fault, and then this answer.
+fn expect_message(
+    rt: &impl Abort,
+    alloc: Global,
+    words: &[u64],
+    cut: usize,
+    limit: u64,
+    want: Result<Option<&[&[u64]]>, FrameFault>,
+    then: Result<Option<u64>, SourceFault>,
+) -> Result<(), Fail> {
+    let bytes = plain(alloc, words)?;
+    let mut source = PlainWords::new(SliceIn::new(&bytes[..cut.min(bytes.len())]));
+    let limit = SizeLimit::new(limit).ok_or("a limit")?;
+    match (read_message(alloc, &mut source, limit), want) {
+        (Ok(Some(message)), Ok(Some(segments))) => {
+            assert!(rt; is_message(&message, segments), "the segments");
+        }
+        (Ok(None), Ok(None)) => {}
+        (Err(fault), Err(wanted)) => assert_eq!(rt; fault, wanted),
+        _ => assert!(rt; false, "another answer"),
+    }
+    assert_eq!(rt; source.next(), then);
+    Ok(())
+}
+
+// The number in the low and in the high half of a word.
+fn pair(low: u32, high: u32) -> u64 {
+    u64::from(low) + u64::from(high) * 0x1_0000_0000
+}
+
+#[test]
+fn messages_are_read(rt: HostRuntime) -> Result<(), Fail> {
+    let alloc = rt.alloc();
+    // A segment of no words between two others, and a word behind the message.
+    let three = [pair(2, 1), pair(0, 2), 7, 8, 9, 10];
+    let segments: &[&[u64]] = &[&[7], &[], &[8, 9]];
+    let large = Err(FrameFault::TooLarge { words: 3 });
+    expect_message(&rt, alloc, &three, 48, 3, Ok(Some(segments)), Ok(Some(10)))?;
+    expect_message(&rt, alloc, &three, 40, 3, Ok(Some(segments)), Ok(None))?;
+    expect_message(&rt, alloc, &three, 48, 2, large, Ok(Some(7)))?;
+    expect_message(&rt, alloc, &three, 0, 3, Ok(None), Ok(None))?;
+    // The input ends inside the first word, the table or the contents, between words or in one.
+    let spent = Err(SourceFault::Spent);
+    for (cut, then) in [
+        (5, spent),
+        (8, Ok(None)),
+        (12, spent),
+        (32, Ok(None)),
+        (39, spent),
+    ] {
+        let want = Err(FrameFault::Truncated { byte: cut as u64 });
+        expect_message(&rt, alloc, &three, cut, 3, want, then)?;
+    }
+    // Padding that isn't zero, and one segment without words.
+    let two = [pair(1, 1), pair(1, 0xdead_beef), 5, 6];
+    expect_message(&rt, alloc, &two, 32, 2, Ok(Some(&[&[5], &[6]])), Ok(None))?;
+    expect_message(&rt, alloc, &[0], 8, 0, Ok(Some(&[&[]])), Ok(None))?;
+    // One segment too many, and sizes whose sum doesn't fit 32 bits.
+    let many = Err(FrameFault::TooManySegments { count: 513 });
+    expect_message(&rt, alloc, &[pair(512, 0), 3], 16, 3, many, Ok(Some(3)))?;
+    let sum = 8_589_934_590;
+    let sizes = [pair(1, 0xffff_ffff), pair(0xffff_ffff, 0), 3];
+    let large = Err(FrameFault::TooLarge { words: sum });
+    expect_message(&rt, alloc, &sizes, 24, 268_435_456, large, Ok(Some(3)))
+}
+
+#[test]
+fn many_segments_are_read_and_written(rt: HostRuntime) -> Result<(), Fail> {
+    let alloc = rt.alloc();
+    let mut words = Vec::new(alloc);
+    words.push(pair(511, 1))?;
+    for _ in 0..255u32 {
+        words.push(pair(1, 1))?;
+    }
+    words.push(pair(1, 0))?;
+    for word in 0..512u64 {
+        words.push(word)?;
+    }
+    let bytes = plain(alloc, &words)?;
+    let mut source = PlainWords::new(SliceIn::new(&bytes));
+    let limit = SizeLimit::new(512).ok_or("a limit")?;
+    let message = read_message(alloc, &mut source, limit)?.ok_or("a message")?;
+    assert_eq!(rt; message.count(), 512);
+    for s in 0..message.count() {
+        assert_eq!(rt; message.len(s), 1);
+        assert_eq!(rt; message.word(s, 0), u64::from(s));
+    }
+    let mut sink = PlainSink::new(VecOut::new(alloc));
+    write_message(&mut sink, &message)?;
+    assert_eq!(rt; sink.into_inner().bytes(), bytes.as_slice());
+    Ok(())
+}
+
+#[test]
+fn messages_are_written(rt: HostRuntime) -> Result<(), Fail> {
+    let alloc = rt.alloc();
+    // The padding that was read is written as zeros.
+    let padded = plain(alloc, &[pair(1, 1), pair(1, 0xdead_beef), 5, 6])?;
+    let mut source = PlainWords::new(SliceIn::new(&padded));
+    let limit = SizeLimit::new(2).ok_or("a limit")?;
+    let message = read_message(alloc, &mut source, limit)?.ok_or("a message")?;
+    let mut sink = PlainSink::new(VecOut::new(alloc));
+    write_message(&mut sink, &message)?;
+    // A segment of no words between two others, then one segment, and then the end.
+    let segments = vec![in alloc; vec![in alloc; 7]?, Vec::new(alloc), vec![in alloc; 8, 9]?]?;
+    write_message(&mut sink, &WordMessage::new(segments).ok_or("a message")?)?;
+    write_message(&mut sink, &OneSegment::new(&[4]).ok_or("a message")?)?;
+    sink.finish()?;
+    let want = [
+        pair(1, 1),
+        pair(1, 0),
+        5,
+        6,
+        pair(2, 1),
+        pair(0, 2),
+        7,
+        8,
+        9,
+        pair(0, 1),
+        4,
+    ];
+    assert_eq!(rt; sink.into_inner().bytes(), plain(alloc, &want)?.as_slice());
+    Ok(())
+}
+
+#[test]
+fn sizes_are_bounded(rt: HostRuntime) -> Result<(), Fail> {
+    let alloc = rt.alloc();
+    assert_eq!(rt; SizeLimit::new(268_435_457), None);
+    let most = SizeLimit::new(268_435_456).ok_or("a limit")?;
+    assert_eq!(rt; most.words(), 268_435_456);
+    assert!(rt; WordMessage::new(Vec::new(alloc)).is_none(), "no segment");
+    for (count, is_some) in [(1u32, true), (512, true), (513, false)] {
+        let mut segments = Vec::new(alloc);
+        for _ in 0..count {
+            segments.push(Vec::new(alloc))?;
+        }
+        assert_eq!(rt;
+            WordMessage::new(segments).is_some(),
+            is_some,
+            "{count} segments"
+        );
+    }
+    assert!(rt;
+        is_message(&OneSegment::new(&[1, 2]).ok_or("a message")?, &[&[1, 2]]),
+        "one"
+    );
+    Ok(())
+}
