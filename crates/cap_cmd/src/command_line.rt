@@ -1,5 +1,8 @@
 //! The command line: what the program's words ask for.
 
+ghost use Rattle.cap_cmd.specs.Limits.{depth_of, words_of};
+ghost use Rattle.std.specs.Prelude.{◌-◌, ◌^◌, ◌≡◌, IfOk};
+
 use crate::job::{Job, JobFault, Task};
 use crate::limits::Limits;
 use crate::settings::Settings;
@@ -75,7 +78,11 @@ fn parse_fault(alloc: Global, error: &Error) -> JobFault {
 }
 
 // The job of a subcommand.
-fn job_of(alloc: Global, task: Task, options: &ArgMatches<'_>) -> Result<Job, JobFault> {
+fn job_of(alloc: Global, task: Task, options: &ArgMatches<'_>) -> Result<Job, JobFault>
+    ensures task { IfOk result (λ job. job.task ≡ task) }
+    ensures limits { IfOk result (λ job. (words_of job.settings.limits ≡ 8388608) × (depth_of job.settings.limits ≡ 64)) }
+    ensures messages { IfOk result (λ job. job.settings.messages ≡ 2 ^ 32 - 1) }
+{
     let words = options.get_one::<u64>("size").unwrap_or(DEFAULT_SIZE);
     let Some(size) = SizeLimit::new(words) else {
         return Err(usage_fault(alloc, "error: the size is past 268435456\n"));
@@ -103,7 +110,10 @@ fn job_of(alloc: Global, task: Task, options: &ArgMatches<'_>) -> Result<Job, Jo
 ///
 /// A request for help is a `Help`, and a mistake a `Usage`, each with the text for the user.
 /// `Memory` comes only where a growth was refused.
-pub fn read_job(alloc: Global, words: Vec<String>) -> Result<Job, JobFault> {
+pub fn read_job(alloc: Global, words: Vec<String>) -> Result<Job, JobFault>
+    ensures limits { IfOk result (λ job. (words_of job.settings.limits ≡ 8388608) × (depth_of job.settings.limits ≡ 64)) }
+    ensures messages { IfOk result (λ job. job.settings.messages ≡ 2 ^ 32 - 1) }
+{
     let Ok(command) = capvet_command(alloc) else {
         return Err(JobFault::Memory);
     };

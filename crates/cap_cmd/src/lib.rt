@@ -1,4 +1,8 @@
-//! The program's engines, texts and command line.
+//! What the program does: its words are read into a job (`read_job`), and the job is done over an
+//! input, an output and an output for faults (`run_job`).
+//!
+//! The engines go through the messages of a source and tell something about each. Their lines are
+//! put together in buffers of a fixed size, so that no text takes memory.
 #![tactic(auto)]
 
 pub mod command_line;
