@@ -2,6 +2,7 @@
 //! body, named for what it says.
 #![tactic(auto)]
 
+pub mod canonical;
 pub mod following;
 pub mod framing;
 pub mod packing;

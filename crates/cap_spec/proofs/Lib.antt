@@ -33,3 +33,13 @@ pub mod PathCosts
 pub mod Depths
 pub mod Deepest
 pub mod OneVerdict
+pub mod Trimming
+pub mod ReadingBack
+pub mod Placing
+pub mod PointerFields
+pub mod Measures
+pub mod TrimmedMeasures
+pub mod Sizes
+pub mod Laying
+pub mod Layouts
+pub mod TrimmedTrees

@@ -30,23 +30,23 @@ field_below : (x a n : ℕ) → field x a n < 2 ^ n
 field_below x a n = mod-lt (x / 2 ^ a) (pow_pos n)
 
 -- each value of a list fits its element
-values_fit : (words : List ℕ) (b bits i n : ℕ) → AllByRecursion (λ v. v < 2 ^ bits) (map (value_at words b bits) (range_with_len i n))
+pub values_fit : (words : List ℕ) (b bits i n : ℕ) → AllByRecursion (λ v. v < 2 ^ bits) (map (value_at words b bits) (range_with_len i n))
 values_fit words b bits i zero = tt
 values_fit words b bits i (suc n) = (field_below (slice_index_or words (b + (i * bits) / 64) 0) ((i * bits) % 64) bits, values_fit words b bits (i + 1) n)
 
 -- a range inside its segment has as many words as are asked for
-range_length : (m : List (List ℕ)) (t b n : ℕ) → b + n ≤ length (segment_of m t) → length (words_from m t b n) ≡ n
+pub range_length : (m : List (List ℕ)) (t b n : ℕ) → b + n ≤ length (segment_of m t) → length (words_from m t b n) ≡ n
 range_length m t b n le =
     length-take-le (b + n - b) (drop b (segment_of m t)) (omega (arith, length-drop b (segment_of m t))) ∙ omega arith
 
 -- the index of a capability fits 32 bits
-cap_fits : (m : List (List ℕ)) (s w k i : ℕ) → Leads m s w k (to_cap i) → i < 2 ^ 32
+pub cap_fits : (m : List (List ℕ)) (s w k i : ℕ) → Leads m s w k (to_cap i) → i < 2 ^ 32
 cap_fits m s w k i (near p has far says pads) = rw says.1 (field_below p 32 32)
 cap_fits m s w k i (one_pad p x has one pad_word far says pads) = rw says.1 (field_below x 32 32)
 cap_fits m s w k i (two_pads p f x has two first second one tag r pads) = absurd (cc r)
 
 -- the elements of a struct list lie inside its segment
-elements_inside : (m : List (List ℕ)) (s w ds ps k t b q tag inner deep c d : ℕ) → FindsStructs m s w ds ps k t b q tag inner deep c d
+pub elements_inside : (m : List (List ℕ)) (s w ds ps k t b q tag inner deep c d : ℕ) → FindsStructs m s w ds ps k t b q tag inner deep c d
     → b + 1 + middle tag * ds + middle tag * ps ≤ length (segment_of m t)
 elements_inside m s w ds ps k t b q tag inner deep c d f =
     omega (arith, elements_fit m s w ds ps k t b q tag inner deep c d f, extent_structs q f.kind f.code, f.finds.sits.inside)

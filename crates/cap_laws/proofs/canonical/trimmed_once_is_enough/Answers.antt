@@ -1,0 +1,10 @@
+use Rattle.std.proofs.Common.{ap}
+use Rattle.cap_spec.specs.Canonical.{layout}
+use Rattle.cap_spec.proofs.Trimming.{trim-trim}
+use Rattle.cap_laws.proofs.canonical.trimmed_once_is_enough.Goals as goal
+
+pub returns-clause-tree : goal.returns-clause-tree
+returns-clause-tree c = trim-trim
+
+pub returns-clause-words : goal.returns-clause-words
+returns-clause-words c = λ t. ap layout (trim-trim t)

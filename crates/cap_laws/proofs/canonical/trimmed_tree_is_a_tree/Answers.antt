@@ -1,0 +1,8 @@
+use Rattle.cap_spec.proofs.TrimmedTrees.{trimmed_is_tree, has_cap-trim}
+use Rattle.cap_laws.proofs.canonical.trimmed_tree_is_a_tree.Goals as goal
+
+pub returns-clause-tree : goal.returns-clause-tree
+returns-clause-tree c = trimmed_is_tree
+
+pub returns-clause-caps : goal.returns-clause-caps
+returns-clause-caps c = has_cap-trim

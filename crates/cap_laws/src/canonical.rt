@@ -1,0 +1,41 @@
+//! Trimmed trees and their layouts: the canonical form.
+
+ghost use Rattle.std.specs.Prelude.{ℕ, List, [], ◌∷◌, length, ◌≡◌, ◌≤◌, ◌<◌, ◌+◌, ◌^◌, ◌↔◌};
+ghost use Rattle.cap_spec.specs.Tree.{Tree, IsTree, has_cap};
+ghost use Rattle.cap_spec.specs.Denoting.{Denotes};
+ghost use Rattle.cap_spec.specs.Canonical.{layout, trim};
+
+/// A trimmed tree has nothing left to trim, so that a canonical copy is its own canonical copy.
+pub fn trimmed_once_is_enough()
+    ensures tree { (t : Tree) → trim (trim t) ≡ trim t }
+    ensures words { (t : Tree) → layout (trim (trim t)) ≡ layout (trim t) }
+{}
+
+/// What is left of a tree after trimming is a tree, and has a capability where the tree has one.
+pub fn trimmed_tree_is_a_tree()
+    ensures tree { (t : Tree) → IsTree t → IsTree (trim t) }
+    ensures caps { (t : Tree) → has_cap (trim t) ≡ has_cap t }
+{}
+
+/// The layout of what a word denotes, trimmed, has at most one word more than the word's charge.
+pub fn layout_is_charged()
+    ensures { (m : List (List ℕ)) (s w : ℕ) (t : Tree) (c d : ℕ) →
+        Denotes m s w t c d → length (layout (trim t)) ≤ c + 1 }
+{}
+
+/// The layout of what a word denotes, trimmed, is a message of one segment whose root denotes the
+/// trimmed tree, at a charge no greater and at the same depth, so that it passes under the limits
+/// that the word passes under. Charges below 2^29 words, twice the greatest limit, keep each offset
+/// within its 30 bits. (It holds with capabilities too, though such a tree has no canonical form.)
+pub fn layout_denotes_trimmed_tree()
+    ensures { (m : List (List ℕ)) (s w : ℕ) (t : Tree) (c d : ℕ) →
+        Denotes m s w t c d → c < 2 ^ 29 →
+        (c' : ℕ) × Denotes (layout (trim t) ∷ []) 0 0 (trim t) c' d × (c' ≤ c) }
+{}
+
+/// Two layouts of what words denote, trimmed, are equal exactly where the trimmed trees are.
+pub fn one_layout()
+    ensures { (m n : List (List ℕ)) (s w s' w' : ℕ) (t u : Tree) (c d c' d' : ℕ) →
+        Denotes m s w t c d → Denotes n s' w' u c' d' → c < 2 ^ 29 → c' < 2 ^ 29 →
+        (layout (trim t) ≡ layout (trim u)) ↔ (trim t ≡ trim u) }
+{}
