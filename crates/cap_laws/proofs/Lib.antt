@@ -2,3 +2,4 @@ pub mod Outcomes
 pub mod FrameBytes
 mod Examples
 mod TreeExamples
+mod CanonicalExamples

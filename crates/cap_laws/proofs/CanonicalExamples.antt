@@ -1,0 +1,34 @@
+-- A small tree that meets what the laws of the canonical form ask, and its trimmed layout.
+use Rattle.std.proofs.Common.{ℕ, ◌≡◌, ◌≤◌, [], ◌∷◌, refl, lit<}
+use Rattle.cap_spec.specs.Tree.{Tree, null, struct, scalars, structs, none, more}
+use Rattle.cap_spec.specs.Denoting.{Denotes}
+use Rattle.cap_spec.specs.Canonical.{layout, trim}
+use Rattle.cap_spec.proofs.Measures.{Fits}
+use Rattle.cap_spec.proofs.Layouts.{layout_denotes, trimmed_layout_denotes}
+
+-- a struct with a zero word and a null pointer at its end, which leads to a list of three bits and to a list of two structs with a null pointer each
+abbrev untrimmed : Tree
+untrimmed = struct (5 ∷ 0 ∷ []) (more (scalars 1 (1 ∷ 0 ∷ 1 ∷ []))
+    (more (structs 1 1 (more (struct (7 ∷ []) (more null none)) (more (struct (0 ∷ []) (more null none)) none))) (more null none)))
+
+fits-untrimmed : Fits untrimmed
+fits-untrimmed = (
+  lit< tt,
+  lit< tt,
+  (
+    (lit< tt, lit< tt, (lit< tt, (lit< tt, (lit< tt, tt)))),
+    ((lit< tt, lit< tt, lit< tt, lit< tt, (refl, refl, (tt, tt), (refl, refl, (tt, tt), tt))), (tt, tt)),
+  ),
+)
+
+-- some message denotes it, at a charge of 11 and a depth of 2
+denotes-untrimmed : Denotes (layout untrimmed ∷ []) 0 0 untrimmed 11 2
+denotes-untrimmed = layout_denotes untrimmed fits-untrimmed (lit< tt)
+
+-- so that the law speaks of it
+denotes-trimmed : (c' : ℕ) × Denotes (layout (trim untrimmed) ∷ []) 0 0 (trim untrimmed) c' 2 × (c' ≤ 11)
+denotes-trimmed = trimmed_layout_denotes (layout untrimmed ∷ []) 0 0 untrimmed 11 2 denotes-untrimmed (lit< tt)
+
+-- the zero word, the null pointer and each element's null pointer are gone
+layout-trimmed : layout (trim untrimmed) ≡ 0x0002000100000000 ∷ 5 ∷ 0x0000001900000005 ∷ 0x0000001700000005 ∷ 5 ∷ 0x0000000100000008 ∷ 7 ∷ 0 ∷ []
+layout-trimmed = refl
