@@ -6,6 +6,7 @@ use crate::report::Report;
 use cap_frame::Segments;
 
 /// A message whose root denotes one finite tree within the limits that it was vetted under.
+#[derive_where(Clone, Copy)]
 pub struct Vetted<'m, M: Segments> {
     message: &'m M,
     report: Report,
