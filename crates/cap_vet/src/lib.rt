@@ -16,3 +16,6 @@ pub use limits::Limits;
 pub use report::Report;
 pub use vetted::Vetted;
 pub use vetting::vet;
+
+#[cfg(test)]
+mod tests;
