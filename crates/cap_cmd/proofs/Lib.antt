@@ -2,6 +2,7 @@ pub mod Digits
 pub mod Going
 pub mod Numbers
 pub mod Segments
+pub mod Reports
 pub mod Shown
 pub mod Streams
 pub mod Telling

@@ -1,6 +1,6 @@
 pub mod Faults
-pub mod Limits
 pub mod Running
 pub mod Streams
 pub mod Telling
+pub mod Vetting
 pub mod Writing

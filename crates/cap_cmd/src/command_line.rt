@@ -4,9 +4,9 @@ ghost use Rattle.cap_cmd.specs.Limits.{depth_of, words_of};
 ghost use Rattle.std.specs.Prelude.{◌-◌, ◌^◌, ◌≡◌, IfOk};
 
 use crate::job::{Job, JobFault, Task};
-use crate::limits::Limits;
 use crate::settings::Settings;
 use cap_frame::SizeLimit;
+use cap_vet::Limits;
 use clap::error::ErrorKind;
 use clap::{Arg, ArgMatches, Command, Error, value_parser};
 use std::alloc::{AllocError, Global};
@@ -14,10 +14,10 @@ use std::alloc::{AllocError, Global};
 /// The most words of a message, where no option says it.
 const DEFAULT_SIZE: u64 = 8388608;
 
-/// The most words that a walk may charge, where no option says it.
+/// The most words that a walk may be charged, where no option says it.
 const DEFAULT_WORDS: u64 = 8388608;
 
-/// The most levels that a walk may go down, where no option says it.
+/// The deepest level of an object, where no option says it.
 const DEFAULT_DEPTH: u32 = 64;
 
 // The option on the size of a message.
@@ -28,6 +28,26 @@ fn size_option<'a>(alloc: Global) -> Arg<'a> {
         .help("The most words of a message, in all its segments together")
         .value_parser(value_parser!(u64).range(0..=268435456))
         .default_value("8388608")
+}
+
+// The option on the words that a walk is charged.
+fn words_option<'a>(alloc: Global) -> Arg<'a> {
+    Arg::new(alloc, "words")
+        .long("words")
+        .value_name("N")
+        .help("The most words that a message may be charged, each following counted anew")
+        .value_parser(value_parser!(u64).range(0..=268435456))
+        .default_value("8388608")
+}
+
+// The option on the levels of objects.
+fn depth_option<'a>(alloc: Global) -> Arg<'a> {
+    Arg::new(alloc, "depth")
+        .long("depth")
+        .value_name("N")
+        .help("The deepest level that an object may have")
+        .value_parser(value_parser!(u32).range(0..=256))
+        .default_value("64")
 }
 
 // The file that is read.
@@ -45,12 +65,23 @@ fn segments_command<'a>(alloc: Global) -> Result<Command<'a>, AllocError> {
         .arg(file_argument(alloc))
 }
 
+// The command that vets.
+fn vet_command<'a>(alloc: Global) -> Result<Command<'a>, AllocError> {
+    Command::new(alloc, "vet")
+        .about("Tells of each message whether its root denotes a tree within the limits")
+        .arg(size_option(alloc))?
+        .arg(words_option(alloc))?
+        .arg(depth_option(alloc))?
+        .arg(file_argument(alloc))
+}
+
 // The program's command, with its subcommands.
 fn capvet_command<'a>(alloc: Global) -> Result<Command<'a>, AllocError> {
     Command::new(alloc, "capvet")
         .about("Vets Cap'n Proto messages")
         .subcommand_required(true)
-        .subcommand(segments_command(alloc)?)
+        .subcommand(segments_command(alloc)?)?
+        .subcommand(vet_command(alloc)?)
 }
 
 // A mistake that the parser let through.
@@ -77,6 +108,13 @@ fn parse_fault(alloc: Global, error: &Error) -> JobFault {
     }
 }
 
+// The limits that the options tell, or that there are without them.
+fn limits_of(options: &ArgMatches<'_>) -> Option<Limits> {
+    let words = options.get_one::<u64>("words").unwrap_or(DEFAULT_WORDS);
+    let depth = options.get_one::<u32>("depth").unwrap_or(DEFAULT_DEPTH);
+    Limits::new(words, depth)
+}
+
 // The job of a subcommand.
 fn job_of(alloc: Global, task: Task, options: &ArgMatches<'_>) -> Result<Job, JobFault>
     ensures task { IfOk result (λ job. job.task ≡ task) }
@@ -87,6 +125,12 @@ fn job_of(alloc: Global, task: Task, options: &ArgMatches<'_>) -> Result<Job, Jo
     let Some(size) = SizeLimit::new(words) else {
         return Err(usage_fault(alloc, "error: the size is past 268435456\n"));
     };
+    let Some(limits) = limits_of(options) else {
+        return Err(usage_fault(
+            alloc,
+            "error: the limits are past 268435456 words or 256 levels\n",
+        ));
+    };
     let file = match options.get_str("file") {
         Some(name) => match String::from_str(alloc, name) {
             Ok(name) => Some(name),
@@ -95,7 +139,7 @@ fn job_of(alloc: Global, task: Task, options: &ArgMatches<'_>) -> Result<Job, Jo
         None => None,
     };
     let settings = Settings {
-        limits: Limits::new(DEFAULT_WORDS, DEFAULT_DEPTH).unwrap(),
+        limits,
         size,
         messages: u32::MAX,
     };
@@ -120,6 +164,7 @@ pub fn read_job(alloc: Global, words: Vec<String>) -> Result<Job, JobFault>
     match command.try_get_matches_from(words.as_slice()) {
         Ok(matches) => match matches.subcommand() {
             Some(("segments", options)) => job_of(alloc, Task::Segments, options),
+            Some(("vet", options)) => job_of(alloc, Task::Vet, options),
             _ => Err(usage_fault(alloc, "error: a command is needed\n")),
         },
         Err(error) => Err(parse_fault(alloc, &error)),

@@ -2,3 +2,4 @@
 
 pub mod segments;
 pub(crate) mod stream;
+pub mod vet;

@@ -6,6 +6,7 @@ ghost use Rattle.cap_frame.specs.Limit.{limit_of};
 ghost use Rattle.std.specs.Prelude.{◌≡◌};
 
 use crate::engines::segments::run_segments;
+use crate::engines::vet::run_vet;
 use crate::fault::{Cause, RunFault};
 use crate::settings::{Outcome, Settings};
 use crate::texts::faults::fault_text;
@@ -19,6 +20,8 @@ use std::alloc::Global;
 pub enum Task {
     /// To show the segments of each message.
     Segments,
+    /// To tell of each message whether it is accepted.
+    Vet,
 }
 
 /// What the program is asked to do, and with what.
@@ -94,6 +97,7 @@ pub fn run_job<I: ByteIn + Drop, O: ByteOut, E: ByteOut>(
     let mut out = out;
     let answer = match job.task {
         Task::Segments => run_segments(alloc, &mut source, &mut out, &job.settings),
+        Task::Vet => run_vet(alloc, &mut source, &mut out, &job.settings),
     };
     if let Err(fault) = answer {
         let _ = write_bytes(err, fault_text(&fault).as_slice());

@@ -1,7 +1,7 @@
 //! What an engine is told, and what it answers.
 
-use crate::limits::Limits;
 use cap_frame::SizeLimit;
+use cap_vet::Limits;
 
 /// What every engine is told.
 #[derive(Clone, Copy, Debug, PartialEq, Eq, Drop)]

@@ -4,3 +4,4 @@ pub(crate) mod faults;
 pub(crate) mod line;
 pub(crate) mod output;
 pub(crate) mod segments;
+pub(crate) mod verdict;

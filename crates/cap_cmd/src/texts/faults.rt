@@ -6,13 +6,13 @@ ghost use Rattle.cap_spec.specs.Texts.{then_number};
 ghost use Rattle.std.specs.Prelude.{◌+◌, ◌++◌, ◌≡◌, ◌≤◌, ◌∷◌, [], codes, decimal, length};
 
 use crate::fault::{Cause, RunFault};
-use crate::texts::line::{LINE, push_number, push_text};
+use crate::texts::line::{LINE, push_named, push_number, push_text};
 use arrayvec::ArrayVec;
 use cap_frame::FrameFault;
 
 /// Appends what is said of a message that couldn't be read.
 fn push_frame_fault(line: &mut ArrayVec<u8, LINE>, fault: FrameFault)
-    requires { array_vec_len line.old + 40 ≤ 128 }
+    requires { array_vec_len line.old + 40 ≤ 192 }
     ensures items { line.new.items ≡ line.old.items ++ frame_fault_text fault }
     ensures few { array_vec_len line.new ≤ array_vec_len line.old + 40 }
 {
@@ -28,7 +28,7 @@ fn push_frame_fault(line: &mut ArrayVec<u8, LINE>, fault: FrameFault)
 
 /// Appends what is said of a message at which an engine ended.
 fn push_cause(line: &mut ArrayVec<u8, LINE>, cause: Cause)
-    requires { array_vec_len line.old + 40 ≤ 128 }
+    requires { array_vec_len line.old + 40 ≤ 192 }
     ensures items { line.new.items ≡ line.old.items ++ cause_text cause }
     ensures few { array_vec_len line.new ≤ array_vec_len line.old + 40 }
 {
@@ -37,16 +37,6 @@ fn push_cause(line: &mut ArrayVec<u8, LINE>, cause: Cause)
         Cause::Frame(fault) => push_frame_fault(line, fault),
         Cause::Output(_) => push_text(line, b"output failed"),
     }
-}
-
-/// Appends a name that has a number.
-fn push_named(line: &mut ArrayVec<u8, LINE>, name: &[u8], number: u64)
-    requires room { array_vec_len line.old + length name.now + 20 ≤ 128 }
-    ensures items { line.new.items ≡ line.old.items ++ (name.now ++ decimal number) }
-    ensures few { array_vec_len line.new ≤ array_vec_len line.old + length name.now + 20 }
-{
-    push_text(line, name);
-    push_number(line, number);
 }
 
 /// The line of a fault of message `number`.
