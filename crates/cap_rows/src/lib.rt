@@ -6,4 +6,6 @@ mod segments;
 #[cfg(test)]
 mod usage;
 #[cfg(test)]
+mod verdicts;
+#[cfg(test)]
 mod whole;

@@ -104,7 +104,7 @@ const ROWS: [Row; 13] = [
 #[test]
 fn shows_each_message_and_names_each_fault(rt: HostRuntime) -> Result<(), Fail> {
     for row in &ROWS {
-        let left = run(rt.alloc(), &["segments"], row.stream)?;
+        let left = run(rt.alloc(), "segments", &[], row.stream)?;
         assert_eq!(rt; left.out.bytes(), row.out.as_bytes(), "{}", row.stream);
         assert_eq!(rt; left.err.bytes(), row.err.as_bytes(), "{}", row.stream);
         assert_eq!(rt; left.status, row.status, "{}", row.stream);
@@ -115,14 +115,14 @@ fn shows_each_message_and_names_each_fault(rt: HostRuntime) -> Result<(), Fail> 
 #[test]
 fn keeps_to_the_size_limit(rt: HostRuntime) -> Result<(), Fail> {
     let stream = "000000000200000000000000010000002a00000000000000";
-    let left = run(rt.alloc(), &["segments", "--size", "1"], stream)?;
+    let left = run(rt.alloc(), "segments", &["--size", "1"], stream)?;
     assert_eq!(rt; left.out.bytes(), b"".as_slice());
     assert_eq!(rt;
         left.err.bytes(),
         b"capvet: message 0: TooLarge 2\n".as_slice()
     );
     assert_eq!(rt; left.status, 1);
-    let left = run(rt.alloc(), &["segments", "--size", "2"], stream)?;
+    let left = run(rt.alloc(), "segments", &["--size", "2"], stream)?;
     assert_eq!(rt; left.status, 0);
     Ok(())
 }

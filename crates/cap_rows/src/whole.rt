@@ -23,10 +23,14 @@ pub fn words(alloc: Global, line: &[&str]) -> Result<Vec<String>, Fail> {
     Ok(all)
 }
 
-/// Runs a command line on the bytes that these hexadecimal digits tell.
-pub fn run(alloc: Global, line: &[&str], stream: &str) -> Result<Left, Fail> {
+/// Runs a command with these options on the bytes that these hexadecimal digits tell.
+pub fn run(alloc: Global, command: &str, options: &[&str], stream: &str) -> Result<Left, Fail> {
     let bytes = hex::decode(alloc, stream)?;
-    let Ok(job) = read_job(alloc, words(alloc, line)?) else {
+    let mut line = words(alloc, &[command])?;
+    for option in options {
+        line.push(String::from_str(alloc, *option)?)?;
+    }
+    let Ok(job) = read_job(alloc, line) else {
         return Err(Fail::from("no job"));
     };
     let mut err = VecOut::new(alloc);

@@ -5,16 +5,16 @@ use cap_cmd::{Job, JobFault, read_job, run_job};
 use cap_words::{ByteIn, FromRead, FromWrite};
 use std::alloc::Global;
 use std::fs::File;
-use std::io;
 use std::io::{BufReader, BufWriter, ErrorKind, Read, Write};
 use std::process::ExitCode;
-use std::{env, fs};
+use std::{env, fs, io};
 
 // How many bytes are read or written at a time.
 const BUFFER: usize = 65536;
 
 // The exit statuses of what goes wrong outside a job.
 const USAGE: u8 = 2;
+
 const FAILED: u8 = 3;
 
 fn main(rt: HostRuntime) -> ExitCode {
