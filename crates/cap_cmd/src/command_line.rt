@@ -1,6 +1,5 @@
 //! The command line: what the program's words ask for.
 
-ghost use Rattle.cap_cmd.specs.Limits.{depth_of, words_of};
 ghost use Rattle.std.specs.Prelude.{◌-◌, ◌^◌, ◌≡◌, IfOk};
 
 use crate::job::{Job, JobFault, Task};
@@ -118,7 +117,6 @@ fn limits_of(options: &ArgMatches<'_>) -> Option<Limits> {
 // The job of a subcommand.
 fn job_of(alloc: Global, task: Task, options: &ArgMatches<'_>) -> Result<Job, JobFault>
     ensures task { IfOk result (λ job. job.task ≡ task) }
-    ensures limits { IfOk result (λ job. (words_of job.settings.limits ≡ 8388608) × (depth_of job.settings.limits ≡ 64)) }
     ensures messages { IfOk result (λ job. job.settings.messages ≡ 2 ^ 32 - 1) }
 {
     let words = options.get_one::<u64>("size").unwrap_or(DEFAULT_SIZE);
@@ -155,7 +153,6 @@ fn job_of(alloc: Global, task: Task, options: &ArgMatches<'_>) -> Result<Job, Jo
 /// A request for help is a `Help`, and a mistake a `Usage`, each with the text for the user.
 /// `Memory` comes only where a growth was refused.
 pub fn read_job(alloc: Global, words: Vec<String>) -> Result<Job, JobFault>
-    ensures limits { IfOk result (λ job. (words_of job.settings.limits ≡ 8388608) × (depth_of job.settings.limits ≡ 64)) }
     ensures messages { IfOk result (λ job. job.settings.messages ≡ 2 ^ 32 - 1) }
 {
     let Ok(command) = capvet_command(alloc) else {
