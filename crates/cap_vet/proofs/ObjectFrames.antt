@@ -10,15 +10,9 @@ use Rattle.cap_ptr.specs.declared.shapes.Shape.TheVariants.{Struct, Structs}
 use Rattle.cap_vet.specs.Frames.{FrameIn, Place, element_places, spots}
 use Rattle.cap_vet.specs.Looking.{object_places}
 
--- a struct's frame
-pub struct_inside : (m : List (List ℕ)) (s w k t b q tag n c d p at left level : ℕ) → FindsObject m s w k t b q tag n c (Struct d p) → at ≡ b + d → left ≡ p → 0 < p
-    → FrameIn m record { segment = t; at = at; left = left; more = 0; data_words = 0; pointers = 0; level = level }
-struct_inside m s w k t b q tag n c d p at left level f e1 e2 some = record {
-  exists = f.finds.sits.exists;
-  some = omega arith;
-  each = λ h. absurd (omega arith);
-  inside = omega (arith, f.finds.sits.inside, extent_struct q f.object.shape.kind, f.object.shape.data_words, f.object.shape.pointers);
-}
+-- a struct's words lie inside its segment
+pub struct_room : (m : List (List ℕ)) (s w k t b q tag n c d p : ℕ) → FindsObject m s w k t b q tag n c (Struct d p) → b + d + p ≤ length (segment_of m t)
+struct_room m s w k t b q tag n c d p f = omega (arith, f.finds.sits.inside, extent_struct q f.object.shape.kind, f.object.shape.data_words, f.object.shape.pointers)
 
 -- elements that have no pointers, or aren't there, have no pointer words
 no_pointers : (level t b ds n : ℕ) → element_places level t b ds 0 n ≡ []

@@ -2,11 +2,11 @@
 
 ghost use Rattle.cap_ptr.specs.Shapes.{FindsObject};
 ghost use Rattle.cap_spec.specs.Denoting.{element_levels};
-ghost use Rattle.cap_spec.specs.Messages.{IsMessage};
-ghost use Rattle.cap_vet.specs.Frames.{OptionIn, option_spots};
+ghost use Rattle.cap_spec.specs.Messages.{IsMessage, segment_of};
+ghost use Rattle.cap_vet.specs.Frames.{LevelIs, OptionIn, option_spots, row_places};
 ghost use Rattle.cap_vet.specs.Looking.{FrameRises, object_places};
 ghost use Rattle.cap_vet.specs.Shapes.{levels_of};
-ghost use Rattle.std.specs.Prelude.{◌+◌, ◌<◌, ◌^◌, ◌≡◌, ◌≤◌, List, ℕ};
+ghost use Rattle.std.specs.Prelude.{◌+◌, ◌<◌, ◌^◌, ◌≡◌, ◌≤◌, List, ℕ, length};
 
 use crate::frame::Frame;
 use cap_ptr::{Shape, Target};
@@ -44,34 +44,11 @@ pub(crate) fn frame_of(target: &Target, level: u32) -> Option<Frame>
             data_words,
             pointers,
         } => {
-            if pointers == 0 {
-                return None;
-            }
-            Some(Frame {
-                segment: target.segment,
-                at: target.start + u32::from(data_words),
-                left: u32::from(pointers),
-                more: 0,
-                data_words: 0,
-                pointers: 0,
-                level: level + 1,
-            })
+            let at = target.start + u32::from(data_words);
+            row_frame(target.segment, at, u32::from(pointers), level + 1)
         }
         Shape::Scalars { .. } => None,
-        Shape::Pointers { count } => {
-            if count == 0 {
-                return None;
-            }
-            Some(Frame {
-                segment: target.segment,
-                at: target.start,
-                left: count,
-                more: 0,
-                data_words: 0,
-                pointers: 0,
-                level: level + 1,
-            })
-        }
+        Shape::Pointers { count } => row_frame(target.segment, target.start, count, level + 1),
         Shape::Structs {
             count,
             data_words,
@@ -92,4 +69,24 @@ pub(crate) fn frame_of(target: &Target, level: u32) -> Option<Frame>
             })
         }
     }
+}
+
+// The pointer words of a struct or of a list of pointers, which stand in one row.
+fn row_frame(segment: u32, at: u32, left: u32, level: u32) -> Option<Frame>
+    ensures places { option_spots result ≡ row_places level segment at left }
+    ensures inside { (m : List (List ℕ)) → segment < length m → at + left ≤ length (segment_of m segment) → OptionIn m result }
+    ensures level { LevelIs level result }
+{
+    if left == 0 {
+        return None;
+    }
+    Some(Frame {
+        segment,
+        at,
+        left,
+        more: 0,
+        data_words: 0,
+        pointers: 0,
+        level,
+    })
 }
