@@ -1,11 +1,10 @@
 # What capvet does on a sample, every proof and test, and how fast it is.
 .PHONY: run test bench
 
-# Builds the program and shows what it says of a sample message.
+# Builds the program, vets a stream of sample messages, and shows how one of them is cut into segments.
 run:
-	cd crates/capvet && rt run > out/stored-run.txt
-	cat crates/capvet/out/stored-run.txt
-	crates/capvet/out/capvet segments examples/contacts-many-segments.bin
+	cd crates/capvet && rt run -- vet < ../../examples/stream-of-four.bin
+	crates/capvet/out/capvet segments examples/telemetry.bin
 
 # All proofs, must-fail edits and tests.
 test:

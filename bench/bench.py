@@ -73,7 +73,39 @@ def write_small(path):
             out.write(b"".join(kinds))
 
 
-INPUTS = {"big": write_big, "small": write_small}
+def write_wide(path):
+    """A message of 24 MiB: a list of pointers, most of them null, each tenth to a struct of two words."""
+    rng = random.Random(3)
+    count = 2_000_000
+    structs = count // 10
+    with open(path, "wb") as out:
+        out.write(struct.pack("<II", 0, 1 + count + 2 * structs))
+        out.write(list_pointer(0, 6, count))
+        for i in range(count):
+            out.write(struct_pointer(count - i - 1 + 2 * (i // 10), 2, 0) if i % 10 == 0 else word(0))
+        out.write(b"".join(word(rng.randrange(1 << 60)) for _ in range(2 * structs)))
+
+
+def write_tree(path):
+    """A message of 8 million words: a binary tree of structs of one data word and two pointers."""
+    depth = 21
+    total = (1 << depth) - 1
+    with open(path, "wb") as out:
+        out.write(struct.pack("<II", 0, 1 + 3 * total))
+        out.write(struct_pointer(0, 1, 2))
+        for level in range(depth):
+            part = []
+            for i in range(1 << level):
+                if level + 1 == depth:
+                    part.append(word(i) + word(0) + word(0))
+                else:
+                    here = 3 * ((1 << level) - 1 + i)
+                    left = 3 * ((1 << level + 1) - 1 + 2 * i)
+                    part.append(word(i) + struct_pointer(left - (here + 2), 1, 2) + struct_pointer(left + 3 - (here + 3), 1, 2))
+            out.write(b"".join(part))
+
+
+INPUTS = {"big": write_big, "small": write_small, "wide": write_wide, "tree": write_tree}
 
 
 @dataclass
@@ -89,6 +121,7 @@ def cases(program):
         yield Case("cat", name, ["cat", "FILE"])
         yield Case("dd bs=64K", name, ["dd", "if=FILE", "of=/dev/null", "bs=64K"])
         yield Case("capvet segments", name, [program, "segments", "--size", "268435456", "FILE"])
+        yield Case("capvet vet", name, [program, "vet", "--size", "268435456", "--words", "268435456", "FILE"])
 
 
 def run(command, file):
