@@ -9,6 +9,7 @@ ghost use Rattle.cap_spec.specs.Following.{Wrong, IsComposite};
 ghost use Rattle.cap_spec.specs.Tree.{Tree};
 ghost use Rattle.cap_spec.specs.Denoting.{Finds, Denotes};
 ghost use Rattle.cap_spec.specs.Paths.{Reaches, Rises, IsOneOf};
+ghost use Rattle.cap_spec.specs.Faults.{IsRefused};
 ghost use Rattle.cap_spec.specs.Verdicts.{CostOf, AreDistinct, Justified, levels_below};
 
 /// The charge of the root's tree is what following the pointer words that its paths reach costs,
@@ -38,4 +39,12 @@ pub fn reached_pointers_of_tree()
 pub fn tree_within_limits_is_not_refused()
     ensures { (m : List (List ℕ)) (t : Tree) (c d words depth : ℕ) (refusal : Refusal) →
         Denotes m 0 0 t c d → c ≤ words → d ≤ depth → ¬ Justified m words depth refusal }
+{}
+
+/// A message is refused in one way: of two refusals under the same limits, each at the first fault,
+/// the places, the reasons and the numbers of pointers are equal. So the verdict is a function of
+/// the message and the limits.
+pub fn refused_in_one_way()
+    ensures { (m : List (List ℕ)) (words depth : ℕ) (r other : Refusal) →
+        IsRefused m words depth r → IsRefused m words depth other → r ≡ other }
 {}

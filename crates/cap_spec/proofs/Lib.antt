@@ -32,6 +32,7 @@ pub mod PathCounts
 pub mod PathCosts
 pub mod Depths
 pub mod Deepest
+pub mod OneFault
 pub mod OneVerdict
 pub mod Trimming
 pub mod ReadingBack

@@ -20,20 +20,20 @@ use Rattle.cap_spec.proofs.PathCosts.{charge_is_cost}
 use Rattle.cap_spec.proofs.Depths.{denoted_depth, walk_depth, object_depth}
 
 -- one of some paths, its cost, and the others
-record TakenOut (m : List (List ℕ)) (p : List Step) (qs : List (List Step)) (y : ℕ) : Type 0 where
-  level : ℕ
-  s : ℕ
-  w : ℕ
-  one : ℕ
-  rest : ℕ
-  others : List (List Step)
-  reached : Reaches m p level s w
-  costs : Costs m s w one
-  cost : CostOf m others rest
-  sum : y ≡ one + rest
-  left : (q : List Step) → IsOneOf q qs → p ≢ q → IsOneOf q others
+pub record TakenOut (m : List (List ℕ)) (p : List Step) (qs : List (List Step)) (y : ℕ) : Type 0 where
+  pub level : ℕ
+  pub s : ℕ
+  pub w : ℕ
+  pub one : ℕ
+  pub rest : ℕ
+  pub others : List (List Step)
+  pub reached : Reaches m p level s w
+  pub costs : Costs m s w one
+  pub cost : CostOf m others rest
+  pub sum : y ≡ one + rest
+  pub left : (q : List Step) → IsOneOf q qs → p ≢ q → IsOneOf q others
 
-take_out : (m : List (List ℕ)) (p : List Step) (qs : List (List Step)) (y : ℕ) → IsOneOf p qs → CostOf m qs y → TakenOut m p qs y
+pub take_out : (m : List (List ℕ)) (p : List Step) (qs : List (List Step)) (y : ℕ) → IsOneOf p qs → CostOf m qs y → TakenOut m p qs y
 take_out m p [] y i h = absurd i
 take_out m p (q ∷ qs) y (inl e) h =
     record {
@@ -80,7 +80,7 @@ apart p q (r ∷ rs) n (inl e) = λ f. n.0 (f ∙ e)
 apart p q (r ∷ rs) n (inr i) = apart p q rs n.1 i
 
 -- distinct paths among others cost at most what those cost
-distinct_cost : (m : List (List ℕ)) (ps qs : List (List Step)) (x y : ℕ) → AreDistinct ps → ((p : List Step) → IsOneOf p ps → IsOneOf p qs) → CostOf m ps x → CostOf m qs y → x ≤ y
+pub distinct_cost : (m : List (List ℕ)) (ps qs : List (List Step)) (x y : ℕ) → AreDistinct ps → ((p : List Step) → IsOneOf p ps → IsOneOf p qs) → CostOf m ps x → CostOf m qs y → x ≤ y
 distinct_cost m [] qs x y d k g h = omega (arith, g)
 distinct_cost m (p ∷ ps) qs x y d k g h =
     let t : TakenOut m p qs y = take_out m p qs y (k p (inl refl)) h in
@@ -89,7 +89,7 @@ distinct_cost m (p ∷ ps) qs x y d k g h =
     omega (arith, c, t.sum, g.8, distinct_cost m ps t.others g.4 t.rest d.1 (λ q i. t.left q (k q (inr i)) (apart p q ps d.0 i)) g.7 t.cost)
 
 -- paths that have a cost reach words
-cost_reached : (m : List (List ℕ)) (ps : List (List Step)) (x : ℕ) (p : List Step) → CostOf m ps x → IsOneOf p ps → (level s w : ℕ) × Reaches m p level s w
+pub cost_reached : (m : List (List ℕ)) (ps : List (List Step)) (x : ℕ) (p : List Step) → CostOf m ps x → IsOneOf p ps → (level s w : ℕ) × Reaches m p level s w
 cost_reached m [] x p h i = absurd i
 cost_reached m (q ∷ qs) x p h (inl e) = (h.0, h.1, h.2, subst (λ (v : List Step). Reaches m v h.0 h.1 h.2) (sym e) h.5)
 cost_reached m (q ∷ qs) x p h (inr i) = cost_reached m qs h.4 p h.7 i

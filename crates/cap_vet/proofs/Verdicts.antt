@@ -8,11 +8,12 @@ use Rattle.cap_spec.specs.Messages.{segment_of}
 use Rattle.cap_spec.specs.Denoting.{Denotes}
 use Rattle.cap_spec.specs.Faults.{IsFirstFault, IsFirstReason, IsRefused, is_deep, is_past, is_wrong}
 use Rattle.cap_spec.specs.Paths.{IsOneOf, IsTour, Reaches}
-use Rattle.cap_spec.specs.Verdicts.{AreDistinct, CostOf, IsNoneOf, Justified}
+use Rattle.cap_spec.specs.Verdicts.{CostOf, Justified}
 use Rattle.cap_spec.specs.Verdicts.{no_root, too_deep, past_limit, is_wrong as wrong_there}
 use Rattle.cap_spec.specs.declared.Reason.{Reason}
 use Rattle.cap_spec.specs.declared.Refusal.{Refusal}
 use Rattle.cap_spec.specs.declared.Step.{Step}
+use Rattle.cap_spec.proofs.OneFault.{distinct_last}
 use Rattle.cap_spec.proofs.Preorder.{Rises-distinct}
 use Rattle.cap_vet.specs.Trails.{Ahead, IsTrail}
 use Rattle.cap_vet.specs.Frames.{place_of}
@@ -54,22 +55,6 @@ first_fault m words depth s w level frames report v t h =
       pointers = sym many;
       few = omega (arith, t.progress.bound, t.progress.within);
     }
-
--- distinct paths without the last one, and the last one
-distinct_last : (paths : List (List Step)) (p : List Step) → AreDistinct (paths ++ p ∷ []) → AreDistinct (p ∷ paths)
-distinct_last paths p h = (none paths h, front paths h)
-  where
-    others : (x : List Step) (ps : List (List Step)) → IsNoneOf x (ps ++ p ∷ []) → IsNoneOf x ps × (x ≡ p → ⊥)
-    others x [] k = (tt, k.0)
-    others x (q ∷ ps) k = let r = others x ps k.1 in ((k.0, r.0), r.1)
-
-    none : (ps : List (List Step)) → AreDistinct (ps ++ p ∷ []) → IsNoneOf p ps
-    none [] k = tt
-    none (q ∷ ps) k = (λ e. (others q ps k.0).1 (sym e), none ps k.1)
-
-    front : (ps : List (List Step)) → AreDistinct (ps ++ p ∷ []) → AreDistinct ps
-    front [] k = tt
-    front (q ∷ ps) k = ((others q ps k.0).0, front ps k.1)
 
 -- a refusal is justified
 pub refused_justified : (m : List (List ℕ)) (words depth : ℕ) (r : Refusal) → IsRefused m words depth r → Justified m words depth r
