@@ -2,6 +2,8 @@
 #![tactic(auto)]
 
 #[cfg(test)]
+mod engines;
+#[cfg(test)]
 mod segments;
 #[cfg(test)]
 mod usage;
