@@ -35,6 +35,7 @@ pub(crate) enum Phase {
 
 impl<I: ByteIn> Unpacker<I> {
     ghost use Rattle.cap_pack.specs.Input.{input_of};
+    ghost use Rattle.cap_pack.specs.declared.unpacker.Unpacker.{Unpacker};
 
     /// The words that the packed bytes of `input` spell, from its next byte on.
     pub fn new(input: I) -> Unpacker<I>
@@ -48,6 +49,8 @@ impl<I: ByteIn> Unpacker<I> {
         ensures failed { ⟦<Unpacker<I> as WordSource>⟧.failed result ≡ false }
         ensures failures { ⟦<Unpacker<I> as WordSource>⟧.failures result ≡ I.failures input }
         ensures spent { ⟦<Unpacker<I> as WordSource>⟧.spent result ≡ I.spent input }
+        ensures shows_unread { (s : Unpacker I I.ByteIn) → ⟦<Unpacker<I> as WordSource>⟧.unread s ≡ I.to_come (input_of s) }
+        ensures shows_failures { (s : Unpacker I I.ByteIn) → ⟦<Unpacker<I> as WordSource>⟧.failures s ≡ I.failures (input_of s) }
     {
         Unpacker {
             bytes: Counted { input, read: 0 },
