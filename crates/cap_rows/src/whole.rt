@@ -1,20 +1,20 @@
 //! A run of the program over memory: the words of a command line and the bytes that come in.
 
-use cap_cmd::{read_job, run_job};
+use cap_cmd::{Job, read_job, run_job};
 use cap_words::{SliceIn, VecOut};
 use std::alloc::Global;
 use std::test::Fail;
 
 /// What a run left: its status, and what it wrote.
 #[derive(Drop)]
-pub struct Left {
-    pub status: u8,
-    pub out: VecOut,
-    pub err: VecOut,
+pub(crate) struct Left {
+    pub(crate) status: u8,
+    pub(crate) out: VecOut,
+    pub(crate) err: VecOut,
 }
 
 /// The words of a command line, the program's name in front.
-pub fn words(alloc: Global, line: &[&str]) -> Result<Vec<String>, Fail> {
+pub(crate) fn words(alloc: Global, line: &[&str]) -> Result<Vec<String>, Fail> {
     let mut all = Vec::new(alloc);
     all.push(String::from_str(alloc, "capvet")?)?;
     for word in line {
@@ -23,16 +23,27 @@ pub fn words(alloc: Global, line: &[&str]) -> Result<Vec<String>, Fail> {
     Ok(all)
 }
 
-/// Runs a command with these options on the bytes that these hexadecimal digits tell.
-pub fn run(alloc: Global, command: &str, options: &[&str], stream: &str) -> Result<Left, Fail> {
-    let bytes = hex::decode(alloc, stream)?;
+/// The job of a command with these options.
+pub(crate) fn job(alloc: Global, command: &str, options: &[&str]) -> Result<Job, Fail> {
     let mut line = words(alloc, &[command])?;
     for option in options {
         line.push(String::from_str(alloc, *option)?)?;
     }
-    let Ok(job) = read_job(alloc, line) else {
-        return Err(Fail::from("no job"));
-    };
+    match read_job(alloc, line) {
+        Ok(job) => Ok(job),
+        Err(_) => Err(Fail::from("no job")),
+    }
+}
+
+/// Runs a command with these options on the bytes that these hexadecimal digits tell.
+pub(crate) fn run(
+    alloc: Global,
+    command: &str,
+    options: &[&str],
+    stream: &str,
+) -> Result<Left, Fail> {
+    let bytes = hex::decode(alloc, stream)?;
+    let job = job(alloc, command, options)?;
     let mut err = VecOut::new(alloc);
     let (status, out) = run_job(
         alloc,

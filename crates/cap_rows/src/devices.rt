@@ -1,0 +1,242 @@
+//! Whole runs over devices that fail.
+
+use crate::whole::job;
+use cap_cmd::run_job;
+use cap_words::{ByteIn, ByteOut, FromRead, FromWrite, InFault, OutFault, SliceIn, VecOut};
+use std::io::{self, ErrorKind, Read, Write};
+use std::test::Fail;
+
+// A reader that gives its bytes, and then fails where others end.
+#[derive(Drop)]
+struct Broken<'a> {
+    bytes: &'a [u8],
+}
+
+impl Read for Broken<'_> {
+    fn read(&mut self, buf: &mut [u8]) -> io::Result<usize> {
+        if self.bytes.is_empty() {
+            return Err(io::Error::from(ErrorKind::Other));
+        }
+        let count = self.bytes.len().min(buf.len());
+        let (front, rest) = self.bytes.split_at(count);
+        buf[..count].copy_from_slice(front);
+        self.bytes = rest;
+        Ok(count)
+    }
+}
+
+// A writer that takes so many bytes, and then fails: with an error, or by taking none.
+#[derive(Drop)]
+struct Full {
+    taken: Vec<u8>,
+    room: usize,
+    tells: bool,
+}
+
+impl Write for Full {
+    fn write(&mut self, buf: &[u8]) -> io::Result<usize> {
+        if self.room == 0 && self.tells {
+            return Err(io::Error::from(ErrorKind::Other));
+        }
+        let count = self.room.min(buf.len());
+        self.taken.extend_from_slice(&buf[..count])?;
+        self.room -= count;
+        Ok(count)
+    }
+
+    fn flush(&mut self) -> io::Result<()> {
+        Ok(())
+    }
+}
+
+// A message of one null pointer, and its lines.
+const NULL: &str = "00000000010000000000000000000000";
+
+const NULL_VET: &str = "message 0: accepted charge 0 depth 0 pointers 1 caps 0\n";
+
+const NULL_SEGMENTS: &str = "message 0: segments 1 words 1\nsegment 0: 1\nroot 0000000000000000\n";
+
+// A message of a word that is no pointer, and its line.
+const RESERVED: &str = "00000000010000000700000005000000";
+
+const RESERVED_VET: &str = "message 0: refused Reserved at 0:0 pointers 1\n";
+
+// What a run with an input that fails leaves, each time with status 3.
+struct Row {
+    command: &'static str,
+    stream: &'static str,
+    out: &'static str,
+    err: &'static str,
+}
+
+const ROWS: [Row; 8] = [
+    // at the first read
+    Row {
+        command: "vet",
+        stream: "",
+        out: "",
+        err: "capvet: message 0: Device\n",
+    },
+    Row {
+        command: "segments",
+        stream: "",
+        out: "",
+        err: "capvet: message 0: Device\n",
+    },
+    // inside the first word, behind it, and inside the contents
+    Row {
+        command: "vet",
+        stream: "00000000",
+        out: "",
+        err: "capvet: message 0: Device\n",
+    },
+    Row {
+        command: "vet",
+        stream: "0000000001000000",
+        out: "",
+        err: "capvet: message 0: Device\n",
+    },
+    Row {
+        command: "vet",
+        stream: "000000000100000000000000",
+        out: "",
+        err: "capvet: message 0: Device\n",
+    },
+    // behind a message
+    Row {
+        command: "vet",
+        stream: NULL,
+        out: NULL_VET,
+        err: "capvet: message 1: Device\n",
+    },
+    Row {
+        command: "segments",
+        stream: NULL,
+        out: NULL_SEGMENTS,
+        err: "capvet: message 1: Device\n",
+    },
+    // behind a message that is refused
+    Row {
+        command: "vet",
+        stream: RESERVED,
+        out: RESERVED_VET,
+        err: "capvet: message 1: Device\n",
+    },
+];
+
+#[test]
+fn an_input_that_fails_ends_the_run_with_status_3(rt: HostRuntime) -> Result<(), Fail> {
+    let alloc = rt.alloc();
+    for row in &ROWS {
+        let bytes = hex::decode(alloc, row.stream)?;
+        let job = job(alloc, row.command, &[])?;
+        let input = FromRead::new(Broken {
+            bytes: bytes.as_slice(),
+        });
+        let mut err = VecOut::new(alloc);
+        let (status, out) = run_job(alloc, &job, input, VecOut::new(alloc), &mut err);
+        assert_eq!(rt; out.bytes(), row.out.as_bytes(), "{}", row.stream);
+        assert_eq!(rt; err.bytes(), row.err.as_bytes(), "{}", row.stream);
+        assert_eq!(rt; status, 3, "{}", row.stream);
+    }
+    Ok(())
+}
+
+#[test]
+fn an_output_that_fails_ends_the_run_with_status_3(rt: HostRuntime) -> Result<(), Fail> {
+    let alloc = rt.alloc();
+    for (command, stream, text) in [
+        ("vet", NULL, NULL_VET),
+        ("vet", RESERVED, RESERVED_VET),
+        ("segments", NULL, NULL_SEGMENTS),
+        (
+            "vet",
+            "0000000001000000070000000500000000000000010000000000000000000000",
+            "message 0: refused Reserved at 0:0 pointers 1\nmessage 1: accepted charge 0 depth 0 pointers 1 caps 0\n",
+        ),
+    ] {
+        let bytes = hex::decode(alloc, stream)?;
+        let job = job(alloc, command, &[])?;
+        for room in 0..text.len() {
+            for tells in [false, true] {
+                let out = FromWrite::new(Full {
+                    taken: Vec::new(alloc),
+                    room,
+                    tells,
+                });
+                let input = SliceIn::new(bytes.as_slice());
+                let mut err = VecOut::new(alloc);
+                let (status, out) = run_job(alloc, &job, input, out, &mut err);
+                assert!(rt; out.has_failed());
+                let taken = out.into_inner().taken;
+                assert_eq!(rt; taken.as_slice(), &text.as_bytes()[..room]);
+                assert_eq!(rt; err.bytes(), b"capvet: output failed\n".as_slice());
+                assert_eq!(rt; status, 3, "{command} with room for {room}");
+            }
+        }
+    }
+    Ok(())
+}
+
+#[test]
+fn ends_that_were_spent_end_the_run_with_status_3(rt: HostRuntime) -> Result<(), Fail> {
+    let alloc = rt.alloc();
+    let job = job(alloc, "vet", &[])?;
+
+    let mut input = FromRead::new(Broken { bytes: &[] });
+    assert_eq!(rt; input.read(&mut [0]), Err(InFault::Device));
+    let mut err = VecOut::new(alloc);
+    let (status, out) = run_job(alloc, &job, input, VecOut::new(alloc), &mut err);
+    assert_eq!(rt; out.bytes(), b"".as_slice());
+    assert_eq!(rt; err.bytes(), b"capvet: message 0: Spent\n".as_slice());
+    assert_eq!(rt; status, 3);
+
+    let mut out = FromWrite::new(Full {
+        taken: Vec::new(alloc),
+        room: 0,
+        tells: true,
+    });
+    assert_eq!(rt; out.write(&[0]), Err(OutFault::Device));
+    let bytes = hex::decode(alloc, NULL)?;
+    let mut err = VecOut::new(alloc);
+    let (status, out) = run_job(alloc, &job, SliceIn::new(bytes.as_slice()), out, &mut err);
+    assert!(rt; out.into_inner().taken.is_empty());
+    assert_eq!(rt; err.bytes(), b"capvet: output failed\n".as_slice());
+    assert_eq!(rt; status, 3);
+    Ok(())
+}
+
+#[test]
+fn a_line_that_cannot_be_written_changes_no_status(rt: HostRuntime) -> Result<(), Fail> {
+    let alloc = rt.alloc();
+    let job = job(alloc, "vet", &[])?;
+    let line = b"capvet: message 1: Truncated at byte 20\n";
+    let cut = hex::decode(alloc, "0000000001000000000000000000000000000000")?;
+    for room in 0..line.len() {
+        let mut err = FromWrite::new(Full {
+            taken: Vec::new(alloc),
+            room,
+            tells: true,
+        });
+        let input = SliceIn::new(cut.as_slice());
+        let (status, out) = run_job(alloc, &job, input, VecOut::new(alloc), &mut err);
+        assert_eq!(rt; out.bytes(), NULL_VET.as_bytes());
+        assert_eq!(rt; err.into_inner().taken.as_slice(), &line[..room]);
+        assert_eq!(rt; status, 1, "with room for {room}");
+    }
+    for stream in ["", NULL, RESERVED] {
+        let bytes = hex::decode(alloc, stream)?;
+        let input = FromRead::new(Broken {
+            bytes: bytes.as_slice(),
+        });
+        let mut err = FromWrite::new(Full {
+            taken: Vec::new(alloc),
+            room: 0,
+            tells: true,
+        });
+        let (status, _) = run_job(alloc, &job, input, VecOut::new(alloc), &mut err);
+        assert!(rt; err.has_failed());
+        assert_eq!(rt; status, 3, "{stream}");
+    }
+    Ok(())
+}
