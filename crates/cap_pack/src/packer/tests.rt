@@ -1,8 +1,11 @@
 ghost use Rattle.std.specs.Prelude.{None};
 
 use super::*;
-use cap_words::VecOut;
+use crate::Unpacker;
+use cap_words::{FromWrite, SliceIn, VecOut, WordSource};
 use std::alloc::{AllocError, Global};
+use std::cmp::Ordering;
+use std::io::{self, ErrorKind, Write};
 use std::process::Abort;
 use std::test::Fail;
 
@@ -34,7 +37,7 @@ fn put_all<K: WordSink>(sink: &mut K, words: &[u64]) -> Result<(), SinkFault> {
     sink.finish()
 }
 
-// Packs the words, at once and a byte at a time.
+// Packs the words, at once and a byte at a time, and unpacks the text again.
 fn check<R: AllocGlobal + Abort>(rt: &R, words: &[u64], packed: &[u8]) -> Result<(), Fail> {
     let mut sink = Packer::new(VecOut::new(rt.alloc()));
     put_all(&mut sink, words)?;
@@ -45,6 +48,12 @@ fn check<R: AllocGlobal + Abort>(rt: &R, words: &[u64], packed: &[u8]) -> Result
     });
     put_all(&mut slow, words)?;
     assert_eq!(rt; slow.into_inner().taken.bytes(), packed);
+    let mut source = Unpacker::new(SliceIn::new(packed));
+    for word in words {
+        assert_eq!(rt; source.next(), Ok(Some(*word)));
+    }
+    assert_eq!(rt; source.next(), Ok(None));
+    assert_eq!(rt; source.position(), packed.len() as u64);
     Ok(())
 }
 
@@ -128,6 +137,7 @@ fn packs_each_kind_of_group(rt: HostRuntime) -> Result<(), Fail> {
     )
 }
 
+// Lists of up to 600 words: zero, of 8a bytes, and the two in turn.
 #[test]
 fn packs_long_runs(rt: HostRuntime) -> Result<(), Fail> {
     let mut zeros = Vec::new(rt.alloc());
@@ -169,6 +179,113 @@ fn goes_on_with_one_zero_byte(rt: HostRuntime) -> Result<(), Fail> {
             }
             check(&rt, &words, &packed)?;
         }
+    }
+    Ok(())
+}
+
+// A writer that takes few bytes a call, fails in one of its calls and counts them.
+#[derive(Drop)]
+struct FailingWriter {
+    taken: Vec<u8>,
+    most: usize,
+    fails_at: u32,
+    calls: u32,
+}
+
+impl Write for FailingWriter {
+    fn write(&mut self, buf: &[u8]) -> io::Result<usize> {
+        self.calls = self.calls.saturating_add(1);
+        if self.calls == self.fails_at {
+            return Err(io::Error::from(ErrorKind::Other));
+        }
+        let count = buf.len().min(self.most);
+        self.taken.extend_from_slice(&buf[..count])?;
+        Ok(count)
+    }
+
+    fn flush(&mut self) -> io::Result<()> {
+        Ok(())
+    }
+}
+
+// Words that are spelled by groups of each kind.
+const WORDS: [u64; 8] = [
+    2 << 32,
+    0,
+    0,
+    0,
+    0x8a8a_8a8a_8a8a_8a8a,
+    0x0001_0101_0101_0101,
+    0x0000_0101_0101_0101,
+    0,
+];
+
+// Their groups, each with the number of calls before the one that writes it.
+const GROUPS: [(&[u8], usize); 5] = [
+    (&[0x10, 2], 0),
+    (&[0, 2], 4),
+    (
+        &[
+            0xff, 0x8a, 0x8a, 0x8a, 0x8a, 0x8a, 0x8a, 0x8a, 0x8a, 1, 1, 1, 1, 1, 1, 1, 1, 0,
+        ],
+        6,
+    ),
+    (&[0x3f, 1, 1, 1, 1, 1, 1], 6),
+    (&[0, 0], 8),
+];
+
+// What a sink answers to a call, where the call with this number fails.
+fn answer(call: usize, fails: usize) -> Result<(), SinkFault> {
+    match call.cmp(&fails) {
+        Ordering::Less => Ok(()),
+        Ordering::Equal => Err(SinkFault::Device),
+        Ordering::Greater => Err(SinkFault::Spent),
+    }
+}
+
+// Packs the words into a writer that fails in one of its calls, if any. The sink then tells the
+// fault in this call of its own, and has its output called no more. The writer took these bytes.
+fn check_fault<R: AllocGlobal + Abort>(
+    rt: &R,
+    most: usize,
+    fails_at: u32,
+    call: usize,
+    taken: &[u8],
+) -> Result<(), Fail> {
+    let mut sink = Packer::new(FromWrite::new(FailingWriter {
+        taken: Vec::new(rt.alloc()),
+        most,
+        fails_at,
+        calls: 0,
+    }));
+    for (i, word) in WORDS.iter().enumerate() {
+        assert_eq!(rt; sink.put(*word), answer(i, call));
+    }
+    assert_eq!(rt; sink.finish(), answer(WORDS.len(), call));
+    assert_eq!(rt; sink.put(0), Err(SinkFault::Spent));
+    assert_eq!(rt; sink.finish(), Err(SinkFault::Spent));
+    let writer = sink.into_inner().into_inner();
+    if fails_at > 0 {
+        assert_eq!(rt; writer.calls, fails_at);
+    }
+    assert_eq!(rt; writer.taken.as_slice(), taken);
+    Ok(())
+}
+
+// The output fails in each of its calls in turn, between groups and inside them.
+#[test]
+fn an_output_that_fails_in_any_call(rt: HostRuntime) -> Result<(), Fail> {
+    for most in [1usize, 3, 9, 64] {
+        let mut taken = Vec::new(rt.alloc());
+        let mut fails_at = 0u32;
+        for (group, call) in GROUPS {
+            for part in group.chunks(most.max(1)) {
+                fails_at = fails_at.saturating_add(1);
+                check_fault(&rt, most, fails_at, call, &taken)?;
+                taken.extend_from_slice(part)?;
+            }
+        }
+        check_fault(&rt, most, 0, WORDS.len() + 1, &taken)?;
     }
     Ok(())
 }
