@@ -1,3 +1,4 @@
+pub mod Copying
 pub mod Digits
 pub mod Going
 pub mod Numbers

@@ -1,4 +1,6 @@
+pub mod Copying
 pub mod Faults
+pub mod Putting
 pub mod Running
 pub mod Streams
 pub mod Telling

@@ -1,5 +1,7 @@
-//! The engines: each reads the messages of a source, and writes what is asked about each of them.
+//! The engines: each reads the messages of a source and writes what is asked about each of them, or
+//! copies the words of a source.
 
+pub mod copy;
 pub mod segments;
 pub(crate) mod stream;
 pub mod vet;

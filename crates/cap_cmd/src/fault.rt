@@ -1,7 +1,7 @@
-//! Why an engine ended before its stream did.
+//! Why an engine ended before its input did.
 
 use cap_frame::FrameFault;
-use cap_words::OutFault;
+use cap_words::{OutFault, SourceFault};
 use thiserror::Error;
 
 /// Why an engine ended before its stream did.
@@ -23,5 +23,19 @@ pub enum Cause {
     /// No message could be read.
     Frame(FrameFault),
     /// The output didn't take the text. It took a beginning of it.
+    Output(OutFault),
+}
+
+/// Why a copy of words ended before its source did.
+#[derive(Clone, Copy, Debug, PartialEq, Eq, Drop, Error)]
+pub enum CopyFault {
+    /// One more word was read than may be copied. Those before it were put, and the sink finished.
+    #[error("too many words")]
+    TooManyWords,
+    /// The source answered this. The words before it were put, and the sink finished.
+    #[error("source: {0:?}")]
+    Source(SourceFault),
+    /// The output didn't take the words. What it took is a beginning of their text.
+    #[error("output: {0:?}")]
     Output(OutFault),
 }

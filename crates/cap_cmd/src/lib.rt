@@ -16,8 +16,9 @@ pub mod texts;
 
 pub use cap_vet::Limits;
 pub use command_line::read_job;
+pub use engines::copy::{run_pack, run_unpack};
 pub use engines::segments::run_segments;
 pub use engines::vet::run_vet;
-pub use fault::{Cause, RunFault};
+pub use fault::{Cause, CopyFault, RunFault};
 pub use job::{Job, JobFault, Task, run_job};
 pub use settings::{Outcome, Settings};

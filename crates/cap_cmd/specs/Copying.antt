@@ -1,0 +1,101 @@
+-- How a copy of words ends. gs and gk have the members of the source's and of the sink's type.
+use Rattle.std.specs.Prelude.{ℕ, ◌≡◌, ◌≤◌, ◌⊎◌, true, false, List, [], ◌∷◌, ◌++◌, length, Some, OnSome, Result, Ok, Err}
+use Rattle.cap_words.specs.Ends.{Works}
+use Rattle.cap_words.specs.Sinks.{Begins, StoppedPutting, WasFinished, WasPut, sink_fault_of}
+use Rattle.cap_words.specs.declared.ends.OutFault.{OutFault}
+use Rattle.cap_words.specs.declared.sources.SourceFault.{SourceFault}
+use Rattle.cap_words.specs.declared.sources.SourceFault.TheVariants.{Truncated, Device, Spent}
+use Rattle.cap_words.specs.declared.sources.WordSource as source
+use Rattle.cap_words.specs.declared.sinks.WordSink as sink
+use Rattle.cap_frame.specs.Putting.{Blames}
+use Rattle.cap_frame.specs.Taking.{Breaks, Refuses, Takes}
+use Rattle.cap_cmd.specs.Streams.{EndsStream}
+use Rattle.cap_cmd.specs.declared.fault.CopyFault.{CopyFault}
+use Rattle.cap_cmd.specs.declared.fault.CopyFault.TheVariants.{TooManyWords, Source, Output}
+
+module _ {S : Type 0} (gs : source.Ghosts S) where
+  -- These words were read, and no fault came.
+  pub record Gives (old new : S) (own : List ℕ) : Type 0 where
+    pub takes : Takes gs old new own
+    pub spent : gs.spent new ≡ gs.spent old
+    pub failures : gs.failures new ≡ gs.failures old
+
+  -- There were no more words, and the input ended at this byte, inside a word.
+  pub record IsCutAt (old new : S) (byte : ℕ) : Type 0 where
+    pub none : OnSome (gs.words old) ((gs.words old ≡ Some []) × (gs.is_cut old ≡ true) × (gs.places old ≡ byte ∷ []))
+    pub place : byte ≡ gs.place new
+    pub usable : gs.spent old ≡ false
+    pub none_failed : gs.failures new ≡ gs.failures old
+
+  -- why there was no next word
+  abbrev pub GivesNone : S → S → SourceFault → Type 0
+  GivesNone old new (Truncated byte) = IsCutAt old new byte
+  GivesNone old new Device = Breaks gs old new
+  GivesNone old new Spent = Refuses gs old new
+
+  -- why no more words were read: the input ended, a fault came, or it was one too many
+  abbrev pub StopsGiving : S → S → Type 0
+  StopsGiving old new = EndsStream gs old new ⊎ (((fault : SourceFault) × GivesNone old new fault) ⊎ ((word : ℕ) × Gives old new (word ∷ [])))
+
+module _ {K : Type 0} (gk : sink.Ghosts K) where
+  -- These words were put, and no fault came.
+  pub record Fills (old new : K) (own : List ℕ) : Type 0 where
+    pub put : WasPut gk.text old new own
+    pub closed : gk.closed new ≡ gk.closed old
+    pub spent : gk.spent new ≡ gk.spent old
+    pub failures : gk.failures new ≡ gk.failures old
+
+  -- Exactly these words were put, and the sink was finished.
+  pub record Finishes (old new : K) (own : List ℕ) : Type 0 where
+    pub finished : WasFinished gk.text gk.taken old new own
+    pub was_open : gk.closed old ≡ false
+    pub closed : gk.closed new ≡ true
+    pub failures : gk.failures new ≡ gk.failures old
+
+  -- The output answered this fault, and what it took begins the text of these words.
+  pub record Spoils (old new : K) (own : List ℕ) (fault : OutFault) : Type 0 where
+    pub blames : Blames gk old new (sink_fault_of fault)
+    pub closed : gk.closed new ≡ true
+    pub part : Begins (gk.text old own) (gk.taken new)
+
+module _ {S K : Type 0} (gs : source.Ghosts S) (gk : sink.Ghosts K) where
+  -- The source was read to its end, and its words are exactly those that were put.
+  pub record CopiesAll (most : ℕ) (old new : S) (before after : K) (own : List ℕ) : Type 0 where
+    pub few : length own ≤ most
+    pub all : OnSome (gs.words old) ((gs.words old ≡ Some own) × (gs.is_cut old ≡ false))
+    pub ended : gs.ended new ≡ true
+    pub works : Works (gs.spent old) (gs.spent new) (gs.failures old) (gs.failures new)
+    pub finishes : Finishes gk before after own
+
+  -- One word more than the most was read, and those before it were put.
+  pub record CopiesMost (most : ℕ) (old new : S) (before after : K) : Type 0 where
+    pub own : List ℕ
+    pub word : ℕ
+    pub many : length own ≡ most
+    pub gives : Gives gs old new (own ++ word ∷ [])
+    pub finishes : Finishes gk before after own
+
+  -- The source answered this fault behind the words that were put.
+  pub record CopiesUntil (most : ℕ) (old new : S) (before after : K) (fault : SourceFault) : Type 0 where
+    pub own : List ℕ
+    pub mid : S
+    pub few : length own ≤ most
+    pub gives : Gives gs old mid own
+    pub none : GivesNone gs mid new fault
+    pub finishes : Finishes gk before after own
+
+  -- The output failed at the last of the words that were read, or, when there were no more of them, as the sink was finished.
+  pub record StopsCopying (most : ℕ) (old new : S) (before after : K) (fault : OutFault) : Type 0 where
+    pub own : List ℕ
+    pub mid : S
+    pub few : length own ≤ most
+    pub gives : Gives gs old mid own
+    pub spoils : Spoils gk before after own fault
+    pub at : ((mid ≡ new) × StoppedPutting gk.text gk.taken before after own) ⊎ StopsGiving gs mid new
+
+  -- what each answer of a copy of at most so many words says
+  abbrev pub Copied : ℕ → S → S → K → K → Result ℕ CopyFault → Type 0
+  Copied most old new before after (Ok n) = (own : List ℕ) × (n ≡ length own) × CopiesAll most old new before after own
+  Copied most old new before after (Err TooManyWords) = CopiesMost most old new before after
+  Copied most old new before after (Err (Source fault)) = CopiesUntil most old new before after fault
+  Copied most old new before after (Err (Output fault)) = StopsCopying most old new before after fault
