@@ -1,10 +1,14 @@
 -- The lines of faults on standard error, and the exit statuses.
 use Rattle.std.specs.Prelude.{ℕ, ◌==◌, ◌&&◌, if◌then◌else◌, List, [], ◌∷◌, ◌++◌, codes, Result, Ok, Err}
 use Rattle.cap_spec.specs.Texts.{then_number}
+use Rattle.cap_words.specs.declared.sources.SourceFault.{SourceFault}
+use Rattle.cap_words.specs.declared.sources.SourceFault.TheVariants.{Truncated as source_truncated, Device as source_device, Spent as source_spent}
 use Rattle.cap_frame.specs.declared.fault.FrameFault.{FrameFault}
 use Rattle.cap_frame.specs.declared.fault.FrameFault.TheVariants.{TooManySegments, TooLarge, Truncated, Device, Memory, Spent}
 use Rattle.cap_cmd.specs.declared.fault.Cause.{Cause}
 use Rattle.cap_cmd.specs.declared.fault.Cause.TheVariants.{TooManyMessages, Frame, Output}
+use Rattle.cap_cmd.specs.declared.fault.CopyFault.{CopyFault}
+use Rattle.cap_cmd.specs.declared.fault.CopyFault.TheVariants.{TooManyWords, Source as copy_source, Output as copy_output}
 use Rattle.cap_cmd.specs.declared.fault.RunFault.{RunFault}
 use Rattle.cap_cmd.specs.declared.settings.Outcome.{Outcome}
 
@@ -33,6 +37,22 @@ fault_line n TooManyMessages = message_line n (cause_text TooManyMessages)
 fault_line n (Frame fault) = message_line n (cause_text (Frame fault))
 fault_line n (Output fault) = codes "capvet: output failed" ++ 10 ∷ []
 
+-- what is said of a source that gave no word
+abbrev pub source_fault_text : SourceFault → List ℕ
+source_fault_text (source_truncated byte) = codes "Truncated at byte" ++ then_number byte
+source_fault_text source_device = codes "Device"
+source_fault_text source_spent = codes "Spent"
+
+-- what is said of a copy of words that ended early
+abbrev pub copy_fault_text : CopyFault → List ℕ
+copy_fault_text TooManyWords = codes "TooManyWords"
+copy_fault_text (copy_source fault) = source_fault_text fault
+copy_fault_text (copy_output fault) = codes "output failed"
+
+-- the line of such a fault
+abbrev pub copy_fault_line : CopyFault → List ℕ
+copy_fault_line fault = codes "capvet: " ++ copy_fault_text fault ++ 10 ∷ []
+
 -- the status of a message that couldn't be read
 abbrev pub frame_status : FrameFault → ℕ
 frame_status (TooManySegments count) = 1
@@ -54,3 +74,16 @@ outcome_status o = if (o.refused == 0) && (o.noncanonical == 0) then 0 else 1
 abbrev pub run_status : Result Outcome RunFault → ℕ
 run_status (Ok outcome) = outcome_status outcome
 run_status (Err fault) = cause_status fault.cause
+
+-- the status of a source that gave no word
+abbrev pub source_status : SourceFault → ℕ
+source_status (source_truncated byte) = 1
+source_status source_device = 3
+source_status source_spent = 3
+
+-- 0 where all words were copied
+abbrev pub copy_status : Result ℕ CopyFault → ℕ
+copy_status (Ok words) = 0
+copy_status (Err TooManyWords) = 1
+copy_status (Err (copy_source fault)) = source_status fault
+copy_status (Err (copy_output fault)) = 3

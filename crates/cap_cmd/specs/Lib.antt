@@ -1,5 +1,6 @@
 pub mod Copying
 pub mod Faults
+pub mod Jobs
 pub mod Putting
 pub mod Running
 pub mod Streams

@@ -1,10 +1,6 @@
 -- How an engine ends, by what it did to its source and its output. gs and go have the members of their types.
-use Rattle.std.specs.Prelude.{ℕ, ◌≡◌, ◌≤◌, ◌<◌, true, false, Bool, List, [], ◌∷◌, ◌++◌, length, sum, Option, Some, OnSome, unwrap_or}
-use Rattle.std.specs.List.{AllByRecursion}
-use Rattle.std.specs.Option.{option_map}
+use Rattle.std.specs.Prelude.{ℕ, ◌≡◌, ◌≤◌, ◌<◌, true, Bool, List, [], ◌∷◌, ◌++◌, length}
 use Rattle.std.specs.Io.KnownBytes.{Appends}
-use Rattle.cap_spec.specs.Frames.{Stream, sizes_of}
-use Rattle.cap_spec.specs.Plain.{plain_is_cut, plain_words}
 use Rattle.cap_words.specs.Ends.{DeviceFails, Failures, GrowthFails, WasSpent}
 use Rattle.cap_words.specs.declared.ends.ByteOut as output
 use Rattle.cap_words.specs.declared.ends.OutFault.{OutFault}
@@ -39,16 +35,6 @@ module _ {O : Type 0} (g : output.Ghosts O) where
     pub rest : List ℕ
     pub whole : text ≡ part ++ rest
     pub appended : Appends (g.written old) (g.written new) (done ++ part)
-
--- The bytes spell words that are frames of messages, each within the limit, and no word is cut short. The text of their segments was written.
-pub record ShowsInput (bytes before after : Option (List ℕ)) (limit most : ℕ) : Type 0 where
-  pub own : List ℕ
-  pub words : OnSome bytes ((option_map plain_words bytes ≡ Some own) × (plain_is_cut (unwrap_or bytes []) ≡ false))
-  pub ms : List (List (List ℕ))
-  pub stream : Stream own ms
-  pub within : AllByRecursion (λ m. sum (sizes_of m) ≤ limit) ms
-  pub many : length ms ≤ most
-  pub appended : Appends before after (segments_texts ms)
 
 module _ {S : Type 0} (g : source.Ghosts S) where
   -- why a stream didn't end where it had to

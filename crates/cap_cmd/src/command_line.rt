@@ -7,7 +7,7 @@ use crate::settings::Settings;
 use cap_frame::SizeLimit;
 use cap_vet::Limits;
 use clap::error::ErrorKind;
-use clap::{Arg, ArgMatches, Command, Error, value_parser};
+use clap::{Arg, ArgAction, ArgMatches, Command, Error, value_parser};
 use std::alloc::{AllocError, Global};
 
 /// The most words of a message, where no option says it.
@@ -18,6 +18,14 @@ const DEFAULT_WORDS: u64 = 8388608;
 
 /// The deepest level of an object, where no option says it.
 const DEFAULT_DEPTH: u32 = 64;
+
+// The option that tells of packed input.
+fn packed_option<'a>(alloc: Global) -> Arg<'a> {
+    Arg::new(alloc, "packed")
+        .long("packed")
+        .help("The input is packed")
+        .action(ArgAction::SetTrue)
+}
 
 // The option on the size of a message.
 fn size_option<'a>(alloc: Global) -> Arg<'a> {
@@ -60,6 +68,7 @@ fn file_argument<'a>(alloc: Global) -> Arg<'a> {
 fn segments_command<'a>(alloc: Global) -> Result<Command<'a>, AllocError> {
     Command::new(alloc, "segments")
         .about("Shows the segments of each message, their sizes and the root word")
+        .arg(packed_option(alloc))?
         .arg(size_option(alloc))?
         .arg(file_argument(alloc))
 }
@@ -68,9 +77,24 @@ fn segments_command<'a>(alloc: Global) -> Result<Command<'a>, AllocError> {
 fn vet_command<'a>(alloc: Global) -> Result<Command<'a>, AllocError> {
     Command::new(alloc, "vet")
         .about("Tells of each message whether its root denotes a tree within the limits")
+        .arg(packed_option(alloc))?
         .arg(size_option(alloc))?
         .arg(words_option(alloc))?
         .arg(depth_option(alloc))?
+        .arg(file_argument(alloc))
+}
+
+// The command that packs.
+fn pack_command<'a>(alloc: Global) -> Result<Command<'a>, AllocError> {
+    Command::new(alloc, "pack")
+        .about("Packs words, whatever they mean")
+        .arg(file_argument(alloc))
+}
+
+// The command that unpacks.
+fn unpack_command<'a>(alloc: Global) -> Result<Command<'a>, AllocError> {
+    Command::new(alloc, "unpack")
+        .about("Unpacks words, whatever they mean")
         .arg(file_argument(alloc))
 }
 
@@ -80,7 +104,9 @@ fn capvet_command<'a>(alloc: Global) -> Result<Command<'a>, AllocError> {
         .about("Vets Cap'n Proto messages")
         .subcommand_required(true)
         .subcommand(segments_command(alloc)?)?
-        .subcommand(vet_command(alloc)?)
+        .subcommand(vet_command(alloc)?)?
+        .subcommand(pack_command(alloc)?)?
+        .subcommand(unpack_command(alloc)?)
 }
 
 // A mistake that the parser let through.
@@ -143,6 +169,7 @@ fn job_of(alloc: Global, task: Task, options: &ArgMatches<'_>) -> Result<Job, Jo
     };
     Ok(Job {
         task,
+        packed: options.get_flag("packed"),
         settings,
         file,
     })
@@ -162,6 +189,8 @@ pub fn read_job(alloc: Global, words: Vec<String>) -> Result<Job, JobFault>
         Ok(matches) => match matches.subcommand() {
             Some(("segments", options)) => job_of(alloc, Task::Segments, options),
             Some(("vet", options)) => job_of(alloc, Task::Vet, options),
+            Some(("pack", options)) => job_of(alloc, Task::Pack, options),
+            Some(("unpack", options)) => job_of(alloc, Task::Unpack, options),
             _ => Err(usage_fault(alloc, "error: a command is needed\n")),
         },
         Err(error) => Err(parse_fault(alloc, &error)),

@@ -9,7 +9,9 @@ pub mod command_line;
 pub mod engines;
 pub mod fault;
 pub mod job;
+pub mod running;
 pub mod settings;
+mod status;
 #[cfg(test)]
 mod tests;
 pub mod texts;
@@ -20,5 +22,6 @@ pub use engines::copy::{run_pack, run_unpack};
 pub use engines::segments::run_segments;
 pub use engines::vet::run_vet;
 pub use fault::{Cause, CopyFault, RunFault};
-pub use job::{Job, JobFault, Task, run_job};
+pub use job::{Job, JobFault, Task};
+pub use running::run_job;
 pub use settings::{Outcome, Settings};

@@ -1,9 +1,9 @@
 //! The command line, which no clause speaks of, and a run of each public call.
 
-use crate::texts::faults::fault_text;
-use crate::{Cause, Job, JobFault, Limits, RunFault, Task, read_job, run_job};
+use crate::texts::faults::{copy_fault_text, fault_text};
+use crate::{Cause, CopyFault, Job, JobFault, Limits, RunFault, Task, read_job, run_job};
 use cap_frame::FrameFault;
-use cap_words::{OutFault, SliceIn, VecOut};
+use cap_words::{OutFault, SliceIn, SourceFault, VecOut};
 use std::alloc::{AllocError, Global};
 use std::test::Fail;
 
@@ -30,10 +30,41 @@ fn reads_the_command_line(rt: HostRuntime) -> Result<(), Fail> {
         let Ok(job) = job_of(alloc, line)? else {
             return Err("a job is refused".into());
         };
-        assert!(rt; job.task == Task::Segments);
+        assert!(rt; job.task == Task::Segments && !job.packed);
         assert_eq!(rt; job.settings.size.words(), *size);
         assert_eq!(rt; job.settings.messages, 4294967295);
         assert!(rt; Limits::new(8388608, 64) == Some(job.settings.limits));
+        assert!(rt; job.file.as_ref().map(|name| name.as_str()) == *file);
+    }
+    Ok(())
+}
+
+#[test]
+fn reads_which_input_is_packed(rt: HostRuntime) -> Result<(), Fail> {
+    let alloc = rt.alloc();
+    let jobs: [(&[&str], Task, bool, Option<&str>); 6] = [
+        (
+            &["capvet", "segments", "--packed"],
+            Task::Segments,
+            true,
+            None,
+        ),
+        (&["capvet", "vet"], Task::Vet, false, None),
+        (
+            &["capvet", "vet", "a", "--packed"],
+            Task::Vet,
+            true,
+            Some("a"),
+        ),
+        (&["capvet", "pack"], Task::Pack, false, None),
+        (&["capvet", "pack", "a"], Task::Pack, false, Some("a")),
+        (&["capvet", "unpack", "a"], Task::Unpack, false, Some("a")),
+    ];
+    for (line, task, packed, file) in &jobs {
+        let Ok(job) = job_of(alloc, line)? else {
+            return Err("a job is refused".into());
+        };
+        assert!(rt; job.task == *task && job.packed == *packed);
         assert!(rt; job.file.as_ref().map(|name| name.as_str()) == *file);
     }
     Ok(())
@@ -55,7 +86,7 @@ fn refuses_and_helps(rt: HostRuntime) -> Result<(), Fail> {
         };
         assert!(rt; text.contains("Usage: capvet"));
     }
-    let mistakes: [(&[&str], &str); 7] = [
+    let mistakes: [(&[&str], &str); 9] = [
         (
             &["capvet"],
             "error: 'capvet' requires a subcommand but one was not provided",
@@ -81,6 +112,14 @@ fn refuses_and_helps(rt: HostRuntime) -> Result<(), Fail> {
             &["capvet", "segments", "a", "b"],
             "error: unexpected argument 'b' found",
         ),
+        (
+            &["capvet", "pack", "--packed"],
+            "error: unexpected argument '--packed' found",
+        ),
+        (
+            &["capvet", "unpack", "--size", "1"],
+            "error: unexpected argument '--size' found",
+        ),
     ];
     for (line, part) in &mistakes {
         let Err(JobFault::Usage { text }) = job_of(alloc, line)? else {
@@ -95,7 +134,7 @@ fn refuses_and_helps(rt: HostRuntime) -> Result<(), Fail> {
 fn does_a_job(rt: HostRuntime) -> Result<(), Fail> {
     let alloc = rt.alloc();
     let two = b"\0\0\0\0\0\0\0\0\0\0\0\0\x02\0\0\0\0\0\0\0\x01\0\0\0\x2a\0\0\0\0\0\0\0\0\0\0\0";
-    let runs: [(&[&str], &[u8], u8, &str, &str); 4] = [
+    let runs: [(&[&str], &[u8], u8, &str, &str); 9] = [
         (
             &["capvet", "segments"],
             &two[..32],
@@ -118,6 +157,41 @@ fn does_a_job(rt: HostRuntime) -> Result<(), Fail> {
             "capvet: message 0: TooLarge 2\n",
         ),
         (&["capvet", "segments"], &two[..0], 0, "", ""),
+        (
+            &["capvet", "vet"],
+            &two[8..32],
+            0,
+            "message 0: accepted charge 1 depth 1 pointers 1 caps 0\n",
+            "",
+        ),
+        (
+            &["capvet", "vet", "--packed"],
+            b"\x10\x02\x10\x01\x01\x2a",
+            0,
+            "message 0: accepted charge 1 depth 1 pointers 1 caps 0\n",
+            "",
+        ),
+        (
+            &["capvet", "pack"],
+            &two[8..32],
+            0,
+            "\x10\x02\x10\x01\x01\x2a",
+            "",
+        ),
+        (
+            &["capvet", "unpack"],
+            b"\x10\x02\x10\x01\x01\x2a",
+            0,
+            "\0\0\0\0\x02\0\0\0\0\0\0\0\x01\0\0\0\x2a\0\0\0\0\0\0\0",
+            "",
+        ),
+        (
+            &["capvet", "pack"],
+            &two[8..30],
+            1,
+            "\x10\x02\x10\x01",
+            "capvet: Truncated at byte 22\n",
+        ),
     ];
     for (line, input, status, output, errors) in &runs {
         let Ok(job) = job_of(alloc, line)? else {
@@ -179,6 +253,27 @@ fn tells_the_faults(rt: HostRuntime) -> Result<(), Fail> {
             cause: *cause,
         });
         assert!(rt; line.as_slice() == text.as_bytes());
+    }
+    Ok(())
+}
+
+#[test]
+fn tells_the_faults_of_copies(rt: HostRuntime) -> Result<(), Fail> {
+    let faults: [(CopyFault, &str); 5] = [
+        (CopyFault::TooManyWords, "capvet: TooManyWords\n"),
+        (
+            CopyFault::Source(SourceFault::Truncated { byte: 22 }),
+            "capvet: Truncated at byte 22\n",
+        ),
+        (CopyFault::Source(SourceFault::Device), "capvet: Device\n"),
+        (CopyFault::Source(SourceFault::Spent), "capvet: Spent\n"),
+        (
+            CopyFault::Output(OutFault::Device),
+            "capvet: output failed\n",
+        ),
+    ];
+    for (fault, text) in &faults {
+        assert!(rt; copy_fault_text(fault).as_slice() == text.as_bytes());
     }
     Ok(())
 }

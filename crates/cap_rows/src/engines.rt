@@ -9,9 +9,9 @@ use std::test::Fail;
 
 // A reader that gives at most so many bytes a call.
 #[derive(Drop)]
-struct Sips<'a> {
-    bytes: &'a [u8],
-    most: usize,
+pub(crate) struct Sips<'a> {
+    pub(crate) bytes: &'a [u8],
+    pub(crate) most: usize,
 }
 
 impl Read for Sips<'_> {
@@ -24,7 +24,7 @@ impl Read for Sips<'_> {
     }
 }
 
-fn settings(messages: u32) -> Option<Settings> {
+pub(crate) fn settings(messages: u32) -> Option<Settings> {
     Some(Settings {
         limits: Limits::new(8388608, 64)?,
         size: SizeLimit::new(8388608)?,

@@ -1,14 +1,15 @@
 //! The lines of faults.
 
 ghost use Rattle.arrayvec.specs.ArrayVec.{array_vec_len};
-ghost use Rattle.cap_cmd.specs.Faults.{cause_text, fault_line, frame_fault_text};
+ghost use Rattle.cap_cmd.specs.Faults.{cause_text, copy_fault_line, copy_fault_text as copy_text, fault_line, frame_fault_text, source_fault_text};
 ghost use Rattle.cap_spec.specs.Texts.{then_number};
 ghost use Rattle.std.specs.Prelude.{◌+◌, ◌++◌, ◌≡◌, ◌≤◌, ◌∷◌, [], codes, decimal, length};
 
-use crate::fault::{Cause, RunFault};
+use crate::fault::{Cause, CopyFault, RunFault};
 use crate::texts::line::{LINE, push_named, push_number, push_text};
 use arrayvec::ArrayVec;
 use cap_frame::FrameFault;
+use cap_words::SourceFault;
 
 /// Appends what is said of a message that couldn't be read.
 fn push_frame_fault(line: &mut ArrayVec<u8, LINE>, fault: FrameFault)
@@ -52,6 +53,43 @@ pub(crate) fn fault_text(fault: &RunFault) -> ArrayVec<u8, LINE>
     push_number(&mut line, u64::from(fault.message));
     push_text(&mut line, b": ");
     push_cause(&mut line, fault.cause);
+    push_text(&mut line, b"\n");
+    line
+}
+
+/// Appends what is said of a source that gave no word.
+fn push_source_fault(line: &mut ArrayVec<u8, LINE>, fault: SourceFault)
+    requires { array_vec_len line.old + 40 ≤ 192 }
+    ensures items { line.new.items ≡ line.old.items ++ source_fault_text fault }
+    ensures few { array_vec_len line.new ≤ array_vec_len line.old + 40 }
+{
+    match fault {
+        SourceFault::Truncated { byte } => push_named(line, b"Truncated at byte ", byte),
+        SourceFault::Device => push_text(line, b"Device"),
+        SourceFault::Spent => push_text(line, b"Spent"),
+    }
+}
+
+/// Appends what is said of a copy of words that ended early.
+fn push_copy_fault(line: &mut ArrayVec<u8, LINE>, fault: CopyFault)
+    requires { array_vec_len line.old + 40 ≤ 192 }
+    ensures items { line.new.items ≡ line.old.items ++ copy_text fault }
+    ensures few { array_vec_len line.new ≤ array_vec_len line.old + 40 }
+{
+    match fault {
+        CopyFault::TooManyWords => push_text(line, b"TooManyWords"),
+        CopyFault::Source(fault) => push_source_fault(line, fault),
+        CopyFault::Output(_) => push_text(line, b"output failed"),
+    }
+}
+
+/// The line of a fault of a copy.
+pub(crate) fn copy_fault_text(fault: &CopyFault) -> ArrayVec<u8, LINE>
+    ensures { result.items ≡ copy_fault_line fault.now }
+{
+    let mut line = ArrayVec::new();
+    push_text(&mut line, b"capvet: ");
+    push_copy_fault(&mut line, *fault);
     push_text(&mut line, b"\n");
     line
 }

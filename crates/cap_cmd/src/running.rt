@@ -1,0 +1,127 @@
+//! Doing a job: its engine is run over an input, an output and an output for faults.
+
+ghost use Rattle.cap_cmd.specs.Faults.{copy_status, run_status};
+ghost use Rattle.cap_cmd.specs.Jobs.{CopiesInput, ShowsInput, VetsInput, input_is_cut, input_words, is_packed};
+ghost use Rattle.cap_frame.specs.Limit.{limit_of};
+ghost use Rattle.cap_spec.specs.Packing.{pack_text};
+ghost use Rattle.cap_spec.specs.Plain.{plain_text};
+ghost use Rattle.cap_vet.specs.Limits.{depth_of, words_of};
+ghost use Rattle.std.specs.Prelude.{◌^◌, ◌≡◌, false, true};
+
+use crate::engines::copy::{run_pack, run_unpack};
+use crate::engines::segments::run_segments;
+use crate::engines::vet::run_vet;
+use crate::fault::{CopyFault, RunFault};
+use crate::job::{Job, Task};
+use crate::settings::Outcome;
+use crate::status::{stream_status, words_status};
+use crate::texts::faults::{copy_fault_text, fault_text};
+use crate::texts::output::write_bytes;
+use cap_pack::{Packer, Unpacker};
+use cap_words::{ByteIn, ByteOut, PlainSink, PlainWords, WordSource};
+use std::alloc::Global;
+
+/// The most words that are packed or unpacked.
+const MOST_WORDS: u64 = 1099511627776;
+
+/// Whether the input of a job is packed.
+fn input_is_packed(job: &Job) -> bool
+    ensures { result ≡ is_packed job.now.task job.now.packed }
+{
+    match job.task {
+        Task::Segments | Task::Vet => job.packed,
+        Task::Pack => false,
+        Task::Unpack => true,
+    }
+}
+
+/// Writes the line of a fault at a message, if there is one, and answers the status.
+fn told<E: ByteOut>(err: &mut E, answer: &Result<Outcome, RunFault>) -> u8
+    ensures { result ≡ run_status answer.now }
+{
+    if let Err(fault) = answer {
+        let _ = write_bytes(err, fault_text(fault).as_slice());
+    }
+    stream_status(answer)
+}
+
+/// Writes the line of a fault of a copy, if there is one, and answers the status.
+fn told_copy<E: ByteOut>(err: &mut E, answer: &Result<u64, CopyFault>) -> u8
+    ensures { result ≡ copy_status answer.now }
+{
+    if let Err(fault) = answer {
+        let _ = write_bytes(err, copy_fault_text(fault).as_slice());
+    }
+    words_status(answer)
+}
+
+/// Does a job over the words of its input.
+fn run_over<S: WordSource + Drop, O: ByteOut, E: ByteOut>(
+    alloc: Global,
+    job: &Job,
+    source: S,
+    out: O,
+    err: &mut E,
+) -> (u8, O)
+    ensures segments { job.now.task ≡ Task.Segments → result.0 ≡ 0 →
+        ShowsInput (S.words source) (S.is_cut source) (O.written out) (O.written result.1) (limit_of job.now.settings.size) job.now.settings.messages }
+    ensures vet { job.now.task ≡ Task.Vet → result.0 ≡ 0 →
+        VetsInput (S.words source) (S.is_cut source) (O.written out) (O.written result.1) (words_of job.now.settings.limits) (depth_of job.now.settings.limits)
+        (limit_of job.now.settings.size) job.now.settings.messages }
+    ensures pack { job.now.task ≡ Task.Pack → result.0 ≡ 0 → CopiesInput (S.words source) (S.is_cut source) (O.written out) (O.written result.1) pack_text (2 ^ 40) }
+    ensures unpack { job.now.task ≡ Task.Unpack → result.0 ≡ 0 → CopiesInput (S.words source) (S.is_cut source) (O.written out) (O.written result.1) plain_text (2 ^ 40) }
+{
+    let mut source = source;
+    let mut out = out;
+    match job.task {
+        Task::Segments => {
+            let answer = run_segments(alloc, &mut source, &mut out, &job.settings);
+            (told(err, &answer), out)
+        }
+        Task::Vet => {
+            let answer = run_vet(alloc, &mut source, &mut out, &job.settings);
+            (told(err, &answer), out)
+        }
+        Task::Pack => {
+            let mut sink = Packer::new(out);
+            let answer = run_pack(&mut source, &mut sink, MOST_WORDS);
+            (told_copy(err, &answer), sink.into_inner())
+        }
+        Task::Unpack => {
+            let mut sink = PlainSink::new(out);
+            let answer = run_unpack(&mut source, &mut sink, MOST_WORDS);
+            (told_copy(err, &answer), sink.into_inner())
+        }
+    }
+}
+
+/// Does a job: reads the input, writes to the output, and writes the line of a fault to `err`. It
+/// answers the exit status and the output. A line that can't be written changes no status.
+///
+/// The status is 0 where every message was accepted, or all words were copied; 1 where a message was
+/// refused, or the input is no stream of messages within the limits, or no packed text; and 3 where
+/// a device failed, an end was spent before, or a growth was refused.
+pub fn run_job<I: ByteIn + Drop, O: ByteOut, E: ByteOut>(
+    alloc: Global,
+    job: &Job,
+    input: I,
+    out: O,
+    err: &mut E,
+) -> (u8, O)
+    ensures segments { job.now.task ≡ Task.Segments → result.0 ≡ 0 →
+        ShowsInput (input_words job.now.packed (I.to_come input)) (input_is_cut job.now.packed (I.to_come input)) (O.written out) (O.written result.1)
+        (limit_of job.now.settings.size) job.now.settings.messages }
+    ensures vet { job.now.task ≡ Task.Vet → result.0 ≡ 0 →
+        VetsInput (input_words job.now.packed (I.to_come input)) (input_is_cut job.now.packed (I.to_come input)) (O.written out) (O.written result.1)
+        (words_of job.now.settings.limits) (depth_of job.now.settings.limits) (limit_of job.now.settings.size) job.now.settings.messages }
+    ensures pack { job.now.task ≡ Task.Pack → result.0 ≡ 0 →
+        CopiesInput (input_words false (I.to_come input)) (input_is_cut false (I.to_come input)) (O.written out) (O.written result.1) pack_text (2 ^ 40) }
+    ensures unpack { job.now.task ≡ Task.Unpack → result.0 ≡ 0 →
+        CopiesInput (input_words true (I.to_come input)) (input_is_cut true (I.to_come input)) (O.written out) (O.written result.1) plain_text (2 ^ 40) }
+{
+    if input_is_packed(job) {
+        run_over(alloc, job, Unpacker::new(input), out, err)
+    } else {
+        run_over(alloc, job, PlainWords::new(input), out, err)
+    }
+}

@@ -1,0 +1,58 @@
+//! The exit statuses: 0 where all is well, 1 for what the input is, and 3 for a device or for want of
+//! memory.
+
+ghost use Rattle.cap_cmd.specs.Faults.{cause_status, copy_status, outcome_status, run_status};
+ghost use Rattle.std.specs.Prelude.{◌≡◌};
+
+use crate::fault::{Cause, CopyFault, RunFault};
+use crate::settings::Outcome;
+use cap_frame::FrameFault;
+use cap_words::SourceFault;
+
+/// The exit status of a fault at a message.
+fn fault_status(cause: Cause) -> u8
+    ensures { result ≡ cause_status cause }
+{
+    match cause {
+        Cause::TooManyMessages => 1,
+        Cause::Frame(fault) => match fault {
+            FrameFault::TooManySegments { count: _ } => 1,
+            FrameFault::TooLarge { words: _ } => 1,
+            FrameFault::Truncated { byte: _ } => 1,
+            FrameFault::Device => 3,
+            FrameFault::Memory => 3,
+            FrameFault::Spent => 3,
+        },
+        Cause::Output(_) => 3,
+    }
+}
+
+/// The exit status of an engine's answer: 0 where every message was accepted.
+pub(crate) fn stream_status(answer: &Result<Outcome, RunFault>) -> u8
+    ensures { result ≡ run_status answer.now }
+{
+    match answer {
+        Ok(outcome) => if outcome.refused == 0 && outcome.noncanonical == 0 {
+            0
+        } else {
+            1
+        },
+        Err(fault) => fault_status(fault.cause),
+    }
+}
+
+/// The exit status of a copy's answer: 0 where all words were copied.
+pub(crate) fn words_status(answer: &Result<u64, CopyFault>) -> u8
+    ensures { result ≡ copy_status answer.now }
+{
+    match answer {
+        Ok(_) => 0,
+        Err(CopyFault::TooManyWords) => 1,
+        Err(CopyFault::Source(fault)) => match fault {
+            SourceFault::Truncated { byte: _ } => 1,
+            SourceFault::Device => 3,
+            SourceFault::Spent => 3,
+        },
+        Err(CopyFault::Output(_)) => 3,
+    }
+}

@@ -1,0 +1,234 @@
+//! Packing and unpacking, of whole inputs and of packed streams of messages.
+
+use crate::engines::{Sips, settings};
+use crate::whole::run;
+use cap_cmd::{CopyFault, run_pack, run_unpack, run_vet};
+use cap_pack::{Packer, Unpacker};
+use cap_words::{
+    FromRead, FromWrite, OutFault, PlainSink, PlainWords, SliceIn, SourceFault, VecOut,
+};
+use std::alloc::Global;
+use std::io;
+use std::io::{ErrorKind, Write};
+use std::test::Fail;
+
+// The most words that the program copies.
+const MOST: u64 = 1099511627776;
+
+// Eight bytes without a zero, and three times as many.
+const FULL: &str = "8a8a8a8a8a8a8a8a";
+
+const THREE: &str = "8a8a8a8a8a8a8a8a8a8a8a8a8a8a8a8a8a8a8a8a8a8a8a8a";
+
+// What these bytes are packed to, read a byte at a time.
+fn packed(alloc: Global, bytes: &[u8]) -> Result<VecOut, Fail> {
+    let mut source = PlainWords::new(FromRead::new(Sips { bytes, most: 1 }));
+    let mut sink = Packer::new(VecOut::new(alloc));
+    match run_pack(&mut source, &mut sink, MOST) {
+        Ok(words) if words == bytes.len() as u64 / 8 => Ok(sink.into_inner()),
+        _ => Err("no copy".into()),
+    }
+}
+
+// What these bytes are unpacked to, read a byte at a time.
+fn unpacked(alloc: Global, bytes: &[u8]) -> Result<VecOut, Fail> {
+    let mut source = Unpacker::new(FromRead::new(Sips { bytes, most: 1 }));
+    let mut sink = PlainSink::new(VecOut::new(alloc));
+    match run_unpack(&mut source, &mut sink, MOST) {
+        Ok(_) => Ok(sink.into_inner()),
+        Err(_) => Err("no copy".into()),
+    }
+}
+
+#[test]
+fn packs_and_unpacks(rt: HostRuntime) -> Result<(), Fail> {
+    let alloc = rt.alloc();
+    let mut zeros = String::new(alloc);
+    for _ in 0..257u32 {
+        zeros.push_str("0000000000000000")?;
+    }
+    let fours = format!(in alloc; "{FULL}{THREE}")?;
+    let spelled = format!(in alloc; "ff{FULL}03{THREE}")?;
+    for (plain, text) in [
+        ("0800000003000200 19000000aa010000", "51080302 3119aa01"),
+        ("", ""),
+        ("0000000000000000", "0000"),
+        (
+            "0000000000000000000000000000000000000000000000000000000000000000",
+            "0003",
+        ),
+        (fours.as_str(), spelled.as_str()),
+        (zeros.as_str(), "00ff0000"),
+        (
+            "010101010101010101000101010101010000010101010101",
+            "ff0101010101010101010100010101010101fc010101010101",
+        ),
+        (
+            "000000000200000000000000010000002a00000000000000",
+            "10021001012a",
+        ),
+        (
+            "00000000040000000000000000000200040000000100000000000000010000000700000000000000",
+            "1004400211040110010107",
+        ),
+    ] {
+        let plain = plain.replace(alloc, " ", "")?;
+        let text = text.replace(alloc, " ", "")?;
+        let there = run(alloc, "pack", &[], plain.as_str())?;
+        let back = run(alloc, "unpack", &[], text.as_str())?;
+        let plain = hex::decode(alloc, plain.as_str())?;
+        let text = hex::decode(alloc, text.as_str())?;
+        assert_eq!(rt; there.out.bytes(), text.as_slice());
+        assert_eq!(rt; back.out.bytes(), plain.as_slice());
+        for left in [&there, &back] {
+            assert_eq!(rt; left.status, 0);
+            assert!(rt; left.err.bytes().is_empty());
+        }
+        assert_eq!(rt; packed(alloc, plain.as_slice())?.bytes(), text.as_slice());
+        assert_eq!(rt; unpacked(alloc, text.as_slice())?.bytes(), plain.as_slice());
+    }
+    Ok(())
+}
+
+#[test]
+fn ends_at_a_cut_group_and_at_a_word_too_many(rt: HostRuntime) -> Result<(), Fail> {
+    let alloc = rt.alloc();
+    // two words as they are, and then half a word
+    let text = format!(in alloc; "ff{FULL}02{FULL}8a8a8a8a")?;
+    let left = run(alloc, "unpack", &[], text.as_str())?;
+    assert_eq!(rt; left.status, 1);
+    assert!(rt; left.out.bytes() == [0x8a; 16].as_slice());
+    assert_eq!(rt;
+        left.err.bytes(),
+        b"capvet: Truncated at byte 22\n".as_slice()
+    );
+    let bytes = hex::decode(alloc, text.as_str())?;
+    for most in [1, 22] {
+        let mut source = Unpacker::new(FromRead::new(Sips {
+            bytes: bytes.as_slice(),
+            most,
+        }));
+        let mut sink = PlainSink::new(VecOut::new(alloc));
+        assert!(rt;
+            run_unpack(&mut source, &mut sink, MOST)
+                == Err(CopyFault::Source(SourceFault::Truncated { byte: 22 }))
+        );
+        assert!(rt;
+            run_unpack(&mut source, &mut sink, MOST) == Err(CopyFault::Output(OutFault::Spent))
+        );
+        assert!(rt; sink.into_inner().bytes() == [0x8a; 16].as_slice());
+        let mut again = PlainSink::new(VecOut::new(alloc));
+        assert!(rt;
+            run_unpack(&mut source, &mut again, MOST) == Err(CopyFault::Source(SourceFault::Spent))
+        );
+    }
+    let null = hex::decode(alloc, "00000000010000000000000000000000")?;
+    for (words, answer, text) in [
+        (0, Err(CopyFault::TooManyWords), &b""[..]),
+        (1, Err(CopyFault::TooManyWords), &b"\x10\x01"[..]),
+        (2, Ok(2), &b"\x10\x01\0\0"[..]),
+    ] {
+        let mut source = PlainWords::new(SliceIn::new(null.as_slice()));
+        let mut sink = Packer::new(VecOut::new(alloc));
+        assert!(rt; run_pack(&mut source, &mut sink, words) == answer);
+        assert_eq!(rt; sink.into_inner().bytes(), text);
+    }
+    Ok(())
+}
+
+// A writer that takes so many bytes in all, one in each call, and then fails.
+#[derive(Drop)]
+struct Fills {
+    taken: Vec<u8>,
+    room: usize,
+}
+
+impl Write for Fills {
+    fn write(&mut self, buf: &[u8]) -> io::Result<usize> {
+        if self.taken.len() == self.room {
+            return Err(ErrorKind::StorageFull.into());
+        }
+        match buf.first() {
+            Some(byte) => {
+                self.taken.push(*byte)?;
+                Ok(1)
+            }
+            None => Ok(0),
+        }
+    }
+
+    fn flush(&mut self) -> io::Result<()> {
+        Ok(())
+    }
+}
+
+#[test]
+fn leaves_a_beginning_where_the_output_fails(rt: HostRuntime) -> Result<(), Fail> {
+    let alloc = rt.alloc();
+    let bytes = hex::decode(
+        alloc,
+        "00000000040000000000000000000200040000000100000000000000010000000700000000000000",
+    )?;
+    let whole = hex::decode(alloc, "1004400211040110010107")?;
+    for room in 0..12usize {
+        let mut source = PlainWords::new(SliceIn::new(bytes.as_slice()));
+        let mut sink = Packer::new(FromWrite::new(Fills {
+            taken: Vec::new(alloc),
+            room,
+        }));
+        let answer = run_pack(&mut source, &mut sink, MOST);
+        if room < 11 {
+            assert!(rt; answer == Err(CopyFault::Output(OutFault::Device)));
+        } else {
+            assert!(rt; answer == Ok(5));
+        }
+        let taken = sink.into_inner().into_inner().taken;
+        assert_eq!(rt; taken.as_slice(), &whole[..room.min(11)]);
+    }
+    Ok(())
+}
+
+#[test]
+fn vets_packed_streams(rt: HostRuntime) -> Result<(), Fail> {
+    let alloc = rt.alloc();
+    let null = "message 0: accepted charge 0 depth 0 pointers 1 caps 0\n";
+    for (stream, status, out, err) in [
+        ("10010000", 0, null, ""),
+        (
+            // the run of zero words goes on into a second message
+            "10010001",
+            1,
+            "message 0: accepted charge 0 depth 0 pointers 1 caps 0\nmessage 1: refused NoRoot at 0:0 pointers 0\n",
+            "",
+        ),
+        ("100100", 1, "", "capvet: message 0: Truncated at byte 3\n"),
+        (
+            "1004400211040110010107",
+            0,
+            "message 0: accepted charge 4 depth 2 pointers 3 caps 0\n",
+            "",
+        ),
+    ] {
+        let left = run(alloc, "vet", &["--packed"], stream)?;
+        assert_eq!(rt; left.status, status);
+        assert_eq!(rt; left.out.bytes(), out.as_bytes());
+        assert_eq!(rt; left.err.bytes(), err.as_bytes());
+        let bytes = hex::decode(alloc, stream)?;
+        let mut source = Unpacker::new(FromRead::new(Sips {
+            bytes: bytes.as_slice(),
+            most: 1,
+        }));
+        let mut text = VecOut::new(alloc);
+        let settings = settings(u32::MAX).ok_or("settings")?;
+        let answer = run_vet(alloc, &mut source, &mut text, &settings);
+        assert_eq!(rt; answer.is_ok(), err.is_empty());
+        assert_eq!(rt; text.bytes(), out.as_bytes());
+    }
+    let left = run(alloc, "segments", &["--packed"], "10010001")?;
+    assert_eq!(rt; left.status, 0);
+    assert_eq!(rt;
+        left.out.bytes(),
+        b"message 0: segments 1 words 1\nsegment 0: 1\nroot 0000000000000000\nmessage 1: segments 1 words 0\nsegment 0: 0\nroot none\n".as_slice()
+    );
+    Ok(())
+}
