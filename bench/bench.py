@@ -4,14 +4,17 @@
     bench.py [--rounds N] [--only WORD] [--program PATH]
 
 The inputs are made anew in a temporary folder. In each round every command runs once, in turn, so that
-a busy machine slows them alike; the table has the median of the rounds. `ratio` is against `dd` with
-blocks of 64 KiB on the same file. Memory is the largest resident size of any round.
+a busy machine slows them alike; the table has the median of the rounds. MiB, MB/s and `ratio`, against `dd`
+with blocks of 64 KiB, are those of the plain file also where a command gets it packed or packs it. Memory
+is the largest resident size of any round.
 """
 import argparse
+import multiprocessing
 import os
 import random
 import statistics
 import struct
+import subprocess
 import sys
 import tempfile
 import time
@@ -105,23 +108,83 @@ def write_tree(path):
             out.write(b"".join(part))
 
 
-INPUTS = {"big": write_big, "small": write_small, "wide": write_wide, "tree": write_tree}
+def write_random(path):
+    """64 MiB of random bytes: hardly a word has a zero byte."""
+    rng = random.Random(4)
+    with open(path, "wb") as out:
+        for _ in range(64):
+            out.write(rng.randbytes(MIB))
+
+
+def write_zero(path):
+    """64 MiB of zero words."""
+    with open(path, "wb") as out:
+        for _ in range(64):
+            out.write(bytes(MIB))
+
+
+def write_mixed(path):
+    """64 MiB in which zero words, pointers, small numbers, text and random words take turns."""
+    rng = random.Random(5)
+    kinds = [
+        lambda: bytes(8) * rng.randrange(1, 6),
+        lambda: struct_pointer(rng.randrange(1 << 12), rng.randrange(8), rng.randrange(8)),
+        lambda: word(rng.randrange(1 << rng.randrange(1, 40))),
+        lambda: bytes(rng.randrange(97, 123) for _ in range(8 * rng.randrange(1, 6))),
+        lambda: rng.randbytes(8 * rng.randrange(1, 4)),
+    ]
+    block = b"".join(rng.choice(kinds)() for _ in range(MIB // 12))[:MIB]
+    with open(path, "wb") as out:
+        for i in range(64):
+            turn = 8 * rng.randrange(MIB // 8)
+            out.write(block[turn:] + block[:turn])
+
+
+MESSAGES = {"big": write_big, "small": write_small, "wide": write_wide, "tree": write_tree}
+WORDS = {"random": write_random, "zero": write_zero, "mixed": write_mixed}
+INPUTS = MESSAGES | WORDS
 
 
 @dataclass
 class Case:
-    """A row of the table: what runs, on which input."""
+    """A row of the table: what runs, on which input, and whether it gets that packed."""
     name: str
     input: str
     command: list
+    packed: bool = False
 
 
 def cases(program):
+    limits = ["--size", "268435456", "--words", "268435456"]
     for name in INPUTS:
         yield Case("cat", name, ["cat", "FILE"])
         yield Case("dd bs=64K", name, ["dd", "if=FILE", "of=/dev/null", "bs=64K"])
-        yield Case("capvet segments", name, [program, "segments", "--size", "268435456", "FILE"])
-        yield Case("capvet vet", name, [program, "vet", "--size", "268435456", "--words", "268435456", "FILE"])
+        if name in MESSAGES:
+            yield Case("capvet segments", name, [program, "segments", *limits[:2], "FILE"])
+            yield Case("capvet vet", name, [program, "vet", *limits, "FILE"])
+            yield Case("capvet vet --packed", name, [program, "vet", "--packed", *limits, "FILE"], packed=True)
+        else:
+            yield Case("capvet pack", name, [program, "pack", "FILE"])
+            yield Case("capvet unpack", name, [program, "unpack", "FILE"], packed=True)
+
+
+def write_packed(program, plain, path):
+    """The packed spelling of a file, which unpacks to it again."""
+    with open(path, "wb") as out:
+        subprocess.run([program, "pack", plain], stdout=out, check=True)
+    with subprocess.Popen([program, "unpack", path], stdout=subprocess.PIPE) as back, open(plain, "rb") as wanted:
+        while part := wanted.read(MIB):
+            if back.stdout.read(len(part)) != part:
+                sys.exit(f"{path} doesn't unpack to {plain}")
+
+
+def apart(job, *arguments):
+    """Does a job in a process of its own: what a command's parent ever held would count as the command's memory."""
+    child = multiprocessing.Process(target=job, args=arguments)
+    child.start()
+    child.join()
+    if child.exitcode != 0:
+        sys.exit(f"{job.__name__} failed")
 
 
 def run(command, file):
@@ -147,21 +210,26 @@ def main():
     args = parser.parse_args()
     if not Path(args.program).is_file():
         sys.exit(f"{args.program} isn't there: build it by `make run`")
+    chosen = [it for it in cases(args.program) if args.only in it.name or args.only in it.input]
+    inputs = {it.input for it in chosen}
     chosen = [it for it in cases(args.program)
-              if args.only in it.name or args.only in it.input or it.name == "dd bs=64K"]
+              if it.input in inputs and (args.only in it.name or args.only in it.input or it.name == "dd bs=64K")]
     with tempfile.TemporaryDirectory() as folder:
         files = {}
         for name in {it.input for it in chosen}:
-            files[name] = Path(folder) / name
-            INPUTS[name](files[name])
+            files[name, False] = Path(folder) / name
+            apart(INPUTS[name], files[name, False])
+        for name in {it.input for it in chosen if it.packed}:
+            files[name, True] = Path(folder) / f"{name}.packed"
+            apart(write_packed, args.program, files[name, False], files[name, True])
         seconds = {id(it): [] for it in chosen}
         memory = {id(it): 0 for it in chosen}
         for _ in range(args.rounds):
             for it in chosen:
-                took, resident = run(it.command, files[it.input])
+                took, resident = run(it.command, files[it.input, it.packed])
                 seconds[id(it)].append(took)
                 memory[id(it)] = max(memory[id(it)], resident)
-        sizes = {name: file.stat().st_size for name, file in files.items()}
+        sizes = {name: file.stat().st_size for (name, packed), file in files.items() if not packed}
     middle = {key: statistics.median(values) for key, values in seconds.items()}
     dd = {it.input: middle[id(it)] for it in chosen if it.name == "dd bs=64K"}
     print(f"{'input':8} {'command':20} {'MiB':>7} {'seconds':>9} {'MB/s':>8} {'ratio':>7} {'MiB used':>9}")

@@ -183,7 +183,8 @@ fn leaves_a_beginning_where_the_output_fails(rt: HostRuntime) -> Result<(), Fail
             assert!(rt; answer == Ok(5));
         }
         let taken = sink.into_inner().into_inner().taken;
-        assert_eq!(rt; taken.as_slice(), &whole[..room.min(11)]);
+        assert_eq!(rt; taken.len(), room.min(11));
+        assert!(rt; whole.starts_with(taken.as_slice()));
     }
     Ok(())
 }
