@@ -1,5 +1,6 @@
 //! Packing and unpacking, of whole inputs and of packed streams of messages.
 
+use crate::devices::Full;
 use crate::engines::{Sips, settings};
 use crate::whole::run;
 use cap_cmd::{CopyFault, run_pack, run_unpack, run_vet};
@@ -8,17 +9,37 @@ use cap_words::{
     FromRead, FromWrite, OutFault, PlainSink, PlainWords, SliceIn, SourceFault, VecOut,
 };
 use std::alloc::Global;
-use std::io;
-use std::io::{ErrorKind, Write};
 use std::test::Fail;
 
 // The most words that the program copies.
 const MOST: u64 = 1099511627776;
 
-// Eight bytes without a zero, and three times as many.
-const FULL: &str = "8a8a8a8a8a8a8a8a";
-
-const THREE: &str = "8a8a8a8a8a8a8a8a8a8a8a8a8a8a8a8a8a8a8a8a8a8a8a8a";
+// Words, and their packed spelling.
+const SPELLINGS: [(&str, &str); 8] = [
+    ("0800000003000200 19000000aa010000", "51080302 3119aa01"),
+    ("", ""),
+    ("0000000000000000", "0000"),
+    (
+        "0000000000000000 0000000000000000 0000000000000000 0000000000000000",
+        "0003",
+    ),
+    (
+        "8a8a8a8a8a8a8a8a 8a8a8a8a8a8a8a8a 8a8a8a8a8a8a8a8a 8a8a8a8a8a8a8a8a",
+        "ff 8a8a8a8a8a8a8a8a 03 8a8a8a8a8a8a8a8a 8a8a8a8a8a8a8a8a 8a8a8a8a8a8a8a8a",
+    ),
+    (
+        "0101010101010101 0100010101010101 0000010101010101",
+        "ff 0101010101010101 01 0100010101010101 fc010101010101",
+    ),
+    (
+        "0000000002000000 0000000001000000 2a00000000000000",
+        "1002 1001 012a",
+    ),
+    (
+        "0000000004000000 0000000000000200 0400000001000000 0000000001000000 0700000000000000",
+        "1004 4002 110401 1001 0107",
+    ),
+];
 
 // What these bytes are packed to, read a byte at a time.
 fn packed(alloc: Global, bytes: &[u8]) -> Result<VecOut, Fail> {
@@ -40,88 +61,79 @@ fn unpacked(alloc: Global, bytes: &[u8]) -> Result<VecOut, Fail> {
     }
 }
 
+// That these words and this text are each other's spelling, through the program and a byte at a time.
+fn spells(alloc: Global, plain: &str, text: &str) -> Result<bool, Fail> {
+    let plain = plain.replace(alloc, " ", "")?;
+    let text = text.replace(alloc, " ", "")?;
+    let there = run(alloc, "pack", &[], plain.as_str())?;
+    let back = run(alloc, "unpack", &[], text.as_str())?;
+    let plain = hex::decode(alloc, plain.as_str())?;
+    let text = hex::decode(alloc, text.as_str())?;
+    Ok(
+        there.status == 0
+            && back.status == 0
+            && there.err.bytes().is_empty()
+            && back.err.bytes().is_empty()
+            && there.out.bytes() == text.as_slice()
+            && back.out.bytes() == plain.as_slice()
+            && packed(alloc, plain.as_slice())?.bytes() == text.as_slice()
+            && unpacked(alloc, text.as_slice())?.bytes() == plain.as_slice(),
+    )
+}
+
 #[test]
 fn packs_and_unpacks(rt: HostRuntime) -> Result<(), Fail> {
     let alloc = rt.alloc();
+    for (plain, text) in SPELLINGS {
+        assert!(rt; spells(alloc, plain, text)?, "{plain}");
+    }
+    // a run of zero words has at most 256 of them
     let mut zeros = String::new(alloc);
     for _ in 0..257u32 {
         zeros.push_str("0000000000000000")?;
     }
-    let fours = format!(in alloc; "{FULL}{THREE}")?;
-    let spelled = format!(in alloc; "ff{FULL}03{THREE}")?;
-    for (plain, text) in [
-        ("0800000003000200 19000000aa010000", "51080302 3119aa01"),
-        ("", ""),
-        ("0000000000000000", "0000"),
-        (
-            "0000000000000000000000000000000000000000000000000000000000000000",
-            "0003",
-        ),
-        (fours.as_str(), spelled.as_str()),
-        (zeros.as_str(), "00ff0000"),
-        (
-            "010101010101010101000101010101010000010101010101",
-            "ff0101010101010101010100010101010101fc010101010101",
-        ),
-        (
-            "000000000200000000000000010000002a00000000000000",
-            "10021001012a",
-        ),
-        (
-            "00000000040000000000000000000200040000000100000000000000010000000700000000000000",
-            "1004400211040110010107",
-        ),
-    ] {
-        let plain = plain.replace(alloc, " ", "")?;
-        let text = text.replace(alloc, " ", "")?;
-        let there = run(alloc, "pack", &[], plain.as_str())?;
-        let back = run(alloc, "unpack", &[], text.as_str())?;
-        let plain = hex::decode(alloc, plain.as_str())?;
-        let text = hex::decode(alloc, text.as_str())?;
-        assert_eq!(rt; there.out.bytes(), text.as_slice());
-        assert_eq!(rt; back.out.bytes(), plain.as_slice());
-        for left in [&there, &back] {
-            assert_eq!(rt; left.status, 0);
-            assert!(rt; left.err.bytes().is_empty());
-        }
-        assert_eq!(rt; packed(alloc, plain.as_slice())?.bytes(), text.as_slice());
-        assert_eq!(rt; unpacked(alloc, text.as_slice())?.bytes(), plain.as_slice());
-    }
+    assert!(rt; spells(alloc, zeros.as_str(), "00ff 0000")?);
+    // a byte that is marked may be zero
+    let lenient = hex::decode(alloc, "0100")?;
+    assert!(rt; unpacked(alloc, lenient.as_slice())?.bytes() == [0; 8].as_slice());
     Ok(())
 }
 
+// Two words as they are, and then half a word.
+const CUT: &str = "ff8a8a8a8a8a8a8a8a028a8a8a8a8a8a8a8a8a8a8a8a";
+
 #[test]
-fn ends_at_a_cut_group_and_at_a_word_too_many(rt: HostRuntime) -> Result<(), Fail> {
+fn ends_at_a_cut_group(rt: HostRuntime) -> Result<(), Fail> {
     let alloc = rt.alloc();
-    // two words as they are, and then half a word
-    let text = format!(in alloc; "ff{FULL}02{FULL}8a8a8a8a")?;
-    let left = run(alloc, "unpack", &[], text.as_str())?;
+    let left = run(alloc, "unpack", &[], CUT)?;
     assert_eq!(rt; left.status, 1);
     assert!(rt; left.out.bytes() == [0x8a; 16].as_slice());
     assert_eq!(rt;
         left.err.bytes(),
         b"capvet: Truncated at byte 22\n".as_slice()
     );
-    let bytes = hex::decode(alloc, text.as_str())?;
+    let bytes = hex::decode(alloc, CUT)?;
     for most in [1, 22] {
         let mut source = Unpacker::new(FromRead::new(Sips {
             bytes: bytes.as_slice(),
             most,
         }));
         let mut sink = PlainSink::new(VecOut::new(alloc));
-        assert!(rt;
-            run_unpack(&mut source, &mut sink, MOST)
-                == Err(CopyFault::Source(SourceFault::Truncated { byte: 22 }))
-        );
-        assert!(rt;
-            run_unpack(&mut source, &mut sink, MOST) == Err(CopyFault::Output(OutFault::Spent))
-        );
+        let cut = Err(CopyFault::Source(SourceFault::Truncated { byte: 22 }));
+        assert!(rt; run_unpack(&mut source, &mut sink, MOST) == cut);
+        let closed = Err(CopyFault::Output(OutFault::Spent));
+        assert!(rt; run_unpack(&mut source, &mut sink, MOST) == closed);
         assert!(rt; sink.into_inner().bytes() == [0x8a; 16].as_slice());
         let mut again = PlainSink::new(VecOut::new(alloc));
-        assert!(rt;
-            run_unpack(&mut source, &mut again, MOST) == Err(CopyFault::Source(SourceFault::Spent))
-        );
+        let spent = Err(CopyFault::Source(SourceFault::Spent));
+        assert!(rt; run_unpack(&mut source, &mut again, MOST) == spent);
     }
+    Ok(())
+}
+
+#[test]
+fn ends_at_a_word_too_many(rt: HostRuntime) -> Result<(), Fail> {
+    let alloc = rt.alloc();
     let null = hex::decode(alloc, "00000000010000000000000000000000")?;
     for (words, answer, text) in [
         (0, Err(CopyFault::TooManyWords), &b""[..]),
@@ -136,32 +148,6 @@ fn ends_at_a_cut_group_and_at_a_word_too_many(rt: HostRuntime) -> Result<(), Fai
     Ok(())
 }
 
-// A writer that takes so many bytes in all, one in each call, and then fails.
-#[derive(Drop)]
-struct Fills {
-    taken: Vec<u8>,
-    room: usize,
-}
-
-impl Write for Fills {
-    fn write(&mut self, buf: &[u8]) -> io::Result<usize> {
-        if self.taken.len() == self.room {
-            return Err(ErrorKind::StorageFull.into());
-        }
-        match buf.first() {
-            Some(byte) => {
-                self.taken.push(*byte)?;
-                Ok(1)
-            }
-            None => Ok(0),
-        }
-    }
-
-    fn flush(&mut self) -> io::Result<()> {
-        Ok(())
-    }
-}
-
 #[test]
 fn leaves_a_beginning_where_the_output_fails(rt: HostRuntime) -> Result<(), Fail> {
     let alloc = rt.alloc();
@@ -172,9 +158,10 @@ fn leaves_a_beginning_where_the_output_fails(rt: HostRuntime) -> Result<(), Fail
     let whole = hex::decode(alloc, "1004400211040110010107")?;
     for room in 0..12usize {
         let mut source = PlainWords::new(SliceIn::new(bytes.as_slice()));
-        let mut sink = Packer::new(FromWrite::new(Fills {
+        let mut sink = Packer::new(FromWrite::new(Full {
             taken: Vec::new(alloc),
             room,
+            tells: room % 2 == 0,
         }));
         let answer = run_pack(&mut source, &mut sink, MOST);
         if room < 11 {
@@ -225,6 +212,12 @@ fn vets_packed_streams(rt: HostRuntime) -> Result<(), Fail> {
         assert_eq!(rt; answer.is_ok(), err.is_empty());
         assert_eq!(rt; text.bytes(), out.as_bytes());
     }
+    Ok(())
+}
+
+#[test]
+fn shows_packed_streams(rt: HostRuntime) -> Result<(), Fail> {
+    let alloc = rt.alloc();
     let left = run(alloc, "segments", &["--packed"], "10010001")?;
     assert_eq!(rt; left.status, 0);
     assert_eq!(rt;

@@ -27,10 +27,10 @@ impl Read for Broken<'_> {
 
 // A writer that takes so many bytes, and then fails: with an error, or by taking none.
 #[derive(Drop)]
-struct Full {
-    taken: Vec<u8>,
-    room: usize,
-    tells: bool,
+pub(crate) struct Full {
+    pub(crate) taken: Vec<u8>,
+    pub(crate) room: usize,
+    pub(crate) tells: bool,
 }
 
 impl Write for Full {
