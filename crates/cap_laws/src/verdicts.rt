@@ -41,6 +41,19 @@ pub fn tree_within_limits_is_not_refused()
         Denotes m 0 0 t c d → c ≤ words → d ≤ depth → ¬ Justified m words depth refusal }
 {}
 
+/// A refusal at the first fault is justified: its place is reached, and its reason holds there.
+pub fn refused_is_justified()
+    ensures { (m : List (List ℕ)) (words depth : ℕ) (refusal : Refusal) →
+        IsRefused m words depth refusal → Justified m words depth refusal }
+{}
+
+/// A message isn't both accepted and refused under the same limits: where the root denotes a tree
+/// within them, there is no first fault.
+pub fn accepted_is_not_refused()
+    ensures { (m : List (List ℕ)) (t : Tree) (c d words depth : ℕ) (refusal : Refusal) →
+        Denotes m 0 0 t c d → c ≤ words → d ≤ depth → ¬ IsRefused m words depth refusal }
+{}
+
 /// A message is refused in one way: of two refusals under the same limits, each at the first fault,
 /// the places, the reasons and the numbers of pointers are equal. So the verdict is a function of
 /// the message and the limits.

@@ -34,6 +34,7 @@ pub mod Depths
 pub mod Deepest
 pub mod OneFault
 pub mod OneVerdict
+pub mod Refusals
 pub mod Trimming
 pub mod ReadingBack
 pub mod Placing

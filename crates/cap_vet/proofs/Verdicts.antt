@@ -6,15 +6,11 @@ use Rattle.std.proofs.Common.{◌≡◌, ℕ, ◌+◌, ◌<◌, inl, inr, List, 
 use Rattle.std.proofs.lemmas.List.{length-append}
 use Rattle.cap_spec.specs.Messages.{segment_of}
 use Rattle.cap_spec.specs.Denoting.{Denotes}
-use Rattle.cap_spec.specs.Faults.{IsFirstFault, IsFirstReason, IsRefused, is_deep, is_past, is_wrong}
+use Rattle.cap_spec.specs.Faults.{IsFirstFault, IsFirstReason}
 use Rattle.cap_spec.specs.Paths.{IsOneOf, IsTour, Reaches}
-use Rattle.cap_spec.specs.Verdicts.{CostOf, Justified}
-use Rattle.cap_spec.specs.Verdicts.{no_root, too_deep, past_limit, is_wrong as wrong_there}
+use Rattle.cap_spec.specs.Verdicts.{CostOf}
 use Rattle.cap_spec.specs.declared.Reason.{Reason}
-use Rattle.cap_spec.specs.declared.Refusal.{Refusal}
 use Rattle.cap_spec.specs.declared.Step.{Step}
-use Rattle.cap_spec.proofs.OneFault.{distinct_last}
-use Rattle.cap_spec.proofs.Preorder.{Rises-distinct}
 use Rattle.cap_vet.specs.Trails.{Ahead, IsTrail}
 use Rattle.cap_vet.specs.Frames.{place_of}
 use Rattle.cap_vet.specs.Walking.{IsFirstOf, IsNext, IsWalking, Progress}
@@ -54,28 +50,6 @@ first_fault m words depth s w level frames report v t h =
       reason = h;
       pointers = sym many;
       few = omega (arith, t.progress.bound, t.progress.within);
-    }
-
--- a refusal is justified
-pub refused_justified : (m : List (List ℕ)) (words depth : ℕ) (r : Refusal) → IsRefused m words depth r → Justified m words depth r
-refused_justified m words depth r (inl h) = no_root h.reason h.empty h.segment h.word
-refused_justified m words depth r (inr f) = by_reason f.reason
-  where
-    by_reason : IsFirstReason m words depth f.charge r.segment r.word f.level r.reason → Justified m words depth r
-    by_reason (is_wrong h) = wrong_there (f.path, f.level, f.reached, h)
-    by_reason (is_deep e (k, t, b, q, tag, finds, tagged, past)) = too_deep e (f.path, f.level, k, t, b, q, tag, f.reached, finds, tagged, past)
-    by_reason (is_past cost e not_deep costs past) = past_limit e record {
-      paths = f.before;
-      last = f.path;
-      level = f.level;
-      before = f.charge;
-      one = cost;
-      reached = f.reached;
-      costs = costs;
-      others = f.costs;
-      distinct = distinct_last f.before f.path (Rises-distinct (f.before ++ f.path ∷ []) f.tour.rising);
-      within = f.within;
-      past = past;
     }
 
 -- where no word is ahead, none is left on the frames
