@@ -1,10 +1,19 @@
 -- Small examples: the premises of the laws of framing and packing are met, and each of the ways in which reading ends comes about.
-use Rattle.std.proofs.Common.{false, true, [], ◌∷◌, replicate, refl, arith}
+use Rattle.std.proofs.Common.{List, ℕ, ◌<◌, ◌^◌, ◌≡◌, false, true, [], ◌∷◌, length, replicate, refl, arith, lit<}
+use Rattle.std.specs.List.{AllByRecursion}
+use Rattle.std.proofs.lemmas.List.Elements.{All-cons, All-nil}
+use Rattle.cap_spec.specs.Messages.{IsMessage}
+use Rattle.cap_spec.specs.Packing.{pack_text}
+use Rattle.cap_spec.specs.Plain.{plain_text, plain_words}
+use Rattle.cap_spec.specs.Words.{IsWord}
 use Rattle.cap_spec.specs.Frames.{IsTable, Frames, Stream, in_word, in_table, in_contents}
 use Rattle.cap_spec.specs.Endings.{EndsIn, message, none, too_many, too_large, partial}
-use Rattle.cap_spec.specs.Unpacking.{Unpacks, Cut}
+use Rattle.cap_spec.specs.Unpacking.{Unpacks, Cut, unpacked}
 use Rattle.cap_spec.proofs.Streams.{stream_none, stream_cons}
 use Rattle.cap_spec.proofs.OneUnpacking.{unpacks_unless_cut, cut_if_cut}
+use Rattle.cap_spec.proofs.FrameTexts.{frame_text_frames}
+use Rattle.cap_spec.proofs.Repacking.{pack_text_reads}
+use Rattle.cap_spec.proofs.Unpacking.{plain_reads}
 
 -- the table of one segment of one word
 table-one : IsTable (0x100000000 ∷ []) (1 ∷ [])
@@ -60,3 +69,27 @@ unpacks-zeros = unpacks_unless_cut (0 ∷ 3 ∷ []) ((omega arith), ((omega arit
 -- a run of zero words without its count, behind a word
 cut-zeros : Cut (1 ∷ 9 ∷ 0 ∷ []) (9 ∷ [])
 cut-zeros = cut_if_cut (1 ∷ 9 ∷ 0 ∷ []) ((omega arith), ((omega arith), ((omega arith), tt))) refl
+
+-- a message of two segments, one of them without words, and its frame with zero padding
+abbrev small : List (List ℕ)
+small = (7 ∷ []) ∷ [] ∷ []
+
+message-small : IsMessage small
+message-small = record {
+  some = omega arith;
+  few = omega arith;
+  lengths = All-cons (λ words. length words < 2 ^ 32) (7 ∷ []) ([] ∷ []) (lit< tt) (All-cons (λ words. length words < 2 ^ 32) [] [] (lit< tt) (All-nil (λ words. length words < 2 ^ 32)));
+}
+
+frame-small : Frames (0x100000001 ∷ 0 ∷ 7 ∷ []) small
+frame-small = frame_text_frames small message-small
+
+-- the smallest and the greatest word, and one between
+words-three : AllByRecursion IsWord (0 ∷ 7 ∷ 0xffffffffffffffff ∷ [])
+words-three = (lit< tt, (lit< tt, (lit< tt, tt)))
+
+plain-three : plain_words (plain_text (0 ∷ 7 ∷ 0xffffffffffffffff ∷ [])) ≡ 0 ∷ 7 ∷ 0xffffffffffffffff ∷ []
+plain-three = plain_reads (0 ∷ 7 ∷ 0xffffffffffffffff ∷ []) words-three
+
+packed-three : unpacked (pack_text (0 ∷ 7 ∷ 0xffffffffffffffff ∷ [])) ≡ 0 ∷ 7 ∷ 0xffffffffffffffff ∷ []
+packed-three = (pack_text_reads (0 ∷ 7 ∷ 0xffffffffffffffff ∷ []) words-three).0

@@ -1,17 +1,23 @@
 -- Small messages that meet what the laws on trees, paths and verdicts ask.
-use Rattle.std.proofs.Common.{ℕ, List, [], ◌∷◌, ◌≡◌, ◌⊎◌, refl, sym, subst, arith, lit<, lit≤, inl, inr}
+use Rattle.std.proofs.Common.{ℕ, List, [], ◌∷◌, ◌≡◌, ◌<◌, ◌⊎◌, refl, sym, subst, arith, lit<, lit≤, inl, inr}
 use Rattle.std.specs.List.{AllByRecursion}
 use Rattle.cap_spec.specs.Words.{IsWord}
-use Rattle.cap_spec.specs.Following.{near}
+use Rattle.cap_spec.specs.Following.{near, rank, Condition, Wrong}
 use Rattle.cap_spec.specs.Tree.{Tree, cap, struct, structs, none, more, IsTree, pointer_count, cap_count}
 use Rattle.cap_spec.specs.Denoting.{Finds, Denotes, DenoteEach, AreElements}
-use Rattle.cap_spec.specs.Paths.{word, Reaches, Before, IsOneOf, IsTour, IsFirstCap}
-use Rattle.cap_spec.specs.Verdicts.{CostOf}
+use Rattle.cap_spec.specs.Faults.{IsFirstReason, IsRefused, is_past}
+use Rattle.cap_spec.specs.Paths.{word, Reaches, Before, IsOneOf, IsPlace, IsTour, IsFirstCap}
+use Rattle.cap_spec.specs.Verdicts.{CostOf, Justified}
+use Rattle.cap_spec.specs.declared.Reason.{Reason}
+use Rattle.cap_spec.specs.declared.Reason.TheVariants.{NoRoot, Reserved, WordLimit}
+use Rattle.cap_spec.specs.declared.Refusal.{Refusal}
 use Rattle.cap_spec.specs.declared.Step.{Step}
 use Rattle.cap_spec.specs.declared.Step.TheVariants.{Ptr}
 use Rattle.cap_spec.proofs.Shapes.{denoted_is_tree}
 use Rattle.cap_spec.proofs.PathCounts.{pointer_path_reached, first_cap}
 use Rattle.cap_spec.proofs.PathCosts.{charge_is_cost}
+use Rattle.cap_spec.proofs.OneVerdict.{paths_within_depth}
+use Rattle.cap_spec.proofs.Refusals.{refused_justified}
 
 -- a struct of two pointers: to a struct of the word 7, and to capability 5
 abbrev two_pointers : List (List ℕ)
@@ -98,6 +104,65 @@ tour_two = record {
     upto q b (inr (inl e)) = inr (inl e)
     upto q b (inr (inr (inl e))) = absurd (late (subst (λ (x : List Step). (x ≡ Ptr 0 ∷ []) ⊎ Before x (Ptr 0 ∷ [])) e b))
     upto q b (inr (inr (inr e))) = absurd e
+
+-- the second pointer's object is the struct of one word at word 3
+place_seven : IsPlace two_pointers (Ptr 0 ∷ []) 0 3 1
+place_seven = (2, word 0 1, (0x0002000000000000, 1, refl, (word 0 1, 0, (0, 0, 1, 0x0002000000000000, finds_two, refl, lit< tt, refl), (refl, refl), refl), refl), (0, 0x0000000100000004, finds_seven, refl))
+
+-- a word limit of none refuses the root, which costs two words
+abbrev no_words : Refusal
+no_words = record { segment = 0; word = 0; reason = WordLimit; pointers = 1 }
+
+reaches_root : Reaches two_pointers [] 1 0 0
+reaches_root = (0x0002000000000000, 0, refl, (refl, refl), refl)
+
+tour_root : IsTour two_pointers [] ([] ∷ [])
+tour_root = record { rising = tt; reached = λ q i. reached q i; all = λ q level s w h before. all q before; none_after = after }
+  where
+    reached : (q : List Step) → IsOneOf q ([] ∷ []) → (level s w : ℕ) × Reaches two_pointers q level s w
+    reached q (inl e) = (1, 0, 0, subst (λ (x : List Step). Reaches two_pointers x 1 0 0) (sym e) reaches_root)
+    reached q (inr e) = absurd e
+
+    all : (q : List Step) → (q ≡ []) ⊎ Before q [] → IsOneOf q ([] ∷ [])
+    all q (inl e) = inl e
+    all [] (inr b) = absurd b
+    all (x ∷ q) (inr b) = absurd b
+
+    after : (q : List Step) → IsOneOf q ([] ∷ []) → (q ≡ []) ⊎ Before q []
+    after q (inl e) = inl e
+    after q (inr e) = absurd e
+
+past_no_words : IsFirstReason two_pointers 0 2 0 0 0 1 WordLimit
+past_no_words = is_past 2 refl
+    (λ (k, t, b, q, tag, finds, tagged, past). omega (arith, paths_within_depth two_pointers two_pointers_tree 3 2 denotes_two [] 1 0 0 k t b q tag reaches_root finds tagged, past))
+    (inr (inr (0, 0, 1, 0x0002000000000000, 0, finds_two, (λ (a, b). absurd (omega (arith, a))), refl))) (lit< tt)
+
+refused_no_words : IsRefused two_pointers 0 2 no_words
+refused_no_words = inr record {
+  path = [];
+  before = [];
+  level = 1;
+  charge = 0;
+  reached = reaches_root;
+  tour = tour_root;
+  costs = refl;
+  within = lit≤ tt;
+  shallow = λ p level s w i. absurd i;
+  reason = past_no_words;
+  pointers = refl;
+  few = lit≤ tt;
+}
+
+justified_no_words : Justified two_pointers 0 2 no_words
+justified_no_words = refused_justified two_pointers 0 2 no_words refused_no_words
+
+-- a word of a reserved kind is refused for that
+wrong_reserved : Wrong ((7 ∷ []) ∷ []) 0 0 Reserved
+wrong_reserved = record { holds = (7, refl, inl (refl, (λ e. omega (arith, e)))); first = first }
+  where
+    first : (u : Reason) → rank u < 2 → Condition ((7 ∷ []) ∷ []) 0 0 u → ⊥
+    first NoRoot l h = h
+    first u l h = absurd (omega (arith, l))
 
 -- a struct whose one pointer is the root word itself
 abbrev round : List (List ℕ)
