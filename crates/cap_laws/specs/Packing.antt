@@ -1,8 +1,10 @@
 -- What the laws of packing say.
-use Rattle.std.specs.Prelude.{ℕ, ◌-◌, ◌<◌, ◌≡◌, ◌⊎◌, ◌↔◌, true, false, List, [], ◌∷◌, ◌++◌, take, drop}
+use Rattle.std.specs.Prelude.{ℕ, ◌+◌, ◌-◌, ◌<◌, ◌≡◌, ◌≢◌, ◌⊎◌, ◌↔◌, true, false, List, [], ◌∷◌, ◌++◌, length, take, drop}
 use Rattle.std.specs.List.{AllByRecursion}
+use Rattle.cap_spec.specs.Plain.{capped}
+use Rattle.cap_spec.specs.PackedEnds.{group_ends, packed_ends}
 use Rattle.cap_spec.specs.Packing.{group_size, group_text, pack_text}
-use Rattle.cap_spec.specs.Unpacking.{Unpacks, Cut, unpacked, packed_is_cut}
+use Rattle.cap_spec.specs.Unpacking.{IsGroup, Unpacks, Cut, given_of, unpacked, packed_is_cut}
 
 -- each list of bytes either unpacks or is cut, not both, and for exactly one list of words
 abbrev pub OneUnpacking : Type 0
@@ -25,3 +27,14 @@ abbrev pub PackedByGroups : Type 0
 PackedByGroups = (pack_text [] ≡ [])
     × ((w : ℕ) (words : List ℕ) → pack_text (w ∷ words) ≡
     group_text w (group_size (w ∷ words) - 1) (take (group_size (w ∷ words) - 1) words) ++ pack_text (drop (group_size (w ∷ words) - 1) words))
+
+-- each word of a group has a position of its own
+abbrev pub GroupHasEnds : Type 0
+GroupHasEnds = (at : ℕ) (bytes words : List ℕ) (group : IsGroup bytes words) → length (group_ends at group) ≡ length words
+
+-- The positions in packed bytes, behind so many: without bytes that of the end alone; with a group in front those of its words, and then those of what is behind it; in the beginning of a group those that the words which it gives have in the whole group, and then that of the end.
+abbrev pub EndsByGroups : Type 0
+EndsByGroups = ((at : ℕ) → packed_ends at [] ≡ capped at ∷ [])
+    × ((at : ℕ) (bytes words rest : List ℕ) (group : IsGroup bytes words) → packed_ends at (bytes ++ rest) ≡ group_ends at group ++ packed_ends (at + length bytes) rest)
+    × ((at : ℕ) (part lacking words : List ℕ) → part ≢ [] → lacking ≢ [] → (group : IsGroup (part ++ lacking) words) →
+    packed_ends at part ≡ take (length (given_of part)) (group_ends at group) ++ capped (at + length part) ∷ [])

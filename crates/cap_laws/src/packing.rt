@@ -1,6 +1,6 @@
 //! Words in their packed spellings.
 
-ghost use Rattle.cap_laws.specs.Packing.{CutAsComputed, OneUnpacking, PackedByGroups, UnpacksAsComputed};
+ghost use Rattle.cap_laws.specs.Packing.{CutAsComputed, EndsByGroups, GroupHasEnds, OneUnpacking, PackedByGroups, UnpacksAsComputed};
 ghost use Rattle.cap_spec.specs.Packing.{pack_text};
 ghost use Rattle.cap_spec.specs.Unpacking.{Unpacks, packed_is_cut, unpacked};
 ghost use Rattle.cap_spec.specs.Words.{IsWord};
@@ -49,4 +49,17 @@ pub fn packed_by_groups()
 /// The one packed spelling of words gives just these words, and isn't cut.
 pub fn pack_text_reads_back()
     ensures { (words : List ℕ) → AllByRecursion IsWord words → (unpacked (pack_text words) ≡ words) × (packed_is_cut (pack_text words) ≡ false) }
+{}
+
+/// Each word of a group has a position: the end of the group's head, or its own end where it is
+/// one of the words behind the head of a run of words as they are.
+pub fn group_has_ends()
+    ensures { GroupHasEnds }
+{}
+
+/// The positions after the words of packed bytes, and at their end, group by group: those of the
+/// words of the group in front, and then those behind it. Where the bytes are cut inside a group
+/// they are those of the words that it gives, and then that of the whole input.
+pub fn ends_by_groups()
+    ensures { EndsByGroups }
 {}

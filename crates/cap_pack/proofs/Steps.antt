@@ -3,6 +3,7 @@ use Rattle.std.proofs.Common.{◌≡◌, ℕ, zero, suc, ◌-◌, ◌<◌, true,
 use Rattle.std.specs.Prelude.{OnSome, unwrap_or}
 use Rattle.std.specs.Option.{option_map}
 use Rattle.std.specs.Io.KnownBytes.{Consumes, IsAtEnd}
+use Rattle.cap_spec.specs.PackedEnds.{packed_ends}
 use Rattle.cap_spec.specs.Unpacking.{unpacked, packed_is_cut}
 use Rattle.cap_pack.specs.Course.{Course, ends, stops, gives, words_of, is_cut_of, places_of, course, zeros_then}
 use Rattle.cap_pack.specs.State.{ahead}
@@ -18,6 +19,10 @@ new_words (Some bytes) = ap Some (course_tells 0 bytes).0
 
 pub new_cut : (known : Option (List ℕ)) → is_cut_of (course 0 0 (unwrap_or known [])) ≡ packed_is_cut (unwrap_or known [])
 new_cut known = (course_tells 0 (unwrap_or known [])).1
+
+pub new_places : (known : Option (List ℕ)) → OnSome known (places_of (course 0 0 (unwrap_or known [])) ≡ packed_ends 0 (unwrap_or known []))
+new_places None = tt
+new_places (Some bytes) = (course_tells 0 bytes).2
 
 -- A word was given for these bytes: one course came to the other.
 module _ (f g : List ℕ → Course) (w to : ℕ) (bs : List ℕ) (step : (ys : List ℕ) → f (bs ++ ys) ≡ gives w to (g ys)) where

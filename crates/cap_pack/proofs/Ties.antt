@@ -1,35 +1,55 @@
--- The words that the course of packed bytes gives, and how it ends, are those of the published functions.
+-- The words that the course of packed bytes gives, their positions and how it ends are those of the published functions.
 use Rattle.std.proofs.Common.{◌≡◌, ◌≢◌, ℕ, zero, suc, ◌+◌, ◌*◌, ◌<◌, ◌≤◌, eqb, ltb, cond, Bool, true, false, List, [], ◌∷◌, ◌++◌, length, drop, take, replicate, refl, sym, ap, ◌∙◌, arith, lit<, length-drop, length-take, take-append-drop, ⊎_elim}
 use Rattle.std.specs.Prelude.{slice_index}
 use Rattle.std.proofs.lemmas.Bool.{cond-true, cond-false, lt-ltb, le-ltb, ne_eqb, cases_eq, cases_lt}
 use Rattle.std.proofs.Math.Numerals.{one-add}
 use Rattle.byteorder.specs.Endian.{little_number}
 use Rattle.cap_spec.specs.Plain.{capped, plain_words}
+use Rattle.cap_spec.specs.PackedEnds.{word_ends, front_ends, ends_in, packed_ends}
 use Rattle.cap_spec.specs.Unpacking.{marks, spread, given_of, group_length, group_words, given_in, is_cut_in, unpacked, packed_is_cut}
-use Rattle.cap_pack.specs.Course.{Course, gives, words_of, is_cut_of, course, head_rest, first_word, zeros_of, plain_of, zeros_then}
+use Rattle.cap_pack.specs.Course.{Course, gives, stops, words_of, is_cut_of, places_of, course, head_rest, first_word, zeros_of, plain_of, zeros_then}
 use Rattle.cap_pack.proofs.Heads.{spread-append}
 use Rattle.cap_pack.proofs.Courses.{course_plain, course_plain_stops, course_head, course_head_stops, course_none}
 
--- a course gives these words and ends so
-pub record Tells (c : Course) (ws : List ℕ) (u : Bool) : Type 0 where
+-- a course gives these words, ends so, and is at these positions
+pub record Tells (c : Course) (ws : List ℕ) (u : Bool) (ps : List ℕ) : Type 0 where
   pub words : words_of c ≡ ws
   pub cut : is_cut_of c ≡ u
+  pub ends : places_of c ≡ ps
 
-tells_along : {c d : Course} {ws vs : List ℕ} {u v : Bool} → c ≡ d → ws ≡ vs → u ≡ v → Tells d vs v → Tells c ws u
-tells_along e f g t = record { words = ap words_of e ∙ t.words ∙ sym f; cut = ap is_cut_of e ∙ t.cut ∙ sym g }
+tells_along : {c d : Course} {ws vs : List ℕ} {u v : Bool} {ps qs : List ℕ} → c ≡ d → ws ≡ vs → u ≡ v → ps ≡ qs → Tells d vs v qs → Tells c ws u ps
+tells_along e f g h t = record { words = ap words_of e ∙ t.words ∙ sym f; cut = ap is_cut_of e ∙ t.cut ∙ sym g; ends = ap places_of e ∙ t.ends ∙ sym h }
 
-tells_one : {c : Course} {ws : List ℕ} {u : Bool} (x at : ℕ) → Tells c ws u → Tells (gives x at c) (x ∷ ws) u
-tells_one x at t = record { words = ap (λ l. x ∷ l) t.words; cut = t.cut }
+tells_one : {c : Course} {ws : List ℕ} {u : Bool} {ps : List ℕ} (x at : ℕ) → Tells c ws u ps → Tells (gives x at c) (x ∷ ws) u (at ∷ ps)
+tells_one x at t = record { words = ap (λ l. x ∷ l) t.words; cut = t.cut; ends = ap (λ l. at ∷ l) t.ends }
 
-tells_zeros : {c : Course} {ws : List ℕ} {u : Bool} (n at : ℕ) → Tells c ws u → Tells (zeros_then n at c) (replicate n 0 ++ ws) u
+tells_zeros : {c : Course} {ws : List ℕ} {u : Bool} {ps : List ℕ} (n at : ℕ) → Tells c ws u ps → Tells (zeros_then n at c) (replicate n 0 ++ ws) u (replicate n at ++ ps)
 tells_zeros zero at t = t
 tells_zeros (suc n) at t = tells_one 0 at (tells_zeros n at t)
 
-tells_true : {c : Course} {x : List ℕ} {u : Bool} (y : List ℕ) (v b : Bool) → b ≡ true → Tells c x u → Tells c (cond b x y) (cond b u v)
-tells_true {x = x} {u = u} y v b e t = record { words = t.words ∙ sym (cond-true b x y e); cut = t.cut ∙ sym (cond-true b u v e) }
+tells_true : {c : Course} {x : List ℕ} {u : Bool} {p : List ℕ} (y : List ℕ) (v : Bool) (q : List ℕ) (b : Bool) → b ≡ true → Tells c x u p → Tells c (cond b x y) (cond b u v) (cond b p q)
+tells_true {x = x} {u = u} {p = p} y v q b e t = record { words = t.words ∙ sym (cond-true b x y e); cut = t.cut ∙ sym (cond-true b u v e); ends = t.ends ∙ sym (cond-true b p q e) }
 
-tells_false : {c : Course} {y : List ℕ} {v : Bool} (x : List ℕ) (u b : Bool) → b ≡ false → Tells c y v → Tells c (cond b x y) (cond b u v)
-tells_false {y = y} {v = v} x u b e t = record { words = t.words ∙ sym (cond-false b x y e); cut = t.cut ∙ sym (cond-false b u v e) }
+tells_false : {c : Course} {y : List ℕ} {v : Bool} {q : List ℕ} (x : List ℕ) (u : Bool) (p : List ℕ) (b : Bool) → b ≡ false → Tells c y v q → Tells c (cond b x y) (cond b u v) (cond b p q)
+tells_false {y = y} {v = v} {q = q} x u p b e t = record { words = t.words ∙ sym (cond-false b x y e); cut = t.cut ∙ sym (cond-false b u v e); ends = t.ends ∙ sym (cond-false b p q e) }
+
+-- a position that has stopped stays where it is
+capped_more : (at m : ℕ) → capped (capped at + m) ≡ capped (at + m)
+capped_more at m = omega arith
+
+-- the input ends inside a group
+tells_stop : (at m : ℕ) → Tells (stops (capped (capped at + m))) [] true (capped (at + m) ∷ [])
+tells_stop at m = record { words = refl; cut = refl; ends = ap (λ p. p ∷ []) (capped_more at m) }
+
+-- a word as it is, behind so many bytes
+plain_behind : (n at : ℕ) (bs ys : List ℕ) → length bs ≡ 8 → course (suc n) (capped at) (bs ++ ys) ≡ gives (little_number 8 bs) (capped (at + length bs)) (course n (capped (at + length bs)) ys)
+plain_behind n at bs ys l = course_plain n (capped at) bs ys l ∙ ap (λ p. gives (little_number 8 bs) p (course n p ys)) (capped_more at (length bs))
+
+-- a group behind its head
+head_behind : (at tag : ℕ) (bs ys : List ℕ) → length bs ≡ head_rest tag →
+    course 0 (capped at) (tag ∷ bs ++ ys) ≡ gives (first_word tag bs) (capped (at + length (tag ∷ bs))) (zeros_then (zeros_of tag bs) (capped (at + length (tag ∷ bs))) (course (plain_of tag bs) (capped (at + length (tag ∷ bs))) ys))
+head_behind at tag bs ys l =
+    course_head (capped at) tag bs ys l ∙ ap (λ p. gives (first_word tag bs) p (zeros_then (zeros_of tag bs) p (course (plain_of tag bs) p ys))) (capped_more at (length (tag ∷ bs)))
 
 -- what so many words as they are give, and then groups
 behind : ℕ → ℕ → List ℕ → List ℕ
@@ -42,26 +62,43 @@ behind_is_cut k zero bytes = is_cut_in k bytes
 behind_is_cut k (suc n) (a ∷ b ∷ c ∷ d ∷ e ∷ f ∷ g ∷ h ∷ rest) = behind_is_cut k n rest
 behind_is_cut k (suc n) bytes = true
 
+behind_ends : ℕ → ℕ → ℕ → List ℕ → List ℕ
+behind_ends k zero at bytes = ends_in k at bytes
+behind_ends k (suc n) at (a ∷ b ∷ c ∷ d ∷ e ∷ f ∷ g ∷ h ∷ rest) = capped (at + 8) ∷ behind_ends k n (at + 8) rest
+behind_ends k (suc n) at bytes = capped (at + length bytes) ∷ []
+
 eight_more : (n : ℕ) → 8 * suc n ≡ suc (suc (suc (suc (suc (suc (suc (suc (8 * n))))))))
 eight_more n = omega arith
 
 -- the bytes end inside those words
-behind_short : (k n : ℕ) (bytes : List ℕ) → length bytes < 8 * n → (behind k n bytes ≡ plain_words bytes) × (behind_is_cut k n bytes ≡ true)
-unfolding behind behind_is_cut
-behind_short k zero bytes p = absurd (omega arith)
-behind_short k (suc n) (a ∷ b ∷ c ∷ d ∷ e ∷ f ∷ g ∷ h ∷ rest) p =
-    let t = behind_short k n rest (omega arith) in (ap (λ l. little_number 8 (a ∷ b ∷ c ∷ d ∷ e ∷ f ∷ g ∷ h ∷ []) ∷ l) t.0, t.1)
-behind_short k (suc n) bytes p = (refl, refl)
+behind_short : (k n at : ℕ) (bytes : List ℕ) → length bytes < 8 * n →
+    (behind k n bytes ≡ plain_words bytes) × (behind_is_cut k n bytes ≡ true) × (behind_ends k n at bytes ≡ take (length (plain_words bytes)) (word_ends at n) ++ capped (at + length bytes) ∷ [])
+unfolding behind behind_is_cut behind_ends
+behind_short k zero at bytes p = absurd (omega arith)
+behind_short k (suc n) at (a ∷ b ∷ c ∷ d ∷ e ∷ f ∷ g ∷ h ∷ rest) p =
+    let t = behind_short k n (at + 8) rest (omega arith) in
+    let last : (at + 8) + length rest ≡ at + length (a ∷ b ∷ c ∷ d ∷ e ∷ f ∷ g ∷ h ∷ rest) = omega arith in (
+      ap (λ l. little_number 8 (a ∷ b ∷ c ∷ d ∷ e ∷ f ∷ g ∷ h ∷ []) ∷ l) t.0,
+      t.1,
+      ap (λ l. capped (at + 8) ∷ l) t.2 ∙ ap (λ p. capped (at + 8) ∷ (take (length (plain_words rest)) (word_ends (at + 8) n) ++ capped p ∷ [])) last,
+    )
+behind_short k (suc n) at bytes p = (refl, refl, refl)
 
 -- they are all there
-behind_long : (k n : ℕ) (bytes : List ℕ) → 8 * n ≤ length bytes →
+behind_long : (k n at : ℕ) (bytes : List ℕ) → 8 * n ≤ length bytes →
     (behind k n bytes ≡ plain_words (take (8 * n) bytes) ++ given_in k (drop (8 * n) bytes)) × (behind_is_cut k n bytes ≡ is_cut_in k (drop (8 * n) bytes))
-unfolding behind behind_is_cut
-behind_long k zero bytes p = (refl, refl)
-behind_long k (suc n) (a ∷ b ∷ c ∷ d ∷ e ∷ f ∷ g ∷ h ∷ rest) p =
-    let t = behind_long k n rest (omega arith) in
-    rw (eight_more n) (ap (λ l. little_number 8 (a ∷ b ∷ c ∷ d ∷ e ∷ f ∷ g ∷ h ∷ []) ∷ l) t.0, t.1)
-behind_long k (suc n) bytes p = absurd (omega (arith, p))
+    × (behind_ends k n at bytes ≡ word_ends at n ++ ends_in k (at + 8 * n) (drop (8 * n) bytes))
+unfolding behind behind_is_cut behind_ends
+behind_long k zero at bytes p = let here : at ≡ at + 8 * 0 = omega arith in (refl, refl, ap (λ p. ends_in k p bytes) here)
+behind_long k (suc n) at (a ∷ b ∷ c ∷ d ∷ e ∷ f ∷ g ∷ h ∷ rest) p =
+    let t = behind_long k n (at + 8) rest (omega arith) in
+    let next : (at + 8) + 8 * n ≡ at + suc (suc (suc (suc (suc (suc (suc (suc (8 * n)))))))) = omega arith in
+    rw (eight_more n) (
+      ap (λ l. little_number 8 (a ∷ b ∷ c ∷ d ∷ e ∷ f ∷ g ∷ h ∷ []) ∷ l) t.0,
+      t.1,
+      ap (λ l. capped (at + 8) ∷ l) t.2 ∙ ap (λ p. capped (at + 8) ∷ (word_ends (at + 8) n ++ ends_in k p (drop (8 * n) rest))) next,
+    )
+behind_long k (suc n) at bytes p = absurd (omega (arith, p))
 
 none_given : (k : ℕ) → given_in k [] ≡ []
 none_given zero = refl
@@ -71,62 +108,80 @@ none_cut : (k : ℕ) → is_cut_in k [] ≡ false
 none_cut zero = refl
 none_cut (suc k) = none_cut k
 
+none_ends : (k at : ℕ) → ends_in k at [] ≡ capped at ∷ []
+none_ends zero at = refl
+none_ends (suc k) at = let here : at + 0 ≡ at = omega arith in none_ends k (at + 0) ∙ ap (λ p. capped p ∷ []) here
+
 -- What is shown of all short bytes holds behind words as they are, too.
 Told : ℕ → Type 0
-Told k = (at : ℕ) (bytes : List ℕ) → length bytes ≤ k → Tells (course 0 at bytes) (given_in k bytes) (is_cut_in k bytes)
+Told k = (at : ℕ) (bytes : List ℕ) → length bytes ≤ k → Tells (course 0 (capped at) bytes) (given_in k bytes) (is_cut_in k bytes) (ends_in k at bytes)
 
-plain_told : (k : ℕ) → Told k → (n at : ℕ) (bytes : List ℕ) → length bytes ≤ k → Tells (course n at bytes) (behind k n bytes) (behind_is_cut k n bytes)
-unfolding behind behind_is_cut Told
+plain_told : (k : ℕ) → Told k → (n at : ℕ) (bytes : List ℕ) → length bytes ≤ k → Tells (course n (capped at) bytes) (behind k n bytes) (behind_is_cut k n bytes) (behind_ends k n at bytes)
+unfolding behind behind_is_cut behind_ends Told
 plain_told k t zero at bytes p = t at bytes p
 plain_told k t (suc n) at (a ∷ b ∷ c ∷ d ∷ e ∷ f ∷ g ∷ h ∷ rest) p =
-    tells_along (course_plain n at (a ∷ b ∷ c ∷ d ∷ e ∷ f ∷ g ∷ h ∷ []) rest refl) refl refl (tells_one _ _ (plain_told k t n (capped (at + 8)) rest (omega arith)))
-plain_told k t (suc n) at bytes p = tells_along (course_plain_stops n at bytes (omega arith)) refl refl (record { words = refl; cut = refl })
+    tells_along (plain_behind n at (a ∷ b ∷ c ∷ d ∷ e ∷ f ∷ g ∷ h ∷ []) rest refl) refl refl refl (tells_one _ _ (plain_told k t n (at + 8) rest (omega arith)))
+plain_told k t (suc n) at bytes p = tells_along (course_plain_stops n (capped at) bytes (omega arith)) refl refl refl (tells_stop at (length bytes))
 
 -- the three kinds of groups
-zeros_told : (k : ℕ) → Told k → (at : ℕ) (bytes : List ℕ) → length bytes ≤ k → Tells (course 0 at (0 ∷ bytes)) (given_in (suc k) (0 ∷ bytes)) (is_cut_in (suc k) (0 ∷ bytes))
+zeros_told : (k : ℕ) → Told k → (at : ℕ) (bytes : List ℕ) → length bytes ≤ k → Tells (course 0 (capped at) (0 ∷ bytes)) (given_in (suc k) (0 ∷ bytes)) (is_cut_in (suc k) (0 ∷ bytes)) (ends_in (suc k) at (0 ∷ bytes))
 unfolding Told head_rest first_word zeros_of plain_of
-zeros_told k t at [] p = tells_along (course_head_stops at 0 [] (lit< tt)) refl refl (record { words = refl; cut = refl })
+zeros_told k t at [] p = tells_along (course_head_stops (capped at) 0 [] (lit< tt)) refl refl refl (tells_stop at 1)
 zeros_told k t at (n ∷ rest) p =
     let many : 1 + n ≡ suc n = omega arith in
-    tells_false _ _ _ (le-ltb (suc (suc (length rest))) 2 (omega arith))
-    (tells_along (course_head at 0 (n ∷ []) rest refl) (ap (λ m. replicate m 0 ++ given_in k rest) many) refl (tells_one 0 _ (tells_zeros n _ (t _ rest (omega arith)))))
+    tells_false _ _ _ _ (le-ltb (suc (suc (length rest))) 2 (omega arith))
+    (tells_along (head_behind at 0 (n ∷ []) rest refl) (ap (λ m. replicate m 0 ++ given_in k rest) many) refl (ap (λ m. replicate m (capped (at + 2)) ++ ends_in k (at + 2) rest) many)
+    (tells_one 0 (capped (at + 2)) (tells_zeros n (capped (at + 2)) (t (at + 2) rest (omega arith)))))
 
-plain_run_told : (k : ℕ) → Told k → (at : ℕ) (bytes : List ℕ) → length bytes ≤ k → Tells (course 0 at (255 ∷ bytes)) (given_in (suc k) (255 ∷ bytes)) (is_cut_in (suc k) (255 ∷ bytes))
+plain_run_told : (k : ℕ) → Told k → (at : ℕ) (bytes : List ℕ) → length bytes ≤ k → Tells (course 0 (capped at) (255 ∷ bytes)) (given_in (suc k) (255 ∷ bytes)) (is_cut_in (suc k) (255 ∷ bytes)) (ends_in (suc k) at (255 ∷ bytes))
 unfolding Told head_rest first_word zeros_of plain_of
 plain_run_told k t at (a ∷ b ∷ c ∷ d ∷ e ∷ f ∷ g ∷ h ∷ n ∷ rest) p =
     let bytes : List ℕ = a ∷ b ∷ c ∷ d ∷ e ∷ f ∷ g ∷ h ∷ n ∷ rest in
     let one : ℕ = little_number 8 (a ∷ b ∷ c ∷ d ∷ e ∷ f ∷ g ∷ h ∷ []) in
-    let after : Tells (course n (capped (at + 10)) rest) (behind k n rest) (behind_is_cut k n rest) = plain_told k t n (capped (at + 10)) rest (omega arith) in
-    let step = course_head at 255 (a ∷ b ∷ c ∷ d ∷ e ∷ f ∷ g ∷ h ∷ n ∷ []) rest refl in
+    let after : Tells (course n (capped (at + 10)) rest) (behind k n rest) (behind_is_cut k n rest) (behind_ends k n (at + 10) rest) = plain_told k t n (at + 10) rest (omega arith) in
+    let step = head_behind at 255 (a ∷ b ∷ c ∷ d ∷ e ∷ f ∷ g ∷ h ∷ n ∷ []) rest refl in
     let head : 10 + 8 * n ≡ suc (suc (suc (suc (suc (suc (suc (suc (suc (suc (8 * n)))))))))) = omega arith in
     ⊎_elim
-    (λ q. let s = behind_short k n rest q in
-    tells_true _ _ _ (lt-ltb (length (255 ∷ bytes)) (10 + 8 * n) (omega arith))
-    (tells_along step (cond-false _ _ _ (le-ltb (length bytes) 9 (omega arith)) ∙ ap (λ l. one ∷ l) (sym s.0)) (sym s.1) (tells_one one _ after)))
-    (λ q. let l = behind_long k n rest q in
-    tells_false _ _ _ (le-ltb (length (255 ∷ bytes)) (10 + 8 * n) (omega arith))
+    (λ q. let s = behind_short k n (at + 10) rest q in
+    let given : given_of (255 ∷ bytes) ≡ one ∷ plain_words rest = cond-false _ _ _ (le-ltb (length bytes) 9 (omega arith)) in
+    let last : at + length (255 ∷ bytes) ≡ (at + 10) + length rest = omega arith in
+    tells_true _ _ _ _ (lt-ltb (length (255 ∷ bytes)) (10 + 8 * n) (omega arith))
+    (tells_along step (given ∙ ap (λ l. one ∷ l) (sym s.0)) (sym s.1)
+    (ap (λ ws. take (length ws) (capped (at + 10) ∷ word_ends (at + 10) n) ++ capped (at + length (255 ∷ bytes)) ∷ []) given
+    ∙ ap (λ p. capped (at + 10) ∷ (take (length (plain_words rest)) (word_ends (at + 10) n) ++ capped p ∷ [])) last ∙ ap (λ l. capped (at + 10) ∷ l) (sym s.2))
+    (tells_one one (capped (at + 10)) after)))
+    (λ q. let l = behind_long k n (at + 10) rest q in
+    let next : at + suc (suc (suc (suc (suc (suc (suc (suc (suc (suc (8 * n)))))))))) ≡ (at + 10) + 8 * n = omega arith in
+    tells_false _ _ _ _ (le-ltb (length (255 ∷ bytes)) (10 + 8 * n) (omega arith))
     (tells_along step
     (ap (λ m. one ∷ (plain_words (take (8 * n) rest) ++ given_in k (drop m (255 ∷ bytes)))) head ∙ ap (λ w. one ∷ w) (sym l.0))
     (ap (λ m. is_cut_in k (drop m (255 ∷ bytes))) head ∙ sym l.1)
-    (tells_one one _ after)))
+    (ap (λ m. capped (at + 10) ∷ (word_ends (at + 10) n ++ ends_in k (at + m) (drop m (255 ∷ bytes)))) head
+    ∙ ap (λ p. capped (at + 10) ∷ (word_ends (at + 10) n ++ ends_in k p (drop (8 * n) rest))) next ∙ ap (λ w. capped (at + 10) ∷ w) (sym l.2))
+    (tells_one one (capped (at + 10)) after)))
     (cases_lt (length rest) (8 * n))
-plain_run_told k t at bytes p = tells_along (course_head_stops at 255 bytes (omega arith)) refl refl (record { words = refl; cut = refl })
+plain_run_told k t at bytes p = tells_along (course_head_stops (capped at) 255 bytes (omega arith)) refl refl refl (tells_stop at (length (255 ∷ bytes)))
 
-tells_marked : {ws : List ℕ} {u : Bool} (w z o x at : ℕ) (bytes : List ℕ) → w ≡ x → z ≡ 0 → o ≡ 0 → Tells (course 0 at bytes) ws u → Tells (gives w at (zeros_then z at (course o at bytes))) (x ∷ ws) u
-tells_marked w z o x at bytes e f g t = tells_along (ap (λ n. gives n at (zeros_then z at (course o at bytes))) e ∙ ap (λ n. gives x at (zeros_then n at (course o at bytes))) f ∙ ap (λ n. gives x at (course n at bytes)) g) refl refl (tells_one x at t)
+tells_marked : {ws : List ℕ} {u : Bool} {ps : List ℕ} (w z o x at : ℕ) (bytes : List ℕ) → w ≡ x → z ≡ 0 → o ≡ 0 → Tells (course 0 at bytes) ws u ps → Tells (gives w at (zeros_then z at (course o at bytes))) (x ∷ ws) u (at ∷ ps)
+tells_marked w z o x at bytes e f g t = tells_along (ap (λ n. gives n at (zeros_then z at (course o at bytes))) e ∙ ap (λ n. gives x at (zeros_then n at (course o at bytes))) f ∙ ap (λ n. gives x at (course n at bytes)) g) refl refl refl (tells_one x at t)
 
 -- a head of so many further bytes that is a word by itself
 marked_in : (k : ℕ) → Told k → (at tag m x : ℕ) (bytes : List ℕ) → length bytes ≤ k → m ≡ head_rest tag → (m ≤ length bytes → first_word tag (take m bytes) ≡ x) → zeros_of tag (take m bytes) ≡ 0 → plain_of tag (take m bytes) ≡ 0 →
-    Tells (course 0 at (tag ∷ bytes)) (cond (ltb (suc (length bytes)) (suc m)) [] (x ∷ given_in k (drop m bytes))) (cond (ltb (suc (length bytes)) (suc m)) true (is_cut_in k (drop m bytes)))
+    Tells (course 0 (capped at) (tag ∷ bytes)) (cond (ltb (suc (length bytes)) (suc m)) [] (x ∷ given_in k (drop m bytes))) (cond (ltb (suc (length bytes)) (suc m)) true (is_cut_in k (drop m bytes)))
+    (cond (ltb (suc (length bytes)) (suc m)) (capped (at + suc (length bytes)) ∷ []) (capped (at + suc m) ∷ ends_in k (at + suc m) (drop m bytes)))
 unfolding Told
 marked_in k t at tag m x bytes p r e z o = ⊎_elim
-    (λ q. tells_true _ _ _ (lt-ltb (suc (length bytes)) (suc m) (omega arith))
-    (tells_along (course_head_stops at tag bytes (omega arith)) refl refl (record { words = refl; cut = refl })))
+    (λ q. tells_true _ _ _ _ (lt-ltb (suc (length bytes)) (suc m) (omega arith))
+    (tells_along (course_head_stops (capped at) tag bytes (omega arith)) refl refl refl (tells_stop at (suc (length bytes)))))
     (λ q. let size : length (take m bytes) ≡ head_rest tag = omega (arith, length-take m bytes) in
-    let step = course_head at tag (take m bytes) (drop m bytes) size in
+    let whole : length (take m bytes) ≡ m = omega (arith, size, r) in
+    let step = head_behind at tag (take m bytes) (drop m bytes) size in
     let short : length (drop m bytes) ≤ k = omega (arith, length-drop m bytes) in
-    tells_false _ _ _ (le-ltb (suc (length bytes)) (suc m) (omega arith))
-    (tells_along (ap (λ l. course 0 at (tag ∷ l)) (sym (take-append-drop m bytes)) ∙ step) refl refl (tells_marked _ _ _ x _ (drop m bytes) (e q) z o (t _ (drop m bytes) short))))
+    let place : capped (at + suc (length (take m bytes))) ≡ capped (at + suc m) = ap (λ n. capped (at + suc n)) whole in
+    tells_false _ _ _ _ (le-ltb (suc (length bytes)) (suc m) (omega arith))
+    (tells_along (ap (λ l. course 0 (capped at) (tag ∷ l)) (sym (take-append-drop m bytes)) ∙ step
+    ∙ ap (λ p. gives (first_word tag (take m bytes)) p (zeros_then (zeros_of tag (take m bytes)) p (course (plain_of tag (take m bytes)) p (drop m bytes)))) place) refl refl refl
+    (tells_marked _ _ _ x (capped (at + suc m)) (drop m bytes) (e q) z o (t (at + suc m) (drop m bytes) short))))
     (cases_lt (length bytes) m)
 
 -- a tag spreads only the bytes that it marks
@@ -139,7 +194,7 @@ pick : {A : Type 0} (x y : Bool) (a b c : A) → x ≡ false → y ≡ false →
 pick x y a b c p q = cond-false x _ _ p ∙ cond-false y _ _ q
 
 marked_told : (k : ℕ) → Told k → (at tag : ℕ) (bytes : List ℕ) → tag ≢ 0 → tag ≢ 255 → length bytes ≤ k →
-    Tells (course 0 at (tag ∷ bytes)) (given_in (suc k) (tag ∷ bytes)) (is_cut_in (suc k) (tag ∷ bytes))
+    Tells (course 0 (capped at) (tag ∷ bytes)) (given_in (suc k) (tag ∷ bytes)) (is_cut_in (suc k) (tag ∷ bytes)) (ends_in (suc k) at (tag ∷ bytes))
 unfolding head_rest first_word zeros_of plain_of
 marked_told k t at tag bytes z o p =
     let m : ℕ = marks 8 tag in
@@ -148,25 +203,29 @@ marked_told k t at tag bytes z o p =
     let long : group_length (tag ∷ bytes) ≡ suc m = pick (eqb tag 0) (eqb tag 255) 2 (10 + 8 * slice_index bytes 8) (1 + m) not_zero not_full ∙ one-add m in
     let spelled : group_words (tag ∷ bytes) ≡ spread 8 tag bytes ∷ [] = pick (eqb tag 0) (eqb tag 255) _ _ _ not_zero not_full in
     let before : given_of (tag ∷ bytes) ≡ [] = cond-false (eqb tag 255) _ _ not_full in
+    let placed : front_ends at (tag ∷ bytes) ≡ capped (at + suc m) ∷ [] = pick (eqb tag 0) (eqb tag 255) _ _ _ not_zero not_full ∙ ap (λ n. capped (at + n) ∷ []) (one-add m) in
     let whole : List ℕ → List ℕ = λ ws. cond (ltb (suc (length bytes)) (suc m)) [] (ws ++ given_in k (drop m bytes)) in
     tells_along refl
     (ap (λ n. cond (ltb (suc (length bytes)) n) (given_of (tag ∷ bytes)) (group_words (tag ∷ bytes) ++ given_in k (drop n (tag ∷ bytes)))) long
     ∙ ap (λ ws. cond (ltb (suc (length bytes)) (suc m)) ws (group_words (tag ∷ bytes) ++ given_in k (drop m bytes))) before ∙ ap whole spelled)
     (ap (λ n. cond (ltb (suc (length bytes)) n) true (is_cut_in k (drop n (tag ∷ bytes)))) long)
+    (ap (λ n. cond (ltb (suc (length bytes)) n) (take (length (given_of (tag ∷ bytes))) (front_ends at (tag ∷ bytes)) ++ capped (at + suc (length bytes)) ∷ []) (front_ends at (tag ∷ bytes) ++ ends_in k (at + n) (drop n (tag ∷ bytes)))) long
+    ∙ ap (λ ws. cond (ltb (suc (length bytes)) (suc m)) (take (length ws) (front_ends at (tag ∷ bytes)) ++ capped (at + suc (length bytes)) ∷ []) (front_ends at (tag ∷ bytes) ++ ends_in k (at + suc m) (drop m bytes))) before
+    ∙ ap (λ ps. cond (ltb (suc (length bytes)) (suc m)) (capped (at + suc (length bytes)) ∷ []) (ps ++ ends_in k (at + suc m) (drop m bytes))) placed)
     (marked_in k t at tag m (spread 8 tag bytes) bytes p (sym (pick (eqb tag 0) (eqb tag 255) 1 9 m not_zero not_full))
     (λ q. pick (eqb tag 0) (eqb tag 255) _ _ _ not_zero not_full ∙ spread-take tag m bytes refl q)
     (cond-false (eqb tag 0) _ _ not_zero) (cond-false (eqb tag 255) _ _ not_full))
 
 told : (k : ℕ) → Told k
 unfolding Told
-told zero at [] p = tells_along (course_none at) refl refl (record { words = refl; cut = refl })
+told zero at [] p = tells_along (course_none (capped at)) refl refl refl (record { words = refl; cut = refl; ends = refl })
 told zero at (tag ∷ bytes) p = absurd (omega arith)
-told (suc k) at [] p = tells_along (course_none at) (none_given k) (none_cut k) (record { words = refl; cut = refl })
+told (suc k) at [] p = tells_along (course_none (capped at)) (none_given k) (none_cut k) (none_ends (suc k) at) (record { words = refl; cut = refl; ends = refl })
 told (suc k) at (tag ∷ bytes) p = ⊎_elim
     (λ z. rw z (zeros_told k (told k) at bytes (omega arith)))
     (λ z. ⊎_elim (λ o. rw o (plain_run_told k (told k) at bytes (omega arith))) (λ o. marked_told k (told k) at tag bytes z o (omega arith)) (cases_eq tag 255))
     (cases_eq tag 0)
 
-pub course_tells : (at : ℕ) (bytes : List ℕ) → (words_of (course 0 at bytes) ≡ unpacked bytes) × (is_cut_of (course 0 at bytes) ≡ packed_is_cut bytes)
+pub course_tells : (at : ℕ) (bytes : List ℕ) → (words_of (course 0 (capped at) bytes) ≡ unpacked bytes) × (is_cut_of (course 0 (capped at) bytes) ≡ packed_is_cut bytes) × (places_of (course 0 (capped at) bytes) ≡ packed_ends at bytes)
 unfolding Told
-course_tells at bytes = let t = told (length bytes) at bytes (omega arith) in (t.words, t.cut)
+course_tells at bytes = let t = told (length bytes) at bytes (omega arith) in (t.words, t.cut, t.ends)

@@ -64,7 +64,3 @@ course_in (suc f) (suc n) at bytes =
 -- from a position on, so many words as they are and then groups
 unfoldable pub course : ℕ → ℕ → List ℕ → Course
 course plain at bytes = course_in (suc (length bytes)) plain at bytes
-
--- From a position on, the position after each word that packed bytes give, and at the end that of the whole input. A position stops at 2 ^ 64 - 1.
-abbrev pub packed_ends : ℕ → List ℕ → List ℕ
-packed_ends at bytes = places_of (course 0 at bytes)

@@ -1,7 +1,8 @@
 //! A source of words over packed bytes.
 
-ghost use Rattle.cap_pack.specs.Course.{is_cut_of, packed_ends, places_of, words_of};
+ghost use Rattle.cap_pack.specs.Course.{is_cut_of, places_of, words_of};
 ghost use Rattle.cap_pack.specs.State.{ahead, has_ended, has_failed, source_spent};
+ghost use Rattle.cap_spec.specs.PackedEnds.{packed_ends};
 ghost use Rattle.cap_spec.specs.Unpacking.{packed_is_cut, unpacked};
 ghost use Rattle.std.specs.Option.{option_map};
 ghost use Rattle.std.specs.Prelude.{◌<◌, ◌≡◌, [], OnSome, false, unwrap_or, ℕ};

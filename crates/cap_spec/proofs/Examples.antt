@@ -10,6 +10,7 @@ use Rattle.cap_spec.specs.PathTexts.{IsBadAt, IsPath}
 use Rattle.cap_spec.specs.Scalars.{scalar_words}
 use Rattle.cap_spec.specs.Texts.{segments_text, dump_text, vet_text, accepted}
 use Rattle.cap_spec.specs.Tree.{null, struct, scalars, structs, more, none}
+use Rattle.cap_spec.specs.PackedEnds.{packed_ends}
 use Rattle.cap_spec.specs.Unpacking.{unpacked, packed_is_cut}
 use Rattle.cap_spec.specs.declared.Step.TheVariants.{Ptr, Item}
 
@@ -44,6 +45,13 @@ unpacked-cut = refl
 
 cut-in_plain : packed_is_cut (255 ∷ (replicate 8 0x8a ++ 2 ∷ replicate 12 0x8a)) ≡ true
 cut-in_plain = refl
+
+-- the positions in groups of each kind, and in a part of one
+packed_ends-groups : packed_ends 0 (0x10 ∷ 1 ∷ 0 ∷ 2 ∷ 255 ∷ (replicate 8 0x8a ++ 1 ∷ (replicate 8 7 ++ 1 ∷ 0 ∷ []))) ≡ 2 ∷ 4 ∷ 4 ∷ 4 ∷ 14 ∷ 22 ∷ 24 ∷ 24 ∷ []
+packed_ends-groups = refl
+
+packed_ends-cut : packed_ends 0 (255 ∷ (replicate 8 0x8a ++ 2 ∷ replicate 12 0x8a)) ≡ 10 ∷ 18 ∷ 22 ∷ []
+packed_ends-cut = refl
 
 -- Two segments, a far pointer, and a landing pad with its struct: the table is written with zero padding.
 framed-far : frame_text ((0x0000000100000002 ∷ []) ∷ (0x0000000100000000 ∷ 42 ∷ []) ∷ [])

@@ -4,6 +4,7 @@ pub mod WordBytes
 pub mod Plain
 pub mod Unpacking
 pub mod Groups
+pub mod PackedEnds
 pub mod MakingGroups
 pub mod OneUnpacking
 pub mod Repacking

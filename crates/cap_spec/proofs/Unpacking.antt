@@ -17,7 +17,7 @@ pub group_some : (tag : ℕ) (bytes : List ℕ) → 0 < group_length (tag ∷ by
 group_some tag bytes = some_of (tag == 0) _ _ (omega arith) (some_of (tag == 255) _ _ (omega arith) (omega arith))
 
 -- what is left behind a group is shorter
-drop_less : (k n x : ℕ) (bytes : List ℕ) → 0 < k → length bytes ≤ n → length (drop k (x ∷ bytes)) ≤ n
+pub drop_less : (k n x : ℕ) (bytes : List ℕ) → 0 < k → length bytes ≤ n → length (drop k (x ∷ bytes)) ≤ n
 drop_less k n x bytes p q = let d = length-drop k (x ∷ bytes) in omega arith
 
 -- no bytes give no words

@@ -1,0 +1,5 @@
+use Rattle.cap_spec.proofs.PackedEnds.{ends_none, ends_off, ends_cut}
+use Rattle.cap_laws.proofs.packing.ends_by_groups.Goals as goal
+
+pub returns : goal.returns
+returns c = (ends_none, ends_off, ends_cut)
