@@ -25,3 +25,7 @@ pub record IsReport (m : List (List ℕ)) (words depth : ℕ) (r : Report) (t : 
 -- the root denotes a tree within the limits, of the reported numbers
 abbrev pub IsAccepted : List (List ℕ) → ℕ → ℕ → Report → Type 0
 IsAccepted m words depth r = (t : Tree) × IsReport m words depth r t
+
+-- the same within the greatest limits that a walk may have
+abbrev pub IsVetted : List (List ℕ) → Report → Type 0
+IsVetted m r = IsAccepted m 268435456 256 r

@@ -1,11 +1,12 @@
 -- What an accepted message is.
+use Rattle.cap_frame.specs.declared.segments.Segments as segments
 use Rattle.cap_vet.specs.declared.report.Report.{Report}
 use Rattle.cap_vet.specs.declared.vetted.Vetted.{Vetted}
 
 -- its report
-abbrev pub report_of : {M : Type 0} → Vetted M → Report
+abbrev pub report_of : {M : Type 0} {g : segments.Ghosts M} → Vetted M g → Report
 report_of v = v.report
 
 -- the message
-abbrev pub message_of : {M : Type 0} → Vetted M → M
+abbrev pub message_of : {M : Type 0} {g : segments.Ghosts M} → Vetted M g → M
 message_of v = v.message.now

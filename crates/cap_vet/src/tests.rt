@@ -586,3 +586,22 @@ fn a_chain_that_doubles(rt: HostRuntime) -> Result<(), Fail> {
     }
     Ok(())
 }
+
+// A clone, by its bound alone.
+fn cloned<T: Clone>(x: &T) -> Result<T, Fail> {
+    Ok(x.clone()?)
+}
+
+#[test]
+fn an_accepted_message_is_copied(rt: HostRuntime) -> Result<(), Fail> {
+    let segment = [0];
+    let message = OneSegment::new(&segment).ok_or("no message")?;
+    let limits = Limits::new(0, 0).ok_or("no limits")?;
+    let Ok(vetted) = vet(&message, limits) else {
+        return Err("refused".into());
+    };
+    let copied = vetted;
+    assert_eq!(rt; cloned(&vetted)?.report(), vetted.report());
+    assert_eq!(rt; Ok(copied.report()), accepted(0, 0, 1));
+    Ok(())
+}

@@ -34,7 +34,7 @@ pub fn vet<'m, M: Segments>(message: &'m M, limits: Limits) -> Result<Vetted<'m,
     ensures accepts { (t : Tree) (c d : ℕ) → Denotes (M.segments message.now) 0 0 t c d → c ≤ words_of limits → d ≤ depth_of limits → IsOk result }
 {
     match walk(message, &limits) {
-        Ok(report) => Ok(Vetted::new(message, report)),
+        Ok(report) => Ok(Vetted { message, report }),
         Err(refusal) => Err(refusal),
     }
 }
