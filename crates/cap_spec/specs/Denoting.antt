@@ -27,7 +27,7 @@ value_at words b bits i = field (slice_index words (b + (i * bits) / 64)) ((i * 
 abbrev pub values_of : List (List ℕ) → ℕ → ℕ → ℕ → ℕ → List ℕ
 values_of m t b c n = map (value_at (segment_of m t) b (element_bits c)) (range_with_len 0 n)
 
--- how many levels the n elements of a struct list take below their list: none (a later change of the rule is a change of this line)
+-- how many levels the n elements of a struct list take below their list: none. The number stands here alone.
 abbrev pub element_levels : ℕ → ℕ
 element_levels n = 0
 
