@@ -110,7 +110,7 @@ paths_within_depth m t c d h p level s w k t' b q tag g f has =
     omega (arith, o, r.2, g.4, denoted_depth m 0 0 t c d h, denoted_depth m s w r.0 r.1.0 r.1.1 r.1.2)
 
 -- nothing is wrong where a tree is denoted
-denoted_not_wrong : (m : List (List ℕ)) (s w : ℕ) (t : Tree) (c d : ℕ) → Denotes m s w t c d → (v : Reason) → Wrong m s w v → ⊥
+pub denoted_not_wrong : (m : List (List ℕ)) (s w : ℕ) (t : Tree) (c d : ℕ) → Denotes m s w t c d → (v : Reason) → Wrong m s w v → ⊥
 denoted_not_wrong m s w null c d h v g = null-not_wrong m s w c h.0 v g
 denoted_not_wrong m s w (cap i) c d h v g = cap-not_wrong m s w c i h.0 v g
 denoted_not_wrong m s w (struct ws ts) c d h v g = object-not_wrong m s w h.0 h.1 h.2 h.3 h.6.finds v g

@@ -13,3 +13,4 @@ mod Stacks
 mod Verdicts
 mod ObjectFrames
 mod Looks
+mod Keeping

@@ -30,18 +30,19 @@ impl<'m, M: Segments> Copy for Vetted<'m, M> {}
 impl<'m, M: Segments> Vetted<'m, M> {
     ghost use Rattle.cap_vet.specs.Vettings.{message_of, report_of};
 
-    /// The charge, the depth, the pointers and the capabilities of the message's tree.
+    /// The charge, the depth, the pointers and the capabilities of the message's tree, which is
+    /// within 268435456 words and 256 levels.
     pub fn report(&self) -> Report
         ensures value { result ≡ report_of self.now }
-        ensures accepted { ∥ IsVetted (M.segments (message_of self.now)) result ∥₁ }
+        ensures accepted { IsVetted (M.segments (message_of self.now)) result }
     {
         self.report
     }
 
-    /// The message itself.
+    /// The message itself, whose root denotes that tree.
     pub fn message(&self) -> &'m M
         ensures value { result.now ≡ message_of self.now }
-        ensures accepted { ∥ IsVetted (M.segments result.now) (report_of self.now) ∥₁ }
+        ensures accepted { IsVetted (M.segments result.now) (report_of self.now) }
     {
         self.message
     }

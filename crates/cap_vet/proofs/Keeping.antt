@@ -1,0 +1,48 @@
+-- What an accepted message keeps, of which only that it is so is kept, tells its tree.
+use Rattle.std.proofs.Common.{ℕ, ◌+◌, ◌≤◌, List, ◌≡◌, sym, ap, subst, ◌∙◌, true, Option, None, Some}
+use Rattle.std.proofs.Props.{props}
+use Rattle.std.proofs.Math.Logic.{∥∥₁_elim, ∥∥₁_map}
+use Rattle.cap_spec.specs.Denoting.{Denotes}
+use Rattle.cap_spec.specs.Paths.{IsFirstCap}
+use Rattle.cap_spec.specs.Tree.{Tree, pointer_count, cap_count, has_cap}
+use Rattle.cap_spec.proofs.Deciding.{TreeWithin, tree_within}
+use Rattle.cap_spec.proofs.OneTree.{Same, one_tree}
+use Rattle.cap_spec.proofs.PathCounts.{first_cap}
+use Rattle.cap_spec.proofs.Preorder.{one_first_cap}
+use Rattle.cap_vet.specs.Reports.{IsFirstCapOf, IsReport, IsVetted}
+use Rattle.cap_vet.specs.declared.report.Report.{Report}
+
+-- the first capability of a message that denotes a tree
+first_cap_kept : (m : List (List ℕ)) (t : Tree) (c d : ℕ) → Denotes m 0 0 t c d → (first : Option (ℕ × ℕ)) → ∥ IsFirstCapOf m first ∥₁ → IsFirstCapOf m first
+first_cap_kept m t c d h None p =
+    let one : IsProp ⊥ = hlevel props in
+    λ path level s w k i r lead. ∥∥₁_elim p one (λ g. g path level s w k i r lead)
+first_cap_kept m t c d h (Some place) p =
+    let one_bool : IsProp (has_cap t ≡ true) = hlevel props in
+    let has : has_cap t ≡ true = ∥∥₁_elim p one_bool (λ g. (first_cap m t c d h).1 (place.0, place.1, g)) in
+    let g = (first_cap m t c d h).0 has in
+    let one_place : IsProp ((g.0 ≡ place.0) × (g.1 ≡ place.1)) = hlevel props in
+    let same : (g.0 ≡ place.0) × (g.1 ≡ place.1) = ∥∥₁_elim p one_place (λ x. one_first_cap m g.0 g.1 place.0 place.1 g.2 x) in
+    subst (λ u. IsFirstCap m u place.1) same.0 (subst (λ u. IsFirstCap m g.0 u) same.1 g.2)
+
+-- A message that may be accepted is accepted.
+pub vetted_kept : (m : List (List ℕ)) (r : Report) → ∥ IsVetted m r ∥₁ → IsVetted m r
+vetted_kept m r h =
+    let x : TreeWithin m 256 0 0 = tree_within m 256 0 0 (∥∥₁_map h (λ (t, a). (t, r.charge, r.depth, a.denotes, a.shallow))) in
+    let t : Tree = x.0 in
+    let same : (u : Tree) → IsReport m 268435456 256 r u → Same t u x.1 r.charge x.2 r.depth = λ u a. one_tree m 0 0 t u x.1 x.2 r.charge r.depth x.3 a.denotes in
+    let one : (a b : ℕ) → IsProp (a ≡ b) = λ a b. hlevel props in
+    let one_le : (a b : ℕ) → IsProp (a ≤ b) = λ a b. hlevel props in
+    let charge : x.1 ≡ r.charge = ∥∥₁_elim h (one x.1 r.charge) (λ (u, a). (same u a).charge) in
+    let depth : x.2 ≡ r.depth = ∥∥₁_elim h (one x.2 r.depth) (λ (u, a). (same u a).depth) in (
+      t,
+      record {
+        denotes = subst (λ c. Denotes m 0 0 t c r.depth) charge (subst (λ d. Denotes m 0 0 t x.1 d) depth x.3);
+        within = ∥∥₁_elim h (one_le r.charge 268435456) (λ (u, a). a.within);
+        shallow = ∥∥₁_elim h (one_le r.depth 256) (λ (u, a). a.shallow);
+        pointers = ∥∥₁_elim h (one r.pointers (pointer_count t)) (λ (u, a). a.pointers ∙ ap pointer_count (sym (same u a).part));
+        caps = ∥∥₁_elim h (one r.caps (cap_count t)) (λ (u, a). a.caps ∙ ap cap_count (sym (same u a).part));
+        first_cap = first_cap_kept m t x.1 x.2 x.3 r.first_cap (∥∥₁_map h (λ (u, a). a.first_cap));
+        few = ∥∥₁_elim h (one_le r.pointers (268435456 + 1)) (λ (u, a). a.few);
+      },
+    )
