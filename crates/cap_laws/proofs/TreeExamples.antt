@@ -1,18 +1,23 @@
 -- Small messages that meet what the laws on trees, paths and verdicts ask.
-use Rattle.std.proofs.Common.{ℕ, List, [], ◌∷◌, ◌≡◌, ◌<◌, ◌⊎◌, refl, sym, subst, arith, lit<, lit≤, inl, inr}
+use Rattle.std.proofs.Common.{ℕ, List, [], ◌∷◌, ◌≡◌, ◌<◌, ◌⊎◌, refl, sym, ap, ◌∙◌, subst, pos, arith, lit<, lit≤, inl, inr}
 use Rattle.std.specs.List.{AllByRecursion}
 use Rattle.cap_spec.specs.Words.{IsWord}
-use Rattle.cap_spec.specs.Following.{near, rank, Condition, Wrong}
+use Rattle.cap_spec.specs.Following.{near, rank, to_cap, to_null, to_object, Condition, Wrong}
 use Rattle.cap_spec.specs.Tree.{Tree, cap, struct, structs, none, more, IsTree, pointer_count, cap_count}
 use Rattle.cap_spec.specs.Denoting.{Finds, Denotes, DenoteEach, AreElements}
 use Rattle.cap_spec.specs.Faults.{IsFirstReason, IsRefused, is_past}
 use Rattle.cap_spec.specs.Paths.{word, Reaches, Before, IsOneOf, IsPlace, IsTour, IsFirstCap}
+use Rattle.cap_spec.specs.Occupying.{AreApart, IsDisjoint, IsPlaceOf, Occupies}
 use Rattle.cap_spec.specs.Verdicts.{CostOf, Justified}
 use Rattle.cap_spec.specs.declared.Reason.{Reason}
 use Rattle.cap_spec.specs.declared.Reason.TheVariants.{NoRoot, Reserved, WordLimit}
 use Rattle.cap_spec.specs.declared.Refusal.{Refusal}
 use Rattle.cap_spec.specs.declared.Step.{Step}
 use Rattle.cap_spec.specs.declared.Step.TheVariants.{Ptr}
+use Rattle.cap_spec.proofs.Finding.{SameObject, one_object}
+use Rattle.cap_spec.proofs.Following.{one_lead}
+use Rattle.cap_spec.proofs.Messages.{one_word}
+use Rattle.cap_spec.proofs.Walks.{one_reached}
 use Rattle.cap_spec.proofs.Shapes.{denoted_is_tree}
 use Rattle.cap_spec.proofs.PathCounts.{pointer_path_reached, first_cap}
 use Rattle.cap_spec.proofs.PathCosts.{charge_is_cost}
@@ -212,3 +217,47 @@ denotes_one = (
   },
   elements_one,
 )
+
+-- a struct of one word, which no other pointer leads to
+abbrev lone : List (List ℕ)
+lone = (0x0000000100000000 ∷ 7 ∷ []) ∷ []
+
+finds_lone : Finds lone 0 0 0 0 1 0x0000000100000000
+finds_lone = record {
+  leads = near 0x0000000100000000 refl (λ e. omega (arith, e)) (lit< tt, (λ e. omega (arith, e)), refl, refl, refl) refl;
+  sits = record { exists = lit< tt; inside = lit≤ tt; composite = λ (a, b). absurd (omega (arith, a)) };
+}
+
+denotes_lone : Denotes lone 0 0 (struct (7 ∷ []) none) 1 1
+denotes_lone = (0, 0, 1, 0x0000000100000000, 0, 0, record { finds = finds_lone; kind = refl; data_words = refl; charge = refl; depth = refl }, (refl, refl, refl))
+
+-- its one path is the empty one, to the root
+root_alone : (path : List Step) (level s w : ℕ) → Reaches lone path level s w → (path ≡ []) × (s ≡ 0) × (w ≡ 0)
+root_alone path level s w r =
+    elim ((pointer_path_reached lone (struct (7 ∷ []) none) 1 1 denotes_lone path).1 (level, s, w, r)) [
+      | inl e ↦
+          let o = one_reached lone [] level 1 s w 0 0 (subst (λ (x : List Step). Reaches lone x level s w) e r) (0x0000000100000000, 0, refl, (refl, refl), refl) in (e, o.1, o.2)
+      | inr e ↦ absurd e
+    ]
+
+-- and uses the place of the word
+used_alone : (used : List (ℕ × ℕ)) → Occupies lone 0 0 used → used ≡ (0, 1) ∷ []
+used_alone used (p, has, inl (k, leads, e)) = absurd (cc (one_lead lone 0 0 k 0 to_null (to_object 0 (pos 1) 0x0000000100000000) leads finds_lone.leads).1)
+used_alone used (p, has, inr (inl (k, i, leads, e))) = absurd (cc (one_lead lone 0 0 k 0 (to_cap i) (to_object 0 (pos 1) 0x0000000100000000) leads finds_lone.leads).1)
+used_alone used (p, has, inr (inr (k, t, b, q, f, e))) =
+    let o : SameObject k t b q 0 0 1 0x0000000100000000 = one_object lone 0 0 k t b q 0 0 1 0x0000000100000000 f finds_lone in
+    let word_is : p ≡ 0x0000000100000000 = one_word lone 0 0 p 0x0000000100000000 has refl in
+    rw (word_is, o.segment, o.start, o.shape) at e
+
+used_on_path : (path : List Step) (level s w : ℕ) (used : List (ℕ × ℕ)) → Reaches lone path level s w → Occupies lone s w used → used ≡ (0, 1) ∷ []
+used_on_path path level s w used r occupied = let a = root_alone path level s w r in used_alone used (rw (a.1, a.2) at occupied)
+
+disjoint_lone : IsDisjoint lone
+disjoint_lone = record {
+  root = λ path (level, s, w, used, r, occupied, place). elim (subst (IsPlaceOf (0, 0)) (used_on_path path level s w used r occupied) place) [ inl e ↦ zero_not_one (ap (λ (x : ℕ × ℕ). x.1) e) | inr e ↦ e ];
+  each = λ path level s w used r occupied. subst AreApart (sym (used_on_path path level s w used r occupied)) ((λ h. h), tt);
+  apart = λ path other x (level, s, w, used, r, occupied, place) (level', s', w', used', r', occupied', place'). (root_alone path level s w r).0 ∙ sym (root_alone other level' s' w' r').0;
+}
+  where
+    zero_not_one : ◌≡◌ {A = ℕ} 0 1 → ⊥
+    zero_not_one e = omega (arith, e)
