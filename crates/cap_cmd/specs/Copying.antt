@@ -25,6 +25,8 @@ module _ {S : Type 0} (gs : source.Ghosts S) where
     pub none : OnSome (gs.words old) ((gs.words old ≡ Some []) × (gs.is_cut old ≡ true) × (gs.places old ≡ byte ∷ []))
     pub place : byte ≡ gs.place new
     pub usable : gs.spent old ≡ false
+    pub spent : gs.spent new ≡ true
+    pub failed : gs.failed new ≡ true
     pub none_failed : gs.failures new ≡ gs.failures old
 
   -- why there was no next word
