@@ -150,16 +150,20 @@ added_fits m words depth s w level frames report (looked.Null cost) few t (h, wi
 added_fits m words depth s w level frames report (looked.Cap cost) few t (h, within) = (omega arith, omega (arith, t.progress.bound, t.progress.within), omega (arith, t.progress.few, t.progress.bound, t.progress.within))
 added_fits m words depth s w level frames report (looked.Object cost deep below) few t (k, u, b, q, tag, o) = (omega (arith, o.within), omega (arith, t.progress.bound, t.progress.within), omega (arith, t.progress.few, t.progress.bound, t.progress.within))
 
+-- the stack has room for what is ahead of a word
+pub next_fits : (room : ℕ) (m : List (List ℕ)) (words depth s w level : ℕ) (frames : List Frame) (report : Report) → depth ≤ room → IsNext m words depth s w level frames report → length frames ≤ room
+next_fits room m words depth s w level frames report shallow t = omega (arith, length-reverse frames, t.high, t.low)
+
 -- the stack has room for what is below a word
-pub stack_fits : (m : List (List ℕ)) (words depth s w level : ℕ) (frames : List Frame) (report : Report) (l : Looked) → depth ≤ 256 → IsNext m words depth s w level frames report
-    → IsLooked m words depth report.charge s w level l → length (frames ++ option_to_list (frame_below l)) ≤ 256
-stack_fits m words depth s w level frames report l shallow t h =
+pub stack_fits : (room : ℕ) (m : List (List ℕ)) (words depth s w level : ℕ) (frames : List Frame) (report : Report) (l : Looked) → depth ≤ room → IsNext m words depth s w level frames report
+    → IsLooked m words depth report.charge s w level l → length (frames ++ option_to_list (frame_below l)) ≤ room
+stack_fits room m words depth s w level frames report l shallow t h =
     let a = length-append frames (option_to_list (frame_below l)) in
     let b = length-reverse frames in
     below l h a b
   where
     below : (l : Looked) → IsLooked m words depth report.charge s w level l → length (frames ++ option_to_list (frame_below l)) ≡ length frames + length (option_to_list (frame_below l)) → length (reverse frames) ≡ length frames
-        → length (frames ++ option_to_list (frame_below l)) ≤ 256
+        → length (frames ++ option_to_list (frame_below l)) ≤ room
     below (looked.Null cost) h a b = omega (arith, a, b, t.high, t.low)
     below (looked.Cap cost) h a b = omega (arith, a, b, t.high, t.low)
     below (looked.Object cost deep None) h a b = omega (arith, a, b, t.high, t.low)

@@ -39,8 +39,22 @@ pub fn vet<'m, M: Segments>(message: &'m M, limits: Limits) -> Result<Vetted<'m,
     }
 }
 
-// The report of the whole walk, or the first fault.
+// The report of the whole walk, or the first fault. The frames are made ready anew for each message, so
+// a walk that can't be deep has few of them.
 fn walk<M: Segments>(message: &M, limits: &Limits) -> Result<Report, Refusal>
+    ensures ok { IfOk result (IsAccepted (M.segments message.now) (words_of limits.now) (depth_of limits.now)) }
+    ensures err { IfErr result (IsRefused (M.segments message.now) (words_of limits.now) (depth_of limits.now)) }
+{
+    if limits.depth() <= 64 {
+        walk_within::<M, 64>(message, limits)
+    } else {
+        walk_within::<M, 256>(message, limits)
+    }
+}
+
+// The same with room for `N` frames.
+fn walk_within<M: Segments, const N: usize>(message: &M, limits: &Limits) -> Result<Report, Refusal>
+    requires shallow { (depth_of limits.now ≤ N) × (N ≤ 256) }
     ensures ok { IfOk result (IsAccepted (M.segments message.now) (words_of limits.now) (depth_of limits.now)) }
     ensures err { IfErr result (IsRefused (M.segments message.now) (words_of limits.now) (depth_of limits.now)) }
 {
@@ -52,7 +66,7 @@ fn walk<M: Segments>(message: &M, limits: &Limits) -> Result<Report, Refusal>
             pointers: 0,
         });
     }
-    let mut stack = Stack::new();
+    let mut stack: Stack<N> = Stack::new();
     let mut report = Report::default();
     match visit(message, limits, &mut stack, &mut report, 0, 0, 1) {
         Ok(()) => walk_on(message, limits, stack, report),
@@ -61,13 +75,14 @@ fn walk<M: Segments>(message: &M, limits: &Limits) -> Result<Report, Refusal>
 }
 
 // Goes on until no pointer word is left.
-fn walk_on<M: Segments>(
+fn walk_on<M: Segments, const N: usize>(
     message: &M,
     limits: &Limits,
-    mut stack: Stack,
+    mut stack: Stack<N>,
     mut report: Report,
 ) -> Result<Report, Refusal>
-    requires { IsWalking (M.segments message.now) (words_of limits.now) (depth_of limits.now) stack.items report }
+    requires shallow { (depth_of limits.now ≤ N) × (N ≤ 256) }
+    requires walking { IsWalking (M.segments message.now) (words_of limits.now) (depth_of limits.now) stack.items report }
     ensures ok { IfOk result (IsAccepted (M.segments message.now) (words_of limits.now) (depth_of limits.now)) }
     ensures err { IfErr result (IsRefused (M.segments message.now) (words_of limits.now) (depth_of limits.now)) }
 {

@@ -17,17 +17,18 @@ use cap_frame::Segments;
 use cap_spec::Refusal;
 
 /// The pointer words still to be looked at, the next ones last: one frame for each object on the
-/// way down that has some left.
-pub(crate) type Stack = ArrayVec<Frame, 256>;
+/// way down that has some left. A walk to a depth of at most `N` has room for all of them.
+pub(crate) type Stack<const N: usize> = ArrayVec<Frame, N>;
 
 /// Takes the next pointer word from the frames: its segment, its word, and the level of what it
 /// leads to.
-pub(crate) fn take_next<M: Segments>(
+pub(crate) fn take_next<M: Segments, const N: usize>(
     message: &M,
     limits: &Limits,
-    stack: &mut Stack,
+    stack: &mut Stack<N>,
     report: &Report,
 ) -> (u32, u32, u32)
+    requires shallow { (depth_of limits.now ≤ N) × (N ≤ 256) }
     requires walking { IsWalking (M.segments message.now) (words_of limits.now) (depth_of limits.now) stack.old.items report.now }
     requires some { 0 < length stack.old.items }
     ensures next { IsNext (M.segments message.now) (words_of limits.now) (depth_of limits.now) result.0 result.1 result.2 stack.new.items report.now }
@@ -44,15 +45,16 @@ pub(crate) fn take_next<M: Segments>(
 
 /// Looks at the next pointer word, and puts the frame of its object's pointers on the stack. The
 /// error is the first fault.
-pub(crate) fn visit<M: Segments>(
+pub(crate) fn visit<M: Segments, const N: usize>(
     message: &M,
     limits: &Limits,
-    stack: &mut Stack,
+    stack: &mut Stack<N>,
     report: &mut Report,
     s: u32,
     w: u32,
     level: u32,
 ) -> Result<(), Refusal>
+    requires shallow { (depth_of limits.now ≤ N) × (N ≤ 256) }
     requires next { IsNext (M.segments message.now) (words_of limits.now) (depth_of limits.now) s w level stack.old.items report.old }
     ensures ok { OnOk result (IsWalking (M.segments message.now) (words_of limits.now) (depth_of limits.now) stack.new.items report.new) }
     ensures falls { OnOk result (work_left (words_of limits.now) stack.new.items report.new < work_next (words_of limits.now) stack.old.items report.old) }
@@ -73,8 +75,9 @@ pub(crate) fn visit<M: Segments>(
 }
 
 // One more frame, where there is one.
-fn push_some(stack: &mut Stack, frame: Option<Frame>)
-    requires { length (stack.old.items ++ option_to_list frame) ≤ 256 }
+fn push_some<const N: usize>(stack: &mut Stack<N>, frame: Option<Frame>)
+    requires few { N ≤ 256 }
+    requires room { length (stack.old.items ++ option_to_list frame) ≤ N }
     ensures { stack.new.items ≡ stack.old.items ++ option_to_list frame }
 {
     if let Some(frame) = frame {
