@@ -1,5 +1,5 @@
 -- Whether a word denotes a tree of at most so many levels is decided: so where it isn't known which one, there is one.
-use Rattle.std.proofs.Common.{ℕ, zero, suc, ◌+◌, ◌<◌, ◌≤◌, ◌⊎◌, List, [], ◌∷◌, ◌≡◌, max, length, refl, sym, subst, inl, inr, arith}
+use Rattle.std.proofs.Common.{ℕ, zero, suc, ◌+◌, ◌-◌, ◌<◌, ◌≤◌, ◌⊎◌, List, [], ◌∷◌, ◌≡◌, max, length, refl, sym, ap, subst, inl, inr, arith}
 use Rattle.std.proofs.Math.Logic.{∥∥₁_elim}
 use Rattle.std.proofs.lemmas.Bool.{cases_lt}
 use Rattle.std.proofs.lemmas.Bool.Decides.{eqb_tells}
@@ -98,11 +98,13 @@ module _ (m : List (List ℕ)) (n s w k t b q : ℕ) (f : Finds m s w k t b q) w
   in_pointers e g (x, c, d, h, le) = absurd (omega (arith, number_list (kind q) (code q) e, g, found_form m s w x c d k t b q h f))
 
   -- the elements of a list of structs
-  in_structs : (tag : ℕ) → kind q ≡ 1 → code q ≡ 7 → HasWord m t b tag → TreeWithin m (suc n) s w → ElementsWithin m n t (b + 1) (data_size tag) (pointer_size tag) (middle tag)
+  in_structs : (tag : ℕ) → kind q ≡ 1 → code q ≡ 7 → HasWord m t b tag → TreeWithin m (suc n) s w
+      → ElementsWithin m (n - element_levels (middle tag)) t (b + 1) (data_size tag) (pointer_size tag) (middle tag) × (element_levels (middle tag) ≤ n)
   in_structs tag e g y (structs ds ps es, c, d, h, le) =
       let o : SameObject k t b q h.0 h.1 h.2 h.3 = one_object m s w k t b q h.0 h.1 h.2 h.3 f h.7.finds in
       let z : tag ≡ h.4 = one_word m t b tag h.4 y (rw (o.segment, o.start) h.7.has_tag) in
-      (es, h.5, h.6, rw (o.segment, o.start, z, ← h.7.data_sizes, ← h.7.pointer_sizes) h.8, omega (arith, h.7.depth, le))
+      let levels : element_levels (middle tag) ≡ element_levels (middle h.4) = ap (λ u. element_levels (middle u)) z in
+      ((es, h.5, h.6, rw (o.segment, o.start, z, ← h.7.data_sizes, ← h.7.pointer_sizes) h.8, omega (arith, h.7.depth, le, levels)), omega (arith, h.7.depth, le, levels))
   in_structs tag e g y (x, c, d, h, le) = absurd (omega (arith, number_list (kind q) (code q) e, g, found_form m s w x c d k t b q h f))
 
   -- an object has a level
@@ -114,11 +116,11 @@ module _ (m : List (List ℕ)) (n s w k t b q : ℕ) (f : Finds m s w k t b q) w
   no_level (pointers ts, c, d, h, le) = omega (arith, h.6.depth, le)
   no_level (structs ds ps es, c, d, h, le) = omega (arith, h.7.depth, le)
 
-  -- Where it is decided of each word with a level less, it is decided of the object.
-  module _ (one : (s w : ℕ) → Decided (TreeWithin m n s w)) where
+  -- Where it is decided of each word with fewer levels, it is decided of the object.
+  module _ (one : (j : ℕ) → j ≤ n → (s w : ℕ) → Decided (TreeWithin m j s w)) where
     struct_decided : kind q ≡ 0 → Decided (TreeWithin m (suc n) s w)
     struct_decided e =
-        elim (each_decided m n one (places t (b + data_size q) (pointer_size q))) [
+        elim (each_decided m n (one n (omega arith)) (places t (b + data_size q) (pointer_size q))) [
           | inl (ts, c, d, h, le) ↦ inl (
             struct (words_from m t b (data_size q)) ts,
             k + extent q + c,
@@ -141,22 +143,25 @@ module _ (m : List (List ℕ)) (n s w k t b q : ℕ) (f : Finds m s w k t b q) w
 
     pointers_decided : kind q ≡ 1 → code q ≡ 6 → Decided (TreeWithin m (suc n) s w)
     pointers_decided e g =
-        elim (each_decided m n one (places t b (list_size q))) [
+        elim (each_decided m n (one n (omega arith)) (places t b (list_size q))) [
           | inl (ts, c, d, h, le) ↦ inl (pointers ts, k + extent q + c, 1 + d, (k, t, b, q, c, d, record { finds = f; kind = e; code = g; charge = refl; depth = refl }, h), omega (arith, le))
           | inr never ↦ inr (λ x. never (in_pointers e g x))
         ]
 
     structs_decided : (tag : ℕ) → kind q ≡ 1 → code q ≡ 7 → HasWord m t b tag → Decided (TreeWithin m (suc n) s w)
     structs_decided tag e g y =
-        elim (elements_decided m n one t (b + 1) (data_size tag) (pointer_size tag) (middle tag)) [
-          | inl (es, c, d, h, le) ↦ inl (
-            structs (data_size tag) (pointer_size tag) es,
-            k + extent q + extra q tag + c,
-            1 + element_levels (middle tag) + d,
-            (k, t, b, q, tag, c, d, record { finds = f; kind = e; code = g; has_tag = y; data_sizes = refl; pointer_sizes = refl; charge = refl; depth = refl }, h),
-            omega (arith, le),
-          )
-          | inr never ↦ inr (λ x. never (in_structs tag e g y x))
+        elim (cases_lt n (element_levels (middle tag))) [
+          | inl past ↦ inr (λ x. omega (arith, past, (in_structs tag e g y x).1))
+          | inr fits ↦ elim (elements_decided m (n - element_levels (middle tag)) (one (n - element_levels (middle tag)) (omega arith)) t (b + 1) (data_size tag) (pointer_size tag) (middle tag)) [
+            | inl (es, c, d, h, le) ↦ inl (
+              structs (data_size tag) (pointer_size tag) es,
+              k + extent q + extra q tag + c,
+              1 + element_levels (middle tag) + d,
+              (k, t, b, q, tag, c, d, record { finds = f; kind = e; code = g; has_tag = y; data_sizes = refl; pointer_sizes = refl; charge = refl; depth = refl }, h),
+              omega (arith, le, fits),
+            )
+            | inr never ↦ inr (λ x. never (in_structs tag e g y x).0)
+          ]
         ]
 
     object_decided : Decided (TreeWithin m (suc n) s w)
@@ -198,10 +203,15 @@ word_decided m n s w object =
     by_fate (inr (inr (inl (k, i, leads)))) = inl (cap i, k, 0, (leads, refl), omega arith)
     by_fate (inr (inr (inr (k, t, b, q, f)))) = object k t b q f
 
+-- It is decided for each number of levels up to n.
+up_to_decided : (m : List (List ℕ)) (n j : ℕ) → j ≤ n → (s w : ℕ) → Decided (TreeWithin m j s w)
+up_to_decided m n zero le s w = word_decided m zero s w (λ k t b q f. inr (no_level m 0 s w k t b q f))
+up_to_decided m zero (suc j) le s w = absurd (omega (arith, le))
+up_to_decided m (suc n) (suc j) le s w = word_decided m (suc j) s w (λ k t b q f. object_decided m j s w k t b q f (λ i li. up_to_decided m n i (omega (arith, le, li))))
+
 -- It is decided whether a word denotes a tree of at most n levels.
 pub tree_decided : (m : List (List ℕ)) (n s w : ℕ) → Decided (TreeWithin m n s w)
-tree_decided m zero s w = word_decided m zero s w (λ k t b q f. inr (no_level m 0 s w k t b q f))
-tree_decided m (suc n) s w = word_decided m (suc n) s w (λ k t b q f. object_decided m n s w k t b q f (tree_decided m n))
+tree_decided m n = up_to_decided m n n (omega arith)
 
 -- So where there may be such a tree, there is one.
 pub tree_within : (m : List (List ℕ)) (n s w : ℕ) → ∥ TreeWithin m n s w ∥₁ → TreeWithin m n s w
