@@ -1,3 +1,4 @@
+mod Buffering
 pub mod Fields
 pub mod PlainSpelling
 pub mod Turns

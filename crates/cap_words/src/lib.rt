@@ -2,6 +2,7 @@
 //! sources and sinks of words that stand on them.
 #![tactic(auto)]
 
+pub mod buffered_in;
 pub mod ends;
 pub mod from_read;
 pub mod from_write;
@@ -16,6 +17,7 @@ pub mod transfer;
 pub mod vec_out;
 pub mod word;
 
+pub use buffered_in::BufferedIn;
 pub use ends::{ByteIn, ByteOut, InFault, OutFault};
 pub use from_read::FromRead;
 pub use from_write::FromWrite;

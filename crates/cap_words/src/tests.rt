@@ -1,9 +1,9 @@
 //! What no contract can say: that calls succeed, and how often a device is called.
 
 use super::{
-    ByteIn, ByteOut, FromRead, FromWrite, InFault, OutFault, PlainSink, PlainWords, SinkFault,
-    SliceIn, SourceFault, VecOut, WordSink, WordSource, bits, bytes_of, fill, signed_offset,
-    word_of, write_all,
+    BufferedIn, ByteIn, ByteOut, FromRead, FromWrite, InFault, OutFault, PlainSink, PlainWords,
+    SinkFault, SliceIn, SourceFault, VecOut, WordSink, WordSource, bits, bytes_of, fill,
+    signed_offset, word_of, write_all,
 };
 use std::io::{self, ErrorKind, Read, Write};
 use std::process::Abort;
@@ -200,6 +200,53 @@ fn a_reader_that_fails_is_not_called_again(rt: HostRuntime) {
             "{most} a call"
         );
     }
+}
+
+#[test]
+fn a_buffer_gives_all_that_came_before_a_fault(rt: HostRuntime) -> Result<(), Fail> {
+    let spent = Err(SourceFault::Spent);
+    for (most, fails_at, words, position) in [
+        (1, 1, &WORDS[..0], 0),
+        (1, 10, &WORDS[..1], 9),
+        (3, 4, &WORDS[..1], 9),
+        (7, 4, &WORDS[..2], 20),
+        (20, 2, &WORDS[..2], 20),
+    ] {
+        let mut reader = SlowReader {
+            rest: &TEXT,
+            most,
+            fails_at,
+            kind: ErrorKind::Interrupted,
+            calls: 0,
+        };
+        let mut source = PlainWords::new(BufferedIn::new(rt.alloc(), &mut reader)?);
+        expect_words(&rt, &mut source, words, Err(SourceFault::Device), spent);
+        assert_eq!(rt; source.position(), position, "{most} a call, to {fails_at}");
+
+        let mut input = source.into_inner();
+        assert_eq!(rt; input.read(&mut []), Ok(0));
+        assert_eq!(rt; input.read(&mut [0]), Err(InFault::Spent));
+        drop(input);
+        assert_eq!(rt; reader.calls, fails_at, "{most} a call");
+    }
+    Ok(())
+}
+
+#[test]
+fn a_buffer_gives_bytes_from_both_sides_of_a_refill(rt: HostRuntime) -> Result<(), Fail> {
+    let mut bytes = Vec::from_elem(rt.alloc(), 0, 65530)?;
+    bytes.extend_from_slice(&TEXT)?;
+    let mut input = BufferedIn::new(rt.alloc(), bytes.as_slice())?;
+    let mut front = [9; 65529];
+    assert_eq!(rt; fill(&mut input, &mut front).len, 65529);
+    assert_eq!(rt; front[65528], 0);
+    let mut buf = [9; 24];
+    let filled = fill(&mut input, &mut buf);
+    assert_eq!(rt; filled.len, 21);
+    assert_eq!(rt; filled.fault, None);
+    assert_eq!(rt; &buf[1..21], TEXT.as_slice());
+    assert_eq!(rt; input.read(&mut buf), Ok(0));
+    Ok(())
 }
 
 #[test]

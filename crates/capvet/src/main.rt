@@ -2,14 +2,14 @@
 #![tactic(auto)]
 
 use cap_cmd::{Job, JobFault, read_job, run_job};
-use cap_words::{ByteIn, FromRead, FromWrite};
+use cap_words::{BufferedIn, ByteIn, FromWrite};
 use std::alloc::Global;
 use std::fs::File;
-use std::io::{BufReader, BufWriter, ErrorKind, Read, Write};
+use std::io::{BufWriter, ErrorKind, Read, Write};
 use std::process::ExitCode;
 use std::{env, fs, io};
 
-// How many bytes are read or written at a time.
+// How many bytes are written at a time.
 const BUFFER: usize = 65536;
 
 // The exit statuses of what goes wrong outside a job.
@@ -53,9 +53,8 @@ fn open_and_run(rt: &HostRuntime, job: &Job) -> u8 {
 
 // Runs the job on this input, with standard output behind it, and flushes that.
 fn run_on<R: Read + Drop>(rt: &HostRuntime, job: &Job, input: R) -> u8 {
-    let input = match BufReader::with_capacity(rt.alloc(), BUFFER, input) {
-        Ok(input) => FromRead::new(input),
-        Err(_) => return out_of_memory(rt),
+    let Ok(input) = BufferedIn::new(rt.alloc(), input) else {
+        return out_of_memory(rt);
     };
     let out = match BufWriter::with_capacity(rt.alloc(), BUFFER, rt.stdout()) {
         Ok(out) => FromWrite::new(out),

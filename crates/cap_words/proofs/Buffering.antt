@@ -1,0 +1,14 @@
+-- A buffer out of whose front bytes are given.
+use Rattle.std.proofs.Common.{◌≡◌, ◌+◌, ◌-◌, ◌≤◌, ◌∙◌, ℕ, List, ◌++◌, length, take, drop, slice_range, ap, sym, arith, length-take, drop-drop, take-take}
+use Rattle.std.proofs.Math.Seq.{take-add}
+
+-- n of them were given, and the others are still held
+pub given_off : (xs given : List ℕ) (start end n : ℕ) → n ≤ length (slice_range xs start end) → take n given ≡ take n (slice_range xs start end)
+    → slice_range xs start end ≡ take n given ++ slice_range xs (start + n) end
+given_off xs given start end n within same =
+    let held = drop start xs in
+    let few : n ≤ end - start = omega (arith, length-take (end - start) held) in
+    let whole : end - start ≡ n + (end - (start + n)) = omega arith in
+    ap (λ k. take k held) whole ∙ take-add n (end - (start + n)) held
+    ∙ ap (λ l. take n held ++ take (end - (start + n)) l) (drop-drop n start xs)
+    ∙ ap (λ l. l ++ slice_range xs (start + n) end) (sym (same ∙ take-take n (end - start) held few))

@@ -1,0 +1,28 @@
+use Rattle.std.proofs.Common.{◌≡◌, ◌<◌, ◌+◌, ◌-◌, length, take, drop, slice_range, ap, arith, length-drop, length-take}
+use Rattle.std.proofs.BufReadLemmas.{zero_unless_positive}
+use Rattle.std.proofs.KnownBytes.{Keeps-refl, prepend_known-read}
+use Rattle.std.specs.Io.KnownBytes.{IsAtEnd, Keeps, prepend_known}
+use Rattle.cap_words.proofs.Buffering.{given_off}
+use Rattle.cap_words.proofs.buffered_in.BufferedInByteIn.read.Goals.{then-self+in_default, else-self}
+use Rattle.cap_words.proofs.buffered_in.BufferedInByteIn.read.Goals as goal
+
+pub returns-clause-bytes : goal.returns-clause-bytes
+returns-clause-bytes g c =
+    let old = c.args.self.now in
+    let s = c.if-self.self in
+    let given = c.copy_front-count in
+    let held = c.deref.result.now in
+    let split = rw c.deref.ensures.value at (given_off held given.new.to s.start s.end given.result given.ensures.within given.ensures.copied) in
+    let kept : Keeps (prepend_known (slice_range old.buffer.items old.start old.end) (g.R.Read.remaining old.reader)) (prepend_known (slice_range s.buffer.items s.start s.end) (g.R.Read.remaining s.reader)) = elim c.if-self.branch [
+      | then-self+in_default w ↦ rw w.self-is w.refill.ensures.bytes
+      | else-self w ↦ rw w.self-is (Keeps-refl _)
+    ] in
+    let read = prepend_known-read _ _ _ _ _ _ kept split (λ (p : (given.result ≡ 0) × (0 < length given.new.to)).
+    let none : length (slice_range held s.start s.end) ≡ 0 = zero_unless_positive _ _ (λ some. given.ensures.some some (omega (arith, p.1, given.auto.to))) p.0 in
+    let empty : s.start ≡ s.end = omega (arith, none, length-take (s.end - s.start) (drop s.start held), length-drop s.start held, s.ordered, s.inside, c.deref.ensures.len) in
+    let end : IsAtEnd (g.R.Read.remaining s.reader) = elim c.if-self.branch [
+      | then-self+in_default w ↦ rw w.self-is (w.in_default.ensures.end (rw w.self-is at empty))
+      | else-self w ↦ absurd (w.if-self.false (rw w.self-is at empty))
+    ] in
+    (ap (λ k. take k (drop (s.start + given.result) s.buffer.items)) {y = 0} (omega arith), end)) in
+    (read.0, λ zero some. read.1 (zero, some))

@@ -1,0 +1,123 @@
+//! An input over std's readers, with a buffer.
+
+ghost use Rattle.std.specs.Io.KnownBytes.{IsAtEnd, Keeps, prepend_known};
+ghost use Rattle.std.specs.Prelude.{◌<◌, ◌≡◌, ◌≤◌, [], IfOk, IsErrOf, OnErr, OnOk, false, if◌then◌else◌, length, slice_range, take, true, vec_len, ℕ};
+
+use super::ends::{ByteIn, InFault};
+use std::alloc::{AllocError, Global};
+use std::io::Read;
+
+// How many bytes are read at a time.
+const BUFFER: usize = 65536;
+
+/// Reads from a std reader 64 KiB at a time. Each error of the reader, an interruption too, is one
+/// failure, and the reader isn't called again after it.
+///
+/// It is what `FromRead` over std's `BufReader` is, and made for many reads of a few bytes: those
+/// are given out of the buffer by a copy whose length the compiler knows.
+#[derive(Drop)]
+pub struct BufferedIn<R: Read> {
+    reader: R,
+    // the bytes from `start` up to `end` were read and not yet given
+    buffer: Vec<u8>,
+    start: usize,
+    end: usize,
+    failed: bool,
+    ghost room: { 0 < vec_len buffer },
+    ghost ordered: { start ≤ end },
+    ghost inside: { end ≤ vec_len buffer },
+    ghost none_held: { failed ≡ true → start ≡ end },
+}
+
+impl<R: Read> BufferedIn<R> {
+    ghost use Rattle.cap_words.specs.declared.buffered_in.BufferedIn.{BufferedIn};
+
+    /// An input with all that `reader` has still to come, or an error where there is no memory for
+    /// the buffer.
+    pub fn new(alloc: Global, reader: R) -> Result<BufferedIn<R>, AllocError>
+    where
+        R: Drop,
+        ensures to_come { IfOk result (λ s. ⟦<BufferedIn<R> as ByteIn>⟧.to_come s ≡ R.remaining reader) }
+        ensures spent { IfOk result (λ s. ⟦<BufferedIn<R> as ByteIn>⟧.spent s ≡ false) }
+        ensures fails_once { (s : BufferedIn R R.Read) → ⟦<BufferedIn<R> as ByteIn>⟧.failures s ≡ (if ⟦<BufferedIn<R> as ByteIn>⟧.spent s then 1 else 0) }
+    {
+        let mut buffer = Vec::with_capacity(alloc, BUFFER)?;
+        buffer.resize(BUFFER, 0)?;
+        Ok(BufferedIn {
+            reader,
+            buffer,
+            start: 0,
+            end: 0,
+            failed: false,
+        })
+    }
+
+    // Reads once, where all that was read has been given.
+    #[cold]
+    #[inline(never)]
+    fn refill(&mut self) -> Result<(), InFault>
+        requires { self.old.start ≡ self.old.end }
+        ensures bytes { Keeps (⟦<BufferedIn<R> as ByteIn>⟧.to_come self.old) (⟦<BufferedIn<R> as ByteIn>⟧.to_come self.new) }
+        ensures end { OnOk result (self.new.start ≡ self.new.end → IsAtEnd (R.remaining self.new.reader)) }
+        ensures ok { OnOk result ((self.old.failed ≡ false) × (self.new.failed ≡ false)) }
+        ensures device { IsErrOf result InFault.Device → (self.old.failed ≡ false) × (self.new.failed ≡ true) }
+        ensures was_spent { IsErrOf result InFault.Spent → (self.old.failed ≡ true) × (self.new ≡ self.old) }
+    {
+        if self.failed {
+            return Err(InFault::Spent);
+        }
+        match self.reader.read(self.buffer.as_mut_slice()) {
+            Ok(count) => {
+                self.start = 0;
+                self.end = count;
+                Ok(())
+            }
+            Err(_) => {
+                self.failed = true;
+                Err(InFault::Device)
+            }
+        }
+    }
+}
+
+impl<R: Read> ByteIn for BufferedIn<R> {
+    ghost to_come = { λ s. prepend_known (slice_range s.buffer.items s.start s.end) (R.remaining s.reader) };
+
+    ghost failures = { λ s. if s.failed then 1 else 0 };
+
+    ghost spent = { λ s. s.failed };
+
+    #[inline(always)]
+    fn read(&mut self, buf: &mut [u8]) -> Result<usize, InFault> {
+        if buf.is_empty() {
+            return Ok(0);
+        }
+        if self.start == self.end {
+            if let Err(fault) = self.refill() {
+                return Err(fault);
+            }
+        }
+        let count = copy_front(&self.buffer[self.start..self.end], buf);
+        self.start += count;
+        Ok(count)
+    }
+}
+
+// Copies as many bytes as there are and as there is room for. A copy that fills the room stands apart,
+// since its length is known wherever that of the room is: for a word it is one move and no call.
+#[inline(always)]
+fn copy_front(from: &[u8], to: &mut [u8]) -> usize
+    ensures within { result ≤ length from.now }
+    ensures room { result ≤ length to.new }
+    ensures copied { take result to.new ≡ take result from.now }
+    ensures some { 0 < length from.now → 0 < length to.old → 0 < result }
+{
+    let room = to.len();
+    if room <= from.len() {
+        to.copy_from_slice(&from[..room]);
+        room
+    } else {
+        to[..from.len()].copy_from_slice(from);
+        from.len()
+    }
+}
