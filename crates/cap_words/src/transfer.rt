@@ -17,6 +17,7 @@ pub struct Filled {
 
 /// Reads until the buffer is full, the input ends or a fault comes. The bytes before a fault are
 /// kept. An empty buffer is full, and the input isn't called.
+#[inline]
 pub fn fill<I: ByteIn>(input: &mut I, buf: &mut [u8]) -> Filled
     ensures len { result.len ≤ length buf.new }
     ensures bytes { Consumes (I.to_come input.old) (I.to_come input.new) (take result.len buf.new) }
@@ -26,6 +27,38 @@ pub fn fill<I: ByteIn>(input: &mut I, buf: &mut [u8]) -> Filled
     ensures ok { 0 < length buf.old → IfNone result.fault (Works (I.spent input.old) (I.spent input.new) (I.failures input.old) (I.failures input.new)) }
     ensures device { result.fault ≡ Some InFault.Device → Fails (I.spent input.old) (I.failures input.old) (I.failures input.new) × (I.spent input.new ≡ true) }
     ensures was_spent { result.fault ≡ Some InFault.Spent → (I.spent input.old ≡ true) × (result.len ≡ 0) × (input.new ≡ input.old) }
+{
+    // Nearly always the first read fills the buffer, so the loop for the others stands apart.
+    match input.read(buf) {
+        Ok(count) if 0 < count && count < buf.len() => {
+            let rest = fill_rest(input, &mut buf[count..]);
+            Filled {
+                len: count + rest.len,
+                fault: rest.fault,
+            }
+        }
+        Ok(count) => Filled {
+            len: count,
+            fault: None,
+        },
+        Err(fault) => Filled {
+            len: 0,
+            fault: Some(fault),
+        },
+    }
+}
+
+// Fills what a first read left of a buffer.
+#[cold]
+#[inline(never)]
+fn fill_rest<I: ByteIn>(input: &mut I, buf: &mut [u8]) -> Filled
+    ensures len { result.len ≤ length buf.new }
+    ensures bytes { Consumes (I.to_come input.old) (I.to_come input.new) (take result.len buf.new) }
+    ensures end { IfNone result.fault (result.len < length buf.new → IsAtEnd (I.to_come input.new)) }
+    ensures short { IfSome result.fault (λ _. result.len < length buf.new) }
+    ensures ok { 0 < length buf.old → IfNone result.fault (Works (I.spent input.old) (I.spent input.new) (I.failures input.old) (I.failures input.new)) }
+    ensures device { result.fault ≡ Some InFault.Device → Fails (I.spent input.old) (I.failures input.old) (I.failures input.new) × (I.spent input.new ≡ true) }
+    ensures was_spent { result.fault ≡ Some InFault.Spent → I.spent input.old ≡ true }
 {
     let mut len = 0;
     while len < buf.len() {

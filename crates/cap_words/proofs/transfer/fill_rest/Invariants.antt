@@ -1,7 +1,7 @@
 use Rattle.std.proofs.Common.{◌-◌, ◌≤◌, take, length}
 use Rattle.std.specs.Io.KnownBytes.{Consumes}
 use Rattle.cap_words.proofs.Turns.{Moved}
-use Rattle.cap_words.proofs.transfer.fill.Given as goal
+use Rattle.cap_words.proofs.transfer.fill_rest.Given as goal
 
 abbrev pub invariant-loop-len : goal.invariant-loop-len
 invariant-loop-len g l = record {
