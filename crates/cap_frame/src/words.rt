@@ -41,7 +41,7 @@ pub(crate) fn read_words<S: WordSource>(
 {
     'words: for _ in 0..size {
         match next_word(source) {
-            Ok(word) => words.push(word).unwrap(),
+            Ok(word) => words.push_reserved(word),
             Err(fault) => return Err(fault),
         }
     }

@@ -8,6 +8,6 @@ returns-in-Err-clause-err g c =
 
 pub words-preserved : goal.words-preserved
 words-preserved g c = record {
-  far = words_more g.S.WordSource c.args.source.now c.words.source c.next_word.new.source c.words.words.items c.push.new.self.items c.words.counter c.in-Ok.word c.words.invariant.far c.in-Ok.ensures.ok c.in-Ok.ensures.works (rw c.unwrap.ensures at c.push.ensures.items);
-  room = let h = c.push.ensures.capacity in let i = c.words.invariant.room in omega arith;
+  far = words_more g.S.WordSource c.args.source.now c.words.source c.next_word.new.source c.words.words.items c.push_reserved.new.self.items c.words.counter c.in-Ok.word c.words.invariant.far c.in-Ok.ensures.ok c.in-Ok.ensures.works c.push_reserved.ensures.items;
+  room = let h = c.push_reserved.ensures.capacity in let i = c.words.invariant.room in omega arith;
 }
