@@ -1,33 +1,15 @@
 -- What a read and a write of the plain spelling do to what is known of words.
-use Rattle.std.proofs.Common.{◌≡◌, ◌+◌, ◌<◌, ◌∙◌, ℕ, List, [], ◌∷◌, ◌++◌, length, take, drop, Option, None, Some, OnSome, true, ap, sym, append-nil, append_assoc, arith, subst, take-append-drop, unwrap_or}
+use Rattle.std.proofs.Common.{◌≡◌, ◌+◌, ◌<◌, ◌∙◌, ℕ, List, [], ◌∷◌, ◌++◌, length, take, drop, Option, None, Some, OnSome, true, ap, sym, append-nil, append_assoc, arith, take-append-drop, unwrap_or}
 use Rattle.std.proofs.KnownBytes.{append_known-moved}
-use Rattle.std.proofs.lemmas.List.{length-take-le, take_all}
+use Rattle.std.proofs.lemmas.List.{length-take-le}
 use Rattle.std.specs.Io.KnownBytes.{Appends, Consumes, IsAtEnd, Keeps, append_known}
 use Rattle.std.specs.Option.{option_map}
-use Rattle.byteorder.specs.Endian.{little_number}
 use Rattle.cap_spec.specs.Plain.{capped, plain_ends, plain_is_cut, plain_text, plain_words, word_bytes}
-use Rattle.cap_spec.proofs.PlainText.{part_of_word, word_in_front}
+use Rattle.cap_spec.proofs.PlainText.{part_of_word}
 use Rattle.cap_words.specs.PlainSource.{bytes_left}
 use Rattle.cap_words.specs.Sinks.{Begins}
 use Rattle.cap_words.specs.declared.plain_words.Phase.{Phase}
 use Rattle.cap_words.specs.declared.plain_words.Phase.TheVariants.{Open}
-
--- a read of eight bytes took the first word
-word_consumed : (a b : Option (List ℕ)) (bytes : List ℕ) → length bytes ≡ 8 → Consumes a b bytes
-    → Consumes (option_map plain_words a) (option_map plain_words b) (little_number 8 bytes ∷ [])
-word_consumed None b bytes h p = tt
-word_consumed (Some x) None bytes h p = absurd p
-word_consumed (Some x) (Some y) bytes h p = ap plain_words p ∙ (word_in_front bytes y 0 h).words
-
--- it leaves whether the input is cut, and took the first of the places
-place_consumed : (a b : Option (List ℕ)) (bytes : List ℕ) (at : ℕ) → length bytes ≡ 8 → Consumes a b bytes
-    → OnSome (option_map plain_words a) ((plain_is_cut (unwrap_or b []) ≡ plain_is_cut (unwrap_or a []))
-    × (plain_ends at (unwrap_or a []) ≡ capped (at + 8) ∷ plain_ends (capped (at + 8)) (unwrap_or b [])))
-place_consumed None b bytes at h p = tt
-place_consumed (Some x) None bytes at h p = absurd p
-place_consumed (Some x) (Some y) bytes at h p =
-    let front = word_in_front bytes y at h in
-    (sym (ap plain_is_cut p ∙ front.is_cut), ap (plain_ends at) p ∙ front.ends)
 
 -- a read of fewer bytes, but of some, at the end of the input took a part of a word
 part_consumed : (a b : Option (List ℕ)) (bytes : List ℕ) (at : ℕ) → 0 < length bytes → length bytes < 8 → Consumes a b bytes → IsAtEnd b
@@ -39,22 +21,6 @@ part_consumed (Some x) (Some y) bytes at some few p end =
     let part = part_of_word bytes at some few in
     let all : x ≡ bytes = p ∙ ap (λ l. bytes ++ l) end ∙ append-nil bytes in
     (ap (λ l. Some (plain_words l)) all ∙ ap Some part.words, ap plain_is_cut all ∙ part.is_cut, ap (plain_ends at) all ∙ part.ends)
-
--- the first word, taken by a source that is open
-pub word_taken : (phase : Phase) (a b : Option (List ℕ)) (bytes : List ℕ) (n word : ℕ) → phase ≡ Open → n ≡ 8 → length bytes ≡ 8 → word ≡ little_number 8 bytes
-    → Consumes a b (take n bytes) → Consumes (option_map plain_words (bytes_left phase a)) (option_map plain_words (bytes_left phase b)) (word ∷ [])
-word_taken phase a b bytes n word is_open eight long value p =
-    let whole : take n bytes ≡ bytes = take_all n bytes (omega arith) in
-    rw (is_open, value) (word_consumed a b bytes long (subst (Consumes a b) whole p))
-
--- the place behind it, and whether the input is cut
-pub place_taken : (phase : Phase) (a b : Option (List ℕ)) (bytes : List ℕ) (n at next : ℕ) → phase ≡ Open → n ≡ 8 → length bytes ≡ 8 → next ≡ capped (at + n)
-    → Consumes a b (take n bytes) → OnSome (option_map plain_words (bytes_left phase a)) ((plain_is_cut (unwrap_or (bytes_left phase b) []) ≡ plain_is_cut (unwrap_or (bytes_left phase a) []))
-    × (plain_ends at (unwrap_or (bytes_left phase a) []) ≡ next ∷ plain_ends next (unwrap_or (bytes_left phase b) [])))
-place_taken phase a b bytes n at next is_open eight long value p =
-    let whole : take n bytes ≡ bytes = take_all n bytes (omega arith) in
-    let moved : next ≡ capped (at + 8) = value ∙ ap (λ m. capped (at + m)) eight in
-    rw (is_open, moved) (place_consumed a b bytes at long (subst (Consumes a b) whole p))
 
 -- a part of a word, taken by a source that is open
 pub part_taken : (phase : Phase) (a b : Option (List ℕ)) (bytes : List ℕ) (n at next : ℕ) → phase ≡ Open → 0 < n → n < 8 → length bytes ≡ 8 → next ≡ capped (at + n)

@@ -88,6 +88,11 @@ impl<I: ByteIn> WordSource for PlainWords<I> {
         }
         let mut bytes = [0; 8];
         let filled = fill(&mut self.input, &mut bytes);
+        // Nearly every call gives a whole word, so that is told first, and counted as what it is.
+        if filled.len == 8 {
+            self.read = read.saturating_add(8);
+            return Ok(Some(word_of(&bytes)));
+        }
         self.read = read.saturating_add(filled.len as u64);
         if let Some(fault) = filled.fault {
             self.phase = Phase::Failed;
@@ -97,7 +102,6 @@ impl<I: ByteIn> WordSource for PlainWords<I> {
             });
         }
         match filled.len {
-            8 => Ok(Some(word_of(&bytes))),
             0 => {
                 self.phase = Phase::Ended;
                 Ok(None)
