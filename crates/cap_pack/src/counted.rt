@@ -89,6 +89,7 @@ impl<I: ByteIn> Counted<I> {
     }
 
     /// Fills a buffer with the next bytes as far as there are any, and tells how many came.
+    #[inline(always)]
     fn fill(&mut self, buf: &mut [u8]) -> Result<usize, InFault>
         requires { 0 < length buf.old }
         ensures len { IfOk result (λ n. n ≤ length buf.new) }

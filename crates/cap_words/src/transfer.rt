@@ -16,7 +16,7 @@ pub struct Filled {
 }
 
 /// Reads until the buffer is full, the input ends or a fault comes. The bytes before a fault are
-/// kept. An empty buffer is full, and the input isn't called.
+/// kept. An empty buffer is full, and then nothing is read.
 #[inline]
 pub fn fill<I: ByteIn>(input: &mut I, buf: &mut [u8]) -> Filled
     ensures len { result.len ≤ length buf.new }
