@@ -28,7 +28,7 @@ PackedByGroups = (pack_text [] ≡ [])
     × ((w : ℕ) (words : List ℕ) → pack_text (w ∷ words) ≡
     group_text w (group_size (w ∷ words) - 1) (take (group_size (w ∷ words) - 1) words) ++ pack_text (drop (group_size (w ∷ words) - 1) words))
 
--- each word of a group has a position of its own
+-- a group has as many positions as words
 abbrev pub GroupHasEnds : Type 0
 GroupHasEnds = (at : ℕ) (bytes words : List ℕ) (group : IsGroup bytes words) → length (group_ends at group) ≡ length words
 

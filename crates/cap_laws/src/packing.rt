@@ -51,8 +51,7 @@ pub fn pack_text_reads_back()
     ensures { (words : List ℕ) → AllByRecursion IsWord words → (unpacked (pack_text words) ≡ words) × (packed_is_cut (pack_text words) ≡ false) }
 {}
 
-/// Each word of a group has a position: the end of the group's head, or its own end where it is
-/// one of the words behind the head of a run of words as they are.
+/// A group has as many positions as words.
 pub fn group_has_ends()
     ensures { GroupHasEnds }
 {}
