@@ -7,7 +7,7 @@ use Rattle.cap_frame.specs.declared.fault.FrameFault.{FrameFault}
 use Rattle.cap_frame.specs.declared.fault.FrameFault.TheVariants.{TooManySegments, TooLarge, Truncated, Device, Memory, Spent}
 use Rattle.cap_frame.specs.Taking.{Takes, IsUsable}
 use Rattle.cap_frame.specs.Faults.{TakesTable, TakesTableBehind, Faults, FaultsBehind}
-use Rattle.cap_frame.proofs.Taking.{takes_both, usable_both, breaks_later}
+use Rattle.cap_frame.proofs.Taking.{over_both, takes_both, usable_both, breaks_later}
 
 -- a part of a frame, with its first word in front
 pub partial_before : (a b : Option (List ℕ)) (limit first byte p q : ℕ) (ps qs : List ℕ) (cut : Bool) (P : Type 0)
@@ -38,6 +38,7 @@ module _ {X : Type 0} (g : source.Ghosts X) where
     usable = u.usable;
     none_failed = f.none_failed ∙ u.none_failed;
     over = f.over;
+    how = over_both g (g.words old) (g.words mid) (first ∷ []) (g.is_cut old) (g.is_cut mid) new _ t.words t.goes_on f.how;
   }
   faults_before limit first old mid new Device t u f = breaks_later g old mid new u f
   faults_before limit first old mid new Memory t u f =

@@ -41,6 +41,7 @@ module _ {X : Type 0} (g : source.Ghosts X) where
     usable = s.usable;
     none_failed = s.none_failed;
     over = s.over;
+    how = s.how;
   }
   behind_table limit first old new Device few s = s
   behind_table limit first old new Spent few s = s
@@ -56,6 +57,7 @@ module _ {X : Type 0} (g : source.Ghosts X) where
         usable = later.usable;
         none_failed = later.none_failed;
         over = s.over;
+        how = later.how;
       }
   behind_contents limit first old mid new sizes Device t u l s = breaks_later g old mid new u s
   behind_contents limit first old mid new sizes Spent t u l s = stops_later g old mid new t.more (sum sizes) Spent t.takes u s

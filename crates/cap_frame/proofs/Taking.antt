@@ -1,12 +1,12 @@
 -- Words taken from a source in several calls.
-use Rattle.std.proofs.Common.{◌≡◌, ◌∙◌, ℕ, ◌+◌, ◌<◌, ◌≤◌, suc, Bool, Option, Some, None, List, [], ◌∷◌, ◌++◌, length, drop, IfSome, OnSome, refl, sym, ap, arith, length-append}
+use Rattle.std.proofs.Common.{◌≡◌, ◌∙◌, ℕ, ◌+◌, ◌<◌, ◌≤◌, suc, Bool, Option, Some, None, List, [], ◌∷◌, ◌++◌, length, drop, IfSome, OnSome, refl, sym, ap, subst, arith, length-append}
 use Rattle.std.specs.Io.KnownBytes.{Consumes}
 use Rattle.std.proofs.KnownBytes.{Consumes-nil, Consumes-trans}
 use Rattle.std.proofs.lemmas.List.{drop-drop}
 use Rattle.cap_words.specs.declared.sources.WordSource as source
 use Rattle.cap_words.specs.declared.sources.SourceFault.{SourceFault}
 use Rattle.cap_words.specs.declared.sources.SourceFault.TheVariants.{Truncated, Device, Spent}
-use Rattle.cap_frame.specs.Taking.{Takes, IsUsable, Breaks, Stops}
+use Rattle.cap_frame.specs.Taking.{Takes, IsUsable, IsOver, Breaks, Stops}
 
 -- what holds is said of a known value
 pub on_some : {A : Type 0} (o : Option A) (P : Type 0) → P → OnSome o P
@@ -40,6 +40,13 @@ short_both (Some x) (Some y) taken n byte p q ps qs P t f s =
     let l : length x ≡ length taken + length y = ap length t ∙ length-append taken y in
     let k : length taken + suc (length y) ≡ suc (length x) = omega arith in
     (omega (arith, s.0), ap (λ n. drop n (p ∷ ps)) (sym k) ∙ (sym (drop-drop (suc (length y)) (length taken) (p ∷ ps)) ∙ (ap (drop (suc (length y))) (sym f.1) ∙ s.1)))
+
+-- how the input ends is as it was before words were taken
+pub over_both : {X : Type 0} (g : source.Ghosts X) (a b : Option (List ℕ)) (taken : List ℕ) (c d : Bool) (new : X) (P : Type 0)
+    → Consumes a b taken → OnSome a ((d ≡ c) × P) → OnSome b (IsOver g d new) → OnSome a (IsOver g c new)
+over_both g None b taken c d new P t f s = tt
+over_both g (Some x) None taken c d new P t f s = absurd t
+over_both g (Some x) (Some y) taken c d new P t f s = subst (λ (k : Bool). IsOver g k new) f.0 s
 
 -- fewer than m words are fewer than n
 pub short_weaker : (o : Option (List ℕ)) (m n : ℕ) (ps : List ℕ) (byte : ℕ) → m ≤ n
@@ -85,6 +92,7 @@ module _ {X : Type 0} (g : source.Ghosts X) where
     usable = a.usable;
     none_failed = s.none_failed ∙ a.none_failed;
     over = s.over;
+    how = over_both g (g.words old) (g.words mid) taken (g.is_cut old) (g.is_cut mid) new _ t.words t.goes_on s.how;
   }
   stops_later old mid new taken n Device t a s = breaks_later old mid new a s
   stops_later old mid new taken n Spent t a s = absurd (let e = s.was_spent.spent in let f = a.still in cc)
@@ -97,6 +105,7 @@ module _ {X : Type 0} (g : source.Ghosts X) where
     usable = s.usable;
     none_failed = s.none_failed;
     over = s.over;
+    how = s.how;
   }
   stops_weaker old new m n Device h s = s
   stops_weaker old new m n Spent h s = s

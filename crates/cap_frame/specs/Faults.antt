@@ -1,8 +1,8 @@
 -- What each fault of reading a message says of the source and of its words.
-use Rattle.std.specs.Prelude.{⊤, ℕ, ◌+◌, ◌%◌, ◌^◌, ◌≡◌, ◌<◌, ◌≤◌, ◌⊎◌, Bool, true, false, List, [], ◌∷◌, length, drop, sum, IfSome, Result, Ok, Err}
+use Rattle.std.specs.Prelude.{⊤, ℕ, ◌+◌, ◌%◌, ◌^◌, ◌≡◌, ◌<◌, ◌≤◌, ◌⊎◌, Bool, true, false, List, [], ◌∷◌, length, drop, sum, IfSome, OnSome, Result, Ok, Err}
 use Rattle.cap_spec.specs.Frames.{IsTable, IsPartial}
 use Rattle.cap_words.specs.declared.sources.WordSource as source
-use Rattle.cap_frame.specs.Taking.{Takes, IsUsable, Breaks, Refuses}
+use Rattle.cap_frame.specs.Taking.{Takes, IsUsable, IsOver, Breaks, Refuses}
 use Rattle.cap_frame.specs.declared.fault.FrameFault.{FrameFault}
 use Rattle.cap_frame.specs.declared.fault.FrameFault.TheVariants.{TooManySegments, TooLarge, Truncated, Device, Memory, Spent}
 
@@ -47,6 +47,7 @@ module _ {X : Type 0} (g : source.Ghosts X) where
     pub usable : g.spent old ≡ false
     pub none_failed : g.failures new ≡ g.failures old
     pub over : (g.ended new ≡ true) ⊎ (g.failed new ≡ true)
+    pub how : OnSome (g.words old) (IsOver g (g.is_cut old) new)
 
   -- what each fault says
   abbrev pub Faults : ℕ → X → X → FrameFault → Type 0
@@ -70,6 +71,7 @@ module _ {X : Type 0} (g : source.Ghosts X) where
     pub usable : g.spent old ≡ false
     pub none_failed : g.failures new ≡ g.failures old
     pub over : (g.ended new ≡ true) ⊎ (g.failed new ≡ true)
+    pub how : OnSome (g.words old) (IsOver g (g.is_cut old) new)
 
   -- what each fault says where the first word was taken before
   abbrev pub FaultsBehind : ℕ → ℕ → X → X → FrameFault → Type 0

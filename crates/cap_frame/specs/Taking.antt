@@ -1,5 +1,5 @@
 -- What taking words from a source does to it. g has the members of its type.
-use Rattle.std.specs.Prelude.{ℕ, ◌≡◌, ◌<◌, ◌⊎◌, true, false, List, [], ◌∷◌, length, drop, IfSome, OnSome}
+use Rattle.std.specs.Prelude.{ℕ, ◌≡◌, ◌<◌, ◌⊎◌, Bool, true, false, List, [], ◌∷◌, length, drop, IfSome, OnSome}
 use Rattle.std.specs.Io.KnownBytes.{Consumes, Keeps}
 use Rattle.cap_words.specs.Ends.{Works, Fails, WasSpent}
 use Rattle.cap_words.specs.declared.sources.WordSource as source
@@ -16,6 +16,11 @@ module _ {X : Type 0} (g : source.Ghosts X) where
   abbrev pub IsUsable : X → X → Type 0
   IsUsable old new = Works (g.spent old) (g.spent new) (g.failures old) (g.failures new)
 
+  -- It has failed where the input ended inside a word, and else it has ended.
+  abbrev pub IsOver : Bool → X → Type 0
+  IsOver true new = g.failed new ≡ true
+  IsOver false new = g.ended new ≡ true
+
   -- It ended before it gave n words.
   pub record EndsEarly (n : ℕ) (old new : X) (byte : ℕ) : Type 0 where
     pub short : IfSome (g.words old) (λ ws. (length ws < n) × (drop (length ws) (g.places old) ≡ byte ∷ []))
@@ -23,6 +28,7 @@ module _ {X : Type 0} (g : source.Ghosts X) where
     pub usable : g.spent old ≡ false
     pub none_failed : g.failures new ≡ g.failures old
     pub over : (g.ended new ≡ true) ⊎ (g.failed new ≡ true)
+    pub how : OnSome (g.words old) (IsOver (g.is_cut old) new)
 
   -- Its device failed.
   pub record Breaks (old new : X) : Type 0 where

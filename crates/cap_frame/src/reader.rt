@@ -82,8 +82,9 @@ fn read_framed<S: WordSource>(
 /// - [`FrameFault::Spent`]: an earlier fault had ended the source.
 ///
 /// After an answer, and after too many segments, too many words and want of memory, the source can
-/// be used on. All memory is asked for behind the table and before the first word of a segment: as
-/// much as the message holds, and a vector for each segment.
+/// be used on. After `Truncated` it answers `Spent` where its input ended inside a word or a packed
+/// group, and `None` where it ended between words. All memory is asked for behind the table and
+/// before the first word of a segment: as much as the message holds, and a vector for each segment.
 pub fn read_message<S: WordSource>(
     alloc: Global,
     source: &mut S,
