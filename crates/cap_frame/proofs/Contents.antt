@@ -9,9 +9,9 @@ use Rattle.cap_words.specs.declared.sources.WordSource as source
 use Rattle.cap_words.specs.declared.sources.SourceFault.{SourceFault}
 use Rattle.cap_spec.specs.Frames.{joined, sizes_of}
 use Rattle.cap_spec.proofs.Endings.{length_joined}
-use Rattle.cap_frame.specs.Taking.{Takes, IsUsable, Stops}
+use Rattle.cap_frame.specs.Taking.{Takes, Reads, IsUsable, Stops}
 use Rattle.cap_frame.specs.Rooms.{AreRooms}
-use Rattle.cap_frame.proofs.Taking.{takes_none, takes_both, usable_both, stops_later, stops_weaker}
+use Rattle.cap_frame.proofs.Taking.{takes_none, takes_both, reads_none, reads_both, usable_both, stops_later, stops_weaker}
 
 -- as many rooms as sizes
 pub rooms_many : {V : Type 0} (f : V → List ℕ) (room : V → ℕ) (vs : List V) (ns : List ℕ) → AreRooms f room vs ns → length vs ≡ length ns
@@ -46,6 +46,7 @@ module _ {X : Type 0} (g : source.Ghosts X) where
   -- These words were read for a segment, so many.
   pub record WordsSoFar (old now : X) (words : List ℕ) (many : ℕ) : Type 0 where
     pub takes : Takes g old now words
+    pub reads : Reads g old now
     pub usable : IsUsable g old now
     pub length_is : length words ≡ many
 
@@ -53,15 +54,17 @@ module _ {X : Type 0} (g : source.Ghosts X) where
   pub words_start : (s : X) (words : List ℕ) → g.spent s ≡ false → words ≡ [] → WordsSoFar s s words 0
   words_start s words u e = record {
     takes = subst (Takes g s s) (sym e) (takes_none g s);
+    reads = reads_none g s;
     usable = record { usable = u; still = u; none_failed = refl };
     length_is = ap length e;
   }
 
   -- one more
-  pub words_more : (old now new : X) (words longer : List ℕ) (many word : ℕ) → WordsSoFar old now words many → Takes g now new (word ∷ []) → IsUsable g now new
+  pub words_more : (old now new : X) (words longer : List ℕ) (many word : ℕ) → WordsSoFar old now words many → Takes g now new (word ∷ []) → Reads g now new → IsUsable g now new
       → longer ≡ words ++ word ∷ [] → WordsSoFar old new longer (many + 1)
-  words_more old now new words longer many word w t u e = record {
+  words_more old now new words longer many word w t r u e = record {
     takes = subst (Takes g old new) (sym e) (takes_both g old now new words (word ∷ []) w.takes t);
+    reads = reads_both g old now new w.reads r;
     usable = usable_both g old now new w.usable u;
     length_is = ap length e ∙ omega (arith, length-append words (word ∷ []), w.length_is);
   }
@@ -75,6 +78,7 @@ module _ {X : Type 0} (g : source.Ghosts X) where
     -- The first s segments were read, and there is room for the others.
     pub record SegmentsSoFar (old now : X) (s : ℕ) (segments : List V) (sizes : List ℕ) : Type 0 where
       pub takes : Takes g old now (joined (map f (take s segments)))
+      pub reads : Reads g old now
       pub usable : IsUsable g old now
       pub sizes_are : sizes_of (map f (take s segments)) ≡ take s sizes
       pub many : length segments ≡ length sizes
@@ -84,6 +88,7 @@ module _ {X : Type 0} (g : source.Ghosts X) where
     pub segments_start : (s : X) (segments : List V) (sizes : List ℕ) → g.spent s ≡ false → AreRooms f room segments sizes → SegmentsSoFar s s 0 segments sizes
     segments_start s segments sizes u r = record {
       takes = takes_none g s;
+      reads = reads_none g s;
       usable = record { usable = u; still = u; none_failed = refl };
       sizes_are = refl;
       many = rooms_many f room segments sizes r;
@@ -100,9 +105,9 @@ module _ {X : Type 0} (g : source.Ghosts X) where
 
     -- one more segment
     pub segments_more : (old now new : X) (s : ℕ) (segments longer : List V) (sizes : List ℕ) (v : V) (n : ℕ) → s < length sizes → n ≡ get_or sizes s 0
-        → SegmentsSoFar old now s segments sizes → Takes g now new (f v) → length (f v) ≡ n → IsUsable g now new
+        → SegmentsSoFar old now s segments sizes → Takes g now new (f v) → length (f v) ≡ n → Reads g now new → IsUsable g now new
         → longer ≡ set segments s v → SegmentsSoFar old new (s + 1) longer sizes
-    segments_more old now new s segments longer sizes v n h d t takes l u e =
+    segments_more old now new s segments longer sizes v n h d t takes l reads u e =
         let inside : s < length segments = omega (arith, t.many) in
         let front : take (s + 1) longer ≡ take s segments ++ v ∷ [] = ap (take (s + 1)) e ∙ take_more_set segments s v inside in
         let back : drop (s + 1) longer ≡ drop (s + 1) segments = ap (drop (s + 1)) e ∙ drop-set-lt (s + 1) segments s v (omega arith) in
@@ -112,6 +117,7 @@ module _ {X : Type 0} (g : source.Ghosts X) where
         let r = rooms_from f room s segments sizes v inside h t.rooms in
         record {
           takes = subst (Takes g old new) (sym words) (takes_both g old now new (joined (map f (take s segments))) (f v) t.takes takes);
+          reads = reads_both g old now new t.reads reads;
           usable = usable_both g old now new t.usable u;
           sizes_are =
               ap sizes_of parts ∙ (map-append (λ (ws : List ℕ). length ws) (map f (take s segments)) (f v ∷ [])

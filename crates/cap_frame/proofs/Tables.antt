@@ -7,8 +7,8 @@ use Rattle.cap_words.specs.declared.sources.WordSource as source
 use Rattle.cap_words.specs.declared.sources.SourceFault.{SourceFault}
 use Rattle.cap_spec.specs.Frames.{halves, IsTable}
 use Rattle.cap_spec.proofs.Framing.{length_halves}
-use Rattle.cap_frame.specs.Taking.{Takes, IsUsable, Stops}
-use Rattle.cap_frame.proofs.Taking.{takes_none, takes_both, usable_both, stops_later, stops_weaker}
+use Rattle.cap_frame.specs.Taking.{Takes, Reads, IsUsable, Stops}
+use Rattle.cap_frame.proofs.Taking.{takes_none, takes_both, reads_none, reads_both, usable_both, stops_later, stops_weaker}
 
 -- what holds of each element of two lists holds of each of both
 pub all_both : {A : Type 0} (P : A → Type 0) (xs ys : List A) → AllByRecursion P xs → AllByRecursion P ys → AllByRecursion P (xs ++ ys)
@@ -64,6 +64,7 @@ module _ {X : Type 0} (g : source.Ghosts X) where
     pub more : List ℕ
     pub length_is : length more ≡ many
     pub takes : Takes g old now more
+    pub reads : Reads g old now
     pub usable : IsUsable g old now
     pub fit : AllByRecursion (λ n. n < 2 ^ 32) (flat_map halves more)
     pub sizes_are : sizes ≡ take (first % 2 ^ 32 + 1) (behind first more)
@@ -74,6 +75,7 @@ module _ {X : Type 0} (g : source.Ghosts X) where
     more = [];
     length_is = refl;
     takes = takes_none g s;
+    reads = reads_none g s;
     usable = record { usable = u; still = u; none_failed = refl };
     fit = tt;
     sizes_are = e ∙ sym (take_all (first % 2 ^ 32 + 1) (first / 2 ^ 32 ∷ []) (omega arith));
@@ -81,12 +83,13 @@ module _ {X : Type 0} (g : source.Ghosts X) where
 
   -- one more word
   pub table_more : (first many : ℕ) (old now new : X) (sizes longer : List ℕ) (word : ℕ) → word < 2 ^ 64 → many < (first % 2 ^ 32 + 1) / 2
-      → TableSoFar first many old now sizes → Takes g now new (word ∷ []) → IsUsable g now new
+      → TableSoFar first many old now sizes → Takes g now new (word ∷ []) → Reads g now new → IsUsable g now new
       → longer ≡ take (first % 2 ^ 32 + 1) (sizes ++ halves word) → TableSoFar first (many + 1) old new longer
-  table_more first many old now new sizes longer word w h t takes usable e = record {
+  table_more first many old now new sizes longer word w h t takes reads usable e = record {
     more = t.more ++ word ∷ [];
     length_is = omega (arith, length-append t.more (word ∷ []), t.length_is);
     takes = takes_both g old now new t.more (word ∷ []) t.takes takes;
+    reads = reads_both g old now new t.reads reads;
     usable = usable_both g old now new t.usable usable;
     fit = subst (λ (ns : List ℕ). AllByRecursion (λ n. n < 2 ^ 32) ns) (sym (flat_map-append halves t.more (word ∷ []))) (all_both (λ n. n < 2 ^ 32) (flat_map halves t.more) (flat_map halves (word ∷ [])) t.fit (halves_fit word w));
     sizes_are =

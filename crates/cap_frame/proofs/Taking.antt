@@ -1,12 +1,12 @@
 -- Words taken from a source in several calls.
-use Rattle.std.proofs.Common.{◌≡◌, ◌∙◌, ℕ, ◌+◌, ◌<◌, ◌≤◌, suc, Bool, Option, Some, None, List, [], ◌∷◌, ◌++◌, length, drop, IfSome, OnSome, refl, sym, ap, subst, arith, length-append}
+use Rattle.std.proofs.Common.{◌≡◌, ◌∙◌, ℕ, ◌+◌, ◌-◌, ◌^◌, ◌<◌, ◌≤◌, suc, Bool, Option, Some, None, List, [], ◌∷◌, ◌++◌, length, min, drop, IfSome, OnSome, refl, sym, ap, subst, arith, length-append}
 use Rattle.std.specs.Io.KnownBytes.{Consumes}
 use Rattle.std.proofs.KnownBytes.{Consumes-nil, Consumes-trans}
 use Rattle.std.proofs.lemmas.List.{drop-drop}
 use Rattle.cap_words.specs.declared.sources.WordSource as source
 use Rattle.cap_words.specs.declared.sources.SourceFault.{SourceFault}
 use Rattle.cap_words.specs.declared.sources.SourceFault.TheVariants.{Truncated, Device, Spent}
-use Rattle.cap_frame.specs.Taking.{Takes, IsUsable, IsOver, Breaks, Stops}
+use Rattle.cap_frame.specs.Taking.{Takes, Reads, IsUsable, IsOver, Breaks, Stops}
 
 -- what holds is said of a known value
 pub on_some : {A : Type 0} (o : Option A) (P : Type 0) → P → OnSome o P
@@ -41,6 +41,10 @@ short_both (Some x) (Some y) taken n byte p q ps qs P t f s =
     let k : length taken + suc (length y) ≡ suc (length x) = omega arith in
     (omega (arith, s.0), ap (λ n. drop n (p ∷ ps)) (sym k) ∙ (sym (drop-drop (suc (length y)) (length taken) (p ∷ ps)) ∙ (ap (drop (suc (length y))) (sym f.1) ∙ s.1)))
 
+-- a count that stops at a number goes on from where it is or from where it stopped
+capped_both : (m p q r x y : ℕ) → min q m ≡ min (p + x) m → min r m ≡ min (q + y) m → min r m ≡ min (p + (x + y)) m
+capped_both m p q r x y a b = omega (arith, a, b)
+
 -- how the input ends is as it was before words were taken
 pub over_both : {X : Type 0} (g : source.Ghosts X) (a b : Option (List ℕ)) (taken : List ℕ) (c d : Bool) (new : X) (P : Type 0)
     → Consumes a b taken → OnSome a ((d ≡ c) × P) → OnSome b (IsOver g d new) → OnSome a (IsOver g c new)
@@ -64,6 +68,22 @@ module _ {X : Type 0} (g : source.Ghosts X) where
   pub takes_one : (old new : X) (word : ℕ) → Consumes (g.words old) (g.words new) (word ∷ [])
       → OnSome (g.words old) ((g.is_cut new ≡ g.is_cut old) × (g.places old ≡ g.place new ∷ g.places new)) → Takes g old new (word ∷ [])
   takes_one old new word c f = record { words = c; goes_on = goes_on_one (g.words old) (g.is_cut new ≡ g.is_cut old) (g.place old) (g.place new) (g.places old) (g.places new) f }
+
+  -- no bytes
+  pub reads_none : (s : X) → Reads g s s
+  reads_none s = record { bytes = []; unread = Consumes-nil (g.unread s); counted = omega arith }
+
+  -- those of one call
+  pub reads_one : (old new : X) → (bs : List ℕ) × Consumes (g.unread old) (g.unread new) bs × (g.place new ≡ min (g.place old + length bs) (2 ^ 64 - 1)) → Reads g old new
+  reads_one old new r = record { bytes = r.0; unread = r.1; counted = let p = r.2 in omega (arith, p) }
+
+  -- some bytes, and then others
+  pub reads_both : (old mid new : X) → Reads g old mid → Reads g mid new → Reads g old new
+  reads_both old mid new a b = record {
+    bytes = a.bytes ++ b.bytes;
+    unread = Consumes-trans (g.unread old) (g.unread mid) (g.unread new) a.bytes b.bytes a.unread b.unread;
+    counted = rw (length-append a.bytes b.bytes) (capped_both (2 ^ 64 - 1) (g.place old) (g.place mid) (g.place new) (length a.bytes) (length b.bytes) a.counted b.counted);
+  }
 
   -- some words, and then others
   pub takes_both : (old mid new : X) (taken own : List ℕ) → Takes g old mid taken → Takes g mid new own → Takes g old new (taken ++ own)

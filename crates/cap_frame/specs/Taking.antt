@@ -1,5 +1,5 @@
 -- What taking words from a source does to it. g has the members of its type.
-use Rattle.std.specs.Prelude.{ℕ, ◌≡◌, ◌<◌, ◌⊎◌, Bool, true, false, List, [], ◌∷◌, length, drop, IfSome, OnSome}
+use Rattle.std.specs.Prelude.{ℕ, ◌+◌, ◌-◌, ◌^◌, ◌≡◌, ◌<◌, ◌⊎◌, Bool, true, false, List, [], ◌∷◌, length, min, drop, IfSome, OnSome}
 use Rattle.std.specs.Io.KnownBytes.{Consumes, Keeps}
 use Rattle.cap_words.specs.Ends.{Works, Fails, WasSpent}
 use Rattle.cap_words.specs.declared.sources.WordSource as source
@@ -11,6 +11,12 @@ module _ {X : Type 0} (g : source.Ghosts X) where
   pub record Takes (old new : X) (own : List ℕ) : Type 0 where
     pub words : Consumes (g.words old) (g.words new) own
     pub goes_on : OnSome (g.words old) ((g.is_cut new ≡ g.is_cut old) × (g.place new ∷ g.places new ≡ drop (length own) (g.place old ∷ g.places old)))
+
+  -- These bytes of the input were read, and the place counts them.
+  pub record Reads (old new : X) : Type 0 where
+    pub bytes : List ℕ
+    pub unread : Consumes (g.unread old) (g.unread new) bytes
+    pub counted : min (g.place new) (2 ^ 64 - 1) ≡ min (g.place old + length bytes) (2 ^ 64 - 1)
 
   -- no fault came: it wasn't spent before, and isn't now
   abbrev pub IsUsable : X → X → Type 0

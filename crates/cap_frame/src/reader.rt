@@ -2,7 +2,7 @@
 
 ghost use Rattle.cap_frame.specs.Faults.{Answered, EndsInside, Faults, FaultsBehind, OnUsable, TakesTable, TakesTooMany};
 ghost use Rattle.cap_frame.specs.Limit.{limit_of};
-ghost use Rattle.cap_frame.specs.Taking.{Breaks, IsUsable, Refuses, Takes};
+ghost use Rattle.cap_frame.specs.Taking.{Breaks, IsUsable, Reads, Refuses, Takes};
 ghost use Rattle.cap_spec.specs.Frames.{Frames, IsPartial, IsTable, sizes_of};
 ghost use Rattle.std.specs.Prelude.{◌%◌, ◌+◌, ◌++◌, ◌<◌, ◌^◌, ◌≡◌, ◌≤◌, [], ◌∷◌, IfErr, IfOk, IfSome, IsErrOf, IsOkAnd, IsSomeAnd, List, OnOk, OnSome, drop, false, length, sum, true, ℕ};
 
@@ -26,6 +26,7 @@ fn read_behind<S: WordSource>(
     ensures ok { IfOk result (λ m. (more : List ℕ) × Takes S.WordSource source.old source.new more × Frames (first ∷ more) (⟦<WordMessage as Segments>⟧.segments m)) }
     ensures within { IfOk result (λ m. sum (sizes_of (⟦<WordMessage as Segments>⟧.segments m)) ≤ limit_of limit) }
     ensures works { OnOk result (IsUsable S.WordSource source.old source.new) }
+    ensures reads { Reads S.WordSource source.old source.new }
     ensures err { IfErr result (FaultsBehind S.WordSource (limit_of limit) first source.old source.new) }
 {
     let mut sizes = Sizes::new();
@@ -55,6 +56,7 @@ fn read_framed<S: WordSource>(
     ensures ended { result ≡ Ok None → S.ended source.new ≡ true }
     ensures stays { S.ended source.old ≡ true → (result ≡ Ok None) × (source.new ≡ source.old) }
     ensures for_good { S.failed source.old ≡ true → (result ≡ Err FrameFault.Spent) × (source.new ≡ source.old) }
+    ensures reads { Reads S.WordSource source.old source.new }
     ensures err { IfErr result (Faults S.WordSource (limit_of limit) source.old source.new) }
 {
     match source.next() {
@@ -100,6 +102,8 @@ pub fn read_message<S: WordSource>(
     ensures stays { S.ended source.old ≡ true → (result ≡ Ok None) × (source.new ≡ source.old) }
     ensures for_good { S.failed source.old ≡ true → (result ≡ Err FrameFault.Spent) × (source.new ≡ source.old) }
     ensures spent { S.spent source.old ≡ true → result ≡ Err FrameFault.Spent }
+    // Whatever the answer is, the place counts the bytes that were read.
+    ensures reads { Reads S.WordSource source.old source.new }
     // The first word was taken, and no more.
     ensures too_many { (count : ℕ) → IsErrOf result (FrameFault.TooManySegments count) → TakesTooMany S.WordSource source.old source.new count }
     // The table was taken, and no more.

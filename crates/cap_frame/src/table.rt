@@ -3,7 +3,7 @@
 ghost use Rattle.arrayvec.specs.ArrayVec.{array_vec_len};
 ghost use Rattle.cap_frame.specs.Faults.{FaultsBehind, TakesTableBehind};
 ghost use Rattle.cap_frame.specs.Limit.{limit_of};
-ghost use Rattle.cap_frame.specs.Taking.{IsUsable, Stops};
+ghost use Rattle.cap_frame.specs.Taking.{IsUsable, Reads, Stops};
 ghost use Rattle.cap_spec.specs.Frames.{halves};
 ghost use Rattle.std.specs.Prelude.{◌%◌, ◌*◌, ◌+◌, ◌++◌, ◌/◌, ◌<◌, ◌^◌, ◌≡◌, ◌≤◌, [], IfErr, OnOk, false, length, sum, take};
 
@@ -53,6 +53,7 @@ pub(crate) fn read_sizes<S: WordSource>(
     requires empty { sizes.old.items ≡ [] }
     ensures ok { OnOk result (TakesTableBehind S.WordSource first source.old source.new sizes.new.items) }
     ensures works { OnOk result (IsUsable S.WordSource source.old source.new) }
+    ensures reads { Reads S.WordSource source.old source.new }
     ensures err { IfErr result (Stops S.WordSource ((first % 2 ^ 32 + 1) / 2) source.old source.new) }
 {
     let count = low_half(first) as usize + 1;
@@ -86,6 +87,7 @@ pub(crate) fn read_table<S: WordSource>(
     ensures ok { OnOk result (TakesTableBehind S.WordSource first source.old source.new sizes.new.items) }
     ensures within { OnOk result (sum sizes.new.items ≤ limit_of limit) }
     ensures works { OnOk result (IsUsable S.WordSource source.old source.new) }
+    ensures reads { Reads S.WordSource source.old source.new }
     ensures err { IfErr result (FaultsBehind S.WordSource (limit_of limit) first source.old source.new) }
 {
     let last = low_half(first);

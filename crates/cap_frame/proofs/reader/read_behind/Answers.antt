@@ -1,4 +1,5 @@
 -- The table and the contents behind it frame the message.
+use Rattle.cap_frame.proofs.Taking.{reads_both}
 use Rattle.std.proofs.Common.{◌∙◌, ◌∷◌, subst, sym, map}
 use Rattle.cap_spec.specs.Frames.{IsTable}
 use Rattle.cap_frame.specs.Limit.{limit_of}
@@ -24,3 +25,9 @@ returns-clause-ok g c =
     let read = behind_message g.S.WordSource c.args.first c.args.source.now c.read_table.new.source c.read_contents.new.source c.read_table.new.sizes.items (map (λ v. v.items) c.read_contents.new.segments.items) c.in_default.ensures.ok c.in_default-read_contents.ensures.ok sizes in
     let held = rw c.unwrap.ensures at c.new.ensures.segments in
     rw held read
+
+pub returns-in-Err-read_contents-clause-reads : goal.returns-in-Err-read_contents-clause-reads
+returns-in-Err-read_contents-clause-reads g c = reads_both g.S.WordSource c.args.source.now c.read_table.new.source c.read_contents.new.source c.read_table.ensures.reads c.read_contents.ensures.reads
+
+pub returns-clause-reads : goal.returns-clause-reads
+returns-clause-reads g c = reads_both g.S.WordSource c.args.source.now c.read_table.new.source c.read_contents.new.source c.read_table.ensures.reads c.read_contents.ensures.reads

@@ -1,4 +1,5 @@
 -- Each word appends its halves to the sizes, as far as there are sizes to come.
+use Rattle.cap_frame.proofs.Taking.{reads_both}
 use Rattle.std.proofs.Common.{arith, ◌%◌, ◌+◌, ◌/◌, ◌<◌, ◌^◌}
 use Rattle.cap_frame.proofs.Tables.{is_table, table_more, table_room, table_stops}
 use Rattle.cap_frame.proofs.table.read_sizes.Goals as goal
@@ -15,10 +16,13 @@ returns-in-Err-clause-err g c =
 
 pub table-preserved : goal.table-preserved
 table-preserved g c =
-    table_more g.S.WordSource c.args.first c.table.counter c.args.source.now c.table.source c.next_word.new.source c.table.sizes.items c.push_halves.new.sizes.items c.in-Ok.word c.in-Ok.ensures.word (omega arith) c.table.invariant c.in-Ok.ensures.ok c.in-Ok.ensures.works (cc)
+    table_more g.S.WordSource c.args.first c.table.counter c.args.source.now c.table.source c.next_word.new.source c.table.sizes.items c.push_halves.new.sizes.items c.in-Ok.word c.in-Ok.ensures.word (omega arith) c.table.invariant c.in-Ok.ensures.ok c.next_word.ensures.reads c.in-Ok.ensures.works (cc)
 
 pub returns-clause-ok : goal.returns-clause-ok
 returns-clause-ok g c =
     let t = c.table.invariant in
     let whole = is_table c.args.first t.more c.ranges.first.fits c.requires.few t.fit (omega (arith, t.length_is)) in
     record { more = t.more; takes = t.takes; is_table = rw (← t.sizes_are) at whole }
+
+pub returns-in-Err-clause-reads : goal.returns-in-Err-clause-reads
+returns-in-Err-clause-reads g c = reads_both g.S.WordSource c.args.source.now c.table.source c.next_word.new.source c.table.invariant.reads c.next_word.ensures.reads
