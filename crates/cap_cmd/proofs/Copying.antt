@@ -1,5 +1,5 @@
 -- Words that are read and put one after the other.
-use Rattle.std.proofs.Common.{◌≡◌, ◌∙◌, ℕ, ◌+◌, ◌<◌, ◌≤◌, false, true, ◌⊎◌, inl, inr, Option, Some, None, Result, Ok, Err, List, [], ◌∷◌, ◌++◌, length, OnSome, refl, sym, ap, subst, arith, append_assoc, append-nil, length-append}
+use Rattle.std.proofs.Common.{◌≡◌, ◌∙◌, ℕ, ◌+◌, ◌<◌, false, true, ◌⊎◌, inl, inr, Result, Ok, Err, List, [], ◌∷◌, ◌++◌, OnSome, refl, sym, ap, subst, arith, append_assoc, append-nil, length-append}
 use Rattle.std.specs.Io.KnownBytes.{Consumes, Keeps}
 use Rattle.std.proofs.KnownBytes.{Keeps-refl, Keeps-trans}
 use Rattle.cap_words.specs.Ends.{DeviceFails, GrowthFails, WasSpent, Works}
@@ -12,9 +12,8 @@ use Rattle.cap_words.specs.declared.sources.WordSource as source
 use Rattle.cap_frame.proofs.Taking.{takes_none, takes_one, takes_both}
 use Rattle.cap_frame.specs.Putting.{Blames, Halts}
 use Rattle.cap_frame.proofs.Putting.{begins_kept, blames_later}
-use Rattle.cap_cmd.specs.Copying.{Copied, CopiesAll, CopiesMost, CopiesUntil, Fills, Finishes, Gives, Spoils, StopsCopying, StopsGiving}
+use Rattle.cap_cmd.specs.Copying.{Copied, Fills, Finishes, Gives, Spoils, StopsCopying}
 use Rattle.cap_cmd.specs.Putting.{Copies, StopsAt, StopsPutting}
-use Rattle.cap_cmd.specs.Streams.{EndsStream}
 use Rattle.cap_cmd.specs.declared.fault.CopyFault.{CopyFault}
 use Rattle.cap_cmd.specs.declared.fault.CopyFault.TheVariants.{TooManyWords, Source, Output}
 use Rattle.cap_cmd.proofs.Streams.{all_taken}
@@ -22,21 +21,27 @@ use Rattle.cap_cmd.proofs.Streams.{all_taken}
 module _ {S : Type 0} (gs : source.Ghosts S) where
   -- no words
   pub gives_none : (s : S) → Gives gs s s []
-  gives_none s = record { takes = takes_none gs s; spent = refl; failures = refl }
+  gives_none s = record { takes = takes_none gs s; usable = inl refl; spent = refl; failures = refl }
 
   -- the next word
   pub gives_one : (old new : S) (word : ℕ) → Consumes (gs.words old) (gs.words new) (word ∷ [])
       → OnSome (gs.words old) ((gs.is_cut new ≡ gs.is_cut old) × (gs.places old ≡ gs.place new ∷ gs.places new))
       → Works (gs.spent old) (gs.spent new) (gs.failures old) (gs.failures new) → Gives gs old new (word ∷ [])
-  gives_one old new word c f w = record { takes = takes_one gs old new word c f; spent = w.still ∙ sym w.usable; failures = w.none_failed }
+  gives_one old new word c f w = record { takes = takes_one gs old new word c f; usable = inr w.usable; spent = w.still ∙ sym w.usable; failures = w.none_failed }
 
   -- some words, and then others
   pub gives_both : (old mid new : S) (a b : List ℕ) → Gives gs old mid a → Gives gs mid new b → Gives gs old new (a ++ b)
   gives_both old mid new a b p q = record {
     takes = takes_both gs old mid new a b p.takes q.takes;
+    usable = usable p.usable q.usable;
     spent = q.spent ∙ p.spent;
     failures = q.failures ∙ p.failures;
   }
+    where
+      usable : (a ≡ []) ⊎ (gs.spent old ≡ false) → (b ≡ []) ⊎ (gs.spent mid ≡ false) → (a ++ b ≡ []) ⊎ (gs.spent old ≡ false)
+      usable (inr u) v = inr u
+      usable (inl e) (inl f) = inl (ap (λ (xs : List ℕ). xs ++ b) e ∙ f)
+      usable (inl e) (inr v) = inr (sym p.spent ∙ v)
 
 module _ {K : Type 0} (gk : sink.Ghosts K) where
   -- no words
@@ -163,7 +168,7 @@ module _ {S K : Type 0} (gs : source.Ghosts S) (gk : sink.Ghosts K) where
       record { own = c.own; mid = s.0; few = omega (arith, s.1, c.many); gives = c.gives; spoils = spoils_last gk before between after c.own out c.fills e b; at = inr (inl s.3) }
   copied_spoiled most old new before between after (Err TooManyWords) out s e b =
       let c = s.2 in
-      record { own = c.own; mid = s.0; few = omega (arith, c.many); gives = c.gives; spoils = spoils_last gk before between after c.own out c.fills e b; at = inr (inr (inr (s.1, s.3))) }
+      record { own = c.own; mid = s.0; few = omega (arith, c.many); gives = c.gives; spoils = spoils_last gk before between after c.own out c.fills e b; at = inr (inr (inr (c.many, (s.1, s.3)))) }
   copied_spoiled most old new before between after (Err (Source fault)) out s e b =
       let c = s.3 in
       record { own = c.own; mid = s.0; few = omega (arith, s.2, c.many); gives = c.gives; spoils = spoils_last gk before between after c.own out c.fills e b; at = inr (inr (inl (fault, s.4))) }

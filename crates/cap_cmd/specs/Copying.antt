@@ -14,9 +14,10 @@ use Rattle.cap_cmd.specs.declared.fault.CopyFault.{CopyFault}
 use Rattle.cap_cmd.specs.declared.fault.CopyFault.TheVariants.{TooManyWords, Source, Output}
 
 module _ {S : Type 0} (gs : source.Ghosts S) where
-  -- These words were read, and no fault came.
+  -- These words were read, and no fault came: where there were any, the source wasn't spent before.
   pub record Gives (old new : S) (own : List ℕ) : Type 0 where
     pub takes : Takes gs old new own
+    pub usable : (own ≡ []) ⊎ (gs.spent old ≡ false)
     pub spent : gs.spent new ≡ gs.spent old
     pub failures : gs.failures new ≡ gs.failures old
 
@@ -35,9 +36,9 @@ module _ {S : Type 0} (gs : source.Ghosts S) where
   GivesNone old new Device = Breaks gs old new
   GivesNone old new Spent = Refuses gs old new
 
-  -- why no more words were read: the input ended, a fault came, or it was one too many
-  abbrev pub StopsGiving : S → S → Type 0
-  StopsGiving old new = EndsStream gs old new ⊎ (((fault : SourceFault) × GivesNone old new fault) ⊎ ((word : ℕ) × Gives old new (word ∷ [])))
+  -- why no more than these words were put, at most so many: the input ended, a fault came, or one more was one too many
+  abbrev pub StopsGiving : ℕ → List ℕ → S → S → Type 0
+  StopsGiving most own old new = EndsStream gs old new ⊎ (((fault : SourceFault) × GivesNone old new fault) ⊎ ((length own ≡ most) × ((word : ℕ) × Gives old new (word ∷ []))))
 
 module _ {K : Type 0} (gk : sink.Ghosts K) where
   -- These words were put, and no fault came.
@@ -86,14 +87,14 @@ module _ {S K : Type 0} (gs : source.Ghosts S) (gk : sink.Ghosts K) where
     pub none : GivesNone gs mid new fault
     pub finishes : Finishes gk before after own
 
-  -- The output failed at the last of the words that were read, or, when there were no more of them, as the sink was finished.
+  -- The output failed at the last of the words that were read, or, when all that may be copied were put, as the sink was finished.
   pub record StopsCopying (most : ℕ) (old new : S) (before after : K) (fault : OutFault) : Type 0 where
     pub own : List ℕ
     pub mid : S
     pub few : length own ≤ most
     pub gives : Gives gs old mid own
     pub spoils : Spoils gk before after own fault
-    pub at : ((mid ≡ new) × StoppedPutting gk.text gk.taken before after own) ⊎ StopsGiving gs mid new
+    pub at : ((mid ≡ new) × StoppedPutting gk.text gk.taken before after own) ⊎ StopsGiving gs most own mid new
 
   -- what each answer of a copy of at most so many words says
   abbrev pub Copied : ℕ → S → S → K → K → Result ℕ CopyFault → Type 0

@@ -21,21 +21,19 @@ frame_fault_text Device = codes "Device"
 frame_fault_text Memory = codes "Memory"
 frame_fault_text Spent = codes "Spent"
 
--- what is said of a message at which an engine ended
-abbrev pub cause_text : Cause → List ℕ
-cause_text TooManyMessages = codes "TooManyMessages"
-cause_text (Frame fault) = frame_fault_text fault
-cause_text (Output fault) = codes "output failed"
+-- the message that is spoken of
+abbrev pub message_name : ℕ → List ℕ
+message_name n = codes "message" ++ then_number n ++ codes ": "
 
--- a line on message n
-abbrev pub message_line : ℕ → List ℕ → List ℕ
-message_line n text = codes "capvet: message" ++ then_number n ++ codes ": " ++ text ++ 10 ∷ []
+-- what is said of an engine that ended at message n
+abbrev pub cause_text : ℕ → Cause → List ℕ
+cause_text n TooManyMessages = message_name n ++ codes "TooManyMessages"
+cause_text n (Frame fault) = message_name n ++ frame_fault_text fault
+cause_text n (Output fault) = codes "output failed"
 
 -- the line of a fault
 abbrev pub fault_line : ℕ → Cause → List ℕ
-fault_line n TooManyMessages = message_line n (cause_text TooManyMessages)
-fault_line n (Frame fault) = message_line n (cause_text (Frame fault))
-fault_line n (Output fault) = codes "capvet: output failed" ++ 10 ∷ []
+fault_line n cause = codes "capvet: " ++ cause_text n cause ++ 10 ∷ []
 
 -- what is said of a source that gave no word
 abbrev pub source_fault_text : SourceFault → List ℕ

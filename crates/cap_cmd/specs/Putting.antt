@@ -1,5 +1,5 @@
 -- How putting the words of a source to a sink ends, before the sink is finished. gs and gk have the members of the source's and of the sink's type.
-use Rattle.std.specs.Prelude.{ℕ, ◌≡◌, ◌≤◌, List, [], ◌∷◌, ◌++◌, length, Result, Ok, Err}
+use Rattle.std.specs.Prelude.{ℕ, ◌≡◌, ◌≤◌, List, [], ◌∷◌, length, Result, Ok, Err}
 use Rattle.cap_words.specs.Sinks.{StoppedPutting}
 use Rattle.cap_words.specs.declared.ends.OutFault.{OutFault}
 use Rattle.cap_words.specs.declared.sources.WordSource as source

@@ -1,5 +1,5 @@
 -- How an engine ends, by what it did to its source and its output. gs and go have the members of their types.
-use Rattle.std.specs.Prelude.{ℕ, ◌≡◌, ◌≤◌, ◌<◌, true, Bool, List, [], ◌∷◌, ◌++◌, length}
+use Rattle.std.specs.Prelude.{ℕ, ◌≡◌, ◌<◌, true, Bool, List, [], ◌∷◌, ◌++◌, length}
 use Rattle.std.specs.Io.KnownBytes.{Appends}
 use Rattle.cap_words.specs.Ends.{DeviceFails, Failures, GrowthFails, WasSpent}
 use Rattle.cap_words.specs.declared.ends.ByteOut as output

@@ -36,7 +36,7 @@ fn input_is_packed(job: &Job) -> bool
 }
 
 /// Writes the line of a fault at a message, if there is one, and answers the status.
-fn told<E: ByteOut>(err: &mut E, answer: &Result<Outcome, RunFault>) -> u8
+fn report<E: ByteOut>(err: &mut E, answer: &Result<Outcome, RunFault>) -> u8
     ensures { result ≡ run_status answer.now }
 {
     if let Err(fault) = answer {
@@ -46,7 +46,7 @@ fn told<E: ByteOut>(err: &mut E, answer: &Result<Outcome, RunFault>) -> u8
 }
 
 /// Writes the line of a fault of a copy, if there is one, and answers the status.
-fn told_copy<E: ByteOut>(err: &mut E, answer: &Result<u64, CopyFault>) -> u8
+fn report_copy<E: ByteOut>(err: &mut E, answer: &Result<u64, CopyFault>) -> u8
     ensures { result ≡ copy_status answer.now }
 {
     if let Err(fault) = answer {
@@ -76,21 +76,21 @@ fn run_over<S: WordSource + Drop, O: ByteOut, E: ByteOut>(
     match job.task {
         Task::Segments => {
             let answer = run_segments(alloc, &mut source, &mut out, &job.settings);
-            (told(err, &answer), out)
+            (report(err, &answer), out)
         }
         Task::Vet => {
             let answer = run_vet(alloc, &mut source, &mut out, &job.settings);
-            (told(err, &answer), out)
+            (report(err, &answer), out)
         }
         Task::Pack => {
             let mut sink = Packer::new(out);
             let answer = run_pack(&mut source, &mut sink, MOST_WORDS);
-            (told_copy(err, &answer), sink.into_inner())
+            (report_copy(err, &answer), sink.into_inner())
         }
         Task::Unpack => {
             let mut sink = PlainSink::new(out);
             let answer = run_unpack(&mut source, &mut sink, MOST_WORDS);
-            (told_copy(err, &answer), sink.into_inner())
+            (report_copy(err, &answer), sink.into_inner())
         }
     }
 }
@@ -99,8 +99,9 @@ fn run_over<S: WordSource + Drop, O: ByteOut, E: ByteOut>(
 /// answers the exit status and the output. A line that can't be written changes no status.
 ///
 /// The status is 0 where every message was accepted, or all words were copied; 1 where a message was
-/// refused, or the input is no stream of messages within the limits, or no packed text; and 3 where
-/// a device failed, an end was spent before, or a growth was refused.
+/// refused, the input is no stream of messages within the limits, is cut inside a word or a group, or
+/// has more words than are copied; and 3 where a device failed, an end was spent before, or a growth
+/// was refused.
 pub fn run_job<I: ByteIn + Drop, O: ByteOut, E: ByteOut>(
     alloc: Global,
     job: &Job,

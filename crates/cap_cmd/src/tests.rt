@@ -1,5 +1,6 @@
 //! The command line, which no clause speaks of, and a run of each public call.
 
+use crate::status::words_status;
 use crate::texts::faults::{copy_fault_text, fault_text};
 use crate::{Cause, CopyFault, Job, JobFault, Limits, RunFault, Task, read_job, run_job};
 use cap_frame::FrameFault;
@@ -259,21 +260,34 @@ fn tells_the_faults(rt: HostRuntime) -> Result<(), Fail> {
 
 #[test]
 fn tells_the_faults_of_copies(rt: HostRuntime) -> Result<(), Fail> {
-    let faults: [(CopyFault, &str); 5] = [
-        (CopyFault::TooManyWords, "capvet: TooManyWords\n"),
+    let faults: [(CopyFault, &str, u8); 6] = [
+        (CopyFault::TooManyWords, "capvet: TooManyWords\n", 1),
         (
             CopyFault::Source(SourceFault::Truncated { byte: 22 }),
             "capvet: Truncated at byte 22\n",
+            1,
         ),
-        (CopyFault::Source(SourceFault::Device), "capvet: Device\n"),
-        (CopyFault::Source(SourceFault::Spent), "capvet: Spent\n"),
+        (
+            CopyFault::Source(SourceFault::Device),
+            "capvet: Device\n",
+            3,
+        ),
+        (CopyFault::Source(SourceFault::Spent), "capvet: Spent\n", 3),
         (
             CopyFault::Output(OutFault::Device),
             "capvet: output failed\n",
+            3,
+        ),
+        (
+            CopyFault::Output(OutFault::Memory),
+            "capvet: output failed\n",
+            3,
         ),
     ];
-    for (fault, text) in &faults {
+    for (fault, text, status) in &faults {
         assert!(rt; copy_fault_text(fault).as_slice() == text.as_bytes());
+        assert_eq!(rt; words_status(&Err(*fault)), *status);
     }
+    assert_eq!(rt; words_status(&Ok(7)), 0);
     Ok(())
 }

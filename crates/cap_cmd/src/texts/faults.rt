@@ -1,12 +1,12 @@
 //! The lines of faults.
 
 ghost use Rattle.arrayvec.specs.ArrayVec.{array_vec_len};
-ghost use Rattle.cap_cmd.specs.Faults.{cause_text, copy_fault_line, copy_fault_text as copy_text, fault_line, frame_fault_text, source_fault_text};
+ghost use Rattle.cap_cmd.specs.Faults.{cause_text, copy_fault_line, copy_fault_text as copy_text, fault_line, frame_fault_text, message_name, source_fault_text};
 ghost use Rattle.cap_spec.specs.Texts.{then_number};
 ghost use Rattle.std.specs.Prelude.{◌+◌, ◌++◌, ◌≡◌, ◌≤◌, ◌∷◌, [], codes, decimal, length};
 
 use crate::fault::{Cause, CopyFault, RunFault};
-use crate::texts::line::{LINE, push_named, push_number, push_text};
+use crate::texts::line::{LINE, push_named, push_text};
 use arrayvec::ArrayVec;
 use cap_frame::FrameFault;
 use cap_words::SourceFault;
@@ -27,32 +27,42 @@ fn push_frame_fault(line: &mut ArrayVec<u8, LINE>, fault: FrameFault)
     }
 }
 
-/// Appends what is said of a message at which an engine ended.
-fn push_cause(line: &mut ArrayVec<u8, LINE>, cause: Cause)
+/// Appends the message that is spoken of.
+fn push_message(line: &mut ArrayVec<u8, LINE>, number: u32)
     requires { array_vec_len line.old + 40 ≤ 192 }
-    ensures items { line.new.items ≡ line.old.items ++ cause_text cause }
-    ensures few { array_vec_len line.new ≤ array_vec_len line.old + 40 }
+    ensures items { line.new.items ≡ line.old.items ++ message_name number }
+    ensures few { array_vec_len line.new ≤ array_vec_len line.old + 30 }
+{
+    push_named(line, b"message ", u64::from(number));
+    push_text(line, b": ");
+}
+
+/// Appends what is said of an engine that ended at a message.
+fn push_cause(line: &mut ArrayVec<u8, LINE>, number: u32, cause: Cause)
+    requires { array_vec_len line.old + 80 ≤ 192 }
+    ensures items { line.new.items ≡ line.old.items ++ cause_text number cause }
+    ensures few { array_vec_len line.new ≤ array_vec_len line.old + 80 }
 {
     match cause {
-        Cause::TooManyMessages => push_text(line, b"TooManyMessages"),
-        Cause::Frame(fault) => push_frame_fault(line, fault),
+        Cause::TooManyMessages => {
+            push_message(line, number);
+            push_text(line, b"TooManyMessages");
+        }
+        Cause::Frame(fault) => {
+            push_message(line, number);
+            push_frame_fault(line, fault);
+        }
         Cause::Output(_) => push_text(line, b"output failed"),
     }
 }
 
-/// The line of a fault of message `number`.
+/// The line of a fault.
 pub(crate) fn fault_text(fault: &RunFault) -> ArrayVec<u8, LINE>
     ensures { result.items ≡ fault_line fault.now.message fault.now.cause }
 {
     let mut line = ArrayVec::new();
-    if let Cause::Output(_) = fault.cause {
-        push_text(&mut line, b"capvet: output failed\n");
-        return line;
-    }
-    push_text(&mut line, b"capvet: message ");
-    push_number(&mut line, u64::from(fault.message));
-    push_text(&mut line, b": ");
-    push_cause(&mut line, fault.cause);
+    push_text(&mut line, b"capvet: ");
+    push_cause(&mut line, fault.message, fault.cause);
     push_text(&mut line, b"\n");
     line
 }
