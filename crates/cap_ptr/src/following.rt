@@ -24,6 +24,9 @@ use cap_words::{bits, signed_offset};
 /// A far pointer leads through a landing pad of one or two words, which may stand in any segment
 /// (encoding: Inter-Segment Pointers). The error is the first reason, in the order of `Reason`,
 /// whose condition holds.
+// It and what it calls at nearly every word are inlined: in a walk's loop what a word leads to then stays
+// in registers.
+#[inline(always)]
 pub fn follow<M: Segments>(message: &M, s: u32, w: u32) -> Result<Followed, Reason>
     requires exists { s < length (M.segments message.now) }
     requires inside { w < length (segment_of (M.segments message.now) s) }
@@ -41,6 +44,7 @@ pub fn follow<M: Segments>(message: &M, s: u32, w: u32) -> Result<Followed, Reas
 }
 
 // What a pointer word leads to.
+#[inline(always)]
 fn followed<M: Segments>(message: &M, s: u32, w: u32) -> Result<Followed, Reason>
     requires exists { s < length (M.segments message.now) }
     requires inside { w < length (segment_of (M.segments message.now) s) }
@@ -58,6 +62,7 @@ fn followed<M: Segments>(message: &M, s: u32, w: u32) -> Result<Followed, Reason
 }
 
 // What the word at this place, which stands for a pointer word over some pads, leads to.
+#[inline(always)]
 fn resolved<M: Segments>(
     message: &M,
     pads: u8,
@@ -82,6 +87,7 @@ fn resolved<M: Segments>(
 
 // The object of the struct or list pointer at this place, which stands for a pointer word over some
 // pads.
+#[inline(always)]
 fn object<M: Segments>(
     message: &M,
     pads: u8,

@@ -13,6 +13,7 @@ use cap_spec::Reason;
 use cap_words::bits;
 
 /// The target of the word `word`, which tells its shape, from word `start` of a segment on.
+#[inline(always)]
 pub(crate) fn target_at<M: Segments>(
     message: &M,
     pads: u8,

@@ -28,6 +28,7 @@ pub(crate) enum Looked {
 
 /// Looks at word `w` of segment `s`, whose target has this level, where `spent` words were charged
 /// before. The error is the first reason that applies.
+#[inline(always)]
 pub(crate) fn look<M: Segments>(
     message: &M,
     limits: &Limits,

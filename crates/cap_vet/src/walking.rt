@@ -45,6 +45,9 @@ pub(crate) fn take_next<M: Segments, const N: usize>(
 
 /// Looks at the next pointer word, and puts the frame of its object's pointers on the stack. The
 /// error is the first fault.
+// It and what it calls are inlined: a walk may look at millions of words, and one turn is some fifty
+// instructions.
+#[inline(always)]
 pub(crate) fn visit<M: Segments, const N: usize>(
     message: &M,
     limits: &Limits,
@@ -75,6 +78,7 @@ pub(crate) fn visit<M: Segments, const N: usize>(
 }
 
 // One more frame, where there is one.
+#[inline(always)]
 fn push_some<const N: usize>(stack: &mut Stack<N>, frame: Option<Frame>)
     requires few { N ≤ 256 }
     requires room { length (stack.old.items ++ option_to_list frame) ≤ N }
@@ -86,6 +90,7 @@ fn push_some<const N: usize>(stack: &mut Stack<N>, frame: Option<Frame>)
 }
 
 // Counts a pointer word, and gives the frame of its object's pointers.
+#[inline(always)]
 fn add(report: &mut Report, s: u32, w: u32, looked: Looked) -> Option<Frame>
     requires room { ((added report.old s w looked).charge < 2 ^ 64) × ((added report.old s w looked).pointers < 2 ^ 64) × ((added report.old s w looked).caps < 2 ^ 64) }
     ensures report { report.new ≡ added report.old s w looked }
