@@ -45,8 +45,7 @@ pub(crate) fn take_next<M: Segments, const N: usize>(
 
 /// Looks at the next pointer word, and puts the frame of its object's pointers on the stack. The
 /// error is the first fault.
-// It and what it calls are inlined: a walk may look at millions of words, and one turn is some fifty
-// instructions.
+// It and what it calls are inlined: a walk may look at millions of words.
 #[inline(always)]
 pub(crate) fn visit<M: Segments, const N: usize>(
     message: &M,
