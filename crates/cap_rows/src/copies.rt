@@ -3,7 +3,8 @@
 use crate::devices::Full;
 use crate::engines::{Sips, settings};
 use crate::whole::run;
-use cap_cmd::{CopyFault, run_pack, run_unpack, run_vet};
+use cap_cmd::{Cause, CopyFault, Outcome, RunFault, run_pack, run_unpack, run_vet};
+use cap_frame::FrameFault;
 use cap_pack::{Packer, Unpacker};
 use cap_words::{
     FromRead, FromWrite, OutFault, PlainSink, PlainWords, SliceIn, SourceFault, VecOut,
@@ -144,6 +145,13 @@ fn ends_at_a_word_too_many(rt: HostRuntime) -> Result<(), Fail> {
         let mut sink = Packer::new(VecOut::new(alloc));
         assert!(rt; run_pack(&mut source, &mut sink, words) == answer);
         assert_eq!(rt; sink.into_inner().bytes(), text);
+        let mut sips = PlainWords::new(FromRead::new(Sips {
+            bytes: null.as_slice(),
+            most: 1,
+        }));
+        let mut sink = Packer::new(VecOut::new(alloc));
+        assert!(rt; run_pack(&mut sips, &mut sink, words) == answer);
+        assert_eq!(rt; sink.into_inner().bytes(), text);
     }
     Ok(())
 }
@@ -176,41 +184,83 @@ fn leaves_a_beginning_where_the_output_fails(rt: HostRuntime) -> Result<(), Fail
     Ok(())
 }
 
+// A packed stream of messages, and what vetting it leaves and answers.
+struct Row {
+    stream: &'static str,
+    status: u8,
+    out: &'static str,
+    err: &'static str,
+    answer: Result<Outcome, RunFault>,
+}
+
+const ROWS: [Row; 4] = [
+    Row {
+        stream: "10010000",
+        status: 0,
+        out: "message 0: accepted charge 0 depth 0 pointers 1 caps 0\n",
+        err: "",
+        answer: Ok(Outcome {
+            messages: 1,
+            refused: 0,
+            noncanonical: 0,
+        }),
+    },
+    // the run of zero words goes on into a second message
+    Row {
+        stream: "10010001",
+        status: 1,
+        out: "message 0: accepted charge 0 depth 0 pointers 1 caps 0\nmessage 1: refused NoRoot at 0:0 pointers 0\n",
+        err: "",
+        answer: Ok(Outcome {
+            messages: 2,
+            refused: 1,
+            noncanonical: 0,
+        }),
+    },
+    Row {
+        stream: "100100",
+        status: 1,
+        out: "",
+        err: "capvet: message 0: Truncated at byte 3\n",
+        answer: Err(RunFault {
+            message: 0,
+            cause: Cause::Frame(FrameFault::Truncated { byte: 3 }),
+        }),
+    },
+    Row {
+        stream: "1004400211040110010107",
+        status: 0,
+        out: "message 0: accepted charge 4 depth 2 pointers 3 caps 0\n",
+        err: "",
+        answer: Ok(Outcome {
+            messages: 1,
+            refused: 0,
+            noncanonical: 0,
+        }),
+    },
+];
+
 #[test]
 fn vets_packed_streams(rt: HostRuntime) -> Result<(), Fail> {
     let alloc = rt.alloc();
-    let null = "message 0: accepted charge 0 depth 0 pointers 1 caps 0\n";
-    for (stream, status, out, err) in [
-        ("10010000", 0, null, ""),
-        (
-            // the run of zero words goes on into a second message
-            "10010001",
-            1,
-            "message 0: accepted charge 0 depth 0 pointers 1 caps 0\nmessage 1: refused NoRoot at 0:0 pointers 0\n",
-            "",
-        ),
-        ("100100", 1, "", "capvet: message 0: Truncated at byte 3\n"),
-        (
-            "1004400211040110010107",
-            0,
-            "message 0: accepted charge 4 depth 2 pointers 3 caps 0\n",
-            "",
-        ),
-    ] {
-        let left = run(alloc, "vet", &["--packed"], stream)?;
-        assert_eq!(rt; left.status, status);
-        assert_eq!(rt; left.out.bytes(), out.as_bytes());
-        assert_eq!(rt; left.err.bytes(), err.as_bytes());
-        let bytes = hex::decode(alloc, stream)?;
+    for row in &ROWS {
+        let left = run(alloc, "vet", &["--packed"], row.stream)?;
+        assert_eq!(rt; left.status, row.status);
+        assert_eq!(rt; left.out.bytes(), row.out.as_bytes());
+        assert_eq!(rt; left.err.bytes(), row.err.as_bytes());
+        let bytes = hex::decode(alloc, row.stream)?;
         let mut source = Unpacker::new(FromRead::new(Sips {
             bytes: bytes.as_slice(),
             most: 1,
         }));
         let mut text = VecOut::new(alloc);
         let settings = settings(u32::MAX).ok_or("settings")?;
-        let answer = run_vet(alloc, &mut source, &mut text, &settings);
-        assert_eq!(rt; answer.is_ok(), err.is_empty());
-        assert_eq!(rt; text.bytes(), out.as_bytes());
+        assert!(rt;
+            run_vet(alloc, &mut source, &mut text, &settings) == row.answer,
+            "{}",
+            row.stream
+        );
+        assert_eq!(rt; text.bytes(), row.out.as_bytes());
     }
     Ok(())
 }

@@ -69,7 +69,7 @@ struct Row {
     err: &'static str,
 }
 
-const ROWS: [Row; 8] = [
+const ROWS: [Row; 16] = [
     // at the first read
     Row {
         command: "vet",
@@ -122,6 +122,56 @@ const ROWS: [Row; 8] = [
         out: RESERVED_VET,
         err: "capvet: message 1: Device\n",
     },
+    // words that are packed: at the first read, behind a word, inside one, and behind a run of zeros
+    Row {
+        command: "pack",
+        stream: "",
+        out: "",
+        err: "capvet: Device\n",
+    },
+    Row {
+        command: "pack",
+        stream: "0800000003000200",
+        out: "\x51\x08\x03\x02",
+        err: "capvet: Device\n",
+    },
+    Row {
+        command: "pack",
+        stream: "080000000300020019000000aa01",
+        out: "\x51\x08\x03\x02",
+        err: "capvet: Device\n",
+    },
+    Row {
+        command: "pack",
+        stream: "00000000000000000000000000000000",
+        out: "\0\x01",
+        err: "capvet: Device\n",
+    },
+    // words that are unpacked: at the first read, behind a group, behind a tag, and inside words as they are
+    Row {
+        command: "unpack",
+        stream: "",
+        out: "",
+        err: "capvet: Device\n",
+    },
+    Row {
+        command: "unpack",
+        stream: "51080302",
+        out: "\x08\0\0\0\x03\0\x02\0",
+        err: "capvet: Device\n",
+    },
+    Row {
+        command: "unpack",
+        stream: "5108030231",
+        out: "\x08\0\0\0\x03\0\x02\0",
+        err: "capvet: Device\n",
+    },
+    Row {
+        command: "unpack",
+        stream: "ff616161616161616102616263646566676861",
+        out: "aaaaaaaaabcdefgh",
+        err: "capvet: Device\n",
+    },
 ];
 
 #[test]
@@ -142,19 +192,34 @@ fn an_input_that_fails_ends_the_run_with_status_3(rt: HostRuntime) -> Result<(),
     Ok(())
 }
 
+// A command, its input, and what it writes.
+const TEXTS: [(&str, &str, &str); 8] = [
+    ("vet", NULL, NULL_VET),
+    ("vet", RESERVED, RESERVED_VET),
+    ("segments", NULL, NULL_SEGMENTS),
+    (
+        "vet",
+        "0000000001000000070000000500000000000000010000000000000000000000",
+        "message 0: refused Reserved at 0:0 pointers 1\nmessage 1: accepted charge 0 depth 0 pointers 1 caps 0\n",
+    ),
+    ("pack", NULL, "\x10\x01\0\0"),
+    (
+        "pack",
+        "616161616161610061626364656667000800000003000200",
+        "\x7faaaaaaa\x7fabcdefg\x51\x08\x03\x02",
+    ),
+    ("unpack", "0001", "\0\0\0\0\0\0\0\0\0\0\0\0\0\0\0\0"),
+    (
+        "unpack",
+        "51080302ff6161616161616161016162636465666768",
+        "\x08\0\0\0\x03\0\x02\0aaaaaaaaabcdefgh",
+    ),
+];
+
 #[test]
 fn an_output_that_fails_ends_the_run_with_status_3(rt: HostRuntime) -> Result<(), Fail> {
     let alloc = rt.alloc();
-    for (command, stream, text) in [
-        ("vet", NULL, NULL_VET),
-        ("vet", RESERVED, RESERVED_VET),
-        ("segments", NULL, NULL_SEGMENTS),
-        (
-            "vet",
-            "0000000001000000070000000500000000000000010000000000000000000000",
-            "message 0: refused Reserved at 0:0 pointers 1\nmessage 1: accepted charge 0 depth 0 pointers 1 caps 0\n",
-        ),
-    ] {
+    for (command, stream, text) in TEXTS {
         let bytes = hex::decode(alloc, stream)?;
         let job = job(alloc, command, &[])?;
         for room in 0..text.len() {
@@ -179,30 +244,44 @@ fn an_output_that_fails_ends_the_run_with_status_3(rt: HostRuntime) -> Result<()
 }
 
 #[test]
-fn ends_that_were_spent_end_the_run_with_status_3(rt: HostRuntime) -> Result<(), Fail> {
+fn an_input_that_was_spent_ends_the_run_with_status_3(rt: HostRuntime) -> Result<(), Fail> {
     let alloc = rt.alloc();
-    let job = job(alloc, "vet", &[])?;
+    for (command, line) in [
+        ("vet", "capvet: message 0: Spent\n"),
+        ("segments", "capvet: message 0: Spent\n"),
+        ("pack", "capvet: Spent\n"),
+        ("unpack", "capvet: Spent\n"),
+    ] {
+        let job = job(alloc, command, &[])?;
+        let mut input = FromRead::new(Broken { bytes: &[] });
+        assert_eq!(rt; input.read(&mut [0]), Err(InFault::Device));
+        let mut err = VecOut::new(alloc);
+        let (status, out) = run_job(alloc, &job, input, VecOut::new(alloc), &mut err);
+        assert_eq!(rt; out.bytes(), b"".as_slice());
+        assert_eq!(rt; err.bytes(), line.as_bytes());
+        assert_eq!(rt; status, 3, "{command}");
+    }
+    Ok(())
+}
 
-    let mut input = FromRead::new(Broken { bytes: &[] });
-    assert_eq!(rt; input.read(&mut [0]), Err(InFault::Device));
-    let mut err = VecOut::new(alloc);
-    let (status, out) = run_job(alloc, &job, input, VecOut::new(alloc), &mut err);
-    assert_eq!(rt; out.bytes(), b"".as_slice());
-    assert_eq!(rt; err.bytes(), b"capvet: message 0: Spent\n".as_slice());
-    assert_eq!(rt; status, 3);
-
-    let mut out = FromWrite::new(Full {
-        taken: Vec::new(alloc),
-        room: 0,
-        tells: true,
-    });
-    assert_eq!(rt; out.write(&[0]), Err(OutFault::Device));
-    let bytes = hex::decode(alloc, NULL)?;
-    let mut err = VecOut::new(alloc);
-    let (status, out) = run_job(alloc, &job, SliceIn::new(bytes.as_slice()), out, &mut err);
-    assert!(rt; out.into_inner().taken.is_empty());
-    assert_eq!(rt; err.bytes(), b"capvet: output failed\n".as_slice());
-    assert_eq!(rt; status, 3);
+#[test]
+fn an_output_that_was_spent_ends_the_run_with_status_3(rt: HostRuntime) -> Result<(), Fail> {
+    let alloc = rt.alloc();
+    for (command, stream, _) in TEXTS {
+        let job = job(alloc, command, &[])?;
+        let mut out = FromWrite::new(Full {
+            taken: Vec::new(alloc),
+            room: 0,
+            tells: true,
+        });
+        assert_eq!(rt; out.write(&[0]), Err(OutFault::Device));
+        let bytes = hex::decode(alloc, stream)?;
+        let mut err = VecOut::new(alloc);
+        let (status, out) = run_job(alloc, &job, SliceIn::new(bytes.as_slice()), out, &mut err);
+        assert!(rt; out.into_inner().taken.is_empty());
+        assert_eq!(rt; err.bytes(), b"capvet: output failed\n".as_slice());
+        assert_eq!(rt; status, 3, "{command}");
+    }
     Ok(())
 }
 

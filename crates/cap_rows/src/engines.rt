@@ -71,6 +71,38 @@ fn reads_no_more_messages_than_it_may(rt: HostRuntime) -> Result<(), Fail> {
 }
 
 #[test]
+fn vets_no_more_messages_than_it_may(rt: HostRuntime) -> Result<(), Fail> {
+    let alloc = rt.alloc();
+    let bytes = hex::decode(alloc, TWO)?;
+    for (messages, wanted, text) in [
+        (
+            1,
+            Err(RunFault {
+                message: 1,
+                cause: Cause::TooManyMessages,
+            }),
+            "message 0: refused NoRoot at 0:0 pointers 0\n",
+        ),
+        (
+            2,
+            Ok(Outcome {
+                messages: 2,
+                refused: 1,
+                noncanonical: 0,
+            }),
+            "message 0: refused NoRoot at 0:0 pointers 0\nmessage 1: accepted charge 1 depth 1 pointers 1 caps 0\n",
+        ),
+    ] {
+        let settings = settings(messages).ok_or("settings")?;
+        let mut source = PlainWords::new(SliceIn::new(bytes.as_slice()));
+        let mut out = VecOut::new(alloc);
+        assert!(rt; run_vet(alloc, &mut source, &mut out, &settings) == wanted);
+        assert_eq!(rt; out.bytes(), text.as_bytes());
+    }
+    Ok(())
+}
+
+#[test]
 fn goes_through_300_messages_in_sips(rt: HostRuntime) -> Result<(), Fail> {
     let alloc = rt.alloc();
     let mut stream = Vec::new(alloc);
@@ -80,14 +112,12 @@ fn goes_through_300_messages_in_sips(rt: HostRuntime) -> Result<(), Fail> {
     let settings = settings(u32::MAX).ok_or("settings")?;
     let mut whole = VecOut::new(alloc);
     let mut source = PlainWords::new(SliceIn::new(stream.as_slice()));
-    assert!(rt;
-        run_vet(alloc, &mut source, &mut whole, &settings)
-            == Ok(Outcome {
-                messages: 300,
-                refused: 150,
-                noncanonical: 0
-            })
-    );
+    let wanted = Ok(Outcome {
+        messages: 300,
+        refused: 150,
+        noncanonical: 0,
+    });
+    assert!(rt; run_vet(alloc, &mut source, &mut whole, &settings) == wanted);
     assert!(rt;
         whole.bytes().ends_with(
             b"message 298: refused NoRoot at 0:0 pointers 0\nmessage 299: accepted charge 1 depth 1 pointers 1 caps 0\n"
@@ -100,7 +130,7 @@ fn goes_through_300_messages_in_sips(rt: HostRuntime) -> Result<(), Fail> {
         };
         let mut source = PlainWords::new(FromRead::new(reader));
         let mut out = VecOut::new(alloc);
-        assert!(rt; run_vet(alloc, &mut source, &mut out, &settings).is_ok());
+        assert!(rt; run_vet(alloc, &mut source, &mut out, &settings) == wanted);
         assert_eq!(rt; out.bytes(), whole.bytes(), "{most} bytes a call");
     }
     Ok(())
