@@ -54,17 +54,16 @@ def small_message(rng):
 
 
 def write_big(path):
-    """A message of 64 MiB in all: a struct with one blob of random bytes."""
-    words = 64 * MIB // 8 - 1
-    size = (words - 2) * 8
+    """A message of 64 MiB in all: a struct with four lists of random bytes, each of 16 MiB less a few words."""
+    sizes = [2 * MIB - 1, 2 * MIB - 1, 2 * MIB - 1, 2 * MIB - 3]
+    rng = random.Random(1)
     with open(path, "wb") as out:
-        out.write(struct.pack("<II", 0, words))
-        out.write(struct_pointer(0, 0, 1) + list_pointer(0, 5, words - 2))
-        rng = random.Random(1)
-        while size > 0:
-            part = min(size, MIB)
-            out.write(rng.randbytes(part))
-            size -= part
+        out.write(struct.pack("<II", 0, 1 + 4 + sum(sizes)))
+        out.write(struct_pointer(0, 0, 4))
+        for i, size in enumerate(sizes):
+            out.write(list_pointer(3 - i + sum(sizes[:i]), 2, 8 * size))
+        for size in sizes:
+            out.write(rng.randbytes(8 * size))
 
 
 def write_small(path):
@@ -77,7 +76,7 @@ def write_small(path):
 
 
 def write_wide(path):
-    """A message of 24 MiB: a list of pointers, most of them null, each tenth to a struct of two words."""
+    """A message of 18.3 MiB: a list of pointers, most of them null, each tenth to a struct of two words."""
     rng = random.Random(3)
     count = 2_000_000
     structs = count // 10
@@ -90,22 +89,24 @@ def write_wide(path):
 
 
 def write_tree(path):
-    """A message of 8 million words: a binary tree of structs of one data word and two pointers."""
+    """A message of 8 million words: a binary tree of structs of two data words and two pointers."""
     depth = 21
     total = (1 << depth) - 1
     with open(path, "wb") as out:
-        out.write(struct.pack("<II", 0, 1 + 3 * total))
-        out.write(struct_pointer(0, 1, 2))
+        out.write(struct.pack("<II", 0, 1 + 4 * total))
+        out.write(struct_pointer(0, 2, 2))
         for level in range(depth):
-            part = []
-            for i in range(1 << level):
-                if level + 1 == depth:
-                    part.append(word(i) + word(0) + word(0))
-                else:
-                    here = 3 * ((1 << level) - 1 + i)
-                    left = 3 * ((1 << level + 1) - 1 + 2 * i)
-                    part.append(word(i) + struct_pointer(left - (here + 2), 1, 2) + struct_pointer(left + 3 - (here + 3), 1, 2))
-            out.write(b"".join(part))
+            first = (1 << level) - 1
+            out.write(b"".join(tree_node(first + i, level + 1 == depth) for i in range(1 << level)))
+
+
+def tree_node(number, is_leaf):
+    """A struct of the tree, whose structs stand in the order of their numbers: 2n + 1 and 2n + 2 are below n."""
+    data = word(number) + word(number * number)
+    if is_leaf:
+        return data + word(0) + word(0)
+    left = 4 * (2 * number + 1) - (4 * number + 3)
+    return data + struct_pointer(left, 2, 2) + struct_pointer(left + 3, 2, 2)
 
 
 def write_random(path):
@@ -176,6 +177,10 @@ def write_packed(program, plain, path):
         while part := wanted.read(MIB):
             if back.stdout.read(len(part)) != part:
                 sys.exit(f"{path} doesn't unpack to {plain}")
+        if back.stdout.read(1):
+            sys.exit(f"{path} unpacks to more than {plain}")
+    if back.returncode != 0:
+        sys.exit(f"unpacking {path} ended with status {back.returncode}")
 
 
 def apart(job, *arguments):
@@ -202,7 +207,7 @@ def run(command, file):
     return seconds, usage.ru_maxrss
 
 
-def main():
+def options():
     parser = argparse.ArgumentParser()
     parser.add_argument("--rounds", type=int, default=5)
     parser.add_argument("--only", default="", help="run the rows whose name or input has this word")
@@ -210,33 +215,55 @@ def main():
     args = parser.parse_args()
     if not Path(args.program).is_file():
         sys.exit(f"{args.program} isn't there: build it by `make run`")
-    chosen = [it for it in cases(args.program) if args.only in it.name or args.only in it.input]
+    return args
+
+
+def choose(program, only):
+    """The rows whose name or input has a word, and that of `dd` for each of their inputs."""
+    every = list(cases(program))
+    chosen = [it for it in every if only in it.name or only in it.input]
     inputs = {it.input for it in chosen}
-    chosen = [it for it in cases(args.program)
-              if it.input in inputs and (args.only in it.name or args.only in it.input or it.name == "dd bs=64K")]
-    with tempfile.TemporaryDirectory() as folder:
-        files = {}
-        for name in {it.input for it in chosen}:
-            files[name, False] = Path(folder) / name
-            apart(INPUTS[name], files[name, False])
-        for name in {it.input for it in chosen if it.packed}:
-            files[name, True] = Path(folder) / f"{name}.packed"
-            apart(write_packed, args.program, files[name, False], files[name, True])
-        seconds = {id(it): [] for it in chosen}
-        memory = {id(it): 0 for it in chosen}
-        for _ in range(args.rounds):
-            for it in chosen:
-                took, resident = run(it.command, files[it.input, it.packed])
-                seconds[id(it)].append(took)
-                memory[id(it)] = max(memory[id(it)], resident)
-        sizes = {name: file.stat().st_size for (name, packed), file in files.items() if not packed}
-    middle = {key: statistics.median(values) for key, values in seconds.items()}
-    dd = {it.input: middle[id(it)] for it in chosen if it.name == "dd bs=64K"}
+    return [it for it in every if it in chosen or it.input in inputs and it.name == "dd bs=64K"]
+
+
+def make_files(program, chosen, folder):
+    """The files that the rows read: of each input the plain one, and the packed one where a row gets that."""
+    files = {}
+    for name in {it.input for it in chosen}:
+        files[name, False] = Path(folder) / name
+        apart(INPUTS[name], files[name, False])
+    for name in {it.input for it in chosen if it.packed}:
+        files[name, True] = Path(folder) / f"{name}.packed"
+        apart(write_packed, program, files[name, False], files[name, True])
+    return files
+
+
+def measure(chosen, files, rounds):
+    """The median of the seconds of each row, and its largest resident size in KiB."""
+    runs = [[] for _ in chosen]
+    for _ in range(rounds):
+        for it, mine in zip(chosen, runs):
+            mine.append(run(it.command, files[it.input, it.packed]))
+    return [(statistics.median(seconds for seconds, _ in mine), max(memory for _, memory in mine)) for mine in runs]
+
+
+def show(chosen, results, sizes):
+    dd = {it.input: seconds for it, (seconds, _) in zip(chosen, results) if it.name == "dd bs=64K"}
     print(f"{'input':8} {'command':20} {'MiB':>7} {'seconds':>9} {'MB/s':>8} {'ratio':>7} {'MiB used':>9}")
-    for it in chosen:
-        took, size = middle[id(it)], sizes[it.input]
-        print(f"{it.input:8} {it.name:20} {size / MIB:7.1f} {took:9.4f} {size / took / 1e6:8.0f}"
-              f" {took / dd[it.input]:7.2f} {memory[id(it)] / 1024:9.1f}")
+    for it, (seconds, memory) in zip(chosen, results):
+        size = sizes[it.input]
+        print(f"{it.input:8} {it.name:20} {size / MIB:7.1f} {seconds:9.4f} {size / seconds / 1e6:8.0f}"
+              f" {seconds / dd[it.input]:7.2f} {memory / 1024:9.1f}")
+
+
+def main():
+    args = options()
+    chosen = choose(args.program, args.only)
+    with tempfile.TemporaryDirectory() as folder:
+        files = make_files(args.program, chosen, folder)
+        results = measure(chosen, files, args.rounds)
+        sizes = {it.input: files[it.input, False].stat().st_size for it in chosen}
+    show(chosen, results, sizes)
 
 
 if __name__ == "__main__":
