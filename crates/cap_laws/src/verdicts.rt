@@ -55,8 +55,8 @@ pub fn accepted_is_not_refused()
 {}
 
 /// A message is refused in one way: of two refusals under the same limits, each at the first fault,
-/// the places, the reasons and the numbers of pointers are equal. So the verdict is a function of
-/// the message and the limits.
+/// the places, the reasons and the numbers of pointers are equal. So, with `one_tree` and
+/// `one_tour`, the verdict is a function of the message and the limits.
 pub fn refused_in_one_way()
     ensures { (m : List (List ℕ)) (words depth : ℕ) (r other : Refusal) →
         IsRefused m words depth r → IsRefused m words depth other → r ≡ other }
