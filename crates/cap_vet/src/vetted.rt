@@ -7,8 +7,8 @@ use crate::report::Report;
 use cap_frame::Segments;
 use std::alloc::AllocError;
 
-/// A message whose root denotes one finite tree, of the reported numbers, within the limits that it
-/// was vetted under: at most 268435456 words and 256 levels.
+/// A message whose root denotes one finite tree, of the reported numbers, within the greatest limits:
+/// at most 268435456 words and 256 levels.
 pub struct Vetted<'m, M: Segments> {
     pub(crate) message: &'m M,
     pub(crate) report: Report,
