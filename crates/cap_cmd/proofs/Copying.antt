@@ -12,8 +12,8 @@ use Rattle.cap_words.specs.declared.sources.WordSource as source
 use Rattle.cap_frame.proofs.Taking.{takes_none, takes_one, takes_both}
 use Rattle.cap_frame.specs.Putting.{Blames, Halts}
 use Rattle.cap_frame.proofs.Putting.{begins_kept, blames_later}
-use Rattle.cap_cmd.specs.Copying.{Copied, Fills, Finishes, Gives, Spoils, StopsCopying}
-use Rattle.cap_cmd.specs.Putting.{Copies, StopsAt, StopsPutting}
+use Rattle.cap_cmd.specs.Copying.{Copied, Finishes, Gives, Spoils, StopsCopying}
+use Rattle.cap_cmd.specs.Putting.{Copies, Fills, StopsAt, StopsPutting}
 use Rattle.cap_cmd.specs.declared.fault.CopyFault.{CopyFault}
 use Rattle.cap_cmd.specs.declared.fault.CopyFault.TheVariants.{TooManyWords, Source, Output}
 use Rattle.cap_cmd.proofs.Streams.{all_taken}

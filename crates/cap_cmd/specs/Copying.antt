@@ -1,7 +1,7 @@
--- How a copy of words ends. gs and gk have the members of the source's and of the sink's type.
+-- How a copy of words ends (profile). gs and gk have the members of the source's and of the sink's type.
 use Rattle.std.specs.Prelude.{ℕ, ◌≡◌, ◌≤◌, ◌⊎◌, true, false, List, [], ◌∷◌, ◌++◌, length, Some, OnSome, Result, Ok, Err}
 use Rattle.cap_words.specs.Ends.{Works}
-use Rattle.cap_words.specs.Sinks.{Begins, StoppedPutting, WasFinished, WasPut, sink_fault_of}
+use Rattle.cap_words.specs.Sinks.{Begins, StoppedPutting, WasFinished, sink_fault_of}
 use Rattle.cap_words.specs.declared.ends.OutFault.{OutFault}
 use Rattle.cap_words.specs.declared.sources.SourceFault.{SourceFault}
 use Rattle.cap_words.specs.declared.sources.SourceFault.TheVariants.{Truncated, Device, Spent}
@@ -41,13 +41,6 @@ module _ {S : Type 0} (gs : source.Ghosts S) where
   StopsGiving most own old new = EndsStream gs old new ⊎ (((fault : SourceFault) × GivesNone old new fault) ⊎ ((length own ≡ most) × ((word : ℕ) × Gives old new (word ∷ []))))
 
 module _ {K : Type 0} (gk : sink.Ghosts K) where
-  -- These words were put, and no fault came.
-  pub record Fills (old new : K) (own : List ℕ) : Type 0 where
-    pub put : WasPut gk.text old new own
-    pub closed : gk.closed new ≡ gk.closed old
-    pub spent : gk.spent new ≡ gk.spent old
-    pub failures : gk.failures new ≡ gk.failures old
-
   -- Exactly these words were put, and the sink was finished.
   pub record Finishes (old new : K) (own : List ℕ) : Type 0 where
     pub finished : WasFinished gk.text gk.taken old new own

@@ -1,4 +1,4 @@
--- The lines of faults on standard error, and the exit statuses.
+-- The lines of faults on standard error, and the exit statuses (profile).
 use Rattle.std.specs.Prelude.{ℕ, ◌==◌, ◌&&◌, if◌then◌else◌, List, [], ◌∷◌, ◌++◌, codes, Result, Ok, Err}
 use Rattle.cap_spec.specs.Texts.{then_number}
 use Rattle.cap_words.specs.declared.sources.SourceFault.{SourceFault}

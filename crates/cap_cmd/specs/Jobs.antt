@@ -1,4 +1,4 @@
--- What a job that ends with status 0 did: all of its input was read, and this was written.
+-- What a job that ends with status 0 did: all of its input was read, and this was written (profile).
 use Rattle.std.specs.Prelude.{ℕ, ◌≡◌, ◌≤◌, if◌then◌else◌, true, false, Bool, List, length, sum, [], Option, Some, OnSome, unwrap_or}
 use Rattle.std.specs.List.{AllByRecursion}
 use Rattle.std.specs.Option.{option_map}

@@ -1,13 +1,21 @@
--- How putting the words of a source to a sink ends, before the sink is finished. gs and gk have the members of the source's and of the sink's type.
+-- How putting the words of a source to a sink ends, before the sink is finished (profile). gs and gk have the members of the source's and of the sink's type.
 use Rattle.std.specs.Prelude.{ℕ, ◌≡◌, ◌≤◌, List, [], ◌∷◌, length, Result, Ok, Err}
-use Rattle.cap_words.specs.Sinks.{StoppedPutting}
+use Rattle.cap_words.specs.Sinks.{StoppedPutting, WasPut}
 use Rattle.cap_words.specs.declared.ends.OutFault.{OutFault}
 use Rattle.cap_words.specs.declared.sources.WordSource as source
 use Rattle.cap_words.specs.declared.sinks.WordSink as sink
-use Rattle.cap_cmd.specs.Copying.{Fills, Gives, GivesNone, Spoils}
+use Rattle.cap_cmd.specs.Copying.{Gives, GivesNone, Spoils}
 use Rattle.cap_cmd.specs.Streams.{EndsStream}
 use Rattle.cap_cmd.specs.declared.fault.CopyFault.{CopyFault}
 use Rattle.cap_cmd.specs.declared.fault.CopyFault.TheVariants.{TooManyWords, Source, Output}
+
+module _ {K : Type 0} (gk : sink.Ghosts K) where
+  -- These words were put, and no fault came.
+  pub record Fills (old new : K) (own : List ℕ) : Type 0 where
+    pub put : WasPut gk.text old new own
+    pub closed : gk.closed new ≡ gk.closed old
+    pub spent : gk.spent new ≡ gk.spent old
+    pub failures : gk.failures new ≡ gk.failures old
 
 module _ {S K : Type 0} (gs : source.Ghosts S) (gk : sink.Ghosts K) where
   -- So many words were read and put.

@@ -1,4 +1,4 @@
--- How an engine ends, by what it did to its source and its output. gs and go have the members of their types.
+-- How an engine ends, by what it did to its source and its output (profile). gs and go have the members of their types.
 use Rattle.std.specs.Prelude.{ℕ, ◌≡◌, ◌<◌, true, Bool, List, [], ◌∷◌, ◌++◌, length}
 use Rattle.std.specs.Io.KnownBytes.{Appends}
 use Rattle.cap_words.specs.Ends.{DeviceFails, Failures, GrowthFails, WasSpent}

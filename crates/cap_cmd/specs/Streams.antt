@@ -1,4 +1,4 @@
--- What reading the messages of a stream says of its source before and after. g has the members of the source's type.
+-- What reading the messages of a stream says of its source before and after (profile). g has the members of the source's type.
 use Rattle.std.specs.Prelude.{ℕ, ◌≡◌, ◌≤◌, true, false, List, [], ◌∷◌, sum, Some, OnSome}
 use Rattle.std.specs.List.{AllByRecursion}
 use Rattle.cap_spec.specs.Frames.{Stream, sizes_of}

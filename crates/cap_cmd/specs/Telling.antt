@@ -1,4 +1,4 @@
--- What was told of each message of a stream: a text, and what is counted of it.
+-- What was told of each message of a stream: a text, and what is counted of it (profile).
 use Rattle.std.specs.Prelude.{ℕ, ◌+◌, List, [], ◌∷◌, ◌++◌, map, length}
 use Rattle.std.specs.List.{flat_map}
 use Rattle.cap_spec.specs.Texts.{segments_text}

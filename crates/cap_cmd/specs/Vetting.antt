@@ -1,4 +1,4 @@
--- What may be told of a message that is vetted.
+-- What may be told of a message that is vetted (profile).
 use Rattle.std.specs.Prelude.{ℕ, ◌≡◌, ◌⊎◌, List}
 use Rattle.cap_spec.specs.Faults.{IsRefused}
 use Rattle.cap_spec.specs.Texts.{accepted, refusal_verdict, vet_text}

@@ -1,4 +1,4 @@
--- What a call that writes a text says of its output before and after. g has the members of the output's type.
+-- What a call that writes a text says of its output before and after (profile). g has the members of the output's type.
 use Rattle.std.specs.Prelude.{ℕ, ◌≡◌, true, List, ◌++◌, Option, Result, MatchResult}
 use Rattle.std.specs.Io.KnownBytes.{Appends}
 use Rattle.cap_words.specs.Ends.{Works, DeviceFails, GrowthFails}

@@ -1,4 +1,4 @@
--- What each fault of reading a message says of the source and of its words.
+-- What each fault of reading a message says of the source and of its words (profile).
 use Rattle.std.specs.Prelude.{⊤, ℕ, ◌+◌, ◌%◌, ◌^◌, ◌≡◌, ◌<◌, ◌≤◌, ◌⊎◌, Bool, true, false, List, [], ◌∷◌, length, drop, sum, IfSome, OnSome, Result, Ok, Err}
 use Rattle.cap_spec.specs.Frames.{IsTable, IsPartial}
 use Rattle.cap_words.specs.declared.sources.WordSource as source

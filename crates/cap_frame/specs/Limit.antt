@@ -1,4 +1,4 @@
--- What contracts see of a limit.
+-- What contracts see of a limit (profile).
 use Rattle.std.specs.Prelude.{ℕ}
 use Rattle.cap_frame.specs.declared.limit.SizeLimit.{SizeLimit}
 

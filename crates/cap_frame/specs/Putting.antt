@@ -1,4 +1,4 @@
--- What putting the words of a message does to a sink. g has the members of its type.
+-- What putting the words of a message does to a sink (profile). g has the members of its type.
 use Rattle.std.specs.Prelude.{◌≡◌, List, ℕ, true, false}
 use Rattle.cap_words.specs.Ends.{DeviceFails, GrowthFails, WasSpent}
 use Rattle.cap_words.specs.Sinks.{WasPut, StoppedPutting}

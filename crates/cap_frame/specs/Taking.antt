@@ -1,4 +1,4 @@
--- What taking words from a source does to it. g has the members of its type.
+-- What taking words from a source does to it (profile). g has the members of its type.
 use Rattle.std.specs.Prelude.{ℕ, ◌+◌, ◌-◌, ◌^◌, ◌≡◌, ◌<◌, ◌⊎◌, Bool, true, false, List, [], ◌∷◌, length, min, drop, IfSome, OnSome}
 use Rattle.std.specs.Io.KnownBytes.{Consumes, Keeps}
 use Rattle.cap_words.specs.Ends.{Works, Fails, WasSpent}

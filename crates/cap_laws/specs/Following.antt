@@ -1,4 +1,4 @@
--- What comes of following a pointer word: exactly one thing.
+-- What comes of following a pointer word: exactly one thing (standard: Inter-Segment Pointers).
 use Rattle.std.specs.Prelude.{ℕ, List, ◌≡◌}
 use Rattle.cap_spec.specs.Messages.{HasWord}
 use Rattle.cap_spec.specs.Following.{Leads, to_null, to_cap, Wrong}

@@ -1,4 +1,4 @@
--- What the laws of the plain spelling say.
+-- What the laws of the plain spelling say (standard: 64-bit Words).
 use Rattle.std.specs.Prelude.{ℕ, ◌*◌, ◌<◌, ◌≡◌, ◌≢◌, ◌↔◌, true, List, [], length, drop}
 use Rattle.std.specs.List.{AllByRecursion}
 use Rattle.cap_spec.specs.Plain.{PlainSplits, plain_words, plain_is_cut}

@@ -1,4 +1,4 @@
--- What an unpacker stands on.
+-- What an unpacker stands on (profile).
 use Rattle.cap_words.specs.declared.ends.ByteIn.{Ghosts}
 use Rattle.cap_pack.specs.declared.unpacker.Unpacker.{Unpacker}
 

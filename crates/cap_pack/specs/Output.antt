@@ -1,4 +1,4 @@
--- What a packer stands on.
+-- What a packer stands on (profile).
 use Rattle.cap_pack.specs.declared.packer.Packer.{Packer}
 
 -- `sink.into_inner()`

@@ -1,4 +1,4 @@
--- What limits hold.
+-- What limits hold (profile).
 use Rattle.std.specs.Prelude.{ℕ}
 use Rattle.cap_vet.specs.declared.limits.Limits.{Limits}
 

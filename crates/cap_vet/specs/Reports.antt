@@ -1,4 +1,4 @@
--- What an accepted message's report says of its tree.
+-- What an accepted message's report says of its tree (profile).
 use Rattle.std.specs.Prelude.{ℕ, ◌+◌, ◌≤◌, ◌≡◌, List, Option, None, Some}
 use Rattle.cap_spec.specs.Following.{Leads, to_cap}
 use Rattle.cap_spec.specs.Denoting.{Denotes}

@@ -1,4 +1,4 @@
--- What an accepted message is.
+-- What an accepted message is (profile).
 use Rattle.cap_frame.specs.declared.segments.Segments as segments
 use Rattle.cap_vet.specs.declared.report.Report.{Report}
 use Rattle.cap_vet.specs.declared.vetted.Vetted.{Vetted}

@@ -1,4 +1,4 @@
--- What an answer of a source, a sink or a byte end says of it before and after the call: whether it was spent, and how often it had failed.
+-- What an answer of a source, a sink or a byte end says of it before and after the call: whether it was spent, and how often it had failed (profile).
 use Rattle.std.specs.Prelude.{ℕ, ◌+◌, ◌≡◌, Bool, true, false}
 
 -- a call that answered no fault

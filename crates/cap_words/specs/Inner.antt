@@ -1,4 +1,4 @@
--- What the ends, sources and sinks that stand on another end stand on.
+-- What the ends, sources and sinks that stand on another end stand on (profile).
 use Rattle.cap_words.specs.declared.from_read.FromRead.{FromRead}
 use Rattle.cap_words.specs.declared.from_write.FromWrite.{FromWrite}
 use Rattle.cap_words.specs.declared.plain_sink.PlainSink.{PlainSink}

@@ -1,4 +1,4 @@
--- What is known of the text of a sink.
+-- What is known of the text of a sink (profile).
 use Rattle.std.specs.Prelude.{ℕ, ◌≡◌, Option, None, Some, List, ◌++◌, ⊤, refl}
 use Rattle.std.specs.Io.KnownBytes.{Keeps, append_known}
 use Rattle.cap_words.specs.declared.ends.OutFault.{OutFault}

@@ -1,4 +1,4 @@
--- What an output into memory says of itself.
+-- What an output into memory says of itself (profile).
 use Rattle.std.specs.Prelude.{ℕ, ◌-◌, ◌^◌, ◌==◌, Bool, Option, Some, List}
 use Rattle.cap_words.specs.Ends.{Failures}
 use Rattle.cap_words.specs.declared.vec_out.VecOut.{VecOut}
