@@ -5,3 +5,4 @@ pub mod copy;
 pub mod segments;
 pub(crate) mod stream;
 pub mod vet;
+pub(crate) mod whole;

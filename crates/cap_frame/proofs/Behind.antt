@@ -1,5 +1,5 @@
--- A message behind its first word: what was read, and why nothing was.
-use Rattle.std.proofs.Common.{◌≡◌, ℕ, ◌+◌, ◌/◌, ◌%◌, ◌^◌, ◌<◌, ◌≤◌, Bool, Option, Some, None, List, [], ◌∷◌, ◌++◌, length, drop, sum, IfSome, refl, sym, ap, subst, arith}
+-- The rest of a table behind its first word, and the contents behind a table: what was read, and why nothing was.
+use Rattle.std.proofs.Common.{◌≡◌, ℕ, ◌+◌, ◌/◌, ◌%◌, ◌^◌, ◌<◌, ◌≤◌, Bool, Option, Some, None, List, [], ◌∷◌, ◌++◌, length, drop, sum, IfSome, refl, sym, subst, arith}
 use Rattle.std.specs.Io.KnownBytes.{Consumes}
 use Rattle.std.proofs.lemmas.List.{get_or-map, length-map}
 use Rattle.std.proofs.lemmas.List.Elements.{All-from_recursion}
@@ -9,7 +9,7 @@ use Rattle.cap_words.specs.declared.sources.SourceFault.TheVariants.{Truncated, 
 use Rattle.cap_spec.specs.Messages.{IsMessage}
 use Rattle.cap_spec.specs.Frames.{joined, sizes_of, IsTable, Frames, IsPartial, in_table, in_contents}
 use Rattle.cap_frame.specs.Taking.{Takes, IsUsable, Stops}
-use Rattle.cap_frame.specs.Faults.{TakesTableBehind, FaultsBehind}
+use Rattle.cap_frame.specs.Faults.{TakesTable, Faults, FaultsBehind}
 use Rattle.cap_frame.specs.SourceFaults.{frame_fault_of}
 use Rattle.cap_frame.proofs.Taking.{takes_both, breaks_later, stops_later}
 
@@ -21,15 +21,14 @@ partial_table None limit first byte ps few s = tt
 partial_table (Some ws) limit first byte ps few s = (λ cut. in_table first ws refl few s.0, s.1)
 
 -- and so where fewer are left than the contents want
-pub partial_contents : (a b : Option (List ℕ)) (limit first n byte : ℕ) (more sizes ps qs : List ℕ) → IsTable (first ∷ more) sizes → sum sizes ≤ limit
-    → Consumes a b more
+pub partial_contents : (a b : Option (List ℕ)) (limit n byte : ℕ) (table sizes ps qs : List ℕ) (cut : Bool) → IsTable table sizes → sum sizes ≤ limit
+    → Consumes a b table
     → IfSome b (λ ws. (length ws < sum sizes) × (drop (length ws) qs ≡ byte ∷ []))
     → IfSome a (λ ws. (length ws < n) × (drop (length ws) ps ≡ byte ∷ []))
-    → IfSome a (λ ws. ((cut : Bool) → IsPartial limit (first ∷ ws) cut) × (drop (length ws) ps ≡ byte ∷ []))
-partial_contents None b limit first n byte more sizes ps qs t l c s u = tt
-partial_contents (Some ws) None limit first n byte more sizes ps qs t l c s u = absurd c
-partial_contents (Some ws) (Some rest) limit first n byte more sizes ps qs t l c s u =
-    (λ cut. in_contents (first ∷ more) sizes rest (ap (λ (xs : List ℕ). first ∷ xs) c) t l s.0, u.1)
+    → IfSome a (λ ws. IsPartial limit ws cut × (drop (length ws) ps ≡ byte ∷ []))
+partial_contents None b limit n byte table sizes ps qs cut t l c s u = tt
+partial_contents (Some ws) None limit n byte table sizes ps qs cut t l c s u = absurd c
+partial_contents (Some ws) (Some rest) limit n byte table sizes ps qs cut t l c s u = (in_contents table sizes rest c t l s.0, u.1)
 
 module _ {X : Type 0} (g : source.Ghosts X) where
   -- the source stopped inside the table
@@ -46,27 +45,27 @@ module _ {X : Type 0} (g : source.Ghosts X) where
   behind_table limit first old new Device few s = s
   behind_table limit first old new Spent few s = s
 
-  -- the source stopped inside the contents
-  pub behind_contents : (limit first : ℕ) (old mid new : X) (sizes : List ℕ) (fault : SourceFault) → TakesTableBehind g first old mid sizes → IsUsable g old mid → sum sizes ≤ limit
-      → Stops g (sum sizes) mid new fault → FaultsBehind g limit first old new (frame_fault_of fault)
-  behind_contents limit first old mid new sizes (Truncated byte) t u l s =
-      let later = stops_later g old mid new t.more (sum sizes) (Truncated byte) t.takes u s in
+  -- the source stopped inside the contents behind a table
+  pub behind_contents : (limit : ℕ) (old mid new : X) (sizes : List ℕ) (fault : SourceFault) → TakesTable g old mid sizes → IsUsable g old mid → sum sizes ≤ limit
+      → Stops g (sum sizes) mid new fault → Faults g limit old new (frame_fault_of fault)
+  behind_contents limit old mid new sizes (Truncated byte) t u l s =
+      let later = stops_later g old mid new t.table (sum sizes) (Truncated byte) t.takes u s in
       record {
-        partial = partial_contents (g.words old) (g.words mid) limit first (length t.more + sum sizes) byte t.more sizes (g.places old) (g.places mid) t.is_table l t.takes.words s.short later.short;
+        partial = partial_contents (g.words old) (g.words mid) limit (length t.table + sum sizes) byte t.table sizes (g.places old) (g.places mid) (g.is_cut old) t.is_table l t.takes.words s.short later.short;
         place = s.place;
         usable = later.usable;
         none_failed = later.none_failed;
         over = s.over;
         how = later.how;
       }
-  behind_contents limit first old mid new sizes Device t u l s = breaks_later g old mid new u s
-  behind_contents limit first old mid new sizes Spent t u l s = stops_later g old mid new t.more (sum sizes) Spent t.takes u s
+  behind_contents limit old mid new sizes Device t u l s = breaks_later g old mid new u s
+  behind_contents limit old mid new sizes Spent t u l s = stops_later g old mid new t.table (sum sizes) Spent t.takes u s
 
   -- the table and the contents frame the message
-  pub behind_message : (first : ℕ) (old mid new : X) (sizes : List ℕ) (m : List (List ℕ)) → TakesTableBehind g first old mid sizes → Takes g mid new (joined m) → sizes_of m ≡ sizes
-      → (more : List ℕ) × Takes g old new more × Frames (first ∷ more) m
-  behind_message first old mid new sizes m t u e =
-      (t.more ++ joined m, takes_both g old mid new t.more (joined m) t.takes u, record { table = first ∷ t.more; is_table = subst (IsTable (first ∷ t.more)) (sym e) t.is_table; whole = refl })
+  pub behind_message : (old mid new : X) (sizes : List ℕ) (m : List (List ℕ)) → TakesTable g old mid sizes → Takes g mid new (joined m) → sizes_of m ≡ sizes
+      → (own : List ℕ) × Takes g old new own × Frames own m
+  behind_message old mid new sizes m t u e =
+      (t.table ++ joined m, takes_both g old mid new t.table (joined m) t.takes u, record { table = t.table; is_table = subst (IsTable t.table) (sym e) t.is_table; whole = refl })
 
 -- segments of the sizes of a table are a message
 pub message_of : (table : List ℕ) (m : List (List ℕ)) → IsTable table (sizes_of m) → IsMessage m

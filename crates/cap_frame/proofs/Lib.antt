@@ -2,6 +2,7 @@ pub mod Held
 pub mod Taking
 pub mod Tables
 pub mod Contents
+pub mod Skipping
 pub mod Behind
 pub mod Before
 pub mod Converse

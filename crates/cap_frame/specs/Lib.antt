@@ -1,4 +1,5 @@
 pub mod Limit
+pub mod Outlines
 pub mod Taking
 pub mod Faults
 pub mod Rooms

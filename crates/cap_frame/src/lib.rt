@@ -4,6 +4,8 @@
 pub mod fault;
 pub mod limit;
 pub mod message;
+pub mod outline;
+pub mod outline_reader;
 pub mod reader;
 pub mod segments;
 mod table;
@@ -13,6 +15,8 @@ pub mod writer;
 pub use fault::FrameFault;
 pub use limit::SizeLimit;
 pub use message::{OneSegment, WordMessage};
+pub use outline::Outline;
+pub use outline_reader::read_outline;
 pub use reader::read_message;
 pub use segments::Segments;
 pub use writer::write_message;

@@ -1,6 +1,6 @@
 //! Reading messages from a source of words.
 
-ghost use Rattle.cap_frame.specs.Faults.{Answered, EndsInside, Faults, FaultsBehind, OnUsable, TakesTable, TakesTooMany};
+ghost use Rattle.cap_frame.specs.Faults.{Answered, EndsInside, Faults, OnUsable, TakesTable, TakesTooMany};
 ghost use Rattle.cap_frame.specs.Limit.{limit_of};
 ghost use Rattle.cap_frame.specs.Taking.{Breaks, IsUsable, Reads, Refuses, Takes};
 ghost use Rattle.cap_spec.specs.Frames.{Frames, IsPartial, IsTable, sizes_of};
@@ -10,37 +10,10 @@ use crate::fault::{FrameFault, frame_fault};
 use crate::limit::SizeLimit;
 use crate::message::WordMessage;
 use crate::segments::Segments;
-use crate::table::{Sizes, read_table};
+use crate::table::{Sizes, next_table};
 use crate::words::{read_contents, rooms};
 use cap_words::WordSource;
 use std::alloc::Global;
-
-// Reads the message whose first word was read before.
-fn read_behind<S: WordSource>(
-    alloc: Global,
-    source: &mut S,
-    first: u64,
-    limit: SizeLimit,
-) -> Result<WordMessage, FrameFault>
-    requires usable { S.spent source.old ≡ false }
-    ensures ok { IfOk result (λ m. (more : List ℕ) × Takes S.WordSource source.old source.new more × Frames (first ∷ more) (⟦<WordMessage as Segments>⟧.segments m)) }
-    ensures within { IfOk result (λ m. sum (sizes_of (⟦<WordMessage as Segments>⟧.segments m)) ≤ limit_of limit) }
-    ensures works { OnOk result (IsUsable S.WordSource source.old source.new) }
-    ensures reads { Reads S.WordSource source.old source.new }
-    ensures err { IfErr result (FaultsBehind S.WordSource (limit_of limit) first source.old source.new) }
-{
-    let mut sizes = Sizes::new();
-    if let Err(fault) = read_table(source, first, limit, &mut sizes) {
-        return Err(fault);
-    }
-    let Ok(mut segments) = rooms(alloc, &sizes) else {
-        return Err(FrameFault::Memory);
-    };
-    if let Err(fault) = read_contents(source, &sizes, &mut segments) {
-        return Err(frame_fault(fault));
-    }
-    Ok(WordMessage::new(segments).unwrap())
-}
 
 // Reads a message. Its clauses say what each answer tells of the source's words.
 fn read_framed<S: WordSource>(
@@ -59,14 +32,19 @@ fn read_framed<S: WordSource>(
     ensures reads { Reads S.WordSource source.old source.new }
     ensures err { IfErr result (Faults S.WordSource (limit_of limit) source.old source.new) }
 {
-    match source.next() {
-        Ok(Some(first)) => match read_behind(alloc, source, first, limit) {
-            Ok(message) => Ok(Some(message)),
-            Err(fault) => Err(fault),
-        },
-        Ok(None) => Ok(None),
-        Err(fault) => Err(frame_fault(fault)),
+    let mut sizes = Sizes::new();
+    match next_table(source, limit, &mut sizes) {
+        Ok(true) => {}
+        Ok(false) => return Ok(None),
+        Err(fault) => return Err(fault),
     }
+    let Ok(mut segments) = rooms(alloc, &sizes) else {
+        return Err(FrameFault::Memory);
+    };
+    if let Err(fault) = read_contents(source, &sizes, &mut segments) {
+        return Err(frame_fault(fault));
+    }
+    Ok(Some(WordMessage::new(segments).unwrap()))
 }
 
 /// Reads the next message of a stream, or `None` where the stream ends before its first word.

@@ -1,11 +1,11 @@
 //! The table in front of a message: how many segments it has, and how many words each of them.
 
 ghost use Rattle.arrayvec.specs.ArrayVec.{array_vec_len};
-ghost use Rattle.cap_frame.specs.Faults.{FaultsBehind, TakesTableBehind};
+ghost use Rattle.cap_frame.specs.Faults.{Faults, FaultsBehind, TakesTable, TakesTableBehind};
 ghost use Rattle.cap_frame.specs.Limit.{limit_of};
 ghost use Rattle.cap_frame.specs.Taking.{IsUsable, Reads, Stops};
 ghost use Rattle.cap_spec.specs.Frames.{halves};
-ghost use Rattle.std.specs.Prelude.{◌%◌, ◌*◌, ◌+◌, ◌++◌, ◌/◌, ◌<◌, ◌^◌, ◌≡◌, ◌≤◌, [], IfErr, OnOk, false, length, sum, take};
+ghost use Rattle.std.specs.Prelude.{◌%◌, ◌*◌, ◌+◌, ◌++◌, ◌/◌, ◌<◌, ◌^◌, ◌≡◌, ◌≤◌, [], ◌∷◌, IfErr, IsErrOf, OnOk, OnSome, false, length, sum, take, true};
 
 use crate::fault::{FrameFault, frame_fault};
 use crate::limit::SizeLimit;
@@ -43,6 +43,7 @@ fn push_halves(sizes: &mut Sizes, count: usize, word: u64)
 }
 
 /// Reads the rest of a table, behind its first word, which tells of at most 512 segments.
+#[inline(always)]
 pub(crate) fn read_sizes<S: WordSource>(
     source: &mut S,
     first: u64,
@@ -76,6 +77,7 @@ pub(crate) fn total(sizes: &[u32]) -> u64
 }
 
 /// Reads the rest of a table, behind its first word, and looks at its numbers.
+#[inline(always)]
 pub(crate) fn read_table<S: WordSource>(
     source: &mut S,
     first: u64,
@@ -89,6 +91,7 @@ pub(crate) fn read_table<S: WordSource>(
     ensures works { OnOk result (IsUsable S.WordSource source.old source.new) }
     ensures reads { Reads S.WordSource source.old source.new }
     ensures err { IfErr result (FaultsBehind S.WordSource (limit_of limit) first source.old source.new) }
+    ensures no_memory { IsErrOf result FrameFault.Memory → ⊥ }
 {
     let last = low_half(first);
     if last >= 512 {
@@ -104,4 +107,35 @@ pub(crate) fn read_table<S: WordSource>(
         return Err(FrameFault::TooLarge { words });
     }
     Ok(())
+}
+
+/// Reads the table of the next message. `false` where the stream ends before its first word.
+// Inlined, with what it calls, since a stream may be of many small messages.
+#[inline(always)]
+pub(crate) fn next_table<S: WordSource>(
+    source: &mut S,
+    limit: SizeLimit,
+    sizes: &mut Sizes,
+) -> Result<bool, FrameFault>
+    requires empty { sizes.old.items ≡ [] }
+    ensures table { result ≡ Ok true → TakesTable S.WordSource source.old source.new sizes.new.items }
+    ensures within { result ≡ Ok true → sum sizes.new.items ≤ limit_of limit }
+    ensures works { OnOk result (IsUsable S.WordSource source.old source.new) }
+    ensures none { result ≡ Ok false → OnSome (S.words source.old)
+        ((S.words source.old ≡ Some []) × (S.is_cut source.old ≡ false) × (S.places source.old ≡ S.place source.new ∷ [])) }
+    ensures ended { result ≡ Ok false → S.ended source.new ≡ true }
+    ensures stays { S.ended source.old ≡ true → (result ≡ Ok false) × (source.new ≡ source.old) }
+    ensures for_good { S.failed source.old ≡ true → (result ≡ Err FrameFault.Spent) × (source.new ≡ source.old) }
+    ensures reads { Reads S.WordSource source.old source.new }
+    ensures err { IfErr result (Faults S.WordSource (limit_of limit) source.old source.new) }
+    ensures no_memory { IsErrOf result FrameFault.Memory → ⊥ }
+{
+    match source.next() {
+        Ok(Some(first)) => match read_table(source, first, limit, sizes) {
+            Ok(()) => Ok(true),
+            Err(fault) => Err(fault),
+        },
+        Ok(None) => Ok(false),
+        Err(fault) => Err(frame_fault(fault)),
+    }
 }

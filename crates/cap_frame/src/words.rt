@@ -1,15 +1,19 @@
 //! Reading words that a message must have.
 
+ghost use Rattle.cap_frame.specs.Outlines.{root_of};
 ghost use Rattle.cap_frame.specs.Taking.{IsUsable, Reads, Stops, Takes};
 ghost use Rattle.cap_frame.specs.Rooms.{AreRooms};
 ghost use Rattle.cap_spec.specs.Frames.{joined, sizes_of};
-ghost use Rattle.std.specs.Prelude.{◌<◌, ◌^◌, ◌≡◌, ◌≤◌, [], ◌∷◌, IfErr, IfOk, OnOk, false, length, map, sum};
+ghost use Rattle.std.specs.Prelude.{◌<◌, ◌^◌, ◌≡◌, ◌≤◌, [], ◌∷◌, IfErr, IfOk, List, OnOk, false, length, map, sum, ℕ};
 ghost use Rattle.std.specs.Vec.{vec_capacity};
 
+use crate::table::total;
 use cap_words::{SourceFault, WordSource};
 use std::alloc::{AllocError, Global};
 
 /// The next word of a message. That there is none is then a fault.
+// Inlined, since it is called at each word of a message.
+#[inline(always)]
 pub(crate) fn next_word<S: WordSource>(source: &mut S) -> Result<u64, SourceFault>
     ensures ok { IfOk result (λ word. Takes S.WordSource source.old source.new (word ∷ [])) }
     ensures word { IfOk result (λ word. word < 2 ^ 64) }
@@ -82,4 +86,50 @@ pub(crate) fn read_contents<S: WordSource>(
         }
     }
     Ok(())
+}
+
+/// Reads so many words, and keeps none.
+pub(crate) fn skip_words<S: WordSource>(source: &mut S, many: u64) -> Result<(), SourceFault>
+    requires usable { S.spent source.old ≡ false }
+    ensures ok { OnOk result ((own : List ℕ) × Takes S.WordSource source.old source.new own × (length own ≡ many)) }
+    ensures works { OnOk result (IsUsable S.WordSource source.old source.new) }
+    ensures reads { Reads S.WordSource source.old source.new }
+    ensures err { IfErr result (Stops S.WordSource many source.old source.new) }
+{
+    'words: for _ in 0..many {
+        match next_word(source) {
+            Ok(_) => {}
+            Err(fault) => return Err(fault),
+        }
+    }
+    Ok(())
+}
+
+/// Reads the words of segments of these sizes, and keeps the first word of the first alone.
+pub(crate) fn read_root<S: WordSource>(
+    source: &mut S,
+    sizes: &[u32],
+) -> Result<Option<u64>, SourceFault>
+    requires usable { S.spent source.old ≡ false }
+    requires some { 1 ≤ length sizes.now }
+    requires few { length sizes.now ≤ 512 }
+    ensures ok { IfOk result (λ root. (m : List (List ℕ)) × Takes S.WordSource source.old source.new (joined m) × (sizes_of m ≡ sizes.now) × (root_of m ≡ root)) }
+    ensures works { OnOk result (IsUsable S.WordSource source.old source.new) }
+    ensures reads { Reads S.WordSource source.old source.new }
+    ensures err { IfErr result (Stops S.WordSource (sum sizes.now) source.old source.new) }
+{
+    let words = total(sizes);
+    if sizes[0] == 0 {
+        return match skip_words(source, words) {
+            Ok(()) => Ok(None),
+            Err(fault) => Err(fault),
+        };
+    }
+    match next_word(source) {
+        Ok(root) => match skip_words(source, words - 1) {
+            Ok(()) => Ok(Some(root)),
+            Err(fault) => Err(fault),
+        },
+        Err(fault) => Err(fault),
+    }
 }

@@ -79,6 +79,8 @@ impl<I: ByteIn> WordSource for PlainWords<I> {
 
     ghost spent = { λ s. source_spent s.phase (I.spent s.input) };
 
+    // Inlined, since it is called at each word of a message.
+    #[inline(always)]
     fn next(&mut self) -> Result<Option<u64>, SourceFault> {
         let read = self.read;
         match self.phase {

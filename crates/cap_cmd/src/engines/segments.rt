@@ -9,30 +9,37 @@ ghost use Rattle.cap_frame.specs.Faults.{Faults};
 ghost use Rattle.cap_frame.specs.Limit.{limit_of};
 ghost use Rattle.std.specs.Prelude.{◌<◌, ◌≡◌, ◌≤◌, [], ◌∷◌, IfOk, IsErrOf, List, length, ℕ};
 
-use crate::engines::stream::{Mark, Teller, tell_all};
+use crate::engines::stream::{Mark, Step, tell_all};
 use crate::fault::{Cause, RunFault};
 use crate::settings::{Outcome, Settings};
 use crate::texts::segments::write_segments_text;
-use cap_frame::{FrameFault, Segments};
+use cap_frame::{FrameFault, Outline, SizeLimit, read_outline};
 use cap_words::{ByteOut, OutFault, WordSource};
 use std::alloc::Global;
 
-/// Tells how a message is cut into segments.
+/// Tells how a message is cut into segments. Its outline alone is kept, which takes no memory.
 #[derive(Clone, Copy)]
-struct SegmentsTeller;
+struct SegmentsStep;
 
-impl Teller for SegmentsTeller {
+impl Step for SegmentsStep {
     ghost tells = { λ _ n m text mark. (text ≡ segments_text n m) × (mark ≡ Accepted) };
 
-    fn tell<M: Segments, O: ByteOut>(
+    fn step<S: WordSource, O: ByteOut>(
         &self,
+        _alloc: Global,
+        source: &mut S,
         out: &mut O,
+        limit: SizeLimit,
         number: u32,
-        message: &M,
-    ) -> Result<Mark, OutFault> {
-        match write_segments_text(out, number, message) {
-            Ok(()) => Ok(Mark::Accepted),
-            Err(fault) => Err(fault),
+    ) -> Result<Option<Mark>, Cause> {
+        let mut outline = Outline::new();
+        match read_outline(source, limit, &mut outline) {
+            Ok(true) => match write_segments_text(out, number, &outline) {
+                Ok(()) => Ok(Some(Mark::Accepted)),
+                Err(fault) => Err(Cause::Output(fault)),
+            },
+            Ok(false) => Ok(None),
+            Err(fault) => Err(Cause::Frame(fault)),
         }
     }
 }
@@ -60,5 +67,5 @@ pub fn run_segments<S: WordSource, O: ByteOut>(
     ensures output { (n : ℕ) (fault : OutFault) → IsErrOf result (record { message = n; cause = Cause.Output fault }) → (n < settings.now.messages)
         × StopsShowing S.WordSource O.ByteOut (limit_of settings.now.size) n source.old source.new out.old out.new fault }
 {
-    tell_all(alloc, source, out, settings, &SegmentsTeller)
+    tell_all(alloc, source, out, settings, &SegmentsStep)
 }

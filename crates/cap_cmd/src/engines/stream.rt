@@ -3,14 +3,14 @@
 ghost use Rattle.cap_cmd.specs.Running.{Appended, EndStops, RunStops, StepStops};
 ghost use Rattle.cap_cmd.specs.Streams.{EndsStream, ReadsAll, ReadsStream};
 ghost use Rattle.cap_cmd.specs.Telling.{TellsEach, Told, messages_of, one_noncanonical, one_refused, outcome_of, texts_of};
-ghost use Rattle.cap_cmd.specs.Writing.{Stopped, Wrote};
+ghost use Rattle.cap_cmd.specs.Writing.{Wrote};
 ghost use Rattle.cap_frame.specs.Limit.{limit_of};
 ghost use Rattle.std.specs.Prelude.{◌+◌, ◌-◌, ◌<◌, ◌^◌, ◌≡◌, ◌≤◌, [], ◌∷◌, IfErr, IfOk, IfSome, List, OnOk, length, ℕ};
 
 use crate::fault::{Cause, RunFault};
 use crate::settings::{Outcome, Settings};
-use cap_frame::{Segments, SizeLimit, read_message};
-use cap_words::{ByteOut, OutFault, WordSource};
+use cap_frame::{Outline, SizeLimit, read_outline};
+use cap_words::{ByteOut, WordSource};
 use std::alloc::Global;
 
 /// What is counted of a message.
@@ -24,56 +24,37 @@ pub(crate) enum Mark {
     NotCanonical,
 }
 
-/// What an engine writes about each message.
-pub(crate) trait Teller {
+/// What an engine does at each message.
+pub(crate) trait Step {
     ghost use Rattle.cap_cmd.specs.declared.engines.stream.Mark.{Mark};
 
     // The texts that may be written of a message by its number, each with what is counted then.
     ghost tells: { Self → ℕ → List (List ℕ) → List ℕ → Mark → Type 0 };
 
-    /// Writes the text of a message. After a fault the output took a beginning of it.
-    fn tell<M: Segments, O: ByteOut>(
+    /// Reads the next message and writes its text. `None` where the stream ends before it. After a
+    /// fault of the output it took a beginning of the text.
+    fn step<S: WordSource, O: ByteOut>(
         &self,
+        alloc: Global,
+        source: &mut S,
         out: &mut O,
+        limit: SizeLimit,
         number: u32,
-        message: &M,
-    ) -> Result<Mark, OutFault>
-        ensures ok { IfOk result (λ mark. (text : List ℕ) × tells self.now number (M.segments message.now) text mark × Wrote O.ByteOut out.old out.new text) }
-        ensures err { IfErr result (λ fault. (text : List ℕ) × (mark : Mark) × tells self.now number (M.segments message.now) text mark × Stopped O.ByteOut out.old out.new fault text) };
-}
-
-/// Reads the next message and writes its text. `None` where the stream ends before it.
-fn tell_next<S: WordSource, O: ByteOut, T: Teller>(
-    alloc: Global,
-    source: &mut S,
-    out: &mut O,
-    limit: SizeLimit,
-    teller: &T,
-    number: u32,
-) -> Result<Option<Mark>, Cause>
-    ensures some { IfOk result (λ r. IfSome r (λ mark. (t : Told) × (t.mark ≡ mark) × T.tells teller.now number t.message t.text t.mark
-        × ReadsStream S.WordSource (limit_of limit) source.old source.new (t.message ∷ []) × Wrote O.ByteOut out.old out.new t.text)) }
-    ensures none { result ≡ Ok None → EndsStream S.WordSource source.old source.new × (out.new ≡ out.old) }
-    ensures err { IfErr result (λ cause. StepStops S.WordSource O.ByteOut (T.tells teller.now) (limit_of limit) number source.old source.new out.old out.new cause) }
-{
-    match read_message(alloc, source, limit) {
-        Ok(Some(message)) => match teller.tell(out, number, &message) {
-            Ok(mark) => Ok(Some(mark)),
-            Err(fault) => Err(Cause::Output(fault)),
-        },
-        Ok(None) => Ok(None),
-        Err(fault) => Err(Cause::Frame(fault)),
-    }
+    ) -> Result<Option<Mark>, Cause>
+        ensures some { IfOk result (λ r. IfSome r (λ mark. (t : Told) × (t.mark ≡ mark) × tells self.now number t.message t.text t.mark
+            × ReadsStream S.WordSource (limit_of limit) source.old source.new (t.message ∷ []) × Wrote O.ByteOut out.old out.new t.text)) }
+        ensures none { result ≡ Ok None → EndsStream S.WordSource source.old source.new × (out.new ≡ out.old) }
+        ensures err { IfErr result (λ cause. StepStops S.WordSource O.ByteOut (tells self.now) (limit_of limit) number source.old source.new out.old out.new cause) };
 }
 
 /// The stream has to end here: a message more is one too many.
-fn end_stream<S: WordSource>(alloc: Global, source: &mut S, limit: SizeLimit) -> Result<(), Cause>
+fn end_stream<S: WordSource>(source: &mut S, limit: SizeLimit) -> Result<(), Cause>
     ensures ok { OnOk result (EndsStream S.WordSource source.old source.new) }
     ensures err { IfErr result (λ cause. EndStops S.WordSource (limit_of limit) source.old source.new cause) }
 {
-    match read_message(alloc, source, limit) {
-        Ok(Some(_)) => Err(Cause::TooManyMessages),
-        Ok(None) => Ok(()),
+    match read_outline(source, limit, &mut Outline::new()) {
+        Ok(true) => Err(Cause::TooManyMessages),
+        Ok(false) => Ok(()),
         Err(fault) => Err(Cause::Frame(fault)),
     }
 }
@@ -100,18 +81,18 @@ fn count(outcome: Outcome, mark: Mark) -> Outcome
 }
 
 /// Reads the messages of a stream to its end, and writes the text of each before it reads the next.
-pub(crate) fn tell_all<S: WordSource, O: ByteOut, T: Teller>(
+pub(crate) fn tell_all<S: WordSource, O: ByteOut, T: Step>(
     alloc: Global,
     source: &mut S,
     out: &mut O,
     settings: &Settings,
-    teller: &T,
+    step: &T,
 ) -> Result<Outcome, RunFault>
     ensures ok { IfOk result (λ outcome. (ts : List Told) × ReadsAll S.WordSource (limit_of settings.now.size) source.old source.new (messages_of ts)
-        × TellsEach (T.tells teller.now) 0 ts × Appended O.ByteOut out.old out.new (texts_of ts) × (length ts ≤ settings.now.messages) × (outcome ≡ outcome_of ts)) }
+        × TellsEach (T.tells step.now) 0 ts × Appended O.ByteOut out.old out.new (texts_of ts) × (length ts ≤ settings.now.messages) × (outcome ≡ outcome_of ts)) }
     ensures err { IfErr result (λ fault. (ts : List Told) × (mid : S) × (fault.message ≡ length ts) × (length ts ≤ settings.now.messages)
-        × ReadsStream S.WordSource (limit_of settings.now.size) source.old mid (messages_of ts) × TellsEach (T.tells teller.now) 0 ts
-        × RunStops S.WordSource O.ByteOut (T.tells teller.now) (limit_of settings.now.size) settings.now.messages ts mid source.new out.old out.new fault.cause) }
+        × ReadsStream S.WordSource (limit_of settings.now.size) source.old mid (messages_of ts) × TellsEach (T.tells step.now) 0 ts
+        × RunStops S.WordSource O.ByteOut (T.tells step.now) (limit_of settings.now.size) settings.now.messages ts mid source.new out.old out.new fault.cause) }
 {
     let mut outcome = Outcome {
         messages: 0,
@@ -119,7 +100,7 @@ pub(crate) fn tell_all<S: WordSource, O: ByteOut, T: Teller>(
         noncanonical: 0,
     };
     for number in 0..settings.messages {
-        match tell_next(alloc, source, out, settings.size, teller, number) {
+        match step.step(alloc, source, out, settings.size, number) {
             Ok(Some(mark)) => outcome = count(outcome, mark),
             Ok(None) => return Ok(outcome),
             Err(cause) => return Err(RunFault {
@@ -128,7 +109,7 @@ pub(crate) fn tell_all<S: WordSource, O: ByteOut, T: Teller>(
             }),
         }
     }
-    match end_stream(alloc, source, settings.size) {
+    match end_stream(source, settings.size) {
         Ok(()) => Ok(outcome),
         Err(cause) => Err(RunFault {
             message: settings.messages,

@@ -8,7 +8,8 @@ ghost use Rattle.cap_frame.specs.Limit.{limit_of};
 ghost use Rattle.cap_vet.specs.Limits.{depth_of, words_of};
 ghost use Rattle.std.specs.Prelude.{◌≡◌, ◌≤◌, IfErr, IfOk, List, length, ℕ};
 
-use crate::engines::stream::{Mark, Teller, tell_all};
+use crate::engines::stream::{Mark, tell_all};
+use crate::engines::whole::{Teller, Whole};
 use crate::fault::RunFault;
 use crate::settings::{Outcome, Settings};
 use crate::texts::output::write_bytes;
@@ -77,8 +78,8 @@ pub fn run_vet<S: WordSource, O: ByteOut>(
         source,
         out,
         settings,
-        &VetTeller {
+        &Whole(VetTeller {
             limits: settings.limits,
-        },
+        }),
     )
 }

@@ -1,13 +1,15 @@
 //! The text of a message's segments: their number and sizes, and the root word.
 
 ghost use Rattle.cap_cmd.specs.Writing.{Writes};
-ghost use Rattle.cap_spec.specs.Texts.{hex, line, message_text, root_text, segment_lines, segments_text, then_number};
-ghost use Rattle.std.specs.Prelude.{◌++◌, ◌≡◌, ◌∷◌, ◌<◌, ◌≤◌, codes, false, length, map, sum};
+ghost use Rattle.cap_cmd.specs.Outlining.{outline_text, size_lines, word_or_none};
+ghost use Rattle.cap_frame.specs.Outlines.{root_in, sizes_in};
+ghost use Rattle.cap_spec.specs.Texts.{hex, line, message_text, then_number};
+ghost use Rattle.std.specs.Prelude.{◌++◌, ◌≡◌, ◌∷◌, codes, false};
 
 use crate::texts::line::{LINE, push_hex, push_number, push_text};
 use crate::texts::output::write_bytes;
 use arrayvec::ArrayVec;
-use cap_frame::Segments;
+use cap_frame::Outline;
 use cap_words::{ByteOut, OutFault};
 
 /// The line on the message as a whole.
@@ -58,35 +60,23 @@ fn word_line(word: u64) -> ArrayVec<u8, LINE>
     line
 }
 
-/// The line of the root word, the first word of segment 0, or of its absence.
-fn root_line<M: Segments>(message: &M) -> ArrayVec<u8, LINE>
-    ensures { result.items ≡ line 0 (codes "root " ++ root_text (M.segments message.now)) }
+/// The line of the root word, or of its absence.
+fn root_line(root: Option<u64>) -> ArrayVec<u8, LINE>
+    ensures { result.items ≡ line 0 (codes "root " ++ word_or_none root) }
 {
-    if message.len(0) == 0 {
-        rootless_line()
-    } else {
-        word_line(message.word(0, 0))
+    match root {
+        Some(word) => word_line(word),
+        None => rootless_line(),
     }
-}
-
-/// How many words all segments have together.
-fn total_words<M: Segments>(message: &M) -> u64
-    ensures { result ≡ sum (map length (M.segments message.now)) }
-{
-    let mut total: u64 = 0;
-    for s in 0..message.count() {
-        total += u64::from(message.len(s));
-    }
-    total
 }
 
 /// Writes the line of each segment.
-fn write_segment_lines<M: Segments, O: ByteOut>(out: &mut O, message: &M) -> Result<(), OutFault>
+fn write_segment_lines<O: ByteOut>(out: &mut O, outline: &Outline) -> Result<(), OutFault>
     requires { O.spent out.old ≡ false }
-    ensures { Writes O.ByteOut out.old out.new result (segment_lines 0 (M.segments message.now)) }
+    ensures { Writes O.ByteOut out.old out.new result (size_lines 0 (sizes_in outline.now)) }
 {
-    for s in 0..message.count() {
-        let line = segment_line(s, message.len(s));
+    for s in 0..outline.count() {
+        let line = segment_line(s, outline.len(s));
         match write_bytes(out, line.as_slice()) {
             Ok(()) => {}
             Err(fault) => return Err(fault),
@@ -96,21 +86,21 @@ fn write_segment_lines<M: Segments, O: ByteOut>(out: &mut O, message: &M) -> Res
 }
 
 /// Writes what is shown of a message's segments.
-pub(crate) fn write_segments_text<M: Segments, O: ByteOut>(
+pub(crate) fn write_segments_text<O: ByteOut>(
     out: &mut O,
     number: u32,
-    message: &M,
+    outline: &Outline,
 ) -> Result<(), OutFault>
-    ensures { Writes O.ByteOut out.old out.new result (segments_text number (M.segments message.now)) }
+    ensures { Writes O.ByteOut out.old out.new result (outline_text number (sizes_in outline.now) (root_in outline.now)) }
 {
-    let head = head_line(number, message.count(), total_words(message));
+    let head = head_line(number, outline.count(), outline.words());
     match write_bytes(out, head.as_slice()) {
         Ok(()) => {}
         Err(fault) => return Err(fault),
     }
-    match write_segment_lines(out, message) {
+    match write_segment_lines(out, outline) {
         Ok(()) => {}
         Err(fault) => return Err(fault),
     }
-    write_bytes(out, root_line(message).as_slice())
+    write_bytes(out, root_line(outline.root()).as_slice())
 }

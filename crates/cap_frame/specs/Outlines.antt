@@ -1,0 +1,21 @@
+-- What is kept of a message whose other words are passed over (standard: Serialization Over a Stream).
+use Rattle.std.specs.Prelude.{ℕ, ◌≡◌, List, ◌∷◌, Option, Some, None}
+use Rattle.cap_spec.specs.Frames.{sizes_of}
+use Rattle.cap_frame.specs.declared.outline.Outline.{Outline}
+
+-- what contracts see of an outline: the size of each segment, and the root word
+abbrev pub sizes_in : Outline → List ℕ
+sizes_in outline = outline.sizes.items
+
+abbrev pub root_in : Outline → Option ℕ
+root_in outline = outline.root
+
+-- the first word of segment 0
+abbrev pub root_of : List (List ℕ) → Option ℕ
+root_of ((w ∷ ws) ∷ m) = Some w
+root_of _ = None
+
+-- It is the outline of this message.
+pub record Outlines (outline : Outline) (m : List (List ℕ)) : Type 0 where
+  pub sizes : sizes_in outline ≡ sizes_of m
+  pub root : root_in outline ≡ root_of m

@@ -1,0 +1,57 @@
+//! What is kept of a message whose other words are passed over.
+
+ghost use Rattle.arrayvec.specs.ArrayVec.{array_vec_len};
+ghost use Rattle.std.specs.Prelude.{◌<◌, ◌≡◌, [], None, get_or, length, sum};
+
+use crate::table::{Sizes, total};
+
+/// How a message is cut into segments, and its root word: the first word of segment 0.
+#[derive(Debug, Drop)]
+pub struct Outline {
+    pub(crate) sizes: Sizes,
+    pub(crate) root: Option<u64>,
+}
+
+impl Outline {
+    ghost use Rattle.cap_frame.specs.Outlines.{sizes_in, root_in};
+
+    /// No segment and no root word: what no message has.
+    pub fn new() -> Outline
+        ensures sizes { sizes_in result ≡ [] }
+        ensures root { root_in result ≡ None }
+    {
+        Outline {
+            sizes: Sizes::new(),
+            root: None,
+        }
+    }
+
+    /// How many segments there are.
+    pub fn count(&self) -> u32
+        ensures { result ≡ length (sizes_in self.now) }
+    {
+        self.sizes.len() as u32
+    }
+
+    /// How many words segment `s` has.
+    pub fn len(&self, s: u32) -> u32
+        requires { s < length (sizes_in self.now) }
+        ensures { result ≡ get_or (sizes_in self.now) s 0 }
+    {
+        self.sizes[s as usize]
+    }
+
+    /// How many words all segments have together.
+    pub fn words(&self) -> u64
+        ensures { result ≡ sum (sizes_in self.now) }
+    {
+        total(&self.sizes)
+    }
+
+    /// The root word, or `None` where segment 0 has no words.
+    pub fn root(&self) -> Option<u64>
+        ensures { result ≡ root_in self.now }
+    {
+        self.root
+    }
+}
