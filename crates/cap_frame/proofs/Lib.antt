@@ -6,4 +6,5 @@ pub mod Skipping
 pub mod Behind
 pub mod Before
 pub mod Converse
+pub mod Outlines
 pub mod Putting

@@ -1,11 +1,11 @@
 //! Reading messages of which only the outline is kept.
 
-ghost use Rattle.cap_frame.specs.Faults.{Faults};
+ghost use Rattle.cap_frame.specs.Faults.{Answered, Faults};
 ghost use Rattle.cap_frame.specs.Limit.{limit_of};
 ghost use Rattle.cap_frame.specs.Outlines.{Outlines};
 ghost use Rattle.cap_frame.specs.Taking.{IsUsable, Reads, Takes};
-ghost use Rattle.cap_spec.specs.Frames.{Frames, sizes_of};
-ghost use Rattle.std.specs.Prelude.{◌≡◌, ◌≤◌, [], ◌∷◌, IfErr, IsErrOf, List, OnOk, OnSome, false, sum, true, ℕ};
+ghost use Rattle.cap_spec.specs.Frames.{Frames, IsPartial, IsTable, sizes_of};
+ghost use Rattle.std.specs.Prelude.{◌%◌, ◌+◌, ◌++◌, ◌<◌, ◌^◌, ◌≡◌, ◌≤◌, [], ◌∷◌, IfErr, IsErrOf, List, OnOk, OnSome, drop, false, length, sum, true, ℕ};
 
 use crate::fault::{FrameFault, frame_fault};
 use crate::limit::SizeLimit;
@@ -13,6 +13,38 @@ use crate::outline::Outline;
 use crate::table::next_table;
 use crate::words::read_root;
 use cap_words::WordSource;
+
+// Reads a message and keeps its outline. Its clauses say what each answer tells of the source's words.
+fn read_outlined<S: WordSource>(
+    source: &mut S,
+    limit: SizeLimit,
+    outline: &mut Outline,
+) -> Result<bool, FrameFault>
+    ensures message { result ≡ Ok true → (own : List ℕ) × (m : List (List ℕ)) × Takes S.WordSource source.old source.new own
+        × Frames own m × (sum (sizes_of m) ≤ limit_of limit) × Outlines outline.new m }
+    ensures works { OnOk result (IsUsable S.WordSource source.old source.new) }
+    ensures none { result ≡ Ok false → OnSome (S.words source.old)
+        ((S.words source.old ≡ Some []) × (S.is_cut source.old ≡ false) × (S.places source.old ≡ S.place source.new ∷ [])) }
+    ensures ended { result ≡ Ok false → S.ended source.new ≡ true }
+    ensures stays { S.ended source.old ≡ true → (result ≡ Ok false) × (source.new ≡ source.old) }
+    ensures for_good { S.failed source.old ≡ true → (result ≡ Err FrameFault.Spent) × (source.new ≡ source.old) }
+    ensures reads { Reads S.WordSource source.old source.new }
+    ensures err { IfErr result (Faults S.WordSource (limit_of limit) source.old source.new) }
+    ensures no_memory { IsErrOf result FrameFault.Memory → ⊥ }
+{
+    outline.sizes.clear();
+    match next_table(source, limit, &mut outline.sizes) {
+        Ok(true) => {}
+        ended => return ended,
+    }
+    match read_root(source, &outline.sizes) {
+        Ok(root) => {
+            outline.root = root;
+            Ok(true)
+        }
+        Err(fault) => Err(frame_fault(fault)),
+    }
+}
 
 /// Reads the next message of a stream and keeps its outline. `false` where the stream ends before
 /// the message's first word.
@@ -39,17 +71,21 @@ pub fn read_outline<S: WordSource>(
     ensures reads { Reads S.WordSource source.old source.new }
     ensures err { IfErr result (Faults S.WordSource (limit_of limit) source.old source.new) }
     ensures no_memory { IsErrOf result FrameFault.Memory → ⊥ }
+    // And the other way round, where the words are known and no device or earlier fault is in the way.
+    // A front of them frames a message within the limit: the outline is its, and the source has the other words.
+    ensures whole { (own rest : List ℕ) (m : List (List ℕ)) → S.words source.old ≡ Some (own ++ rest) → Frames own m → sum (sizes_of m) ≤ limit_of limit →
+        Answered result ((result ≡ Ok true) × Outlines outline.new m × (S.words source.new ≡ Some rest)) }
+    // They end before the first one.
+    ensures no_word { S.words source.old ≡ Some [] → S.is_cut source.old ≡ false → Answered result (result ≡ Ok false) }
+    // The first word tells of too many segments.
+    ensures many { (first : ℕ) (rest : List ℕ) → S.words source.old ≡ Some (first ∷ rest) → 512 < first % 2 ^ 32 + 1 →
+        Answered result ((result ≡ Err (FrameFault.TooManySegments (first % 2 ^ 32 + 1))) × (S.words source.new ≡ Some rest)) }
+    // The table is whole and past the limit.
+    ensures large { (table rest sizes : List ℕ) → S.words source.old ≡ Some (table ++ rest) → IsTable table sizes → limit_of limit < sum sizes →
+        Answered result ((result ≡ Err (FrameFault.TooLarge (sum sizes))) × (S.words source.new ≡ Some rest)) }
+    // They end inside a message.
+    ensures cut_short { (words : List ℕ) → S.words source.old ≡ Some words → IsPartial (limit_of limit) words (S.is_cut source.old) →
+        Answered result ((byte : ℕ) × (result ≡ Err (FrameFault.Truncated byte)) × (drop (length words) (S.places source.old) ≡ byte ∷ [])) }
 {
-    outline.sizes.clear();
-    match next_table(source, limit, &mut outline.sizes) {
-        Ok(true) => {}
-        ended => return ended,
-    }
-    match read_root(source, &outline.sizes) {
-        Ok(root) => {
-            outline.root = root;
-            Ok(true)
-        }
-        Err(fault) => Err(frame_fault(fault)),
-    }
+    read_outlined(source, limit, outline)
 }

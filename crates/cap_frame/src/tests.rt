@@ -1,7 +1,8 @@
 //! What no contract can say: that calls succeed, and values from outside.
 
 use super::{
-    FrameFault, OneSegment, Segments, SizeLimit, WordMessage, read_message, write_message,
+    FrameFault, OneSegment, Outline, Segments, SizeLimit, WordMessage, read_message, read_outline,
+    write_message,
 };
 use cap_words::{
     PlainSink, PlainWords, SliceIn, SourceFault, VecOut, WordSink, WordSource, bytes_of,
@@ -38,7 +39,27 @@ fn is_message<M: Segments>(message: &M, want: &[&[u64]]) -> bool {
     true
 }
 
-// The first bytes of these words give this message, none, or this fault, and then this answer.
+// It is the outline of these segments.
+fn is_outline(outline: &Outline, want: &[&[u64]]) -> bool {
+    if outline.count() as usize != want.len() {
+        return false;
+    }
+    let mut words: u64 = 0;
+    for s in 0..outline.count() {
+        if outline.len(s) as usize != want[s as usize].len() {
+            return false;
+        }
+        words = words.saturating_add(u64::from(outline.len(s)));
+    }
+    let root = match want.first() {
+        Some(words) => words.first().copied(),
+        None => None,
+    };
+    outline.words() == words && outline.root() == root
+}
+
+// The first bytes of these words give this message, none, or this fault, and then this answer; and
+// so do they where the outline alone is kept.
 fn expect_message(
     rt: &impl Abort,
     alloc: Global,
@@ -58,6 +79,17 @@ fn expect_message(
         (Ok(None), Ok(None)) => {}
         (Err(fault), Err(wanted)) => assert_eq!(rt; fault, wanted),
         _ => assert!(rt; false, "another answer"),
+    }
+    assert_eq!(rt; source.next(), then);
+    let mut source = PlainWords::new(SliceIn::new(&bytes[..cut.min(bytes.len())]));
+    let mut outline = Outline::new();
+    match (read_outline(&mut source, limit, &mut outline), want) {
+        (Ok(true), Ok(Some(segments))) => {
+            assert!(rt; is_outline(&outline, segments), "the outline");
+        }
+        (Ok(false), Ok(None)) => {}
+        (Err(fault), Err(wanted)) => assert_eq!(rt; fault, wanted),
+        _ => assert!(rt; false, "another answer to the outline"),
     }
     assert_eq!(rt; source.next(), then);
     Ok(())
@@ -128,6 +160,25 @@ fn many_segments_are_read_and_written(rt: HostRuntime) -> Result<(), Fail> {
     let mut sink = PlainSink::new(VecOut::new(alloc));
     write_message(&mut sink, &message)?;
     assert_eq!(rt; sink.into_inner().bytes(), bytes.as_slice());
+    Ok(())
+}
+
+#[test]
+fn an_outline_is_filled_anew(rt: HostRuntime) -> Result<(), Fail> {
+    let alloc = rt.alloc();
+    // Three segments, the first of them empty; one segment; and an empty one.
+    let first: &[&[u64]] = &[&[], &[7], &[8, 9]];
+    let words = [pair(2, 0), pair(1, 2), 7, 8, 9, pair(0, 1), 6, pair(0, 0)];
+    let bytes = plain(alloc, &words)?;
+    let mut source = PlainWords::new(SliceIn::new(&bytes));
+    let limit = SizeLimit::new(3).ok_or("a limit")?;
+    let mut outline = Outline::new();
+    assert_eq!(rt; outline.count(), 0);
+    for want in [first, &[&[6]], &[&[]]] {
+        assert_eq!(rt; read_outline(&mut source, limit, &mut outline), Ok(true));
+        assert!(rt; is_outline(&outline, want), "the outline");
+    }
+    assert_eq!(rt; read_outline(&mut source, limit, &mut outline), Ok(false));
     Ok(())
 }
 

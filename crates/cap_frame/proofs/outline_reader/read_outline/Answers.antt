@@ -1,27 +1,30 @@
--- The table and the contents behind it frame the message.
-use Rattle.std.proofs.Common.{subst, sym}
+-- No two of the ways in which reading ends hold of the same words, so what holds of them decides the answer.
 use Rattle.cap_frame.specs.Limit.{limit_of}
-use Rattle.cap_frame.specs.Faults.{Faults}
-use Rattle.cap_frame.proofs.Behind.{behind_contents, behind_message}
-use Rattle.cap_frame.proofs.Taking.{reads_both}
+use Rattle.cap_frame.specs.Outlines.{Outlines}
+use Rattle.cap_frame.proofs.Outlines.{finds_whole, finds_none, finds_many, finds_large, finds_part}
 use Rattle.cap_frame.proofs.outline_reader.read_outline.Goals as goal
 
-pub returns-in-Ok-clause-message : goal.returns-in-Ok-clause-message
-returns-in-Ok-clause-message g c = λ _.
-    let table = c.in-Ok-true.ensures.table (cc) in
-    let within = c.in-Ok-true.ensures.within (cc) in
-    let kept = rw c.deref.ensures.0 at c.in-Ok.ensures.ok in
-    let read = behind_message g.S.WordSource c.args.source.now c.next_table.new.source c.read_root.new.source c.next_table.new.sizes.items kept.0 table kept.1 kept.2 in
-    (read.0, kept.0, read.1, read.2, rw kept.2 within, record { sizes = sym kept.2; root = sym kept.3 })
+pub returns-clause-whole : goal.returns-clause-whole
+returns-clause-whole g c =
+    finds_whole g.S.WordSource (Outlines c.read_outlined.new.outline) (limit_of c.args.limit) c.args.source.now c.read_outlined.new.source c.read_outlined.result
+    c.read_outlined.ensures.message c.read_outlined.ensures.none c.read_outlined.ensures.err
 
-pub returns-in-Ok-clause-reads : goal.returns-in-Ok-clause-reads
-returns-in-Ok-clause-reads g c = reads_both g.S.WordSource c.args.source.now c.next_table.new.source c.read_root.new.source c.next_table.ensures.reads c.read_root.ensures.reads
+pub returns-clause-no_word : goal.returns-clause-no_word
+returns-clause-no_word g c =
+    finds_none g.S.WordSource (Outlines c.read_outlined.new.outline) (limit_of c.args.limit) c.args.source.now c.read_outlined.new.source c.read_outlined.result
+    c.read_outlined.ensures.message c.read_outlined.ensures.none c.read_outlined.ensures.err
 
-pub returns-in-Err-clause-reads : goal.returns-in-Err-clause-reads
-returns-in-Err-clause-reads g c = reads_both g.S.WordSource c.args.source.now c.next_table.new.source c.read_root.new.source c.next_table.ensures.reads c.read_root.ensures.reads
+pub returns-clause-many : goal.returns-clause-many
+returns-clause-many g c =
+    finds_many g.S.WordSource (Outlines c.read_outlined.new.outline) (limit_of c.args.limit) c.args.source.now c.read_outlined.new.source c.read_outlined.result
+    c.read_outlined.ensures.message c.read_outlined.ensures.none c.read_outlined.ensures.err
 
-pub returns-in-Err-clause-err : goal.returns-in-Err-clause-err
-returns-in-Err-clause-err g c =
-    let stops = rw c.deref.ensures.0 at c.in-Err.ensures.err in
-    let stopped = behind_contents g.S.WordSource (limit_of c.args.limit) c.args.source.now c.next_table.new.source c.read_root.new.source c.next_table.new.sizes.items c.in-Err.fault (c.in-Ok-true.ensures.table (cc)) c.in-Ok-true.ensures.works (c.in-Ok-true.ensures.within (cc)) stops in
-    subst (Faults g.S.WordSource (limit_of c.args.limit) c.args.source.now c.read_root.new.source) (sym c.frame_fault.ensures) stopped
+pub returns-clause-large : goal.returns-clause-large
+returns-clause-large g c =
+    finds_large g.S.WordSource (Outlines c.read_outlined.new.outline) (limit_of c.args.limit) c.args.source.now c.read_outlined.new.source c.read_outlined.result
+    c.read_outlined.ensures.message c.read_outlined.ensures.none c.read_outlined.ensures.err
+
+pub returns-clause-cut_short : goal.returns-clause-cut_short
+returns-clause-cut_short g c =
+    finds_part g.S.WordSource (Outlines c.read_outlined.new.outline) (limit_of c.args.limit) c.args.source.now c.read_outlined.new.source c.read_outlined.result
+    c.read_outlined.ensures.message c.read_outlined.ensures.none c.read_outlined.ensures.err
