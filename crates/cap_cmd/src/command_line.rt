@@ -32,7 +32,7 @@ fn size_option<'a>(alloc: Global) -> Arg<'a> {
     Arg::new(alloc, "size")
         .long("size")
         .value_name("N")
-        .help("The most words of a message, in all its segments together")
+        .help("The most words of a message, in all its segments together, 0 to 268435456")
         .value_parser(value_parser!(u64).range(0..=268435456))
         .default_value("8388608")
 }
@@ -42,7 +42,9 @@ fn words_option<'a>(alloc: Global) -> Arg<'a> {
     Arg::new(alloc, "words")
         .long("words")
         .value_name("N")
-        .help("The most words that a message may be charged, each following counted anew")
+        .help(
+            "The most words that a message may be charged, each following counted anew, 0 to 268435456",
+        )
         .value_parser(value_parser!(u64).range(0..=268435456))
         .default_value("8388608")
 }
@@ -52,7 +54,7 @@ fn depth_option<'a>(alloc: Global) -> Arg<'a> {
     Arg::new(alloc, "depth")
         .long("depth")
         .value_name("N")
-        .help("The deepest level that an object may have")
+        .help("The deepest level that an object may have, 0 to 256")
         .value_parser(value_parser!(u32).range(0..=256))
         .default_value("64")
 }

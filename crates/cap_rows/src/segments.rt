@@ -123,6 +123,11 @@ fn keeps_to_the_size_limit(rt: HostRuntime) -> Result<(), Fail> {
     );
     assert_eq!(rt; left.status, 1);
     let left = run(rt.alloc(), "segments", &["--size", "2"], stream)?;
+    assert_eq!(rt;
+        left.out.bytes(),
+        b"message 0: segments 1 words 2\nsegment 0: 2\nroot 0000000001000000\n".as_slice()
+    );
+    assert_eq!(rt; left.err.bytes(), b"".as_slice());
     assert_eq!(rt; left.status, 0);
     Ok(())
 }

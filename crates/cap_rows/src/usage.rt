@@ -4,13 +4,14 @@ use crate::whole::{job, words};
 use cap_cmd::{JobFault, Limits, Task, read_job};
 use std::test::Fail;
 
-// What a command line is answered with.
+// What a command line is answered with; `Other` is another job, or no text for the user.
 #[derive(Clone, Copy, Debug, PartialEq, Eq)]
 enum Answer {
     Job,
     Help,
     Usage,
     Memory,
+    Other,
 }
 
 #[test]
@@ -34,15 +35,15 @@ fn tells_jobs_help_and_mistakes_apart(rt: HostRuntime) -> Result<(), Fail> {
             Ok(job) => if job.task == Task::Segments {
                 Answer::Job
             } else {
-                Answer::Memory
+                Answer::Other
             },
             Err(JobFault::Help { text }) => if text.is_empty() {
-                Answer::Memory
+                Answer::Other
             } else {
                 Answer::Help
             },
             Err(JobFault::Usage { text }) => if text.is_empty() {
-                Answer::Memory
+                Answer::Other
             } else {
                 Answer::Usage
             },
@@ -131,18 +132,112 @@ fn refuses_what_vet_does_not_take(rt: HostRuntime) -> Result<(), Fail> {
     Ok(())
 }
 
-// The help of `vet`.
-const HELP: &str =
-    "Tells of each message whether its root denotes a tree within the limits\n\nUsage: capvet vet [OPTIONS] [FILE]\n\nArguments:\n  [FILE]  The file to read, in place of standard input\n\nOptions:\n      --packed     The input is packed\n      --size <N>   The most words of a message, in all its segments together [default: 8388608]\n      --words <N>  The most words that a message may be charged, each following counted anew [default: 8388608]\n      --depth <N>  The deepest level that an object may have [default: 64]\n  -h, --help       Print help\n";
+// A command's help, and lines that ask for it.
+struct Help {
+    lines: [&'static [&'static str]; 3],
+    text: &'static str,
+}
+
+const HELPS: [Help; 5] = [
+    Help {
+        lines: [&["--help"], &["-h"], &["help"]],
+        text: "\
+Vets Cap'n Proto messages
+
+Usage: capvet <COMMAND>
+
+Commands:
+  segments  Shows the segments of each message, their sizes and the root word
+  vet       Tells of each message whether its root denotes a tree within the limits
+  pack      Packs words, whatever they mean
+  unpack    Unpacks words, whatever they mean
+  help      Print this message or the help of the given subcommand(s)
+
+Options:
+  -h, --help  Print help
+",
+    },
+    Help {
+        lines: [
+            &["segments", "--help"],
+            &["segments", "-h"],
+            &["help", "segments"],
+        ],
+        text: "\
+Shows the segments of each message, their sizes and the root word
+
+Usage: capvet segments [OPTIONS] [FILE]
+
+Arguments:
+  [FILE]  The file to read, in place of standard input
+
+Options:
+      --packed    The input is packed
+      --size <N>  The most words of a message, in all its segments together, 0 to 268435456 [default: 8388608]
+  -h, --help      Print help
+",
+    },
+    Help {
+        lines: [&["vet", "--help"], &["vet", "-h"], &["help", "vet"]],
+        text: "\
+Tells of each message whether its root denotes a tree within the limits
+
+Usage: capvet vet [OPTIONS] [FILE]
+
+Arguments:
+  [FILE]  The file to read, in place of standard input
+
+Options:
+      --packed     The input is packed
+      --size <N>   The most words of a message, in all its segments together, 0 to 268435456 [default: 8388608]
+      --words <N>  The most words that a message may be charged, each following counted anew, 0 to 268435456 [default: 8388608]
+      --depth <N>  The deepest level that an object may have, 0 to 256 [default: 64]
+  -h, --help       Print help
+",
+    },
+    Help {
+        lines: [&["pack", "--help"], &["pack", "-h"], &["help", "pack"]],
+        text: "\
+Packs words, whatever they mean
+
+Usage: capvet pack [FILE]
+
+Arguments:
+  [FILE]  The file to read, in place of standard input
+
+Options:
+  -h, --help  Print help
+",
+    },
+    Help {
+        lines: [
+            &["unpack", "--help"],
+            &["unpack", "-h"],
+            &["help", "unpack"],
+        ],
+        text: "\
+Unpacks words, whatever they mean
+
+Usage: capvet unpack [FILE]
+
+Arguments:
+  [FILE]  The file to read, in place of standard input
+
+Options:
+  -h, --help  Print help
+",
+    },
+];
 
 #[test]
-fn helps_with_vet(rt: HostRuntime) -> Result<(), Fail> {
-    let helps: [&[&str]; 3] = [&["vet", "--help"], &["vet", "-h"], &["help", "vet"]];
-    for line in helps {
-        let Err(JobFault::Help { text }) = read_job(rt.alloc(), words(rt.alloc(), line)?) else {
-            return Err(Fail::from("no help"));
-        };
-        assert_eq!(rt; text.as_str(), HELP, "{line:?}");
+fn helps_with_each_command(rt: HostRuntime) -> Result<(), Fail> {
+    for help in &HELPS {
+        for line in help.lines {
+            let Err(JobFault::Help { text }) = read_job(rt.alloc(), words(rt.alloc(), line)?) else {
+                return Err(Fail::from("no help"));
+            };
+            assert_eq!(rt; text.as_str(), help.text, "{line:?}");
+        }
     }
     Ok(())
 }
