@@ -1,7 +1,6 @@
 pub mod Copying
 pub mod Faults
 pub mod Jobs
-pub mod Outlining
 pub mod Putting
 pub mod Running
 pub mod Streams

@@ -75,7 +75,7 @@ fn run_over<S: WordSource + Drop, O: ByteOut, E: ByteOut>(
     let mut out = out;
     match job.task {
         Task::Segments => {
-            let answer = run_segments(alloc, &mut source, &mut out, &job.settings);
+            let answer = run_segments(&mut source, &mut out, &job.settings);
             (report(err, &answer), out)
         }
         Task::Vet => {

@@ -4,7 +4,7 @@ use Rattle.std.proofs.lemmas.List.{length-take, take-append-drop}
 use Rattle.std.proofs.lemmas.List.Sums.{sum_by-cons}
 use Rattle.cap_words.specs.declared.sources.WordSource as source
 use Rattle.cap_spec.specs.Frames.{joined, sizes_of}
-use Rattle.cap_frame.specs.Outlines.{root_of}
+use Rattle.cap_spec.specs.Messages.{root_of}
 use Rattle.cap_frame.specs.Taking.{Takes, Reads, IsUsable}
 use Rattle.cap_frame.proofs.Contents.{WordsSoFar, words_more, words_start}
 

@@ -1,6 +1,7 @@
--- What is kept of a message whose other words are passed over (standard: Serialization Over a Stream).
-use Rattle.std.specs.Prelude.{ℕ, ◌≡◌, List, ◌∷◌, Option, Some, None}
+-- What is kept of a message whose other words are passed over (profile).
+use Rattle.std.specs.Prelude.{ℕ, ◌≡◌, List, Option}
 use Rattle.cap_spec.specs.Frames.{sizes_of}
+use Rattle.cap_spec.specs.Messages.{root_of}
 use Rattle.cap_frame.specs.declared.outline.Outline.{Outline}
 
 -- what contracts see of an outline: the size of each segment, and the root word
@@ -9,11 +10,6 @@ sizes_in outline = outline.sizes.items
 
 abbrev pub root_in : Outline → Option ℕ
 root_in outline = outline.root
-
--- the first word of segment 0
-abbrev pub root_of : List (List ℕ) → Option ℕ
-root_of ((w ∷ ws) ∷ m) = Some w
-root_of _ = None
 
 -- It is the outline of this message.
 pub record Outlines (outline : Outline) (m : List (List ℕ)) : Type 0 where

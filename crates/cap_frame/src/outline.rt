@@ -15,7 +15,7 @@ pub struct Outline {
 impl Outline {
     ghost use Rattle.cap_frame.specs.Outlines.{sizes_in, root_in};
 
-    /// No segment and no root word: what no message has.
+    /// The outline of no message: no segments and no root word.
     pub fn new() -> Outline
         ensures sizes { sizes_in result ≡ [] }
         ensures root { root_in result ≡ None }
@@ -24,6 +24,16 @@ impl Outline {
             sizes: Sizes::new(),
             root: None,
         }
+    }
+
+    // Makes it the outline of no message again.
+    pub(crate) fn clear(&mut self)
+        ensures sizes { sizes_in self.new ≡ [] }
+        ensures root { root_in self.new ≡ None }
+    {
+        let Outline { sizes, root } = self;
+        sizes.clear();
+        *root = None;
     }
 
     /// How many segments there are.
@@ -48,7 +58,7 @@ impl Outline {
         total(&self.sizes)
     }
 
-    /// The root word, or `None` where segment 0 has no words.
+    /// The root word, or `None` where segment 0 has no words or there are no segments.
     pub fn root(&self) -> Option<u64>
         ensures { result ≡ root_in self.now }
     {

@@ -2,16 +2,16 @@
 
 ghost use Rattle.cap_frame.specs.Faults.{Answered, Faults};
 ghost use Rattle.cap_frame.specs.Limit.{limit_of};
-ghost use Rattle.cap_frame.specs.Outlines.{Outlines};
+ghost use Rattle.cap_frame.specs.Outlines.{Outlines, root_in, sizes_in};
 ghost use Rattle.cap_frame.specs.Taking.{IsUsable, Reads, Takes};
 ghost use Rattle.cap_spec.specs.Frames.{Frames, IsPartial, IsTable, sizes_of};
-ghost use Rattle.std.specs.Prelude.{◌%◌, ◌+◌, ◌++◌, ◌<◌, ◌^◌, ◌≡◌, ◌≤◌, [], ◌∷◌, IfErr, IsErrOf, List, OnOk, OnSome, drop, false, length, sum, true, ℕ};
+ghost use Rattle.std.specs.Prelude.{◌%◌, ◌+◌, ◌++◌, ◌<◌, ◌^◌, ◌≡◌, ◌≤◌, [], ◌∷◌, IfErr, IsErrOf, List, None, OnOk, OnSome, drop, false, length, sum, true, ℕ};
 
 use crate::fault::{FrameFault, frame_fault};
 use crate::limit::SizeLimit;
 use crate::outline::Outline;
 use crate::table::next_table;
-use crate::words::read_root;
+use crate::words::skip_contents;
 use cap_words::WordSource;
 
 // Reads a message and keeps its outline. Its clauses say what each answer tells of the source's words.
@@ -31,28 +31,35 @@ fn read_outlined<S: WordSource>(
     ensures reads { Reads S.WordSource source.old source.new }
     ensures err { IfErr result (Faults S.WordSource (limit_of limit) source.old source.new) }
     ensures no_memory { IsErrOf result FrameFault.Memory → ⊥ }
+    ensures emptied { (result ≡ Ok true → ⊥) → (sizes_in outline.new ≡ []) × (root_in outline.new ≡ None) }
 {
-    outline.sizes.clear();
+    outline.clear();
     match next_table(source, limit, &mut outline.sizes) {
         Ok(true) => {}
-        ended => return ended,
+        ended => {
+            outline.clear();
+            return ended;
+        }
     }
-    match read_root(source, &outline.sizes) {
+    match skip_contents(source, &outline.sizes) {
         Ok(root) => {
             outline.root = root;
             Ok(true)
         }
-        Err(fault) => Err(frame_fault(fault)),
+        Err(fault) => {
+            outline.clear();
+            Err(frame_fault(fault))
+        }
     }
 }
 
 /// Reads the next message of a stream and keeps its outline. `false` where the stream ends before
 /// the message's first word.
 ///
-/// Every word of the message is taken, as [`read_message`](crate::read_message) takes it, with the
-/// same faults, and the source stands where it would stand then. No memory is taken, so that
-/// [`FrameFault::Memory`] isn't answered. After another answer than `true` the outline is of no
-/// message.
+/// Every word of the message is taken, as [`read_message`](crate::read_message) takes it. The faults
+/// are the same and leave the source where that would leave it, but [`FrameFault::Memory`] isn't
+/// among them, since no memory is taken. After another answer than `true` the outline is as a new
+/// one.
 pub fn read_outline<S: WordSource>(
     source: &mut S,
     limit: SizeLimit,
@@ -67,10 +74,13 @@ pub fn read_outline<S: WordSource>(
     ensures ended { result ≡ Ok false → S.ended source.new ≡ true }
     ensures stays { S.ended source.old ≡ true → (result ≡ Ok false) × (source.new ≡ source.old) }
     ensures for_good { S.failed source.old ≡ true → (result ≡ Err FrameFault.Spent) × (source.new ≡ source.old) }
+    ensures spent { S.spent source.old ≡ true → result ≡ Err FrameFault.Spent }
     // Whatever the answer is, the place counts the bytes that were read.
     ensures reads { Reads S.WordSource source.old source.new }
+    // Which words were taken before the fault, and what the source says of itself behind it.
     ensures err { IfErr result (Faults S.WordSource (limit_of limit) source.old source.new) }
     ensures no_memory { IsErrOf result FrameFault.Memory → ⊥ }
+    ensures emptied { (result ≡ Ok true → ⊥) → (sizes_in outline.new ≡ []) × (root_in outline.new ≡ None) }
     // And the other way round, where the words are known and no device or earlier fault is in the way.
     // A front of them frames a message within the limit: the outline is its, and the source has the other words.
     ensures whole { (own rest : List ℕ) (m : List (List ℕ)) → S.words source.old ≡ Some (own ++ rest) → Frames own m → sum (sizes_of m) ≤ limit_of limit →

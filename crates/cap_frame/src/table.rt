@@ -42,9 +42,9 @@ fn push_halves(sizes: &mut Sizes, count: usize, word: u64)
     }
 }
 
-/// Reads the rest of a table, behind its first word, which tells of at most 512 segments.
+// Reads the rest of a table, behind its first word, which tells of at most 512 segments.
 #[inline(always)]
-pub(crate) fn read_sizes<S: WordSource>(
+fn read_sizes<S: WordSource>(
     source: &mut S,
     first: u64,
     sizes: &mut Sizes,
@@ -76,9 +76,9 @@ pub(crate) fn total(sizes: &[u32]) -> u64
     sizes.iter().map(|size| u64::from(*size)).sum()
 }
 
-/// Reads the rest of a table, behind its first word, and looks at its numbers.
+// Reads the rest of a table, behind its first word, and looks at its numbers.
 #[inline(always)]
-pub(crate) fn read_table<S: WordSource>(
+fn read_table<S: WordSource>(
     source: &mut S,
     first: u64,
     limit: SizeLimit,

@@ -179,6 +179,14 @@ fn an_outline_is_filled_anew(rt: HostRuntime) -> Result<(), Fail> {
         assert!(rt; is_outline(&outline, want), "the outline");
     }
     assert_eq!(rt; read_outline(&mut source, limit, &mut outline), Ok(false));
+    assert!(rt; is_outline(&outline, &[]), "after the end of the stream");
+    // A message that is cut short leaves nothing of it, nor of the one before.
+    let behind = plain(alloc, &words[5..])?;
+    let mut source = PlainWords::new(SliceIn::new(&behind[..20.min(behind.len())]));
+    assert_eq!(rt; read_outline(&mut source, limit, &mut outline), Ok(true));
+    let cut = Err(FrameFault::Truncated { byte: 20 });
+    assert_eq!(rt; read_outline(&mut source, limit, &mut outline), cut);
+    assert!(rt; is_outline(&outline, &[]), "after a fault");
     Ok(())
 }
 

@@ -1,9 +1,9 @@
 //! Reading words that a message must have.
 
-ghost use Rattle.cap_frame.specs.Outlines.{root_of};
 ghost use Rattle.cap_frame.specs.Taking.{IsUsable, Reads, Stops, Takes};
 ghost use Rattle.cap_frame.specs.Rooms.{AreRooms};
 ghost use Rattle.cap_spec.specs.Frames.{joined, sizes_of};
+ghost use Rattle.cap_spec.specs.Messages.{root_of};
 ghost use Rattle.std.specs.Prelude.{◌<◌, ◌^◌, ◌≡◌, ◌≤◌, [], ◌∷◌, IfErr, IfOk, List, OnOk, false, length, map, sum, ℕ};
 ghost use Rattle.std.specs.Vec.{vec_capacity};
 
@@ -105,8 +105,8 @@ pub(crate) fn skip_words<S: WordSource>(source: &mut S, many: u64) -> Result<(),
     Ok(())
 }
 
-/// Reads the words of segments of these sizes, and keeps the first word of the first alone.
-pub(crate) fn read_root<S: WordSource>(
+/// Reads the words of segments of these sizes, and keeps the root word alone.
+pub(crate) fn skip_contents<S: WordSource>(
     source: &mut S,
     sizes: &[u32],
 ) -> Result<Option<u64>, SourceFault>
@@ -120,16 +120,10 @@ pub(crate) fn read_root<S: WordSource>(
 {
     let words = total(sizes);
     if sizes[0] == 0 {
-        return match skip_words(source, words) {
-            Ok(()) => Ok(None),
-            Err(fault) => Err(fault),
-        };
+        skip_words(source, words)?;
+        return Ok(None);
     }
-    match next_word(source) {
-        Ok(root) => match skip_words(source, words - 1) {
-            Ok(()) => Ok(Some(root)),
-            Err(fault) => Err(fault),
-        },
-        Err(fault) => Err(fault),
-    }
+    let root = next_word(source)?;
+    skip_words(source, words - 1)?;
+    Ok(Some(root))
 }

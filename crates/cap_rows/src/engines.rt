@@ -64,7 +64,7 @@ fn reads_no_more_messages_than_it_may(rt: HostRuntime) -> Result<(), Fail> {
                 noncanonical: 0,
             })
         };
-        assert!(rt; run_segments(alloc, &mut source, &mut out, &settings) == wanted);
+        assert!(rt; run_segments(&mut source, &mut out, &settings) == wanted);
         assert_eq!(rt; out.bytes(), text.as_bytes());
     }
     Ok(())

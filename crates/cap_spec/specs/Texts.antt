@@ -1,6 +1,8 @@
--- The lines that the program writes (profile).
+-- The lines that the program writes, and those of a dump, a check and a get, which it doesn't write yet (profile).
 use Rattle.std.specs.Prelude.{ℕ, ◌+◌, ◌*◌, ◌/◌, ◌%◌, ◌==◌, nat_lt, if◌then◌else◌, List, [], ◌∷◌, ◌++◌, length, map, sum, replicate, codes, decimal, Bool, Option, Some, None}
 use Rattle.std.specs.List.{flat_map}
+use Rattle.cap_spec.specs.Frames.{sizes_of}
+use Rattle.cap_spec.specs.Messages.{root_of}
 use Rattle.cap_spec.specs.Plain.{word_bytes}
 use Rattle.cap_spec.specs.Scalars.{scalar_words}
 use Rattle.cap_spec.specs.declared.Refusal.{Refusal}
@@ -80,18 +82,23 @@ abbrev pub vet_text : ℕ → Verdict → List ℕ
 vet_text n (accepted c d p k) = message_text n (codes "accepted charge" ++ then_number c ++ codes " depth" ++ then_number d ++ codes " pointers" ++ then_number p ++ codes " caps" ++ then_number k)
 vet_text n (refused name s w p) = message_text n (codes "refused " ++ name ++ codes " at" ++ then_number s ++ 58 ∷ decimal w ++ codes " pointers" ++ then_number p)
 
-abbrev pub segment_lines : ℕ → List (List ℕ) → List ℕ
+-- a line for each size, by the segment's number, from this number on
+abbrev pub segment_lines : ℕ → List ℕ → List ℕ
 segment_lines s [] = []
-segment_lines s (ws ∷ m) = line 0 (codes "segment" ++ then_number s ++ 58 ∷ then_number (length ws)) ++ segment_lines (s + 1) m
+segment_lines s (n ∷ ns) = line 0 (codes "segment" ++ then_number s ++ 58 ∷ then_number n) ++ segment_lines (s + 1) ns
 
-abbrev pub root_text : List (List ℕ) → List ℕ
-root_text ((w ∷ ws) ∷ m) = hex w
-root_text _ = codes "none"
+abbrev pub root_text : Option ℕ → List ℕ
+root_text None = codes "none"
+root_text (Some w) = hex w
+
+-- what is written of a message whose segments have these sizes, by its root word
+abbrev pub outline_text : ℕ → List ℕ → Option ℕ → List ℕ
+outline_text n sizes root =
+    message_text n (codes "segments" ++ then_number (length sizes) ++ codes " words" ++ then_number (sum sizes))
+    ++ segment_lines 0 sizes ++ line 0 (codes "root " ++ root_text root)
 
 abbrev pub segments_text : ℕ → List (List ℕ) → List ℕ
-segments_text n m =
-    message_text n (codes "segments" ++ then_number (length m) ++ codes " words" ++ then_number (sum (map length m)))
-    ++ segment_lines 0 m ++ line 0 (codes "root " ++ root_text m)
+segments_text n m = outline_text n (sizes_of m) (root_of m)
 
 -- the name of a reason, as it is printed
 abbrev pub reason_name : Reason → List ℕ

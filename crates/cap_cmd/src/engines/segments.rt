@@ -9,24 +9,22 @@ ghost use Rattle.cap_frame.specs.Faults.{Faults};
 ghost use Rattle.cap_frame.specs.Limit.{limit_of};
 ghost use Rattle.std.specs.Prelude.{◌<◌, ◌≡◌, ◌≤◌, [], ◌∷◌, IfOk, IsErrOf, List, length, ℕ};
 
-use crate::engines::stream::{Mark, Step, tell_all};
+use crate::engines::stream::{Engine, Mark, tell_all};
 use crate::fault::{Cause, RunFault};
 use crate::settings::{Outcome, Settings};
 use crate::texts::segments::write_segments_text;
 use cap_frame::{FrameFault, Outline, SizeLimit, read_outline};
 use cap_words::{ByteOut, OutFault, WordSource};
-use std::alloc::Global;
 
-/// Tells how a message is cut into segments. Its outline alone is kept, which takes no memory.
+/// Tells how a message is cut into segments, of which its outline is enough.
 #[derive(Clone, Copy)]
-struct SegmentsStep;
+struct SegmentsEngine;
 
-impl Step for SegmentsStep {
+impl Engine for SegmentsEngine {
     ghost tells = { λ _ n m text mark. (text ≡ segments_text n m) × (mark ≡ Accepted) };
 
-    fn step<S: WordSource, O: ByteOut>(
+    fn tell_next<S: WordSource, O: ByteOut>(
         &self,
-        _alloc: Global,
         source: &mut S,
         out: &mut O,
         limit: SizeLimit,
@@ -46,9 +44,9 @@ impl Step for SegmentsStep {
 
 /// Reads the messages of a stream to its end, and shows of each its segments, their sizes and the
 /// root word. The text of a message is written before the next is read. A fault comes behind the
-/// messages whose text is out, and tells how many they are.
+/// messages whose text is out, and tells how many they are. The words of a message aren't held, and no
+/// memory is taken.
 pub fn run_segments<S: WordSource, O: ByteOut>(
-    alloc: Global,
     source: &mut S,
     out: &mut O,
     settings: &Settings,
@@ -67,5 +65,5 @@ pub fn run_segments<S: WordSource, O: ByteOut>(
     ensures output { (n : ℕ) (fault : OutFault) → IsErrOf result (record { message = n; cause = Cause.Output fault }) → (n < settings.now.messages)
         × StopsShowing S.WordSource O.ByteOut (limit_of settings.now.size) n source.old source.new out.old out.new fault }
 {
-    tell_all(alloc, source, out, settings, &SegmentsStep)
+    tell_all(source, out, settings, &SegmentsEngine)
 }

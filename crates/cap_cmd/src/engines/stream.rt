@@ -11,7 +11,6 @@ use crate::fault::{Cause, RunFault};
 use crate::settings::{Outcome, Settings};
 use cap_frame::{Outline, SizeLimit, read_outline};
 use cap_words::{ByteOut, WordSource};
-use std::alloc::Global;
 
 /// What is counted of a message.
 #[derive(Clone, Copy)]
@@ -24,18 +23,17 @@ pub(crate) enum Mark {
     NotCanonical,
 }
 
-/// What an engine does at each message.
-pub(crate) trait Step {
+/// What is done at each message of a stream.
+pub(crate) trait Engine {
     ghost use Rattle.cap_cmd.specs.declared.engines.stream.Mark.{Mark};
 
     // The texts that may be written of a message by its number, each with what is counted then.
     ghost tells: { Self → ℕ → List (List ℕ) → List ℕ → Mark → Type 0 };
 
     /// Reads the next message and writes its text. `None` where the stream ends before it. After a
-    /// fault of the output it took a beginning of the text.
-    fn step<S: WordSource, O: ByteOut>(
+    /// fault of the output, the output took a beginning of the text.
+    fn tell_next<S: WordSource, O: ByteOut>(
         &self,
-        alloc: Global,
         source: &mut S,
         out: &mut O,
         limit: SizeLimit,
@@ -81,18 +79,17 @@ fn count(outcome: Outcome, mark: Mark) -> Outcome
 }
 
 /// Reads the messages of a stream to its end, and writes the text of each before it reads the next.
-pub(crate) fn tell_all<S: WordSource, O: ByteOut, T: Step>(
-    alloc: Global,
+pub(crate) fn tell_all<S: WordSource, O: ByteOut, E: Engine>(
     source: &mut S,
     out: &mut O,
     settings: &Settings,
-    step: &T,
+    engine: &E,
 ) -> Result<Outcome, RunFault>
     ensures ok { IfOk result (λ outcome. (ts : List Told) × ReadsAll S.WordSource (limit_of settings.now.size) source.old source.new (messages_of ts)
-        × TellsEach (T.tells step.now) 0 ts × Appended O.ByteOut out.old out.new (texts_of ts) × (length ts ≤ settings.now.messages) × (outcome ≡ outcome_of ts)) }
+        × TellsEach (E.tells engine.now) 0 ts × Appended O.ByteOut out.old out.new (texts_of ts) × (length ts ≤ settings.now.messages) × (outcome ≡ outcome_of ts)) }
     ensures err { IfErr result (λ fault. (ts : List Told) × (mid : S) × (fault.message ≡ length ts) × (length ts ≤ settings.now.messages)
-        × ReadsStream S.WordSource (limit_of settings.now.size) source.old mid (messages_of ts) × TellsEach (T.tells step.now) 0 ts
-        × RunStops S.WordSource O.ByteOut (T.tells step.now) (limit_of settings.now.size) settings.now.messages ts mid source.new out.old out.new fault.cause) }
+        × ReadsStream S.WordSource (limit_of settings.now.size) source.old mid (messages_of ts) × TellsEach (E.tells engine.now) 0 ts
+        × RunStops S.WordSource O.ByteOut (E.tells engine.now) (limit_of settings.now.size) settings.now.messages ts mid source.new out.old out.new fault.cause) }
 {
     let mut outcome = Outcome {
         messages: 0,
@@ -100,7 +97,7 @@ pub(crate) fn tell_all<S: WordSource, O: ByteOut, T: Step>(
         noncanonical: 0,
     };
     for number in 0..settings.messages {
-        match step.step(alloc, source, out, settings.size, number) {
+        match engine.tell_next(source, out, settings.size, number) {
             Ok(Some(mark)) => outcome = count(outcome, mark),
             Ok(None) => return Ok(outcome),
             Err(cause) => return Err(RunFault {

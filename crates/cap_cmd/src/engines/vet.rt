@@ -73,13 +73,8 @@ pub fn run_vet<S: WordSource, O: ByteOut>(
         × TellsEach (TellsVerdict (words_of settings.now.limits) (depth_of settings.now.limits)) 0 ts
         × RunStops S.WordSource O.ByteOut (TellsVerdict (words_of settings.now.limits) (depth_of settings.now.limits)) (limit_of settings.now.size) settings.now.messages ts mid source.new out.old out.new fault.cause) }
 {
-    tell_all(
-        alloc,
-        source,
-        out,
-        settings,
-        &Whole(VetTeller {
-            limits: settings.limits,
-        }),
-    )
+    let teller = VetTeller {
+        limits: settings.limits,
+    };
+    tell_all(source, out, settings, &Whole { alloc, teller })
 }

@@ -3,7 +3,7 @@
 ghost use Rattle.cap_cmd.specs.Writing.{Stopped, Wrote};
 ghost use Rattle.std.specs.Prelude.{IfErr, IfOk, List, ℕ};
 
-use crate::engines::stream::{Mark, Step};
+use crate::engines::stream::{Engine, Mark};
 use crate::fault::Cause;
 use cap_frame::{Segments, SizeLimit, read_message};
 use cap_words::{ByteOut, OutFault, WordSource};
@@ -29,21 +29,23 @@ pub(crate) trait Teller {
 
 /// Reads each message whole, and tells of it.
 #[derive(Clone, Copy)]
-pub(crate) struct Whole<T>(pub(crate) T);
+pub(crate) struct Whole<T> {
+    pub(crate) alloc: Global,
+    pub(crate) teller: T,
+}
 
-impl<T: Teller> Step for Whole<T> {
-    ghost tells = { λ w. T.tells w.0 };
+impl<T: Teller> Engine for Whole<T> {
+    ghost tells = { λ w. T.tells w.teller };
 
-    fn step<S: WordSource, O: ByteOut>(
+    fn tell_next<S: WordSource, O: ByteOut>(
         &self,
-        alloc: Global,
         source: &mut S,
         out: &mut O,
         limit: SizeLimit,
         number: u32,
     ) -> Result<Option<Mark>, Cause> {
-        match read_message(alloc, source, limit) {
-            Ok(Some(message)) => match self.0.tell(out, number, &message) {
+        match read_message(self.alloc, source, limit) {
+            Ok(Some(message)) => match self.teller.tell(out, number, &message) {
                 Ok(mark) => Ok(Some(mark)),
                 Err(fault) => Err(Cause::Output(fault)),
             },

@@ -1,9 +1,8 @@
 //! The text of a message's segments: their number and sizes, and the root word.
 
 ghost use Rattle.cap_cmd.specs.Writing.{Writes};
-ghost use Rattle.cap_cmd.specs.Outlining.{outline_text, size_lines, word_or_none};
 ghost use Rattle.cap_frame.specs.Outlines.{root_in, sizes_in};
-ghost use Rattle.cap_spec.specs.Texts.{hex, line, message_text, then_number};
+ghost use Rattle.cap_spec.specs.Texts.{hex, line, message_text, outline_text, root_text, segment_lines, then_number};
 ghost use Rattle.std.specs.Prelude.{◌++◌, ◌≡◌, ◌∷◌, codes, false};
 
 use crate::texts::line::{LINE, push_hex, push_number, push_text};
@@ -62,7 +61,7 @@ fn word_line(word: u64) -> ArrayVec<u8, LINE>
 
 /// The line of the root word, or of its absence.
 fn root_line(root: Option<u64>) -> ArrayVec<u8, LINE>
-    ensures { result.items ≡ line 0 (codes "root " ++ word_or_none root) }
+    ensures { result.items ≡ line 0 (codes "root " ++ root_text root) }
 {
     match root {
         Some(word) => word_line(word),
@@ -73,7 +72,7 @@ fn root_line(root: Option<u64>) -> ArrayVec<u8, LINE>
 /// Writes the line of each segment.
 fn write_segment_lines<O: ByteOut>(out: &mut O, outline: &Outline) -> Result<(), OutFault>
     requires { O.spent out.old ≡ false }
-    ensures { Writes O.ByteOut out.old out.new result (size_lines 0 (sizes_in outline.now)) }
+    ensures { Writes O.ByteOut out.old out.new result (segment_lines 0 (sizes_in outline.now)) }
 {
     for s in 0..outline.count() {
         let line = segment_line(s, outline.len(s));

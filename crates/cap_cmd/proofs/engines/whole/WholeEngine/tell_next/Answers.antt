@@ -1,7 +1,7 @@
 use Rattle.std.proofs.Common.{refl}
 use Rattle.cap_frame.specs.Limit.{limit_of}
 use Rattle.cap_cmd.proofs.Streams.{reads_one}
-use Rattle.cap_cmd.proofs.engines.whole.WholeStep.step.Goals as goal
+use Rattle.cap_cmd.proofs.engines.whole.WholeEngine.tell_next.Goals as goal
 
 pub returns-in-Ok-clause-some : goal.returns-in-Ok-clause-some
 returns-in-Ok-clause-some g c =

@@ -1,11 +1,11 @@
 use Rattle.std.proofs.Common.{refl}
 use Rattle.cap_frame.specs.Limit.{limit_of}
 use Rattle.cap_frame.specs.Outlines.{root_in, sizes_in}
-use Rattle.cap_cmd.specs.Outlining.{outline_text}
+use Rattle.cap_spec.specs.Texts.{outline_text}
 use Rattle.cap_cmd.specs.declared.engines.stream.Mark.TheVariants.{Accepted}
 use Rattle.cap_cmd.proofs.Segments.{text_of_outline}
 use Rattle.cap_cmd.proofs.Streams.{reads_one}
-use Rattle.cap_cmd.proofs.engines.segments.SegmentsStepStep.step.Goals as goal
+use Rattle.cap_cmd.proofs.engines.segments.SegmentsEngineEngine.tell_next.Goals as goal
 
 pub returns-in-Ok-clause-some : goal.returns-in-Ok-clause-some
 returns-in-Ok-clause-some g c =
