@@ -6,7 +6,8 @@
 The inputs are made anew in a temporary folder. In each round every command runs once, in turn, so that
 a busy machine slows them alike; the table has the median of the rounds. MiB, MB/s and `ratio`, against `dd`
 with blocks of 64 KiB, are those of the plain file also where a command gets it packed or packs it. Memory
-is the largest resident size of any round.
+is the largest resident size of any round, and never less than this script's own, some 16 MiB, which a
+program that it starts inherits.
 """
 import argparse
 import multiprocessing

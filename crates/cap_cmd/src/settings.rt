@@ -21,6 +21,7 @@ pub struct Outcome {
     pub messages: u32,
     /// How many of them were refused.
     pub refused: u32,
-    /// How many of them were accepted and aren't canonical, where that was asked.
+    /// How many of them were accepted and aren't canonical, where that is asked. `segments` and `vet`
+    /// don't ask it.
     pub noncanonical: u32,
 }

@@ -1,4 +1,4 @@
--- The numbers of the table of a message, without its padding.
+-- The numbers of the table of a message, without its padding (profile).
 use Rattle.std.specs.Prelude.{ℕ, ◌+◌, ◌-◌, ◌*◌, ◌^◌, List, ◌∷◌, length, slice_index}
 use Rattle.cap_spec.specs.Frames.{sizes_of}
 

@@ -1,4 +1,4 @@
--- Empty vectors with room for the segments of a message.
+-- Empty vectors with room for the segments of a message (profile).
 use Rattle.std.specs.Prelude.{⊤, ℕ, ◌≡◌, ◌≤◌, List, [], ◌∷◌}
 
 -- vectors without words, each with room for its size. The two functions give a vector's words and how many it has room for

@@ -1,4 +1,4 @@
--- What a fault of a source is to the reading of a message.
+-- What a fault of a source is to the reading of a message (profile).
 use Rattle.cap_words.specs.declared.sources.SourceFault.{SourceFault}
 use Rattle.cap_words.specs.declared.sources.SourceFault.TheVariants as source
 use Rattle.cap_frame.specs.declared.fault.FrameFault.{FrameFault}

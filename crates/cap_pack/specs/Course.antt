@@ -1,4 +1,4 @@
--- What an unpacker gives of packed bytes, in order: the words, each with the position after it, and then the end.
+-- What an unpacker gives of packed bytes, in order: the words, each with the position after it, and then the end (profile).
 use Rattle.std.specs.Prelude.{ℕ, zero, suc, ◌+◌, ◌==◌, nat_lt, if◌then◌else◌, Bool, true, false, List, [], ◌∷◌, length, drop, slice_index}
 use Rattle.byteorder.specs.Endian.{little_number}
 use Rattle.cap_spec.specs.Plain.{capped}

@@ -1,4 +1,4 @@
--- The open group of a packer: the words that it stands for so far, and the bytes that spell it.
+-- The open group of a packer: the words that it stands for so far, and the bytes that spell it (profile).
 use Rattle.std.specs.Prelude.{ℕ, List, [], ◌∷◌, ◌++◌, length, take, replicate}
 use Rattle.cap_spec.specs.Packing.{zero_bytes}
 use Rattle.cap_spec.specs.Plain.{word_bytes, plain_text}

@@ -1,4 +1,4 @@
--- What a read does to an input and to the position in it.
+-- What a read does to an input and to the position in it (profile).
 use Rattle.std.specs.Prelude.{ℕ, ◌≡◌, ◌+◌, List, length, Option}
 use Rattle.std.specs.Io.KnownBytes.{Consumes}
 use Rattle.cap_spec.specs.Plain.{capped}

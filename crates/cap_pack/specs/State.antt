@@ -1,4 +1,4 @@
--- What an unpacker says of itself, by its phase and what it holds.
+-- What an unpacker says of itself, by its phase and what it holds (profile).
 use Rattle.std.specs.Prelude.{ℕ, Bool, true, false, List}
 use Rattle.cap_pack.specs.Course.{Course, ends, course, zeros_then}
 use Rattle.cap_pack.specs.declared.unpacker.Phase.{Phase}

@@ -23,7 +23,7 @@ use cap_words::{bits, signed_offset};
 ///
 /// A far pointer leads through a landing pad of one or two words, which may stand in any segment
 /// (encoding: Inter-Segment Pointers). The error is the first reason, in the order of `Reason`,
-/// whose condition holds.
+/// whose condition holds; it is never `NoRoot`, `DepthLimit` or `WordLimit`.
 // It and what it calls at nearly every word are inlined: in a walk's loop what a word leads to then stays
 // in registers.
 #[inline(always)]

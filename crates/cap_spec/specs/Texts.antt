@@ -1,5 +1,5 @@
 -- The lines that the program writes, and those of a dump, a check and a get, which it doesn't write yet (profile).
-use Rattle.std.specs.Prelude.{ℕ, ◌+◌, ◌*◌, ◌/◌, ◌%◌, ◌==◌, nat_lt, if◌then◌else◌, List, [], ◌∷◌, ◌++◌, length, map, sum, replicate, codes, decimal, Bool, Option, Some, None}
+use Rattle.std.specs.Prelude.{ℕ, ◌+◌, ◌*◌, ◌/◌, ◌%◌, ◌==◌, nat_lt, if◌then◌else◌, List, [], ◌∷◌, ◌++◌, length, sum, replicate, codes, decimal, Bool, Option, Some, None}
 use Rattle.std.specs.List.{flat_map}
 use Rattle.cap_spec.specs.Frames.{sizes_of}
 use Rattle.cap_spec.specs.Messages.{root_of}

@@ -1,4 +1,4 @@
--- The pointer words of a frame, and what is left of it behind the first.
+-- The pointer words of a frame, and what is left of it behind the first (profile).
 use Rattle.std.specs.Prelude.{ℕ, zero, suc, ◌+◌, ◌*◌, ◌<◌, ◌≤◌, ◌≡◌, List, [], ◌∷◌, ◌++◌, length, Option, None, Some, ⊤}
 use Rattle.std.specs.List.{flat_map}
 use Rattle.cap_spec.specs.Messages.{segment_of}

@@ -1,4 +1,4 @@
--- What comes of looking at one pointer word of a walk.
+-- What comes of looking at one pointer word of a walk (profile).
 use Rattle.std.specs.Prelude.{ℕ, ◌+◌, ◌≤◌, ◌≡◌, ◌==◌, if◌then◌else◌, List, [], Option, None, Some, ⊤}
 use Rattle.cap_spec.specs.Messages.{HasWord}
 use Rattle.cap_spec.specs.Pointers.{kind, middle, code, data_size, pointer_size, list_size, extent}

@@ -1,4 +1,4 @@
--- What the pointer words that a walk still has to look at denote.
+-- What the pointer words that a walk still has to look at denote (profile).
 use Rattle.std.specs.Prelude.{ℕ, ◌+◌, ◌≡◌, ◌≤◌, max, List, [], ◌∷◌, ⊤}
 use Rattle.cap_spec.specs.Denoting.{Denotes}
 use Rattle.cap_spec.specs.Tree.{Tree, pointer_count, cap_count}

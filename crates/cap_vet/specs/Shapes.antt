@@ -1,4 +1,4 @@
--- How many levels an object takes below its own.
+-- How many levels an object takes below its own (profile).
 use Rattle.std.specs.Prelude.{ℕ}
 use Rattle.cap_spec.specs.Denoting.{element_levels}
 use Rattle.cap_ptr.specs.declared.shapes.Shape.{Shape}

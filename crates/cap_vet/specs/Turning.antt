@@ -1,4 +1,4 @@
--- How a report changes at one pointer word.
+-- How a report changes at one pointer word (profile).
 use Rattle.std.specs.Prelude.{ℕ, ◌+◌, max, Option, None, Some}
 use Rattle.cap_vet.specs.declared.frame.Frame.{Frame}
 use Rattle.cap_vet.specs.declared.looking.Looked.{Looked}

@@ -1,4 +1,4 @@
--- What holds of a walk between two turns.
+-- What holds of a walk between two turns (profile).
 use Rattle.std.specs.Prelude.{ℕ, suc, ◌+◌, ◌-◌, ◌≤◌, ◌≡◌, List, [], ◌∷◌, length, map, reverse, Option, None, Some, ⊤, ◌<◌}
 use Rattle.std.specs.List.{AllByRecursion}
 use Rattle.cap_spec.specs.Messages.{segment_of}

@@ -1,4 +1,4 @@
--- What a source of the plain spelling says of itself, by its phase.
+-- What a source of the plain spelling says of itself, by its phase (profile).
 use Rattle.std.specs.Prelude.{ℕ, Bool, true, false, Option, List, []}
 use Rattle.std.specs.Option.{option_map}
 use Rattle.cap_words.specs.declared.plain_words.Phase.{Phase}

@@ -35,7 +35,9 @@ pub trait ByteIn {
     // An earlier fault has ended it.
     ghost spent: { Self → Bool };
 
-    /// The next bytes, at most as many as there is room for. With room, 0 is the end of the input.
+    /// The next bytes, at most as many as there is room for. With room, 0 is the end of the input;
+    /// with none it is always the answer, and nothing happens. A fault takes no bytes, and after one
+    /// every call with room answers `Spent`.
     fn read(&mut self, buf: &mut [u8]) -> Result<usize, InFault>
         ensures within { IfOk result (λ n. n ≤ length buf.new) }
         ensures bytes { ReadConsumes (to_come self.old) (to_come self.new) result buf.new }
@@ -58,6 +60,8 @@ pub trait ByteOut {
     ghost spent: { Self → Bool };
 
     /// Takes a beginning of the bytes, at least one of them where there is one; with a fault none.
+    /// With no bytes nothing happens. After `Device` every call with bytes answers `Spent`; after
+    /// `Memory` a later call may succeed.
     fn write(&mut self, buf: &[u8]) -> Result<usize, OutFault>
         ensures within { IfOk result (λ n. n ≤ length buf.now) }
         ensures bytes { WriteAppends (written self.old) (written self.new) result buf.now }
