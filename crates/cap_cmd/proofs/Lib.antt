@@ -3,6 +3,7 @@ pub mod Digits
 pub mod Going
 pub mod Numbers
 pub mod Segments
+pub mod Settling
 pub mod Reports
 pub mod Shown
 pub mod Streams

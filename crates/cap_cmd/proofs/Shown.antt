@@ -1,5 +1,5 @@
 -- Where the text of each message is that of its segments.
-use Rattle.std.proofs.Common.{◌≡◌, ◌∙◌, ℕ, suc, ◌+◌, sym, subst, List, [], ◌∷◌, ◌++◌, length, refl, ap, arith}
+use Rattle.std.proofs.Common.{◌≡◌, ◌∙◌, ℕ, ◌+◌, Result, Ok, sym, subst, List, [], ◌∷◌, ◌++◌, length, refl, ap, arith}
 use Rattle.cap_spec.specs.Texts.{segments_text}
 use Rattle.cap_words.specs.declared.ends.ByteOut as output
 use Rattle.cap_words.specs.declared.ends.OutFault.{OutFault}
@@ -9,8 +9,11 @@ use Rattle.cap_cmd.specs.Streams.{ReadsStream}
 use Rattle.cap_cmd.specs.declared.engines.stream.Mark.{Mark}
 use Rattle.cap_cmd.specs.declared.engines.stream.Mark.TheVariants.{Accepted}
 use Rattle.cap_cmd.specs.declared.settings.Outcome.{Outcome}
+use Rattle.cap_cmd.specs.declared.fault.RunFault.{RunFault}
+use Rattle.cap_cmd.proofs.Settling.{ToldEach}
 use Rattle.cap_cmd.proofs.Streams.{reads_both}
-use Rattle.cap_cmd.specs.Telling.{Told, outcome_of, messages_of, texts_of, texts_from, TellsEach, one_refused, one_noncanonical, refused_in, noncanonical_in}
+use Rattle.cap_cmd.proofs.Telling.{length-messages_of}
+use Rattle.cap_cmd.specs.Telling.{Told, outcome_of, messages_of, texts_of, texts_from, segments_texts, TellsEach, one_refused, one_noncanonical, refused_in, noncanonical_in}
 
 abbrev pub ShowsText : ℕ → List (List ℕ) → List ℕ → Mark → Type 0
 ShowsText n m text mark = (text ≡ segments_text n m) × (mark ≡ Accepted)
@@ -35,11 +38,6 @@ noncanonical_shown n (t ∷ ts) p =
     let e : one_noncanonical t.mark ≡ 0 = ap one_noncanonical p.0.1 in
     let f = noncanonical_shown (n + 1) ts p.1 in
     omega arith
-
--- each was told of
-pub length-messages_of : (ts : List Told) → length (messages_of ts) ≡ length ts
-length-messages_of [] = refl
-length-messages_of (t ∷ ts) = ap suc (length-messages_of ts)
 
 -- the outcome counts the messages alone
 pub outcome_shown : (ts : List Told) (o : Outcome) → TellsEach ShowsText 0 ts → o ≡ outcome_of ts → o ≡ record { messages = length (messages_of ts); refused = 0; noncanonical = 0 }
@@ -68,3 +66,11 @@ module _ {S O : Type 0} (gs : source.Ghosts S) (go : output.Ghosts O) (limit : �
     stops = subst (λ l. StopsIn go before after fault l (segments_text n t.message)) (texts_shown 0 ts p)
         (subst (StopsIn go before after fault (texts_of ts)) (q.0 ∙ ap (λ k. segments_text k t.message) (sym h)) w);
   }
+
+  -- where each message was told of, its text was shown
+  pub each_shown : (old mid : S) (before after : O) (most : ℕ) (ms : List (List (List ℕ))) (r : Result Outcome RunFault) → ToldEach gs go ShowsText limit most old mid before after ms r
+      → Appended go before after (segments_texts ms) × (r ≡ Ok (record { messages = length ms; refused = 0; noncanonical = 0 }))
+  each_shown old mid before after most ms r t = (
+    subst (Appended go before after) (texts_shown 0 t.0 t.2 ∙ ap segments_texts t.1) t.3,
+    t.4 ∙ ap (λ (o : Outcome). Ok o) (outcome_shown t.0 (outcome_of t.0) t.2 refl ∙ ap (λ (l : List (List (List ℕ))). record { messages = length l; refused = 0; noncanonical = 0 }) t.1),
+  )

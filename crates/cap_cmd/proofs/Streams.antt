@@ -1,10 +1,9 @@
 -- The messages of a stream, read one after the other.
-use Rattle.std.proofs.Common.{◌≡◌, ◌∙◌, ℕ, ◌≤◌, ◌<◌, Result, Ok, Err, Bool, false, Option, Some, None, List, [], ◌∷◌, ◌++◌, map, sum, OnSome, refl, sym, ap, append-nil}
-use Rattle.std.proofs.lemmas.List.{map-append}
-use Rattle.std.specs.List.{flat_map, AllByRecursion}
+use Rattle.std.proofs.Common.{◌≡◌, ◌∙◌, ℕ, ◌≤◌, ◌<◌, Result, Ok, Err, Bool, false, Option, Some, None, List, [], ◌∷◌, ◌++◌, sum, OnSome, refl, sym, ap, append-nil}
 use Rattle.std.specs.Io.KnownBytes.{Consumes}
-use Rattle.std.proofs.lemmas.Grind.{flat_map-append}
-use Rattle.cap_spec.specs.Frames.{Frames, Stream, sizes_of}
+use Rattle.cap_spec.specs.Frames.{Frames, sizes_of}
+use Rattle.cap_spec.proofs.Lists.{all_append}
+use Rattle.cap_spec.proofs.Streams.{stream_append, stream_none, stream_one}
 use Rattle.cap_words.specs.declared.sources.WordSource as source
 use Rattle.cap_words.specs.Ends.{Works}
 use Rattle.cap_frame.specs.Taking.{Takes, Breaks, Refuses}
@@ -14,28 +13,6 @@ use Rattle.cap_frame.specs.declared.fault.FrameFault.TheVariants.{TooManySegment
 use Rattle.std.specs.Prelude.{IfErr, IsErrOf}
 use Rattle.cap_frame.proofs.Taking.{takes_none, takes_both}
 use Rattle.cap_cmd.specs.Streams.{ReadsStream, EndsStream, ReadsAll}
-
--- what holds of the elements of two lists holds of those of both
-pub all-append : {X : Type 0} (P : X → Type 0) (xs ys : List X) → AllByRecursion P xs → AllByRecursion P ys → AllByRecursion P (xs ++ ys)
-all-append P [] ys p q = q
-all-append P (x ∷ xs) ys p q = (p.0, all-append P xs ys p.1 q)
-
--- one stream, and then another
-pub stream-append : (own more : List ℕ) (ms ns : List (List (List ℕ))) → Stream own ms → Stream more ns → Stream (own ++ more) (ms ++ ns)
-stream-append own more ms ns s t = record {
-  frames = s.frames ++ t.frames;
-  each = all-append (λ f. Frames f.0 f.1) s.frames t.frames s.each t.each;
-  whole = ap (λ w. w ++ more) s.whole ∙ ap (λ w. flat_map (λ f. f.0) s.frames ++ w) t.whole ∙ sym (flat_map-append (λ f. f.0) s.frames t.frames);
-  messages = ap (λ l. l ++ ns) s.messages ∙ ap (λ l. map (λ f. f.1) s.frames ++ l) t.messages ∙ sym (map-append (λ f. f.1) s.frames t.frames);
-}
-
--- no words are a stream of no messages
-pub stream-nil : Stream [] []
-stream-nil = record { frames = []; each = tt; whole = refl; messages = refl }
-
--- a frame is a stream of one message
-pub stream-one : (own : List ℕ) (m : List (List ℕ)) → Frames own m → Stream own (m ∷ [])
-stream-one own m f = record { frames = (own, m) ∷ []; each = (f, tt); whole = sym (append-nil own); messages = refl }
 
 some_is : (xs ys : List ℕ) → ◌≡◌ {A = Option (List ℕ)} (Some xs) (Some ys) → xs ≡ ys
 some_is xs ys e = cc
@@ -52,13 +29,13 @@ all_taken (Some x) (Some y) own c d P Q t s e =
 module _ {S : Type 0} (g : source.Ghosts S) where
   -- nothing was read yet
   pub reads_none : (limit : ℕ) (s : S) → ReadsStream g limit s s []
-  reads_none limit s = record { own = []; takes = takes_none g s; stream = stream-nil; within = tt; spent = refl; failures = refl }
+  reads_none limit s = record { own = []; takes = takes_none g s; stream = stream_none; within = tt; spent = refl; failures = refl }
 
   -- one message was read
   pub reads_one : (limit : ℕ) (old new : S) (own : List ℕ) (m : List (List ℕ)) → Takes g old new own → Frames own m → sum (sizes_of m) ≤ limit
       → Works (g.spent old) (g.spent new) (g.failures old) (g.failures new) → ReadsStream g limit old new (m ∷ [])
   reads_one limit old new own m t f h w =
-      record { own = own; takes = t; stream = stream-one own m f; within = (h, tt); spent = w.still ∙ sym w.usable; failures = w.none_failed }
+      record { own = own; takes = t; stream = stream_one own m f; within = (h, tt); spent = w.still ∙ sym w.usable; failures = w.none_failed }
 
   -- some messages were read, and then others
   pub reads_both : (limit : ℕ) (old mid new : S) (ms ns : List (List (List ℕ))) → ReadsStream g limit old mid ms → ReadsStream g limit mid new ns
@@ -66,8 +43,8 @@ module _ {S : Type 0} (g : source.Ghosts S) where
   reads_both limit old mid new ms ns r s = record {
     own = r.own ++ s.own;
     takes = takes_both g old mid new r.own s.own r.takes s.takes;
-    stream = stream-append r.own s.own ms ns r.stream s.stream;
-    within = all-append (λ m. sum (sizes_of m) ≤ limit) ms ns r.within s.within;
+    stream = stream_append r.own s.own ms ns r.stream s.stream;
+    within = all_append (λ m. sum (sizes_of m) ≤ limit) ms ns r.within s.within;
     spent = s.spent ∙ r.spent;
     failures = s.failures ∙ r.failures;
   }

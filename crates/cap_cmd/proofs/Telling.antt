@@ -1,5 +1,5 @@
 -- What was told of messages, with one message more.
-use Rattle.std.proofs.Common.{◌≡◌, ◌∙◌, ℕ, ◌+◌, ◌≤◌, List, [], ◌∷◌, ◌++◌, length, sym, ap, arith, append-nil, subst, length-append}
+use Rattle.std.proofs.Common.{◌≡◌, ◌∙◌, ℕ, suc, ◌+◌, ◌≤◌, List, [], ◌∷◌, ◌++◌, length, refl, sym, ap, arith, append-nil, subst, length-append}
 use Rattle.std.proofs.lemmas.List.{map-append}
 use Rattle.std.proofs.lemmas.Grind.{flat_map-append}
 use Rattle.cap_cmd.specs.declared.engines.stream.Mark.{Mark}
@@ -58,3 +58,8 @@ outcome_of-snoc ts t o e =
     let r1 : o.refused + one_refused t.mark ≡ refused_in (ts ++ t ∷ []) = ap (λ k. k + one_refused t.mark) r ∙ sym (refused_in-snoc ts t) in
     let n1 : o.noncanonical + one_noncanonical t.mark ≡ noncanonical_in (ts ++ t ∷ []) = ap (λ k. k + one_noncanonical t.mark) n ∙ sym (noncanonical_in-snoc ts t) in
     cc
+
+-- there are as many messages as were told of
+pub length-messages_of : (ts : List Told) → length (messages_of ts) ≡ length ts
+length-messages_of [] = refl
+length-messages_of (t ∷ ts) = ap suc (length-messages_of ts)

@@ -1,19 +1,32 @@
 -- How an engine ends, by what it did to its source and its output (profile). gs and go have the members of their types.
-use Rattle.std.specs.Prelude.{ℕ, ◌≡◌, ◌<◌, true, Bool, List, [], ◌∷◌, ◌++◌, length}
+use Rattle.std.specs.Prelude.{ℕ, ◌≡◌, ◌<◌, true, Bool, List, [], ◌∷◌, ◌++◌, length, Result, Ok, Err}
 use Rattle.std.specs.Io.KnownBytes.{Appends}
 use Rattle.cap_words.specs.Ends.{DeviceFails, Failures, GrowthFails, WasSpent}
 use Rattle.cap_words.specs.declared.ends.ByteOut as output
 use Rattle.cap_words.specs.declared.ends.OutFault.{OutFault}
 use Rattle.cap_words.specs.declared.ends.OutFault.TheVariants.{Device, Memory, Spent}
 use Rattle.cap_words.specs.declared.sources.WordSource as source
-use Rattle.cap_frame.specs.Faults.{Faults}
+use Rattle.cap_frame.specs.Faults.{Answered, Faults}
 use Rattle.cap_cmd.specs.declared.engines.stream.Mark.{Mark}
 use Rattle.cap_cmd.specs.declared.fault.Cause.{Cause}
 use Rattle.cap_cmd.specs.declared.fault.Cause.TheVariants.{TooManyMessages, Frame, Output}
+use Rattle.cap_cmd.specs.declared.fault.RunFault.{RunFault}
+use Rattle.cap_cmd.specs.declared.settings.Outcome.{Outcome}
 use Rattle.cap_cmd.specs.Streams.{ReadsStream}
 use Rattle.cap_spec.specs.Texts.{segments_text}
 use Rattle.cap_cmd.specs.Telling.{Told, texts_of, segments_texts}
 use Rattle.cap_cmd.specs.Writing.{Stopped}
+
+-- P, unless this fault is one of a device or of the output, of memory, or of an end that was spent
+abbrev pub SettledAt : Cause → Type 0 → Type 0
+SettledAt TooManyMessages P = P
+SettledAt (Frame fault) P = Answered {A = Outcome} (Err fault) P
+SettledAt (Output fault) P = Unit {0}
+
+-- P, unless the answer is such a fault
+abbrev pub Settled : Result Outcome RunFault → Type 0 → Type 0
+Settled (Ok outcome) P = P
+Settled (Err fault) P = SettledAt fault.cause P
 
 -- what an output's fault says of whether it is spent and how often it failed
 abbrev pub OutFails : OutFault → Bool → Bool → Failures → Failures → Type 0

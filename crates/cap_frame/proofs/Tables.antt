@@ -1,5 +1,5 @@
 -- Reading the table of segments word by word.
-use Rattle.std.proofs.Common.{◌≡◌, ◌∙◌, ℕ, zero, suc, ◌+◌, ◌-◌, ◌*◌, ◌/◌, ◌%◌, ◌^◌, ◌<◌, false, List, [], ◌∷◌, ◌++◌, length, take, drop, flat_map, refl, sym, ap, subst, arith, length-append, length-drop}
+use Rattle.std.proofs.Common.{◌≡◌, ◌∙◌, ℕ, ◌+◌, ◌-◌, ◌*◌, ◌/◌, ◌%◌, ◌^◌, ◌<◌, false, List, [], ◌∷◌, ◌++◌, length, take, drop, flat_map, refl, sym, ap, subst, arith, length-append, length-drop}
 use Rattle.std.specs.List.{AllByRecursion}
 use Rattle.std.proofs.lemmas.List.{length-take, take_all, take-append-drop}
 use Rattle.std.proofs.lemmas.Grind.{flat_map-append}
@@ -7,24 +7,9 @@ use Rattle.cap_words.specs.declared.sources.WordSource as source
 use Rattle.cap_words.specs.declared.sources.SourceFault.{SourceFault}
 use Rattle.cap_spec.specs.Frames.{halves, IsTable}
 use Rattle.cap_spec.proofs.Framing.{length_halves}
+use Rattle.cap_spec.proofs.Lists.{all_append, all_drop, all_take}
 use Rattle.cap_frame.specs.Taking.{Takes, Reads, IsUsable, Stops}
 use Rattle.cap_frame.proofs.Taking.{takes_none, takes_both, reads_none, reads_both, usable_both, stops_later, stops_weaker}
-
--- what holds of each element of two lists holds of each of both
-pub all_both : {A : Type 0} (P : A → Type 0) (xs ys : List A) → AllByRecursion P xs → AllByRecursion P ys → AllByRecursion P (xs ++ ys)
-all_both P [] ys a b = b
-all_both P (x ∷ xs) ys a b = (a.0, all_both P xs ys a.1 b)
-
--- what holds of each element holds of each of a front, and of each behind it
-pub all_take : {A : Type 0} (P : A → Type 0) (n : ℕ) (xs : List A) → AllByRecursion P xs → AllByRecursion P (take n xs)
-all_take P zero xs a = tt
-all_take P (suc n) [] a = tt
-all_take P (suc n) (x ∷ xs) a = (a.0, all_take P n xs a.1)
-
-pub all_drop : {A : Type 0} (P : A → Type 0) (n : ℕ) (xs : List A) → AllByRecursion P xs → AllByRecursion P (drop n xs)
-all_drop P zero xs a = a
-all_drop P (suc n) [] a = tt
-all_drop P (suc n) (x ∷ xs) a = all_drop P n xs a.1
 
 -- the halves of a word are numbers of 32 bits
 pub halves_fit : (word : ℕ) → word < 2 ^ 64 → AllByRecursion (λ n. n < 2 ^ 32) (halves word)
@@ -91,7 +76,7 @@ module _ {X : Type 0} (g : source.Ghosts X) where
     takes = takes_both g old now new t.more (word ∷ []) t.takes takes;
     reads = reads_both g old now new t.reads reads;
     usable = usable_both g old now new t.usable usable;
-    fit = subst (λ (ns : List ℕ). AllByRecursion (λ n. n < 2 ^ 32) ns) (sym (flat_map-append halves t.more (word ∷ []))) (all_both (λ n. n < 2 ^ 32) (flat_map halves t.more) (flat_map halves (word ∷ [])) t.fit (halves_fit word w));
+    fit = subst (λ (ns : List ℕ). AllByRecursion (λ n. n < 2 ^ 32) ns) (sym (flat_map-append halves t.more (word ∷ []))) (all_append (λ n. n < 2 ^ 32) (flat_map halves t.more) (flat_map halves (word ∷ [])) t.fit (halves_fit word w));
     sizes_are =
         let short : sizes ≡ behind first t.more = t.sizes_are ∙ take_all (first % 2 ^ 32 + 1) (behind first t.more) (omega (arith, length_behind first t.more, t.length_is)) in
         let longer_is : sizes ++ halves word ≡ behind first (t.more ++ word ∷ []) = ap (λ (ns : List ℕ). ns ++ halves word) short ∙ ap (λ (ns : List ℕ). first / 2 ^ 32 ∷ ns) (sym (flat_map-append halves t.more (word ∷ []))) in

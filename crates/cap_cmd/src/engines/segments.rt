@@ -1,13 +1,15 @@
 //! The engine that shows how each message is cut into segments.
 
-ghost use Rattle.cap_cmd.specs.Running.{Appended, ShowsSegments, StopsShowing};
+ghost use Rattle.cap_cmd.specs.Running.{Appended, Settled, ShowsSegments, StopsShowing};
 ghost use Rattle.cap_cmd.specs.Streams.{ReadsAll, ReadsStream};
 ghost use Rattle.cap_cmd.specs.Telling.{segments_texts};
 ghost use Rattle.cap_cmd.specs.declared.engines.stream.Mark.TheVariants.{Accepted};
+ghost use Rattle.cap_spec.specs.Frames.{Stream, sizes_of};
 ghost use Rattle.cap_spec.specs.Texts.{segments_text};
 ghost use Rattle.cap_frame.specs.Faults.{Faults};
 ghost use Rattle.cap_frame.specs.Limit.{limit_of};
-ghost use Rattle.std.specs.Prelude.{◌<◌, ◌≡◌, ◌≤◌, [], ◌∷◌, IfOk, IsErrOf, List, length, ℕ};
+ghost use Rattle.std.specs.List.{AllByRecursion};
+ghost use Rattle.std.specs.Prelude.{◌<◌, ◌≡◌, ◌≤◌, [], ◌∷◌, IfOk, IsErrOf, List, false, length, sum, ℕ};
 
 use crate::engines::stream::{Engine, Mark, tell_all};
 use crate::fault::{Cause, RunFault};
@@ -64,6 +66,10 @@ pub fn run_segments<S: WordSource, O: ByteOut>(
         × Faults S.WordSource (limit_of settings.now.size) mid source.new fault) }
     ensures output { (n : ℕ) (fault : OutFault) → IsErrOf result (record { message = n; cause = Cause.Output fault }) → (n < settings.now.messages)
         × StopsShowing S.WordSource O.ByteOut (limit_of settings.now.size) n source.old source.new out.old out.new fault }
+    // And the other way round: a stream of at most so many messages, each within the size limit, is read to its end.
+    ensures whole { (own : List ℕ) (ms : List (List (List ℕ))) → S.words source.old ≡ Some own → S.is_cut source.old ≡ false → Stream own ms
+        → AllByRecursion (λ m. sum (sizes_of m) ≤ limit_of settings.now.size) ms → length ms ≤ settings.now.messages →
+        Settled result (Appended O.ByteOut out.old out.new (segments_texts ms) × (result ≡ Ok (record { messages = length ms; refused = 0; noncanonical = 0 }))) }
 {
     tell_all(source, out, settings, &SegmentsEngine)
 }

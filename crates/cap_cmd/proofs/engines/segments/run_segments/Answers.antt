@@ -3,7 +3,9 @@ use Rattle.std.proofs.lemmas.Result.{IfOk-weaker}
 use Rattle.cap_frame.specs.Limit.{limit_of}
 use Rattle.cap_cmd.specs.Running.{Appended}
 use Rattle.cap_cmd.specs.Telling.{messages_of}
-use Rattle.cap_cmd.proofs.Shown.{shows, stops_showing, outcome_shown, texts_shown, length-messages_of}
+use Rattle.cap_cmd.proofs.Settling.{settled, settled_map}
+use Rattle.cap_cmd.proofs.Shown.{ShowsText, each_shown, shows, stops_showing, outcome_shown, texts_shown}
+use Rattle.cap_cmd.proofs.Telling.{length-messages_of}
 use Rattle.cap_cmd.proofs.engines.segments.run_segments.Goals as goal
 
 pub returns-clause-ok : goal.returns-clause-ok
@@ -37,3 +39,11 @@ returns-clause-output g c n fault h =
       omega (arith, e.2, e.6.1),
       stops_showing g.S.WordSource g.O.ByteOut (limit_of c.args.settings.now.size) n _ _ _ _ _ _ e.0 e.6.0 e.2 e.4 e.5 e.6.2 e.6.3 e.6.4,
     )
+
+pub returns-clause-whole : goal.returns-clause-whole
+returns-clause-whole g c = λ own ms w i s l few.
+    let limit = limit_of c.args.settings.now.size in
+    settled_map c.tell_all.result _ _
+    (each_shown g.S.WordSource g.O.ByteOut limit c.args.source.now c.tell_all.new.source c.args.out.now c.tell_all.new.out c.args.settings.now.messages ms c.tell_all.result)
+    (settled g.S.WordSource g.O.ByteOut ShowsText limit c.args.settings.now.messages c.args.source.now c.tell_all.new.source c.args.out.now c.tell_all.new.out c.tell_all.result own ms
+    c.tell_all.ensures.ok c.tell_all.ensures.err w i s l few)
