@@ -1,4 +1,5 @@
 pub mod Copying
+pub mod CopyEnds
 pub mod Digits
 pub mod Going
 pub mod Numbers

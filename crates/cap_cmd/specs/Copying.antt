@@ -95,3 +95,12 @@ module _ {S K : Type 0} (gs : source.Ghosts S) (gk : sink.Ghosts K) where
   Copied most old new before after (Err TooManyWords) = CopiesMost most old new before after
   Copied most old new before after (Err (Source fault)) = CopiesUntil most old new before after fault
   Copied most old new before after (Err (Output fault)) = StopsCopying most old new before after fault
+
+-- P, unless the answer is a fault of a device or of the output, or that an end was spent before
+abbrev pub CopySettled : Result ℕ CopyFault → Type 0 → Type 0
+CopySettled (Ok n) P = P
+CopySettled (Err TooManyWords) P = P
+CopySettled (Err (Source (Truncated byte))) P = P
+CopySettled (Err (Source Device)) P = Unit {0}
+CopySettled (Err (Source Spent)) P = Unit {0}
+CopySettled (Err (Output fault)) P = Unit {0}
