@@ -87,6 +87,7 @@ abbrev pub segment_lines : ℕ → List ℕ → List ℕ
 segment_lines s [] = []
 segment_lines s (n ∷ ns) = line 0 (codes "segment" ++ then_number s ++ 58 ∷ then_number n) ++ segment_lines (s + 1) ns
 
+-- a root word, or that there is none
 abbrev pub root_text : Option ℕ → List ℕ
 root_text None = codes "none"
 root_text (Some w) = hex w
@@ -97,6 +98,7 @@ outline_text n sizes root =
     message_text n (codes "segments" ++ then_number (length sizes) ++ codes " words" ++ then_number (sum sizes))
     ++ segment_lines 0 sizes ++ line 0 (codes "root " ++ root_text root)
 
+-- what is written of message n: how many segments and words it has, the size of each segment, and the root word
 abbrev pub segments_text : ℕ → List (List ℕ) → List ℕ
 segments_text n m = outline_text n (sizes_of m) (root_of m)
 

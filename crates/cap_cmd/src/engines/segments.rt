@@ -25,6 +25,8 @@ struct SegmentsEngine;
 impl Engine for SegmentsEngine {
     ghost tells = { λ _ n m text mark. (text ≡ segments_text n m) × (mark ≡ Accepted) };
 
+    ghost takes_memory = { false };
+
     fn tell_next<S: WordSource, O: ByteOut>(
         &self,
         source: &mut S,
@@ -66,6 +68,8 @@ pub fn run_segments<S: WordSource, O: ByteOut>(
         × Faults S.WordSource (limit_of settings.now.size) mid source.new fault) }
     ensures output { (n : ℕ) (fault : OutFault) → IsErrOf result (record { message = n; cause = Cause.Output fault }) → (n < settings.now.messages)
         × StopsShowing S.WordSource O.ByteOut (limit_of settings.now.size) n source.old source.new out.old out.new fault }
+    // No memory is taken in reading.
+    ensures no_memory { (n : ℕ) → IsErrOf result (record { message = n; cause = Cause.Frame FrameFault.Memory }) → ⊥ }
     // And the other way round: a stream of at most so many messages, each within the size limit, is read to its end.
     ensures whole { (own : List ℕ) (ms : List (List (List ℕ))) → S.words source.old ≡ Some own → S.is_cut source.old ≡ false → Stream own ms
         → AllByRecursion (λ m. sum (sizes_of m) ≤ limit_of settings.now.size) ms → length ms ≤ settings.now.messages →

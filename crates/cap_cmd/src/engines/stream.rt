@@ -5,11 +5,11 @@ ghost use Rattle.cap_cmd.specs.Streams.{EndsStream, ReadsAll, ReadsStream};
 ghost use Rattle.cap_cmd.specs.Telling.{TellsEach, Told, messages_of, one_noncanonical, one_refused, outcome_of, texts_of};
 ghost use Rattle.cap_cmd.specs.Writing.{Wrote};
 ghost use Rattle.cap_frame.specs.Limit.{limit_of};
-ghost use Rattle.std.specs.Prelude.{◌+◌, ◌-◌, ◌<◌, ◌^◌, ◌≡◌, ◌≤◌, [], ◌∷◌, IfErr, IfOk, IfSome, List, OnOk, length, ℕ};
+ghost use Rattle.std.specs.Prelude.{◌+◌, ◌-◌, ◌<◌, ◌^◌, ◌≡◌, ◌≤◌, [], ◌∷◌, Bool, IfErr, IfOk, IfSome, List, OnOk, length, true, ℕ};
 
 use crate::fault::{Cause, RunFault};
 use crate::settings::{Outcome, Settings};
-use cap_frame::{Outline, SizeLimit, read_outline};
+use cap_frame::{FrameFault, Outline, SizeLimit, read_outline};
 use cap_words::{ByteOut, WordSource};
 
 /// What is counted of a message.
@@ -30,6 +30,9 @@ pub(crate) trait Engine {
     // The texts that may be written of a message by its number, each with what is counted then.
     ghost tells: { Self → ℕ → List (List ℕ) → List ℕ → Mark → Type 0 };
 
+    // Whether it takes memory for a message.
+    ghost takes_memory: { Bool };
+
     /// Reads the next message and writes its text. `None` where the stream ends before it. After a
     /// fault of the output, the output took a beginning of the text.
     fn tell_next<S: WordSource, O: ByteOut>(
@@ -42,13 +45,15 @@ pub(crate) trait Engine {
         ensures some { IfOk result (λ r. IfSome r (λ mark. (t : Told) × (t.mark ≡ mark) × tells self.now number t.message t.text t.mark
             × ReadsStream S.WordSource (limit_of limit) source.old source.new (t.message ∷ []) × Wrote O.ByteOut out.old out.new t.text)) }
         ensures none { result ≡ Ok None → EndsStream S.WordSource source.old source.new × (out.new ≡ out.old) }
-        ensures err { IfErr result (λ cause. StepStops S.WordSource O.ByteOut (tells self.now) (limit_of limit) number source.old source.new out.old out.new cause) };
+        ensures err { IfErr result (λ cause. StepStops S.WordSource O.ByteOut (tells self.now) (limit_of limit) number source.old source.new out.old out.new cause) }
+        ensures memory { result ≡ Err (Cause.Frame FrameFault.Memory) → takes_memory ≡ true };
 }
 
 /// The stream has to end here: a message more is one too many.
 fn end_stream<S: WordSource>(source: &mut S, limit: SizeLimit) -> Result<(), Cause>
     ensures ok { OnOk result (EndsStream S.WordSource source.old source.new) }
     ensures err { IfErr result (λ cause. EndStops S.WordSource (limit_of limit) source.old source.new cause) }
+    ensures memory { result ≡ Err (Cause.Frame FrameFault.Memory) → ⊥ }
 {
     match read_outline(source, limit, &mut Outline::new()) {
         Ok(true) => Err(Cause::TooManyMessages),
@@ -90,6 +95,7 @@ pub(crate) fn tell_all<S: WordSource, O: ByteOut, E: Engine>(
     ensures err { IfErr result (λ fault. (ts : List Told) × (mid : S) × (fault.message ≡ length ts) × (length ts ≤ settings.now.messages)
         × ReadsStream S.WordSource (limit_of settings.now.size) source.old mid (messages_of ts) × TellsEach (E.tells engine.now) 0 ts
         × RunStops S.WordSource O.ByteOut (E.tells engine.now) (limit_of settings.now.size) settings.now.messages ts mid source.new out.old out.new fault.cause) }
+    ensures memory { (n : ℕ) → result ≡ Err (record { message = n; cause = Cause.Frame FrameFault.Memory }) → E.takes_memory ≡ true }
 {
     let mut outcome = Outcome {
         messages: 0,

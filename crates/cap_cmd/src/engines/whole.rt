@@ -1,7 +1,7 @@
 //! Telling something about messages that are held whole.
 
 ghost use Rattle.cap_cmd.specs.Writing.{Stopped, Wrote};
-ghost use Rattle.std.specs.Prelude.{IfErr, IfOk, List, ℕ};
+ghost use Rattle.std.specs.Prelude.{IfErr, IfOk, List, true, ℕ};
 
 use crate::engines::stream::{Engine, Mark};
 use crate::fault::Cause;
@@ -36,6 +36,8 @@ pub(crate) struct Whole<T> {
 
 impl<T: Teller> Engine for Whole<T> {
     ghost tells = { λ w. T.tells w.teller };
+
+    ghost takes_memory = { true };
 
     fn tell_next<S: WordSource, O: ByteOut>(
         &self,
