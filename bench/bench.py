@@ -148,26 +148,51 @@ INPUTS = MESSAGES | WORDS
 
 
 @dataclass
-class Case:
-    """A row of the table: what runs, on which input, and whether it gets that packed."""
+class Timed:
+    """What is timed on a kind of inputs: its name in the table, its words, whether it gets the input packed, and
+    the statuses that it may end with."""
     name: str
-    input: str
-    command: list
+    words: str
     packed: bool = False
+    statuses: tuple = (0,)
 
 
-def cases(program):
-    limits = ["--size", "268435456", "--words", "268435456"]
+@dataclass
+class Case:
+    """A row of the table: what runs, and on which input."""
+    timed: Timed
+    input: str
+
+    @property
+    def name(self):
+        return self.timed.name
+
+    @property
+    def packed(self):
+        return self.timed.packed
+
+
+SIZE = "--size 268435456"
+LIMITS = SIZE + " --words 268435456"
+ON_ALL = [
+    Timed("cat", "cat FILE"),
+    Timed("dd bs=64K", "dd if=FILE of=/dev/null bs=64K"),
+]
+ON_MESSAGES = [
+    Timed("capvet segments", f"PROGRAM segments {SIZE} FILE"),
+    Timed("capvet vet", f"PROGRAM vet {LIMITS} FILE"),
+    Timed("capvet vet --packed", f"PROGRAM vet --packed {LIMITS} FILE", packed=True),
+]
+ON_WORDS = [
+    Timed("capvet pack", "PROGRAM pack FILE"),
+    Timed("capvet unpack", "PROGRAM unpack FILE", packed=True),
+]
+
+
+def cases():
     for name in INPUTS:
-        yield Case("cat", name, ["cat", "FILE"])
-        yield Case("dd bs=64K", name, ["dd", "if=FILE", "of=/dev/null", "bs=64K"])
-        if name in MESSAGES:
-            yield Case("capvet segments", name, [program, "segments", *limits[:2], "FILE"])
-            yield Case("capvet vet", name, [program, "vet", *limits, "FILE"])
-            yield Case("capvet vet --packed", name, [program, "vet", "--packed", *limits, "FILE"], packed=True)
-        else:
-            yield Case("capvet pack", name, [program, "pack", "FILE"])
-            yield Case("capvet unpack", name, [program, "unpack", "FILE"], packed=True)
+        for timed in ON_ALL + (ON_MESSAGES if name in MESSAGES else ON_WORDS):
+            yield Case(timed, name)
 
 
 def write_packed(program, plain, path):
@@ -193,9 +218,9 @@ def apart(job, *arguments):
         sys.exit(f"{job.__name__} failed")
 
 
-def run(command, file):
-    """Seconds, and the largest resident size in KiB. A command that fails ends the run."""
-    words = [it.replace("FILE", str(file)) for it in command]
+def run(timed, program, file):
+    """Seconds, and the largest resident size in KiB. A command that ends with another status ends the run."""
+    words = [it.replace("PROGRAM", program).replace("FILE", str(file)) for it in timed.words.split()]
     null = os.open(os.devnull, os.O_WRONLY)
     started = time.perf_counter()
     pid = os.posix_spawnp(words[0], words, os.environ, file_actions=[
@@ -203,8 +228,9 @@ def run(command, file):
     _, status, usage = os.wait4(pid, 0)
     seconds = time.perf_counter() - started
     os.close(null)
-    if status != 0:
-        sys.exit(f"{' '.join(words)} ended with status {os.waitstatus_to_exitcode(status)}")
+    status = os.waitstatus_to_exitcode(status)
+    if status not in timed.statuses:
+        sys.exit(f"{' '.join(words)} ended with status {status}")
     return seconds, usage.ru_maxrss
 
 
@@ -219,9 +245,9 @@ def options():
     return args
 
 
-def choose(program, only):
+def choose(only):
     """The rows whose name or input has a word, and that of `dd` for each of their inputs."""
-    every = list(cases(program))
+    every = list(cases())
     chosen = [it for it in every if only in it.name or only in it.input]
     inputs = {it.input for it in chosen}
     return [it for it in every if it in chosen or it.input in inputs and it.name == "dd bs=64K"]
@@ -239,12 +265,12 @@ def make_files(program, chosen, folder):
     return files
 
 
-def measure(chosen, files, rounds):
+def measure(chosen, program, files, rounds):
     """The median of the seconds of each row, and its largest resident size in KiB."""
     runs = [[] for _ in chosen]
     for _ in range(rounds):
         for it, mine in zip(chosen, runs):
-            mine.append(run(it.command, files[it.input, it.packed]))
+            mine.append(run(it.timed, program, files[it.input, it.packed]))
     return [(statistics.median(seconds for seconds, _ in mine), max(memory for _, memory in mine)) for mine in runs]
 
 
@@ -259,10 +285,10 @@ def show(chosen, results, sizes):
 
 def main():
     args = options()
-    chosen = choose(args.program, args.only)
+    chosen = choose(args.only)
     with tempfile.TemporaryDirectory() as folder:
         files = make_files(args.program, chosen, folder)
-        results = measure(chosen, files, args.rounds)
+        results = measure(chosen, args.program, files, args.rounds)
         sizes = {it.input: files[it.input, False].stat().st_size for it in chosen}
     show(chosen, results, sizes)
 
