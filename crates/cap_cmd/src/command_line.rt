@@ -10,6 +10,50 @@ use clap::error::ErrorKind;
 use clap::{Arg, ArgAction, ArgMatches, Command, Error, value_parser};
 use std::alloc::{AllocError, Global};
 
+/// The version that `--version` tells.
+const VERSION: &str = "0.1.0";
+
+/// What the program's help says behind its commands.
+const PROGRAM_NOTES: &str = "\
+A stream is framed messages, one after the other: of each a table with the sizes of its segments,
+and then the segments, in words of 8 bytes. Without FILE a command reads standard input.
+
+Exit status:
+  0  every message was accepted, or every word was copied
+  1  a message was refused, or the input is cut short or isn't messages within the limits
+  2  the command line is wrong
+  3  a file doesn't open, a device failed, or memory ran out
+
+Example:
+  $ capvet vet examples/contacts.bin
+  message 0: accepted charge 391 depth 8 pointers 125 caps 0";
+
+const SEGMENTS_NOTES: &str = "\
+Example:
+  $ capvet segments examples/contacts.bin
+  message 0: segments 1 words 392
+  segment 0: 392
+  root 0000000001000300";
+
+const VET_NOTES: &str = "\
+An accepted message is told with its charge in words, which bounds what a traversal reads; with
+the deepest level of an object; and with how many pointers, null ones too, and capabilities it
+has. A refused one is told with the reason, and the SEGMENT:WORD of the first pointer at fault.
+
+Example:
+  $ capvet vet --depth 3 examples/contacts.bin
+  message 0: refused DepthLimit at 0:62 pointers 6";
+
+const PACK_NOTES: &str = "\
+Example:
+  $ capvet pack examples/contacts.bin | capvet vet --packed
+  message 0: accepted charge 391 depth 8 pointers 125 caps 0";
+
+const UNPACK_NOTES: &str = "\
+Example:
+  $ capvet unpack examples/contacts.packed | capvet vet
+  message 0: accepted charge 391 depth 8 pointers 125 caps 0";
+
 /// The most words of a message, where no option says it.
 const DEFAULT_SIZE: u64 = 8388608;
 
@@ -23,7 +67,7 @@ const DEFAULT_DEPTH: u32 = 64;
 fn packed_option<'a>(alloc: Global) -> Arg<'a> {
     Arg::new(alloc, "packed")
         .long("packed")
-        .help("The input is packed")
+        .help("The messages are packed")
         .action(ArgAction::SetTrue)
 }
 
@@ -32,7 +76,7 @@ fn size_option<'a>(alloc: Global) -> Arg<'a> {
     Arg::new(alloc, "size")
         .long("size")
         .value_name("N")
-        .help("The most words of a message, in all its segments together, 0 to 268435456")
+        .help("Most words of a message, all its segments together, 0 to 268435456")
         .value_parser(value_parser!(u64).range(0..=268435456))
         .default_value("8388608")
 }
@@ -42,9 +86,7 @@ fn words_option<'a>(alloc: Global) -> Arg<'a> {
     Arg::new(alloc, "words")
         .long("words")
         .value_name("N")
-        .help(
-            "The most words that a message may be charged, each following counted anew, 0 to 268435456",
-        )
+        .help("Traversal limit in words, 0 to 268435456; a target reached twice counts twice")
         .value_parser(value_parser!(u64).range(0..=268435456))
         .default_value("8388608")
 }
@@ -54,7 +96,7 @@ fn depth_option<'a>(alloc: Global) -> Arg<'a> {
     Arg::new(alloc, "depth")
         .long("depth")
         .value_name("N")
-        .help("The deepest level that an object may have, 0 to 256")
+        .help("Deepest level of an object, 0 to 256; the root's object has level 1")
         .value_parser(value_parser!(u32).range(0..=256))
         .default_value("64")
 }
@@ -63,13 +105,14 @@ fn depth_option<'a>(alloc: Global) -> Arg<'a> {
 fn file_argument<'a>(alloc: Global) -> Arg<'a> {
     Arg::new(alloc, "file")
         .value_name("FILE")
-        .help("The file to read, in place of standard input")
+        .help("File to read, instead of standard input")
 }
 
 // The command that shows segments.
 fn segments_command<'a>(alloc: Global) -> Result<Command<'a>, AllocError> {
     Command::new(alloc, "segments")
-        .about("Shows the segments of each message, their sizes and the root word")
+        .about("Shows each message's segments, their sizes in words, and its root pointer")
+        .after_help(SEGMENTS_NOTES)
         .arg(packed_option(alloc))?
         .arg(size_option(alloc))?
         .arg(file_argument(alloc))
@@ -78,7 +121,8 @@ fn segments_command<'a>(alloc: Global) -> Result<Command<'a>, AllocError> {
 // The command that vets.
 fn vet_command<'a>(alloc: Global) -> Result<Command<'a>, AllocError> {
     Command::new(alloc, "vet")
-        .about("Tells of each message whether its root denotes a tree within the limits")
+        .about("Checks that each message is safe to traverse")
+        .after_help(VET_NOTES)
         .arg(packed_option(alloc))?
         .arg(size_option(alloc))?
         .arg(words_option(alloc))?
@@ -89,21 +133,25 @@ fn vet_command<'a>(alloc: Global) -> Result<Command<'a>, AllocError> {
 // The command that packs.
 fn pack_command<'a>(alloc: Global) -> Result<Command<'a>, AllocError> {
     Command::new(alloc, "pack")
-        .about("Packs words, whatever they mean")
+        .about("Packs a stream of words")
+        .after_help(PACK_NOTES)
         .arg(file_argument(alloc))
 }
 
 // The command that unpacks.
 fn unpack_command<'a>(alloc: Global) -> Result<Command<'a>, AllocError> {
     Command::new(alloc, "unpack")
-        .about("Unpacks words, whatever they mean")
+        .about("Unpacks a stream of words")
+        .after_help(UNPACK_NOTES)
         .arg(file_argument(alloc))
 }
 
 // The program's command, with its subcommands.
 fn capvet_command<'a>(alloc: Global) -> Result<Command<'a>, AllocError> {
     Command::new(alloc, "capvet")
-        .about("Vets Cap'n Proto messages")
+        .about("Checks Cap'n Proto messages that nobody vouches for, without their schema")
+        .version(VERSION)
+        .after_help(PROGRAM_NOTES)
         .subcommand_required(true)
         .subcommand(segments_command(alloc)?)?
         .subcommand(vet_command(alloc)?)?
@@ -126,10 +174,9 @@ fn parse_fault(alloc: Global, error: &Error) -> JobFault {
         return JobFault::Memory;
     }
     match format!(in alloc; "{error}") {
-        Ok(text) => if kind == ErrorKind::DisplayHelp {
-            JobFault::Help { text }
-        } else {
-            JobFault::Usage { text }
+        Ok(text) => match kind {
+            ErrorKind::DisplayHelp | ErrorKind::DisplayVersion => JobFault::Help { text },
+            _ => JobFault::Usage { text },
         },
         Err(_) => JobFault::Memory,
     }
@@ -179,7 +226,8 @@ fn job_of(alloc: Global, task: Task, options: &ArgMatches<'_>) -> Result<Job, Jo
 
 /// Reads the program's words, its name first.
 ///
-/// A request for help is a `Help`, and a mistake a `Usage`, each with the text for the user.
+/// A request for help or for the version is a `Help`, and a mistake a `Usage`, each with the text
+/// for the user.
 /// `Memory` comes only where a growth was refused.
 pub fn read_job(alloc: Global, words: Vec<String>) -> Result<Job, JobFault>
     ensures messages { IfOk result (λ job. job.settings.messages ≡ 2 ^ 32 - 1) }

@@ -138,24 +138,42 @@ struct Help {
     text: &'static str,
 }
 
-const HELPS: [Help; 5] = [
+const HELPS: [Help; 6] = [
     Help {
         lines: [&["--help"], &["-h"], &["help"]],
         text: "\
-Vets Cap'n Proto messages
+Checks Cap'n Proto messages that nobody vouches for, without their schema
 
 Usage: capvet <COMMAND>
 
 Commands:
-  segments  Shows the segments of each message, their sizes and the root word
-  vet       Tells of each message whether its root denotes a tree within the limits
-  pack      Packs words, whatever they mean
-  unpack    Unpacks words, whatever they mean
+  segments  Shows each message's segments, their sizes in words, and its root pointer
+  vet       Checks that each message is safe to traverse
+  pack      Packs a stream of words
+  unpack    Unpacks a stream of words
   help      Print this message or the help of the given subcommand(s)
 
 Options:
-  -h, --help  Print help
+  -h, --help     Print help
+  -V, --version  Print version
+
+A stream is framed messages, one after the other: of each a table with the sizes of its segments,
+and then the segments, in words of 8 bytes. Without FILE a command reads standard input.
+
+Exit status:
+  0  every message was accepted, or every word was copied
+  1  a message was refused, or the input is cut short or isn't messages within the limits
+  2  the command line is wrong
+  3  a file doesn't open, a device failed, or memory ran out
+
+Example:
+  $ capvet vet examples/contacts.bin
+  message 0: accepted charge 391 depth 8 pointers 125 caps 0
 ",
+    },
+    Help {
+        lines: [&["--version"], &["-V"], &["--version", "vet"]],
+        text: "capvet 0.1.0\n",
     },
     Help {
         lines: [
@@ -164,49 +182,67 @@ Options:
             &["help", "segments"],
         ],
         text: "\
-Shows the segments of each message, their sizes and the root word
+Shows each message's segments, their sizes in words, and its root pointer
 
 Usage: capvet segments [OPTIONS] [FILE]
 
 Arguments:
-  [FILE]  The file to read, in place of standard input
+  [FILE]  File to read, instead of standard input
 
 Options:
-      --packed    The input is packed
-      --size <N>  The most words of a message, in all its segments together, 0 to 268435456 [default: 8388608]
+      --packed    The messages are packed
+      --size <N>  Most words of a message, all its segments together, 0 to 268435456 [default: 8388608]
   -h, --help      Print help
+
+Example:
+  $ capvet segments examples/contacts.bin
+  message 0: segments 1 words 392
+  segment 0: 392
+  root 0000000001000300
 ",
     },
     Help {
         lines: [&["vet", "--help"], &["vet", "-h"], &["help", "vet"]],
         text: "\
-Tells of each message whether its root denotes a tree within the limits
+Checks that each message is safe to traverse
 
 Usage: capvet vet [OPTIONS] [FILE]
 
 Arguments:
-  [FILE]  The file to read, in place of standard input
+  [FILE]  File to read, instead of standard input
 
 Options:
-      --packed     The input is packed
-      --size <N>   The most words of a message, in all its segments together, 0 to 268435456 [default: 8388608]
-      --words <N>  The most words that a message may be charged, each following counted anew, 0 to 268435456 [default: 8388608]
-      --depth <N>  The deepest level that an object may have, 0 to 256 [default: 64]
+      --packed     The messages are packed
+      --size <N>   Most words of a message, all its segments together, 0 to 268435456 [default: 8388608]
+      --words <N>  Traversal limit in words, 0 to 268435456; a target reached twice counts twice [default: 8388608]
+      --depth <N>  Deepest level of an object, 0 to 256; the root's object has level 1 [default: 64]
   -h, --help       Print help
+
+An accepted message is told with its charge in words, which bounds what a traversal reads; with
+the deepest level of an object; and with how many pointers, null ones too, and capabilities it
+has. A refused one is told with the reason, and the SEGMENT:WORD of the first pointer at fault.
+
+Example:
+  $ capvet vet --depth 3 examples/contacts.bin
+  message 0: refused DepthLimit at 0:62 pointers 6
 ",
     },
     Help {
         lines: [&["pack", "--help"], &["pack", "-h"], &["help", "pack"]],
         text: "\
-Packs words, whatever they mean
+Packs a stream of words
 
 Usage: capvet pack [FILE]
 
 Arguments:
-  [FILE]  The file to read, in place of standard input
+  [FILE]  File to read, instead of standard input
 
 Options:
   -h, --help  Print help
+
+Example:
+  $ capvet pack examples/contacts.bin | capvet vet --packed
+  message 0: accepted charge 391 depth 8 pointers 125 caps 0
 ",
     },
     Help {
@@ -216,15 +252,19 @@ Options:
             &["help", "unpack"],
         ],
         text: "\
-Unpacks words, whatever they mean
+Unpacks a stream of words
 
 Usage: capvet unpack [FILE]
 
 Arguments:
-  [FILE]  The file to read, in place of standard input
+  [FILE]  File to read, instead of standard input
 
 Options:
   -h, --help  Print help
+
+Example:
+  $ capvet unpack examples/contacts.packed | capvet vet
+  message 0: accepted charge 391 depth 8 pointers 125 caps 0
 ",
     },
 ];
