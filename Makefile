@@ -1,14 +1,34 @@
 # What capvet does on a sample, every proof and test, and how fast it is.
-.PHONY: run test bench
+.PHONY: try run build sample test bench
 
-# Builds the program, and shows of a stream of sample messages the verdicts and how each is cut into segments.
-run:
-	cd crates/capvet && rt run -- vet < ../../examples/stream-of-four.bin
-	crates/capvet/out/capvet segments examples/stream-of-four.bin
+PROGRAM = crates/capvet/out/capvet
 
-# All proofs, must-fail edits and tests.
+# What the program writes of a stream of sample messages, from a build that nothing has proved yet.
+try:
+	@folder=$$(mktemp -d) && trap 'rm -r "$$folder"' EXIT && \
+	for command in segments vet; do \
+	  cp examples/stream-of-four.bin "$$folder/$$command" && echo "$$command" > "$$folder/$$command.args" || exit; \
+	done && \
+	cd crates/capvet && rt try --cases "$$folder" && \
+	echo "Nothing of this build is proved: 'make run' proves it first."
+
+# Proves and builds the program, and shows the same from it.
+run: build
+	@$(MAKE) --no-print-directory sample
+
+# Proves and builds the program.
+build:
+	cd crates/capvet && rt run -- --version
+
+# How each message of a stream of samples is cut into segments, and its verdict.
+sample:
+	$(PROGRAM) segments examples/stream-of-four.bin
+	$(PROGRAM) vet examples/stream-of-four.bin
+
+# All proofs, must-fail edits and tests, and then the built program as its users run it.
 test:
 	rt ci
+	python3 tests/program.py $(PROGRAM)
 
 # Times the built program beside plain copying of the same bytes.
 bench:

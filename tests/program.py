@@ -1,0 +1,285 @@
+#!/usr/bin/env python3
+"""Runs the built program as its users do, and compares all that it writes and its exit status.
+
+    program.py [PROGRAM]
+
+A case is one call of `case`. Failures are printed as they come. The last line is 'N passed, M failed', and
+the status is 1 where a case failed. The texts that are wanted were written from docs/format.md, and the
+numbers of the samples counted by another program. Those of a wrong command line are the library clap's.
+"""
+import os
+import shlex
+import struct
+import subprocess
+import sys
+import tempfile
+from pathlib import Path
+
+TOP = Path(__file__).resolve().parent.parent
+PROGRAM = Path(sys.argv[1] if len(sys.argv) > 1 else TOP / "crates/capvet/out/capvet").resolve()
+passed = failed = 0
+
+
+def encoded(text):
+    return text.encode() if isinstance(text, str) else text
+
+
+def compare(name, wanted, got):
+    """Counts a case as passed where each of what is wanted is what came, and else shows both."""
+    global passed, failed
+    if wanted == got:
+        passed += 1
+        return
+    failed += 1
+    print(f"FAILED: {name}")
+    for what, want, came in zip(("standard output", "standard error", "status"), wanted, got):
+        if want != came:
+            print(f"  {what}: wanted {want!r}\n  {' ' * len(what)}     got {came!r}")
+
+
+def run(command, **how):
+    """What a command that ends within a minute wrote, and its status."""
+    try:
+        ran = subprocess.run(command, stderr=subprocess.PIPE, cwd=TOP, timeout=60, **how)
+    except subprocess.TimeoutExpired:
+        return b"", b"", "no end within a minute"
+    return ran.stdout or b"", ran.stderr, ran.returncode
+
+
+def case(words, out="", err="", status=0, stdin=b"", stdout=subprocess.PIPE):
+    """The program on these words, split at spaces where they are a text. What it writes to `stdout`, where that is
+    told, isn't seen."""
+    words = words.split() if isinstance(words, str) else words
+    name = "capvet " + " ".join(it if isinstance(it, str) else repr(it) for it in words)
+    compare(name, (encoded(out), encoded(err), status), run([PROGRAM, *words], input=stdin, stdout=stdout))
+
+
+def shell_case(line, out, status=0):
+    """A line of shell, at the top of the repository and with the program on its path."""
+    environment = {**os.environ, "PATH": f"{PROGRAM.parent}:{os.environ['PATH']}"}
+    got = run(line, shell=True, stdin=subprocess.DEVNULL, stdout=subprocess.PIPE, env=environment)
+    compare(line, (encoded(out), b"", status), got)
+
+
+def mistake(words, text):
+    """A command line that is wrong, and what clap says of it."""
+    case(words, err=f"error: {text}\nFor more information, try '--help'.\n", status=2, stdin=NULL)
+
+
+def closed_pipe():
+    """The writing end of a pipe that nobody reads any more."""
+    reader, writer = os.pipe()
+    os.close(reader)
+    return writer
+
+
+def word(text):
+    return bytes.fromhex(text)
+
+
+def framed(*words):
+    """One message of one segment, of words in hexadecimal digits."""
+    return struct.pack("<II", 0, len(words)) + b"".join(map(word, words))
+
+
+def segments_text(stream):
+    """What `segments` has to write of a stream."""
+    text, at, number = "", 0, 0
+    while at < len(stream):
+        count = struct.unpack_from("<I", stream, at)[0] + 1
+        sizes = struct.unpack_from(f"<{count}I", stream, at + 4)
+        at += 8 * (count // 2 + 1)
+        text += f"message {number}: segments {count} words {sum(sizes)}\n"
+        text += "".join(f"segment {s}: {size}\n" for s, size in enumerate(sizes))
+        text += f"root {stream[at:at + 8].hex()}\n" if sizes[0] else "root none\n"
+        at += 8 * sum(sizes)
+        number += 1
+    return text
+
+
+NULL = framed("0000000000000000")
+NULL_ACCEPTED = "message 0: accepted charge 0 depth 0 pointers 1 caps 0\n"
+CYCLE = framed("fcffffff00000100")
+CYCLE_REFUSED = "message 0: refused DepthLimit at 0:0 pointers 65\n"
+
+# ------------------------------------------------------------------ samples
+CONTACTS = "message 0: accepted charge 391 depth 8 pointers 125 caps 0\n"
+VERDICTS = {
+    "contacts.bin": CONTACTS,
+    "contacts-many-segments.bin": "message 0: accepted charge 495 depth 8 pointers 125 caps 0\n",
+    "telemetry.bin": "message 0: accepted charge 234 depth 3 pointers 69 caps 0\n",
+    "stream-of-four.bin": CONTACTS
+    + "message 1: accepted charge 76 depth 3 pointers 34 caps 0\n"
+    + "message 2: accepted charge 20 depth 2 pointers 7 caps 0\n"
+    + "message 3: accepted charge 78 depth 5 pointers 21 caps 0\n",
+}
+COMMANDS = ("segments", "vet", "pack", "unpack")
+
+
+def sample(name):
+    return (TOP / "examples" / name).read_bytes()
+
+
+def samples():
+    """Each command over each sample, from a file and from standard input, plain, packed and back."""
+    with tempfile.TemporaryDirectory() as folder:
+        for name, verdicts in VERDICTS.items():
+            file, packed = f"examples/{name}", f"{folder}/{name}.packed"
+            stream = sample(name)
+            texts = {"vet": verdicts, "segments": segments_text(stream)}
+            shell_case(f"capvet pack {file} > {packed}", "")
+            text = Path(packed).read_bytes()
+            for command, wanted in texts.items():
+                case([command, file], wanted)
+                case([command], wanted, stdin=stream)
+                case([command, "--packed", packed], wanted)
+                case([command, "--packed"], wanted, stdin=text)
+            case("pack", text, stdin=stream)
+            case(["unpack", packed], stream)
+            case("unpack", stream, stdin=text)
+
+
+samples()
+case("unpack examples/contacts.packed", sample("contacts.bin"))
+case("vet --packed examples/contacts.packed", CONTACTS)
+# The two texts of the encoding specification's section on packing.
+case("pack", word("510803023119aa01"), stdin=word("080000000300020019000000aa010000"))
+case("pack", word("0003"), stdin=bytes(32))
+case("unpack", word("080000000300020019000000aa010000"), stdin=word("510803023119aa01"))
+case("unpack", bytes(32), stdin=word("0003"))
+
+# ------------------------------------------------------------------ inputs that are refused, cut short or past a limit
+case("vet", CYCLE_REFUSED, status=1, stdin=CYCLE)
+case("vet --words 100 examples/contacts.bin", "message 0: refused WordLimit at 0:21 pointers 22\n", status=1)
+case("vet --size 391 examples/contacts.bin", err="capvet: message 0: TooLarge 392\n", status=1)
+case("vet", NULL_ACCEPTED, "capvet: message 1: Truncated at byte 23\n", 1, NULL + NULL[:7])
+case("segments", segments_text(NULL), "capvet: message 1: TooManySegments 513\n", 1, NULL + word("0002000000000000"))
+case("pack", word("0101"), "capvet: Truncated at byte 15\n", 1, word("0100000000000000") + bytes(7))
+case("unpack", bytes(8), "capvet: Truncated at byte 3\n", 1, word("000001"))
+for command in (*COMMANDS, "segments --packed", "vet --packed"):
+    case(command)
+
+# ------------------------------------------------------------------ files and devices
+MISSING = "capvet: cannot open examples/missing.bin\n"
+FAILED = "capvet: output failed\n"
+LONG = NULL * 20000
+for command in COMMANDS:
+    case(f"{command} examples/missing.bin", err=MISSING, status=3, stdin=NULL)
+    case(f"{command} -", err="capvet: cannot open -\n", status=3, stdin=NULL)
+    at = "" if command.endswith("pack") else "message 0: "
+    case(f"{command} examples", err=f"capvet: {at}Device\n", status=3, stdin=NULL)
+with open("/dev/full", "wb") as full:
+    for stdout in (full, closed_pipe()):
+        for command in ("segments", "vet", "pack"):
+            case(command, err=FAILED, status=3, stdin=NULL, stdout=stdout)
+            case(command, err=FAILED, status=3, stdin=LONG, stdout=stdout)
+        case("unpack", err=FAILED, status=3, stdin=word("0000"), stdout=stdout)
+        case("vet", err=FAILED, status=3, stdin=CYCLE, stdout=stdout)
+        cut = "capvet: message 1: Truncated at byte 17\n"
+        case("vet", err=cut + FAILED, status=3, stdin=NULL + b"\0", stdout=stdout)
+        case("vet", stdout=stdout)
+        for words in ("help", "help vet", "--version"):
+            case(words, err=FAILED, status=3, stdout=stdout)
+
+# ------------------------------------------------------------------ command lines
+case([b"vet", b"\xff"], err="capvet: an argument is not UTF-8\n", status=2, stdin=NULL)
+mistake("", """'capvet' requires a subcommand but one was not provided
+  [subcommands: segments, vet, pack, unpack, help]
+
+Usage: capvet <COMMAND>
+""")
+mistake("vat", """unrecognized subcommand 'vat'
+
+  tip: a similar subcommand exists: 'vet'
+
+Usage: capvet <COMMAND>
+""")
+mistake("pack --packed", """unexpected argument '--packed' found
+
+  tip: to pass '--packed' as a value, use '-- --packed'
+
+Usage: capvet pack [FILE]
+""")
+mistake("segments --size x", "invalid value 'x' for '--size <N>': invalid digit found in string\n")
+mistake("segments --size 268435457", "invalid value '268435457' for '--size <N>': 268435457 is not in 0..=268435456\n")
+mistake("vet --words 268435457", "invalid value '268435457' for '--words <N>': 268435457 is not in 0..=268435456\n")
+mistake("vet --depth 257", "invalid value '257' for '--depth <N>': 257 is not in 0..=256\n")
+
+VERSION = "capvet 0.1.0\n"
+HELP = """\
+Checks Cap'n Proto messages that nobody vouches for, without their schema
+
+Usage: capvet <COMMAND>
+
+Commands:
+  segments  Shows each message's segments, their sizes in words, and its root pointer
+  vet       Checks that each message is safe to traverse
+  pack      Packs a stream of words
+  unpack    Unpacks a stream of words
+  help      Print this message or the help of the given subcommand(s)
+
+Options:
+  -h, --help     Print help
+  -V, --version  Print version
+
+A stream is framed messages, one after the other: of each a table with the sizes of its segments,
+and then the segments, in words of 8 bytes. Without FILE a command reads standard input.
+
+Exit status:
+  0  every message was accepted, or every word was copied
+  1  a message was refused, or the input is cut short or isn't messages within the limits
+  2  the command line is wrong
+  3  a file doesn't open, a device failed, or memory ran out
+
+Example:
+  $ capvet vet examples/contacts.bin
+  message 0: accepted charge 391 depth 8 pointers 125 caps 0
+"""
+HELP_VET = """\
+Checks that each message is safe to traverse
+
+Usage: capvet vet [OPTIONS] [FILE]
+
+Arguments:
+  [FILE]  File to read, instead of standard input
+
+Options:
+      --packed     The messages are packed
+      --size <N>   Most words of a message, all its segments together, 0 to 268435456 [default: 8388608]
+      --words <N>  Traversal limit in words, 0 to 268435456; a target reached twice counts twice [default: 8388608]
+      --depth <N>  Deepest level of an object, 0 to 256; the root's object has level 1 [default: 64]
+  -h, --help       Print help
+
+An accepted message is told with its charge in words, which bounds what a traversal reads; with
+the deepest level of an object; and with how many pointers, null ones too, and capabilities it
+has. A refused one is told with the reason, and the SEGMENT:WORD of the first pointer at fault.
+
+Example:
+  $ capvet vet --depth 3 examples/contacts.bin
+  message 0: refused DepthLimit at 0:62 pointers 6
+"""
+for words in ("--version", "-V"):
+    case(words, VERSION)
+for words in ("help", "--help", "-h"):
+    case(words, HELP)
+for words in ("help vet", "vet --help", "vet -h"):
+    case(words, HELP_VET)
+
+
+def help_example(command, status):
+    """The example at the end of a command's help, run as it stands there."""
+    help_text, _, _ = run([PROGRAM, "help", *command.split()], stdout=subprocess.PIPE)
+    _, _, example = help_text.decode().partition("\nExample:\n  $ ")
+    line, _, wanted = example.partition("\n")
+    wanted = wanted.replace("  ", "", 1).replace("\n  ", "\n")
+    shell_case(line or f"no example in the help of '{command}'", wanted, status)
+
+
+for command in ("", *COMMANDS):
+    # (that of `vet` is a refused message)
+    help_example(command, status=1 if command == "vet" else 0)
+four = "stream-of-four.bin"
+shell_case(f"make -s sample PROGRAM={shlex.quote(str(PROGRAM))}", segments_text(sample(four)) + VERDICTS[four])
+
+print(f"{passed} passed, {failed} failed")
+sys.exit(failed > 0)
