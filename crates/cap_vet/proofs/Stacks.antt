@@ -11,7 +11,7 @@ use Rattle.cap_vet.specs.Trails.{Ahead}
 use Rattle.cap_vet.specs.Frames.{FrameIn, IsRest, LevelIs, OptionIn, all_spots, option_spots, place_of, spots}
 use Rattle.cap_vet.specs.Looking.{FrameRises, IsLooked, object_children}
 use Rattle.cap_vet.specs.Turning.{added, frame_below}
-use Rattle.cap_vet.specs.Walking.{IsNext, AreStacked, IsWalking, Progress, work_left}
+use Rattle.cap_vet.specs.Walking.{IsNext, AreStacked, IsWalking, Progress, work_left, work_next}
 use Rattle.cap_vet.specs.declared.frame.Frame.{Frame}
 use Rattle.cap_vet.specs.declared.looking.Looked.{Looked}
 use Rattle.cap_vet.specs.declared.looking.Looked.TheVariants as looked
@@ -149,6 +149,18 @@ pub added_fits : (m : List (List ℕ)) (words depth s w level : ℕ) (frames : L
 added_fits m words depth s w level frames report (looked.Null cost) few t (h, within) = (omega arith, omega (arith, t.progress.bound, t.progress.within), omega (arith, t.progress.few, t.progress.bound, t.progress.within))
 added_fits m words depth s w level frames report (looked.Cap cost) few t (h, within) = (omega arith, omega (arith, t.progress.bound, t.progress.within), omega (arith, t.progress.few, t.progress.bound, t.progress.within))
 added_fits m words depth s w level frames report (looked.Object cost deep below) few t (k, u, b, q, tag, o) = (omega (arith, o.within), omega (arith, t.progress.bound, t.progress.within), omega (arith, t.progress.few, t.progress.bound, t.progress.within))
+
+-- and a word that is taken from its frame was some of it
+pub work_rest : (words : ℕ) (frames : List Frame) (f : Frame) (r : Option Frame) (report : Report) → IsRest f r → work_next words (frames ++ option_to_list r) report ≡ work_left words (frames ++ f ∷ []) report
+work_rest words frames f r report rest =
+    let a : length (all_spots (reverse (frames ++ f ∷ []))) ≡ length (spots f ++ all_spots (reverse frames)) = ap (λ u. length (all_spots u)) (reverse-append frames (f ∷ [])) in
+    let b : length (spots f ++ all_spots (reverse frames)) ≡ suc (length (option_spots r ++ all_spots (reverse frames))) = ap (λ u. length (u ++ all_spots (reverse frames))) rest.words in
+    let c : length (all_spots (reverse (frames ++ option_to_list r))) ≡ length (option_spots r ++ all_spots (reverse frames)) = ap (λ u. length (all_spots u)) (reverse-more frames r) ∙ ap length (spots-more r (reverse frames)) in
+    omega (arith, a, b, c)
+
+pub work_smaller : (words : ℕ) (frames left : List Frame) (f : Frame) (r : Option Frame) (report after : Report) → IsRest f r → work_left words left after < work_next words (frames ++ option_to_list r) report
+    → work_left words left after < work_left words (frames ++ f ∷ []) report
+work_smaller words frames left f r report after rest h = omega (arith, h, work_rest words frames f r report rest)
 
 -- the stack has room for what is ahead of a word
 pub next_fits : (room : ℕ) (m : List (List ℕ)) (words depth s w level : ℕ) (frames : List Frame) (report : Report) → depth ≤ room → IsNext m words depth s w level frames report → length frames ≤ room

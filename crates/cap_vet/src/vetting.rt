@@ -8,12 +8,13 @@ ghost use Rattle.cap_vet.specs.Limits.{depth_of, words_of};
 ghost use Rattle.cap_vet.specs.Reports.{IsAccepted};
 ghost use Rattle.cap_vet.specs.Vettings.{message_of, report_of};
 ghost use Rattle.cap_vet.specs.Walking.{IsWalking};
-ghost use Rattle.std.specs.Prelude.{◌≡◌, ◌≤◌, IfErr, IfOk, IsOk, ℕ};
+ghost use Rattle.std.specs.Prelude.{◌≡◌, ◌≤◌, [], ◌∷◌, IfErr, IfOk, IsOk, ℕ};
 
+use crate::frame::Frame;
 use crate::limits::Limits;
 use crate::report::Report;
 use crate::vetted::Vetted;
-use crate::walking::{Stack, take_next, visit};
+use crate::walking::{Stack, push_some, visit};
 use cap_frame::Segments;
 use cap_spec::{Reason, Refusal};
 
@@ -66,32 +67,44 @@ fn walk_within<M: Segments, const N: usize>(message: &M, limits: &Limits) -> Res
             pointers: 0,
         });
     }
-    let mut stack: Stack<N> = Stack::new();
     let mut report = Report::default();
-    match visit(message, limits, &mut stack, &mut report, 0, 0, 1) {
-        Ok(()) => walk_on(message, limits, stack, report),
+    match visit(message, limits, &mut report, 0, 0, 1) {
+        Ok(Some(frame)) => walk_on::<M, N>(message, limits, frame, report),
+        Ok(None) => Ok(report),
         Err(refusal) => Err(refusal),
     }
 }
 
-// Goes on until no pointer word is left.
+// Goes on with the words of this frame until no pointer word is left. The frame in hand stands beside the
+// stack, so that a word with nothing below it costs no push and no pop.
 fn walk_on<M: Segments, const N: usize>(
     message: &M,
     limits: &Limits,
-    mut stack: Stack<N>,
+    mut frame: Frame,
     mut report: Report,
 ) -> Result<Report, Refusal>
     requires shallow { (depth_of limits.now ≤ N) × (N ≤ 256) }
-    requires walking { IsWalking (M.segments message.now) (words_of limits.now) (depth_of limits.now) stack.items report }
+    requires walking { IsWalking (M.segments message.now) (words_of limits.now) (depth_of limits.now) (frame ∷ []) report }
     ensures ok { IfOk result (IsAccepted (M.segments message.now) (words_of limits.now) (depth_of limits.now)) }
     ensures err { IfErr result (IsRefused (M.segments message.now) (words_of limits.now) (depth_of limits.now)) }
 {
-    while !stack.is_empty() {
-        let (s, w, level) = take_next(message, limits, &mut stack, &report);
-        match visit(message, limits, &mut stack, &mut report, s, w, level) {
-            Ok(()) => {}
+    let mut stack: Stack<N> = Stack::new();
+    'walk: loop {
+        let (s, w, level) = (frame.segment, frame.at, frame.level);
+        let rest = frame.rest();
+        match visit(message, limits, &mut report, s, w, level) {
+            Ok(Some(below)) => {
+                push_some(&mut stack, rest);
+                frame = below;
+            }
+            Ok(None) => match rest {
+                Some(rest) => frame = rest,
+                None => match stack.pop() {
+                    Some(below) => frame = below,
+                    None => return Ok(report),
+                },
+            },
             Err(refusal) => return Err(refusal),
         }
     }
-    Ok(report)
 }

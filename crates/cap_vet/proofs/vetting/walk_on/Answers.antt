@@ -1,12 +1,78 @@
-use Rattle.std.proofs.Common.{◌∙◌, sym, subst, length}
-use Rattle.std.proofs.lemmas.Bool.{eqb-true}
-use Rattle.std.proofs.lemmas.List.{nil_from_length}
+use Rattle.std.proofs.Common.{rules, refl, ◌≡◌, ◌<◌, ◌∙◌, [], ◌∷◌, ◌++◌, subst, List}
+use Rattle.std.proofs.lemmas.List.{append-nil, nil_from_length}
+use Rattle.std.specs.Option.{option_to_list}
 use Rattle.cap_vet.specs.Limits.{depth_of, words_of}
-use Rattle.cap_vet.specs.Walking.{IsWalking}
+use Rattle.cap_vet.specs.Walking.{IsWalking, work_left}
+use Rattle.cap_vet.specs.declared.frame.Frame.{Frame}
+use Rattle.cap_vet.proofs.Stacks.{next_fits, next_of, work_smaller}
 use Rattle.cap_vet.proofs.Verdicts.{accepted_at_end}
 use Rattle.cap_vet.proofs.vetting.walk_on.Goals as goal
 
-pub returns-clause-ok : goal.returns-clause-ok
-returns-clause-ok g c =
-    let none = nil_from_length c.loop-stack.stack.items (eqb-true (length c.loop-stack.stack.items) 0 (sym c.is_empty.ensures ∙ c.loop-stack-test.false)) in
-    accepted_at_end _ _ _ _ (subst (λ u. IsWalking (g.M.Segments.segments c.args.message.now) (words_of c.args.limits.now) (depth_of c.args.limits.now) u c.loop-stack.report) none c.loop-stack.invariant)
+pub visit-requires : goal.visit-requires
+visit-requires g c = record { next = (c.walk.stack.items ++ option_to_list c.rest-rest.result, next_of _ _ _ c.walk.stack.items c.walk.frame c.rest-rest.result c.walk.report c.walk.invariant c.rest-rest.ensures) }
+
+pub push_some-requires : goal.push_some-requires
+push_some-requires g c =
+    let next = next_of _ _ _ c.walk.stack.items c.walk.frame c.rest-rest.result c.walk.report c.walk.invariant c.rest-rest.ensures in
+    (search rules, (c.requires.shallow.1, next_fits _ _ _ _ _ _ _ _ _ c.requires.shallow.0 next))
+
+pub walk-preserved-in-Ok-Some : goal.walk-preserved-in-Ok-Some
+walk-preserved-in-Ok-Some g c =
+    let frames : List Frame = c.walk.stack.items ++ option_to_list c.rest-rest.result in
+    let next = next_of _ _ _ c.walk.stack.items c.walk.frame c.rest-rest.result c.walk.report c.walk.invariant c.rest-rest.ensures in
+    let e : frames ++ option_to_list c.in-Ok-Some.field-0 ≡ c.push_some.new.stack.items ++ c.in-Ok-Some.below ∷ [] = rw (c.in-Ok-Some.field-0-is, c.push_some.ensures) refl in
+    subst (λ u. IsWalking (g.M.Segments.segments c.args.message.now) (words_of c.args.limits.now) (depth_of c.args.limits.now) u c.visit.new.report) e (c.in-Ok-Some.ensures.ok frames next)
+
+pub walk-smaller-in-Ok-Some : goal.walk-smaller-in-Ok-Some
+walk-smaller-in-Ok-Some g c =
+    let frames : List Frame = c.walk.stack.items ++ option_to_list c.rest-rest.result in
+    let next = next_of _ _ _ c.walk.stack.items c.walk.frame c.rest-rest.result c.walk.report c.walk.invariant c.rest-rest.ensures in
+    let e : frames ++ option_to_list c.in-Ok-Some.field-0 ≡ c.push_some.new.stack.items ++ c.in-Ok-Some.below ∷ [] = rw (c.in-Ok-Some.field-0-is, c.push_some.ensures) refl in
+    let falls = c.in-Ok-Some.ensures.falls frames next in
+    let less : work_left (words_of c.args.limits.now) (frames ++ option_to_list c.in-Ok-Some.field-0) c.visit.new.report < work_left (words_of c.args.limits.now) (c.walk.stack.items ++ c.walk.frame ∷ []) c.walk.report =
+        work_smaller (words_of c.args.limits.now) c.walk.stack.items (frames ++ option_to_list c.in-Ok-Some.field-0) c.walk.frame c.rest-rest.result c.walk.report c.visit.new.report c.rest-rest.ensures falls in
+    subst (λ u. work_left (words_of c.args.limits.now) u c.visit.new.report < work_left (words_of c.args.limits.now) (c.walk.stack.items ++ c.walk.frame ∷ []) c.walk.report) e less
+
+pub walk-preserved-in-Some : goal.walk-preserved-in-Some
+walk-preserved-in-Some g c =
+    let frames : List Frame = c.walk.stack.items ++ option_to_list c.rest-rest.result in
+    let next = next_of _ _ _ c.walk.stack.items c.walk.frame c.rest-rest.result c.walk.report c.walk.invariant c.rest-rest.ensures in
+    let e : frames ++ option_to_list c.in-Ok-None.field-0 ≡ c.walk.stack.items ++ c.in-Some.rest ∷ [] = rw (c.in-Ok-None.field-0-is, c.in-Some.is) (append-nil (c.walk.stack.items ++ c.in-Some.rest ∷ [])) in
+    subst (λ u. IsWalking (g.M.Segments.segments c.args.message.now) (words_of c.args.limits.now) (depth_of c.args.limits.now) u c.visit.new.report) e (c.in-Ok-None.ensures.ok frames next)
+
+pub walk-smaller-in-Some : goal.walk-smaller-in-Some
+walk-smaller-in-Some g c =
+    let frames : List Frame = c.walk.stack.items ++ option_to_list c.rest-rest.result in
+    let next = next_of _ _ _ c.walk.stack.items c.walk.frame c.rest-rest.result c.walk.report c.walk.invariant c.rest-rest.ensures in
+    let e : frames ++ option_to_list c.in-Ok-None.field-0 ≡ c.walk.stack.items ++ c.in-Some.rest ∷ [] = rw (c.in-Ok-None.field-0-is, c.in-Some.is) (append-nil (c.walk.stack.items ++ c.in-Some.rest ∷ [])) in
+    let falls = c.in-Ok-None.ensures.falls frames next in
+    let less : work_left (words_of c.args.limits.now) (frames ++ option_to_list c.in-Ok-None.field-0) c.visit.new.report < work_left (words_of c.args.limits.now) (c.walk.stack.items ++ c.walk.frame ∷ []) c.walk.report =
+        work_smaller (words_of c.args.limits.now) c.walk.stack.items (frames ++ option_to_list c.in-Ok-None.field-0) c.walk.frame c.rest-rest.result c.walk.report c.visit.new.report c.rest-rest.ensures falls in
+    subst (λ u. work_left (words_of c.args.limits.now) u c.visit.new.report < work_left (words_of c.args.limits.now) (c.walk.stack.items ++ c.walk.frame ∷ []) c.walk.report) e less
+
+pub walk-preserved : goal.walk-preserved
+walk-preserved g c =
+    let frames : List Frame = c.walk.stack.items ++ option_to_list c.rest-rest.result in
+    let next = next_of _ _ _ c.walk.stack.items c.walk.frame c.rest-rest.result c.walk.report c.walk.invariant c.rest-rest.ensures in
+    let e : frames ++ option_to_list c.in-Ok-None.field-0 ≡ c.pop.new.self.items ++ c.in-Some-pop.below ∷ [] =
+        rw (c.in-Ok-None.field-0-is, c.in-None.is) (append-nil (c.walk.stack.items ++ []) ∙ append-nil c.walk.stack.items ∙ c.in-Some-pop.ensures.items) in
+    subst (λ u. IsWalking (g.M.Segments.segments c.args.message.now) (words_of c.args.limits.now) (depth_of c.args.limits.now) u c.visit.new.report) e (c.in-Ok-None.ensures.ok frames next)
+
+pub walk-smaller : goal.walk-smaller
+walk-smaller g c =
+    let frames : List Frame = c.walk.stack.items ++ option_to_list c.rest-rest.result in
+    let next = next_of _ _ _ c.walk.stack.items c.walk.frame c.rest-rest.result c.walk.report c.walk.invariant c.rest-rest.ensures in
+    let e : frames ++ option_to_list c.in-Ok-None.field-0 ≡ c.pop.new.self.items ++ c.in-Some-pop.below ∷ [] =
+        rw (c.in-Ok-None.field-0-is, c.in-None.is) (append-nil (c.walk.stack.items ++ []) ∙ append-nil c.walk.stack.items ∙ c.in-Some-pop.ensures.items) in
+    let falls = c.in-Ok-None.ensures.falls frames next in
+    let less : work_left (words_of c.args.limits.now) (frames ++ option_to_list c.in-Ok-None.field-0) c.visit.new.report < work_left (words_of c.args.limits.now) (c.walk.stack.items ++ c.walk.frame ∷ []) c.walk.report =
+        work_smaller (words_of c.args.limits.now) c.walk.stack.items (frames ++ option_to_list c.in-Ok-None.field-0) c.walk.frame c.rest-rest.result c.walk.report c.visit.new.report c.rest-rest.ensures falls in
+    subst (λ u. work_left (words_of c.args.limits.now) u c.visit.new.report < work_left (words_of c.args.limits.now) (c.walk.stack.items ++ c.walk.frame ∷ []) c.walk.report) e less
+
+pub returns-in-None-pop-clause-ok : goal.returns-in-None-pop-clause-ok
+returns-in-None-pop-clause-ok g c =
+    let frames : List Frame = c.walk.stack.items ++ option_to_list c.rest-rest.result in
+    let next = next_of _ _ _ c.walk.stack.items c.walk.frame c.rest-rest.result c.walk.report c.walk.invariant c.rest-rest.ensures in
+    let none : c.walk.stack.items ≡ [] = nil_from_length c.walk.stack.items (search rules) in
+    let e : frames ++ option_to_list c.in-Ok-None.field-0 ≡ [] = rw (c.in-Ok-None.field-0-is, c.in-None.is, none) refl in
+    accepted_at_end _ _ _ _ (subst (λ u. IsWalking (g.M.Segments.segments c.args.message.now) (words_of c.args.limits.now) (depth_of c.args.limits.now) u c.visit.new.report) e (c.in-Ok-None.ensures.ok frames next))

@@ -3,16 +3,16 @@ use Rattle.cap_vet.proofs.Verdicts.{first_fault}
 use Rattle.cap_vet.proofs.walking.visit.Goals as goal
 
 pub look-requires-clause-exists : goal.look-requires-clause-exists
-look-requires-clause-exists g c = c.requires.next.exists
+look-requires-clause-exists g c = c.requires.next.1.exists
 
 pub look-requires-clause-inside : goal.look-requires-clause-inside
-look-requires-clause-inside g c = c.requires.next.within
+look-requires-clause-inside g c = c.requires.next.1.within
 
 pub returns-in-Err-clause-err : goal.returns-in-Err-clause-err
-returns-in-Err-clause-err g c = first_fault _ _ _ _ _ _ _ _ _ c.requires.next c.in-Err.ensures.err
+returns-in-Err-clause-err g c = first_fault _ _ _ _ _ _ _ _ _ c.requires.next.1 c.in-Err.ensures.err
 
 pub returns-in-Ok-clause-ok : goal.returns-in-Ok-clause-ok
-returns-in-Ok-clause-ok g c = rw (c.push_some.ensures, c.add.ensures.report, c.add.ensures.frame) (walk_on _ _ _ _ _ _ _ _ _ c.requires.next c.in-Ok.ensures.ok)
+returns-in-Ok-clause-ok g c = λ frames next. rw (c.add.ensures.report, c.add.ensures.frame) (walk_on _ _ _ _ _ _ frames _ _ next c.in-Ok.ensures.ok)
 
 pub returns-in-Ok-clause-falls : goal.returns-in-Ok-clause-falls
-returns-in-Ok-clause-falls g c = rw (c.push_some.ensures, c.add.ensures.report, c.add.ensures.frame) (work_falls _ _ _ _ _ _ _ _ _ c.requires.next c.in-Ok.ensures.ok)
+returns-in-Ok-clause-falls g c = λ frames next. rw (c.add.ensures.report, c.add.ensures.frame) (work_falls _ _ _ _ _ _ frames _ _ next c.in-Ok.ensures.ok)
