@@ -8,7 +8,7 @@ ghost use Rattle.cap_vet.specs.Limits.{depth_of, words_of};
 ghost use Rattle.cap_vet.specs.Reports.{IsAccepted};
 ghost use Rattle.cap_vet.specs.Vettings.{message_of, report_of};
 ghost use Rattle.cap_vet.specs.Walking.{IsWalking};
-ghost use Rattle.std.specs.Prelude.{◌≡◌, ◌≤◌, [], ◌∷◌, IfErr, IfOk, IsOk, ℕ};
+ghost use Rattle.std.specs.Prelude.{◌<◌, ◌≡◌, ◌≤◌, [], ◌∷◌, ◌++◌, IfErr, IfNone, IfOk, IfSome, IsOk, length, ℕ};
 
 use crate::frame::Frame;
 use crate::limits::Limits;
@@ -40,22 +40,8 @@ pub fn vet<'m, M: Segments>(message: &'m M, limits: Limits) -> Result<Vetted<'m,
     }
 }
 
-// The report of the whole walk, or the first fault. The frames are made ready anew for each message, so
-// a walk that can't be deep has few of them.
+// The report of the whole walk, or the first fault.
 fn walk<M: Segments>(message: &M, limits: &Limits) -> Result<Report, Refusal>
-    ensures ok { IfOk result (IsAccepted (M.segments message.now) (words_of limits.now) (depth_of limits.now)) }
-    ensures err { IfErr result (IsRefused (M.segments message.now) (words_of limits.now) (depth_of limits.now)) }
-{
-    if limits.depth() <= 64 {
-        walk_within::<M, 64>(message, limits)
-    } else {
-        walk_within::<M, 256>(message, limits)
-    }
-}
-
-// The same with room for `N` frames.
-fn walk_within<M: Segments, const N: usize>(message: &M, limits: &Limits) -> Result<Report, Refusal>
-    requires shallow { (depth_of limits.now ≤ N) × (N ≤ 256) }
     ensures ok { IfOk result (IsAccepted (M.segments message.now) (words_of limits.now) (depth_of limits.now)) }
     ensures err { IfErr result (IsRefused (M.segments message.now) (words_of limits.now) (depth_of limits.now)) }
 {
@@ -69,39 +55,89 @@ fn walk_within<M: Segments, const N: usize>(message: &M, limits: &Limits) -> Res
     }
     let mut report = Report::default();
     match visit(message, limits, &mut report, 0, 0, 1) {
-        Ok(Some(frame)) => walk_on::<M, N>(message, limits, frame, report),
+        Ok(Some(frame)) => walk_below(message, limits, frame, report),
         Ok(None) => Ok(report),
         Err(refusal) => Err(refusal),
     }
 }
 
-// Goes on with the words of this frame until no pointer word is left. The frame in hand stands beside the
-// stack, so that a word with nothing below it costs no push and no pop.
-fn walk_on<M: Segments, const N: usize>(
+// Goes on below the root. Frames are made ready anew for each message, so a walk begins with few of them.
+fn walk_below<M: Segments>(
     message: &M,
     limits: &Limits,
-    mut frame: Frame,
+    frame: Frame,
     mut report: Report,
 ) -> Result<Report, Refusal>
-    requires shallow { (depth_of limits.now ≤ N) × (N ≤ 256) }
-    requires walking { IsWalking (M.segments message.now) (words_of limits.now) (depth_of limits.now) (frame ∷ []) report }
+    requires { IsWalking (M.segments message.now) (words_of limits.now) (depth_of limits.now) (frame ∷ []) report }
     ensures ok { IfOk result (IsAccepted (M.segments message.now) (words_of limits.now) (depth_of limits.now)) }
     ensures err { IfErr result (IsRefused (M.segments message.now) (words_of limits.now) (depth_of limits.now)) }
 {
-    let mut stack: Stack<N> = Stack::new();
+    let mut stack: Stack<8> = Stack::new();
+    match walk_on(message, limits, &mut stack, frame, &mut report) {
+        Ok(None) => Ok(report),
+        Ok(Some(frame)) => walk_deep(message, limits, &stack, frame, report),
+        Err(refusal) => Err(refusal),
+    }
+}
+
+// Goes on where those few frames are full, with as many as the deepest walk can have.
+#[cold]
+#[inline(never)]
+fn walk_deep<M: Segments>(
+    message: &M,
+    limits: &Limits,
+    few: &Stack<8>,
+    frame: Frame,
+    mut report: Report,
+) -> Result<Report, Refusal>
+    requires { IsWalking (M.segments message.now) (words_of limits.now) (depth_of limits.now) (few.now.items ++ frame ∷ []) report }
+    ensures ok { IfOk result (IsAccepted (M.segments message.now) (words_of limits.now) (depth_of limits.now)) }
+    ensures err { IfErr result (IsRefused (M.segments message.now) (words_of limits.now) (depth_of limits.now)) }
+{
+    let mut stack: Stack<256> = Stack::new();
+    if stack.try_extend_from_slice(few.as_slice()).is_err() {
+        unreachable!();
+    }
+    match walk_on(message, limits, &mut stack, frame, &mut report) {
+        Ok(None) => Ok(report),
+        Ok(Some(_)) => unreachable!(),
+        Err(refusal) => Err(refusal),
+    }
+}
+
+// Goes on with the words of this frame and those of the stack until no pointer word is left, or until the
+// stack is full: the answer is then the frame to go on with. The frame in hand stands beside the stack, so
+// that a word with nothing below it costs no push and no pop.
+fn walk_on<M: Segments, const N: usize>(
+    message: &M,
+    limits: &Limits,
+    stack: &mut Stack<N>,
+    mut frame: Frame,
+    report: &mut Report,
+) -> Result<Option<Frame>, Refusal>
+    requires room { (length stack.old.items < N) × (N ≤ 256) }
+    requires walking { IsWalking (M.segments message.now) (words_of limits.now) (depth_of limits.now) (stack.old.items ++ frame ∷ []) report.old }
+    ensures done { IfOk result (λ left. IfNone left (IsAccepted (M.segments message.now) (words_of limits.now) (depth_of limits.now) report.new)) }
+    ensures full { IfOk result (λ left. IfSome left (λ f. (length stack.new.items ≡ N)
+        × IsWalking (M.segments message.now) (words_of limits.now) (depth_of limits.now) (stack.new.items ++ f ∷ []) report.new)) }
+    ensures err { IfErr result (IsRefused (M.segments message.now) (words_of limits.now) (depth_of limits.now)) }
+{
     'walk: loop {
         let (s, w, level) = (frame.segment, frame.at, frame.level);
         let rest = frame.rest();
-        match visit(message, limits, &mut report, s, w, level) {
+        match visit(message, limits, report, s, w, level) {
             Ok(Some(below)) => {
-                push_some(&mut stack, rest);
+                push_some(stack, rest);
+                if stack.is_full() {
+                    return Ok(Some(below));
+                }
                 frame = below;
             }
             Ok(None) => match rest {
                 Some(rest) => frame = rest,
                 None => match stack.pop() {
                     Some(below) => frame = below,
-                    None => return Ok(report),
+                    None => return Ok(None),
                 },
             },
             Err(refusal) => return Err(refusal),

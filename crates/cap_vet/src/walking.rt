@@ -16,8 +16,7 @@ use cap_frame::Segments;
 use cap_spec::Refusal;
 
 /// The pointer words still to be looked at behind those of the frame in hand, the next ones last: one
-/// frame for each object on the way down that has some left. A walk to a depth of at most `N` has room
-/// for all of them.
+/// frame for each object on the way down that has some left. 256 are enough for the deepest walk.
 pub(crate) type Stack<const N: usize> = ArrayVec<Frame, N>;
 
 /// Looks at the next pointer word, and gives the frame of its object's pointers. The error is the

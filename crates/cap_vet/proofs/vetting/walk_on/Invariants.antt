@@ -1,10 +1,10 @@
-use Rattle.std.specs.Prelude.{◌++◌, [], ◌∷◌}
+use Rattle.std.specs.Prelude.{◌++◌, ◌<◌, [], ◌∷◌, length}
 use Rattle.cap_vet.specs.Limits.{depth_of, words_of}
 use Rattle.cap_vet.specs.Walking.{IsWalking, work_left}
 use Rattle.cap_vet.proofs.vetting.walk_on.Given as goal
 
 abbrev pub invariant-walk : goal.invariant-walk
-invariant-walk g l = IsWalking (g.M.Segments.segments l.message) (words_of l.limits) (depth_of l.limits) (l.stack.items ++ l.frame ∷ []) l.report
+invariant-walk g l = (length l.stack.items < g.row.N) × IsWalking (g.M.Segments.segments l.message) (words_of l.limits) (depth_of l.limits) (l.stack.items ++ l.frame ∷ []) l.report
 
 abbrev pub decreases-walk : goal.decreases-walk
 decreases-walk g l = work_left (words_of l.limits) (l.stack.items ++ l.frame ∷ []) l.report

@@ -4,7 +4,7 @@ use Rattle.cap_spec.specs.Messages.{segment_of}
 use Rattle.cap_vet.specs.Limits.{depth_of, words_of}
 use Rattle.cap_vet.specs.Walking.{IsWalking}
 use Rattle.cap_vet.proofs.Verdicts.{accepted_at_end, starts}
-use Rattle.cap_vet.proofs.vetting.walk_within.Goals as goal
+use Rattle.cap_vet.proofs.vetting.walk.Goals as goal
 
 pub visit-requires : goal.visit-requires
 visit-requires g c =
@@ -13,8 +13,8 @@ visit-requires g c =
     let zero = c.default-report.ensures in
     record { next = ([], starts (g.M.Segments.segments c.args.message.now) (words_of c.args.limits.now) (depth_of c.args.limits.now) c.default-report.result some root zero.0 zero.1.0 zero.1.1.0 zero.1.1.1.0 zero.1.1.1.1) }
 
-pub walk_on-requires-clause-walking : goal.walk_on-requires-clause-walking
-walk_on-requires-clause-walking g c =
+pub walk_below-requires : goal.walk_below-requires
+walk_below-requires g c =
     let some : 0 < length (g.M.Segments.segments c.args.message.now) = search rules in
     let root : 0 < length (segment_of (g.M.Segments.segments c.args.message.now) 0) = omega (arith, c.if-len-eq0.false, c.len.ensures) in
     let zero = c.default-report.ensures in
