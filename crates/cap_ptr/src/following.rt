@@ -52,6 +52,10 @@ fn followed<M: Segments>(message: &M, s: u32, w: u32) -> Result<Followed, Reason
     ensures err { IfErr result (Wrong (M.segments message.now) s w) }
 {
     let word = message.word(s, w);
+    // Null is told first: in many lists of pointers nearly every word is.
+    if word == 0 {
+        return Ok(Followed::Null { pads: 0 });
+    }
     if bits(word, 0, 2) != 2 {
         return resolved(message, 0, s, w, word);
     }

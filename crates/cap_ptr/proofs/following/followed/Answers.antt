@@ -1,6 +1,12 @@
-use Rattle.std.proofs.Common.{◌∙◌}
+use Rattle.std.proofs.Common.{◌∙◌, arith, refl}
+use Rattle.cap_spec.specs.Following.{near}
 use Rattle.cap_ptr.proofs.Pads.{stands-near}
 use Rattle.cap_ptr.proofs.following.followed.Goals as goal
+
+pub returns-then-word-eq0-clause-ok : goal.returns-then-word-eq0-clause-ok
+returns-then-word-eq0-clause-ok g c =
+    let e = c.if-word-eq0.true in
+    near c.word-word.result c.word-word.ensures (omega (arith, e)) e refl
 
 pub returns-then-bits-ne2-clause-ok : goal.returns-then-bits-ne2-clause-ok
 returns-then-bits-ne2-clause-ok g c =
