@@ -8,6 +8,7 @@ use Rattle.cap_words.specs.declared.sources.SourceFault.TheVariants.{Truncated, 
 use Rattle.cap_words.specs.declared.sinks.WordSink as sink
 use Rattle.cap_frame.proofs.Converse.{known_still, same_some}
 use Rattle.cap_cmd.specs.Copying.{Copied, CopiesAll, CopiesMost, CopiesUntil, CopySettled, Finishes}
+use Rattle.cap_cmd.specs.Engines.{CopiesWords}
 use Rattle.cap_cmd.specs.Faults.{copy_status}
 use Rattle.cap_cmd.specs.declared.fault.CopyFault.{CopyFault}
 use Rattle.cap_cmd.specs.declared.fault.CopyFault.TheVariants.{TooManyWords, Source, Output}
@@ -94,3 +95,13 @@ module _ {S K : Type 0} (gs : source.Ghosts S) (gk : sink.Ghosts K) (most : ℕ)
   copy_many (Err (Source Device)) w l c = tt
   copy_many (Err (Source Spent)) w l c = tt
   copy_many (Err (Output fault)) w l c = tt
+
+module _ {S K : Type 0} (gs : source.Ghosts S) (gk : sink.Ghosts K) where
+  -- how a copy ends says what it answers where the words are known
+  pub copies_words : (most : ℕ) (old new : S) (before after : K) (r : Result ℕ CopyFault) → Copied gs gk most old new before after r → CopiesWords gs gk most old new before after r
+  copies_words most old new before after r c = record {
+    copied = c;
+    whole = λ own w i l. copy_whole gs gk most old new before after own r w i l c;
+    cut_short = λ own w i l. copy_cut gs gk most old new before after own r w i l c;
+    many = λ own w l. copy_many gs gk most old new before after own r w l c;
+  }

@@ -35,6 +35,9 @@ cause_text n (Output fault) = codes "output failed"
 abbrev pub fault_line : ℕ → Cause → List ℕ
 fault_line n cause = codes "capvet: " ++ cause_text n cause ++ 10 ∷ []
 
+abbrev pub run_fault_line : RunFault → List ℕ
+run_fault_line fault = fault_line fault.message fault.cause
+
 -- what is said of a source that gave no word
 abbrev pub source_fault_text : SourceFault → List ℕ
 source_fault_text (source_truncated byte) = codes "Truncated at byte" ++ then_number byte

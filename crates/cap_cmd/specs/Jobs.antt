@@ -1,15 +1,32 @@
--- What a job that ends with status 0 did: all of its input was read, and this was written (profile).
-use Rattle.std.specs.Prelude.{ℕ, ◌≡◌, ◌≤◌, if◌then◌else◌, true, false, Bool, List, length, sum, [], Option, Some, OnSome, unwrap_or}
+-- What a job does: its engine gives an answer over the words of its input, and the status and the line of a fault tell that (profile).
+-- The members of types have the letters of types: gi of the input's, gs of the source's over it, go and ge of the two outputs', gp of a packer's over the first, and gu of a plain sink's.
+use Rattle.std.specs.Prelude.{ℕ, ◌≡◌, ◌≤◌, ◌||◌, if◌then◌else◌, true, false, Bool, List, length, sum, [], Option, Some, OnSome, Result, Ok, Err, unwrap_or}
 use Rattle.std.specs.List.{AllByRecursion}
 use Rattle.std.specs.Option.{option_map}
-use Rattle.std.specs.Io.KnownBytes.{Appends}
+use Rattle.std.specs.Io.KnownBytes.{Appends, append_known}
 use Rattle.cap_spec.specs.Frames.{Stream, sizes_of}
-use Rattle.cap_spec.specs.Plain.{plain_is_cut, plain_words}
+use Rattle.cap_spec.specs.PackedEnds.{packed_ends}
+use Rattle.cap_spec.specs.Packing.{pack_text}
+use Rattle.cap_spec.specs.Plain.{plain_ends, plain_is_cut, plain_text, plain_words}
 use Rattle.cap_spec.specs.Unpacking.{packed_is_cut, unpacked}
+use Rattle.cap_words.specs.declared.ends.ByteIn as input
+use Rattle.cap_words.specs.declared.ends.ByteOut as output
+use Rattle.cap_words.specs.declared.ends.OutFault.{OutFault}
+use Rattle.cap_words.specs.declared.sinks.WordSink as sink
+use Rattle.cap_words.specs.declared.sources.WordSource as source
+use Rattle.cap_frame.specs.Limit.{limit_of}
+use Rattle.cap_vet.specs.Limits.{depth_of, words_of}
+use Rattle.cap_cmd.specs.Engines.{CopiesWords, ShowsStream, TellsStream, most_words}
+use Rattle.cap_cmd.specs.Faults.{copy_fault_line, copy_status, run_fault_line, run_status}
 use Rattle.cap_cmd.specs.Telling.{TellsEach, Told, messages_of, refused_in, segments_texts, texts_of}
 use Rattle.cap_cmd.specs.Vetting.{TellsVerdict}
+use Rattle.cap_cmd.specs.Writing.{Writes}
+use Rattle.cap_cmd.specs.declared.fault.CopyFault.{CopyFault}
+use Rattle.cap_cmd.specs.declared.fault.RunFault.{RunFault}
 use Rattle.cap_cmd.specs.declared.job.Task.{Task}
 use Rattle.cap_cmd.specs.declared.job.Task.TheVariants.{Segments, Vet, Pack, Unpack}
+use Rattle.cap_cmd.specs.declared.settings.Outcome.{Outcome}
+use Rattle.cap_cmd.specs.declared.settings.Settings.{Settings}
 
 -- what is unpacked is packed, what is packed isn't yet, and of messages the user tells it
 abbrev pub is_packed : Task → Bool → Bool
@@ -25,6 +42,72 @@ input_words packed bytes = if packed then option_map unpacked bytes else option_
 -- whether it ends inside a group, or inside a word
 abbrev pub input_is_cut : Bool → Option (List ℕ) → Bool
 input_is_cut packed bytes = if packed then packed_is_cut (unwrap_or bytes []) else plain_is_cut (unwrap_or bytes [])
+
+-- the places of its words and of its end
+abbrev pub input_ends : Bool → Option (List ℕ) → List ℕ
+input_ends packed bytes = if packed then packed_ends 0 (unwrap_or bytes []) else plain_ends 0 (unwrap_or bytes [])
+
+module _ {I S : Type 0} (gi : input.Ghosts I) (gs : source.Ghosts S) where
+  -- A source begins with the words of an input that is packed or not, and fails as often as the input that it stands on.
+  pub record BeginsInput (packed : Bool) (start : I) (first : S) : Type 0 where
+    pub words : gs.words first ≡ input_words packed (gi.to_come start)
+    pub is_cut : gs.is_cut first ≡ input_is_cut packed (gi.to_come start)
+    pub places : OnSome (gi.to_come start) (gs.places first ≡ input_ends packed (gi.to_come start))
+    pub place : gs.place first ≡ 0
+    pub spent : gs.spent first ≡ gi.spent start
+    pub failures : gs.failures first ≡ gi.failures start
+    pub stands_on : S → I
+    pub shows_failures : (s : S) → gs.failures s ≡ gi.failures (stands_on s)
+
+module _ {O K : Type 0} (go : output.Ghosts O) (gk : sink.Ghosts K) where
+  -- A sink begins over an output: the text of the words that it is put comes behind what the output took.
+  pub record BeginsOutput (text : List ℕ → List ℕ) (start : O) (first : K) : Type 0 where
+    pub empty : (ws : List ℕ) → gk.text first ws ≡ append_known (go.written start) (text ws)
+    pub taken : gk.taken first ≡ go.written start
+    pub closed : gk.closed first ≡ false
+    pub spent : gk.spent first ≡ go.spent start
+    pub failures : gk.failures first ≡ go.failures start
+
+  -- This is the output that the sink stands on.
+  pub record GivesOutput (last : K) (end : O) : Type 0 where
+    pub taken : gk.taken last ≡ go.written end
+    pub spent : gk.spent last ≡ gk.closed last || go.spent end
+    pub failures : gk.failures last ≡ go.failures end
+
+module _ {E : Type 0} (ge : output.Ghosts E) where
+  -- The line of a fault was written, or a beginning of it where this output failed; and nothing where there was no fault.
+  abbrev pub WritesLine : {A F : Type 0} → (F → List ℕ) → Result A F → E → E → Type 0
+  WritesLine line (Ok x) old new = new ≡ old
+  WritesLine line (Err fault) old new = (r : Result (Unit {0}) OutFault) × Writes ge old new r (line fault)
+
+  -- The status is that of an engine's answer, and the line is that of its fault.
+  pub record TellsRun (answer : Result Outcome RunFault) (old new : E) (status : ℕ) : Type 0 where
+    pub status_is : status ≡ run_status answer
+    pub line : WritesLine run_fault_line answer old new
+
+  -- The status is that of a copy's answer, and the line is that of its fault.
+  pub record TellsCopy (answer : Result ℕ CopyFault) (old new : E) (status : ℕ) : Type 0 where
+    pub status_is : status ≡ copy_status answer
+    pub line : WritesLine copy_fault_line answer old new
+
+module _ {S O E P U : Type 0} (gs : source.Ghosts S) (go : output.Ghosts O) (ge : output.Ghosts E) (gp : sink.Ghosts P) (gu : sink.Ghosts U) where
+  -- What is done over the words of a source, by the task: an answer of the task's engine, which the status and the line of a fault tell.
+  abbrev pub DoesTask : Task → Settings → S → O → O → E → E → ℕ → Type 0
+  DoesTask Segments s first before after old new status = (answer : Result Outcome RunFault) × (last : S)
+      × ShowsStream gs go (limit_of s.size) s.messages first last before after answer × TellsRun ge answer old new status
+  DoesTask Vet s first before after old new status = (answer : Result Outcome RunFault) × (last : S)
+      × TellsStream gs go (TellsVerdict (words_of s.limits) (depth_of s.limits)) (limit_of s.size) s.messages first last before after answer × TellsRun ge answer old new status
+  DoesTask Pack s first before after old new status = (answer : Result ℕ CopyFault) × (last : S) × (begun : P) × (ended : P)
+      × BeginsOutput go gp pack_text before begun × CopiesWords gs gp most_words first last begun ended answer × GivesOutput go gp ended after × TellsCopy ge answer old new status
+  DoesTask Unpack s first before after old new status = (answer : Result ℕ CopyFault) × (last : S) × (begun : U) × (ended : U)
+      × BeginsOutput go gu plain_text before begun × CopiesWords gs gu most_words first last begun ended answer × GivesOutput go gu ended after × TellsCopy ge answer old new status
+
+module _ {I S O E P U : Type 0} (gi : input.Ghosts I) (gs : source.Ghosts S) (go : output.Ghosts O) (ge : output.Ghosts E) (gp : sink.Ghosts P) (gu : sink.Ghosts U) where
+  -- A task is done over the words of an input, which is packed or not.
+  pub record DoesJob (packed : Bool) (task : Task) (settings : Settings) (start : I) (before after : O) (old new : E) (status : ℕ) : Type 0 where
+    pub first : S
+    pub begins : BeginsInput gi gs packed start first
+    pub does : DoesTask gs go ge gp gu task settings first before after old new status
 
 -- All words are frames of messages, each within the limit, and none is cut short. The text of their segments was written.
 pub record ShowsInput (words : Option (List ℕ)) (is_cut : Bool) (before after : Option (List ℕ)) (limit most : ℕ) : Type 0 where

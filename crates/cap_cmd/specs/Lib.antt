@@ -1,4 +1,5 @@
 pub mod Copying
+pub mod Engines
 pub mod Faults
 pub mod Jobs
 pub mod Putting

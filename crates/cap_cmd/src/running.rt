@@ -1,12 +1,12 @@
 //! Doing a job: its engine is run over an input, an output and an output for faults.
 
-ghost use Rattle.cap_cmd.specs.Faults.{copy_status, run_status};
-ghost use Rattle.cap_cmd.specs.Jobs.{CopiesInput, ShowsInput, VetsInput, input_is_cut, input_words, is_packed};
+ghost use Rattle.cap_cmd.specs.Engines.{most_words};
+ghost use Rattle.cap_cmd.specs.Jobs.{CopiesInput, DoesJob, DoesTask, ShowsInput, TellsCopy, TellsRun, VetsInput, input_is_cut, input_words, is_packed};
 ghost use Rattle.cap_frame.specs.Limit.{limit_of};
 ghost use Rattle.cap_spec.specs.Packing.{pack_text};
 ghost use Rattle.cap_spec.specs.Plain.{plain_text};
 ghost use Rattle.cap_vet.specs.Limits.{depth_of, words_of};
-ghost use Rattle.std.specs.Prelude.{◌^◌, ◌≡◌, false, true};
+ghost use Rattle.std.specs.Prelude.{◌≡◌, false, true};
 
 use crate::engines::copy::{run_pack, run_unpack};
 use crate::engines::segments::run_segments;
@@ -18,7 +18,7 @@ use crate::status::{stream_status, words_status};
 use crate::texts::faults::{copy_fault_text, fault_text};
 use crate::texts::output::write_bytes;
 use cap_pack::{Packer, Unpacker};
-use cap_words::{ByteIn, ByteOut, PlainSink, PlainWords, WordSource};
+use cap_words::{ByteIn, ByteOut, PlainSink, PlainWords, WordSink, WordSource};
 use std::alloc::Global;
 
 /// The most words that are packed or unpacked.
@@ -37,7 +37,7 @@ fn input_is_packed(job: &Job) -> bool
 
 /// Writes the line of a fault at a message, if there is one, and answers the status.
 fn report<E: ByteOut>(err: &mut E, answer: &Result<Outcome, RunFault>) -> u8
-    ensures { result ≡ run_status answer.now }
+    ensures { TellsRun E.ByteOut answer.now err.old err.new result }
 {
     if let Err(fault) = answer {
         let _ = write_bytes(err, fault_text(fault).as_slice());
@@ -47,7 +47,7 @@ fn report<E: ByteOut>(err: &mut E, answer: &Result<Outcome, RunFault>) -> u8
 
 /// Writes the line of a fault of a copy, if there is one, and answers the status.
 fn report_copy<E: ByteOut>(err: &mut E, answer: &Result<u64, CopyFault>) -> u8
-    ensures { result ≡ copy_status answer.now }
+    ensures { TellsCopy E.ByteOut answer.now err.old err.new result }
 {
     if let Err(fault) = answer {
         let _ = write_bytes(err, copy_fault_text(fault).as_slice());
@@ -63,13 +63,15 @@ fn run_over<S: WordSource + Drop, O: ByteOut, E: ByteOut>(
     out: O,
     err: &mut E,
 ) -> (u8, O)
+    ensures does { DoesTask S.WordSource O.ByteOut E.ByteOut ⟦<Packer<O> as WordSink>⟧ ⟦<PlainSink<O> as WordSink>⟧ job.now.task job.now.settings
+        source out result.1 err.old err.new result.0 }
     ensures segments { job.now.task ≡ Task.Segments → result.0 ≡ 0 →
         ShowsInput (S.words source) (S.is_cut source) (O.written out) (O.written result.1) (limit_of job.now.settings.size) job.now.settings.messages }
     ensures vet { job.now.task ≡ Task.Vet → result.0 ≡ 0 →
         VetsInput (S.words source) (S.is_cut source) (O.written out) (O.written result.1) (words_of job.now.settings.limits) (depth_of job.now.settings.limits)
         (limit_of job.now.settings.size) job.now.settings.messages }
-    ensures pack { job.now.task ≡ Task.Pack → result.0 ≡ 0 → CopiesInput (S.words source) (S.is_cut source) (O.written out) (O.written result.1) pack_text (2 ^ 40) }
-    ensures unpack { job.now.task ≡ Task.Unpack → result.0 ≡ 0 → CopiesInput (S.words source) (S.is_cut source) (O.written out) (O.written result.1) plain_text (2 ^ 40) }
+    ensures pack { job.now.task ≡ Task.Pack → result.0 ≡ 0 → CopiesInput (S.words source) (S.is_cut source) (O.written out) (O.written result.1) pack_text most_words }
+    ensures unpack { job.now.task ≡ Task.Unpack → result.0 ≡ 0 → CopiesInput (S.words source) (S.is_cut source) (O.written out) (O.written result.1) plain_text most_words }
 {
     let mut source = source;
     let mut out = out;
@@ -109,6 +111,14 @@ pub fn run_job<I: ByteIn + Drop, O: ByteOut, E: ByteOut>(
     out: O,
     err: &mut E,
 ) -> (u8, O)
+    // There is an answer of the task's engine that meets the engine's contract, and the status and the line of a fault tell it.
+    ensures plain { is_packed job.now.task job.now.packed ≡ false →
+        DoesJob I.ByteIn ⟦<PlainWords<I> as WordSource>⟧ O.ByteOut E.ByteOut ⟦<Packer<O> as WordSink>⟧ ⟦<PlainSink<O> as WordSink>⟧
+        false job.now.task job.now.settings input out result.1 err.old err.new result.0 }
+    ensures packed { is_packed job.now.task job.now.packed ≡ true →
+        DoesJob I.ByteIn ⟦<Unpacker<I> as WordSource>⟧ O.ByteOut E.ByteOut ⟦<Packer<O> as WordSink>⟧ ⟦<PlainSink<O> as WordSink>⟧
+        true job.now.task job.now.settings input out result.1 err.old err.new result.0 }
+    // So with status 0 all of the input was read, and exactly this was written.
     ensures segments { job.now.task ≡ Task.Segments → result.0 ≡ 0 →
         ShowsInput (input_words job.now.packed (I.to_come input)) (input_is_cut job.now.packed (I.to_come input)) (O.written out) (O.written result.1)
         (limit_of job.now.settings.size) job.now.settings.messages }
@@ -116,9 +126,9 @@ pub fn run_job<I: ByteIn + Drop, O: ByteOut, E: ByteOut>(
         VetsInput (input_words job.now.packed (I.to_come input)) (input_is_cut job.now.packed (I.to_come input)) (O.written out) (O.written result.1)
         (words_of job.now.settings.limits) (depth_of job.now.settings.limits) (limit_of job.now.settings.size) job.now.settings.messages }
     ensures pack { job.now.task ≡ Task.Pack → result.0 ≡ 0 →
-        CopiesInput (input_words false (I.to_come input)) (input_is_cut false (I.to_come input)) (O.written out) (O.written result.1) pack_text (2 ^ 40) }
+        CopiesInput (input_words false (I.to_come input)) (input_is_cut false (I.to_come input)) (O.written out) (O.written result.1) pack_text most_words }
     ensures unpack { job.now.task ≡ Task.Unpack → result.0 ≡ 0 →
-        CopiesInput (input_words true (I.to_come input)) (input_is_cut true (I.to_come input)) (O.written out) (O.written result.1) plain_text (2 ^ 40) }
+        CopiesInput (input_words true (I.to_come input)) (input_is_cut true (I.to_come input)) (O.written out) (O.written result.1) plain_text most_words }
 {
     if input_is_packed(job) {
         run_over(alloc, job, Unpacker::new(input), out, err)

@@ -1,9 +1,10 @@
 //! The engines that copy words from one spelling to another. They don't look at framing.
 
-ghost use Rattle.cap_cmd.specs.Copying.{Copied, CopySettled, Finishes};
+ghost use Rattle.cap_cmd.specs.Copying.{Copied};
+ghost use Rattle.cap_cmd.specs.Engines.{CopiesWords};
 ghost use Rattle.cap_cmd.specs.Putting.{StopsAt, StopsPutting};
 ghost use Rattle.cap_words.specs.Sinks.{sink_fault_of};
-ghost use Rattle.std.specs.Prelude.{◌<◌, ◌≡◌, ◌≤◌, [], ◌∷◌, IfErr, IfOk, List, drop, false, length, take, true, ℕ};
+ghost use Rattle.std.specs.Prelude.{◌≡◌, IfErr, IfOk};
 
 use crate::fault::CopyFault;
 use cap_pack::Packer;
@@ -72,17 +73,7 @@ pub fn run_pack<S: WordSource, O: ByteOut>(
     sink: &mut Packer<O>,
     words: u64,
 ) -> Result<u64, CopyFault>
-    ensures copied { Copied S.WordSource ⟦<Packer<O> as WordSink>⟧ words source.old source.new sink.old sink.new result }
-    // And the other way round, where the words are known. There aren't too many, and the input isn't cut.
-    ensures whole { (own : List ℕ) → S.words source.old ≡ Some own → S.is_cut source.old ≡ false → length own ≤ words →
-        CopySettled result ((result ≡ Ok (length own)) × Finishes ⟦<Packer<O> as WordSink>⟧ sink.old sink.new own) }
-    // The input ends inside a word behind them.
-    ensures cut_short { (own : List ℕ) → S.words source.old ≡ Some own → S.is_cut source.old ≡ true → length own ≤ words →
-        CopySettled result ((byte : ℕ) × (result ≡ Err (CopyFault.Source (SourceFault.Truncated byte))) × (drop (length own) (S.places source.old) ≡ byte ∷ [])
-        × Finishes ⟦<Packer<O> as WordSink>⟧ sink.old sink.new own) }
-    // There are too many.
-    ensures many { (own : List ℕ) → S.words source.old ≡ Some own → words < length own →
-        CopySettled result ((result ≡ Err CopyFault.TooManyWords) × Finishes ⟦<Packer<O> as WordSink>⟧ sink.old sink.new (take words own)) }
+    ensures { CopiesWords S.WordSource ⟦<Packer<O> as WordSink>⟧ words source.old source.new sink.old sink.new result }
 {
     copy_words(source, sink, words)
 }
@@ -94,17 +85,7 @@ pub fn run_unpack<S: WordSource, K: WordSink>(
     sink: &mut K,
     words: u64,
 ) -> Result<u64, CopyFault>
-    ensures copied { Copied S.WordSource K.WordSink words source.old source.new sink.old sink.new result }
-    // And the other way round, where the words are known. There aren't too many, and the input isn't cut.
-    ensures whole { (own : List ℕ) → S.words source.old ≡ Some own → S.is_cut source.old ≡ false → length own ≤ words →
-        CopySettled result ((result ≡ Ok (length own)) × Finishes K.WordSink sink.old sink.new own) }
-    // The input ends inside a word behind them.
-    ensures cut_short { (own : List ℕ) → S.words source.old ≡ Some own → S.is_cut source.old ≡ true → length own ≤ words →
-        CopySettled result ((byte : ℕ) × (result ≡ Err (CopyFault.Source (SourceFault.Truncated byte))) × (drop (length own) (S.places source.old) ≡ byte ∷ [])
-        × Finishes K.WordSink sink.old sink.new own) }
-    // There are too many.
-    ensures many { (own : List ℕ) → S.words source.old ≡ Some own → words < length own →
-        CopySettled result ((result ≡ Err CopyFault.TooManyWords) × Finishes K.WordSink sink.old sink.new (take words own)) }
+    ensures { CopiesWords S.WordSource K.WordSink words source.old source.new sink.old sink.new result }
 {
     copy_words(source, sink, words)
 }

@@ -1,22 +1,17 @@
 //! The engine that shows how each message is cut into segments.
 
-ghost use Rattle.cap_cmd.specs.Running.{Appended, Settled, ShowsSegments, StopsShowing};
-ghost use Rattle.cap_cmd.specs.Streams.{ReadsAll, ReadsStream};
-ghost use Rattle.cap_cmd.specs.Telling.{segments_texts};
+ghost use Rattle.cap_cmd.specs.Engines.{ShowsStream};
 ghost use Rattle.cap_cmd.specs.declared.engines.stream.Mark.TheVariants.{Accepted};
-ghost use Rattle.cap_spec.specs.Frames.{Stream, sizes_of};
 ghost use Rattle.cap_spec.specs.Texts.{segments_text};
-ghost use Rattle.cap_frame.specs.Faults.{Faults};
 ghost use Rattle.cap_frame.specs.Limit.{limit_of};
-ghost use Rattle.std.specs.List.{AllByRecursion};
-ghost use Rattle.std.specs.Prelude.{◌<◌, ◌≡◌, ◌≤◌, [], ◌∷◌, IfOk, IsErrOf, List, false, length, sum, ℕ};
+ghost use Rattle.std.specs.Prelude.{◌≡◌, false};
 
 use crate::engines::stream::{Engine, Mark, tell_all};
 use crate::fault::{Cause, RunFault};
 use crate::settings::{Outcome, Settings};
 use crate::texts::segments::write_segments_text;
-use cap_frame::{FrameFault, Outline, SizeLimit, read_outline};
-use cap_words::{ByteOut, OutFault, WordSource};
+use cap_frame::{Outline, SizeLimit, read_outline};
+use cap_words::{ByteOut, WordSource};
 
 /// Tells how a message is cut into segments, of which its outline is enough.
 #[derive(Clone, Copy)]
@@ -55,25 +50,7 @@ pub fn run_segments<S: WordSource, O: ByteOut>(
     out: &mut O,
     settings: &Settings,
 ) -> Result<Outcome, RunFault>
-    // All words of the source are frames of these messages.
-    ensures ok { IfOk result (λ outcome. (ms : List (List (List ℕ))) × ReadsAll S.WordSource (limit_of settings.now.size) source.old source.new ms
-        × Appended O.ByteOut out.old out.new (segments_texts ms) × (length ms ≤ settings.now.messages)
-        × (outcome ≡ record { messages = length ms; refused = 0; noncanonical = 0 })) }
-    // In each of these the source stood at `mid` when the messages before the fault had been read.
-    ensures too_many { (n : ℕ) → IsErrOf result (record { message = n; cause = Cause.TooManyMessages }) → (n ≡ settings.now.messages)
-        × ((mid : S) × (m : List (List ℕ)) × ShowsSegments S.WordSource O.ByteOut (limit_of settings.now.size) n source.old mid out.old out.new
-        × ReadsStream S.WordSource (limit_of settings.now.size) mid source.new (m ∷ [])) }
-    ensures frame { (n : ℕ) (fault : FrameFault) → IsErrOf result (record { message = n; cause = Cause.Frame fault }) → (n ≤ settings.now.messages)
-        × ((mid : S) × ShowsSegments S.WordSource O.ByteOut (limit_of settings.now.size) n source.old mid out.old out.new
-        × Faults S.WordSource (limit_of settings.now.size) mid source.new fault) }
-    ensures output { (n : ℕ) (fault : OutFault) → IsErrOf result (record { message = n; cause = Cause.Output fault }) → (n < settings.now.messages)
-        × StopsShowing S.WordSource O.ByteOut (limit_of settings.now.size) n source.old source.new out.old out.new fault }
-    // No memory is taken in reading.
-    ensures no_memory { (n : ℕ) → IsErrOf result (record { message = n; cause = Cause.Frame FrameFault.Memory }) → ⊥ }
-    // And the other way round: a stream of at most so many messages, each within the size limit, is read to its end.
-    ensures whole { (own : List ℕ) (ms : List (List (List ℕ))) → S.words source.old ≡ Some own → S.is_cut source.old ≡ false → Stream own ms
-        → AllByRecursion (λ m. sum (sizes_of m) ≤ limit_of settings.now.size) ms → length ms ≤ settings.now.messages →
-        Settled result (Appended O.ByteOut out.old out.new (segments_texts ms) × (result ≡ Ok (record { messages = length ms; refused = 0; noncanonical = 0 }))) }
+    ensures { ShowsStream S.WordSource O.ByteOut (limit_of settings.now.size) settings.now.messages source.old source.new out.old out.new result }
 {
     tell_all(source, out, settings, &SegmentsEngine)
 }

@@ -1,14 +1,9 @@
 //! The engine that tells of each message whether it is accepted.
 
-ghost use Rattle.cap_cmd.specs.Running.{Appended, RunStops, Settled};
-ghost use Rattle.cap_cmd.specs.Streams.{ReadsAll, ReadsStream};
-ghost use Rattle.cap_cmd.specs.Telling.{TellsEach, Told, messages_of, outcome_of, texts_of};
+ghost use Rattle.cap_cmd.specs.Engines.{TellsStream};
 ghost use Rattle.cap_cmd.specs.Vetting.{TellsVerdict};
 ghost use Rattle.cap_frame.specs.Limit.{limit_of};
-ghost use Rattle.cap_spec.specs.Frames.{Stream, sizes_of};
 ghost use Rattle.cap_vet.specs.Limits.{depth_of, words_of};
-ghost use Rattle.std.specs.List.{AllByRecursion};
-ghost use Rattle.std.specs.Prelude.{◌≡◌, ◌≤◌, IfErr, IfOk, List, false, length, sum, ℕ};
 
 use crate::engines::stream::{Mark, tell_all};
 use crate::engines::whole::{Teller, Whole};
@@ -65,20 +60,8 @@ pub fn run_vet<S: WordSource, O: ByteOut>(
     out: &mut O,
     settings: &Settings,
 ) -> Result<Outcome, RunFault>
-    // All words of the source are frames of these messages, each with its verdict.
-    ensures ok { IfOk result (λ outcome. (ts : List Told) × ReadsAll S.WordSource (limit_of settings.now.size) source.old source.new (messages_of ts)
-        × TellsEach (TellsVerdict (words_of settings.now.limits) (depth_of settings.now.limits)) 0 ts × Appended O.ByteOut out.old out.new (texts_of ts)
-        × (length ts ≤ settings.now.messages) × (outcome ≡ outcome_of ts)) }
-    // The source stood at `mid` when the messages before the fault had been read.
-    ensures err { IfErr result (λ fault. (ts : List Told) × (mid : S) × (fault.message ≡ length ts) × (length ts ≤ settings.now.messages)
-        × ReadsStream S.WordSource (limit_of settings.now.size) source.old mid (messages_of ts)
-        × TellsEach (TellsVerdict (words_of settings.now.limits) (depth_of settings.now.limits)) 0 ts
-        × RunStops S.WordSource O.ByteOut (TellsVerdict (words_of settings.now.limits) (depth_of settings.now.limits)) (limit_of settings.now.size) settings.now.messages ts mid source.new out.old out.new fault.cause) }
-    // And the other way round: a stream of at most so many messages, each within the size limit, is read to its end.
-    ensures whole { (own : List ℕ) (ms : List (List (List ℕ))) → S.words source.old ≡ Some own → S.is_cut source.old ≡ false → Stream own ms
-        → AllByRecursion (λ m. sum (sizes_of m) ≤ limit_of settings.now.size) ms → length ms ≤ settings.now.messages →
-        Settled result ((ts : List Told) × (messages_of ts ≡ ms) × TellsEach (TellsVerdict (words_of settings.now.limits) (depth_of settings.now.limits)) 0 ts
-        × Appended O.ByteOut out.old out.new (texts_of ts) × (result ≡ Ok (outcome_of ts))) }
+    ensures { TellsStream S.WordSource O.ByteOut (TellsVerdict (words_of settings.now.limits) (depth_of settings.now.limits))
+        (limit_of settings.now.size) settings.now.messages source.old source.new out.old out.new result }
 {
     let teller = VetTeller {
         limits: settings.limits,

@@ -1,18 +1,41 @@
-use Rattle.std.proofs.Common.{◌∙◌, Option, List, ℕ, subst, sym}
-use Rattle.std.specs.Io.KnownBytes.{Appends, Keeps}
+use Rattle.std.proofs.Common.{◌∙◌, ap, subst, sym}
+use Rattle.std.specs.Io.KnownBytes.{append_known}
 use Rattle.cap_spec.specs.Packing.{pack_text}
-use Rattle.cap_cmd.proofs.CopyEnds.{copied_all, kept_appends}
+use Rattle.cap_spec.specs.Plain.{plain_text}
+use Rattle.cap_cmd.specs.Engines.{most_words}
+use Rattle.cap_cmd.specs.Jobs.{GivesOutput}
+use Rattle.cap_cmd.proofs.JobEnds.{all_copied, does_pack, does_unpack}
 use Rattle.cap_cmd.proofs.running.run_over.Goals as goal
+
+pub returns-in-Pack-clause-does : goal.returns-in-Pack-clause-does
+returns-in-Pack-clause-does g c =
+    let new = c.new-sink.ensures in
+    let last = c.run_pack-answer.new.sink in
+    does_pack g.S.WordSource g.O.ByteOut g.E.ByteOut _ _ c.args.job.now.task c.args.job.now.settings c.args.source c.run_pack-answer.new.source c.args.out c.into_inner.result
+    c.args.err.now c.report_copy.new.err c.report_copy.result c.new-sink.result last c.run_pack-answer.result c.in-Pack.is
+    (record { empty = new.empty; taken = new.starts; closed = new.open; spent = new.spent; failures = new.failures c.new-sink.result ∙ ap (λ o. g.O.ByteOut.failures o) new.output })
+    c.run_pack-answer.ensures
+    (subst (GivesOutput g.O.ByteOut _ last) (sym c.into_inner.ensures) (record { taken = new.taken last; spent = new.when_spent last; failures = new.failures last }))
+    c.report_copy.ensures
 
 pub returns-in-Pack-clause-pack : goal.returns-in-Pack-clause-pack
 returns-in-Pack-clause-pack g c = λ _ h.
-    let k = copied_all g.S.WordSource _ 1099511627776 c.args.source _ c.new-sink.result c.run_pack-answer.new.sink c.run_pack-answer.result (sym c.report_copy.ensures ∙ h) c.run_pack-answer.ensures.copied in
-    let kept = subst (λ (o : Option (List ℕ)). Keeps o (g.O.ByteOut.written c.run_pack-answer.new.sink.output)) (c.new-sink.ensures.empty k.0) k.1.finishes.finished in
-    record {
-      own = k.0;
-      all = k.1.all;
-      few = k.1.few;
-      appended =
-          subst (λ o. Appends (g.O.ByteOut.written c.args.out) (g.O.ByteOut.written o) (pack_text k.0)) (sym c.into_inner.ensures)
-          (kept_appends (g.O.ByteOut.written c.args.out) (g.O.ByteOut.written c.run_pack-answer.new.sink.output) (pack_text k.0) kept);
-    }
+    let new = c.new-sink.ensures in
+    let last = c.run_pack-answer.new.sink in
+    all_copied g.S.WordSource g.O.ByteOut _ pack_text most_words c.args.source c.run_pack-answer.new.source c.args.out c.into_inner.result c.new-sink.result last
+    c.run_pack-answer.result (sym c.report_copy.ensures.status_is ∙ h)
+    (record { empty = new.empty; taken = new.starts; closed = new.open; spent = new.spent; failures = new.failures c.new-sink.result ∙ ap (λ o. g.O.ByteOut.failures o) new.output })
+    c.run_pack-answer.ensures
+    (subst (GivesOutput g.O.ByteOut _ last) (sym c.into_inner.ensures) (record { taken = new.taken last; spent = new.when_spent last; failures = new.failures last }))
+
+pub returns-clause-does : goal.returns-clause-does
+returns-clause-does g c =
+    let new = c.new-sink-in-Unpack.ensures in
+    let first = c.new-sink-in-Unpack.result in
+    let last = c.run_unpack-answer.new.sink in
+    does_unpack g.S.WordSource g.O.ByteOut g.E.ByteOut _ _ c.args.job.now.task c.args.job.now.settings c.args.source c.run_unpack-answer.new.source c.args.out c.into_inner-in-Unpack.result
+    c.args.err.now c.report_copy-in-Unpack.new.err c.report_copy-in-Unpack.result first last c.run_unpack-answer.result c.in-Unpack.is
+    (record { empty = λ ws. new.holds_nothing first ws ∙ ap (λ o. append_known o (plain_text ws)) new.taken; taken = new.taken; closed = new.closed; spent = new.spent; failures = new.failures })
+    c.run_unpack-answer.ensures
+    (subst (GivesOutput g.O.ByteOut _ last) (sym c.into_inner-in-Unpack.ensures) (record { taken = new.shows_taken last; spent = new.when_spent last; failures = new.shows_failures last }))
+    c.report_copy-in-Unpack.ensures

@@ -8,42 +8,38 @@ use Rattle.cap_cmd.proofs.Shown.{ShowsText, each_shown, shows, stops_showing, ou
 use Rattle.cap_cmd.proofs.Telling.{length-messages_of}
 use Rattle.cap_cmd.proofs.engines.segments.run_segments.Goals as goal
 
-pub returns-clause-ok : goal.returns-clause-ok
-returns-clause-ok g c =
-    IfOk-weaker c.tell_all.result _ _
-    (λ o e. (
-      messages_of e.0,
-      e.1,
-      subst (Appended g.O.ByteOut c.args.out.now c.tell_all.new.out) (texts_shown 0 e.0 e.2) e.3,
-      rw (length-messages_of e.0) e.4,
-      outcome_shown e.0 o e.2 e.5,
-    )) c.tell_all.ensures.ok
-
-pub returns-clause-too_many : goal.returns-clause-too_many
-returns-clause-too_many g c n h =
-    let e = rw h at c.tell_all.ensures.err in (
-      e.2 ∙ e.6.0,
-      (e.1, e.6.2.0, shows g.S.WordSource g.O.ByteOut (limit_of c.args.settings.now.size) n _ _ _ _ e.0 e.2 e.4 e.5 e.6.1, e.6.2.1),
-    )
-
-pub returns-clause-frame : goal.returns-clause-frame
-returns-clause-frame g c n fault h =
-    let e = rw h at c.tell_all.ensures.err in (
-      omega (arith, e.2, e.3),
-      (e.1, shows g.S.WordSource g.O.ByteOut (limit_of c.args.settings.now.size) n _ _ _ _ e.0 e.2 e.4 e.5 e.6.0, e.6.1),
-    )
-
-pub returns-clause-output : goal.returns-clause-output
-returns-clause-output g c n fault h =
-    let e = rw h at c.tell_all.ensures.err in (
-      omega (arith, e.2, e.6.1),
-      stops_showing g.S.WordSource g.O.ByteOut (limit_of c.args.settings.now.size) n _ _ _ _ _ _ e.0 e.6.0 e.2 e.4 e.5 e.6.2 e.6.3 e.6.4,
-    )
-
-pub returns-clause-whole : goal.returns-clause-whole
-returns-clause-whole g c = λ own ms w i s l few.
+pub returns : goal.returns
+returns g c =
     let limit = limit_of c.args.settings.now.size in
-    settled_map c.tell_all.result _ _
-    (each_shown g.S.WordSource g.O.ByteOut limit c.args.source.now c.tell_all.new.source c.args.out.now c.tell_all.new.out c.args.settings.now.messages ms c.tell_all.result)
-    (settled g.S.WordSource g.O.ByteOut ShowsText limit c.args.settings.now.messages c.args.source.now c.tell_all.new.source c.args.out.now c.tell_all.new.out c.tell_all.result own ms
-    c.tell_all.ensures.ok c.tell_all.ensures.err w i s l few)
+    let most = c.args.settings.now.messages in
+    record {
+      ok = IfOk-weaker c.tell_all.result _ _
+          (λ o e. (
+            messages_of e.0,
+            e.1,
+            subst (Appended g.O.ByteOut c.args.out.now c.tell_all.new.out) (texts_shown 0 e.0 e.2) e.3,
+            rw (length-messages_of e.0) e.4,
+            outcome_shown e.0 o e.2 e.5,
+          )) c.tell_all.ensures.ok;
+      too_many = λ n h.
+          let e = rw h at c.tell_all.ensures.err in (
+            e.2 ∙ e.6.0,
+            (e.1, e.6.2.0, shows g.S.WordSource g.O.ByteOut limit n _ _ _ _ e.0 e.2 e.4 e.5 e.6.1, e.6.2.1),
+          );
+      frame = λ n fault h.
+          let e = rw h at c.tell_all.ensures.err in (
+            omega (arith, e.2, e.3),
+            (e.1, shows g.S.WordSource g.O.ByteOut limit n _ _ _ _ e.0 e.2 e.4 e.5 e.6.0, e.6.1),
+          );
+      output = λ n fault h.
+          let e = rw h at c.tell_all.ensures.err in (
+            omega (arith, e.2, e.6.1),
+            stops_showing g.S.WordSource g.O.ByteOut limit n _ _ _ _ _ _ e.0 e.6.0 e.2 e.4 e.5 e.6.2 e.6.3 e.6.4,
+          );
+      no_memory = λ n h. absurd (let e = c.tell_all.ensures.memory n h in cc);
+      whole = λ own ms w i s l few.
+          settled_map c.tell_all.result _ _
+          (each_shown g.S.WordSource g.O.ByteOut limit c.args.source.now c.tell_all.new.source c.args.out.now c.tell_all.new.out most ms c.tell_all.result)
+          (settled g.S.WordSource g.O.ByteOut ShowsText limit most c.args.source.now c.tell_all.new.source c.args.out.now c.tell_all.new.out c.tell_all.result own ms
+          c.tell_all.ensures.ok c.tell_all.ensures.err w i s l few);
+    }

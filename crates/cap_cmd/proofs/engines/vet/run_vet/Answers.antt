@@ -4,7 +4,11 @@ use Rattle.cap_cmd.specs.Vetting.{TellsVerdict}
 use Rattle.cap_cmd.proofs.Settling.{settled}
 use Rattle.cap_cmd.proofs.engines.vet.run_vet.Goals as goal
 
-pub returns-clause-whole : goal.returns-clause-whole
-returns-clause-whole g c = λ own ms.
-    settled g.S.WordSource g.O.ByteOut (TellsVerdict (words_of c.args.settings.now.limits) (depth_of c.args.settings.now.limits)) (limit_of c.args.settings.now.size) c.args.settings.now.messages
-    c.args.source.now c.tell_all.new.source c.args.out.now c.tell_all.new.out c.tell_all.result own ms c.tell_all.ensures.ok c.tell_all.ensures.err
+pub returns : goal.returns
+returns g c = record {
+  ok = c.tell_all.ensures.ok;
+  err = c.tell_all.ensures.err;
+  whole = λ own ms.
+      settled g.S.WordSource g.O.ByteOut (TellsVerdict (words_of c.args.settings.now.limits) (depth_of c.args.settings.now.limits)) (limit_of c.args.settings.now.size) c.args.settings.now.messages
+      c.args.source.now c.tell_all.new.source c.args.out.now c.tell_all.new.out c.tell_all.result own ms c.tell_all.ensures.ok c.tell_all.ensures.err;
+}

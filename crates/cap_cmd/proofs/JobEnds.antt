@@ -1,0 +1,100 @@
+-- What a job did, and what it did whose status is that of success.
+use Rattle.std.proofs.Common.{◌≡◌, ◌∙◌, ℕ, Option, List, Result, Ok, Err, subst, sym, ap, arith}
+use Rattle.std.specs.Io.KnownBytes.{Appends, Keeps}
+use Rattle.cap_words.specs.declared.ends.ByteOut as output
+use Rattle.cap_words.specs.declared.sinks.WordSink as sink
+use Rattle.cap_words.specs.declared.sources.WordSource as source
+use Rattle.cap_frame.specs.declared.fault.FrameFault.{FrameFault}
+use Rattle.cap_frame.specs.declared.fault.FrameFault.TheVariants.{TooManySegments, TooLarge, Truncated, Device, Memory, Spent}
+use Rattle.cap_spec.specs.Packing.{pack_text}
+use Rattle.cap_spec.specs.Plain.{plain_text}
+use Rattle.cap_cmd.specs.Engines.{CopiesWords, ShowsStream, TellsStream, most_words}
+use Rattle.cap_cmd.specs.Faults.{cause_status, copy_status, frame_status, outcome_status, run_status}
+use Rattle.cap_cmd.specs.Jobs.{BeginsOutput, CopiesInput, DoesTask, GivesOutput, ShowsInput, TellsCopy, VetsInput}
+use Rattle.cap_cmd.specs.Telling.{outcome_of, refused_in}
+use Rattle.cap_cmd.specs.Vetting.{TellsVerdict}
+use Rattle.cap_cmd.specs.declared.fault.Cause.{Cause}
+use Rattle.cap_cmd.specs.declared.fault.Cause.TheVariants.{TooManyMessages, Frame, Output}
+use Rattle.cap_cmd.specs.declared.fault.CopyFault.{CopyFault}
+use Rattle.cap_cmd.specs.declared.fault.RunFault.{RunFault}
+use Rattle.cap_cmd.specs.declared.job.Task.{Task}
+use Rattle.cap_cmd.specs.declared.job.Task.TheVariants.{Pack, Unpack}
+use Rattle.cap_cmd.specs.declared.settings.Outcome.{Outcome}
+use Rattle.cap_cmd.specs.declared.settings.Settings.{Settings}
+use Rattle.cap_cmd.proofs.CopyEnds.{copied_all, kept_appends}
+
+-- no fault has that status
+pub frame_fails : (fault : FrameFault) → frame_status fault ≡ 0 → ⊥
+frame_fails (TooManySegments n) e = cc
+frame_fails (TooLarge n) e = cc
+frame_fails (Truncated n) e = cc
+frame_fails Device e = cc
+frame_fails Memory e = cc
+frame_fails Spent e = cc
+
+pub cause_fails : (cause : Cause) → cause_status cause ≡ 0 → ⊥
+cause_fails TooManyMessages e = cc
+cause_fails (Frame fault) e = frame_fails fault e
+cause_fails (Output fault) e = cc
+
+-- with it no message was refused
+pub none_refused : (o : Outcome) → outcome_status o ≡ 0 → o.refused ≡ 0
+none_refused o e = grind (arith, e)
+
+module _ {S O : Type 0} (gs : source.Ghosts S) (go : output.Ghosts O) where
+  -- all messages were shown
+  pub shown_all : (limit most : ℕ) (old new : S) (before after : O) (r : Result Outcome RunFault) → run_status r ≡ 0 → ShowsStream gs go limit most old new before after r
+      → ShowsInput (gs.words old) (gs.is_cut old) (go.written before) (go.written after) limit most
+  shown_all limit most old new before after (Ok o) e s =
+      let k = s.ok in
+      record { own = k.1.own; all = k.1.all; ms = k.0; stream = k.1.stream; within = k.1.within; many = k.3; appended = k.2.appended }
+  shown_all limit most old new before after (Err fault) e s = absurd (cause_fails fault.cause e)
+
+  -- all messages were accepted
+  pub vetted_all : (charge depth limit most : ℕ) (old new : S) (before after : O) (r : Result Outcome RunFault) → run_status r ≡ 0
+      → TellsStream gs go (TellsVerdict charge depth) limit most old new before after r
+      → VetsInput (gs.words old) (gs.is_cut old) (go.written before) (go.written after) charge depth limit most
+  vetted_all charge depth limit most old new before after (Ok o) e s =
+      let k = s.ok in
+      record {
+        own = k.1.own;
+        all = k.1.all;
+        ts = k.0;
+        stream = k.1.stream;
+        within = k.1.within;
+        many = k.4;
+        each = k.2;
+        accepted = none_refused (outcome_of k.0) (subst (λ (x : Outcome). outcome_status x ≡ 0) k.5 e);
+        appended = k.3.appended;
+      }
+  vetted_all charge depth limit most old new before after (Err fault) e s = absurd (cause_fails fault.cause e)
+
+module _ {S O K : Type 0} (gs : source.Ghosts S) (go : output.Ghosts O) (gk : sink.Ghosts K) where
+  -- all words were copied
+  pub all_copied : (text : List ℕ → List ℕ) (most : ℕ) (old new : S) (before after : O) (begun ended : K) (r : Result ℕ CopyFault) → copy_status r ≡ 0
+      → BeginsOutput go gk text before begun → CopiesWords gs gk most old new begun ended r → GivesOutput go gk ended after
+      → CopiesInput (gs.words old) (gs.is_cut old) (go.written before) (go.written after) text most
+  all_copied text most old new before after begun ended r e b c g =
+      let k = copied_all gs gk most old new begun ended r e c.copied in
+      let kept = subst (λ (o : Option (List ℕ)). Keeps o (gk.taken ended)) (b.empty k.0) k.1.finishes.finished in
+      record {
+        own = k.0;
+        all = k.1.all;
+        few = k.1.few;
+        appended = subst (λ o. Appends (go.written before) o (text k.0)) g.taken (kept_appends (go.written before) (gk.taken ended) (text k.0) kept);
+      }
+
+module _ {S O E P U : Type 0} (gs : source.Ghosts S) (go : output.Ghosts O) (ge : output.Ghosts E) (gp : sink.Ghosts P) (gu : sink.Ghosts U) where
+  -- words were packed
+  pub does_pack : (task : Task) (s : Settings) (first last : S) (before after : O) (old new : E) (status : ℕ) (begun ended : P) (answer : Result ℕ CopyFault) → task ≡ Pack
+      → BeginsOutput go gp pack_text before begun → CopiesWords gs gp most_words first last begun ended answer → GivesOutput go gp ended after → TellsCopy ge answer old new status
+      → DoesTask gs go ge gp gu task s first before after old new status
+  does_pack task s first last before after old new status begun ended answer e b c g t =
+      subst (λ (x : Task). DoesTask gs go ge gp gu x s first before after old new status) (sym e) (answer, last, begun, ended, b, c, g, t)
+
+  -- words were unpacked
+  pub does_unpack : (task : Task) (s : Settings) (first last : S) (before after : O) (old new : E) (status : ℕ) (begun ended : U) (answer : Result ℕ CopyFault) → task ≡ Unpack
+      → BeginsOutput go gu plain_text before begun → CopiesWords gs gu most_words first last begun ended answer → GivesOutput go gu ended after → TellsCopy ge answer old new status
+      → DoesTask gs go ge gp gu task s first before after old new status
+  does_unpack task s first last before after old new status begun ended answer e b c g t =
+      subst (λ (x : Task). DoesTask gs go ge gp gu x s first before after old new status) (sym e) (answer, last, begun, ended, b, c, g, t)
