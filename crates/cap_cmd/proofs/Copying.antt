@@ -12,8 +12,8 @@ use Rattle.cap_words.specs.declared.sources.WordSource as source
 use Rattle.cap_frame.proofs.Taking.{takes_none, takes_one, takes_both}
 use Rattle.cap_frame.specs.Putting.{Blames, Halts}
 use Rattle.cap_frame.proofs.Putting.{begins_kept, blames_later}
-use Rattle.cap_cmd.specs.Copying.{Copied, Finishes, Gives, Spoils, StopsCopying}
-use Rattle.cap_cmd.specs.Putting.{Copies, Fills, StopsAt, StopsPutting}
+use Rattle.cap_cmd.specs.Copying.{Copied, Fills, Finishes, Gives, Spoils, StopsFinishing, StopsMidway}
+use Rattle.cap_cmd.specs.Putting.{Copies, StopsAt, StopsPutting}
 use Rattle.cap_cmd.specs.declared.fault.CopyFault.{CopyFault}
 use Rattle.cap_cmd.specs.declared.fault.CopyFault.TheVariants.{TooManyWords, Source, Output}
 use Rattle.cap_cmd.proofs.Streams.{all_taken}
@@ -69,14 +69,6 @@ module _ {K : Type 0} (gk : sink.Ghosts K) where
       subst (λ (xs : List ℕ). Begins (gk.text old xs) (gk.taken new)) (sym (append_assoc own (word ∷ []) ws))
       (begins_kept (gk.text old (own ++ (word ∷ ws))) (gk.text mid (word ∷ ws)) (gk.taken new) (f.put (word ∷ ws)) (h.stopped ws))
 
-  pub spoils_behind : (old mid new : K) (own : List ℕ) (word : ℕ) (out : OutFault) → Fills gk old mid own → Halts gk mid new (word ∷ []) (sink_fault_of out)
-      → Spoils gk old new (own ++ word ∷ []) out
-  spoils_behind old mid new own word out f h = record {
-    blames = blames_later gk old mid new (sink_fault_of out) f.spent f.failures h.blames;
-    closed = h.closed;
-    part = subst (λ (xs : List ℕ). Begins (gk.text old xs) (gk.taken new)) (append-nil (own ++ word ∷ [])) (stopped_behind old mid new own word (sink_fault_of out) f h []);
-  }
-
 module _ {K : Type 0} (gk : sink.Ghosts K) where
   -- the sink was finished behind these words
   pub finishes_behind : (old mid new : K) (own : List ℕ) → Fills gk old mid own → Keeps (gk.text mid []) (gk.taken new)
@@ -122,11 +114,13 @@ module _ {S K : Type 0} (gs : source.Ghosts S) (gk : sink.Ghosts K) where
   pub copies_stops : (most : ℕ) (old now new : S) (before between after : K) (n word : ℕ) (out : OutFault) → n < most → Copies gs gk old now before between n
       → Gives gs now new (word ∷ []) → Halts gk between after (word ∷ []) (sink_fault_of out) → StopsAt gs gk most old new before after out
   copies_stops most old now new before between after n word out less c g h = record {
-    own = c.own ++ word ∷ [];
-    few = omega (arith, less, c.many, length-append c.own (word ∷ []));
+    done = c.own;
+    word = word;
+    between = between;
+    few = omega (arith, less, c.many);
     gives = gives_both gs old now new c.own (word ∷ []) c.gives g;
-    spoils = spoils_behind gk before between after c.own word out c.fills h;
-    stopped = stopped_behind gk before between after c.own word (sink_fault_of out) c.fills h;
+    fills = c.fills;
+    halts = h;
   }
 
   -- the sink was finished behind the words that were put
@@ -162,20 +156,32 @@ module _ {S K : Type 0} (gs : source.Ghosts S) (gk : sink.Ghosts K) where
   -- the output failed as the sink was finished
   pub copied_spoiled : (most : ℕ) (old new : S) (before between after : K) (r : Result ℕ CopyFault) (out : OutFault) → StopsPutting gs gk most old new before between r
       → (gk.closed after ≡ true) × Begins (gk.text between []) (gk.taken after) → Blames gk between after (sink_fault_of out)
-      → StopsCopying gs gk most old new before after out
+      → StopsFinishing gs gk most old new before after out
   copied_spoiled most old new before between after (Ok n) out s e b =
       let c = s.2 in
-      record { own = c.own; mid = s.0; few = omega (arith, s.1, c.many); gives = c.gives; spoils = spoils_last gk before between after c.own out c.fills e b; at = inr (inl s.3) }
+      record { own = c.own; mid = s.0; few = omega (arith, s.1, c.many); gives = c.gives; spoils = spoils_last gk before between after c.own out c.fills e b; none = inl s.3 }
   copied_spoiled most old new before between after (Err TooManyWords) out s e b =
       let c = s.2 in
-      record { own = c.own; mid = s.0; few = omega (arith, c.many); gives = c.gives; spoils = spoils_last gk before between after c.own out c.fills e b; at = inr (inr (inr (c.many, (s.1, s.3)))) }
+      record { own = c.own; mid = s.0; few = omega (arith, c.many); gives = c.gives; spoils = spoils_last gk before between after c.own out c.fills e b; none = inr (inr (c.many, (s.1, s.3))) }
   copied_spoiled most old new before between after (Err (Source fault)) out s e b =
       let c = s.3 in
-      record { own = c.own; mid = s.0; few = omega (arith, s.2, c.many); gives = c.gives; spoils = spoils_last gk before between after c.own out c.fills e b; at = inr (inr (inl (fault, s.4))) }
+      record { own = c.own; mid = s.0; few = omega (arith, s.2, c.many); gives = c.gives; spoils = spoils_last gk before between after c.own out c.fills e b; none = inr (inl (fault, s.4)) }
   copied_spoiled most old new before between after (Err (Output fault)) out s e b = absurd s
 
   -- the output failed at a word
   pub copied_stopped : (most : ℕ) (old new : S) (before after : K) (out : OutFault) → StopsAt gs gk most old new before after out
-      → StopsCopying gs gk most old new before after out
-  copied_stopped most old new before after out s =
-      record { own = s.own; mid = new; few = s.few; gives = s.gives; spoils = s.spoils; at = inl (refl, s.stopped) }
+      → StopsMidway gs gk most old new before after out
+  copied_stopped most old new before after out s = record {
+    done = s.done;
+    piece = s.word ∷ [];
+    mid = new;
+    between = s.between;
+    few = omega (arith, s.few, length-append s.done (s.word ∷ []));
+    some = omega arith;
+    at_once = omega arith;
+    gives = s.gives;
+    behind = inl refl;
+    fills = s.fills;
+    halts = s.halts;
+    part = stopped_behind gk before s.between after s.done s.word (sink_fault_of out) s.fills s.halts;
+  }

@@ -35,7 +35,8 @@ pub enum CopyFault {
     /// The source answered this. The words before it were put, and the sink finished.
     #[error("source: {0:?}")]
     Source(SourceFault),
-    /// The output didn't take the words. What it took is a beginning of their text.
+    /// The output didn't take the words. What it took is a beginning of their text, and no word was
+    /// read behind the piece of them at which it failed.
     #[error("output: {0:?}")]
     Output(OutFault),
 }

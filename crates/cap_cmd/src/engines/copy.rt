@@ -67,7 +67,8 @@ fn copy_words<S: WordSource, K: WordSink>(
 /// Packs the words of a source, at most so many, finishes the packer, and answers how many words
 /// there were. It finishes the packer before a fault of the source too, and where there was a word
 /// too many. Where the output fails, that is the fault, and what the output took is a beginning of
-/// the text.
+/// the text. All words that were read were handed to the packer then: it took those before the piece
+/// at which the output failed, one of at most 64 words, and nothing is read behind that.
 pub fn run_pack<S: WordSource, O: ByteOut>(
     source: &mut S,
     sink: &mut Packer<O>,
