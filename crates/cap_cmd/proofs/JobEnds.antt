@@ -1,5 +1,5 @@
 -- What a job did, and what it did whose status is that of success.
-use Rattle.std.proofs.Common.{◌≡◌, ◌∙◌, ℕ, Option, List, Result, Ok, Err, subst, sym, ap, arith}
+use Rattle.std.proofs.Common.{◌≡◌, ℕ, Option, List, Result, Ok, Err, subst, sym, arith}
 use Rattle.std.specs.Io.KnownBytes.{Appends, Keeps}
 use Rattle.cap_words.specs.declared.ends.ByteOut as output
 use Rattle.cap_words.specs.declared.sinks.WordSink as sink
@@ -11,7 +11,7 @@ use Rattle.cap_spec.specs.Plain.{plain_text}
 use Rattle.cap_cmd.specs.Engines.{CopiesWords, ShowsStream, TellsStream, most_words}
 use Rattle.cap_cmd.specs.Faults.{cause_status, copy_status, frame_status, outcome_status, run_status}
 use Rattle.cap_cmd.specs.Jobs.{BeginsOutput, CopiesInput, DoesTask, GivesOutput, ShowsInput, TellsCopy, VetsInput}
-use Rattle.cap_cmd.specs.Telling.{outcome_of, refused_in}
+use Rattle.cap_cmd.specs.Telling.{outcome_of}
 use Rattle.cap_cmd.specs.Vetting.{TellsVerdict}
 use Rattle.cap_cmd.specs.declared.fault.Cause.{Cause}
 use Rattle.cap_cmd.specs.declared.fault.Cause.TheVariants.{TooManyMessages, Frame, Output}

@@ -1,5 +1,5 @@
 -- The whole contract of each engine: what its answer says of its source and its output, and what it answers where the words are known (profile). gs, go and gk have the members of their types.
-use Rattle.std.specs.Prelude.{ℕ, ◌≡◌, ◌<◌, ◌≤◌, ◌^◌, false, true, List, [], ◌∷◌, length, sum, take, drop, Some, Result, Ok, Err, IfOk, IfErr, IsErrOf}
+use Rattle.std.specs.Prelude.{ℕ, ◌-◌, ◌≡◌, ◌<◌, ◌≤◌, ◌^◌, false, true, List, [], ◌∷◌, length, sum, take, drop, Some, Result, Ok, Err, IfOk, IfErr, IsErrOf}
 use Rattle.std.specs.List.{AllByRecursion}
 use Rattle.cap_spec.specs.Frames.{Stream, sizes_of}
 use Rattle.cap_words.specs.declared.ends.ByteOut as output
@@ -24,6 +24,10 @@ use Rattle.cap_cmd.specs.declared.settings.Outcome.{Outcome}
 -- the most words that the program packs or unpacks
 abbrev pub most_words : ℕ
 most_words = 2 ^ 40
+
+-- the most messages of a stream that the program reads
+abbrev pub most_messages : ℕ
+most_messages = 2 ^ 32 - 1
 
 module _ {S O : Type 0} (gs : source.Ghosts S) (go : output.Ghosts O) where
   -- What an engine does that writes such texts of the messages of a stream, of at most so many messages, each of at most `limit` words.

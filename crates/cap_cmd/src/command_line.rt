@@ -1,6 +1,7 @@
 //! The command line: what the program's words ask for.
 
-ghost use Rattle.std.specs.Prelude.{◌-◌, ◌^◌, ◌≡◌, IfOk};
+ghost use Rattle.cap_cmd.specs.Engines.{most_messages};
+ghost use Rattle.std.specs.Prelude.{◌≡◌, IfOk};
 
 use crate::job::{Job, JobFault, Task};
 use crate::settings::Settings;
@@ -192,7 +193,7 @@ fn limits_of(options: &ArgMatches<'_>) -> Option<Limits> {
 // The job of a subcommand.
 fn job_of(alloc: Global, task: Task, options: &ArgMatches<'_>) -> Result<Job, JobFault>
     ensures task { IfOk result (λ job. job.task ≡ task) }
-    ensures messages { IfOk result (λ job. job.settings.messages ≡ 2 ^ 32 - 1) }
+    ensures messages { IfOk result (λ job. job.settings.messages ≡ most_messages) }
 {
     let words = options.get_one::<u64>("size").unwrap_or(DEFAULT_SIZE);
     let Some(size) = SizeLimit::new(words) else {
@@ -230,7 +231,7 @@ fn job_of(alloc: Global, task: Task, options: &ArgMatches<'_>) -> Result<Job, Jo
 /// for the user.
 /// `Memory` comes only where a growth was refused.
 pub fn read_job(alloc: Global, words: Vec<String>) -> Result<Job, JobFault>
-    ensures messages { IfOk result (λ job. job.settings.messages ≡ 2 ^ 32 - 1) }
+    ensures messages { IfOk result (λ job. job.settings.messages ≡ most_messages) }
 {
     let Ok(command) = capvet_command(alloc) else {
         return Err(JobFault::Memory);
