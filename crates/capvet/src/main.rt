@@ -12,6 +12,9 @@ use std::{env, fs, io};
 // How many bytes are written at a time.
 const BUFFER: usize = 65536;
 
+// How many bytes of a fault's line are held, which is more than any has.
+const LINE: usize = 256;
+
 // The exit statuses of what goes wrong outside a job.
 const USAGE: u8 = 2;
 
@@ -51,7 +54,8 @@ fn open_and_run(rt: &HostRuntime, job: &Job) -> u8 {
     }
 }
 
-// Runs the job on this input, with standard output behind it, and flushes that.
+// Runs the job on this input, with standard output behind it, and flushes that. The line of a fault
+// is held until then, so that it comes behind the texts where both go to one place.
 fn run_on<R: Read + Drop>(rt: &HostRuntime, job: &Job, input: R) -> u8 {
     let Ok(input) = BufferedIn::new(rt.alloc(), input) else {
         return out_of_memory(rt);
@@ -60,14 +64,18 @@ fn run_on<R: Read + Drop>(rt: &HostRuntime, job: &Job, input: R) -> u8 {
         Ok(out) => FromWrite::new(out),
         Err(_) => return out_of_memory(rt),
     };
-    let mut err = FromWrite::new(rt.stderr());
+    let mut err = match BufWriter::with_capacity(rt.alloc(), LINE, rt.stderr()) {
+        Ok(err) => FromWrite::new(err),
+        Err(_) => return out_of_memory(rt),
+    };
     let (status, out) = run_job(rt.alloc(), job, input, out, &mut err);
-    if out.has_failed() {
-        return status;
-    }
-    match out.into_inner().flush() {
-        Ok(()) => status,
-        Err(_) => fail(rt, "capvet: output failed\n", FAILED),
+    // An output that failed has its line already.
+    let is_told = out.has_failed() || out.into_inner().flush().is_ok();
+    let _ = err.into_inner().flush();
+    if is_told {
+        status
+    } else {
+        fail(rt, "capvet: output failed\n", FAILED)
     }
 }
 
