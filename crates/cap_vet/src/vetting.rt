@@ -2,13 +2,14 @@
 
 ghost use Rattle.cap_spec.specs.Denoting.{Denotes};
 ghost use Rattle.cap_spec.specs.Faults.{IsRefused};
-ghost use Rattle.cap_spec.specs.Tree.{Tree};
+ghost use Rattle.cap_spec.specs.Tree.{Tree, pointer_count};
+ghost use Rattle.cap_spec.specs.declared.Refusal.{Refusal};
 ghost use Rattle.cap_spec.specs.Verdicts.{Justified};
 ghost use Rattle.cap_vet.specs.Limits.{depth_of, words_of};
 ghost use Rattle.cap_vet.specs.Reports.{IsAccepted};
 ghost use Rattle.cap_vet.specs.Vettings.{message_of, report_of};
 ghost use Rattle.cap_vet.specs.Walking.{IsWalking};
-ghost use Rattle.std.specs.Prelude.{◌<◌, ◌≡◌, ◌≤◌, [], ◌∷◌, ◌++◌, IfErr, IfNone, IfOk, IfSome, IsOk, length, ℕ};
+ghost use Rattle.std.specs.Prelude.{Err, ◌<◌, ◌≡◌, ◌≤◌, [], ◌∷◌, ◌++◌, IfErr, IfNone, IfOk, IfSome, IsOk, length, ℕ};
 
 use crate::frame::Frame;
 use crate::limits::Limits;
@@ -33,6 +34,8 @@ pub fn vet<'m, M: Segments>(message: &'m M, limits: Limits) -> Result<Vetted<'m,
 
     // The other direction: what denotes a tree within the limits is accepted.
     ensures accepts { (t : Tree) (c d : ℕ) → Denotes (M.segments message.now) 0 0 t c d → c ≤ words_of limits → d ≤ depth_of limits → IsOk result }
+    ensures refuses { (r : Refusal) → IsRefused (M.segments message.now) (words_of limits) (depth_of limits) r → result ≡ Err r }
+    ensures one { (t : Tree) (c d : ℕ) → Denotes (M.segments message.now) 0 0 t c d → IfOk result (λ v. ((report_of v).charge ≡ c) × ((report_of v).depth ≡ d) × ((report_of v).pointers ≡ pointer_count t)) }
 {
     match walk(message, &limits) {
         Ok(report) => Ok(Vetted { message, report }),
