@@ -14,3 +14,7 @@ mod Verdicts
 mod ObjectFrames
 mod Looks
 mod Keeping
+mod Founds
+mod Nodes
+mod Shown
+mod Stepping

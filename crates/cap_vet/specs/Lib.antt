@@ -1,9 +1,17 @@
+pub mod Arriving
+pub mod Budgets
+pub mod Finding
 pub mod Frames
+pub mod Getting
+pub mod Handles
 pub mod Limits
 pub mod Looking
+pub mod Nodes
 pub mod Owing
+pub mod Owns
 pub mod Reports
 pub mod Shapes
+pub mod Spots
 pub mod Trails
 pub mod Turning
 pub mod Vettings

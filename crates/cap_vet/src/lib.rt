@@ -1,21 +1,35 @@
 //! The walk through a message: whether its root denotes a tree within limits.
 #![tactic(auto)]
 
+pub mod budget;
+pub mod charged;
+
+mod found;
 mod frame;
 pub mod limits;
 mod looking;
+pub mod node;
+pub mod place;
 pub mod report;
+mod spot;
 mod targets;
 pub mod vetted;
 pub mod vetting;
+pub mod view;
 mod walking;
 
 pub use cap_ptr::Reason;
-pub use cap_spec::Refusal;
+pub use cap_spec::{Kind, Refusal, Step};
+pub use budget::Budget;
+pub use charged::get_charged;
+
 pub use limits::Limits;
+pub use node::Node;
+pub use place::Place;
 pub use report::Report;
 pub use vetted::Vetted;
 pub use vetting::vet;
+pub use view::View;
 
 #[cfg(test)]
 mod tests;

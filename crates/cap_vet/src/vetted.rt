@@ -3,8 +3,11 @@
 ghost use Rattle.cap_vet.specs.Reports.{IsVetted};
 ghost use Rattle.std.specs.Prelude.{◌≡◌, ⊤};
 
+use crate::node::Node;
 use crate::report::Report;
+use crate::spot::Spot;
 use cap_frame::Segments;
+use cap_spec::Step;
 use std::alloc::AllocError;
 
 /// A message whose root denotes one finite tree, of the reported numbers, within the greatest limits:
@@ -28,7 +31,13 @@ impl<'m, M: Segments> Clone for Vetted<'m, M> {
 impl<'m, M: Segments> Copy for Vetted<'m, M> {}
 
 impl<'m, M: Segments> Vetted<'m, M> {
+    ghost use Rattle.cap_spec.specs.Denoting.{Denotes};
+    ghost use Rattle.cap_spec.specs.Paths.{Comes, Spot as Where};
+    ghost use Rattle.cap_spec.specs.Standing.{DenotesAt};
+    ghost use Rattle.cap_spec.specs.Tree.{Tree, node_at};
+    ghost use Rattle.cap_vet.specs.Handles.{node_message, node_spot};
     ghost use Rattle.cap_vet.specs.Vettings.{message_of, report_of};
+    ghost use Rattle.std.specs.Prelude.{IfNone, IfSome, MatchOption, None, Some, [], ℕ};
 
     /// The charge, the depth, the pointers and the capabilities of the message's tree, which is
     /// within 268435456 words and 256 levels.
@@ -45,5 +54,37 @@ impl<'m, M: Segments> Vetted<'m, M> {
         ensures accepted { IsVetted (M.segments result.now) (report_of self.now) }
     {
         self.message
+    }
+
+    /// The node of the empty path.
+    pub fn root(&self) -> Node<'m, M>
+        ensures message { node_message result ≡ message_of self.now }
+        ensures comes { Comes (M.segments (message_of self.now)) [] 1 (node_spot result) }
+    {
+        Node {
+            message: self.message,
+            spot: Spot::Word {
+                segment: 0,
+                word: 0,
+            },
+        }
+    }
+
+    /// The node at a path, or `None` where the tree has none there.
+    pub fn get(&self, path: &[Step]) -> Option<Node<'m, M>>
+        ensures message { IfSome result (λ n. node_message n ≡ message_of self.now) }
+        ensures some { IfSome result (λ n. (level : ℕ) × Comes (M.segments (message_of self.now)) path.now level (node_spot n)) }
+        ensures none { IfNone result ((level : ℕ) (a : Where) → ¬ Comes (M.segments (message_of self.now)) path.now level a) }
+        ensures node { (t : Tree) (c d : ℕ) → Denotes (M.segments (message_of self.now)) 0 0 t c d →
+            MatchOption result (node_at t path.now ≡ None) (λ n. (u : Tree) × (node_at t path.now ≡ Some u) × DenotesAt (M.segments (message_of self.now)) (node_spot n) u) }
+    {
+        let mut node = self.root();
+        for step in path {
+            match node.child(*step) {
+                Some(child) => node = child,
+                None => return None,
+            }
+        }
+        Some(node)
     }
 }

@@ -1,0 +1,98 @@
+-- What stands at a spot is the node of the tree there.
+use Rattle.std.proofs.Common.{◌≡◌, ℕ, ◌+◌, ◌<◌, List, ap, ◌∙◌, sym, refl, subst, arith}
+use Rattle.std.specs.Prelude.{pos}
+use Rattle.cap_spec.specs.Messages.{HasWord}
+use Rattle.cap_spec.specs.Pointers.{kind, code, middle, data_size, pointer_size, list_size}
+use Rattle.cap_spec.specs.Following.{Lead, Leads, to_null, to_cap}
+use Rattle.cap_spec.specs.Tree.{Tree, null, cap, struct, scalars, pointers, structs, tree_count}
+use Rattle.cap_spec.specs.Denoting.{Denotes, Finds, places, values_of, words_from}
+use Rattle.cap_spec.specs.Paths.{Spot, word, element}
+use Rattle.cap_spec.specs.Standing.{DenotesAt}
+use Rattle.cap_spec.specs.declared.Kind.{Kind}
+use Rattle.cap_spec.specs.declared.Kind.TheVariants.{Null, Cap, Struct, Scalars, Pointers, Structs}
+use Rattle.cap_spec.proofs.Arrivals.{found_form}
+use Rattle.cap_spec.proofs.Charges.{each_charged, length-places}
+use Rattle.cap_spec.proofs.Depths.{elements_depth}
+use Rattle.cap_spec.proofs.Finding.{SameObject, one_object}
+use Rattle.cap_spec.proofs.Following.{one_lead}
+use Rattle.cap_spec.proofs.Messages.{one_word}
+use Rattle.cap_spec.proofs.OneTree.{HasForm, form_of, formed, number_list, number_struct}
+use Rattle.cap_vet.specs.Arriving.{StandsAs, StandsElement}
+use Rattle.cap_vet.specs.Owns.{Own, own_at, own_of, own_null, own_cap, own_struct, own_scalars, own_pointers, own_structs}
+
+-- a tree has the form of what its word leads to
+lead_form : (m : List (List ℕ)) (s w : ℕ) (x : Tree) (c d k : ℕ) (r : Lead) → Denotes m s w x c d → Leads m s w k r → HasForm x (form_of r)
+lead_form m s w x c d k r h l =
+    let g = formed m s w x c d h in
+    subst (λ (y : Lead). HasForm x (form_of y)) (sym (one_lead m s w k g.k r g.r l g.leads).1) g.form
+
+same_struct : (ws ws' : List ℕ) (n n' : ℕ) → ws ≡ ws' → n ≡ n' → own_struct ws n ≡ own_struct ws' n'
+same_struct ws ws' n n' e f = rw (e, f) refl
+
+same_scalars : (e e' : ℕ) (vs vs' : List ℕ) → e ≡ e' → vs ≡ vs' → own_scalars e vs ≡ own_scalars e' vs'
+same_scalars e e' vs vs' f g = rw (f, g) refl
+
+same_structs : (n n' d d' p p' : ℕ) → n ≡ n' → d ≡ d' → p ≡ p' → own_structs n d p ≡ own_structs n' d' p'
+same_structs n n' d d' p p' e f g = rw (e, f, g) refl
+
+null_own : (m : List (List ℕ)) (s w : ℕ) (x : Tree) (c d k : ℕ) → Denotes m s w x c d → Leads m s w k to_null → own_of x ≡ own_null
+null_own m s w null c d k h l = refl
+null_own m s w (scalars e vs) c d k h l = let f = lead_form m s w (scalars e vs) c d k to_null h l in absurd (omega (arith, f.0))
+null_own m s w x c d k h l = absurd (omega (arith, lead_form m s w x c d k to_null h l))
+
+cap_own : (m : List (List ℕ)) (s w : ℕ) (x : Tree) (c d k i : ℕ) → Denotes m s w x c d → Leads m s w k (to_cap i) → own_of x ≡ own_cap i
+cap_own m s w (cap j) c d k i h l = let e : to_cap j ≡ to_cap i = (one_lead m s w c k (to_cap j) (to_cap i) h.0 l).1 in let f : j ≡ i = cc in ap own_cap f
+cap_own m s w (scalars e vs) c d k i h l = let f = lead_form m s w (scalars e vs) c d k (to_cap i) h l in absurd (omega (arith, f.0))
+cap_own m s w x c d k i h l = absurd (omega (arith, lead_form m s w x c d k (to_cap i) h l))
+
+struct_own : (m : List (List ℕ)) (s w : ℕ) (x : Tree) (c d k t b q : ℕ) → Denotes m s w x c d → Finds m s w k t b q → kind q ≡ 0 → own_of x ≡ own_struct (words_from m t b (data_size q)) (pointer_size q)
+struct_own m s w (struct ws ts) c d k t b q h f e =
+    let o : SameObject k t b q h.0 h.1 h.2 h.3 = one_object m s w k t b q h.0 h.1 h.2 h.3 f h.6.finds in
+    let n = (each_charged m (places h.1 (h.2 + data_size h.3) (pointer_size h.3)) ts h.4 h.5 h.7).0 ∙ length-places h.1 (h.2 + data_size h.3) (pointer_size h.3) in
+    same_struct ws (words_from m t b (data_size q)) (tree_count ts) (pointer_size q) (rw (o.segment, o.start, o.shape) h.6.data_words) (n ∙ ap pointer_size (sym o.shape))
+struct_own m s w (scalars g vs) c d k t b q h f e =
+    let y = found_form m s w (scalars g vs) c d k t b q h f in absurd (omega (arith, number_struct (kind q) (code q) e, y.0))
+struct_own m s w x c d k t b q h f e = absurd (omega (arith, number_struct (kind q) (code q) e, found_form m s w x c d k t b q h f))
+
+scalars_own : (m : List (List ℕ)) (s w : ℕ) (x : Tree) (c d k t b q : ℕ) → Denotes m s w x c d → Finds m s w k t b q → kind q ≡ 1 → code q < 6 → own_of x ≡ own_scalars (code q) (values_of m t b (code q) (list_size q))
+scalars_own m s w (scalars g vs) c d k t b q h f e lt =
+    let o : SameObject k t b q h.0 h.1 h.2 h.3 = one_object m s w k t b q h.0 h.1 h.2 h.3 f h.4.finds in
+    let x : g ≡ code q = h.4.code ∙ ap code (sym o.shape) in
+    same_scalars g (code q) vs (values_of m t b (code q) (list_size q)) x (rw (← x, o.segment, o.start, o.shape) h.4.elements)
+scalars_own m s w x c d k t b q h f e lt = absurd (omega (arith, number_list (kind q) (code q) e, lt, found_form m s w x c d k t b q h f))
+
+pointers_own : (m : List (List ℕ)) (s w : ℕ) (x : Tree) (c d k t b q : ℕ) → Denotes m s w x c d → Finds m s w k t b q → kind q ≡ 1 → code q ≡ 6 → own_of x ≡ own_pointers (list_size q)
+pointers_own m s w (pointers ts) c d k t b q h f e g =
+    let o : SameObject k t b q h.0 h.1 h.2 h.3 = one_object m s w k t b q h.0 h.1 h.2 h.3 f h.6.finds in
+    let n = (each_charged m (places h.1 h.2 (list_size h.3)) ts h.4 h.5 h.7).0 ∙ length-places h.1 h.2 (list_size h.3) in
+    ap own_pointers (n ∙ ap list_size (sym o.shape))
+pointers_own m s w (scalars z vs) c d k t b q h f e g =
+    let y = found_form m s w (scalars z vs) c d k t b q h f in absurd (omega (arith, number_list (kind q) (code q) e, g, y.1))
+pointers_own m s w x c d k t b q h f e g = absurd (omega (arith, number_list (kind q) (code q) e, g, found_form m s w x c d k t b q h f))
+
+structs_own : (m : List (List ℕ)) (s w : ℕ) (x : Tree) (c d k t b q tag : ℕ) → Denotes m s w x c d → Finds m s w k t b q → kind q ≡ 1 → code q ≡ 7 → HasWord m t b tag
+    → own_of x ≡ own_structs (middle tag) (data_size tag) (pointer_size tag)
+structs_own m s w (structs ds ps es) c d k t b q tag h f e g y =
+    let o : SameObject k t b q h.0 h.1 h.2 h.3 = one_object m s w k t b q h.0 h.1 h.2 h.3 f h.7.finds in
+    let z : tag ≡ h.4 = one_word m t b tag h.4 y (rw (o.segment, o.start) h.7.has_tag) in
+    let n = (elements_depth m h.1 (h.2 + 1) ds ps (middle h.4) es h.5 h.6 h.8).0 in
+    same_structs (tree_count es) (middle tag) ds (data_size tag) ps (pointer_size tag) (sym n ∙ ap middle (sym z)) (h.7.data_sizes ∙ ap data_size (sym z)) (h.7.pointer_sizes ∙ ap pointer_size (sym z))
+structs_own m s w (scalars z vs) c d k t b q tag h f e g y =
+    let v = found_form m s w (scalars z vs) c d k t b q h f in absurd (omega (arith, number_list (kind q) (code q) e, g, v.1))
+structs_own m s w x c d k t b q tag h f e g y = absurd (omega (arith, number_list (kind q) (code q) e, g, found_form m s w x c d k t b q h f))
+
+-- What stands at a spot is the node of the tree there.
+pub stands_own : (m : List (List ℕ)) (a : Spot) (k : Kind) (t b n : ℕ) (x : Tree) → StandsAs m a k t b n → DenotesAt m a x → own_at m k t b ≡ own_of x
+stands_own m (word s w) Null t b n x f h = sym (null_own m s w x h.0 h.1 f.0 h.2 f.1)
+stands_own m (word s w) (Cap i) t b n x f h = sym (cap_own m s w x h.0 h.1 f.0 i h.2 f.1)
+stands_own m (word s w) (Struct d p) t b n x f h = rw (f.2.data_words, f.2.pointers) (sym (struct_own m s w x h.0 h.1 f.0 t b f.1 h.2 f.2.finds f.2.kind))
+stands_own m (word s w) (Scalars c y) t b n x f h =
+    rw (f.2.code, f.2.count) (sym (scalars_own m s w x h.0 h.1 f.0 t b f.1 h.2 f.2.finds f.2.kind (omega (arith, f.2.code, f.2.scalar))))
+stands_own m (word s w) (Pointers y) t b n x f h = rw f.2.count (sym (pointers_own m s w x h.0 h.1 f.0 t b f.1 h.2 f.2.finds f.2.kind f.2.code))
+stands_own m (word s w) (Structs y d p) t b n x f h = rw (f.3.count, f.3.data_words, f.3.pointers) (sym (structs_own m s w x h.0 h.1 f.0 t b f.1 f.2 h.2 f.3.finds f.3.kind f.3.code f.3.has_tag))
+stands_own m (element t' b' ds ps) (Struct d p) t b n (struct ws ts) f h =
+    let e : StandsElement t' b' ds ps d p t b n = f in
+    let count = (each_charged m (places t' (b' + ds) ps) ts h.0 h.1 h.3).0 ∙ length-places t' (b' + ds) ps in
+    rw (e.segment, e.start, e.data_words, e.pointers) (same_struct (words_from m t' b' ds) ws ps (tree_count ts) (sym h.2) (sym count))
+stands_own m (element t' b' ds ps) (Struct d p) t b n x f h = absurd h
+stands_own m (element t' b' ds ps) k t b n x f h = absurd f

@@ -1,0 +1,31 @@
+-- What was found at a spot (profile).
+use Rattle.std.specs.Prelude.{ℕ, ◌+◌, ◌<◌, ◌≤◌, List, length}
+use Rattle.cap_spec.specs.Messages.{segment_of}
+use Rattle.cap_spec.specs.Pointers.{list_words}
+use Rattle.cap_spec.specs.Paths.{Spot}
+use Rattle.cap_spec.specs.declared.Kind.{Kind}
+use Rattle.cap_spec.specs.declared.Kind.TheVariants.{Null, Cap, Struct, Scalars, Pointers, Structs}
+use Rattle.cap_ptr.specs.declared.shapes.Shape.{Shape}
+use Rattle.cap_ptr.specs.declared.shapes.Shape.TheVariants as shape
+use Rattle.cap_vet.specs.Arriving.{StandsAs}
+use Rattle.cap_vet.specs.declared.found.Found.{Found}
+
+-- the kind of an object
+abbrev pub kind_of_shape : Shape → Kind
+kind_of_shape (shape.Struct d p) = Struct d p
+kind_of_shape (shape.Scalars c n) = Scalars c n
+kind_of_shape (shape.Pointers n) = Pointers n
+kind_of_shape (shape.Structs size n d p) = Structs n d p
+
+-- the words of its own that are read
+abbrev pub own_words : Kind → ℕ
+own_words (Struct d p) = d + p
+own_words (Scalars c n) = list_words c n
+own_words _ = 0
+
+-- its kind and its place are those of what stands there, and its words lie inside their segment
+pub record IsFound (m : List (List ℕ)) (a : Spot) (f : Found) : Type 0 where
+  pub stands : StandsAs m a f.kind f.place.segment f.place.start f.place.words
+  pub exists : f.place.segment < length m
+  pub inside : f.place.start + f.place.words ≤ length (segment_of m f.place.segment)
+  pub own : own_words f.kind ≤ f.place.words

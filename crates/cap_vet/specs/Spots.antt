@@ -1,0 +1,18 @@
+-- Which spot of a message a node keeps (profile).
+use Rattle.std.specs.Prelude.{ℕ, ◌+◌}
+use Rattle.cap_spec.specs.Paths.{Spot, word, element}
+use Rattle.cap_vet.specs.declared.spot.Spot.{Spot as Kept}
+use Rattle.cap_vet.specs.declared.spot.Spot.TheVariants.{Word, Element}
+
+abbrev pub spot_of : Kept → Spot
+spot_of (Word s w) = word s w
+spot_of (Element t b d p) = element t b d p
+
+abbrev pub segment_at : Kept → ℕ
+segment_at (Word s w) = s
+segment_at (Element t b d p) = t
+
+-- the word behind its words
+abbrev pub end_at : Kept → ℕ
+end_at (Word s w) = w + 1
+end_at (Element t b d p) = b + d + p

@@ -1,0 +1,157 @@
+//! What stands at a spot, and where steps from there lead.
+
+ghost use Rattle.cap_ptr.specs.Shapes.{IsFollowed};
+ghost use Rattle.cap_spec.specs.Messages.{IsMessage, segment_of};
+ghost use Rattle.cap_spec.specs.Paths.{Goes, Spot as Where, word};
+ghost use Rattle.cap_vet.specs.Finding.{IsFound, kind_of_shape};
+ghost use Rattle.cap_vet.specs.Spots.{end_at, segment_at, spot_of};
+ghost use Rattle.std.specs.Prelude.{◌+◌, ◌<◌, ◌≡◌, ◌≤◌, IfNone, IfSome, List, length, ℕ};
+
+use crate::place::Place;
+use crate::spot::Spot;
+use cap_ptr::{Followed, Shape};
+use cap_spec::{Kind, Step};
+
+/// What stands at a spot: its kind and its words. Null and a capability have no words, at 0:0.
+#[derive(Clone, Copy)]
+pub(crate) struct Found {
+    pub(crate) kind: Kind,
+    pub(crate) place: Place,
+}
+
+// The kind of an object.
+fn kind_of(shape: Shape) -> Kind
+    ensures { result ≡ kind_of_shape shape }
+{
+    match shape {
+        Shape::Struct {
+            data_words,
+            pointers,
+        } => Kind::Struct {
+            data_words,
+            pointers,
+        },
+        Shape::Scalars { code, count } => Kind::Scalars { code, count },
+        Shape::Pointers { count } => Kind::Pointers { count },
+        Shape::Structs {
+            count,
+            data_words,
+            pointers,
+            ..
+        } => Kind::Structs {
+            count,
+            data_words,
+            pointers,
+        },
+    }
+}
+
+impl Found {
+    /// Where a step leads from there.
+    pub(crate) fn step(&self, step: Step) -> Option<Spot>
+        requires { (m : List (List ℕ)) × (a : Where) × IsMessage m × IsFound m a self.now }
+        ensures some { (m : List (List ℕ)) (a : Where) → IsFound m a self.now → IfSome result (λ b. Goes m a step (spot_of b)) }
+        ensures exists { (m : List (List ℕ)) (a : Where) → IsFound m a self.now → IfSome result (λ b. segment_at b < length m) }
+        ensures inside { (m : List (List ℕ)) (a : Where) → IsFound m a self.now → IfSome result (λ b. end_at b ≤ length (segment_of m (segment_at b))) }
+        ensures none { (m : List (List ℕ)) (a : Where) → IsFound m a self.now → IfNone result ((b : Where) → ¬ Goes m a step b) }
+    {
+        match step {
+            Step::Ptr(i) => self.pointer(i),
+            Step::Item(i) => self.item(i),
+        }
+    }
+
+    // The pointer of a struct.
+    fn pointer(&self, i: u16) -> Option<Spot>
+        requires { (m : List (List ℕ)) × (a : Where) × IsMessage m × IsFound m a self.now }
+        ensures some { (m : List (List ℕ)) (a : Where) → IsFound m a self.now → IfSome result (λ b. Goes m a (Step.Ptr i) (spot_of b)) }
+        ensures exists { (m : List (List ℕ)) (a : Where) → IsFound m a self.now → IfSome result (λ b. segment_at b < length m) }
+        ensures inside { (m : List (List ℕ)) (a : Where) → IsFound m a self.now → IfSome result (λ b. end_at b ≤ length (segment_of m (segment_at b))) }
+        ensures none { (m : List (List ℕ)) (a : Where) → IsFound m a self.now → IfNone result ((b : Where) → ¬ Goes m a (Step.Ptr i) b) }
+    {
+        let Kind::Struct {
+            data_words,
+            pointers,
+        } = self.kind
+        else {
+            return None;
+        };
+        if i >= pointers {
+            return None;
+        }
+        Some(Spot::Word {
+            segment: self.place.segment,
+            word: self.place.start + u32::from(data_words) + u32::from(i),
+        })
+    }
+
+    // The element of a list of pointers or of structs.
+    fn item(&self, i: u32) -> Option<Spot>
+        requires { (m : List (List ℕ)) × (a : Where) × IsMessage m × IsFound m a self.now }
+        ensures some { (m : List (List ℕ)) (a : Where) → IsFound m a self.now → IfSome result (λ b. Goes m a (Step.Item i) (spot_of b)) }
+        ensures exists { (m : List (List ℕ)) (a : Where) → IsFound m a self.now → IfSome result (λ b. segment_at b < length m) }
+        ensures inside { (m : List (List ℕ)) (a : Where) → IsFound m a self.now → IfSome result (λ b. end_at b ≤ length (segment_of m (segment_at b))) }
+        ensures none { (m : List (List ℕ)) (a : Where) → IsFound m a self.now → IfNone result ((b : Where) → ¬ Goes m a (Step.Item i) b) }
+    {
+        match self.kind {
+            Kind::Pointers { count } => {
+                if i >= count {
+                    return None;
+                }
+                Some(Spot::Word {
+                    segment: self.place.segment,
+                    word: self.place.start + i,
+                })
+            }
+            Kind::Structs {
+                count,
+                data_words,
+                pointers,
+            } => {
+                if i >= count {
+                    return None;
+                }
+                let size = u32::from(data_words) + u32::from(pointers);
+                Some(Spot::Element {
+                    segment: self.place.segment,
+                    start: self.place.start + 1 + i * size,
+                    data_words,
+                    pointers,
+                })
+            }
+            _ => None,
+        }
+    }
+}
+
+/// What a pointer word leads to.
+pub(crate) fn found_of(followed: Followed) -> Found
+    ensures { (m : List (List ℕ)) (s w : ℕ) → IsMessage m → IsFollowed m s w followed → IsFound m (word s w) result }
+{
+    match followed {
+        Followed::Null { .. } => Found {
+            kind: Kind::Null,
+            place: Place {
+                segment: 0,
+                start: 0,
+                words: 0,
+            },
+        },
+        Followed::Cap { index, .. } => Found {
+            kind: Kind::Cap { index },
+            place: Place {
+                segment: 0,
+                start: 0,
+                words: 0,
+            },
+        },
+        Followed::Target(target) => Found {
+            kind: kind_of(target.shape),
+            place: Place {
+                segment: target.segment,
+                start: target.start,
+                words: target.words,
+            },
+        },
+    }
+}

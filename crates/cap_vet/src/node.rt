@@ -1,0 +1,106 @@
+//! Nodes of the tree of an accepted message.
+
+ghost use Rattle.cap_spec.specs.Messages.{segment_of};
+ghost use Rattle.cap_vet.specs.Nodes.{IsNode};
+ghost use Rattle.cap_vet.specs.Spots.{end_at, segment_at, spot_of};
+ghost use Rattle.std.specs.Prelude.{◌<◌, ◌≡◌, ◌≤◌, ⊤, length};
+
+use crate::found::{Found, found_of};
+use crate::place::Place;
+use crate::spot::Spot;
+use crate::view::View;
+use cap_frame::Segments;
+use cap_ptr::follow;
+use cap_spec::{Kind, Step};
+use std::alloc::AllocError;
+
+/// A node of the tree that an accepted message's root denotes: the pointer word where it stands, or
+/// the element of a list of structs.
+pub struct Node<'m, M: Segments> {
+    pub(crate) message: &'m M,
+    pub(crate) spot: Spot,
+    ghost exists: { segment_at spot < length (M.segments message.now) },
+    ghost inside: { end_at spot ≤ length (segment_of (M.segments message.now) (segment_at spot)) },
+    ghost stands: { ∥ IsNode (M.segments message.now) (spot_of spot) ∥₁ },
+}
+
+impl<'m, M: Segments> Clone for Node<'m, M> {
+    ghost is_clone = { λ s r. r ≡ s };
+
+    ghost is_infallible = { λ _. ⊤ };
+
+    fn clone(&self) -> Result<Node<'m, M>, AllocError> {
+        Ok(*self)
+    }
+}
+
+impl<'m, M: Segments> Copy for Node<'m, M> {}
+
+impl<'m, M: Segments> Node<'m, M> {
+    ghost use Rattle.cap_spec.specs.Paths.{Goes, Spot as Where};
+    ghost use Rattle.cap_spec.specs.Standing.{DenotesAt};
+    ghost use Rattle.cap_spec.specs.Tree.{Tree, part_at};
+    ghost use Rattle.cap_vet.specs.Arriving.{StandsAs};
+    ghost use Rattle.cap_vet.specs.Finding.{IsFound};
+    ghost use Rattle.cap_vet.specs.Handles.{node_message, node_spot, shown, view_kind, view_message, view_place};
+    ghost use Rattle.cap_vet.specs.Owns.{own_of};
+    ghost use Rattle.std.specs.Prelude.{IfNone, IfSome, MatchOption, Some, None};
+
+    // What stands there. Following its pointer can't fail.
+    fn found(&self) -> Found
+        ensures { IsFound (M.segments (node_message self.now)) (node_spot self.now) result }
+    {
+        match self.spot {
+            Spot::Word { segment, word } => match follow(self.message, segment, word) {
+                Ok(followed) => found_of(followed),
+                Err(_) => unreachable!(),
+            },
+            Spot::Element {
+                segment,
+                start,
+                data_words,
+                pointers,
+            } => Found {
+                kind: Kind::Struct {
+                    data_words,
+                    pointers,
+                },
+                place: Place {
+                    segment,
+                    start,
+                    words: u32::from(data_words) + u32::from(pointers),
+                },
+            },
+        }
+    }
+
+    /// A view of it.
+    pub fn view(&self) -> View<'m, M>
+        ensures message { view_message result ≡ node_message self.now }
+        ensures stands { let place = view_place result in
+            StandsAs (M.segments (node_message self.now)) (node_spot self.now) (view_kind result) place.segment place.start place.words }
+        ensures shows { (t : Tree) → DenotesAt (M.segments (node_message self.now)) (node_spot self.now) t → shown result ≡ own_of t }
+    {
+        View {
+            message: self.message,
+            found: self.found(),
+        }
+    }
+
+    /// The node that a step leads to, or `None` where the step leads nowhere.
+    pub fn child(&self, step: Step) -> Option<Node<'m, M>>
+        ensures message { IfSome result (λ n. node_message n ≡ node_message self.now) }
+        ensures some { IfSome result (λ n. Goes (M.segments (node_message self.now)) (node_spot self.now) step (node_spot n)) }
+        ensures none { IfNone result ((b : Where) → ¬ Goes (M.segments (node_message self.now)) (node_spot self.now) step b) }
+        ensures part { (t : Tree) → DenotesAt (M.segments (node_message self.now)) (node_spot self.now) t →
+            MatchOption result (part_at t step ≡ None) (λ n. (u : Tree) × (part_at t step ≡ Some u) × DenotesAt (M.segments (node_message self.now)) (node_spot n) u) }
+    {
+        match self.found().step(step) {
+            Some(spot) => Some(Node {
+                message: self.message,
+                spot,
+            }),
+            None => None,
+        }
+    }
+}

@@ -1,0 +1,12 @@
+//! The words of an object.
+
+/// The words of an object, or of an element of a list of structs.
+#[derive(Clone, Copy, Debug, PartialEq, Eq, Drop)]
+pub struct Place {
+    /// Its segment, counted from 0.
+    pub segment: u32,
+    /// Its first word, counted from 0: the tag of a list of structs.
+    pub start: u32,
+    /// How many words it takes, a tag and surplus words included.
+    pub words: u32,
+}
