@@ -17,8 +17,8 @@ use Rattle.cap_spec.proofs.Finding.{SameObject, one_object}
 use Rattle.cap_spec.proofs.Following.{one_lead}
 use Rattle.cap_spec.proofs.Messages.{one_word}
 use Rattle.cap_spec.proofs.OneTree.{HasForm, form_of, formed, number_list, number_struct}
-use Rattle.cap_vet.specs.Arriving.{StandsAs, StandsElement}
-use Rattle.cap_vet.specs.Owns.{Own, own_at, own_of, own_null, own_cap, own_struct, own_scalars, own_pointers, own_structs}
+use Rattle.cap_spec.specs.Arriving.{StandsAs, StandsElement, own_at}
+use Rattle.cap_spec.specs.Showing.{Own, own_of, own_null, own_cap, own_struct, own_scalars, own_pointers, own_structs}
 
 -- a tree has the form of what its word leads to
 lead_form : (m : List (List ℕ)) (s w : ℕ) (x : Tree) (c d k : ℕ) (r : Lead) → Denotes m s w x c d → Leads m s w k r → HasForm x (form_of r)

@@ -12,7 +12,7 @@ use Rattle.cap_spec.specs.declared.Step.TheVariants.{Ptr, Item}
 use Rattle.cap_spec.proofs.Charges.{extent_structs}
 use Rattle.cap_spec.proofs.Finding.{SameObject, one_object}
 use Rattle.cap_spec.proofs.Messages.{one_word}
-use Rattle.cap_vet.specs.Arriving.{StandsAs, StandsElement}
+use Rattle.cap_spec.specs.Arriving.{StandsAs, StandsElement}
 use Rattle.cap_vet.specs.Finding.{IsFound}
 use Rattle.cap_vet.specs.declared.found.Found.{Found}
 use Rattle.cap_vet.proofs.Steps.{cap_no_object, null_no_object}

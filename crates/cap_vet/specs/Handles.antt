@@ -1,29 +1,46 @@
 -- What nodes and views are of (profile).
-use Rattle.std.specs.Prelude.{ℕ, List}
+use Rattle.std.specs.Prelude.{ℕ, List, Option, None, Some}
 use Rattle.cap_frame.specs.declared.segments.Segments as segments
+use Rattle.cap_spec.specs.Arriving.{own_at}
 use Rattle.cap_spec.specs.Paths.{Spot}
+use Rattle.cap_spec.specs.Showing.{Own}
 use Rattle.cap_spec.specs.declared.Kind.{Kind}
-use Rattle.cap_vet.specs.Owns.{Own, own_at}
+use Rattle.cap_spec.specs.declared.Kind.TheVariants.{Null, Cap}
 use Rattle.cap_vet.specs.Spots.{spot_of}
 use Rattle.cap_vet.specs.declared.node.Node.{Node}
 use Rattle.cap_vet.specs.declared.place.Place.{Place}
 use Rattle.cap_vet.specs.declared.view.View.{View}
 
+-- a node's message
 abbrev pub node_message : {M : Type 0} {g : segments.Ghosts M} → Node M g → M
 node_message n = n.message.now
 
+-- where a node stands
 abbrev pub node_spot : {M : Type 0} {g : segments.Ghosts M} → Node M g → Spot
 node_spot n = spot_of n.spot
 
+-- a view's message
 abbrev pub view_message : {M : Type 0} {g : segments.Ghosts M} → View M g → M
 view_message v = v.message.now
 
+-- what a view is of, with its sizes
 abbrev pub view_kind : {M : Type 0} {g : segments.Ghosts M} → View M g → Kind
 view_kind v = v.found.kind
 
-abbrev pub view_place : {M : Type 0} {g : segments.Ghosts M} → View M g → Place
-view_place v = v.found.place
+-- the words that a view keeps: null and a capability have none, at 0:0
+abbrev pub kept_place : {M : Type 0} {g : segments.Ghosts M} → View M g → Place
+kept_place v = v.found.place
 
--- what it shows
+-- the words of an object of this kind, which null and a capability don't have
+abbrev pub place_of_kind : Kind → Place → Option Place
+place_of_kind Null p = None
+place_of_kind (Cap i) p = None
+place_of_kind _ p = Some p
+
+-- the words of what a view is of
+abbrev pub view_place : {M : Type 0} {g : segments.Ghosts M} → View M g → Option Place
+view_place v = place_of_kind v.found.kind v.found.place
+
+-- what a view shows
 abbrev pub shown : {M : Type 0} {g : segments.Ghosts M} → View M g → Own
 shown {M} {g} v = own_at (g.segments v.message.now) v.found.kind v.found.place.segment v.found.place.start

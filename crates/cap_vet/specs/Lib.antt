@@ -1,14 +1,11 @@
-pub mod Arriving
 pub mod Budgets
 pub mod Finding
 pub mod Frames
-pub mod Getting
 pub mod Handles
 pub mod Limits
 pub mod Looking
 pub mod Nodes
 pub mod Owing
-pub mod Owns
 pub mod Reports
 pub mod Shapes
 pub mod Spots

@@ -1,12 +1,13 @@
 //! Getters of messages that weren't vetted.
 
+ghost use Rattle.cap_spec.specs.Arriving.{ArrivesAt};
 ghost use Rattle.cap_spec.specs.Faults.{IsFirstReason};
+ghost use Rattle.cap_spec.specs.Getting.{Charges, IsRefusedOnPath};
 ghost use Rattle.cap_spec.specs.Messages.{segment_of};
 ghost use Rattle.cap_spec.specs.Paths.{Costs, word};
 ghost use Rattle.cap_vet.specs.Budgets.{left_of};
 ghost use Rattle.cap_vet.specs.Finding.{IsFound};
-ghost use Rattle.cap_vet.specs.Getting.{ArrivesAt, Charges, IsRefusedOnPath};
-ghost use Rattle.cap_vet.specs.Handles.{view_kind, view_message, view_place};
+ghost use Rattle.cap_vet.specs.Handles.{kept_place, view_kind, view_message};
 ghost use Rattle.cap_spec.specs.declared.Kind.{Kind};
 ghost use Rattle.std.specs.Prelude.{◌+◌, ◌-◌, ◌<◌, ◌≡◌, ◌≤◌, ◌^◌, IfErr, IfOk, OnErr, OnOk, IfNone, IfSome, length, ℕ};
 
@@ -76,7 +77,7 @@ pub fn get_charged<'m, M: Segments>(
 ) -> Result<Option<View<'m, M>>, Refusal>
     ensures ok { OnOk result (Charges (M.segments message.now) (left_of budget.old) depth path.now (left_of budget.new)) }
     ensures none { IfOk result (λ o. IfNone o ((k : Kind) (t b n : ℕ) → ¬ ArrivesAt (M.segments message.now) path.now k t b n)) }
-    ensures some { IfOk result (λ o. IfSome o (λ v. let place = view_place v in ArrivesAt (M.segments message.now) path.now (view_kind v) place.segment place.start place.words)) }
+    ensures some { IfOk result (λ o. IfSome o (λ v. let place = kept_place v in ArrivesAt (M.segments message.now) path.now (view_kind v) place.segment place.start place.words)) }
     ensures message { IfOk result (λ o. IfSome o (λ v. view_message v ≡ message.now)) }
     ensures err { IfErr result (IsRefusedOnPath (M.segments message.now) (left_of budget.old) depth path.now) }
     ensures unchanged { OnErr result (budget.new ≡ budget.old) }
@@ -106,12 +107,14 @@ pub fn get_charged<'m, M: Segments>(
                 budget.words -= spent;
                 return Ok(None);
             }
-            Some(Spot::Element {
-                segment,
-                start,
-                data_words,
-                pointers: size,
-            }) => {
+            Some(
+                Spot::Element {
+                    segment,
+                    start,
+                    data_words,
+                    pointers: size,
+                },
+            ) => {
                 level += u64::from(levels_of_elements(1));
                 found = Found {
                     kind: Kind::Struct {

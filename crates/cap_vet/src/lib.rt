@@ -3,7 +3,6 @@
 
 pub mod budget;
 pub mod charged;
-
 mod found;
 mod frame;
 pub mod limits;
@@ -18,11 +17,10 @@ pub mod vetting;
 pub mod view;
 mod walking;
 
+pub use budget::Budget;
 pub use cap_ptr::Reason;
 pub use cap_spec::{Kind, Refusal, Step};
-pub use budget::Budget;
 pub use charged::get_charged;
-
 pub use limits::Limits;
 pub use node::Node;
 pub use place::Place;

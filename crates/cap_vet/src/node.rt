@@ -37,13 +37,13 @@ impl<'m, M: Segments> Clone for Node<'m, M> {
 impl<'m, M: Segments> Copy for Node<'m, M> {}
 
 impl<'m, M: Segments> Node<'m, M> {
+    ghost use Rattle.cap_spec.specs.Arriving.{StandsAs};
     ghost use Rattle.cap_spec.specs.Paths.{Goes, Spot as Where};
+    ghost use Rattle.cap_spec.specs.Showing.{own_of};
     ghost use Rattle.cap_spec.specs.Standing.{DenotesAt};
     ghost use Rattle.cap_spec.specs.Tree.{Tree, part_at};
-    ghost use Rattle.cap_vet.specs.Arriving.{StandsAs};
     ghost use Rattle.cap_vet.specs.Finding.{IsFound};
-    ghost use Rattle.cap_vet.specs.Handles.{node_message, node_spot, shown, view_kind, view_message, view_place};
-    ghost use Rattle.cap_vet.specs.Owns.{own_of};
+    ghost use Rattle.cap_vet.specs.Handles.{kept_place, node_message, node_spot, shown, view_kind, view_message};
     ghost use Rattle.std.specs.Prelude.{IfNone, IfSome, MatchOption, Some, None};
 
     // What stands there. Following its pointer can't fail.
@@ -77,7 +77,7 @@ impl<'m, M: Segments> Node<'m, M> {
     /// A view of it.
     pub fn view(&self) -> View<'m, M>
         ensures message { view_message result ≡ node_message self.now }
-        ensures stands { let place = view_place result in
+        ensures stands { let place = kept_place result in
             StandsAs (M.segments (node_message self.now)) (node_spot self.now) (view_kind result) place.segment place.start place.words }
         ensures shows { (t : Tree) → DenotesAt (M.segments (node_message self.now)) (node_spot self.now) t → shown result ≡ own_of t }
     {

@@ -1,10 +1,12 @@
--- What stands at a spot of a message: its kind, and its n words from t:b on (profile).
+-- What stands at a spot of a message: its kind, and its n words from t:b on, the tag of a list of structs among them (standard: Objects; paths are the profile's).
 use Rattle.std.specs.Prelude.{ℕ, ◌+◌, ◌<◌, ◌≡◌, List}
 use Rattle.cap_spec.specs.Messages.{HasWord}
 use Rattle.cap_spec.specs.Pointers.{kind, middle, code, data_size, pointer_size, list_size, extent}
 use Rattle.cap_spec.specs.Following.{Leads, to_null, to_cap}
-use Rattle.cap_spec.specs.Denoting.{Finds}
-use Rattle.cap_spec.specs.Paths.{Spot, word, element}
+use Rattle.cap_spec.specs.Denoting.{Finds, values_of, words_from}
+use Rattle.cap_spec.specs.Paths.{Comes, Spot, word, element}
+use Rattle.cap_spec.specs.Showing.{Own, own_null, own_cap, own_struct, own_scalars, own_pointers, own_structs}
+use Rattle.cap_spec.specs.declared.Step.{Step}
 use Rattle.cap_spec.specs.declared.Kind.{Kind}
 use Rattle.cap_spec.specs.declared.Kind.TheVariants.{Null, Cap, Struct, Scalars, Pointers, Structs}
 
@@ -44,7 +46,7 @@ pub record StandStructs (m : List (List ℕ)) (s w x d p t b n k q tag : ℕ) : 
   pub pointers : p ≡ pointer_size tag
   pub words : n ≡ extent q
 
--- an element has the words that its spot tells
+-- a struct that is an element has the words that its spot tells
 pub record StandsElement (t' b' ds ps d p t b n : ℕ) : Type 0 where
   pub segment : t ≡ t'
   pub start : b ≡ b'
@@ -52,6 +54,7 @@ pub record StandsElement (t' b' ds ps d p t b n : ℕ) : Type 0 where
   pub pointers : p ≡ ps
   pub words : n ≡ ds + ps
 
+-- what of this kind stands at a spot; null and a capability have no words
 abbrev pub StandsAs : List (List ℕ) → Spot → Kind → ℕ → ℕ → ℕ → Type 0
 StandsAs m (word s w) Null t b n = (k : ℕ) × Leads m s w k to_null
 StandsAs m (word s w) (Cap i) t b n = (k : ℕ) × Leads m s w k (to_cap i)
@@ -61,3 +64,16 @@ StandsAs m (word s w) (Pointers x) t b n = (k q : ℕ) × StandPointers m s w x 
 StandsAs m (word s w) (Structs x d p) t b n = (k q tag : ℕ) × StandStructs m s w x d p t b n k q tag
 StandsAs m (element t' b' ds ps) (Struct d p) t b n = StandsElement t' b' ds ps d p t b n
 StandsAs m (element t' b' ds ps) _ t b n = ⊥
+
+-- the path from the root arrives at this
+abbrev pub ArrivesAt : List (List ℕ) → List Step → Kind → ℕ → ℕ → ℕ → Type 0
+ArrivesAt m path kind t b n = (level : ℕ) × (spot : Spot) × Comes m path level spot × StandsAs m spot kind t b n
+
+-- what an object of this kind at t:b is by itself
+abbrev pub own_at : List (List ℕ) → Kind → ℕ → ℕ → Own
+own_at m Null t b = own_null
+own_at m (Cap i) t b = own_cap i
+own_at m (Struct d p) t b = own_struct (words_from m t b d) p
+own_at m (Scalars c n) t b = own_scalars c (values_of m t b c n)
+own_at m (Pointers n) t b = own_pointers n
+own_at m (Structs n d p) t b = own_structs n d p

@@ -1,12 +1,10 @@
 -- Following the pointers on a path, the same word counted anew, up to the first fault (profile; standard: Security Considerations).
-use Rattle.std.specs.Prelude.{ℕ, ◌+◌, ◌≤◌, ◌≡◌, ◌⊎◌, List, [], ◌∷◌, ◌++◌, length}
+use Rattle.std.specs.Prelude.{ℕ, ◌+◌, ◌<◌, ◌≤◌, ◌≡◌, ◌⊎◌, List, [], ◌∷◌, ◌++◌, length}
 use Rattle.cap_spec.specs.Faults.{AreShallow, HasNoRoot, IsFirstReason}
-use Rattle.cap_spec.specs.Paths.{Comes, IsOneOf, Reaches, Rises, Spot}
+use Rattle.cap_spec.specs.Paths.{IsOneOf, Reaches, Rises}
 use Rattle.cap_spec.specs.Verdicts.{CostOf}
-use Rattle.cap_spec.specs.declared.Kind.{Kind}
 use Rattle.cap_spec.specs.declared.Refusal.{Refusal}
 use Rattle.cap_spec.specs.declared.Step.{Step}
-use Rattle.cap_vet.specs.Arriving.{StandsAs}
 
 -- one path begins another
 abbrev pub Begins : List Step → List Step → Type 0
@@ -19,14 +17,12 @@ pub record AreOnPath (m : List (List ℕ)) (path : List Step) (ways : List (List
   pub reached : (q : List Step) → IsOneOf q ways → (level s w : ℕ) × Reaches m q level s w
   pub all : (q : List Step) (level s w : ℕ) → Begins q path → Reaches m q level s w → IsOneOf q ways
 
--- the path arrives at this, and at no other place
-abbrev pub ArrivesAt : List (List ℕ) → List Step → Kind → ℕ → ℕ → ℕ → Type 0
-ArrivesAt m path kind t b n = (level : ℕ) × (spot : Spot) × Comes m path level spot × StandsAs m spot kind t b n
-
 -- The pointers on the path keep to the limits, and following them costs the words that are gone.
 pub record Charges (m : List (List ℕ)) (before depth : ℕ) (path : List Step) (left : ℕ) : Type 0 where
   pub ways : List (List Step)
   pub on_path : AreOnPath m path ways
+  -- the root among them
+  pub some : 0 < length ways
   pub cost : ℕ
   pub costs : CostOf m ways cost
   pub shallow : AreShallow m depth ways
@@ -47,5 +43,6 @@ pub record IsFaultOnPath (m : List (List ℕ)) (words depth : ℕ) (path : List 
   pub reason : IsFirstReason m words depth charge refusal.segment refusal.word level refusal.reason
   pub pointers : refusal.pointers ≡ length (before ++ way ∷ [])
 
+-- why a path is refused
 abbrev pub IsRefusedOnPath : List (List ℕ) → ℕ → ℕ → List Step → Refusal → Type 0
 IsRefusedOnPath m words depth path refusal = HasNoRoot m refusal ⊎ IsFaultOnPath m words depth path refusal
