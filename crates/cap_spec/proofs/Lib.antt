@@ -39,6 +39,8 @@ pub mod Refusals
 pub mod Deciding
 pub mod Trimming
 pub mod ReadingBack
+pub mod WordsRead
+pub mod Readings
 pub mod Placing
 pub mod PointerFields
 pub mod Measures
