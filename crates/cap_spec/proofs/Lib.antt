@@ -36,6 +36,7 @@ pub mod Deepest
 pub mod OneFault
 pub mod OneVerdict
 pub mod Refusals
+pub mod OnPath
 pub mod Deciding
 pub mod Trimming
 pub mod ReadingBack

@@ -31,19 +31,19 @@ distinct_last paths p h = (none paths h, front paths h)
     front (q ∷ ps) k = ((others q ps k.0).0, front ps k.1)
 
 -- one of some paths and a last one
-one_of_last : (q p : List Step) (ps : List (List Step)) → IsOneOf q (ps ++ p ∷ []) → (q ≡ p) ⊎ IsOneOf q ps
+pub one_of_last : (q p : List Step) (ps : List (List Step)) → IsOneOf q (ps ++ p ∷ []) → (q ≡ p) ⊎ IsOneOf q ps
 one_of_last q p [] (inl e) = inl e
 one_of_last q p [] (inr h) = absurd h
 one_of_last q p (r ∷ ps) (inl e) = inr (inl e)
 one_of_last q p (r ∷ ps) (inr h) = elim (one_of_last q p ps h) [ inl e ↦ inl e | inr i ↦ inr (inr i) ]
 
-last_is_one : (p q : List Step) (ps : List (List Step)) → IsOneOf q ps → IsOneOf q (ps ++ p ∷ [])
+pub last_is_one : (p q : List Step) (ps : List (List Step)) → IsOneOf q ps → IsOneOf q (ps ++ p ∷ [])
 last_is_one p q [] h = absurd h
 last_is_one p q (r ∷ ps) (inl e) = inl e
 last_is_one p q (r ∷ ps) (inr h) = inr (last_is_one p q ps h)
 
 -- what has a cost isn't wrong
-costs_not_wrong : (m : List (List ℕ)) (s w c : ℕ) (v : Reason) → Costs m s w c → Wrong m s w v → ⊥
+pub costs_not_wrong : (m : List (List ℕ)) (s w c : ℕ) (v : Reason) → Costs m s w c → Wrong m s w v → ⊥
 costs_not_wrong m s w c v (inl h) k = null-not_wrong m s w c h v k
 costs_not_wrong m s w c v (inr (inl (i, h))) k = cap-not_wrong m s w c i h v k
 costs_not_wrong m s w c v (inr (inr (k, t, b, q, tag, f, tagged, e))) h = object-not_wrong m s w k t b q f v h
@@ -120,7 +120,7 @@ same_fault m words depth r r' f f' e =
     same_refusal r r' at.1 at.2 (one_reason m words depth f.charge r.segment r.word f.level r.reason r'.reason f.reason reason) (f.pointers ∙ many ∙ sym f'.pointers)
 
 -- a message without a root has no pointer that a path reaches
-rootless : (m : List (List ℕ)) (p : List Step) (level s w : ℕ) → slice_get m 0 ≡ Some [] → Reaches m p level s w → ⊥
+pub rootless : (m : List (List ℕ)) (p : List Step) (level s w : ℕ) → slice_get m 0 ≡ Some [] → Reaches m p level s w → ⊥
 rootless [] p level s w e (root, n, has, walks, up) = cc
 rootless (x ∷ m) p level s w e (root, n, has, walks, up) =
     let f : x ≡ [] = cc in

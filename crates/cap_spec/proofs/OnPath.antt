@@ -1,0 +1,201 @@
+-- The pointers on a path: they are one list, which grows with the path, and they aren't both charged and refused.
+use Rattle.std.proofs.Common.{ℕ, ◌+◌, ◌<◌, ◌≤◌, List, [], ◌∷◌, ◌++◌, ◌≡◌, ◌⊎◌, sym, ap, refl, subst, ◌∙◌, arith, inl, inr, length, append_assoc}
+use Rattle.std.proofs.lemmas.List.{append-nil}
+use Rattle.cap_spec.specs.Messages.{HasWord}
+use Rattle.cap_spec.specs.Faults.{AreShallow, IsDeepAt, IsFirstReason, is_deep, is_past, is_wrong}
+use Rattle.cap_spec.specs.Getting.{AreOnPath, Begins, IsRefusedOnPath}
+use Rattle.cap_spec.specs.Paths.{Before, Comes, Costs, Goes, IsOneOf, Reaches, Rises, Spot, Walks, element, word}
+use Rattle.cap_spec.specs.Verdicts.{CostOf}
+use Rattle.cap_spec.specs.declared.Refusal.{Refusal}
+use Rattle.cap_spec.specs.declared.Step.{Step}
+use Rattle.cap_spec.proofs.OneFault.{costs_not_wrong, distinct_last, last_is_one, one_of_last, rootless}
+use Rattle.cap_spec.proofs.OneVerdict.{cost_reached, distinct_cost, take_out}
+use Rattle.cap_spec.proofs.Preorder.{Before-longer, Rises-distinct, Rises-same}
+use Rattle.cap_spec.proofs.Walks.{one_coming, one_reached, one_walk, walk_parts}
+
+-- a path that begins another begins what goes on from it
+pub begins_longer : (q done more : List Step) → Begins q done → Begins q (done ++ more)
+begins_longer q done more (rest, e) = (rest ++ more, ap (λ x. x ++ more) e ∙ append_assoc q rest more)
+
+pub begins_itself : (p : List Step) → Begins p p
+begins_itself p = ([], sym (append-nil p))
+
+-- what begins a path that goes on from another begins that one, or goes on from it too
+begins_either : (q done rest r : List Step) (step : Step) → done ++ step ∷ rest ≡ q ++ r → Begins q done ⊎ ((more : List Step) × (q ≡ done ++ step ∷ more) × (rest ≡ more ++ r))
+begins_either [] done rest r step e = inl (done, refl)
+begins_either (x ∷ q) [] rest r step e = let f : x ≡ step = cc in let g : rest ≡ q ++ r = cc in inr (q, ap (λ y. y ∷ q) f, g)
+begins_either (x ∷ q) (y ∷ done) rest r step e = go (begins_either q done rest r step cc) cc
+  where
+    go : Begins q done ⊎ ((more : List Step) × (q ≡ done ++ step ∷ more) × (rest ≡ more ++ r)) → x ≡ y
+        → Begins (x ∷ q) (y ∷ done) ⊎ ((more : List Step) × (x ∷ q ≡ y ∷ done ++ step ∷ more) × (rest ≡ more ++ r))
+    go (inl (on, f)) g = let h : y ∷ done ≡ x ∷ (q ++ on) = cc in inl (on, h)
+    go (inr (more, f, h)) g = let k : x ∷ q ≡ y ∷ (done ++ step ∷ more) = cc in inr (more, k, h)
+
+-- with one step more, the longer path itself is added
+begins_last : (q done : List Step) (step : Step) → Begins q (done ++ step ∷ []) → (q ≡ done ++ step ∷ []) ⊎ Begins q done
+begins_last q done step (r, e) = go (begins_either q done [] r step e)
+  where
+    none : (more : List Step) → [] ≡ more ++ r → more ≡ []
+    none [] f = refl
+    none (x ∷ more) f = absurd (cc f)
+
+    go : Begins q done ⊎ ((more : List Step) × (q ≡ done ++ step ∷ more) × ([] ≡ more ++ r)) → (q ≡ done ++ step ∷ []) ⊎ Begins q done
+    go (inl h) = inr h
+    go (inr (more, f, g)) = inl (f ∙ ap (λ x. done ++ step ∷ x) (none more g))
+
+-- and comes behind what begins the shorter one
+before_last : (q done : List Step) (step : Step) → Begins q done → Before q (done ++ step ∷ [])
+before_last q done step ([], e) = subst (λ x. Before q (x ++ step ∷ [])) (sym (e ∙ append-nil q)) (Before-longer q step [])
+before_last q done step (x ∷ rest, e) =
+    let f : q ++ x ∷ (rest ++ step ∷ []) ≡ done ++ step ∷ [] = sym (ap (λ y. y ++ step ∷ []) e ∙ append_assoc q (x ∷ rest) (step ∷ [])) in
+    subst (λ y. Before q y) f (Before-longer q x (rest ++ step ∷ []))
+
+-- a rising list with a last path behind all of them
+rises_last : (ps : List (List Step)) (p : List Step) → Rises ps → ((q : List Step) → IsOneOf q ps → Before q p) → Rises (ps ++ p ∷ [])
+rises_last [] p h k = tt
+rises_last (q ∷ []) p h k = (k q (inl refl), tt)
+rises_last (q ∷ r ∷ ps) p h k = (h.0, rises_last (r ∷ ps) p h.1 (λ x i. k x (inr i)))
+
+-- the cost with a last path
+pub cost_last : (m : List (List ℕ)) (ps : List (List Step)) (p : List Step) (level s w one x : ℕ) → CostOf m ps x → Reaches m p level s w → Costs m s w one → CostOf m (ps ++ p ∷ []) (x + one)
+cost_last m [] p level s w one x h r c = (level, s, w, one, 0, r, c, refl, omega (arith, h))
+cost_last m (q ∷ ps) p level s w one x h r c = (h.0, h.1, h.2, h.3, h.4 + one, h.5, h.6, cost_last m ps p level s w one h.4 h.7 r c, omega (arith, h.8))
+
+-- none too deep, a last path neither
+pub shallow_last : (m : List (List ℕ)) (depth : ℕ) (ps : List (List Step)) (p : List Step) (level s w : ℕ) → AreShallow m depth ps → Reaches m p level s w → ¬ IsDeepAt m depth s w level
+    → AreShallow m depth (ps ++ p ∷ [])
+shallow_last m depth ps p level s w h r none q level' s' w' i r' deep = go (one_of_last q p ps i)
+  where
+    go : (q ≡ p) ⊎ IsOneOf q ps → ⊥
+    go (inr k) = h q level' s' w' k r' deep
+    go (inl e) =
+        let o = one_reached m p level' level s' w' s w (subst (λ x. Reaches m x level' s' w') e r') r in
+        let l : level' ≡ level = o.0 in
+        let f : s' ≡ s = o.1 in
+        let g : w' ≡ w = o.2 in
+        none (rw (← l, ← f, ← g) deep)
+
+-- The pointers on the empty path: the root's.
+pub on_root : (m : List (List ℕ)) (root : ℕ) → HasWord m 0 0 root → AreOnPath m [] ([] ∷ [])
+on_root m root has = record {
+  rising = tt;
+  begin = λ q i. first q i;
+  reached = λ q i. (1, 0, 0, subst (λ x. Reaches m x 1 0 0) (sym (one q i)) (root, 0, has, (refl, refl), refl));
+  all = λ q level s w b r. inl (nothing q b.0 b.1);
+}
+  where
+    one : (q : List Step) → IsOneOf q ([] ∷ []) → q ≡ []
+    one q (inl e) = e
+    one q (inr h) = absurd h
+
+    first : (q : List Step) → IsOneOf q ([] ∷ []) → Begins q []
+    first q i = subst (λ x. Begins x []) (sym (one q i)) ([], refl)
+
+    nothing : (q rest : List Step) → [] ≡ q ++ rest → q ≡ []
+    nothing [] rest e = refl
+    nothing (x ∷ q) rest e = absurd (cc e)
+
+-- With one step more to a pointer word, the longer path is added,
+pub on_word : (m : List (List ℕ)) (done : List Step) (ways : List (List Step)) (step : Step) (level s w : ℕ) → AreOnPath m done ways → Reaches m (done ++ step ∷ []) level s w
+    → AreOnPath m (done ++ step ∷ []) (ways ++ (done ++ step ∷ []) ∷ [])
+on_word m done ways step level s w h r = record {
+  rising = rises_last ways (done ++ step ∷ []) h.rising (λ q i. before_last q done step (h.begin q i));
+  begin = λ q i. begin q (one_of_last q (done ++ step ∷ []) ways i);
+  reached = λ q i. reached q (one_of_last q (done ++ step ∷ []) ways i);
+  all = λ q level' s' w' b r'. all q level' s' w' r' (begins_last q done step b);
+}
+  where
+    begin : (q : List Step) → (q ≡ done ++ step ∷ []) ⊎ IsOneOf q ways → Begins q (done ++ step ∷ [])
+    begin q (inl e) = subst (λ x. Begins x (done ++ step ∷ [])) (sym e) (begins_itself (done ++ step ∷ []))
+    begin q (inr i) = begins_longer q done (step ∷ []) (h.begin q i)
+
+    reached : (q : List Step) → (q ≡ done ++ step ∷ []) ⊎ IsOneOf q ways → (level' s' w' : ℕ) × Reaches m q level' s' w'
+    reached q (inl e) = (level, s, w, subst (λ x. Reaches m x level s w) (sym e) r)
+    reached q (inr i) = h.reached q i
+
+    all : (q : List Step) (level' s' w' : ℕ) → Reaches m q level' s' w' → (q ≡ done ++ step ∷ []) ⊎ Begins q done → IsOneOf q (ways ++ (done ++ step ∷ []) ∷ [])
+    all q level' s' w' r' (inl e) = subst (λ x. IsOneOf x (ways ++ (done ++ step ∷ []) ∷ [])) (sym e) (is_last ways)
+      where
+        is_last : (ps : List (List Step)) → IsOneOf (done ++ step ∷ []) (ps ++ (done ++ step ∷ []) ∷ [])
+        is_last [] = inl refl
+        is_last (p ∷ ps) = inr (is_last ps)
+    all q level' s' w' r' (inr b) = last_is_one (done ++ step ∷ []) q ways (h.all q level' s' w' b r')
+
+-- with one to an element nothing is added,
+pub on_element : (m : List (List ℕ)) (done : List Step) (ways : List (List Step)) (step : Step) (level t b ds ps : ℕ) → AreOnPath m done ways → Comes m (done ++ step ∷ []) level (element t b ds ps)
+    → AreOnPath m (done ++ step ∷ []) ways
+on_element m done ways step level t b ds ps h c = record {
+  rising = h.rising;
+  begin = λ q i. begins_longer q done (step ∷ []) (h.begin q i);
+  reached = h.reached;
+  all = λ q level' s' w' x r. all q level' s' w' r (begins_last q done step x);
+}
+  where
+    all : (q : List Step) (level' s' w' : ℕ) → Reaches m q level' s' w' → (q ≡ done ++ step ∷ []) ⊎ Begins q done → IsOneOf q ways
+    all q level' s' w' r (inl e) =
+        let f : word s' w' ≡ element t b ds ps = (one_coming m (done ++ step ∷ []) level' level (word s' w') (element t b ds ps) (subst (λ x. Reaches m x level' s' w') e r) c).1 in
+        absurd (cc f)
+    all q level' s' w' r (inr x) = h.all q level' s' w' x r
+
+-- and where a step leads nowhere, neither.
+pub on_nowhere : (m : List (List ℕ)) (done rest : List Step) (ways : List (List Step)) (step : Step) (level : ℕ) (a : Spot) → AreOnPath m done ways → Comes m done level a
+    → ((b : Spot) → Goes m a step b → ⊥) → AreOnPath m (done ++ step ∷ rest) ways
+on_nowhere m done rest ways step level a h c none = record {
+  rising = h.rising;
+  begin = λ q i. begins_longer q done (step ∷ rest) (h.begin q i);
+  reached = h.reached;
+  all = λ q level' s' w' b r. all q b.0 level' s' w' r (begins_either q done rest b.0 step b.1);
+}
+  where
+    past : (q more : List Step) (level' s' w' : ℕ) → Reaches m q level' s' w' → q ≡ done ++ step ∷ more → ⊥
+    past q more level' s' w' r e =
+        let g : Comes m (done ++ step ∷ more) level' (word s' w') = subst (λ x. Comes m x level' (word s' w')) e r in
+        let p = walk_parts m (word 0 0) (word s' w') done (step ∷ more) g.1 g.3 in
+        let same : a ≡ p.0 = (one_walk m (word 0 0) done c.1 p.1 a p.0 c.3 p.3).1 in
+        let w : Walks m p.0 (step ∷ more) p.2 (word s' w') = p.4 in
+        none w.0 (subst (λ x. Goes m x step w.0) (sym same) w.2)
+
+    all : (q on : List Step) (level' s' w' : ℕ) → Reaches m q level' s' w' → Begins q done ⊎ ((more : List Step) × (q ≡ done ++ step ∷ more) × (rest ≡ more ++ on)) → IsOneOf q ways
+    all q on level' s' w' r (inl b) = h.all q level' s' w' b r
+    all q on level' s' w' r (inr (more, e, f)) = absurd (past q more level' s' w' r e)
+
+-- The pointers on a path are one list.
+pub one_path_list : (m : List (List ℕ)) (path : List Step) (ways ways' : List (List Step)) → AreOnPath m path ways → AreOnPath m path ways' → ways ≡ ways'
+one_path_list m path ways ways' g h =
+    Rises-same ways ways' g.rising h.rising
+    (λ q i. let r = g.reached q i in h.all q r.0 r.1 r.2 (g.begin q i) r.3)
+    (λ q i. let r = h.reached q i in g.all q r.0 r.1 r.2 (h.begin q i) r.3)
+
+-- A path whose pointers keep to the limits isn't refused.
+pub path_not_refused : (m : List (List ℕ)) (words depth : ℕ) (path : List Step) (ways : List (List Step)) (cost : ℕ) (r : Refusal) → AreOnPath m path ways → 0 < length ways → CostOf m ways cost
+    → AreShallow m depth ways → cost ≤ words → IsRefusedOnPath m words depth path r → ⊥
+path_not_refused m words depth path [] cost r on some costs shallow within (inl h) = omega (arith, some)
+path_not_refused m words depth path (q ∷ qs) cost r on some costs shallow within (inl h) =
+    let x = on.reached q (inl refl) in rootless m q x.0 x.1 x.2 h.empty x.3
+path_not_refused m words depth path ways cost r on some costs shallow within (inr f) = by_reason f.reason
+  where
+    here : IsOneOf f.way ways
+    here = on.all f.way f.level r.segment r.word f.begin f.reached
+
+    earlier : (q : List Step) → IsOneOf q f.before → IsOneOf q ways
+    earlier q i =
+        let x = cost_reached m f.before f.charge q f.costs i in
+        let b : Begins q f.way = f.on_path.begin q (last_is_one f.way q f.before i) in
+        let e : path ≡ f.way ++ f.begin.0 = f.begin.1 in
+        on.all q x.0 x.1 x.2 (subst (λ y. Begins q y) (sym e) (begins_longer q f.way f.begin.0 b)) x.3
+
+    all : (q : List Step) → IsOneOf q (f.way ∷ f.before) → IsOneOf q ways
+    all q (inl e) = subst (λ x. IsOneOf x ways) (sym e) here
+    all q (inr i) = earlier q i
+
+    by_reason : IsFirstReason m words depth f.charge r.segment r.word f.level r.reason → ⊥
+    by_reason (is_wrong h) =
+        let t = take_out m f.way ways cost here costs in
+        let o = one_reached m f.way f.level t.level r.segment r.word t.s t.w f.reached t.reached in
+        let c : Costs m r.segment r.word t.one = subst (λ u. Costs m u r.word t.one) (sym o.1) (subst (λ u. Costs m t.s u t.one) (sym o.2) t.costs) in
+        costs_not_wrong m r.segment r.word t.one r.reason c h
+    by_reason (is_deep e deep) = shallow f.way f.level r.segment r.word here f.reached deep
+    by_reason (is_past one e none c past) =
+        let whole : CostOf m (f.way ∷ f.before) (one + f.charge) = (f.level, r.segment, r.word, one, f.charge, f.reached, c, f.costs, refl) in
+        let distinct = distinct_last f.before f.way (Rises-distinct (f.before ++ f.way ∷ []) f.on_path.rising) in
+        omega (arith, past, within, distinct_cost m (f.way ∷ f.before) ways (one + f.charge) cost distinct all whole costs)
