@@ -26,7 +26,7 @@ abbrev pub TreeWithin : List (List ℕ) → ℕ → ℕ → ℕ → Type 0
 TreeWithin m n s w = (t : Tree) × (c d : ℕ) × Denotes m s w t c d × (d ≤ n)
 
 -- so do the words at these places
-abbrev EachWithin : List (List ℕ) → ℕ → List (ℕ × ℕ) → Type 0
+abbrev pub EachWithin : List (List ℕ) → ℕ → List (ℕ × ℕ) → Type 0
 EachWithin m n ps = (ts : Trees) × (c d : ℕ) × DenoteEach m ps ts c d × (d ≤ n)
 
 -- and the pointer words of k elements from t:b on
@@ -218,3 +218,9 @@ pub tree_within : (m : List (List ℕ)) (n s w : ℕ) → ∥ TreeWithin m n s w
 tree_within m n s w h =
     let one : IsProp ⊥ = hlevel in
     elim (tree_decided m n s w) [ inl x ↦ x | inr never ↦ absurd (∥∥₁_elim h one never) ]
+
+-- The same of words at some places.
+pub each_within : (m : List (List ℕ)) (n : ℕ) (ps : List (ℕ × ℕ)) → ∥ EachWithin m n ps ∥₁ → EachWithin m n ps
+each_within m n ps h =
+    let one : IsProp ⊥ = hlevel in
+    elim (each_decided m n (tree_decided m n) ps) [ inl x ↦ x | inr never ↦ absurd (∥∥₁_elim h one never) ]

@@ -18,3 +18,5 @@ mod Founds
 mod Nodes
 mod Shown
 mod Stepping
+mod NodeTrees
+mod Placed

@@ -38,13 +38,13 @@ impl<'m, M: Segments> Copy for Node<'m, M> {}
 
 impl<'m, M: Segments> Node<'m, M> {
     ghost use Rattle.cap_spec.specs.Arriving.{StandsAs};
-    ghost use Rattle.cap_spec.specs.Paths.{Goes, Spot as Where};
+    ghost use Rattle.cap_spec.specs.Paths.{Goes, Spot as Where, Stands};
     ghost use Rattle.cap_spec.specs.Showing.{own_of};
     ghost use Rattle.cap_spec.specs.Standing.{DenotesAt};
     ghost use Rattle.cap_spec.specs.Tree.{Tree, part_at};
     ghost use Rattle.cap_vet.specs.Finding.{IsFound};
-    ghost use Rattle.cap_vet.specs.Handles.{kept_place, node_message, node_spot, shown, view_kind, view_message};
-    ghost use Rattle.std.specs.Prelude.{IfNone, IfSome, MatchOption, Some, None};
+    ghost use Rattle.cap_vet.specs.Handles.{kept_place, node_message, node_spot, shown, view_kind, view_message, view_place};
+    ghost use Rattle.std.specs.Prelude.{IfNone, IfSome, MatchOption, Some, None, ℕ};
 
     // What stands there. Following its pointer can't fail.
     fn found(&self) -> Found
@@ -74,12 +74,18 @@ impl<'m, M: Segments> Node<'m, M> {
         }
     }
 
-    /// A view of it.
+    /// A view of the node: what it is without its children. A pointer that leads to it is followed
+    /// anew, and no memory is taken.
     pub fn view(&self) -> View<'m, M>
         ensures message { view_message result ≡ node_message self.now }
         ensures stands { let place = kept_place result in
             StandsAs (M.segments (node_message self.now)) (node_spot self.now) (view_kind result) place.segment place.start place.words }
+
+        // There is a tree at the node, and the view shows what it is by itself.
+        ensures tree { (t : Tree) × DenotesAt (M.segments (node_message self.now)) (node_spot self.now) t × (shown result ≡ own_of t) }
         ensures shows { (t : Tree) → DenotesAt (M.segments (node_message self.now)) (node_spot self.now) t → shown result ≡ own_of t }
+        ensures place { MatchOption (view_place result) ((t b n : ℕ) → ¬ Stands (M.segments (node_message self.now)) (node_spot self.now) t b n)
+            (λ p. Stands (M.segments (node_message self.now)) (node_spot self.now) p.segment p.start p.words) }
     {
         View {
             message: self.message,
