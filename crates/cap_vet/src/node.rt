@@ -14,8 +14,9 @@ use cap_ptr::follow;
 use cap_spec::{Kind, Step};
 use std::alloc::AllocError;
 
-/// A node of the tree that an accepted message's root denotes: the pointer word where it stands, or
-/// the element of a list of structs.
+/// A node of the tree that an accepted message's root denotes (encoding: Objects). It is the pointer
+/// word at which it stands, or the element of a list of structs, in a message that it borrows, and
+/// knows no path.
 pub struct Node<'m, M: Segments> {
     pub(crate) message: &'m M,
     pub(crate) spot: Spot,
@@ -93,7 +94,9 @@ impl<'m, M: Segments> Node<'m, M> {
         }
     }
 
-    /// The node that a step leads to, or `None` where the step leads nowhere.
+    /// The node that one step leads to, or `None` where this node has no such part: a struct's pointer
+    /// `i`, or element `i` of a list of pointers or of structs. The child of a path's node is the node
+    /// of that path with the step added. Takes no memory.
     pub fn child(&self, step: Step) -> Option<Node<'m, M>>
         ensures message { IfSome result (λ n. node_message n ≡ node_message self.now) }
         ensures some { IfSome result (λ n. Goes (M.segments (node_message self.now)) (node_spot self.now) step (node_spot n)) }
@@ -101,12 +104,11 @@ impl<'m, M: Segments> Node<'m, M> {
         ensures part { (t : Tree) → DenotesAt (M.segments (node_message self.now)) (node_spot self.now) t →
             MatchOption result (part_at t step ≡ None) (λ n. (u : Tree) × (part_at t step ≡ Some u) × DenotesAt (M.segments (node_message self.now)) (node_spot n) u) }
     {
-        match self.found().step(step) {
-            Some(spot) => Some(Node {
-                message: self.message,
-                spot,
-            }),
-            None => None,
-        }
+        let next = self.found().step(step)?;
+        let child = Node {
+            message: self.message,
+            spot: next,
+        };
+        Some(child)
     }
 }

@@ -56,7 +56,7 @@ impl<'m, M: Segments> Vetted<'m, M> {
         self.message
     }
 
-    /// The node of the empty path.
+    /// The node of the empty path: what the root pointer denotes. Takes no memory.
     pub fn root(&self) -> Node<'m, M>
         ensures message { node_message result ≡ message_of self.now }
         ensures comes { Comes (M.segments (message_of self.now)) [] 1 (node_spot result) }
@@ -70,7 +70,10 @@ impl<'m, M: Segments> Vetted<'m, M> {
         }
     }
 
-    /// The node at a path, or `None` where the tree has none there.
+    /// The node at a path of steps from the root, or `None` where the tree has none there. A step goes
+    /// to a pointer of a struct, or to an element of a list of pointers or of structs, by its number
+    /// from 0; from an element of a list of structs it goes on as from a struct. Follows each pointer
+    /// on the path but the last, and takes no memory.
     pub fn get(&self, path: &[Step]) -> Option<Node<'m, M>>
         ensures message { IfSome result (λ n. node_message n ≡ message_of self.now) }
         ensures some { IfSome result (λ n. (level : ℕ) × Comes (M.segments (message_of self.now)) path.now level (node_spot n)) }
