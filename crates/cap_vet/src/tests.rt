@@ -1,5 +1,7 @@
 //! Verdicts of messages that are known from outside.
 
+mod nodes;
+
 use crate::{Limits, Reason, Refusal, Report, vet};
 use cap_frame::{OneSegment, Segments, WordMessage};
 use std::alloc::Global;

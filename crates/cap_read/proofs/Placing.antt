@@ -1,0 +1,67 @@
+-- What is read at the end of a path.
+use Rattle.std.proofs.Common.{◌≡◌, ℕ, ◌+◌, ◌<◌, ◌≤◌, ◌∙◌, List, length, ap, sym, subst, refl, Option, None, Some}
+use Rattle.std.specs.Prelude.{IfNone, IfSome, MatchOption}
+use Rattle.std.specs.Option.{option_map}
+use Rattle.cap_spec.specs.Denoting.{Denotes}
+use Rattle.cap_spec.specs.Messages.{segment_of}
+use Rattle.cap_spec.specs.Paths.{Comes, IsPlace, Spot, Stands}
+use Rattle.cap_spec.specs.Showing.{Own, own_of}
+use Rattle.cap_spec.specs.Standing.{DenotesAt}
+use Rattle.cap_spec.specs.Tree.{Tree, node_at}
+use Rattle.cap_spec.specs.declared.Step.{Step}
+use Rattle.cap_spec.proofs.OneTree.{Same, one_tree}
+use Rattle.cap_spec.proofs.Walks.{one_coming}
+use Rattle.cap_vet.specs.Reports.{IsReport}
+use Rattle.cap_vet.specs.declared.place.Place.{Place}
+use Rattle.cap_vet.specs.declared.report.Report.{Report}
+use Rattle.cap_read.specs.Reading.{IsPlaceInside, IsRead}
+
+-- nothing has a place where a path doesn't come to a spot,
+no_place : (m : List (List ℕ)) (path : List Step) → ((level : ℕ) (a : Spot) → Comes m path level a → ⊥) → (t b n : ℕ) → IsPlace m path t b n → ⊥
+no_place m path none t b n h = none h.0 h.1 h.2
+
+-- or where nothing stands at that spot;
+no_place_there : (m : List (List ℕ)) (path : List Step) (level : ℕ) (a : Spot) → Comes m path level a → ((t b n : ℕ) → Stands m a t b n → ⊥) → (t b n : ℕ) → IsPlace m path t b n → ⊥
+no_place_there m path level a h none t b n g =
+    none t b n (subst (λ (x : Spot). Stands m x t b n) (sym (one_coming m path level g.0 a g.1 h g.2).1) g.3)
+
+-- and else the place of the path is that of what stands there.
+placed_there : (m : List (List ℕ)) (path : List Step) (level : ℕ) (a : Spot) (o : Option Place) → Comes m path level a
+    → MatchOption o ((t b n : ℕ) → Stands m a t b n → ⊥) (λ p. Stands m a p.segment p.start p.words)
+    → IfSome o (λ p. p.segment < length m) → IfSome o (λ p. p.start + p.words ≤ length (segment_of m p.segment))
+    → MatchOption o ((t b n : ℕ) → IsPlace m path t b n → ⊥) (IsPlaceInside m path)
+placed_there m path level a None h s e i = no_place_there m path level a h s
+placed_there m path level a (Some p) h s e i = record { is_place = (level, a, h, s); exists = e; inside = i }
+
+-- the one tree
+only_tree : (m : List (List ℕ)) (words depth : ℕ) (r : Report) (t : Tree) → IsReport m words depth r t → (u : Tree) (c d : ℕ) → Denotes m 0 0 u c d → (u ≡ t) × (c ≡ r.charge) × (d ≡ r.depth)
+only_tree m words depth r t h u c d g = let o = one_tree m 0 0 u t c d r.charge r.depth g h.denotes in (o.part, o.charge, o.depth)
+
+-- Nothing is read where the tree has no node.
+pub nothing_read : (m : List (List ℕ)) (words depth : ℕ) (path : List Step) (r : Report) (t : Tree) → IsReport m words depth r t
+    → ((level : ℕ) (a : Spot) → Comes m path level a → ⊥) → ((u : Tree) (c d : ℕ) → Denotes m 0 0 u c d → node_at u path ≡ None)
+    → IsRead m words depth path r None None
+nothing_read m words depth path r t h none no = record {
+  tree = t;
+  report = h;
+  only = only_tree m words depth r t h;
+  node = ap (option_map own_of) (sym (no t r.charge r.depth h.denotes));
+  placed = no_place m path none;
+}
+
+-- Else the node is read.
+pub node_read : (m : List (List ℕ)) (words depth : ℕ) (path : List Step) (r : Report) (t : Tree) (a : Spot) (own : Own) (o : Option Place) → IsReport m words depth r t
+    → ((level : ℕ) × Comes m path level a)
+    → ((u : Tree) (c d : ℕ) → Denotes m 0 0 u c d → (x : Tree) × (node_at u path ≡ Some x) × DenotesAt m a x)
+    → ((x : Tree) → DenotesAt m a x → own ≡ own_of x)
+    → MatchOption o ((t b n : ℕ) → Stands m a t b n → ⊥) (λ p. Stands m a p.segment p.start p.words)
+    → IfSome o (λ p. p.segment < length m) → IfSome o (λ p. p.start + p.words ≤ length (segment_of m p.segment))
+    → IsRead m words depth path r (Some own) o
+node_read m words depth path r t a own o h come node shows s e i =
+    let x = node t r.charge r.depth h.denotes in record {
+      tree = t;
+      report = h;
+      only = only_tree m words depth r t h;
+      node = ap Some (shows x.0 x.2) ∙ ap (option_map own_of) (sym x.1);
+      placed = placed_there m path come.0 a o come.1 s e i;
+    }

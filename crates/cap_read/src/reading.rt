@@ -1,0 +1,64 @@
+//! A message is vetted, and what stands at a path is read.
+
+ghost use Rattle.cap_read.specs.Reading.{IsRead};
+ghost use Rattle.cap_spec.specs.Denoting.{Denotes};
+ghost use Rattle.cap_spec.specs.Tree.{Tree};
+ghost use Rattle.cap_spec.specs.Verdicts.{Justified};
+ghost use Rattle.cap_vet.specs.Handles.{shown, view_message};
+ghost use Rattle.cap_vet.specs.Limits.{depth_of, words_of};
+ghost use Rattle.std.specs.Option.{option_map};
+ghost use Rattle.std.specs.Prelude.{◌≡◌, ◌≤◌, IfErr, IfOk, IfSome, IsOk, ℕ};
+
+use cap_frame::Segments;
+use cap_vet::{Limits, Place, Refusal, Report, Step, View, vet};
+
+/// What was read of an accepted message at a path.
+pub struct Reading<'m, M: Segments> {
+    /// The charge, the depth, the pointers and the capabilities of the message's tree.
+    pub report: Report,
+    /// A view of the node at the path, or `None` where the tree has none there.
+    pub view: Option<View<'m, M>>,
+    /// The words of that node's object, or `None` where it has none.
+    pub place: Option<Place>,
+}
+
+/// Vets a message within limits, and reads the node at a path of steps from its root. Takes no memory.
+///
+/// The message is accepted where its root denotes a finite tree within the limits. Then that is the only
+/// such tree, the report tells its numbers, and what is read is the tree's node at the path, whose words
+/// lie inside their segment, or nothing where the tree has no node there. Else it is refused: the pointer
+/// word that is named is reached from the root, and the reason that is named holds there
+/// (encoding: Security Considerations).
+pub fn read<'m, M: Segments>(
+    message: &'m M,
+    limits: Limits,
+    path: &[Step],
+) -> Result<Reading<'m, M>, Refusal>
+    ensures ok { IfOk result (λ r. IsRead (M.segments message.now) (words_of limits) (depth_of limits) path.now r.report (option_map (λ v. shown v) r.view) r.place) }
+    ensures message { IfOk result (λ r. IfSome r.view (λ v. view_message v ≡ message.now)) }
+    ensures err { IfErr result (Justified (M.segments message.now) (words_of limits) (depth_of limits)) }
+
+    // The other direction: what denotes a tree within the limits is read.
+    ensures accepts { (t : Tree) (c d : ℕ) → Denotes (M.segments message.now) 0 0 t c d → c ≤ words_of limits → d ≤ depth_of limits → IsOk result }
+{
+    let vetted = match vet(message, limits) {
+        Ok(vetted) => vetted,
+        Err(refusal) => return Err(refusal),
+    };
+    let report = vetted.report();
+    match vetted.get(path) {
+        None => Ok(Reading {
+            report,
+            view: None,
+            place: None,
+        }),
+        Some(node) => {
+            let view = node.view();
+            Ok(Reading {
+                report,
+                view: Some(view),
+                place: view.place(),
+            })
+        }
+    }
+}
