@@ -20,3 +20,5 @@ mod Shown
 mod Stepping
 mod NodeTrees
 mod Placed
+mod Views
+mod Charging

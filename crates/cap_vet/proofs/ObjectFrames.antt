@@ -60,7 +60,7 @@ structs_places m s w k t b q tag n c size (suc count) d p at left more ds ps lev
     rw (f.object.shape.kind, f.object.shape.code, x, y, z, e, e1, e2, e4, e5, e6) refl
 
 -- a segment's places are numbers of 32 bits
-short_segment : (m : List (List ℕ)) (t : ℕ) → IsMessage m → t < length m → length (segment_of m t) < 2 ^ 32
+pub short_segment : (m : List (List ℕ)) (t : ℕ) → IsMessage m → t < length m → length (segment_of m t) < 2 ^ 32
 short_segment m t h l = h.lengths t [] l
 
 -- an element's start is a number of 32 bits

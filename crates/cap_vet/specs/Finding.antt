@@ -17,6 +17,10 @@ kind_of_shape (shape.Scalars c n) = Scalars c n
 kind_of_shape (shape.Pointers n) = Pointers n
 kind_of_shape (shape.Structs size n d p) = Structs n d p
 
+-- what an element of these sizes is
+abbrev pub element_of : ℕ → ℕ → ℕ → ℕ → Found
+element_of t b d p = record { kind = Struct d p; place = record { segment = t; start = b; words = d + p } }
+
 -- the words of its own that are read
 abbrev pub own_words : Kind → ℕ
 own_words (Struct d p) = d + p

@@ -1,4 +1,5 @@
 pub mod Budgets
+pub mod Charging
 pub mod Finding
 pub mod Frames
 pub mod Handles

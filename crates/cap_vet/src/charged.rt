@@ -1,15 +1,18 @@
 //! Getters of messages that weren't vetted.
 
 ghost use Rattle.cap_spec.specs.Arriving.{ArrivesAt};
-ghost use Rattle.cap_spec.specs.Faults.{IsFirstReason};
-ghost use Rattle.cap_spec.specs.Getting.{Charges, IsRefusedOnPath};
-ghost use Rattle.cap_spec.specs.Messages.{segment_of};
-ghost use Rattle.cap_spec.specs.Paths.{Costs, word};
-ghost use Rattle.cap_vet.specs.Budgets.{left_of};
-ghost use Rattle.cap_vet.specs.Finding.{IsFound};
-ghost use Rattle.cap_vet.specs.Handles.{kept_place, view_kind, view_message};
+ghost use Rattle.cap_spec.specs.Faults.{AreShallow, IsDeepAt, IsFirstReason};
+ghost use Rattle.cap_spec.specs.Getting.{AreOnPath, Charges, IsFaultOnPath, IsRefusedOnPath};
+ghost use Rattle.cap_spec.specs.Messages.{IsMessage, segment_of};
+ghost use Rattle.cap_spec.specs.Paths.{Costs, Goes, Spot as Where, word, word as word_at};
+ghost use Rattle.cap_spec.specs.Verdicts.{CostOf};
 ghost use Rattle.cap_spec.specs.declared.Kind.{Kind};
-ghost use Rattle.std.specs.Prelude.{◌+◌, ◌-◌, ◌<◌, ◌≡◌, ◌≤◌, ◌^◌, IfErr, IfOk, OnErr, OnOk, IfNone, IfSome, length, ℕ};
+ghost use Rattle.cap_spec.specs.declared.Step.{Step};
+ghost use Rattle.cap_vet.specs.Budgets.{left_of};
+ghost use Rattle.cap_vet.specs.Charging.{Arrives};
+ghost use Rattle.cap_vet.specs.Finding.{IsFound, element_of};
+ghost use Rattle.cap_vet.specs.Handles.{kept_place, view_kind, view_message};
+ghost use Rattle.std.specs.Prelude.{[], ◌∷◌, ◌++◌, ◌+◌, ◌-◌, ◌<◌, ◌≡◌, ◌≤◌, ◌^◌, IfErr, IfNone, IfOk, IfSome, IsOk, List, OnErr, OnOk, length, ℕ};
 
 use crate::budget::Budget;
 use crate::found::{Found, found_of};
@@ -35,6 +38,7 @@ fn charge<M: Segments>(
     requires inside { w < length (segment_of (M.segments message.now) s) }
     requires level { level < 2 ^ 63 }
     ensures ok { IfOk result (λ r. IsFound (M.segments message.now) (word s w) r.0 × Costs (M.segments message.now) s w r.1 × (r.1 ≤ left)) }
+    ensures shallow { OnOk result (¬ IsDeepAt (M.segments message.now) depth s w level) }
     ensures err { (words before : ℕ) → left ≡ words - before → before ≤ words → IfErr result (IsFirstReason (M.segments message.now) words depth before s w level) }
 {
     match follow(message, s, w) {
@@ -63,12 +67,165 @@ fn charge<M: Segments>(
     }
 }
 
-/// What a path arrives at in a message that needn't be vetted. Each pointer on the path is followed
-/// and charged to the budget, the same word anew, under the reasons of a walk and in their order, the
-/// budget in place of the word limit. Takes no memory.
+/// Where the steps of a path have arrived so far.
+#[derive(Clone, Copy)]
+pub(crate) struct Arrival {
+    // What stands there.
+    pub(crate) found: Found,
+    // The level of it, 1 for the root.
+    pub(crate) level: u64,
+    // What following the pointers on the way cost, in words.
+    pub(crate) spent: u64,
+    // How many pointers that were.
+    pub(crate) pointers: u64,
+}
+
+// Arrives at the root.
+fn at_root<M: Segments>(message: &M, words: u64, depth: u32) -> Result<Arrival, Refusal>
+    ensures ok { IfOk result (Arrives (M.segments message.now) words depth [] (word 0 0)) }
+    ensures level { IfOk result (λ at. at.level ≡ 1) }
+    ensures pointers { IfOk result (λ at. at.pointers ≡ 1) }
+    ensures err { (path : List Step) → IfErr result (IsRefusedOnPath (M.segments message.now) words depth path) }
+{
+    if message.len(0) == 0 {
+        return Err(Refusal {
+            segment: 0,
+            word: 0,
+            reason: Reason::NoRoot,
+            pointers: 0,
+        });
+    }
+    match charge(message, words, depth, 0, 0, 1) {
+        Ok((found, spent)) => Ok(Arrival {
+            found,
+            level: 1,
+            spent,
+            pointers: 1,
+        }),
+        Err(reason) => Err(Refusal {
+            segment: 0,
+            word: 0,
+            reason,
+            pointers: 1,
+        }),
+    }
+}
+
+impl Arrival {
+    // One step on, to what the step's pointer leads to or to an element, or `None` where the step leads
+    // nowhere.
+    fn step<M: Segments>(
+        &self,
+        message: &M,
+        words: u64,
+        depth: u32,
+        step: Step,
+    ) -> Result<Option<Arrival>, Refusal>
+        requires arrived { (path : List Step) × (a : Where) × Arrives (M.segments message.now) words depth path a self.now }
+        requires levels { self.now.level < 2 ^ 61 }
+        requires few { self.now.pointers < 2 ^ 61 }
+        ensures some { (path : List Step) (a : Where) → Arrives (M.segments message.now) words depth path a self.now →
+            IfOk result (λ o. IfSome o (λ next. (b : Where) × Arrives (M.segments message.now) words depth (path ++ step ∷ []) b next)) }
+        ensures level { IfOk result (λ o. IfSome o (λ next. next.level ≤ self.now.level + 1)) }
+        ensures pointers { IfOk result (λ o. IfSome o (λ next. next.pointers ≤ self.now.pointers + 1)) }
+        ensures none { (path : List Step) (a : Where) → Arrives (M.segments message.now) words depth path a self.now →
+            IfOk result (λ o. IfNone o ((b : Where) → ¬ Goes (M.segments message.now) a step b)) }
+        ensures err { (path : List Step) (a : Where) → Arrives (M.segments message.now) words depth path a self.now →
+            IfErr result (IsFaultOnPath (M.segments message.now) words depth (path ++ step ∷ [])) }
+    {
+        match self.found.step(step) {
+            None => Ok(None),
+            Some(Spot::Word { segment, word }) => {
+                match self.to_word(message, words, depth, segment, word) {
+                    Ok(next) => Ok(Some(next)),
+                    Err(refusal) => Err(refusal),
+                }
+            }
+            Some(
+                Spot::Element {
+                    segment,
+                    start,
+                    data_words,
+                    pointers,
+                },
+            ) => Ok(Some(Arrival {
+                found: element(segment, start, data_words, pointers),
+                level: self.level + u64::from(levels_of_elements(1)),
+                spent: self.spent,
+                pointers: self.pointers,
+            })),
+        }
+    }
+
+    // One step on to a pointer word.
+    fn to_word<M: Segments>(
+        &self,
+        message: &M,
+        words: u64,
+        depth: u32,
+        segment: u32,
+        word: u32,
+    ) -> Result<Arrival, Refusal>
+        requires exists { segment < length (M.segments message.now) }
+        requires inside { word < length (segment_of (M.segments message.now) segment) }
+        requires within { self.now.spent ≤ words }
+        requires levels { self.now.level < 2 ^ 61 }
+        requires few { self.now.pointers < 2 ^ 61 }
+        ensures ok { (path : List Step) (a : Where) (step : Step) → Arrives (M.segments message.now) words depth path a self.now →
+            Goes (M.segments message.now) a step (word_at segment word) → IfOk result (Arrives (M.segments message.now) words depth (path ++ step ∷ []) (word_at segment word)) }
+        ensures level { IfOk result (λ next. next.level ≡ self.now.level + 1) }
+        ensures pointers { IfOk result (λ next. next.pointers ≡ self.now.pointers + 1) }
+        ensures err { (path : List Step) (a : Where) (step : Step) → Arrives (M.segments message.now) words depth path a self.now →
+            Goes (M.segments message.now) a step (word_at segment word) → IfErr result (IsFaultOnPath (M.segments message.now) words depth (path ++ step ∷ [])) }
+    {
+        let level = self.level + 1;
+        let pointers = self.pointers + 1;
+        match charge(message, words - self.spent, depth, segment, word, level) {
+            Ok((found, cost)) => Ok(Arrival {
+                found,
+                level,
+                spent: self.spent + cost,
+                pointers,
+            }),
+            Err(reason) => Err(Refusal {
+                segment,
+                word,
+                reason,
+                pointers,
+            }),
+        }
+    }
+}
+
+// What an element of a list of structs is.
+fn element(segment: u32, start: u32, data_words: u16, pointers: u16) -> Found
+    ensures { result ≡ element_of segment start data_words pointers }
+{
+    Found {
+        kind: Kind::Struct {
+            data_words,
+            pointers,
+        },
+        place: Place {
+            segment,
+            start,
+            words: u32::from(data_words) + u32::from(pointers),
+        },
+    }
+}
+
+/// What a path arrives at in a message that needn't be vetted. Each pointer on the path, the root's
+/// among them, is followed and charged to the budget, in words, a word that two steps lead to twice.
+/// Takes no memory.
 ///
-/// `None` where the path arrives at nothing. After a refusal, which names the first pointer on the path
-/// at which a reason applies, the budget is as it was.
+/// `None` where the path arrives at nothing: the pointers up to there are charged all the same.
+///
+/// # Errors
+///
+/// The first pointer on the path at which anything is wrong, with the first reason that applies: it
+/// can't be followed, what it leads to stands past `depth` levels, or the charges up to it are more
+/// words than the budget has. `NoRoot` where segment 0 has no words. `pointers` counts the pointers on
+/// the path up to the named one. The budget is then as it was.
 pub fn get_charged<'m, M: Segments>(
     message: &'m M,
     budget: &mut Budget,
@@ -81,71 +238,29 @@ pub fn get_charged<'m, M: Segments>(
     ensures message { IfOk result (λ o. IfSome o (λ v. view_message v ≡ message.now)) }
     ensures err { IfErr result (IsRefusedOnPath (M.segments message.now) (left_of budget.old) depth path.now) }
     ensures unchanged { OnErr result (budget.new ≡ budget.old) }
+    // The other direction.
+    ensures accepts { (ways : List (List Step)) (cost : ℕ) → AreOnPath (M.segments message.now) path.now ways → 0 < length ways →
+        CostOf (M.segments message.now) ways cost → AreShallow (M.segments message.now) depth ways → cost ≤ left_of budget.old → IsOk result }
 {
-    if message.len(0) == 0 {
-        return Err(Refusal {
-            segment: 0,
-            word: 0,
-            reason: Reason::NoRoot,
-            pointers: 0,
-        });
-    }
-    let (mut found, mut spent) = match charge(message, budget.words, depth, 0, 0, 1) {
-        Ok(first) => first,
-        Err(reason) => return Err(Refusal {
-            segment: 0,
-            word: 0,
-            reason,
-            pointers: 1,
-        }),
+    let words = budget.words;
+    let mut at = match at_root(message, words, depth) {
+        Ok(root) => root,
+        Err(refusal) => return Err(refusal),
     };
-    let mut level: u64 = 1;
-    let mut pointers: u64 = 1;
     for step in path {
-        match found.step(*step) {
-            None => {
-                budget.words -= spent;
+        match at.step(message, words, depth, *step) {
+            Ok(Some(next)) => at = next,
+            Ok(None) => {
+                budget.words = words - at.spent;
                 return Ok(None);
             }
-            Some(
-                Spot::Element {
-                    segment,
-                    start,
-                    data_words,
-                    pointers: size,
-                },
-            ) => {
-                level += u64::from(levels_of_elements(1));
-                found = Found {
-                    kind: Kind::Struct {
-                        data_words,
-                        pointers: size,
-                    },
-                    place: Place {
-                        segment,
-                        start,
-                        words: u32::from(data_words) + u32::from(size),
-                    },
-                };
-            }
-            Some(Spot::Word { segment, word }) => {
-                level += 1;
-                pointers += 1;
-                match charge(message, budget.words - spent, depth, segment, word, level) {
-                    Ok((next, cost)) => {
-                        found = next;
-                        spent += cost;
-                    }
-                    Err(reason) => return Err(Refusal {
-                        segment,
-                        word,
-                        reason,
-                        pointers,
-                    }),
-                }
-            }
+            Err(fault) => return Err(fault),
         }
     }
-    budget.words -= spent;
-    Ok(Some(View { message, found }))
+    budget.words = words - at.spent;
+    let view = View {
+        message,
+        found: at.found,
+    };
+    Ok(Some(view))
 }

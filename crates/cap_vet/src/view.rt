@@ -47,7 +47,8 @@ impl<'m, M: Segments> View<'m, M> {
         ensures value { result ≡ view_kind self.now }
         ensures shows { result ≡ kind_of (shown self.now) }
     {
-        self.found.kind
+        let Found { kind, .. } = self.found;
+        kind
     }
 
     /// The words of a struct, an element or a list, the tag and surplus words of a list of structs

@@ -1,0 +1,170 @@
+-- What a path arrives at, step by step, and what following the pointers on it costs.
+use Rattle.std.proofs.Common.{ℕ, ◌+◌, ◌-◌, ◌<◌, ◌≤◌, List, [], ◌∷◌, ◌++◌, ◌≡◌, refl, subst, sym, ap, ◌∙◌, arith, inl, inr, length, length-append}
+use Rattle.cap_spec.specs.Arriving.{ArrivesAt}
+use Rattle.cap_spec.specs.Denoting.{element_levels}
+use Rattle.cap_spec.specs.Faults.{AreShallow, IsDeepAt, IsFirstReason}
+use Rattle.cap_spec.specs.Getting.{AreOnPath, Charges, IsFaultOnPath}
+use Rattle.cap_spec.specs.Messages.{HasWord, segment_of}
+use Rattle.cap_spec.specs.Paths.{Comes, Costs, Goes, Reaches, Spot, element, word}
+use Rattle.cap_spec.specs.Verdicts.{CostOf}
+use Rattle.cap_spec.specs.declared.Kind.{Kind}
+use Rattle.cap_spec.specs.declared.Reason.{Reason}
+use Rattle.cap_spec.specs.declared.Refusal.{Refusal}
+use Rattle.cap_spec.specs.declared.Step.{Step}
+use Rattle.cap_spec.proofs.OnPath.{begins_itself, begins_longer, cost_last, on_element, on_nowhere, on_root, on_word, shallow_last}
+use Rattle.cap_spec.proofs.Walks.{coming_last}
+use Rattle.cap_vet.specs.Charging.{Arrives}
+use Rattle.cap_vet.specs.Finding.{IsFound, element_of}
+use Rattle.cap_vet.specs.declared.charged.Arrival.{Arrival}
+use Rattle.cap_vet.specs.declared.found.Found.{Found}
+use Rattle.cap_vet.proofs.Nodes.{comes_nowhere}
+
+-- none of no paths is too deep
+none_deep : (m : List (List ℕ)) (depth : ℕ) → AreShallow m depth []
+none_deep m depth = λ p level s w i r. absurd i
+
+-- the empty path reaches the root
+root_reached : (m : List (List ℕ)) (root : ℕ) → HasWord m 0 0 root → Reaches m [] 1 0 0
+root_reached m root has = (root, 0, has, (refl, refl), refl)
+
+-- At the root,
+pub arrives_root : (m : List (List ℕ)) (words depth root spent : ℕ) (f : Found) → HasWord m 0 0 root → IsFound m (word 0 0) f → Costs m 0 0 spent → spent ≤ words → ¬ IsDeepAt m depth 0 0 1
+    → Arrives m words depth [] (word 0 0) record { found = f; level = 1; spent = spent; pointers = 1 }
+arrives_root m words depth root spent f has found costs within shallow = record {
+  comes = root_reached m root has;
+  found = found;
+  ways = [] ∷ [];
+  on_path = on_root m root has;
+  some = omega arith;
+  costs = (1, 0, 0, spent, 0, root_reached m root has, costs, refl, omega arith);
+  shallow = shallow_last m depth [] [] 1 0 0 (none_deep m depth) (root_reached m root has) shallow;
+  within = within;
+  pointers = refl;
+}
+
+-- whose fault is the first on each path.
+pub fault_root : (m : List (List ℕ)) (words depth root : ℕ) (path : List Step) (v : Reason) → HasWord m 0 0 root → IsFirstReason m words depth 0 0 0 1 v
+    → IsFaultOnPath m words depth path record { segment = 0; word = 0; reason = v; pointers = 1 }
+fault_root m words depth root path v has reason = record {
+  way = [];
+  begin = (path, refl);
+  before = [];
+  level = 1;
+  charge = 0;
+  reached = root_reached m root has;
+  on_path = on_root m root has;
+  costs = refl;
+  within = omega arith;
+  shallow = none_deep m depth;
+  reason = reason;
+  pointers = refl;
+}
+
+-- where a path comes to with one step more
+pub next_comes : (m : List (List ℕ)) (words depth : ℕ) (path : List Step) (a : Spot) (at : Arrival) (step : Step) (s w : ℕ) → Arrives m words depth path a at → Goes m a step (word s w)
+    → Reaches m (path ++ step ∷ []) (at.level + 1) s w
+next_comes m words depth path a at step s w h g = (coming_last m path step (at.level + 1) (word s w)).1 (a, at.level, h.comes, g, refl)
+
+-- One step on at a pointer word,
+pub arrives_word : (m : List (List ℕ)) (words depth : ℕ) (path : List Step) (a : Spot) (at : Arrival) (step : Step) (s w cost : ℕ) (f : Found) → Arrives m words depth path a at → Goes m a step (word s w)
+    → IsFound m (word s w) f → Costs m s w cost → cost ≤ words - at.spent → ¬ IsDeepAt m depth s w (at.level + 1)
+    → Arrives m words depth (path ++ step ∷ []) (word s w) record { found = f; level = at.level + 1; spent = at.spent + cost; pointers = at.pointers + 1 }
+arrives_word m words depth path a at step s w cost f h g found costs within shallow =
+    let r : Reaches m (path ++ step ∷ []) (at.level + 1) s w = next_comes m words depth path a at step s w h g in
+    let l = length-append h.ways ((path ++ step ∷ []) ∷ []) in
+    record {
+      comes = r;
+      found = found;
+      ways = h.ways ++ (path ++ step ∷ []) ∷ [];
+      on_path = on_word m path h.ways step (at.level + 1) s w h.on_path r;
+      some = omega (arith, l);
+      costs = cost_last m h.ways (path ++ step ∷ []) (at.level + 1) s w cost at.spent h.costs r costs;
+      shallow = shallow_last m depth h.ways (path ++ step ∷ []) (at.level + 1) s w h.shallow r shallow;
+      within = omega (arith, within, h.within);
+      pointers = omega (arith, l, h.pointers);
+    }
+
+-- whose fault is the first,
+pub fault_word : (m : List (List ℕ)) (words depth : ℕ) (path : List Step) (a : Spot) (at : Arrival) (step : Step) (s w : ℕ) (v : Reason) → Arrives m words depth path a at → Goes m a step (word s w)
+    → IsFirstReason m words depth at.spent s w (at.level + 1) v → IsFaultOnPath m words depth (path ++ step ∷ []) record { segment = s; word = w; reason = v; pointers = at.pointers + 1 }
+fault_word m words depth path a at step s w v h g reason =
+    let r : Reaches m (path ++ step ∷ []) (at.level + 1) s w = next_comes m words depth path a at step s w h g in
+    record {
+      way = path ++ step ∷ [];
+      begin = begins_itself (path ++ step ∷ []);
+      before = h.ways;
+      level = at.level + 1;
+      charge = at.spent;
+      reached = r;
+      on_path = on_word m path h.ways step (at.level + 1) s w h.on_path r;
+      costs = h.costs;
+      within = h.within;
+      shallow = h.shallow;
+      reason = reason;
+      pointers = omega (arith, h.pointers, length-append h.ways ((path ++ step ∷ []) ∷ []));
+    }
+
+-- and at an element.
+pub arrives_element : (m : List (List ℕ)) (words depth : ℕ) (path : List Step) (a : Spot) (at next : Arrival) (step : Step) (t b ds ps : ℕ) → Arrives m words depth path a at
+    → Goes m a step (element t b ds ps) → t < length m → b + ds + ps ≤ length (segment_of m t) → next.found ≡ element_of t b ds ps → next.level ≡ at.level + element_levels 1
+    → next.spent ≡ at.spent → next.pointers ≡ at.pointers → Arrives m words depth (path ++ step ∷ []) (element t b ds ps) next
+arrives_element m words depth path a at next step t b ds ps h g exists inside e1 e2 e3 e4 =
+    let c : Comes m (path ++ step ∷ []) next.level (element t b ds ps) = (coming_last m path step next.level (element t b ds ps)).1 (a, at.level, h.comes, g, e2) in
+    record {
+      comes = c;
+      found = subst (λ x. IsFound m (element t b ds ps) x) (sym e1)
+          record { stands = record { segment = refl; start = refl; data_words = refl; pointers = refl; words = refl }; exists = exists; inside = omega (arith, inside); own = omega arith };
+      ways = h.ways;
+      on_path = on_element m path h.ways step next.level t b ds ps h.on_path c;
+      some = h.some;
+      costs = subst (λ x. CostOf m h.ways x) (sym e3) h.costs;
+      shallow = h.shallow;
+      within = omega (arith, e3, h.within);
+      pointers = e4 ∙ h.pointers;
+    }
+
+-- The first fault on the beginning of a path is the first on the path.
+pub fault_longer : (m : List (List ℕ)) (words depth : ℕ) (done rest path : List Step) (r : Refusal) → done ++ rest ≡ path → IsFaultOnPath m words depth done r → IsFaultOnPath m words depth path r
+fault_longer m words depth done rest path r e f = record {
+  way = f.way;
+  begin = subst (λ x. (on : List Step) × (x ≡ f.way ++ on)) e (begins_longer f.way done rest f.begin);
+  before = f.before;
+  level = f.level;
+  charge = f.charge;
+  reached = f.reached;
+  on_path = f.on_path;
+  costs = f.costs;
+  within = f.within;
+  shallow = f.shallow;
+  reason = f.reason;
+  pointers = f.pointers;
+}
+
+-- What was charged where the whole path arrives somewhere,
+pub charges_there : (m : List (List ℕ)) (words depth : ℕ) (path : List Step) (a : Spot) (at : Arrival) → Arrives m words depth path a at → Charges m words depth path (words - at.spent)
+charges_there m words depth path a at h = record {
+  ways = h.ways;
+  on_path = h.on_path;
+  some = h.some;
+  cost = at.spent;
+  costs = h.costs;
+  shallow = h.shallow;
+  spent = omega (arith, h.within);
+}
+
+-- and where a step leads nowhere.
+pub charges_nowhere : (m : List (List ℕ)) (words depth : ℕ) (done rest path : List Step) (step : Step) (a : Spot) (at : Arrival) → done ++ step ∷ rest ≡ path → Arrives m words depth done a at
+    → ((b : Spot) → Goes m a step b → ⊥) → Charges m words depth path (words - at.spent)
+charges_nowhere m words depth done rest path step a at e h none = record {
+  ways = h.ways;
+  on_path = subst (λ x. AreOnPath m x h.ways) e (on_nowhere m done rest h.ways step at.level a h.on_path h.comes none);
+  some = h.some;
+  cost = at.spent;
+  costs = h.costs;
+  shallow = h.shallow;
+  spent = omega (arith, h.within);
+}
+
+pub arrives_nowhere : (m : List (List ℕ)) (words depth : ℕ) (done rest path : List Step) (step : Step) (a : Spot) (at : Arrival) → path ≡ done ++ step ∷ rest → Arrives m words depth done a at
+    → ((b : Spot) → Goes m a step b → ⊥) → (k : Kind) (t b n : ℕ) → ArrivesAt m path k t b n → ⊥
+arrives_nowhere m words depth done rest path step a at e h none k t b n (level, spot, comes, stands) = comes_nowhere m path done rest step at.level a e h.comes none level spot comes

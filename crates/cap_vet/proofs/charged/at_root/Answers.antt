@@ -1,0 +1,20 @@
+use Rattle.std.proofs.Common.{ℕ, ◌<◌, length, arith, inr}
+use Rattle.cap_spec.specs.Messages.{HasWord, segment_of}
+use Rattle.cap_spec.proofs.Messages.{HasWord-at}
+use Rattle.cap_vet.proofs.Charging.{arrives_root, fault_root}
+use Rattle.cap_vet.proofs.charged.at_root.Goals as goal
+
+pub returns-in-Ok-clause-ok : goal.returns-in-Ok-clause-ok
+returns-in-Ok-clause-ok g c =
+    let m = g.M.Segments.segments c.args.message.now in
+    let some : 0 < length (segment_of m 0) = omega (arith, c.if-len-eq0.false, c.len.ensures) in
+    let root : (x : ℕ) × HasWord m 0 0 x = HasWord-at m 0 0 some in
+    let r = c.in-Ok.ensures.ok in
+    arrives_root m _ _ root.0 _ _ root.1 r.0 r.1 r.2 c.in-Ok.ensures.shallow
+
+pub returns-in-Err-clause-err : goal.returns-in-Err-clause-err
+returns-in-Err-clause-err g c = λ path.
+    let m = g.M.Segments.segments c.args.message.now in
+    let some : 0 < length (segment_of m 0) = omega (arith, c.if-len-eq0.false, c.len.ensures) in
+    let root : (x : ℕ) × HasWord m 0 0 x = HasWord-at m 0 0 some in
+    inr (fault_root m _ _ root.0 path _ root.1 (c.in-Err.ensures.err c.args.words 0 (omega arith) (omega arith)))
