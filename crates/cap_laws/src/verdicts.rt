@@ -1,6 +1,6 @@
 //! What a message's root denotes, and how a message may be refused.
 
-ghost use Rattle.std.specs.Prelude.{ℕ, List, ◌≡◌, ◌≤◌, ◌<◌, ◌+◌, ◌↔◌};
+ghost use Rattle.std.specs.Prelude.{ℕ, List, ◌≡◌, ◌≤◌, ◌<◌, ◌+◌, ◌↔◌, length};
 ghost use Rattle.cap_spec.specs.declared.Step.{Step};
 ghost use Rattle.cap_spec.specs.declared.Reason.{Reason};
 ghost use Rattle.cap_spec.specs.declared.Refusal.{Refusal};
@@ -9,7 +9,8 @@ ghost use Rattle.cap_spec.specs.Following.{Wrong, IsComposite};
 ghost use Rattle.cap_spec.specs.Tree.{Tree};
 ghost use Rattle.cap_spec.specs.Denoting.{Finds, Denotes};
 ghost use Rattle.cap_spec.specs.Paths.{Reaches, Rises, IsOneOf};
-ghost use Rattle.cap_spec.specs.Faults.{IsRefused};
+ghost use Rattle.cap_spec.specs.Faults.{AreShallow, IsRefused};
+ghost use Rattle.cap_spec.specs.Getting.{AreOnPath, IsRefusedOnPath};
 ghost use Rattle.cap_spec.specs.Verdicts.{CostOf, AreDistinct, Justified, levels_below};
 
 /// The charge of the root's tree is what following the pointer words that its paths reach costs,
@@ -60,4 +61,19 @@ pub fn accepted_is_not_refused()
 pub fn refused_in_one_way()
     ensures { (m : List (List ℕ)) (words depth : ℕ) (r other : Refusal) →
         IsRefused m words depth r → IsRefused m words depth other → r ≡ other }
+{}
+
+/// The pointers on a path are one list: the beginnings of the path that reach a pointer word, the
+/// shortest first.
+pub fn pointers_on_path_are_one_list()
+    ensures { (m : List (List ℕ)) (path : List Step) (ways other : List (List Step)) →
+        AreOnPath m path ways → AreOnPath m path other → ways ≡ other }
+{}
+
+/// A path isn't both charged and refused: where the pointers on it, the root's among them, are within
+/// a budget and a depth limit, there is no first fault on it.
+pub fn charged_path_is_not_refused()
+    ensures { (m : List (List ℕ)) (words depth : ℕ) (path : List Step) (ways : List (List Step)) (cost : ℕ) (refusal : Refusal) →
+        AreOnPath m path ways → 0 < length ways → CostOf m ways cost → AreShallow m depth ways → cost ≤ words →
+        ¬ IsRefusedOnPath m words depth path refusal }
 {}
