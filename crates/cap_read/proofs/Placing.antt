@@ -41,27 +41,28 @@ only_tree m words depth r t h u c d g = let o = one_tree m 0 0 u t c d r.charge 
 pub nothing_read : (m : List (List ℕ)) (words depth : ℕ) (path : List Step) (r : Report) (t : Tree) → IsReport m words depth r t
     → ((level : ℕ) (a : Spot) → Comes m path level a → ⊥) → ((u : Tree) (c d : ℕ) → Denotes m 0 0 u c d → node_at u path ≡ None)
     → IsRead m words depth path r None None
-nothing_read m words depth path r t h none no = record {
+nothing_read m words depth path r t h none empty = record {
   tree = t;
   report = h;
   only = only_tree m words depth r t h;
-  node = ap (option_map own_of) (sym (no t r.charge r.depth h.denotes));
+  node = ap (option_map own_of) (sym (empty t r.charge r.depth h.denotes));
   placed = no_place m path none;
 }
 
 -- Else the node is read.
-pub node_read : (m : List (List ℕ)) (words depth : ℕ) (path : List Step) (r : Report) (t : Tree) (a : Spot) (own : Own) (o : Option Place) → IsReport m words depth r t
+pub node_read : (m : List (List ℕ)) (words depth : ℕ) (path : List Step) (r : Report) (t : Tree) (a : Spot) (own : Own) (o o' : Option Place) → IsReport m words depth r t
     → ((level : ℕ) × Comes m path level a)
     → ((u : Tree) (c d : ℕ) → Denotes m 0 0 u c d → (x : Tree) × (node_at u path ≡ Some x) × DenotesAt m a x)
     → ((x : Tree) → DenotesAt m a x → own ≡ own_of x)
-    → MatchOption o ((t b n : ℕ) → Stands m a t b n → ⊥) (λ p. Stands m a p.segment p.start p.words)
+    → o ≡ o' → MatchOption o' ((t b n : ℕ) → Stands m a t b n → ⊥) (λ p. Stands m a p.segment p.start p.words)
     → IfSome o (λ p. p.segment < length m) → IfSome o (λ p. p.start + p.words ≤ length (segment_of m p.segment))
     → IsRead m words depth path r (Some own) o
-node_read m words depth path r t a own o h come node shows s e i =
-    let x = node t r.charge r.depth h.denotes in record {
+node_read m words depth path r t a own o o' h come node shows same s e i =
+    let x = node t r.charge r.depth h.denotes in
+    let there : MatchOption o ((t b n : ℕ) → Stands m a t b n → ⊥) (λ p. Stands m a p.segment p.start p.words) = rw same s in record {
       tree = t;
       report = h;
       only = only_tree m words depth r t h;
       node = ap Some (shows x.0 x.2) ∙ ap (option_map own_of) (sym x.1);
-      placed = placed_there m path come.0 a o come.1 s e i;
+      placed = placed_there m path come.0 a o come.1 there e i;
     }
