@@ -156,21 +156,21 @@ fn values(
     let segment = words(alloc, spelled)?;
     let message = OneSegment::new(&segment).ok_or("no message")?;
     let view = root(&message)?;
-    let mut i = 0;
+    let mut i: u32 = 0;
     for element in elements {
         assert_eq!(rt;
             view.scalar(i),
             Some(*element),
             "element {i} of {spelled:?}"
         );
-        i += 1;
+        i = i.saturating_add(1);
     }
     assert_eq!(rt; view.scalar(i), None, "past the elements of {spelled:?}");
     assert_eq!(rt; view.count(), Some(i));
-    let mut i = 0;
+    let mut i: u32 = 0;
     for word in list_words {
         assert_eq!(rt; view.data_word(i), Some(*word), "word {i} of {spelled:?}");
-        i += 1;
+        i = i.saturating_add(1);
     }
     assert_eq!(rt; view.data_word(i), None, "past the words of {spelled:?}");
     assert_eq!(rt; view.byte(0), None);
