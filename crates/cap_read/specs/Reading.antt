@@ -17,7 +17,8 @@ pub record IsPlaceInside (m : List (List ℕ)) (path : List Step) (p : Place) : 
   pub exists : p.segment < length m
   pub inside : p.start + p.words ≤ length (segment_of m p.segment)
 
--- The root denotes exactly one tree, within the limits and of the reported numbers, and what was read is the tree's node at the path, in the place of the path, or nothing where there is none.
+-- The root denotes exactly one tree, within the limits and of the reported numbers.
+-- What was read is the tree's node at the path, in the place of the path, or nothing where there is none.
 pub record IsRead (m : List (List ℕ)) (words depth : ℕ) (path : List Step) (r : Report) (own : Option Own) (place : Option Place) : Type 0 where
   pub tree : Tree
   pub report : IsReport m words depth r tree

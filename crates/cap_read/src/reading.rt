@@ -34,12 +34,14 @@ pub fn read<'m, M: Segments>(
     limits: Limits,
     path: &[Step],
 ) -> Result<Reading<'m, M>, Refusal>
-    ensures ok { IfOk result (λ r. IsRead (M.segments message.now) (words_of limits) (depth_of limits) path.now r.report (option_map (λ v. shown v) r.view) r.place) }
+    ensures ok { IfOk result (λ r. IsRead (M.segments message.now) (words_of limits) (depth_of limits) path.now
+        r.report (option_map (λ v. shown v) r.view) r.place) }
     ensures message { IfOk result (λ r. IfSome r.view (λ v. view_message v ≡ message.now)) }
     ensures err { IfErr result (Justified (M.segments message.now) (words_of limits) (depth_of limits)) }
 
     // The other direction: what denotes a tree within the limits is read.
-    ensures accepts { (t : Tree) (c d : ℕ) → Denotes (M.segments message.now) 0 0 t c d → c ≤ words_of limits → d ≤ depth_of limits → IsOk result }
+    ensures accepts { (t : Tree) (c d : ℕ) →
+        Denotes (M.segments message.now) 0 0 t c d → c ≤ words_of limits → d ≤ depth_of limits → IsOk result }
 {
     let vetted = match vet(message, limits) {
         Ok(vetted) => vetted,

@@ -102,7 +102,8 @@ impl<'m, M: Segments> Node<'m, M> {
         ensures some { IfSome result (λ n. Goes (M.segments (node_message self.now)) (node_spot self.now) step (node_spot n)) }
         ensures none { IfNone result ((b : Where) → ¬ Goes (M.segments (node_message self.now)) (node_spot self.now) step b) }
         ensures part { (t : Tree) → DenotesAt (M.segments (node_message self.now)) (node_spot self.now) t →
-            MatchOption result (part_at t step ≡ None) (λ n. (u : Tree) × (part_at t step ≡ Some u) × DenotesAt (M.segments (node_message self.now)) (node_spot n) u) }
+            MatchOption result (part_at t step ≡ None)
+            (λ n. (u : Tree) × (part_at t step ≡ Some u) × DenotesAt (M.segments (node_message self.now)) (node_spot n) u) }
     {
         let next = self.found().step(step)?;
         let child = Node {

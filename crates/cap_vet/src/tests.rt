@@ -1,7 +1,7 @@
 //! Verdicts of messages that are known from outside.
 
-mod nodes;
 mod charges;
+mod nodes;
 
 use crate::{Limits, Reason, Refusal, Report, vet};
 use cap_frame::{OneSegment, Segments, WordMessage};

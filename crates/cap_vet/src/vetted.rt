@@ -79,7 +79,8 @@ impl<'m, M: Segments> Vetted<'m, M> {
         ensures some { IfSome result (λ n. (level : ℕ) × Comes (M.segments (message_of self.now)) path.now level (node_spot n)) }
         ensures none { IfNone result ((level : ℕ) (a : Where) → ¬ Comes (M.segments (message_of self.now)) path.now level a) }
         ensures node { (t : Tree) (c d : ℕ) → Denotes (M.segments (message_of self.now)) 0 0 t c d →
-            MatchOption result (node_at t path.now ≡ None) (λ n. (u : Tree) × (node_at t path.now ≡ Some u) × DenotesAt (M.segments (message_of self.now)) (node_spot n) u) }
+            MatchOption result (node_at t path.now ≡ None)
+            (λ n. (u : Tree) × (node_at t path.now ≡ Some u) × DenotesAt (M.segments (message_of self.now)) (node_spot n) u) }
     {
         let mut node = self.root();
         for step in path {

@@ -35,7 +35,8 @@ pub fn vet<'m, M: Segments>(message: &'m M, limits: Limits) -> Result<Vetted<'m,
     // The other direction: what denotes a tree within the limits is accepted.
     ensures accepts { (t : Tree) (c d : ℕ) → Denotes (M.segments message.now) 0 0 t c d → c ≤ words_of limits → d ≤ depth_of limits → IsOk result }
     ensures refuses { (r : Refusal) → IsRefused (M.segments message.now) (words_of limits) (depth_of limits) r → result ≡ Err r }
-    ensures one { (t : Tree) (c d : ℕ) → Denotes (M.segments message.now) 0 0 t c d → IfOk result (λ v. ((report_of v).charge ≡ c) × ((report_of v).depth ≡ d) × ((report_of v).pointers ≡ pointer_count t)) }
+    ensures one { (t : Tree) (c d : ℕ) → Denotes (M.segments message.now) 0 0 t c d →
+        IfOk result (λ v. ((report_of v).charge ≡ c) × ((report_of v).depth ≡ d) × ((report_of v).pointers ≡ pointer_count t)) }
 {
     match walk(message, &limits) {
         Ok(report) => Ok(Vetted { message, report }),
