@@ -1,6 +1,6 @@
 -- What is read at the end of a path.
-use Rattle.std.proofs.Common.{◌≡◌, ℕ, ◌+◌, ◌<◌, ◌≤◌, ◌∙◌, List, length, ap, sym, subst, refl, Option, None, Some}
-use Rattle.std.specs.Prelude.{IfNone, IfSome, MatchOption}
+use Rattle.std.proofs.Common.{◌≡◌, ℕ, ◌+◌, ◌<◌, ◌≤◌, ◌∙◌, List, length, ap, sym, subst, Option, None, Some}
+use Rattle.std.specs.Prelude.{IfSome, MatchOption}
 use Rattle.std.specs.Option.{option_map}
 use Rattle.cap_spec.specs.Denoting.{Denotes}
 use Rattle.cap_spec.specs.Messages.{segment_of}
@@ -9,7 +9,7 @@ use Rattle.cap_spec.specs.Showing.{Own, own_of}
 use Rattle.cap_spec.specs.Standing.{DenotesAt}
 use Rattle.cap_spec.specs.Tree.{Tree, node_at}
 use Rattle.cap_spec.specs.declared.Step.{Step}
-use Rattle.cap_spec.proofs.OneTree.{Same, one_tree}
+use Rattle.cap_spec.proofs.OneTree.{one_tree}
 use Rattle.cap_spec.proofs.Walks.{one_coming}
 use Rattle.cap_vet.specs.Reports.{IsReport}
 use Rattle.cap_vet.specs.declared.place.Place.{Place}

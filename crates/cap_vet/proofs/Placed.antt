@@ -1,5 +1,5 @@
 -- The place of what stands at a spot.
-use Rattle.std.proofs.Common.{◌≡◌, ℕ, List, refl}
+use Rattle.std.proofs.Common.{ℕ, List}
 use Rattle.std.specs.Prelude.{MatchOption}
 use Rattle.cap_spec.specs.Arriving.{StandsAs, StandsElement}
 use Rattle.cap_spec.specs.Paths.{Spot, Stands, word, element}
