@@ -51,6 +51,8 @@ def case(words, out="", err="", status=0, stdin=b"", stdout=subprocess.PIPE):
     told, isn't seen."""
     words = words.split() if isinstance(words, str) else words
     name = "capvet " + " ".join(it if isinstance(it, str) else repr(it) for it in words)
+    if stdout != subprocess.PIPE:
+        name += ", with an output that fails"
     compare(name, (encoded(out), encoded(err), status), run([PROGRAM, *words], input=stdin, stdout=stdout))
 
 
