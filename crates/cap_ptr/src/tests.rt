@@ -228,12 +228,26 @@ fn words_of_landing_pads(rt: HostRuntime) -> Result<(), Fail> {
         data_words: 1,
         pointers: 0,
     };
+    let no_words = Shape::Structs {
+        words: 0,
+        count: 5,
+        data_words: 0,
+        pointers: 0,
+    };
     for (root, pads, content, answer) in [
+        // None: at the pointer itself, and before the first word.
+        (
+            0xfcffffff01000000u64,
+            &[0u64][..],
+            &[0u64; 0][..],
+            one_word(0, 0, 0, 1),
+        ),
+        (0xf8ffffff00000000, &[0], &[], Err(Reason::OutOfSegment)),
         // One word.
         (
-            0x0200000001000000u64,
-            &[0x0300000005000000u64][..],
-            &[0u64; 0][..],
+            0x0200000001000000,
+            &[0x0300000005000000],
+            &[],
             Ok(Followed::Cap { pads: 1, index: 5 }),
         ),
         (
@@ -267,6 +281,32 @@ fn words_of_landing_pads(rt: HostRuntime) -> Result<(), Fail> {
             &[0x0000000001000000],
             &[],
             Err(Reason::OutOfSegment),
+        ),
+        // Before the first word of the pad's segment, and at it.
+        (
+            0x0200000001000000,
+            &[0xf8ffffff01000000, 42],
+            &[],
+            Err(Reason::OutOfSegment),
+        ),
+        (
+            0x0a00000001000000,
+            &[42, 0xf8ffffff01000000],
+            &[],
+            one_word(1, 0, 1, 2),
+        ),
+        (
+            0x0200000001000000,
+            &[0x0100000007000000, 0x1400000000000000],
+            &[],
+            Ok(Followed::Target(Target {
+                segment: 1,
+                start: 1,
+                words: 1,
+                pads: 1,
+                charge: 7,
+                shape: no_words,
+            })),
         ),
         (
             0x0200000001000000,
@@ -331,6 +371,12 @@ fn words_of_landing_pads(rt: HostRuntime) -> Result<(), Fail> {
             &[0, 0x0000000001000000],
             &[],
             Err(Reason::PadNotFar),
+        ),
+        (
+            0x0600000001000000,
+            &[0x0200000002000000, 0x0200000000000000],
+            &[42],
+            Err(Reason::TagKind),
         ),
         (
             0x0600000001000000,
