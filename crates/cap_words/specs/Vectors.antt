@@ -1,5 +1,5 @@
 -- What an output into memory says of itself (profile).
-use Rattle.std.specs.Prelude.{ℕ, ◌-◌, ◌^◌, ◌==◌, Bool, Option, Some, List}
+use Rattle.std.specs.Prelude.{ℕ, ◌-◌, ◌^◌, ◌==◌, Bool, Option, Some, List, vec_capacity, vec_len}
 use Rattle.cap_words.specs.Ends.{Failures}
 use Rattle.cap_words.specs.declared.vec_out.VecOut.{VecOut}
 
@@ -14,3 +14,7 @@ vec_failures output = record { device = 0; memory = output.refused }
 -- its count of refused growths can't go up any more
 abbrev pub vec_spent : VecOut → Bool
 vec_spent output = output.refused == 2 ^ 64 - 1
+
+-- how many bytes it takes before it has to grow
+abbrev pub vec_room : VecOut → ℕ
+vec_room output = vec_capacity output.bytes - vec_len output.bytes

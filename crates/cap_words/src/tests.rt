@@ -294,5 +294,10 @@ fn words_into_memory(rt: HostRuntime) -> Result<(), Fail> {
     write_all(&mut output, &[5])?;
     assert_eq!(rt; output.bytes().len(), 21);
     assert_eq!(rt; &output.bytes()[16..], [0, 0, 0, 0xff, 5].as_slice());
+
+    let many = Vec::from_elem(rt.alloc(), 7, 300000)?;
+    assert_eq!(rt; output.write(&many), Ok(300000));
+    assert_eq!(rt; output.bytes().len(), 300021);
+    assert_eq!(rt; &output.bytes()[20..22], [5, 7].as_slice());
     Ok(())
 }

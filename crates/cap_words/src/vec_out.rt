@@ -1,7 +1,7 @@
 //! An output into memory.
 
 ghost use Rattle.cap_words.specs.Ends.{DeviceFails, GrowthFails, WasSpent, Works};
-ghost use Rattle.cap_words.specs.Vectors.{vec_failures, vec_spent, vec_written};
+ghost use Rattle.cap_words.specs.Vectors.{vec_failures, vec_room, vec_spent, vec_written};
 ghost use Rattle.cap_words.specs.declared.vec_out.VecOut.{VecOut};
 ghost use Rattle.std.specs.Io.KnownBytes.{WriteAppends};
 ghost use Rattle.std.specs.Prelude.{◌-◌, ◌<◌, ◌==◌, ◌^◌, ◌≡◌, ◌≤◌, [], IfOk, IsErrOf, OnOk, Some, length, true, ℕ};
@@ -57,6 +57,7 @@ impl ByteOut for VecOut {
         ensures ok { 0 < length buf.now → OnOk result (Works (vec_spent self.old) (vec_spent self.new) (vec_failures self.old) (vec_failures self.new)) }
         ensures device { IsErrOf result OutFault.Device → DeviceFails (vec_spent self.old) (vec_failures self.old) (vec_failures self.new) × (vec_spent self.new ≡ true) }
         ensures memory { IsErrOf result OutFault.Memory → GrowthFails (vec_spent self.old) (vec_failures self.old) (vec_failures self.new) }
+        ensures full { IsErrOf result OutFault.Memory → (vec_room self.old < length buf.now) × (vec_room self.old ≤ vec_room self.new) }
         ensures was_spent { IsErrOf result OutFault.Spent → WasSpent (vec_spent self.old) (vec_spent self.new) (vec_failures self.old) (vec_failures self.new) }
     {
         if buf.is_empty() {
