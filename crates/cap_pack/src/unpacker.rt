@@ -1,11 +1,12 @@
 //! A source of words over packed bytes.
 
 ghost use Rattle.cap_pack.specs.Course.{is_cut_of, places_of, words_of};
+ghost use Rattle.cap_pack.specs.CourseWords.{known_are_words};
 ghost use Rattle.cap_pack.specs.State.{ahead, has_ended, has_failed, source_spent};
 ghost use Rattle.cap_spec.specs.PackedEnds.{packed_ends};
 ghost use Rattle.cap_spec.specs.Unpacking.{packed_is_cut, unpacked};
 ghost use Rattle.std.specs.Option.{option_map};
-ghost use Rattle.std.specs.Prelude.{◌<◌, ◌≡◌, [], OnSome, false, unwrap_or, ℕ};
+ghost use Rattle.std.specs.Prelude.{◌<◌, ◌≡◌, ◌||◌, [], OnSome, false, if◌then◌else◌, unwrap_or, ℕ};
 
 use super::counted::Counted;
 use cap_words::{ByteIn, SourceFault, WordSource};
@@ -50,6 +51,8 @@ impl<I: ByteIn> Unpacker<I> {
         ensures failed { ⟦<Unpacker<I> as WordSource>⟧.failed result ≡ false }
         ensures failures { ⟦<Unpacker<I> as WordSource>⟧.failures result ≡ I.failures input }
         ensures spent { ⟦<Unpacker<I> as WordSource>⟧.spent result ≡ I.spent input }
+        ensures when_spent { (s : Unpacker I I.ByteIn) → ⟦<Unpacker<I> as WordSource>⟧.spent s ≡
+            (if ⟦<Unpacker<I> as WordSource>⟧.ended s then false else (⟦<Unpacker<I> as WordSource>⟧.failed s || I.spent (input_of s))) }
         ensures shows_unread { (s : Unpacker I I.ByteIn) → ⟦<Unpacker<I> as WordSource>⟧.unread s ≡ I.to_come (input_of s) }
         ensures shows_failures { (s : Unpacker I I.ByteIn) → ⟦<Unpacker<I> as WordSource>⟧.failures s ≡ I.failures (input_of s) }
     {
@@ -132,6 +135,8 @@ impl<I: ByteIn> WordSource for Unpacker<I> {
     fn position(&self) -> u64 {
         self.bytes.read
     }
+
+    ghost are_words = { λ s. known_are_words s.phase s.zeros s.plain s.bytes.read (I.to_come s.bytes.input) (I.are_bytes s.bytes.input) };
 }
 
 #[cfg(test)]

@@ -1,8 +1,9 @@
 -- What bytes give are words: numbers below 2 ^ 64.
-use Rattle.std.proofs.Common.{◌≡◌, ℕ, zero, suc, ◌+◌, ◌/◌, ◌%◌, ◌^◌, ◌<◌, Bool, true, false, if◌then◌else◌, ◌==◌, nat_lt, List, [], ◌∷◌, ◌++◌, length, take, drop, replicate, sym, subst, inl, inr, arith}
+use Rattle.std.proofs.Common.{◌≡◌, ℕ, zero, suc, ◌+◌, ◌/◌, ◌%◌, ◌^◌, ◌<◌, Bool, true, false, if◌then◌else◌, ◌==◌, nat_lt, List, [], ◌∷◌, ◌++◌, length, take, drop, replicate, slice_index, sym, subst, inl, inr, arith}
 use Rattle.std.specs.List.{AllByRecursion}
 use Rattle.std.proofs.Math.Nat.{pow-succ'}
 use Rattle.std.proofs.lemmas.Bool.{cases_eq}
+use Rattle.byteorder.specs.Endian.{little_from, little_number}
 use Rattle.cap_spec.specs.Words.{IsWord}
 use Rattle.cap_spec.specs.Plain.{word_bytes, plain_text, plain_words}
 use Rattle.cap_spec.proofs.WordBytes.{bytes_fit}
@@ -30,6 +31,23 @@ spread_below (suc n) tag (b ∷ present) all = elim (cases_eq (tag % 2) 0) [
       let p = pow-succ' 256 n in
       omega (arith, c, t, p, h)
 ]
+
+-- so do so many bytes as they are, of which those past the end are zeros
+little_below : (n i : ℕ) (bytes : List ℕ) → ((k : ℕ) → slice_index bytes k < 256) → little_from i n bytes < 256 ^ n
+little_below zero i bytes each = omega arith
+little_below (suc n) i bytes each =
+    let b = each i in
+    let rest = little_below n (suc i) bytes each in
+    let p = pow-succ' 256 n in
+    omega (arith, b, rest, p)
+
+byte_at : (bytes : List ℕ) → AllByRecursion (λ b. b < 256) bytes → (i : ℕ) → slice_index bytes i < 256
+byte_at [] all i = omega arith
+byte_at (b ∷ bytes) all zero = all.0
+byte_at (b ∷ bytes) all (suc i) = byte_at bytes all.1 i
+
+pub eight_bytes_below : (bytes : List ℕ) → AllByRecursion (λ b. b < 256) bytes → IsWord (little_number 8 bytes)
+eight_bytes_below bytes all = let h = little_below 8 0 bytes (byte_at bytes all) in omega (arith, h)
 
 -- zeros are words
 zeros_are_words : (n : ℕ) → AllByRecursion IsWord (replicate n 0)

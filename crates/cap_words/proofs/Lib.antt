@@ -1,4 +1,5 @@
 mod Buffering
 pub mod Fields
 pub mod PlainSpelling
+pub mod Told
 pub mod Turns

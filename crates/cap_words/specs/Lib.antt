@@ -1,5 +1,7 @@
 pub mod Ends
 pub mod Inner
+pub mod Laws
 pub mod PlainSource
 pub mod Sinks
+pub mod Told
 pub mod Vectors

@@ -1,5 +1,7 @@
 //! An input over std's readers, with a buffer.
 
+ghost use Rattle.cap_words.specs.Laws.{told_are_bytes};
+ghost use Rattle.cap_words.specs.Told.{told_bytes};
 ghost use Rattle.std.specs.Io.KnownBytes.{IsAtEnd, Keeps, prepend_known};
 ghost use Rattle.std.specs.Prelude.{◌<◌, ◌≡◌, ◌≤◌, [], IfOk, IsErrOf, OnErr, OnOk, false, if◌then◌else◌, length, slice_range, take, true, vec_len, ℕ};
 
@@ -37,7 +39,7 @@ impl<R: Read> BufferedIn<R> {
     pub fn new(alloc: Global, reader: R) -> Result<BufferedIn<R>, AllocError>
     where
         R: Drop,
-        ensures to_come { IfOk result (λ s. ⟦<BufferedIn<R> as ByteIn>⟧.to_come s ≡ R.remaining reader) }
+        ensures to_come { IfOk result (λ s. ⟦<BufferedIn<R> as ByteIn>⟧.to_come s ≡ told_bytes (R.remaining reader)) }
         ensures spent { IfOk result (λ s. ⟦<BufferedIn<R> as ByteIn>⟧.spent s ≡ false) }
         ensures fails_once { (s : BufferedIn R R.Read) → ⟦<BufferedIn<R> as ByteIn>⟧.failures s ≡ (if ⟦<BufferedIn<R> as ByteIn>⟧.spent s then 1 else 0) }
     {
@@ -57,7 +59,8 @@ impl<R: Read> BufferedIn<R> {
     #[inline(never)]
     fn refill(&mut self) -> Result<(), InFault>
         requires { self.old.start ≡ self.old.end }
-        ensures bytes { Keeps (⟦<BufferedIn<R> as ByteIn>⟧.to_come self.old) (⟦<BufferedIn<R> as ByteIn>⟧.to_come self.new) }
+        ensures bytes { Keeps (prepend_known (slice_range self.old.buffer.items self.old.start self.old.end) (R.remaining self.old.reader))
+            (prepend_known (slice_range self.new.buffer.items self.new.start self.new.end) (R.remaining self.new.reader)) }
         ensures end { OnOk result (self.new.start ≡ self.new.end → IsAtEnd (R.remaining self.new.reader)) }
         ensures ok { OnOk result ((self.old.failed ≡ false) × (self.new.failed ≡ false)) }
         ensures device { IsErrOf result InFault.Device → (self.old.failed ≡ false) × (self.new.failed ≡ true) }
@@ -81,7 +84,7 @@ impl<R: Read> BufferedIn<R> {
 }
 
 impl<R: Read> ByteIn for BufferedIn<R> {
-    ghost to_come = { λ s. prepend_known (slice_range s.buffer.items s.start s.end) (R.remaining s.reader) };
+    ghost to_come = { λ s. told_bytes (prepend_known (slice_range s.buffer.items s.start s.end) (R.remaining s.reader)) };
 
     ghost failures = { λ s. if s.failed then 1 else 0 };
 
@@ -101,6 +104,8 @@ impl<R: Read> ByteIn for BufferedIn<R> {
         self.start += count;
         Ok(count)
     }
+
+    ghost are_bytes = { λ s. told_are_bytes (prepend_known (slice_range s.buffer.items s.start s.end) (R.remaining s.reader)) };
 }
 
 // Copies as many bytes as there are and as there is room for. A copy that fills the room stands apart,

@@ -2,7 +2,8 @@
 
 ghost use Rattle.cap_words.specs.Ends.{DeviceFails, Failures, Fails, GrowthFails, WasSpent, Works};
 ghost use Rattle.std.specs.Io.KnownBytes.{ReadConsumes, WriteAppends};
-ghost use Rattle.std.specs.Prelude.{◌<◌, ◌≡◌, ◌≤◌, [], Bool, IfOk, IsErrOf, List, OnOk, Option, length, true, ℕ};
+ghost use Rattle.std.specs.List.{AllByRecursion};
+ghost use Rattle.std.specs.Prelude.{◌<◌, ◌≡◌, ◌≤◌, [], Bool, IfOk, IfSome, IsErrOf, List, OnOk, Option, length, true, ℕ};
 
 /// Why a read gave no bytes.
 #[derive(Clone, Copy, Debug, PartialEq, Eq, Drop)]
@@ -46,6 +47,9 @@ pub trait ByteIn {
         ensures ok { 0 < length buf.old → OnOk result (Works (spent self.old) (spent self.new) (failures self.old) (failures self.new)) }
         ensures device { IsErrOf result InFault.Device → Fails (spent self.old) (failures self.old) (failures self.new) × (spent self.new ≡ true) }
         ensures was_spent { IsErrOf result InFault.Spent → WasSpent (spent self.old) (spent self.new) (failures self.old) (failures self.new) };
+
+    // What is known to come are bytes.
+    ghost are_bytes: { (s : Self) → IfSome (to_come s) (AllByRecursion (λ b. b < 256)) };
 }
 
 /// Bytes that go out.

@@ -1,11 +1,12 @@
 //! Words from the plain spelling, eight bytes a word.
 
 ghost use Rattle.cap_spec.specs.Plain.{plain_ends, plain_is_cut, plain_words};
+ghost use Rattle.cap_words.specs.Laws.{known_are_words};
 ghost use Rattle.cap_words.specs.Inner.{input_of};
 ghost use Rattle.cap_words.specs.PlainSource.{bytes_left, has_ended, has_failed, source_spent};
 ghost use Rattle.cap_words.specs.declared.plain_words.PlainWords.{PlainWords};
 ghost use Rattle.std.specs.Option.{option_map};
-ghost use Rattle.std.specs.Prelude.{◌≡◌, [], OnSome, false, unwrap_or, ℕ};
+ghost use Rattle.std.specs.Prelude.{◌≡◌, ◌||◌, [], OnSome, false, if◌then◌else◌, unwrap_or, ℕ};
 
 use super::ends::{ByteIn, InFault};
 use super::sources::{SourceFault, WordSource};
@@ -42,6 +43,8 @@ impl<I: ByteIn> PlainWords<I> {
         ensures failed { ⟦<PlainWords<I> as WordSource>⟧.failed result ≡ false }
         ensures failures { ⟦<PlainWords<I> as WordSource>⟧.failures result ≡ I.failures input }
         ensures spent { ⟦<PlainWords<I> as WordSource>⟧.spent result ≡ I.spent input }
+        ensures when_spent { (s : PlainWords I) → ⟦<PlainWords<I> as WordSource>⟧.spent s ≡
+            (if ⟦<PlainWords<I> as WordSource>⟧.ended s then false else (⟦<PlainWords<I> as WordSource>⟧.failed s || I.spent (input_of s))) }
         ensures shows_unread { (s : PlainWords I) → ⟦<PlainWords<I> as WordSource>⟧.unread s ≡ I.to_come (input_of s) }
         ensures shows_failures { (s : PlainWords I) → ⟦<PlainWords<I> as WordSource>⟧.failures s ≡ I.failures (input_of s) }
     {
@@ -118,4 +121,6 @@ impl<I: ByteIn> WordSource for PlainWords<I> {
     fn position(&self) -> u64 {
         self.read
     }
+
+    ghost are_words = { λ s. known_are_words s.phase (I.to_come s.input) (I.are_bytes s.input) };
 }

@@ -1,7 +1,8 @@
 //! An input over bytes in memory.
 
-ghost use Rattle.cap_words.specs.declared.slice_in.SliceIn.{SliceIn};
-ghost use Rattle.std.specs.Prelude.{◌≡◌, Some, false, ℕ};
+ghost use Rattle.cap_words.specs.Laws.{each_byte};
+ghost use Rattle.cap_words.specs.Told.{are_bytes};
+ghost use Rattle.std.specs.Prelude.{◌≡◌, Some, false, true, ℕ};
 
 use super::ends::{ByteIn, InFault};
 
@@ -10,9 +11,12 @@ use super::ends::{ByteIn, InFault};
 pub struct SliceIn<'a> {
     // what is still to come
     rest: &'a [u8],
+    ghost bytes: { are_bytes rest.now ≡ true },
 }
 
 impl<'a> SliceIn<'a> {
+    ghost use Rattle.cap_words.specs.declared.slice_in.SliceIn.{SliceIn};
+
     /// An input with all of `bytes` still to come.
     pub fn new(bytes: &'a [u8]) -> SliceIn<'a>
         ensures to_come { ⟦<SliceIn<'a> as ByteIn>⟧.to_come result ≡ Some bytes.now }
@@ -40,4 +44,6 @@ impl ByteIn for SliceIn<'_> {
         self.rest = rest;
         Ok(count)
     }
+
+    ghost are_bytes = { λ s. each_byte s.rest.now s.bytes };
 }

@@ -1,7 +1,9 @@
 //! Sources of words.
 
+ghost use Rattle.cap_spec.specs.Words.{IsWord};
 ghost use Rattle.cap_words.specs.Ends.{Fails, WasSpent, Works};
 ghost use Rattle.std.specs.Io.KnownBytes.{Consumes, Keeps};
+ghost use Rattle.std.specs.List.{AllByRecursion};
 ghost use Rattle.std.specs.Option.{option_to_list};
 ghost use Rattle.std.specs.Prelude.{◌+◌, ◌-◌, ◌^◌, ◌≡◌, [], ◌∷◌, Bool, IfOk, IfSome, IsErrOf, List, OnErr, OnOk, OnSome, Option, false, length, min, true, ℕ};
 
@@ -70,4 +72,7 @@ pub trait WordSource {
     /// How many bytes of the input were read so far, or 2^64 - 1 where there were more.
     fn position(&self) -> u64
         ensures { result ≡ place self.now };
+
+    // What is known to come are words.
+    ghost are_words: { (s : Self) → IfSome (words s) (AllByRecursion IsWord) };
 }

@@ -3,6 +3,7 @@ use Rattle.std.proofs.BufReadLemmas.{zero_unless_positive}
 use Rattle.std.proofs.KnownBytes.{Keeps-refl, prepend_known-read}
 use Rattle.std.specs.Io.KnownBytes.{IsAtEnd, Keeps, prepend_known}
 use Rattle.cap_words.proofs.Buffering.{given_off}
+use Rattle.cap_words.proofs.Told.{told_consumes, told_end}
 use Rattle.cap_words.proofs.buffered_in.BufferedInByteIn.read.Goals.{then-self+in_default, else-self}
 use Rattle.cap_words.proofs.buffered_in.BufferedInByteIn.read.Goals as goal
 
@@ -25,4 +26,4 @@ returns-clause-bytes g c =
       | else-self w ↦ absurd (w.if-self.false (rw w.self-is at empty))
     ] in
     (ap (λ k. take k (drop (s.start + given.result) s.buffer.items)) {y = 0} (omega arith), end)) in
-    (read.0, λ zero some. read.1 (zero, some))
+    (told_consumes _ _ _ read.0, λ zero some. told_end _ (read.1 (zero, some)))

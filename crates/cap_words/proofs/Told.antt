@@ -1,0 +1,34 @@
+-- What a reader tells, read by read.
+use Rattle.std.proofs.Common.{◌≡◌, ◌<◌, ◌&&◌, ◌++◌, ◌∙◌, ℕ, zero, suc, Bool, true, false, if◌then◌else◌, nat_lt, List, [], ◌∷◌, take, drop, take-append-drop, slice_index, Option, None, Some, refl, sym, ap, subst}
+use Rattle.std.proofs.lemmas.Bool.{lt-ltb}
+use Rattle.std.specs.Io.KnownBytes.{Consumes, IsAtEnd}
+use Rattle.cap_words.specs.Laws.{both_hold}
+use Rattle.cap_words.specs.Told.{are_bytes, told_bytes}
+
+-- numbers are bytes where each is below 256
+pub bytes_by_index : (bytes : List ℕ) → ((i : ℕ) → slice_index bytes i < 256) → are_bytes bytes ≡ true
+bytes_by_index [] each = refl
+bytes_by_index (b ∷ bytes) each = ap (λ c. c && are_bytes bytes) (lt-ltb b 256 (each zero)) ∙ bytes_by_index bytes (λ i. each (suc i))
+
+-- so are those behind some others
+pub bytes_behind : (front bytes : List ℕ) → are_bytes (front ++ bytes) ≡ true → are_bytes bytes ≡ true
+bytes_behind [] bytes e = e
+bytes_behind (b ∷ front) bytes e = bytes_behind front bytes (both_hold (nat_lt b 256) (are_bytes (front ++ bytes)) e).1
+
+pub bytes_dropped : (n : ℕ) (bytes : List ℕ) → are_bytes bytes ≡ true → are_bytes (drop n bytes) ≡ true
+bytes_dropped n bytes e = bytes_behind (take n bytes) (drop n bytes) (ap are_bytes (take-append-drop n bytes) ∙ e)
+
+-- a reader that loses some of what it told tells the rest
+told_rest : (bs ys : List ℕ) (c : Bool) → are_bytes (bs ++ ys) ≡ c → Consumes (if c then Some (bs ++ ys) else None) (told_bytes (Some ys)) bs
+told_rest bs ys true e = subst (λ c. Consumes (Some (bs ++ ys)) (if c then Some ys else None) bs) (sym (bytes_behind bs ys e)) refl
+told_rest bs ys false e = tt
+
+pub told_consumes : (a b : Option (List ℕ)) (bs : List ℕ) → Consumes a b bs → Consumes (told_bytes a) (told_bytes b) bs
+told_consumes None b bs p = tt
+told_consumes (Some xs) None bs p = absurd p
+told_consumes (Some xs) (Some ys) bs p = subst (λ l. Consumes (told_bytes (Some l)) (told_bytes (Some ys)) bs) (sym p) (told_rest bs ys (are_bytes (bs ++ ys)) refl)
+
+-- and is at its end where that is
+pub told_end : (a : Option (List ℕ)) → IsAtEnd a → IsAtEnd (told_bytes a)
+told_end None p = tt
+told_end (Some xs) p = subst (λ l. IsAtEnd (told_bytes (Some l))) (sym p) refl

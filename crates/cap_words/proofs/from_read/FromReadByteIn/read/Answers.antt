@@ -1,0 +1,7 @@
+use Rattle.cap_words.proofs.Told.{told_consumes, told_end}
+use Rattle.cap_words.proofs.from_read.FromReadByteIn.read.Goals as goal
+
+pub returns-in-Ok-clause-bytes : goal.returns-in-Ok-clause-bytes
+returns-in-Ok-clause-bytes g c =
+    let read = c.in-Ok.ensures.bytes in
+    (told_consumes _ _ _ read.0, λ zero some. told_end _ (read.1 zero some))

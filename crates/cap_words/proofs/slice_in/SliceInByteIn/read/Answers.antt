@@ -1,0 +1,7 @@
+use Rattle.cap_words.proofs.Told.{bytes_dropped}
+use Rattle.cap_words.proofs.slice_in.SliceInByteIn.read.Goals as goal
+
+pub invariant_of-self : goal.invariant_of-self
+invariant_of-self c =
+    let old = c.args.self.now in
+    record { bytes = rw c.split_at.ensures.back (bytes_dropped c.min-count.result old.rest.now old.bytes) }

@@ -1,0 +1,12 @@
+-- What is known of the bytes of a reader, of which std doesn't say that they are numbers below 256 (profile).
+use Rattle.std.specs.Prelude.{ℕ, ◌&&◌, Bool, true, nat_lt, if◌then◌else◌, Option, None, Some, List, [], ◌∷◌}
+
+-- the numbers are bytes
+abbrev pub are_bytes : List ℕ → Bool
+are_bytes [] = true
+are_bytes (b ∷ bytes) = nat_lt b 256 && are_bytes bytes
+
+-- what a reader tells of the bytes to come, where they are bytes: it can give no other numbers
+abbrev pub told_bytes : Option (List ℕ) → Option (List ℕ)
+told_bytes None = None
+told_bytes (Some bytes) = if are_bytes bytes then Some bytes else None
