@@ -5,7 +5,7 @@ use super::{
     write_message,
 };
 use cap_words::{
-    PlainSink, PlainWords, SliceIn, SourceFault, VecOut, WordSink, WordSource, bytes_of,
+    BufferedIn, PlainSink, PlainWords, SliceIn, SourceFault, VecOut, WordSink, WordSource, bytes_of,
 };
 use std::alloc::{AllocError, Global};
 use std::process::Abort;
@@ -164,6 +164,27 @@ fn many_segments_are_read_and_written(rt: HostRuntime) -> Result<(), Fail> {
 }
 
 #[test]
+fn a_long_message_is_read_through_a_buffer(rt: HostRuntime) -> Result<(), Fail> {
+    let alloc = rt.alloc();
+    // 320 KB, nearly all of them in the second segment.
+    let mut second = Vec::new(alloc);
+    for word in 1..40_000u64 {
+        second.push(word)?;
+    }
+    let mut words = Vec::new(alloc);
+    words.extend_from_slice(&[pair(1, 1), pair(39_999, 0), 7])?;
+    words.extend_from_slice(&second)?;
+    let bytes = plain(alloc, &words)?;
+    let mut source = PlainWords::new(BufferedIn::new(alloc, bytes.as_slice())?);
+    let limit = SizeLimit::new(40_000).ok_or("a limit")?;
+    let message = read_message(alloc, &mut source, limit)?.ok_or("a message")?;
+    assert!(rt; is_message(&message, &[&[7], &second]), "the segments");
+    assert_eq!(rt; source.next(), Ok(None));
+    assert_eq!(rt; source.position(), 320_016);
+    Ok(())
+}
+
+#[test]
 fn an_outline_is_filled_anew(rt: HostRuntime) -> Result<(), Fail> {
     let alloc = rt.alloc();
     // Three segments, the first of them empty; one segment; and an empty one.
@@ -193,10 +214,14 @@ fn an_outline_is_filled_anew(rt: HostRuntime) -> Result<(), Fail> {
 #[test]
 fn messages_are_written(rt: HostRuntime) -> Result<(), Fail> {
     let alloc = rt.alloc();
-    // The padding that was read is written as zeros.
-    let padded = plain(alloc, &[pair(1, 1), pair(1, 0xdead_beef), 5, 6])?;
+    // The padding that was read, the bytes de ad be ef, is written as zeros: a far pointer, its landing
+    // pad and a struct of one word.
+    let padded = plain(
+        alloc,
+        &[pair(1, 1), pair(2, 0xefbe_adde), pair(2, 1), pair(0, 1), 42],
+    )?;
     let mut source = PlainWords::new(SliceIn::new(&padded));
-    let limit = SizeLimit::new(2).ok_or("a limit")?;
+    let limit = SizeLimit::new(3).ok_or("a limit")?;
     let message = read_message(alloc, &mut source, limit)?.ok_or("a message")?;
     let mut sink = PlainSink::new(VecOut::new(alloc));
     write_message(&mut sink, &message)?;
@@ -207,9 +232,10 @@ fn messages_are_written(rt: HostRuntime) -> Result<(), Fail> {
     sink.finish()?;
     let want = [
         pair(1, 1),
-        pair(1, 0),
-        5,
-        6,
+        pair(2, 0),
+        pair(2, 1),
+        pair(0, 1),
+        42,
         pair(2, 1),
         pair(0, 2),
         7,
