@@ -23,7 +23,21 @@ const CYCLE: &str = "0000000001000000fcffffff00000100";
 const SHARED: &str =
     "00000000040000000000000000000200040000000100000000000000010000000700000000000000";
 
-const ROWS: [Row; 14] = [
+// a list of one struct that points at a struct
+const BELOW_A_LIST: &str =
+    "0000000004000000010000000f000000040000000000010000000000010000002a00000000000000";
+
+// structs of two pointers, each pair of which leads to the next struct
+const DOUBLING: &str =
+    "000000000800000000000000000002000400000000000200000000000000020004000000000002000000000000000200040000000100000000000000010000000700000000000000";
+
+// so many structs without words that no word limit allows them
+const EMPTY_STRUCTS: &str = "00000000020000000100000007000000fcffffff00000000";
+
+// 268435455 elements without bits
+const EMPTY_ELEMENTS: &str = "000000000100000001000000f8ffff7f";
+
+const ROWS: [Row; 26] = [
     Row {
         options: &[],
         stream: "00000000010000000000000000000000",
@@ -101,6 +115,93 @@ const ROWS: [Row; 14] = [
         out: "message 0: refused WordLimit at 0:2 pointers 3\n",
         err: "",
         status: 1,
+    },
+    Row {
+        options: &[],
+        stream: BELOW_A_LIST,
+        out: "message 0: accepted charge 3 depth 2 pointers 2 caps 0\n",
+        err: "",
+        status: 0,
+    },
+    Row {
+        options: &["--depth", "1"],
+        stream: BELOW_A_LIST,
+        out: "message 0: refused DepthLimit at 0:2 pointers 2\n",
+        err: "",
+        status: 1,
+    },
+    Row {
+        options: &["--words", "2"],
+        stream: BELOW_A_LIST,
+        out: "message 0: refused WordLimit at 0:2 pointers 2\n",
+        err: "",
+        status: 1,
+    },
+    Row {
+        options: &[],
+        stream: DOUBLING,
+        out: "message 0: accepted charge 22 depth 4 pointers 15 caps 0\n",
+        err: "",
+        status: 0,
+    },
+    Row {
+        options: &["--words", "22"],
+        stream: DOUBLING,
+        out: "message 0: accepted charge 22 depth 4 pointers 15 caps 0\n",
+        err: "",
+        status: 0,
+    },
+    Row {
+        options: &["--words", "10"],
+        stream: DOUBLING,
+        out: "message 0: refused WordLimit at 0:5 pointers 7\n",
+        err: "",
+        status: 1,
+    },
+    // elements without words or bits are charged one by one
+    Row {
+        options: &[],
+        stream: EMPTY_STRUCTS,
+        out: "message 0: refused WordLimit at 0:0 pointers 1\n",
+        err: "",
+        status: 1,
+    },
+    Row {
+        options: &["--words", "268435456"],
+        stream: EMPTY_STRUCTS,
+        out: "message 0: refused WordLimit at 0:0 pointers 1\n",
+        err: "",
+        status: 1,
+    },
+    Row {
+        options: &["--words", "268435455"],
+        stream: EMPTY_ELEMENTS,
+        out: "message 0: accepted charge 268435455 depth 1 pointers 1 caps 0\n",
+        err: "",
+        status: 0,
+    },
+    Row {
+        options: &["--words", "268435454"],
+        stream: EMPTY_ELEMENTS,
+        out: "message 0: refused WordLimit at 0:0 pointers 1\n",
+        err: "",
+        status: 1,
+    },
+    // two faults, of which the first is named
+    Row {
+        options: &[],
+        stream: "0000000003000000000000000000020008000000010000000700000005000000",
+        out: "message 0: refused OutOfSegment at 0:1 pointers 2\n",
+        err: "",
+        status: 1,
+    },
+    // a capability behind a landing pad
+    Row {
+        options: &[],
+        stream: "0100000001000000010000000000000002000000010000000300000005000000",
+        out: "message 0: accepted charge 1 depth 0 pointers 1 caps 1\n",
+        err: "",
+        status: 0,
     },
     // both limits are passed, and the depth limit is named
     Row {
@@ -313,5 +414,21 @@ fn tells_the_verdict_of_each_message(rt: HostRuntime) -> Result<(), Fail> {
         };
         assert_eq!(rt; left.status, status, "{stream}");
     }
+    Ok(())
+}
+
+// 44 words that are reached by more than four million ways.
+#[test]
+fn vets_a_chain_that_doubles_21_times(rt: HostRuntime) -> Result<(), Fail> {
+    let mut stream = String::from_str(rt.alloc(), "000000002c0000000000000000000200")?;
+    for _ in 1..21u32 {
+        stream.push_str("04000000000002000000000000000200")?;
+    }
+    stream.push_str("040000000100000000000000010000000700000000000000")?;
+    let left = run(rt.alloc(), "vet", &[], stream.as_str())?;
+    let line = "message 0: accepted charge 6291454 depth 22 pointers 4194303 caps 0\n";
+    assert_eq!(rt; left.out.bytes(), line.as_bytes());
+    assert_eq!(rt; left.err.bytes(), b"".as_slice());
+    assert_eq!(rt; left.status, 0);
     Ok(())
 }
