@@ -13,7 +13,8 @@ use Rattle.cap_spec.specs.Canonical.{struct_word, pointer_to}
 use Rattle.cap_spec.specs.Scalars.{scalar_words}
 use Rattle.cap_spec.proofs.Charges.{extent_struct, extent_pointers, extent_structs}
 use Rattle.cap_spec.proofs.ReadingBack.{scalars_read, length-scalar_words}
-use Rattle.cap_spec.proofs.Placing.{StandAt, stand_inside, stand_word, stand_read}
+use Rattle.cap_spec.specs.Placing.{StandAt}
+use Rattle.cap_spec.proofs.Placing.{stand_inside, stand_word, stand_read}
 use Rattle.cap_spec.proofs.PointerFields.{StructFields, struct_fields, ListFields, start_after, start_before}
 use Rattle.cap_spec.proofs.Measures.{idle, extent_scalars, extra_scalars, extra_structs}
 

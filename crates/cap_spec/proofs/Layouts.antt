@@ -6,7 +6,8 @@ use Rattle.cap_spec.specs.Tree.{Tree, null, cap, struct, scalars, pointers, stru
 use Rattle.cap_spec.specs.Denoting.{Denotes, DenoteEach, AreElements, places}
 use Rattle.cap_spec.specs.Canonical.{struct_word, list_word, size, sizes, element_sizes, pointer_to, pointer_words, element_words, content, contents, element_contents, layout, trim}
 use Rattle.cap_spec.proofs.OneTree.{one_tree}
-use Rattle.cap_spec.proofs.Placing.{StandAt, stand_front, stand_back, stand_inside, stand_read, stand_whole}
+use Rattle.cap_spec.specs.Placing.{StandAt}
+use Rattle.cap_spec.proofs.Placing.{stand_front, stand_back, stand_inside, stand_read, stand_whole}
 use Rattle.cap_spec.proofs.PointerFields.{struct_fields, list_fields, CapFields, cap_fields}
 use Rattle.cap_spec.proofs.Measures.{cost, costs, element_costs, height, heights, element_heights, Fits, FitEach, FitElements, Measured, measured}
 use Rattle.cap_spec.proofs.TrimmedMeasures.{Trimmed, trimmed}

@@ -4,12 +4,8 @@ use Rattle.std.specs.Prelude.{Some, slice_get}
 use Rattle.std.proofs.lemmas.List.{length_push}
 use Rattle.std.proofs.lemmas.Option.{slice_get_within, get_or_from_slice_get, same_Some}
 use Rattle.cap_spec.specs.Denoting.{words_from}
+use Rattle.cap_spec.specs.Placing.{StandAt}
 use Rattle.cap_spec.proofs.ReadingBack.{WordsAt}
-
--- these words stand in a segment, from b on
-abbrev pub StandAt : List ℕ → ℕ → List ℕ → Type 0
-StandAt words b [] = b ≤ length words
-StandAt words b (x ∷ xs) = (slice_get words b ≡ Some x) × StandAt words (b + 1) xs
 
 -- of words that stand joined each part stands at its place
 pub stand_front : (words : List ℕ) (b : ℕ) (xs ys : List ℕ) → StandAt words b (xs ++ ys) → StandAt words b xs

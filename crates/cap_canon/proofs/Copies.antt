@@ -1,0 +1,137 @@
+-- The one canonical copy of an accepted message.
+use Rattle.std.proofs.Common.{ℕ, ◌+◌, ◌<◌, ◌≤◌, ◌^◌, List, [], ◌∷◌, ◌≡◌, ◌≢◌, ◌↔◌, ap, refl, sym, subst, ◌∙◌, arith, length, true, false, Option, None, Some}
+use Rattle.std.proofs.lemmas.Bool.{eqb-true, false≢true}
+use Rattle.cap_spec.specs.Tree.{Tree, cap_count, has_cap}
+use Rattle.cap_spec.specs.Denoting.{Denotes}
+use Rattle.cap_spec.specs.Canonical.{layout, trim}
+use Rattle.cap_spec.specs.Paths.{IsFirstCap}
+use Rattle.cap_spec.proofs.OneTree.{one_tree}
+use Rattle.cap_spec.proofs.PathCounts.{first_cap}
+use Rattle.cap_spec.proofs.Layouts.{trimmed_layout_denotes, one_layout}
+use Rattle.cap_spec.proofs.Sizes.{layout_charged}
+use Rattle.cap_spec.proofs.Trimming.{trim-trim}
+use Rattle.cap_spec.proofs.TrimmedTrees.{has_cap-trim}
+use Rattle.cap_vet.specs.Reports.{IsFirstCapOf, IsReport, IsVetted}
+use Rattle.cap_vet.specs.declared.report.Report.{Report}
+use Rattle.std.proofs.Common.{Result, Err}
+use Rattle.cap_canon.specs.declared.fault.CanonFault.{CanonFault}
+use Rattle.cap_spec.specs.Copies.{HasCopy, IsCanonical}
+use Rattle.cap_spec.specs.Messages.{segment_of}
+use Rattle.std.specs.Prelude.{IsTrue, ◌==◌}
+
+-- a message with a capability has no copy
+pub cap_no_copy : (m : List (List ℕ)) (s w : ℕ) (words : List ℕ) → IsFirstCap m s w → HasCopy m words → ⊥
+cap_no_copy m s w words f h =
+    let c : has_cap h.tree ≡ true = (first_cap m h.tree h.charge h.depth h.denotes).1 (s, w, f) in
+    false≢true (sym h.no_caps ∙ c)
+
+bool_cases : {A : Type 0} (b : _) → (b ≡ true → A) → (b ≡ false → A) → A
+bool_cases true f g = f refl
+bool_cases false f g = g refl
+
+-- where no path leads to one, it has
+pub has_copy : (m : List (List ℕ)) (r : Report) (t : Tree) → IsReport m 268435456 256 r t → r.first_cap ≡ None → HasCopy m (layout (trim t))
+has_copy m r t k e = record { tree = t; charge = r.charge; depth = r.depth; denotes = k.denotes; no_caps = bool_cases (has_cap t) some (λ x. x); laid = refl }
+  where
+    none : IsFirstCapOf m None
+    none = subst (IsFirstCapOf m) e k.first_cap
+
+    some : has_cap t ≡ true → has_cap t ≡ false
+    some h = (let f = (first_cap m t r.charge r.depth k.denotes).0 h in absurd (none f.2.path f.2.level f.0 f.1 f.2.k f.2.index f.2.reached f.2.leads))
+
+-- and no more than one
+pub one_copy : (m : List (List ℕ)) (xs ys : List ℕ) → HasCopy m xs → HasCopy m ys → xs ≡ ys
+one_copy m xs ys h k =
+    let same = one_tree m 0 0 h.tree k.tree h.charge h.depth k.charge k.depth h.denotes k.denotes in
+    h.laid ∙ (ap (λ t. layout (trim t)) same.part ∙ sym k.laid)
+
+-- it has at most one word more than the charge
+pub copy_charged : (m : List (List ℕ)) (t : Tree) (c d : ℕ) (words : List ℕ) → Denotes m 0 0 t c d → HasCopy m words → length words ≤ c + 1
+copy_charged m t c d words h k =
+    let same = one_tree m 0 0 t k.tree c d k.charge k.depth h k.denotes in
+    let e : length words ≡ length (layout (trim t)) = ap length k.laid ∙ ap (λ x. length (layout (trim x))) (sym same.part) in
+    omega (arith, e, layout_charged m 0 0 t c d h)
+
+-- it denotes the trimmed tree, at no more charge and the same depth
+pub copy_denotes : (m : List (List ℕ)) (words : List ℕ) (t : Tree) (c d : ℕ) → HasCopy m words → Denotes m 0 0 t c d → c < 2 ^ 29
+    → (c' : ℕ) × Denotes (words ∷ []) 0 0 (trim t) c' d × (c' ≤ c)
+copy_denotes m words t c d k h few =
+    let same = one_tree m 0 0 t k.tree c d k.charge k.depth h k.denotes in
+    let e : layout (trim t) ≡ words = ap (λ x. layout (trim x)) same.part ∙ sym k.laid in
+    let r = trimmed_layout_denotes m 0 0 t c d h few in
+    (r.0, subst (λ ws. Denotes (ws ∷ []) 0 0 (trim t) r.0 d) e r.1, r.2)
+
+-- it is its own copy
+pub copy_own : (m : List (List ℕ)) (words : List ℕ) → (k : HasCopy m words) → k.charge < 2 ^ 29 → HasCopy (words ∷ []) words
+copy_own m words k few =
+    let r = copy_denotes m words k.tree k.charge k.depth k k.denotes few in record {
+      tree = trim k.tree;
+      charge = r.0;
+      depth = k.depth;
+      denotes = r.1;
+      no_caps = has_cap-trim k.tree ∙ k.no_caps;
+      laid = k.laid ∙ ap layout (sym (trim-trim k.tree));
+    }
+
+-- another message has these words for its copy exactly where the trimmed trees are equal
+pub copy_only : (m : List (List ℕ)) (words : List ℕ) (t u : Tree) (c d c' d' : ℕ) (other : List (List ℕ)) → HasCopy m words → Denotes m 0 0 t c d → c < 2 ^ 29 → Denotes other 0 0 u c' d' → c' < 2 ^ 29
+    → (layout (trim u) ≡ words) ↔ (trim u ≡ trim t)
+copy_only m words t u c d c' d' other k h few h' few' =
+    let same = one_tree m 0 0 t k.tree c d k.charge k.depth h k.denotes in
+    let e : words ≡ layout (trim t) = k.laid ∙ ap (λ x. layout (trim x)) (sym same.part) in
+    let r = one_layout other 0 0 u c' d' h' few' m 0 0 t c d h few in
+    (λ x. r.0 (x ∙ e), λ x. r.1 x ∙ sym e)
+
+-- it has as many words as the layout
+pub copy_length : (m : List (List ℕ)) (words : List ℕ) (t : Tree) (c d : ℕ) → HasCopy m words → Denotes m 0 0 t c d → length words ≡ length (layout (trim t))
+copy_length m words t c d k h =
+    let same = one_tree m 0 0 k.tree t k.charge k.depth c d k.denotes h in
+    ap length k.laid ∙ ap (λ x. length (layout (trim x))) same.part
+
+-- the charge of an accepted message is below the greatest of an offset
+pub few_charged : (m : List (List ℕ)) (r : Report) (t u : Tree) (c d : ℕ) → IsReport m 268435456 256 r t → Denotes m 0 0 u c d → c < 2 ^ 29
+few_charged m r t u c d k h =
+    let same = one_tree m 0 0 t u r.charge r.depth c d k.denotes h in
+    let e : r.charge ≡ c = same.charge in
+    omega (arith, k.within, e)
+
+-- words that are the layout of every tree that is denoted are the copy
+pub copy_of : (m : List (List ℕ)) (words made : List ℕ) → HasCopy m words → ((t : Tree) (c d : ℕ) → Denotes m 0 0 t c d → made ≡ layout (trim t)) → HasCopy m made
+copy_of m words made k f = record { tree = k.tree; charge = k.charge; depth = k.depth; denotes = k.denotes; no_caps = k.no_caps; laid = f k.tree k.charge k.depth k.denotes }
+
+-- a message of one segment is its words
+one_segment : (m : List (List ℕ)) → length m ≡ 1 → m ≡ segment_of m 0 ∷ []
+one_segment [] e = absurd (omega (arith, e))
+one_segment (x ∷ []) e = refl
+one_segment (x ∷ y ∷ xs) e = absurd (omega (arith, e))
+
+-- without capabilities, a message of one segment is its own copy exactly where its words are the layout
+pub checked : (m : List (List ℕ)) (r : Report) (t : Tree) (b : _) → IsReport m 268435456 256 r t → r.caps ≡ 0 → length m ≡ 1 → (IsTrue b ↔ (segment_of m 0 ≡ layout (trim t))) → IsTrue b ↔ IsCanonical m
+checked m r t b k none one d = (to, from)
+  where
+    no : cap_count t ≡ 0
+    no = omega (arith, k.caps, none)
+
+    no_caps : has_cap t ≡ false
+    no_caps = rw no refl
+
+    to : IsTrue b → IsCanonical m
+    to h = (segment_of m 0, record { tree = t; charge = r.charge; depth = r.depth; denotes = k.denotes; no_caps = no_caps; laid = d.0 h }, one_segment m one)
+
+    from : IsCanonical m → IsTrue b
+    from (words, h, e) =
+        let same = one_tree m 0 0 h.tree t h.charge h.depth r.charge r.depth h.denotes k.denotes in
+        d.1 (ap (λ (x : List (List ℕ)). segment_of x 0) e ∙ (h.laid ∙ ap (λ x. layout (trim x)) same.part))
+
+-- and with one, or with more segments, it isn't
+pub not_with_caps : (m : List (List ℕ)) (r : Report) (t : Tree) → IsReport m 268435456 256 r t → r.caps ≢ 0 → IsCanonical m → ⊥
+not_with_caps m r t k some (words, h, e) =
+    let same = one_tree m 0 0 h.tree t h.charge h.depth r.charge r.depth h.denotes k.denotes in
+    bool_cases (cap_count t == 0) (λ z. some (k.caps ∙ eqb-true (cap_count t) 0 z)) (λ z. false≢true (sym h.no_caps ∙ (ap has_cap same.part ∙ rw z refl)))
+
+pub not_with_segments : (m : List (List ℕ)) → length m ≢ 1 → IsCanonical m → ⊥
+not_with_segments m more (words, h, e) = more (ap length e)
+
+-- equal faults, whatever the answers would be
+pub err_parts : (f f' : CanonFault) → ◌≡◌ {A = Result ℕ CanonFault} (Err f) (Err f') → f ≡ f'
+err_parts f f' e = cc

@@ -1,0 +1,60 @@
+-- The words of a layout, seen from the pointer words that lead to what isn't laid yet.
+use Rattle.std.proofs.Common.{ℕ, zero, suc, ◌+◌, ◌*◌, ◌<◌, ◌≤◌, List, [], ◌∷◌, ◌++◌, ◌≡◌, ◌↔◌, ap, refl, sym, subst, ◌∙◌, arith, length, length-append}
+use Rattle.std.specs.Prelude.{Some, slice_get}
+use Rattle.std.proofs.lemmas.Option.{slice_get_within}
+use Rattle.cap_spec.specs.Tree.{Tree, null, cap, struct, scalars, pointers, structs, Trees, none, more, tree_count}
+use Rattle.cap_spec.specs.Canonical.{pointer_to, size, sizes, element_sizes, content, contents, element_contents, pointer_words, element_words, layout}
+use Rattle.cap_canon.specs.Laying.{Due, Laid, slots, element_slots, DataAt}
+use Rattle.cap_spec.specs.Placing.{StandAt}
+use Rattle.cap_spec.proofs.Placing.{stand_front, stand_back, stand_inside}
+use Rattle.cap_spec.proofs.Measures.{Fits, FitEach, FitElements}
+use Rattle.cap_spec.proofs.Sizes.{length-content, length-contents, length-element_contents, length-pointer_words, length-element_words}
+
+-- parts that stand one behind the other stand joined
+pub stand_join : (words : List ℕ) (b c : ℕ) (xs ys : List ℕ) → c ≡ b + length xs → StandAt words b xs → StandAt words c ys → StandAt words b (xs ++ ys)
+stand_join words b c [] ys e h k = let i : c ≡ b = omega arith in subst (λ n. StandAt words n ys) i k
+stand_join words b c (x ∷ xs) ys e h k = (h.0, stand_join words (b + 1) c xs ys (omega arith) h.1 k)
+
+-- what is laid lies inside
+pub laid_inside : (words : List ℕ) (end : ℕ) (due : List Due) → Laid words end due → end ≤ length words
+laid_inside words end [] h = omega (arith, h)
+laid_inside words end (x ∷ due) (offset, e, p, s, rest) = let l = stand_inside words end (content x.tree) s in omega (arith, l)
+
+-- pointer words in a row, and the contents behind them
+pub row_due : (words : List ℕ) (a c after : ℕ) (ts : Trees) (due : List Due) → c ≡ a + tree_count ts + after → FitEach ts
+    → StandAt words a (pointer_words after ts) → StandAt words c (contents ts) → Laid words (c + sizes ts) due → Laid words c (slots a ts ++ due)
+row_due words a c after none due e f sp sc l = let i : c + 0 ≡ c = omega arith in subst (λ n. Laid words n due) i l
+row_due words a c after (more t ts) due e f sp sc l =
+    let i : c + sizes (more t ts) ≡ c + size t + sizes ts = omega arith in (
+      tree_count ts + after,
+      omega (arith, e),
+      sp.0,
+      stand_front words c (content t) (contents ts) sc,
+      row_due words (a + 1) (c + size t) (after + size t) ts due (omega (arith, e)) f.1 sp.1
+          (stand_back words c (c + size t) (content t) (contents ts) (ap (λ n. c + n) (sym (length-content t f.0))) sc)
+          (subst (λ n. Laid words n due) i l),
+    )
+
+-- the parts of a row that is laid
+pub record RowLaid (words : List ℕ) (a c after : ℕ) (ts : Trees) (due : List Due) : Type 0 where
+  pub row : StandAt words a (pointer_words after ts)
+  pub below : StandAt words c (contents ts)
+  pub rest : Laid words (c + sizes ts) due
+
+pub due_row : (words : List ℕ) (a c after : ℕ) (ts : Trees) (due : List Due) → c ≡ a + tree_count ts + after → FitEach ts
+    → Laid words c (slots a ts ++ due) → RowLaid words a c after ts due
+due_row words a c after none due e f l =
+    let i : c ≡ c + 0 = omega arith in
+    let k = laid_inside words c due l in record {
+      row = omega (arith, e, k);
+      below = k;
+      rest = subst (λ n. Laid words n due) i l;
+    }
+due_row words a c after (more t ts) due e f (offset, eo, p, s, l) =
+    let r = due_row words (a + 1) (c + size t) (after + size t) ts due (omega (arith, e)) f.1 l in
+    let i : c + size t + sizes ts ≡ c + sizes (more t ts) = omega arith in
+    let o : offset ≡ tree_count ts + after = omega (arith, e, eo) in record {
+      row = (subst (λ n. slice_get words a ≡ Some (pointer_to n t)) o p, r.row);
+      below = stand_join words c (c + size t) (content t) (contents ts) (ap (λ n. c + n) (sym (length-content t f.0))) s r.below;
+      rest = subst (λ n. Laid words n due) i r.rest;
+    }

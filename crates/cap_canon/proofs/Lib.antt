@@ -1,0 +1,9 @@
+mod Agreeing
+mod Copies
+mod InPlace
+mod LaidSteps
+mod Laying
+mod Lengths
+mod Needed
+mod Repacked
+mod Whole

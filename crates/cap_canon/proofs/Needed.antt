@@ -1,0 +1,137 @@
+-- How many data words are needed, from the last one down.
+use Rattle.std.proofs.Common.{ℕ, zero, suc, ◌+◌, ◌-◌, ◌*◌, ◌<◌, ◌≤◌, ◌≢◌, List, [], ◌∷◌, ◌≡◌, max, ap, refl, sym, subst, ◌∙◌, arith, length, take, drop, get_or, inl, inr, ◌⊎◌, true, false}
+use Rattle.std.specs.Prelude.{Some, slice_get, if◌then◌else◌, ◌==◌}
+use Rattle.std.proofs.lemmas.List.{get_or-take, get_or-drop}
+use Rattle.std.proofs.lemmas.Option.{get_or_from_slice_get}
+use Rattle.std.proofs.lemmas.Bool.Decides.{eqb_tells}
+use Rattle.cap_spec.specs.Canonical.{data_needed}
+use Rattle.cap_spec.specs.Denoting.{words_from}
+use Rattle.cap_spec.specs.Messages.{HasWord, segment_of}
+use Rattle.cap_spec.proofs.TrimmedMeasures.{data_needed_le}
+use Rattle.cap_spec.proofs.Shapes.{range_length}
+use Rattle.cap_canon.specs.Trimming.{most_data}
+
+-- a word that isn't zero is needed
+first_needed : (n x : ℕ) → x ≢ 0 → (((n == 0) ≡ true) × (n ≡ 0)) ⊎ (((n == 0) ≡ false) × (n ≡ 0 → ⊥)) → (((x == 0) ≡ true) × (x ≡ 0)) ⊎ (((x == 0) ≡ false) × (x ≡ 0 → ⊥))
+    → 1 ≤ (if n == 0 then (if x == 0 then 0 else 1) else suc n)
+first_needed n x h (inl a) (inl b) = absurd (h b.1)
+first_needed n x h (inl a) (inr b) = rw (a.0, b.0) (omega arith)
+first_needed n x h (inr a) b = rw a.0 (omega arith)
+
+later_needed : (n y i : ℕ) → suc i ≤ n → (((n == 0) ≡ true) × (n ≡ 0)) ⊎ (((n == 0) ≡ false) × (n ≡ 0 → ⊥)) → suc (suc i) ≤ (if n == 0 then y else suc n)
+later_needed n y i h (inl a) = absurd (omega (arith, a.1, h))
+later_needed n y i h (inr a) = rw a.0 (omega (arith, h))
+
+pub needed_past : (ws : List ℕ) (i : ℕ) → get_or ws i 0 ≢ 0 → suc i ≤ data_needed ws
+needed_past [] i h = absurd (h refl)
+needed_past (x ∷ xs) zero h = first_needed (data_needed xs) x h (eqb_tells (data_needed xs) 0) (eqb_tells x 0)
+needed_past (x ∷ xs) (suc i) h = later_needed (data_needed xs) (if x == 0 then 0 else 1) i (needed_past xs i h) (eqb_tells (data_needed xs) 0)
+
+-- a zero word that stands last of those needed isn't needed
+first_zero : (n x : ℕ) → x ≡ 0 → (((n == 0) ≡ true) × (n ≡ 0)) ⊎ (((n == 0) ≡ false) × (n ≡ 0 → ⊥)) → (if n == 0 then (if x == 0 then 0 else 1) else suc n) ≤ 1
+    → (if n == 0 then (if x == 0 then 0 else 1) else suc n) ≤ 0
+first_zero n x e (inl a) h = rw (a.0, e) (omega arith)
+first_zero n x e (inr a) h =
+    let k : suc n ≤ 1 = rw a.0 at h in
+    absurd (a.1 (omega (arith, k)))
+
+later_zero : (n y i : ℕ) → (n ≤ suc i → n ≤ i) → y ≤ 1 → (((n == 0) ≡ true) × (n ≡ 0)) ⊎ (((n == 0) ≡ false) × (n ≡ 0 → ⊥)) → (if n == 0 then y else suc n) ≤ suc (suc i) → (if n == 0 then y else suc n) ≤ suc i
+later_zero n y i r s (inl a) h = rw a.0 (omega (arith, s))
+later_zero n y i r s (inr a) h =
+    let k : suc n ≤ suc (suc i) = rw a.0 at h in
+    let l : n ≤ i = r (omega (arith, k)) in
+    rw a.0 (omega (arith, l))
+
+one_at_most : (x : ℕ) → (((x == 0) ≡ true) × (x ≡ 0)) ⊎ (((x == 0) ≡ false) × (x ≡ 0 → ⊥)) → (if x == 0 then 0 else 1) ≤ 1
+one_at_most x (inl a) = rw a.0 (omega arith)
+one_at_most x (inr a) = rw a.0 (omega arith)
+
+pub not_needed : (ws : List ℕ) (i : ℕ) → get_or ws i 0 ≡ 0 → data_needed ws ≤ suc i → data_needed ws ≤ i
+not_needed [] i e h = omega arith
+not_needed (x ∷ xs) zero e h = first_zero (data_needed xs) x e (eqb_tells (data_needed xs) 0) h
+not_needed (x ∷ xs) (suc i) e h = later_zero (data_needed xs) (if x == 0 then 0 else 1) i (not_needed xs i e) (one_at_most x (eqb_tells x 0)) (eqb_tells (data_needed xs) 0) h
+
+-- a word of a range is that of its segment
+pub word_of_range : (m : List (List ℕ)) (s b n i x : ℕ) → i < n → HasWord m s (b + i) x → get_or (words_from m s b n) i 0 ≡ x
+word_of_range m s b n i x lt h =
+    let e : b + n - b ≡ n = omega arith in
+    ap (λ k. get_or (take k (drop b (segment_of m s))) i 0) e ∙ (get_or-take n (drop b (segment_of m s)) i 0 lt ∙ (get_or-drop b (segment_of m s) i 0 ∙ get_or_from_slice_get (segment_of m s) (b + i) x 0 h))
+
+-- no more are needed than there are
+pub range_needed : (m : List (List ℕ)) (s b n : ℕ) → b + n ≤ length (segment_of m s) → data_needed (words_from m s b n) ≤ n
+range_needed m s b n h = let e : length (words_from m s b n) ≡ n = range_length m s b n h in omega (arith, e, data_needed_le (words_from m s b n))
+
+-- no element needs more than its size
+pub most_within : (m : List (List ℕ)) (t b ds ps n : ℕ) → b + n * (ds + ps) ≤ length (segment_of m t) → most_data m t b ds ps n ≤ ds
+most_within m t b ds ps zero h = omega arith
+most_within m t b ds ps (suc n) h =
+    let a : data_needed (words_from m t b ds) ≤ ds = range_needed m t b ds (omega (arith, h)) in
+    let r : most_data m t (b + (ds + ps)) ds ps n ≤ ds = most_within m t (b + (ds + ps)) ds ps n (omega (arith, h)) in
+    omega (arith, a, r)
+
+-- the word looked at is needed, so that nothing below it is cut
+pub needed_here : (m : List (List ℕ)) (s b n left least x : ℕ) → least < left → left ≤ n → HasWord m s (b + (left - 1)) x → x ≢ 0 → data_needed (words_from m s b n) ≤ left
+    → left ≡ max least (data_needed (words_from m s b n))
+needed_here m s b n left least x lt le h nz most =
+    let i : left - 1 < n = omega (arith, lt, le) in
+    let e : get_or (words_from m s b n) (left - 1) 0 ≡ x = word_of_range m s b n (left - 1) x i h in
+    let k : suc (left - 1) ≤ data_needed (words_from m s b n) = needed_past (words_from m s b n) (left - 1) (λ z. nz (sym e ∙ z)) in
+    omega (arith, lt, k, most)
+
+-- and one that is zero isn't
+pub needed_below : (m : List (List ℕ)) (s b n left least x : ℕ) → least < left → left ≤ n → HasWord m s (b + (left - 1)) x → x ≡ 0 → data_needed (words_from m s b n) ≤ left
+    → data_needed (words_from m s b n) ≤ left - 1
+needed_below m s b n left least x lt le h z most =
+    let i : left - 1 < n = omega (arith, lt, le) in
+    let e : get_or (words_from m s b n) (left - 1) 0 ≡ x = word_of_range m s b n (left - 1) x i h in
+    not_needed (words_from m s b n) (left - 1) (e ∙ z) (omega (arith, lt, most))
+
+-- one element more
+pub most_on : (a b m r : ℕ) → a ≡ max m b → max a r ≡ max m (max b r)
+most_on a b m r e = omega (arith, e)
+
+-- a turn of the loop over elements, at the one behind the first i
+pub record ElementsSeen (m : List (List ℕ)) (s start at ds ps count i most : ℕ) : Type 0 where
+  pub place : at ≡ start + i * (ds + ps)
+  pub within : most ≤ ds
+  pub rest : max most (most_data m s at ds ps (count - i)) ≡ most_data m s start ds ps count
+
+pub none_seen : (m : List (List ℕ)) (s start ds ps count : ℕ) → ElementsSeen m s start start ds ps count 0 0
+none_seen m s start ds ps count =
+    let e : count - 0 ≡ count = omega arith in record {
+      place = omega arith;
+      within = omega arith;
+      rest = rw e (omega arith);
+    }
+
+-- the element at hand lies inside
+pub element_inside : (m : List (List ℕ)) (s start at ds ps count i most : ℕ) → i < count → start + count * (ds + ps) ≤ length (segment_of m s) → ElementsSeen m s start at ds ps count i most
+    → at + (ds + ps) ≤ length (segment_of m s)
+element_inside m s start at ds ps count i most lt h k =
+    let n : (count - i - 1) + i + 1 ≡ count = omega (arith, lt) in
+    let e : ((count - i - 1) + i + 1) * (ds + ps) ≡ (count - i - 1) * (ds + ps) + i * (ds + ps) + (ds + ps) = omega arith in
+    let f : count * (ds + ps) ≡ (count - i - 1) * (ds + ps) + i * (ds + ps) + (ds + ps) = rw n at e in
+    omega (arith, k.place, f, h)
+
+pub element_seen : (m : List (List ℕ)) (s start at ds ps count i most now : ℕ) → i < count → now ≡ max most (data_needed (words_from m s at ds)) → now ≤ ds
+    → ElementsSeen m s start at ds ps count i most → ElementsSeen m s start (at + (ds + ps)) ds ps count (i + 1) now
+element_seen m s start at ds ps count i most now lt e w k =
+    let n : count - i ≡ suc (count - (i + 1)) = omega (arith, lt) in
+    let r : max most (most_data m s at ds ps (suc (count - (i + 1)))) ≡ most_data m s start ds ps count = rw n at k.rest in record {
+      place = omega (arith, k.place);
+      within = w;
+      rest = most_on now (data_needed (words_from m s at ds)) most (most_data m s (at + (ds + ps)) ds ps (count - (i + 1))) e ∙ r;
+    }
+
+-- all have their size already
+pub enough_seen : (m : List (List ℕ)) (s start at ds ps count i most : ℕ) → i < count → start + count * (ds + ps) ≤ length (segment_of m s) → most ≡ ds
+    → ElementsSeen m s start at ds ps count i most → most ≡ most_data m s start ds ps count
+enough_seen m s start at ds ps count i most lt h e k =
+    let a : most_data m s start ds ps count ≤ ds = most_within m s start ds ps count h in
+    omega (arith, e, k.rest, a)
+
+pub all_seen : (m : List (List ℕ)) (s start at ds ps count i most : ℕ) → count ≤ i → ElementsSeen m s start at ds ps count i most → most ≡ most_data m s start ds ps count
+all_seen m s start at ds ps count i most ge k =
+    let n : count - i ≡ 0 = omega (arith, ge) in
+    let r : max most (most_data m s at ds ps 0) ≡ most_data m s start ds ps count = rw n at k.rest in
+    omega (arith, r)

