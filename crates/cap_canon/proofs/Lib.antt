@@ -7,3 +7,10 @@ mod Lengths
 mod Needed
 mod Repacked
 mod Whole
+mod Children
+mod Elements
+mod Trimmed
+mod Found
+mod Frames
+mod Owing
+mod Entering

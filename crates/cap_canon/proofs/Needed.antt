@@ -18,7 +18,8 @@ first_needed n x h (inl a) (inl b) = absurd (h b.1)
 first_needed n x h (inl a) (inr b) = rw (a.0, b.0) (omega arith)
 first_needed n x h (inr a) b = rw a.0 (omega arith)
 
-later_needed : (n y i : ℕ) → suc i ≤ n → (((n == 0) ≡ true) × (n ≡ 0)) ⊎ (((n == 0) ≡ false) × (n ≡ 0 → ⊥)) → suc (suc i) ≤ (if n == 0 then y else suc n)
+-- and what is needed later is needed behind it
+pub later_needed : (n y i : ℕ) → suc i ≤ n → (((n == 0) ≡ true) × (n ≡ 0)) ⊎ (((n == 0) ≡ false) × (n ≡ 0 → ⊥)) → suc (suc i) ≤ (if n == 0 then y else suc n)
 later_needed n y i h (inl a) = absurd (omega (arith, a.1, h))
 later_needed n y i h (inr a) = rw a.0 (omega (arith, h))
 
@@ -35,7 +36,7 @@ first_zero n x e (inr a) h =
     let k : suc n ≤ 1 = rw a.0 at h in
     absurd (a.1 (omega (arith, k)))
 
-later_zero : (n y i : ℕ) → (n ≤ suc i → n ≤ i) → y ≤ 1 → (((n == 0) ≡ true) × (n ≡ 0)) ⊎ (((n == 0) ≡ false) × (n ≡ 0 → ⊥)) → (if n == 0 then y else suc n) ≤ suc (suc i) → (if n == 0 then y else suc n) ≤ suc i
+pub later_zero : (n y i : ℕ) → (n ≤ suc i → n ≤ i) → y ≤ 1 → (((n == 0) ≡ true) × (n ≡ 0)) ⊎ (((n == 0) ≡ false) × (n ≡ 0 → ⊥)) → (if n == 0 then y else suc n) ≤ suc (suc i) → (if n == 0 then y else suc n) ≤ suc i
 later_zero n y i r s (inl a) h = rw a.0 (omega (arith, s))
 later_zero n y i r s (inr a) h =
     let k : suc n ≤ suc (suc i) = rw a.0 at h in

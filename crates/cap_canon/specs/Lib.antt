@@ -1,4 +1,5 @@
 pub mod Copies
+pub mod Found
 pub mod Frames
 pub mod Laying
 pub mod Objects

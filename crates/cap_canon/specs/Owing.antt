@@ -4,7 +4,7 @@ use Rattle.cap_spec.specs.Messages.{IsMessage}
 use Rattle.cap_spec.specs.Denoting.{Denotes}
 use Rattle.cap_spec.specs.Tree.{Tree}
 use Rattle.cap_spec.specs.Canonical.{trim}
-use Rattle.cap_canon.specs.Frames.{Place, places_of, all_places}
+use Rattle.cap_canon.specs.Frames.{IsFull, Place, places_of, all_places}
 use Rattle.cap_canon.specs.Laying.{Due, AreBefore, size_due}
 use Rattle.cap_canon.specs.declared.frame.Frame.{Frame}
 
@@ -21,8 +21,7 @@ AreOwed m depth n (p ∷ places) (x ∷ due) = (p.2 ≡ x.slot) × IsOwed m dept
 
 -- a frame, which isn't empty, of the words that are due
 pub record FrameOwes (m : List (List ℕ)) (depth n : ℕ) (f : Frame) (due : List Due) : Type 0 where
-  pub some : 0 < f.left
-  pub each : 0 < f.more → 0 < f.pointers
+  pub full : IsFull f
   pub owed : AreOwed m depth n (places_of f) due
 
 -- frames, the topmost first, of the words that are due

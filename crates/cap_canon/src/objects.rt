@@ -1,6 +1,8 @@
 //! What a pointer word of an accepted message leads to, trimmed.
 
+ghost use Rattle.cap_canon.specs.Found.{IsStructAt, IsStructsAt};
 ghost use Rattle.cap_canon.specs.Objects.{IsObject};
+ghost use Rattle.cap_ptr.specs.Shapes.{FindsTarget};
 ghost use Rattle.cap_spec.specs.Canonical.{trim};
 ghost use Rattle.cap_spec.specs.Denoting.{Denotes};
 ghost use Rattle.cap_spec.specs.Messages.{HasWord, segment_of};
@@ -8,7 +10,9 @@ ghost use Rattle.cap_spec.specs.Tree.{Tree};
 ghost use Rattle.cap_spec.specs.Words.{IsWord};
 ghost use Rattle.std.specs.Prelude.{◌+◌, ◌<◌, ◌≤◌, length, ℕ};
 
+use crate::trimming::{data_left, list_data_left, list_pointers_left, pointers_left};
 use cap_frame::Segments;
+use cap_ptr::{Followed, Shape, Target, follow};
 
 /// What is left of an object when it is trimmed, and where it stands: its segment and the word that
 /// it starts at, its sizes as they stand, and those that are left.
@@ -60,7 +64,109 @@ pub(crate) fn object_at<M: Segments>(message: &M, s: u32, w: u32) -> Object
     requires { (t : Tree) × (c d : ℕ) × Denotes (M.segments message.now) s w t c d }
     ensures { (t : Tree) (c d : ℕ) → Denotes (M.segments message.now) s w t c d → IsObject (M.segments message.now) d s w (trim t) result }
 {
-    Object::Null
+    match follow(message, s, w) {
+        Err(_) => unreachable!(),
+        Ok(Followed::Null { .. }) => Object::Null,
+        Ok(Followed::Cap { index, .. }) => Object::Cap { index },
+        Ok(Followed::Target(target)) => left_of(message, &target),
+    }
+}
+
+// What is left of an object.
+#[inline(always)]
+fn left_of<M: Segments>(message: &M, target: &Target) -> Object
+    requires { (s w : ℕ) × (t : Tree) × (c d : ℕ) × Denotes (M.segments message.now) s w t c d × FindsTarget (M.segments message.now) s w target.now }
+    ensures { (s w : ℕ) (t : Tree) (c d : ℕ) → Denotes (M.segments message.now) s w t c d → FindsTarget (M.segments message.now) s w target.now → IsObject (M.segments message.now) d s w (trim t) result }
+{
+    let segment = target.segment;
+    let start = target.start;
+    match target.shape {
+        Shape::Struct {
+            data_words,
+            pointers,
+        } => struct_left(
+            message,
+            segment,
+            start,
+            u32::from(data_words),
+            u32::from(pointers),
+        ),
+        Shape::Scalars { code, count } => Object::Scalars {
+            segment,
+            start,
+            code,
+            count,
+            words: target.words,
+        },
+        Shape::Pointers { count } => Object::Pointers {
+            segment,
+            start,
+            count,
+        },
+        Shape::Structs {
+            count,
+            data_words,
+            pointers,
+            ..
+        } => structs_left(
+            message,
+            segment,
+            start,
+            count,
+            u32::from(data_words),
+            u32::from(pointers),
+        ),
+    }
+}
+
+// What is left of a struct of these sizes.
+#[inline(always)]
+fn struct_left<M: Segments>(
+    message: &M,
+    segment: u32,
+    start: u32,
+    data_words: u32,
+    pointers: u32,
+) -> Object
+    requires { (s w d : ℕ) × (t : Tree) × IsStructAt (M.segments message.now) s w segment start data_words pointers t d }
+    ensures { (s w d : ℕ) (t : Tree) → IsStructAt (M.segments message.now) s w segment start data_words pointers t d → IsObject (M.segments message.now) d s w (trim t) result }
+{
+    let data_left = data_left(message, segment, start, data_words, 0);
+    let pointers_left = pointers_left(message, segment, start + data_words, pointers, 0);
+    Object::Struct {
+        segment,
+        start,
+        data_words,
+        pointers,
+        data_left,
+        pointers_left,
+    }
+}
+
+// What is left of a list of so many structs of these sizes, whose tag stands at the start.
+fn structs_left<M: Segments>(
+    message: &M,
+    segment: u32,
+    start: u32,
+    count: u32,
+    data_words: u32,
+    pointers: u32,
+) -> Object
+    requires { (s w d : ℕ) × (t : Tree) × IsStructsAt (M.segments message.now) s w segment start count data_words pointers t d }
+    ensures { (s w d : ℕ) (t : Tree) → IsStructsAt (M.segments message.now) s w segment start count data_words pointers t d → IsObject (M.segments message.now) d s w (trim t) result }
+{
+    let first = start + 1;
+    let data_left = list_data_left(message, segment, first, count, data_words, pointers);
+    let pointers_left = list_pointers_left(message, segment, first, count, data_words, pointers);
+    Object::Structs {
+        segment,
+        start,
+        count,
+        data_words,
+        pointers,
+        data_left,
+        pointers_left,
+    }
 }
 
 /// The words of a range are words: each of them is read. Nothing is done with them, so the compiler

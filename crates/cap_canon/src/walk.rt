@@ -1,9 +1,12 @@
 //! The walk over an accepted message, in preorder: one pointer word a turn.
 
+ghost use Rattle.cap_canon.specs.Frames.{OptionFull, option_places, row_places};
 ghost use Rattle.cap_canon.specs.Laying.{Due, below, own_size};
 ghost use Rattle.cap_canon.specs.Objects.{IsObject};
-ghost use Rattle.cap_canon.specs.Owing.{IsNext, IsWalking, work_left};
+ghost use Rattle.cap_canon.specs.Owing.{AreOwed, IsNext, IsWalking, work_left};
+ghost use Rattle.cap_spec.specs.Messages.{IsMessage};
 ghost use Rattle.cap_spec.specs.Tree.{Tree};
+ghost use Rattle.std.specs.Option.{option_to_list};
 ghost use Rattle.std.specs.Prelude.{◌+◌, ◌++◌, ◌≡◌, ◌≤◌, ◌<◌, ◌∷◌, List, length, ℕ};
 
 use crate::frame::Frame;
@@ -15,6 +18,7 @@ use arrayvec::ArrayVec;
 pub(crate) type Stack<const N: usize> = ArrayVec<Frame, N>;
 
 /// Takes the next pointer word: its segment, its word, and the word of the copy that it becomes.
+#[inline(always)]
 pub(crate) fn take_next<const N: usize>(stack: &mut Stack<N>) -> (u32, u32, u32)
     requires some { 0 < length stack.old.items }
     requires walking { (m : List (List ℕ)) × (depth end : ℕ) × (due : List Due) × IsWalking m depth stack.old.items end due × (depth ≤ N) × (N ≤ 256) }
@@ -24,12 +28,16 @@ pub(crate) fn take_next<const N: usize>(stack: &mut Stack<N>) -> (u32, u32, u32)
 {
     match stack.pop() {
         None => unreachable!(),
-        Some(frame) => (frame.segment, frame.at, frame.slot),
+        Some(frame) => {
+            push_some(stack, frame.rest());
+            (frame.segment, frame.at, frame.slot)
+        }
     }
 }
 
 /// Puts the pointer words of an object, whose own words are laid from `end` on, on the stack, and
 /// answers where those end.
+#[inline(always)]
 pub(crate) fn enter<const N: usize>(stack: &mut Stack<N>, object: &Object, end: u32) -> u32
     requires fits { (m : List (List ℕ)) × (depth s w slot d : ℕ) × (tree : Tree) × (due : List Due) × IsNext m depth s w slot stack.old.items end tree due × IsObject m d s w tree object.now
         × (d + length stack.old.items ≤ depth) × (depth ≤ N) × (N ≤ 256) }
@@ -37,8 +45,114 @@ pub(crate) fn enter<const N: usize>(stack: &mut Stack<N>, object: &Object, end: 
         → d + length stack.old.items ≤ depth → (result ≡ end + own_size tree) × IsWalking m depth stack.new.items result (below end tree ++ due) }
     ensures work { (m : List (List ℕ)) (d s w : ℕ) (tree : Tree) → IsObject m d s w tree object.now → work_left stack.new.items ≤ work_left stack.old.items + own_size tree }
 {
+    push_some(stack, frame_of(object, end));
+    end + own_words(object)
+}
+
+// One more frame, where there is one.
+#[inline(always)]
+fn push_some<const N: usize>(stack: &mut Stack<N>, frame: Option<Frame>)
+    requires few { N ≤ 256 }
+    requires room { length (stack.old.items ++ option_to_list frame) ≤ N }
+    ensures { stack.new.items ≡ stack.old.items ++ option_to_list frame }
+{
+    if let Some(frame) = frame {
+        stack.push(frame);
+    }
+}
+
+// The pointer words of an object whose own words are laid from `end` on.
+#[inline(always)]
+fn frame_of(object: &Object, end: u32) -> Option<Frame>
+    requires { (m : List (List ℕ)) × (d s w : ℕ) × (tree : Tree) × IsMessage m × IsObject m d s w tree object.now × (end + own_size tree ≤ 268435457) }
+    ensures owed { (m : List (List ℕ)) (d s w depth n : ℕ) (tree : Tree) → IsObject m d s w tree object.now → d + n ≤ depth → AreOwed m depth (n + 1) (option_places result) (below end tree) }
+    ensures full { OptionFull result }
+{
     match object {
-        Object::Null => end,
-        _ => end,
+        Object::Struct {
+            segment,
+            start,
+            data_words,
+            data_left,
+            pointers_left,
+            ..
+        } => row_frame(*segment, *start + *data_words, end + *data_left, *pointers_left),
+        Object::Pointers {
+            segment,
+            start,
+            count,
+        } => row_frame(*segment, *start, end, *count),
+        Object::Structs {
+            segment,
+            start,
+            count,
+            data_words,
+            pointers,
+            data_left,
+            pointers_left,
+        } => {
+            if *count == 0 || *pointers_left == 0 {
+                return None;
+            }
+            Some(Frame {
+                segment: *segment,
+                at: *start + 1 + *data_words,
+                slot: end + 1 + *data_left,
+                left: *pointers_left,
+                more: *count - 1,
+                skip: *pointers - *pointers_left + *data_words,
+                gap: *data_left,
+                pointers: *pointers_left,
+            })
+        }
+        Object::Null => None,
+        Object::Cap { .. } => None,
+        Object::Scalars { .. } => None,
+    }
+}
+
+// Pointer words that stand in one row.
+#[inline(always)]
+fn row_frame(segment: u32, at: u32, slot: u32, left: u32) -> Option<Frame>
+    ensures places { option_places result ≡ row_places segment at slot left }
+    ensures full { OptionFull result }
+{
+    if left == 0 {
+        return None;
+    }
+    Some(Frame {
+        segment,
+        at,
+        slot,
+        left,
+        more: 0,
+        skip: 0,
+        gap: 0,
+        pointers: 0,
+    })
+}
+
+// How many words an object has of its own in the copy.
+#[inline(always)]
+fn own_words(object: &Object) -> u32
+    requires { (m : List (List ℕ)) × (d s w : ℕ) × (tree : Tree) × IsObject m d s w tree object.now × (own_size tree ≤ 268435457) }
+    ensures { (m : List (List ℕ)) (d s w : ℕ) (tree : Tree) → IsObject m d s w tree object.now → result ≡ own_size tree }
+{
+    match object {
+        Object::Null => 0,
+        Object::Cap { .. } => 0,
+        Object::Struct {
+            data_left,
+            pointers_left,
+            ..
+        } => *data_left + *pointers_left,
+        Object::Scalars { words, .. } => *words,
+        Object::Pointers { count, .. } => *count,
+        Object::Structs {
+            count,
+            data_left,
+            pointers_left,
+            ..
+        } => 1 + *count * (*data_left + *pointers_left),
     }
 }

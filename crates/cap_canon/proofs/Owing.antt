@@ -1,0 +1,140 @@
+-- What the frames of a walk owe, word by word.
+use Rattle.std.proofs.Common.{ℕ, zero, suc, ◌+◌, ◌-◌, ◌*◌, ◌<◌, ◌≤◌, ◌^◌, ◌⊎◌, inl, inr, List, [], ◌∷◌, ◌++◌, ◌≡◌, ap, refl, sym, subst, ◌∙◌, arith, length, reverse, Option, None, Some}
+use Rattle.std.specs.Option.{option_to_list}
+use Rattle.std.proofs.lemmas.List.{append-nil, append_assoc, length-append, length-reverse, nil_from_length, reverse-append}
+use Rattle.cap_spec.specs.Messages.{HasWord, IsMessage, segment_of}
+use Rattle.cap_spec.specs.Denoting.{Denotes}
+use Rattle.cap_spec.specs.Tree.{Tree, null, cap, struct, scalars, pointers, structs, Trees, none, more, tree_count}
+use Rattle.cap_spec.proofs.Arrivals.{lead_word}
+use Rattle.cap_spec.proofs.Messages.{HasWord-inside, HasWord-segment}
+use Rattle.cap_spec.proofs.OneTree.{Formed, formed}
+use Rattle.cap_canon.specs.Frames.{AreShort, IsFull, IsRest, OptionFull, Place, all_places, option_places, places_of}
+use Rattle.cap_canon.specs.Laying.{Due, AreBefore, below, own_size, size_due}
+use Rattle.cap_canon.specs.Objects.{IsObject}
+use Rattle.cap_canon.specs.Owing.{AreOwed, FrameOwes, IsNext, IsOwed, IsWalking, Stacked, work_left}
+use Rattle.cap_canon.specs.declared.frame.Frame.{Frame}
+use Rattle.cap_canon.specs.declared.objects.Object.{Object}
+use Rattle.cap_canon.proofs.Frames.{all_places-append, count_more, option_all_places}
+use Rattle.cap_canon.proofs.Lengths.{own_within, size_below, size_due-append}
+
+-- a word that denotes is a number of 32 bits
+pub word_short : (m : List (List ℕ)) (s w : ℕ) (t : Tree) (c d : ℕ) → IsMessage m → Denotes m s w t c d → w < 2 ^ 32
+word_short m s w t c d is h =
+    let f : Formed m s w t = formed m s w t c d h in
+    let p = lead_word m s w f.k f.r f.leads in
+    let short : length (segment_of m s) < 2 ^ 32 = is.lengths s [] (HasWord-segment m s w p.0 p.1) in
+    omega (arith, HasWord-inside m s w p.0 p.1, short)
+
+-- the words that are owed are
+pub owed_short : (m : List (List ℕ)) (depth n end : ℕ) (places : List Place) (due : List Due) → IsMessage m → end ≤ 268435457 → AreBefore end due → AreOwed m depth n places due → AreShort places
+owed_short m depth n end [] due is le b h = tt
+owed_short m depth n end (p ∷ places) [] is le b h = absurd h
+owed_short m depth n end (p ∷ places) (x ∷ due) is le b h =
+    let o = h.1 in ((word_short m p.0 p.1 o.0 o.1 o.2 is o.3, omega (arith, h.0, b.0, le)), owed_short m depth n end places due is le b.1 h.2)
+
+-- as many words as trees
+pub owed_count : (m : List (List ℕ)) (depth n : ℕ) (places : List Place) (due : List Due) → AreOwed m depth n places due → length places ≡ length due
+owed_count m depth n [] [] h = refl
+owed_count m depth n [] (x ∷ due) h = absurd h
+owed_count m depth n (p ∷ places) [] h = absurd h
+owed_count m depth n (p ∷ places) (x ∷ due) h = ap suc (owed_count m depth n places due h.2)
+
+-- the parts of what is before an end
+before_parts : (end : ℕ) (xs ys : List Due) → AreBefore end (xs ++ ys) → AreBefore end xs × AreBefore end ys
+before_parts end [] ys h = (tt, h)
+before_parts end (x ∷ xs) ys h = let r = before_parts end xs ys h.1 in ((h.0, r.0), r.1)
+
+pub before_join : (end : ℕ) (xs ys : List Due) → AreBefore end xs → AreBefore end ys → AreBefore end (xs ++ ys)
+before_join end [] ys h k = k
+before_join end (x ∷ xs) ys h k = (h.0, before_join end xs ys h.1 k)
+
+pub before_more : (end now : ℕ) (xs : List Due) → end ≤ now → AreBefore end xs → AreBefore now xs
+before_more end now [] le h = tt
+before_more end now (x ∷ xs) le h = (omega (arith, h.0, le), before_more end now xs le h.1)
+
+-- the frames with one more, where there is one
+pub reverse-more : (frames : List Frame) (r : Option Frame) → reverse (frames ++ option_to_list r) ≡ option_to_list r ++ reverse frames
+reverse-more frames None = ap reverse (append-nil frames)
+reverse-more frames (Some r) = reverse-append frames (r ∷ [])
+
+pub stacked_more : (m : List (List ℕ)) (depth n : ℕ) (r : Option Frame) (frames : List Frame) (own rest : List Due) → n ≡ length frames + 1 → OptionFull r → AreOwed m depth n (option_places r) own → Stacked m depth frames rest
+    → Stacked m depth (option_to_list r ++ frames) (own ++ rest)
+stacked_more m depth n None frames [] rest e f h s = s
+stacked_more m depth n None frames (x ∷ own) rest e f h s = absurd h
+stacked_more m depth n (Some r) frames own rest e f h s = (own, rest, refl, record { full = f; owed = subst (λ k. AreOwed m depth k (places_of r) own) e h }, s)
+
+-- The topmost frame of a walk: its first word, and the others.
+pub record Topmost (m : List (List ℕ)) (depth end : ℕ) (f : Frame) (frames : List Frame) (due : List Due) : Type 0 where
+  pub own : List Due
+  pub rest : List Due
+  pub all : due ≡ own ++ rest
+  pub owes : FrameOwes m depth (length (reverse frames) + 1) f own
+  pub stacked : Stacked m depth (reverse frames) rest
+  pub before : AreBefore end own
+  pub near : end ≤ 268435457
+
+pub topmost : (m : List (List ℕ)) (depth end : ℕ) (frames : List Frame) (f : Frame) (due : List Due) → IsWalking m depth (frames ++ f ∷ []) end due → Topmost m depth end f frames due
+topmost m depth end frames f due w =
+    let e : reverse (frames ++ f ∷ []) ≡ f ∷ reverse frames = reverse-append frames (f ∷ []) in
+    let s : Stacked m depth (f ∷ reverse frames) due = subst (λ fs. Stacked m depth fs due) e w.stacked in
+    let b : AreBefore end (s.0 ++ s.1) = subst (AreBefore end) s.2 w.before in record {
+      own = s.0;
+      rest = s.1;
+      all = s.2;
+      owes = s.3;
+      stacked = s.4;
+      before = (before_parts end s.0 s.1 b).0;
+      near = omega (arith, w.small);
+    }
+
+-- its words are numbers of 32 bits
+pub top_short : (m : List (List ℕ)) (depth end : ℕ) (frames : List Frame) (f : Frame) (due : List Due) → IsWalking m depth (frames ++ f ∷ []) end due → IsFull f × AreShort (places_of f)
+top_short m depth end frames f due w =
+    let k = topmost m depth end frames f due w in
+    (k.owes.full, owed_short m depth (length (reverse frames) + 1) end (places_of f) k.own w.message k.near k.before k.owes.owed)
+
+-- The first word of the topmost frame is the next to look at.
+first_owed : (m : List (List ℕ)) (depth n end : ℕ) (f : Frame) (r : Option Frame) (frames : List Frame) (own rest : List Due) → n ≡ length frames + 1 → IsRest f r → IsMessage m
+    → AreOwed m depth n ((f.segment, f.at, f.slot) ∷ option_places r) own → Stacked m depth (reverse frames) rest → AreBefore end (own ++ rest) → end + size_due (own ++ rest) ≤ 268435457
+    → (tree : Tree) × (later : List Due) × (own ++ rest ≡ record { slot = f.slot; tree = tree } ∷ later) × IsNext m depth f.segment f.at f.slot (frames ++ option_to_list r) end tree later
+first_owed m depth n end f r frames [] rest e is_rest is h s b small = absurd h
+first_owed m depth n end f r frames (x ∷ own) rest e is_rest is h s b small =
+    let o = h.1 in
+    let same : (x ∷ own) ++ rest ≡ record { slot = f.slot; tree = x.tree } ∷ (own ++ rest) = ap (λ i. record { slot = i; tree = x.tree } ∷ (own ++ rest)) (sym h.0) in (
+      x.tree,
+      own ++ rest,
+      same,
+      record {
+        owed = (o.0, o.1, o.2, o.3, o.4, low r o.2 o.5);
+        inside = omega (arith, h.0, b.0);
+        message = is;
+        stacked = subst (λ fs. Stacked m depth fs (own ++ rest)) (sym (reverse-more frames r)) (stacked_more m depth n r (reverse frames) own rest (omega (arith, e, length-reverse frames)) is_rest.full h.2 s);
+        before = b.1;
+        small = subst (λ ds. end + size_due ds ≤ 268435457) same small;
+      },
+    )
+  where
+    low : (r : Option Frame) (d : ℕ) → d + n ≤ depth → d + length (frames ++ option_to_list r) ≤ depth
+    low None d le = let l = length-append frames (option_to_list {A = Frame} None) in omega (arith, l, le, e)
+    low (Some y) d le = let l = length-append frames (y ∷ []) in omega (arith, l, le, e)
+
+pub next_of : (m : List (List ℕ)) (depth end : ℕ) (frames : List Frame) (f : Frame) (r : Option Frame) (due : List Due) → IsWalking m depth (frames ++ f ∷ []) end due → IsRest f r
+    → (tree : Tree) × (rest : List Due) × (due ≡ record { slot = f.slot; tree = tree } ∷ rest) × IsNext m depth f.segment f.at f.slot (frames ++ option_to_list r) end tree rest
+next_of m depth end frames f r due w is_rest =
+    let k = topmost m depth end frames f due w in
+    let owed : AreOwed m depth (length (reverse frames) + 1) ((f.segment, f.at, f.slot) ∷ option_places r) k.own = subst (λ ps. AreOwed m depth (length (reverse frames) + 1) ps k.own) is_rest.words k.owes.owed in
+    let n = first_owed m depth (length (reverse frames) + 1) end f r frames k.own k.rest (omega (arith, length-reverse frames)) is_rest w.message owed k.stacked (subst (AreBefore end) k.all w.before)
+    (subst (λ ds. end + size_due ds ≤ 268435457) k.all w.small) in
+    (n.0, n.1, k.all ∙ n.2, n.3)
+
+-- one word fewer is left
+pub next_work : (frames : List Frame) (f : Frame) (r : Option Frame) → IsRest f r → work_left (frames ++ option_to_list r) + 1 ≡ work_left (frames ++ f ∷ [])
+next_work frames f r is_rest =
+    let a = count_more frames r in
+    let b : length (all_places (frames ++ f ∷ [])) ≡ length (all_places frames) + length (places_of f) = count_more frames (Some f) in
+    let e : length (places_of f) ≡ suc (length (option_places r)) = ap length is_rest.words in
+    omega (arith, a, b, e)
+
+-- the stack has room for it
+pub next_fits : (room : ℕ) (m : List (List ℕ)) (depth s w slot end : ℕ) (frames : List Frame) (tree : Tree) (due : List Due) → depth ≤ room → IsNext m depth s w slot frames end tree due → length frames ≤ room
+next_fits room m depth s w slot end frames tree due le n = omega (arith, n.owed.5, le)

@@ -1,0 +1,58 @@
+-- What trimming leaves, told of the tree before it.
+use Rattle.std.proofs.Common.{ℕ, suc, ◌≡◌, max, ap, ap₂, refl}
+use Rattle.std.specs.Prelude.{if◌then◌else◌, ◌==◌}
+use Rattle.cap_spec.specs.Tree.{Tree, null, cap, struct, scalars, pointers, structs, Trees, none, more, tree_count}
+use Rattle.cap_spec.specs.Canonical.{data_needed, is_null, children_needed, data_of, children_of, cut_elements, trim, trim_all, trim_elements}
+
+-- a tree is null where it is null trimmed
+pub is_null-trim : (t : Tree) → is_null (trim t) ≡ is_null t
+is_null-trim null = refl
+is_null-trim (cap i) = refl
+is_null-trim (struct ws ts) = refl
+is_null-trim (scalars c vs) = refl
+is_null-trim (pointers ts) = refl
+is_null-trim (structs d p es) = refl
+
+-- as many children are needed when each is trimmed
+pub children_needed-trim : (ts : Trees) → children_needed (trim_all ts) ≡ children_needed ts
+children_needed-trim none = refl
+children_needed-trim (more t ts) =
+    ap₂ (λ n b. if n == 0 then (if b then 0 else 1) else suc n) (children_needed-trim ts) (is_null-trim t)
+
+-- as much of each element is needed when its children are trimmed
+pub data_of-trim : (es : Trees) → data_of (trim_elements es) ≡ data_of es
+data_of-trim none = refl
+data_of-trim (more (struct ws ts) es) = ap (max (data_needed ws)) (data_of-trim es)
+data_of-trim (more null es) = data_of-trim es
+data_of-trim (more (cap i) es) = data_of-trim es
+data_of-trim (more (scalars c vs) es) = data_of-trim es
+data_of-trim (more (pointers ts) es) = data_of-trim es
+data_of-trim (more (structs d p xs) es) = data_of-trim es
+
+pub children_of-trim : (es : Trees) → children_of (trim_elements es) ≡ children_of es
+children_of-trim none = refl
+children_of-trim (more (struct ws ts) es) = ap₂ max (children_needed-trim ts) (children_of-trim es)
+children_of-trim (more null es) = children_of-trim es
+children_of-trim (more (cap i) es) = children_of-trim es
+children_of-trim (more (scalars c vs) es) = children_of-trim es
+children_of-trim (more (pointers ts) es) = children_of-trim es
+children_of-trim (more (structs d p xs) es) = children_of-trim es
+
+-- as many elements as before
+pub tree_count-cut : (d p : ℕ) (es : Trees) → tree_count (cut_elements d p es) ≡ tree_count es
+tree_count-cut d p none = refl
+tree_count-cut d p (more (struct ws ts) es) = ap suc (tree_count-cut d p es)
+tree_count-cut d p (more null es) = ap suc (tree_count-cut d p es)
+tree_count-cut d p (more (cap i) es) = ap suc (tree_count-cut d p es)
+tree_count-cut d p (more (scalars c vs) es) = ap suc (tree_count-cut d p es)
+tree_count-cut d p (more (pointers ts) es) = ap suc (tree_count-cut d p es)
+tree_count-cut d p (more (structs x y xs) es) = ap suc (tree_count-cut d p es)
+
+pub tree_count-trim_elements : (es : Trees) → tree_count (trim_elements es) ≡ tree_count es
+tree_count-trim_elements none = refl
+tree_count-trim_elements (more (struct ws ts) es) = ap suc (tree_count-trim_elements es)
+tree_count-trim_elements (more null es) = ap suc (tree_count-trim_elements es)
+tree_count-trim_elements (more (cap i) es) = ap suc (tree_count-trim_elements es)
+tree_count-trim_elements (more (scalars c vs) es) = ap suc (tree_count-trim_elements es)
+tree_count-trim_elements (more (pointers ts) es) = ap suc (tree_count-trim_elements es)
+tree_count-trim_elements (more (structs x y xs) es) = ap suc (tree_count-trim_elements es)

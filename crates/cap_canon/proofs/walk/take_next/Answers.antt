@@ -1,0 +1,26 @@
+use Rattle.std.proofs.Common.{rules, subst}
+use Rattle.cap_canon.specs.Owing.{IsWalking}
+use Rattle.cap_canon.proofs.Owing.{next_fits, next_of, next_work, top_short}
+use Rattle.cap_canon.proofs.walk.take_next.Goals as goal
+
+pub rest-requires : goal.rest-requires
+rest-requires g c =
+    let r = c.requires.walking in
+    let w = subst (λ u. IsWalking r.0 r.1 u r.2 r.3) c.in-Some.ensures.items r.4 in
+    let k = top_short r.0 r.1 r.2 _ _ r.3 w in
+    record { full = k.0; short = k.1 }
+
+pub returns-clause-next : goal.returns-clause-next
+returns-clause-next g c = λ m depth end due h.
+    let w = subst (λ u. IsWalking m depth u end due) c.in-Some.ensures.items h in
+    rw c.push_some.ensures (next_of m depth end _ _ _ due w c.rest.ensures)
+
+pub returns-clause-work : goal.returns-clause-work
+returns-clause-work g c = rw (c.push_some.ensures, c.in-Some.ensures.items) (next_work _ _ _ c.rest.ensures)
+
+pub push_some-requires : goal.push_some-requires
+push_some-requires g c =
+    let r = c.requires.walking in
+    let w = subst (λ u. IsWalking r.0 r.1 u r.2 r.3) c.in-Some.ensures.items r.4 in
+    let n = next_of r.0 r.1 r.2 _ _ _ r.3 w c.rest.ensures in
+    (search rules, (r.6, next_fits _ _ _ _ _ _ _ _ _ _ r.5 n.3))

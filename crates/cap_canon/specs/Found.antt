@@ -1,0 +1,45 @@
+-- The struct or the list of structs that a pointer word finds, with the tree that the word denotes (profile).
+use Rattle.std.specs.Prelude.{ℕ, ◌+◌, ◌*◌, ◌<◌, ◌≤◌, ◌≡◌, List, length}
+use Rattle.cap_spec.specs.Messages.{HasWord, segment_of}
+use Rattle.cap_spec.specs.Pointers.{kind, middle, code, data_size, pointer_size, list_size}
+use Rattle.cap_spec.specs.Denoting.{AreElements, DenoteEach, Finds, places, words_from}
+use Rattle.cap_spec.specs.Tree.{Tree, struct, structs, Trees}
+
+-- The word at s:w finds a struct of ds data words and ps pointers at t:b, and denotes the tree x, of d levels.
+pub record IsStructAt (m : List (List ℕ)) (s w t b ds ps : ℕ) (x : Tree) (d : ℕ) : Type 0 where
+  pub k : ℕ
+  pub q : ℕ
+  pub finds : Finds m s w k t b q
+  pub kind : kind q ≡ 0
+  pub sizes : (ds ≡ data_size q) × (ps ≡ pointer_size q)
+  pub exists : t < length m
+  pub inside : b + ds + ps ≤ length (segment_of m t)
+  pub words : List ℕ
+  pub children : Trees
+  pub inner : ℕ
+  pub deep : ℕ
+  pub tree : x ≡ struct words children
+  pub data_words : words ≡ words_from m t b ds
+  pub below : DenoteEach m (places t (b + ds) ps) children inner deep
+  pub levels : deep + 1 ≤ d
+
+-- The word at s:w finds a list of n structs of ds data words and ps pointers each, whose tag stands at t:b.
+pub record IsStructsAt (m : List (List ℕ)) (s w t b n ds ps : ℕ) (x : Tree) (d : ℕ) : Type 0 where
+  pub k : ℕ
+  pub q : ℕ
+  pub tag : ℕ
+  pub finds : Finds m s w k t b q
+  pub kind : kind q ≡ 1
+  pub code : code q ≡ 7
+  pub has_tag : HasWord m t b tag
+  pub count : n ≡ middle tag
+  pub sizes : (ds ≡ data_size tag) × (ps ≡ pointer_size tag)
+  pub room : n * (ds + ps) ≤ list_size q
+  pub exists : t < length m
+  pub inside : b + 1 + n * (ds + ps) ≤ length (segment_of m t)
+  pub elements : Trees
+  pub inner : ℕ
+  pub deep : ℕ
+  pub tree : x ≡ structs ds ps elements
+  pub below : AreElements m t (b + 1) ds ps n elements inner deep
+  pub levels : deep + 1 ≤ d
