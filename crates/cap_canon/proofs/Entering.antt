@@ -2,10 +2,11 @@
 use Rattle.std.proofs.Common.{ℕ, zero, suc, ◌+◌, ◌-◌, ◌*◌, ◌<◌, ◌≤◌, ◌^◌, ◌⊎◌, inl, inr, List, [], ◌∷◌, ◌++◌, ◌≡◌, ap, ap₂, refl, sym, subst, ◌∙◌, arith, length, reverse, Option, None, Some}
 use Rattle.std.specs.Option.{option_to_list}
 use Rattle.std.proofs.lemmas.List.{append-nil, length-append, length-reverse}
+use Rattle.std.proofs.lemmas.List.FromFn.{length-map-range_with_len}
 use Rattle.cap_spec.specs.Messages.{IsMessage, segment_of}
-use Rattle.cap_spec.specs.Pointers.{list_words}
+use Rattle.cap_spec.specs.Pointers.{element_bits, list_words}
 use Rattle.cap_spec.specs.Tree.{Tree, null, cap, struct, scalars, pointers, structs, Trees, none, more, tree_count}
-use Rattle.cap_spec.proofs.Measures.{length-values}
+use Rattle.cap_spec.specs.Denoting.{value_at}
 use Rattle.cap_spec.proofs.Shapes.{range_length}
 use Rattle.cap_canon.specs.Frames.{IsFull, OptionFull, Place, further_places, option_places, places_of, row_places}
 use Rattle.cap_canon.specs.Laying.{Due, AreBefore, below, element_slots, own_size, size_due, slots}
@@ -126,7 +127,7 @@ pub cap_own : (i : ℕ) (u : Tree) → u ≡ cap i → 0 ≡ own_size u
 cap_own i u e = sym (ap own_size e)
 
 pub scalars_own : (m : List (List ℕ)) (s w t b c count words : ℕ) (u : Tree) → IsScalarsObject m s w u t b c count words → words ≡ own_size u
-scalars_own m s w t b c count words u k = k.extent ∙ (ap (list_words c) (sym (length-values m t b c count)) ∙ sym (ap own_size k.tree))
+scalars_own m s w t b c count words u k = k.extent ∙ (ap (list_words c) (sym (length-map-range_with_len (value_at (segment_of m t) b (element_bits c)) 0 count)) ∙ sym (ap own_size k.tree))
 
 pub struct_own : (m : List (List ℕ)) (deeper s w t b ds ps d p : ℕ) (u : Tree) → IsStructObject m deeper s w u t b ds ps d p → d + p ≡ own_size u
 struct_own m deeper s w t b ds ps d p u k =
@@ -192,7 +193,7 @@ row_deep m depth n t b a (suc left) others (x ∷ due) some h = omega (arith, h.
 
 pub room_below : (room : ℕ) (m : List (List ℕ)) (depth d : ℕ) (due : List Due) (frames : List Frame) (r : Option Frame) → depth ≤ room → d + length frames ≤ depth → OptionFull r → AreOwed m depth (length frames + 1) (option_places r) due
     → length (frames ++ option_to_list r) ≤ room
-room_below room m depth d due frames None le low full h = let l = length-append frames (option_to_list {A = Frame} None) in omega (arith, l, le, low)
+room_below room m depth d due frames None le low full h = let l = length-append frames (option_to_list {X = Frame} None) in omega (arith, l, le, low)
 room_below room m depth d due frames (Some f) le low full h =
     let l = length-append frames (f ∷ []) in
     let n = row_deep m depth (length frames + 1) f.segment f.at f.slot f.left _ due full.some h in
@@ -233,3 +234,8 @@ pub work_more : (m : List (List ℕ)) (d s w end : ℕ) (u : Tree) (o : Object) 
     → work_left (frames ++ option_to_list r) ≤ work_left frames + own_size u
 work_more m d s w end u o frames r k owed =
     omega (arith, count_more frames r, owed_count m d 1 (option_places r) (below end u) owed, below_count m d s w end u o k)
+
+-- the first pointer of the elements is a number of 32 bits
+pub structs_start : (m : List (List ℕ)) (deeper s w t b count ds ps d p : ℕ) (u : Tree) → IsMessage m → IsStructsObject m deeper s w u t b count ds ps d p → 0 < count → b + 1 + ds < 2 ^ 32
+structs_start m deeper s w t b zero ds ps d p u is k some = absurd (omega (arith, some))
+structs_start m deeper s w t b (suc count) ds ps d p u is k some = omega (arith, k.inside, short_segment m t is k.finds.sits.exists)

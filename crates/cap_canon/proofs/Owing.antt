@@ -115,7 +115,7 @@ first_owed m depth n end f r frames (x ∷ own) rest e is_rest is h s b small =
     )
   where
     low : (r : Option Frame) (d : ℕ) → d + n ≤ depth → d + length (frames ++ option_to_list r) ≤ depth
-    low None d le = let l = length-append frames (option_to_list {A = Frame} None) in omega (arith, l, le, e)
+    low None d le = let l = length-append frames (option_to_list {X = Frame} None) in omega (arith, l, le, e)
     low (Some y) d le = let l = length-append frames (y ∷ []) in omega (arith, l, le, e)
 
 pub next_of : (m : List (List ℕ)) (depth end : ℕ) (frames : List Frame) (f : Frame) (r : Option Frame) (due : List Due) → IsWalking m depth (frames ++ f ∷ []) end due → IsRest f r

@@ -76,7 +76,12 @@ fn frame_of(object: &Object, end: u32) -> Option<Frame>
             data_left,
             pointers_left,
             ..
-        } => row_frame(*segment, *start + *data_words, end + *data_left, *pointers_left),
+        } => row_frame(
+            *segment,
+            *start + *data_words,
+            end + *data_left,
+            *pointers_left,
+        ),
         Object::Pointers {
             segment,
             start,

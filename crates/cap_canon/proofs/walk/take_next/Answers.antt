@@ -16,7 +16,7 @@ returns-clause-next g c = λ m depth end due h.
     rw c.push_some.ensures (next_of m depth end _ _ _ due w c.rest.ensures)
 
 pub returns-clause-work : goal.returns-clause-work
-returns-clause-work g c = rw (c.push_some.ensures, c.in-Some.ensures.items) (next_work _ _ _ c.rest.ensures)
+returns-clause-work g c = rw (c.push_some.ensures, c.in-Some.ensures.items) (next_work c.pop.new.self.items c.in-Some.frame c.rest.result c.rest.ensures)
 
 pub push_some-requires : goal.push_some-requires
 push_some-requires g c =
