@@ -32,15 +32,31 @@ pub fn canonical_len<M: Segments>(v: &Vetted<'_, M>) -> Result<u64, CanonFault>
     if let Some((segment, word)) = report.first_cap {
         return Err(CanonFault::HasCapability { segment, word });
     }
-    Ok(u64::from(length_within(v.message(), report.depth)))
+    Ok(u64::from(length_of(v.message(), report.depth)))
 }
 
-// How many words the layout of a message of this depth, trimmed, has.
-fn length_within<M: Segments>(message: &M, depth: u32) -> u32
+// How many words the layout of a message of this depth, trimmed, has. The frames are made ready anew
+// for each message, so a walk that can't be deep has few of them.
+fn length_of<M: Segments>(message: &M, depth: u32) -> u32
     requires { (t : Tree) × (c : ℕ) × Denotes (M.segments message.now) 0 0 t c depth × (c ≤ 268435456) × (depth ≤ 256) }
     ensures value { (t : Tree) (c d : ℕ) → Denotes (M.segments message.now) 0 0 t c d → result ≡ length (layout (trim t)) }
 {
-    let mut stack: Stack<256> = Stack::new();
+    if depth <= 8 {
+        return length_within::<M, 8>(message, depth);
+    }
+    if depth <= 64 {
+        return length_within::<M, 64>(message, depth);
+    }
+    length_within::<M, 256>(message, depth)
+}
+
+// The same with room for `N` frames.
+fn length_within<M: Segments, const N: usize>(message: &M, depth: u32) -> u32
+    requires denotes { (t : Tree) × (c : ℕ) × Denotes (M.segments message.now) 0 0 t c depth × (c ≤ 268435456) }
+    requires room { (depth ≤ N) × (N ≤ 256) }
+    ensures value { (t : Tree) (c d : ℕ) → Denotes (M.segments message.now) 0 0 t c d → result ≡ length (layout (trim t)) }
+{
+    let mut stack: Stack<N> = Stack::new();
     let root = object_at(message, 0, 0);
     let mut end = enter(&mut stack, &root, 1);
     while !stack.is_empty() {
@@ -50,3 +66,6 @@ fn length_within<M: Segments>(message: &M, depth: u32) -> u32
     }
     end
 }
+
+#[cfg(test)]
+mod tests;

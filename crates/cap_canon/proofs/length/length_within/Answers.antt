@@ -12,19 +12,19 @@ pub enter-end-requires : goal.enter-end-requires
 enter-end-requires g c =
     let m = g.M.Segments.segments c.args.message.now in
     let is : IsMessage m = search rules in
-    let next = root_next m c.args.depth c.requires.1 c.requires.0 is c.requires.2 c.requires.3 in
-    let o = object_next m c.args.depth 0 0 0 1 [] (trim c.requires.0) [] c.object_at-root.result next c.object_at-root.ensures in
-    (search rules, rw c.new-stack.ensures (m, c.args.depth, 0, 0, 0, o.0, trim c.requires.0, [], next, o.1, o.2, c.requires.4, omega arith))
+    let next = root_next m c.args.depth c.requires.denotes.1 c.requires.denotes.0 is c.requires.denotes.2 c.requires.denotes.3 in
+    let o = object_next m c.args.depth 0 0 0 1 [] (trim c.requires.denotes.0) [] c.object_at-root.result next c.object_at-root.ensures in
+    (search rules, rw c.new-stack.ensures (m, c.args.depth, 0, 0, 0, o.0, trim c.requires.denotes.0, [], next, o.1, o.2, c.requires.room.0, c.requires.room.1))
 
 pub loop-stack-init : goal.loop-stack-init
 loop-stack-init g c =
     let m = g.M.Segments.segments c.args.message.now in
     let is : IsMessage m = search rules in
-    let next = root_next m c.args.depth c.requires.1 c.requires.0 is c.requires.2 c.requires.3 in
-    let o = object_next m c.args.depth 0 0 0 1 [] (trim c.requires.0) [] c.object_at-root.result next c.object_at-root.ensures in
+    let next = root_next m c.args.depth c.requires.denotes.1 c.requires.denotes.0 is c.requires.denotes.2 c.requires.denotes.3 in
+    let o = object_next m c.args.depth 0 0 0 1 [] (trim c.requires.denotes.0) [] c.object_at-root.result next c.object_at-root.ensures in
     let w = rw c.new-stack.ensures at c.enter-end.ensures.walking in
-    let r = w m c.args.depth 0 0 0 o.0 (trim c.requires.0) [] next o.1 o.2 in
-    length_on m c.args.depth 1 c.enter-end.result c.requires.0 (trim c.requires.0) c.requires.1 [] c.enter-end.new.stack.items c.requires.2 r.0 r.1 (omega arith)
+    let r = w m c.args.depth 0 0 0 o.0 (trim c.requires.denotes.0) [] next o.1 o.2 in
+    length_on m c.args.depth 1 c.enter-end.result c.requires.denotes.0 (trim c.requires.denotes.0) c.requires.denotes.1 [] c.enter-end.new.stack.items c.requires.denotes.2 r.0 r.1 (omega arith)
 
 pub enter-end-requires-in-loop-stack : goal.enter-end-requires-in-loop-stack
 enter-end-requires-in-loop-stack g c =
@@ -32,7 +32,7 @@ enter-end-requires-in-loop-stack g c =
     let k = c.loop-stack.invariant in
     let n = c.take_next-s.ensures.next m c.args.depth c.loop-stack.end k.due k.walking in
     let o = object_next m c.args.depth c.take_next-s.result.0 c.take_next-s.result.1 c.take_next-s.result.2 c.loop-stack.end c.take_next-s.new.stack.items n.0 n.1 c.object_at-object.result n.3 c.object_at-object.ensures in
-    (search rules, (m, c.args.depth, c.take_next-s.result.0, c.take_next-s.result.1, c.take_next-s.result.2, o.0, n.0, n.1, n.3, o.1, o.2, c.requires.4, omega arith))
+    (search rules, (m, c.args.depth, c.take_next-s.result.0, c.take_next-s.result.1, c.take_next-s.result.2, o.0, n.0, n.1, n.3, o.1, o.2, c.requires.room.0, c.requires.room.1))
 
 pub loop-stack-smaller : goal.loop-stack-smaller
 loop-stack-smaller g c =
