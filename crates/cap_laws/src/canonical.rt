@@ -1,9 +1,11 @@
 //! Trimmed trees and their layouts: the canonical form.
 
 ghost use Rattle.std.specs.Prelude.{ℕ, List, [], ◌∷◌, length, ◌≡◌, ◌≤◌, ◌<◌, ◌+◌, ◌^◌, ◌↔◌};
+ghost use Rattle.std.specs.List.{AllByRecursion};
+ghost use Rattle.cap_spec.specs.Words.{IsWord};
 ghost use Rattle.cap_spec.specs.Tree.{Tree, IsTree, has_cap};
 ghost use Rattle.cap_spec.specs.Denoting.{Denotes};
-ghost use Rattle.cap_spec.specs.Canonical.{layout, trim};
+ghost use Rattle.cap_spec.specs.Canonical.{layout, offsets, trim};
 
 /// A trimmed tree has nothing left to trim, so that a canonical copy is its own canonical copy.
 pub fn trimmed_once_is_enough()
@@ -38,4 +40,19 @@ pub fn one_layout()
     ensures { (m n : List (List ℕ)) (s w s' w' : ℕ) (t u : Tree) (c d c' d' : ℕ) →
         Denotes m s w t c d → Denotes n s' w' u c' d' → c < 2 ^ 29 → c' < 2 ^ 29 →
         (layout (trim t) ≡ layout (trim u)) ↔ (trim t ≡ trim u) }
+{}
+
+/// The layout of what a word of a message of words denotes, trimmed, has words alone: no field of
+/// it runs into another.
+pub fn layout_is_words()
+    ensures { (m : List (List ℕ)) (s w : ℕ) (t : Tree) (c d : ℕ) →
+        AllByRecursion (AllByRecursion IsWord) m → Denotes m s w t c d → c < 2 ^ 29 →
+        AllByRecursion IsWord (layout (trim t)) }
+{}
+
+/// Each pointer of that layout leads so few words ahead that its offset fits 30 bits, one of which
+/// is the sign.
+pub fn offsets_fit()
+    ensures { (m : List (List ℕ)) (s w : ℕ) (t : Tree) (c d : ℕ) →
+        Denotes m s w t c d → c < 2 ^ 29 → AllByRecursion (λ offset. offset < 2 ^ 29) (offsets (trim t)) }
 {}

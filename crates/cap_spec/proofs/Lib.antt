@@ -50,3 +50,6 @@ pub mod Sizes
 pub mod Laying
 pub mod Layouts
 pub mod TrimmedTrees
+pub mod Offsets
+pub mod LayoutWords
+pub mod WordsRead

@@ -110,3 +110,18 @@ word_read words b c n k h =
         let e : element_bits (suc (suc (suc (suc (suc c))))) ≡ 64 = whole_words (suc (suc (suc (suc (suc c))))) (omega arith) in
         subst (λ (x : ℕ). packed_word x (take (64 / x) (drop (k * (64 / x)) (map (value_at words b x) (range_with_len 0 n)))) ≡ field (get_or words (b + k) 0) 0 (min 64 (x * n - k * 64))) (sym e)
         (width_read words b 64 1 n k (λ j l. at 64 1 j (omega (arith, l)) (omega (arith, l))) ∙ same 64 1 (omega arith))
+
+-- the same by how many values the word has
+pub values_read : (words : List ℕ) (b c n k : ℕ) → c < 6 → k < list_words c n
+    → get_or (scalar_words c (map (value_at words b (element_bits c)) (range_with_len 0 n))) k 0
+    ≡ field (get_or words (b + k) 0) 0 (min (64 / element_bits c) (n - k * (64 / element_bits c)) * element_bits c)
+values_read words b c n k lt h = word_read words b c n k h ∙ ap (field (get_or words (b + k) 0) 0) (many c lt h)
+  where
+    many : (c : ℕ) → c < 6 → k < list_words c n → min 64 (element_bits c * n - k * 64) ≡ min (64 / element_bits c) (n - k * (64 / element_bits c)) * element_bits c
+    many zero lt h = absurd (omega (arith, h))
+    many (suc zero) lt h = omega arith
+    many (suc (suc zero)) lt h = omega arith
+    many (suc (suc (suc zero))) lt h = omega arith
+    many (suc (suc (suc (suc zero)))) lt h = omega arith
+    many (suc (suc (suc (suc (suc zero))))) lt h = omega arith
+    many (suc (suc (suc (suc (suc (suc c)))))) lt h = absurd (omega (arith, lt))

@@ -135,3 +135,34 @@ abbrev mutual
 
 abbrev pub layout : Tree → List ℕ
 layout t = pointer_to 0 t ∷ content t
+
+-- the offsets of pointers in a row, as pointer_words has them
+abbrev pub pointer_offsets : ℕ → Trees → List ℕ
+pointer_offsets after none = []
+pointer_offsets after (more t ts) = (tree_count ts + after) ∷ pointer_offsets (after + size t) ts
+
+-- and of those of elements in a row, as element_words has them
+abbrev pub element_offsets : ℕ → ℕ → Trees → List ℕ
+element_offsets each after none = []
+element_offsets each after (more (struct words ts) es) =
+    pointer_offsets (tree_count es * each + after) ts ++ element_offsets each (after + sizes ts) es
+element_offsets each after (more t es) = element_offsets each after es
+
+abbrev mutual
+  -- how far each pointer of a layout leads, but the root word (which leads to the word behind it)
+  pub offsets : Tree → List ℕ
+  offsets null = []
+  offsets (cap i) = []
+  offsets (struct words ts) = pointer_offsets 0 ts ++ offsets_below ts
+  offsets (scalars c vs) = []
+  offsets (pointers ts) = pointer_offsets 0 ts ++ offsets_below ts
+  offsets (structs d p es) = element_offsets (d + p) 0 es ++ element_offsets_below es
+
+  pub offsets_below : Trees → List ℕ
+  offsets_below none = []
+  offsets_below (more t ts) = offsets t ++ offsets_below ts
+
+  pub element_offsets_below : Trees → List ℕ
+  element_offsets_below none = []
+  element_offsets_below (more (struct words ts) es) = offsets_below ts ++ element_offsets_below es
+  element_offsets_below (more t es) = element_offsets_below es
