@@ -1,7 +1,9 @@
 pub mod Copies
+pub mod Filling
 pub mod Found
 pub mod Frames
 pub mod Laying
 pub mod Objects
 pub mod Owing
 pub mod Trimming
+pub mod Values

@@ -1,12 +1,17 @@
 //! The canonical copy of an accepted message, and its length.
 #![tactic(auto)]
 
+mod appending;
+pub mod copying;
 pub mod fault;
 mod frame;
 pub mod length;
 mod objects;
+mod target;
 mod trimming;
 mod walk;
+mod words;
 
+pub use copying::canonical;
 pub use fault::CanonFault;
 pub use length::canonical_len;

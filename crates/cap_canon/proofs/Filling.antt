@@ -1,0 +1,167 @@
+-- An object's own words, appended to a copy.
+use Rattle.std.proofs.Common.{ℕ, zero, suc, ◌+◌, ◌-◌, ◌*◌, ◌<◌, ◌≤◌, List, [], ◌∷◌, ◌++◌, ◌≡◌, ◌⊎◌, inl, inr, ap, refl, sym, subst, ◌∙◌, arith, length, get_or, append_assoc, append-nil, length-append}
+use Rattle.std.specs.Prelude.{Some, slice_get}
+use Rattle.std.proofs.lemmas.List.{get_or_append_left, get_or-append_right}
+use Rattle.std.proofs.lemmas.Option.{slice_get_within}
+use Rattle.cap_spec.specs.Messages.{segment_of}
+use Rattle.cap_spec.specs.Tree.{Tree, null, cap, struct, scalars, pointers, structs, Trees, none, more, tree_count}
+use Rattle.cap_spec.specs.Denoting.{words_from, value_at, values_of}
+use Rattle.cap_spec.specs.Pointers.{element_bits, list_words}
+use Rattle.std.proofs.lemmas.List.FromFn.{length-map-range_with_len}
+use Rattle.cap_spec.specs.Scalars.{scalar_words}
+use Rattle.cap_spec.specs.Canonical.{struct_word}
+use Rattle.cap_spec.specs.Placing.{StandAt}
+use Rattle.cap_spec.proofs.Placing.{stand_word}
+use Rattle.cap_spec.proofs.ReadingBack.{length-scalar_words}
+use Rattle.cap_spec.proofs.Shapes.{range_length}
+use Rattle.cap_canon.specs.Laying.{Due, slots, element_slots, own_size, below, DataAt, OwnAt}
+use Rattle.cap_canon.specs.Filling.{IsDue, Fills, OwnAppended, elements_from}
+use Rattle.cap_canon.specs.Objects.{AreElementsLeft, IsStructObject, IsScalarsObject, IsPointersObject, IsStructsObject}
+use Rattle.cap_canon.proofs.Ranges.{length-elements_from}
+
+-- what is due in a part is due
+pub due_left : (i : ℕ) (xs ys : List Due) → IsDue i xs → IsDue i (xs ++ ys)
+due_left i [] ys d = absurd d
+due_left i (x ∷ xs) ys (inl e) = inl e
+due_left i (x ∷ xs) ys (inr d) = inr (due_left i xs ys d)
+
+pub due_right : (i : ℕ) (xs ys : List Due) → IsDue i ys → IsDue i (xs ++ ys)
+due_right i [] ys d = d
+due_right i (x ∷ xs) ys d = inr (due_right i xs ys d)
+
+-- two parts, one behind the other
+pub fills_join : (whole : List ℕ) (b c : ℕ) (xs ys : List ℕ) (due next : List Due) → c ≡ b + length xs → Fills whole b due xs → Fills whole c next ys → Fills whole b (due ++ next) (xs ++ ys)
+fills_join whole b c xs ys due next e f g k lt = go (sides k (length xs))
+  where
+    sides : (i n : ℕ) → (i < n) ⊎ (n ≤ i)
+    sides i n = search arith
+
+    first : k < length xs → (IsDue (b + k) due ⊎ (get_or xs k 0 ≡ get_or whole (b + k) 0)) → IsDue (b + k) (due ++ next) ⊎ (get_or (xs ++ ys) k 0 ≡ get_or whole (b + k) 0)
+    first l (inl d) = inl (due_left (b + k) due next d)
+    first l (inr s) = inr (get_or_append_left xs ys 0 k l ∙ s)
+
+    place : length xs ≤ k → c + (k - length xs) ≡ b + k
+    place l = omega (arith, l, e)
+
+    second : length xs ≤ k → (IsDue (c + (k - length xs)) next ⊎ (get_or ys (k - length xs) 0 ≡ get_or whole (c + (k - length xs)) 0))
+        → IsDue (b + k) (due ++ next) ⊎ (get_or (xs ++ ys) k 0 ≡ get_or whole (b + k) 0)
+    second l (inl d) = inl (due_right (b + k) due next (subst (λ n. IsDue n next) (place l) d))
+    second l (inr s) = inr (get_or-append_right xs ys (length xs) k 0 refl l ∙ (s ∙ ap (λ n. get_or whole n 0) (place l)))
+
+    go : (k < length xs) ⊎ (length xs ≤ k) → IsDue (b + k) (due ++ next) ⊎ (get_or (xs ++ ys) k 0 ≡ get_or whole (b + k) 0)
+    go (inl l) = first l (f k l)
+    go (inr l) = second l (g (k - length xs) (omega (arith, lt, length-append xs ys, l)))
+
+-- words that stand there
+pub fills_stand : (whole : List ℕ) (b : ℕ) (xs : List ℕ) → StandAt whole b xs → Fills whole b [] xs
+fills_stand whole b xs h k lt = inr (sym (stand_word whole b xs h k lt))
+
+-- pointer words in a row, whatever they hold
+slot_due : (b k : ℕ) (ts : Trees) → k < tree_count ts → IsDue (b + k) (slots b ts)
+slot_due b k none lt = absurd (omega (arith, lt))
+slot_due b zero (more t ts) lt = inl (omega arith)
+slot_due b (suc k) (more t ts) lt = let e : b + 1 + k ≡ b + suc k = omega arith in inr (subst (λ n. IsDue n (slots (b + 1) ts)) e (slot_due (b + 1) k ts (omega (arith, lt))))
+
+pub fills_slots : (whole : List ℕ) (b : ℕ) (ts : Trees) (xs : List ℕ) → length xs ≡ tree_count ts → Fills whole b (slots b ts) xs
+fills_slots whole b ts xs e k lt = inl (slot_due b k ts (omega (arith, lt, e)))
+
+-- elements in a row
+elements_fill : (m : List (List ℕ)) (whole : List ℕ) (deep t b c ds ps d p : ℕ) (es : Trees) → d ≤ ds → p ≤ ps → b + tree_count es * (ds + ps) ≤ length (segment_of m t)
+    → AreElementsLeft m deep t b ds ps d p es → DataAt whole c d p es → Fills whole c (element_slots d p c es) (elements_from m t b ds ps d p (tree_count es))
+elements_fill m whole deep t b c ds ps d p none hd hp h a at k lt = absurd (omega (arith, lt))
+elements_fill m whole deep t b c ds ps d p (more (struct ws us) es) hd hp h a at k lt =
+    let e : suc (tree_count es) * (ds + ps) ≡ ds + ps + tree_count es * (ds + ps) = omega arith in
+    let x : length (words_from m t b d) ≡ d = range_length m t b d (omega (arith, hd, h, e)) in
+    let y : length (words_from m t (b + ds) p) ≡ p = range_length m t (b + ds) p (omega (arith, hp, h, e)) in
+    let l = length-append (words_from m t b d) (words_from m t (b + ds) p) in
+    let own : Fills whole c [] (words_from m t b d) = fills_stand whole c (words_from m t b d) (subst (λ xs. StandAt whole c xs) a.0 at.0) in
+    let row : Fills whole (c + d) (slots (c + d) us) (words_from m t (b + ds) p) = fills_slots whole (c + d) us (words_from m t (b + ds) p) (y ∙ sym a.1) in
+    fills_join whole c (c + d + p) (words_from m t b d ++ words_from m t (b + ds) p) (elements_from m t (b + ds + ps) ds ps d p (tree_count es)) (slots (c + d) us) (element_slots d p (c + d + p) es)
+    (omega (arith, x, y, l))
+    (fills_join whole c (c + d) (words_from m t b d) (words_from m t (b + ds) p) [] (slots (c + d) us) (omega (arith, x)) own row)
+    (elements_fill m whole deep t (b + ds + ps) (c + d + p) ds ps d p es hd hp (omega (arith, h, e)) a.3 at.1) k lt
+elements_fill m whole deep t b c ds ps d p (more null es) hd hp h a at k lt = absurd a
+elements_fill m whole deep t b c ds ps d p (more (cap i) es) hd hp h a at k lt = absurd a
+elements_fill m whole deep t b c ds ps d p (more (scalars x vs) es) hd hp h a at k lt = absurd a
+elements_fill m whole deep t b c ds ps d p (more (pointers ts) es) hd hp h a at k lt = absurd a
+elements_fill m whole deep t b c ds ps d p (more (structs x y ts) es) hd hp h a at k lt = absurd a
+
+-- nothing
+pub none_appended : (old : List ℕ) (u : Tree) → own_size u ≡ 0 → OwnAppended old old u
+none_appended old u e = record { words = []; appended = sym (append-nil old); many = sym e; fill = λ whole own k lt. absurd (omega (arith, lt)) }
+
+-- what is left of a struct
+pub struct_appended : (m : List (List ℕ)) (deep s w : ℕ) (u : Tree) (t b ds ps d p : ℕ) (old new : List ℕ) → IsStructObject m deep s w u t b ds ps d p
+    → new ≡ old ++ (words_from m t b d ++ words_from m t (b + ds) p) → OwnAppended old new u
+struct_appended m deep s w u t b ds ps d p old new h e = subst (λ (v : Tree). OwnAppended old new v) (sym h.tree) own
+  where
+    x : length (words_from m t b d) ≡ d
+    x = range_length m t b d (omega (arith, h.fewer, h.inside))
+
+    y : length (words_from m t (b + ds) p) ≡ p
+    y = range_length m t (b + ds) p (omega (arith, h.fewer, h.inside))
+
+    z : length h.words ≡ d
+    z = ap length h.data_words ∙ x
+
+    own : OwnAppended old new (struct h.words h.children)
+    own = record {
+      words = words_from m t b d ++ words_from m t (b + ds) p;
+      appended = e;
+      many = let l = length-append (words_from m t b d) (words_from m t (b + ds) p) in omega (arith, l, x, y, z, h.many);
+      fill = λ whole at.
+          fills_join whole (length old) (length old + length h.words) (words_from m t b d) (words_from m t (b + ds) p) [] (slots (length old + length h.words) h.children) (omega (arith, x, z))
+          (fills_stand whole (length old) (words_from m t b d) (subst (λ xs. StandAt whole (length old) xs) h.data_words at))
+          (fills_slots whole (length old + length h.words) h.children (words_from m t (b + ds) p) (y ∙ sym h.many));
+    }
+
+-- a list of values
+pub scalars_size : (m : List (List ℕ)) (s w : ℕ) (u : Tree) (t b c n words : ℕ) → IsScalarsObject m s w u t b c n words → own_size u ≡ words
+scalars_size m s w u t b c n words h =
+    ap own_size h.tree ∙ (ap (list_words c) (length-map-range_with_len (value_at (segment_of m t) b (element_bits c)) 0 n) ∙ sym h.extent)
+
+pub scalars_appended : (m : List (List ℕ)) (s w : ℕ) (u : Tree) (t b c n words : ℕ) (old new : List ℕ) → IsScalarsObject m s w u t b c n words
+    → new ≡ old ++ scalar_words c (values_of m t b c n) → OwnAppended old new u
+scalars_appended m s w u t b c n words old new h e =
+    subst (λ (v : Tree). OwnAppended old new v) (sym h.tree)
+    (record { words = scalar_words c (values_of m t b c n); appended = e; many = length-scalar_words c (values_of m t b c n); fill = λ whole at. fills_stand whole (length old) (scalar_words c (values_of m t b c n)) at })
+
+-- a list of pointers
+pub pointers_appended : (m : List (List ℕ)) (deep s w : ℕ) (u : Tree) (t b n : ℕ) (old new : List ℕ) → IsPointersObject m deep s w u t b n
+    → new ≡ old ++ words_from m t b n → OwnAppended old new u
+pointers_appended m deep s w u t b n old new h e =
+    let x : length (words_from m t b n) ≡ tree_count h.children = range_length m t b n h.inside ∙ sym h.many in
+    subst (λ (v : Tree). OwnAppended old new v) (sym h.tree)
+    (record { words = words_from m t b n; appended = e; many = x; fill = λ whole at. fills_slots whole (length old) h.children (words_from m t b n) x })
+
+-- what is left of a list of structs
+pub structs_appended : (m : List (List ℕ)) (deep s w : ℕ) (u : Tree) (t b n ds ps d p : ℕ) (old new : List ℕ) → IsStructsObject m deep s w u t b n ds ps d p
+    → new ≡ (old ++ struct_word n d p ∷ []) ++ elements_from m t (b + 1) ds ps d p n → OwnAppended old new u
+structs_appended m deep s w u t b n ds ps d p old new h e = subst (λ (v : Tree). OwnAppended old new v) (sym h.tree) own
+  where
+    count : elements_from m t (b + 1) ds ps d p (tree_count h.elements) ≡ elements_from m t (b + 1) ds ps d p n
+    count = ap (elements_from m t (b + 1) ds ps d p) h.many
+
+    same : tree_count h.elements * (ds + ps) ≡ n * (ds + ps)
+    same = ap (λ k. k * (ds + ps)) h.many
+
+    size : tree_count h.elements * (d + p) ≡ n * (d + p)
+    size = ap (λ k. k * (d + p)) h.many
+
+    l : length (elements_from m t (b + 1) ds ps d p n) ≡ n * (d + p)
+    l = length-elements_from m t (b + 1) ds ps d p n h.fewer.0 h.fewer.1 h.inside
+
+    tag : struct_word (tree_count h.elements) d p ≡ struct_word n d p
+    tag = ap (λ k. struct_word k d p) h.many
+
+    own : OwnAppended old new (structs d p h.elements)
+    own = record {
+      words = struct_word n d p ∷ elements_from m t (b + 1) ds ps d p n;
+      appended = e ∙ append_assoc old (struct_word n d p ∷ []) (elements_from m t (b + 1) ds ps d p n);
+      many = omega (arith, l, size);
+      fill = λ whole at.
+          fills_join whole (length old) (length old + 1) (struct_word n d p ∷ []) (elements_from m t (b + 1) ds ps d p n) [] (element_slots d p (length old + 1) h.elements) (omega arith)
+          (fills_stand whole (length old) (struct_word n d p ∷ []) (subst (λ x. slice_get whole (length old) ≡ Some x) tag at.0, (let i = slice_get_within whole (length old) (struct_word (tree_count h.elements) d p) at.0 in omega (arith, i))))
+          (subst (λ xs. Fills whole (length old + 1) (element_slots d p (length old + 1) h.elements) xs) count
+          (elements_fill m whole deep t (b + 1) (length old + 1) ds ps d p h.elements h.fewer.0 h.fewer.1 (omega (arith, h.inside, same)) h.below at.1));
+    }

@@ -1,0 +1,151 @@
+-- The words of ranges and of lists of values, as a copy appends them.
+use Rattle.std.proofs.Common.{ℕ, zero, suc, ◌+◌, ◌-◌, ◌*◌, ◌/◌, ◌%◌, ◌^◌, ◌<◌, ◌≤◌, min, List, [], ◌∷◌, ◌++◌, ◌≡◌, ◌⊎◌, inl, inr, ap, ap₂, refl, sym, subst, ◌∙◌, arith, length, take, drop, get_or, append_assoc, length-append}
+use Rattle.std.specs.Prelude.{Some, slice_get}
+use Rattle.std.specs.List.{AllByRecursion}
+use Rattle.std.proofs.Math.Seq.{take-add}
+use Rattle.std.proofs.lemmas.List.{drop-drop, same_lists, get_or-take, get_or-drop, get_or_append_left, get_or-append_right, get_or_default}
+use Rattle.std.proofs.lemmas.List.FromFn.{length-map-range_with_len}
+use Rattle.std.proofs.lemmas.Option.{get_or_from_slice_get}
+use Rattle.cap_spec.specs.Words.{IsWord, field}
+use Rattle.cap_spec.specs.Messages.{HasWord, segment_of}
+use Rattle.cap_spec.specs.Pointers.{element_bits, list_words}
+use Rattle.cap_spec.specs.Denoting.{words_from, values_of, value_at}
+use Rattle.cap_spec.specs.Scalars.{scalar_words}
+use Rattle.cap_spec.specs.Placing.{StandAt}
+use Rattle.cap_spec.proofs.Messages.{HasWord-at}
+use Rattle.cap_spec.proofs.Placing.{rest_at}
+use Rattle.cap_spec.proofs.ReadingBack.{length-scalar_words}
+use Rattle.cap_spec.proofs.Shapes.{range_length}
+use Rattle.cap_spec.proofs.WordsRead.{word_read}
+use Rattle.cap_canon.specs.Filling.{elements_from}
+use Rattle.cap_canon.specs.Values.{used_bits}
+
+-- a range is a front of what stands from its beginning on
+range_is : (m : List (List ℕ)) (t b n : ℕ) → words_from m t b n ≡ take n (drop b (segment_of m t))
+range_is m t b n = let e : b + n - b ≡ n = omega arith in ap (λ k. take k (drop b (segment_of m t))) e
+
+-- a range and the one behind it
+pub words_split : (m : List (List ℕ)) (t b x y : ℕ) → words_from m t b (x + y) ≡ words_from m t b x ++ words_from m t (b + x) y
+words_split m t b x y =
+    range_is m t b (x + y) ∙ (take-add x y (drop b (segment_of m t))
+    ∙ ap₂ (λ xs ys. xs ++ ys) (sym (range_is m t b x)) (ap (take y) (drop-drop x b (segment_of m t)) ∙ sym (range_is m t (b + x) y)))
+
+-- elements of which nothing is cut
+pub elements_whole : (m : List (List ℕ)) (t b ds ps n : ℕ) → words_from m t b (n * (ds + ps)) ≡ elements_from m t b ds ps ds ps n
+elements_whole m t b ds ps zero = let e : b + 0 * (ds + ps) - b ≡ 0 = omega arith in ap (λ k. take k (drop b (segment_of m t))) e
+elements_whole m t b ds ps (suc n) =
+    let e : suc n * (ds + ps) ≡ ds + ps + n * (ds + ps) = omega arith in
+    let f : b + (ds + ps) ≡ b + ds + ps = omega arith in
+    let rest = elements_whole m t (b + ds + ps) ds ps n in
+    ap (words_from m t b) e ∙ (words_split m t b (ds + ps) (n * (ds + ps))
+    ∙ ap₂ (λ xs ys. xs ++ ys) (words_split m t b ds ps) (ap (λ k. words_from m t k (n * (ds + ps))) f ∙ rest))
+
+-- one word more of a range
+pub range_more : (m : List (List ℕ)) (t b n x : ℕ) → HasWord m t (b + n) x → words_from m t b (n + 1) ≡ words_from m t b n ++ x ∷ []
+range_more m t b n x h =
+    words_split m t b n 1 ∙ ap (λ xs. words_from m t b n ++ xs) (range_is m t (b + n) 1 ∙ ap (take 1) (rest_at (segment_of m t) (b + n) x h))
+
+-- a range stands in its segment
+pub range_stands : (m : List (List ℕ)) (t b n : ℕ) → b + n ≤ length (segment_of m t) → StandAt (segment_of m t) b (words_from m t b n)
+range_stands m t b zero h = let e : b + 0 - b ≡ 0 = omega arith in rw e (omega (arith, h))
+range_stands m t b (suc n) h =
+    let x = HasWord-at m t b (omega (arith, h)) in
+    let r : StandAt (segment_of m t) (b + 1) (words_from m t (b + 1) n) = range_stands m t (b + 1) n (omega (arith, h)) in
+    let e : words_from m t b (suc n) ≡ x.0 ∷ words_from m t (b + 1) n = range_is m t b (suc n) ∙ (ap (take (suc n)) (rest_at (segment_of m t) b x.0 x.1) ∙ ap (λ xs. x.0 ∷ xs) (sym (range_is m t (b + 1) n))) in
+    subst (λ xs. StandAt (segment_of m t) b xs) (sym e) (x.1, r)
+
+-- elements have the words that are left of each
+pub length-elements_from : (m : List (List ℕ)) (t b ds ps d p n : ℕ) → d ≤ ds → p ≤ ps → b + n * (ds + ps) ≤ length (segment_of m t) → length (elements_from m t b ds ps d p n) ≡ n * (d + p)
+length-elements_from m t b ds ps d p zero hd hp h = omega arith
+length-elements_from m t b ds ps d p (suc n) hd hp h =
+    let e : suc n * (ds + ps) ≡ ds + ps + n * (ds + ps) = omega arith in
+    let f : suc n * (d + p) ≡ d + p + n * (d + p) = omega arith in
+    let r = length-elements_from m t (b + ds + ps) ds ps d p n hd hp (omega (arith, h, e)) in
+    let x : length (words_from m t b d) ≡ d = range_length m t b d (omega (arith, hd, h, e)) in
+    let y : length (words_from m t (b + ds) p) ≡ p = range_length m t (b + ds) p (omega (arith, hp, h, e)) in
+    let a = length-append (words_from m t b d) (words_from m t (b + ds) p) in
+    let c = length-append (words_from m t b d ++ words_from m t (b + ds) p) (elements_from m t (b + ds + ps) ds ps d p n) in
+    omega (arith, r, x, y, a, c, f)
+
+-- a word of a range
+pub range_word : (m : List (List ℕ)) (t b n k : ℕ) → k < n → get_or (words_from m t b n) k 0 ≡ get_or (segment_of m t) (b + k) 0
+range_word m t b n k lt = ap (λ xs. get_or xs k 0) (range_is m t b n) ∙ (get_or-take n (drop b (segment_of m t)) k 0 lt ∙ get_or-drop b (segment_of m t) k 0)
+
+all_at : (xs : List ℕ) (k : ℕ) → AllByRecursion IsWord xs → k < length xs → IsWord (get_or xs k 0)
+all_at [] k a lt = absurd (omega (arith, lt))
+all_at (x ∷ xs) zero a lt = a.0
+all_at (x ∷ xs) (suc k) a lt = all_at xs k a.1 (omega (arith, lt))
+
+-- every word of a list of values but the last is full of them
+pub used_all : (c n k : ℕ) → c < 6 → suc k < list_words c n → used_bits c n k ≡ 64
+used_all zero n k lt h = absurd (omega (arith, h))
+used_all (suc zero) n k lt h = omega (arith, h)
+used_all (suc (suc zero)) n k lt h = omega (arith, h)
+used_all (suc (suc (suc zero))) n k lt h = omega (arith, h)
+used_all (suc (suc (suc (suc zero)))) n k lt h = omega (arith, h)
+used_all (suc (suc (suc (suc (suc zero))))) n k lt h = omega (arith, h)
+used_all (suc (suc (suc (suc (suc (suc c)))))) n k lt h = absurd (omega (arith, lt))
+
+whole_field : (x : ℕ) → IsWord x → field x 0 64 ≡ x
+whole_field x h = omega (arith, h)
+
+-- no words
+pub no_values : (m : List (List ℕ)) (t b c n : ℕ) → list_words c n ≡ 0 → scalar_words c (values_of m t b c n) ≡ []
+no_values m t b c n e = none (scalar_words c (values_of m t b c n)) (length-scalar_words c (values_of m t b c n) ∙ (ap (list_words c) (length-map-range_with_len (value_at (segment_of m t) b (element_bits c)) 0 n) ∙ e))
+  where
+    none : (xs : List ℕ) → length xs ≡ 0 → xs ≡ []
+    none [] e = refl
+    none (x ∷ xs) e = absurd (omega (arith, e))
+
+-- the words of a list of values: those that it is read from, the last one without the bits behind the last value
+pub values_laid : (m : List (List ℕ)) (t b c n before x : ℕ) → c < 6 → list_words c n ≡ before + 1 → b + before < length (segment_of m t)
+    → AllByRecursion IsWord (words_from m t b before) → HasWord m t (b + before) x
+    → scalar_words c (values_of m t b c n) ≡ words_from m t b before ++ field x 0 (used_bits c n before) ∷ []
+values_laid m t b c n before x lt e inside words last = same_lists (scalar_words c vs) (front ++ end) (own ∙ sym both) each
+  where
+    vs : List ℕ
+    vs = values_of m t b c n
+
+    front : List ℕ
+    front = words_from m t b before
+
+    end : List ℕ
+    end = field x 0 (used_bits c n before) ∷ []
+
+    many : length front ≡ before
+    many = range_length m t b before (omega (arith, inside))
+
+    own : length (scalar_words c vs) ≡ before + 1
+    own = length-scalar_words c vs ∙ (ap (list_words c) (length-map-range_with_len (value_at (segment_of m t) b (element_bits c)) 0 n) ∙ e)
+
+    both : length (front ++ end) ≡ before + 1
+    both = let a = length-append front end in omega (arith, a, many)
+
+    read : (k : ℕ) → k < before + 1 → get_or (scalar_words c vs) k 0 ≡ field (get_or (segment_of m t) (b + k) 0) 0 (used_bits c n k)
+    read k h = word_read (segment_of m t) b c n k lt (omega (arith, h, e))
+
+    early : (k : ℕ) → k < before → get_or (scalar_words c vs) k 0 ≡ get_or (front ++ end) k 0
+    early k h =
+        let w : get_or front k 0 ≡ get_or (segment_of m t) (b + k) 0 = range_word m t b before k h in
+        let is : IsWord (get_or (segment_of m t) (b + k) 0) = subst IsWord w (all_at front k words (omega (arith, h, many))) in
+        read k (omega (arith, h)) ∙ (ap (field (get_or (segment_of m t) (b + k) 0) 0) (used_all c n k lt (omega (arith, h, e)))
+        ∙ (whole_field (get_or (segment_of m t) (b + k) 0) is ∙ (sym w ∙ sym (get_or_append_left front end 0 k (omega (arith, h, many))))))
+
+    late : (k : ℕ) → k ≡ before → get_or (scalar_words c vs) k 0 ≡ get_or (front ++ end) k 0
+    late k h =
+        let w : get_or (segment_of m t) (b + before) 0 ≡ x = get_or_from_slice_get (segment_of m t) (b + before) x 0 last in
+        let z : k - before ≡ 0 = omega (arith, h) in
+        ap (λ i. get_or (scalar_words c vs) i 0) h
+        ∙ (read before (omega arith) ∙ (ap (λ y. field y 0 (used_bits c n before)) w
+        ∙ sym (get_or-append_right front end before k 0 many (omega (arith, h)) ∙ ap (λ i. get_or end i 0) z)))
+
+    cases : (k : ℕ) → k < before + 1 → (k < before) ⊎ (k ≡ before)
+    cases k h = search arith
+
+    go : (k : ℕ) → (k < before) ⊎ (k ≡ before) → get_or (scalar_words c vs) k 0 ≡ get_or (front ++ end) k 0
+    go k (inl h) = early k h
+    go k (inr h) = late k h
+
+    each : (k d : ℕ) → k < length (scalar_words c vs) → get_or (scalar_words c vs) k d ≡ get_or (front ++ end) k d
+    each k d h =
+        sym (get_or_default (scalar_words c vs) k 0 d h) ∙ (go k (cases k (omega (arith, h, own))) ∙ get_or_default (front ++ end) k 0 d (omega (arith, h, own, both)))

@@ -1,0 +1,43 @@
+use Rattle.std.proofs.Common.{◌≡◌, ◌∙◌, ◌+◌, ◌++◌, [], ◌∷◌, ap, sym, arith}
+use Rattle.cap_spec.specs.Denoting.{words_from}
+use Rattle.cap_canon.specs.Filling.{elements_from}
+use Rattle.cap_canon.proofs.Filling.{pointers_appended, scalars_appended, scalars_size, struct_appended, structs_appended}
+use Rattle.cap_canon.proofs.appending.append_own.Goals as goal
+
+pub append_values-requires-clause-room : goal.append_values-requires-clause-room
+append_values-requires-clause-room g c =
+    let m = g.M.Segments.segments c.args.message.now in
+    let k = rw c.in-Scalars.is at c.requires.4 in
+    omega (arith, c.requires.5, scalars_size m c.requires.1 c.requires.2 c.requires.3 c.in-Scalars.segment c.in-Scalars.start c.in-Scalars.code c.in-Scalars.count c.in-Scalars.words k.1)
+
+pub returns-in-Struct-clause-own : goal.returns-in-Struct-clause-own
+returns-in-Struct-clause-own g c = λ d s w tree h.
+    (let m = g.M.Segments.segments c.args.message.now in
+    let k = rw c.in-Struct.is at h in
+    struct_appended m k.0 s w tree c.in-Struct.segment c.in-Struct.start c.in-Struct.data_words c.in-Struct.pointers c.in-Struct.data_left c.in-Struct.pointers_left
+    (g.T.Target.words c.args.copy.now) (g.T.Target.words c.append_struct.new.copy) k.2 c.append_struct.ensures.words)
+
+pub returns-in-Scalars-clause-own : goal.returns-in-Scalars-clause-own
+returns-in-Scalars-clause-own g c = λ d s w tree h.
+    (let m = g.M.Segments.segments c.args.message.now in
+    let k = rw c.in-Scalars.is at h in
+    scalars_appended m s w tree c.in-Scalars.segment c.in-Scalars.start c.in-Scalars.code c.in-Scalars.count c.in-Scalars.words
+    (g.T.Target.words c.args.copy.now) (g.T.Target.words c.append_values.new.copy) k.1 c.append_values.ensures.words)
+
+pub returns-in-Pointers-clause-own : goal.returns-in-Pointers-clause-own
+returns-in-Pointers-clause-own g c = λ d s w tree h.
+    (let m = g.M.Segments.segments c.args.message.now in
+    let k = rw c.in-Pointers.is at h in
+    pointers_appended m k.0 s w tree c.in-Pointers.segment c.in-Pointers.start c.in-Pointers.count
+    (g.T.Target.words c.args.copy.now) (g.T.Target.words c.append_from.new.self) k.2 c.append_from.ensures.words)
+
+pub returns-in-Structs-clause-own : goal.returns-in-Structs-clause-own
+returns-in-Structs-clause-own g c = λ d s w tree h.
+    (let m = g.M.Segments.segments c.args.message.now in
+    let k = rw c.in-Structs.is at h in
+    let x = c.in-Structs in
+    let tag = c.push.ensures.words ∙ ap (λ word. g.T.Target.words c.args.copy.now ++ word ∷ []) c.tag_word.ensures in
+    structs_appended m k.0 s w tree c.in-Structs.segment c.in-Structs.start c.in-Structs.count c.in-Structs.data_words c.in-Structs.pointers c.in-Structs.data_left c.in-Structs.pointers_left
+    (g.T.Target.words c.args.copy.now) (g.T.Target.words c.append_structs.new.copy) k.2
+    (c.append_structs.ensures.words
+    ∙ ap (λ xs. xs ++ elements_from m c.in-Structs.segment (c.in-Structs.start + 1) c.in-Structs.data_words c.in-Structs.pointers c.in-Structs.data_left c.in-Structs.pointers_left c.in-Structs.count) tag))

@@ -1,0 +1,64 @@
+use Rattle.std.proofs.Common.{◌≡◌, ◌∙◌, ◌≤◌, arith, length, ap, Err}
+use Rattle.cap_spec.specs.Canonical.{layout, trim}
+use Rattle.cap_vet.specs.Vettings.{message_of}
+use Rattle.cap_spec.specs.Copies.{HasCopy}
+use Rattle.cap_canon.specs.declared.fault.CanonFault.TheVariants.{HasCapability}
+use Rattle.cap_spec.proofs.Offsets.{offsets_fit}
+use Rattle.cap_canon.proofs.Copies.{err_parts, cap_no_copy, copy_denotes, copy_length, copy_of, copy_only, copy_own, few_charged}
+use Rattle.cap_canon.proofs.copying.canonical.Goals as goal
+
+pub copy_into-requires-clause-denotes : goal.copy_into-requires-clause-denotes
+copy_into-requires-clause-denotes g c =
+    let m = g.M.Segments.segments (message_of c.args.v.now) in
+    let h = c.in-Ok.ensures.ok in
+    let k = c.report.ensures.accepted in
+    let e : length h.0 ≡ length (layout (trim k.0)) = copy_length m h.0 k.0 c.report.result.charge c.report.result.depth h.1 k.1.denotes in
+    rw c.message.ensures.value (k.0, c.report.result.charge, k.1.denotes, k.1.within, k.1.shallow, omega (arith, e, h.2, c.in-Ok-with_capacity.ensures.exact))
+
+pub returns-clause-accepted : goal.returns-clause-accepted
+returns-clause-accepted g c =
+    let m = g.M.Segments.segments (message_of c.args.v.now) in
+    let h = c.in-Ok.ensures.ok in
+    let k = c.report.ensures.accepted in
+    let made = copy_of m h.0 c.copy_into.new.copy.items h.1 (rw c.message.ensures.value at c.copy_into.ensures) in
+    λ t x d f. copy_denotes m c.copy_into.new.copy.items t x d made f (few_charged m c.report.result k.0 t x d k.1 f)
+
+pub returns-clause-own : goal.returns-clause-own
+returns-clause-own g c =
+    let m = g.M.Segments.segments (message_of c.args.v.now) in
+    let h = c.in-Ok.ensures.ok in
+    let k = c.report.ensures.accepted in
+    let made = copy_of m h.0 c.copy_into.new.copy.items h.1 (rw c.message.ensures.value at c.copy_into.ensures) in
+    copy_own m c.copy_into.new.copy.items made (few_charged m c.report.result k.0 made.tree made.charge made.depth k.1 made.denotes)
+
+pub returns-clause-near : goal.returns-clause-near
+returns-clause-near g c =
+    let m = g.M.Segments.segments (message_of c.args.v.now) in
+    let k = c.report.ensures.accepted in
+    λ t x d f. offsets_fit m 0 0 t x d f (few_charged m c.report.result k.0 t x d k.1 f)
+
+pub returns-clause-only : goal.returns-clause-only
+returns-clause-only g c =
+    let m = g.M.Segments.segments (message_of c.args.v.now) in
+    let h = c.in-Ok.ensures.ok in
+    let k = c.report.ensures.accepted in
+    let made = copy_of m h.0 c.copy_into.new.copy.items h.1 (rw c.message.ensures.value at c.copy_into.ensures) in
+    λ t u x d x' d' other f f' few. copy_only m c.copy_into.new.copy.items t u x d x' d' other made f (few_charged m c.report.result k.0 t x d k.1 f) f' few
+
+pub returns-clause-first_cap : goal.returns-clause-first_cap
+returns-clause-first_cap g c =
+    let h = c.in-Ok.ensures.ok in
+    λ s w f. absurd (cap_no_copy (g.M.Segments.segments (message_of c.args.v.now)) s w h.0 f h.1)
+
+pub returns-in_default-clause-memory : goal.returns-in_default-clause-memory
+returns-in_default-clause-memory g c =
+    let h = c.in-Ok.ensures.ok in
+    λ e s w f. cap_no_copy (g.M.Segments.segments (message_of c.args.v.now)) s w h.0 f h.1
+
+pub returns-in_default-clause-first_cap : goal.returns-in_default-clause-first_cap
+returns-in_default-clause-first_cap g c =
+    let h = c.in-Ok.ensures.ok in
+    λ s w f. absurd (cap_no_copy (g.M.Segments.segments (message_of c.args.v.now)) s w h.0 f h.1)
+
+pub returns-in-Err-clause-first_cap : goal.returns-in-Err-clause-first_cap
+returns-in-Err-clause-first_cap g c = λ s w f. ap Err (err_parts c.in-Err.fault (HasCapability s w) (c.in-Err.ensures.cap s w f))

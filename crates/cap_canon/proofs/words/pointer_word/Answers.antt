@@ -1,0 +1,14 @@
+use Rattle.std.proofs.Common.{◌≡◌, ◌∙◌, ap, sym, length}
+use Rattle.std.proofs.lemmas.List.FromFn.{length-map-range_with_len}
+use Rattle.cap_spec.specs.Messages.{segment_of}
+use Rattle.cap_spec.specs.Pointers.{element_bits}
+use Rattle.cap_spec.specs.Denoting.{value_at, values_of}
+use Rattle.cap_spec.specs.Canonical.{list_word, pointer_to}
+use Rattle.cap_canon.proofs.words.pointer_word.Goals as goal
+
+pub returns-in-Scalars : goal.returns-in-Scalars
+returns-in-Scalars c =
+    λ m d s w tree h.
+    (let k = rw c.in-Scalars.is at h in
+    let n = length-map-range_with_len (value_at (segment_of m c.in-Scalars.segment) c.in-Scalars.start (element_bits c.in-Scalars.code)) 0 c.in-Scalars.count in
+    c.list_pointer.ensures ∙ (ap (list_word c.args.offset c.in-Scalars.code) (sym n) ∙ ap (pointer_to c.args.offset) (sym k.1.tree)))

@@ -1,0 +1,30 @@
+-- Words of a copy beside those of the whole, whose pointer words may still be missing (profile).
+use Rattle.std.specs.Prelude.{ℕ, zero, suc, ◌+◌, ◌<◌, ◌≡◌, ◌⊎◌, List, [], ◌∷◌, ◌++◌, length, slice_index}
+use Rattle.cap_spec.specs.Tree.{Tree}
+use Rattle.cap_spec.specs.Denoting.{words_from}
+use Rattle.cap_canon.specs.Laying.{Due, OwnAt, own_size, below}
+
+-- a position is that of a pointer word that is due
+abbrev pub IsDue : ℕ → List Due → Type 0
+IsDue i [] = ⊥
+IsDue i (x ∷ due) = (i ≡ x.slot) ⊎ IsDue i due
+
+-- the words so far are those of the whole, but for pointer words that are due
+abbrev pub Agrees : List ℕ → List ℕ → List Due → Type 0
+Agrees words whole due = (i : ℕ) → i < length words → IsDue i due ⊎ (slice_index words i ≡ slice_index whole i)
+
+-- these words are those of the whole from b on, but for pointer words that are due
+abbrev pub Fills : List ℕ → ℕ → List Due → List ℕ → Type 0
+Fills whole b due words = (k : ℕ) → k < length words → IsDue (b + k) due ⊎ (slice_index words k ≡ slice_index whole (b + k))
+
+-- A tree's own words were appended, with anything in place of its pointer words.
+pub record OwnAppended (old new : List ℕ) (tree : Tree) : Type 0 where
+  pub words : List ℕ
+  pub appended : new ≡ old ++ words
+  pub many : length words ≡ own_size tree
+  pub fill : (whole : List ℕ) → OwnAt whole (length old) tree → Fills whole (length old) (below (length old) tree) words
+
+-- of each of n elements of ds data words and ps pointers, from t:b on, the first d data words and p pointer words
+abbrev pub elements_from : List (List ℕ) → ℕ → ℕ → ℕ → ℕ → ℕ → ℕ → ℕ → List ℕ
+elements_from m t b ds ps d p zero = []
+elements_from m t b ds ps d p (suc n) = words_from m t b d ++ words_from m t (b + ds) p ++ elements_from m t (b + ds + ps) ds ps d p n

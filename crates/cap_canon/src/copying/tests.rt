@@ -1,0 +1,219 @@
+//! The canonical copies of messages that are known from outside.
+
+use crate::{CanonFault, canonical};
+use cap_frame::{OneSegment, Segments, WordMessage};
+use cap_vet::{Limits, vet};
+use std::alloc::Global;
+use std::test::Fail;
+
+// The words of a stream, each read from its first byte on.
+fn words(alloc: Global, spelled: &[u64]) -> Result<Vec<u64>, Fail> {
+    let mut words = Vec::with_capacity(alloc, spelled.len())?;
+    for word in spelled {
+        words.push(word.swap_bytes())?;
+    }
+    Ok(words)
+}
+
+// The copy of a message of any kind, which is accepted.
+fn copy_of<M: Segments>(alloc: Global, message: &M) -> Result<Result<Vec<u64>, CanonFault>, Fail> {
+    let limits = Limits::new(268435456, 256).ok_or("no limits")?;
+    match vet(message, limits) {
+        Ok(vetted) => Ok(canonical(alloc, &vetted)),
+        Err(_) => Err("refused".into()),
+    }
+}
+
+// The copy of a message of one segment.
+fn copy(alloc: Global, segment: &[u64]) -> Result<Vec<u64>, Fail> {
+    let message = OneSegment::new(segment).ok_or("no message")?;
+    match copy_of(alloc, &message)? {
+        Ok(words) => Ok(words),
+        Err(_) => Err("no copy".into()),
+    }
+}
+
+// Each message, and its copy where that isn't the message itself. A copy is its own copy.
+#[test]
+fn copies_of_one_segment(rt: HostRuntime) -> Result<(), Fail> {
+    let one_word = &[0x0000000001000000, 0x2a00000000000000][..];
+    for (spelled, copied) in [
+        (&[0x0000000000000000][..], &[0x0000000000000000][..]),
+        (&[0xfcffffff00000000], &[0xfcffffff00000000]),
+        (one_word, one_word),
+        (&[0x0000000002000000, 0x2a00000000000000, 0], one_word),
+        // A word behind the tree, and a far pointer into its own segment.
+        (&[0x0000000001000000, 0x2a00000000000000, 0], one_word),
+        (
+            &[0x0a00000000000000, 0x0000000001000000, 0x2a00000000000000],
+            one_word,
+        ),
+        // Two pointers to one struct.
+        (
+            &[
+                0x0000000000000200,
+                0x0400000001000000,
+                0x0000000001000000,
+                0x0700000000000000,
+            ],
+            &[
+                0x0000000000000200,
+                0x0400000001000000,
+                0x0400000001000000,
+                0x0700000000000000,
+                0x0700000000000000,
+            ],
+        ),
+        (&[0x0100000018000000], &[0x0100000018000000]),
+        // Two structs of one word in three words.
+        (
+            &[
+                0x010000001f000000,
+                0x0800000001000000,
+                0x0500000000000000,
+                0x0000000000000000,
+                0xff00000000000000,
+            ],
+            &[
+                0x0100000017000000,
+                0x0800000001000000,
+                0x0500000000000000,
+                0x0000000000000000,
+            ],
+        ),
+        // Three bits, and those behind them.
+        (
+            &[0x0100000019000000, 0xffffffffffffffff],
+            &[0x0100000019000000, 0x0700000000000000],
+        ),
+        (
+            &[
+                0x0100000016000000,
+                0x0000000000000000,
+                0x0000000001000000,
+                0x0900000000000000,
+            ],
+            &[
+                0x0100000016000000,
+                0x0000000000000000,
+                0x0000000001000000,
+                0x0900000000000000,
+            ],
+        ),
+        // Two structs of a word and a pointer, of which no pointer is left.
+        (
+            &[
+                0x0100000027000000,
+                0x0800000001000100,
+                0x0100000000000000,
+                0,
+                0,
+                0,
+            ],
+            &[
+                0x0100000017000000,
+                0x0800000001000000,
+                0x0100000000000000,
+                0x0000000000000000,
+            ],
+        ),
+        // A struct with a zero word, below the only struct of a list.
+        (
+            &[
+                0x010000000f000000,
+                0x0400000000000100,
+                0x0000000002000000,
+                0x2a00000000000000,
+                0x0000000000000000,
+            ],
+            &[
+                0x010000000f000000,
+                0x0400000000000100,
+                0x0000000001000000,
+                0x2a00000000000000,
+            ],
+        ),
+        // Children in the wrong order.
+        (
+            &[
+                0x0000000000000200,
+                0x0800000001000000,
+                0x0000000001000000,
+                0x0700000000000000,
+                0x0900000000000000,
+            ],
+            &[
+                0x0000000000000200,
+                0x0400000001000000,
+                0x0400000001000000,
+                0x0900000000000000,
+                0x0700000000000000,
+            ],
+        ),
+        // A struct without words whose pointer leads elsewhere.
+        (
+            &[0x0000000001000100, 0x2a00000000000000, 0xf8ffffff00000000],
+            &[0x0000000001000100, 0x2a00000000000000, 0xfcffffff00000000],
+        ),
+    ] {
+        let segment = words(rt.alloc(), spelled)?;
+        let expected = words(rt.alloc(), copied)?;
+        let made = copy(rt.alloc(), &segment)?;
+        assert_eq!(rt; made.as_slice(), expected.as_slice(), "of {segment:?}");
+        let again = copy(rt.alloc(), &made)?;
+        assert_eq!(rt; again.as_slice(), expected.as_slice(), "of {made:?}");
+    }
+    Ok(())
+}
+
+#[test]
+fn copies_of_several_segments(rt: HostRuntime) -> Result<(), Fail> {
+    let one_word = &[0x0000000001000000, 0x2a00000000000000][..];
+    for (root, second, third, copied) in [
+        (0x0200000001000000, one_word, &[][..], one_word),
+        (0x0200000001000000, &[0], &[], &[0]),
+        (
+            0x0600000001000000,
+            &[0x0200000002000000, 0],
+            &[],
+            &[0xfcffffff00000000],
+        ),
+        (
+            0x0600000001000000,
+            &[0x0200000002000000, 0x0000000001000000],
+            &[0x2a00000000000000],
+            one_word,
+        ),
+    ] {
+        let mut segments = Vec::new(rt.alloc());
+        segments.push(words(rt.alloc(), &[root])?)?;
+        segments.push(words(rt.alloc(), second)?)?;
+        segments.push(words(rt.alloc(), third)?)?;
+        let message = WordMessage::new(segments).ok_or("no message")?;
+        let expected = words(rt.alloc(), copied)?;
+        match copy_of(rt.alloc(), &message)? {
+            Ok(made) => assert_eq!(rt; made.as_slice(), expected.as_slice(), "at {root:016x}"),
+            Err(_) => return Err("no copy".into()),
+        }
+    }
+    Ok(())
+}
+
+#[test]
+fn no_copy_with_a_capability(rt: HostRuntime) -> Result<(), Fail> {
+    let segment = words(rt.alloc(), &[0x0300000005000000])?;
+    let message = OneSegment::new(&segment).ok_or("no message")?;
+    match copy_of(rt.alloc(), &message)? {
+        Ok(_) => Err("a copy".into()),
+        Err(fault) => {
+            assert_eq!(rt;
+                fault,
+                CanonFault::HasCapability {
+                    segment: 0,
+                    word: 0
+                }
+            );
+            Ok(())
+        }
+    }
+}

@@ -1,0 +1,60 @@
+//! What a canonical copy is written to.
+
+ghost use Rattle.cap_spec.specs.Denoting.{words_from};
+ghost use Rattle.cap_spec.specs.Messages.{segment_of};
+ghost use Rattle.cap_spec.specs.Words.{IsWord};
+ghost use Rattle.std.specs.List.{AllByRecursion};
+ghost use Rattle.std.specs.Prelude.{◌+◌, ◌++◌, ◌<◌, ◌≡◌, ◌≤◌, [], ◌∷◌, List, length, slice_set, ℕ};
+ghost use Rattle.std.specs.Vec.{vec_capacity};
+
+use cap_frame::Segments;
+
+/// Words with room for more of them.
+pub(crate) trait Target {
+    // The words so far.
+    ghost words: { Self → List ℕ };
+
+    // How many words there is room for, with these.
+    ghost room: { Self → ℕ };
+
+    /// Appends a word.
+    fn push(&mut self, word: u64)
+        requires { length (words self.old) < room self.old }
+        ensures words { words self.new ≡ words self.old ++ word ∷ [] }
+        ensures room { room self.old ≤ room self.new };
+
+    /// Writes a word in place of one of them.
+    fn set(&mut self, place: u32, word: u64)
+        requires { place < length (words self.old) }
+        ensures words { words self.new ≡ slice_set (words self.old) place word }
+        ensures room { room self.old ≤ room self.new };
+
+    /// Appends words of a segment.
+    fn append_from<M: Segments>(&mut self, message: &M, segment: u32, start: u32, count: u32)
+        requires exists { segment < length (M.segments message.now) }
+        requires inside { start + count ≤ length (segment_of (M.segments message.now) segment) }
+        requires room { length (words self.old) + count ≤ room self.old }
+        ensures words { words self.new ≡ words self.old ++ words_from (M.segments message.now) segment start count }
+        ensures room { room self.old ≤ room self.new }
+        ensures are_words { AllByRecursion IsWord (words_from (M.segments message.now) segment start count) };
+}
+
+impl Target for Vec<u64> {
+    ghost words = { λ v. v.items };
+
+    ghost room = { λ v. vec_capacity v };
+
+    fn push(&mut self, word: u64) {
+        self.push_reserved(word);
+    }
+
+    fn set(&mut self, place: u32, word: u64) {
+        self[place as usize] = word;
+    }
+
+    fn append_from<M: Segments>(&mut self, message: &M, segment: u32, start: u32, count: u32) {
+        'words: for k in 0..count {
+            self.push_reserved(message.word(segment, start + k));
+        }
+    }
+}

@@ -1,0 +1,98 @@
+//! The words of a canonical copy that aren't the message's: pointer words, tags, and the last word
+//! of a list of values.
+
+ghost use Rattle.cap_canon.specs.Objects.{IsObject};
+ghost use Rattle.cap_spec.specs.Canonical.{list_word, pointer_to, struct_word};
+ghost use Rattle.cap_spec.specs.Pointers.{element_bits, list_words};
+ghost use Rattle.cap_spec.specs.Tree.{Tree};
+ghost use Rattle.cap_spec.specs.Words.{field};
+ghost use Rattle.cap_canon.specs.Values.{used_bits};
+ghost use Rattle.std.specs.Prelude.{◌+◌, ◌-◌, ◌*◌, ◌<◌, ◌≤◌, ◌^◌, ◌≡◌, ◌==◌, if◌then◌else◌, List, ℕ};
+
+use crate::objects::Object;
+use cap_words::bits;
+
+// The pointer to a struct without words, whose offset is -1.
+const EMPTY_STRUCT: u64 = 0xffff_fffc;
+
+/// The word that leads from a pointer word to what is left of an object, which starts `offset`
+/// words behind it (encoding: Structs, Lists, Capabilities). Asks that the offset fits its 30 bits,
+/// one of which is the sign.
+#[inline(always)]
+pub(crate) fn pointer_word(offset: u32, object: &Object) -> u64
+    requires near { offset < 2 ^ 29 }
+    requires is { (m : List (List ℕ)) × (d s w : ℕ) × (tree : Tree) × IsObject m d s w tree object.now }
+    ensures { (m : List (List ℕ)) (d s w : ℕ) (tree : Tree) → IsObject m d s w tree object.now → result ≡ pointer_to offset tree }
+{
+    match *object {
+        Object::Null => 0,
+        Object::Cap { index } => 3 + (u64::from(index) << 32),
+        Object::Struct {
+            data_left,
+            pointers_left,
+            ..
+        } => struct_pointer(offset, data_left, pointers_left),
+        Object::Scalars { code, count, .. } => list_pointer(offset, code, count),
+        Object::Pointers { count, .. } => list_pointer(offset, 6, count),
+        Object::Structs {
+            count,
+            data_left,
+            pointers_left,
+            ..
+        } => list_pointer(offset, 7, count * (data_left + pointers_left)),
+    }
+}
+
+// The pointer to a struct.
+fn struct_pointer(offset: u32, data_words: u32, pointers: u32) -> u64
+    requires { (offset < 2 ^ 30) × (data_words < 2 ^ 16) × (pointers < 2 ^ 16) }
+    ensures { result ≡ (if (data_words + pointers) == 0 then 2 ^ 32 - 4 else struct_word offset data_words pointers) }
+{
+    if data_words + pointers == 0 {
+        EMPTY_STRUCT
+    } else {
+        tag_word(offset, data_words, pointers)
+    }
+}
+
+/// The tag of a list of so many structs (encoding: Lists): a struct pointer with their number in
+/// place of its offset.
+pub(crate) fn tag_word(count: u32, data_words: u32, pointers: u32) -> u64
+    requires { (count < 2 ^ 30) × (data_words < 2 ^ 16) × (pointers < 2 ^ 16) }
+    ensures { result ≡ struct_word count data_words pointers }
+{
+    (u64::from(count) << 2) + (u64::from(data_words) << 32) + (u64::from(pointers) << 48)
+}
+
+// The pointer to a list.
+fn list_pointer(offset: u32, code: u8, size: u32) -> u64
+    requires { (offset < 2 ^ 30) × (code < 8) × (size < 2 ^ 29) }
+    ensures { result ≡ list_word offset code size }
+{
+    1 + (u64::from(offset) << 2) + (u64::from(code) << 32) + (u64::from(size) << 35)
+}
+
+/// The last word of a list of values that has `words` words, without the bits behind the last value.
+pub(crate) fn last_word(code: u8, count: u32, words: u32, word: u64) -> u64
+    requires code { code < 6 }
+    requires words { words ≡ list_words code count }
+    requires some { 0 < words }
+    ensures { result ≡ field word 0 (used_bits code count (words - 1)) }
+{
+    let (each, per) = value_sizes(code);
+    bits(word, 0, (count - (words - 1) * per) * each)
+}
+
+// How many bits a value of a code has, and how many of them a word has.
+fn value_sizes(code: u8) -> (u32, u32)
+    requires { (0 < code) × (code < 6) }
+    ensures { (result.0 ≡ element_bits code) × (result.0 * result.1 ≡ 64) }
+{
+    match code {
+        1 => (1, 64),
+        2 => (8, 8),
+        3 => (16, 4),
+        4 => (32, 2),
+        _ => (64, 1),
+    }
+}
