@@ -6,6 +6,8 @@ pub mod JobEnds
 pub mod Numbers
 pub mod Segments
 pub mod Settling
+pub mod Reading
+pub mod PathReading
 pub mod Reports
 pub mod Shown
 pub mod Streams

@@ -2,6 +2,7 @@ pub mod Copying
 pub mod Engines
 pub mod Faults
 pub mod Jobs
+pub mod PathReading
 pub mod Putting
 pub mod Running
 pub mod Streams

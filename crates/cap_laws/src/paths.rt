@@ -8,6 +8,8 @@ ghost use Rattle.cap_spec.specs.Denoting.{Denotes};
 ghost use Rattle.cap_spec.specs.Paths.{Spot, Goes, Walks, Comes, Reaches, Before, Rises, IsOneOf, IsTour, IsFirstCap, level_of};
 ghost use Rattle.cap_spec.specs.Verdicts.{AreDistinct};
 ghost use Rattle.cap_spec.specs.Standing.{DenotesAt};
+ghost use Rattle.cap_spec.specs.PathTexts.{IsPath, IsBadAt, IsStep, path_text};
+ghost use Rattle.std.specs.List.{AllByRecursion};
 
 /// A path reaches at most one pointer word, at one level: one step leads from a spot to one spot,
 /// and a path comes to one spot.
@@ -90,4 +92,11 @@ pub fn counts_are_numbers_of_paths()
         × ((q : List Step) → IsOneOf q paths ↔ ((level s w k i : ℕ) × Reaches m q level s w × Leads m s w k (to_cap i))) }
     ensures first_cap { (m : List (List ℕ)) (t : Tree) (c d : ℕ) → Denotes m 0 0 t c d →
         (has_cap t ≡ true) ↔ ((s w : ℕ) × IsFirstCap m s w) }
+{}
+
+/// A text is of at most one path, and a text that is of none is bad at one place.
+pub fn one_path_text()
+    ensures path { (xs ys : List Step) → AllByRecursion IsStep xs → AllByRecursion IsStep ys → path_text xs ≡ path_text ys → xs ≡ ys }
+    ensures bad { (text : List ℕ) (at at' : ℕ) → IsBadAt text at → IsBadAt text at' → at ≡ at' }
+    ensures apart { (text : List ℕ) (at : ℕ) → IsPath text → ¬ IsBadAt text at }
 {}

@@ -8,6 +8,8 @@ mod devices;
 #[cfg(test)]
 mod engines;
 #[cfg(test)]
+mod paths;
+#[cfg(test)]
 mod segments;
 #[cfg(test)]
 mod usage;

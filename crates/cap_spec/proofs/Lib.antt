@@ -53,3 +53,4 @@ pub mod TrimmedTrees
 pub mod Offsets
 pub mod LayoutWords
 pub mod WordsRead
+pub mod PathTexts

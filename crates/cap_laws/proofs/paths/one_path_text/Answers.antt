@@ -1,0 +1,11 @@
+use Rattle.cap_spec.proofs.PathTexts.{one_bad_place, one_path_text, path_not_bad}
+use Rattle.cap_laws.proofs.paths.one_path_text.Goals as goal
+
+pub returns-clause-path : goal.returns-clause-path
+returns-clause-path c = one_path_text
+
+pub returns-clause-bad : goal.returns-clause-bad
+returns-clause-bad c = one_bad_place
+
+pub returns-clause-apart : goal.returns-clause-apart
+returns-clause-apart c = path_not_bad
