@@ -16,7 +16,7 @@ use Rattle.cap_spec.proofs.Messages.{HasWord-at}
 use Rattle.cap_spec.proofs.Placing.{rest_at}
 use Rattle.cap_spec.proofs.ReadingBack.{length-scalar_words}
 use Rattle.cap_spec.proofs.Shapes.{range_length}
-use Rattle.cap_spec.proofs.WordsRead.{word_read}
+use Rattle.cap_spec.proofs.WordsRead.{values_read}
 use Rattle.cap_canon.specs.Filling.{elements_from}
 use Rattle.cap_canon.specs.Values.{used_bits}
 
@@ -122,7 +122,7 @@ values_laid m t b c n before x lt e inside words last = same_lists (scalar_words
     both = let a = length-append front end in omega (arith, a, many)
 
     read : (k : ℕ) → k < before + 1 → get_or (scalar_words c vs) k 0 ≡ field (get_or (segment_of m t) (b + k) 0) 0 (used_bits c n k)
-    read k h = word_read (segment_of m t) b c n k lt (omega (arith, h, e))
+    read k h = values_read (segment_of m t) b c n k lt (omega (arith, h, e))
 
     early : (k : ℕ) → k < before → get_or (scalar_words c vs) k 0 ≡ get_or (front ++ end) k 0
     early k h =

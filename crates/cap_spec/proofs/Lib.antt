@@ -52,5 +52,4 @@ pub mod Layouts
 pub mod TrimmedTrees
 pub mod Offsets
 pub mod LayoutWords
-pub mod WordsRead
 pub mod PathTexts
