@@ -39,48 +39,12 @@ has_copy m r t k e = record { tree = t; charge = r.charge; depth = r.depth; deno
     some : has_cap t ≡ true → has_cap t ≡ false
     some h = (let f = (first_cap m t r.charge r.depth k.denotes).0 h in absurd (none f.2.path f.2.level f.0 f.1 f.2.k f.2.index f.2.reached f.2.leads))
 
--- and no more than one
-pub one_copy : (m : List (List ℕ)) (xs ys : List ℕ) → HasCopy m xs → HasCopy m ys → xs ≡ ys
-one_copy m xs ys h k =
-    let same = one_tree m 0 0 h.tree k.tree h.charge h.depth k.charge k.depth h.denotes k.denotes in
-    h.laid ∙ (ap (λ t. layout (trim t)) same.part ∙ sym k.laid)
-
 -- it has at most one word more than the charge
 pub copy_charged : (m : List (List ℕ)) (t : Tree) (c d : ℕ) (words : List ℕ) → Denotes m 0 0 t c d → HasCopy m words → length words ≤ c + 1
 copy_charged m t c d words h k =
     let same = one_tree m 0 0 t k.tree c d k.charge k.depth h k.denotes in
     let e : length words ≡ length (layout (trim t)) = ap length k.laid ∙ ap (λ x. length (layout (trim x))) (sym same.part) in
     omega (arith, e, layout_charged m 0 0 t c d h)
-
--- it denotes the trimmed tree, at no more charge and the same depth
-pub copy_denotes : (m : List (List ℕ)) (words : List ℕ) (t : Tree) (c d : ℕ) → HasCopy m words → Denotes m 0 0 t c d → c < 2 ^ 29
-    → (c' : ℕ) × Denotes (words ∷ []) 0 0 (trim t) c' d × (c' ≤ c)
-copy_denotes m words t c d k h few =
-    let same = one_tree m 0 0 t k.tree c d k.charge k.depth h k.denotes in
-    let e : layout (trim t) ≡ words = ap (λ x. layout (trim x)) same.part ∙ sym k.laid in
-    let r = trimmed_layout_denotes m 0 0 t c d h few in
-    (r.0, subst (λ ws. Denotes (ws ∷ []) 0 0 (trim t) r.0 d) e r.1, r.2)
-
--- it is its own copy
-pub copy_own : (m : List (List ℕ)) (words : List ℕ) → (k : HasCopy m words) → k.charge < 2 ^ 29 → HasCopy (words ∷ []) words
-copy_own m words k few =
-    let r = copy_denotes m words k.tree k.charge k.depth k k.denotes few in record {
-      tree = trim k.tree;
-      charge = r.0;
-      depth = k.depth;
-      denotes = r.1;
-      no_caps = has_cap-trim k.tree ∙ k.no_caps;
-      laid = k.laid ∙ ap layout (sym (trim-trim k.tree));
-    }
-
--- another message has these words for its copy exactly where the trimmed trees are equal
-pub copy_only : (m : List (List ℕ)) (words : List ℕ) (t u : Tree) (c d c' d' : ℕ) (other : List (List ℕ)) → HasCopy m words → Denotes m 0 0 t c d → c < 2 ^ 29 → Denotes other 0 0 u c' d' → c' < 2 ^ 29
-    → (layout (trim u) ≡ words) ↔ (trim u ≡ trim t)
-copy_only m words t u c d c' d' other k h few h' few' =
-    let same = one_tree m 0 0 t k.tree c d k.charge k.depth h k.denotes in
-    let e : words ≡ layout (trim t) = k.laid ∙ ap (λ x. layout (trim x)) (sym same.part) in
-    let r = one_layout other 0 0 u c' d' h' few' m 0 0 t c d h few in
-    (λ x. r.0 (x ∙ e), λ x. r.1 x ∙ sym e)
 
 -- it has as many words as the layout
 pub copy_length : (m : List (List ℕ)) (words : List ℕ) (t : Tree) (c d : ℕ) → HasCopy m words → Denotes m 0 0 t c d → length words ≡ length (layout (trim t))

@@ -1,4 +1,5 @@
 mod Agreeing
+mod CheckWalks
 mod Children
 mod Copies
 mod CopyWalks
@@ -8,6 +9,7 @@ mod Filling
 mod Found
 mod Frames
 mod InPlace
+mod Kept
 mod LaidSteps
 mod Laying
 mod Lengths
@@ -15,6 +17,7 @@ mod Needed
 mod Owing
 mod Ranges
 mod Repacked
+mod Standing
 mod Structs
 mod Trimmed
 mod Whole

@@ -2,6 +2,7 @@ pub mod Copies
 pub mod Filling
 pub mod Found
 pub mod Frames
+pub mod InPlace
 pub mod Laying
 pub mod Objects
 pub mod Owing

@@ -2,6 +2,7 @@
 #![tactic(auto)]
 
 mod appending;
+pub mod checking;
 pub mod copying;
 pub mod fault;
 mod frame;
@@ -12,6 +13,7 @@ mod trimming;
 mod walk;
 mod words;
 
+pub use checking::is_canonical;
 pub use copying::canonical;
 pub use fault::CanonFault;
 pub use length::canonical_len;

@@ -1,11 +1,13 @@
 //! The walk over an accepted message, in preorder: one pointer word a turn.
 
 ghost use Rattle.cap_canon.specs.Frames.{OptionFull, option_places, row_places};
+ghost use Rattle.cap_canon.specs.InPlace.{AreInPlace, IsInPlace, StandsIn};
 ghost use Rattle.cap_canon.specs.Laying.{Due, below, own_size};
 ghost use Rattle.cap_canon.specs.Objects.{IsObject};
 ghost use Rattle.cap_canon.specs.Owing.{AreOwed, IsNext, IsWalking, work_left};
 ghost use Rattle.cap_spec.specs.Messages.{IsMessage};
 ghost use Rattle.cap_spec.specs.Tree.{Tree};
+ghost use Rattle.std.specs.List.{AllByRecursion};
 ghost use Rattle.std.specs.Option.{option_to_list};
 ghost use Rattle.std.specs.Prelude.{◌+◌, ◌++◌, ◌≡◌, ◌≤◌, ◌<◌, ◌∷◌, List, length, ℕ};
 
@@ -25,6 +27,7 @@ pub(crate) fn take_next<const N: usize>(stack: &mut Stack<N>) -> (u32, u32, u32)
     ensures next { (m : List (List ℕ)) (depth end : ℕ) (due : List Due) → IsWalking m depth stack.old.items end due →
         (tree : Tree) × (rest : List Due) × (due ≡ record { slot = result.2; tree = tree } ∷ rest) × IsNext m depth result.0 result.1 result.2 stack.new.items end tree rest }
     ensures work { work_left stack.new.items + 1 ≡ work_left stack.old.items }
+    ensures in_place { AreInPlace stack.old.items → IsInPlace (result.0, result.1, result.2) × AreInPlace stack.new.items }
 {
     match stack.pop() {
         None => unreachable!(),
@@ -44,6 +47,7 @@ pub(crate) fn enter<const N: usize>(stack: &mut Stack<N>, object: &Object, end: 
     ensures walking { (m : List (List ℕ)) (depth s w slot d : ℕ) (tree : Tree) (due : List Due) → IsNext m depth s w slot stack.old.items end tree due → IsObject m d s w tree object.now
         → d + length stack.old.items ≤ depth → (result ≡ end + own_size tree) × IsWalking m depth stack.new.items result (below end tree ++ due) }
     ensures work { (m : List (List ℕ)) (d s w : ℕ) (tree : Tree) → IsObject m d s w tree object.now → work_left stack.new.items ≤ work_left stack.old.items + own_size tree }
+    ensures in_place { AreInPlace stack.old.items → StandsIn end object.now → AreInPlace stack.new.items }
 {
     push_some(stack, frame_of(object, end));
     end + own_words(object)
@@ -67,6 +71,7 @@ fn frame_of(object: &Object, end: u32) -> Option<Frame>
     requires { (m : List (List ℕ)) × (d s w : ℕ) × (tree : Tree) × IsMessage m × IsObject m d s w tree object.now × (end + own_size tree ≤ 268435457) }
     ensures owed { (m : List (List ℕ)) (d s w depth n : ℕ) (tree : Tree) → IsObject m d s w tree object.now → d + n ≤ depth → AreOwed m depth (n + 1) (option_places result) (below end tree) }
     ensures full { OptionFull result }
+    ensures in_place { StandsIn end object.now → AllByRecursion IsInPlace (option_places result) }
 {
     match object {
         Object::Struct {

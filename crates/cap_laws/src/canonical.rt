@@ -6,6 +6,7 @@ ghost use Rattle.cap_spec.specs.Words.{IsWord};
 ghost use Rattle.cap_spec.specs.Tree.{Tree, IsTree, has_cap};
 ghost use Rattle.cap_spec.specs.Denoting.{Denotes};
 ghost use Rattle.cap_spec.specs.Canonical.{layout, offsets, trim};
+ghost use Rattle.cap_spec.specs.Copies.{HasCopy, IsCanonical};
 
 /// A trimmed tree has nothing left to trim, so that a canonical copy is its own canonical copy.
 pub fn trimmed_once_is_enough()
@@ -55,4 +56,20 @@ pub fn layout_is_words()
 pub fn offsets_fit()
     ensures { (m : List (List ℕ)) (s w : ℕ) (t : Tree) (c d : ℕ) →
         Denotes m s w t c d → c < 2 ^ 29 → AllByRecursion (λ offset. offset < 2 ^ 29) (offsets (trim t)) }
+{}
+
+/// A message has at most one canonical copy.
+pub fn one_copy()
+    ensures { (m : List (List ℕ)) (xs ys : List ℕ) → HasCopy m xs → HasCopy m ys → xs ≡ ys }
+{}
+
+/// The canonical copy of a message is a message of one segment that is canonical.
+pub fn copy_is_canonical()
+    ensures { (m : List (List ℕ)) (words : List ℕ) (copy : HasCopy m words) → copy.charge < 2 ^ 29 → IsCanonical (words ∷ []) }
+{}
+
+/// Two messages have equal canonical copies exactly where their trees, trimmed, are equal.
+pub fn equal_copies()
+    ensures { (m n : List (List ℕ)) (xs ys : List ℕ) (x : HasCopy m xs) (y : HasCopy n ys) →
+        x.charge < 2 ^ 29 → y.charge < 2 ^ 29 → (xs ≡ ys) ↔ (trim x.tree ≡ trim y.tree) }
 {}

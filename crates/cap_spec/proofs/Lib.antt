@@ -53,3 +53,4 @@ pub mod TrimmedTrees
 pub mod Offsets
 pub mod LayoutWords
 pub mod PathTexts
+pub mod Copies

@@ -1,6 +1,7 @@
 use Rattle.std.proofs.Common.{◌+◌, ◌≤◌, ap, arith, length, rules}
 use Rattle.cap_canon.specs.Laying.{below, own_size}
 use Rattle.cap_canon.proofs.Entering.{entered, room_below, work_more}
+use Rattle.cap_canon.proofs.Kept.{entered_in_place}
 use Rattle.cap_canon.proofs.Lengths.{own_within}
 use Rattle.cap_canon.proofs.walk.enter.Goals as goal
 
@@ -37,3 +38,6 @@ pub returns-clause-work : goal.returns-clause-work
 returns-clause-work g c = λ m d s w tree o.
     let owed = c.frame_of.ensures.owed m d s w d 0 tree o (omega arith) in
     rw c.push_some.ensures (work_more m d s w c.args.end tree c.args.object.now c.args.stack.now.items c.frame_of.result o owed)
+
+pub returns-clause-in_place : goal.returns-clause-in_place
+returns-clause-in_place g c = λ a st. rw c.push_some.ensures (entered_in_place c.args.stack.now.items c.frame_of.result a (c.frame_of.ensures.in_place st))

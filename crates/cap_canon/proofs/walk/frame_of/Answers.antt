@@ -1,4 +1,7 @@
-use Rattle.std.proofs.Common.{◌+◌, ◌<◌, ◌^◌, arith, inl, inr}
+use Rattle.std.proofs.Common.{◌+◌, ◌-◌, ◌<◌, ◌^◌, arith, inl, inr, subst, sym}
+use Rattle.std.specs.List.{AllByRecursion}
+use Rattle.cap_canon.specs.InPlace.{IsInPlace}
+use Rattle.cap_canon.proofs.Kept.{elements_in_place, row_in_place}
 use Rattle.cap_canon.specs.Frames.{option_places}
 use Rattle.cap_canon.proofs.Entering.{pointers_owed, struct_owed, structs_none_owed, structs_owed, structs_start}
 use Rattle.cap_canon.proofs.walk.frame_of.Goals as goal
@@ -31,3 +34,19 @@ returns-else-pointers_left-eq0-clause-owed c = λ m d s w depth n tree h le.
     let k = rw c.in-Structs.is at h in
     let some : 0 < c.in-Structs.count = omega (arith, c.if-count-eq0.false) in
     structs_owed m k.0 depth (n + 1) c.args.end s w _ _ _ _ _ _ _ _ _ tree k.2 (omega (arith, k.1, le)) some (omega arith) (omega arith)
+
+pub returns-in-Struct-clause-in_place : goal.returns-in-Struct-clause-in_place
+returns-in-Struct-clause-in_place c = λ st.
+    (let k = rw c.in-Struct.is at st in
+    subst (λ ps. AllByRecursion IsInPlace ps) (sym c.row_frame.ensures.places) (row_in_place c.in-Struct.segment (c.in-Struct.start + c.in-Struct.data_words) (c.args.end + c.in-Struct.data_left) c.in-Struct.pointers_left k))
+
+pub returns-in-Pointers-clause-in_place : goal.returns-in-Pointers-clause-in_place
+returns-in-Pointers-clause-in_place c = λ st.
+    (let k = rw c.in-Pointers.is at st in
+    subst (λ ps. AllByRecursion IsInPlace ps) (sym c.row_frame-in-Pointers.ensures.places) (row_in_place c.in-Pointers.segment c.in-Pointers.start c.args.end c.in-Pointers.count (λ some. (k.0, k.1))))
+
+pub returns-else-pointers_left-eq0-clause-in_place : goal.returns-else-pointers_left-eq0-clause-in_place
+returns-else-pointers_left-eq0-clause-in_place c = λ st.
+    (let k = rw c.in-Structs.is at st in
+    elements_in_place c.in-Structs.segment (c.in-Structs.start + 1 + c.in-Structs.data_words) (c.args.end + 1 + c.in-Structs.data_left) c.in-Structs.pointers_left (c.in-Structs.pointers - c.in-Structs.pointers_left + c.in-Structs.data_words) c.in-Structs.data_left
+    c.in-Structs.pointers_left (c.in-Structs.count - 1) k.0 (omega (arith, k.1, k.2)) (omega (arith, k.2, k.3)))

@@ -1,5 +1,7 @@
 use Rattle.std.proofs.Common.{rules, subst}
+use Rattle.cap_canon.specs.InPlace.{AreInPlace}
 use Rattle.cap_canon.specs.Owing.{IsWalking}
+use Rattle.cap_canon.proofs.Kept.{taken_in_place}
 use Rattle.cap_canon.proofs.Owing.{next_fits, next_of, next_work, top_short}
 use Rattle.cap_canon.proofs.walk.take_next.Goals as goal
 
@@ -24,3 +26,7 @@ push_some-requires g c =
     let w = subst (λ u. IsWalking r.0 r.1 u r.2 r.3) c.in-Some.ensures.items r.4 in
     let n = next_of r.0 r.1 r.2 _ _ _ r.3 w c.rest.ensures in
     (search rules, (r.6, next_fits _ _ _ _ _ _ _ _ _ _ r.5 n.3))
+
+pub returns-clause-in_place : goal.returns-clause-in_place
+returns-clause-in_place g c = λ a.
+    rw c.push_some.ensures (taken_in_place c.pop.new.self.items c.in-Some.frame c.rest.result c.rest.ensures (subst (λ u. AreInPlace u) c.in-Some.ensures.items a))

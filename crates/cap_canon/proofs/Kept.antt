@@ -1,0 +1,45 @@
+-- Frames whose words stand where a copy has them.
+use Rattle.std.proofs.Common.{ℕ, zero, suc, ◌+◌, ◌<◌, List, [], ◌∷◌, ◌++◌, ◌≡◌, ap, refl, sym, subst, ◌∙◌, arith, Option, None, Some}
+use Rattle.std.specs.List.{AllByRecursion}
+use Rattle.std.specs.Option.{option_to_list}
+use Rattle.cap_spec.proofs.Lists.{all_append, all_back}
+use Rattle.cap_canon.specs.Frames.{IsRest, Place, all_places, further_places, option_places, places_of, row_places}
+use Rattle.cap_canon.specs.InPlace.{AreInPlace, IsInPlace}
+use Rattle.cap_canon.specs.declared.frame.Frame.{Frame}
+use Rattle.cap_canon.proofs.Frames.{all_places-append, option_all_places}
+
+-- words in a row
+pub row_in_place : (t b a n : ℕ) → (0 < n → (t ≡ 0) × (b ≡ a)) → AllByRecursion IsInPlace (row_places t b a n)
+row_in_place t b a zero h = tt
+row_in_place t b a (suc n) h = let k = h (omega arith) in (k, row_in_place t (b + 1) (a + 1) n (λ some. (k.0, omega (arith, k.1))))
+
+-- those of further elements
+pub further_in_place : (t b a skip gap p n : ℕ) → t ≡ 0 → b ≡ a → skip ≡ gap → AllByRecursion IsInPlace (further_places t b a skip gap p n)
+further_in_place t b a skip gap p zero s e g = tt
+further_in_place t b a skip gap p (suc n) s e g =
+    all_append IsInPlace (row_places t (b + skip) (a + gap) p) (further_places t (b + skip + p) (a + gap + p) skip gap p n)
+    (row_in_place t (b + skip) (a + gap) p (λ some. (s, omega (arith, e, g)))) (further_in_place t (b + skip + p) (a + gap + p) skip gap p n s (omega (arith, e, g)) g)
+
+-- those of all elements
+pub elements_in_place : (t b a left skip gap p n : ℕ) → t ≡ 0 → b ≡ a → skip ≡ gap → AllByRecursion IsInPlace (row_places t b a left ++ further_places t (b + left) (a + left) skip gap p n)
+elements_in_place t b a left skip gap p n s e g =
+    all_append IsInPlace (row_places t b a left) (further_places t (b + left) (a + left) skip gap p n)
+    (row_in_place t b a left (λ some. (s, e))) (further_in_place t (b + left) (a + left) skip gap p n s (omega (arith, e)) g)
+
+all_front : (xs ys : List Place) → AllByRecursion IsInPlace (xs ++ ys) → AllByRecursion IsInPlace xs
+all_front [] ys a = tt
+all_front (x ∷ xs) ys a = (a.0, all_front xs ys a.1)
+
+-- one frame more, where there is one
+pub entered_in_place : (frames : List Frame) (r : Option Frame) → AreInPlace frames → AllByRecursion IsInPlace (option_places r) → AreInPlace (frames ++ option_to_list r)
+entered_in_place frames r a b =
+    subst (λ ps. AllByRecursion IsInPlace ps) (sym (all_places-append frames (option_to_list r)))
+    (all_append IsInPlace (all_places frames) (all_places (option_to_list r)) a (subst (λ ps. AllByRecursion IsInPlace ps) (sym (option_all_places r)) b))
+
+-- the first word of the topmost frame, and the rest
+pub taken_in_place : (frames : List Frame) (f : Frame) (r : Option Frame) → IsRest f r → AreInPlace (frames ++ f ∷ []) → IsInPlace (f.segment, f.at, f.slot) × AreInPlace (frames ++ option_to_list r)
+taken_in_place frames f r rest a =
+    let both : AllByRecursion IsInPlace (all_places frames ++ all_places (f ∷ [])) = subst (λ ps. AllByRecursion IsInPlace ps) (all_places-append frames (f ∷ [])) a in
+    let top : AllByRecursion IsInPlace (places_of f) = subst (λ ps. AllByRecursion IsInPlace ps) (option_all_places (Some f)) (all_back IsInPlace (all_places frames) (all_places (f ∷ [])) both) in
+    let first : AllByRecursion IsInPlace ((f.segment, f.at, f.slot) ∷ option_places r) = subst (λ ps. AllByRecursion IsInPlace ps) rest.words top in
+    (first.0, entered_in_place frames r (all_front (all_places frames) (all_places (f ∷ [])) both) first.1)

@@ -1,0 +1,5 @@
+use Rattle.cap_spec.proofs.Copies.{equal_copies}
+use Rattle.cap_laws.proofs.canonical.equal_copies.Goals as goal
+
+pub returns : goal.returns
+returns c = λ m n xs ys h k few less. equal_copies m n xs ys h k few less
