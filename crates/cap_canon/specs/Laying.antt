@@ -15,7 +15,8 @@ pub record Due : Type 0 where
 abbrev pub Laid : List ℕ → ℕ → List Due → Type 0
 Laid words end [] = end ≡ length words
 Laid words end (x ∷ due) =
-    (offset : ℕ) × (end ≡ x.slot + 1 + offset) × (slice_get words x.slot ≡ Some (pointer_to offset x.tree)) × StandAt words end (content x.tree) × Laid words (end + size x.tree) due
+    (offset : ℕ) × (end ≡ x.slot + 1 + offset) × (slice_get words x.slot ≡ Some (pointer_to offset x.tree)) × StandAt words end (content x.tree)
+    × Laid words (end + size x.tree) due
 
 -- pointer words in a row
 abbrev pub slots : ℕ → Trees → List Due

@@ -29,7 +29,8 @@ struct Elements {
 /// Appends the own words of what is left of an object: its data words, values, tag and pointer
 /// words, of which the last hold anything until their turn.
 pub(crate) fn append_own<M: Segments, T: Target>(message: &M, object: &Object, copy: &mut T)
-    requires { (d s w : ℕ) × (tree : Tree) × IsObject (M.segments message.now) d s w tree object.now × (length (T.words copy.old) + own_size tree ≤ T.room copy.old) }
+    requires { (d s w : ℕ) × (tree : Tree) × IsObject (M.segments message.now) d s w tree object.now
+        × (length (T.words copy.old) + own_size tree ≤ T.room copy.old) }
     ensures own { (d s w : ℕ) (tree : Tree) → IsObject (M.segments message.now) d s w tree object.now → OwnAppended (T.words copy.old) (T.words copy.new) tree }
     ensures room { T.room copy.old ≤ T.room copy.new }
 {

@@ -79,9 +79,12 @@ fn is_laid_within<M: Segments, const N: usize>(message: &M, depth: u32) -> bool
 fn stands_at<M: Segments>(message: &M, object: &Object, slot: u32, end: u32) -> bool
     requires end { (slot < end) × (end ≤ length (segment_of (M.segments message.now) 0)) × (end < 2 ^ 29) }
     requires is { (d : ℕ) × (tree : Tree) × IsObject (M.segments message.now) d 0 slot tree object.now }
-    ensures yes { IsTrue result → (d : ℕ) (tree : Tree) → IsObject (M.segments message.now) d 0 slot tree object.now → IsPointed (segment_of (M.segments message.now) 0) end slot tree
-        × OwnAt (segment_of (M.segments message.now) 0) end tree × (end + own_size tree ≤ length (segment_of (M.segments message.now) 0)) × StandsIn end object.now }
-    ensures no { (d : ℕ) (tree : Tree) → IsObject (M.segments message.now) d 0 slot tree object.now → IsPointed (segment_of (M.segments message.now) 0) end slot tree
+    ensures yes { IsTrue result → (d : ℕ) (tree : Tree) → IsObject (M.segments message.now) d 0 slot tree object.now
+        → IsPointed (segment_of (M.segments message.now) 0) end slot tree
+        × OwnAt (segment_of (M.segments message.now) 0) end tree × (end + own_size tree ≤ length (segment_of (M.segments message.now) 0))
+        × StandsIn end object.now }
+    ensures no { (d : ℕ) (tree : Tree) → IsObject (M.segments message.now) d 0 slot tree object.now
+        → IsPointed (segment_of (M.segments message.now) 0) end slot tree
         → OwnAt (segment_of (M.segments message.now) 0) end tree → IsTrue result }
 {
     if message.word(0, slot) != pointer_word(end - slot - 1, object) {

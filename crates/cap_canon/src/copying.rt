@@ -36,18 +36,22 @@ pub fn canonical<M: Segments>(alloc: Global, v: &Vetted<'_, M>) -> Result<Vec<u6
     ensures memory { IsErrOf result CanonFault.Memory → (s w : ℕ) → ¬ IsFirstCap (M.segments (message_of v.now)) s w }
 
     // The other direction, want of memory aside.
-    ensures copy { (words : List ℕ) → HasCopy (M.segments (message_of v.now)) words → UnlessMemory result (IsOk result × IfOk result (λ copied. copied.items ≡ words)) }
+    ensures copy { (words : List ℕ) → HasCopy (M.segments (message_of v.now)) words
+        → UnlessMemory result (IsOk result × IfOk result (λ copied. copied.items ≡ words)) }
     ensures first_cap { (s w : ℕ) → IsFirstCap (M.segments (message_of v.now)) s w → result ≡ Err (CanonFault.HasCapability s w) }
 
     // The copy is accepted under the limits that the message is accepted under, and is its own copy.
-    ensures accepted { IfOk result (λ words. (t : Tree) (c d : ℕ) → Denotes (M.segments (message_of v.now)) 0 0 t c d → (c' : ℕ) × Denotes (words.items ∷ []) 0 0 (trim t) c' d × (c' ≤ c)) }
+    ensures accepted { IfOk result (λ words. (t : Tree) (c d : ℕ) → Denotes (M.segments (message_of v.now)) 0 0 t c d → (c' : ℕ)
+        × Denotes (words.items ∷ []) 0 0 (trim t) c' d × (c' ≤ c)) }
     ensures own { IfOk result (λ words. HasCopy (words.items ∷ []) words.items) }
 
     // Each offset in it fits its 30 bits, one of which is the sign.
-    ensures near { IfOk result (λ words. (t : Tree) (c d : ℕ) → Denotes (M.segments (message_of v.now)) 0 0 t c d → AllByRecursion (λ offset. offset < 2 ^ 29) (offsets (trim t))) }
+    ensures near { IfOk result (λ words. (t : Tree) (c d : ℕ) → Denotes (M.segments (message_of v.now)) 0 0 t c d
+        → AllByRecursion (λ offset. offset < 2 ^ 29) (offsets (trim t))) }
 
     // Other messages have these words for their copy exactly where the trimmed trees are equal.
-    ensures only { IfOk result (λ words. (t u : Tree) (c d c' d' : ℕ) (other : List (List ℕ)) → Denotes (M.segments (message_of v.now)) 0 0 t c d → Denotes other 0 0 u c' d' → c' < 2 ^ 29 → (layout (trim u) ≡ words.items) ↔ (trim u ≡ trim t)) }
+    ensures only { IfOk result (λ words. (t u : Tree) (c d c' d' : ℕ) (other : List (List ℕ)) → Denotes (M.segments (message_of v.now)) 0 0 t c d
+        → Denotes other 0 0 u c' d' → c' < 2 ^ 29 → (layout (trim u) ≡ words.items) ↔ (trim u ≡ trim t)) }
 {
     let length = match canonical_len(v) {
         Ok(length) => length,
@@ -63,7 +67,8 @@ pub fn canonical<M: Segments>(alloc: Global, v: &Vetted<'_, M>) -> Result<Vec<u6
 // Appends the layout of a message of this depth, trimmed. The frames are made ready anew for each
 // message, so a walk that can't be deep has few of them.
 fn copy_into<M: Segments, T: Target>(message: &M, depth: u32, copy: &mut T)
-    requires denotes { (t : Tree) × (c : ℕ) × Denotes (M.segments message.now) 0 0 t c depth × (c ≤ 268435456) × (depth ≤ 256) × (length (layout (trim t)) ≤ T.room copy.old) }
+    requires denotes { (t : Tree) × (c : ℕ) × Denotes (M.segments message.now) 0 0 t c depth × (c ≤ 268435456) × (depth ≤ 256)
+        × (length (layout (trim t)) ≤ T.room copy.old) }
     requires empty { T.words copy.old ≡ [] }
     ensures { (t : Tree) (c d : ℕ) → Denotes (M.segments message.now) 0 0 t c d → T.words copy.new ≡ layout (trim t) }
 {
@@ -102,7 +107,8 @@ fn lay<M: Segments, T: Target>(message: &M, object: &Object, slot: u32, end: u32
     requires ends { (length (T.words copy.old) ≡ end) × (slot < end) × (end < 2 ^ 29) }
     requires is { (d s w : ℕ) × (tree : Tree) × IsObject (M.segments message.now) d s w tree object.now × (end + own_size tree ≤ T.room copy.old) }
     ensures agrees { (d s w : ℕ) (tree : Tree) (whole : List ℕ) (due : List Due) → IsObject (M.segments message.now) d s w tree object.now
-        → IsPointed whole end slot tree → OwnAt whole end tree → Agrees (T.words copy.old) whole (record { slot = slot; tree = tree } ∷ due) → Agrees (T.words copy.new) whole (below end tree ++ due) }
+        → IsPointed whole end slot tree → OwnAt whole end tree → Agrees (T.words copy.old) whole (record { slot = slot; tree = tree } ∷ due)
+        → Agrees (T.words copy.new) whole (below end tree ++ due) }
     ensures ends { (d s w : ℕ) (tree : Tree) → IsObject (M.segments message.now) d s w tree object.now → length (T.words copy.new) ≡ end + own_size tree }
     ensures room { T.room copy.old ≤ T.room copy.new }
 {

@@ -76,7 +76,8 @@ pub(crate) fn object_at<M: Segments>(message: &M, s: u32, w: u32) -> Object
 #[inline(always)]
 fn left_of<M: Segments>(message: &M, target: &Target) -> Object
     requires { (s w : ℕ) × (t : Tree) × (c d : ℕ) × Denotes (M.segments message.now) s w t c d × FindsTarget (M.segments message.now) s w target.now }
-    ensures { (s w : ℕ) (t : Tree) (c d : ℕ) → Denotes (M.segments message.now) s w t c d → FindsTarget (M.segments message.now) s w target.now → IsObject (M.segments message.now) d s w (trim t) result }
+    ensures { (s w : ℕ) (t : Tree) (c d : ℕ) → Denotes (M.segments message.now) s w t c d → FindsTarget (M.segments message.now) s w target.now
+        → IsObject (M.segments message.now) d s w (trim t) result }
 {
     let segment = target.segment;
     let start = target.start;
@@ -129,7 +130,8 @@ fn struct_left<M: Segments>(
     pointers: u32,
 ) -> Object
     requires { (s w d : ℕ) × (t : Tree) × IsStructAt (M.segments message.now) s w segment start data_words pointers t d }
-    ensures { (s w d : ℕ) (t : Tree) → IsStructAt (M.segments message.now) s w segment start data_words pointers t d → IsObject (M.segments message.now) d s w (trim t) result }
+    ensures { (s w d : ℕ) (t : Tree) → IsStructAt (M.segments message.now) s w segment start data_words pointers t d
+        → IsObject (M.segments message.now) d s w (trim t) result }
 {
     let data_left = data_left(message, segment, start, data_words, 0);
     let pointers_left = pointers_left(message, segment, start + data_words, pointers, 0);
@@ -153,7 +155,8 @@ fn structs_left<M: Segments>(
     pointers: u32,
 ) -> Object
     requires { (s w d : ℕ) × (t : Tree) × IsStructsAt (M.segments message.now) s w segment start count data_words pointers t d }
-    ensures { (s w d : ℕ) (t : Tree) → IsStructsAt (M.segments message.now) s w segment start count data_words pointers t d → IsObject (M.segments message.now) d s w (trim t) result }
+    ensures { (s w d : ℕ) (t : Tree) → IsStructsAt (M.segments message.now) s w segment start count data_words pointers t d
+        → IsObject (M.segments message.now) d s w (trim t) result }
 {
     let first = start + 1;
     let data_left = list_data_left(message, segment, first, count, data_words, pointers);

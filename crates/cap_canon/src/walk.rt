@@ -25,7 +25,8 @@ pub(crate) fn take_next<const N: usize>(stack: &mut Stack<N>) -> (u32, u32, u32)
     requires some { 0 < length stack.old.items }
     requires walking { (m : List (List ℕ)) × (depth end : ℕ) × (due : List Due) × IsWalking m depth stack.old.items end due × (depth ≤ N) × (N ≤ 256) }
     ensures next { (m : List (List ℕ)) (depth end : ℕ) (due : List Due) → IsWalking m depth stack.old.items end due →
-        (tree : Tree) × (rest : List Due) × (due ≡ record { slot = result.2; tree = tree } ∷ rest) × IsNext m depth result.0 result.1 result.2 stack.new.items end tree rest }
+        (tree : Tree) × (rest : List Due) × (due ≡ record { slot = result.2; tree = tree } ∷ rest)
+        × IsNext m depth result.0 result.1 result.2 stack.new.items end tree rest }
     ensures work { work_left stack.new.items + 1 ≡ work_left stack.old.items }
     ensures in_place { AreInPlace stack.old.items → IsInPlace (result.0, result.1, result.2) × AreInPlace stack.new.items }
 {
@@ -42,11 +43,14 @@ pub(crate) fn take_next<const N: usize>(stack: &mut Stack<N>) -> (u32, u32, u32)
 /// answers where those end.
 #[inline(always)]
 pub(crate) fn enter<const N: usize>(stack: &mut Stack<N>, object: &Object, end: u32) -> u32
-    requires fits { (m : List (List ℕ)) × (depth s w slot d : ℕ) × (tree : Tree) × (due : List Due) × IsNext m depth s w slot stack.old.items end tree due × IsObject m d s w tree object.now
+    requires fits { (m : List (List ℕ)) × (depth s w slot d : ℕ) × (tree : Tree) × (due : List Due) × IsNext m depth s w slot stack.old.items end tree due
+        × IsObject m d s w tree object.now
         × (d + length stack.old.items ≤ depth) × (depth ≤ N) × (N ≤ 256) }
-    ensures walking { (m : List (List ℕ)) (depth s w slot d : ℕ) (tree : Tree) (due : List Due) → IsNext m depth s w slot stack.old.items end tree due → IsObject m d s w tree object.now
+    ensures walking { (m : List (List ℕ)) (depth s w slot d : ℕ) (tree : Tree) (due : List Due) → IsNext m depth s w slot stack.old.items end tree due
+        → IsObject m d s w tree object.now
         → d + length stack.old.items ≤ depth → (result ≡ end + own_size tree) × IsWalking m depth stack.new.items result (below end tree ++ due) }
-    ensures work { (m : List (List ℕ)) (d s w : ℕ) (tree : Tree) → IsObject m d s w tree object.now → work_left stack.new.items ≤ work_left stack.old.items + own_size tree }
+    ensures work { (m : List (List ℕ)) (d s w : ℕ) (tree : Tree) → IsObject m d s w tree object.now
+        → work_left stack.new.items ≤ work_left stack.old.items + own_size tree }
     ensures in_place { AreInPlace stack.old.items → StandsIn end object.now → AreInPlace stack.new.items }
 {
     push_some(stack, frame_of(object, end));
@@ -69,7 +73,8 @@ fn push_some<const N: usize>(stack: &mut Stack<N>, frame: Option<Frame>)
 #[inline(always)]
 fn frame_of(object: &Object, end: u32) -> Option<Frame>
     requires { (m : List (List ℕ)) × (d s w : ℕ) × (tree : Tree) × IsMessage m × IsObject m d s w tree object.now × (end + own_size tree ≤ 268435457) }
-    ensures owed { (m : List (List ℕ)) (d s w depth n : ℕ) (tree : Tree) → IsObject m d s w tree object.now → d + n ≤ depth → AreOwed m depth (n + 1) (option_places result) (below end tree) }
+    ensures owed { (m : List (List ℕ)) (d s w depth n : ℕ) (tree : Tree) → IsObject m d s w tree object.now → d + n ≤ depth
+        → AreOwed m depth (n + 1) (option_places result) (below end tree) }
     ensures full { OptionFull result }
     ensures in_place { StandsIn end object.now → AllByRecursion IsInPlace (option_places result) }
 {

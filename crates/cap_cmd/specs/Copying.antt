@@ -42,7 +42,8 @@ module _ {S : Type 0} (gs : source.Ghosts S) where
 
   -- why no more than these words were put, at most so many: the input ended, a fault came, or one more was one too many
   abbrev pub StopsGiving : ℕ → List ℕ → S → S → Type 0
-  StopsGiving most own old new = EndsStream gs old new ⊎ (((fault : SourceFault) × GivesNone old new fault) ⊎ ((length own ≡ most) × ((word : ℕ) × Gives old new (word ∷ []))))
+  StopsGiving most own old new = EndsStream gs old new ⊎ (((fault : SourceFault) × GivesNone old new fault)
+      ⊎ ((length own ≡ most) × ((word : ℕ) × Gives old new (word ∷ []))))
 
 module _ {K : Type 0} (gk : sink.Ghosts K) where
   -- These words were put, and no fault came.
@@ -91,7 +92,8 @@ module _ {S K : Type 0} (gs : source.Ghosts S) (gk : sink.Ghosts K) where
     pub none : GivesNone gs mid new fault
     pub finishes : Finishes gk before after own
 
-  -- All words that were read were handed to the sink, in pieces of at most so many at once. It took those in front, and its output failed at the last piece, behind which no further word was read.
+  -- All words that were read were handed to the sink, in pieces of at most so many at once. It took those in front,
+  -- and its output failed at the last piece, behind which no further word was read.
   pub record StopsMidway (most : ℕ) (old new : S) (before after : K) (fault : OutFault) : Type 0 where
     pub done : List ℕ
     pub piece : List ℕ

@@ -1,4 +1,5 @@
--- The whole contract of each engine: what its answer says of its source and its output, and what it answers where the words are known (profile). gs, go and gk have the members of their types.
+-- The whole contract of each engine: what its answer says of its source and its output, and what it answers where the
+-- words are known (profile). gs, go and gk have the members of their types.
 use Rattle.std.specs.Prelude.{ℕ, ◌-◌, ◌≡◌, ◌<◌, ◌≤◌, ◌^◌, false, true, List, [], ◌∷◌, length, sum, take, drop, Some, Result, Ok, Err, IfOk, IfErr, IsErrOf}
 use Rattle.std.specs.List.{AllByRecursion}
 use Rattle.cap_spec.specs.Frames.{Stream, sizes_of}
@@ -31,17 +32,21 @@ most_messages = 2 ^ 32 - 1
 
 module _ {S O : Type 0} (gs : source.Ghosts S) (go : output.Ghosts O) where
   -- What an engine does that writes such texts of the messages of a stream, of at most so many messages, each of at most `limit` words.
-  pub record TellsStream (tells : ℕ → List (List ℕ) → List ℕ → Mark → Type 0) (limit most : ℕ) (old new : S) (before after : O) (answer : Result Outcome RunFault) : Type 0 where
+  pub record TellsStream (tells : ℕ → List (List ℕ) → List ℕ → Mark → Type 0) (limit most : ℕ)
+      (old new : S) (before after : O) (answer : Result Outcome RunFault) : Type 0 where
     -- All words of the source are frames of these messages, and of each its text was written.
-    pub ok : IfOk answer (λ outcome. (ts : List Told) × ReadsAll gs limit old new (messages_of ts) × TellsEach tells 0 ts × Appended go before after (texts_of ts)
+    pub ok : IfOk answer (λ outcome. (ts : List Told) × ReadsAll gs limit old new (messages_of ts) × TellsEach tells 0 ts
+        × Appended go before after (texts_of ts)
         × (length ts ≤ most) × (outcome ≡ outcome_of ts))
     -- The source stood at `mid` when the messages before the fault had been read.
-    pub err : IfErr answer (λ fault. (ts : List Told) × (mid : S) × (fault.message ≡ length ts) × (length ts ≤ most) × ReadsStream gs limit old mid (messages_of ts)
+    pub err : IfErr answer (λ fault. (ts : List Told) × (mid : S) × (fault.message ≡ length ts) × (length ts ≤ most)
+        × ReadsStream gs limit old mid (messages_of ts)
         × TellsEach tells 0 ts × RunStops gs go tells limit most ts mid new before after fault.cause)
     -- And the other way round: a stream of at most so many messages, each within the limit, is read to its end.
     pub whole : (own : List ℕ) (ms : List (List (List ℕ))) → gs.words old ≡ Some own → gs.is_cut old ≡ false → Stream own ms
         → AllByRecursion (λ m. sum (sizes_of m) ≤ limit) ms → length ms ≤ most →
-        Settled answer ((ts : List Told) × (messages_of ts ≡ ms) × TellsEach tells 0 ts × Appended go before after (texts_of ts) × (answer ≡ Ok (outcome_of ts)))
+        Settled answer ((ts : List Told) × (messages_of ts ≡ ms) × TellsEach tells 0 ts × Appended go before after (texts_of ts)
+        × (answer ≡ Ok (outcome_of ts)))
 
   -- What the engine does that shows the segments of each message, of at most so many messages, each of at most `limit` words.
   pub record ShowsStream (limit most : ℕ) (old new : S) (before after : O) (answer : Result Outcome RunFault) : Type 0 where
@@ -53,7 +58,8 @@ module _ {S O : Type 0} (gs : source.Ghosts S) (go : output.Ghosts O) where
         × ((mid : S) × (m : List (List ℕ)) × ShowsSegments gs go limit n old mid before after × ReadsStream gs limit mid new (m ∷ []))
     pub frame : (n : ℕ) (fault : FrameFault) → IsErrOf answer (record { message = n; cause = Frame fault }) → (n ≤ most)
         × ((mid : S) × ShowsSegments gs go limit n old mid before after × Faults gs limit mid new fault)
-    pub output : (n : ℕ) (fault : OutFault) → IsErrOf answer (record { message = n; cause = Output fault }) → (n < most) × StopsShowing gs go limit n old new before after fault
+    pub output : (n : ℕ) (fault : OutFault) → IsErrOf answer (record { message = n; cause = Output fault }) → (n < most)
+        × StopsShowing gs go limit n old new before after fault
     -- No memory is taken in reading.
     pub no_memory : (n : ℕ) → IsErrOf answer (record { message = n; cause = Frame Memory }) → ⊥
     -- And the other way round: a stream of at most so many messages, each within the limit, is read to its end.
@@ -70,7 +76,8 @@ module _ {S K : Type 0} (gs : source.Ghosts S) (gk : sink.Ghosts K) where
         CopySettled answer ((answer ≡ Ok (length own)) × Finishes gk before after own)
     -- The input ends inside a word behind them.
     pub cut_short : (own : List ℕ) → gs.words old ≡ Some own → gs.is_cut old ≡ true → length own ≤ most →
-        CopySettled answer ((byte : ℕ) × (answer ≡ Err (Source (Truncated byte))) × (drop (length own) (gs.places old) ≡ byte ∷ []) × Finishes gk before after own)
+        CopySettled answer ((byte : ℕ) × (answer ≡ Err (Source (Truncated byte))) × (drop (length own) (gs.places old) ≡ byte ∷ [])
+        × Finishes gk before after own)
     -- There are too many.
     pub many : (own : List ℕ) → gs.words old ≡ Some own → most < length own →
         CopySettled answer ((answer ≡ Err TooManyWords) × Finishes gk before after (take most own))

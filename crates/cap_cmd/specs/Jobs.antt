@@ -1,5 +1,6 @@
 -- What a job does: its engine gives an answer over the words of its input, and the status and the line of a fault tell that (profile).
--- The members of types have the letters of types: gi of the input's, gs of the source's over it, go and ge of the two outputs', gp of a packer's over the first, and gu of a plain sink's.
+-- The members of types have the letters of types: gi of the input's, gs of the source's over it, go and ge of the two
+-- outputs', gp of a packer's over the first, and gu of a plain sink's.
 use Rattle.std.specs.Prelude.{ℕ, ◌≡◌, ◌≤◌, ◌||◌, if◌then◌else◌, true, false, Bool, List, length, sum, [], Option, Some, OnSome, Result, Ok, Err, unwrap_or}
 use Rattle.std.specs.List.{AllByRecursion}
 use Rattle.std.specs.Option.{option_map}
@@ -96,11 +97,14 @@ module _ {S O E P U : Type 0} (gs : source.Ghosts S) (go : output.Ghosts O) (ge 
   DoesTask Segments s first before after old new status = (answer : Result Outcome RunFault) × (last : S)
       × ShowsStream gs go (limit_of s.size) s.messages first last before after answer × TellsRun ge answer old new status
   DoesTask Vet s first before after old new status = (answer : Result Outcome RunFault) × (last : S)
-      × TellsStream gs go (TellsVerdict (words_of s.limits) (depth_of s.limits)) (limit_of s.size) s.messages first last before after answer × TellsRun ge answer old new status
+      × TellsStream gs go (TellsVerdict (words_of s.limits) (depth_of s.limits)) (limit_of s.size) s.messages first last before after answer
+      × TellsRun ge answer old new status
   DoesTask Pack s first before after old new status = (answer : Result ℕ CopyFault) × (last : S) × (begun : P) × (ended : P)
-      × BeginsOutput go gp pack_text before begun × CopiesWords gs gp most_words first last begun ended answer × GivesOutput go gp ended after × TellsCopy ge answer old new status
+      × BeginsOutput go gp pack_text before begun × CopiesWords gs gp most_words first last begun ended answer × GivesOutput go gp ended after
+      × TellsCopy ge answer old new status
   DoesTask Unpack s first before after old new status = (answer : Result ℕ CopyFault) × (last : S) × (begun : U) × (ended : U)
-      × BeginsOutput go gu plain_text before begun × CopiesWords gs gu most_words first last begun ended answer × GivesOutput go gu ended after × TellsCopy ge answer old new status
+      × BeginsOutput go gu plain_text before begun × CopiesWords gs gu most_words first last begun ended answer × GivesOutput go gu ended after
+      × TellsCopy ge answer old new status
 
 module _ {I S O E P U : Type 0} (gi : input.Ghosts I) (gs : source.Ghosts S) (go : output.Ghosts O) (ge : output.Ghosts E) (gp : sink.Ghosts P) (gu : sink.Ghosts U) where
   -- A task is done over the words of an input, which is packed or not.

@@ -86,4 +86,5 @@ module _ {S O : Type 0} (gs : source.Ghosts S) (go : output.Ghosts O) where
       (length ts ≡ most) × Appended go before after (texts_of ts) × ((m : List (List ℕ)) × ReadsStream gs limit mid new (m ∷ []))
   RunStops tells limit most ts mid new before after (Frame fault) = Appended go before after (texts_of ts) × Faults gs limit mid new fault
   RunStops tells limit most ts mid new before after (Output fault) =
-      (t : Told) × (length ts < most) × tells (length ts) t.message t.text t.mark × ReadsStream gs limit mid new (t.message ∷ []) × StopsIn go before after fault (texts_of ts) t.text
+      (t : Told) × (length ts < most) × tells (length ts) t.message t.text t.mark × ReadsStream gs limit mid new (t.message ∷ [])
+      × StopsIn go before after fault (texts_of ts) t.text

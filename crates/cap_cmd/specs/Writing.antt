@@ -21,7 +21,8 @@ module _ {O : Type 0} (g : output.Ghosts O) where
 
   -- the output answered this fault, after a beginning of the text
   abbrev pub Stopped : O → O → OutFault → List ℕ → Type 0
-  Stopped old new Device text = DeviceFails (g.spent old) (g.failures old) (g.failures new) × (g.spent new ≡ true) × WritesPart (g.written old) (g.written new) text
+  Stopped old new Device text = DeviceFails (g.spent old) (g.failures old) (g.failures new) × (g.spent new ≡ true)
+      × WritesPart (g.written old) (g.written new) text
   Stopped old new Memory text = GrowthFails (g.spent old) (g.failures old) (g.failures new) × WritesPart (g.written old) (g.written new) text
   Stopped old new Spent text = (g.spent old ≡ true) × (new ≡ old)
 

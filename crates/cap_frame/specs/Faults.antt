@@ -76,7 +76,8 @@ module _ {X : Type 0} (g : source.Ghosts X) where
   -- what each fault says where the first word was taken before
   abbrev pub FaultsBehind : ℕ → ℕ → X → X → FrameFault → Type 0
   FaultsBehind limit first old new (TooManySegments count) = (count ≡ first % 2 ^ 32 + 1) × (512 < count) × (new ≡ old)
-  FaultsBehind limit first old new (TooLarge words) = ((sizes : List ℕ) × TakesTableBehind first old new sizes × (words ≡ sum sizes) × (limit < words)) × IsUsable g old new
+  FaultsBehind limit first old new (TooLarge words) = ((sizes : List ℕ) × TakesTableBehind first old new sizes × (words ≡ sum sizes) × (limit < words))
+      × IsUsable g old new
   FaultsBehind limit first old new (Truncated byte) = EndsBehind limit first old new byte
   FaultsBehind limit first old new Device = Breaks g old new
   FaultsBehind limit first old new Memory = ((sizes : List ℕ) × TakesTableBehind first old new sizes × (sum sizes ≤ limit)) × IsUsable g old new

@@ -113,7 +113,8 @@ pub(crate) fn skip_contents<S: WordSource>(
     requires usable { S.spent source.old ≡ false }
     requires some { 1 ≤ length sizes.now }
     requires few { length sizes.now ≤ 512 }
-    ensures ok { IfOk result (λ root. (m : List (List ℕ)) × Takes S.WordSource source.old source.new (joined m) × (sizes_of m ≡ sizes.now) × (root_of m ≡ root)) }
+    ensures ok { IfOk result (λ root. (m : List (List ℕ)) × Takes S.WordSource source.old source.new (joined m) × (sizes_of m ≡ sizes.now)
+        × (root_of m ≡ root)) }
     ensures works { OnOk result (IsUsable S.WordSource source.old source.new) }
     ensures reads { Reads S.WordSource source.old source.new }
     ensures err { IfErr result (Stops S.WordSource (sum sizes.now) source.old source.new) }

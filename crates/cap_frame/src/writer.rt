@@ -104,7 +104,8 @@ fn put_framed<K: WordSink, M: Segments>(sink: &mut K, message: &M) -> Result<(),
 pub fn write_message<K: WordSink, M: Segments>(sink: &mut K, message: &M) -> Result<(), SinkFault>
     ensures ok { OnOk result (WasPut K.text sink.old sink.new (frame_text (M.segments message.now))) }
     ensures was_open { OnOk result (K.closed sink.old ≡ false) }
-    ensures works { OnOk result ((K.closed sink.new ≡ K.closed sink.old) × (K.spent sink.new ≡ K.spent sink.old) × (K.failures sink.new ≡ K.failures sink.old)) }
+    ensures works { OnOk result ((K.closed sink.new ≡ K.closed sink.old) × (K.spent sink.new ≡ K.spent sink.old)
+        × (K.failures sink.new ≡ K.failures sink.old)) }
     ensures err { OnErr result ((K.closed sink.new ≡ true) × StoppedPutting K.text K.taken sink.old sink.new (frame_text (M.segments message.now))) }
     ensures for_good { K.closed sink.old ≡ true → (result ≡ Err SinkFault.Spent) × (sink.new ≡ sink.old) }
     ensures device { IsErrOf result SinkFault.Device → DeviceFails (K.spent sink.old) (K.failures sink.old) (K.failures sink.new) }

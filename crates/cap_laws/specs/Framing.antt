@@ -11,12 +11,14 @@ use Rattle.cap_spec.specs.Endings.{BeginsMessage, TellsTooMany, TellsTooMuch, En
 abbrev pub four_bytes : ℕ → List ℕ
 four_bytes x = little_bytes 4 x
 
--- Reading a message ends in exactly one of the five ways, for each limit and each list of words. (The number 2 ^ 64 alone, which is no word, would end in none.)
+-- Reading a message ends in exactly one of the five ways, for each limit and each list of words. (The number 2 ^ 64
+-- alone, which is no word, would end in none.)
 abbrev pub OneEnding : Type 0
 OneEnding = (limit : ℕ) (words : List ℕ) (cut : Bool) → AllByRecursion IsWord words →
     (ending : Ending) × EndsIn limit words cut ending × ((other : Ending) → EndsIn limit words cut other → other ≡ ending)
 
--- The bytes of a frame: the number of segments less one and the size of each, four bytes each, then no or four bytes of any padding, up to the next word, and the words of the segments.
+-- The bytes of a frame: the number of segments less one and the size of each, four bytes each, then no or four bytes
+-- of any padding, up to the next word, and the words of the segments.
 pub record FramesInBytes (bytes : List ℕ) (m : List (List ℕ)) : Type 0 where
   pub some : 1 ≤ length m
   pub few : length m ≤ 512

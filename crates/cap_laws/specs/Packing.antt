@@ -32,9 +32,12 @@ PackedByGroups = (pack_text [] ≡ [])
 abbrev pub GroupHasEnds : Type 0
 GroupHasEnds = (at : ℕ) (bytes words : List ℕ) (group : IsGroup bytes words) → length (group_ends at group) ≡ length words
 
--- The positions in packed bytes, behind so many: without bytes that of the end alone; with a group in front those of its words, and then those of what is behind it; in the beginning of a group those that the words which it gives have in the whole group, and then that of the end.
+-- The positions in packed bytes, behind so many: without bytes that of the end alone; with a group in front those of
+-- its words, and then those of what is behind it; in the beginning of a group those that the words which it gives
+-- have in the whole group, and then that of the end.
 abbrev pub EndsByGroups : Type 0
 EndsByGroups = ((at : ℕ) → packed_ends at [] ≡ capped at ∷ [])
-    × ((at : ℕ) (bytes words rest : List ℕ) (group : IsGroup bytes words) → packed_ends at (bytes ++ rest) ≡ group_ends at group ++ packed_ends (at + length bytes) rest)
+    × ((at : ℕ) (bytes words rest : List ℕ) (group : IsGroup bytes words) → packed_ends at (bytes ++ rest) ≡ group_ends at group
+    ++ packed_ends (at + length bytes) rest)
     × ((at : ℕ) (part lacking words : List ℕ) → part ≢ [] → lacking ≢ [] → (group : IsGroup (part ++ lacking) words) →
     packed_ends at part ≡ take (length (given_of part)) (group_ends at group) ++ capped (at + length part) ∷ [])

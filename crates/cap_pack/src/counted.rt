@@ -20,15 +20,20 @@ pub(crate) struct Counted<I: ByteIn> {
 impl<I: ByteIn> Counted<I> {
     /// The head of the next group, or `None` where the input ends before it.
     pub(crate) fn head(&mut self) -> Result<Option<Head>, SourceFault>
-        ensures head { IfOk result (λ o. IfSome o (λ g. (bs : List ℕ) × Took (I.to_come self.old.input) (I.to_come self.new.input) self.old.read self.new.read bs
-            × ((ys : List ℕ) → course 0 self.old.read (bs ++ ys) ≡ gives g.word self.new.read (zeros_then g.zeros self.new.read (course g.plain self.new.read ys))))) }
-        ensures none { result ≡ Ok None → Took (I.to_come self.old.input) (I.to_come self.new.input) self.old.read self.new.read [] × IsAtEnd (I.to_come self.new.input) × (self.new.read ≡ self.old.read) }
+        ensures head { IfOk result (λ o. IfSome o (λ g. (bs : List ℕ)
+            × Took (I.to_come self.old.input) (I.to_come self.new.input) self.old.read self.new.read bs
+            × ((ys : List ℕ) → course 0 self.old.read (bs ++ ys)
+            ≡ gives g.word self.new.read (zeros_then g.zeros self.new.read (course g.plain self.new.read ys))))) }
+        ensures none { result ≡ Ok None → Took (I.to_come self.old.input) (I.to_come self.new.input) self.old.read self.new.read []
+            × IsAtEnd (I.to_come self.new.input) × (self.new.read ≡ self.old.read) }
         ensures works { OnOk result (Works (I.spent self.old.input) (I.spent self.new.input) (I.failures self.old.input) (I.failures self.new.input)) }
         ensures truncated { (byte : ℕ) → IsErrOf result (SourceFault.Truncated byte) → (byte ≡ self.new.read)
             × ((bs : List ℕ) × Took (I.to_come self.old.input) (I.to_come self.new.input) self.old.read self.new.read bs
             × IsAtEnd (I.to_come self.new.input) × (course 0 self.old.read bs ≡ stops self.new.read)) }
-        ensures worked { (byte : ℕ) → IsErrOf result (SourceFault.Truncated byte) → Works (I.spent self.old.input) (I.spent self.new.input) (I.failures self.old.input) (I.failures self.new.input) }
-        ensures device { IsErrOf result SourceFault.Device → Fails (I.spent self.old.input) (I.failures self.old.input) (I.failures self.new.input) × (I.spent self.new.input ≡ true) }
+        ensures worked { (byte : ℕ) → IsErrOf result (SourceFault.Truncated byte)
+            → Works (I.spent self.old.input) (I.spent self.new.input) (I.failures self.old.input) (I.failures self.new.input) }
+        ensures device { IsErrOf result SourceFault.Device → Fails (I.spent self.old.input) (I.failures self.old.input) (I.failures self.new.input)
+            × (I.spent self.new.input ≡ true) }
         ensures reads { (bs : List ℕ) × Took (I.to_come self.old.input) (I.to_come self.new.input) self.old.read self.new.read bs }
         ensures was_spent { IsErrOf result SourceFault.Spent → (I.spent self.old.input ≡ true) × (self.new ≡ self.old) }
     {
@@ -55,8 +60,10 @@ impl<I: ByteIn> Counted<I> {
         ensures truncated { (byte : ℕ) → IsErrOf result (SourceFault.Truncated byte) → (byte ≡ self.new.read)
             × ((bs : List ℕ) × Took (I.to_come self.old.input) (I.to_come self.new.input) self.old.read self.new.read bs
             × IsAtEnd (I.to_come self.new.input) × ((n : ℕ) → course (suc n) self.old.read bs ≡ stops self.new.read)) }
-        ensures worked { (byte : ℕ) → IsErrOf result (SourceFault.Truncated byte) → Works (I.spent self.old.input) (I.spent self.new.input) (I.failures self.old.input) (I.failures self.new.input) }
-        ensures device { IsErrOf result SourceFault.Device → Fails (I.spent self.old.input) (I.failures self.old.input) (I.failures self.new.input) × (I.spent self.new.input ≡ true) }
+        ensures worked { (byte : ℕ) → IsErrOf result (SourceFault.Truncated byte)
+            → Works (I.spent self.old.input) (I.spent self.new.input) (I.failures self.old.input) (I.failures self.new.input) }
+        ensures device { IsErrOf result SourceFault.Device → Fails (I.spent self.old.input) (I.failures self.old.input) (I.failures self.new.input)
+            × (I.spent self.new.input ≡ true) }
         ensures reads { (bs : List ℕ) × Took (I.to_come self.old.input) (I.to_come self.new.input) self.old.read self.new.read bs }
         ensures was_spent { IsErrOf result SourceFault.Spent → (I.spent self.old.input ≡ true) × (self.new ≡ self.old) }
     {
@@ -75,8 +82,10 @@ impl<I: ByteIn> Counted<I> {
         ensures truncated { (byte : ℕ) → IsErrOf result (SourceFault.Truncated byte) → (byte ≡ self.new.read)
             × ((bs : List ℕ) × Took (I.to_come self.old.input) (I.to_come self.new.input) self.old.read self.new.read bs
             × IsAtEnd (I.to_come self.new.input) × (length bs < length buf.new)) }
-        ensures worked { (byte : ℕ) → IsErrOf result (SourceFault.Truncated byte) → Works (I.spent self.old.input) (I.spent self.new.input) (I.failures self.old.input) (I.failures self.new.input) }
-        ensures device { IsErrOf result SourceFault.Device → Fails (I.spent self.old.input) (I.failures self.old.input) (I.failures self.new.input) × (I.spent self.new.input ≡ true) }
+        ensures worked { (byte : ℕ) → IsErrOf result (SourceFault.Truncated byte)
+            → Works (I.spent self.old.input) (I.spent self.new.input) (I.failures self.old.input) (I.failures self.new.input) }
+        ensures device { IsErrOf result SourceFault.Device → Fails (I.spent self.old.input) (I.failures self.old.input) (I.failures self.new.input)
+            × (I.spent self.new.input ≡ true) }
         ensures reads { (bs : List ℕ) × Took (I.to_come self.old.input) (I.to_come self.new.input) self.old.read self.new.read bs }
         ensures was_spent { IsErrOf result SourceFault.Spent → (I.spent self.old.input ≡ true) × (self.new ≡ self.old) }
     {
@@ -97,7 +106,8 @@ impl<I: ByteIn> Counted<I> {
         ensures end { IfOk result (λ n. n < length buf.new → IsAtEnd (I.to_come self.new.input)) }
         ensures still { result ≡ Ok 0 → self.new.read ≡ self.old.read }
         ensures works { OnOk result (Works (I.spent self.old.input) (I.spent self.new.input) (I.failures self.old.input) (I.failures self.new.input)) }
-        ensures device { IsErrOf result InFault.Device → Fails (I.spent self.old.input) (I.failures self.old.input) (I.failures self.new.input) × (I.spent self.new.input ≡ true) }
+        ensures device { IsErrOf result InFault.Device → Fails (I.spent self.old.input) (I.failures self.old.input) (I.failures self.new.input)
+            × (I.spent self.new.input ≡ true) }
         ensures reads { (bs : List ℕ) × Took (I.to_come self.old.input) (I.to_come self.new.input) self.old.read self.new.read bs }
         ensures was_spent { IsErrOf result InFault.Spent → (I.spent self.old.input ≡ true) × (self.new ≡ self.old) }
     {

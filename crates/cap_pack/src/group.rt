@@ -36,7 +36,8 @@ pub(crate) fn write_group<O: ByteOut>(
     ensures err { OnErr result ((n : ℕ) × Appends (O.written output.old) (O.written output.new) (take n (group_bytes group words.now))) }
     ensures works { OnOk result ((O.spent output.new ≡ O.spent output.old) × (O.failures output.new ≡ O.failures output.old)) }
     ensures idle { OnOk result (O.spent output.new ≡ true → output.new ≡ output.old) }
-    ensures device { IsErrOf result OutFault.Device → DeviceFails (O.spent output.old) (O.failures output.old) (O.failures output.new) × (O.spent output.new ≡ true) }
+    ensures device { IsErrOf result OutFault.Device → DeviceFails (O.spent output.old) (O.failures output.old) (O.failures output.new)
+        × (O.spent output.new ≡ true) }
     ensures memory { IsErrOf result OutFault.Memory → GrowthFails (O.spent output.old) (O.failures output.old) (O.failures output.new) }
     ensures was_spent { IsErrOf result OutFault.Spent → (O.spent output.old ≡ true) × (output.new ≡ output.old) }
 {
@@ -55,7 +56,8 @@ pub(crate) fn write_marked<O: ByteOut>(output: &mut O, word: u64) -> Result<(), 
     ensures ok { OnOk result (Appends (O.written output.old) (O.written output.new) (tag_of (word_bytes word) ∷ filter (λ b. not (b == 0)) (word_bytes word))) }
     ensures err { OnErr result ((n : ℕ) × Appends (O.written output.old) (O.written output.new) (take n (tag_of (word_bytes word) ∷ filter (λ b. not (b == 0)) (word_bytes word)))) }
     ensures works { OnOk result ((O.spent output.new ≡ O.spent output.old) × (O.failures output.new ≡ O.failures output.old)) }
-    ensures device { IsErrOf result OutFault.Device → DeviceFails (O.spent output.old) (O.failures output.old) (O.failures output.new) × (O.spent output.new ≡ true) }
+    ensures device { IsErrOf result OutFault.Device → DeviceFails (O.spent output.old) (O.failures output.old) (O.failures output.new)
+        × (O.spent output.new ≡ true) }
     ensures memory { IsErrOf result OutFault.Memory → GrowthFails (O.spent output.old) (O.failures output.old) (O.failures output.new) }
     ensures was_spent { IsErrOf result OutFault.Spent → (O.spent output.old ≡ true) × (output.new ≡ output.old) }
 {

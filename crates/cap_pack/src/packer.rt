@@ -42,7 +42,8 @@ impl<O: ByteOut> Packer<O> {
         ensures taken { (s : Packer O) → ⟦<Packer<O> as WordSink>⟧.taken s ≡ O.written (output_of s) }
         ensures when_spent { (s : Packer O) → ⟦<Packer<O> as WordSink>⟧.spent s ≡ (⟦<Packer<O> as WordSink>⟧.closed s || O.spent (output_of s)) }
         ensures failures { (s : Packer O) → ⟦<Packer<O> as WordSink>⟧.failures s ≡ O.failures (output_of s) }
-        ensures text { (s : Packer O) → (h : List ℕ) × (group_size h ≡ length h) × ((ws : List ℕ) → ⟦<Packer<O> as WordSink>⟧.text s ws ≡ append_known (⟦<Packer<O> as WordSink>⟧.taken s) (pack_text (h ++ ws))) }
+        ensures text { (s : Packer O) → (h : List ℕ) × (group_size h ≡ length h)
+            × ((ws : List ℕ) → ⟦<Packer<O> as WordSink>⟧.text s ws ≡ append_known (⟦<Packer<O> as WordSink>⟧.taken s) (pack_text (h ++ ws))) }
     {
         Packer {
             output,
@@ -64,7 +65,9 @@ impl<O: ByteOut> Packer<O> {
     fn join(&mut self, word: u64) -> bool
         ensures output { (self.new.output ≡ self.old.output) × (self.new.closed ≡ self.old.closed) }
         ensures joined { result ≡ true → held self.new.group self.new.words ≡ held self.old.group self.old.words ++ word ∷ [] }
-        ensures apart { result ≡ false → (self.new ≡ self.old) × ((ws : List ℕ) → pack_text (held self.old.group self.old.words ++ word ∷ ws) ≡ group_bytes self.old.group self.old.words ++ pack_text (word ∷ ws)) }
+        ensures apart { result ≡ false → (self.new ≡ self.old)
+            × ((ws : List ℕ) → pack_text (held self.old.group self.old.words ++ word ∷ ws) ≡ group_bytes self.old.group self.old.words
+            ++ pack_text (word ∷ ws)) }
     {
         match self.group {
             Group::Empty => false,
@@ -92,9 +95,12 @@ impl<O: ByteOut> Packer<O> {
 
     // Writes the open group, which the word doesn't go on with, and begins the next one with it.
     fn start(&mut self, word: u64) -> Result<(), OutFault>
-        requires { (ws : List ℕ) → pack_text (held self.old.group self.old.words ++ word ∷ ws) ≡ group_bytes self.old.group self.old.words ++ pack_text (word ∷ ws) }
-        ensures ok { OnOk result ((ws : List ℕ) → Keeps (append_known (O.written self.old.output) (pack_text (held self.old.group self.old.words ++ word ∷ ws))) (append_known (O.written self.new.output) (pack_text (held self.new.group self.new.words ++ ws)))) }
-        ensures err { OnErr result ((ws : List ℕ) → Begins (append_known (O.written self.old.output) (pack_text (held self.old.group self.old.words ++ word ∷ ws))) (O.written self.new.output)) }
+        requires { (ws : List ℕ) → pack_text (held self.old.group self.old.words ++ word ∷ ws) ≡ group_bytes self.old.group self.old.words
+            ++ pack_text (word ∷ ws) }
+        ensures ok { OnOk result ((ws : List ℕ) → Keeps (append_known (O.written self.old.output) (pack_text (held self.old.group self.old.words
+            ++ word ∷ ws))) (append_known (O.written self.new.output) (pack_text (held self.new.group self.new.words ++ ws)))) }
+        ensures err { OnErr result ((ws : List ℕ) → Begins (append_known (O.written self.old.output) (pack_text (held self.old.group self.old.words
+            ++ word ∷ ws))) (O.written self.new.output)) }
         ensures works { OnOk result ((O.spent self.new.output ≡ O.spent self.old.output) × (O.failures self.new.output ≡ O.failures self.old.output)) }
         ensures device { IsErrOf result OutFault.Device → DeviceFails (O.spent self.old.output) (O.failures self.old.output) (O.failures self.new.output) }
         ensures memory { IsErrOf result OutFault.Memory → GrowthFails (O.spent self.old.output) (O.failures self.old.output) (O.failures self.new.output) }

@@ -30,7 +30,8 @@ IsOffset offset = (neg_ℤ (pos (2 ^ 29)) ≤ℤ offset) × (offset <ℤ pos (2 
 -- the fields fit their bits, a struct isn't all zeros, and a reserved word is one
 abbrev pub IsPointer : Pointer → Type 0
 IsPointer Null = Unit {0}
-IsPointer (Struct offset data_words pointers) = IsOffset offset × (data_words < 2 ^ 16) × (pointers < 2 ^ 16) × ((offset ≢ pos 0) ⊎ ((data_words ≢ 0) ⊎ (pointers ≢ 0)))
+IsPointer (Struct offset data_words pointers) = IsOffset offset × (data_words < 2 ^ 16) × (pointers < 2 ^ 16)
+    × ((offset ≢ pos 0) ⊎ ((data_words ≢ 0) ⊎ (pointers ≢ 0)))
 IsPointer (List offset c size) = IsOffset offset × (c < 2 ^ 3) × (size < 2 ^ 29)
 IsPointer (Far both place segment) = (place < 2 ^ 29) × (segment < 2 ^ 32)
 IsPointer (Cap index) = index < 2 ^ 32

@@ -1,4 +1,5 @@
--- What stands at a spot of a message: its kind, and its n words from t:b on, the tag of a list of structs among them (standard: Objects; paths are the profile's).
+-- What stands at a spot of a message: its kind, and its n words from t:b on, the tag of a list of structs among them
+-- (standard: Objects; paths are the profile's).
 use Rattle.std.specs.Prelude.{ℕ, ◌+◌, ◌<◌, ◌≡◌, List}
 use Rattle.cap_spec.specs.Messages.{HasWord}
 use Rattle.cap_spec.specs.Pointers.{kind, middle, code, data_size, pointer_size, list_size, extent}

@@ -1,4 +1,5 @@
--- The trimmed tree and the words of its one layout (standard: Canonicalization; offsets of empty structs, unused bits, empty lists and list roots are the profile's).
+-- The trimmed tree and the words of its one layout (standard: Canonicalization; offsets of empty structs, unused
+-- bits, empty lists and list roots are the profile's).
 use Rattle.std.specs.Prelude.{ℕ, zero, suc, ◌+◌, ◌-◌, ◌*◌, ◌^◌, max, List, [], ◌∷◌, ◌++◌, length, take, Bool, true, false, ◌==◌, if◌then◌else◌}
 use Rattle.cap_spec.specs.Tree.{Tree, null, cap, struct, scalars, pointers, structs, Trees, none, more, tree_count}
 use Rattle.cap_spec.specs.Pointers.{list_words}

@@ -1,4 +1,5 @@
--- Which tree a pointer word denotes, at what charge and depth (standard: Objects, Structs, Lists; charge and depth are the profile's reading of Security Considerations).
+-- Which tree a pointer word denotes, at what charge and depth (standard: Objects, Structs, Lists; charge and depth
+-- are the profile's reading of Security Considerations).
 use Rattle.std.specs.Prelude.{ℕ, suc, ◌+◌, ◌*◌, ◌/◌, ◌%◌, ◌<◌, ◌≡◌, max, List, [], ◌∷◌, map, pos, slice_index, slice_range}
 use Rattle.std.specs.List.{range_with_len}
 use Rattle.cap_spec.specs.Words.{field}

@@ -22,7 +22,8 @@ AreShallow m depth paths = (p : List Step) (level s w : ℕ) → IsOneOf p paths
 pub data IsFirstReason (m : List (List ℕ)) (words depth before s w level : ℕ) (v : Reason) : Type 0 where
   is_wrong : Wrong m s w v → IsFirstReason m words depth before s w level v
   is_deep : v ≡ DepthLimit → IsDeepAt m depth s w level → IsFirstReason m words depth before s w level v
-  is_past : (cost : ℕ) → v ≡ WordLimit → ¬ IsDeepAt m depth s w level → Costs m s w cost → words < before + cost → IsFirstReason m words depth before s w level v
+  is_past : (cost : ℕ) → v ≡ WordLimit → ¬ IsDeepAt m depth s w level → Costs m s w cost → words < before + cost
+      → IsFirstReason m words depth before s w level v
 
 -- The refusal names the pointer that this path reaches: the paths before it, in preorder, keep to the limits, and the reason is the first that applies there.
 pub record IsFirstFault (m : List (List ℕ)) (words depth : ℕ) (refusal : Refusal) : Type 0 where

@@ -33,8 +33,10 @@ IsTag q = (kind q < 2) × (middle q ≡ 0)
 -- With k pad words, the pointer word at s:w leads there.
 pub data Leads (m : List (List ℕ)) (s w k : ℕ) (r : Lead) : Type 0 where
   near : (p : ℕ) → HasWord m s w p → kind p ≢ 2 → Says s w p r → k ≡ 0 → Leads m s w k r
-  one_pad : (p q : ℕ) → HasWord m s w p → IsOnePad p → HasWord m (far_segment p) (pad p) q → kind q ≢ 2 → Says (far_segment p) (pad p) q r → k ≡ 1 → Leads m s w k r
-  two_pads : (p f q : ℕ) → HasWord m s w p → IsTwoPad p → HasWord m (far_segment p) (pad p) f → HasWord m (far_segment p) (pad p + 1) q → IsOnePad f → IsTag q → r ≡ to_object (far_segment f) (pos (pad f)) q → k ≡ 2 → Leads m s w k r
+  one_pad : (p q : ℕ) → HasWord m s w p → IsOnePad p → HasWord m (far_segment p) (pad p) q → kind q ≢ 2 → Says (far_segment p) (pad p) q r → k ≡ 1
+      → Leads m s w k r
+  two_pads : (p f q : ℕ) → HasWord m s w p → IsTwoPad p → HasWord m (far_segment p) (pad p) f → HasWord m (far_segment p) (pad p + 1) q → IsOnePad f → IsTag q
+      → r ≡ to_object (far_segment f) (pos (pad f)) q → k ≡ 2 → Leads m s w k r
 
 -- a composite list: its tag
 abbrev pub IsComposite : ℕ → Type 0
@@ -69,15 +71,21 @@ Outside m t b q = (t < length m) × ((b <ℤ pos 0) ⊎ (pos (length (segment_of
 abbrev pub Condition : List (List ℕ) → ℕ → ℕ → Reason → Type 0
 Condition m s w NoRoot = ⊥
 Condition m s w Reserved = (p : ℕ) × HasWord m s w p × (IsReserved p ⊎ (IsOnePad p × (q : ℕ) × HasWord m (far_segment p) (pad p) q × IsReserved q))
-Condition m s w SegmentMissing = (p : ℕ) × HasWord m s w p × IsFar p × ((length m ≤ far_segment p) ⊎ ((two p ≡ 1) × (f q : ℕ) × HasWord m (far_segment p) (pad p) f × HasWord m (far_segment p) (pad p + 1) q × IsOnePad f × (length m ≤ far_segment f)))
+Condition m s w SegmentMissing = (p : ℕ) × HasWord m s w p × IsFar p
+    × ((length m ≤ far_segment p) ⊎ ((two p ≡ 1) × (f q : ℕ) × HasWord m (far_segment p) (pad p) f × HasWord m (far_segment p) (pad p + 1) q × IsOnePad f
+    × (length m ≤ far_segment f)))
 Condition m s w PadOutside = (p : ℕ) × HasWord m s w p × IsFar p × PadMissing m p (two p + 1)
 Condition m s w PadIsFar = (p q : ℕ) × HasWord m s w p × IsOnePad p × HasWord m (far_segment p) (pad p) q × IsFar q
-Condition m s w PadNotFar = (p f q : ℕ) × HasWord m s w p × IsTwoPad p × HasWord m (far_segment p) (pad p) f × HasWord m (far_segment p) (pad p + 1) q × ¬ IsOnePad f
-Condition m s w TagKind = (p f q : ℕ) × HasWord m s w p × IsTwoPad p × HasWord m (far_segment p) (pad p) f × HasWord m (far_segment p) (pad p + 1) q × (2 ≤ kind q)
-Condition m s w TagOffset = (p f q : ℕ) × HasWord m s w p × IsTwoPad p × HasWord m (far_segment p) (pad p) f × HasWord m (far_segment p) (pad p + 1) q × (middle q ≢ 0)
+Condition m s w PadNotFar = (p f q : ℕ) × HasWord m s w p × IsTwoPad p × HasWord m (far_segment p) (pad p) f × HasWord m (far_segment p) (pad p + 1) q
+    × ¬ IsOnePad f
+Condition m s w TagKind = (p f q : ℕ) × HasWord m s w p × IsTwoPad p × HasWord m (far_segment p) (pad p) f × HasWord m (far_segment p) (pad p + 1) q
+    × (2 ≤ kind q)
+Condition m s w TagOffset = (p f q : ℕ) × HasWord m s w p × IsTwoPad p × HasWord m (far_segment p) (pad p) f × HasWord m (far_segment p) (pad p + 1) q
+    × (middle q ≢ 0)
 Condition m s w OutOfSegment = (k : ℕ) × (t : ℕ) × (b : ℤ) × (q : ℕ) × Leads m s w k (to_object t b q) × Outside m t b q
 Condition m s w CompositeTag = (k t b q tag : ℕ) × Leads m s w k (to_object t (pos b) q) × IsComposite q × HasWord m t b tag × (kind tag ≢ 0)
-Condition m s w CompositeOverrun = (k t b q tag : ℕ) × Leads m s w k (to_object t (pos b) q) × IsComposite q × HasWord m t b tag × (list_size q < middle tag * (data_size tag + pointer_size tag))
+Condition m s w CompositeOverrun = (k t b q tag : ℕ) × Leads m s w k (to_object t (pos b) q) × IsComposite q × HasWord m t b tag
+    × (list_size q < middle tag * (data_size tag + pointer_size tag))
 Condition m s w DepthLimit = ⊥
 Condition m s w WordLimit = ⊥
 

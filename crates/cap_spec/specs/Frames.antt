@@ -1,4 +1,5 @@
--- The words that frame a message: a table of half words, and then the words of its segments (standard: Serialization Over a Stream; any padding is the profile's).
+-- The words that frame a message: a table of half words, and then the words of its segments (standard: Serialization
+-- Over a Stream; any padding is the profile's).
 use Rattle.std.specs.Prelude.{ℕ, ◌+◌, ◌-◌, ◌*◌, ◌/◌, ◌%◌, ◌^◌, ◌<◌, ◌≤◌, ◌≡◌, Bool, true, List, [], ◌∷◌, ◌++◌, length, map, sum}
 use Rattle.std.specs.List.{flat_map, AllByRecursion}
 
@@ -55,4 +56,5 @@ pub data IsPartial (limit : ℕ) (words : List ℕ) (cut : Bool) : Type 0 where
   -- a table of n div 2 + 1 words isn't whole
   in_table : (first : ℕ) (rest : List ℕ) → words ≡ first ∷ rest → first % 2 ^ 32 < 512 → length rest < (first % 2 ^ 32 + 1) / 2 → IsPartial limit words cut
   -- the contents aren't whole
-  in_contents : (table sizes rest : List ℕ) → words ≡ table ++ rest → IsTable table sizes → sum sizes ≤ limit → length rest < sum sizes → IsPartial limit words cut
+  in_contents : (table sizes rest : List ℕ) → words ≡ table ++ rest → IsTable table sizes → sum sizes ≤ limit → length rest < sum sizes
+      → IsPartial limit words cut

@@ -8,7 +8,8 @@ abbrev pub word_ends : ℕ → ℕ → List ℕ
 word_ends at zero = []
 word_ends at (suc n) = capped (at + 8) ∷ word_ends (at + 8) n
 
--- Behind so many bytes, the position after each word of a group. It is the end of the group's head, but for a word behind the head of a run of words as they are, where it is the end of the word.
+-- Behind so many bytes, the position after each word of a group. It is the end of the group's head, but for a word
+-- behind the head of a run of words as they are, where it is the end of the word.
 abbrev pub group_ends : {bytes words : List ℕ} → ℕ → IsGroup bytes words → List ℕ
 group_ends at (zeros n few text spelled) = replicate (1 + n) (capped (at + 2))
 group_ends at (plain x more first all few text spelled) = capped (at + 10) ∷ word_ends (at + 10) (length more)

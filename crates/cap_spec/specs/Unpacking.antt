@@ -1,4 +1,5 @@
--- Packed text: which bytes spell which words, and what is given of bytes that end inside a group (standard: Packing; present zero bytes and runs across messages are the profile's).
+-- Packed text: which bytes spell which words, and what is given of bytes that end inside a group (standard: Packing;
+-- present zero bytes and runs across messages are the profile's).
 use Rattle.std.specs.Prelude.{ℕ, zero, suc, ◌+◌, ◌*◌, ◌/◌, ◌%◌, ◌<◌, ◌≡◌, ◌≢◌, ◌==◌, if◌then◌else◌, nat_lt, Bool, true, false, List, [], ◌∷◌, ◌++◌, length, take, drop, slice_index, replicate}
 use Rattle.std.specs.List.{flat_map, AllByRecursion}
 use Rattle.cap_spec.specs.Words.{IsWord}
@@ -20,9 +21,11 @@ pub data IsGroup (bytes words : List ℕ) : Type 0 where
   -- a run of zero words
   zeros : (n : ℕ) → n < 256 → bytes ≡ 0 ∷ n ∷ [] → words ≡ replicate (1 + n) 0 → IsGroup bytes words
   -- a word as it is, and more words as they are
-  plain : (x : ℕ) (more : List ℕ) → IsWord x → AllByRecursion IsWord more → length more < 256 → bytes ≡ 255 ∷ (word_bytes x ++ length more ∷ plain_text more) → words ≡ x ∷ more → IsGroup bytes words
+  plain : (x : ℕ) (more : List ℕ) → IsWord x → AllByRecursion IsWord more → length more < 256 → bytes ≡ 255 ∷ (word_bytes x ++ length more ∷ plain_text more)
+      → words ≡ x ∷ more → IsGroup bytes words
   -- a word by the bytes that its tag marks
-  marked : (tag : ℕ) (present : List ℕ) → 0 < tag → tag < 255 → AllByRecursion (λ b. b < 256) present → length present ≡ marks 8 tag → bytes ≡ tag ∷ present → words ≡ spread 8 tag present ∷ [] → IsGroup bytes words
+  marked : (tag : ℕ) (present : List ℕ) → 0 < tag → tag < 255 → AllByRecursion (λ b. b < 256) present → length present ≡ marks 8 tag → bytes ≡ tag ∷ present
+      → words ≡ spread 8 tag present ∷ [] → IsGroup bytes words
 
 -- a group and its words
 abbrev pub Groups : Type 0
@@ -76,7 +79,8 @@ group_words (tag ∷ bytes) =
 -- the words that bytes give, and whether they end inside a group, in at most so many groups
 abbrev pub given_in : ℕ → List ℕ → List ℕ
 given_in zero bytes = []
-given_in (suc n) bytes = if nat_lt (length bytes) (group_length bytes) then given_of bytes else (group_words bytes ++ given_in n (drop (group_length bytes) bytes))
+given_in (suc n) bytes = if nat_lt (length bytes) (group_length bytes) then given_of bytes else (group_words bytes
+    ++ given_in n (drop (group_length bytes) bytes))
 
 abbrev pub is_cut_in : ℕ → List ℕ → Bool
 is_cut_in zero bytes = false

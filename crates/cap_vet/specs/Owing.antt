@@ -28,7 +28,8 @@ pub record Completes (m : List (List ℕ)) (counted : Counted) (charge top point
 
 -- Whatever the words ahead denote completes a tree of the root.
 pub record IsCount (m : List (List ℕ)) (counted : Counted) (ahead : List Ahead) : Type 0 where
-  pub completes : (charge top pointers caps : ℕ) → Owe m ahead charge top pointers caps → (t : Tree) × (d : ℕ) × Completes m counted charge top pointers caps t d
+  pub completes : (charge top pointers caps : ℕ) → Owe m ahead charge top pointers caps → (t : Tree) × (d : ℕ)
+      × Completes m counted charge top pointers caps t d
 
 -- no level ahead is more than one below the deepest so far
 abbrev pub AreNear : ℕ → List Ahead → Type 0

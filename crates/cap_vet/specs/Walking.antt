@@ -29,7 +29,8 @@ IsFirstOf m seen (Some place) =
     (p : List Step) × IsOneOf p seen × LeadsToCap m p place.0 place.1 × ((q : List Step) (s w : ℕ) → IsOneOf q seen → Before q p → ¬ LeadsToCap m q s w)
 
 -- What was looked at and what is ahead make a trail, whose numbers are these and whose first capability stands at first.
-pub record Progress (m : List (List ℕ)) (words depth : ℕ) (charge deepest pointers caps : ℕ) (first : Option (ℕ × ℕ)) (seen : List (List Step)) (ahead : List Ahead) : Type 0 where
+pub record Progress (m : List (List ℕ)) (words depth : ℕ) (charge deepest pointers caps : ℕ) (first : Option (ℕ
+    × ℕ)) (seen : List (List Step)) (ahead : List Ahead) : Type 0 where
   pub trail : IsTrail m seen ahead
   pub count : IsCount m record { charge = charge; depth = deepest; pointers = pointers; caps = caps } ahead
   pub near : AreNear deepest ahead

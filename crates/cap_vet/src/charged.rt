@@ -39,7 +39,8 @@ fn charge<M: Segments>(
     requires level { level < 2 ^ 63 }
     ensures ok { IfOk result (λ r. IsFound (M.segments message.now) (word s w) r.0 × Costs (M.segments message.now) s w r.1 × (r.1 ≤ left)) }
     ensures shallow { OnOk result (¬ IsDeepAt (M.segments message.now) depth s w level) }
-    ensures err { (words before : ℕ) → left ≡ words - before → before ≤ words → IfErr result (IsFirstReason (M.segments message.now) words depth before s w level) }
+    ensures err { (words before : ℕ) → left ≡ words - before → before ≤ words
+        → IfErr result (IsFirstReason (M.segments message.now) words depth before s w level) }
 {
     match follow(message, s, w) {
         Err(reason) => Err(reason),
@@ -172,11 +173,13 @@ impl Arrival {
         requires levels { self.now.level < 2 ^ 61 }
         requires few { self.now.pointers < 2 ^ 61 }
         ensures ok { (path : List Step) (a : Where) (step : Step) → Arrives (M.segments message.now) words depth path a self.now →
-            Goes (M.segments message.now) a step (word_at segment word) → IfOk result (Arrives (M.segments message.now) words depth (path ++ step ∷ []) (word_at segment word)) }
+            Goes (M.segments message.now) a step (word_at segment word)
+            → IfOk result (Arrives (M.segments message.now) words depth (path ++ step ∷ []) (word_at segment word)) }
         ensures level { IfOk result (λ next. next.level ≡ self.now.level + 1) }
         ensures pointers { IfOk result (λ next. next.pointers ≡ self.now.pointers + 1) }
         ensures err { (path : List Step) (a : Where) (step : Step) → Arrives (M.segments message.now) words depth path a self.now →
-            Goes (M.segments message.now) a step (word_at segment word) → IfErr result (IsFaultOnPath (M.segments message.now) words depth (path ++ step ∷ [])) }
+            Goes (M.segments message.now) a step (word_at segment word)
+            → IfErr result (IsFaultOnPath (M.segments message.now) words depth (path ++ step ∷ [])) }
     {
         let level = self.level + 1;
         let pointers = self.pointers + 1;

@@ -32,7 +32,8 @@ pub(crate) fn levels_taken(shape: &Shape) -> u32
 
 // The pointer words of an object of this level.
 pub(crate) fn frame_of(target: &Target, level: u32) -> Option<Frame>
-    requires found { (m : List (List ℕ)) × (s w q tag : ℕ) × IsMessage m × FindsObject m s w target.now.pads target.now.segment target.now.start q tag target.now.words target.now.charge target.now.shape }
+    requires found { (m : List (List ℕ)) × (s w q tag : ℕ) × IsMessage m
+        × FindsObject m s w target.now.pads target.now.segment target.now.start q tag target.now.words target.now.charge target.now.shape }
     requires level { level < 2 ^ 31 }
     ensures places { (m : List (List ℕ)) (s w q tag : ℕ) → FindsObject m s w target.now.pads target.now.segment target.now.start q tag target.now.words target.now.charge target.now.shape →
         option_spots result ≡ object_places q tag target.now.segment target.now.start level }

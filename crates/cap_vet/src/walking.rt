@@ -64,7 +64,8 @@ pub(crate) fn push_some<const N: usize>(stack: &mut Stack<N>, frame: Option<Fram
 // Counts a pointer word, and gives the frame of its object's pointers.
 #[inline(always)]
 fn add(report: &mut Report, s: u32, w: u32, looked: Looked) -> Option<Frame>
-    requires room { ((added report.old s w looked).charge < 2 ^ 64) × ((added report.old s w looked).pointers < 2 ^ 64) × ((added report.old s w looked).caps < 2 ^ 64) }
+    requires room { ((added report.old s w looked).charge < 2 ^ 64) × ((added report.old s w looked).pointers < 2 ^ 64)
+        × ((added report.old s w looked).caps < 2 ^ 64) }
     ensures report { report.new ≡ added report.old s w looked }
     ensures frame { result ≡ frame_below looked }
 {

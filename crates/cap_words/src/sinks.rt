@@ -51,7 +51,8 @@ pub trait WordSink {
     /// beginning of the text.
     fn put(&mut self, word: u64) -> Result<(), SinkFault>
         ensures put { OnOk result (WasPut text self.old self.new (word ∷ [])) }
-        ensures ok { OnOk result ((closed self.old ≡ false) × (closed self.new ≡ false) × (spent self.new ≡ spent self.old) × (failures self.new ≡ failures self.old)) }
+        ensures ok { OnOk result ((closed self.old ≡ false) × (closed self.new ≡ false) × (spent self.new ≡ spent self.old)
+            × (failures self.new ≡ failures self.old)) }
         ensures err { OnErr result ((closed self.new ≡ true) × ((ws : List ℕ) → Begins (text self.old (word ∷ ws)) (taken self.new))) }
         ensures stays { closed self.old ≡ true → (result ≡ Err SinkFault.Spent) × (self.new ≡ self.old) }
         ensures device { IsErrOf result SinkFault.Device → DeviceFails (spent self.old) (failures self.old) (failures self.new) }

@@ -81,7 +81,8 @@ pub fn write_all<O: ByteOut>(output: &mut O, bytes: &[u8]) -> Result<(), OutFaul
     ensures err { OnErr result ((n : ℕ) × (n < length bytes.now) × Appends (O.written output.old) (O.written output.new) (take n bytes.now)) }
     ensures no_bytes { bytes.now ≡ [] → (result ≡ Ok tt) × (output.new ≡ output.old) }
     ensures works { 0 < length bytes.now → OnOk result (Works (O.spent output.old) (O.spent output.new) (O.failures output.old) (O.failures output.new)) }
-    ensures device { IsErrOf result OutFault.Device → DeviceFails (O.spent output.old) (O.failures output.old) (O.failures output.new) × (O.spent output.new ≡ true) }
+    ensures device { IsErrOf result OutFault.Device → DeviceFails (O.spent output.old) (O.failures output.old) (O.failures output.new)
+        × (O.spent output.new ≡ true) }
     ensures memory { IsErrOf result OutFault.Memory → GrowthFails (O.spent output.old) (O.failures output.old) (O.failures output.new) }
     ensures was_spent { IsErrOf result OutFault.Spent → (O.spent output.old ≡ true) × (output.new ≡ output.old) }
 {

@@ -55,7 +55,8 @@ impl ByteOut for VecOut {
         ensures for_good { vec_spent self.old ≡ true → self.new ≡ self.old }
         ensures some { 0 < length buf.now → IfOk result (λ n. 0 < n) }
         ensures ok { 0 < length buf.now → OnOk result (Works (vec_spent self.old) (vec_spent self.new) (vec_failures self.old) (vec_failures self.new)) }
-        ensures device { IsErrOf result OutFault.Device → DeviceFails (vec_spent self.old) (vec_failures self.old) (vec_failures self.new) × (vec_spent self.new ≡ true) }
+        ensures device { IsErrOf result OutFault.Device → DeviceFails (vec_spent self.old) (vec_failures self.old) (vec_failures self.new)
+            × (vec_spent self.new ≡ true) }
         ensures memory { IsErrOf result OutFault.Memory → GrowthFails (vec_spent self.old) (vec_failures self.old) (vec_failures self.new) }
         ensures full { IsErrOf result OutFault.Memory → (vec_room self.old < length buf.now) × (vec_room self.old ≤ vec_room self.new) }
         ensures was_spent { IsErrOf result OutFault.Spent → WasSpent (vec_spent self.old) (vec_spent self.new) (vec_failures self.old) (vec_failures self.new) }

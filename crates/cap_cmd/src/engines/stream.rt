@@ -91,7 +91,8 @@ pub(crate) fn tell_all<S: WordSource, O: ByteOut, E: Engine>(
     engine: &E,
 ) -> Result<Outcome, RunFault>
     ensures ok { IfOk result (λ outcome. (ts : List Told) × ReadsAll S.WordSource (limit_of settings.now.size) source.old source.new (messages_of ts)
-        × TellsEach (E.tells engine.now) 0 ts × Appended O.ByteOut out.old out.new (texts_of ts) × (length ts ≤ settings.now.messages) × (outcome ≡ outcome_of ts)) }
+        × TellsEach (E.tells engine.now) 0 ts × Appended O.ByteOut out.old out.new (texts_of ts) × (length ts ≤ settings.now.messages)
+        × (outcome ≡ outcome_of ts)) }
     ensures err { IfErr result (λ fault. (ts : List Told) × (mid : S) × (fault.message ≡ length ts) × (length ts ≤ settings.now.messages)
         × ReadsStream S.WordSource (limit_of settings.now.size) source.old mid (messages_of ts) × TellsEach (E.tells engine.now) 0 ts
         × RunStops S.WordSource O.ByteOut (E.tells engine.now) (limit_of settings.now.size) settings.now.messages ts mid source.new out.old out.new fault.cause) }

@@ -24,7 +24,8 @@ pub(crate) trait Teller {
         message: &M,
     ) -> Result<Mark, OutFault>
         ensures ok { IfOk result (λ mark. (text : List ℕ) × tells self.now number (M.segments message.now) text mark × Wrote O.ByteOut out.old out.new text) }
-        ensures err { IfErr result (λ fault. (text : List ℕ) × (mark : Mark) × tells self.now number (M.segments message.now) text mark × Stopped O.ByteOut out.old out.new fault text) };
+        ensures err { IfErr result (λ fault. (text : List ℕ) × (mark : Mark) × tells self.now number (M.segments message.now) text mark
+            × Stopped O.ByteOut out.old out.new fault text) };
 }
 
 /// Reads each message whole, and tells of it.
