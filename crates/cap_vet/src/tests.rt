@@ -9,6 +9,8 @@ use std::alloc::Global;
 use std::process::Abort;
 use std::test::Fail;
 
+mod pads;
+
 // The words of a stream, each read from its first byte on.
 fn words(alloc: Global, spelled: &[u64]) -> Result<Vec<u64>, Fail> {
     let mut words = Vec::new(alloc);
