@@ -13,6 +13,7 @@ use cap_frame::Segments;
 use cap_vet::{Limits, Place, Refusal, Report, Step, View, vet};
 
 /// What was read of an accepted message at a path.
+#[derive(Drop)]
 pub struct Reading<'m, M: Segments> {
     /// The charge, the depth, the pointers and the capabilities of the message's tree.
     pub report: Report,
