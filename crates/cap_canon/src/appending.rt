@@ -118,7 +118,8 @@ fn append_structs<M: Segments, T: Target>(
     copy: &mut T,
 )
     requires exists { elements.now.segment < length (M.segments message.now) }
-    requires inside { elements.now.start + count * (elements.now.data_words + elements.now.pointers) ≤ length (segment_of (M.segments message.now) elements.now.segment) }
+    requires inside { elements.now.start + count * (elements.now.data_words + elements.now.pointers)
+        ≤ length (segment_of (M.segments message.now) elements.now.segment) }
     requires small { length (segment_of (M.segments message.now) elements.now.segment) < 2 ^ 32 }
     requires sizes { (elements.now.data_words < 2 ^ 16) × (elements.now.pointers < 2 ^ 16) }
     requires fewer { (elements.now.data_left ≤ elements.now.data_words) × (elements.now.pointers_left ≤ elements.now.pointers) }

@@ -116,7 +116,8 @@ fn ends_with_values<M: Segments>(message: &M, start: u32, code: u8, count: u32, 
     requires inside { start + words ≤ length (segment_of (M.segments message.now) 0) }
     requires code { code < 6 }
     requires words { words ≡ list_words code count }
-    ensures { IsTrue result ↔ StandAt (segment_of (M.segments message.now) 0) start (scalar_words code (values_of (M.segments message.now) 0 start code count)) }
+    ensures { IsTrue result ↔ StandAt (segment_of (M.segments message.now) 0) start
+        (scalar_words code (values_of (M.segments message.now) 0 start code count)) }
 {
     if words == 0 {
         return true;

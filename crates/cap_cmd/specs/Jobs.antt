@@ -106,7 +106,8 @@ module _ {S O E P U : Type 0} (gs : source.Ghosts S) (go : output.Ghosts O) (ge 
       × BeginsOutput go gu plain_text before begun × CopiesWords gs gu most_words first last begun ended answer × GivesOutput go gu ended after
       × TellsCopy ge answer old new status
 
-module _ {I S O E P U : Type 0} (gi : input.Ghosts I) (gs : source.Ghosts S) (go : output.Ghosts O) (ge : output.Ghosts E) (gp : sink.Ghosts P) (gu : sink.Ghosts U) where
+module _ {I S O E P U : Type 0} (gi : input.Ghosts I) (gs : source.Ghosts S) (go : output.Ghosts O) (ge : output.Ghosts E)
+    (gp : sink.Ghosts P) (gu : sink.Ghosts U) where
   -- A task is done over the words of an input, which is packed or not.
   pub record DoesJob (packed : Bool) (task : Task) (settings : Settings) (start : I) (before after : O) (old new : E) (status : ℕ) : Type 0 where
     pub first : S

@@ -70,7 +70,8 @@ fn run_over<S: WordSource + Drop, O: ByteOut, E: ByteOut>(
     ensures vet { job.now.task ≡ Task.Vet → result.0 ≡ 0 →
         VetsInput (S.words source) (S.is_cut source) (O.written out) (O.written result.1) (words_of job.now.settings.limits) (depth_of job.now.settings.limits)
         (limit_of job.now.settings.size) job.now.settings.messages }
-    ensures pack { job.now.task ≡ Task.Pack → result.0 ≡ 0 → CopiesInput (S.words source) (S.is_cut source) (O.written out) (O.written result.1) pack_text most_words }
+    ensures pack { job.now.task ≡ Task.Pack → result.0 ≡ 0 →
+        CopiesInput (S.words source) (S.is_cut source) (O.written out) (O.written result.1) pack_text most_words }
     ensures unpack { job.now.task ≡ Task.Unpack → result.0 ≡ 0
         → CopiesInput (S.words source) (S.is_cut source) (O.written out) (O.written result.1) plain_text most_words }
 {

@@ -54,7 +54,8 @@ pub(crate) fn write_group<O: ByteOut>(
 /// Writes a word by its tag and its bytes that aren't zero.
 pub(crate) fn write_marked<O: ByteOut>(output: &mut O, word: u64) -> Result<(), OutFault>
     ensures ok { OnOk result (Appends (O.written output.old) (O.written output.new) (tag_of (word_bytes word) ∷ filter (λ b. not (b == 0)) (word_bytes word))) }
-    ensures err { OnErr result ((n : ℕ) × Appends (O.written output.old) (O.written output.new) (take n (tag_of (word_bytes word) ∷ filter (λ b. not (b == 0)) (word_bytes word)))) }
+    ensures err { OnErr result ((n : ℕ) × Appends (O.written output.old) (O.written output.new)
+        (take n (tag_of (word_bytes word) ∷ filter (λ b. not (b == 0)) (word_bytes word)))) }
     ensures works { OnOk result ((O.spent output.new ≡ O.spent output.old) × (O.failures output.new ≡ O.failures output.old)) }
     ensures device { IsErrOf result OutFault.Device → DeviceFails (O.spent output.old) (O.failures output.old) (O.failures output.new)
         × (O.spent output.new ≡ true) }

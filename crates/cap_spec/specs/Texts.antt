@@ -79,8 +79,11 @@ abbrev pub message_text : ℕ → List ℕ → List ℕ
 message_text n text = codes "message" ++ then_number n ++ codes ": " ++ text ++ 10 ∷ []
 
 abbrev pub vet_text : ℕ → Verdict → List ℕ
-vet_text n (accepted c d p k) = message_text n (codes "accepted charge" ++ then_number c ++ codes " depth" ++ then_number d ++ codes " pointers" ++ then_number p ++ codes " caps" ++ then_number k)
-vet_text n (refused name s w p) = message_text n (codes "refused " ++ name ++ codes " at" ++ then_number s ++ 58 ∷ decimal w ++ codes " pointers" ++ then_number p)
+vet_text n (accepted c d p k) =
+    message_text n (codes "accepted charge" ++ then_number c ++ codes " depth" ++ then_number d
+    ++ codes " pointers" ++ then_number p ++ codes " caps" ++ then_number k)
+vet_text n (refused name s w p) =
+    message_text n (codes "refused " ++ name ++ codes " at" ++ then_number s ++ 58 ∷ decimal w ++ codes " pointers" ++ then_number p)
 
 -- a line for each size, by the segment's number, from this number on
 abbrev pub segment_lines : ℕ → List ℕ → List ℕ

@@ -13,8 +13,10 @@ or_place (Some place) s w = Some place
 -- the report with what was found at s:w
 abbrev pub added : Report → ℕ → ℕ → Looked → Report
 added r s w (Null cost) = record { charge = r.charge + cost; depth = r.depth; pointers = r.pointers + 1; caps = r.caps; first_cap = r.first_cap }
-added r s w (Cap cost) = record { charge = r.charge + cost; depth = r.depth; pointers = r.pointers + 1; caps = r.caps + 1; first_cap = or_place r.first_cap s w }
-added r s w (Object cost deep frame) = record { charge = r.charge + cost; depth = max r.depth deep; pointers = r.pointers + 1; caps = r.caps; first_cap = r.first_cap }
+added r s w (Cap cost) =
+    record { charge = r.charge + cost; depth = r.depth; pointers = r.pointers + 1; caps = r.caps + 1; first_cap = or_place r.first_cap s w }
+added r s w (Object cost deep frame) =
+    record { charge = r.charge + cost; depth = max r.depth deep; pointers = r.pointers + 1; caps = r.caps; first_cap = r.first_cap }
 
 -- the frame of the pointer words below
 abbrev pub frame_below : Looked → Option Frame

@@ -237,7 +237,8 @@ pub fn get_charged<'m, M: Segments>(
 ) -> Result<Option<View<'m, M>>, Refusal>
     ensures ok { OnOk result (Charges (M.segments message.now) (left_of budget.old) depth path.now (left_of budget.new)) }
     ensures none { IfOk result (λ o. IfNone o ((k : Kind) (t b n : ℕ) → ¬ ArrivesAt (M.segments message.now) path.now k t b n)) }
-    ensures some { IfOk result (λ o. IfSome o (λ v. let place = kept_place v in ArrivesAt (M.segments message.now) path.now (view_kind v) place.segment place.start place.words)) }
+    ensures some { IfOk result (λ o. IfSome o (λ v. let place = kept_place v in
+        ArrivesAt (M.segments message.now) path.now (view_kind v) place.segment place.start place.words)) }
     ensures message { IfOk result (λ o. IfSome o (λ v. view_message v ≡ message.now)) }
     ensures err { IfErr result (IsRefusedOnPath (M.segments message.now) (left_of budget.old) depth path.now) }
     ensures unchanged { OnErr result (budget.new ≡ budget.old) }

@@ -35,9 +35,11 @@ pub(crate) fn frame_of(target: &Target, level: u32) -> Option<Frame>
     requires found { (m : List (List ℕ)) × (s w q tag : ℕ) × IsMessage m
         × FindsObject m s w target.now.pads target.now.segment target.now.start q tag target.now.words target.now.charge target.now.shape }
     requires level { level < 2 ^ 31 }
-    ensures places { (m : List (List ℕ)) (s w q tag : ℕ) → FindsObject m s w target.now.pads target.now.segment target.now.start q tag target.now.words target.now.charge target.now.shape →
+    ensures places { (m : List (List ℕ)) (s w q tag : ℕ) →
+        FindsObject m s w target.now.pads target.now.segment target.now.start q tag target.now.words target.now.charge target.now.shape →
         option_spots result ≡ object_places q tag target.now.segment target.now.start level }
-    ensures inside { (m : List (List ℕ)) (s w q tag : ℕ) → FindsObject m s w target.now.pads target.now.segment target.now.start q tag target.now.words target.now.charge target.now.shape → OptionIn m result }
+    ensures inside { (m : List (List ℕ)) (s w q tag : ℕ) →
+        FindsObject m s w target.now.pads target.now.segment target.now.start q tag target.now.words target.now.charge target.now.shape → OptionIn m result }
     ensures rises { (depth : ℕ) → level + levels_of target.now.shape ≤ depth → FrameRises level depth result }
 {
     match target.shape {

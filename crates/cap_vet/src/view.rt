@@ -138,7 +138,8 @@ impl<'m, M: Segments> View<'m, M> {
     // One of its first words, of which there are so many.
     fn struct_word(&self, i: u32, data_words: u16) -> Option<u64>
         requires { let place = kept_place self.now in data_words ≤ place.words }
-        ensures { let place = kept_place self.now in result ≡ slice_get (words_from (M.segments (view_message self.now)) place.segment place.start data_words) i }
+        ensures { let place = kept_place self.now in
+            result ≡ slice_get (words_from (M.segments (view_message self.now)) place.segment place.start data_words) i }
     {
         if i >= u32::from(data_words) {
             return None;

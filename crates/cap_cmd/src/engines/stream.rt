@@ -45,7 +45,8 @@ pub(crate) trait Engine {
         ensures some { IfOk result (λ r. IfSome r (λ mark. (t : Told) × (t.mark ≡ mark) × tells self.now number t.message t.text t.mark
             × ReadsStream S.WordSource (limit_of limit) source.old source.new (t.message ∷ []) × Wrote O.ByteOut out.old out.new t.text)) }
         ensures none { result ≡ Ok None → EndsStream S.WordSource source.old source.new × (out.new ≡ out.old) }
-        ensures err { IfErr result (λ cause. StepStops S.WordSource O.ByteOut (tells self.now) (limit_of limit) number source.old source.new out.old out.new cause) }
+        ensures err { IfErr result (λ cause. StepStops S.WordSource O.ByteOut (tells self.now) (limit_of limit) number
+            source.old source.new out.old out.new cause) }
         ensures memory { result ≡ Err (Cause.Frame FrameFault.Memory) → takes_memory ≡ true };
 }
 
@@ -95,7 +96,8 @@ pub(crate) fn tell_all<S: WordSource, O: ByteOut, E: Engine>(
         × (outcome ≡ outcome_of ts)) }
     ensures err { IfErr result (λ fault. (ts : List Told) × (mid : S) × (fault.message ≡ length ts) × (length ts ≤ settings.now.messages)
         × ReadsStream S.WordSource (limit_of settings.now.size) source.old mid (messages_of ts) × TellsEach (E.tells engine.now) 0 ts
-        × RunStops S.WordSource O.ByteOut (E.tells engine.now) (limit_of settings.now.size) settings.now.messages ts mid source.new out.old out.new fault.cause) }
+        × RunStops S.WordSource O.ByteOut (E.tells engine.now) (limit_of settings.now.size) settings.now.messages
+        ts mid source.new out.old out.new fault.cause) }
     ensures memory { (n : ℕ) → result ≡ Err (record { message = n; cause = Cause.Frame FrameFault.Memory }) → E.takes_memory ≡ true }
 {
     let mut outcome = Outcome {

@@ -24,7 +24,8 @@ pub(crate) fn accepted_line(number: u32, report: &Report) -> ArrayVec<u8, LINE>
 /// Appends what is said of a message that is accepted.
 fn push_report(line: &mut ArrayVec<u8, LINE>, report: &Report)
     requires { array_vec_len line.old + 119 ≤ 192 }
-    ensures items { line.new.items ≡ line.old.items ++ (codes "accepted charge" ++ then_number report.now.charge ++ codes " depth" ++ then_number report.now.depth
+    ensures items { line.new.items ≡ line.old.items ++ (codes "accepted charge" ++ then_number report.now.charge
+        ++ codes " depth" ++ then_number report.now.depth
         ++ codes " pointers" ++ then_number report.now.pointers ++ codes " caps" ++ then_number report.now.caps) }
     ensures few { array_vec_len line.new ≤ array_vec_len line.old + 119 }
 {
