@@ -1,5 +1,5 @@
 -- A walk that checks whether a message is a copy.
-use Rattle.std.proofs.Common.{ℕ, ◌+◌, ◌<◌, ◌≤◌, List, [], ◌∷◌, ◌++◌, ◌≡◌, ◌↔◌, ap, refl, sym, subst, ◌∙◌, arith, length}
+use Rattle.std.proofs.Common.{ℕ, ◌+◌, ◌≤◌, List, [], ◌∷◌, ◌++◌, ◌≡◌, ◌↔◌, ap, sym, subst, arith, length}
 use Rattle.cap_spec.specs.Messages.{segment_of}
 use Rattle.cap_spec.specs.Tree.{Tree}
 use Rattle.cap_spec.specs.Denoting.{Denotes}
@@ -10,10 +10,9 @@ use Rattle.cap_spec.proofs.TrimmedMeasures.{Trimmed, trimmed}
 use Rattle.cap_canon.specs.InPlace.{AreInPlace}
 use Rattle.cap_canon.specs.Laying.{Due, Laid, IsPointed, OwnAt, own_size, below}
 use Rattle.cap_canon.specs.Objects.{IsObject}
-use Rattle.cap_canon.specs.Owing.{IsNext, IsWalking}
+use Rattle.cap_canon.specs.Owing.{IsWalking}
 use Rattle.cap_canon.specs.declared.frame.Frame.{Frame}
 use Rattle.cap_canon.specs.declared.objects.Object.{Object}
-use Rattle.cap_canon.proofs.CopyWalks.{owed_fits}
 use Rattle.cap_canon.proofs.LaidSteps.{object_laid}
 use Rattle.cap_canon.proofs.Whole.{layout_laid}
 

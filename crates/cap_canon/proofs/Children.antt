@@ -1,12 +1,12 @@
 -- Which children are left, from the last one down.
-use Rattle.std.proofs.Common.{ℕ, zero, suc, ◌+◌, ◌-◌, ◌<◌, ◌≤◌, ◌≢◌, List, [], ◌∷◌, ◌≡◌, ◌⊎◌, inl, inr, max, ap, refl, sym, subst, ◌∙◌, arith, length, true, false, Some, Bool}
+use Rattle.std.proofs.Common.{ℕ, zero, suc, ◌+◌, ◌-◌, ◌<◌, ◌≤◌, ◌≢◌, List, ◌≡◌, ◌⊎◌, inl, inr, max, ap, refl, sym, subst, ◌∙◌, arith, true, false, Some, Bool}
 use Rattle.std.specs.Prelude.{if◌then◌else◌, ◌==◌}
 use Rattle.std.proofs.lemmas.Bool.Decides.{eqb_tells}
 use Rattle.std.proofs.lemmas.Bool.{ne_eqb}
 use Rattle.std.proofs.lemmas.Option.{same_Some}
 use Rattle.cap_spec.specs.Messages.{HasWord}
 use Rattle.cap_spec.specs.Pointers.{kind}
-use Rattle.cap_spec.specs.Following.{Lead, Leads, near, one_pad, two_pads, Says, to_null, to_cap, to_object}
+use Rattle.cap_spec.specs.Following.{Lead, Leads, near, one_pad, two_pads, Says, to_null, to_cap}
 use Rattle.cap_spec.specs.Denoting.{Denotes, DenoteEach, places}
 use Rattle.cap_spec.specs.Tree.{Tree, null, cap, struct, scalars, pointers, structs, Trees, none, more, tree_at, tree_count}
 use Rattle.cap_spec.specs.Canonical.{is_null, children_needed}

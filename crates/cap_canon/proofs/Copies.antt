@@ -1,5 +1,5 @@
 -- The one canonical copy of an accepted message.
-use Rattle.std.proofs.Common.{ℕ, ◌+◌, ◌<◌, ◌≤◌, ◌^◌, List, [], ◌∷◌, ◌≡◌, ◌≢◌, ◌↔◌, ap, refl, sym, subst, ◌∙◌, arith, length, true, false, Option, None, Some}
+use Rattle.std.proofs.Common.{ℕ, ◌+◌, ◌<◌, ◌≤◌, ◌^◌, List, [], ◌∷◌, ◌≡◌, ◌≢◌, ◌↔◌, ap, refl, sym, subst, ◌∙◌, arith, length, true, false, None}
 use Rattle.std.proofs.lemmas.Bool.{eqb-true, false≢true}
 use Rattle.cap_spec.specs.Tree.{Tree, cap_count, has_cap}
 use Rattle.cap_spec.specs.Denoting.{Denotes}
@@ -7,11 +7,8 @@ use Rattle.cap_spec.specs.Canonical.{layout, trim}
 use Rattle.cap_spec.specs.Paths.{IsFirstCap}
 use Rattle.cap_spec.proofs.OneTree.{one_tree}
 use Rattle.cap_spec.proofs.PathCounts.{first_cap}
-use Rattle.cap_spec.proofs.Layouts.{trimmed_layout_denotes, one_layout}
 use Rattle.cap_spec.proofs.Sizes.{layout_charged}
-use Rattle.cap_spec.proofs.Trimming.{trim-trim}
-use Rattle.cap_spec.proofs.TrimmedTrees.{has_cap-trim}
-use Rattle.cap_vet.specs.Reports.{IsFirstCapOf, IsReport, IsVetted}
+use Rattle.cap_vet.specs.Reports.{IsFirstCapOf, IsReport}
 use Rattle.cap_vet.specs.declared.report.Report.{Report}
 use Rattle.std.proofs.Common.{Result, Err}
 use Rattle.cap_canon.specs.declared.fault.CanonFault.{CanonFault}

@@ -1,11 +1,11 @@
 -- A walk that lays a copy.
-use Rattle.std.proofs.Common.{ℕ, ◌+◌, ◌-◌, ◌<◌, ◌≤◌, ◌^◌, List, [], ◌∷◌, ◌++◌, ◌≡◌, ◌⊎◌, inl, inr, ap, refl, sym, subst, ◌∙◌, arith, length, get_or, length-append}
+use Rattle.std.proofs.Common.{ℕ, ◌+◌, ◌-◌, ◌<◌, ◌≤◌, List, [], ◌∷◌, ◌++◌, ◌≡◌, inl, ap, refl, sym, subst, ◌∙◌, arith, length, get_or, length-append}
 use Rattle.std.proofs.Math.ListN.{set}
 use Rattle.std.proofs.lemmas.List.{length-set}
 use Rattle.std.proofs.lemmas.Option.{get_or_from_slice_get}
 use Rattle.cap_spec.specs.Tree.{Tree}
 use Rattle.cap_spec.specs.Denoting.{Denotes}
-use Rattle.cap_spec.specs.Canonical.{pointer_to, size, content, layout, trim}
+use Rattle.cap_spec.specs.Canonical.{pointer_to, content, layout, trim}
 use Rattle.cap_spec.proofs.OneTree.{one_tree}
 use Rattle.cap_spec.proofs.Measures.{Fits, Measured, measured}
 use Rattle.cap_spec.proofs.TrimmedMeasures.{Trimmed, trimmed}
@@ -13,7 +13,7 @@ use Rattle.cap_spec.proofs.Placing.{stand_inside}
 use Rattle.cap_spec.proofs.Sizes.{length-content}
 use Rattle.cap_canon.specs.Laying.{Due, Laid, IsPointed, OwnAt, own_size, below}
 use Rattle.cap_canon.specs.Owing.{IsOwed, IsNext, IsWalking}
-use Rattle.cap_canon.specs.Filling.{IsDue, Agrees, OwnAppended}
+use Rattle.cap_canon.specs.Filling.{Agrees, OwnAppended}
 use Rattle.cap_canon.specs.declared.frame.Frame.{Frame}
 use Rattle.cap_canon.proofs.Agreeing.{agrees_set, agrees_append, agrees_all}
 use Rattle.cap_canon.proofs.Filling.{due_left, due_right}

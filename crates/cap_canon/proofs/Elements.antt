@@ -1,14 +1,14 @@
 -- What is left of the elements of a list of structs.
-use Rattle.std.proofs.Common.{ℕ, zero, suc, ◌+◌, ◌-◌, ◌*◌, ◌<◌, ◌≤◌, List, [], ◌∷◌, ◌≡◌, max, ap, ap₂, refl, sym, subst, ◌∙◌, arith, length, take, drop}
+use Rattle.std.proofs.Common.{ℕ, zero, suc, ◌+◌, ◌-◌, ◌*◌, ◌<◌, ◌≤◌, List, ◌≡◌, max, ap, ap₂, refl, sym, subst, ◌∙◌, arith, take, drop}
 use Rattle.std.proofs.lemmas.List.{take-take}
 use Rattle.cap_spec.specs.Messages.{segment_of}
-use Rattle.cap_spec.specs.Denoting.{Denotes, DenoteEach, AreElements, places, words_from}
-use Rattle.cap_spec.specs.Tree.{Tree, null, cap, struct, scalars, pointers, structs, Trees, none, more, tree_count}
-use Rattle.cap_spec.specs.Canonical.{data_needed, children_needed, take_trees, data_of, children_of, cut_elements, trim, trim_all, trim_elements}
+use Rattle.cap_spec.specs.Denoting.{DenoteEach, AreElements, places, words_from}
+use Rattle.cap_spec.specs.Tree.{null, cap, struct, scalars, pointers, structs, Trees, none, more, tree_count}
+use Rattle.cap_spec.specs.Canonical.{data_needed, children_needed, take_trees, data_of, children_of, cut_elements, trim_all, trim_elements}
 use Rattle.cap_spec.proofs.TrimmedMeasures.{tree_count-take_le}
 use Rattle.cap_canon.specs.Objects.{AreLeft, AreElementsLeft}
 use Rattle.cap_canon.specs.Trimming.{most_data}
-use Rattle.cap_canon.proofs.Children.{Row, row_parts, row_count, row_needed}
+use Rattle.cap_canon.proofs.Children.{row_parts, row_count, row_needed}
 use Rattle.cap_canon.proofs.Needed.{most_on}
 
 -- the first of several elements, and the others

@@ -1,15 +1,15 @@
 -- The pointer words of an object, and how many words it has of its own.
-use Rattle.std.proofs.Common.{ℕ, zero, suc, ◌+◌, ◌-◌, ◌*◌, ◌<◌, ◌≤◌, ◌^◌, ◌⊎◌, inl, inr, List, [], ◌∷◌, ◌++◌, ◌≡◌, ap, ap₂, refl, sym, subst, ◌∙◌, arith, length, reverse, Option, None, Some}
+use Rattle.std.proofs.Common.{ℕ, zero, suc, ◌+◌, ◌-◌, ◌*◌, ◌<◌, ◌≤◌, ◌^◌, ◌⊎◌, inl, inr, List, [], ◌∷◌, ◌++◌, ◌≡◌, ap, refl, sym, subst, ◌∙◌, arith, length, reverse, Option, None, Some}
 use Rattle.std.specs.Option.{option_to_list}
-use Rattle.std.proofs.lemmas.List.{append-nil, length-append, length-reverse}
+use Rattle.std.proofs.lemmas.List.{length-append, length-reverse}
 use Rattle.std.proofs.lemmas.List.FromFn.{length-map-range_with_len}
 use Rattle.cap_spec.specs.Messages.{IsMessage, segment_of}
 use Rattle.cap_spec.specs.Pointers.{element_bits, list_words}
 use Rattle.cap_spec.specs.Tree.{Tree, null, cap, struct, scalars, pointers, structs, Trees, none, more, tree_count}
 use Rattle.cap_spec.specs.Denoting.{value_at}
 use Rattle.cap_spec.proofs.Shapes.{range_length}
-use Rattle.cap_canon.specs.Frames.{IsFull, OptionFull, Place, further_places, option_places, places_of, row_places}
-use Rattle.cap_canon.specs.Laying.{Due, AreBefore, below, element_slots, own_size, size_due, slots}
+use Rattle.cap_canon.specs.Frames.{OptionFull, Place, further_places, option_places, places_of, row_places}
+use Rattle.cap_canon.specs.Laying.{Due, AreBefore, below, element_slots, own_size, slots}
 use Rattle.cap_canon.specs.Objects.{AreLeft, AreElementsLeft, IsObject, IsStructObject, IsScalarsObject, IsPointersObject, IsStructsObject}
 use Rattle.cap_canon.specs.Owing.{AreOwed, IsNext, IsWalking, Stacked, work_left}
 use Rattle.cap_canon.specs.declared.frame.Frame.{Frame}

@@ -14,7 +14,7 @@ use Rattle.cap_spec.specs.Placing.{StandAt}
 use Rattle.cap_spec.proofs.Placing.{stand_word}
 use Rattle.cap_spec.proofs.ReadingBack.{length-scalar_words}
 use Rattle.cap_spec.proofs.Shapes.{range_length}
-use Rattle.cap_canon.specs.Laying.{Due, slots, element_slots, own_size, below, DataAt, OwnAt}
+use Rattle.cap_canon.specs.Laying.{Due, slots, element_slots, own_size, DataAt}
 use Rattle.cap_canon.specs.Filling.{IsDue, Fills, OwnAppended, elements_from}
 use Rattle.cap_canon.specs.Objects.{AreElementsLeft, IsStructObject, IsScalarsObject, IsPointersObject, IsStructsObject}
 use Rattle.cap_canon.proofs.Ranges.{length-elements_from}

@@ -1,12 +1,11 @@
 -- What a pointer word that denotes a tree finds, by the kind of object.
-use Rattle.std.proofs.Common.{ℕ, suc, ◌+◌, ◌*◌, ◌<◌, ◌≤◌, List, ◌≡◌, max, ap, refl, sym, subst, ◌∙◌, arith, length, take}
-use Rattle.std.specs.Prelude.{pos}
-use Rattle.cap_spec.specs.Messages.{HasWord, segment_of}
+use Rattle.std.proofs.Common.{ℕ, ◌+◌, ◌*◌, ◌<◌, ◌≤◌, List, ◌≡◌, max, ap, refl, sym, subst, ◌∙◌, arith, take}
+use Rattle.cap_spec.specs.Messages.{HasWord}
 use Rattle.cap_spec.specs.Pointers.{kind, middle, code, data_size, pointer_size, list_size, list_words}
 use Rattle.cap_spec.specs.Following.{Leads, to_null, to_cap, TagFits}
-use Rattle.cap_spec.specs.Denoting.{Denotes, DenoteEach, AreElements, Finds, places, values_of, words_from}
-use Rattle.cap_spec.specs.Tree.{Tree, null, cap, struct, scalars, pointers, structs, Trees, tree_count}
-use Rattle.cap_spec.specs.Canonical.{data_needed, children_needed, take_trees, data_of, children_of, cut_elements, is_null, trim, trim_all, trim_elements}
+use Rattle.cap_spec.specs.Denoting.{Denotes, DenoteEach, AreElements, places, values_of, words_from}
+use Rattle.cap_spec.specs.Tree.{Tree, null, cap, struct, scalars, pointers, structs, Trees}
+use Rattle.cap_spec.specs.Canonical.{data_needed, children_needed, take_trees, data_of, children_of, cut_elements, trim, trim_all, trim_elements}
 use Rattle.cap_spec.proofs.Arrivals.{found_form}
 use Rattle.cap_spec.proofs.Charges.{extent_struct, extent_pointers, extent_structs}
 use Rattle.cap_spec.proofs.Finding.{SameObject, one_object}
@@ -19,7 +18,7 @@ use Rattle.cap_spec.proofs.TrimmedMeasures.{children_needed_le, tree_count-take_
 use Rattle.cap_ptr.specs.Shapes.{FindsObject}
 use Rattle.cap_ptr.specs.declared.shapes.Shape.TheVariants as shape
 use Rattle.cap_canon.specs.Found.{IsStructAt, IsStructsAt}
-use Rattle.cap_canon.specs.Objects.{AreLeft, AreElementsLeft, IsObject}
+use Rattle.cap_canon.specs.Objects.{IsObject}
 use Rattle.cap_canon.specs.Trimming.{most_data}
 use Rattle.cap_canon.specs.declared.objects.Object.TheVariants as object
 use Rattle.cap_canon.proofs.Children.{row_count}

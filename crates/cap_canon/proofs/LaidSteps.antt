@@ -1,15 +1,15 @@
 -- One object more of a layout.
-use Rattle.std.proofs.Common.{ℕ, zero, suc, ◌+◌, ◌*◌, ◌<◌, ◌≤◌, List, [], ◌∷◌, ◌++◌, ◌≡◌, ◌↔◌, ap, refl, sym, subst, ◌∙◌, arith, length, length-append}
+use Rattle.std.proofs.Common.{ℕ, suc, ◌+◌, ◌*◌, List, ◌∷◌, ◌++◌, ◌≡◌, ◌↔◌, ap, refl, sym, subst, arith, length, length-append}
 use Rattle.std.proofs.lemmas.List.{append_assoc}
 use Rattle.std.specs.Prelude.{Some, slice_get}
 use Rattle.cap_spec.specs.Tree.{Tree, null, cap, struct, scalars, pointers, structs, Trees, none, more, tree_count}
-use Rattle.cap_spec.specs.Canonical.{pointer_to, struct_word, size, sizes, element_sizes, content, contents, element_contents, pointer_words, element_words, layout}
+use Rattle.cap_spec.specs.Canonical.{struct_word, size, sizes, element_sizes, contents, element_contents, pointer_words, element_words}
 use Rattle.cap_spec.specs.Placing.{StandAt}
-use Rattle.cap_spec.proofs.Placing.{stand_front, stand_back, stand_inside}
-use Rattle.cap_spec.proofs.Measures.{Fits, FitEach, FitElements}
-use Rattle.cap_spec.proofs.Sizes.{length-content, length-contents, length-element_contents, length-pointer_words, length-element_words}
+use Rattle.cap_spec.proofs.Placing.{stand_front, stand_back}
+use Rattle.cap_spec.proofs.Measures.{Fits, FitElements}
+use Rattle.cap_spec.proofs.Sizes.{length-contents, length-pointer_words, length-element_words}
 use Rattle.cap_canon.specs.Laying.{Due, Laid, IsPointed, OwnAt, slots, element_slots, DataAt, own_size, below}
-use Rattle.cap_canon.proofs.Laying.{stand_join, laid_inside, row_due, RowLaid, due_row}
+use Rattle.cap_canon.proofs.Laying.{stand_join, laid_inside, row_due, due_row}
 
 -- where the contents of the first element's children stand, and those of the others
 first_after : (c b n d p k after : ℕ) → c ≡ b + suc n * (d + p) + after → k ≡ p → c ≡ b + d + k + (n * (d + p) + after)

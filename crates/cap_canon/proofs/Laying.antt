@@ -1,14 +1,13 @@
 -- The words of a layout, seen from the pointer words that lead to what isn't laid yet.
-use Rattle.std.proofs.Common.{ℕ, zero, suc, ◌+◌, ◌*◌, ◌<◌, ◌≤◌, List, [], ◌∷◌, ◌++◌, ◌≡◌, ◌↔◌, ap, refl, sym, subst, ◌∙◌, arith, length, length-append}
+use Rattle.std.proofs.Common.{ℕ, ◌+◌, ◌≤◌, List, [], ◌∷◌, ◌++◌, ◌≡◌, ap, sym, subst, arith, length}
 use Rattle.std.specs.Prelude.{Some, slice_get}
-use Rattle.std.proofs.lemmas.Option.{slice_get_within}
-use Rattle.cap_spec.specs.Tree.{Tree, null, cap, struct, scalars, pointers, structs, Trees, none, more, tree_count}
-use Rattle.cap_spec.specs.Canonical.{pointer_to, size, sizes, element_sizes, content, contents, element_contents, pointer_words, element_words, layout}
-use Rattle.cap_canon.specs.Laying.{Due, Laid, slots, element_slots, DataAt}
+use Rattle.cap_spec.specs.Tree.{Trees, none, more, tree_count}
+use Rattle.cap_spec.specs.Canonical.{pointer_to, size, sizes, content, contents, pointer_words}
+use Rattle.cap_canon.specs.Laying.{Due, Laid, slots}
 use Rattle.cap_spec.specs.Placing.{StandAt}
 use Rattle.cap_spec.proofs.Placing.{stand_front, stand_back, stand_inside}
-use Rattle.cap_spec.proofs.Measures.{Fits, FitEach, FitElements}
-use Rattle.cap_spec.proofs.Sizes.{length-content, length-contents, length-element_contents, length-pointer_words, length-element_words}
+use Rattle.cap_spec.proofs.Measures.{FitEach}
+use Rattle.cap_spec.proofs.Sizes.{length-content}
 
 -- parts that stand one behind the other stand joined
 pub stand_join : (words : List ℕ) (b c : ℕ) (xs ys : List ℕ) → c ≡ b + length xs → StandAt words b xs → StandAt words c ys → StandAt words b (xs ++ ys)

@@ -1,15 +1,15 @@
 -- How many words a walk still has to lay.
-use Rattle.std.proofs.Common.{ℕ, zero, suc, ◌+◌, ◌-◌, ◌*◌, ◌<◌, ◌≤◌, ◌^◌, List, [], ◌∷◌, ◌++◌, ◌≡◌, ap, refl, sym, subst, ◌∙◌, arith, length}
+use Rattle.std.proofs.Common.{ℕ, ◌+◌, ◌-◌, ◌*◌, ◌<◌, ◌≤◌, List, [], ◌∷◌, ◌++◌, ◌≡◌, ap, refl, sym, subst, arith, length}
 use Rattle.cap_spec.specs.Messages.{IsMessage}
 use Rattle.cap_spec.specs.Tree.{Tree, null, cap, struct, scalars, pointers, structs, Trees, none, more, tree_count}
 use Rattle.cap_spec.specs.Denoting.{Denotes}
-use Rattle.cap_spec.specs.Canonical.{size, sizes, element_sizes, content, layout, trim}
+use Rattle.cap_spec.specs.Canonical.{size, sizes, element_sizes, layout, trim}
 use Rattle.cap_spec.proofs.OneTree.{one_tree}
 use Rattle.cap_spec.proofs.Measures.{Measured, measured}
 use Rattle.cap_spec.proofs.TrimmedMeasures.{Trimmed, trimmed}
 use Rattle.cap_spec.proofs.Sizes.{length-content, trimmed_size_charged}
-use Rattle.cap_canon.specs.Laying.{Due, slots, element_slots, own_size, below, size_due, AreBefore}
-use Rattle.cap_canon.specs.Owing.{IsOwed, IsNext, IsWalking, work_left}
+use Rattle.cap_canon.specs.Laying.{Due, slots, element_slots, own_size, below, size_due}
+use Rattle.cap_canon.specs.Owing.{IsNext, IsWalking}
 use Rattle.cap_canon.specs.Objects.{IsObject}
 use Rattle.cap_canon.specs.declared.frame.Frame.{Frame}
 use Rattle.cap_canon.specs.declared.objects.Object.{Object}

@@ -1,21 +1,18 @@
 -- What the frames of a walk owe, word by word.
-use Rattle.std.proofs.Common.{ℕ, zero, suc, ◌+◌, ◌-◌, ◌*◌, ◌<◌, ◌≤◌, ◌^◌, ◌⊎◌, inl, inr, List, [], ◌∷◌, ◌++◌, ◌≡◌, ap, refl, sym, subst, ◌∙◌, arith, length, reverse, Option, None, Some}
+use Rattle.std.proofs.Common.{ℕ, suc, ◌+◌, ◌<◌, ◌≤◌, ◌^◌, List, [], ◌∷◌, ◌++◌, ◌≡◌, ap, refl, sym, subst, ◌∙◌, arith, length, reverse, Option, None, Some}
 use Rattle.std.specs.Option.{option_to_list}
-use Rattle.std.proofs.lemmas.List.{append-nil, append_assoc, length-append, length-reverse, nil_from_length, reverse-append}
-use Rattle.cap_spec.specs.Messages.{HasWord, IsMessage, segment_of}
+use Rattle.std.proofs.lemmas.List.{append-nil, length-append, length-reverse, reverse-append}
+use Rattle.cap_spec.specs.Messages.{IsMessage, segment_of}
 use Rattle.cap_spec.specs.Denoting.{Denotes}
-use Rattle.cap_spec.specs.Tree.{Tree, null, cap, struct, scalars, pointers, structs, Trees, none, more, tree_count}
+use Rattle.cap_spec.specs.Tree.{Tree}
 use Rattle.cap_spec.proofs.Arrivals.{lead_word}
 use Rattle.cap_spec.proofs.Messages.{HasWord-inside, HasWord-segment}
 use Rattle.cap_spec.proofs.OneTree.{Formed, formed}
 use Rattle.cap_canon.specs.Frames.{AreShort, IsFull, IsRest, OptionFull, Place, all_places, option_places, places_of}
-use Rattle.cap_canon.specs.Laying.{Due, AreBefore, below, own_size, size_due}
-use Rattle.cap_canon.specs.Objects.{IsObject}
-use Rattle.cap_canon.specs.Owing.{AreOwed, FrameOwes, IsNext, IsOwed, IsWalking, Stacked, work_left}
+use Rattle.cap_canon.specs.Laying.{Due, AreBefore, size_due}
+use Rattle.cap_canon.specs.Owing.{AreOwed, FrameOwes, IsNext, IsWalking, Stacked, work_left}
 use Rattle.cap_canon.specs.declared.frame.Frame.{Frame}
-use Rattle.cap_canon.specs.declared.objects.Object.{Object}
-use Rattle.cap_canon.proofs.Frames.{all_places-append, count_more, option_all_places}
-use Rattle.cap_canon.proofs.Lengths.{own_within, size_below, size_due-append}
+use Rattle.cap_canon.proofs.Frames.{count_more}
 
 -- a word that denotes is a number of 32 bits
 pub word_short : (m : List (List ℕ)) (s w : ℕ) (t : Tree) (c d : ℕ) → IsMessage m → Denotes m s w t c d → w < 2 ^ 32

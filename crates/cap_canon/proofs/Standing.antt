@@ -1,13 +1,12 @@
 -- When the words of a message are those that a copy has, one object at a time.
-use Rattle.std.proofs.Common.{ℕ, zero, suc, ◌+◌, ◌-◌, ◌*◌, ◌<◌, ◌≤◌, ◌^◌, ◌≢◌, List, [], ◌∷◌, ◌++◌, ◌≡◌, ◌⊎◌, inl, inr, true, false, ap, refl, sym, subst, ◌∙◌, arith, length, length-append}
-use Rattle.std.specs.Prelude.{Some, slice_get, if◌then◌else◌, ◌==◌}
+use Rattle.std.proofs.Common.{ℕ, zero, suc, ◌+◌, ◌-◌, ◌*◌, ◌<◌, ◌≤◌, ◌^◌, List, [], ◌∷◌, ◌++◌, ◌≡◌, ◌⊎◌, inl, inr, true, false, ap, refl, sym, subst, ◌∙◌, arith, length}
+use Rattle.std.specs.Prelude.{◌==◌}
 use Rattle.std.specs.List.{AllByRecursion}
 use Rattle.std.proofs.lemmas.Bool.Decides.{eqb_tells}
 use Rattle.std.proofs.lemmas.Nat.{mul-le}
-use Rattle.std.proofs.lemmas.Option.{same_Some}
 use Rattle.cap_spec.specs.Words.{IsWord, field}
 use Rattle.cap_spec.specs.Messages.{HasWord, segment_of}
-use Rattle.cap_spec.specs.Pointers.{kind, middle, code, data_size, pointer_size, list_size, element_bits, list_words}
+use Rattle.cap_spec.specs.Pointers.{data_size, pointer_size, list_size, element_bits, list_words}
 use Rattle.cap_spec.specs.Tree.{Tree, null, cap, struct, scalars, pointers, structs, Trees, none, more, tree_count}
 use Rattle.cap_spec.specs.Denoting.{Finds, words_from, value_at, values_of}
 use Rattle.cap_spec.specs.Canonical.{pointer_to, struct_word, list_word}

@@ -1,5 +1,5 @@
 -- Structs in a row, appended to a copy one after the other.
-use Rattle.std.proofs.Common.{ℕ, suc, ◌+◌, ◌-◌, ◌*◌, ◌<◌, ◌≤◌, List, [], ◌++◌, ◌≡◌, ap, refl, sym, subst, ◌∙◌, arith, length, append_assoc, append-nil, length-append}
+use Rattle.std.proofs.Common.{ℕ, suc, ◌+◌, ◌-◌, ◌*◌, ◌<◌, ◌≤◌, List, ◌++◌, ◌≡◌, ap, sym, subst, ◌∙◌, arith, length, append_assoc, append-nil, length-append}
 use Rattle.cap_spec.specs.Messages.{segment_of}
 use Rattle.cap_spec.specs.Denoting.{words_from}
 use Rattle.cap_spec.proofs.Shapes.{range_length}

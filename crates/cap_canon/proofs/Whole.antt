@@ -1,14 +1,13 @@
 -- A whole layout is laid behind its root word.
-use Rattle.std.proofs.Common.{ℕ, suc, ◌+◌, ◌-◌, ◌<◌, ◌≤◌, List, [], ◌∷◌, ◌≡◌, ◌↔◌, ap, ap₂, refl, sym, subst, ◌∙◌, arith, length, take, drop, length-drop}
+use Rattle.std.proofs.Common.{ℕ, List, [], ◌∷◌, ◌≡◌, ◌↔◌, ap, refl, sym, subst, ◌∙◌, arith, length, take, drop, length-drop}
 use Rattle.std.specs.Prelude.{Some, slice_get}
 use Rattle.std.proofs.lemmas.List.{take_all}
 use Rattle.cap_spec.specs.Tree.{Tree}
 use Rattle.cap_spec.specs.Canonical.{pointer_to, size, content, layout}
 use Rattle.cap_spec.proofs.Measures.{Fits}
-use Rattle.cap_spec.specs.Placing.{StandAt}
 use Rattle.cap_spec.proofs.Placing.{rest_at, stand_taken, stand_whole}
 use Rattle.cap_spec.proofs.Sizes.{length-content}
-use Rattle.cap_canon.specs.Laying.{Due, Laid}
+use Rattle.cap_canon.specs.Laying.{Laid}
 
 -- words are a layout exactly where it is laid from word 1 on, with the root word due
 pub layout_laid : (words : List ℕ) (u : Tree) → Fits u → (words ≡ layout u) ↔ Laid words 1 (record { slot = 0; tree = u } ∷ [])

@@ -1,5 +1,4 @@
-use Rattle.std.proofs.Common.{◌≡◌, ◌∙◌, ◌+◌, ◌++◌, [], ◌∷◌, ap, sym, arith}
-use Rattle.cap_spec.specs.Denoting.{words_from}
+use Rattle.std.proofs.Common.{◌∙◌, ◌+◌, ◌++◌, [], ◌∷◌, ap, arith}
 use Rattle.cap_canon.specs.Filling.{elements_from}
 use Rattle.cap_canon.proofs.Filling.{pointers_appended, scalars_appended, scalars_size, struct_appended, structs_appended}
 use Rattle.cap_canon.proofs.appending.append_own.Goals as goal

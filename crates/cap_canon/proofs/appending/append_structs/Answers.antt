@@ -1,8 +1,8 @@
-use Rattle.std.proofs.Common.{◌≡◌, ◌≤◌, ◌∙◌, ◌+◌, ◌*◌, ◌++◌, ap, sym, arith, rules}
+use Rattle.std.proofs.Common.{◌≡◌, ◌∙◌, ◌*◌, ◌++◌, ap, sym, arith}
 use Rattle.cap_spec.specs.Denoting.{words_from}
 use Rattle.cap_canon.specs.Filling.{elements_from}
 use Rattle.cap_canon.proofs.Ranges.{elements_whole}
-use Rattle.cap_canon.proofs.Structs.{struct_inside, struct_room, structs_all, structs_more, structs_none}
+use Rattle.cap_canon.proofs.Structs.{struct_inside, structs_more}
 use Rattle.cap_canon.proofs.appending.append_structs.Goals as goal
 
 pub returns-then-left-elements-clause-words : goal.returns-then-left-elements-clause-words

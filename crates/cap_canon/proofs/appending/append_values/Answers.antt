@@ -1,8 +1,6 @@
 use Rattle.std.proofs.Common.{◌≡◌, ◌∙◌, ◌+◌, ◌-◌, ◌++◌, [], ◌∷◌, ap, sym, arith, append_assoc}
 use Rattle.cap_spec.specs.Denoting.{words_from}
 use Rattle.cap_spec.specs.Pointers.{list_words}
-use Rattle.cap_spec.specs.Words.{field}
-use Rattle.cap_canon.specs.Values.{used_bits}
 use Rattle.cap_canon.proofs.Ranges.{values_laid}
 use Rattle.cap_canon.proofs.appending.append_values.Goals as goal
 

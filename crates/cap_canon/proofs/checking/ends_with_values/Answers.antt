@@ -1,7 +1,7 @@
 use Rattle.std.proofs.Common.{◌≡◌, ◌∙◌, ◌+◌, ◌-◌, arith, sym, eq-eqb}
 use Rattle.std.proofs.lemmas.Bool.{eqb-true}
 use Rattle.cap_spec.specs.Pointers.{list_words}
-use Rattle.cap_canon.proofs.Standing.{range_words, stand_none, stand_values, values_stand}
+use Rattle.cap_canon.proofs.Standing.{range_words, stand_values, values_stand}
 use Rattle.cap_canon.proofs.checking.ends_with_values.Goals as goal
 
 pub returns : goal.returns

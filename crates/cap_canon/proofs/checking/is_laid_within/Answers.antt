@@ -1,4 +1,4 @@
-use Rattle.std.proofs.Common.{rules, arith, ◌≡◌, ◌∙◌, ◌<◌, ◌≤◌, ◌+◌, sym, subst, length, List, ℕ, [], eq-eqb, refl}
+use Rattle.std.proofs.Common.{rules, ◌∙◌, ◌≤◌, ◌+◌, sym, subst, length, [], eq-eqb, refl}
 use Rattle.std.proofs.lemmas.Bool.{eqb-true, false≢true}
 use Rattle.std.proofs.lemmas.List.{nil_from_length}
 use Rattle.cap_spec.specs.Messages.{IsMessage}

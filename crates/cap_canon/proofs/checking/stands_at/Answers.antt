@@ -1,4 +1,4 @@
-use Rattle.std.proofs.Common.{◌≡◌, ◌∙◌, ◌+◌, ◌-◌, ap, arith, sym, subst, eq-eqb}
+use Rattle.std.proofs.Common.{◌∙◌, ◌-◌, ap, arith, sym, subst, eq-eqb}
 use Rattle.std.proofs.lemmas.Bool.{eqb-true}
 use Rattle.cap_spec.specs.Canonical.{pointer_to, struct_word}
 use Rattle.cap_spec.specs.Messages.{HasWord, segment_of}

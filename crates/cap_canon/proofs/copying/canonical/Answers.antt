@@ -1,7 +1,6 @@
-use Rattle.std.proofs.Common.{◌≡◌, ◌∙◌, ◌≤◌, arith, length, ap, Err}
+use Rattle.std.proofs.Common.{◌≡◌, arith, length, ap, Err}
 use Rattle.cap_spec.specs.Canonical.{layout, trim}
 use Rattle.cap_vet.specs.Vettings.{message_of}
-use Rattle.cap_spec.specs.Copies.{HasCopy}
 use Rattle.cap_canon.specs.declared.fault.CanonFault.TheVariants.{HasCapability}
 use Rattle.cap_spec.proofs.Offsets.{offsets_fit}
 use Rattle.cap_spec.proofs.Copies.{copy_denotes, copy_only, copy_own}

@@ -1,4 +1,3 @@
-use Rattle.std.proofs.Common.{rules}
 use Rattle.cap_canon.proofs.Found.{pointers_object, scalars_object, struct_found, structs_found}
 use Rattle.cap_canon.proofs.objects.left_of.Goals as goal
 

@@ -1,4 +1,4 @@
-use Rattle.cap_canon.proofs.Elements.{all_children, at_hand, children_seen, enough_children, no_children_seen}
+use Rattle.cap_canon.proofs.Elements.{at_hand, children_seen, enough_children, no_children_seen}
 use Rattle.cap_canon.proofs.trimming.list_pointers_left.Goals as goal
 
 pub elements-init : goal.elements-init

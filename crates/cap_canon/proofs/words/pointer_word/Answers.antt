@@ -1,8 +1,8 @@
-use Rattle.std.proofs.Common.{◌≡◌, ◌∙◌, ap, sym, length}
+use Rattle.std.proofs.Common.{◌∙◌, ap, sym}
 use Rattle.std.proofs.lemmas.List.FromFn.{length-map-range_with_len}
 use Rattle.cap_spec.specs.Messages.{segment_of}
 use Rattle.cap_spec.specs.Pointers.{element_bits}
-use Rattle.cap_spec.specs.Denoting.{value_at, values_of}
+use Rattle.cap_spec.specs.Denoting.{value_at}
 use Rattle.cap_spec.specs.Canonical.{list_word, pointer_to}
 use Rattle.cap_canon.proofs.words.pointer_word.Goals as goal
 
