@@ -32,7 +32,7 @@ pub struct Job {
 /// Why the program's words name no job.
 #[derive(Debug, Drop)]
 pub enum JobFault {
-    /// They ask for help, which is this text.
+    /// They ask for help or for the version, and this is the text.
     Help { text: String },
     /// There is a mistake in them, and this is what the user is told.
     Usage { text: String },
