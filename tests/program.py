@@ -281,6 +281,12 @@ for command in ("", *COMMANDS):
     # (that of `vet` is a refused message)
     help_example(command, status=1 if command == "vet" else 0)
 four = "stream-of-four.bin"
+# Where both outputs go to one place, a fault's line comes behind the texts of the messages before it.
+shell_case(
+    "head -c 3200 examples/stream-of-four.bin | capvet vet 2>&1",
+    CONTACTS + "capvet: message 1: Truncated at byte 3200\n",
+    status=1,
+)
 shell_case(f"make -s sample PROGRAM={shlex.quote(str(PROGRAM))}", segments_text(sample(four)) + VERDICTS[four])
 
 print(f"{passed} passed, {failed} failed")
