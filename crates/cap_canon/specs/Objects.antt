@@ -8,6 +8,11 @@ use Rattle.cap_spec.specs.Canonical.{trim}
 use Rattle.cap_canon.specs.declared.objects.Object.{Object}
 use Rattle.cap_canon.specs.declared.objects.Object.TheVariants as object
 
+-- a list of structs
+abbrev pub IsStructs : Object → Type 0
+IsStructs (object.Structs t b n ds ps d p) = ⊤
+IsStructs x = ⊥
+
 -- The word denotes a tree of at most so many levels, and this is what is left of it.
 abbrev pub IsLeft : List (List ℕ) → ℕ → ℕ → ℕ → Tree → Type 0
 IsLeft m deep s w u = (t : Tree) × (c d : ℕ) × Denotes m s w t c d × (u ≡ trim t) × (d ≤ deep)

@@ -2,7 +2,7 @@
 
 ghost use Rattle.cap_canon.specs.Filling.{OwnAppended, elements_from};
 ghost use Rattle.cap_canon.specs.Laying.{own_size};
-ghost use Rattle.cap_canon.specs.Objects.{IsObject};
+ghost use Rattle.cap_canon.specs.Objects.{IsObject, IsStructs};
 ghost use Rattle.cap_spec.specs.Denoting.{values_of, words_from};
 ghost use Rattle.cap_spec.specs.Messages.{segment_of};
 ghost use Rattle.cap_spec.specs.Pointers.{list_words};
@@ -66,6 +66,19 @@ pub(crate) fn append_own<M: Segments, T: Target>(message: &M, object: &Object, c
             start,
             count,
         } => copy.append_from(message, segment, start, count),
+        Object::Structs { .. } => append_tagged(message, object, copy),
+    }
+}
+
+// Appends the tag and the elements of what is left of a list of structs.
+fn append_tagged<M: Segments, T: Target>(message: &M, object: &Object, copy: &mut T)
+    requires structs { IsStructs object.now }
+    requires is { (d s w : ℕ) × (tree : Tree) × IsObject (M.segments message.now) d s w tree object.now
+        × (length (T.words copy.old) + own_size tree ≤ T.room copy.old) }
+    ensures own { (d s w : ℕ) (tree : Tree) → IsObject (M.segments message.now) d s w tree object.now → OwnAppended (T.words copy.old) (T.words copy.new) tree }
+    ensures room { T.room copy.old ≤ T.room copy.new }
+{
+    match *object {
         Object::Structs {
             segment,
             start,
@@ -86,6 +99,7 @@ pub(crate) fn append_own<M: Segments, T: Target>(message: &M, object: &Object, c
             };
             append_structs(message, &elements, count, copy);
         }
+        _ => unreachable!(),
     }
 }
 

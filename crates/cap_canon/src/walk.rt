@@ -3,7 +3,7 @@
 ghost use Rattle.cap_canon.specs.Frames.{OptionFull, option_places, row_places};
 ghost use Rattle.cap_canon.specs.InPlace.{AreInPlace, IsInPlace, StandsIn};
 ghost use Rattle.cap_canon.specs.Laying.{Due, below, own_size};
-ghost use Rattle.cap_canon.specs.Objects.{IsObject};
+ghost use Rattle.cap_canon.specs.Objects.{IsObject, IsStructs};
 ghost use Rattle.cap_canon.specs.Owing.{AreOwed, IsNext, IsWalking, work_left};
 ghost use Rattle.cap_spec.specs.Messages.{IsMessage};
 ghost use Rattle.cap_spec.specs.Tree.{Tree};
@@ -97,6 +97,24 @@ fn frame_of(object: &Object, end: u32) -> Option<Frame>
             start,
             count,
         } => row_frame(*segment, *start, end, *count),
+        Object::Structs { .. } => structs_frame(object, end),
+        Object::Null => None,
+        Object::Cap { .. } => None,
+        Object::Scalars { .. } => None,
+    }
+}
+
+// Those of a list of structs.
+#[inline(always)]
+fn structs_frame(object: &Object, end: u32) -> Option<Frame>
+    requires structs { IsStructs object.now }
+    requires is { (m : List (List ℕ)) × (d s w : ℕ) × (tree : Tree) × IsMessage m × IsObject m d s w tree object.now × (end + own_size tree ≤ 268435457) }
+    ensures owed { (m : List (List ℕ)) (d s w depth n : ℕ) (tree : Tree) → IsObject m d s w tree object.now → d + n ≤ depth
+        → AreOwed m depth (n + 1) (option_places result) (below end tree) }
+    ensures full { OptionFull result }
+    ensures in_place { StandsIn end object.now → AllByRecursion IsInPlace (option_places result) }
+{
+    match object {
         Object::Structs {
             segment,
             start,
@@ -120,9 +138,7 @@ fn frame_of(object: &Object, end: u32) -> Option<Frame>
                 pointers: *pointers_left,
             })
         }
-        Object::Null => None,
-        Object::Cap { .. } => None,
-        Object::Scalars { .. } => None,
+        _ => unreachable!(),
     }
 }
 

@@ -1,6 +1,5 @@
-use Rattle.std.proofs.Common.{◌∙◌, ◌+◌, ◌++◌, [], ◌∷◌, ap, arith}
-use Rattle.cap_canon.specs.Filling.{elements_from}
-use Rattle.cap_canon.proofs.Filling.{pointers_appended, scalars_appended, scalars_size, struct_appended, structs_appended}
+use Rattle.std.proofs.Common.{arith}
+use Rattle.cap_canon.proofs.Filling.{pointers_appended, scalars_appended, scalars_size, struct_appended}
 use Rattle.cap_canon.proofs.appending.append_own.Goals as goal
 
 pub append_values-requires-clause-room : goal.append_values-requires-clause-room
@@ -29,14 +28,3 @@ returns-in-Pointers-clause-own g c = λ d s w tree h.
     let k = rw c.in-Pointers.is at h in
     pointers_appended m k.0 s w tree c.in-Pointers.segment c.in-Pointers.start c.in-Pointers.count
     (g.T.Target.words c.args.copy.now) (g.T.Target.words c.append_from.new.self) k.2 c.append_from.ensures.words)
-
-pub returns-in-Structs-clause-own : goal.returns-in-Structs-clause-own
-returns-in-Structs-clause-own g c = λ d s w tree h.
-    (let m = g.M.Segments.segments c.args.message.now in
-    let k = rw c.in-Structs.is at h in
-    let x = c.in-Structs in
-    let tag = c.push.ensures.words ∙ ap (λ word. g.T.Target.words c.args.copy.now ++ word ∷ []) c.tag_word.ensures in
-    structs_appended m k.0 s w tree c.in-Structs.segment c.in-Structs.start c.in-Structs.count c.in-Structs.data_words c.in-Structs.pointers c.in-Structs.data_left c.in-Structs.pointers_left
-    (g.T.Target.words c.args.copy.now) (g.T.Target.words c.append_structs.new.copy) k.2
-    (c.append_structs.ensures.words
-    ∙ ap (λ xs. xs ++ elements_from m c.in-Structs.segment (c.in-Structs.start + 1) c.in-Structs.data_words c.in-Structs.pointers c.in-Structs.data_left c.in-Structs.pointers_left c.in-Structs.count) tag))
