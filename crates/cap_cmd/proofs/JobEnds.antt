@@ -1,6 +1,6 @@
 -- What a job did, and what it did whose status is that of success.
-use Rattle.std.proofs.Common.{◌≡◌, ℕ, Option, List, Result, Ok, Err, subst, sym, arith}
-use Rattle.std.specs.Io.KnownBytes.{Appends, Keeps}
+use Rattle.std.proofs.Common.{◌≡◌, ℕ, Option, Some, None, List, Result, Ok, Err, subst, sym, arith}
+use Rattle.std.specs.Io.KnownBytes.{Appends, Keeps, append_known}
 use Rattle.cap_words.specs.declared.ends.ByteOut as output
 use Rattle.cap_words.specs.declared.sinks.WordSink as sink
 use Rattle.cap_words.specs.declared.sources.WordSource as source
@@ -8,20 +8,38 @@ use Rattle.cap_frame.specs.declared.fault.FrameFault.{FrameFault}
 use Rattle.cap_frame.specs.declared.fault.FrameFault.TheVariants.{TooManySegments, TooLarge, Truncated, Device, Memory, Spent}
 use Rattle.cap_spec.specs.Packing.{pack_text}
 use Rattle.cap_spec.specs.Plain.{plain_text}
-use Rattle.cap_cmd.specs.Engines.{CopiesWords, ShowsStream, TellsStream, most_words}
-use Rattle.cap_cmd.specs.Faults.{cause_status, copy_status, frame_status, outcome_status, run_status}
+use Rattle.cap_run.specs.Copying.{Copied, CopiesAll}
+use Rattle.cap_run.specs.Engines.{CopiesWords, ShowsStream, TellsStream, most_words}
+use Rattle.cap_cmd.specs.Statuses.{cause_status, copy_status, frame_status, outcome_status, run_status}
 use Rattle.cap_cmd.specs.Jobs.{BeginsOutput, CopiesInput, DoesTask, GivesOutput, ShowsInput, TellsCopy, VetsInput}
-use Rattle.cap_cmd.specs.Telling.{outcome_of}
-use Rattle.cap_cmd.specs.Vetting.{TellsVerdict}
-use Rattle.cap_cmd.specs.declared.fault.Cause.{Cause}
-use Rattle.cap_cmd.specs.declared.fault.Cause.TheVariants.{TooManyMessages, Frame, Output}
-use Rattle.cap_cmd.specs.declared.fault.CopyFault.{CopyFault}
-use Rattle.cap_cmd.specs.declared.fault.RunFault.{RunFault}
+use Rattle.cap_run.specs.Telling.{outcome_of}
+use Rattle.cap_run.specs.Vetting.{TellsVerdict}
+use Rattle.cap_run.specs.declared.fault.Cause.{Cause}
+use Rattle.cap_run.specs.declared.fault.Cause.TheVariants.{TooManyMessages, Frame, Output}
+use Rattle.cap_run.specs.declared.fault.CopyFault.{CopyFault}
+use Rattle.cap_run.specs.declared.fault.CopyFault.TheVariants.{TooManyWords, Source, Output as copy_output}
+use Rattle.cap_words.specs.declared.sources.SourceFault.TheVariants.{Truncated as source_truncated, Device as source_device, Spent as source_spent}
+use Rattle.cap_run.specs.declared.fault.RunFault.{RunFault}
 use Rattle.cap_cmd.specs.declared.job.Task.{Task}
 use Rattle.cap_cmd.specs.declared.job.Task.TheVariants.{Pack, Unpack}
-use Rattle.cap_cmd.specs.declared.settings.Outcome.{Outcome}
-use Rattle.cap_cmd.specs.declared.settings.Settings.{Settings}
-use Rattle.cap_cmd.proofs.CopyEnds.{copied_all, kept_appends}
+use Rattle.cap_run.specs.declared.settings.Outcome.{Outcome}
+use Rattle.cap_run.specs.declared.settings.Settings.{Settings}
+
+-- bytes that are what others and a text were are those others, continued by the text
+pub kept_appends : (a b : Option (List ℕ)) (text : List ℕ) → Keeps (append_known a text) b → Appends a b text
+kept_appends None b text k = tt
+kept_appends (Some xs) None text k = absurd k
+kept_appends (Some xs) (Some ys) text k = k
+
+module _ {S K : Type 0} (gs : source.Ghosts S) (gk : sink.Ghosts K) (most : ℕ) (old new : S) (before after : K) where
+  -- a copy with the status of success put all words
+  pub copied_all : (r : Result ℕ CopyFault) → copy_status r ≡ 0 → Copied gs gk most old new before after r → (put : List ℕ) × CopiesAll gs gk most old new before after put
+  copied_all (Ok n) e c = (c.0, c.2)
+  copied_all (Err TooManyWords) e c = absurd (cc)
+  copied_all (Err (Source (source_truncated byte))) e c = absurd (cc)
+  copied_all (Err (Source source_device)) e c = absurd (cc)
+  copied_all (Err (Source source_spent)) e c = absurd (cc)
+  copied_all (Err (copy_output fault)) e c = absurd (cc)
 
 -- no fault has that status
 pub frame_fails : (fault : FrameFault) → frame_status fault ≡ 0 → ⊥

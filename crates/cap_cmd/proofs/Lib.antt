@@ -1,15 +1,1 @@
-pub mod Copying
-pub mod CopyEnds
-pub mod Digits
-pub mod Going
 pub mod JobEnds
-pub mod Numbers
-pub mod Segments
-pub mod Settling
-pub mod Reading
-pub mod PathReading
-pub mod Reports
-pub mod Shown
-pub mod Streams
-pub mod Telling
-pub mod Writing

@@ -17,17 +17,18 @@ use Rattle.cap_words.specs.declared.sinks.WordSink as sink
 use Rattle.cap_words.specs.declared.sources.WordSource as source
 use Rattle.cap_frame.specs.Limit.{limit_of}
 use Rattle.cap_vet.specs.Limits.{depth_of, words_of}
-use Rattle.cap_cmd.specs.Engines.{CopiesWords, ShowsStream, TellsStream, most_words}
-use Rattle.cap_cmd.specs.Faults.{copy_fault_line, copy_status, run_fault_line, run_status}
-use Rattle.cap_cmd.specs.Telling.{TellsEach, Told, messages_of, refused_in, segments_texts, texts_of}
-use Rattle.cap_cmd.specs.Vetting.{TellsVerdict}
-use Rattle.cap_cmd.specs.Writing.{Writes}
-use Rattle.cap_cmd.specs.declared.fault.CopyFault.{CopyFault}
-use Rattle.cap_cmd.specs.declared.fault.RunFault.{RunFault}
+use Rattle.cap_run.specs.Engines.{CopiesWords, ShowsStream, TellsStream, most_words}
+use Rattle.cap_run.specs.Faults.{copy_fault_line, run_fault_line}
+use Rattle.cap_cmd.specs.Statuses.{copy_status, run_status}
+use Rattle.cap_run.specs.Telling.{TellsEach, Told, messages_of, refused_in, segments_texts, texts_of}
+use Rattle.cap_run.specs.Vetting.{TellsVerdict}
+use Rattle.cap_run.specs.Writing.{Writes}
+use Rattle.cap_run.specs.declared.fault.CopyFault.{CopyFault}
+use Rattle.cap_run.specs.declared.fault.RunFault.{RunFault}
 use Rattle.cap_cmd.specs.declared.job.Task.{Task}
 use Rattle.cap_cmd.specs.declared.job.Task.TheVariants.{Segments, Vet, Pack, Unpack}
-use Rattle.cap_cmd.specs.declared.settings.Outcome.{Outcome}
-use Rattle.cap_cmd.specs.declared.settings.Settings.{Settings}
+use Rattle.cap_run.specs.declared.settings.Outcome.{Outcome}
+use Rattle.cap_run.specs.declared.settings.Settings.{Settings}
 
 -- what is unpacked is packed, what is packed isn't yet, and of messages the user tells it
 abbrev pub is_packed : Task → Bool → Bool

@@ -1,11 +1,2 @@
-pub mod Copying
-pub mod Engines
-pub mod Faults
 pub mod Jobs
-pub mod PathReading
-pub mod Putting
-pub mod Running
-pub mod Streams
-pub mod Telling
-pub mod Vetting
-pub mod Writing
+pub mod Statuses

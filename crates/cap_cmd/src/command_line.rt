@@ -1,11 +1,11 @@
 //! The command line: what the program's words ask for.
 
-ghost use Rattle.cap_cmd.specs.Engines.{most_messages};
+ghost use Rattle.cap_run.specs.Engines.{most_messages};
 ghost use Rattle.std.specs.Prelude.{◌≡◌, IfOk};
 
 use crate::job::{Job, JobFault, Task};
-use crate::settings::Settings;
 use cap_frame::SizeLimit;
+use cap_run::Settings;
 use cap_vet::Limits;
 use clap::error::ErrorKind;
 use clap::{Arg, ArgAction, ArgMatches, Command, Error, value_parser};

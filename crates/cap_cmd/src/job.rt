@@ -1,6 +1,6 @@
 //! A job that the command line names.
 
-use crate::settings::Settings;
+use cap_run::Settings;
 
 /// What the program is asked to do.
 #[derive(Clone, Copy, Debug, PartialEq, Eq, Drop)]

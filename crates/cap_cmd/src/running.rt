@@ -1,6 +1,6 @@
 //! Doing a job: its engine is run over an input, an output and an output for faults.
 
-ghost use Rattle.cap_cmd.specs.Engines.{most_words};
+ghost use Rattle.cap_run.specs.Engines.{most_words};
 ghost use Rattle.cap_cmd.specs.Jobs.{CopiesInput, DoesJob, DoesTask, ShowsInput, TellsCopy, TellsRun, VetsInput, input_is_cut, input_words, is_packed};
 ghost use Rattle.cap_frame.specs.Limit.{limit_of};
 ghost use Rattle.cap_spec.specs.Packing.{pack_text};
@@ -8,16 +8,13 @@ ghost use Rattle.cap_spec.specs.Plain.{plain_text};
 ghost use Rattle.cap_vet.specs.Limits.{depth_of, words_of};
 ghost use Rattle.std.specs.Prelude.{◌≡◌, false, true};
 
-use crate::engines::copy::{run_pack, run_unpack};
-use crate::engines::segments::run_segments;
-use crate::engines::vet::run_vet;
-use crate::fault::{CopyFault, RunFault};
 use crate::job::{Job, Task};
-use crate::settings::Outcome;
 use crate::status::{stream_status, words_status};
-use crate::texts::faults::{copy_fault_text, fault_text};
-use crate::texts::output::write_bytes;
 use cap_pack::{Packer, Unpacker};
+use cap_run::{
+    CopyFault, Outcome, RunFault, run_pack, run_segments, run_unpack, run_vet, write_copy_fault,
+    write_fault,
+};
 use cap_words::{ByteIn, ByteOut, PlainSink, PlainWords, WordSink, WordSource};
 use std::alloc::Global;
 
@@ -40,7 +37,7 @@ fn report<E: ByteOut>(err: &mut E, answer: &Result<Outcome, RunFault>) -> u8
     ensures { TellsRun E.ByteOut answer.now err.old err.new result }
 {
     if let Err(fault) = answer {
-        let _ = write_bytes(err, fault_text(fault).as_slice());
+        let _ = write_fault(err, fault);
     }
     stream_status(answer)
 }
@@ -50,7 +47,7 @@ fn report_copy<E: ByteOut>(err: &mut E, answer: &Result<u64, CopyFault>) -> u8
     ensures { TellsCopy E.ByteOut answer.now err.old err.new result }
 {
     if let Err(fault) = answer {
-        let _ = write_bytes(err, copy_fault_text(fault).as_slice());
+        let _ = write_copy_fault(err, fault);
     }
     words_status(answer)
 }

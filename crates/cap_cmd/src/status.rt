@@ -1,12 +1,11 @@
 //! The exit statuses: 0 where all is well, 1 for what the input is, and 3 for a device or for want of
 //! memory.
 
-ghost use Rattle.cap_cmd.specs.Faults.{cause_status, copy_status, outcome_status, run_status};
+ghost use Rattle.cap_cmd.specs.Statuses.{cause_status, copy_status, outcome_status, run_status};
 ghost use Rattle.std.specs.Prelude.{◌≡◌};
 
-use crate::fault::{Cause, CopyFault, RunFault};
-use crate::settings::Outcome;
 use cap_frame::FrameFault;
+use cap_run::{Cause, CopyFault, Outcome, RunFault};
 use cap_words::SourceFault;
 
 /// The exit status of a fault at a message.

@@ -1,9 +1,9 @@
 //! The command line, which no clause speaks of, and a run of each public call.
 
 use crate::status::words_status;
-use crate::texts::faults::{copy_fault_text, fault_text};
 use crate::{Cause, CopyFault, Job, JobFault, Limits, RunFault, Task, read_job, run_job};
 use cap_frame::FrameFault;
+use cap_run::{write_copy_fault, write_fault};
 use cap_words::{OutFault, SliceIn, SourceFault, VecOut};
 use std::alloc::{AllocError, Global};
 use std::test::Fail;
@@ -249,11 +249,13 @@ fn tells_the_faults(rt: HostRuntime) -> Result<(), Fail> {
         (Cause::Output(OutFault::Device), "capvet: output failed\n"),
     ];
     for (cause, text) in &faults {
-        let line = fault_text(&RunFault {
+        let fault = RunFault {
             message: 7,
             cause: *cause,
-        });
-        assert!(rt; line.as_slice() == text.as_bytes());
+        };
+        let mut err = VecOut::new(rt.alloc());
+        assert!(rt; write_fault(&mut err, &fault).is_ok());
+        assert!(rt; err.bytes() == text.as_bytes());
     }
     Ok(())
 }
@@ -285,7 +287,9 @@ fn tells_the_faults_of_copies(rt: HostRuntime) -> Result<(), Fail> {
         ),
     ];
     for (fault, text, status) in &faults {
-        assert!(rt; copy_fault_text(fault).as_slice() == text.as_bytes());
+        let mut err = VecOut::new(rt.alloc());
+        assert!(rt; write_copy_fault(&mut err, fault).is_ok());
+        assert!(rt; err.bytes() == text.as_bytes());
         assert_eq!(rt; words_status(&Err(*fault)), *status);
     }
     assert_eq!(rt; words_status(&Ok(7)), 0);

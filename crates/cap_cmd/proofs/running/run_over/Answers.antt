@@ -2,7 +2,7 @@ use Rattle.std.proofs.Common.{◌∙◌, ap, subst, sym}
 use Rattle.std.specs.Io.KnownBytes.{append_known}
 use Rattle.cap_spec.specs.Packing.{pack_text}
 use Rattle.cap_spec.specs.Plain.{plain_text}
-use Rattle.cap_cmd.specs.Engines.{most_words}
+use Rattle.cap_run.specs.Engines.{most_words}
 use Rattle.cap_cmd.specs.Jobs.{GivesOutput}
 use Rattle.cap_cmd.proofs.JobEnds.{all_copied, does_pack, does_unpack}
 use Rattle.cap_cmd.proofs.running.run_over.Goals as goal

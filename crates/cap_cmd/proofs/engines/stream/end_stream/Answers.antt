@@ -1,8 +1,0 @@
-use Rattle.cap_cmd.proofs.Streams.{reads_one}
-use Rattle.cap_frame.specs.Limit.{limit_of}
-use Rattle.cap_cmd.proofs.engines.stream.end_stream.Goals as goal
-
-pub returns-in-Ok-true-clause-err : goal.returns-in-Ok-true-clause-err
-returns-in-Ok-true-clause-err g c =
-    let r = c.in-Ok-true.ensures.message (cc) in
-    (r.1, reads_one g.S.WordSource (limit_of c.args.limit) c.args.source.now c.read_outline.new.source r.0 r.1 r.2 r.3 r.4 c.in-Ok-true.ensures.works)

@@ -1,0 +1,47 @@
+-- The exit statuses (profile).
+use Rattle.std.specs.Prelude.{ℕ, ◌==◌, ◌&&◌, if◌then◌else◌, Result, Ok, Err}
+use Rattle.cap_words.specs.declared.sources.SourceFault.{SourceFault}
+use Rattle.cap_words.specs.declared.sources.SourceFault.TheVariants.{Truncated as source_truncated, Device as source_device, Spent as source_spent}
+use Rattle.cap_frame.specs.declared.fault.FrameFault.{FrameFault}
+use Rattle.cap_frame.specs.declared.fault.FrameFault.TheVariants.{TooManySegments, TooLarge, Truncated, Device, Memory, Spent}
+use Rattle.cap_run.specs.declared.fault.Cause.{Cause}
+use Rattle.cap_run.specs.declared.fault.Cause.TheVariants.{TooManyMessages, Frame, Output}
+use Rattle.cap_run.specs.declared.fault.CopyFault.{CopyFault}
+use Rattle.cap_run.specs.declared.fault.CopyFault.TheVariants.{TooManyWords, Source as copy_source, Output as copy_output}
+use Rattle.cap_run.specs.declared.fault.RunFault.{RunFault}
+use Rattle.cap_run.specs.declared.settings.Outcome.{Outcome}
+
+-- the status of a message that couldn't be read
+abbrev pub frame_status : FrameFault → ℕ
+frame_status (TooManySegments count) = 1
+frame_status (TooLarge words) = 1
+frame_status (Truncated byte) = 1
+frame_status Device = 3
+frame_status Memory = 3
+frame_status Spent = 3
+
+abbrev pub cause_status : Cause → ℕ
+cause_status TooManyMessages = 1
+cause_status (Frame fault) = frame_status fault
+cause_status (Output fault) = 3
+
+-- 0 where every message was accepted, and canonical where that was asked
+abbrev pub outcome_status : Outcome → ℕ
+outcome_status o = if (o.refused == 0) && (o.noncanonical == 0) then 0 else 1
+
+abbrev pub run_status : Result Outcome RunFault → ℕ
+run_status (Ok outcome) = outcome_status outcome
+run_status (Err fault) = cause_status fault.cause
+
+-- the status of a source that gave no word
+abbrev pub source_status : SourceFault → ℕ
+source_status (source_truncated byte) = 1
+source_status source_device = 3
+source_status source_spent = 3
+
+-- 0 where all words were copied
+abbrev pub copy_status : Result ℕ CopyFault → ℕ
+copy_status (Ok words) = 0
+copy_status (Err TooManyWords) = 1
+copy_status (Err (copy_source fault)) = source_status fault
+copy_status (Err (copy_output fault)) = 3

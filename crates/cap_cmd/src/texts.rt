@@ -1,7 +1,0 @@
-//! The lines that the program writes.
-
-pub(crate) mod faults;
-pub(crate) mod line;
-pub(crate) mod output;
-pub(crate) mod segments;
-pub(crate) mod verdict;

@@ -1,0 +1,90 @@
+-- What is known of the words of a source decides how a copy of them ends, faults of devices and of the output aside.
+use Rattle.std.proofs.Common.{◌≡◌, ◌∙◌, ℕ, suc, ◌+◌, ◌<◌, ◌≤◌, true, false, Option, Some, Result, Ok, Err, List, [], ◌∷◌, ◌++◌, length, take, drop, refl, sym, ap, subst, arith, length-append, append-nil, append_assoc}
+use Rattle.std.specs.Io.KnownBytes.{Consumes}
+use Rattle.std.proofs.lemmas.List.{drop-drop}
+use Rattle.std.proofs.Math.Seq.{take-append_seam}
+use Rattle.cap_words.specs.declared.sources.WordSource as source
+use Rattle.cap_words.specs.declared.sources.SourceFault.TheVariants.{Truncated, Device, Spent}
+use Rattle.cap_words.specs.declared.sinks.WordSink as sink
+use Rattle.cap_frame.proofs.Converse.{known_still, same_some}
+use Rattle.cap_run.specs.Copying.{Copied, CopiesAll, CopiesMost, CopiesUntil, CopySettled, Finishes}
+use Rattle.cap_run.specs.Engines.{CopiesWords}
+use Rattle.cap_run.specs.declared.fault.CopyFault.{CopyFault}
+use Rattle.cap_run.specs.declared.fault.CopyFault.TheVariants.{TooManyWords, Source, Output}
+use Rattle.cap_run.proofs.Settling.{on_known}
+
+module _ {S K : Type 0} (gs : source.Ghosts S) (gk : sink.Ghosts K) (most : ℕ) (old new : S) (before after : K) (own : List ℕ) where
+  -- known words that were all put
+  pub all_put : (put : List ℕ) → gs.words old ≡ Some own → (c : CopiesAll gs gk most old new before after put) → (put ≡ own) × (gs.is_cut old ≡ false) × (length own ≤ most)
+  all_put put w c =
+      let all = on_known (gs.words old) own _ w c.all in
+      let same = same_some own put (sym w ∙ all.0) in
+      (sym same, all.1, omega (arith, c.few, ap length same))
+
+  -- where one word too many was read, there are more of them
+  pub most_put : gs.words old ≡ Some own → (c : CopiesMost gs gk most old new before after) → (most < length own) × (c.own ≡ take most own)
+  most_put w c =
+      let here = known_still own (c.own ++ c.word ∷ []) (gs.words new) (subst (λ (o : Option (List ℕ)). Consumes o (gs.words new) (c.own ++ c.word ∷ [])) w c.gives.takes.words) in
+      let whole : own ≡ c.own ++ (c.word ∷ here.0) = here.2 ∙ append_assoc c.own (c.word ∷ []) here.0 in (
+        omega (arith, ap length whole, length-append c.own (c.word ∷ here.0), c.many),
+        sym (ap (take most) whole ∙ (ap (λ (n : ℕ). take n (c.own ++ (c.word ∷ here.0))) (sym c.many) ∙ take-append_seam c.own (c.word ∷ here.0))),
+      )
+
+  -- where the input ended inside a word, all of them were put
+  pub cut_put : (byte : ℕ) → gs.words old ≡ Some own → (c : CopiesUntil gs gk most old new before after (Truncated byte))
+      → (c.own ≡ own) × (gs.is_cut old ≡ true) × (length own ≤ most) × (drop (length own) (gs.places old) ≡ byte ∷ [])
+  cut_put byte w c =
+      let here = known_still own c.own (gs.words c.mid) (subst (λ (o : Option (List ℕ)). Consumes o (gs.words c.mid) c.own) w c.gives.takes.words) in
+      let none = on_known (gs.words c.mid) here.0 _ here.1 c.none.none in
+      let nil = same_some here.0 [] (sym here.1 ∙ none.0) in
+      let same : own ≡ c.own = here.2 ∙ (ap (λ (ws : List ℕ). c.own ++ ws) nil ∙ append-nil c.own) in
+      let goes = on_known (gs.words old) own _ w c.gives.takes.goes_on in
+      let next : suc (length c.own) ≡ length c.own + 1 = omega arith in
+      let at : drop 1 (gs.place c.mid ∷ gs.places c.mid) ≡ drop 1 (drop (length c.own) (gs.place old ∷ gs.places old)) = ap (drop 1) goes.1 in (
+        sym same,
+        sym goes.0 ∙ none.1,
+        omega (arith, c.few, ap length same),
+        ap (λ (ws : List ℕ). drop (length ws) (gs.places old)) same ∙ (ap (λ (n : ℕ). drop n (gs.place old ∷ gs.places old)) next ∙ (sym (drop-drop 1 (length c.own) (gs.place old ∷ gs.places old)) ∙ (sym at ∙ none.2))),
+      )
+
+  -- all words, where there aren't too many and the input isn't cut
+  pub copy_whole : (r : Result ℕ CopyFault) → gs.words old ≡ Some own → gs.is_cut old ≡ false → length own ≤ most → Copied gs gk most old new before after r
+      → CopySettled r ((r ≡ Ok (length own)) × Finishes gk before after own)
+  copy_whole (Ok n) w i l c =
+      let t = all_put c.0 w c.2 in
+      (ap (λ (k : ℕ). Ok k) (c.1 ∙ ap length t.0), subst (Finishes gk before after) t.0 c.2.finishes)
+  copy_whole (Err TooManyWords) w i l c = absurd (let t = most_put w c in omega (arith, t.0, l))
+  copy_whole (Err (Source (Truncated byte))) w i l c = absurd (let t = cut_put byte w c in let e = t.1 in cc)
+  copy_whole (Err (Source Device)) w i l c = tt
+  copy_whole (Err (Source Spent)) w i l c = tt
+  copy_whole (Err (Output fault)) w i l c = tt
+
+  -- and where it is cut, that fault behind them
+  pub copy_cut : (r : Result ℕ CopyFault) → gs.words old ≡ Some own → gs.is_cut old ≡ true → length own ≤ most → Copied gs gk most old new before after r
+      → CopySettled r ((byte : ℕ) × (r ≡ Err (Source (Truncated byte))) × (drop (length own) (gs.places old) ≡ byte ∷ []) × Finishes gk before after own)
+  copy_cut (Ok n) w i l c = absurd (let t = all_put c.0 w c.2 in let e = t.1 in cc)
+  copy_cut (Err TooManyWords) w i l c = absurd (let t = most_put w c in omega (arith, t.0, l))
+  copy_cut (Err (Source (Truncated byte))) w i l c = let t = cut_put byte w c in (byte, refl, t.3, subst (Finishes gk before after) t.0 c.finishes)
+  copy_cut (Err (Source Device)) w i l c = tt
+  copy_cut (Err (Source Spent)) w i l c = tt
+  copy_cut (Err (Output fault)) w i l c = tt
+
+  -- and where there are too many, the first of them and that fault
+  pub copy_many : (r : Result ℕ CopyFault) → gs.words old ≡ Some own → most < length own → Copied gs gk most old new before after r
+      → CopySettled r ((r ≡ Err TooManyWords) × Finishes gk before after (take most own))
+  copy_many (Ok n) w l c = absurd (let t = all_put c.0 w c.2 in omega (arith, t.2, l))
+  copy_many (Err TooManyWords) w l c = let t = most_put w c in (refl, subst (Finishes gk before after) t.1 c.finishes)
+  copy_many (Err (Source (Truncated byte))) w l c = absurd (let t = cut_put byte w c in omega (arith, t.2, l))
+  copy_many (Err (Source Device)) w l c = tt
+  copy_many (Err (Source Spent)) w l c = tt
+  copy_many (Err (Output fault)) w l c = tt
+
+module _ {S K : Type 0} (gs : source.Ghosts S) (gk : sink.Ghosts K) where
+  -- how a copy ends says what it answers where the words are known
+  pub copies_words : (most : ℕ) (old new : S) (before after : K) (r : Result ℕ CopyFault) → Copied gs gk most old new before after r → CopiesWords gs gk most old new before after r
+  copies_words most old new before after r c = record {
+    copied = c;
+    whole = λ own w i l. copy_whole gs gk most old new before after own r w i l c;
+    cut_short = λ own w i l. copy_cut gs gk most old new before after own r w i l c;
+    many = λ own w l. copy_many gs gk most old new before after own r w l c;
+  }

@@ -1,0 +1,187 @@
+-- Words that are read and put one after the other.
+use Rattle.std.proofs.Common.{◌≡◌, ◌∙◌, ℕ, ◌+◌, ◌<◌, false, true, ◌⊎◌, inl, inr, Result, Ok, Err, List, [], ◌∷◌, ◌++◌, OnSome, refl, sym, ap, subst, arith, append_assoc, append-nil, length-append}
+use Rattle.std.specs.Io.KnownBytes.{Consumes, Keeps}
+use Rattle.std.proofs.KnownBytes.{Keeps-refl, Keeps-trans}
+use Rattle.cap_words.specs.Ends.{DeviceFails, GrowthFails, WasSpent, Works}
+use Rattle.cap_words.specs.Sinks.{Begins, StoppedPutting, WasPut, sink_fault_of}
+use Rattle.cap_words.specs.declared.ends.OutFault.{OutFault}
+use Rattle.cap_words.specs.declared.sinks.SinkFault.{SinkFault}
+use Rattle.cap_words.specs.declared.sinks.SinkFault.TheVariants.{Device, Memory, Spent}
+use Rattle.cap_words.specs.declared.sinks.WordSink as sink
+use Rattle.cap_words.specs.declared.sources.WordSource as source
+use Rattle.cap_frame.proofs.Taking.{takes_none, takes_one, takes_both}
+use Rattle.cap_frame.specs.Putting.{Blames, Halts}
+use Rattle.cap_frame.proofs.Putting.{begins_kept, blames_later}
+use Rattle.cap_run.specs.Copying.{Copied, Fills, Finishes, Gives, Spoils, StopsFinishing, StopsMidway}
+use Rattle.cap_run.specs.Putting.{Copies, StopsAt, StopsPutting}
+use Rattle.cap_run.specs.declared.fault.CopyFault.{CopyFault}
+use Rattle.cap_run.specs.declared.fault.CopyFault.TheVariants.{TooManyWords, Source, Output}
+use Rattle.cap_run.proofs.Streams.{all_taken}
+
+module _ {S : Type 0} (gs : source.Ghosts S) where
+  -- no words
+  pub gives_none : (s : S) → Gives gs s s []
+  gives_none s = record { takes = takes_none gs s; usable = inl refl; spent = refl; failures = refl }
+
+  -- the next word
+  pub gives_one : (old new : S) (word : ℕ) → Consumes (gs.words old) (gs.words new) (word ∷ [])
+      → OnSome (gs.words old) ((gs.is_cut new ≡ gs.is_cut old) × (gs.places old ≡ gs.place new ∷ gs.places new))
+      → Works (gs.spent old) (gs.spent new) (gs.failures old) (gs.failures new) → Gives gs old new (word ∷ [])
+  gives_one old new word c f w = record { takes = takes_one gs old new word c f; usable = inr w.usable; spent = w.still ∙ sym w.usable; failures = w.none_failed }
+
+  -- some words, and then others
+  pub gives_both : (old mid new : S) (a b : List ℕ) → Gives gs old mid a → Gives gs mid new b → Gives gs old new (a ++ b)
+  gives_both old mid new a b p q = record {
+    takes = takes_both gs old mid new a b p.takes q.takes;
+    usable = usable p.usable q.usable;
+    spent = q.spent ∙ p.spent;
+    failures = q.failures ∙ p.failures;
+  }
+    where
+      usable : (a ≡ []) ⊎ (gs.spent old ≡ false) → (b ≡ []) ⊎ (gs.spent mid ≡ false) → (a ++ b ≡ []) ⊎ (gs.spent old ≡ false)
+      usable (inr u) v = inr u
+      usable (inl e) (inl f) = inl (ap (λ (xs : List ℕ). xs ++ b) e ∙ f)
+      usable (inl e) (inr v) = inr (sym p.spent ∙ v)
+
+module _ {K : Type 0} (gk : sink.Ghosts K) where
+  -- no words
+  pub fills_none : (k : K) → Fills gk k k []
+  fills_none k = record { put = λ ws. Keeps-refl (gk.text k ws); closed = refl; spent = refl; failures = refl }
+
+  -- some words, and then others
+  pub fills_both : (old mid new : K) (a b : List ℕ) → Fills gk old mid a → Fills gk mid new b → Fills gk old new (a ++ b)
+  fills_both old mid new a b p q = record {
+    put = λ ws. subst (λ (xs : List ℕ). Keeps (gk.text old xs) (gk.text new ws)) (sym (append_assoc a b ws)) (Keeps-trans (gk.text old (a ++ (b ++ ws))) (gk.text mid (b ++ ws)) (gk.text new ws) (p.put (b ++ ws)) (q.put ws));
+    closed = q.closed ∙ p.closed;
+    spent = q.spent ∙ p.spent;
+    failures = q.failures ∙ p.failures;
+  }
+
+  -- the next word
+  pub fills_one : (old new : K) (word : ℕ) → WasPut gk.text old new (word ∷ [])
+      → (gk.closed old ≡ false) × (gk.closed new ≡ false) × (gk.spent new ≡ gk.spent old) × (gk.failures new ≡ gk.failures old) → Fills gk old new (word ∷ [])
+  fills_one old new word p o = record { put = p; closed = o.1 ∙ sym o.0; spent = o.2; failures = o.3 }
+
+  -- a fault at the next word, behind others
+  pub stopped_behind : (old mid new : K) (own : List ℕ) (word : ℕ) (fault : SinkFault) → Fills gk old mid own → Halts gk mid new (word ∷ []) fault
+      → StoppedPutting gk.text gk.taken old new (own ++ word ∷ [])
+  stopped_behind old mid new own word fault f h = λ ws.
+      subst (λ (xs : List ℕ). Begins (gk.text old xs) (gk.taken new)) (sym (append_assoc own (word ∷ []) ws))
+      (begins_kept (gk.text old (own ++ (word ∷ ws))) (gk.text mid (word ∷ ws)) (gk.taken new) (f.put (word ∷ ws)) (h.stopped ws))
+
+module _ {K : Type 0} (gk : sink.Ghosts K) where
+  -- the sink was finished behind these words
+  pub finishes_behind : (old mid new : K) (own : List ℕ) → Fills gk old mid own → Keeps (gk.text mid []) (gk.taken new)
+      → (gk.closed mid ≡ false) × (gk.closed new ≡ true) × (gk.failures new ≡ gk.failures mid) → Finishes gk old new own
+  finishes_behind old mid new own f k o = record {
+    finished = subst (λ (xs : List ℕ). Keeps (gk.text old xs) (gk.taken new)) (append-nil own) (Keeps-trans (gk.text old (own ++ [])) (gk.text mid []) (gk.taken new) (f.put []) k);
+    was_open = sym f.closed ∙ o.0;
+    closed = o.1;
+    failures = o.2 ∙ f.failures;
+  }
+
+  -- what the answer of a call to the sink says of the output
+  pub blames_of : (old new : K) (r : Result (Unit {0}) SinkFault) (fault : SinkFault) → r ≡ Err fault
+      → (r ≡ Err Device → DeviceFails (gk.spent old) (gk.failures old) (gk.failures new))
+      → (r ≡ Err Memory → GrowthFails (gk.spent old) (gk.failures old) (gk.failures new))
+      → (r ≡ Err Spent → WasSpent (gk.spent old) (gk.spent new) (gk.failures old) (gk.failures new) × Keeps (gk.taken old) (gk.taken new))
+      → Blames gk old new fault
+  blames_of old new r Device e d m s = d e
+  blames_of old new r Memory e d m s = m e
+  blames_of old new r Spent e d m s = (s e).0
+
+  -- the output failed behind these words, as the sink was finished
+  pub spoils_last : (old mid new : K) (own : List ℕ) (out : OutFault) → Fills gk old mid own → (gk.closed new ≡ true) × Begins (gk.text mid []) (gk.taken new)
+      → Blames gk mid new (sink_fault_of out) → Spoils gk old new own out
+  spoils_last old mid new own out f e b = record {
+    blames = blames_later gk old mid new (sink_fault_of out) f.spent f.failures b;
+    closed = e.0;
+    part = subst (λ (xs : List ℕ). Begins (gk.text old xs) (gk.taken new)) (append-nil own) (begins_kept (gk.text old (own ++ [])) (gk.text mid []) (gk.taken new) (f.put []) e.1);
+  }
+
+module _ {S K : Type 0} (gs : source.Ghosts S) (gk : sink.Ghosts K) where
+  -- one more word was read and put
+  pub copies_more : (old now new : S) (before between after : K) (n word : ℕ) → Copies gs gk old now before between n → Gives gs now new (word ∷ [])
+      → Fills gk between after (word ∷ []) → Copies gs gk old new before after (n + 1)
+  copies_more old now new before between after n word c g f = record {
+    own = c.own ++ word ∷ [];
+    many = length-append c.own (word ∷ []) ∙ ap (λ k. k + 1) c.many;
+    gives = gives_both gs old now new c.own (word ∷ []) c.gives g;
+    fills = fills_both gk before between after c.own (word ∷ []) c.fills f;
+  }
+
+  -- one more word was read, and couldn't be put
+  pub copies_stops : (most : ℕ) (old now new : S) (before between after : K) (n word : ℕ) (out : OutFault) → n < most → Copies gs gk old now before between n
+      → Gives gs now new (word ∷ []) → Halts gk between after (word ∷ []) (sink_fault_of out) → StopsAt gs gk most old new before after out
+  copies_stops most old now new before between after n word out less c g h = record {
+    done = c.own;
+    word = word;
+    between = between;
+    few = omega (arith, less, c.many);
+    gives = gives_both gs old now new c.own (word ∷ []) c.gives g;
+    fills = c.fills;
+    halts = h;
+  }
+
+  -- the sink was finished behind the words that were put
+  pub copied_finished : (most : ℕ) (old new : S) (before between after : K) (r : Result ℕ CopyFault) → StopsPutting gs gk most old new before between r
+      → Keeps (gk.text between []) (gk.taken after) → (gk.closed between ≡ false) × (gk.closed after ≡ true) × (gk.failures after ≡ gk.failures between)
+      → Copied gs gk most old new before after r
+  copied_finished most old new before between after (Ok n) s k o =
+      let c = s.2 in (
+        c.own,
+        sym c.many,
+        record {
+          few = omega (arith, s.1, c.many);
+          all = all_taken (gs.words old) (gs.words s.0) c.own (gs.is_cut old) (gs.is_cut s.0) _ _ c.gives.takes.words c.gives.takes.goes_on s.3.none;
+          ended = s.3.ended;
+          works = record { usable = sym c.gives.spent ∙ s.3.works.usable; still = s.3.works.still; none_failed = s.3.works.none_failed ∙ c.gives.failures };
+          finishes = finishes_behind gk before between after c.own c.fills k o;
+        },
+      )
+  copied_finished most old new before between after (Err TooManyWords) s k o =
+      let c = s.2 in
+      record {
+        own = c.own;
+        word = s.1;
+        many = c.many;
+        gives = gives_both gs old s.0 new c.own (s.1 ∷ []) c.gives s.3;
+        finishes = finishes_behind gk before between after c.own c.fills k o;
+      }
+  copied_finished most old new before between after (Err (Source fault)) s k o =
+      let c = s.3 in
+      record { own = c.own; mid = s.0; few = omega (arith, s.2, c.many); gives = c.gives; none = s.4; finishes = finishes_behind gk before between after c.own c.fills k o }
+  copied_finished most old new before between after (Err (Output fault)) s k o = absurd s
+
+  -- the output failed as the sink was finished
+  pub copied_spoiled : (most : ℕ) (old new : S) (before between after : K) (r : Result ℕ CopyFault) (out : OutFault) → StopsPutting gs gk most old new before between r
+      → (gk.closed after ≡ true) × Begins (gk.text between []) (gk.taken after) → Blames gk between after (sink_fault_of out)
+      → StopsFinishing gs gk most old new before after out
+  copied_spoiled most old new before between after (Ok n) out s e b =
+      let c = s.2 in
+      record { own = c.own; mid = s.0; few = omega (arith, s.1, c.many); gives = c.gives; spoils = spoils_last gk before between after c.own out c.fills e b; none = inl s.3 }
+  copied_spoiled most old new before between after (Err TooManyWords) out s e b =
+      let c = s.2 in
+      record { own = c.own; mid = s.0; few = omega (arith, c.many); gives = c.gives; spoils = spoils_last gk before between after c.own out c.fills e b; none = inr (inr (c.many, (s.1, s.3))) }
+  copied_spoiled most old new before between after (Err (Source fault)) out s e b =
+      let c = s.3 in
+      record { own = c.own; mid = s.0; few = omega (arith, s.2, c.many); gives = c.gives; spoils = spoils_last gk before between after c.own out c.fills e b; none = inr (inl (fault, s.4)) }
+  copied_spoiled most old new before between after (Err (Output fault)) out s e b = absurd s
+
+  -- the output failed at a word
+  pub copied_stopped : (most : ℕ) (old new : S) (before after : K) (out : OutFault) → StopsAt gs gk most old new before after out
+      → StopsMidway gs gk most old new before after out
+  copied_stopped most old new before after out s = record {
+    done = s.done;
+    piece = s.word ∷ [];
+    mid = new;
+    between = s.between;
+    few = omega (arith, s.few, length-append s.done (s.word ∷ []));
+    some = omega arith;
+    at_once = omega arith;
+    gives = s.gives;
+    behind = inl refl;
+    fills = s.fills;
+    halts = s.halts;
+    part = stopped_behind gk before s.between after s.done s.word (sink_fault_of out) s.fills s.halts;
+  }

@@ -1,0 +1,116 @@
+-- What is known of the words of a source decides how an engine ends, faults of devices, of the output and of memory aside.
+use Rattle.std.proofs.Common.{◌≡◌, ◌∙◌, ◌⊎◌, inl, inr, ℕ, ◌≤◌, false, Option, Some, None, Result, Ok, Err, List, [], ◌∷◌, length, sum, IfErr, IfOk, OnSome, sym, ap, subst, arith, length-append}
+use Rattle.std.specs.List.{AllByRecursion}
+use Rattle.std.specs.Io.KnownBytes.{Consumes}
+use Rattle.cap_spec.specs.Frames.{Stream, sizes_of}
+use Rattle.cap_spec.proofs.FrameTexts.{one_stream}
+use Rattle.cap_spec.proofs.Lists.{all_back}
+use Rattle.cap_spec.proofs.Streams.{StreamNext, stream_front, stream_next}
+use Rattle.cap_words.specs.declared.ends.ByteOut as output
+use Rattle.cap_words.specs.declared.sources.WordSource as source
+use Rattle.cap_frame.specs.Faults.{Answered, Faults}
+use Rattle.cap_frame.specs.declared.fault.FrameFault.{FrameFault}
+use Rattle.cap_frame.specs.declared.fault.FrameFault.TheVariants.{TooManySegments, TooLarge, Truncated, Device, Memory, Spent}
+use Rattle.cap_frame.proofs.Converse.{known_still, same_some, tells, whole_answer, none_answer}
+use Rattle.cap_run.specs.Running.{Appended, RunStops, Settled, SettledAt}
+use Rattle.cap_run.specs.Streams.{ReadsAll, ReadsStream}
+use Rattle.cap_run.specs.Telling.{TellsEach, Told, messages_of, outcome_of, texts_of}
+use Rattle.cap_run.specs.declared.engines.stream.Mark.{Mark}
+use Rattle.cap_run.specs.declared.fault.Cause.{Cause}
+use Rattle.cap_run.specs.declared.fault.Cause.TheVariants.{TooManyMessages, Frame, Output}
+use Rattle.cap_run.specs.declared.fault.RunFault.{RunFault}
+use Rattle.cap_run.specs.declared.settings.Outcome.{Outcome}
+use Rattle.cap_run.proofs.Telling.{length-messages_of}
+
+-- a fault that can't have come says anything
+pub answered_absurd : (fault : FrameFault) (P Q : Type 0) → (Q → ⊥) → Answered {A = Option (List (List ℕ))} (Err fault) Q → Answered {A = Outcome} (Err fault) P
+answered_absurd (TooManySegments n) P Q h a = absurd (h a)
+answered_absurd (TooLarge n) P Q h a = absurd (h a)
+answered_absurd (Truncated n) P Q h a = absurd (h a)
+answered_absurd Device P Q h a = tt
+answered_absurd Memory P Q h a = tt
+answered_absurd Spent P Q h a = tt
+
+-- what follows from what is said
+pub answered_map : (fault : FrameFault) (P Q : Type 0) → (P → Q) → Answered {A = Outcome} (Err fault) P → Answered {A = Outcome} (Err fault) Q
+answered_map (TooManySegments n) P Q h a = h a
+answered_map (TooLarge n) P Q h a = h a
+answered_map (Truncated n) P Q h a = h a
+answered_map Device P Q h a = tt
+answered_map Memory P Q h a = tt
+answered_map Spent P Q h a = tt
+
+pub settled_at_map : (cause : Cause) (P Q : Type 0) → (P → Q) → SettledAt cause P → SettledAt cause Q
+settled_at_map TooManyMessages P Q h a = h a
+settled_at_map (Frame fault) P Q h a = answered_map fault P Q h a
+settled_at_map (Output fault) P Q h a = tt
+
+pub settled_map : (r : Result Outcome RunFault) (P Q : Type 0) → (P → Q) → Settled r P → Settled r Q
+settled_map (Ok outcome) P Q h a = h a
+settled_map (Err fault) P Q h a = settled_at_map fault.cause P Q h a
+
+-- what is said of a known value
+pub on_known : {A : Type 0} (o : Option A) (x : A) (P : Type 0) → o ≡ Some x → OnSome o P → P
+on_known None x P e h = absurd (cc)
+on_known (Some y) x P e h = h
+
+module _ {S : Type 0} (g : source.Ghosts S) (limit : ℕ) where
+  -- where the words are a stream, no message within the limit is refused
+  pub no_fault : (mid new : S) (rest : List ℕ) (more : List (List (List ℕ))) (fault : FrameFault) (P : Type 0) → g.words mid ≡ Some rest → g.is_cut mid ≡ false → Stream rest more
+      → AllByRecursion (λ m. sum (sizes_of m) ≤ limit) more → Faults g limit mid new fault → Answered {A = Outcome} (Err fault) P
+  no_fault mid new rest more fault P w c s l h = next (stream_next rest more s)
+    where
+      next : (rest ≡ []) ⊎ StreamNext rest more → Answered {A = Outcome} (Err fault) P
+      next (inl e) =
+          answered_absurd fault P _ (λ a. (cc))
+          (none_answer (λ m. m) limit rest (g.is_cut mid) (g.places mid) (g.words new) (Err fault) e c (tells g (λ m. m) limit mid new (Err fault) rest w tt (λ i. absurd (cc)) h))
+      next (inr t) =
+          answered_absurd fault P _ (λ a. a)
+          (whole_answer (λ m. m) limit rest (g.is_cut mid) (g.places mid) (g.words new) (Err fault) t.own t.rest t.message t.whole t.frames (subst (AllByRecursion (λ m. sum (sizes_of m) ≤ limit)) t.messages l).0
+          (tells g (λ m. m) limit mid new (Err fault) rest w tt (λ i. absurd (cc)) h))
+
+module _ {S O : Type 0} (gs : source.Ghosts S) (go : output.Ghosts O) (tells_of : ℕ → List (List ℕ) → List ℕ → Mark → Type 0) (limit most : ℕ) (old new : S) (before after : O) where
+  -- what an engine's clauses say where it ended, and where it didn't
+  abbrev pub SaysEnd : Result Outcome RunFault → Type 0
+  SaysEnd r = IfOk r (λ outcome. (ts : List Told) × ReadsAll gs limit old new (messages_of ts) × TellsEach tells_of 0 ts × Appended go before after (texts_of ts) × (length ts ≤ most) × (outcome ≡ outcome_of ts))
+
+  abbrev pub SaysFault : Result Outcome RunFault → Type 0
+  SaysFault r = IfErr r (λ fault. (ts : List Told) × (mid : S) × (fault.message ≡ length ts) × (length ts ≤ most) × ReadsStream gs limit old mid (messages_of ts) × TellsEach tells_of 0 ts
+      × RunStops gs go tells_of limit most ts mid new before after fault.cause)
+
+  -- each of these messages was told of, and the stream ended
+  abbrev pub ToldEach : List (List (List ℕ)) → Result Outcome RunFault → Type 0
+  ToldEach ms r = (ts : List Told) × (messages_of ts ≡ ms) × TellsEach tells_of 0 ts × Appended go before after (texts_of ts) × (r ≡ Ok (outcome_of ts))
+
+  -- behind some messages of the stream, no fault comes of the others
+  pub settled_behind : (mid : S) (ts : List Told) (own : List ℕ) (ms : List (List (List ℕ))) (cause : Cause) (P : Type 0) → gs.words old ≡ Some own → gs.is_cut old ≡ false → Stream own ms
+      → AllByRecursion (λ m. sum (sizes_of m) ≤ limit) ms → length ms ≤ most → ReadsStream gs limit old mid (messages_of ts) → RunStops gs go tells_of limit most ts mid new before after cause → SettledAt cause P
+  settled_behind mid ts own ms TooManyMessages P w c s l few reads stops =
+      let here = known_still own reads.own (gs.words mid) (subst (λ (o : Option (List ℕ)). Consumes o (gs.words mid) reads.own) w reads.takes.words) in
+      let front = stream_front reads.own here.0 (messages_of ts) ms reads.stream (subst (λ (ws : List ℕ). Stream ws ms) here.2 s) in
+      let last = stops.2.1 in
+      let there = known_still here.0 last.own (gs.words new) (subst (λ (o : Option (List ℕ)). Consumes o (gs.words new) last.own) here.1 last.takes.words) in
+      let next = stream_front last.own there.0 (stops.2.0 ∷ []) front.0 last.stream (subst (λ (ws : List ℕ). Stream ws front.0) there.2 front.2) in
+      absurd (omega (arith, few, stops.0, ap length front.1, length-append (messages_of ts) front.0, length-messages_of ts, ap length next.1))
+  settled_behind mid ts own ms (Frame fault) P w c s l few reads stops =
+      let here = known_still own reads.own (gs.words mid) (subst (λ (o : Option (List ℕ)). Consumes o (gs.words mid) reads.own) w reads.takes.words) in
+      let front = stream_front reads.own here.0 (messages_of ts) ms reads.stream (subst (λ (ws : List ℕ). Stream ws ms) here.2 s) in
+      let cut = on_known (gs.words old) own _ w reads.takes.goes_on in
+      no_fault gs limit mid new here.0 front.0 fault P here.1 (cut.0 ∙ c) front.2
+      (all_back (λ m. sum (sizes_of m) ≤ limit) (messages_of ts) front.0 (subst (AllByRecursion (λ m. sum (sizes_of m) ≤ limit)) front.1 l)) stops.1
+  settled_behind mid ts own ms (Output fault) P w c s l few reads stops = tt
+
+  -- a stream of messages within the limits is read to its end
+  pub settled : (r : Result Outcome RunFault) (own : List ℕ) (ms : List (List (List ℕ))) → SaysEnd r → SaysFault r → gs.words old ≡ Some own → gs.is_cut old ≡ false → Stream own ms
+      → AllByRecursion (λ m. sum (sizes_of m) ≤ limit) ms → length ms ≤ most → Settled r (ToldEach ms r)
+  settled (Ok outcome) own ms end fault w c s l few =
+      let all = on_known (gs.words old) own _ w end.1.all in
+      let same = same_some own end.1.own (sym w ∙ all.0) in (
+        end.0,
+        one_stream own (messages_of end.0) ms (subst (λ (ws : List ℕ). Stream ws (messages_of end.0)) (sym same) end.1.stream) s,
+        end.2,
+        end.3,
+        ap (λ (o : Outcome). Ok o) end.5,
+      )
+  settled (Err fault) own ms end f w c s l few =
+      settled_behind f.1 f.0 own ms fault.cause _ w c s l few f.4 f.6

@@ -1,0 +1,77 @@
+-- The messages of a stream, read one after the other.
+use Rattle.std.proofs.Common.{◌≡◌, ◌∙◌, ℕ, ◌≤◌, ◌<◌, Result, Ok, Err, Bool, false, Option, Some, None, List, [], ◌∷◌, ◌++◌, sum, OnSome, refl, sym, ap, append-nil}
+use Rattle.std.specs.Io.KnownBytes.{Consumes}
+use Rattle.cap_spec.specs.Frames.{Frames, sizes_of}
+use Rattle.cap_spec.proofs.Lists.{all_append}
+use Rattle.cap_spec.proofs.Streams.{stream_append, stream_none, stream_one}
+use Rattle.cap_words.specs.declared.sources.WordSource as source
+use Rattle.cap_words.specs.Ends.{Works}
+use Rattle.cap_frame.specs.Taking.{Takes, Breaks, Refuses}
+use Rattle.cap_frame.specs.Faults.{EndsInside, Faults, OnUsable, TakesTable, TakesTooMany}
+use Rattle.cap_frame.specs.declared.fault.FrameFault.{FrameFault}
+use Rattle.cap_frame.specs.declared.fault.FrameFault.TheVariants.{TooManySegments, TooLarge, Truncated, Device, Memory, Spent}
+use Rattle.std.specs.Prelude.{IfErr, IsErrOf}
+use Rattle.cap_frame.proofs.Taking.{takes_none, takes_both}
+use Rattle.cap_run.specs.Streams.{ReadsStream, EndsStream, ReadsAll}
+
+some_is : (xs ys : List ℕ) → ◌≡◌ {A = Option (List ℕ)} (Some xs) (Some ys) → xs ≡ ys
+some_is xs ys e = cc
+
+-- known words that were all taken
+pub all_taken : (a b : Option (List ℕ)) (own : List ℕ) (c d : Bool) (P Q : Type 0) → Consumes a b own → OnSome a ((d ≡ c) × P)
+    → OnSome b ((b ≡ Some []) × (d ≡ false) × Q) → OnSome a ((a ≡ Some own) × (c ≡ false))
+all_taken None b own c d P Q t s e = tt
+all_taken (Some x) None own c d P Q t s e = absurd t
+all_taken (Some x) (Some y) own c d P Q t s e =
+    let nil : y ≡ [] = some_is y [] e.0 in
+    (ap Some (t ∙ ap (λ w. own ++ w) nil ∙ append-nil own), sym s.0 ∙ e.1)
+
+module _ {S : Type 0} (g : source.Ghosts S) where
+  -- nothing was read yet
+  pub reads_none : (limit : ℕ) (s : S) → ReadsStream g limit s s []
+  reads_none limit s = record { own = []; takes = takes_none g s; stream = stream_none; within = tt; spent = refl; failures = refl }
+
+  -- one message was read
+  pub reads_one : (limit : ℕ) (old new : S) (own : List ℕ) (m : List (List ℕ)) → Takes g old new own → Frames own m → sum (sizes_of m) ≤ limit
+      → Works (g.spent old) (g.spent new) (g.failures old) (g.failures new) → ReadsStream g limit old new (m ∷ [])
+  reads_one limit old new own m t f h w =
+      record { own = own; takes = t; stream = stream_one own m f; within = (h, tt); spent = w.still ∙ sym w.usable; failures = w.none_failed }
+
+  -- some messages were read, and then others
+  pub reads_both : (limit : ℕ) (old mid new : S) (ms ns : List (List (List ℕ))) → ReadsStream g limit old mid ms → ReadsStream g limit mid new ns
+      → ReadsStream g limit old new (ms ++ ns)
+  reads_both limit old mid new ms ns r s = record {
+    own = r.own ++ s.own;
+    takes = takes_both g old mid new r.own s.own r.takes s.takes;
+    stream = stream_append r.own s.own ms ns r.stream s.stream;
+    within = all_append (λ m. sum (sizes_of m) ≤ limit) ms ns r.within s.within;
+    spent = s.spent ∙ r.spent;
+    failures = s.failures ∙ r.failures;
+  }
+
+  -- the stream ended behind these messages
+  pub reads_all : (limit : ℕ) (old mid new : S) (ms : List (List (List ℕ))) → ReadsStream g limit old mid ms → EndsStream g mid new → ReadsAll g limit old new ms
+  reads_all limit old mid new ms r e = record {
+    own = r.own;
+    all = all_taken (g.words old) (g.words mid) r.own (g.is_cut old) (g.is_cut mid) _ _ r.takes.words r.takes.goes_on e.none;
+    stream = r.stream;
+    within = r.within;
+    ended = e.ended;
+    works = record { usable = sym r.spent ∙ e.works.usable; still = e.works.still; none_failed = e.works.none_failed ∙ r.failures };
+  }
+
+  -- the fault of a call that reads a message, put together
+  pub faults : {T : Type 0} (limit : ℕ) (old new : S) (r : Result T FrameFault) → OnUsable r (Works (g.spent old) (g.spent new) (g.failures old) (g.failures new))
+      → ((count : ℕ) → IsErrOf r (TooManySegments count) → TakesTooMany g old new count)
+      → ((words : ℕ) → IsErrOf r (TooLarge words) → (sizes : List ℕ) × TakesTable g old new sizes × (words ≡ sum sizes) × (limit < words))
+      → ((byte : ℕ) → IsErrOf r (Truncated byte) → EndsInside g limit old new byte)
+      → (IsErrOf r Device → Breaks g old new)
+      → (IsErrOf r Memory → (sizes : List ℕ) × TakesTable g old new sizes × (sum sizes ≤ limit))
+      → (IsErrOf r Spent → Refuses g old new) → IfErr r (Faults g limit old new)
+  faults limit old new (Ok x) works too_many too_large truncated device memory was_spent = tt
+  faults limit old new (Err (TooManySegments count)) works too_many too_large truncated device memory was_spent = (too_many count refl, works)
+  faults limit old new (Err (TooLarge words)) works too_many too_large truncated device memory was_spent = (too_large words refl, works)
+  faults limit old new (Err (Truncated byte)) works too_many too_large truncated device memory was_spent = truncated byte refl
+  faults limit old new (Err Device) works too_many too_large truncated device memory was_spent = device refl
+  faults limit old new (Err Memory) works too_many too_large truncated device memory was_spent = (memory refl, works)
+  faults limit old new (Err Spent) works too_many too_large truncated device memory was_spent = was_spent refl

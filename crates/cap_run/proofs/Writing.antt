@@ -1,0 +1,95 @@
+-- Texts that are written one after the other.
+use Rattle.std.proofs.Common.{◌≡◌, ℕ, false, List, [], ◌++◌, ◌+◌, Option, refl, sym, ap, ◌∙◌, append_assoc, append-nil, subst, Result, Ok, Err}
+use Rattle.std.specs.Io.KnownBytes.{Appends}
+use Rattle.std.proofs.KnownBytes.{Appends-nil, Appends-trans}
+use Rattle.cap_words.specs.declared.ends.ByteOut as output
+use Rattle.cap_words.specs.declared.ends.OutFault.{OutFault}
+use Rattle.cap_words.specs.declared.ends.OutFault.TheVariants.{Device, Memory, Spent}
+use Rattle.cap_run.specs.Writing.{WritesPart, Wrote, Stopped, Writes}
+
+-- a beginning of the first text begins both
+pub part_more : (a b : Option (List ℕ)) (xs ys : List ℕ) → WritesPart a b xs → WritesPart a b (xs ++ ys)
+part_more a b xs ys w =
+    record { part = w.part; rest = w.rest ++ ys; whole = ap (λ t. t ++ ys) w.whole ∙ append_assoc w.part w.rest ys; appended = w.appended }
+
+-- a text, and then a beginning of another
+pub part_then : (a b c : Option (List ℕ)) (xs ys : List ℕ) → Appends a b xs → WritesPart b c ys → WritesPart a c (xs ++ ys)
+part_then a b c xs ys p w = record {
+  part = xs ++ w.part;
+  rest = w.rest;
+  whole = ap (λ t. xs ++ t) w.whole ∙ sym (append_assoc xs w.part w.rest);
+  appended = Appends-trans a b c xs w.part p w.appended;
+}
+
+module _ {O : Type 0} (g : output.Ghosts O) where
+  -- one text, and then another
+  pub wrote_then : (a b c : O) (xs ys : List ℕ) → Wrote g a b xs → Wrote g b c ys → Wrote g a c (xs ++ ys)
+  wrote_then a b c xs ys p q = record {
+    appended = Appends-trans (g.written a) (g.written b) (g.written c) xs ys p.appended q.appended;
+    works = record { usable = p.works.usable; still = q.works.still; none_failed = q.works.none_failed ∙ p.works.none_failed };
+  }
+
+  -- one text, and then a fault in another
+  pub stopped_then : (a b c : O) (fault : OutFault) (xs ys : List ℕ) → Wrote g a b xs → Stopped g b c fault ys
+      → Stopped g a c fault (xs ++ ys)
+  stopped_then a b c Device xs ys p q = (
+    record { usable = p.works.usable; failed = q.0.failed ∙ ap (λ f. f.device + 1) p.works.none_failed; memory = q.0.memory ∙ ap (λ f. f.memory) p.works.none_failed },
+    q.1,
+    part_then (g.written a) (g.written b) (g.written c) xs ys p.appended q.2,
+  )
+  stopped_then a b c Memory xs ys p q = (
+    record { usable = p.works.usable; device = q.0.device ∙ ap (λ f. f.device) p.works.none_failed; failed = q.0.failed ∙ ap (λ f. f.memory + 1) p.works.none_failed },
+    part_then (g.written a) (g.written b) (g.written c) xs ys p.appended q.1,
+  )
+  stopped_then a b c Spent xs ys p q = let e = p.works.still in let f = q.0 in absurd (cc)
+
+  -- a fault in the first text is one in both
+  pub stopped_more : (a b : O) (fault : OutFault) (xs ys : List ℕ) → Stopped g a b fault xs → Stopped g a b fault (xs ++ ys)
+  stopped_more a b Device xs ys q = (q.0, q.1, part_more (g.written a) (g.written b) xs ys q.2)
+  stopped_more a b Memory xs ys q = (q.0, part_more (g.written a) (g.written b) xs ys q.1)
+  stopped_more a b Spent xs ys q = q
+
+  -- what was written so far, and the rest, are the whole text
+  pub record Left (a b : O) (all rest : List ℕ) : Type 0 where
+    pub part : List ℕ
+    pub whole : all ≡ part ++ rest
+    pub wrote : Wrote g a b part
+
+  pub left_start : (a : O) (all : List ℕ) → g.spent a ≡ false → Left a a all all
+  left_start a all h = record {
+    part = [];
+    whole = refl;
+    wrote = record { appended = Appends-nil (g.written a); works = record { usable = h; still = h; none_failed = refl } };
+  }
+
+  pub left_step : (a b c : O) (all xs rest : List ℕ) → Left a b all (xs ++ rest) → Wrote g b c xs → Left a c all rest
+  left_step a b c all xs rest l w =
+      record { part = l.part ++ xs; whole = l.whole ∙ sym (append_assoc l.part xs rest); wrote = wrote_then a b c l.part xs l.wrote w }
+
+  pub left_done : (a b : O) (all : List ℕ) → Left a b all [] → Wrote g a b all
+  left_done a b all l = let e : all ≡ l.part = l.whole ∙ append-nil l.part in rw e l.wrote
+
+  pub left_stop : (a b c : O) (fault : OutFault) (all xs rest : List ℕ) → Left a b all (xs ++ rest) → Stopped g b c fault xs
+      → Stopped g a c fault all
+  left_stop a b c fault all xs rest l q =
+      rw l.whole (stopped_then a b c fault l.part (xs ++ rest) l.wrote (stopped_more b c fault xs rest q))
+
+  -- a fault in the first of three texts
+  pub stopped_first : (a b : O) (fault : OutFault) (text xs ys zs : List ℕ) → text ≡ xs → Stopped g a b fault text
+      → Stopped g a b fault (xs ++ ys ++ zs)
+  stopped_first a b fault text xs ys zs e q =
+      stopped_more a b fault (xs ++ ys) zs (stopped_more a b fault xs ys (subst (Stopped g a b fault) e q))
+
+  -- a fault in the second of three texts
+  pub stopped_second : (a b c : O) (fault : OutFault) (text xs ys zs : List ℕ) → text ≡ xs → Wrote g a b text
+      → Stopped g b c fault ys → Stopped g a c fault (xs ++ ys ++ zs)
+  stopped_second a b c fault text xs ys zs e p q =
+      stopped_more a c fault (xs ++ ys) zs (stopped_then a b c fault xs ys (subst (Wrote g a b) e p) q)
+
+  -- the last of three texts, and a fault in it
+  pub writes_third : {T : Type 0} (a b c d : O) (r : Result T OutFault) (text xs ys zs last : List ℕ) → text ≡ xs → last ≡ zs → Wrote g a b text
+      → Wrote g b c ys → Writes g c d r last → Writes g a d r (xs ++ ys ++ zs)
+  writes_third a b c d (Ok x) text xs ys zs last e f p q w =
+      wrote_then a c d (xs ++ ys) zs (wrote_then a b c xs ys (subst (Wrote g a b) e p) q) (subst (Wrote g c d) f w)
+  writes_third a b c d (Err fault) text xs ys zs last e f p q w =
+      stopped_then a c d fault (xs ++ ys) zs (wrote_then a b c xs ys (subst (Wrote g a b) e p) q) (subst (Stopped g c d fault) f w)

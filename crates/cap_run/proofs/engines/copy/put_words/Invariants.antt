@@ -1,0 +1,5 @@
+use Rattle.cap_run.specs.Putting.{Copies}
+use Rattle.cap_run.proofs.engines.copy.put_words.Given as goal
+
+abbrev pub invariant-loop-copied : goal.invariant-loop-copied
+invariant-loop-copied g l = Copies g.S.WordSource g.K.WordSink l.initial.source l.source l.initial.sink l.sink l.copied

@@ -1,0 +1,134 @@
+-- How a copy of words ends (profile). gs and gk have the members of the source's and of the sink's type.
+use Rattle.std.specs.Prelude.{ℕ, ◌≡◌, ◌<◌, ◌≤◌, ◌⊎◌, true, false, List, [], ◌∷◌, ◌++◌, length, Some, OnSome, Result, Ok, Err}
+use Rattle.cap_words.specs.Ends.{Works}
+use Rattle.cap_words.specs.Sinks.{Begins, StoppedPutting, WasFinished, WasPut, sink_fault_of}
+use Rattle.cap_words.specs.declared.ends.OutFault.{OutFault}
+use Rattle.cap_words.specs.declared.sources.SourceFault.{SourceFault}
+use Rattle.cap_words.specs.declared.sources.SourceFault.TheVariants.{Truncated, Device, Spent}
+use Rattle.cap_words.specs.declared.sources.WordSource as source
+use Rattle.cap_words.specs.declared.sinks.WordSink as sink
+use Rattle.cap_frame.specs.Putting.{Blames, Halts}
+use Rattle.cap_frame.specs.Taking.{Breaks, Refuses, Takes}
+use Rattle.cap_run.specs.Streams.{EndsStream}
+use Rattle.cap_run.specs.declared.fault.CopyFault.{CopyFault}
+use Rattle.cap_run.specs.declared.fault.CopyFault.TheVariants.{TooManyWords, Source, Output}
+
+-- the most words that are handed to a sink at once
+abbrev pub most_at_once : ℕ
+most_at_once = 64
+
+module _ {S : Type 0} (gs : source.Ghosts S) where
+  -- These words were read, and no fault came: where there were any, the source wasn't spent before.
+  pub record Gives (old new : S) (own : List ℕ) : Type 0 where
+    pub takes : Takes gs old new own
+    pub usable : (own ≡ []) ⊎ (gs.spent old ≡ false)
+    pub spent : gs.spent new ≡ gs.spent old
+    pub failures : gs.failures new ≡ gs.failures old
+
+  -- There were no more words, and the input ended at this byte, inside a word.
+  pub record IsCutAt (old new : S) (byte : ℕ) : Type 0 where
+    pub none : OnSome (gs.words old) ((gs.words old ≡ Some []) × (gs.is_cut old ≡ true) × (gs.places old ≡ byte ∷ []))
+    pub place : byte ≡ gs.place new
+    pub usable : gs.spent old ≡ false
+    pub spent : gs.spent new ≡ true
+    pub failed : gs.failed new ≡ true
+    pub none_failed : gs.failures new ≡ gs.failures old
+
+  -- why there was no next word
+  abbrev pub GivesNone : S → S → SourceFault → Type 0
+  GivesNone old new (Truncated byte) = IsCutAt old new byte
+  GivesNone old new Device = Breaks gs old new
+  GivesNone old new Spent = Refuses gs old new
+
+  -- why no more than these words were put, at most so many: the input ended, a fault came, or one more was one too many
+  abbrev pub StopsGiving : ℕ → List ℕ → S → S → Type 0
+  StopsGiving most own old new = EndsStream gs old new ⊎ (((fault : SourceFault) × GivesNone old new fault)
+      ⊎ ((length own ≡ most) × ((word : ℕ) × Gives old new (word ∷ []))))
+
+module _ {K : Type 0} (gk : sink.Ghosts K) where
+  -- These words were put, and no fault came.
+  pub record Fills (old new : K) (own : List ℕ) : Type 0 where
+    pub put : WasPut gk.text old new own
+    pub closed : gk.closed new ≡ gk.closed old
+    pub spent : gk.spent new ≡ gk.spent old
+    pub failures : gk.failures new ≡ gk.failures old
+
+  -- Exactly these words were put, and the sink was finished.
+  pub record Finishes (old new : K) (own : List ℕ) : Type 0 where
+    pub finished : WasFinished gk.text gk.taken old new own
+    pub was_open : gk.closed old ≡ false
+    pub closed : gk.closed new ≡ true
+    pub failures : gk.failures new ≡ gk.failures old
+
+  -- The output answered this fault, and what it took begins the text of these words.
+  pub record Spoils (old new : K) (own : List ℕ) (fault : OutFault) : Type 0 where
+    pub blames : Blames gk old new (sink_fault_of fault)
+    pub closed : gk.closed new ≡ true
+    pub part : Begins (gk.text old own) (gk.taken new)
+
+module _ {S K : Type 0} (gs : source.Ghosts S) (gk : sink.Ghosts K) where
+  -- The source was read to its end, and its words are exactly those that were put.
+  pub record CopiesAll (most : ℕ) (old new : S) (before after : K) (own : List ℕ) : Type 0 where
+    pub few : length own ≤ most
+    pub all : OnSome (gs.words old) ((gs.words old ≡ Some own) × (gs.is_cut old ≡ false))
+    pub ended : gs.ended new ≡ true
+    pub works : Works (gs.spent old) (gs.spent new) (gs.failures old) (gs.failures new)
+    pub finishes : Finishes gk before after own
+
+  -- One word more than the most was read, and those before it were put.
+  pub record CopiesMost (most : ℕ) (old new : S) (before after : K) : Type 0 where
+    pub own : List ℕ
+    pub word : ℕ
+    pub many : length own ≡ most
+    pub gives : Gives gs old new (own ++ word ∷ [])
+    pub finishes : Finishes gk before after own
+
+  -- The source answered this fault behind the words that were put.
+  pub record CopiesUntil (most : ℕ) (old new : S) (before after : K) (fault : SourceFault) : Type 0 where
+    pub own : List ℕ
+    pub mid : S
+    pub few : length own ≤ most
+    pub gives : Gives gs old mid own
+    pub none : GivesNone gs mid new fault
+    pub finishes : Finishes gk before after own
+
+  -- All words that were read were handed to the sink, in pieces of at most so many at once. It took those in front,
+  -- and its output failed at the last piece, behind which no further word was read.
+  pub record StopsMidway (most : ℕ) (old new : S) (before after : K) (fault : OutFault) : Type 0 where
+    pub done : List ℕ
+    pub piece : List ℕ
+    pub mid : S
+    pub between : K
+    pub few : length (done ++ piece) ≤ most
+    pub some : 0 < length piece
+    pub at_once : length piece ≤ most_at_once
+    pub gives : Gives gs old mid (done ++ piece)
+    pub behind : (new ≡ mid) ⊎ StopsGiving gs most (done ++ piece) mid new
+    pub fills : Fills gk before between done
+    pub halts : Halts gk between after piece (sink_fault_of fault)
+    pub part : StoppedPutting gk.text gk.taken before after (done ++ piece)
+
+  -- All words that may be copied were read and put, the source gave no more, and the output failed as the sink was finished.
+  pub record StopsFinishing (most : ℕ) (old new : S) (before after : K) (fault : OutFault) : Type 0 where
+    pub own : List ℕ
+    pub mid : S
+    pub few : length own ≤ most
+    pub gives : Gives gs old mid own
+    pub none : StopsGiving gs most own mid new
+    pub spoils : Spoils gk before after own fault
+
+  -- what each answer of a copy of at most so many words says
+  abbrev pub Copied : ℕ → S → S → K → K → Result ℕ CopyFault → Type 0
+  Copied most old new before after (Ok n) = (own : List ℕ) × (n ≡ length own) × CopiesAll most old new before after own
+  Copied most old new before after (Err TooManyWords) = CopiesMost most old new before after
+  Copied most old new before after (Err (Source fault)) = CopiesUntil most old new before after fault
+  Copied most old new before after (Err (Output fault)) = StopsMidway most old new before after fault ⊎ StopsFinishing most old new before after fault
+
+-- P, unless the answer is a fault of a device or of the output, or that an end was spent before
+abbrev pub CopySettled : Result ℕ CopyFault → Type 0 → Type 0
+CopySettled (Ok n) P = P
+CopySettled (Err TooManyWords) P = P
+CopySettled (Err (Source (Truncated byte))) P = P
+CopySettled (Err (Source Device)) P = Unit {0}
+CopySettled (Err (Source Spent)) P = Unit {0}
+CopySettled (Err (Output fault)) P = Unit {0}

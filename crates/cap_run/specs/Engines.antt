@@ -1,0 +1,83 @@
+-- The whole contract of each engine: what its answer says of its source and its output, and what it answers where the
+-- words are known (profile). gs, go and gk have the members of their types.
+use Rattle.std.specs.Prelude.{ℕ, ◌-◌, ◌≡◌, ◌<◌, ◌≤◌, ◌^◌, false, true, List, [], ◌∷◌, length, sum, take, drop, Some, Result, Ok, Err, IfOk, IfErr, IsErrOf}
+use Rattle.std.specs.List.{AllByRecursion}
+use Rattle.cap_spec.specs.Frames.{Stream, sizes_of}
+use Rattle.cap_words.specs.declared.ends.ByteOut as output
+use Rattle.cap_words.specs.declared.ends.OutFault.{OutFault}
+use Rattle.cap_words.specs.declared.sinks.WordSink as sink
+use Rattle.cap_words.specs.declared.sources.SourceFault.TheVariants.{Truncated}
+use Rattle.cap_words.specs.declared.sources.WordSource as source
+use Rattle.cap_frame.specs.Faults.{Faults}
+use Rattle.cap_frame.specs.declared.fault.FrameFault.{FrameFault}
+use Rattle.cap_frame.specs.declared.fault.FrameFault.TheVariants.{Memory}
+use Rattle.cap_run.specs.Copying.{Copied, CopySettled, Finishes}
+use Rattle.cap_run.specs.Running.{Appended, RunStops, Settled, ShowsSegments, StopsShowing}
+use Rattle.cap_run.specs.Streams.{ReadsAll, ReadsStream}
+use Rattle.cap_run.specs.Telling.{TellsEach, Told, messages_of, outcome_of, segments_texts, texts_of}
+use Rattle.cap_run.specs.declared.engines.stream.Mark.{Mark}
+use Rattle.cap_run.specs.declared.fault.Cause.TheVariants.{TooManyMessages, Frame, Output}
+use Rattle.cap_run.specs.declared.fault.CopyFault.{CopyFault}
+use Rattle.cap_run.specs.declared.fault.CopyFault.TheVariants.{TooManyWords, Source}
+use Rattle.cap_run.specs.declared.fault.RunFault.{RunFault}
+use Rattle.cap_run.specs.declared.settings.Outcome.{Outcome}
+
+-- the most words that the program packs or unpacks
+abbrev pub most_words : ℕ
+most_words = 2 ^ 40
+
+-- the most messages of a stream that the program reads
+abbrev pub most_messages : ℕ
+most_messages = 2 ^ 32 - 1
+
+module _ {S O : Type 0} (gs : source.Ghosts S) (go : output.Ghosts O) where
+  -- What an engine does that writes such texts of the messages of a stream, of at most so many messages, each of at most `limit` words.
+  pub record TellsStream (tells : ℕ → List (List ℕ) → List ℕ → Mark → Type 0) (limit most : ℕ)
+      (old new : S) (before after : O) (answer : Result Outcome RunFault) : Type 0 where
+    -- All words of the source are frames of these messages, and of each its text was written.
+    pub ok : IfOk answer (λ outcome. (ts : List Told) × ReadsAll gs limit old new (messages_of ts) × TellsEach tells 0 ts
+        × Appended go before after (texts_of ts)
+        × (length ts ≤ most) × (outcome ≡ outcome_of ts))
+    -- The source stood at `mid` when the messages before the fault had been read.
+    pub err : IfErr answer (λ fault. (ts : List Told) × (mid : S) × (fault.message ≡ length ts) × (length ts ≤ most)
+        × ReadsStream gs limit old mid (messages_of ts)
+        × TellsEach tells 0 ts × RunStops gs go tells limit most ts mid new before after fault.cause)
+    -- And the other way round: a stream of at most so many messages, each within the limit, is read to its end.
+    pub whole : (own : List ℕ) (ms : List (List (List ℕ))) → gs.words old ≡ Some own → gs.is_cut old ≡ false → Stream own ms
+        → AllByRecursion (λ m. sum (sizes_of m) ≤ limit) ms → length ms ≤ most →
+        Settled answer ((ts : List Told) × (messages_of ts ≡ ms) × TellsEach tells 0 ts × Appended go before after (texts_of ts)
+        × (answer ≡ Ok (outcome_of ts)))
+
+  -- What the engine does that shows the segments of each message, of at most so many messages, each of at most `limit` words.
+  pub record ShowsStream (limit most : ℕ) (old new : S) (before after : O) (answer : Result Outcome RunFault) : Type 0 where
+    -- All words of the source are frames of these messages.
+    pub ok : IfOk answer (λ outcome. (ms : List (List (List ℕ))) × ReadsAll gs limit old new ms × Appended go before after (segments_texts ms)
+        × (length ms ≤ most) × (outcome ≡ record { messages = length ms; refused = 0; noncanonical = 0 }))
+    -- In each of these the source stood at `mid` when the messages before the fault had been read.
+    pub too_many : (n : ℕ) → IsErrOf answer (record { message = n; cause = TooManyMessages }) → (n ≡ most)
+        × ((mid : S) × (m : List (List ℕ)) × ShowsSegments gs go limit n old mid before after × ReadsStream gs limit mid new (m ∷ []))
+    pub frame : (n : ℕ) (fault : FrameFault) → IsErrOf answer (record { message = n; cause = Frame fault }) → (n ≤ most)
+        × ((mid : S) × ShowsSegments gs go limit n old mid before after × Faults gs limit mid new fault)
+    pub output : (n : ℕ) (fault : OutFault) → IsErrOf answer (record { message = n; cause = Output fault }) → (n < most)
+        × StopsShowing gs go limit n old new before after fault
+    -- No memory is taken in reading.
+    pub no_memory : (n : ℕ) → IsErrOf answer (record { message = n; cause = Frame Memory }) → ⊥
+    -- And the other way round: a stream of at most so many messages, each within the limit, is read to its end.
+    pub whole : (own : List ℕ) (ms : List (List (List ℕ))) → gs.words old ≡ Some own → gs.is_cut old ≡ false → Stream own ms
+        → AllByRecursion (λ m. sum (sizes_of m) ≤ limit) ms → length ms ≤ most →
+        Settled answer (Appended go before after (segments_texts ms) × (answer ≡ Ok (record { messages = length ms; refused = 0; noncanonical = 0 })))
+
+module _ {S K : Type 0} (gs : source.Ghosts S) (gk : sink.Ghosts K) where
+  -- What an engine does that copies words, at most so many.
+  pub record CopiesWords (most : ℕ) (old new : S) (before after : K) (answer : Result ℕ CopyFault) : Type 0 where
+    pub copied : Copied gs gk most old new before after answer
+    -- And the other way round, where the words are known. There aren't too many, and the input isn't cut.
+    pub whole : (own : List ℕ) → gs.words old ≡ Some own → gs.is_cut old ≡ false → length own ≤ most →
+        CopySettled answer ((answer ≡ Ok (length own)) × Finishes gk before after own)
+    -- The input ends inside a word behind them.
+    pub cut_short : (own : List ℕ) → gs.words old ≡ Some own → gs.is_cut old ≡ true → length own ≤ most →
+        CopySettled answer ((byte : ℕ) × (answer ≡ Err (Source (Truncated byte))) × (drop (length own) (gs.places old) ≡ byte ∷ [])
+        × Finishes gk before after own)
+    -- There are too many.
+    pub many : (own : List ℕ) → gs.words old ≡ Some own → most < length own →
+        CopySettled answer ((answer ≡ Err TooManyWords) × Finishes gk before after (take most own))

@@ -1,0 +1,90 @@
+-- How an engine ends, by what it did to its source and its output (profile). gs and go have the members of their types.
+use Rattle.std.specs.Prelude.{ℕ, ◌≡◌, ◌<◌, true, Bool, List, [], ◌∷◌, ◌++◌, length, Result, Ok, Err}
+use Rattle.std.specs.Io.KnownBytes.{Appends}
+use Rattle.cap_words.specs.Ends.{DeviceFails, Failures, GrowthFails, WasSpent}
+use Rattle.cap_words.specs.declared.ends.ByteOut as output
+use Rattle.cap_words.specs.declared.ends.OutFault.{OutFault}
+use Rattle.cap_words.specs.declared.ends.OutFault.TheVariants.{Device, Memory, Spent}
+use Rattle.cap_words.specs.declared.sources.WordSource as source
+use Rattle.cap_frame.specs.Faults.{Answered, Faults}
+use Rattle.cap_run.specs.declared.engines.stream.Mark.{Mark}
+use Rattle.cap_run.specs.declared.fault.Cause.{Cause}
+use Rattle.cap_run.specs.declared.fault.Cause.TheVariants.{TooManyMessages, Frame, Output}
+use Rattle.cap_run.specs.declared.fault.RunFault.{RunFault}
+use Rattle.cap_run.specs.declared.settings.Outcome.{Outcome}
+use Rattle.cap_run.specs.Streams.{ReadsStream}
+use Rattle.cap_spec.specs.Texts.{segments_text}
+use Rattle.cap_run.specs.Telling.{Told, texts_of, segments_texts}
+use Rattle.cap_run.specs.Writing.{Stopped}
+
+-- P, unless this fault is one of a device or of the output, of memory, or of an end that was spent
+abbrev pub SettledAt : Cause → Type 0 → Type 0
+SettledAt TooManyMessages P = P
+SettledAt (Frame fault) P = Answered {A = Outcome} (Err fault) P
+SettledAt (Output fault) P = Unit {0}
+
+-- P, unless the answer is such a fault
+abbrev pub Settled : Result Outcome RunFault → Type 0 → Type 0
+Settled (Ok outcome) P = P
+Settled (Err fault) P = SettledAt fault.cause P
+
+-- what an output's fault says of whether it is spent and how often it failed
+abbrev pub OutFails : OutFault → Bool → Bool → Failures → Failures → Type 0
+OutFails Device was is before after = DeviceFails was before after × (is ≡ true)
+OutFails Memory was is before after = GrowthFails was before after
+OutFails Spent was is before after = WasSpent was is before after
+
+module _ {O : Type 0} (g : output.Ghosts O) where
+  -- The text was written, and no fault came.
+  pub record Appended (old new : O) (text : List ℕ) : Type 0 where
+    pub appended : Appends (g.written old) (g.written new) text
+    pub spent : g.spent new ≡ g.spent old
+    pub failures : g.failures new ≡ g.failures old
+
+  -- The output answered this fault behind these texts and a beginning of the next.
+  pub record StopsIn (old new : O) (fault : OutFault) (done text : List ℕ) : Type 0 where
+    pub fails : OutFails fault (g.spent old) (g.spent new) (g.failures old) (g.failures new)
+    pub part : List ℕ
+    pub rest : List ℕ
+    pub whole : text ≡ part ++ rest
+    pub appended : Appends (g.written old) (g.written new) (done ++ part)
+
+module _ {S : Type 0} (g : source.Ghosts S) where
+  -- why a stream didn't end where it had to
+  abbrev pub EndStops : ℕ → S → S → Cause → Type 0
+  EndStops limit old new TooManyMessages = (m : List (List ℕ)) × ReadsStream g limit old new (m ∷ [])
+  EndStops limit old new (Frame fault) = Faults g limit old new fault
+  EndStops limit old new (Output fault) = ⊥
+
+module _ {S O : Type 0} (gs : source.Ghosts S) (go : output.Ghosts O) where
+  -- So many messages were read, and the text of their segments written.
+  pub record ShowsSegments (limit n : ℕ) (old new : S) (before after : O) : Type 0 where
+    pub ms : List (List (List ℕ))
+    pub many : length ms ≡ n
+    pub reads : ReadsStream gs limit old new ms
+    pub appended : Appended go before after (segments_texts ms)
+
+  -- So many messages were read and the text of their segments written. Then one more was read, and in its text the output answered this fault.
+  pub record StopsShowing (limit n : ℕ) (old new : S) (before after : O) (fault : OutFault) : Type 0 where
+    pub ms : List (List (List ℕ))
+    pub m : List (List ℕ)
+    pub many : length ms ≡ n
+    pub reads : ReadsStream gs limit old new (ms ++ m ∷ [])
+    pub stops : StopsIn go before after fault (segments_texts ms) (segments_text n m)
+
+module _ {S O : Type 0} (gs : source.Ghosts S) (go : output.Ghosts O) where
+  -- why an engine ended at message n
+  abbrev pub StepStops : (ℕ → List (List ℕ) → List ℕ → Mark → Type 0) → ℕ → ℕ → S → S → O → O → Cause → Type 0
+  StepStops tells limit n old new before after TooManyMessages = ⊥
+  StepStops tells limit n old new before after (Frame fault) = Faults gs limit old new fault × (after ≡ before)
+  StepStops tells limit n old new before after (Output fault) =
+      (t : Told) × tells n t.message t.text t.mark × ReadsStream gs limit old new (t.message ∷ []) × Stopped go before after fault t.text
+
+  -- why an engine ended behind these messages, the source standing at `mid` then
+  abbrev pub RunStops : (ℕ → List (List ℕ) → List ℕ → Mark → Type 0) → ℕ → ℕ → List Told → S → S → O → O → Cause → Type 0
+  RunStops tells limit most ts mid new before after TooManyMessages =
+      (length ts ≡ most) × Appended go before after (texts_of ts) × ((m : List (List ℕ)) × ReadsStream gs limit mid new (m ∷ []))
+  RunStops tells limit most ts mid new before after (Frame fault) = Appended go before after (texts_of ts) × Faults gs limit mid new fault
+  RunStops tells limit most ts mid new before after (Output fault) =
+      (t : Told) × (length ts < most) × tells (length ts) t.message t.text t.mark × ReadsStream gs limit mid new (t.message ∷ [])
+      × StopsIn go before after fault (texts_of ts) t.text

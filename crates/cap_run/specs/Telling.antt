@@ -1,0 +1,58 @@
+-- What was told of each message of a stream: a text, and what is counted of it (profile).
+use Rattle.std.specs.Prelude.{ℕ, ◌+◌, List, [], ◌∷◌, ◌++◌, map, length}
+use Rattle.std.specs.List.{flat_map}
+use Rattle.cap_spec.specs.Texts.{segments_text}
+use Rattle.cap_run.specs.declared.engines.stream.Mark.{Mark}
+use Rattle.cap_run.specs.declared.engines.stream.Mark.TheVariants.{Accepted, Refused, NotCanonical}
+use Rattle.cap_run.specs.declared.settings.Outcome.{Outcome}
+
+-- a text of each, one after the other, each by its number from this number on
+abbrev pub texts_from : {A : Type 0} → (ℕ → A → List ℕ) → ℕ → List A → List ℕ
+texts_from text n [] = []
+texts_from text n (x ∷ xs) = text n x ++ texts_from text (n + 1) xs
+
+-- the text of the segments of each message of a stream
+abbrev pub segments_texts : List (List (List ℕ)) → List ℕ
+segments_texts ms = texts_from segments_text 0 ms
+
+-- a message, and what was told of it
+pub record Told : Type 0 where
+  pub message : List (List ℕ)
+  pub text : List ℕ
+  pub mark : Mark
+
+abbrev pub messages_of : List Told → List (List (List ℕ))
+messages_of ts = map (λ t. t.message) ts
+
+-- the texts, one after the other
+abbrev pub texts_of : List Told → List ℕ
+texts_of ts = flat_map (λ t. t.text) ts
+
+-- each text is one that may be told of its message by its number, from this number on
+abbrev pub TellsEach : (ℕ → List (List ℕ) → List ℕ → Mark → Type 0) → ℕ → List Told → Type 0
+TellsEach tells n [] = Unit {0}
+TellsEach tells n (t ∷ ts) = tells n t.message t.text t.mark × TellsEach tells (n + 1) ts
+
+-- one for a message that was refused
+abbrev pub one_refused : Mark → ℕ
+one_refused Accepted = 0
+one_refused Refused = 1
+one_refused NotCanonical = 0
+
+-- one for a message that isn't canonical
+abbrev pub one_noncanonical : Mark → ℕ
+one_noncanonical Accepted = 0
+one_noncanonical Refused = 0
+one_noncanonical NotCanonical = 1
+
+abbrev pub refused_in : List Told → ℕ
+refused_in [] = 0
+refused_in (t ∷ ts) = one_refused t.mark + refused_in ts
+
+abbrev pub noncanonical_in : List Told → ℕ
+noncanonical_in [] = 0
+noncanonical_in (t ∷ ts) = one_noncanonical t.mark + noncanonical_in ts
+
+-- the three counts
+abbrev pub outcome_of : List Told → Outcome
+outcome_of ts = record { messages = length ts; refused = refused_in ts; noncanonical = noncanonical_in ts }

@@ -1,0 +1,125 @@
+//! Going through the messages of a stream, and telling something about each.
+
+ghost use Rattle.cap_run.specs.Running.{Appended, EndStops, RunStops, StepStops};
+ghost use Rattle.cap_run.specs.Streams.{EndsStream, ReadsAll, ReadsStream};
+ghost use Rattle.cap_run.specs.Telling.{TellsEach, Told, messages_of, one_noncanonical, one_refused, outcome_of, texts_of};
+ghost use Rattle.cap_run.specs.Writing.{Wrote};
+ghost use Rattle.cap_frame.specs.Limit.{limit_of};
+ghost use Rattle.std.specs.Prelude.{◌+◌, ◌-◌, ◌<◌, ◌^◌, ◌≡◌, ◌≤◌, [], ◌∷◌, Bool, IfErr, IfOk, IfSome, List, OnOk, length, true, ℕ};
+
+use crate::fault::{Cause, RunFault};
+use crate::settings::{Outcome, Settings};
+use cap_frame::{FrameFault, Outline, SizeLimit, read_outline};
+use cap_words::{ByteOut, WordSource};
+
+/// What is counted of a message.
+#[derive(Clone, Copy)]
+pub(crate) enum Mark {
+    /// It was accepted.
+    Accepted,
+    /// It was refused.
+    Refused,
+    /// It was accepted and isn't canonical.
+    NotCanonical,
+}
+
+/// What is done at each message of a stream.
+pub(crate) trait Engine {
+    ghost use Rattle.cap_run.specs.declared.engines.stream.Mark.{Mark};
+
+    // The texts that may be written of a message by its number, each with what is counted then.
+    ghost tells: { Self → ℕ → List (List ℕ) → List ℕ → Mark → Type 0 };
+
+    // Whether it takes memory for a message.
+    ghost takes_memory: { Bool };
+
+    /// Reads the next message and writes its text. `None` where the stream ends before it. After a
+    /// fault of the output, the output took a beginning of the text.
+    fn tell_next<S: WordSource, O: ByteOut>(
+        &self,
+        source: &mut S,
+        out: &mut O,
+        limit: SizeLimit,
+        number: u32,
+    ) -> Result<Option<Mark>, Cause>
+        ensures some { IfOk result (λ r. IfSome r (λ mark. (t : Told) × (t.mark ≡ mark) × tells self.now number t.message t.text t.mark
+            × ReadsStream S.WordSource (limit_of limit) source.old source.new (t.message ∷ []) × Wrote O.ByteOut out.old out.new t.text)) }
+        ensures none { result ≡ Ok None → EndsStream S.WordSource source.old source.new × (out.new ≡ out.old) }
+        ensures err { IfErr result (λ cause. StepStops S.WordSource O.ByteOut (tells self.now) (limit_of limit) number
+            source.old source.new out.old out.new cause) }
+        ensures memory { result ≡ Err (Cause.Frame FrameFault.Memory) → takes_memory ≡ true };
+}
+
+/// The stream has to end here: a message more is one too many.
+fn end_stream<S: WordSource>(source: &mut S, limit: SizeLimit) -> Result<(), Cause>
+    ensures ok { OnOk result (EndsStream S.WordSource source.old source.new) }
+    ensures err { IfErr result (λ cause. EndStops S.WordSource (limit_of limit) source.old source.new cause) }
+    ensures memory { result ≡ Err (Cause.Frame FrameFault.Memory) → ⊥ }
+{
+    match read_outline(source, limit, &mut Outline::new()) {
+        Ok(true) => Err(Cause::TooManyMessages),
+        Ok(false) => Ok(()),
+        Err(fault) => Err(Cause::Frame(fault)),
+    }
+}
+
+/// Counts one more message.
+fn count(outcome: Outcome, mark: Mark) -> Outcome
+    requires messages { outcome.messages < 2 ^ 32 - 1 }
+    requires refused { outcome.refused ≤ outcome.messages }
+    requires noncanonical { outcome.noncanonical ≤ outcome.messages }
+    ensures { result ≡ record {
+      messages = outcome.messages + 1;
+      refused = outcome.refused + one_refused mark;
+      noncanonical = outcome.noncanonical + one_noncanonical mark;
+    } }
+{
+    let mut counted = outcome;
+    counted.messages += 1;
+    match mark {
+        Mark::Accepted => {}
+        Mark::Refused => counted.refused += 1,
+        Mark::NotCanonical => counted.noncanonical += 1,
+    }
+    counted
+}
+
+/// Reads the messages of a stream to its end, and writes the text of each before it reads the next.
+pub(crate) fn tell_all<S: WordSource, O: ByteOut, E: Engine>(
+    source: &mut S,
+    out: &mut O,
+    settings: &Settings,
+    engine: &E,
+) -> Result<Outcome, RunFault>
+    ensures ok { IfOk result (λ outcome. (ts : List Told) × ReadsAll S.WordSource (limit_of settings.now.size) source.old source.new (messages_of ts)
+        × TellsEach (E.tells engine.now) 0 ts × Appended O.ByteOut out.old out.new (texts_of ts) × (length ts ≤ settings.now.messages)
+        × (outcome ≡ outcome_of ts)) }
+    ensures err { IfErr result (λ fault. (ts : List Told) × (mid : S) × (fault.message ≡ length ts) × (length ts ≤ settings.now.messages)
+        × ReadsStream S.WordSource (limit_of settings.now.size) source.old mid (messages_of ts) × TellsEach (E.tells engine.now) 0 ts
+        × RunStops S.WordSource O.ByteOut (E.tells engine.now) (limit_of settings.now.size) settings.now.messages
+        ts mid source.new out.old out.new fault.cause) }
+    ensures memory { (n : ℕ) → result ≡ Err (record { message = n; cause = Cause.Frame FrameFault.Memory }) → E.takes_memory ≡ true }
+{
+    let mut outcome = Outcome {
+        messages: 0,
+        refused: 0,
+        noncanonical: 0,
+    };
+    for number in 0..settings.messages {
+        match engine.tell_next(source, out, settings.size, number) {
+            Ok(Some(mark)) => outcome = count(outcome, mark),
+            Ok(None) => return Ok(outcome),
+            Err(cause) => return Err(RunFault {
+                message: number,
+                cause,
+            }),
+        }
+    }
+    match end_stream(source, settings.size) {
+        Ok(()) => Ok(outcome),
+        Err(cause) => Err(RunFault {
+            message: settings.messages,
+            cause,
+        }),
+    }
+}

@@ -1,0 +1,21 @@
+//! The engines of the program: each goes through the messages of a source and tells something about
+//! each, or copies the words of a source.
+//!
+//! Their lines are put together in buffers of a fixed size, so that no text takes memory.
+#![tactic(auto)]
+
+pub mod engines;
+pub mod fault;
+pub mod paths;
+pub mod settings;
+pub mod texts;
+
+pub use cap_spec::Step;
+pub use cap_vet::Limits;
+pub use engines::copy::{run_pack, run_unpack};
+pub use engines::segments::run_segments;
+pub use engines::vet::run_vet;
+pub use fault::{Cause, CopyFault, RunFault};
+pub use paths::{PathFault, parse_path};
+pub use settings::{Outcome, Settings};
+pub use texts::faults::{write_copy_fault, write_fault};

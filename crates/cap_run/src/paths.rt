@@ -1,0 +1,136 @@
+//! The text of a path, and its steps.
+
+ghost use Rattle.cap_run.specs.PathReading.{ended_by, longer_number as number_with, next_of};
+ghost use Rattle.cap_spec.specs.PathTexts.{IsBadAt, IsStep, path_text};
+ghost use Rattle.cap_spec.specs.declared.Step.{Step};
+ghost use Rattle.std.specs.List.{AllByRecursion};
+ghost use Rattle.std.specs.Prelude.{◌<◌, ◌≤◌, ◌^◌, ◌≡◌, ◌⊎◌, Err, IfOk, IsErrOf, List, MatchResult, ℕ};
+
+use cap_spec::Step;
+use std::alloc::Global;
+use thiserror::Error;
+
+/// Why a text gives no steps.
+#[derive(Clone, Copy, Debug, PartialEq, Eq, Drop, Error)]
+pub enum PathFault {
+    /// It is the text of no path.
+    #[error("bad path at {at}")]
+    Bad {
+        /// The first byte, counted from 0, at which it stops being the beginning of a path's text,
+        /// or its length in bytes, where all of it is such a beginning.
+        at: usize,
+    },
+    /// A growth was refused.
+    #[error("out of memory")]
+    Memory,
+}
+
+/// How far the last step of a text has been read.
+#[derive(Clone, Copy)]
+pub(crate) enum Reading {
+    /// Nothing was read yet.
+    Start,
+    /// A slash.
+    Slash,
+    /// A slash, and the letter of a pointer.
+    Pointer,
+    /// A slash, and the letter of an element.
+    Item,
+    /// A step, whose number may go on.
+    Number(Step),
+}
+
+/// A number with one more digit. `None` where it would have a leading zero or be more than `most`.
+fn longer_number(n: u64, digit: u8, most: u64) -> Option<u64>
+    requires digit { digit < 10 }
+    requires most { most < 2 ^ 32 }
+    requires few { n ≤ most }
+    ensures { result ≡ number_with n digit most }
+{
+    if n == 0 {
+        return None;
+    }
+    let longer = 10 * n + u64::from(digit);
+    if longer > most { None } else { Some(longer) }
+}
+
+/// What is read with one byte more, or `None` where no path goes on so.
+fn next(reading: Reading, byte: u8) -> Option<Reading>
+    ensures { result ≡ next_of reading byte }
+{
+    match reading {
+        Reading::Start if byte == b'/' => Some(Reading::Slash),
+        Reading::Slash if byte == b'p' => Some(Reading::Pointer),
+        Reading::Slash if byte == b'i' => Some(Reading::Item),
+        Reading::Number(_) if byte == b'/' => Some(Reading::Slash),
+        Reading::Pointer if byte.is_ascii_digit() => {
+            Some(Reading::Number(Step::Ptr(u16::from(byte - b'0'))))
+        }
+        Reading::Item if byte.is_ascii_digit() => {
+            Some(Reading::Number(Step::Item(u32::from(byte - b'0'))))
+        }
+        Reading::Number(Step::Ptr(n)) if byte.is_ascii_digit() => {
+            match longer_number(u64::from(n), byte - b'0', 65535) {
+                Some(n) => Some(Reading::Number(Step::Ptr(n as u16))),
+                None => None,
+            }
+        }
+        Reading::Number(Step::Item(n)) if byte.is_ascii_digit() => {
+            match longer_number(u64::from(n), byte - b'0', 4294967295) {
+                Some(n) => Some(Reading::Number(Step::Item(n as u32))),
+                None => None,
+            }
+        }
+        _ => None,
+    }
+}
+
+/// The step that ends before a byte, if one does.
+fn ended(reading: Reading, byte: u8) -> Option<Step>
+    ensures { result ≡ ended_by reading byte }
+{
+    match reading {
+        Reading::Number(step) if byte == b'/' => Some(step),
+        _ => None,
+    }
+}
+
+/// The steps of a path's text.
+///
+/// `/` alone is the empty path; else the text is steps, each `/p` and the number of a pointer, from
+/// 0 to 65535, or `/i` and the number of an element, from 0 to 4294967295, decimal and without
+/// leading zeros (docs/format.md, Paths). `Memory` comes only where a growth was refused; the empty
+/// path takes no memory.
+pub fn parse_path(alloc: Global, text: &str) -> Result<Vec<Step>, PathFault>
+    ensures ok { IfOk result (λ steps. AllByRecursion IsStep steps.items × (text.now ≡ path_text steps.items)) }
+    ensures bad { (at : ℕ) → IsErrOf result (PathFault.Bad at) → IsBadAt text.now at }
+    // The other direction: a path gives its steps, and a text that is none is bad where it is, want of memory aside.
+    ensures path { (steps : List Step) → AllByRecursion IsStep steps → text.now ≡ path_text steps →
+        MatchResult result (λ v. v.items ≡ steps) (λ fault. fault ≡ PathFault.Memory) }
+    ensures no_path { (at : ℕ) → IsBadAt text.now at → (result ≡ Err (PathFault.Bad at)) ⊎ (result ≡ Err PathFault.Memory) }
+{
+    let mut steps = Vec::new(alloc);
+    let mut reading = Reading::Start;
+    let bytes = text.as_bytes();
+    for at in 0..bytes.len() {
+        let byte = bytes[at];
+        let Some(next) = next(reading, byte) else {
+            return Err(PathFault::Bad { at });
+        };
+        if let Some(step) = ended(reading, byte) {
+            match steps.push(step) {
+                Ok(()) => {}
+                Err(_) => return Err(PathFault::Memory),
+            }
+        }
+        reading = next;
+    }
+    match reading {
+        Reading::Number(step) => match steps.push(step) {
+            Ok(()) => Ok(steps),
+            Err(_) => Err(PathFault::Memory),
+        },
+        Reading::Slash if steps.is_empty() => Ok(steps),
+        _ => Err(PathFault::Bad { at: bytes.len() }),
+    }
+}

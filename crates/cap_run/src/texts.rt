@@ -1,0 +1,7 @@
+//! The lines that the program writes.
+
+pub mod faults;
+pub(crate) mod line;
+pub(crate) mod output;
+pub(crate) mod segments;
+pub(crate) mod verdict;
