@@ -1,4 +1,5 @@
 pub mod Copying
+pub mod Dumping
 pub mod Engines
 pub mod Faults
 pub mod PathReading

@@ -18,4 +18,5 @@ pub use engines::vet::run_vet;
 pub use fault::{Cause, CopyFault, RunFault};
 pub use paths::{PathFault, parse_path};
 pub use settings::{Outcome, Settings};
+pub use texts::dump::dump;
 pub use texts::faults::{write_copy_fault, write_fault};

@@ -1,0 +1,106 @@
+//! The text of a message's tree.
+
+ghost use Rattle.cap_run.specs.Dumping.{child_letter_of, child_step_of, height, shown_count_of};
+ghost use Rattle.cap_run.specs.Writing.{Writes};
+ghost use Rattle.cap_spec.specs.Denoting.{Denotes};
+ghost use Rattle.cap_spec.specs.Standing.{DenotesAt};
+ghost use Rattle.cap_spec.specs.Texts.{child_lines, dump_text};
+ghost use Rattle.cap_spec.specs.Tree.{Tree};
+ghost use Rattle.cap_vet.specs.Handles.{node_message, node_spot};
+ghost use Rattle.cap_vet.specs.Vettings.{message_of};
+ghost use Rattle.std.specs.Prelude.{◌+◌, ◌<◌, ◌≡◌, ◌≤◌, false, ℕ};
+
+use crate::texts::node::{write_child, write_named};
+use cap_frame::Segments;
+use cap_vet::{Kind, Node, Step, Vetted};
+use cap_words::{ByteOut, OutFault};
+
+/// How many children of a node are shown: the elements of a list of structs without words aren't.
+fn shown_count(kind: Kind) -> u32
+    ensures { result ≡ shown_count_of kind }
+{
+    match kind {
+        Kind::Struct { pointers, .. } => u32::from(pointers),
+        Kind::Pointers { count } => count,
+        Kind::Structs {
+            count,
+            data_words,
+            pointers,
+        } => {
+            if data_words == 0 && pointers == 0 {
+                0
+            } else {
+                count
+            }
+        }
+        _ => 0,
+    }
+}
+
+/// The letter before a child's number.
+fn child_letter(kind: Kind) -> u8
+    ensures { result ≡ child_letter_of kind }
+{
+    match kind {
+        Kind::Struct { .. } => b'p',
+        _ => b'i',
+    }
+}
+
+/// The step to a child by its number.
+fn child_step(kind: Kind, i: u32) -> Step
+    requires { i < shown_count_of kind }
+    ensures { result ≡ child_step_of kind i }
+{
+    match kind {
+        Kind::Struct { .. } => Step::Ptr(i as u16),
+        _ => Step::Item(i),
+    }
+}
+
+/// Writes what stands below a node, where at most `left` levels of lines are below it: each child at
+/// this level, and what stands below that. Calls itself with one level less, so at most 513 calls
+/// stand in one another. After a fault the output took a beginning of that text.
+fn write_children<M: Segments, O: ByteOut>(
+    out: &mut O,
+    node: &Node<'_, M>,
+    level: u32,
+    left: u32,
+) -> Result<(), OutFault>
+    requires open { O.spent out.old ≡ false }
+    requires low { (t : Tree) × DenotesAt (M.segments (node_message node.now)) (node_spot node.now) t × (height t ≤ left) }
+    requires few { level + left ≤ 513 }
+    ensures { (t : Tree) → DenotesAt (M.segments (node_message node.now)) (node_spot node.now) t →
+        Writes O.ByteOut out.old out.new result (child_lines level t) }
+{
+    let kind = node.view().kind();
+    for i in 0..shown_count(kind) {
+        let Some(child) = node.child(child_step(kind, i)) else {
+            unreachable!()
+        };
+        match write_child(out, level, child_letter(kind), i, &child) {
+            Ok(()) => {}
+            Err(fault) => return Err(fault),
+        }
+        match write_children(out, &child, level + 1, left - 1) {
+            Ok(()) => {}
+            Err(fault) => return Err(fault),
+        }
+    }
+    Ok(())
+}
+
+/// Writes the tree of a message that was accepted: a line for each node, with its own words and its
+/// children below it, two spaces deeper each. The elements of a list of structs without words aren't
+/// shown. After a fault the output took a beginning of that text, and the fault is the output's own.
+/// Takes no memory. The calls of its recursion are at most 513 deep, of some 300 bytes of stack each.
+pub fn dump<M: Segments, O: ByteOut>(vetted: &Vetted<'_, M>, out: &mut O) -> Result<(), OutFault>
+    ensures { (t : Tree) (c d : ℕ) → Denotes (M.segments (message_of vetted.now)) 0 0 t c d →
+        Writes O.ByteOut out.old out.new result (dump_text t) }
+{
+    let root = vetted.root();
+    match write_named(out, b"root", &root) {
+        Ok(()) => write_children(out, &root, 1, 512),
+        Err(fault) => Err(fault),
+    }
+}

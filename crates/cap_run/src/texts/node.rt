@@ -1,0 +1,192 @@
+//! The line of a node of a message's tree, and the lines of its own words.
+
+ghost use Rattle.arrayvec.specs.ArrayVec.{array_vec_len};
+ghost use Rattle.cap_run.specs.Dumping.{head_of, word_letter_of};
+ghost use Rattle.cap_run.specs.Writing.{Writes};
+ghost use Rattle.cap_spec.specs.Showing.{own_of, words_of_own};
+ghost use Rattle.cap_spec.specs.Standing.{DenotesAt};
+ghost use Rattle.cap_spec.specs.Texts.{hex, label, line, own_text, word_lines};
+ghost use Rattle.cap_spec.specs.Tree.{Tree};
+ghost use Rattle.cap_vet.specs.Handles.{node_message, node_spot, shown};
+ghost use Rattle.std.specs.Prelude.{◌*◌, ◌+◌, ◌++◌, ◌<◌, ◌≡◌, ◌≤◌, ◌∷◌, [], false, length, replicate};
+
+use crate::texts::line::{LINE, push_hex, push_named, push_number, push_text};
+use crate::texts::output::write_bytes;
+use arrayvec::ArrayVec;
+use cap_frame::Segments;
+use cap_vet::{Kind, Node, View};
+use cap_words::{ByteOut, OutFault};
+
+/// The deepest level at which a line stands: a word of a struct below 256 lists of structs.
+const DEEPEST: usize = 513;
+
+// The spaces before a line, two a level.
+static SPACES: [u8; 2 * DEEPEST] = [b' '; 2 * DEEPEST];
+
+/// Appends the head of a node of a kind.
+fn push_head(line: &mut ArrayVec<u8, LINE>, kind: Kind)
+    requires { array_vec_len line.old + 80 ≤ 192 }
+    ensures items { line.new.items ≡ line.old.items ++ head_of kind }
+    ensures few { array_vec_len line.new ≤ array_vec_len line.old + 80 }
+{
+    match kind {
+        Kind::Null => push_text(line, b"null"),
+        Kind::Cap { index } => push_named(line, b"cap ", u64::from(index)),
+        Kind::Struct {
+            data_words,
+            pointers,
+        } => {
+            push_named(line, b"struct ", u64::from(data_words));
+            push_named(line, b" ", u64::from(pointers));
+        }
+        Kind::Scalars { code, count } => {
+            push_named(line, b"list ", u64::from(code));
+            push_named(line, b" ", u64::from(count));
+        }
+        Kind::Pointers { count } => push_named(line, b"pointers ", u64::from(count)),
+        Kind::Structs {
+            count,
+            data_words,
+            pointers,
+        } => {
+            push_named(line, b"structs ", u64::from(count));
+            push_named(line, b" ", u64::from(data_words));
+            push_named(line, b" ", u64::from(pointers));
+        }
+    }
+}
+
+/// The line of a node under a name, without the spaces before it.
+#[inline(never)]
+fn named_line(name: &[u8], kind: Kind) -> ArrayVec<u8, LINE>
+    requires { length name.now ≤ 32 }
+    ensures { result.items ≡ name.now ++ 32 ∷ head_of kind ++ 10 ∷ [] }
+{
+    let mut line = ArrayVec::new();
+    push_text(&mut line, name);
+    push_text(&mut line, b" ");
+    push_head(&mut line, kind);
+    push_text(&mut line, b"\n");
+    line
+}
+
+/// The line of a child by its letter and number, without the spaces before it.
+#[inline(never)]
+fn child_line(letter: u8, i: u32, kind: Kind) -> ArrayVec<u8, LINE>
+    ensures { result.items ≡ label letter i ++ 32 ∷ head_of kind ++ 10 ∷ [] }
+{
+    let mut line = ArrayVec::new();
+    push_named(&mut line, &[letter], u64::from(i));
+    push_text(&mut line, b" ");
+    push_head(&mut line, kind);
+    push_text(&mut line, b"\n");
+    line
+}
+
+/// The line of a node's own word by its letter and number, without the spaces before it.
+#[inline(never)]
+fn word_line(letter: u8, i: u32, word: u64) -> ArrayVec<u8, LINE>
+    ensures { result.items ≡ label letter i ++ 32 ∷ hex word ++ 10 ∷ [] }
+{
+    let mut line = ArrayVec::new();
+    push_named(&mut line, &[letter], u64::from(i));
+    push_text(&mut line, b" ");
+    push_hex(&mut line, word);
+    push_text(&mut line, b"\n");
+    line
+}
+
+/// The spaces before a line at a level.
+fn spaces(level: u32) -> &'static [u8]
+    requires { level ≤ 513 }
+    ensures { result.now ≡ replicate (2 * level) 32 }
+{
+    &SPACES[..2 * level as usize]
+}
+
+/// Writes a line at a level. After a fault the output took a beginning of it.
+fn write_line<O: ByteOut>(out: &mut O, level: u32, text: &[u8]) -> Result<(), OutFault>
+    requires low { level ≤ 513 }
+    requires some { 0 < length text.now }
+    ensures { Writes O.ByteOut out.old out.new result (replicate (2 * level) 32 ++ text.now) }
+{
+    if level == 0 {
+        return write_bytes(out, text);
+    }
+    match write_bytes(out, spaces(level)) {
+        Ok(()) => write_bytes(out, text),
+        Err(fault) => Err(fault),
+    }
+}
+
+/// The letter before the numbers of a node's own words.
+fn word_letter(kind: Kind) -> u8
+    ensures { result ≡ word_letter_of kind }
+{
+    match kind {
+        Kind::Struct { .. } => b'd',
+        _ => b'w',
+    }
+}
+
+/// Writes the lines of a node's own words at a level. After a fault the output took a beginning of them.
+fn write_words<M: Segments, O: ByteOut>(
+    out: &mut O,
+    level: u32,
+    letter: u8,
+    view: &View<'_, M>,
+) -> Result<(), OutFault>
+    requires open { O.spent out.old ≡ false }
+    requires low { level ≤ 513 }
+    ensures { Writes O.ByteOut out.old out.new result (word_lines level letter 0 (words_of_own (shown view.now))) }
+{
+    let mut i = 0;
+    while let Some(word) = view.data_word(i) {
+        match write_line(out, level, word_line(letter, i, word).as_slice()) {
+            Ok(()) => i += 1,
+            Err(fault) => return Err(fault),
+        }
+    }
+    Ok(())
+}
+
+/// Writes the line of a node under a name, and one level deeper the lines of its own words: its data
+/// words, or those of its values with unused bits as zeros. After a fault the output took a beginning
+/// of that text. Takes no memory.
+pub(crate) fn write_named<M: Segments, O: ByteOut>(
+    out: &mut O,
+    name: &[u8],
+    node: &Node<'_, M>,
+) -> Result<(), OutFault>
+    requires { length name.now ≤ 32 }
+    ensures { (t : Tree) → DenotesAt (M.segments (node_message node.now)) (node_spot node.now) t →
+        Writes O.ByteOut out.old out.new result (own_text 0 name.now t) }
+{
+    let view = node.view();
+    let kind = view.kind();
+    match write_line(out, 0, named_line(name, kind).as_slice()) {
+        Ok(()) => write_words(out, 1, word_letter(kind), &view),
+        Err(fault) => Err(fault),
+    }
+}
+
+/// Writes at a level the line of a child by its letter and number, and one level deeper the lines of
+/// its own words. After a fault the output took a beginning of that text.
+pub(crate) fn write_child<M: Segments, O: ByteOut>(
+    out: &mut O,
+    level: u32,
+    letter: u8,
+    i: u32,
+    node: &Node<'_, M>,
+) -> Result<(), OutFault>
+    requires { level < 513 }
+    ensures { (t : Tree) → DenotesAt (M.segments (node_message node.now)) (node_spot node.now) t →
+        Writes O.ByteOut out.old out.new result (own_text level (label letter i) t) }
+{
+    let view = node.view();
+    let kind = view.kind();
+    match write_line(out, level, child_line(letter, i, kind).as_slice()) {
+        Ok(()) => write_words(out, level + 1, word_letter(kind), &view),
+        Err(fault) => Err(fault),
+    }
+}
