@@ -49,6 +49,11 @@ module _ {O : Type 0} (g : output.Ghosts O) where
   stopped_more a b Memory xs ys q = (q.0, part_more (g.written a) (g.written b) xs ys q.1)
   stopped_more a b Spent xs ys q = q
 
+  -- one text, and then another or a beginning of it
+  pub writes_then : {T : Type 0} (a b c : O) (r : Result T OutFault) (xs ys : List ℕ) → Wrote g a b xs → Writes g b c r ys → Writes g a c r (xs ++ ys)
+  writes_then a b c (Ok x) xs ys p w = wrote_then a b c xs ys p w
+  writes_then a b c (Err fault) xs ys p w = stopped_then a b c fault xs ys p w
+
   -- what was written so far, and the rest, are the whole text
   pub record Left (a b : O) (all rest : List ℕ) : Type 0 where
     pub part : List ℕ
