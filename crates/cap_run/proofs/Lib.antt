@@ -1,6 +1,7 @@
 pub mod Copying
 pub mod CopyEnds
 pub mod Digits
+pub mod Dumping
 pub mod Going
 pub mod Nodes
 pub mod Numbers

@@ -99,8 +99,10 @@ pub fn dump<M: Segments, O: ByteOut>(vetted: &Vetted<'_, M>, out: &mut O) -> Res
         Writes O.ByteOut out.old out.new result (dump_text t) }
 {
     let root = vetted.root();
+    // A list of structs takes a level of its own, and its elements one more.
+    let levels = 2 * vetted.report().depth;
     match write_named(out, b"root", &root) {
-        Ok(()) => write_children(out, &root, 1, 512),
+        Ok(()) => write_children(out, &root, 1, levels),
         Err(fault) => Err(fault),
     }
 }
