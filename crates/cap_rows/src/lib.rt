@@ -6,6 +6,8 @@ mod copies;
 #[cfg(test)]
 mod devices;
 #[cfg(test)]
+mod dumps;
+#[cfg(test)]
 mod engines;
 #[cfg(test)]
 mod paths;

@@ -17,7 +17,8 @@ use cap_frame::Segments;
 use cap_vet::{Kind, Node, View};
 use cap_words::{ByteOut, OutFault};
 
-/// The deepest level at which a line stands: a word of a struct below 256 lists of structs.
+/// No node stands below level 512: 256 lists of structs, with an element each. The words of a node
+/// there would stand at this level.
 const DEEPEST: usize = 513;
 
 // The spaces before a line, two a level.
