@@ -2,6 +2,7 @@ pub mod Copying
 pub mod CopyEnds
 pub mod Digits
 pub mod Dumping
+pub mod FoundNodes
 pub mod Going
 pub mod Nodes
 pub mod Numbers

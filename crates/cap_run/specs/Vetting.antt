@@ -1,9 +1,11 @@
 -- What may be told of a message that is vetted (profile).
-use Rattle.std.specs.Prelude.{ℕ, ◌≡◌, ◌⊎◌, List}
+use Rattle.std.specs.Prelude.{ℕ, ◌≡◌, ◌⊎◌, List, ◌++◌}
 use Rattle.cap_spec.specs.Faults.{IsRefused}
-use Rattle.cap_spec.specs.Texts.{accepted, refusal_verdict, vet_text}
+use Rattle.cap_spec.specs.Texts.{accepted, dump_text, get_text, refusal_verdict, vet_text}
+use Rattle.cap_spec.specs.Tree.{Tree, node_at}
 use Rattle.cap_spec.specs.declared.Refusal.{Refusal}
-use Rattle.cap_vet.specs.Reports.{IsAccepted}
+use Rattle.cap_spec.specs.declared.Step.{Step}
+use Rattle.cap_vet.specs.Reports.{IsAccepted, IsReport}
 use Rattle.cap_vet.specs.declared.report.Report.{Report}
 use Rattle.cap_run.specs.declared.engines.stream.Mark.{Mark}
 use Rattle.cap_run.specs.declared.engines.stream.Mark.TheVariants.{Accepted, Refused}
@@ -25,3 +27,27 @@ pub record TellsRefused (words depth n : ℕ) (m : List (List ℕ)) (text : List
 -- the one or the other
 abbrev pub TellsVerdict : ℕ → ℕ → ℕ → List (List ℕ) → List ℕ → Mark → Type 0
 TellsVerdict words depth n m text mark = TellsAccepted words depth n m text mark ⊎ TellsRefused words depth n m text mark
+
+-- the line of message n where it is accepted, with the numbers of its tree, and behind it the whole tree
+pub record TellsTree (words depth n : ℕ) (m : List (List ℕ)) (text : List ℕ) (mark : Mark) : Type 0 where
+  pub report : Report
+  pub tree : Tree
+  pub is_report : IsReport m words depth report tree
+  pub lines : text ≡ vet_text n (accepted report.charge report.depth report.pointers report.caps) ++ dump_text tree
+  pub counted : mark ≡ Accepted
+
+-- that, or the line of its refusal
+abbrev pub TellsDump : ℕ → ℕ → ℕ → List (List ℕ) → List ℕ → Mark → Type 0
+TellsDump words depth n m text mark = TellsTree words depth n m text mark ⊎ TellsRefused words depth n m text mark
+
+-- the tree's node at a path, or that there is none, where message n is accepted
+pub record TellsNode (words depth : ℕ) (path : List Step) (n : ℕ) (m : List (List ℕ)) (text : List ℕ) (mark : Mark) : Type 0 where
+  pub report : Report
+  pub tree : Tree
+  pub is_report : IsReport m words depth report tree
+  pub lines : text ≡ get_text n (node_at tree path)
+  pub counted : mark ≡ Accepted
+
+-- that, or the line of its refusal
+abbrev pub TellsGet : ℕ → ℕ → List Step → ℕ → List (List ℕ) → List ℕ → Mark → Type 0
+TellsGet words depth path n m text mark = TellsNode words depth path n m text mark ⊎ TellsRefused words depth n m text mark

@@ -2,6 +2,8 @@
 //! copies the words of a source.
 
 pub mod copy;
+pub mod dump;
+pub mod get;
 pub mod segments;
 pub(crate) mod stream;
 pub mod vet;

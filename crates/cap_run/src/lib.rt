@@ -13,6 +13,8 @@ pub mod texts;
 pub use cap_spec::Step;
 pub use cap_vet::Limits;
 pub use engines::copy::{run_pack, run_unpack};
+pub use engines::dump::run_dump;
+pub use engines::get::run_get;
 pub use engines::segments::run_segments;
 pub use engines::vet::run_vet;
 pub use fault::{Cause, CopyFault, RunFault};

@@ -2,6 +2,7 @@
 
 pub mod dump;
 pub mod faults;
+pub(crate) mod found;
 pub(crate) mod line;
 pub(crate) mod node;
 pub(crate) mod output;

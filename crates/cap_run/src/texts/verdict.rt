@@ -1,12 +1,15 @@
 //! The line of a verdict.
 
 ghost use Rattle.arrayvec.specs.ArrayVec.{array_vec_len};
+ghost use Rattle.cap_run.specs.Writing.{Writes};
 ghost use Rattle.cap_spec.specs.Texts.{accepted, reason_name, refusal_verdict, then_number, vet_text};
 ghost use Rattle.std.specs.Prelude.{◌+◌, ◌++◌, ◌≡◌, ◌≤◌, codes, length};
 
 use crate::texts::line::{LINE, push_named, push_number, push_text};
+use crate::texts::output::write_bytes;
 use arrayvec::ArrayVec;
 use cap_vet::{Reason, Refusal, Report};
+use cap_words::{ByteOut, OutFault};
 
 /// The line of a message that is accepted, with the numbers of its tree.
 pub(crate) fn accepted_line(number: u32, report: &Report) -> ArrayVec<u8, LINE>
@@ -52,6 +55,17 @@ pub(crate) fn refused_line(number: u32, refusal: &Refusal) -> ArrayVec<u8, LINE>
     push_number(&mut line, refusal.pointers);
     push_text(&mut line, b"\n");
     line
+}
+
+/// Writes the line of a message that is refused.
+pub(crate) fn write_refused<O: ByteOut>(
+    out: &mut O,
+    number: u32,
+    refusal: &Refusal,
+) -> Result<(), OutFault>
+    ensures { Writes O.ByteOut out.old out.new result (vet_text number (refusal_verdict refusal.now)) }
+{
+    write_bytes(out, refused_line(number, refusal).as_slice())
 }
 
 /// The name of a reason.

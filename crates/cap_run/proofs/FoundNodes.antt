@@ -1,0 +1,31 @@
+-- What is told of an accepted message behind its line: two texts, and the node at a path.
+use Rattle.std.proofs.Common.{◌≡◌, ℕ, List, ◌++◌, Option, Some, None, IfSome, IfNone, MatchOption, Result, subst, sym}
+use Rattle.cap_words.specs.declared.ends.ByteOut as output
+use Rattle.cap_words.specs.declared.ends.OutFault.{OutFault}
+use Rattle.cap_frame.specs.declared.segments.Segments as segments
+use Rattle.cap_spec.specs.Standing.{DenotesAt}
+use Rattle.cap_spec.specs.Texts.{get_text}
+use Rattle.cap_spec.specs.Tree.{Tree}
+use Rattle.cap_vet.specs.Handles.{node_message, node_spot}
+use Rattle.cap_vet.specs.declared.node.Node.{Node}
+use Rattle.cap_run.specs.Writing.{Wrote, Stopped, Writes}
+use Rattle.cap_run.proofs.Writing.{stopped_more, writes_then}
+
+module _ {O : Type 0} (g : output.Ghosts O) where
+  -- the second of two texts, and a fault in it
+  pub writes_behind : {T : Type 0} (a b c : O) (r : Result T OutFault) (text xs ys : List ℕ) → text ≡ xs → Wrote g a b text → Writes g b c r ys → Writes g a c r (xs ++ ys)
+  writes_behind a b c r text xs ys e p w = writes_then g a b c r xs ys (subst (Wrote g a b) e p) w
+
+  -- a fault in the first of two texts
+  pub stopped_in_front : (a b : O) (fault : OutFault) (text xs ys : List ℕ) → text ≡ xs → Stopped g a b fault text → Stopped g a b fault (xs ++ ys)
+  stopped_in_front a b fault text xs ys e q = stopped_more g a b fault xs ys (subst (Stopped g a b fault) e q)
+
+module _ {M : Type 0} (g : segments.Ghosts M) where
+  -- what holds of the text of a node that was found, and of the text that there is none, holds of the text of the tree's node
+  pub node_told : (P : List ℕ → Type 0) (k : ℕ) (o : Option Tree) (w : M) (node : Option (Node M g))
+      → IfSome node (λ n. (t : Tree) → DenotesAt (g.segments (node_message n)) (node_spot n) t → P (get_text k (Some t))) → IfNone node (P (get_text k None))
+      → IfSome node (λ n. node_message n ≡ w) → MatchOption node (o ≡ None) (λ n. (u : Tree) × (o ≡ Some u) × DenotesAt (g.segments w) (node_spot n) u)
+      → P (get_text k o)
+  node_told P k o w None found none message at = subst (λ x. P (get_text k x)) (sym at) none
+  node_told P k o w (Some n) found none message at =
+      subst (λ x. P (get_text k x)) (sym at.1) (found at.0 (subst (λ v. DenotesAt (g.segments v) (node_spot n) at.0) (sym message) at.2))

@@ -1,0 +1,88 @@
+//! The engine that writes the tree of each message.
+
+ghost use Rattle.cap_run.specs.Engines.{TellsStream};
+ghost use Rattle.cap_run.specs.Vetting.{TellsDump};
+ghost use Rattle.cap_run.specs.Writing.{Writes};
+ghost use Rattle.cap_frame.specs.Limit.{limit_of};
+ghost use Rattle.cap_spec.specs.Denoting.{Denotes};
+ghost use Rattle.cap_spec.specs.Texts.{accepted, dump_text, vet_text};
+ghost use Rattle.cap_spec.specs.Tree.{Tree};
+ghost use Rattle.cap_vet.specs.Limits.{depth_of, words_of};
+ghost use Rattle.cap_vet.specs.Vettings.{message_of, report_of};
+ghost use Rattle.std.specs.Prelude.{◌++◌, ℕ};
+
+use crate::engines::stream::{Mark, tell_all};
+use crate::engines::whole::{Teller, Whole};
+use crate::fault::RunFault;
+use crate::settings::{Outcome, Settings};
+use crate::texts::dump::dump;
+use crate::texts::output::write_bytes;
+use crate::texts::verdict::{accepted_line, write_refused};
+use cap_frame::Segments;
+use cap_vet::{Limits, Vetted, vet};
+use cap_words::{ByteOut, OutFault, WordSource};
+use std::alloc::Global;
+
+/// Tells the tree of a message that is accepted under these limits.
+#[derive(Clone, Copy)]
+struct DumpTeller {
+    limits: Limits,
+}
+
+/// Writes the line of an accepted message, and its tree.
+fn write_tree<M: Segments, O: ByteOut>(
+    out: &mut O,
+    number: u32,
+    vetted: &Vetted<'_, M>,
+) -> Result<(), OutFault>
+    ensures { (t : Tree) (c d : ℕ) → Denotes (M.segments (message_of vetted.now)) 0 0 t c d → let report = report_of vetted.now in
+        Writes O.ByteOut out.old out.new result (vet_text number (accepted report.charge report.depth report.pointers report.caps) ++ dump_text t) }
+{
+    let line = accepted_line(number, &vetted.report());
+    match write_bytes(out, line.as_slice()) {
+        Ok(()) => dump(vetted, out),
+        Err(fault) => Err(fault),
+    }
+}
+
+impl Teller for DumpTeller {
+    ghost tells = { λ t n m text mark. TellsDump (words_of t.limits) (depth_of t.limits) n m text mark };
+
+    fn tell<M: Segments, O: ByteOut>(
+        &self,
+        out: &mut O,
+        number: u32,
+        message: &M,
+    ) -> Result<Mark, OutFault> {
+        match vet(message, self.limits) {
+            Ok(vetted) => match write_tree(out, number, &vetted) {
+                Ok(()) => Ok(Mark::Accepted),
+                Err(fault) => Err(fault),
+            },
+            Err(refusal) => match write_refused(out, number, &refusal) {
+                Ok(()) => Ok(Mark::Refused),
+                Err(fault) => Err(fault),
+            },
+        }
+    }
+}
+
+/// Reads the messages of a stream to its end, and writes of each the line that `run_vet` writes, and
+/// behind it, where the message is accepted, its whole tree, as [`dump`] does. A refused message
+/// doesn't end the run. The text of a message is written before the next is read. A fault comes
+/// behind the messages whose text is out, and tells how many they are; where it is the output's, a
+/// beginning of the next text may be out too.
+pub fn run_dump<S: WordSource, O: ByteOut>(
+    alloc: Global,
+    source: &mut S,
+    out: &mut O,
+    settings: &Settings,
+) -> Result<Outcome, RunFault>
+    ensures { TellsStream S.WordSource O.ByteOut (TellsDump (words_of settings.now.limits) (depth_of settings.now.limits))
+        (limit_of settings.now.size) settings.now.messages source.old source.new out.old out.new result }
+{
+    let teller = DumpTeller {
+        limits: settings.limits,
+    };
+    tell_all(source, out, settings, &Whole { alloc, teller })
+}
