@@ -11,9 +11,8 @@ use Rattle.cap_spec.specs.Plain.{plain_text}
 use Rattle.cap_run.specs.Copying.{Copied, CopiesAll}
 use Rattle.cap_run.specs.Engines.{CopiesWords, ShowsStream, TellsStream, most_words}
 use Rattle.cap_cmd.specs.Statuses.{cause_status, copy_status, frame_status, outcome_status, run_status}
-use Rattle.cap_cmd.specs.Jobs.{BeginsOutput, CopiesInput, DoesTask, GivesOutput, ShowsInput, TellsCopy, VetsInput}
-use Rattle.cap_run.specs.Telling.{outcome_of}
-use Rattle.cap_run.specs.Vetting.{TellsVerdict}
+use Rattle.cap_cmd.specs.Jobs.{BeginsOutput, CopiesInput, DoesTask, GivesOutput, ShowsInput, TellsCopy, TellsInput}
+use Rattle.cap_run.specs.Telling.{Tells, outcome_of}
 use Rattle.cap_run.specs.declared.fault.Cause.{Cause}
 use Rattle.cap_run.specs.declared.fault.Cause.TheVariants.{TooManyMessages, Frame, Output}
 use Rattle.cap_run.specs.declared.fault.CopyFault.{CopyFault}
@@ -69,10 +68,10 @@ module _ {S O : Type 0} (gs : source.Ghosts S) (go : output.Ghosts O) where
   shown_all limit most old new before after (Err fault) e s = absurd (cause_fails fault.cause e)
 
   -- all messages were accepted
-  pub vetted_all : (charge depth limit most : ℕ) (old new : S) (before after : O) (r : Result Outcome RunFault) → run_status r ≡ 0
-      → TellsStream gs go (TellsVerdict charge depth) limit most old new before after r
-      → VetsInput (gs.words old) (gs.is_cut old) (go.written before) (go.written after) charge depth limit most
-  vetted_all charge depth limit most old new before after (Ok o) e s =
+  pub told_all : (tells : Tells) (limit most : ℕ) (old new : S) (before after : O) (r : Result Outcome RunFault) → run_status r ≡ 0
+      → TellsStream gs go tells limit most old new before after r
+      → TellsInput tells (gs.words old) (gs.is_cut old) (go.written before) (go.written after) limit most
+  told_all tells limit most old new before after (Ok o) e s =
       let k = s.ok in
       record {
         own = k.1.own;
@@ -85,7 +84,7 @@ module _ {S O : Type 0} (gs : source.Ghosts S) (go : output.Ghosts O) where
         accepted = none_refused (outcome_of k.0) (subst (λ (x : Outcome). outcome_status x ≡ 0) k.5 e);
         appended = k.3.appended;
       }
-  vetted_all charge depth limit most old new before after (Err fault) e s = absurd (cause_fails fault.cause e)
+  told_all tells limit most old new before after (Err fault) e s = absurd (cause_fails fault.cause e)
 
 module _ {S O K : Type 0} (gs : source.Ghosts S) (go : output.Ghosts O) (gk : sink.Ghosts K) where
   -- all words were copied

@@ -1,7 +1,7 @@
 -- What a job does: its engine gives an answer over the words of its input, and the status and the line of a fault tell that (profile).
 -- The members of types have the letters of types: gi of the input's, gs of the source's over it, go and ge of the two
 -- outputs', gp of a packer's over the first, and gu of a plain sink's.
-use Rattle.std.specs.Prelude.{ℕ, ◌≡◌, ◌≤◌, ◌||◌, if◌then◌else◌, true, false, Bool, List, length, sum, [], Option, Some, OnSome, Result, Ok, Err, unwrap_or}
+use Rattle.std.specs.Prelude.{ℕ, ◌≡◌, ◌≤◌, ◌||◌, if◌then◌else◌, true, false, Bool, List, length, sum, [], Option, Some, None, OnSome, Result, Ok, Err, unwrap_or}
 use Rattle.std.specs.List.{AllByRecursion}
 use Rattle.std.specs.Option.{option_map}
 use Rattle.std.specs.Io.KnownBytes.{Appends, append_known}
@@ -10,6 +10,7 @@ use Rattle.cap_spec.specs.PackedEnds.{packed_ends}
 use Rattle.cap_spec.specs.Packing.{pack_text}
 use Rattle.cap_spec.specs.Plain.{plain_ends, plain_is_cut, plain_text, plain_words}
 use Rattle.cap_spec.specs.Unpacking.{packed_is_cut, unpacked}
+use Rattle.cap_spec.specs.declared.Step.{Step}
 use Rattle.cap_words.specs.declared.ends.ByteIn as input
 use Rattle.cap_words.specs.declared.ends.ByteOut as output
 use Rattle.cap_words.specs.declared.ends.OutFault.{OutFault}
@@ -20,13 +21,13 @@ use Rattle.cap_vet.specs.Limits.{depth_of, words_of}
 use Rattle.cap_run.specs.Engines.{CopiesWords, ShowsStream, TellsStream, most_words}
 use Rattle.cap_run.specs.Faults.{copy_fault_line, run_fault_line}
 use Rattle.cap_cmd.specs.Statuses.{copy_status, run_status}
-use Rattle.cap_run.specs.Telling.{TellsEach, Told, messages_of, refused_in, segments_texts, texts_of}
-use Rattle.cap_run.specs.Vetting.{TellsVerdict}
+use Rattle.cap_run.specs.Telling.{Tells, TellsEach, Told, messages_of, refused_in, segments_texts, texts_of}
+use Rattle.cap_run.specs.Vetting.{TellsDump, TellsGet, TellsVerdict}
 use Rattle.cap_run.specs.Writing.{Writes}
 use Rattle.cap_run.specs.declared.fault.CopyFault.{CopyFault}
 use Rattle.cap_run.specs.declared.fault.RunFault.{RunFault}
 use Rattle.cap_cmd.specs.declared.job.Task.{Task}
-use Rattle.cap_cmd.specs.declared.job.Task.TheVariants.{Segments, Vet, Pack, Unpack}
+use Rattle.cap_cmd.specs.declared.job.Task.TheVariants.{Segments, Vet, Dump, Get, Pack, Unpack}
 use Rattle.cap_run.specs.declared.settings.Outcome.{Outcome}
 use Rattle.cap_run.specs.declared.settings.Settings.{Settings}
 
@@ -34,8 +35,15 @@ use Rattle.cap_run.specs.declared.settings.Settings.{Settings}
 abbrev pub is_packed : Task → Bool → Bool
 is_packed Segments told = told
 is_packed Vet told = told
+is_packed Dump told = told
+is_packed (Get path) told = told
 is_packed Pack told = false
 is_packed Unpack told = true
+
+-- the steps of the path that is asked for
+abbrev pub path_of : Task → Option (List Step)
+path_of (Get path) = Some path.items
+path_of _ = None
 
 -- the words of an input that is packed or not, where its bytes are known
 abbrev pub input_words : Bool → Option (List ℕ) → Option (List ℕ)
@@ -100,6 +108,12 @@ module _ {S O E P U : Type 0} (gs : source.Ghosts S) (go : output.Ghosts O) (ge 
   DoesTask Vet s first before after old new status = (answer : Result Outcome RunFault) × (last : S)
       × TellsStream gs go (TellsVerdict (words_of s.limits) (depth_of s.limits)) (limit_of s.size) s.messages first last before after answer
       × TellsRun ge answer old new status
+  DoesTask Dump s first before after old new status = (answer : Result Outcome RunFault) × (last : S)
+      × TellsStream gs go (TellsDump (words_of s.limits) (depth_of s.limits)) (limit_of s.size) s.messages first last before after answer
+      × TellsRun ge answer old new status
+  DoesTask (Get path) s first before after old new status = (answer : Result Outcome RunFault) × (last : S)
+      × TellsStream gs go (TellsGet (words_of s.limits) (depth_of s.limits) path.items) (limit_of s.size) s.messages first last before after answer
+      × TellsRun ge answer old new status
   DoesTask Pack s first before after old new status = (answer : Result ℕ CopyFault) × (last : S) × (begun : P) × (ended : P)
       × BeginsOutput go gp pack_text before begun × CopiesWords gs gp most_words first last begun ended answer × GivesOutput go gp ended after
       × TellsCopy ge answer old new status
@@ -125,15 +139,16 @@ pub record ShowsInput (words : Option (List ℕ)) (is_cut : Bool) (before after 
   pub many : length ms ≤ most
   pub appended : Appends before after (segments_texts ms)
 
--- All words are frames of messages, each within the limit, and none is cut short. Each message is accepted, and its verdict was written.
-pub record VetsInput (words : Option (List ℕ)) (is_cut : Bool) (before after : Option (List ℕ)) (charge depth limit most : ℕ) : Type 0 where
+-- All words are frames of messages, each within the limit, and none is cut short. Each message is accepted, and such a text of it was written.
+pub record TellsInput (tells : Tells) (words : Option (List ℕ)) (is_cut : Bool) (before after : Option (List ℕ))
+    (limit most : ℕ) : Type 0 where
   pub own : List ℕ
   pub all : OnSome words ((words ≡ Some own) × (is_cut ≡ false))
   pub ts : List Told
   pub stream : Stream own (messages_of ts)
   pub within : AllByRecursion (λ m. sum (sizes_of m) ≤ limit) (messages_of ts)
   pub many : length ts ≤ most
-  pub each : TellsEach (TellsVerdict charge depth) 0 ts
+  pub each : TellsEach tells 0 ts
   pub accepted : refused_in ts ≡ 0
   pub appended : Appends before after (texts_of ts)
 

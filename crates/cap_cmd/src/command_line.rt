@@ -5,7 +5,7 @@ ghost use Rattle.std.specs.Prelude.{◌≡◌, IfOk};
 
 use crate::job::{Job, JobFault, Task};
 use cap_frame::SizeLimit;
-use cap_run::Settings;
+use cap_run::{PathFault, Settings, parse_path};
 use cap_vet::Limits;
 use clap::error::ErrorKind;
 use clap::{Arg, ArgAction, ArgMatches, Command, Error, value_parser};
@@ -44,6 +44,31 @@ has. A refused one is told with the reason, and the SEGMENT:WORD of the first po
 Example:
   $ capvet vet --depth 3 examples/contacts.bin
   message 0: refused DepthLimit at 0:62 pointers 6";
+
+const DUMP_NOTES: &str = "\
+Behind the line that 'vet' writes of an accepted message comes its tree: of each node a line, then
+the words of its own and its children, two spaces deeper. The children pN and iN of a node are those
+to which the steps /pN and /iN of a PATH lead, as 'get' takes it.
+
+Example:
+  $ capvet dump examples/contacts.bin | head -n 6
+  message 0: accepted charge 391 depth 8 pointers 125 caps 0
+  root struct 1 3
+    d0 50f708d100000000
+    p0 structs 7 1 6
+      i0 struct 1 6
+        d0 0000000000000000";
+
+const GET_NOTES: &str = "\
+PATH is '/' alone for the root, or one step after the other: '/pN' for pointer N of a struct, and
+'/iN' for element N of a list of pointers or of structs, each counted from 0. The node is shown
+without what its pointers lead to. That there is none at the PATH refuses no message.
+
+Example:
+  $ capvet get /p0/i1 examples/contacts.bin
+  message 0: found
+  node struct 1 6
+    d0 0a6e000001000000";
 
 const PACK_NOTES: &str = "\
 Example:
@@ -102,6 +127,14 @@ fn depth_option<'a>(alloc: Global) -> Arg<'a> {
         .default_value("64")
 }
 
+// The path of a node.
+fn path_argument<'a>(alloc: Global) -> Arg<'a> {
+    Arg::new(alloc, "path")
+        .value_name("PATH")
+        .help("Path of the node, as /p0/i3")
+        .required(true)
+}
+
 // The file that is read.
 fn file_argument<'a>(alloc: Global) -> Arg<'a> {
     Arg::new(alloc, "file")
@@ -131,6 +164,31 @@ fn vet_command<'a>(alloc: Global) -> Result<Command<'a>, AllocError> {
         .arg(file_argument(alloc))
 }
 
+// The command that writes trees.
+fn dump_command<'a>(alloc: Global) -> Result<Command<'a>, AllocError> {
+    Command::new(alloc, "dump")
+        .about("Writes the tree of each message that is safe to traverse")
+        .after_help(DUMP_NOTES)
+        .arg(packed_option(alloc))?
+        .arg(size_option(alloc))?
+        .arg(words_option(alloc))?
+        .arg(depth_option(alloc))?
+        .arg(file_argument(alloc))
+}
+
+// The command that shows the node at a path.
+fn get_command<'a>(alloc: Global) -> Result<Command<'a>, AllocError> {
+    Command::new(alloc, "get")
+        .about("Shows the node at a path in each message that is safe to traverse")
+        .after_help(GET_NOTES)
+        .arg(packed_option(alloc))?
+        .arg(size_option(alloc))?
+        .arg(words_option(alloc))?
+        .arg(depth_option(alloc))?
+        .arg(path_argument(alloc))?
+        .arg(file_argument(alloc))
+}
+
 // The command that packs.
 fn pack_command<'a>(alloc: Global) -> Result<Command<'a>, AllocError> {
     Command::new(alloc, "pack")
@@ -156,6 +214,8 @@ fn capvet_command<'a>(alloc: Global) -> Result<Command<'a>, AllocError> {
         .subcommand_required(true)
         .subcommand(segments_command(alloc)?)?
         .subcommand(vet_command(alloc)?)?
+        .subcommand(dump_command(alloc)?)?
+        .subcommand(get_command(alloc)?)?
         .subcommand(pack_command(alloc)?)?
         .subcommand(unpack_command(alloc)?)
 }
@@ -188,6 +248,20 @@ fn limits_of(options: &ArgMatches<'_>) -> Option<Limits> {
     let words = options.get_one::<u64>("words").unwrap_or(DEFAULT_WORDS);
     let depth = options.get_one::<u32>("depth").unwrap_or(DEFAULT_DEPTH);
     Limits::new(words, depth)
+}
+
+// The job of `get`, whose path is read first.
+fn get_job(alloc: Global, options: &ArgMatches<'_>) -> Result<Job, JobFault>
+    ensures messages { IfOk result (λ job. job.settings.messages ≡ most_messages) }
+{
+    let Some(text) = options.get_str("path") else {
+        return Err(usage_fault(alloc, "error: a path is needed\n"));
+    };
+    match parse_path(alloc, text) {
+        Ok(path) => job_of(alloc, Task::Get { path }, options),
+        Err(PathFault::Bad { at }) => Err(JobFault::Path { at }),
+        Err(PathFault::Memory) => Err(JobFault::Memory),
+    }
 }
 
 // The job of a subcommand.
@@ -228,7 +302,8 @@ fn job_of(alloc: Global, task: Task, options: &ArgMatches<'_>) -> Result<Job, Jo
 /// Reads the program's words, its name first.
 ///
 /// A request for help or for the version is a `Help`, and a mistake a `Usage`, each with the text
-/// for the user.
+/// for the user. A path that is none is a `Path`, with the place where it goes wrong: it is read
+/// here, before any input is opened.
 /// `Memory` comes only where a growth was refused.
 pub fn read_job(alloc: Global, words: Vec<String>) -> Result<Job, JobFault>
     ensures messages { IfOk result (λ job. job.settings.messages ≡ most_messages) }
@@ -240,6 +315,8 @@ pub fn read_job(alloc: Global, words: Vec<String>) -> Result<Job, JobFault>
         Ok(matches) => match matches.subcommand() {
             Some(("segments", options)) => job_of(alloc, Task::Segments, options),
             Some(("vet", options)) => job_of(alloc, Task::Vet, options),
+            Some(("dump", options)) => job_of(alloc, Task::Dump, options),
+            Some(("get", options)) => get_job(alloc, options),
             Some(("pack", options)) => job_of(alloc, Task::Pack, options),
             Some(("unpack", options)) => job_of(alloc, Task::Unpack, options),
             _ => Err(usage_fault(alloc, "error: a command is needed\n")),

@@ -1,14 +1,21 @@
 //! A job that the command line names.
 
-use cap_run::Settings;
+use cap_run::{Settings, Step};
 
 /// What the program is asked to do.
-#[derive(Clone, Copy, Debug, PartialEq, Eq, Drop)]
+#[derive(Debug, PartialEq, Eq, Drop)]
 pub enum Task {
     /// To show the segments of each message.
     Segments,
     /// To tell of each message whether it is accepted.
     Vet,
+    /// To write the tree of each message that is accepted.
+    Dump,
+    /// To show the node that each message's tree has at a path.
+    Get {
+        /// The steps of the path, from the root on.
+        path: Vec<Step>,
+    },
     /// To pack words.
     Pack,
     /// To unpack words.
@@ -36,6 +43,9 @@ pub enum JobFault {
     Help { text: String },
     /// There is a mistake in them, and this is what the user is told.
     Usage { text: String },
+    /// The text of a path is that of none: at this byte, counted from 0, it stops being the beginning
+    /// of a path's text, or this is its length, where all of it is such a beginning.
+    Path { at: usize },
     /// A growth was refused.
     Memory,
 }

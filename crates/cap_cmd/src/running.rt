@@ -1,19 +1,21 @@
 //! Doing a job: its engine is run over an input, an output and an output for faults.
 
 ghost use Rattle.cap_run.specs.Engines.{most_words};
-ghost use Rattle.cap_cmd.specs.Jobs.{CopiesInput, DoesJob, DoesTask, ShowsInput, TellsCopy, TellsRun, VetsInput, input_is_cut, input_words, is_packed};
+ghost use Rattle.cap_cmd.specs.Jobs.{CopiesInput, DoesJob, DoesTask, ShowsInput, TellsCopy, TellsInput, TellsRun, input_is_cut, input_words, is_packed, path_of};
+ghost use Rattle.cap_run.specs.Vetting.{TellsDump, TellsGet, TellsVerdict};
+ghost use Rattle.cap_spec.specs.declared.Step.{Step};
 ghost use Rattle.cap_frame.specs.Limit.{limit_of};
 ghost use Rattle.cap_spec.specs.Packing.{pack_text};
 ghost use Rattle.cap_spec.specs.Plain.{plain_text};
 ghost use Rattle.cap_vet.specs.Limits.{depth_of, words_of};
-ghost use Rattle.std.specs.Prelude.{◌≡◌, false, true};
+ghost use Rattle.std.specs.Prelude.{◌≡◌, List, Some, false, true};
 
 use crate::job::{Job, Task};
 use crate::status::{stream_status, words_status};
 use cap_pack::{Packer, Unpacker};
 use cap_run::{
-    CopyFault, Outcome, RunFault, run_pack, run_segments, run_unpack, run_vet, write_copy_fault,
-    write_fault,
+    CopyFault, Outcome, RunFault, run_dump, run_get, run_pack, run_segments, run_unpack, run_vet,
+    write_copy_fault, write_fault,
 };
 use cap_words::{ByteIn, ByteOut, PlainSink, PlainWords, WordSink, WordSource};
 use std::alloc::Global;
@@ -25,8 +27,8 @@ const MOST_WORDS: u64 = 1099511627776;
 fn input_is_packed(job: &Job) -> bool
     ensures { result ≡ is_packed job.now.task job.now.packed }
 {
-    match job.task {
-        Task::Segments | Task::Vet => job.packed,
+    match &job.task {
+        Task::Segments | Task::Vet | Task::Dump | Task::Get { .. } => job.packed,
         Task::Pack => false,
         Task::Unpack => true,
     }
@@ -65,8 +67,14 @@ fn run_over<S: WordSource + Drop, O: ByteOut, E: ByteOut>(
     ensures segments { job.now.task ≡ Task.Segments → result.0 ≡ 0 →
         ShowsInput (S.words source) (S.is_cut source) (O.written out) (O.written result.1) (limit_of job.now.settings.size) job.now.settings.messages }
     ensures vet { job.now.task ≡ Task.Vet → result.0 ≡ 0 →
-        VetsInput (S.words source) (S.is_cut source) (O.written out) (O.written result.1) (words_of job.now.settings.limits) (depth_of job.now.settings.limits)
-        (limit_of job.now.settings.size) job.now.settings.messages }
+        TellsInput (TellsVerdict (words_of job.now.settings.limits) (depth_of job.now.settings.limits)) (S.words source) (S.is_cut source)
+        (O.written out) (O.written result.1) (limit_of job.now.settings.size) job.now.settings.messages }
+    ensures dump { job.now.task ≡ Task.Dump → result.0 ≡ 0 →
+        TellsInput (TellsDump (words_of job.now.settings.limits) (depth_of job.now.settings.limits)) (S.words source) (S.is_cut source)
+        (O.written out) (O.written result.1) (limit_of job.now.settings.size) job.now.settings.messages }
+    ensures get { (path : List Step) → path_of job.now.task ≡ Some path → result.0 ≡ 0 →
+        TellsInput (TellsGet (words_of job.now.settings.limits) (depth_of job.now.settings.limits) path) (S.words source) (S.is_cut source)
+        (O.written out) (O.written result.1) (limit_of job.now.settings.size) job.now.settings.messages }
     ensures pack { job.now.task ≡ Task.Pack → result.0 ≡ 0 →
         CopiesInput (S.words source) (S.is_cut source) (O.written out) (O.written result.1) pack_text most_words }
     ensures unpack { job.now.task ≡ Task.Unpack → result.0 ≡ 0
@@ -74,13 +82,22 @@ fn run_over<S: WordSource + Drop, O: ByteOut, E: ByteOut>(
 {
     let mut source = source;
     let mut out = out;
-    match job.task {
+    match &job.task {
         Task::Segments => {
             let answer = run_segments(&mut source, &mut out, &job.settings);
             (report(err, &answer), out)
         }
         Task::Vet => {
             let answer = run_vet(alloc, &mut source, &mut out, &job.settings);
+            (report(err, &answer), out)
+        }
+        Task::Dump => {
+            let answer = run_dump(alloc, &mut source, &mut out, &job.settings);
+            (report(err, &answer), out)
+        }
+        Task::Get { path } => {
+            let path = path.as_slice();
+            let answer = run_get(alloc, &mut source, &mut out, &job.settings, path);
             (report(err, &answer), out)
         }
         Task::Pack => {
@@ -122,8 +139,14 @@ pub fn run_job<I: ByteIn + Drop, O: ByteOut, E: ByteOut>(
         ShowsInput (input_words job.now.packed (I.to_come input)) (input_is_cut job.now.packed (I.to_come input)) (O.written out) (O.written result.1)
         (limit_of job.now.settings.size) job.now.settings.messages }
     ensures vet { job.now.task ≡ Task.Vet → result.0 ≡ 0 →
-        VetsInput (input_words job.now.packed (I.to_come input)) (input_is_cut job.now.packed (I.to_come input)) (O.written out) (O.written result.1)
-        (words_of job.now.settings.limits) (depth_of job.now.settings.limits) (limit_of job.now.settings.size) job.now.settings.messages }
+        TellsInput (TellsVerdict (words_of job.now.settings.limits) (depth_of job.now.settings.limits)) (input_words job.now.packed (I.to_come input))
+        (input_is_cut job.now.packed (I.to_come input)) (O.written out) (O.written result.1) (limit_of job.now.settings.size) job.now.settings.messages }
+    ensures dump { job.now.task ≡ Task.Dump → result.0 ≡ 0 →
+        TellsInput (TellsDump (words_of job.now.settings.limits) (depth_of job.now.settings.limits)) (input_words job.now.packed (I.to_come input))
+        (input_is_cut job.now.packed (I.to_come input)) (O.written out) (O.written result.1) (limit_of job.now.settings.size) job.now.settings.messages }
+    ensures get { (path : List Step) → path_of job.now.task ≡ Some path → result.0 ≡ 0 →
+        TellsInput (TellsGet (words_of job.now.settings.limits) (depth_of job.now.settings.limits) path) (input_words job.now.packed (I.to_come input))
+        (input_is_cut job.now.packed (I.to_come input)) (O.written out) (O.written result.1) (limit_of job.now.settings.size) job.now.settings.messages }
     ensures pack { job.now.task ≡ Task.Pack → result.0 ≡ 0 →
         CopiesInput (input_words false (I.to_come input)) (input_is_cut false (I.to_come input)) (O.written out) (O.written result.1) pack_text most_words }
     ensures unpack { job.now.task ≡ Task.Unpack → result.0 ≡ 0 →

@@ -28,8 +28,12 @@ messages_of ts = map (λ t. t.message) ts
 abbrev pub texts_of : List Told → List ℕ
 texts_of ts = flat_map (λ t. t.text) ts
 
+-- which texts may be told of a message by its number, each with what is counted of it
+abbrev pub Tells : Type 1
+Tells = ℕ → List (List ℕ) → List ℕ → Mark → Type 0
+
 -- each text is one that may be told of its message by its number, from this number on
-abbrev pub TellsEach : (ℕ → List (List ℕ) → List ℕ → Mark → Type 0) → ℕ → List Told → Type 0
+abbrev pub TellsEach : Tells → ℕ → List Told → Type 0
 TellsEach tells n [] = Unit {0}
 TellsEach tells n (t ∷ ts) = tells n t.message t.text t.mark × TellsEach tells (n + 1) ts
 

@@ -39,6 +39,7 @@ fn run(rt: &HostRuntime) -> u8 {
         Ok(job) => open_and_run(rt, &job),
         Err(JobFault::Help { text }) => help(rt, text.as_str()),
         Err(JobFault::Usage { text }) => fail(rt, text.as_str(), USAGE),
+        Err(JobFault::Path { at }) => bad_path(rt, at),
         Err(JobFault::Memory) => out_of_memory(rt),
     }
 }
@@ -84,6 +85,11 @@ fn help(rt: &HostRuntime, text: &str) -> u8 {
         Ok(()) => 0,
         Err(_) => fail(rt, "capvet: output failed\n", FAILED),
     }
+}
+
+fn bad_path(rt: &HostRuntime, at: usize) -> u8 {
+    let _ = eprintln!(rt; "capvet: bad path at {at}");
+    USAGE
 }
 
 fn cannot_open(rt: &HostRuntime, name: &str) -> u8 {
