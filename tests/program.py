@@ -15,6 +15,8 @@ import sys
 import tempfile
 from pathlib import Path
 
+from trees import dump_text, get_text
+
 TOP = Path(__file__).resolve().parent.parent
 PROGRAM = Path(sys.argv[1] if len(sys.argv) > 1 else TOP / "crates/capvet/out/capvet").resolve()
 passed = failed = 0
@@ -101,6 +103,8 @@ def segments_text(stream):
 
 NULL = framed("0000000000000000")
 NULL_ACCEPTED = "message 0: accepted charge 0 depth 0 pointers 1 caps 0\n"
+NULL_DUMP = NULL_ACCEPTED + "root null\n"
+NULL_FOUND = "message 0: found\nnode null\n"
 CYCLE = framed("fcffffff00000100")
 CYCLE_REFUSED = "message 0: refused DepthLimit at 0:0 pointers 65\n"
 
@@ -115,7 +119,10 @@ VERDICTS = {
     + "message 2: accepted charge 20 depth 2 pointers 7 caps 0\n"
     + "message 3: accepted charge 78 depth 5 pointers 21 caps 0\n",
 }
-COMMANDS = ("segments", "vet", "pack", "unpack")
+COMMANDS = ("segments", "vet", "dump", "get", "pack", "unpack")
+# The same with what each of them needs besides its input.
+RUNS = ("segments", "vet", "dump", "get /", "pack", "unpack")
+PATHS = ("/", "/p0", "/p1/p0", "/p0/i0", "/p0/i1/p4", "/i0", "/p65535")
 
 
 def sample(name):
@@ -128,14 +135,15 @@ def samples():
         for name, verdicts in VERDICTS.items():
             file, packed = f"examples/{name}", f"{folder}/{name}.packed"
             stream = sample(name)
-            texts = {"vet": verdicts, "segments": segments_text(stream)}
+            texts = {"vet": verdicts, "segments": segments_text(stream), "dump": dump_text(stream, verdicts)}
+            texts |= {f"get {path}": get_text(stream, path) for path in PATHS}
             shell_case(f"capvet pack {file} > {packed}", "")
             text = Path(packed).read_bytes()
             for command, wanted in texts.items():
-                case([command, file], wanted)
-                case([command], wanted, stdin=stream)
-                case([command, "--packed", packed], wanted)
-                case([command, "--packed"], wanted, stdin=text)
+                case([*command.split(), file], wanted)
+                case(command, wanted, stdin=stream)
+                case([*command.split(), "--packed", packed], wanted)
+                case(f"{command} --packed", wanted, stdin=text)
             case("pack", text, stdin=stream)
             case(["unpack", packed], stream)
             case("unpack", stream, stdin=text)
@@ -152,27 +160,56 @@ case("unpack", bytes(32), stdin=word("0003"))
 
 # ------------------------------------------------------------------ inputs that are refused, cut short or past a limit
 case("vet", CYCLE_REFUSED, status=1, stdin=CYCLE)
+case("dump", CYCLE_REFUSED, status=1, stdin=CYCLE)
+case("get /p0", CYCLE_REFUSED, status=1, stdin=CYCLE)
 case("vet --words 100 examples/contacts.bin", "message 0: refused WordLimit at 0:21 pointers 22\n", status=1)
 case("vet --size 391 examples/contacts.bin", err="capvet: message 0: TooLarge 392\n", status=1)
 case("vet", NULL_ACCEPTED, "capvet: message 1: Truncated at byte 23\n", 1, NULL + NULL[:7])
+case("dump", NULL_DUMP, "capvet: message 1: Truncated at byte 23\n", 1, NULL + NULL[:7])
+case("get /", NULL_FOUND, "capvet: message 1: Truncated at byte 23\n", 1, NULL + NULL[:7])
 case("segments", segments_text(NULL), "capvet: message 1: TooManySegments 513\n", 1, NULL + word("0002000000000000"))
 case("pack", word("0101"), "capvet: Truncated at byte 15\n", 1, word("0100000000000000") + bytes(7))
 case("unpack", bytes(8), "capvet: Truncated at byte 3\n", 1, word("000001"))
-for command in (*COMMANDS, "segments --packed", "vet --packed"):
+for command in (*RUNS, "segments --packed", "vet --packed", "dump --packed", "get / --packed"):
     case(command)
+
+
+def deepest_dump():
+    """The deepest of all trees, 256 lists of one struct, each the pointer of the struct before it, dumped with a
+    stack of 8 MiB and of 1 MiB."""
+    list_pointer, tag, null = "010000000f000000", "0400000000000100", "0000000000000000"
+    stream = framed(*[list_pointer, tag] * 256, null)
+    wanted = "message 0: accepted charge 512 depth 256 pointers 257 caps 0\nroot structs 1 0 1\n"
+    for level in range(1, 512, 2):
+        below = "structs 1 0 1" if level < 511 else "null"
+        wanted += "  " * level + "i0 struct 0 1\n" + "  " * (level + 1) + f"p0 {below}\n"
+    with tempfile.TemporaryDirectory() as folder:
+        file = Path(folder) / "deepest.bin"
+        file.write_bytes(stream)
+        for kibibytes in (8192, 1024):
+            shell_case(f"ulimit -s {kibibytes} && capvet dump --depth 256 {file}", wanted)
+
+
+deepest_dump()
+
+# ------------------------------------------------------------------ paths, which are read before any input is opened
+for path, at in {"p0": 0, "//": 1, "/p": 2, "/p01": 3, "/p1/": 4, "/p65536": 6, "/i4294967296": 11}.items():
+    case(f"get {path} examples/missing.bin", err=f"capvet: bad path at {at}\n", status=2, stdin=NULL)
+case(["get", ""], err="capvet: bad path at 0\n", status=2, stdin=NULL)
+case("get /p0", "message 0: none\n", stdin=NULL)
 
 # ------------------------------------------------------------------ files and devices
 MISSING = "capvet: cannot open examples/missing.bin\n"
 FAILED = "capvet: output failed\n"
 LONG = NULL * 20000
-for command in COMMANDS:
+for command in RUNS:
     case(f"{command} examples/missing.bin", err=MISSING, status=3, stdin=NULL)
     case(f"{command} -", err="capvet: cannot open -\n", status=3, stdin=NULL)
     at = "" if command.endswith("pack") else "message 0: "
     case(f"{command} examples", err=f"capvet: {at}Device\n", status=3, stdin=NULL)
 with open("/dev/full", "wb") as full:
     for stdout in (full, closed_pipe()):
-        for command in ("segments", "vet", "pack"):
+        for command in ("segments", "vet", "dump", "get /", "pack"):
             case(command, err=FAILED, status=3, stdin=NULL, stdout=stdout)
             case(command, err=FAILED, status=3, stdin=LONG, stdout=stdout)
         case("unpack", err=FAILED, status=3, stdin=word("0000"), stdout=stdout)
@@ -186,7 +223,7 @@ with open("/dev/full", "wb") as full:
 # ------------------------------------------------------------------ command lines
 case([b"vet", b"\xff"], err="capvet: an argument is not UTF-8\n", status=2, stdin=NULL)
 mistake("", """'capvet' requires a subcommand but one was not provided
-  [subcommands: segments, vet, pack, unpack, help]
+  [subcommands: segments, vet, dump, get, pack, unpack, help]
 
 Usage: capvet <COMMAND>
 """)
@@ -202,6 +239,11 @@ mistake("pack --packed", """unexpected argument '--packed' found
 
 Usage: capvet pack [FILE]
 """)
+mistake("get", """the following required arguments were not provided:
+  <PATH>
+
+Usage: capvet get <PATH> [FILE]
+""")
 mistake("segments --size x", "invalid value 'x' for '--size <N>': invalid digit found in string\n")
 mistake("segments --size 268435457", "invalid value '268435457' for '--size <N>': 268435457 is not in 0..=268435456\n")
 mistake("vet --words 268435457", "invalid value '268435457' for '--words <N>': 268435457 is not in 0..=268435456\n")
@@ -216,6 +258,8 @@ Usage: capvet <COMMAND>
 Commands:
   segments  Shows each message's segments, their sizes in words, and its root pointer
   vet       Checks that each message is safe to traverse
+  dump      Writes the tree of each message that is safe to traverse
+  get       Shows the node at a path in each message that is safe to traverse
   pack      Packs a stream of words
   unpack    Unpacks a stream of words
   help      Print this message or the help of the given subcommand(s)
@@ -260,12 +304,40 @@ Example:
   $ capvet vet --depth 3 examples/contacts.bin
   message 0: refused DepthLimit at 0:62 pointers 6
 """
+HELP_GET = """\
+Shows the node at a path in each message that is safe to traverse
+
+Usage: capvet get [OPTIONS] <PATH> [FILE]
+
+Arguments:
+  <PATH>  Path of the node, as /p0/i3
+  [FILE]  File to read, instead of standard input
+
+Options:
+      --packed     The messages are packed
+      --size <N>   Most words of a message, all its segments together, 0 to 268435456 [default: 8388608]
+      --words <N>  Traversal limit in words, 0 to 268435456; a target reached twice counts twice [default: 8388608]
+      --depth <N>  Deepest level of an object, 0 to 256; the root's object has level 1 [default: 64]
+  -h, --help       Print help
+
+PATH is '/' alone for the root, or one step after the other: '/pN' for pointer N of a struct, and
+'/iN' for element N of a list of pointers or of structs, each counted from 0. The node is shown
+without what its pointers lead to. That there is none at the PATH refuses no message.
+
+Example:
+  $ capvet get /p0/i1 examples/contacts.bin
+  message 0: found
+  node struct 1 6
+    d0 0a6e000001000000
+"""
 for words in ("--version", "-V"):
     case(words, VERSION)
 for words in ("help", "--help", "-h"):
     case(words, HELP)
 for words in ("help vet", "vet --help", "vet -h"):
     case(words, HELP_VET)
+for words in ("help get", "get --help", "get -h"):
+    case(words, HELP_GET)
 
 
 def help_example(command, status):
