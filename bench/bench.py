@@ -183,6 +183,14 @@ ON_MESSAGES = [
     Timed("capvet vet", f"PROGRAM vet {LIMITS} FILE"),
     Timed("capvet vet --packed", f"PROGRAM vet --packed {LIMITS} FILE", packed=True),
 ]
+# What writes a tree or a node is timed on these inputs alone: `big` would be a line for each of its words.
+ON_TREE = [
+    Timed("capvet dump", f"PROGRAM dump {LIMITS} FILE"),
+]
+ON_SMALL = [
+    Timed("capvet dump", f"PROGRAM dump {LIMITS} FILE"),
+    Timed("capvet get /p0", f"PROGRAM get /p0 {LIMITS} FILE"),
+]
 ON_WORDS = [
     Timed("capvet pack", "PROGRAM pack FILE"),
     Timed("capvet unpack", "PROGRAM unpack FILE", packed=True),
@@ -191,7 +199,8 @@ ON_WORDS = [
 
 def cases():
     for name in INPUTS:
-        for timed in ON_ALL + (ON_MESSAGES if name in MESSAGES else ON_WORDS):
+        more = {"tree": ON_TREE, "small": ON_SMALL}.get(name, [])
+        for timed in ON_ALL + (ON_MESSAGES if name in MESSAGES else ON_WORDS) + more:
             yield Case(timed, name)
 
 

@@ -21,7 +21,7 @@ pub struct Outcome {
     pub messages: u32,
     /// How many of them were refused.
     pub refused: u32,
-    /// How many of them were accepted and aren't canonical, where that is asked. `segments` and `vet`
-    /// don't ask it.
+    /// How many of them were accepted and aren't canonical, where that is asked. `segments`,
+    /// `vet`, `dump` and `get` don't ask it.
     pub noncanonical: u32,
 }
