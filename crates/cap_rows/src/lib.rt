@@ -14,6 +14,8 @@ mod paths;
 #[cfg(test)]
 mod segments;
 #[cfg(test)]
+mod trees;
+#[cfg(test)]
 mod usage;
 #[cfg(test)]
 mod verdicts;

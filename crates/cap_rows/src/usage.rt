@@ -1,7 +1,7 @@
 //! Command lines that name no job, and those that name one.
 
 use crate::whole::{job, words};
-use cap_cmd::{JobFault, Limits, Task, read_job};
+use cap_cmd::{JobFault, Limits, Step, Task, read_job};
 use std::test::Fail;
 
 // What a command line is answered with; `Other` is another job, or no text for the user.
@@ -47,6 +47,7 @@ fn tells_jobs_help_and_mistakes_apart(rt: HostRuntime) -> Result<(), Fail> {
             } else {
                 Answer::Usage
             },
+            Err(JobFault::Path { .. }) => Answer::Other,
             Err(JobFault::Memory) => Answer::Memory,
         };
         assert_eq!(rt; answer, wanted, "{line:?}");
@@ -92,8 +93,8 @@ fn reads_the_options_of_vet(rt: HostRuntime) -> Result<(), Fail> {
 }
 
 #[test]
-fn refuses_what_vet_does_not_take(rt: HostRuntime) -> Result<(), Fail> {
-    let mistakes: [(&[&str], &str); 7] = [
+fn refuses_what_a_command_does_not_take(rt: HostRuntime) -> Result<(), Fail> {
+    let mistakes: [(&[&str], &str); 9] = [
         (
             &["vet", "--size", "268435457"],
             "error: invalid value '268435457' for '--size <N>': 268435457 is not in 0..=268435456\n\nFor more information, try '--help'.\n",
@@ -115,6 +116,14 @@ fn refuses_what_vet_does_not_take(rt: HostRuntime) -> Result<(), Fail> {
             "error: a value is required for '--words <N>' but none was supplied\n\nFor more information, try '--help'.\n",
         ),
         (
+            &["get"],
+            "error: the following required arguments were not provided:\n  <PATH>\n\nUsage: capvet get <PATH> [FILE]\n\nFor more information, try '--help'.\n",
+        ),
+        (
+            &["dump", "--depth", "257"],
+            "error: invalid value '257' for '--depth <N>': 257 is not in 0..=256\n\nFor more information, try '--help'.\n",
+        ),
+        (
             &["vet", "one", "two"],
             "error: unexpected argument 'two' found\n\nUsage: capvet vet [OPTIONS] [FILE]\n\nFor more information, try '--help'.\n",
         ),
@@ -132,13 +141,70 @@ fn refuses_what_vet_does_not_take(rt: HostRuntime) -> Result<(), Fail> {
     Ok(())
 }
 
+#[test]
+fn reads_the_path_of_get(rt: HostRuntime) -> Result<(), Fail> {
+    let jobs: [(&[&str], &[Step], Option<&str>, bool); 4] = [
+        (&["/"], &[], None, false),
+        (&["/p0/i12"], &[Step::Ptr(0), Step::Item(12)], None, false),
+        (
+            &["/p65535", "some.bin", "--packed"],
+            &[Step::Ptr(65535)],
+            Some("some.bin"),
+            true,
+        ),
+        (
+            &["--size=1", "--words=2", "--depth=3", "/i4294967295", "-"],
+            &[Step::Item(4294967295)],
+            Some("-"),
+            false,
+        ),
+    ];
+    for (options, steps, file, packed) in jobs {
+        let job = job(rt.alloc(), "get", options)?;
+        let Task::Get { path } = &job.task else {
+            return Err(Fail::from("no path"));
+        };
+        assert!(rt;
+            path.as_slice() == steps && job.packed == packed,
+            "{options:?}"
+        );
+        assert!(rt;
+            job.file.as_ref().map(|name| name.as_str()) == file,
+            "{options:?}"
+        );
+    }
+    Ok(())
+}
+
+#[test]
+fn tells_where_a_path_goes_wrong(rt: HostRuntime) -> Result<(), Fail> {
+    let lines: [(&[&str], usize); 9] = [
+        (&["get", ""], 0),
+        (&["get", "p1"], 0),
+        (&["get", "é"], 0),
+        (&["get", "//"], 1),
+        (&["get", "/p"], 2),
+        (&["get", "/p01", "some.bin"], 3),
+        (&["get", "/p1/"], 4),
+        (&["get", "/p65536"], 6),
+        (&["get", "--packed", "/i4294967296"], 11),
+    ];
+    for (line, wanted) in lines {
+        let Err(JobFault::Path { at }) = read_job(rt.alloc(), words(rt.alloc(), line)?) else {
+            return Err(Fail::from("no bad path"));
+        };
+        assert_eq!(rt; at, wanted, "{line:?}");
+    }
+    Ok(())
+}
+
 // A command's help, and lines that ask for it.
 struct Help {
     lines: [&'static [&'static str]; 3],
     text: &'static str,
 }
 
-const HELPS: [Help; 6] = [
+const HELPS: [Help; 8] = [
     Help {
         lines: [&["--help"], &["-h"], &["help"]],
         text: "\
@@ -149,6 +215,8 @@ Usage: capvet <COMMAND>
 Commands:
   segments  Shows each message's segments, their sizes in words, and its root pointer
   vet       Checks that each message is safe to traverse
+  dump      Writes the tree of each message that is safe to traverse
+  get       Shows the node at a path in each message that is safe to traverse
   pack      Packs a stream of words
   unpack    Unpacks a stream of words
   help      Print this message or the help of the given subcommand(s)
@@ -225,6 +293,66 @@ has. A refused one is told with the reason, and the SEGMENT:WORD of the first po
 Example:
   $ capvet vet --depth 3 examples/contacts.bin
   message 0: refused DepthLimit at 0:62 pointers 6
+",
+    },
+    Help {
+        lines: [&["dump", "--help"], &["dump", "-h"], &["help", "dump"]],
+        text: "\
+Writes the tree of each message that is safe to traverse
+
+Usage: capvet dump [OPTIONS] [FILE]
+
+Arguments:
+  [FILE]  File to read, instead of standard input
+
+Options:
+      --packed     The messages are packed
+      --size <N>   Most words of a message, all its segments together, 0 to 268435456 [default: 8388608]
+      --words <N>  Traversal limit in words, 0 to 268435456; a target reached twice counts twice [default: 8388608]
+      --depth <N>  Deepest level of an object, 0 to 256; the root's object has level 1 [default: 64]
+  -h, --help       Print help
+
+Behind the line that 'vet' writes of an accepted message comes its tree: of each node a line, then
+the words of its own and its children, two spaces deeper. The children pN and iN of a node are those
+to which the steps /pN and /iN of a PATH lead, as 'get' takes it.
+
+Example:
+  $ capvet dump examples/contacts.bin | head -n 6
+  message 0: accepted charge 391 depth 8 pointers 125 caps 0
+  root struct 1 3
+    d0 50f708d100000000
+    p0 structs 7 1 6
+      i0 struct 1 6
+        d0 0000000000000000
+",
+    },
+    Help {
+        lines: [&["get", "--help"], &["get", "-h"], &["help", "get"]],
+        text: "\
+Shows the node at a path in each message that is safe to traverse
+
+Usage: capvet get [OPTIONS] <PATH> [FILE]
+
+Arguments:
+  <PATH>  Path of the node, as /p0/i3
+  [FILE]  File to read, instead of standard input
+
+Options:
+      --packed     The messages are packed
+      --size <N>   Most words of a message, all its segments together, 0 to 268435456 [default: 8388608]
+      --words <N>  Traversal limit in words, 0 to 268435456; a target reached twice counts twice [default: 8388608]
+      --depth <N>  Deepest level of an object, 0 to 256; the root's object has level 1 [default: 64]
+  -h, --help       Print help
+
+PATH is '/' alone for the root, or one step after the other: '/pN' for pointer N of a struct, and
+'/iN' for element N of a list of pointers or of structs, each counted from 0. The node is shown
+without what its pointers lead to. That there is none at the PATH refuses no message.
+
+Example:
+  $ capvet get /p0/i1 examples/contacts.bin
+  message 0: found
+  node struct 1 6
+    d0 0a6e000001000000
 ",
     },
     Help {
