@@ -10,19 +10,18 @@ ghost use Rattle.cap_spec.specs.declared.Kind.{Kind};
 ghost use Rattle.cap_spec.specs.declared.Step.{Step};
 ghost use Rattle.cap_vet.specs.Budgets.{left_of};
 ghost use Rattle.cap_vet.specs.Charging.{Arrives};
-ghost use Rattle.cap_vet.specs.Finding.{IsFound, element_of};
+ghost use Rattle.cap_vet.specs.Finding.{IsFound};
 ghost use Rattle.cap_vet.specs.Handles.{kept_place, view_kind, view_message};
 ghost use Rattle.std.specs.Prelude.{[], ◌∷◌, ◌++◌, ◌+◌, ◌-◌, ◌<◌, ◌≡◌, ◌≤◌, ◌^◌, IfErr, IfNone, IfOk, IfSome, IsOk, List, OnErr, OnOk, length, ℕ};
 
 use crate::budget::Budget;
-use crate::found::{Found, found_of};
-use crate::place::Place;
+use crate::found::{Found, element, found_of};
 use crate::spot::Spot;
 use crate::targets::{levels_of_elements, levels_taken};
 use crate::view::View;
 use cap_frame::Segments;
 use cap_ptr::{Followed, follow};
-use cap_spec::{Kind, Reason, Refusal, Step};
+use cap_spec::{Reason, Refusal, Step};
 
 // What a pointer word leads to, and what following it costs, where `left` words may be charged. The
 // error is the first reason that applies.
@@ -197,23 +196,6 @@ impl Arrival {
                 pointers,
             }),
         }
-    }
-}
-
-// What an element of a list of structs is.
-fn element(segment: u32, start: u32, data_words: u16, pointers: u16) -> Found
-    ensures { result ≡ element_of segment start data_words pointers }
-{
-    Found {
-        kind: Kind::Struct {
-            data_words,
-            pointers,
-        },
-        place: Place {
-            segment,
-            start,
-            words: u32::from(data_words) + u32::from(pointers),
-        },
     }
 }
 

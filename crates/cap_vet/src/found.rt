@@ -3,7 +3,7 @@
 ghost use Rattle.cap_ptr.specs.Shapes.{IsFollowed};
 ghost use Rattle.cap_spec.specs.Messages.{IsMessage, segment_of};
 ghost use Rattle.cap_spec.specs.Paths.{Goes, Spot as Where, word};
-ghost use Rattle.cap_vet.specs.Finding.{IsFound, kind_of_shape};
+ghost use Rattle.cap_vet.specs.Finding.{IsFound, element_of, kind_of_shape};
 ghost use Rattle.cap_vet.specs.Spots.{end_at, segment_at, spot_of};
 ghost use Rattle.std.specs.Prelude.{◌+◌, ◌<◌, ◌≡◌, ◌≤◌, IfNone, IfSome, List, length, ℕ};
 
@@ -152,6 +152,23 @@ pub(crate) fn found_of(followed: Followed) -> Found
                 start: target.start,
                 words: target.words,
             },
+        },
+    }
+}
+
+/// What an element of a list of structs is.
+pub(crate) fn element(segment: u32, start: u32, data_words: u16, pointers: u16) -> Found
+    ensures { result ≡ element_of segment start data_words pointers }
+{
+    Found {
+        kind: Kind::Struct {
+            data_words,
+            pointers,
+        },
+        place: Place {
+            segment,
+            start,
+            words: u32::from(data_words) + u32::from(pointers),
         },
     }
 }

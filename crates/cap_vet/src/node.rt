@@ -5,13 +5,12 @@ ghost use Rattle.cap_vet.specs.Nodes.{IsNode};
 ghost use Rattle.cap_vet.specs.Spots.{end_at, segment_at, spot_of};
 ghost use Rattle.std.specs.Prelude.{◌<◌, ◌≡◌, ◌≤◌, ⊤, length};
 
-use crate::found::{Found, found_of};
-use crate::place::Place;
+use crate::found::{Found, element, found_of};
 use crate::spot::Spot;
 use crate::view::View;
 use cap_frame::Segments;
 use cap_ptr::follow;
-use cap_spec::{Kind, Step};
+use cap_spec::Step;
 use std::alloc::AllocError;
 
 /// A node of the tree that an accepted message's root denotes (encoding: Objects). It is the pointer
@@ -61,17 +60,7 @@ impl<'m, M: Segments> Node<'m, M> {
                 start,
                 data_words,
                 pointers,
-            } => Found {
-                kind: Kind::Struct {
-                    data_words,
-                    pointers,
-                },
-                place: Place {
-                    segment,
-                    start,
-                    words: u32::from(data_words) + u32::from(pointers),
-                },
-            },
+            } => element(segment, start, data_words, pointers),
         }
     }
 
