@@ -17,3 +17,6 @@ pub use checking::is_canonical;
 pub use copying::canonical;
 pub use fault::CanonFault;
 pub use length::canonical_len;
+
+#[cfg(test)]
+mod tests;

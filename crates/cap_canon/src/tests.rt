@@ -1,0 +1,327 @@
+//! What the three calls say together of messages whose copies are known from outside.
+
+use crate::{CanonFault, canonical, canonical_len, is_canonical};
+use cap_frame::{OneSegment, Segments};
+use cap_vet::{Limits, Vetted, vet};
+use std::alloc::Global;
+use std::process::Abort;
+use std::test::Fail;
+
+// The words of a stream, each read from its first byte on.
+fn words(alloc: Global, spelled: &[u64]) -> Result<Vec<u64>, Fail> {
+    let mut words = Vec::with_capacity(alloc, spelled.len())?;
+    for word in spelled {
+        words.push(word.swap_bytes())?;
+    }
+    Ok(words)
+}
+
+fn accepted<M: Segments>(message: &M, words: u64, depth: u32) -> Result<Vetted<'_, M>, Fail> {
+    let limits = Limits::new(words, depth).ok_or("no limits")?;
+    match vet(message, limits) {
+        Ok(vetted) => Ok(vetted),
+        Err(_) => Err("refused".into()),
+    }
+}
+
+// A message of these words has this copy. It is canonical where they are the copy, and the copy is
+// accepted under limits as low as the message's own numbers, and is canonical.
+fn has_copy(rt: &impl Abort, alloc: Global, segment: &[u64], copied: &[u64]) -> Result<(), Fail> {
+    let message = OneSegment::new(segment).ok_or("no message")?;
+    let vetted = accepted(&message, 268435456, 256)?;
+    let report = vetted.report();
+    assert_eq!(rt;
+        canonical_len(&vetted),
+        Ok(copied.len() as u64),
+        "of {segment:?}"
+    );
+    let Ok(made) = canonical(alloc, &vetted) else {
+        return Err("no copy".into());
+    };
+    assert_eq!(rt; made.as_slice(), copied, "of {segment:?}");
+    assert_eq!(rt; is_canonical(&vetted), segment == copied, "of {segment:?}");
+    let copy = OneSegment::new(&made).ok_or("no message")?;
+    let again = accepted(&copy, report.charge, report.depth)?;
+    assert_eq!(rt; again.report().depth, report.depth, "of {segment:?}");
+    assert!(rt; is_canonical(&again), "of {segment:?}");
+    Ok(())
+}
+
+// Lists of values of each code, with unused bits that are set, and with a word behind them.
+#[test]
+fn values_of_each_code(rt: HostRuntime) -> Result<(), Fail> {
+    let ones = 0xffffffffffffffff;
+    for (root, count, last) in [
+        // The code, how many words the values take, and what is left of the last one.
+        (0x0100000018000000, 0, 0),
+        (0x0100000001000000, 0, 0),
+        (0x0100000009020000, 2, 0x0100000000000000),
+        (0x0100000001020000, 1, ones),
+        (0x010000004a000000, 2, 0xff00000000000000),
+        (0x0100000042000000, 1, ones),
+        (0x010000002b000000, 2, 0xffff000000000000),
+        (0x0100000023000000, 1, ones),
+        (0x010000001c000000, 2, 0xffffffff00000000),
+        (0x0100000014000000, 1, ones),
+        (0x0100000015000000, 2, ones),
+        (0x0100000005000000, 0, 0),
+    ] {
+        let mut spelled = Vec::new(rt.alloc());
+        let mut copied = Vec::new(rt.alloc());
+        spelled.push(root)?;
+        copied.push(root)?;
+        for k in 0..count {
+            spelled.push(ones)?;
+            copied.push(if k + 1 == count { last } else { ones })?;
+        }
+        let copied = words(rt.alloc(), &copied)?;
+        has_copy(&rt, rt.alloc(), &words(rt.alloc(), &spelled)?, &copied)?;
+        spelled.push(ones)?;
+        has_copy(&rt, rt.alloc(), &words(rt.alloc(), &spelled)?, &copied)?;
+    }
+    Ok(())
+}
+
+#[test]
+fn objects_below_others(rt: HostRuntime) -> Result<(), Fail> {
+    for (spelled, copied) in [
+        // Words between objects and behind them.
+        (
+            &[
+                0x0000000000000200,
+                0x0800000001000000,
+                0x0c00000001000000,
+                0xffffffffffffffff,
+                0x0700000000000000,
+                0xffffffffffffffff,
+                0x0900000000000000,
+                0xffffffffffffffff,
+            ][..],
+            &[
+                0x0000000000000200,
+                0x0400000001000000,
+                0x0400000001000000,
+                0x0700000000000000,
+                0x0900000000000000,
+            ][..],
+        ),
+        // The children of both children, level by level, which stand child by child in the copy.
+        (
+            &[
+                0x0000000000000200,
+                0x0400000000000100,
+                0x0400000000000100,
+                0x0400000001000000,
+                0x0400000001000000,
+                0x0700000000000000,
+                0x0900000000000000,
+            ],
+            &[
+                0x0000000000000200,
+                0x0400000000000100,
+                0x0800000000000100,
+                0x0000000001000000,
+                0x0700000000000000,
+                0x0000000001000000,
+                0x0900000000000000,
+            ],
+        ),
+        // A struct of a pointer, shared by two pointers: what stands below it is copied twice too.
+        (
+            &[
+                0x0000000000000200,
+                0x0400000000000100,
+                0x0000000000000100,
+                0x0000000001000000,
+                0x0700000000000000,
+            ],
+            &[
+                0x0000000000000200,
+                0x0400000000000100,
+                0x0800000000000100,
+                0x0000000001000000,
+                0x0700000000000000,
+                0x0000000001000000,
+                0x0700000000000000,
+            ],
+        ),
+        // Two pointers to one empty list, and to one empty struct.
+        (
+            &[0x0000000000000200, 0x0500000002000000, 0x0100000002000000],
+            &[0x0000000000000200, 0x0500000002000000, 0x0100000002000000],
+        ),
+        (
+            &[0x0000000000000200, 0x0400000000000000, 0x0000000000000000],
+            &[0x0000000000000100, 0xfcffffff00000000],
+        ),
+        // A list of pointers keeps the null at its end.
+        (
+            &[
+                0x0100000016000000,
+                0x0800000001000000,
+                0x0000000000000000,
+                0xffffffffffffffff,
+                0x0900000000000000,
+            ],
+            &[
+                0x0100000016000000,
+                0x0400000001000000,
+                0x0000000000000000,
+                0x0900000000000000,
+            ],
+        ),
+        // A struct keeps the zero inside its data, and the null before its last pointer.
+        (
+            &[
+                0x0000000004000300,
+                0x0100000000000000,
+                0x0000000000000000,
+                0x0200000000000000,
+                0x0000000000000000,
+                0x0000000000000000,
+                0xfcffffff00000000,
+                0x0000000000000000,
+            ],
+            &[
+                0x0000000003000200,
+                0x0100000000000000,
+                0x0000000000000000,
+                0x0200000000000000,
+                0x0000000000000000,
+                0xfcffffff00000000,
+            ],
+        ),
+    ] {
+        let segment = words(rt.alloc(), spelled)?;
+        let copied = words(rt.alloc(), copied)?;
+        has_copy(&rt, rt.alloc(), &segment, &copied)?;
+    }
+    Ok(())
+}
+
+#[test]
+fn lists_of_structs(rt: HostRuntime) -> Result<(), Fail> {
+    for (spelled, copied) in [
+        // No elements, with sizes in the tag and a surplus word.
+        (
+            &[0x010000000f000000, 0x0000000001000100, 0xffffffffffffffff][..],
+            &[0x0100000007000000, 0x0000000000000000][..],
+        ),
+        // The last pointers are a null pad in one element, and zero in the other.
+        (
+            &[
+                0x0100000027000000,
+                0x0800000000000200,
+                0x1000000001000000,
+                0x3200000000000000,
+                0x0000000000000000,
+                0x0000000000000000,
+                0x0000000000000000,
+                0x2a00000000000000,
+            ],
+            &[
+                0x0100000017000000,
+                0x0800000000000100,
+                0x0400000001000000,
+                0x0000000000000000,
+                0x2a00000000000000,
+            ],
+        ),
+        // One element needs two data words, and the other one two pointers.
+        (
+            &[
+                0x0100000057000000,
+                0x0800000003000200,
+                0x0000000000000000,
+                0x0500000000000000,
+                0x0000000000000000,
+                0x0000000000000000,
+                0x0000000000000000,
+                0x0600000000000000,
+                0x0000000000000000,
+                0x0000000000000000,
+                0x0000000000000000,
+                0xfcffffff00000000,
+            ],
+            &[
+                0x0100000047000000,
+                0x0800000002000200,
+                0x0000000000000000,
+                0x0500000000000000,
+                0x0000000000000000,
+                0x0000000000000000,
+                0x0600000000000000,
+                0x0000000000000000,
+                0x0000000000000000,
+                0xfcffffff00000000,
+            ],
+        ),
+        // What the elements' pointers lead to is cut, each by itself, and stands element by element.
+        (
+            &[
+                0x0100000017000000,
+                0x0800000000000100,
+                0x0c00000002000000,
+                0x0000000002000000,
+                0x0700000000000000,
+                0x0000000000000000,
+                0x0800000000000000,
+                0x0900000000000000,
+            ],
+            &[
+                0x0100000017000000,
+                0x0800000000000100,
+                0x0400000002000000,
+                0x0800000001000000,
+                0x0800000000000000,
+                0x0900000000000000,
+                0x0700000000000000,
+            ],
+        ),
+    ] {
+        let segment = words(rt.alloc(), spelled)?;
+        let copied = words(rt.alloc(), copied)?;
+        has_copy(&rt, rt.alloc(), &segment, &copied)?;
+    }
+    Ok(())
+}
+
+// Structs of two pointers, each below the first pointer of the one before it, so that each level of
+// the walk has a pointer left. Their second pointers lead to empty structs, and the last one's first
+// pointer is null.
+#[test]
+fn messages_of_many_levels(rt: HostRuntime) -> Result<(), Fail> {
+    let empty = 0xfcffffff00000000;
+    for depth in [1, 2, 8, 9, 64, 65, 256] {
+        let mut spelled = Vec::new(rt.alloc());
+        spelled.push(if depth == 1 {
+            empty
+        } else {
+            0x0000000000000200
+        })?;
+        for level in 1..depth {
+            spelled.push(if level + 1 == depth {
+                0
+            } else {
+                0x0400000000000200
+            })?;
+            spelled.push(empty)?;
+        }
+        let segment = words(rt.alloc(), &spelled)?;
+        has_copy(&rt, rt.alloc(), &segment, &segment)?;
+    }
+    Ok(())
+}
+
+// The one reservation of a copy may be refused. Nothing else here takes memory.
+#[test]
+fn a_copy_or_no_memory(rt: HostRuntime) -> Result<(), Fail> {
+    let segment = [0x0000000100000000, 42, 0];
+    let message = OneSegment::new(&segment).ok_or("no message")?;
+    let vetted = accepted(&message, 268435456, 256)?;
+    match canonical(rt.alloc(), &vetted) {
+        Ok(made) => assert_eq!(rt; made.as_slice(), [0x0000000100000000, 42].as_slice()),
+        Err(fault) => assert_eq!(rt; fault, CanonFault::Memory),
+    }
+    Ok(())
+}
