@@ -1,64 +1,15 @@
 -- Which children are left, from the last one down.
-use Rattle.std.proofs.Common.{ℕ, zero, suc, ◌+◌, ◌-◌, ◌<◌, ◌≤◌, ◌≢◌, List, ◌≡◌, ◌⊎◌, inl, inr, max, ap, refl, sym, subst, ◌∙◌, arith, true, false, Some, Bool}
+use Rattle.std.proofs.Common.{ℕ, zero, suc, ◌+◌, ◌-◌, ◌<◌, ◌≤◌, List, ◌≡◌, ◌⊎◌, inl, inr, max, ap, refl, sym, subst, ◌∙◌, arith, true, false, Some, Bool}
 use Rattle.std.specs.Prelude.{if◌then◌else◌, ◌==◌}
 use Rattle.std.proofs.lemmas.Bool.Decides.{eqb_tells}
-use Rattle.std.proofs.lemmas.Bool.{ne_eqb}
 use Rattle.std.proofs.lemmas.Option.{same_Some}
-use Rattle.cap_spec.specs.Messages.{HasWord}
-use Rattle.cap_spec.specs.Pointers.{kind}
-use Rattle.cap_spec.specs.Following.{Lead, Leads, near, one_pad, two_pads, Says, to_null, to_cap}
 use Rattle.cap_spec.specs.Denoting.{Denotes, DenoteEach, places}
-use Rattle.cap_spec.specs.Tree.{Tree, null, cap, struct, scalars, pointers, structs, Trees, none, more, tree_at, tree_count}
+use Rattle.cap_spec.specs.Tree.{Tree, Trees, none, more, tree_at, tree_count}
 use Rattle.cap_spec.specs.Canonical.{is_null, children_needed}
-use Rattle.cap_spec.proofs.Following.{one_lead}
-use Rattle.cap_spec.proofs.Messages.{one_word}
-use Rattle.cap_spec.proofs.OneTree.{HasForm, Formed, form_of, formed, cons_parts}
+use Rattle.cap_spec.proofs.OneTree.{cons_parts}
 use Rattle.cap_spec.proofs.Charges.{each_charged, length-places}
 use Rattle.cap_spec.proofs.TrimmedMeasures.{children_needed_le}
 use Rattle.cap_canon.proofs.Needed.{later_needed, later_zero}
-
--- a tree of the form of null is null
-null_form : (t : Tree) → HasForm t 0 → is_null t ≡ true
-null_form null h = refl
-null_form (cap i) h = absurd (omega (arith, h))
-null_form (struct ws ts) h = absurd (omega (arith, h))
-null_form (scalars c vs) h = absurd (omega (arith, h.0))
-null_form (pointers ts) h = absurd (omega (arith, h))
-null_form (structs d p es) h = absurd (omega (arith, h))
-
--- what a word that leads to null denotes is null
-pub null_denoted : (m : List (List ℕ)) (s w : ℕ) (t : Tree) (c d k : ℕ) → Denotes m s w t c d → Leads m s w k to_null → is_null t ≡ true
-null_denoted m s w t c d k h l =
-    let f : Formed m s w t = formed m s w t c d h in
-    let e = one_lead m s w f.k k f.r to_null f.leads l in
-    null_form t (subst (λ r. HasForm t (form_of r)) e.1 f.form)
-
--- and of a word that leads elsewhere isn't
-pub other_denoted : (m : List (List ℕ)) (s w : ℕ) (t : Tree) (c d k : ℕ) (r : Lead) → Denotes m s w t c d → Leads m s w k r → r ≢ to_null → is_null t ≡ false
-other_denoted m s w null c d k r h l ne = absurd (ne (one_lead m s w k c r to_null l h.0).1)
-other_denoted m s w (cap i) c d k r h l ne = refl
-other_denoted m s w (struct ws ts) c d k r h l ne = refl
-other_denoted m s w (scalars e vs) c d k r h l ne = refl
-other_denoted m s w (pointers ts) c d k r h l ne = refl
-other_denoted m s w (structs x y es) c d k r h l ne = refl
-
--- a word that is no far pointer says itself what it leads to
-near_says : (m : List (List ℕ)) (s w p k : ℕ) (r : Lead) → HasWord m s w p → kind p ≢ 2 → Leads m s w k r → Says s w p r
-near_says m s w p k r has far (near x x_has x_far says pads) = subst (λ n. Says s w n r) (one_word m s w x p x_has has) says
-near_says m s w p k r has far (one_pad x q x_has one q_has q_far says pads) = absurd (far (subst (λ n. kind n ≡ 2) (one_word m s w x p x_has has) one.0))
-near_says m s w p k r has far (two_pads x f q x_has two f_has q_has one tag e pads) = absurd (far (subst (λ n. kind n ≡ 2) (one_word m s w x p x_has has) two.0))
-
--- so that it denotes null where it is zero
-pub near_null : (m : List (List ℕ)) (s w : ℕ) (t : Tree) (c d p : ℕ) → Denotes m s w t c d → HasWord m s w p → kind p ≢ 2 → (p == 0) ≡ is_null t
-near_null m s w null c d p h has far =
-    let e : p ≡ 0 = near_says m s w p c to_null has far h.0 in rw e refl
-near_null m s w (cap i) c d p h has far =
-    let e : kind p ≡ 3 = (near_says m s w p c (to_cap i) has far h.0).0.0 in
-    ne_eqb p 0 (λ z. absurd (omega (arith, sym e ∙ ap kind z)))
-near_null m s w (struct ws ts) c d p h has far = ne_eqb p 0 (near_says m s w p h.0 _ has far h.6.finds.leads).1
-near_null m s w (scalars e vs) c d p h has far = ne_eqb p 0 (near_says m s w p h.0 _ has far h.4.finds.leads).1
-near_null m s w (pointers ts) c d p h has far = ne_eqb p 0 (near_says m s w p h.0 _ has far h.6.finds.leads).1
-near_null m s w (structs x y es) c d p h has far = ne_eqb p 0 (near_says m s w p h.0 _ has far h.7.finds.leads).1
 
 -- the first of several words in a row, and the others
 pub record Row (m : List (List ℕ)) (t b n : ℕ) (x : Tree) (xs : Trees) (c d : ℕ) : Type 0 where

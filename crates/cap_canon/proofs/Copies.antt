@@ -1,5 +1,5 @@
 -- The one canonical copy of an accepted message.
-use Rattle.std.proofs.Common.{ℕ, ◌+◌, ◌<◌, ◌≤◌, ◌^◌, List, [], ◌∷◌, ◌≡◌, ◌≢◌, ◌↔◌, ap, refl, sym, subst, ◌∙◌, arith, length, true, false, None}
+use Rattle.std.proofs.Common.{ℕ, ◌+◌, ◌<◌, ◌≤◌, ◌^◌, List, ◌≡◌, ◌≢◌, ap, refl, sym, subst, ◌∙◌, arith, length, true, false, None}
 use Rattle.std.proofs.lemmas.Bool.{eqb-true, false≢true}
 use Rattle.cap_spec.specs.Tree.{Tree, cap_count, has_cap}
 use Rattle.cap_spec.specs.Denoting.{Denotes}
@@ -13,8 +13,7 @@ use Rattle.cap_vet.specs.declared.report.Report.{Report}
 use Rattle.std.proofs.Common.{Result, Err}
 use Rattle.cap_canon.specs.declared.fault.CanonFault.{CanonFault}
 use Rattle.cap_spec.specs.Copies.{HasCopy, IsCanonical}
-use Rattle.cap_spec.specs.Messages.{segment_of}
-use Rattle.std.specs.Prelude.{IsTrue, ◌==◌}
+use Rattle.std.specs.Prelude.{◌==◌}
 
 -- a message with a capability has no copy
 pub cap_no_copy : (m : List (List ℕ)) (s w : ℕ) (words : List ℕ) → IsFirstCap m s w → HasCopy m words → ⊥
@@ -60,38 +59,11 @@ few_charged m r t u c d k h =
 pub copy_of : (m : List (List ℕ)) (words made : List ℕ) → HasCopy m words → ((t : Tree) (c d : ℕ) → Denotes m 0 0 t c d → made ≡ layout (trim t)) → HasCopy m made
 copy_of m words made k f = record { tree = k.tree; charge = k.charge; depth = k.depth; denotes = k.denotes; no_caps = k.no_caps; laid = f k.tree k.charge k.depth k.denotes }
 
--- a message of one segment is its words
-one_segment : (m : List (List ℕ)) → length m ≡ 1 → m ≡ segment_of m 0 ∷ []
-one_segment [] e = absurd (omega (arith, e))
-one_segment (x ∷ []) e = refl
-one_segment (x ∷ y ∷ xs) e = absurd (omega (arith, e))
-
--- without capabilities, a message of one segment is its own copy exactly where its words are the layout
-pub checked : (m : List (List ℕ)) (r : Report) (t : Tree) (b : _) → IsReport m 268435456 256 r t → r.caps ≡ 0 → length m ≡ 1 → (IsTrue b ↔ (segment_of m 0 ≡ layout (trim t))) → IsTrue b ↔ IsCanonical m
-checked m r t b k none one d = (to, from)
-  where
-    no : cap_count t ≡ 0
-    no = omega (arith, k.caps, none)
-
-    no_caps : has_cap t ≡ false
-    no_caps = rw no refl
-
-    to : IsTrue b → IsCanonical m
-    to h = (segment_of m 0, record { tree = t; charge = r.charge; depth = r.depth; denotes = k.denotes; no_caps = no_caps; laid = d.0 h }, one_segment m one)
-
-    from : IsCanonical m → IsTrue b
-    from (words, h, e) =
-        let same = one_tree m 0 0 h.tree t h.charge h.depth r.charge r.depth h.denotes k.denotes in
-        d.1 (ap (λ (x : List (List ℕ)). segment_of x 0) e ∙ (h.laid ∙ ap (λ x. layout (trim x)) same.part))
-
--- and with one, or with more segments, it isn't
+-- a message with a capability is not its own copy
 pub not_with_caps : (m : List (List ℕ)) (r : Report) (t : Tree) → IsReport m 268435456 256 r t → r.caps ≢ 0 → IsCanonical m → ⊥
 not_with_caps m r t k some (words, h, e) =
     let same = one_tree m 0 0 h.tree t h.charge h.depth r.charge r.depth h.denotes k.denotes in
     bool_cases (cap_count t == 0) (λ z. some (k.caps ∙ eqb-true (cap_count t) 0 z)) (λ z. false≢true (sym h.no_caps ∙ (ap has_cap same.part ∙ rw z refl)))
-
-pub not_with_segments : (m : List (List ℕ)) → length m ≢ 1 → IsCanonical m → ⊥
-not_with_segments m more (words, h, e) = more (ap length e)
 
 -- equal faults, whatever the answers would be
 pub err_parts : (f f' : CanonFault) → ◌≡◌ {A = Result ℕ CanonFault} (Err f) (Err f') → f ≡ f'

@@ -142,22 +142,6 @@ enough_children m s start at ds ps count i most es c d e k h =
     let l : children_of r.0 ≤ ps = children_within m s at ds ps (count - i) r.0 r.1 r.2 r.3 in
     omega (arith, e, l, r.4)
 
-pub all_children : (m : List (List ℕ)) (s start at ds ps count i most : ℕ) (es : Trees) (c d : ℕ) → count ≤ i → ChildrenSeen m s start at ds ps count i most
-    → AreElements m s start ds ps count es c d → most ≡ children_of es
-all_children m s start at ds ps count i most es c d ge k h = go r.0 r.1 r.2 r.3 r.4
-  where
-    r : (fs : Trees) × (c' d' : ℕ) × AreElements m s at ds ps (count - i) fs c' d' × (max most (children_of fs) ≡ children_of es)
-    r = k.rest es c d h
-
-    go : (fs : Trees) (c' d' : ℕ) → AreElements m s at ds ps (count - i) fs c' d' → max most (children_of fs) ≡ children_of es → most ≡ children_of es
-    go none c' d' f e = omega (arith, e)
-    go (more (struct ws ts) fs) c' d' f e = let p = element_parts m s at ds ps (count - i) ws ts fs c' d' f in absurd (omega (arith, p.many, ge))
-    go (more null fs) c' d' f e = absurd f
-    go (more (cap x) fs) c' d' f e = absurd f
-    go (more (scalars x vs) fs) c' d' f e = absurd f
-    go (more (pointers ts) fs) c' d' f e = absurd f
-    go (more (structs x y ts) fs) c' d' f e = absurd f
-
 -- the children of a row, trimmed
 pub row_left : (m : List (List ℕ)) (t b n deep : ℕ) (ts : Trees) (c d : ℕ) → DenoteEach m (places t b n) ts c d → d ≤ deep → AreLeft m deep t b (trim_all ts)
 row_left m t b n deep none c d h le = tt

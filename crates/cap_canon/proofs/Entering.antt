@@ -77,16 +77,6 @@ none_owed m deeper depth n t b a ds ps d p (more (scalars c vs) es) e h = absurd
 none_owed m deeper depth n t b a ds ps d p (more (pointers ts) es) e h = absurd h
 none_owed m deeper depth n t b a ds ps d p (more (structs y z ts) es) e h = absurd h
 
--- The objects, one kind after the other.
-pub null_owed : (m : List (List ℕ)) (depth n end : ℕ) (u : Tree) → u ≡ null → AreOwed m depth n [] (below end u)
-null_owed m depth n end u e = subst (λ x. AreOwed m depth n [] (below end x)) (sym e) tt
-
-pub cap_owed : (m : List (List ℕ)) (depth n end i : ℕ) (u : Tree) → u ≡ cap i → AreOwed m depth n [] (below end u)
-cap_owed m depth n end i u e = subst (λ x. AreOwed m depth n [] (below end x)) (sym e) tt
-
-pub scalars_owed : (m : List (List ℕ)) (depth n end s w t b c count words : ℕ) (u : Tree) → IsScalarsObject m s w u t b c count words → AreOwed m depth n [] (below end u)
-scalars_owed m depth n end s w t b c count words u k = subst (λ x. AreOwed m depth n [] (below end x)) (sym k.tree) tt
-
 -- the data words that are left of a struct are as many as told
 kept_words : (m : List (List ℕ)) (deeper s w t b ds ps d p : ℕ) (u : Tree) → (k : IsStructObject m deeper s w u t b ds ps d p) → length k.words ≡ d
 kept_words m deeper s w t b ds ps d p u k = ap length k.data_words ∙ range_length m t b d (omega (arith, k.inside, k.fewer.0))
@@ -119,26 +109,8 @@ structs_owed m deeper depth n end s w t b count ds ps d p skip others u k le som
     subst (λ x. AreOwed m depth n (places_of record { segment = t; at = b + 1 + ds; slot = end + 1 + d; left = p; more = others; skip = skip; gap = d; pointers = p }) (below end x)) (sym k.tree)
     (elements_owed m deeper depth n t (b + 1) (end + 1) skip ds ps d p others k.elements le (omega (arith, f, k.fewer.1)) (omega (arith, k.many, some, e)) k.below)
 
--- how many words each has of its own
-pub null_own : (u : Tree) → u ≡ null → 0 ≡ own_size u
-null_own u e = sym (ap own_size e)
-
-pub cap_own : (i : ℕ) (u : Tree) → u ≡ cap i → 0 ≡ own_size u
-cap_own i u e = sym (ap own_size e)
-
 pub scalars_own : (m : List (List ℕ)) (s w t b c count words : ℕ) (u : Tree) → IsScalarsObject m s w u t b c count words → words ≡ own_size u
 scalars_own m s w t b c count words u k = k.extent ∙ (ap (list_words c) (sym (length-map-range_with_len (value_at (segment_of m t) b (element_bits c)) 0 count)) ∙ sym (ap own_size k.tree))
-
-pub struct_own : (m : List (List ℕ)) (deeper s w t b ds ps d p : ℕ) (u : Tree) → IsStructObject m deeper s w u t b ds ps d p → d + p ≡ own_size u
-struct_own m deeper s w t b ds ps d p u k =
-    let e : own_size u ≡ length k.words + tree_count k.children = ap own_size k.tree in
-    omega (arith, e, kept_words m deeper s w t b ds ps d p u k, k.many)
-
-pub pointers_own : (m : List (List ℕ)) (deeper s w t b count : ℕ) (u : Tree) → IsPointersObject m deeper s w u t b count → count ≡ own_size u
-pointers_own m deeper s w t b count u k = sym k.many ∙ sym (ap own_size k.tree)
-
-pub structs_own : (m : List (List ℕ)) (deeper s w t b count ds ps d p : ℕ) (u : Tree) → IsStructsObject m deeper s w u t b count ds ps d p → 1 + count * (d + p) ≡ own_size u
-structs_own m deeper s w t b count ds ps d p u k = ap (λ n. 1 + n * (d + p)) (sym k.many) ∙ sym (ap own_size k.tree)
 
 -- a segment's places are numbers of 32 bits
 pub short_segment : (m : List (List ℕ)) (t : ℕ) → IsMessage m → t < length m → length (segment_of m t) < 2 ^ 32

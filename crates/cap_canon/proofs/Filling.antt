@@ -1,5 +1,5 @@
 -- An object's own words, appended to a copy.
-use Rattle.std.proofs.Common.{ℕ, zero, suc, ◌+◌, ◌-◌, ◌*◌, ◌<◌, ◌≤◌, List, [], ◌∷◌, ◌++◌, ◌≡◌, ◌⊎◌, inl, inr, ap, refl, sym, subst, ◌∙◌, arith, length, get_or, append_assoc, append-nil, length-append}
+use Rattle.std.proofs.Common.{ℕ, zero, suc, ◌+◌, ◌-◌, ◌*◌, ◌<◌, ◌≤◌, List, [], ◌∷◌, ◌++◌, ◌≡◌, ◌⊎◌, inl, inr, ap, refl, sym, subst, ◌∙◌, arith, length, get_or, append_assoc, length-append}
 use Rattle.std.specs.Prelude.{Some, slice_get}
 use Rattle.std.proofs.lemmas.List.{get_or_append_left, get_or-append_right}
 use Rattle.std.proofs.lemmas.Option.{slice_get_within}
@@ -85,10 +85,6 @@ elements_fill m whole deep t b c ds ps d p (more (cap i) es) hd hp h a at k lt =
 elements_fill m whole deep t b c ds ps d p (more (scalars x vs) es) hd hp h a at k lt = absurd a
 elements_fill m whole deep t b c ds ps d p (more (pointers ts) es) hd hp h a at k lt = absurd a
 elements_fill m whole deep t b c ds ps d p (more (structs x y ts) es) hd hp h a at k lt = absurd a
-
--- nothing
-pub none_appended : (old : List ℕ) (u : Tree) → own_size u ≡ 0 → OwnAppended old old u
-none_appended old u e = record { words = []; appended = sym (append-nil old); many = sym e; fill = λ whole own k lt. absurd (omega (arith, lt)) }
 
 -- what is left of a struct
 pub struct_appended : (m : List (List ℕ)) (deep s w : ℕ) (u : Tree) (t b ds ps d p : ℕ) (old new : List ℕ) → IsStructObject m deep s w u t b ds ps d p

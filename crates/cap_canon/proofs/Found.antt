@@ -2,17 +2,16 @@
 use Rattle.std.proofs.Common.{ℕ, ◌+◌, ◌*◌, ◌<◌, ◌≤◌, List, ◌≡◌, max, ap, refl, sym, subst, ◌∙◌, arith, take}
 use Rattle.cap_spec.specs.Messages.{HasWord}
 use Rattle.cap_spec.specs.Pointers.{kind, middle, code, data_size, pointer_size, list_size, list_words}
-use Rattle.cap_spec.specs.Following.{Leads, to_null, to_cap, TagFits}
+use Rattle.cap_spec.specs.Following.{TagFits}
 use Rattle.cap_spec.specs.Denoting.{Denotes, DenoteEach, AreElements, places, values_of, words_from}
 use Rattle.cap_spec.specs.Tree.{Tree, null, cap, struct, scalars, pointers, structs, Trees}
 use Rattle.cap_spec.specs.Canonical.{data_needed, children_needed, take_trees, data_of, children_of, cut_elements, trim, trim_all, trim_elements}
 use Rattle.cap_spec.proofs.Arrivals.{found_form}
 use Rattle.cap_spec.proofs.Charges.{extent_struct, extent_pointers, extent_structs}
 use Rattle.cap_spec.proofs.Finding.{SameObject, one_object}
-use Rattle.cap_spec.proofs.Following.{one_lead}
 use Rattle.cap_spec.proofs.Measures.{extent_scalars}
 use Rattle.cap_spec.proofs.Messages.{one_word}
-use Rattle.cap_spec.proofs.OneTree.{HasForm, Formed, form_of, formed, number_struct, number_list}
+use Rattle.cap_spec.proofs.OneTree.{HasForm, number_struct, number_list}
 use Rattle.cap_spec.proofs.Depths.{elements_depth}
 use Rattle.cap_spec.proofs.TrimmedMeasures.{children_needed_le, tree_count-take_le}
 use Rattle.cap_ptr.specs.Shapes.{FindsObject}
@@ -24,39 +23,6 @@ use Rattle.cap_canon.specs.declared.objects.Object.TheVariants as object
 use Rattle.cap_canon.proofs.Children.{row_count}
 use Rattle.cap_canon.proofs.Elements.{elements_left, left_take, most_data_of, row_left, trim_all_count, words_left}
 use Rattle.cap_canon.proofs.Trimmed.{children_needed-trim, children_of-trim, data_of-trim, tree_count-cut, tree_count-trim_elements}
-
--- null and a capability
-pub null_object : (m : List (List ℕ)) (s w : ℕ) (x : Tree) (c d k : ℕ) → Denotes m s w x c d → Leads m s w k to_null → IsObject m d s w (trim x) object.Null
-null_object m s w x c d k h l = go x form
-  where
-    form : HasForm x 0
-    form =
-        let f : Formed m s w x = formed m s w x c d h in
-        subst (λ r. HasForm x (form_of r)) (one_lead m s w f.k k f.r to_null f.leads l).1 f.form
-
-    go : (x : Tree) → HasForm x 0 → trim x ≡ null
-    go null g = refl
-    go (cap i) g = absurd (omega (arith, g))
-    go (struct ws ts) g = absurd (omega (arith, g))
-    go (scalars e vs) g = absurd (omega (arith, g.0))
-    go (pointers ts) g = absurd (omega (arith, g))
-    go (structs y z es) g = absurd (omega (arith, g))
-
-pub cap_object : (m : List (List ℕ)) (s w : ℕ) (x : Tree) (c d k i : ℕ) → Denotes m s w x c d → Leads m s w k (to_cap i) → IsObject m d s w (trim x) (object.Cap i)
-cap_object m s w x c d k i h l = go x form h
-  where
-    form : HasForm x 1
-    form =
-        let f : Formed m s w x = formed m s w x c d h in
-        subst (λ r. HasForm x (form_of r)) (one_lead m s w f.k k f.r (to_cap i) f.leads l).1 f.form
-
-    go : (x : Tree) → HasForm x 1 → Denotes m s w x c d → trim x ≡ cap i
-    go null g h = absurd (omega (arith, g))
-    go (cap j) g h = let e : to_cap j ≡ to_cap i = (one_lead m s w c k (to_cap j) (to_cap i) h.0 l).1 in cc
-    go (struct ws ts) g h = absurd (omega (arith, g))
-    go (scalars e vs) g h = absurd (omega (arith, g.0))
-    go (pointers ts) g h = absurd (omega (arith, g))
-    go (structs y z es) g h = absurd (omega (arith, g))
 
 -- a struct
 pub struct_found : (m : List (List ℕ)) (s w : ℕ) (x : Tree) (c d k t b q tag n charge ds ps : ℕ) → Denotes m s w x c d → FindsObject m s w k t b q tag n charge (shape.Struct ds ps)

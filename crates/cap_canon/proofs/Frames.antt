@@ -50,11 +50,6 @@ next_short s b a n (suc more) skip gap p e h g k =
     let j : AreShort ((row_places s (b + 1 + skip) (a + 1 + gap) p ++ further_places s (b + 1 + skip + p) (a + 1 + gap + p) skip gap p more)) = l.1 in
     first_short s (b + 1 + skip) (a + 1 + gap) p (further_places s (b + 1 + skip + p) (a + 1 + gap + p) skip gap p more) g j
 
--- how many words there are in a row, and of elements
-pub length-row_places : (t b a n : ℕ) → length (row_places t b a n) ≡ n
-length-row_places t b a zero = refl
-length-row_places t b a (suc n) = ap suc (length-row_places t (b + 1) (a + 1) n)
-
 -- the words of frames, one of which is the last
 pub all_places-append : (xs ys : List Frame) → all_places (xs ++ ys) ≡ all_places xs ++ all_places ys
 all_places-append [] ys = refl

@@ -178,9 +178,6 @@ pointers_laid words end slot ts due f = (to, from)
 same_end : (words : List ℕ) (end n : ℕ) (due : List Due) → n ≡ 0 → Laid words (end + n) due → Laid words end due
 same_end words end n due e l = let i : end + n ≡ end = omega (arith, e) in subst (λ x. Laid words x due) i l
 
-end_same : (words : List ℕ) (end n : ℕ) (due : List Due) → n ≡ 0 → Laid words end due → Laid words (end + n) due
-end_same words end n due e l = let i : end ≡ end + n = omega (arith, e) in subst (λ x. Laid words x due) i l
-
 sum_back : (end a b : ℕ) → end + (a + b) ≡ end + a + b
 sum_back end a b = omega arith
 

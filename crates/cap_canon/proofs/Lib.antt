@@ -16,7 +16,6 @@ mod Lengths
 mod Needed
 mod Owing
 mod Ranges
-mod Repacked
 mod Standing
 mod Structs
 mod Trimmed

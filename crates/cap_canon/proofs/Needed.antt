@@ -97,23 +97,6 @@ pub record ElementsSeen (m : List (List ℕ)) (s start at ds ps count i most : �
   pub within : most ≤ ds
   pub rest : max most (most_data m s at ds ps (count - i)) ≡ most_data m s start ds ps count
 
-pub none_seen : (m : List (List ℕ)) (s start ds ps count : ℕ) → ElementsSeen m s start start ds ps count 0 0
-none_seen m s start ds ps count =
-    let e : count - 0 ≡ count = omega arith in record {
-      place = omega arith;
-      within = omega arith;
-      rest = rw e (omega arith);
-    }
-
--- the element at hand lies inside
-pub element_inside : (m : List (List ℕ)) (s start at ds ps count i most : ℕ) → i < count → start + count * (ds + ps) ≤ length (segment_of m s) → ElementsSeen m s start at ds ps count i most
-    → at + (ds + ps) ≤ length (segment_of m s)
-element_inside m s start at ds ps count i most lt h k =
-    let n : (count - i - 1) + i + 1 ≡ count = omega (arith, lt) in
-    let e : ((count - i - 1) + i + 1) * (ds + ps) ≡ (count - i - 1) * (ds + ps) + i * (ds + ps) + (ds + ps) = omega arith in
-    let f : count * (ds + ps) ≡ (count - i - 1) * (ds + ps) + i * (ds + ps) + (ds + ps) = rw n at e in
-    omega (arith, k.place, f, h)
-
 pub element_seen : (m : List (List ℕ)) (s start at ds ps count i most now : ℕ) → i < count → now ≡ max most (data_needed (words_from m s at ds)) → now ≤ ds
     → ElementsSeen m s start at ds ps count i most → ElementsSeen m s start (at + (ds + ps)) ds ps count (i + 1) now
 element_seen m s start at ds ps count i most now lt e w k =
@@ -130,9 +113,3 @@ pub enough_seen : (m : List (List ℕ)) (s start at ds ps count i most : ℕ) �
 enough_seen m s start at ds ps count i most lt h e k =
     let a : most_data m s start ds ps count ≤ ds = most_within m s start ds ps count h in
     omega (arith, e, k.rest, a)
-
-pub all_seen : (m : List (List ℕ)) (s start at ds ps count i most : ℕ) → count ≤ i → ElementsSeen m s start at ds ps count i most → most ≡ most_data m s start ds ps count
-all_seen m s start at ds ps count i most ge k =
-    let n : count - i ≡ 0 = omega (arith, ge) in
-    let r : max most (most_data m s at ds ps 0) ≡ most_data m s start ds ps count = rw n at k.rest in
-    omega (arith, r)

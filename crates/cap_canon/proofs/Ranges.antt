@@ -1,5 +1,5 @@
 -- The words of ranges and of lists of values, as a copy appends them.
-use Rattle.std.proofs.Common.{ℕ, zero, suc, ◌+◌, ◌-◌, ◌*◌, ◌<◌, ◌≤◌, List, [], ◌∷◌, ◌++◌, ◌≡◌, ◌⊎◌, inl, inr, ap, ap₂, refl, sym, subst, ◌∙◌, arith, length, take, drop, get_or, length-append}
+use Rattle.std.proofs.Common.{ℕ, zero, suc, ◌+◌, ◌-◌, ◌*◌, ◌<◌, ◌≤◌, List, [], ◌∷◌, ◌++◌, ◌≡◌, ◌⊎◌, inl, inr, ap, ap₂, sym, subst, ◌∙◌, arith, length, take, drop, get_or, length-append}
 use Rattle.std.specs.List.{AllByRecursion}
 use Rattle.std.proofs.Math.Seq.{take-add}
 use Rattle.std.proofs.lemmas.List.{drop-drop, same_lists, get_or-take, get_or-drop, get_or_append_left, get_or-append_right, get_or_default}
@@ -87,14 +87,6 @@ used_all (suc (suc (suc (suc (suc (suc c)))))) n k lt h = absurd (omega (arith, 
 
 whole_field : (x : ℕ) → IsWord x → field x 0 64 ≡ x
 whole_field x h = omega (arith, h)
-
--- no words
-pub no_values : (m : List (List ℕ)) (t b c n : ℕ) → list_words c n ≡ 0 → scalar_words c (values_of m t b c n) ≡ []
-no_values m t b c n e = none (scalar_words c (values_of m t b c n)) (length-scalar_words c (values_of m t b c n) ∙ (ap (list_words c) (length-map-range_with_len (value_at (segment_of m t) b (element_bits c)) 0 n) ∙ e))
-  where
-    none : (xs : List ℕ) → length xs ≡ 0 → xs ≡ []
-    none [] e = refl
-    none (x ∷ xs) e = absurd (omega (arith, e))
 
 -- the words of a list of values: those that it is read from, the last one without the bits behind the last value
 pub values_laid : (m : List (List ℕ)) (t b c n before x : ℕ) → c < 6 → list_words c n ≡ before + 1 → b + before < length (segment_of m t)

@@ -23,7 +23,7 @@ use Rattle.cap_canon.specs.Objects.{AreElementsLeft, IsStructObject, IsScalarsOb
 use Rattle.cap_canon.specs.Values.{used_bits}
 use Rattle.cap_canon.proofs.Filling.{scalars_size}
 use Rattle.cap_canon.proofs.InPlace.{near_start}
-use Rattle.cap_canon.proofs.Ranges.{no_values, range_more, range_stands, values_laid}
+use Rattle.cap_canon.proofs.Ranges.{range_more, range_stands, values_laid}
 
 -- the words of a range that were read are words
 pub range_words : (m : List (List ℕ)) (t b n : ℕ) → ((k : ℕ) → k < n → (x : ℕ) × HasWord m t (b + k) x × IsWord x) → AllByRecursion IsWord (words_from m t b n)
@@ -52,10 +52,6 @@ stand_values m t b c n before x lt e inside words last st =
     let l : length (words_from m t b before) ≡ before = range_length m t b before (omega (arith, inside)) in
     let back : StandAt (segment_of m t) (b + before) (field x 0 (used_bits c n before) ∷ []) = stand_back (segment_of m t) b (b + before) (words_from m t b before) (field x 0 (used_bits c n before) ∷ []) (omega (arith, l)) there in
     one_word m t (b + before) x (field x 0 (used_bits c n before)) last back.0
-
--- no values in no words
-pub stand_none : (m : List (List ℕ)) (t b c n : ℕ) → list_words c n ≡ 0 → b ≤ length (segment_of m t) → StandAt (segment_of m t) b (scalar_words c (values_of m t b c n))
-stand_none m t b c n e h = subst (λ xs. StandAt (segment_of m t) b xs) (sym (no_values m t b c n e)) h
 
 -- where a list stands whose pointer is the one that a copy has
 pub record ListPlace (m : List (List ℕ)) (t b q c n end : ℕ) : Type 0 where

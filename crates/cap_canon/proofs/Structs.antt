@@ -1,5 +1,5 @@
 -- Structs in a row, appended to a copy one after the other.
-use Rattle.std.proofs.Common.{ℕ, suc, ◌+◌, ◌-◌, ◌*◌, ◌<◌, ◌≤◌, List, ◌++◌, ◌≡◌, ap, sym, subst, ◌∙◌, arith, length, append_assoc, append-nil, length-append}
+use Rattle.std.proofs.Common.{ℕ, suc, ◌+◌, ◌-◌, ◌*◌, ◌<◌, ◌≤◌, List, ◌++◌, ◌≡◌, ap, sym, subst, ◌∙◌, arith, length, append_assoc, length-append}
 use Rattle.cap_spec.specs.Messages.{segment_of}
 use Rattle.cap_spec.specs.Denoting.{words_from}
 use Rattle.cap_spec.proofs.Shapes.{range_length}
@@ -11,15 +11,6 @@ pub record StructsSoFar (m : List (List ℕ)) (t start at ds ps d p count i : �
   pub rest : now ++ elements_from m t at ds ps d p (count - i) ≡ old ++ elements_from m t start ds ps d p count
   pub room : length now + (count - i) * (d + p) ≤ space
 
-pub structs_none : (m : List (List ℕ)) (t start ds ps d p count : ℕ) (old : List ℕ) (space : ℕ) → length old + count * (d + p) ≤ space
-    → StructsSoFar m t start start ds ps d p count 0 old old space
-structs_none m t start ds ps d p count old space h =
-    let e : count ≡ count - 0 = omega arith in record {
-      place = omega arith;
-      rest = ap (λ n. old ++ elements_from m t start ds ps d p n) (sym e);
-      room = subst (λ n. length old + n * (d + p) ≤ space) e h;
-    }
-
 -- the next one lies inside
 pub struct_inside : (m : List (List ℕ)) (t start at ds ps d p count i : ℕ) (old now : List ℕ) (space : ℕ) → i < count → start + count * (ds + ps) ≤ length (segment_of m t)
     → StructsSoFar m t start at ds ps d p count i old now space → at + (ds + ps) ≤ length (segment_of m t)
@@ -28,15 +19,6 @@ struct_inside m t start at ds ps d p count i old now space lt h k =
     let e : ((count - i - 1) + i + 1) * (ds + ps) ≡ (count - i - 1) * (ds + ps) + i * (ds + ps) + (ds + ps) = omega arith in
     let f : count * (ds + ps) ≡ (count - i - 1) * (ds + ps) + i * (ds + ps) + (ds + ps) = rw n at e in
     omega (arith, k.place, f, h)
-
--- and there is room for it
-pub struct_room : (m : List (List ℕ)) (t start at ds ps d p count i : ℕ) (old now : List ℕ) (space : ℕ) → i < count
-    → StructsSoFar m t start at ds ps d p count i old now space → length now + (d + p) ≤ space
-struct_room m t start at ds ps d p count i old now space lt k =
-    let n : count - i ≡ suc (count - (i + 1)) = omega (arith, lt) in
-    let e : suc (count - (i + 1)) * (d + p) ≡ (d + p) + (count - (i + 1)) * (d + p) = omega arith in
-    let r : length now + suc (count - (i + 1)) * (d + p) ≤ space = subst (λ x. length now + x * (d + p) ≤ space) n k.room in
-    omega (arith, r, e)
 
 pub structs_more : (m : List (List ℕ)) (t start at ds ps d p count i : ℕ) (old now next : List ℕ) (space more : ℕ) → i < count → d ≤ ds → p ≤ ps
     → at + (ds + ps) ≤ length (segment_of m t) → next ≡ now ++ (words_from m t at d ++ words_from m t (at + ds) p) → space ≤ more
@@ -76,9 +58,3 @@ structs_more m t start at ds ps d p count i old now next space more lt hd hp h e
 
     l : length next ≡ length now + (length (words_from m t at d) + length (words_from m t (at + ds) p))
     l = ap length e ∙ (length-append now own ∙ ap (λ z. length now + z) (length-append (words_from m t at d) (words_from m t (at + ds) p)))
-
-pub structs_all : (m : List (List ℕ)) (t start at ds ps d p count i : ℕ) (old now : List ℕ) (space : ℕ) → count ≤ i → StructsSoFar m t start at ds ps d p count i old now space
-    → now ≡ old ++ elements_from m t start ds ps d p count
-structs_all m t start at ds ps d p count i old now space ge k =
-    let n : 0 ≡ count - i = omega (arith, ge) in
-    sym (append-nil now) ∙ (ap (λ z. now ++ elements_from m t at ds ps d p z) n ∙ k.rest)
