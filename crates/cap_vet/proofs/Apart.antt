@@ -4,13 +4,6 @@ use Rattle.cap_spec.specs.Paths.{Before, number_of}
 use Rattle.cap_spec.specs.declared.Step.{Step}
 use Rattle.cap_vet.specs.Trails.{Apart}
 
--- what goes on from the first comes before what goes on from the second
-pub Before-apart : (p q v w : List Step) → Apart p q → Before (p ++ v) (q ++ w)
-Before-apart [] q v w h = absurd h
-Before-apart (x ∷ xs) [] v w h = absurd h
-Before-apart (x ∷ xs) (y ∷ ys) v w (inl h) = inl h
-Before-apart (x ∷ xs) (y ∷ ys) v w (inr h) = inr (h.0, Before-apart xs ys v w h.1)
-
 -- the first comes before the second
 pub apart-before : (p q : List Step) → Apart p q → Before p q
 apart-before [] q h = absurd h

@@ -1,5 +1,5 @@
 -- What a path arrives at, step by step, and what following the pointers on it costs.
-use Rattle.std.proofs.Common.{ℕ, ◌+◌, ◌-◌, ◌<◌, ◌≤◌, List, [], ◌∷◌, ◌++◌, ◌≡◌, refl, subst, sym, ap, ◌∙◌, arith, inl, inr, length, length-append}
+use Rattle.std.proofs.Common.{ℕ, ◌+◌, ◌-◌, ◌<◌, ◌≤◌, List, [], ◌∷◌, ◌++◌, ◌≡◌, refl, subst, sym, ◌∙◌, arith, length, length-append}
 use Rattle.cap_spec.specs.Arriving.{ArrivesAt}
 use Rattle.cap_spec.specs.Denoting.{element_levels}
 use Rattle.cap_spec.specs.Faults.{AreShallow, IsDeepAt, IsFirstReason}
@@ -140,19 +140,7 @@ fault_longer m words depth done rest path r e f = record {
   pointers = f.pointers;
 }
 
--- What was charged where the whole path arrives somewhere,
-pub charges_there : (m : List (List ℕ)) (words depth : ℕ) (path : List Step) (a : Spot) (at : Arrival) → Arrives m words depth path a at → Charges m words depth path (words - at.spent)
-charges_there m words depth path a at h = record {
-  ways = h.ways;
-  on_path = h.on_path;
-  some = h.some;
-  cost = at.spent;
-  costs = h.costs;
-  shallow = h.shallow;
-  spent = omega (arith, h.within);
-}
-
--- and where a step leads nowhere.
+-- What was charged where a step leads nowhere.
 pub charges_nowhere : (m : List (List ℕ)) (words depth : ℕ) (done rest path : List Step) (step : Step) (a : Spot) (at : Arrival) → done ++ step ∷ rest ≡ path → Arrives m words depth done a at
     → ((b : Spot) → Goes m a step b → ⊥) → Charges m words depth path (words - at.spent)
 charges_nowhere m words depth done rest path step a at e h none = record {

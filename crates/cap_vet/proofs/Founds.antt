@@ -1,7 +1,7 @@
 -- What following a pointer word finds.
-use Rattle.std.proofs.Common.{◌≡◌, ℕ, ◌+◌, ◌<◌, ◌≤◌, List, length, ap, ◌∙◌, sym, refl, subst, arith}
-use Rattle.cap_spec.specs.Messages.{IsMessage, segment_of}
-use Rattle.cap_spec.specs.Pointers.{kind, code, extent, list_words, list_size}
+use Rattle.std.proofs.Common.{ℕ, List, ap, arith}
+use Rattle.cap_spec.specs.Messages.{IsMessage}
+use Rattle.cap_spec.specs.Pointers.{list_words}
 use Rattle.cap_spec.specs.Following.{Leads, to_null, to_cap}
 use Rattle.cap_spec.specs.Paths.{word}
 use Rattle.cap_spec.specs.declared.Kind.TheVariants.{Null, Cap}

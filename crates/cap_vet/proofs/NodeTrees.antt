@@ -1,5 +1,5 @@
 -- At a node of an accepted message stands a tree.
-use Rattle.std.proofs.Common.{◌≡◌, ℕ, ◌+◌, ◌≤◌, List, refl, arith}
+use Rattle.std.proofs.Common.{ℕ, ◌+◌, ◌≤◌, List, refl, arith}
 use Rattle.std.proofs.Math.Logic.{∥∥₁_map}
 use Rattle.cap_spec.specs.Denoting.{places, words_from}
 use Rattle.cap_spec.specs.Paths.{Spot, word, element}

@@ -1,8 +1,7 @@
 -- What nodes of an accepted message keep.
-use Rattle.std.proofs.Common.{◌≡◌, ℕ, ◌+◌, ◌<◌, ◌≤◌, List, [], ◌∷◌, ◌++◌, length, ap, ◌∙◌, sym, refl, subst, arith, Option, None, Some, drop, take}
+use Rattle.std.proofs.Common.{◌≡◌, ℕ, ◌+◌, ◌<◌, List, [], ◌∷◌, ◌++◌, length, sym, refl, subst, Option, None, Some}
 use Rattle.std.proofs.Props.{props}
 use Rattle.std.proofs.Math.Logic.{∥∥₁_elim, ∥∥₁_map}
-use Rattle.std.specs.Prelude.{MatchOption, IfSome, IfNone}
 use Rattle.cap_spec.specs.Messages.{HasWord, segment_of}
 use Rattle.cap_spec.specs.Following.{Wrong}
 use Rattle.cap_spec.specs.Denoting.{Denotes}
@@ -11,13 +10,13 @@ use Rattle.cap_spec.specs.Standing.{DenotesAt}
 use Rattle.cap_spec.specs.Tree.{Tree, node_at, part_at}
 use Rattle.cap_spec.specs.declared.Reason.{Reason}
 use Rattle.cap_spec.specs.declared.Step.{Step}
-use Rattle.cap_spec.proofs.Arrivals.{coming_to_node, lead_word, node_to_coming, part_to_step, step_to_part}
+use Rattle.cap_spec.proofs.Arrivals.{lead_word, node_to_coming, part_to_step, step_to_part}
 use Rattle.cap_spec.proofs.Messages.{HasWord-at, HasWord-inside}
 use Rattle.cap_spec.proofs.OneTree.{formed}
 use Rattle.cap_spec.proofs.OneVerdict.{reached_not_wrong}
-use Rattle.cap_spec.proofs.Walks.{coming_last, one_coming, one_step, one_walk, walk_parts}
+use Rattle.cap_spec.proofs.Walks.{coming_last, one_walk, walk_parts}
 use Rattle.cap_vet.specs.Nodes.{IsNode}
-use Rattle.cap_vet.specs.Reports.{IsReport, IsVetted}
+use Rattle.cap_vet.specs.Reports.{IsVetted}
 use Rattle.cap_vet.specs.declared.report.Report.{Report}
 
 -- the root word of a tree is there

@@ -1,6 +1,5 @@
 -- What stands at a spot is the node of the tree there.
 use Rattle.std.proofs.Common.{◌≡◌, ℕ, ◌+◌, ◌<◌, List, ap, ◌∙◌, sym, refl, subst, arith}
-use Rattle.std.specs.Prelude.{pos}
 use Rattle.cap_spec.specs.Messages.{HasWord}
 use Rattle.cap_spec.specs.Pointers.{kind, code, middle, data_size, pointer_size, list_size}
 use Rattle.cap_spec.specs.Following.{Lead, Leads, to_null, to_cap}
@@ -18,7 +17,7 @@ use Rattle.cap_spec.proofs.Following.{one_lead}
 use Rattle.cap_spec.proofs.Messages.{one_word}
 use Rattle.cap_spec.proofs.OneTree.{HasForm, form_of, formed, number_list, number_struct}
 use Rattle.cap_spec.specs.Arriving.{StandsAs, StandsElement, own_at}
-use Rattle.cap_spec.specs.Showing.{Own, own_of, own_null, own_cap, own_struct, own_scalars, own_pointers, own_structs}
+use Rattle.cap_spec.specs.Showing.{own_of, own_null, own_cap, own_struct, own_scalars, own_pointers, own_structs}
 
 -- a tree has the form of what its word leads to
 lead_form : (m : List (List ℕ)) (s w : ℕ) (x : Tree) (c d k : ℕ) (r : Lead) → Denotes m s w x c d → Leads m s w k r → HasForm x (form_of r)

@@ -1,8 +1,8 @@
 -- What one turn of a walk leaves of its frames.
-use Rattle.std.proofs.Common.{◌≡◌, ℕ, ◌+◌, ◌≤◌, List, [], ◌∷◌, ◌++◌, length, map, reverse, refl, sym, ap, ◌∙◌, subst, arith, Option, None, Some, ◌<◌, ◌^◌, suc}
+use Rattle.std.proofs.Common.{◌≡◌, ℕ, ◌+◌, ◌≤◌, List, [], ◌∷◌, ◌++◌, length, map, reverse, refl, sym, ap, ◌∙◌, subst, arith, Option, None, Some, ◌<◌, suc}
 use Rattle.std.specs.Option.{option_to_list}
 use Rattle.std.specs.List.{AllByRecursion}
-use Rattle.std.proofs.lemmas.List.{append-nil, map-append, reverse-append, length-append, length-map, length-reverse}
+use Rattle.std.proofs.lemmas.List.{append-nil, map-append, reverse-append, length-append, length-map}
 use Rattle.cap_spec.specs.Following.{Leads, extra, to_cap, to_null}
 use Rattle.cap_spec.specs.Pointers.{extent}
 use Rattle.cap_spec.specs.Denoting.{Finds}
@@ -143,13 +143,6 @@ work_falls m words depth s w level frames report l t h =
     ap (λ u. length (all_spots u)) more ∙ ap length spot ∙ length-append (option_spots (frame_below l)) (all_spots (reverse frames)) in
     omega (arith, n, few.0, few.1)
 
--- what is added to a report fits its numbers
-pub added_fits : (m : List (List ℕ)) (words depth s w level : ℕ) (frames : List Frame) (report : Report) (l : Looked) → words ≤ 268435456 → IsNext m words depth s w level frames report
-    → IsLooked m words depth report.charge s w level l → ((added report s w l).charge < 2 ^ 64) × ((added report s w l).pointers < 2 ^ 64) × ((added report s w l).caps < 2 ^ 64)
-added_fits m words depth s w level frames report (looked.Null cost) few t (h, within) = (omega arith, omega (arith, t.progress.bound, t.progress.within), omega (arith, t.progress.few, t.progress.bound, t.progress.within))
-added_fits m words depth s w level frames report (looked.Cap cost) few t (h, within) = (omega arith, omega (arith, t.progress.bound, t.progress.within), omega (arith, t.progress.few, t.progress.bound, t.progress.within))
-added_fits m words depth s w level frames report (looked.Object cost deep below) few t (k, u, b, q, tag, o) = (omega (arith, o.within), omega (arith, t.progress.bound, t.progress.within), omega (arith, t.progress.few, t.progress.bound, t.progress.within))
-
 -- and a word that is taken from its frame was some of it
 pub work_rest : (words : ℕ) (frames : List Frame) (f : Frame) (r : Option Frame) (report : Report) → IsRest f r → work_next words (frames ++ option_to_list r) report ≡ work_left words (frames ++ f ∷ []) report
 work_rest words frames f r report rest =
@@ -161,22 +154,3 @@ work_rest words frames f r report rest =
 pub work_smaller : (words : ℕ) (frames left : List Frame) (f : Frame) (r : Option Frame) (report after : Report) → IsRest f r → work_left words left after < work_next words (frames ++ option_to_list r) report
     → work_left words left after < work_left words (frames ++ f ∷ []) report
 work_smaller words frames left f r report after rest h = omega (arith, h, work_rest words frames f r report rest)
-
--- the stack has room for what is ahead of a word
-pub next_fits : (room : ℕ) (m : List (List ℕ)) (words depth s w level : ℕ) (frames : List Frame) (report : Report) → depth ≤ room → IsNext m words depth s w level frames report → length frames ≤ room
-next_fits room m words depth s w level frames report shallow t = omega (arith, length-reverse frames, t.high, t.low)
-
--- the stack has room for what is below a word
-pub stack_fits : (room : ℕ) (m : List (List ℕ)) (words depth s w level : ℕ) (frames : List Frame) (report : Report) (l : Looked) → depth ≤ room → IsNext m words depth s w level frames report
-    → IsLooked m words depth report.charge s w level l → length (frames ++ option_to_list (frame_below l)) ≤ room
-stack_fits room m words depth s w level frames report l shallow t h =
-    let a = length-append frames (option_to_list (frame_below l)) in
-    let b = length-reverse frames in
-    below l h a b
-  where
-    below : (l : Looked) → IsLooked m words depth report.charge s w level l → length (frames ++ option_to_list (frame_below l)) ≡ length frames + length (option_to_list (frame_below l)) → length (reverse frames) ≡ length frames
-        → length (frames ++ option_to_list (frame_below l)) ≤ room
-    below (looked.Null cost) h a b = omega (arith, a, b, t.high, t.low)
-    below (looked.Cap cost) h a b = omega (arith, a, b, t.high, t.low)
-    below (looked.Object cost deep None) h a b = omega (arith, a, b, t.high, t.low)
-    below (looked.Object cost deep (Some f)) (k, u, b', q, tag, o) a b = omega (arith, a, b, t.high, t.low, o.rises.0, o.rises.1)

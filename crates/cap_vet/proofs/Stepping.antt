@@ -1,10 +1,8 @@
 -- Where steps lead from what was found at a spot.
-use Rattle.std.proofs.Common.{◌≡◌, ℕ, ◌+◌, ◌*◌, ◌<◌, ◌≤◌, inl, inr, List, length, ap, ◌∙◌, sym, refl, subst, arith}
+use Rattle.std.proofs.Common.{◌≡◌, ℕ, ◌+◌, ◌*◌, ◌<◌, ◌≤◌, inl, inr, List, length, ap, ◌∙◌, refl, subst, arith}
 use Rattle.std.proofs.Math.Nat.{mul-le-mul_right}
-use Rattle.cap_spec.specs.Messages.{HasWord, IsMessage, segment_of}
-use Rattle.cap_spec.specs.Pointers.{kind, code, middle, data_size, pointer_size, list_size, extent}
-use Rattle.cap_spec.specs.Following.{TagFits}
-use Rattle.cap_spec.specs.Denoting.{Finds}
+use Rattle.cap_spec.specs.Messages.{segment_of}
+use Rattle.cap_spec.specs.Pointers.{kind, code, middle, data_size, pointer_size, list_size}
 use Rattle.cap_spec.specs.Paths.{Goes, Spot, word, element}
 use Rattle.cap_spec.specs.declared.Kind.{Kind}
 use Rattle.cap_spec.specs.declared.Kind.TheVariants.{Null, Cap, Struct, Scalars, Pointers, Structs}

@@ -5,7 +5,7 @@ use Rattle.cap_spec.specs.Pointers.{list_words}
 use Rattle.cap_spec.specs.Arriving.{StandsAs}
 use Rattle.cap_spec.specs.Paths.{Spot}
 use Rattle.cap_spec.specs.declared.Kind.{Kind}
-use Rattle.cap_spec.specs.declared.Kind.TheVariants.{Null, Cap, Struct, Scalars, Pointers, Structs}
+use Rattle.cap_spec.specs.declared.Kind.TheVariants.{Struct, Scalars, Pointers, Structs}
 use Rattle.cap_ptr.specs.declared.shapes.Shape.{Shape}
 use Rattle.cap_ptr.specs.declared.shapes.Shape.TheVariants as shape
 use Rattle.cap_vet.specs.declared.found.Found.{Found}

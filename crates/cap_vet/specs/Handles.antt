@@ -1,5 +1,5 @@
 -- What nodes and views are of (profile).
-use Rattle.std.specs.Prelude.{ℕ, List, Option, None, Some}
+use Rattle.std.specs.Prelude.{Option, None, Some}
 use Rattle.cap_frame.specs.declared.segments.Segments as segments
 use Rattle.cap_spec.specs.Arriving.{own_at}
 use Rattle.cap_spec.specs.Paths.{Spot}

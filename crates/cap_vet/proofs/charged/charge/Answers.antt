@@ -1,4 +1,4 @@
-use Rattle.std.proofs.Common.{arith, rules, inl, inr, ◌≤◌, ◌<◌, ◌+◌, ◌-◌}
+use Rattle.std.proofs.Common.{arith, rules, inl, inr, ◌≤◌}
 use Rattle.cap_spec.specs.Messages.{IsMessage}
 use Rattle.cap_vet.proofs.Looks.{deep_object, past_cap, past_null, past_object}
 use Rattle.cap_vet.proofs.charged.charge.Goals as goal

@@ -1,4 +1,4 @@
-use Rattle.std.proofs.Common.{◌≡◌, ◌++◌, ◌∷◌, ◌<◌, ◌≤◌, ◌∙◌, [], List, length, take, drop, get_or, subst, suc, sym, arith, inr, append_assoc}
+use Rattle.std.proofs.Common.{◌≡◌, ◌++◌, ◌∷◌, ◌<◌, ◌∙◌, [], length, take, drop, get_or, subst, suc, sym, arith, inr, append_assoc}
 use Rattle.std.proofs.Math.Seq.{split_at}
 use Rattle.std.proofs.lemmas.List.{take_all, take_more}
 use Rattle.cap_spec.specs.Paths.{Comes}

@@ -1,7 +1,6 @@
-use Rattle.std.proofs.Common.{◌+◌, ◌<◌, ◌≡◌, ◌≤◌, ◌∙◌, ap, length, refl}
+use Rattle.std.proofs.Common.{◌+◌, ◌≡◌, ◌∙◌, ap, refl}
 use Rattle.cap_spec.specs.Denoting.{element_levels}
-use Rattle.cap_spec.specs.Messages.{segment_of}
-use Rattle.cap_spec.specs.Paths.{Goes, word, element}
+use Rattle.cap_spec.specs.Paths.{word, element}
 use Rattle.cap_vet.proofs.Charging.{arrives_element}
 use Rattle.cap_vet.proofs.charged.Arrival.step.Goals as goal
 

@@ -1,4 +1,4 @@
-use Rattle.std.proofs.Common.{arith, ◌≤◌, ◌<◌, ◌+◌}
+use Rattle.std.proofs.Common.{arith}
 use Rattle.cap_vet.proofs.Stepping.{element_inside, element_past, entry_goes, entry_past}
 use Rattle.cap_vet.proofs.found.Found.item.Goals as goal
 

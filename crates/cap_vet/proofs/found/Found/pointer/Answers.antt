@@ -1,4 +1,4 @@
-use Rattle.std.proofs.Common.{arith, ◌≤◌}
+use Rattle.std.proofs.Common.{arith}
 use Rattle.cap_vet.proofs.Stepping.{pointer_goes, pointer_of_other}
 use Rattle.cap_vet.proofs.found.Found.pointer.Goals as goal
 

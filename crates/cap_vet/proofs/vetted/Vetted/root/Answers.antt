@@ -1,4 +1,4 @@
-use Rattle.std.proofs.Common.{arith, rules}
+use Rattle.std.proofs.Common.{rules}
 use Rattle.cap_spec.specs.Messages.{IsMessage}
 use Rattle.cap_vet.proofs.Nodes.{root_comes, root_inside, root_node}
 use Rattle.cap_vet.proofs.vetted.Vetted.root.Goals as goal
