@@ -4,7 +4,7 @@ ghost use Rattle.cap_read.specs.Reading.{IsRead};
 ghost use Rattle.cap_spec.specs.Denoting.{Denotes};
 ghost use Rattle.cap_spec.specs.Tree.{Tree};
 ghost use Rattle.cap_spec.specs.Verdicts.{Justified};
-ghost use Rattle.cap_vet.specs.Handles.{shown, view_message};
+ghost use Rattle.cap_vet.specs.Handles.{shown, view_message, view_place};
 ghost use Rattle.cap_vet.specs.Limits.{depth_of, words_of};
 ghost use Rattle.std.specs.Option.{option_map};
 ghost use Rattle.std.specs.Prelude.{◌≡◌, ◌≤◌, IfErr, IfOk, IfSome, IsOk, ℕ};
@@ -38,6 +38,7 @@ pub fn read<'m, M: Segments>(
     ensures ok { IfOk result (λ r. IsRead (M.segments message.now) (words_of limits) (depth_of limits) path.now
         r.report (option_map (λ v. shown v) r.view) r.place) }
     ensures message { IfOk result (λ r. IfSome r.view (λ v. view_message v ≡ message.now)) }
+    ensures place { IfOk result (λ r. IfSome r.view (λ v. view_place v ≡ r.place)) }
     ensures err { IfErr result (Justified (M.segments message.now) (words_of limits) (depth_of limits)) }
 
     // The other direction: what denotes a tree within the limits is read.
