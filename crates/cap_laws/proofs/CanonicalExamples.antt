@@ -2,7 +2,7 @@
 use Rattle.std.proofs.Common.{ℕ, ◌≡◌, ◌≤◌, [], ◌∷◌, refl, lit<}
 use Rattle.cap_spec.specs.Tree.{Tree, null, struct, scalars, structs, none, more}
 use Rattle.cap_spec.specs.Denoting.{Denotes}
-use Rattle.cap_spec.specs.Canonical.{layout, trim}
+use Rattle.cap_spec.specs.Canonical.{layout, offsets, trim}
 use Rattle.cap_spec.proofs.Measures.{Fits}
 use Rattle.cap_spec.proofs.Layouts.{layout_denotes, trimmed_layout_denotes}
 
@@ -32,3 +32,11 @@ denotes-trimmed = trimmed_layout_denotes (layout untrimmed ∷ []) 0 0 untrimmed
 -- the zero word, the null pointer and each element's null pointer are gone
 layout-trimmed : layout (trim untrimmed) ≡ 0x0002000100000000 ∷ 5 ∷ 0x0000001900000005 ∷ 0x0000001700000005 ∷ 5 ∷ 0x0000000100000008 ∷ 7 ∷ 0 ∷ []
 layout-trimmed = refl
+
+-- both pointers of the struct lead over one word, the first over the second and the second over the bits
+offsets-trimmed : offsets (trim untrimmed) ≡ 1 ∷ 1 ∷ []
+offsets-trimmed = refl
+
+-- and so do those of elements, the first over the second and the second over what the first leads to
+offsets-elements : offsets (structs 0 1 (more (struct [] (more (struct (7 ∷ []) none) none)) (more (struct [] (more (struct (8 ∷ []) none) none)) none))) ≡ 1 ∷ 1 ∷ []
+offsets-elements = refl
