@@ -2,12 +2,14 @@
 
 ghost use Rattle.cap_read.specs.Reading.{IsRead};
 ghost use Rattle.cap_spec.specs.Denoting.{Denotes};
+ghost use Rattle.cap_spec.specs.Faults.{IsRefused};
 ghost use Rattle.cap_spec.specs.Tree.{Tree};
 ghost use Rattle.cap_spec.specs.Verdicts.{Justified};
+ghost use Rattle.cap_spec.specs.declared.Refusal.{Refusal};
 ghost use Rattle.cap_vet.specs.Handles.{shown, view_message, view_place};
 ghost use Rattle.cap_vet.specs.Limits.{depth_of, words_of};
 ghost use Rattle.std.specs.Option.{option_map};
-ghost use Rattle.std.specs.Prelude.{◌≡◌, ◌≤◌, IfErr, IfOk, IfSome, IsOk, ℕ};
+ghost use Rattle.std.specs.Prelude.{◌≡◌, ◌≤◌, Err, IfErr, IfOk, IfSome, IsOk, ℕ};
 
 use cap_frame::Segments;
 use cap_vet::{Limits, Place, Refusal, Report, Step, View, vet};
@@ -29,7 +31,7 @@ pub struct Reading<'m, M: Segments> {
 /// such tree, the report tells its numbers, and what is read is the tree's node at the path, whose words
 /// lie inside their segment, or nothing where the tree has no node there. Else it is refused: the pointer
 /// word that is named is reached from the root, and the reason that is named holds there
-/// (encoding: Security Considerations).
+/// (encoding: Security Considerations). It is the first such word in preorder, as [`vet`] tells it.
 pub fn read<'m, M: Segments>(
     message: &'m M,
     limits: Limits,
@@ -41,9 +43,13 @@ pub fn read<'m, M: Segments>(
     ensures place { IfOk result (λ r. IfSome r.view (λ v. view_place v ≡ r.place)) }
     ensures err { IfErr result (Justified (M.segments message.now) (words_of limits) (depth_of limits)) }
 
-    // The other direction: what denotes a tree within the limits is read.
+    // It is the first fault in preorder, with its count of pointers.
+    ensures first { IfErr result (IsRefused (M.segments message.now) (words_of limits) (depth_of limits)) }
+
+    // The other direction: what denotes a tree within the limits is read, and where there is a first fault it is told.
     ensures accepts { (t : Tree) (c d : ℕ) →
         Denotes (M.segments message.now) 0 0 t c d → c ≤ words_of limits → d ≤ depth_of limits → IsOk result }
+    ensures refuses { (r : Refusal) → IsRefused (M.segments message.now) (words_of limits) (depth_of limits) r → result ≡ Err r }
 {
     let vetted = match vet(message, limits) {
         Ok(vetted) => vetted,

@@ -1,4 +1,4 @@
-use Rattle.std.proofs.Common.{◌≡◌, ℕ, ◌+◌, ◌<◌, ◌≤◌, ◌∙◌, length, subst, None, Some}
+use Rattle.std.proofs.Common.{◌≡◌, ap, Err, ℕ, ◌+◌, ◌<◌, ◌≤◌, ◌∙◌, length, subst, None, Some}
 use Rattle.std.specs.Prelude.{IfSome, MatchOption}
 use Rattle.cap_spec.specs.Denoting.{Denotes}
 use Rattle.cap_spec.specs.Messages.{segment_of}
@@ -37,3 +37,14 @@ returns-in-Some-clause-ok g c =
     let inside = subst (λ u. IfSome c.place.result (λ (p : Place). p.start + p.words ≤ length (segment_of (g.M.Segments.segments u) p.segment))) of_view c.place.ensures.inside in
     let tree = c.in-Ok.ensures.ok in
     node_read _ _ _ _ _ tree.0 spot _ _ _ (rw c.report-report.ensures.value tree.1) comes node shows c.place.ensures.value stands exists inside
+
+pub returns-in-Err-clause-refuses : goal.returns-in-Err-clause-refuses
+returns-in-Err-clause-refuses g c = λ r h.
+    let e = c.in-Err.ensures.refuses r h in
+    let same : c.in-Err.refusal ≡ r = cc in ap Err same
+
+pub returns-in-None-clause-refuses : goal.returns-in-None-clause-refuses
+returns-in-None-clause-refuses g c = λ r h. absurd (cc (c.in-Ok.ensures.refuses r h))
+
+pub returns-in-Some-clause-refuses : goal.returns-in-Some-clause-refuses
+returns-in-Some-clause-refuses g c = λ r h. absurd (cc (c.in-Ok.ensures.refuses r h))
