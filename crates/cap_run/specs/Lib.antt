@@ -1,3 +1,4 @@
+pub mod Checking
 pub mod Copying
 pub mod Dumping
 pub mod Engines

@@ -2,7 +2,7 @@
 
 ghost use Rattle.arrayvec.specs.ArrayVec.{array_vec_len};
 ghost use Rattle.cap_run.specs.Writing.{Writes};
-ghost use Rattle.cap_spec.specs.Texts.{accepted, reason_name, refusal_verdict, then_number, vet_text};
+ghost use Rattle.cap_spec.specs.Texts.{accepted, check_text, reason_name, refusal_verdict, then_number, vet_text};
 ghost use Rattle.std.specs.Prelude.{◌+◌, ◌++◌, ◌≡◌, ◌≤◌, codes, length};
 
 use crate::texts::line::{LINE, push_named, push_number, push_text};
@@ -66,6 +66,21 @@ pub(crate) fn write_refused<O: ByteOut>(
     ensures { Writes O.ByteOut out.old out.new result (vet_text number (refusal_verdict refusal.now)) }
 {
     write_bytes(out, refused_line(number, refusal).as_slice())
+}
+
+/// The line of a message that is accepted, by whether it is canonical.
+pub(crate) fn check_line(number: u32, canonical: bool) -> ArrayVec<u8, LINE>
+    ensures { result.items ≡ check_text number canonical }
+{
+    let mut line = ArrayVec::new();
+    push_text(&mut line, b"message ");
+    push_number(&mut line, u64::from(number));
+    if canonical {
+        push_text(&mut line, b": canonical\n");
+    } else {
+        push_text(&mut line, b": not canonical\n");
+    }
+    line
 }
 
 /// The name of a reason.

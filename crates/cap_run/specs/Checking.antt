@@ -1,0 +1,22 @@
+-- What may be told of a message that is checked (profile).
+use Rattle.std.specs.Prelude.{ℕ, ◌≡◌, ◌⊎◌, ◌↔◌, if◌then◌else◌, Bool, IsTrue, List}
+use Rattle.cap_spec.specs.Copies.{IsCanonical}
+use Rattle.cap_spec.specs.Texts.{check_text}
+use Rattle.cap_vet.specs.Reports.{IsAccepted}
+use Rattle.cap_vet.specs.declared.report.Report.{Report}
+use Rattle.cap_run.specs.declared.engines.stream.Mark.{Mark}
+use Rattle.cap_run.specs.declared.engines.stream.Mark.TheVariants.{Accepted, NotCanonical}
+use Rattle.cap_run.specs.Vetting.{TellsRefused}
+
+-- the text of message n where it is accepted, by whether its words are its own canonical copy
+pub record TellsChecked (words depth n : ℕ) (m : List (List ℕ)) (text : List ℕ) (mark : Mark) : Type 0 where
+  pub report : Report
+  pub is_accepted : IsAccepted m words depth report
+  pub canonical : Bool
+  pub decides : IsTrue canonical ↔ IsCanonical m
+  pub line : text ≡ check_text n canonical
+  pub counted : mark ≡ (if canonical then Accepted else NotCanonical)
+
+-- this, or where it is refused, the first fault
+abbrev pub TellsCheck : ℕ → ℕ → ℕ → List (List ℕ) → List ℕ → Mark → Type 0
+TellsCheck words depth n m text mark = TellsChecked words depth n m text mark ⊎ TellsRefused words depth n m text mark
