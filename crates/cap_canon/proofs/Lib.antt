@@ -1,7 +1,7 @@
 mod Agreeing
 mod CheckWalks
 mod Children
-mod Copies
+pub mod Copies
 mod CopyWalks
 mod Elements
 mod Entering

@@ -7,7 +7,7 @@ use Rattle.cap_words.specs.declared.ends.OutFault.TheVariants.{Device, Memory, S
 use Rattle.cap_words.specs.declared.sources.WordSource as source
 use Rattle.cap_run.specs.declared.engines.stream.Mark.{Mark}
 use Rattle.cap_run.specs.declared.fault.Cause.{Cause}
-use Rattle.cap_run.specs.declared.fault.Cause.TheVariants.{TooManyMessages, Frame, Output}
+use Rattle.cap_run.specs.declared.fault.Cause.TheVariants.{TooManyMessages, Frame, Output, Refused, Canon}
 use Rattle.cap_run.specs.declared.settings.Outcome.{Outcome}
 use Rattle.cap_run.specs.Running.{Appended, EndStops, RunStops, StepStops, StopsIn}
 use Rattle.cap_run.specs.Streams.{ReadsStream}
@@ -109,6 +109,8 @@ module _ {S O : Type 0} (gs : source.Ghosts S) (go : output.Ghosts O) (tells : â
   going_stops old mid new before between after outcome number most (Frame fault) w h q = (rw q.1 w.appended, q.0)
   going_stops old mid new before between after outcome number most (Output fault) w h q =
       (q.0, omega (arith, w.many), subst (Î» k. tells k q.0.message q.0.text q.0.mark) (sym w.many) q.1, q.2, stops_in go before between after fault (texts_of w.ts) q.0.text w.appended q.3)
+  going_stops old mid new before between after outcome number most (Refused refusal) w h q = absurd q
+  going_stops old mid new before between after outcome number most (Canon fault) w h q = absurd q
 
   -- it ended behind the last message that it may read
   pub going_over : (old mid new : S) (before after : O) (outcome : Outcome) (most : â„•) (cause : Cause) â†’ (w : Going old mid before after outcome most)
@@ -116,3 +118,5 @@ module _ {S O : Type 0} (gs : source.Ghosts S) (go : output.Ghosts O) (tells : â
   going_over old mid new before after outcome most TooManyMessages w q = (w.many, w.appended, q)
   going_over old mid new before after outcome most (Frame fault) w q = (w.appended, q)
   going_over old mid new before after outcome most (Output fault) w q = absurd q
+  going_over old mid new before after outcome most (Refused refusal) w q = absurd q
+  going_over old mid new before after outcome most (Canon fault) w q = absurd q

@@ -1,3 +1,4 @@
+pub mod CanonEnds
 pub mod Checking
 pub mod Copying
 pub mod CopyEnds
@@ -6,6 +7,7 @@ pub mod Dumping
 pub mod FoundNodes
 pub mod Going
 pub mod Nodes
+pub mod Making
 pub mod Numbers
 pub mod Segments
 pub mod Settling

@@ -1,5 +1,5 @@
 -- What is known of the words of a source decides how an engine ends, faults of devices, of the output and of memory aside.
-use Rattle.std.proofs.Common.{◌≡◌, ◌∙◌, ◌⊎◌, inl, inr, ℕ, ◌≤◌, false, Option, Some, None, Result, Ok, Err, List, [], ◌∷◌, length, sum, IfErr, IfOk, OnSome, sym, ap, subst, arith, length-append}
+use Rattle.std.proofs.Common.{◌≡◌, ◌∙◌, ◌⊎◌, inl, inr, ℕ, ◌≤◌, false, Option, Some, None, Result, Ok, Err, List, [], ◌∷◌, ◌++◌, length, sum, IfErr, IfOk, OnSome, sym, ap, subst, arith, length-append}
 use Rattle.std.specs.List.{AllByRecursion}
 use Rattle.std.specs.Io.KnownBytes.{Consumes}
 use Rattle.cap_spec.specs.Frames.{Stream, sizes_of}
@@ -12,12 +12,13 @@ use Rattle.cap_frame.specs.Faults.{Answered, Faults}
 use Rattle.cap_frame.specs.declared.fault.FrameFault.{FrameFault}
 use Rattle.cap_frame.specs.declared.fault.FrameFault.TheVariants.{TooManySegments, TooLarge, Truncated, Device, Memory, Spent}
 use Rattle.cap_frame.proofs.Converse.{known_still, same_some, tells, whole_answer, none_answer}
+use Rattle.cap_canon.specs.declared.fault.CanonFault.TheVariants.{HasCapability, Memory as canon_memory}
 use Rattle.cap_run.specs.Running.{Appended, RunStops, Settled, SettledAt}
 use Rattle.cap_run.specs.Streams.{ReadsAll, ReadsStream}
 use Rattle.cap_run.specs.Telling.{TellsEach, Told, messages_of, outcome_of, texts_of}
 use Rattle.cap_run.specs.declared.engines.stream.Mark.{Mark}
 use Rattle.cap_run.specs.declared.fault.Cause.{Cause}
-use Rattle.cap_run.specs.declared.fault.Cause.TheVariants.{TooManyMessages, Frame, Output}
+use Rattle.cap_run.specs.declared.fault.Cause.TheVariants.{TooManyMessages, Frame, Output, Refused, Canon}
 use Rattle.cap_run.specs.declared.fault.RunFault.{RunFault}
 use Rattle.cap_run.specs.declared.settings.Outcome.{Outcome}
 use Rattle.cap_run.proofs.Telling.{length-messages_of}
@@ -44,6 +45,9 @@ pub settled_at_map : (cause : Cause) (P Q : Type 0) → (P → Q) → SettledAt 
 settled_at_map TooManyMessages P Q h a = h a
 settled_at_map (Frame fault) P Q h a = answered_map fault P Q h a
 settled_at_map (Output fault) P Q h a = tt
+settled_at_map (Refused refusal) P Q h a = h a
+settled_at_map (Canon (HasCapability s w)) P Q h a = h a
+settled_at_map (Canon canon_memory) P Q h a = tt
 
 pub settled_map : (r : Result Outcome RunFault) (P Q : Type 0) → (P → Q) → Settled r P → Settled r Q
 settled_map (Ok outcome) P Q h a = h a
@@ -69,6 +73,36 @@ module _ {S : Type 0} (g : source.Ghosts S) (limit : ℕ) where
           (whole_answer (λ m. m) limit rest (g.is_cut mid) (g.places mid) (g.words new) (Err fault) t.own t.rest t.message t.whole t.frames (subst (AllByRecursion (λ m. sum (sizes_of m) ≤ limit)) t.messages l).0
           (tells g (λ m. m) limit mid new (Err fault) rest w tt (λ i. absurd (cc)) h))
 
+module _ {S : Type 0} (gs : source.Ghosts S) (limit : ℕ) (old mid new : S) (read : List (List (List ℕ))) (own : List ℕ) (ms : List (List (List ℕ))) where
+  -- a stream of which some messages were read goes on with the others
+  pub reads_front : gs.words old ≡ Some own → Stream own ms → ReadsStream gs limit old mid read
+      → (rest : List ℕ) × (gs.words mid ≡ Some rest) × ((more : List (List (List ℕ))) × (ms ≡ read ++ more) × Stream rest more)
+  reads_front w s reads =
+      let here = known_still own reads.own (gs.words mid) (subst (λ (o : Option (List ℕ)). Consumes o (gs.words mid) reads.own) w reads.takes.words) in
+      (here.0, here.1, stream_front reads.own here.0 read ms reads.stream (subst (λ (ws : List ℕ). Stream ws ms) here.2 s))
+
+  -- a message that was read behind them is the next
+  pub reads_next : (m : List (List ℕ)) → gs.words old ≡ Some own → Stream own ms → ReadsStream gs limit old mid read → ReadsStream gs limit mid new (m ∷ [])
+      → (more : List (List (List ℕ))) × (ms ≡ read ++ (m ∷ more))
+  reads_next m w s reads last =
+      let front = reads_front w s reads in
+      let there = known_still front.0 last.own (gs.words new) (subst (λ (o : Option (List ℕ)). Consumes o (gs.words new) last.own) front.1 last.takes.words) in
+      let next = stream_front last.own there.0 (m ∷ []) front.2.0 last.stream (subst (λ (ws : List ℕ). Stream ws front.2.0) there.2 front.2.2) in
+      (next.0, front.2.1 ∙ ap (λ (xs : List (List (List ℕ))). read ++ xs) next.1)
+
+  -- and none is one too many
+  pub none_over : (m : List (List ℕ)) → gs.words old ≡ Some own → Stream own ms → ReadsStream gs limit old mid read → ReadsStream gs limit mid new (m ∷ []) → length ms ≤ length read → ⊥
+  none_over m w s reads last few = let next = reads_next m w s reads last in omega (arith, few, ap length next.1, length-append read (m ∷ next.0))
+
+  -- nor is one within the limit refused
+  pub none_faulted : (fault : FrameFault) (P : Type 0) → gs.words old ≡ Some own → gs.is_cut old ≡ false → Stream own ms → AllByRecursion (λ m. sum (sizes_of m) ≤ limit) ms
+      → ReadsStream gs limit old mid read → Faults gs limit mid new fault → Answered {A = Outcome} (Err fault) P
+  none_faulted fault P w c s l reads stops =
+      let front = reads_front w s reads in
+      let cut = on_known (gs.words old) own _ w reads.takes.goes_on in
+      no_fault gs limit mid new front.0 front.2.0 fault P front.1 (cut.0 ∙ c) front.2.2
+      (all_back (λ m. sum (sizes_of m) ≤ limit) read front.2.0 (subst (AllByRecursion (λ m. sum (sizes_of m) ≤ limit)) front.2.1 l)) stops
+
 module _ {S O : Type 0} (gs : source.Ghosts S) (go : output.Ghosts O) (tells_of : ℕ → List (List ℕ) → List ℕ → Mark → Type 0) (limit most : ℕ) (old new : S) (before after : O) where
   -- what an engine's clauses say where it ended, and where it didn't
   abbrev pub SaysEnd : Result Outcome RunFault → Type 0
@@ -86,19 +120,11 @@ module _ {S O : Type 0} (gs : source.Ghosts S) (go : output.Ghosts O) (tells_of 
   pub settled_behind : (mid : S) (ts : List Told) (own : List ℕ) (ms : List (List (List ℕ))) (cause : Cause) (P : Type 0) → gs.words old ≡ Some own → gs.is_cut old ≡ false → Stream own ms
       → AllByRecursion (λ m. sum (sizes_of m) ≤ limit) ms → length ms ≤ most → ReadsStream gs limit old mid (messages_of ts) → RunStops gs go tells_of limit most ts mid new before after cause → SettledAt cause P
   settled_behind mid ts own ms TooManyMessages P w c s l few reads stops =
-      let here = known_still own reads.own (gs.words mid) (subst (λ (o : Option (List ℕ)). Consumes o (gs.words mid) reads.own) w reads.takes.words) in
-      let front = stream_front reads.own here.0 (messages_of ts) ms reads.stream (subst (λ (ws : List ℕ). Stream ws ms) here.2 s) in
-      let last = stops.2.1 in
-      let there = known_still here.0 last.own (gs.words new) (subst (λ (o : Option (List ℕ)). Consumes o (gs.words new) last.own) here.1 last.takes.words) in
-      let next = stream_front last.own there.0 (stops.2.0 ∷ []) front.0 last.stream (subst (λ (ws : List ℕ). Stream ws front.0) there.2 front.2) in
-      absurd (omega (arith, few, stops.0, ap length front.1, length-append (messages_of ts) front.0, length-messages_of ts, ap length next.1))
-  settled_behind mid ts own ms (Frame fault) P w c s l few reads stops =
-      let here = known_still own reads.own (gs.words mid) (subst (λ (o : Option (List ℕ)). Consumes o (gs.words mid) reads.own) w reads.takes.words) in
-      let front = stream_front reads.own here.0 (messages_of ts) ms reads.stream (subst (λ (ws : List ℕ). Stream ws ms) here.2 s) in
-      let cut = on_known (gs.words old) own _ w reads.takes.goes_on in
-      no_fault gs limit mid new here.0 front.0 fault P here.1 (cut.0 ∙ c) front.2
-      (all_back (λ m. sum (sizes_of m) ≤ limit) (messages_of ts) front.0 (subst (AllByRecursion (λ m. sum (sizes_of m) ≤ limit)) front.1 l)) stops.1
+      absurd (none_over gs limit old mid new (messages_of ts) own ms stops.2.0 w s reads stops.2.1 (omega (arith, few, stops.0, length-messages_of ts)))
+  settled_behind mid ts own ms (Frame fault) P w c s l few reads stops = none_faulted gs limit old mid new (messages_of ts) own ms fault P w c s l reads stops.1
   settled_behind mid ts own ms (Output fault) P w c s l few reads stops = tt
+  settled_behind mid ts own ms (Refused refusal) P w c s l few reads stops = absurd stops
+  settled_behind mid ts own ms (Canon fault) P w c s l few reads stops = absurd stops
 
   -- a stream of messages within the limits is read to its end
   pub settled : (r : Result Outcome RunFault) (own : List ℕ) (ms : List (List (List ℕ))) → SaysEnd r → SaysFault r → gs.words old ≡ Some own → gs.is_cut old ≡ false → Stream own ms

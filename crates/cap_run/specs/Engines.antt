@@ -3,6 +3,7 @@
 use Rattle.std.specs.Prelude.{ℕ, ◌-◌, ◌≡◌, ◌<◌, ◌≤◌, ◌^◌, false, true, List, [], ◌∷◌, length, sum, take, drop, Some, Result, Ok, Err, IfOk, IfErr, IsErrOf}
 use Rattle.std.specs.List.{AllByRecursion}
 use Rattle.cap_spec.specs.Frames.{Stream, sizes_of}
+use Rattle.cap_spec.specs.declared.Refusal.{Refusal}
 use Rattle.cap_words.specs.declared.ends.ByteOut as output
 use Rattle.cap_words.specs.declared.ends.OutFault.{OutFault}
 use Rattle.cap_words.specs.declared.sinks.WordSink as sink
@@ -11,12 +12,13 @@ use Rattle.cap_words.specs.declared.sources.WordSource as source
 use Rattle.cap_frame.specs.Faults.{Faults}
 use Rattle.cap_frame.specs.declared.fault.FrameFault.{FrameFault}
 use Rattle.cap_frame.specs.declared.fault.FrameFault.TheVariants.{Memory}
+use Rattle.cap_canon.specs.declared.fault.CanonFault.{CanonFault}
 use Rattle.cap_run.specs.Copying.{Copied, CopySettled, Finishes}
 use Rattle.cap_run.specs.Running.{Appended, RunStops, Settled, ShowsSegments, StopsShowing}
 use Rattle.cap_run.specs.Streams.{ReadsAll, ReadsStream}
 use Rattle.cap_run.specs.Telling.{TellsEach, Told, messages_of, outcome_of, segments_texts, texts_of}
 use Rattle.cap_run.specs.declared.engines.stream.Mark.{Mark}
-use Rattle.cap_run.specs.declared.fault.Cause.TheVariants.{TooManyMessages, Frame, Output}
+use Rattle.cap_run.specs.declared.fault.Cause.TheVariants.{TooManyMessages, Frame, Output, Refused, Canon}
 use Rattle.cap_run.specs.declared.fault.CopyFault.{CopyFault}
 use Rattle.cap_run.specs.declared.fault.CopyFault.TheVariants.{TooManyWords, Source}
 use Rattle.cap_run.specs.declared.fault.RunFault.{RunFault}
@@ -62,6 +64,9 @@ module _ {S O : Type 0} (gs : source.Ghosts S) (go : output.Ghosts O) where
         × StopsShowing gs go limit n old new before after fault
     -- No memory is taken in reading.
     pub no_memory : (n : ℕ) → IsErrOf answer (record { message = n; cause = Frame Memory }) → ⊥
+    -- Nothing is vetted, and nothing copied.
+    pub none_refused : (n : ℕ) (refusal : Refusal) → IsErrOf answer (record { message = n; cause = Refused refusal }) → ⊥
+    pub none_copied : (n : ℕ) (fault : CanonFault) → IsErrOf answer (record { message = n; cause = Canon fault }) → ⊥
     -- And the other way round: a stream of at most so many messages, each within the limit, is read to its end.
     pub whole : (own : List ℕ) (ms : List (List (List ℕ))) → gs.words old ≡ Some own → gs.is_cut old ≡ false → Stream own ms
         → AllByRecursion (λ m. sum (sizes_of m) ≤ limit) ms → length ms ≤ most →

@@ -1,12 +1,15 @@
 -- The lines of faults on standard error (profile).
-use Rattle.std.specs.Prelude.{ℕ, List, [], ◌∷◌, ◌++◌, codes}
-use Rattle.cap_spec.specs.Texts.{then_number}
+use Rattle.std.specs.Prelude.{ℕ, List, [], ◌∷◌, ◌++◌, codes, decimal}
+use Rattle.cap_spec.specs.Texts.{reason_name, then_number}
+use Rattle.cap_spec.specs.declared.Refusal.{Refusal}
 use Rattle.cap_words.specs.declared.sources.SourceFault.{SourceFault}
 use Rattle.cap_words.specs.declared.sources.SourceFault.TheVariants.{Truncated as source_truncated, Device as source_device, Spent as source_spent}
 use Rattle.cap_frame.specs.declared.fault.FrameFault.{FrameFault}
 use Rattle.cap_frame.specs.declared.fault.FrameFault.TheVariants.{TooManySegments, TooLarge, Truncated, Device, Memory, Spent}
+use Rattle.cap_canon.specs.declared.fault.CanonFault.{CanonFault}
+use Rattle.cap_canon.specs.declared.fault.CanonFault.TheVariants.{HasCapability, Memory as canon_memory}
 use Rattle.cap_run.specs.declared.fault.Cause.{Cause}
-use Rattle.cap_run.specs.declared.fault.Cause.TheVariants.{TooManyMessages, Frame, Output}
+use Rattle.cap_run.specs.declared.fault.Cause.TheVariants.{TooManyMessages, Frame, Output, Refused, Canon}
 use Rattle.cap_run.specs.declared.fault.CopyFault.{CopyFault}
 use Rattle.cap_run.specs.declared.fault.CopyFault.TheVariants.{TooManyWords, Source as copy_source, Output as copy_output}
 use Rattle.cap_run.specs.declared.fault.RunFault.{RunFault}
@@ -20,6 +23,19 @@ frame_fault_text Device = codes "Device"
 frame_fault_text Memory = codes "Memory"
 frame_fault_text Spent = codes "Spent"
 
+-- the place of a pointer word
+abbrev pub place_text : ℕ → ℕ → List ℕ
+place_text s w = codes " at" ++ then_number s ++ 58 ∷ decimal w
+
+-- what is said of a message that is refused, where that ends an engine
+abbrev pub refusal_text : Refusal → List ℕ
+refusal_text r = codes "refused " ++ reason_name r.reason ++ place_text r.segment r.word
+
+-- what is said of a message of which no canonical copy was made
+abbrev pub canon_fault_text : CanonFault → List ℕ
+canon_fault_text (HasCapability s w) = codes "HasCapability" ++ place_text s w
+canon_fault_text canon_memory = codes "Memory"
+
 -- the message that is spoken of
 abbrev pub message_name : ℕ → List ℕ
 message_name n = codes "message" ++ then_number n ++ codes ": "
@@ -29,6 +45,8 @@ abbrev pub cause_text : ℕ → Cause → List ℕ
 cause_text n TooManyMessages = message_name n ++ codes "TooManyMessages"
 cause_text n (Frame fault) = message_name n ++ frame_fault_text fault
 cause_text n (Output fault) = codes "output failed"
+cause_text n (Refused refusal) = message_name n ++ refusal_text refusal
+cause_text n (Canon fault) = message_name n ++ canon_fault_text fault
 
 -- the line of a fault
 abbrev pub fault_line : ℕ → Cause → List ℕ

@@ -1,8 +1,10 @@
+pub mod Canons
 pub mod Checking
 pub mod Copying
 pub mod Dumping
 pub mod Engines
 pub mod Faults
+pub mod Making
 pub mod PathReading
 pub mod Putting
 pub mod Running

@@ -7,9 +7,10 @@ use Rattle.cap_words.specs.declared.ends.OutFault.{OutFault}
 use Rattle.cap_words.specs.declared.ends.OutFault.TheVariants.{Device, Memory, Spent}
 use Rattle.cap_words.specs.declared.sources.WordSource as source
 use Rattle.cap_frame.specs.Faults.{Answered, Faults}
+use Rattle.cap_canon.specs.declared.fault.CanonFault.TheVariants.{HasCapability, Memory as canon_memory}
 use Rattle.cap_run.specs.declared.engines.stream.Mark.{Mark}
 use Rattle.cap_run.specs.declared.fault.Cause.{Cause}
-use Rattle.cap_run.specs.declared.fault.Cause.TheVariants.{TooManyMessages, Frame, Output}
+use Rattle.cap_run.specs.declared.fault.Cause.TheVariants.{TooManyMessages, Frame, Output, Refused, Canon}
 use Rattle.cap_run.specs.declared.fault.RunFault.{RunFault}
 use Rattle.cap_run.specs.declared.settings.Outcome.{Outcome}
 use Rattle.cap_run.specs.Streams.{ReadsStream}
@@ -22,6 +23,9 @@ abbrev pub SettledAt : Cause → Type 0 → Type 0
 SettledAt TooManyMessages P = P
 SettledAt (Frame fault) P = Answered {A = Outcome} (Err fault) P
 SettledAt (Output fault) P = Unit {0}
+SettledAt (Refused refusal) P = P
+SettledAt (Canon (HasCapability s w)) P = P
+SettledAt (Canon canon_memory) P = Unit {0}
 
 -- P, unless the answer is such a fault
 abbrev pub Settled : Result Outcome RunFault → Type 0 → Type 0
@@ -55,6 +59,8 @@ module _ {S : Type 0} (g : source.Ghosts S) where
   EndStops limit old new TooManyMessages = (m : List (List ℕ)) × ReadsStream g limit old new (m ∷ [])
   EndStops limit old new (Frame fault) = Faults g limit old new fault
   EndStops limit old new (Output fault) = ⊥
+  EndStops limit old new (Refused refusal) = ⊥
+  EndStops limit old new (Canon fault) = ⊥
 
 module _ {S O : Type 0} (gs : source.Ghosts S) (go : output.Ghosts O) where
   -- So many messages were read, and the text of their segments written.
@@ -79,6 +85,8 @@ module _ {S O : Type 0} (gs : source.Ghosts S) (go : output.Ghosts O) where
   StepStops tells limit n old new before after (Frame fault) = Faults gs limit old new fault × (after ≡ before)
   StepStops tells limit n old new before after (Output fault) =
       (t : Told) × tells n t.message t.text t.mark × ReadsStream gs limit old new (t.message ∷ []) × Stopped go before after fault t.text
+  StepStops tells limit n old new before after (Refused refusal) = ⊥
+  StepStops tells limit n old new before after (Canon fault) = ⊥
 
   -- why an engine ended behind these messages, the source standing at `mid` then
   abbrev pub RunStops : (ℕ → List (List ℕ) → List ℕ → Mark → Type 0) → ℕ → ℕ → List Told → S → S → O → O → Cause → Type 0
@@ -88,3 +96,5 @@ module _ {S O : Type 0} (gs : source.Ghosts S) (go : output.Ghosts O) where
   RunStops tells limit most ts mid new before after (Output fault) =
       (t : Told) × (length ts < most) × tells (length ts) t.message t.text t.mark × ReadsStream gs limit mid new (t.message ∷ [])
       × StopsIn go before after fault (texts_of ts) t.text
+  RunStops tells limit most ts mid new before after (Refused refusal) = ⊥
+  RunStops tells limit most ts mid new before after (Canon fault) = ⊥

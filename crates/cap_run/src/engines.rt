@@ -1,6 +1,7 @@
 //! The engines: each reads the messages of a source and writes what is asked about each of them, or
 //! copies the words of a source.
 
+pub mod canon;
 pub mod check;
 pub mod copy;
 pub mod dump;

@@ -1,6 +1,8 @@
 //! Why an engine ended before its input did.
 
+use cap_canon::CanonFault;
 use cap_frame::FrameFault;
+use cap_vet::Refusal;
 use cap_words::{OutFault, SourceFault};
 use thiserror::Error;
 
@@ -24,6 +26,10 @@ pub enum Cause {
     Frame(FrameFault),
     /// The output didn't take the text. It took a beginning of it.
     Output(OutFault),
+    /// The message was refused, where it has to have a canonical copy.
+    Refused(Refusal),
+    /// The message was accepted, and no canonical copy of it was made.
+    Canon(CanonFault),
 }
 
 /// Why a copy of words ended before its source did.

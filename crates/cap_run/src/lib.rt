@@ -12,6 +12,7 @@ pub mod texts;
 
 pub use cap_spec::Step;
 pub use cap_vet::Limits;
+pub use engines::canon::run_canon;
 pub use engines::check::run_check;
 pub use engines::copy::{run_pack, run_unpack};
 pub use engines::dump::run_dump;

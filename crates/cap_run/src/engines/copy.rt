@@ -11,7 +11,7 @@ use cap_pack::Packer;
 use cap_words::{ByteOut, OutFault, SinkFault, SourceFault, WordSink, WordSource};
 
 /// The fault of a sink's output.
-fn output_fault(fault: SinkFault) -> OutFault
+pub(crate) fn output_fault(fault: SinkFault) -> OutFault
     ensures { sink_fault_of result ≡ fault }
 {
     match fault {

@@ -51,7 +51,7 @@ pub(crate) trait Engine {
 }
 
 /// The stream has to end here: a message more is one too many.
-fn end_stream<S: WordSource>(source: &mut S, limit: SizeLimit) -> Result<(), Cause>
+pub(crate) fn end_stream<S: WordSource>(source: &mut S, limit: SizeLimit) -> Result<(), Cause>
     ensures ok { OnOk result (EndsStream S.WordSource source.old source.new) }
     ensures err { IfErr result (λ cause. EndStops S.WordSource (limit_of limit) source.old source.new cause) }
     ensures memory { result ≡ Err (Cause.Frame FrameFault.Memory) → ⊥ }

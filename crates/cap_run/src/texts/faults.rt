@@ -1,16 +1,19 @@
 //! The lines of faults.
 
 ghost use Rattle.arrayvec.specs.ArrayVec.{array_vec_len};
-ghost use Rattle.cap_run.specs.Faults.{cause_text, copy_fault_line, copy_fault_text as copy_text, fault_line, frame_fault_text, message_name, run_fault_line, source_fault_text};
+ghost use Rattle.cap_run.specs.Faults.{canon_fault_text, cause_text, copy_fault_line, copy_fault_text as copy_text, fault_line, frame_fault_text, message_name, place_text, refusal_text, run_fault_line, source_fault_text};
 ghost use Rattle.cap_run.specs.Writing.{Writes};
 ghost use Rattle.cap_spec.specs.Texts.{then_number};
 ghost use Rattle.std.specs.Prelude.{◌+◌, ◌++◌, ◌≡◌, ◌≤◌, ◌∷◌, [], codes, decimal, length};
 
 use crate::fault::{Cause, CopyFault, RunFault};
-use crate::texts::line::{LINE, push_named, push_text};
+use crate::texts::line::{LINE, push_named, push_number, push_text};
 use crate::texts::output::write_bytes;
+use crate::texts::verdict::name_of;
 use arrayvec::ArrayVec;
+use cap_canon::CanonFault;
 use cap_frame::FrameFault;
+use cap_vet::Refusal;
 use cap_words::{ByteOut, OutFault, SourceFault};
 
 /// Appends what is said of a message that couldn't be read.
@@ -39,11 +42,47 @@ fn push_message(line: &mut ArrayVec<u8, LINE>, number: u32)
     push_text(line, b": ");
 }
 
+/// Appends the place of a pointer word.
+fn push_place(line: &mut ArrayVec<u8, LINE>, segment: u32, word: u32)
+    requires { array_vec_len line.old + 45 ≤ 192 }
+    ensures items { line.new.items ≡ line.old.items ++ place_text segment word }
+    ensures few { array_vec_len line.new ≤ array_vec_len line.old + 45 }
+{
+    push_named(line, b" at ", u64::from(segment));
+    push_named(line, b":", u64::from(word));
+}
+
+/// Appends what is said of a message that is refused, where that ends an engine.
+fn push_refusal(line: &mut ArrayVec<u8, LINE>, refusal: Refusal)
+    requires { array_vec_len line.old + 70 ≤ 192 }
+    ensures items { line.new.items ≡ line.old.items ++ refusal_text refusal }
+    ensures few { array_vec_len line.new ≤ array_vec_len line.old + 70 }
+{
+    push_text(line, b"refused ");
+    push_text(line, name_of(refusal.reason));
+    push_place(line, refusal.segment, refusal.word);
+}
+
+/// Appends what is said of a message of which no canonical copy was made.
+fn push_canon_fault(line: &mut ArrayVec<u8, LINE>, fault: CanonFault)
+    requires { array_vec_len line.old + 70 ≤ 192 }
+    ensures items { line.new.items ≡ line.old.items ++ canon_fault_text fault }
+    ensures few { array_vec_len line.new ≤ array_vec_len line.old + 70 }
+{
+    match fault {
+        CanonFault::HasCapability { segment, word } => {
+            push_text(line, b"HasCapability");
+            push_place(line, segment, word);
+        }
+        CanonFault::Memory => push_text(line, b"Memory"),
+    }
+}
+
 /// Appends what is said of an engine that ended at a message.
 fn push_cause(line: &mut ArrayVec<u8, LINE>, number: u32, cause: Cause)
-    requires { array_vec_len line.old + 80 ≤ 192 }
+    requires { array_vec_len line.old + 110 ≤ 192 }
     ensures items { line.new.items ≡ line.old.items ++ cause_text number cause }
-    ensures few { array_vec_len line.new ≤ array_vec_len line.old + 80 }
+    ensures few { array_vec_len line.new ≤ array_vec_len line.old + 110 }
 {
     match cause {
         Cause::TooManyMessages => {
@@ -55,6 +94,14 @@ fn push_cause(line: &mut ArrayVec<u8, LINE>, number: u32, cause: Cause)
             push_frame_fault(line, fault);
         }
         Cause::Output(_) => push_text(line, b"output failed"),
+        Cause::Refused(refusal) => {
+            push_message(line, number);
+            push_refusal(line, refusal);
+        }
+        Cause::Canon(fault) => {
+            push_message(line, number);
+            push_canon_fault(line, fault);
+        }
     }
 }
 

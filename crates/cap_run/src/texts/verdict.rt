@@ -84,7 +84,7 @@ pub(crate) fn check_line(number: u32, canonical: bool) -> ArrayVec<u8, LINE>
 }
 
 /// The name of a reason.
-fn name_of(reason: Reason) -> &'static [u8]
+pub(crate) fn name_of(reason: Reason) -> &'static [u8]
     ensures name { result.now ≡ reason_name reason }
     ensures short { length result.now ≤ 16 }
 {

@@ -37,6 +37,8 @@ returns g c =
             stops_showing g.S.WordSource g.O.ByteOut limit n _ _ _ _ _ _ e.0 e.6.0 e.2 e.4 e.5 e.6.2 e.6.3 e.6.4,
           );
       no_memory = λ n h. absurd (let e = c.tell_all.ensures.memory n h in cc);
+      none_refused = λ n refusal h. let e = rw h at c.tell_all.ensures.err in e.6;
+      none_copied = λ n fault h. let e = rw h at c.tell_all.ensures.err in e.6;
       whole = λ own ms w i s l few.
           settled_map c.tell_all.result _ _
           (each_shown g.S.WordSource g.O.ByteOut limit c.args.source.now c.tell_all.new.source c.args.out.now c.tell_all.new.out most ms c.tell_all.result)

@@ -1,0 +1,103 @@
+-- What the engine does that puts canonical copies of the messages of a stream (profile). gs and gk have the members of the
+-- source's and of the sink's type.
+use Rattle.std.specs.Prelude.{ℕ, ◌≡◌, ◌<◌, ◌≤◌, ◌⊎◌, false, List, [], ◌∷◌, ◌++◌, length, map, sum, Some, Result, Ok, Err, IfOk, IfErr}
+use Rattle.std.specs.List.{AllByRecursion, flat_map}
+use Rattle.cap_spec.specs.Copies.{HasCopy}
+use Rattle.cap_spec.specs.Faults.{IsRefused}
+use Rattle.cap_spec.specs.Frames.{Stream, frame_text, sizes_of}
+use Rattle.cap_spec.specs.Paths.{IsFirstCap}
+use Rattle.cap_words.specs.Sinks.{sink_fault_of}
+use Rattle.cap_words.specs.declared.ends.OutFault.{OutFault}
+use Rattle.cap_words.specs.declared.sinks.WordSink as sink
+use Rattle.cap_words.specs.declared.sources.WordSource as source
+use Rattle.cap_frame.specs.Faults.{Faults}
+use Rattle.cap_frame.specs.Putting.{Halts}
+use Rattle.cap_vet.specs.Reports.{IsAccepted}
+use Rattle.cap_vet.specs.declared.report.Report.{Report}
+use Rattle.cap_canon.specs.declared.fault.CanonFault.{CanonFault}
+use Rattle.cap_canon.specs.declared.fault.CanonFault.TheVariants.{HasCapability, Memory}
+use Rattle.cap_run.specs.Copying.{Finishes, Spoils}
+use Rattle.cap_run.specs.Running.{Settled}
+use Rattle.cap_run.specs.Streams.{EndsStream, ReadsAll, ReadsStream}
+use Rattle.cap_run.specs.declared.fault.Cause.{Cause}
+use Rattle.cap_run.specs.declared.fault.Cause.TheVariants.{TooManyMessages, Frame, Output, Refused, Canon}
+use Rattle.cap_run.specs.declared.fault.RunFault.{RunFault}
+use Rattle.cap_run.specs.declared.settings.Outcome.{Outcome}
+
+-- a message, and the words of its canonical copy
+pub record Canonised : Type 0 where
+  pub message : List (List ℕ)
+  pub copy : List ℕ
+
+-- the messages
+abbrev pub canonised : List Canonised → List (List (List ℕ))
+canonised cs = map (λ c. c.message) cs
+
+-- the words that frame the copies, one after the other, each as a message of one segment
+abbrev pub copies_of : List Canonised → List ℕ
+copies_of cs = flat_map (λ c. frame_text (c.copy ∷ [])) cs
+
+-- The message is accepted within these limits, and this is its canonical copy.
+pub record IsCanonised (words depth : ℕ) (c : Canonised) : Type 0 where
+  pub report : Report
+  pub is_accepted : IsAccepted c.message words depth report
+  pub has_copy : HasCopy c.message c.copy
+
+-- each of them
+abbrev pub AreCanonised : ℕ → ℕ → List Canonised → Type 0
+AreCanonised words depth cs = AllByRecursion (IsCanonised words depth) cs
+
+-- why no copy was made: this is the first capability in preorder, or there is none and a growth was refused
+abbrev pub HasNoCopy : List (List ℕ) → CanonFault → Type 0
+HasNoCopy m (HasCapability s w) = IsFirstCap m s w
+HasNoCopy m Memory = (s w : ℕ) → ¬ IsFirstCap m s w
+
+module _ {S K : Type 0} (gs : source.Ghosts S) (gk : sink.Ghosts K) (words depth limit most : ℕ) (cs : List Canonised) where
+  -- why no more copies were put, the source standing at `mid` behind these messages: Ok where the stream ended
+  abbrev pub CanonEnds : S → S → Result (Unit {0}) Cause → Type 0
+  CanonEnds mid new (Ok ended) = EndsStream gs mid new
+  CanonEnds mid new (Err TooManyMessages) = (length cs ≡ most) × (m : List (List ℕ)) × ReadsStream gs limit mid new (m ∷ [])
+  CanonEnds mid new (Err (Frame fault)) = Faults gs limit mid new fault
+  CanonEnds mid new (Err (Output fault)) = ⊥
+  CanonEnds mid new (Err (Refused refusal)) = (length cs < most) × (m : List (List ℕ)) × ReadsStream gs limit mid new (m ∷ []) × IsRefused m words depth refusal
+  CanonEnds mid new (Err (Canon fault)) = (length cs < most) × (m : List (List ℕ)) × (report : Report) × ReadsStream gs limit mid new (m ∷ [])
+      × IsAccepted m words depth report × HasNoCopy m fault
+
+  -- One more message was read, and the output answered this fault while its copy was put.
+  pub record StopsInCopy (mid new : S) (before after : K) (fault : OutFault) : Type 0 where
+    pub next : Canonised
+    pub few : length cs < most
+    pub reads : ReadsStream gs limit mid new (next.message ∷ [])
+    pub is_canonised : IsCanonised words depth next
+    pub halts : Halts gk before after (copies_of cs ++ frame_text (next.copy ∷ [])) (sink_fault_of fault)
+
+  -- What was to be answered was known, and the output answered this fault as the sink was finished.
+  pub record StopsBehindCopies (mid new : S) (before after : K) (fault : OutFault) : Type 0 where
+    pub end : Result (Unit {0}) Cause
+    pub ends : CanonEnds mid new end
+    pub spoils : Spoils gk before after (copies_of cs) fault
+
+  -- what each cause says: but for an output's fault, the copies were put and the sink was finished
+  abbrev pub CanonStops : S → S → K → K → Cause → Type 0
+  CanonStops mid new before after TooManyMessages = CanonEnds mid new (Err TooManyMessages) × Finishes gk before after (copies_of cs)
+  CanonStops mid new before after (Frame fault) = CanonEnds mid new (Err (Frame fault)) × Finishes gk before after (copies_of cs)
+  CanonStops mid new before after (Output fault) = StopsInCopy mid new before after fault ⊎ StopsBehindCopies mid new before after fault
+  CanonStops mid new before after (Refused refusal) = CanonEnds mid new (Err (Refused refusal)) × Finishes gk before after (copies_of cs)
+  CanonStops mid new before after (Canon fault) = CanonEnds mid new (Err (Canon fault)) × Finishes gk before after (copies_of cs)
+
+module _ {S K : Type 0} (gs : source.Ghosts S) (gk : sink.Ghosts K) where
+  -- What the engine does over a stream of at most so many messages, each of at most `limit` words, where a message may be
+  -- charged so many words and have objects of at most this level.
+  pub record MakesCopies (words depth limit most : ℕ) (old new : S) (before after : K) (answer : Result Outcome RunFault) : Type 0 where
+    -- All words of the source are frames of these messages, and exactly their copies were put.
+    pub ok : IfOk answer (λ outcome. (cs : List Canonised) × ReadsAll gs limit old new (canonised cs) × AreCanonised words depth cs
+        × Finishes gk before after (copies_of cs) × (length cs ≤ most)
+        × (outcome ≡ record { messages = length cs; refused = 0; noncanonical = 0 }))
+    -- The source stood at `mid` when the messages before the fault had been read.
+    pub err : IfErr answer (λ fault. (cs : List Canonised) × (mid : S) × (fault.message ≡ length cs) × (length cs ≤ most)
+        × ReadsStream gs limit old mid (canonised cs) × AreCanonised words depth cs
+        × CanonStops gs gk words depth limit most cs mid new before after fault.cause)
+    -- And the other way round: a stream of at most so many messages, each within the limits and with a copy, is read to its end.
+    pub whole : (own : List ℕ) (cs : List Canonised) → gs.words old ≡ Some own → gs.is_cut old ≡ false → Stream own (canonised cs)
+        → AllByRecursion (λ m. sum (sizes_of m) ≤ limit) (canonised cs) → AreCanonised words depth cs → length cs ≤ most →
+        Settled answer (Finishes gk before after (copies_of cs) × (answer ≡ Ok (record { messages = length cs; refused = 0; noncanonical = 0 })))

@@ -1,0 +1,94 @@
+-- What the steps of the engine do that puts canonical copies (profile). gs and gk have the members of the source's and of
+-- the sink's type.
+use Rattle.std.specs.Prelude.{ℕ, ◌≡◌, ◌≤◌, true, false, Bool, List, [], ◌∷◌, length, Result, Ok, Err}
+use Rattle.cap_spec.specs.Faults.{IsRefused}
+use Rattle.cap_spec.specs.Frames.{frame_text}
+use Rattle.cap_words.specs.Sinks.{sink_fault_of}
+use Rattle.cap_words.specs.declared.sinks.WordSink as sink
+use Rattle.cap_words.specs.declared.sources.WordSource as source
+use Rattle.cap_frame.specs.Faults.{Faults}
+use Rattle.cap_frame.specs.Putting.{Halts}
+use Rattle.cap_vet.specs.Reports.{IsAccepted}
+use Rattle.cap_vet.specs.declared.report.Report.{Report}
+use Rattle.cap_run.specs.Canons.{AreCanonised, CanonEnds, CanonStops, Canonised, HasNoCopy, IsCanonised, StopsInCopy, canonised, copies_of}
+use Rattle.cap_run.specs.Copying.{Fills, Finishes}
+use Rattle.cap_run.specs.Streams.{ReadsStream}
+use Rattle.cap_run.specs.declared.fault.Cause.{Cause}
+use Rattle.cap_run.specs.declared.fault.Cause.TheVariants.{TooManyMessages, Frame, Output, Refused, Canon}
+
+-- whether the sink is still to be finished
+abbrev pub is_unfinished : Result (Unit {0}) Cause → Bool
+is_unfinished (Ok ended) = true
+is_unfinished (Err TooManyMessages) = true
+is_unfinished (Err (Frame fault)) = true
+is_unfinished (Err (Output fault)) = false
+is_unfinished (Err (Refused refusal)) = true
+is_unfinished (Err (Canon fault)) = true
+
+module _ {K : Type 0} (gk : sink.Ghosts K) (words depth : ℕ) where
+  -- why the copy of a message wasn't put
+  abbrev pub CopyStops : List (List ℕ) → K → K → Cause → Type 0
+  CopyStops m before after TooManyMessages = ⊥
+  CopyStops m before after (Frame fault) = ⊥
+  CopyStops m before after (Output fault) = (copy : List ℕ) × IsCanonised words depth (record { message = m; copy = copy })
+      × Halts gk before after (frame_text (copy ∷ [])) (sink_fault_of fault)
+  CopyStops m before after (Refused refusal) = IsRefused m words depth refusal × (after ≡ before)
+  CopyStops m before after (Canon fault) = (report : Report) × IsAccepted m words depth report × HasNoCopy m fault × (after ≡ before)
+
+module _ {S K : Type 0} (gs : source.Ghosts S) (gk : sink.Ghosts K) (words depth limit : ℕ) where
+  -- why no copy of a next message was put
+  abbrev pub NextStops : S → S → K → K → Cause → Type 0
+  NextStops old new before after TooManyMessages = ⊥
+  NextStops old new before after (Frame fault) = Faults gs limit old new fault × (after ≡ before)
+  NextStops old new before after (Output fault) = (m : List (List ℕ)) × ReadsStream gs limit old new (m ∷ [])
+      × CopyStops gk words depth m before after (Output fault)
+  NextStops old new before after (Refused refusal) = (m : List (List ℕ)) × ReadsStream gs limit old new (m ∷ [])
+      × CopyStops gk words depth m before after (Refused refusal)
+  NextStops old new before after (Canon fault) = (m : List (List ℕ)) × ReadsStream gs limit old new (m ∷ [])
+      × CopyStops gk words depth m before after (Canon fault)
+
+  -- So many messages were read, and their copies put.
+  pub record CopiesSoFar (old new : S) (before after : K) (n : ℕ) : Type 0 where
+    pub cs : List Canonised
+    pub many : length cs ≡ n
+    pub reads : ReadsStream gs limit old new (canonised cs)
+    pub each : AreCanonised words depth cs
+    pub fills : Fills gk before after (copies_of cs)
+
+  -- why no more copies were put behind these, the sink not yet finished
+  abbrev pub StopsMaking : ℕ → List Canonised → S → S → K → K → Result (Unit {0}) Cause → Type 0
+  StopsMaking most cs mid new before after (Ok ended) = CanonEnds gs gk words depth limit most cs mid new (Ok ended) × Fills gk before after (copies_of cs)
+  StopsMaking most cs mid new before after (Err TooManyMessages) =
+      CanonEnds gs gk words depth limit most cs mid new (Err TooManyMessages) × Fills gk before after (copies_of cs)
+  StopsMaking most cs mid new before after (Err (Frame fault)) =
+      CanonEnds gs gk words depth limit most cs mid new (Err (Frame fault)) × Fills gk before after (copies_of cs)
+  StopsMaking most cs mid new before after (Err (Output fault)) = StopsInCopy gs gk words depth limit most cs mid new before after fault
+  StopsMaking most cs mid new before after (Err (Refused refusal)) =
+      CanonEnds gs gk words depth limit most cs mid new (Err (Refused refusal)) × Fills gk before after (copies_of cs)
+  StopsMaking most cs mid new before after (Err (Canon fault)) =
+      CanonEnds gs gk words depth limit most cs mid new (Err (Canon fault)) × Fills gk before after (copies_of cs)
+
+  -- So many messages were read, and this is why no more copies were put.
+  pub record Making (most : ℕ) (old new : S) (before after : K) (n : ℕ) (end : Result (Unit {0}) Cause) : Type 0 where
+    pub cs : List Canonised
+    pub mid : S
+    pub many : length cs ≡ n
+    pub few : n ≤ most
+    pub reads : ReadsStream gs limit old mid (canonised cs)
+    pub each : AreCanonised words depth cs
+    pub stops : StopsMaking most cs mid new before after end
+
+  -- why the sink was finished, or why it couldn't be
+  abbrev pub CopiesEnd : ℕ → List Canonised → S → S → K → K → Result (Unit {0}) Cause → Type 0
+  CopiesEnd most cs mid new before after (Ok ended) = CanonEnds gs gk words depth limit most cs mid new (Ok ended) × Finishes gk before after (copies_of cs)
+  CopiesEnd most cs mid new before after (Err cause) = CanonStops gs gk words depth limit most cs mid new before after cause
+
+  -- So many messages were read, and the run ended so.
+  pub record Made (most : ℕ) (old new : S) (before after : K) (n : ℕ) (end : Result (Unit {0}) Cause) : Type 0 where
+    pub cs : List Canonised
+    pub mid : S
+    pub many : length cs ≡ n
+    pub few : n ≤ most
+    pub reads : ReadsStream gs limit old mid (canonised cs)
+    pub each : AreCanonised words depth cs
+    pub ends : CopiesEnd most cs mid new before after end
