@@ -4,6 +4,7 @@ use Rattle.std.specs.Io.KnownBytes.{Appends, Keeps, append_known}
 use Rattle.cap_words.specs.declared.ends.ByteOut as output
 use Rattle.cap_words.specs.declared.sinks.WordSink as sink
 use Rattle.cap_words.specs.declared.sources.WordSource as source
+use Rattle.cap_canon.specs.declared.fault.CanonFault.TheVariants.{HasCapability, Memory as canon_memory}
 use Rattle.cap_frame.specs.declared.fault.FrameFault.{FrameFault}
 use Rattle.cap_frame.specs.declared.fault.FrameFault.TheVariants.{TooManySegments, TooLarge, Truncated, Device, Memory, Spent}
 use Rattle.cap_spec.specs.Packing.{pack_text}
@@ -14,7 +15,7 @@ use Rattle.cap_cmd.specs.Statuses.{cause_status, copy_status, frame_status, outc
 use Rattle.cap_cmd.specs.Jobs.{BeginsOutput, CopiesInput, DoesTask, GivesOutput, ShowsInput, TellsCopy, TellsInput}
 use Rattle.cap_run.specs.Telling.{Tells, outcome_of}
 use Rattle.cap_run.specs.declared.fault.Cause.{Cause}
-use Rattle.cap_run.specs.declared.fault.Cause.TheVariants.{TooManyMessages, Frame, Output}
+use Rattle.cap_run.specs.declared.fault.Cause.TheVariants.{TooManyMessages, Frame, Output, Refused, Canon}
 use Rattle.cap_run.specs.declared.fault.CopyFault.{CopyFault}
 use Rattle.cap_run.specs.declared.fault.CopyFault.TheVariants.{TooManyWords, Source, Output as copy_output}
 use Rattle.cap_words.specs.declared.sources.SourceFault.TheVariants.{Truncated as source_truncated, Device as source_device, Spent as source_spent}
@@ -53,6 +54,9 @@ pub cause_fails : (cause : Cause) → cause_status cause ≡ 0 → ⊥
 cause_fails TooManyMessages e = cc
 cause_fails (Frame fault) e = frame_fails fault e
 cause_fails (Output fault) e = cc
+cause_fails (Refused refusal) e = cc
+cause_fails (Canon (HasCapability s w)) e = cc
+cause_fails (Canon canon_memory) e = cc
 
 -- with it no message was refused
 pub none_refused : (o : Outcome) → outcome_status o ≡ 0 → o.refused ≡ 0

@@ -4,8 +4,10 @@ use Rattle.cap_words.specs.declared.sources.SourceFault.{SourceFault}
 use Rattle.cap_words.specs.declared.sources.SourceFault.TheVariants.{Truncated as source_truncated, Device as source_device, Spent as source_spent}
 use Rattle.cap_frame.specs.declared.fault.FrameFault.{FrameFault}
 use Rattle.cap_frame.specs.declared.fault.FrameFault.TheVariants.{TooManySegments, TooLarge, Truncated, Device, Memory, Spent}
+use Rattle.cap_canon.specs.declared.fault.CanonFault.{CanonFault}
+use Rattle.cap_canon.specs.declared.fault.CanonFault.TheVariants.{HasCapability, Memory as canon_memory}
 use Rattle.cap_run.specs.declared.fault.Cause.{Cause}
-use Rattle.cap_run.specs.declared.fault.Cause.TheVariants.{TooManyMessages, Frame, Output}
+use Rattle.cap_run.specs.declared.fault.Cause.TheVariants.{TooManyMessages, Frame, Output, Refused, Canon}
 use Rattle.cap_run.specs.declared.fault.CopyFault.{CopyFault}
 use Rattle.cap_run.specs.declared.fault.CopyFault.TheVariants.{TooManyWords, Source as copy_source, Output as copy_output}
 use Rattle.cap_run.specs.declared.fault.RunFault.{RunFault}
@@ -20,10 +22,17 @@ frame_status Device = 3
 frame_status Memory = 3
 frame_status Spent = 3
 
+-- the status of a message of which no canonical copy was made
+abbrev pub canon_status : CanonFault → ℕ
+canon_status (HasCapability s w) = 1
+canon_status canon_memory = 3
+
 abbrev pub cause_status : Cause → ℕ
 cause_status TooManyMessages = 1
 cause_status (Frame fault) = frame_status fault
 cause_status (Output fault) = 3
+cause_status (Refused refusal) = 1
+cause_status (Canon fault) = canon_status fault
 
 -- 0 where every message was accepted, and canonical where that was asked
 abbrev pub outcome_status : Outcome → ℕ

@@ -4,6 +4,7 @@
 ghost use Rattle.cap_cmd.specs.Statuses.{cause_status, copy_status, outcome_status, run_status};
 ghost use Rattle.std.specs.Prelude.{◌≡◌};
 
+use cap_canon::CanonFault;
 use cap_frame::FrameFault;
 use cap_run::{Cause, CopyFault, Outcome, RunFault};
 use cap_words::SourceFault;
@@ -23,6 +24,9 @@ fn fault_status(cause: Cause) -> u8
             FrameFault::Spent => 3,
         },
         Cause::Output(_) => 3,
+        Cause::Refused(_) => 1,
+        Cause::Canon(CanonFault::HasCapability { .. }) => 1,
+        Cause::Canon(CanonFault::Memory) => 3,
     }
 }
 
