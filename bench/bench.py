@@ -181,6 +181,8 @@ ON_ALL = [
 ON_MESSAGES = [
     Timed("capvet segments", f"PROGRAM segments {SIZE} FILE"),
     Timed("capvet vet", f"PROGRAM vet {LIMITS} FILE"),
+    Timed("capvet check", f"PROGRAM check {LIMITS} FILE", statuses=(0, 1)),
+    Timed("capvet canon", f"PROGRAM canon {LIMITS} FILE"),
     Timed("capvet vet --packed", f"PROGRAM vet --packed {LIMITS} FILE", packed=True),
 ]
 # What writes a tree or a node is timed on these inputs alone: `big` would be a line for each of its words.

@@ -106,6 +106,7 @@ NULL_ACCEPTED = "message 0: accepted charge 0 depth 0 pointers 1 caps 0\n"
 NULL_DUMP = NULL_ACCEPTED + "root null\n"
 NULL_FOUND = "message 0: found\nnode null\n"
 CYCLE = framed("fcffffff00000100")
+CAPABILITY = framed("0300000005000000")
 CYCLE_REFUSED = "message 0: refused DepthLimit at 0:0 pointers 65\n"
 
 # ------------------------------------------------------------------ samples
@@ -119,14 +120,52 @@ VERDICTS = {
     + "message 2: accepted charge 20 depth 2 pointers 7 caps 0\n"
     + "message 3: accepted charge 78 depth 5 pointers 21 caps 0\n",
 }
-COMMANDS = ("segments", "vet", "dump", "get", "pack", "unpack")
+CHECKS = {
+    "contacts.bin": "message 0: not canonical\n",
+    "contacts-many-segments.bin": "message 0: not canonical\n",
+    "telemetry.bin": "message 0: not canonical\n",
+    "stream-of-four.bin": "message 0: not canonical\n"
+    + "message 1: canonical\n"
+    + "message 2: not canonical\n"
+    + "message 3: not canonical\n",
+}
+# The canonical words of each sample's messages, one behind the other, as `capnp convert binary:canonical` writes them.
+COPIES = {
+    "contacts.bin": "contacts.bin",
+    "contacts-many-segments.bin": "contacts.bin",
+    "telemetry.bin": "telemetry.bin",
+    "stream-of-four.bin": "stream-of-four.bin",
+}
+COMMANDS = ("segments", "vet", "dump", "get", "check", "canon", "pack", "unpack")
 # The same with what each of them needs besides its input.
-RUNS = ("segments", "vet", "dump", "get /", "pack", "unpack")
+RUNS = ("segments", "vet", "dump", "get /", "check", "canon", "pack", "unpack")
 PATHS = ("/", "/p0", "/p1/p0", "/p0/i0", "/p0/i1/p4", "/i0", "/p65535")
 
 
 def sample(name):
     return (TOP / "examples" / name).read_bytes()
+
+
+def contents(stream):
+    """The words of all messages of a stream without their tables, as long as each has one segment."""
+    text, at = b"", 0
+    while at < len(stream) and stream[at:at + 4] == bytes(4):
+        size = 8 * struct.unpack_from("<I", stream, at + 4)[0]
+        text += stream[at + 8:at + 8 + size]
+        at += 8 + size
+    return text
+
+
+def canonical_copies():
+    """The copies of each sample's messages, plain and packed, against those of another program; each is canonical."""
+    for name, copies in COPIES.items():
+        wanted = (sample(f"canonical/{copies}"), b"", 0)
+        text, err, status = run([PROGRAM, "canon", f"examples/{name}"], stdout=subprocess.PIPE)
+        compare(f"capvet canon examples/{name}", wanted, (contents(text), err, status))
+        case("canon", text, stdin=text)
+        shell_case(f"capvet pack examples/{name} | capvet canon --packed", text)
+        shell_case(f"capvet canon examples/{name} | capvet check",
+                   "".join(f"message {n}: canonical\n" for n in range(len(CHECKS[name].splitlines()))))
 
 
 def samples():
@@ -136,20 +175,23 @@ def samples():
             file, packed = f"examples/{name}", f"{folder}/{name}.packed"
             stream = sample(name)
             texts = {"vet": verdicts, "segments": segments_text(stream), "dump": dump_text(stream, verdicts)}
+            texts["check"] = CHECKS[name]
             texts |= {f"get {path}": get_text(stream, path) for path in PATHS}
             shell_case(f"capvet pack {file} > {packed}", "")
             text = Path(packed).read_bytes()
             for command, wanted in texts.items():
-                case([*command.split(), file], wanted)
-                case(command, wanted, stdin=stream)
-                case([*command.split(), "--packed", packed], wanted)
-                case(f"{command} --packed", wanted, stdin=text)
+                status = 1 if "not canonical" in wanted else 0
+                case([*command.split(), file], wanted, status=status)
+                case(command, wanted, status=status, stdin=stream)
+                case([*command.split(), "--packed", packed], wanted, status=status)
+                case(f"{command} --packed", wanted, status=status, stdin=text)
             case("pack", text, stdin=stream)
             case(["unpack", packed], stream)
             case("unpack", stream, stdin=text)
 
 
 samples()
+canonical_copies()
 case("unpack examples/contacts.packed", sample("contacts.bin"))
 case("vet --packed examples/contacts.packed", CONTACTS)
 # The two texts of the encoding specification's section on packing.
@@ -164,13 +206,19 @@ case("dump", CYCLE_REFUSED, status=1, stdin=CYCLE)
 case("get /p0", CYCLE_REFUSED, status=1, stdin=CYCLE)
 case("vet --words 100 examples/contacts.bin", "message 0: refused WordLimit at 0:21 pointers 22\n", status=1)
 case("vet --size 391 examples/contacts.bin", err="capvet: message 0: TooLarge 392\n", status=1)
+case("check", "message 0: canonical\n" + CYCLE_REFUSED.replace("0", "1", 1), status=1, stdin=NULL + CYCLE)
+case("canon", NULL, "capvet: message 1: refused DepthLimit at 0:0\n", 1, NULL + CYCLE + NULL)
+case("canon", NULL, "capvet: message 1: HasCapability at 0:0\n", 1, NULL + CAPABILITY)
+case("canon --depth 3 examples/contacts.bin", err="capvet: message 0: refused DepthLimit at 0:62\n", status=1)
+case("canon", NULL, "capvet: message 1: Truncated at byte 23\n", 1, NULL + NULL[:7])
 case("vet", NULL_ACCEPTED, "capvet: message 1: Truncated at byte 23\n", 1, NULL + NULL[:7])
 case("dump", NULL_DUMP, "capvet: message 1: Truncated at byte 23\n", 1, NULL + NULL[:7])
 case("get /", NULL_FOUND, "capvet: message 1: Truncated at byte 23\n", 1, NULL + NULL[:7])
 case("segments", segments_text(NULL), "capvet: message 1: TooManySegments 513\n", 1, NULL + word("0002000000000000"))
 case("pack", word("0101"), "capvet: Truncated at byte 15\n", 1, word("0100000000000000") + bytes(7))
 case("unpack", bytes(8), "capvet: Truncated at byte 3\n", 1, word("000001"))
-for command in (*RUNS, "segments --packed", "vet --packed", "dump --packed", "get / --packed"):
+PACKED = ("segments --packed", "vet --packed", "dump --packed", "get / --packed", "check --packed", "canon --packed")
+for command in (*RUNS, *PACKED):
     case(command)
 
 
@@ -209,7 +257,7 @@ for command in RUNS:
     case(f"{command} examples", err=f"capvet: {at}Device\n", status=3, stdin=NULL)
 with open("/dev/full", "wb") as full:
     for stdout in (full, closed_pipe()):
-        for command in ("segments", "vet", "dump", "get /", "pack"):
+        for command in ("segments", "vet", "dump", "get /", "check", "canon", "pack"):
             case(command, err=FAILED, status=3, stdin=NULL, stdout=stdout)
             case(command, err=FAILED, status=3, stdin=LONG, stdout=stdout)
         case("unpack", err=FAILED, status=3, stdin=word("0000"), stdout=stdout)
@@ -223,7 +271,7 @@ with open("/dev/full", "wb") as full:
 # ------------------------------------------------------------------ command lines
 case([b"vet", b"\xff"], err="capvet: an argument is not UTF-8\n", status=2, stdin=NULL)
 mistake("", """'capvet' requires a subcommand but one was not provided
-  [subcommands: segments, vet, dump, get, pack, unpack, help]
+  [subcommands: segments, vet, dump, get, check, canon, pack, unpack, help]
 
 Usage: capvet <COMMAND>
 """)
@@ -260,6 +308,8 @@ Commands:
   vet       Checks that each message is safe to traverse
   dump      Writes the tree of each message that is safe to traverse
   get       Shows the node at a path in each message that is safe to traverse
+  check     Checks that each message is canonical
+  canon     Writes the canonical copy of each message
   pack      Packs a stream of words
   unpack    Unpacks a stream of words
   help      Print this message or the help of the given subcommand(s)
@@ -272,8 +322,9 @@ A stream is framed messages, one after the other: of each a table with the sizes
 and then the segments, in words of 8 bytes. Without FILE a command reads standard input.
 
 Exit status:
-  0  every message was accepted, or every word was copied
-  1  a message was refused, or the input is cut short or isn't messages within the limits
+  0  every message was accepted, and canonical for 'check', or every word was copied
+  1  a message was refused, isn't canonical or has no copy, or the input is cut short or isn't
+     messages within the limits
   2  the command line is wrong
   3  a file doesn't open, a device failed, or memory ran out
 

@@ -7,12 +7,15 @@ use Rattle.cap_words.specs.declared.sources.WordSource as source
 use Rattle.cap_canon.specs.declared.fault.CanonFault.TheVariants.{HasCapability, Memory as canon_memory}
 use Rattle.cap_frame.specs.declared.fault.FrameFault.{FrameFault}
 use Rattle.cap_frame.specs.declared.fault.FrameFault.TheVariants.{TooManySegments, TooLarge, Truncated, Device, Memory, Spent}
+use Rattle.cap_frame.specs.Limit.{limit_of}
+use Rattle.cap_vet.specs.Limits.{depth_of, words_of}
 use Rattle.cap_spec.specs.Packing.{pack_text}
 use Rattle.cap_spec.specs.Plain.{plain_text}
+use Rattle.cap_run.specs.Canons.{MakesCopies, copies_of}
 use Rattle.cap_run.specs.Copying.{Copied, CopiesAll}
 use Rattle.cap_run.specs.Engines.{CopiesWords, ShowsStream, TellsStream, most_words}
 use Rattle.cap_cmd.specs.Statuses.{cause_status, copy_status, frame_status, outcome_status, run_status}
-use Rattle.cap_cmd.specs.Jobs.{BeginsOutput, CopiesInput, DoesTask, GivesOutput, ShowsInput, TellsCopy, TellsInput}
+use Rattle.cap_cmd.specs.Jobs.{BeginsOutput, CopiesInput, DoesTask, CanonsInput, GivesOutput, ShowsInput, TellsCopy, TellsInput, TellsRun}
 use Rattle.cap_run.specs.Telling.{Tells, outcome_of}
 use Rattle.cap_run.specs.declared.fault.Cause.{Cause}
 use Rattle.cap_run.specs.declared.fault.Cause.TheVariants.{TooManyMessages, Frame, Output, Refused, Canon}
@@ -21,7 +24,7 @@ use Rattle.cap_run.specs.declared.fault.CopyFault.TheVariants.{TooManyWords, Sou
 use Rattle.cap_words.specs.declared.sources.SourceFault.TheVariants.{Truncated as source_truncated, Device as source_device, Spent as source_spent}
 use Rattle.cap_run.specs.declared.fault.RunFault.{RunFault}
 use Rattle.cap_cmd.specs.declared.job.Task.{Task}
-use Rattle.cap_cmd.specs.declared.job.Task.TheVariants.{Pack, Unpack}
+use Rattle.cap_cmd.specs.declared.job.Task.TheVariants.{Canon as canon_task, Pack, Unpack}
 use Rattle.cap_run.specs.declared.settings.Outcome.{Outcome}
 use Rattle.cap_run.specs.declared.settings.Settings.{Settings}
 
@@ -62,6 +65,10 @@ cause_fails (Canon canon_memory) e = cc
 pub none_refused : (o : Outcome) → outcome_status o ≡ 0 → o.refused ≡ 0
 none_refused o e = grind (arith, e)
 
+-- and none wasn't canonical
+pub none_noncanonical : (o : Outcome) → outcome_status o ≡ 0 → o.noncanonical ≡ 0
+none_noncanonical o e = grind (arith, e)
+
 module _ {S O : Type 0} (gs : source.Ghosts S) (go : output.Ghosts O) where
   -- all messages were shown
   pub shown_all : (limit most : ℕ) (old new : S) (before after : O) (r : Result Outcome RunFault) → run_status r ≡ 0 → ShowsStream gs go limit most old new before after r
@@ -86,6 +93,7 @@ module _ {S O : Type 0} (gs : source.Ghosts S) (go : output.Ghosts O) where
         many = k.4;
         each = k.2;
         accepted = none_refused (outcome_of k.0) (subst (λ (x : Outcome). outcome_status x ≡ 0) k.5 e);
+        canonical = none_noncanonical (outcome_of k.0) (subst (λ (x : Outcome). outcome_status x ≡ 0) k.5 e);
         appended = k.3.appended;
       }
   told_all tells limit most old new before after (Err fault) e s = absurd (cause_fails fault.cause e)
@@ -105,6 +113,27 @@ module _ {S O K : Type 0} (gs : source.Ghosts S) (go : output.Ghosts O) (gk : si
         appended = subst (λ o. Appends (go.written before) o (text k.0)) g.taken (kept_appends (go.written before) (gk.taken ended) (text k.0) kept);
       }
 
+module _ {S O K : Type 0} (gs : source.Ghosts S) (go : output.Ghosts O) (gk : sink.Ghosts K) where
+  -- all copies were put
+  pub all_made : (charge depth limit most : ℕ) (old new : S) (before after : O) (begun ended : K) (r : Result Outcome RunFault) → run_status r ≡ 0
+      → BeginsOutput go gk plain_text before begun → MakesCopies gs gk charge depth limit most old new begun ended r → GivesOutput go gk ended after
+      → CanonsInput (gs.words old) (gs.is_cut old) (go.written before) (go.written after) charge depth limit most
+  all_made charge depth limit most old new before after begun ended (Ok o) e b c g =
+      let k = c.ok in
+      let kept = subst (λ (o : Option (List ℕ)). Keeps o (gk.taken ended)) (b.empty (copies_of k.0)) k.3.finished in
+      record {
+        own = k.1.own;
+        all = k.1.all;
+        cs = k.0;
+        stream = k.1.stream;
+        within = k.1.within;
+        many = k.4;
+        each = k.2;
+        appended = subst (λ o. Appends (go.written before) o (plain_text (copies_of k.0))) g.taken
+            (kept_appends (go.written before) (gk.taken ended) (plain_text (copies_of k.0)) kept);
+      }
+  all_made charge depth limit most old new before after begun ended (Err fault) e b c g = absurd (cause_fails fault.cause e)
+
 module _ {S O E P U : Type 0} (gs : source.Ghosts S) (go : output.Ghosts O) (ge : output.Ghosts E) (gp : sink.Ghosts P) (gu : sink.Ghosts U) where
   -- words were packed
   pub does_pack : (task : Task) (s : Settings) (first last : S) (before after : O) (old new : E) (status : ℕ) (begun ended : P) (answer : Result ℕ CopyFault) → task ≡ Pack
@@ -118,4 +147,11 @@ module _ {S O E P U : Type 0} (gs : source.Ghosts S) (go : output.Ghosts O) (ge 
       → BeginsOutput go gu plain_text before begun → CopiesWords gs gu most_words first last begun ended answer → GivesOutput go gu ended after → TellsCopy ge answer old new status
       → DoesTask gs go ge gp gu task s first before after old new status
   does_unpack task s first last before after old new status begun ended answer e b c g t =
+      subst (λ (x : Task). DoesTask gs go ge gp gu x s first before after old new status) (sym e) (answer, last, begun, ended, b, c, g, t)
+
+  -- copies were put
+  pub does_canon : (task : Task) (s : Settings) (first last : S) (before after : O) (old new : E) (status : ℕ) (begun ended : U) (answer : Result Outcome RunFault) → task ≡ canon_task
+      → BeginsOutput go gu plain_text before begun → MakesCopies gs gu (words_of s.limits) (depth_of s.limits) (limit_of s.size) s.messages first last begun ended answer
+      → GivesOutput go gu ended after → TellsRun ge answer old new status → DoesTask gs go ge gp gu task s first before after old new status
+  does_canon task s first last before after old new status begun ended answer e b c g t =
       subst (λ (x : Task). DoesTask gs go ge gp gu x s first before after old new status) (sym e) (answer, last, begun, ended, b, c, g, t)

@@ -18,16 +18,18 @@ use Rattle.cap_words.specs.declared.sinks.WordSink as sink
 use Rattle.cap_words.specs.declared.sources.WordSource as source
 use Rattle.cap_frame.specs.Limit.{limit_of}
 use Rattle.cap_vet.specs.Limits.{depth_of, words_of}
+use Rattle.cap_run.specs.Canons.{AreCanonised, Canonised, MakesCopies, canonised, copies_of}
+use Rattle.cap_run.specs.Checking.{TellsCheck}
 use Rattle.cap_run.specs.Engines.{CopiesWords, ShowsStream, TellsStream, most_words}
 use Rattle.cap_run.specs.Faults.{copy_fault_line, run_fault_line}
 use Rattle.cap_cmd.specs.Statuses.{copy_status, run_status}
-use Rattle.cap_run.specs.Telling.{Tells, TellsEach, Told, messages_of, refused_in, segments_texts, texts_of}
+use Rattle.cap_run.specs.Telling.{Tells, TellsEach, Told, messages_of, noncanonical_in, refused_in, segments_texts, texts_of}
 use Rattle.cap_run.specs.Vetting.{TellsDump, TellsGet, TellsVerdict}
 use Rattle.cap_run.specs.Writing.{Writes}
 use Rattle.cap_run.specs.declared.fault.CopyFault.{CopyFault}
 use Rattle.cap_run.specs.declared.fault.RunFault.{RunFault}
 use Rattle.cap_cmd.specs.declared.job.Task.{Task}
-use Rattle.cap_cmd.specs.declared.job.Task.TheVariants.{Segments, Vet, Dump, Get, Pack, Unpack}
+use Rattle.cap_cmd.specs.declared.job.Task.TheVariants.{Segments, Vet, Dump, Get, Check, Canon, Pack, Unpack}
 use Rattle.cap_run.specs.declared.settings.Outcome.{Outcome}
 use Rattle.cap_run.specs.declared.settings.Settings.{Settings}
 
@@ -37,6 +39,8 @@ is_packed Segments told = told
 is_packed Vet told = told
 is_packed Dump told = told
 is_packed (Get path) told = told
+is_packed Check told = told
+is_packed Canon told = told
 is_packed Pack told = false
 is_packed Unpack told = true
 
@@ -114,6 +118,13 @@ module _ {S O E P U : Type 0} (gs : source.Ghosts S) (go : output.Ghosts O) (ge 
   DoesTask (Get path) s first before after old new status = (answer : Result Outcome RunFault) × (last : S)
       × TellsStream gs go (TellsGet (words_of s.limits) (depth_of s.limits) path.items) (limit_of s.size) s.messages first last before after answer
       × TellsRun ge answer old new status
+  DoesTask Check s first before after old new status = (answer : Result Outcome RunFault) × (last : S)
+      × TellsStream gs go (TellsCheck (words_of s.limits) (depth_of s.limits)) (limit_of s.size) s.messages first last before after answer
+      × TellsRun ge answer old new status
+  DoesTask Canon s first before after old new status = (answer : Result Outcome RunFault) × (last : S) × (begun : U) × (ended : U)
+      × BeginsOutput go gu plain_text before begun
+      × MakesCopies gs gu (words_of s.limits) (depth_of s.limits) (limit_of s.size) s.messages first last begun ended answer
+      × GivesOutput go gu ended after × TellsRun ge answer old new status
   DoesTask Pack s first before after old new status = (answer : Result ℕ CopyFault) × (last : S) × (begun : P) × (ended : P)
       × BeginsOutput go gp pack_text before begun × CopiesWords gs gp most_words first last begun ended answer × GivesOutput go gp ended after
       × TellsCopy ge answer old new status
@@ -139,7 +150,8 @@ pub record ShowsInput (words : Option (List ℕ)) (is_cut : Bool) (before after 
   pub many : length ms ≤ most
   pub appended : Appends before after (segments_texts ms)
 
--- All words are frames of messages, each within the limit, and none is cut short. Each message is accepted, and such a text of it was written.
+-- All words are frames of messages, each within the limit, and none is cut short. Each message is accepted, and canonical where that was asked,
+-- and such a text of it was written.
 pub record TellsInput (tells : Tells) (words : Option (List ℕ)) (is_cut : Bool) (before after : Option (List ℕ))
     (limit most : ℕ) : Type 0 where
   pub own : List ℕ
@@ -150,7 +162,20 @@ pub record TellsInput (tells : Tells) (words : Option (List ℕ)) (is_cut : Bool
   pub many : length ts ≤ most
   pub each : TellsEach tells 0 ts
   pub accepted : refused_in ts ≡ 0
+  pub canonical : noncanonical_in ts ≡ 0
   pub appended : Appends before after (texts_of ts)
+
+-- All words are frames of messages, each within the limit, and none is cut short. Each message is accepted and has a canonical copy, and the frame of
+-- that was written.
+pub record CanonsInput (words : Option (List ℕ)) (is_cut : Bool) (before after : Option (List ℕ)) (charge depth limit most : ℕ) : Type 0 where
+  pub own : List ℕ
+  pub all : OnSome words ((words ≡ Some own) × (is_cut ≡ false))
+  pub cs : List Canonised
+  pub stream : Stream own (canonised cs)
+  pub within : AllByRecursion (λ m. sum (sizes_of m) ≤ limit) (canonised cs)
+  pub many : length cs ≤ most
+  pub each : AreCanonised charge depth cs
+  pub appended : Appends before after (plain_text (copies_of cs))
 
 -- The text of all words was written, and none is cut short.
 pub record CopiesInput (words : Option (List ℕ)) (is_cut : Bool) (before after : Option (List ℕ)) (text : List ℕ → List ℕ) (most : ℕ) : Type 0 where

@@ -20,8 +20,9 @@ A stream is framed messages, one after the other: of each a table with the sizes
 and then the segments, in words of 8 bytes. Without FILE a command reads standard input.
 
 Exit status:
-  0  every message was accepted, or every word was copied
-  1  a message was refused, or the input is cut short or isn't messages within the limits
+  0  every message was accepted, and canonical for 'check', or every word was copied
+  1  a message was refused, isn't canonical or has no copy, or the input is cut short or isn't
+     messages within the limits
   2  the command line is wrong
   3  a file doesn't open, a device failed, or memory ran out
 
@@ -69,6 +70,23 @@ Example:
   message 0: found
   node struct 1 6
     d0 0a6e000001000000";
+
+const CHECK_NOTES: &str = "\
+A message is canonical where it has one segment, of just the words that 'canon' writes behind the
+table of its copy. A message that isn't within the limits is told as 'vet' tells it.
+
+Example:
+  $ capvet canon examples/contacts.bin | capvet check
+  message 0: canonical";
+
+const CANON_NOTES: &str = "\
+A copy is a message of one segment, whose table is its first 8 bytes. Messages have equal copies
+exactly where they hold the same, zeros and null pointers at the end of structs aside. The command
+ends at the first message that isn't within the limits or that has a capability.
+
+Example:
+  $ capvet canon examples/contacts.bin | tail -c +9 | sha256sum
+  da5b2d724a838dca43e56e40db89de68bba3d3772cd838de0fa7e9029481403e  -";
 
 const PACK_NOTES: &str = "\
 Example:
@@ -189,6 +207,30 @@ fn get_command<'a>(alloc: Global) -> Result<Command<'a>, AllocError> {
         .arg(file_argument(alloc))
 }
 
+// The command that checks.
+fn check_command<'a>(alloc: Global) -> Result<Command<'a>, AllocError> {
+    Command::new(alloc, "check")
+        .about("Checks that each message is canonical")
+        .after_help(CHECK_NOTES)
+        .arg(packed_option(alloc))?
+        .arg(size_option(alloc))?
+        .arg(words_option(alloc))?
+        .arg(depth_option(alloc))?
+        .arg(file_argument(alloc))
+}
+
+// The command that writes canonical copies.
+fn canon_command<'a>(alloc: Global) -> Result<Command<'a>, AllocError> {
+    Command::new(alloc, "canon")
+        .about("Writes the canonical copy of each message")
+        .after_help(CANON_NOTES)
+        .arg(packed_option(alloc))?
+        .arg(size_option(alloc))?
+        .arg(words_option(alloc))?
+        .arg(depth_option(alloc))?
+        .arg(file_argument(alloc))
+}
+
 // The command that packs.
 fn pack_command<'a>(alloc: Global) -> Result<Command<'a>, AllocError> {
     Command::new(alloc, "pack")
@@ -216,6 +258,8 @@ fn capvet_command<'a>(alloc: Global) -> Result<Command<'a>, AllocError> {
         .subcommand(vet_command(alloc)?)?
         .subcommand(dump_command(alloc)?)?
         .subcommand(get_command(alloc)?)?
+        .subcommand(check_command(alloc)?)?
+        .subcommand(canon_command(alloc)?)?
         .subcommand(pack_command(alloc)?)?
         .subcommand(unpack_command(alloc)?)
 }
@@ -317,6 +361,8 @@ pub fn read_job(alloc: Global, words: Vec<String>) -> Result<Job, JobFault>
             Some(("vet", options)) => job_of(alloc, Task::Vet, options),
             Some(("dump", options)) => job_of(alloc, Task::Dump, options),
             Some(("get", options)) => get_job(alloc, options),
+            Some(("check", options)) => job_of(alloc, Task::Check, options),
+            Some(("canon", options)) => job_of(alloc, Task::Canon, options),
             Some(("pack", options)) => job_of(alloc, Task::Pack, options),
             Some(("unpack", options)) => job_of(alloc, Task::Unpack, options),
             _ => Err(usage_fault(alloc, "error: a command is needed\n")),

@@ -16,6 +16,10 @@ pub enum Task {
         /// The steps of the path, from the root on.
         path: Vec<Step>,
     },
+    /// To tell of each message whether it is canonical.
+    Check,
+    /// To write the canonical copy of each message.
+    Canon,
     /// To pack words.
     Pack,
     /// To unpack words.

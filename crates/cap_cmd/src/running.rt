@@ -1,7 +1,8 @@
 //! Doing a job: its engine is run over an input, an output and an output for faults.
 
 ghost use Rattle.cap_run.specs.Engines.{most_words};
-ghost use Rattle.cap_cmd.specs.Jobs.{CopiesInput, DoesJob, DoesTask, ShowsInput, TellsCopy, TellsInput, TellsRun, input_is_cut, input_words, is_packed, path_of};
+ghost use Rattle.cap_cmd.specs.Jobs.{CanonsInput, CopiesInput, DoesJob, DoesTask, ShowsInput, TellsCopy, TellsInput, TellsRun, input_is_cut, input_words, is_packed, path_of};
+ghost use Rattle.cap_run.specs.Checking.{TellsCheck};
 ghost use Rattle.cap_run.specs.Vetting.{TellsDump, TellsGet, TellsVerdict};
 ghost use Rattle.cap_spec.specs.declared.Step.{Step};
 ghost use Rattle.cap_frame.specs.Limit.{limit_of};
@@ -14,8 +15,8 @@ use crate::job::{Job, Task};
 use crate::status::{stream_status, words_status};
 use cap_pack::{Packer, Unpacker};
 use cap_run::{
-    CopyFault, Outcome, RunFault, run_dump, run_get, run_pack, run_segments, run_unpack, run_vet,
-    write_copy_fault, write_fault,
+    CopyFault, Outcome, RunFault, run_canon, run_check, run_dump, run_get, run_pack, run_segments,
+    run_unpack, run_vet, write_copy_fault, write_fault,
 };
 use cap_words::{ByteIn, ByteOut, PlainSink, PlainWords, WordSink, WordSource};
 use std::alloc::Global;
@@ -29,6 +30,7 @@ fn input_is_packed(job: &Job) -> bool
 {
     match &job.task {
         Task::Segments | Task::Vet | Task::Dump | Task::Get { .. } => job.packed,
+        Task::Check | Task::Canon => job.packed,
         Task::Pack => false,
         Task::Unpack => true,
     }
@@ -75,6 +77,12 @@ fn run_over<S: WordSource + Drop, O: ByteOut, E: ByteOut>(
     ensures get { (path : List Step) → path_of job.now.task ≡ Some path → result.0 ≡ 0 →
         TellsInput (TellsGet (words_of job.now.settings.limits) (depth_of job.now.settings.limits) path) (S.words source) (S.is_cut source)
         (O.written out) (O.written result.1) (limit_of job.now.settings.size) job.now.settings.messages }
+    ensures check { job.now.task ≡ Task.Check → result.0 ≡ 0 →
+        TellsInput (TellsCheck (words_of job.now.settings.limits) (depth_of job.now.settings.limits)) (S.words source) (S.is_cut source)
+        (O.written out) (O.written result.1) (limit_of job.now.settings.size) job.now.settings.messages }
+    ensures canon { job.now.task ≡ Task.Canon → result.0 ≡ 0 →
+        CanonsInput (S.words source) (S.is_cut source) (O.written out) (O.written result.1) (words_of job.now.settings.limits)
+        (depth_of job.now.settings.limits) (limit_of job.now.settings.size) job.now.settings.messages }
     ensures pack { job.now.task ≡ Task.Pack → result.0 ≡ 0 →
         CopiesInput (S.words source) (S.is_cut source) (O.written out) (O.written result.1) pack_text most_words }
     ensures unpack { job.now.task ≡ Task.Unpack → result.0 ≡ 0
@@ -100,6 +108,15 @@ fn run_over<S: WordSource + Drop, O: ByteOut, E: ByteOut>(
             let answer = run_get(alloc, &mut source, &mut out, &job.settings, path);
             (report(err, &answer), out)
         }
+        Task::Check => {
+            let answer = run_check(alloc, &mut source, &mut out, &job.settings);
+            (report(err, &answer), out)
+        }
+        Task::Canon => {
+            let mut sink = PlainSink::new(out);
+            let answer = run_canon(alloc, &mut source, &mut sink, &job.settings);
+            (report(err, &answer), sink.into_inner())
+        }
         Task::Pack => {
             let mut sink = Packer::new(out);
             let answer = run_pack(&mut source, &mut sink, MOST_WORDS);
@@ -116,8 +133,9 @@ fn run_over<S: WordSource + Drop, O: ByteOut, E: ByteOut>(
 /// Does a job: reads the input, writes to the output, and writes the line of a fault to `err`. It
 /// answers the exit status and the output. A line that can't be written changes no status.
 ///
-/// The status is 0 where every message was accepted, or all words were copied; 1 where a message was
-/// refused, the input is no stream of messages within the limits, is cut inside a word or a group, or
+/// The status is 0 where every message was accepted, and canonical where that was asked, or all words
+/// were copied; 1 where a message was refused, or isn't canonical where that was asked, or has no
+/// canonical copy where one is made, the input is no stream of messages within the limits, is cut inside a word or a group, or
 /// has more words than are copied; and 3 where a device failed, an end was spent before, or a growth
 /// was refused.
 pub fn run_job<I: ByteIn + Drop, O: ByteOut, E: ByteOut>(
@@ -147,6 +165,12 @@ pub fn run_job<I: ByteIn + Drop, O: ByteOut, E: ByteOut>(
     ensures get { (path : List Step) → path_of job.now.task ≡ Some path → result.0 ≡ 0 →
         TellsInput (TellsGet (words_of job.now.settings.limits) (depth_of job.now.settings.limits) path) (input_words job.now.packed (I.to_come input))
         (input_is_cut job.now.packed (I.to_come input)) (O.written out) (O.written result.1) (limit_of job.now.settings.size) job.now.settings.messages }
+    ensures check { job.now.task ≡ Task.Check → result.0 ≡ 0 →
+        TellsInput (TellsCheck (words_of job.now.settings.limits) (depth_of job.now.settings.limits)) (input_words job.now.packed (I.to_come input))
+        (input_is_cut job.now.packed (I.to_come input)) (O.written out) (O.written result.1) (limit_of job.now.settings.size) job.now.settings.messages }
+    ensures canon { job.now.task ≡ Task.Canon → result.0 ≡ 0 →
+        CanonsInput (input_words job.now.packed (I.to_come input)) (input_is_cut job.now.packed (I.to_come input)) (O.written out) (O.written result.1)
+        (words_of job.now.settings.limits) (depth_of job.now.settings.limits) (limit_of job.now.settings.size) job.now.settings.messages }
     ensures pack { job.now.task ≡ Task.Pack → result.0 ≡ 0 →
         CopiesInput (input_words false (I.to_come input)) (input_is_cut false (I.to_come input)) (O.written out) (O.written result.1) pack_text most_words }
     ensures unpack { job.now.task ≡ Task.Unpack → result.0 ≡ 0 →

@@ -2,8 +2,10 @@
 
 use crate::status::words_status;
 use crate::{Cause, CopyFault, Job, JobFault, Limits, RunFault, Task, read_job, run_job};
+use cap_canon::CanonFault;
 use cap_frame::FrameFault;
 use cap_run::{write_copy_fault, write_fault};
+use cap_vet::{Reason, Refusal};
 use cap_words::{OutFault, SliceIn, SourceFault, VecOut};
 use std::alloc::{AllocError, Global};
 use std::test::Fail;
@@ -135,7 +137,7 @@ fn refuses_and_helps(rt: HostRuntime) -> Result<(), Fail> {
 fn does_a_job(rt: HostRuntime) -> Result<(), Fail> {
     let alloc = rt.alloc();
     let two = b"\0\0\0\0\0\0\0\0\0\0\0\0\x02\0\0\0\0\0\0\0\x01\0\0\0\x2a\0\0\0\0\0\0\0\0\0\0\0";
-    let runs: [(&[&str], &[u8], u8, &str, &str); 9] = [
+    let runs: [(&[&str], &[u8], u8, &str, &str); 11] = [
         (
             &["capvet", "segments"],
             &two[..32],
@@ -170,6 +172,20 @@ fn does_a_job(rt: HostRuntime) -> Result<(), Fail> {
             b"\x10\x02\x10\x01\x01\x2a",
             0,
             "message 0: accepted charge 1 depth 1 pointers 1 caps 0\n",
+            "",
+        ),
+        (
+            &["capvet", "check"],
+            &two[8..32],
+            0,
+            "message 0: canonical\n",
+            "",
+        ),
+        (
+            &["capvet", "canon", "--packed"],
+            b"\x10\x02\x10\x01\x01\x2a",
+            0,
+            "\0\0\0\0\x02\0\0\0\0\0\0\0\x01\0\0\0\x2a\0\0\0\0\0\0\0",
             "",
         ),
         (
@@ -215,7 +231,17 @@ fn does_a_job(rt: HostRuntime) -> Result<(), Fail> {
 
 #[test]
 fn tells_the_faults(rt: HostRuntime) -> Result<(), Fail> {
-    let faults: [(Cause, &str); 8] = [
+    let refusal = Refusal {
+        segment: 511,
+        word: 4294967295,
+        reason: Reason::CompositeOverrun,
+        pointers: 9,
+    };
+    let first = CanonFault::HasCapability {
+        segment: 2,
+        word: 30,
+    };
+    let faults: [(Cause, &str); 11] = [
         (
             Cause::TooManyMessages,
             "capvet: message 7: TooManyMessages\n",
@@ -247,6 +273,18 @@ fn tells_the_faults(rt: HostRuntime) -> Result<(), Fail> {
             "capvet: message 7: Spent\n",
         ),
         (Cause::Output(OutFault::Device), "capvet: output failed\n"),
+        (
+            Cause::Refused(refusal),
+            "capvet: message 7: refused CompositeOverrun at 511:4294967295\n",
+        ),
+        (
+            Cause::Canon(first),
+            "capvet: message 7: HasCapability at 2:30\n",
+        ),
+        (
+            Cause::Canon(CanonFault::Memory),
+            "capvet: message 7: Memory\n",
+        ),
     ];
     for (cause, text) in &faults {
         let fault = RunFault {

@@ -2,6 +2,8 @@
 #![tactic(auto)]
 
 #[cfg(test)]
+mod canons;
+#[cfg(test)]
 mod copies;
 #[cfg(test)]
 mod devices;

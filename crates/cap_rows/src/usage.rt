@@ -204,7 +204,7 @@ struct Help {
     text: &'static str,
 }
 
-const HELPS: [Help; 8] = [
+const HELPS: [Help; 10] = [
     Help {
         lines: [&["--help"], &["-h"], &["help"]],
         text: "\
@@ -217,6 +217,8 @@ Commands:
   vet       Checks that each message is safe to traverse
   dump      Writes the tree of each message that is safe to traverse
   get       Shows the node at a path in each message that is safe to traverse
+  check     Checks that each message is canonical
+  canon     Writes the canonical copy of each message
   pack      Packs a stream of words
   unpack    Unpacks a stream of words
   help      Print this message or the help of the given subcommand(s)
@@ -229,8 +231,9 @@ A stream is framed messages, one after the other: of each a table with the sizes
 and then the segments, in words of 8 bytes. Without FILE a command reads standard input.
 
 Exit status:
-  0  every message was accepted, or every word was copied
-  1  a message was refused, or the input is cut short or isn't messages within the limits
+  0  every message was accepted, and canonical for 'check', or every word was copied
+  1  a message was refused, isn't canonical or has no copy, or the input is cut short or isn't
+     messages within the limits
   2  the command line is wrong
   3  a file doesn't open, a device failed, or memory ran out
 
@@ -353,6 +356,57 @@ Example:
   message 0: found
   node struct 1 6
     d0 0a6e000001000000
+",
+    },
+    Help {
+        lines: [&["check", "--help"], &["check", "-h"], &["help", "check"]],
+        text: "\
+Checks that each message is canonical
+
+Usage: capvet check [OPTIONS] [FILE]
+
+Arguments:
+  [FILE]  File to read, instead of standard input
+
+Options:
+      --packed     The messages are packed
+      --size <N>   Most words of a message, all its segments together, 0 to 268435456 [default: 8388608]
+      --words <N>  Traversal limit in words, 0 to 268435456; a target reached twice counts twice [default: 8388608]
+      --depth <N>  Deepest level of an object, 0 to 256; the root's object has level 1 [default: 64]
+  -h, --help       Print help
+
+A message is canonical where it has one segment, of just the words that 'canon' writes behind the
+table of its copy. A message that isn't within the limits is told as 'vet' tells it.
+
+Example:
+  $ capvet canon examples/contacts.bin | capvet check
+  message 0: canonical
+",
+    },
+    Help {
+        lines: [&["canon", "--help"], &["canon", "-h"], &["help", "canon"]],
+        text: "\
+Writes the canonical copy of each message
+
+Usage: capvet canon [OPTIONS] [FILE]
+
+Arguments:
+  [FILE]  File to read, instead of standard input
+
+Options:
+      --packed     The messages are packed
+      --size <N>   Most words of a message, all its segments together, 0 to 268435456 [default: 8388608]
+      --words <N>  Traversal limit in words, 0 to 268435456; a target reached twice counts twice [default: 8388608]
+      --depth <N>  Deepest level of an object, 0 to 256; the root's object has level 1 [default: 64]
+  -h, --help       Print help
+
+A copy is a message of one segment, whose table is its first 8 bytes. Messages have equal copies
+exactly where they hold the same, zeros and null pointers at the end of structs aside. The command
+ends at the first message that isn't within the limits or that has a capability.
+
+Example:
+  $ capvet canon examples/contacts.bin | tail -c +9 | sha256sum
+  da5b2d724a838dca43e56e40db89de68bba3d3772cd838de0fa7e9029481403e  -
 ",
     },
     Help {
