@@ -1,4 +1,4 @@
--- The lines that the program writes, and those of a dump, a check and a get, which it doesn't write yet (profile).
+-- The lines that the program writes (profile).
 use Rattle.std.specs.Prelude.{ℕ, ◌+◌, ◌*◌, ◌/◌, ◌%◌, ◌==◌, nat_lt, if◌then◌else◌, List, [], ◌∷◌, ◌++◌, length, sum, replicate, codes, decimal, Bool, Option, Some, None}
 use Rattle.std.specs.List.{flat_map}
 use Rattle.cap_spec.specs.Frames.{sizes_of}
