@@ -104,8 +104,7 @@ fn run_over<S: WordSource + Drop, O: ByteOut, E: ByteOut>(
             (report(err, &answer), out)
         }
         Task::Get { path } => {
-            let path = path.as_slice();
-            let answer = run_get(alloc, &mut source, &mut out, &job.settings, path);
+            let answer = run_get(alloc, &mut source, &mut out, &job.settings, path.as_slice());
             (report(err, &answer), out)
         }
         Task::Check => {
@@ -134,10 +133,10 @@ fn run_over<S: WordSource + Drop, O: ByteOut, E: ByteOut>(
 /// answers the exit status and the output. A line that can't be written changes no status.
 ///
 /// The status is 0 where every message was accepted, and canonical where that was asked, or all words
-/// were copied; 1 where a message was refused, or isn't canonical where that was asked, or has no
-/// canonical copy where one is made, the input is no stream of messages within the limits, is cut inside a word or a group, or
-/// has more words than are copied; and 3 where a device failed, an end was spent before, or a growth
-/// was refused.
+/// were copied; 1 where a message was refused, or isn't canonical where that was asked, or has a
+/// capability where its canonical copy is wanted, or where the input is no stream of messages within
+/// the limits, is cut inside a word or a group, or has more words than are copied; and 3 where a device
+/// failed, an end was spent before, or a growth was refused.
 pub fn run_job<I: ByteIn + Drop, O: ByteOut, E: ByteOut>(
     alloc: Global,
     job: &Job,
