@@ -58,7 +58,6 @@ fn push_head(line: &mut ArrayVec<u8, LINE>, kind: Kind)
 }
 
 /// The line of a node under a name, without the spaces before it.
-#[inline(never)]
 fn named_line(name: &[u8], kind: Kind) -> ArrayVec<u8, LINE>
     requires { length name.now ≤ 32 }
     ensures { result.items ≡ name.now ++ 32 ∷ head_of kind ++ 10 ∷ [] }
@@ -72,7 +71,6 @@ fn named_line(name: &[u8], kind: Kind) -> ArrayVec<u8, LINE>
 }
 
 /// The line of a child by its letter and number, without the spaces before it.
-#[inline(never)]
 fn child_line(letter: u8, i: u32, kind: Kind) -> ArrayVec<u8, LINE>
     ensures { result.items ≡ label letter i ++ 32 ∷ head_of kind ++ 10 ∷ [] }
 {
@@ -85,7 +83,6 @@ fn child_line(letter: u8, i: u32, kind: Kind) -> ArrayVec<u8, LINE>
 }
 
 /// The line of a node's own word by its letter and number, without the spaces before it.
-#[inline(never)]
 fn word_line(letter: u8, i: u32, word: u64) -> ArrayVec<u8, LINE>
     ensures { result.items ≡ label letter i ++ 32 ∷ hex word ++ 10 ∷ [] }
 {
@@ -172,7 +169,9 @@ pub(crate) fn write_named<M: Segments, O: ByteOut>(
 }
 
 /// Writes at a level the line of a child by its letter and number, and one level deeper the lines of
-/// its own words. After a fault the output took a beginning of that text.
+/// its own words. After a fault the output took a beginning of that text. The lines are put together
+/// in a frame of its own, which a recursion that calls it doesn't keep.
+#[inline(never)]
 pub(crate) fn write_child<M: Segments, O: ByteOut>(
     out: &mut O,
     level: u32,
