@@ -305,6 +305,18 @@ const THREE: Outcome = Outcome {
     noncanonical: 0,
 };
 
+const THREE_DUMP: &str = "\
+message 0: accepted charge 0 depth 0 pointers 1 caps 0
+root null
+message 1: refused DepthLimit at 0:0 pointers 65
+message 2: accepted charge 4 depth 2 pointers 3 caps 0
+root struct 0 2
+  p0 struct 1 0
+    d0 0700000000000000
+  p1 struct 1 0
+    d0 0700000000000000
+";
+
 #[test]
 fn goes_on_behind_a_refusal(rt: HostRuntime) -> Result<(), Fail> {
     let alloc = rt.alloc();
@@ -320,10 +332,7 @@ fn goes_on_behind_a_refusal(rt: HostRuntime) -> Result<(), Fail> {
             most,
         }));
         assert!(rt; run_dump(alloc, &mut source, &mut out, &settings) == Ok(THREE));
-        assert_eq!(rt;
-            out.bytes(),
-            b"message 0: accepted charge 0 depth 0 pointers 1 caps 0\nroot null\nmessage 1: refused DepthLimit at 0:0 pointers 65\nmessage 2: accepted charge 4 depth 2 pointers 3 caps 0\nroot struct 0 2\n  p0 struct 1 0\n    d0 0700000000000000\n  p1 struct 1 0\n    d0 0700000000000000\n".as_slice()
-        );
+        assert_eq!(rt; out.bytes(), THREE_DUMP.as_bytes());
         let mut out = VecOut::new(alloc);
         let mut source = PlainWords::new(FromRead::new(Sips {
             bytes: stream.as_slice(),

@@ -92,47 +92,49 @@ fn reads_the_options_of_vet(rt: HostRuntime) -> Result<(), Fail> {
     Ok(())
 }
 
+// Command lines that are wrong, and what is said of them.
+const MISTAKES: [(&[&str], &str); 9] = [
+    (
+        &["vet", "--size", "268435457"],
+        "error: invalid value '268435457' for '--size <N>': 268435457 is not in 0..=268435456\n\nFor more information, try '--help'.\n",
+    ),
+    (
+        &["vet", "--words", "268435457"],
+        "error: invalid value '268435457' for '--words <N>': 268435457 is not in 0..=268435456\n\nFor more information, try '--help'.\n",
+    ),
+    (
+        &["vet", "--depth", "257"],
+        "error: invalid value '257' for '--depth <N>': 257 is not in 0..=256\n\nFor more information, try '--help'.\n",
+    ),
+    (
+        &["vet", "--depth", "deep"],
+        "error: invalid value 'deep' for '--depth <N>': invalid digit found in string\n\nFor more information, try '--help'.\n",
+    ),
+    (
+        &["vet", "--words"],
+        "error: a value is required for '--words <N>' but none was supplied\n\nFor more information, try '--help'.\n",
+    ),
+    (
+        &["get"],
+        "error: the following required arguments were not provided:\n  <PATH>\n\nUsage: capvet get <PATH> [FILE]\n\nFor more information, try '--help'.\n",
+    ),
+    (
+        &["dump", "--depth", "257"],
+        "error: invalid value '257' for '--depth <N>': 257 is not in 0..=256\n\nFor more information, try '--help'.\n",
+    ),
+    (
+        &["vet", "one", "two"],
+        "error: unexpected argument 'two' found\n\nUsage: capvet vet [OPTIONS] [FILE]\n\nFor more information, try '--help'.\n",
+    ),
+    (
+        &["vet", "--deep", "1"],
+        "error: unexpected argument '--deep' found\n\n  tip: a similar argument exists: '--depth'\n\nUsage: capvet vet --depth <N> [FILE]\n\nFor more information, try '--help'.\n",
+    ),
+];
+
 #[test]
 fn refuses_what_a_command_does_not_take(rt: HostRuntime) -> Result<(), Fail> {
-    let mistakes: [(&[&str], &str); 9] = [
-        (
-            &["vet", "--size", "268435457"],
-            "error: invalid value '268435457' for '--size <N>': 268435457 is not in 0..=268435456\n\nFor more information, try '--help'.\n",
-        ),
-        (
-            &["vet", "--words", "268435457"],
-            "error: invalid value '268435457' for '--words <N>': 268435457 is not in 0..=268435456\n\nFor more information, try '--help'.\n",
-        ),
-        (
-            &["vet", "--depth", "257"],
-            "error: invalid value '257' for '--depth <N>': 257 is not in 0..=256\n\nFor more information, try '--help'.\n",
-        ),
-        (
-            &["vet", "--depth", "deep"],
-            "error: invalid value 'deep' for '--depth <N>': invalid digit found in string\n\nFor more information, try '--help'.\n",
-        ),
-        (
-            &["vet", "--words"],
-            "error: a value is required for '--words <N>' but none was supplied\n\nFor more information, try '--help'.\n",
-        ),
-        (
-            &["get"],
-            "error: the following required arguments were not provided:\n  <PATH>\n\nUsage: capvet get <PATH> [FILE]\n\nFor more information, try '--help'.\n",
-        ),
-        (
-            &["dump", "--depth", "257"],
-            "error: invalid value '257' for '--depth <N>': 257 is not in 0..=256\n\nFor more information, try '--help'.\n",
-        ),
-        (
-            &["vet", "one", "two"],
-            "error: unexpected argument 'two' found\n\nUsage: capvet vet [OPTIONS] [FILE]\n\nFor more information, try '--help'.\n",
-        ),
-        (
-            &["vet", "--deep", "1"],
-            "error: unexpected argument '--deep' found\n\n  tip: a similar argument exists: '--depth'\n\nUsage: capvet vet --depth <N> [FILE]\n\nFor more information, try '--help'.\n",
-        ),
-    ];
-    for (line, wanted) in mistakes {
+    for (line, wanted) in MISTAKES {
         let Err(JobFault::Usage { text }) = read_job(rt.alloc(), words(rt.alloc(), line)?) else {
             return Err(Fail::from("no mistake"));
         };
