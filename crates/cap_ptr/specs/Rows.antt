@@ -1,0 +1,26 @@
+-- What the word alone tells of an object near by (standard: Structs, Lists).
+use Rattle.std.specs.Prelude.{ℕ, ◌+◌, ◌<◌, ◌≡◌, ◌≤◌, ◌⊎◌, List, length}
+use Rattle.cap_spec.specs.Messages.{segment_of}
+use Rattle.cap_spec.specs.Pointers.{code, data_size, extent, kind, list_size, pointer_size}
+use Rattle.cap_ptr.specs.Shapes.{FindsObject}
+use Rattle.cap_ptr.specs.declared.rows.Row.{Row}
+use Rattle.cap_ptr.specs.declared.shapes.Shape.{Shape}
+use Rattle.cap_ptr.specs.declared.shapes.Shape.TheVariants.{Struct, Scalars, Pointers, Structs}
+
+-- the pointer words of an object of this shape that starts at b are so many from this one on
+abbrev pub HasRow : Shape → ℕ → ℕ → ℕ → Type 0
+HasRow (Struct d p) b at left = (at ≡ b + d) × (left ≡ p)
+HasRow (Scalars c n) b at left = left ≡ 0
+HasRow (Pointers n) b at left = (at ≡ b) × (left ≡ n)
+HasRow (Structs size n d p) b at left = ⊥
+
+-- the pointer word at s:w leads to an object in its segment, with these pointer words there and this charge
+abbrev pub FindsRow : List (List ℕ) → ℕ → ℕ → Row → Type 0
+FindsRow m s w r = (r.at + r.left ≤ length (segment_of m s)) × (b q n : ℕ) × (x : Shape) × FindsObject m s w 0 s b q 0 n r.charge x × HasRow x b r.at r.left
+
+-- the object of the word q has so many words without pointers, and then so many pointer words
+abbrev pub IsParts : ℕ → ℕ × ℕ → Type 0
+IsParts q parts =
+    ((kind q ≡ 0) × (parts.0 ≡ data_size q) × (parts.1 ≡ pointer_size q))
+    ⊎ (((kind q ≡ 1) × (code q ≡ 6) × (parts.0 ≡ 0) × (parts.1 ≡ list_size q))
+    ⊎ ((kind q ≡ 1) × (0 < code q) × (code q < 6) × (parts.0 ≡ extent q) × (parts.1 ≡ 0)))
