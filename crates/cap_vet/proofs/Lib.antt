@@ -13,6 +13,7 @@ mod Stacks
 mod Verdicts
 mod ObjectFrames
 mod Looks
+mod Near
 mod Keeping
 mod Founds
 mod Nodes

@@ -1,5 +1,5 @@
 -- The pointer words of a frame, and what is left of it behind the first (profile).
-use Rattle.std.specs.Prelude.{ℕ, zero, suc, ◌+◌, ◌*◌, ◌<◌, ◌≤◌, ◌≡◌, List, [], ◌∷◌, ◌++◌, length, Option, None, Some, ⊤}
+use Rattle.std.specs.Prelude.{ℕ, zero, suc, ◌+◌, ◌*◌, ◌<◌, ◌≤◌, ◌≡◌, Bool, if◌then◌else◌, List, [], ◌∷◌, ◌++◌, length, Option, None, Some, ⊤}
 use Rattle.std.specs.List.{flat_map}
 use Rattle.cap_spec.specs.Messages.{segment_of}
 use Rattle.cap_vet.specs.Trails.{Ahead}
@@ -34,6 +34,10 @@ option_spots (Some f) = spots f
 -- the pointer words of frames, the topmost first
 abbrev pub all_spots : List Frame → List Place
 all_spots frames = flat_map spots frames
+
+-- the frame, where something is left of it
+abbrev pub kept : Bool → Frame → Option Frame
+kept b f = if b then Some f else None
 
 -- A frame isn't empty, and its words lie inside its segment.
 pub record FrameIn (m : List (List ℕ)) (f : Frame) : Type 0 where

@@ -1,6 +1,6 @@
 //! A run of pointer words that a walk still has to look at.
 
-ghost use Rattle.cap_vet.specs.Frames.{FrameIn, IsRest, spots};
+ghost use Rattle.cap_vet.specs.Frames.{FrameIn, IsRest, kept};
 ghost use Rattle.cap_spec.specs.Messages.{IsMessage};
 ghost use Rattle.std.specs.Prelude.{List, ℕ};
 
@@ -19,26 +19,23 @@ pub(crate) struct Frame {
 }
 
 impl Frame {
-    /// What is left behind the first pointer word, if there is any.
-    pub(crate) fn rest(self) -> Option<Frame>
-        requires { (m : List (List ℕ)) × IsMessage m × FrameIn m self }
-        ensures { IsRest self result }
+    /// Goes on behind the first pointer word. `false` where nothing is left.
+    #[inline(always)]
+    pub(crate) fn advance(&mut self) -> bool
+        requires { (m : List (List ℕ)) × IsMessage m × FrameIn m self.old }
+        ensures { IsRest self.old (kept result self.new) }
     {
         if self.left > 1 {
-            return Some(Frame {
-                at: self.at + 1,
-                left: self.left - 1,
-                ..self
-            });
+            self.at += 1;
+            self.left -= 1;
+            return true;
         }
         if self.more > 0 {
-            return Some(Frame {
-                at: self.at + 1 + self.data_words,
-                left: self.pointers,
-                more: self.more - 1,
-                ..self
-            });
+            self.at = self.at + 1 + self.data_words;
+            self.left = self.pointers;
+            self.more -= 1;
+            return true;
         }
-        None
+        false
     }
 }

@@ -8,13 +8,13 @@ ghost use Rattle.cap_vet.specs.Frames.{OptionIn, option_spots};
 ghost use Rattle.cap_vet.specs.Limits.{depth_of, words_of};
 ghost use Rattle.cap_spec.specs.Faults.{IsFirstReason};
 ghost use Rattle.cap_vet.specs.Looking.{IsLooked};
-ghost use Rattle.std.specs.Prelude.{◌+◌, ◌<◌, ◌^◌, ◌≡◌, ◌≤◌, IfErr, IfOk, List, length, ℕ};
+ghost use Rattle.std.specs.Prelude.{◌+◌, ◌<◌, ◌^◌, ◌≡◌, ◌≤◌, IfErr, IfOk, IfSome, List, length, ℕ};
 
 use crate::frame::Frame;
 use crate::limits::Limits;
-use crate::targets::{frame_of, levels_taken};
+use crate::targets::{frame_of, levels_taken, row_frame};
 use cap_frame::Segments;
-use cap_ptr::{Followed, Reason, Shape, Target, follow};
+use cap_ptr::{Followed, Reason, follow, row_at};
 
 /// What a pointer word leads to, within the limits.
 pub(crate) enum Looked {
@@ -70,4 +70,32 @@ pub(crate) fn look<M: Segments>(
             Ok(Looked::Object(target.charge, deepest, frame_of(&target, level)))
         }
     }
+}
+
+/// Looks at the same word, and answers alone where it is null or the word tells all of its object, and
+/// that is within the limits.
+#[inline(always)]
+pub(crate) fn look_near<M: Segments>(
+    message: &M,
+    limits: &Limits,
+    spent: u64,
+    s: u32,
+    w: u32,
+    level: u32,
+) -> Option<Looked>
+    requires exists { s < length (M.segments message.now) }
+    requires inside { w < length (segment_of (M.segments message.now) s) }
+    requires spent { spent ≤ words_of limits.now }
+    requires level { level ≤ depth_of limits.now + 1 }
+    ensures { IfSome result (IsLooked (M.segments message.now) (words_of limits.now) (depth_of limits.now) spent s w level) }
+{
+    if message.word(s, w) == 0 {
+        return Some(Looked::Null(0));
+    }
+    let row = row_at(message, s, w)?;
+    if level > limits.depth() || row.charge > limits.words() - spent {
+        return None;
+    }
+    let frame = row_frame(s, row.at, row.left, level + 1);
+    Some(Looked::Object(row.charge, level, frame))
 }

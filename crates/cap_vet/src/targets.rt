@@ -75,7 +75,7 @@ pub(crate) fn frame_of(target: &Target, level: u32) -> Option<Frame>
 }
 
 // The pointer words of a struct or of a list of pointers, which stand in one row.
-fn row_frame(segment: u32, at: u32, left: u32, level: u32) -> Option<Frame>
+pub(crate) fn row_frame(segment: u32, at: u32, left: u32, level: u32) -> Option<Frame>
     ensures places { option_spots result ≡ row_places level segment at left }
     ensures inside { (m : List (List ℕ)) → segment < length m → at + left ≤ length (segment_of m segment) → OptionIn m result }
     ensures level { LevelIs level result }

@@ -15,7 +15,7 @@ use crate::frame::Frame;
 use crate::limits::Limits;
 use crate::report::Report;
 use crate::vetted::Vetted;
-use crate::walking::{Stack, push_some, visit};
+use crate::walking::{Stack, push_kept, visit};
 use cap_frame::Segments;
 use cap_spec::{Reason, Refusal};
 
@@ -128,22 +128,23 @@ fn walk_on<M: Segments, const N: usize>(
 {
     'walk: loop {
         let (s, w, level) = (frame.segment, frame.at, frame.level);
-        let rest = frame.rest();
+        let more = frame.advance();
         match visit(message, limits, report, s, w, level) {
             Ok(Some(below)) => {
-                push_some(stack, rest);
+                push_kept(stack, more, frame);
                 if stack.is_full() {
                     return Ok(Some(below));
                 }
                 frame = below;
             }
-            Ok(None) => match rest {
-                Some(rest) => frame = rest,
-                None => match stack.pop() {
-                    Some(below) => frame = below,
-                    None => return Ok(None),
-                },
-            },
+            Ok(None) => {
+                if !more {
+                    match stack.pop() {
+                        Some(below) => frame = below,
+                        None => return Ok(None),
+                    }
+                }
+            }
             Err(refusal) => return Err(refusal),
         }
     }

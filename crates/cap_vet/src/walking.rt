@@ -1,6 +1,7 @@
 //! The walk: one pointer word a turn, in preorder.
 
 ghost use Rattle.cap_spec.specs.Faults.{IsFirstFault};
+ghost use Rattle.cap_vet.specs.Frames.{kept};
 ghost use Rattle.cap_vet.specs.Limits.{depth_of, words_of};
 ghost use Rattle.cap_vet.specs.Turning.{added, frame_below};
 ghost use Rattle.cap_vet.specs.Walking.{IsNext, IsWalking, work_left, work_next};
@@ -9,7 +10,7 @@ ghost use Rattle.std.specs.Prelude.{◌+◌, ◌++◌, ◌<◌, ◌≡◌, ◌�
 
 use crate::frame::Frame;
 use crate::limits::Limits;
-use crate::looking::{Looked, look};
+use crate::looking::{Looked, look, look_near};
 use crate::report::Report;
 use arrayvec::ArrayVec;
 use cap_frame::Segments;
@@ -38,6 +39,9 @@ pub(crate) fn visit<M: Segments>(
         IfOk result (λ below. work_left (words_of limits.now) (frames ++ option_to_list below) report.new < work_next (words_of limits.now) frames report.old) }
     ensures err { IfErr result (IsFirstFault (M.segments message.now) (words_of limits.now) (depth_of limits.now)) }
 {
+    if let Some(looked) = look_near(message, limits, report.charge, s, w, level) {
+        return Ok(add(report, s, w, looked));
+    }
     match look(message, limits, report.charge, s, w, level) {
         Err(reason) => Err(Refusal {
             segment: s,
@@ -49,14 +53,14 @@ pub(crate) fn visit<M: Segments>(
     }
 }
 
-/// One more frame, where there is one.
+/// One more frame, where something is left of it.
 #[inline(always)]
-pub(crate) fn push_some<const N: usize>(stack: &mut Stack<N>, frame: Option<Frame>)
+pub(crate) fn push_kept<const N: usize>(stack: &mut Stack<N>, more: bool, frame: Frame)
     requires few { N ≤ 256 }
-    requires room { length (stack.old.items ++ option_to_list frame) ≤ N }
-    ensures { stack.new.items ≡ stack.old.items ++ option_to_list frame }
+    requires room { length (stack.old.items ++ option_to_list (kept more frame)) ≤ N }
+    ensures { stack.new.items ≡ stack.old.items ++ option_to_list (kept more frame) }
 {
-    if let Some(frame) = frame {
+    if more {
         stack.push(frame);
     }
 }

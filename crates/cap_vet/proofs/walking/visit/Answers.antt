@@ -12,7 +12,19 @@ pub returns-in-Err-clause-err : goal.returns-in-Err-clause-err
 returns-in-Err-clause-err g c = first_fault _ _ _ _ _ _ _ _ _ c.requires.next.1 c.in-Err.ensures.err
 
 pub returns-in-Ok-clause-ok : goal.returns-in-Ok-clause-ok
-returns-in-Ok-clause-ok g c = λ frames next. rw (c.add.ensures.report, c.add.ensures.frame) (walk_on _ _ _ _ _ _ frames _ _ next c.in-Ok.ensures.ok)
+returns-in-Ok-clause-ok g c = λ frames next. rw (c.add-in-Ok.ensures.report, c.add-in-Ok.ensures.frame) (walk_on _ _ _ _ _ _ frames _ _ next c.in-Ok.ensures.ok)
 
 pub returns-in-Ok-clause-falls : goal.returns-in-Ok-clause-falls
-returns-in-Ok-clause-falls g c = λ frames next. rw (c.add.ensures.report, c.add.ensures.frame) (work_falls _ _ _ _ _ _ frames _ _ next c.in-Ok.ensures.ok)
+returns-in-Ok-clause-falls g c = λ frames next. rw (c.add-in-Ok.ensures.report, c.add-in-Ok.ensures.frame) (work_falls _ _ _ _ _ _ frames _ _ next c.in-Ok.ensures.ok)
+
+pub returns-in-Some-clause-ok : goal.returns-in-Some-clause-ok
+returns-in-Some-clause-ok g c = λ frames next. rw (c.add.ensures.report, c.add.ensures.frame) (walk_on _ _ _ _ _ _ frames _ _ next c.in-Some.ensures)
+
+pub returns-in-Some-clause-falls : goal.returns-in-Some-clause-falls
+returns-in-Some-clause-falls g c = λ frames next. rw (c.add.ensures.report, c.add.ensures.frame) (work_falls _ _ _ _ _ _ frames _ _ next c.in-Some.ensures)
+
+pub look_near-requires-clause-exists : goal.look_near-requires-clause-exists
+look_near-requires-clause-exists g c = c.requires.next.1.exists
+
+pub look_near-requires-clause-inside : goal.look_near-requires-clause-inside
+look_near-requires-clause-inside g c = c.requires.next.1.within

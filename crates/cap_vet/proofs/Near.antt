@@ -1,0 +1,56 @@
+-- What is said of an object near by, whose word tells its pointer words.
+use Rattle.std.proofs.Common.{◌≡◌, ℕ, ◌+◌, ◌-◌, ◌≤◌, ◌==◌, false, List, refl, ◌∙◌, subst, arith, Option, None, Some}
+use Rattle.std.proofs.lemmas.Bool.{ne_eqb}
+use Rattle.cap_spec.specs.Pointers.{code, data_size, list_size, pointer_size}
+use Rattle.cap_ptr.specs.Rows.{FindsRow, HasRow}
+use Rattle.cap_ptr.specs.Shapes.{FindsObject}
+use Rattle.cap_ptr.specs.declared.rows.Row.{Row}
+use Rattle.cap_ptr.specs.declared.shapes.Shape.{Shape}
+use Rattle.cap_ptr.specs.declared.shapes.Shape.TheVariants.{Pointers, Scalars, Struct, Structs}
+use Rattle.cap_vet.specs.Frames.{LevelIs, OptionIn, option_spots, row_places}
+use Rattle.cap_vet.specs.Looking.{FrameRises, IsLooked, LooksObject, object_places}
+use Rattle.cap_vet.specs.Shapes.{levels_of}
+use Rattle.cap_vet.specs.declared.frame.Frame.{Frame}
+use Rattle.cap_vet.specs.declared.looking.Looked.TheVariants.{Object}
+use Rattle.cap_vet.proofs.Looks.{looks_object}
+
+-- its pointer words are those of the row
+near_places : (m : List (List ℕ)) (s w t b q n c at left level : ℕ) (x : Shape) → FindsObject m s w 0 t b q 0 n c x → HasRow x b at left → row_places (level + 1) t at left ≡ object_places q 0 t b level
+near_places m s w t b q n c at left level (Struct d p) f (e, g) =
+    let start : at ≡ b + data_size q = omega (arith, e, f.object.shape.data_words) in
+    let many : left ≡ pointer_size q = g ∙ f.object.shape.pointers in
+    rw (f.object.shape.kind, start, many) refl
+near_places m s w t b q n c at left level (Scalars e z) f g =
+    let six : (code q == 6) ≡ false = ne_eqb (code q) 6 (λ h. omega (arith, h, f.object.shape.code, f.object.shape.scalar)) in
+    let seven : (code q == 7) ≡ false = ne_eqb (code q) 7 (λ h. omega (arith, h, f.object.shape.code, f.object.shape.scalar)) in
+    rw (f.object.shape.kind, six, seven, g) refl
+near_places m s w t b q n c at left level (Pointers z) f (e, g) =
+    let many : left ≡ list_size q = g ∙ f.object.shape.count in
+    rw (f.object.shape.kind, f.object.shape.code, e, many) refl
+near_places m s w t b q n c at left level (Structs size z d p) f g = absurd g
+
+-- and it takes no level below its own
+near_levels : (b at left : ℕ) (x : Shape) → HasRow x b at left → 0 ≡ levels_of x
+near_levels b at left (Struct d p) h = refl
+near_levels b at left (Scalars c n) h = refl
+near_levels b at left (Pointers n) h = refl
+near_levels b at left (Structs size n d p) h = absurd h
+
+near_rises : (level depth : ℕ) (frame : Option Frame) → level ≤ depth → LevelIs (level + 1) frame → FrameRises level depth frame
+near_rises level depth None h e = tt
+near_rises level depth (Some f) h e = (omega (arith, e), omega (arith, e))
+
+-- an object near by within the limits
+pub looks_row : (m : List (List ℕ)) (words depth spent s w level : ℕ) (r : Row) (frame : Option Frame) → FindsRow m s w r → level ≤ depth → r.charge ≤ words - spent → spent ≤ words
+    → option_spots frame ≡ row_places (level + 1) s r.at r.left → OptionIn m frame → LevelIs (level + 1) frame → IsLooked m words depth spent s w level (Object r.charge level frame)
+looks_row m words depth spent s w level r frame (room, b, q, n, x, f, h) shallow charge within places inside here =
+    let same : level + 0 ≡ level = omega arith in
+    let o = looks_object m words depth spent s w level 0 s b q 0 n r.charge 0 x frame f (near_levels b r.at r.left x h) (omega arith) charge within
+    (places ∙ near_places m s w s b q n r.charge r.at r.left level x f h) inside (near_rises level depth frame shallow here) in (
+      0,
+      s,
+      b,
+      q,
+      0,
+      subst (λ u. LooksObject m words depth spent s w level r.charge u frame 0 s b q 0) same o,
+    )
