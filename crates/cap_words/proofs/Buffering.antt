@@ -1,5 +1,5 @@
 -- A buffer out of whose front bytes are given.
-use Rattle.std.proofs.Common.{◌≡◌, ◌+◌, ◌-◌, ◌≤◌, ◌∙◌, ℕ, List, ◌++◌, length, take, drop, slice_range, ap, sym, arith, length-take, drop-drop, take-take}
+use Rattle.std.proofs.Common.{◌≡◌, ◌+◌, ◌-◌, ◌≤◌, ◌∙◌, ℕ, List, [], ◌++◌, length, take, drop, slice_range, ap, sym, arith, length-take, drop-drop, take-take}
 use Rattle.std.proofs.Math.Seq.{take-add}
 
 -- n of them were given, and the others are still held
@@ -12,3 +12,7 @@ given_off xs given start end n within same =
     ap (λ k. take k held) whole ∙ take-add n (end - (start + n)) held
     ∙ ap (λ l. take n held ++ take (end - (start + n)) l) (drop-drop n start xs)
     ∙ ap (λ l. l ++ slice_range xs (start + n) end) (sym (same ∙ take-take n (end - start) held few))
+
+-- nothing is held from a place up to itself
+pub none_between : (xs : List ℕ) (start end : ℕ) → start ≡ end → slice_range xs start end ≡ []
+none_between xs start end e = ap (λ k. take k (drop start xs)) {y = 0} (omega arith)

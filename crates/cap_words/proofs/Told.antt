@@ -1,7 +1,8 @@
 -- What a reader tells, read by read.
-use Rattle.std.proofs.Common.{◌≡◌, ◌<◌, ◌&&◌, ◌++◌, ◌∙◌, ℕ, zero, suc, Bool, true, false, if◌then◌else◌, nat_lt, List, [], ◌∷◌, take, drop, take-append-drop, slice_index, Option, None, Some, refl, sym, ap, subst}
+use Rattle.std.proofs.Common.{◌≡◌, ◌<◌, ◌&&◌, ◌++◌, ◌∙◌, ℕ, zero, suc, Bool, true, false, if◌then◌else◌, nat_lt, List, [], ◌∷◌, take, drop, take-append-drop, slice_index, Option, None, Some, Result, Ok, Err, refl, sym, ap, subst}
+use Rattle.std.proofs.KnownBytes.{Keeps-refl, prepend_known-nil}
 use Rattle.std.proofs.lemmas.Bool.{lt-ltb}
-use Rattle.std.specs.Io.KnownBytes.{Consumes, IsAtEnd}
+use Rattle.std.specs.Io.KnownBytes.{Consumes, IsAtEnd, Keeps, ReadConsumes, prepend_known}
 use Rattle.cap_words.specs.Laws.{both_hold}
 use Rattle.cap_words.specs.Told.{are_bytes, told_bytes}
 
@@ -32,3 +33,22 @@ told_consumes (Some xs) (Some ys) bs p = subst (λ l. Consumes (told_bytes (Some
 pub told_end : (a : Option (List ℕ)) → IsAtEnd a → IsAtEnd (told_bytes a)
 told_end None p = tt
 told_end (Some xs) p = subst (λ l. IsAtEnd (told_bytes (Some l))) (sym p) refl
+
+-- and keeps what it told where it lost nothing
+told_keeps : (a b : Option (List ℕ)) → Keeps a b → Keeps (told_bytes a) (told_bytes b)
+told_keeps None b p = tt
+told_keeps (Some xs) None p = absurd p
+told_keeps (Some xs) (Some ys) p = subst (λ l. Keeps (told_bytes (Some xs)) (told_bytes (Some l))) (sym p) (Keeps-refl (told_bytes (Some xs)))
+
+told_read : {E : Type 0} (a b : Option (List ℕ)) (answer : Result ℕ E) (buf : List ℕ) → ReadConsumes a b answer buf → ReadConsumes (told_bytes a) (told_bytes b) answer buf
+told_read a b (Ok n) buf p = (told_consumes a b _ p.0, λ none some. told_end b (p.1 none some))
+told_read a b (Err e) buf p = told_keeps a b p
+
+-- a read past a buffer that holds nothing
+pub told_past : {E : Type 0} (a b : Option (List ℕ)) (held left : List ℕ) (answer : Result ℕ E) (buf : List ℕ) → held ≡ [] → left ≡ [] → ReadConsumes a b answer buf
+    → ReadConsumes (told_bytes (prepend_known held a)) (told_bytes (prepend_known left b)) answer buf
+told_past a b held left answer buf none nothing p =
+    let before : prepend_known held a ≡ a = ap (λ l. prepend_known l a) none ∙ prepend_known-nil a in
+    let after : prepend_known left b ≡ b = ap (λ l. prepend_known l b) nothing ∙ prepend_known-nil b in
+    subst (λ k. ReadConsumes (told_bytes k) (told_bytes (prepend_known left b)) answer buf) (sym before)
+    (subst (λ k. ReadConsumes (told_bytes a) (told_bytes k) answer buf) (sym after) (told_read a b answer buf p))

@@ -2,7 +2,7 @@
 
 ghost use Rattle.cap_words.specs.Laws.{told_are_bytes};
 ghost use Rattle.cap_words.specs.Told.{told_bytes};
-ghost use Rattle.std.specs.Io.KnownBytes.{IsAtEnd, Keeps, prepend_known};
+ghost use Rattle.std.specs.Io.KnownBytes.{IsAtEnd, Keeps, ReadConsumes, prepend_known};
 ghost use Rattle.std.specs.Prelude.{◌<◌, ◌≡◌, ◌≤◌, [], IfOk, IsErrOf, OnErr, OnOk, false, if◌then◌else◌, length, slice_range, take, true, vec_len, ℕ};
 
 use super::ends::{ByteIn, InFault};
@@ -16,7 +16,8 @@ const BUFFER: usize = 65536;
 /// failure, and the reader isn't called again after it.
 ///
 /// It is what `FromRead` over std's `BufReader` is, and made for many reads of a few bytes: those
-/// are given out of the buffer by a copy whose length the compiler knows.
+/// are given out of the buffer by a copy whose length the compiler knows. A read with room for 64 KiB
+/// or more, where nothing is held, is one read of the reader, past the buffer.
 #[derive(Drop)]
 pub struct BufferedIn<R: Read> {
     reader: R,
@@ -81,6 +82,26 @@ impl<R: Read> BufferedIn<R> {
             }
         }
     }
+
+    // Reads once, straight into a room of the buffer's size or more, where all that was read has been
+    // given: bytes that fill the buffer are copied no second time.
+    #[inline(never)]
+    fn read_past(&mut self, buf: &mut [u8]) -> Result<usize, InFault>
+        requires { self.old.start ≡ self.old.end }
+        ensures within { IfOk result (λ n. n ≤ length buf.new) }
+        ensures bytes { ReadConsumes (R.remaining self.old.reader) (R.remaining self.new.reader) result buf.new }
+        ensures held { (self.new.buffer ≡ self.old.buffer) × (self.new.start ≡ self.old.start) × (self.new.end ≡ self.old.end) }
+        ensures ok { OnOk result ((self.old.failed ≡ false) × (self.new.failed ≡ false)) }
+        ensures device { IsErrOf result InFault.Device → (self.old.failed ≡ false) × (self.new.failed ≡ true) }
+        ensures was_spent { IsErrOf result InFault.Spent → (self.old.failed ≡ true) × (self.new ≡ self.old) }
+    {
+        if self.failed {
+            return Err(InFault::Spent);
+        }
+        let answer = self.reader.read(buf);
+        self.failed = answer.is_err();
+        answer.map_err(|_| InFault::Device)
+    }
 }
 
 impl<R: Read> ByteIn for BufferedIn<R> {
@@ -90,12 +111,27 @@ impl<R: Read> ByteIn for BufferedIn<R> {
 
     ghost spent = { λ s. s.failed };
 
+    ghost at_hand = { λ s. slice_range s.buffer.items s.start s.end };
+
+    #[inline(always)]
+    fn held(&self) -> &[u8] {
+        &self.buffer[self.start..self.end]
+    }
+
+    #[inline(always)]
+    fn skip(&mut self, count: usize) {
+        self.start += count.min(self.end - self.start);
+    }
+
     #[inline(always)]
     fn read(&mut self, buf: &mut [u8]) -> Result<usize, InFault> {
         if buf.is_empty() {
             return Ok(0);
         }
         if self.start == self.end {
+            if buf.len() >= BUFFER {
+                return self.read_past(buf);
+            }
             if let Err(fault) = self.refill() {
                 return Err(fault);
             }

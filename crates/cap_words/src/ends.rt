@@ -1,9 +1,9 @@
 //! The ends that bytes come in and go out by.
 
 ghost use Rattle.cap_words.specs.Ends.{DeviceFails, Failures, Fails, GrowthFails, WasSpent, Works};
-ghost use Rattle.std.specs.Io.KnownBytes.{ReadConsumes, WriteAppends};
+ghost use Rattle.std.specs.Io.KnownBytes.{Consumes, ReadConsumes, WriteAppends};
 ghost use Rattle.std.specs.List.{AllByRecursion};
-ghost use Rattle.std.specs.Prelude.{◌<◌, ◌≡◌, ◌≤◌, [], Bool, IfOk, IfSome, IsErrOf, List, OnOk, Option, length, true, ℕ};
+ghost use Rattle.std.specs.Prelude.{◌++◌, ◌<◌, ◌≡◌, ◌≤◌, [], Bool, IfOk, IfSome, IsErrOf, List, OnOk, Option, drop, false, length, take, true, ℕ};
 
 /// Why a read gave no bytes.
 #[derive(Clone, Copy, Debug, PartialEq, Eq, Drop)]
@@ -35,6 +35,24 @@ pub trait ByteIn {
 
     // An earlier fault has ended it.
     ghost spent: { Self → Bool };
+
+    // The bytes that can be taken without a call of the device.
+    ghost at_hand: { Self → List ℕ };
+
+    /// The bytes at hand, in front of the others to come. They can be taken without a call of the
+    /// device, and a spent input has none. An input that holds nothing back always has none.
+    fn held(&self) -> &[u8]
+        ensures held { result.now ≡ at_hand self.now }
+        ensures known { IfSome (to_come self.now) (λ xs. (rest : List ℕ) × (xs ≡ result.now ++ rest)) }
+        ensures usable { 0 < length result.now → spent self.now ≡ false };
+
+    /// Takes the first `count` of the bytes at hand, or all of them where there are fewer. Nothing
+    /// else happens.
+    fn skip(&mut self, count: usize)
+        ensures bytes { Consumes (to_come self.old) (to_come self.new) (take count (at_hand self.old)) }
+        ensures left { at_hand self.new ≡ drop count (at_hand self.old) }
+        ensures spent { spent self.new ≡ spent self.old }
+        ensures failures { failures self.new ≡ failures self.old };
 
     /// The next bytes, at most as many as there is room for. With room, 0 is the end of the input;
     /// with none it is always the answer, and nothing happens. A fault takes no bytes, and after one

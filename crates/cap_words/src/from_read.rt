@@ -4,7 +4,7 @@ ghost use Rattle.cap_words.specs.Laws.{told_are_bytes};
 ghost use Rattle.cap_words.specs.Inner.{reader_of};
 ghost use Rattle.cap_words.specs.Told.{told_bytes};
 ghost use Rattle.cap_words.specs.declared.from_read.FromRead.{FromRead};
-ghost use Rattle.std.specs.Prelude.{◌≡◌, false, if◌then◌else◌, ℕ};
+ghost use Rattle.std.specs.Prelude.{◌≡◌, [], false, if◌then◌else◌, ℕ};
 
 use super::ends::{ByteIn, InFault};
 use std::io::Read;
@@ -46,6 +46,14 @@ impl<R: Read> ByteIn for FromRead<R> {
     ghost failures = { λ s. if s.failed then 1 else 0 };
 
     ghost spent = { λ s. s.failed };
+
+    ghost at_hand = { λ _. [] };
+
+    fn held(&self) -> &[u8] {
+        &[]
+    }
+
+    fn skip(&mut self, _count: usize) {}
 
     fn read(&mut self, buf: &mut [u8]) -> Result<usize, InFault> {
         if buf.is_empty() {

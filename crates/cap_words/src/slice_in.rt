@@ -34,6 +34,18 @@ impl ByteIn for SliceIn<'_> {
 
     ghost spent = { λ _. false };
 
+    ghost at_hand = { λ s. s.rest.now };
+
+    #[inline(always)]
+    fn held(&self) -> &[u8] {
+        self.rest
+    }
+
+    #[inline(always)]
+    fn skip(&mut self, count: usize) {
+        self.rest = &self.rest[count.min(self.rest.len())..];
+    }
+
     fn read(&mut self, buf: &mut [u8]) -> Result<usize, InFault> {
         if buf.is_empty() {
             return Ok(0);

@@ -249,6 +249,74 @@ fn a_buffer_gives_bytes_from_both_sides_of_a_refill(rt: HostRuntime) -> Result<(
     Ok(())
 }
 
+// The input holds these bytes, and gives just them up.
+fn expect_held<I: ByteIn>(rt: &impl Abort, input: &mut I, bytes: &[u8]) {
+    assert_eq!(rt; input.held(), bytes);
+    input.skip(0);
+    assert_eq!(rt; input.held(), bytes);
+    input.skip(2);
+    assert_eq!(rt; input.held(), &bytes[bytes.len().min(2)..]);
+    input.skip(usize::MAX);
+    assert_eq!(rt; input.held(), [].as_slice());
+}
+
+#[test]
+fn bytes_at_hand(rt: HostRuntime) -> Result<(), Fail> {
+    let mut slice = SliceIn::new(&TEXT);
+    expect_held(&rt, &mut slice, &TEXT);
+    assert_eq!(rt; slice.read(&mut [0]), Ok(0));
+
+    let mut input = BufferedIn::new(rt.alloc(), TEXT.as_slice())?;
+    expect_held(&rt, &mut input, &[]);
+    let mut first = [0; 3];
+    assert_eq!(rt; input.read(&mut first), Ok(3));
+    assert_eq!(rt; input.held(), &TEXT[3..]);
+    input.skip(9);
+    assert_eq!(rt; input.read(&mut first), Ok(3));
+    assert_eq!(rt; first, [4, 3, 2]);
+    expect_held(&rt, &mut input, &TEXT[15..]);
+    assert_eq!(rt; input.read(&mut first), Ok(0));
+
+    let mut reader = FromRead::new(TEXT.as_slice());
+    expect_held(&rt, &mut reader, &[]);
+    assert_eq!(rt; reader.read(&mut first), Ok(3));
+    expect_held(&rt, &mut reader, &[]);
+    Ok(())
+}
+
+#[test]
+fn big_reads_go_past_the_buffer(rt: HostRuntime) -> Result<(), Fail> {
+    let mut bytes = Vec::from_elem(rt.alloc(), 7, 200_000)?;
+    bytes.extend_from_slice(&TEXT)?;
+    let mut reader = SlowReader {
+        rest: bytes.as_slice(),
+        most: usize::MAX,
+        fails_at: 5,
+        kind: ErrorKind::Interrupted,
+        calls: 0,
+    };
+    let mut room = Vec::from_elem(rt.alloc(), 0, 100_000)?;
+    let buf = room.as_mut_slice();
+    assert_eq!(rt; buf.len(), 100_000);
+    let mut input = BufferedIn::new(rt.alloc(), &mut reader)?;
+    // more than the buffer holds, in one call
+    assert_eq!(rt; input.read(&mut buf[..65537]), Ok(65537));
+    assert_eq!(rt; input.held(), [].as_slice());
+    // one byte less than it holds: that byte stays, and is all that the next read gives
+    assert_eq!(rt; input.read(&mut buf[..65535]), Ok(65535));
+    assert_eq!(rt; input.held(), [7].as_slice());
+    assert_eq!(rt; input.read(buf), Ok(1));
+    assert_eq!(rt; input.read(&mut buf[..65536]), Ok(65536));
+    assert_eq!(rt; input.read(&mut buf[..65536]), Ok(3411));
+    assert_eq!(rt; &buf[3391..3411], TEXT.as_slice());
+    assert_eq!(rt; input.read(&mut buf[..65536]), Err(InFault::Device));
+    assert_eq!(rt; input.read(&mut buf[..65536]), Err(InFault::Spent));
+    assert_eq!(rt; input.read(&mut buf[..1]), Err(InFault::Spent));
+    drop(input);
+    assert_eq!(rt; reader.calls, 5);
+    Ok(())
+}
+
 #[test]
 fn a_writer_that_fails_is_not_called_again(rt: HostRuntime) {
     for (most, fails_at, fault_at, taken) in [

@@ -1,10 +1,10 @@
-use Rattle.std.proofs.Common.{◌≡◌, ◌<◌, ◌+◌, ◌-◌, length, take, drop, slice_range, ap, arith, length-drop, length-take}
+use Rattle.std.proofs.Common.{◌≡◌, ◌<◌, ◌+◌, ◌-◌, length, take, drop, slice_range, ap, sym, ◌∙◌, arith, length-drop, length-take}
 use Rattle.std.proofs.BufReadLemmas.{zero_unless_positive}
 use Rattle.std.proofs.KnownBytes.{Keeps-refl, prepend_known-read}
 use Rattle.std.specs.Io.KnownBytes.{IsAtEnd, Keeps, prepend_known}
-use Rattle.cap_words.proofs.Buffering.{given_off}
-use Rattle.cap_words.proofs.Told.{told_consumes, told_end}
-use Rattle.cap_words.proofs.buffered_in.BufferedInByteIn.read.Goals.{then-self+in_default, else-self}
+use Rattle.cap_words.proofs.Buffering.{given_off, none_between}
+use Rattle.cap_words.proofs.Told.{told_consumes, told_end, told_past}
+use Rattle.cap_words.proofs.buffered_in.BufferedInByteIn.read.Goals.{then-self+else-buf-ge-BUFFER+in_default, else-self}
 use Rattle.cap_words.proofs.buffered_in.BufferedInByteIn.read.Goals as goal
 
 pub returns-clause-bytes : goal.returns-clause-bytes
@@ -15,15 +15,23 @@ returns-clause-bytes g c =
     let held = c.deref.result.now in
     let split = rw c.deref.ensures.value at (given_off held given.new.to s.start s.end given.result given.ensures.within given.ensures.copied) in
     let kept : Keeps (prepend_known (slice_range old.buffer.items old.start old.end) (g.R.Read.remaining old.reader)) (prepend_known (slice_range s.buffer.items s.start s.end) (g.R.Read.remaining s.reader)) = elim c.if-self.branch [
-      | then-self+in_default w ↦ rw w.self-is w.refill.ensures.bytes
+      | then-self+else-buf-ge-BUFFER+in_default w ↦ rw w.self-is w.refill.ensures.bytes
       | else-self w ↦ rw w.self-is (Keeps-refl _)
     ] in
     let read = prepend_known-read _ _ _ _ _ _ kept split (λ (p : (given.result ≡ 0) × (0 < length given.new.to)).
     let none : length (slice_range held s.start s.end) ≡ 0 = zero_unless_positive _ _ (λ some. given.ensures.some some (omega (arith, p.1, given.auto.to))) p.0 in
     let empty : s.start ≡ s.end = omega (arith, none, length-take (s.end - s.start) (drop s.start held), length-drop s.start held, s.ordered, s.inside, c.deref.ensures.len) in
     let end : IsAtEnd (g.R.Read.remaining s.reader) = elim c.if-self.branch [
-      | then-self+in_default w ↦ rw w.self-is (w.in_default.ensures.end (rw w.self-is at empty))
+      | then-self+else-buf-ge-BUFFER+in_default w ↦ rw w.self-is (w.in_default.ensures.end (rw w.self-is at empty))
       | else-self w ↦ absurd (w.if-self.false (rw w.self-is at empty))
     ] in
     (ap (λ k. take k (drop (s.start + given.result) s.buffer.items)) {y = 0} (omega arith), end)) in
     (told_consumes _ _ _ read.0, λ zero some. told_end _ (read.1 (zero, some)))
+
+-- nothing was held, before or after
+pub returns-then-buf-ge-BUFFER-clause-bytes : goal.returns-then-buf-ge-BUFFER-clause-bytes
+returns-then-buf-ge-BUFFER-clause-bytes g c =
+    let old = c.args.self.now in
+    let new = c.read_past.new.self in
+    let held = c.read_past.ensures.held in
+    told_past _ _ _ _ _ _ (none_between old.buffer.items old.start old.end c.if-self.true) (none_between new.buffer.items new.start new.end (held.1 ∙ c.if-self.true ∙ sym held.2)) c.read_past.ensures.bytes
