@@ -23,7 +23,7 @@ moved_more spent failures (suc m) n old mid new before some works =
     record { none = λ none. absurd (omega arith); some = λ _. record { usable = was.usable; still = works.still; none_failed = works.none_failed ∙ was.none_failed } }
 
 -- a buffer that was filled up to a place, and then by a read into the rest of it
-filled : (at k n : ℕ) (buf given : List ℕ) → at ≤ length buf → n ≤ length given → take (at + n) (put_mid at k buf given) ≡ take at buf ++ take n given
+pub filled : (at k n : ℕ) (buf given : List ℕ) → at ≤ length buf → n ≤ length given → take (at + n) (put_mid at k buf given) ≡ take at buf ++ take n given
 filled at k n buf given h within =
     ap (λ m. take (m + n) (put_mid at k buf given)) (sym (length-take-le at buf h))
     ∙ take-append-add (take at buf) (given ++ post_of at k buf) n

@@ -5,8 +5,9 @@ ghost use Rattle.cap_words.specs.Laws.{known_are_words};
 ghost use Rattle.cap_words.specs.Inner.{input_of};
 ghost use Rattle.cap_words.specs.PlainSource.{bytes_left, has_ended, has_failed, source_spent};
 ghost use Rattle.cap_words.specs.declared.plain_words.PlainWords.{PlainWords};
+ghost use Rattle.std.specs.List.{AllByRecursion};
 ghost use Rattle.std.specs.Option.{option_map};
-ghost use Rattle.std.specs.Prelude.{◌≡◌, ◌||◌, [], OnSome, false, if◌then◌else◌, unwrap_or, ℕ};
+ghost use Rattle.std.specs.Prelude.{◌*◌, ◌/◌, ◌<◌, ◌≡◌, ◌≤◌, ◌||◌, [], OnSome, false, if◌then◌else◌, length, take, unwrap_or, ℕ};
 
 use super::ends::{ByteIn, InFault};
 use super::sources::{SourceFault, WordSource};
@@ -118,9 +119,74 @@ impl<I: ByteIn> WordSource for PlainWords<I> {
         }
     }
 
+    fn ready(&mut self, out: &mut [u8]) -> usize {
+        let _read = self.read;
+        match self.phase {
+            Phase::Open => {}
+            _ => return 0,
+        }
+        let count = copy_words(self.input.held(), out);
+        if count == 0 {
+            return 0;
+        }
+        self.input.skip(count);
+        self.read = self.read.saturating_add(count as u64);
+        count
+    }
+
+    // The words are filled in by one read, where the input gives so many bytes at once.
+    fn fill(&mut self, out: &mut [u8]) -> Result<bool, SourceFault> {
+        let whole = out.len() / 8 * 8;
+        if whole == 0 {
+            return Ok(true);
+        }
+        let before = self.read;
+        match self.phase {
+            Phase::Ended => return Ok(false),
+            Phase::Failed => return Err(SourceFault::Spent),
+            Phase::Open => {}
+        }
+        // no further: a read past the last word would take bytes of the next one
+        let piece = fill(&mut self.input, &mut out[..whole]);
+        let byte = before.saturating_add(piece.len as u64);
+        self.read = byte;
+        if let Some(fault) = piece.fault {
+            self.phase = Phase::Failed;
+            return match fault {
+                InFault::Device => Err(SourceFault::Device),
+                InFault::Spent => Err(SourceFault::Spent),
+            };
+        }
+        if piece.len == whole {
+            return Ok(true);
+        }
+        if piece.len % 8 == 0 {
+            self.phase = Phase::Ended;
+            Ok(false)
+        } else {
+            self.phase = Phase::Failed;
+            Err(SourceFault::Truncated { byte })
+        }
+    }
+
     fn position(&self) -> u64 {
         self.read
     }
 
     ghost are_words = { λ s. known_are_words s.phase (I.to_come s.input) (I.are_bytes s.input) };
+}
+
+// Copies as many whole words as there are and as there is room for, and tells how many bytes that are.
+// That they are bytes is known here, of a parameter, and not of a slice that a call gave back.
+#[inline(always)]
+fn copy_words(from: &[u8], to: &mut [u8]) -> usize
+    ensures within { result ≤ length from.now }
+    ensures room { result ≤ length to.new }
+    ensures words { result ≡ 8 * (result / 8) }
+    ensures copied { take result to.new ≡ take result from.now }
+    ensures bytes { AllByRecursion (λ b. b < 256) (take result from.now) }
+{
+    let count = from.len().min(to.len()) / 8 * 8;
+    to[..count].copy_from_slice(&from[..count]);
+    count
 }

@@ -1,11 +1,15 @@
 //! Sources of words.
 
+ghost use Rattle.cap_spec.specs.Plain.{plain_text, plain_words};
 ghost use Rattle.cap_spec.specs.Words.{IsWord};
 ghost use Rattle.cap_words.specs.Ends.{Fails, WasSpent, Works};
+ghost use Rattle.cap_words.specs.Taking.{EndsWithin, ReadsBytes, TakesAll};
 ghost use Rattle.std.specs.Io.KnownBytes.{Consumes, Keeps};
 ghost use Rattle.std.specs.List.{AllByRecursion};
 ghost use Rattle.std.specs.Option.{option_to_list};
-ghost use Rattle.std.specs.Prelude.{◌+◌, ◌-◌, ◌^◌, ◌≡◌, [], ◌∷◌, Bool, IfOk, IfSome, IsErrOf, List, OnErr, OnOk, OnSome, Option, false, length, min, true, ℕ};
+ghost use Rattle.std.specs.Prelude.{◌*◌, ◌+◌, ◌-◌, ◌/◌, ◌<◌, ◌^◌, ◌≡◌, ◌≤◌, ◌⊎◌, [], ◌∷◌, Bool, IfOk, IfSome, IsErrOf, List, OnErr, OnOk, OnSome, Option, false, length, min, take, true, ℕ};
+
+use super::word::bytes_of;
 
 /// Why a source gave no word.
 #[derive(Clone, Copy, Debug, PartialEq, Eq, Drop)]
@@ -68,6 +72,68 @@ pub trait WordSource {
         ensures device { IsErrOf result SourceFault.Device → Fails (spent self.old) (failures self.old) (failures self.new) × (spent self.new ≡ true) }
         ensures was_spent { IsErrOf result SourceFault.Spent → WasSpent (spent self.old) (spent self.new) (failures self.old) (failures self.new)
             × (place self.new ≡ place self.old) × Keeps (unread self.old) (unread self.new) };
+
+    /// Gives the bytes of words that are at hand, as far as there is room for whole ones, and how many
+    /// bytes these are. The device isn't called. 0 doesn't say that no words are to come: `next` tells
+    /// that.
+    fn ready(&mut self, out: &mut [u8]) -> usize
+        ensures room { result ≤ length out.new }
+        ensures words { let ws = plain_words (take result out.new) in (take result out.new ≡ plain_text ws)
+            × TakesAll (words self.old) (words self.new) (is_cut self.old) (is_cut self.new) (place self.old) (place self.new) (places self.old) (places self.new) ws }
+        ensures usable { (result ≡ 0) ⊎ (spent self.old ≡ false) }
+        ensures stays { ended self.old ≡ true → result ≡ 0 }
+        ensures for_good { failed self.old ≡ true → result ≡ 0 }
+        ensures spent { spent self.new ≡ spent self.old }
+        ensures failures { failures self.new ≡ failures self.old }
+        ensures none { result ≡ 0 → self.new ≡ self.old }
+        ensures reads { ReadsBytes (unread self.old) (unread self.new) (place self.old) (place self.new) }
+    {
+        let _room = out.len();
+        0
+    }
+
+    /// Fills the whole words of `out` with the bytes of the next words, and answers whether there were
+    /// so many: `false` where the input ends between words before that, and from then on. With room
+    /// for no whole word nothing happens. What `out` holds after any other answer than `true` is not
+    /// said, nor how many words came. After a fault every call answers `Spent`.
+    fn fill(&mut self, out: &mut [u8]) -> Result<bool, SourceFault>
+        ensures full { result ≡ Ok true → let ws = plain_words out.new in (length ws ≡ length out.old / 8) × (take (8 * length ws) out.new ≡ plain_text ws)
+            × TakesAll (words self.old) (words self.new) (is_cut self.old) (is_cut self.new) (place self.old) (place self.new) (places self.old) (places self.new) ws }
+        ensures none { length out.old < 8 → (result ≡ Ok true) × (self.new ≡ self.old) }
+        ensures works { 8 ≤ length out.old → OnOk result (Works (spent self.old) (spent self.new) (failures self.old) (failures self.new)) }
+        ensures reads { ReadsBytes (unread self.old) (unread self.new) (place self.old) (place self.new) }
+        ensures ended { result ≡ Ok false → (ended self.new ≡ true)
+            × EndsWithin (length out.old / 8) (words self.old) (is_cut self.old) false (places self.old) (place self.new) }
+        ensures stays { ended self.old ≡ true → 8 ≤ length out.old → (result ≡ Ok false) × (self.new ≡ self.old) }
+        ensures err { OnErr result (failed self.new ≡ true) }
+        ensures for_good { failed self.old ≡ true → 8 ≤ length out.old → (result ≡ Err SourceFault.Spent) × (self.new ≡ self.old) }
+        ensures truncated { (byte : ℕ) → IsErrOf result (SourceFault.Truncated byte) →
+            EndsWithin (length out.old / 8) (words self.old) (is_cut self.old) true (places self.old) (place self.new) }
+        ensures at { (byte : ℕ) → IsErrOf result (SourceFault.Truncated byte) → (byte ≡ place self.new)
+            × (spent self.old ≡ false) × (spent self.new ≡ true) × (failures self.new ≡ failures self.old) }
+        ensures device { IsErrOf result SourceFault.Device → Fails (spent self.old) (failures self.old) (failures self.new) × (spent self.new ≡ true) }
+        ensures was_spent { IsErrOf result SourceFault.Spent → WasSpent (spent self.old) (spent self.new) (failures self.old) (failures self.new)
+            × (place self.new ≡ place self.old) × Keeps (unread self.old) (unread self.new) }
+    {
+        let whole = out.len() / 8 * 8;
+        let mut done = 0;
+        while done < whole {
+            let count = self.ready(&mut out[done..whole]);
+            if count > 0 {
+                done += count;
+                continue;
+            }
+            match self.next() {
+                Ok(Some(word)) => {
+                    out[done..done + 8].copy_from_slice(&bytes_of(word));
+                    done += 8;
+                }
+                Ok(None) => return Ok(false),
+                Err(fault) => return Err(fault),
+            }
+        }
+        Ok(true)
+    }
 
     /// How many bytes of the input were read so far, or 2^64 - 1 where there were more.
     fn position(&self) -> u64

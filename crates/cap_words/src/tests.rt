@@ -317,6 +317,135 @@ fn big_reads_go_past_the_buffer(rt: HostRuntime) -> Result<(), Fail> {
     Ok(())
 }
 
+// Words that are at hand are given as far as there is room, and counted.
+fn expect_ready<S: WordSource>(rt: &impl Abort, source: &mut S, rooms: &[(usize, usize)]) {
+    let mut given = 0;
+    for (room, count) in rooms {
+        let mut out = [9; 32];
+        assert_eq!(rt;
+            source.ready(&mut out[..32.min(*room)]),
+            *count,
+            "room for {room}"
+        );
+        assert_eq!(rt;
+            &out[..32.min(*count)],
+            &TEXT[20.min(given)..20.min(given + 32.min(*count))]
+        );
+        given = 20.min(given + 32.min(*count));
+    }
+}
+
+#[test]
+fn words_at_hand(rt: HostRuntime) -> Result<(), Fail> {
+    let mut all = PlainWords::new(SliceIn::new(&TEXT));
+    expect_ready(&rt, &mut all, &[(0, 0), (7, 0), (32, 16), (32, 0)]);
+    assert_eq!(rt; all.position(), 16);
+    assert_eq!(rt; all.next(), Err(SourceFault::Truncated { byte: 20 }));
+    expect_ready(&rt, &mut all, &[(32, 0)]);
+
+    let mut each = PlainWords::new(SliceIn::new(&TEXT[..16]));
+    expect_ready(&rt, &mut each, &[(15, 8), (8, 8), (32, 0)]);
+    assert_eq!(rt; each.next(), Ok(None));
+    expect_ready(&rt, &mut each, &[(32, 0)]);
+
+    let mut reader = SlowReader {
+        rest: &TEXT,
+        most: 17,
+        fails_at: 0,
+        kind: ErrorKind::Other,
+        calls: 0,
+    };
+    let mut source = PlainWords::new(BufferedIn::new(rt.alloc(), &mut reader)?);
+    // nothing was read ahead yet, and no device is called for it
+    expect_ready(&rt, &mut source, &[(32, 0)]);
+    assert_eq!(rt; source.next(), Ok(Some(WORDS[0])));
+    let mut out = [9; 24];
+    assert_eq!(rt; source.ready(&mut out), 8);
+    assert_eq!(rt; &out[..8], &TEXT[8..16]);
+    assert_eq!(rt; source.ready(&mut out), 0);
+    assert_eq!(rt; source.position(), 16);
+    drop(source);
+    assert_eq!(rt; reader.calls, 1);
+    Ok(())
+}
+
+// The source fills 131,080 bytes in pieces, is then told of the rest, which is cut or not, and answers
+// the same from then on.
+fn expect_filled<S: WordSource>(
+    rt: &impl Abort,
+    source: &mut S,
+    bytes: &[u8],
+    room: &mut [u8],
+    end: Result<bool, SourceFault>,
+) {
+    let mut done = 0;
+    for size in [7, 8, 65536, 65536] {
+        let whole = size / 8 * 8;
+        if room.len() < size || bytes.len() < done + whole {
+            assert!(rt; false, "no room");
+            return;
+        }
+        assert_eq!(rt; source.fill(&mut room[..size]), Ok(true));
+        assert_eq!(rt; &room[..whole], &bytes[done..done + whole]);
+        done += whole;
+        assert_eq!(rt; source.position(), done as u64);
+    }
+    assert_eq!(rt; source.fill(room), end);
+    let then = end.map_err(|_| SourceFault::Spent);
+    assert_eq!(rt; source.fill(room), then);
+    assert_eq!(rt; source.next(), then.map(|_| None));
+    assert_eq!(rt; source.fill(&mut room[..0]), Ok(true));
+}
+
+#[test]
+fn pieces_by_reads_of_many_sizes(rt: HostRuntime) -> Result<(), Fail> {
+    let mut bytes = Vec::new(rt.alloc());
+    for i in 0..140_005_u32 {
+        bytes.push((i % 251) as u8)?;
+    }
+    let mut room = Vec::from_elem(rt.alloc(), 0, 70_000)?;
+    let cut = Err(SourceFault::Truncated { byte: 140_005 });
+    for most in [1, 3, 7, 8, 9, 65535, 65536, 65537] {
+        for (len, end) in [(140_005, cut), (140_000, Ok(false))] {
+            let mut reader = SlowReader {
+                rest: &bytes.as_slice()[..bytes.len().min(len)],
+                most,
+                fails_at: 0,
+                kind: ErrorKind::Other,
+                calls: 0,
+            };
+            let mut source = PlainWords::new(FromRead::new(&mut reader));
+            expect_filled(&rt, &mut source, bytes.as_slice(), room.as_mut_slice(), end);
+            reader.rest = &bytes.as_slice()[..bytes.len().min(len)];
+            let input = BufferedIn::new(rt.alloc(), &mut reader)?;
+            let mut source = PlainWords::new(input);
+            expect_filled(&rt, &mut source, bytes.as_slice(), room.as_mut_slice(), end);
+        }
+    }
+    Ok(())
+}
+
+#[test]
+fn a_fault_inside_a_piece_is_counted(rt: HostRuntime) {
+    for (most, fails_at, position) in [(3, 1, 0), (3, 3, 6), (8, 3, 16), (20, 2, 20)] {
+        let mut reader = SlowReader {
+            rest: &TEXT,
+            most,
+            fails_at,
+            kind: ErrorKind::Interrupted,
+            calls: 0,
+        };
+        let mut source = PlainWords::new(FromRead::new(&mut reader));
+        let mut room = [9; 27];
+        assert_eq!(rt; source.fill(&mut room), Err(SourceFault::Device));
+        assert_eq!(rt; source.position(), position, "{most} a call, to {fails_at}");
+        assert_eq!(rt; source.fill(&mut room), Err(SourceFault::Spent));
+        assert_eq!(rt; source.next(), Err(SourceFault::Spent));
+        drop(source);
+        assert_eq!(rt; reader.calls, fails_at);
+    }
+}
+
 #[test]
 fn a_writer_that_fails_is_not_called_again(rt: HostRuntime) {
     for (most, fails_at, fault_at, taken) in [

@@ -1,0 +1,203 @@
+-- A source whose words are filled into a room, some at a time.
+use Rattle.std.proofs.Common.{◌≡◌, ◌+◌, ◌-◌, ◌*◌, ◌/◌, ◌%◌, ◌^◌, ◌<◌, ◌≤◌, ◌∙◌, ◌⊎◌, inl, inr, ℕ, zero, suc, Bool, true, false, List, [], ◌∷◌, ◌++◌, length, min, take, drop, Option, None, Some, OnSome, IfSome, refl, ap, sym, subst, append-nil, arith, length-append, drop-drop, take-append-drop, length-drop}
+use Rattle.std.proofs.KnownBytes.{Consumes-nil, Consumes-trans}
+use Rattle.std.proofs.lemmas.Grind.{flat_map-append}
+use Rattle.std.proofs.lemmas.List.{length-take-le}
+use Rattle.std.specs.Io.KnownBytes.{Consumes}
+use Rattle.cap_spec.specs.Plain.{plain_text, plain_words, word_bytes}
+use Rattle.cap_spec.specs.Words.{IsWord}
+use Rattle.cap_spec.proofs.Plain.{length_plain, plain_back, plain_short}
+use Rattle.cap_words.proofs.Pieces.{on_some}
+use Rattle.cap_words.proofs.Turns.{filled, filled_within}
+use Rattle.cap_words.specs.Ends.{Works}
+use Rattle.cap_words.specs.Taking.{EndsWithin, ReadsBytes, TakesAll}
+use Rattle.cap_words.specs.declared.sources.WordSource as source
+use borrow.Rule.Slice.PartMut.{put_mid}
+
+-- the words of whole words and of what stands behind them
+pub plain_join : (xs ys : List ℕ) → length xs % 8 ≡ 0 → plain_words (xs ++ ys) ≡ plain_words xs ++ plain_words ys
+plain_join [] ys e = refl
+plain_join (a ∷ []) ys e = absurd (omega arith)
+plain_join (a ∷ b ∷ []) ys e = absurd (omega arith)
+plain_join (a ∷ b ∷ c ∷ []) ys e = absurd (omega arith)
+plain_join (a ∷ b ∷ c ∷ d ∷ []) ys e = absurd (omega arith)
+plain_join (a ∷ b ∷ c ∷ d ∷ x ∷ []) ys e = absurd (omega arith)
+plain_join (a ∷ b ∷ c ∷ d ∷ x ∷ f ∷ []) ys e = absurd (omega arith)
+plain_join (a ∷ b ∷ c ∷ d ∷ x ∷ f ∷ g ∷ []) ys e = absurd (omega arith)
+plain_join (a ∷ b ∷ c ∷ d ∷ x ∷ f ∷ g ∷ h ∷ xs) ys e = let t = plain_join xs ys (omega arith) in cc
+
+-- some words were taken, and then others
+takes_both : (a b c : Option (List ℕ)) (own more : List ℕ) (d e f : Bool) (p q r : ℕ) (ps qs rs : List ℕ)
+    → TakesAll a b d e p q ps qs own → TakesAll b c e f q r qs rs more → TakesAll a c d f p r ps rs (own ++ more)
+takes_both a b c own more d e f p q r ps qs rs t u = record { consumed = Consumes-trans a b c own more t.consumed u.consumed; goes_on = go a b t.consumed t.goes_on u.goes_on }
+  where
+    go : (a b : Option (List ℕ)) → Consumes a b own → OnSome a ((e ≡ d) × (q ∷ qs ≡ drop (length own) (p ∷ ps))) → OnSome b ((f ≡ e) × (r ∷ rs ≡ drop (length more) (q ∷ qs)))
+        → OnSome a ((f ≡ d) × (r ∷ rs ≡ drop (length (own ++ more)) (p ∷ ps)))
+    go None b t g h = tt
+    go (Some x) None t g h = absurd t
+    go (Some x) (Some y) t g h = (h.0 ∙ g.0, h.1 ∙ (ap (drop (length more)) g.1 ∙ (drop-drop (length more) (length own) (p ∷ ps) ∙ ap (λ n. drop n (p ∷ ps)) (sym (length-append own more)))))
+
+-- the next word, as a call gives it
+takes_one : (a b : Option (List ℕ)) (word : ℕ) (c d : Bool) (p q : ℕ) (ps qs : List ℕ) → Consumes a b (word ∷ []) → OnSome a ((d ≡ c) × (ps ≡ q ∷ qs)) → TakesAll a b c d p q ps qs (word ∷ [])
+takes_one a b word c d p q ps qs t g = record { consumed = t; goes_on = go a g }
+  where
+    go : (a : Option (List ℕ)) → OnSome a ((d ≡ c) × (ps ≡ q ∷ qs)) → OnSome a ((d ≡ c) × (q ∷ qs ≡ drop 1 (p ∷ ps)))
+    go None g = tt
+    go (Some x) g = (g.0, sym g.1)
+
+-- the input ended behind words that were taken, fewer than were wanted
+pub ends_both : (a b : Option (List ℕ)) (own : List ℕ) (count at p q : ℕ) (ps qs : List ℕ) (c d inside : Bool) → length own < count → TakesAll a b c d p q ps qs own
+    → OnSome b ((b ≡ Some []) × (d ≡ inside) × (qs ≡ at ∷ [])) → EndsWithin count a c inside ps at
+ends_both a b own count at p q ps qs c d inside few t s = go a b t.consumed t.goes_on s
+  where
+    go : (a b : Option (List ℕ)) → Consumes a b own → OnSome a ((d ≡ c) × (q ∷ qs ≡ drop (length own) (p ∷ ps))) → OnSome b ((b ≡ Some []) × (d ≡ inside) × (qs ≡ at ∷ [])) → EndsWithin count a c inside ps at
+    go None b t g s = tt
+    go (Some x) None t g s = absurd t
+    go (Some x) (Some y) t g s =
+        let none : y ≡ [] = let e = s.0 in cc in
+        let all : x ≡ own = t ∙ ap (λ l. own ++ l) none ∙ append-nil own in
+        let next : suc (length own) ≡ length own + 1 = omega arith in
+        let places : drop (length own) ps ≡ qs = ap (λ n. drop n (p ∷ ps)) next ∙ (sym (drop-drop 1 (length own) (p ∷ ps)) ∙ ap (drop 1) (sym g.1)) in
+        rw all (few, sym g.0 ∙ s.1, places ∙ s.2)
+
+-- bytes that a call read
+pub reads_one : (a b : Option (List ℕ)) (p q : ℕ) → (bs : List ℕ) × Consumes a b bs × (q ≡ min (p + length bs) (2 ^ 64 - 1)) → ReadsBytes a b p q
+reads_one a b p q r = record { bytes = r.0; lost = r.1; counted = let e = r.2 in omega (arith, e) }
+
+-- and then others
+pub reads_both : (a b c : Option (List ℕ)) (p q r : ℕ) → ReadsBytes a b p q → ReadsBytes b c q r → ReadsBytes a c p r
+reads_both a b c p q r s t = record {
+  bytes = s.bytes ++ t.bytes;
+  lost = Consumes-trans a b c s.bytes t.bytes s.lost t.lost;
+  counted = rw (length-append s.bytes t.bytes) (omega (arith, s.counted, t.counted));
+}
+
+-- a call that gave bytes at hand worked
+pub ready_works : {A : Type 0} (n : ℕ) (was is : Bool) (before after : A) → 0 < n → (n ≡ 0) ⊎ (was ≡ false) → is ≡ was → after ≡ before → Works was is before after
+ready_works n was is before after some (inl none) still same = absurd (omega arith)
+ready_works n was is before after some (inr usable) still same = record { usable = usable; still = still ∙ usable; none_failed = same }
+
+-- what stands before a piece of a room stays
+pub front_kept : (at k : ℕ) (room given : List ℕ) → at ≤ length room → take at (put_mid at k room given) ≡ take at room
+front_kept at k room given h =
+    ap (λ n. take n (put_mid at k room given)) {y = at + 0} (omega arith) ∙ (filled at k 0 room given h (omega arith) ∙ append-nil (take at room))
+
+-- the bytes of a word, in a room that was written to before
+pub word_filled : (at k l : ℕ) (room before given : List ℕ) → at ≤ length room → 8 ≤ length given
+    → take (at + 8) (put_mid at l (put_mid at k room before) given) ≡ take at room ++ take 8 given
+word_filled at k l room before given h long =
+    let within : at + 0 ≤ length (put_mid at k room before) = filled_within at k 0 room before h (omega arith) in
+    filled at l 8 (put_mid at k room before) given (omega arith) long ∙ ap (λ xs. xs ++ take 8 given) (front_kept at k room before h)
+
+pub word_within : (at k l : ℕ) (room before given : List ℕ) → at ≤ length room → 8 ≤ length given → at + 8 ≤ length (put_mid at l (put_mid at k room before) given)
+word_within at k l room before given h long =
+    let within : at + 0 ≤ length (put_mid at k room before) = filled_within at k 0 room before h (omega arith) in
+    filled_within at l 8 (put_mid at k room before) given (omega arith) long
+
+module _ {X : Type 0} (g : source.Ghosts X) where
+  -- The words of so many bytes at the front of a room were taken.
+  pub record FilledSoFar (old now : X) (done : ℕ) (out : List ℕ) : Type 0 where
+    pub whole : done % 8 ≡ 0
+    pub within : done ≤ length out
+    pub text : take done out ≡ plain_text (plain_words (take done out))
+    pub takes : TakesAll (g.words old) (g.words now) (g.is_cut old) (g.is_cut now) (g.place old) (g.place now) (g.places old) (g.places now) (plain_words (take done out))
+    pub reads : ReadsBytes (g.unread old) (g.unread now) (g.place old) (g.place now)
+    pub none : done ≡ 0 → now ≡ old
+    pub some : 0 < done → Works (g.spent old) (g.spent now) (g.failures old) (g.failures now)
+    pub ended : g.ended old ≡ true → done ≡ 0
+    pub failed : g.failed old ≡ true → done ≡ 0
+
+  -- What a call gave at the front of a piece: these bytes, and their words.
+  pub record GivesSome (now new : X) (n : ℕ) (given : List ℕ) : Type 0 where
+    pub some : 0 < n
+    pub within : n ≤ length given
+    pub text : take n given ≡ plain_text (plain_words (take n given))
+    pub takes : TakesAll (g.words now) (g.words new) (g.is_cut now) (g.is_cut new) (g.place now) (g.place new) (g.places now) (g.places new) (plain_words (take n given))
+    pub reads : ReadsBytes (g.unread now) (g.unread new) (g.place now) (g.place new)
+    pub works : Works (g.spent now) (g.spent new) (g.failures now) (g.failures new)
+    pub not_ended : g.ended now ≡ true → n ≡ 0
+    pub not_failed : g.failed now ≡ true → n ≡ 0
+
+  -- the next word gives its eight bytes
+  pub next_gives : (now new : X) (given : List ℕ) (word : ℕ) → given ≡ word_bytes word → IsWord word
+      → Consumes (g.words now) (g.words new) (word ∷ []) → OnSome (g.words now) ((g.is_cut new ≡ g.is_cut now) × (g.places now ≡ g.place new ∷ g.places new))
+      → ReadsBytes (g.unread now) (g.unread new) (g.place now) (g.place new) → Works (g.spent now) (g.spent new) (g.failures now) (g.failures new)
+      → (g.ended now ≡ true → ⊥) → (g.failed now ≡ true → ⊥) → GivesSome now new 8 given
+  next_gives now new given word e is t p r w not_ended not_failed =
+      let bytes : take 8 given ≡ word_bytes word = ap (take 8) e in
+      let one : plain_words (take 8 given) ≡ word ∷ [] = ap plain_words bytes ∙ plain_back (word ∷ []) [] (is, tt) in
+      let P = λ (ws : List ℕ). TakesAll (g.words now) (g.words new) (g.is_cut now) (g.is_cut new) (g.place now) (g.place new) (g.places now) (g.places new) ws in
+      record {
+        some = omega arith;
+        within = let long : length given ≡ 8 = ap length e in omega arith;
+        text = bytes ∙ sym (ap plain_text one);
+        takes = subst P (sym one) (takes_one _ _ word _ _ _ _ _ _ t p);
+        reads = r;
+        works = w;
+        not_ended = λ x. absurd (not_ended x);
+        not_failed = λ x. absurd (not_failed x);
+      }
+
+  -- nothing yet
+  pub filled_none : (s : X) (out : List ℕ) → FilledSoFar s s 0 out
+  filled_none s out = record {
+    whole = refl;
+    within = omega arith;
+    text = refl;
+    takes = record { consumed = Consumes-nil (g.words s); goes_on = on_some (g.words s) _ (refl, refl) };
+    reads = record { bytes = []; lost = Consumes-nil (g.unread s); counted = omega arith };
+    none = λ e. refl;
+    some = λ few. absurd (omega arith);
+    ended = λ e. refl;
+    failed = λ e. refl;
+  }
+
+  -- without a fault so far, and then
+  pub works_both : (old now new : X) (done : ℕ) (out : List ℕ) → FilledSoFar old now done out → Works (g.spent now) (g.spent new) (g.failures now) (g.failures new)
+      → Works (g.spent old) (g.spent new) (g.failures old) (g.failures new)
+  works_both old now new zero out f w = subst (λ (s : X). Works (g.spent s) (g.spent new) (g.failures s) (g.failures new)) (f.none refl) w
+  works_both old now new (suc k) out f w = let v = f.some (omega arith) in record { usable = v.usable; still = w.still; none_failed = w.none_failed ∙ v.none_failed }
+
+  -- so many words are that
+  pub filled_words : (old now : X) (done : ℕ) (out : List ℕ) → FilledSoFar old now done out → 8 * length (plain_words (take done out)) ≡ done
+  filled_words old now done out f = sym (length_plain (plain_words (take done out))) ∙ (sym (ap length f.text) ∙ length-take-le done out f.within)
+
+  -- one more piece
+  pub filled_more : (old now new : X) (done n : ℕ) (out longer given : List ℕ) → FilledSoFar old now done out → GivesSome now new n given
+      → take (done + n) longer ≡ take done out ++ take n given → done + n ≤ length longer → FilledSoFar old new (done + n) longer
+  filled_more old now new done n out longer given f p e room =
+      let many = filled_words old now done out f in
+      let more : 8 * length (plain_words (take n given)) ≡ n = sym (length_plain (plain_words (take n given))) ∙ (sym (ap length p.text) ∙ length-take-le n given p.within) in
+      let front : length (take done out) % 8 ≡ 0 = ap (λ k. k % 8) (length-take-le done out f.within) ∙ f.whole in
+      let words : plain_words (take (done + n) longer) ≡ plain_words (take done out) ++ plain_words (take n given) = ap plain_words e ∙ plain_join (take done out) (take n given) front in
+      let P = λ (ws : List ℕ). TakesAll (g.words old) (g.words new) (g.is_cut old) (g.is_cut new) (g.place old) (g.place new) (g.places old) (g.places new) ws in
+      record {
+        whole = omega (arith, f.whole, more);
+        within = room;
+        text =
+            e ∙ (ap (λ l. l ++ take n given) f.text ∙ (ap (λ l. plain_text (plain_words (take done out)) ++ l) p.text
+            ∙ (sym (flat_map-append word_bytes (plain_words (take done out)) (plain_words (take n given))) ∙ ap plain_text (sym words))));
+        takes = subst P (sym words) (takes_both _ _ _ _ _ _ _ _ _ _ _ _ _ _ f.takes p.takes);
+        reads = reads_both _ _ _ _ _ _ f.reads p.reads;
+        none = λ none. absurd (let s = p.some in omega arith);
+        some = λ some. works_both old now new done out f p.works;
+        ended = λ is. let z = f.ended is in let y = p.not_ended (ap g.ended (f.none z) ∙ is) in omega arith;
+        failed = λ is. let z = f.failed is in let y = p.not_failed (ap g.failed (f.none z) ∙ is) in omega arith;
+      }
+
+  -- a source that nothing was taken from is where it was
+  pub filled_still : (old now same : X) (done : ℕ) (out : List ℕ) → same ≡ now → FilledSoFar old now done out → FilledSoFar old same done out
+  filled_still old now same done out e f = subst (λ (s : X). FilledSoFar old s done out) (sym e) f
+
+  -- the words that are filled in at last
+  pub filled_all : (old now : X) (done : ℕ) (out : List ℕ) (count : ℕ) → FilledSoFar old now done out → count ≡ length out / 8 → done ≡ count * 8
+      → (length (plain_words out) ≡ count) × (take (8 * length (plain_words out)) out ≡ plain_text (plain_words out))
+      × TakesAll (g.words old) (g.words now) (g.is_cut old) (g.is_cut now) (g.place old) (g.place now) (g.places old) (g.places now) (plain_words out)
+  filled_all old now done out count f c d =
+      let ws = plain_words (take done out) in
+      let many : 8 * length ws ≡ done = filled_words old now done out f in
+      let front : length (take done out) % 8 ≡ 0 = ap (λ k. k % 8) (length-take-le done out f.within) ∙ f.whole in
+      let few : length (drop done out) < 8 = omega (arith, length-drop done out) in
+      let same : plain_words out ≡ ws =
+      ap plain_words (sym (take-append-drop done out)) ∙ plain_join (take done out) (drop done out) front ∙ ap (λ l. ws ++ l) (plain_short (drop done out) few) ∙ append-nil ws in
+      rw same (omega (arith, many), ap (λ k. take k out) many ∙ f.text, f.takes)

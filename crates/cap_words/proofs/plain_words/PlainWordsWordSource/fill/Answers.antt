@@ -1,0 +1,42 @@
+use Rattle.std.proofs.Common.{◌≡◌, ◌+◌, ◌*◌, ◌/◌, ◌<◌, ◌++◌, ◌∙◌, ap, length, take, drop, refl, arith, length-drop}
+use Rattle.std.proofs.lemmas.List.{length-take-le}
+use Rattle.std.specs.List.{AllByRecursion}
+use Rattle.cap_spec.specs.Plain.{capped}
+use Rattle.cap_words.proofs.AtHand.{bytes_small}
+use Rattle.cap_words.proofs.Pieces.{ends_within, none_filled, piece_filled, plain_end}
+use Rattle.cap_words.proofs.plain_words.PlainWordsWordSource.fill.Goals as goal
+
+pub returns-then-whole-eq0-clause-full : goal.returns-then-whole-eq0-clause-full
+returns-then-whole-eq0-clause-full g c = λ is. none_filled _ _ _ _ c.args.out.now _ (omega arith) (omega arith)
+
+pub returns-then-piece-whole-clause-full : goal.returns-then-piece-whole-clause-full
+returns-then-piece-whole-clause-full g c = λ is.
+    let given = c.fill-piece.new.buf in
+    let whole = length c.args.out.now / 8 * 8 in
+    let rest = drop whole c.args.out.now in
+    let small : AllByRecursion (λ b. b < 256) (given ++ rest) = bytes_small (given ++ rest) (λ i. c.type_inv.out i) in
+    let long : length given ≡ 8 * (length c.args.out.now / 8) = omega (arith, c.fill-piece.auto.buf, length-take-le (length c.args.out.now / 8 * 8) c.args.out.now (omega arith)) in
+    let few : length rest < 8 = omega (arith, length-drop whole c.args.out.now) in
+    piece_filled _ _ _ given rest c.fill-piece.result.len (length c.args.out.now / 8) _ _ c.in-Open.is small long (omega arith) few (omega arith) (omega (arith, c.saturating_add-byte.ensures)) c.fill-piece.ensures.bytes
+
+pub returns-then-piece-eq0-clause-ended : goal.returns-then-piece-eq0-clause-ended
+returns-then-piece-eq0-clause-ended g c = λ is.
+    let given = c.fill-piece.new.buf in
+    let n = c.fill-piece.result.len in
+    let long : length given ≡ 8 * (length c.args.out.now / 8) = omega (arith, c.fill-piece.auto.buf, length-take-le (length c.args.out.now / 8 * 8) c.args.out.now (omega arith)) in
+    let count : length (take n given) ≡ n = length-take-le n given c.fill-piece.ensures.len in
+    let end = rw c.in_default.is at c.fill-piece.ensures.end in (
+      refl,
+      ends_within _ _ _ (take n given) _ _ _ _ c.in-Open.is (omega arith) (omega arith) (omega (arith, c.saturating_add-byte.ensures))
+          ((plain_end c.args.self.now.read (take n given) (omega arith)).whole (omega arith)) c.fill-piece.ensures.bytes (end (omega arith)),
+    )
+
+pub returns-else-piece-eq0-clause-truncated : goal.returns-else-piece-eq0-clause-truncated
+returns-else-piece-eq0-clause-truncated g c = λ byte is.
+    let given = c.fill-piece.new.buf in
+    let n = c.fill-piece.result.len in
+    let long : length given ≡ 8 * (length c.args.out.now / 8) = omega (arith, c.fill-piece.auto.buf, length-take-le (length c.args.out.now / 8 * 8) c.args.out.now (omega arith)) in
+    let count : length (take n given) ≡ n = length-take-le n given c.fill-piece.ensures.len in
+    let end = rw c.in_default.is at c.fill-piece.ensures.end in
+    ends_within _ _ _ (take n given) _ _ _ _ c.in-Open.is (omega arith) (omega arith) (omega (arith, c.saturating_add-byte.ensures))
+    ((plain_end c.args.self.now.read (take n given) (omega arith)).cut (omega arith)) c.fill-piece.ensures.bytes (end (omega arith))

@@ -1,0 +1,5 @@
+use Rattle.cap_words.proofs.AtHand.{bytes_small, front_small}
+use Rattle.cap_words.proofs.plain_words.copy_words.Goals as goal
+
+pub returns-clause-bytes : goal.returns-clause-bytes
+returns-clause-bytes c = front_small _ c.args.from.now (bytes_small c.args.from.now (λ i. c.type_inv.from i))
