@@ -4,7 +4,7 @@ use Rattle.cap_spec.specs.Packing.{pack_text}
 use Rattle.cap_spec.specs.Plain.{plain_text}
 use Rattle.cap_run.specs.Engines.{most_words}
 use Rattle.cap_cmd.specs.Jobs.{GivesOutput}
-use Rattle.cap_cmd.proofs.JobEnds.{all_copied, all_made, does_canon, does_pack, does_unpack}
+use Rattle.cap_cmd.proofs.JobEnds.{all_copied, does_canon, does_pack, does_unpack}
 use Rattle.cap_cmd.proofs.running.run_over.Goals as goal
 
 pub returns-in-Canon-clause-does : goal.returns-in-Canon-clause-does
