@@ -1,4 +1,3 @@
 pub mod Objects
 pub mod Pads
 pub mod Answers
-pub mod Near

@@ -1,4 +1,3 @@
 pub mod Forms
 pub mod Shapes
 pub mod Reaching
-pub mod Rows

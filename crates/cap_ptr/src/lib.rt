@@ -4,13 +4,11 @@
 pub mod following;
 pub mod forms;
 mod placing;
-pub mod rows;
 pub mod shapes;
 
 pub use cap_spec::Reason;
 pub use following::follow;
 pub use forms::Pointer;
-pub use rows::{Row, row_at};
 pub use shapes::{Followed, Shape, Target};
 
 #[cfg(test)]

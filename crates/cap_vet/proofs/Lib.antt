@@ -14,6 +14,7 @@ mod Verdicts
 mod ObjectFrames
 mod Looks
 mod Near
+mod NearRows
 mod Keeping
 mod Founds
 mod Nodes

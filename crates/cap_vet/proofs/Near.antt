@@ -2,9 +2,9 @@
 use Rattle.std.proofs.Common.{◌≡◌, ℕ, ◌+◌, ◌-◌, ◌≤◌, ◌==◌, false, List, refl, ◌∙◌, subst, arith, Option, None, Some}
 use Rattle.std.proofs.lemmas.Bool.{ne_eqb}
 use Rattle.cap_spec.specs.Pointers.{code, data_size, list_size, pointer_size}
-use Rattle.cap_ptr.specs.Rows.{FindsRow, HasRow}
+use Rattle.cap_vet.specs.Rows.{FindsRow, HasRow}
 use Rattle.cap_ptr.specs.Shapes.{FindsObject}
-use Rattle.cap_ptr.specs.declared.rows.Row.{Row}
+use Rattle.cap_vet.specs.declared.rows.Row.{Row}
 use Rattle.cap_ptr.specs.declared.shapes.Shape.{Shape}
 use Rattle.cap_ptr.specs.declared.shapes.Shape.TheVariants.{Pointers, Scalars, Struct, Structs}
 use Rattle.cap_vet.specs.Frames.{LevelIs, OptionIn, option_spots, row_places}

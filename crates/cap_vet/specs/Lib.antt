@@ -8,6 +8,7 @@ pub mod Looking
 pub mod Nodes
 pub mod Owing
 pub mod Reports
+pub mod Rows
 pub mod Shapes
 pub mod Spots
 pub mod Trails

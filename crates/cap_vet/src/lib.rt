@@ -10,6 +10,7 @@ mod looking;
 pub mod node;
 pub mod place;
 pub mod report;
+mod rows;
 mod spot;
 mod targets;
 pub mod vetted;

@@ -12,9 +12,10 @@ ghost use Rattle.std.specs.Prelude.{◌+◌, ◌<◌, ◌^◌, ◌≡◌, ◌≤
 
 use crate::frame::Frame;
 use crate::limits::Limits;
+use crate::rows::row_at;
 use crate::targets::{frame_of, levels_taken, row_frame};
 use cap_frame::Segments;
-use cap_ptr::{Followed, Reason, follow, row_at};
+use cap_ptr::{Followed, Reason, follow};
 
 /// What a pointer word leads to, within the limits.
 pub(crate) enum Looked {

@@ -10,6 +10,7 @@ use std::process::Abort;
 use std::test::Fail;
 
 mod pads;
+mod rows;
 
 // The words of a stream, each read from its first byte on.
 fn words(alloc: Global, spelled: &[u64]) -> Result<Vec<u64>, Fail> {

@@ -1,6 +1,6 @@
 //! Objects near by: those that no landing pad and no tag word leads to.
 
-ghost use Rattle.cap_ptr.specs.Rows.{FindsRow, IsParts};
+ghost use Rattle.cap_vet.specs.Rows.{FindsRow, IsParts};
 ghost use Rattle.cap_spec.specs.Messages.{segment_of};
 ghost use Rattle.cap_spec.specs.Pointers.{code, element_bits, kind, list_size};
 ghost use Rattle.std.specs.Prelude.{◌+◌, ◌<◌, ◌≡◌, ◌≤◌, ◌^◌, IfSome, length};
@@ -10,13 +10,13 @@ use cap_words::bits;
 
 /// The pointer words of an object, which stand in one row.
 #[derive(Clone, Copy, Debug, PartialEq, Eq, Drop)]
-pub struct Row {
+pub(crate) struct Row {
     /// The words of the object, at most 2^29.
-    pub charge: u64,
+    pub(crate) charge: u64,
     /// The first of its pointer words, if it has any.
-    pub at: u32,
+    pub(crate) at: u32,
     /// How many pointer words it has.
-    pub left: u32,
+    pub(crate) left: u32,
 }
 
 /// The pointer words of the object that word `w` of segment `s` leads to, where the word alone tells
@@ -25,7 +25,7 @@ pub struct Row {
 /// exists. `None` says nothing: `follow` tells what the word is.
 // A walk asks here first: most words are such, and what they lead to then stays in registers.
 #[inline(always)]
-pub fn row_at<M: Segments>(message: &M, s: u32, w: u32) -> Option<Row>
+pub(crate) fn row_at<M: Segments>(message: &M, s: u32, w: u32) -> Option<Row>
     requires exists { s < length (M.segments message.now) }
     requires inside { w < length (segment_of (M.segments message.now) s) }
     ensures { IfSome result (FindsRow (M.segments message.now) s w) }

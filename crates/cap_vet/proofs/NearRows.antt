@@ -8,7 +8,7 @@ use Rattle.cap_spec.specs.Pointers.{code, data_size, kind, list_size, pointer_si
 use Rattle.cap_spec.specs.Following.{extra}
 use Rattle.cap_spec.proofs.Charges.{extent_pointers, extent_struct}
 use Rattle.cap_ptr.specs.Reaching.{LeadsTo}
-use Rattle.cap_ptr.specs.Rows.{HasRow, IsParts}
+use Rattle.cap_vet.specs.Rows.{HasRow, IsParts}
 use Rattle.cap_ptr.specs.Shapes.{FindsObject}
 use Rattle.cap_ptr.specs.declared.shapes.Shape.{Shape}
 use Rattle.cap_ptr.specs.declared.shapes.Shape.TheVariants.{Pointers, Scalars, Struct}

@@ -3,7 +3,7 @@ use Rattle.std.specs.Prelude.{ℕ, ◌+◌, ◌<◌, ◌≡◌, ◌≤◌, ◌�
 use Rattle.cap_spec.specs.Messages.{segment_of}
 use Rattle.cap_spec.specs.Pointers.{code, data_size, extent, kind, list_size, pointer_size}
 use Rattle.cap_ptr.specs.Shapes.{FindsObject}
-use Rattle.cap_ptr.specs.declared.rows.Row.{Row}
+use Rattle.cap_vet.specs.declared.rows.Row.{Row}
 use Rattle.cap_ptr.specs.declared.shapes.Shape.{Shape}
 use Rattle.cap_ptr.specs.declared.shapes.Shape.TheVariants.{Struct, Scalars, Pointers, Structs}
 

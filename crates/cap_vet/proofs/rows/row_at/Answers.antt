@@ -1,7 +1,7 @@
 use Rattle.std.proofs.Common.{arith, ◌+◌, ◌≤◌, length}
 use Rattle.cap_spec.specs.Messages.{segment_of}
-use Rattle.cap_ptr.proofs.Near.{row_found}
-use Rattle.cap_ptr.proofs.rows.row_at.Goals as goal
+use Rattle.cap_vet.proofs.NearRows.{row_found}
+use Rattle.cap_vet.proofs.rows.row_at.Goals as goal
 
 pub returns : goal.returns
 returns g c =
