@@ -259,8 +259,13 @@ fn ends_at_the_first_message_without_a_copy(rt: HostRuntime) -> Result<(), Fail>
 fn checks_each_message_of_a_stream(rt: HostRuntime) -> Result<(), Fail> {
     let alloc = rt.alloc();
     let stream = format!(in alloc; "{SHORT} {CYCLE} {LONG} {CAP} {ROOTLESS}")?;
-    let text =
-        "message 0: canonical\nmessage 1: refused DepthLimit at 0:0 pointers 65\nmessage 2: not canonical\nmessage 3: not canonical\nmessage 4: refused NoRoot at 0:0 pointers 0\n";
+    let text = "\
+message 0: canonical
+message 1: refused DepthLimit at 0:0 pointers 65
+message 2: not canonical
+message 3: not canonical
+message 4: refused NoRoot at 0:0 pointers 0
+";
     assert!(rt; writes(alloc, "check", stream.as_str(), text.as_bytes(), "", 1)?);
     let bytes = bytes_of(alloc, stream.as_str())?;
     let settings = settings(5).ok_or("settings")?;

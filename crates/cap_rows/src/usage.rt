@@ -116,7 +116,8 @@ const MISTAKES: [(&[&str], &str); 9] = [
     ),
     (
         &["get"],
-        "error: the following required arguments were not provided:\n  <PATH>\n\nUsage: capvet get <PATH> [FILE]\n\nFor more information, try '--help'.\n",
+        "error: the following required arguments were not provided:\n  <PATH>\n\n\
+         Usage: capvet get <PATH> [FILE]\n\nFor more information, try '--help'.\n",
     ),
     (
         &["dump", "--depth", "257"],
@@ -128,7 +129,8 @@ const MISTAKES: [(&[&str], &str); 9] = [
     ),
     (
         &["vet", "--deep", "1"],
-        "error: unexpected argument '--deep' found\n\n  tip: a similar argument exists: '--depth'\n\nUsage: capvet vet --depth <N> [FILE]\n\nFor more information, try '--help'.\n",
+        "error: unexpected argument '--deep' found\n\n  tip: a similar argument exists: '--depth'\n\n\
+         Usage: capvet vet --depth <N> [FILE]\n\nFor more information, try '--help'.\n",
     ),
 ];
 

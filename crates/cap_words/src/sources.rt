@@ -79,7 +79,8 @@ pub trait WordSource {
     fn ready(&mut self, out: &mut [u8]) -> usize
         ensures room { result ≤ length out.new }
         ensures words { let ws = plain_words (take result out.new) in (take result out.new ≡ plain_text ws)
-            × TakesAll (words self.old) (words self.new) (is_cut self.old) (is_cut self.new) (place self.old) (place self.new) (places self.old) (places self.new) ws }
+            × TakesAll (words self.old) (words self.new) (is_cut self.old) (is_cut self.new) (place self.old) (place self.new)
+            (places self.old) (places self.new) ws }
         ensures usable { (result ≡ 0) ⊎ (spent self.old ≡ false) }
         ensures stays { ended self.old ≡ true → result ≡ 0 }
         ensures for_good { failed self.old ≡ true → result ≡ 0 }
@@ -98,7 +99,8 @@ pub trait WordSource {
     /// said, nor how many words came. After a fault every call answers `Spent`.
     fn fill(&mut self, out: &mut [u8]) -> Result<bool, SourceFault>
         ensures full { result ≡ Ok true → let ws = plain_words out.new in (length ws ≡ length out.old / 8) × (take (8 * length ws) out.new ≡ plain_text ws)
-            × TakesAll (words self.old) (words self.new) (is_cut self.old) (is_cut self.new) (place self.old) (place self.new) (places self.old) (places self.new) ws }
+            × TakesAll (words self.old) (words self.new) (is_cut self.old) (is_cut self.new) (place self.old) (place self.new)
+            (places self.old) (places self.new) ws }
         ensures none { length out.old < 8 → (result ≡ Ok true) × (self.new ≡ self.old) }
         ensures works { 8 ≤ length out.old → OnOk result (Works (spent self.old) (spent self.new) (failures self.old) (failures self.new)) }
         ensures reads { ReadsBytes (unread self.old) (unread self.new) (place self.old) (place self.new) }
