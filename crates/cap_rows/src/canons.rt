@@ -351,7 +351,8 @@ fn tells_of_an_output_that_fails_in_a_copy(rt: HostRuntime) -> Result<(), Fail> 
             cause: Cause::Output(OutFault::Device),
         });
         assert!(rt; run_canon(alloc, &mut source, &mut sink, &settings) == wanted);
-        assert!(rt; sink.into_inner().into_inner().taken.as_slice() == &copy.as_slice()[..room]);
+        let front = &copy.as_slice()[..room.min(copy.len())];
+        assert!(rt; sink.into_inner().into_inner().taken.as_slice() == front);
     }
     Ok(())
 }

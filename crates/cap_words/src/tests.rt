@@ -284,6 +284,18 @@ fn bytes_at_hand(rt: HostRuntime) -> Result<(), Fail> {
     Ok(())
 }
 
+// The first bytes of a room, or all of it.
+fn front(room: &mut [u8], most: usize) -> &mut [u8] {
+    let len = most.min(room.len());
+    &mut room[..len]
+}
+
+// So many bytes from this one on, or all that there are.
+fn part(bytes: &[u8], from: usize, most: usize) -> &[u8] {
+    let rest = &bytes[from.min(bytes.len())..];
+    &rest[..most.min(rest.len())]
+}
+
 #[test]
 fn big_reads_go_past_the_buffer(rt: HostRuntime) -> Result<(), Fail> {
     let mut bytes = Vec::from_elem(rt.alloc(), 7, 200_000)?;
@@ -297,21 +309,20 @@ fn big_reads_go_past_the_buffer(rt: HostRuntime) -> Result<(), Fail> {
     };
     let mut room = Vec::from_elem(rt.alloc(), 0, 100_000)?;
     let buf = room.as_mut_slice();
-    assert_eq!(rt; buf.len(), 100_000);
     let mut input = BufferedIn::new(rt.alloc(), &mut reader)?;
     // more than the buffer holds, in one call
-    assert_eq!(rt; input.read(&mut buf[..65537]), Ok(65537));
+    assert_eq!(rt; input.read(front(buf, 65537)), Ok(65537));
     assert_eq!(rt; input.held(), [].as_slice());
     // one byte less than it holds: that byte stays, and is all that the next read gives
-    assert_eq!(rt; input.read(&mut buf[..65535]), Ok(65535));
+    assert_eq!(rt; input.read(front(buf, 65535)), Ok(65535));
     assert_eq!(rt; input.held(), [7].as_slice());
     assert_eq!(rt; input.read(buf), Ok(1));
-    assert_eq!(rt; input.read(&mut buf[..65536]), Ok(65536));
-    assert_eq!(rt; input.read(&mut buf[..65536]), Ok(3411));
-    assert_eq!(rt; &buf[3391..3411], TEXT.as_slice());
-    assert_eq!(rt; input.read(&mut buf[..65536]), Err(InFault::Device));
-    assert_eq!(rt; input.read(&mut buf[..65536]), Err(InFault::Spent));
-    assert_eq!(rt; input.read(&mut buf[..1]), Err(InFault::Spent));
+    assert_eq!(rt; input.read(front(buf, 65536)), Ok(65536));
+    assert_eq!(rt; input.read(front(buf, 65536)), Ok(3411));
+    assert_eq!(rt; part(buf, 3391, 20), TEXT.as_slice());
+    assert_eq!(rt; input.read(front(buf, 65536)), Err(InFault::Device));
+    assert_eq!(rt; input.read(front(buf, 65536)), Err(InFault::Spent));
+    assert_eq!(rt; input.read(front(buf, 1)), Err(InFault::Spent));
     drop(input);
     assert_eq!(rt; reader.calls, 5);
     Ok(())
@@ -319,19 +330,16 @@ fn big_reads_go_past_the_buffer(rt: HostRuntime) -> Result<(), Fail> {
 
 // Words that are at hand are given as far as there is room, and counted.
 fn expect_ready<S: WordSource>(rt: &impl Abort, source: &mut S, rooms: &[(usize, usize)]) {
-    let mut given = 0;
+    let mut given: usize = 0;
     for (room, count) in rooms {
         let mut out = [9; 32];
         assert_eq!(rt;
-            source.ready(&mut out[..32.min(*room)]),
+            source.ready(front(&mut out, *room)),
             *count,
             "room for {room}"
         );
-        assert_eq!(rt;
-            &out[..32.min(*count)],
-            &TEXT[20.min(given)..20.min(given + 32.min(*count))]
-        );
-        given = 20.min(given + 32.min(*count));
+        assert_eq!(rt; part(&out, 0, *count), part(&TEXT, given, *count));
+        given = given.saturating_add(*count);
     }
 }
 
@@ -378,23 +386,18 @@ fn expect_filled<S: WordSource>(
     room: &mut [u8],
     end: Result<bool, SourceFault>,
 ) {
-    let mut done = 0;
-    for size in [7, 8, 65536, 65536] {
-        let whole = size / 8 * 8;
-        if room.len() < size || bytes.len() < done + whole {
-            assert!(rt; false, "no room");
-            return;
-        }
-        assert_eq!(rt; source.fill(&mut room[..size]), Ok(true));
-        assert_eq!(rt; &room[..whole], &bytes[done..done + whole]);
-        done += whole;
+    let mut done: usize = 0;
+    for (size, whole) in [(7, 0), (8, 8), (65536, 65536), (65536, 65536)] {
+        assert_eq!(rt; source.fill(front(room, size)), Ok(true));
+        assert_eq!(rt; part(room, 0, whole), part(bytes, done, whole));
+        done = done.saturating_add(whole);
         assert_eq!(rt; source.position(), done as u64);
     }
     assert_eq!(rt; source.fill(room), end);
     let then = end.map_err(|_| SourceFault::Spent);
     assert_eq!(rt; source.fill(room), then);
     assert_eq!(rt; source.next(), then.map(|_| None));
-    assert_eq!(rt; source.fill(&mut room[..0]), Ok(true));
+    assert_eq!(rt; source.fill(front(room, 0)), Ok(true));
 }
 
 #[test]
