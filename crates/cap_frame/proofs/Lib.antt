@@ -8,3 +8,4 @@ pub mod Before
 pub mod Converse
 pub mod Outlines
 pub mod Putting
+pub mod Cuts

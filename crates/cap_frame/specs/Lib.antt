@@ -6,3 +6,5 @@ pub mod Rooms
 pub mod SourceFaults
 pub mod Putting
 pub mod Numbers
+pub mod Bytes
+pub mod HeldBytes

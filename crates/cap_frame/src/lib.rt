@@ -1,6 +1,7 @@
 //! Framed messages: reading them from a source of words, and writing them to a sink.
 #![tactic(auto)]
 
+pub mod byte_message;
 pub mod fault;
 pub mod limit;
 pub mod message;
@@ -9,9 +10,11 @@ pub mod outline_reader;
 pub mod reader;
 pub mod segments;
 mod table;
+pub mod view;
 mod words;
 pub mod writer;
 
+pub use byte_message::ByteMessage;
 pub use fault::FrameFault;
 pub use limit::SizeLimit;
 pub use message::{OneSegment, WordMessage};
@@ -19,6 +22,7 @@ pub use outline::Outline;
 pub use outline_reader::read_outline;
 pub use reader::read_message;
 pub use segments::Segments;
+pub use view::ByteView;
 pub use writer::write_message;
 
 #[cfg(test)]

@@ -1,0 +1,13 @@
+-- The words of segments whose bytes stand one behind the other, as in a framed message behind its table (standard: Serialization Over a Stream).
+use Rattle.std.specs.Prelude.{ℕ, ◌+◌, ◌*◌, List, [], ◌∷◌, take, drop}
+use Rattle.cap_spec.specs.Plain.{plain_words}
+
+-- bytes cut into segments of so many words each. What stands behind the last of them belongs to none
+abbrev pub cut : List ℕ → List ℕ → List (List ℕ)
+cut [] bytes = []
+cut (n ∷ ns) bytes = plain_words (take (8 * n) bytes) ∷ cut ns (drop (8 * n) bytes)
+
+-- where each segment starts, in words, where the first of them starts at this word
+abbrev pub starts_of : ℕ → List ℕ → List ℕ
+starts_of at [] = []
+starts_of at (n ∷ ns) = at ∷ starts_of (at + n) ns

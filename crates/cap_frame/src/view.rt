@@ -1,0 +1,69 @@
+//! Messages whose bytes are borrowed.
+
+ghost use Rattle.cap_frame.specs.Bytes.{cut, starts_of};
+ghost use Rattle.cap_spec.specs.Messages.{IsMessage};
+ghost use Rattle.std.proofs.Props.{props};
+ghost use Rattle.std.specs.Prelude.{◌*◌, ◌^◌, ◌≡◌, ◌≤◌, length, sum};
+
+use crate::segments::Segments;
+use byteorder::{ByteOrder, LittleEndian};
+
+/// A message whose segments are borrowed bytes, one behind the other, each word in eight of them.
+///
+/// It shows nothing of bytes that stand behind its last segment.
+#[derive(Clone, Copy, Drop)]
+pub struct ByteView<'b> {
+    // of the contents; more may stand behind them
+    bytes: &'b [u8],
+    // where each segment starts, in words
+    starts: &'b [u32],
+    // how many words each has
+    sizes: &'b [u32],
+    ghost starts_are: { starts.now ≡ starts_of 0 sizes.now },
+    ghost inside: { 8 * sum sizes.now ≤ length bytes.now },
+    ghost some: { 1 ≤ length sizes.now },
+    ghost few: { length sizes.now ≤ 512 },
+    ghost small: { sum sizes.now ≤ 2 ^ 28 },
+    ghost is_message: { IsMessage (cut sizes.now bytes.now) } by { Prim.hlevel props },
+}
+
+impl<'b> ByteView<'b> {
+    /// The message of these bytes, whose segments start and end where the tables say.
+    #[inline]
+    pub(crate) fn over(bytes: &'b [u8], starts: &'b [u32], sizes: &'b [u32]) -> ByteView<'b>
+        requires starts { starts.now ≡ starts_of 0 sizes.now }
+        requires inside { 8 * sum sizes.now ≤ length bytes.now }
+        requires some { 1 ≤ length sizes.now }
+        requires few { length sizes.now ≤ 512 }
+        requires small { sum sizes.now ≤ 2 ^ 28 }
+        ensures { ⟦<ByteView<'b> as Segments>⟧.segments result ≡ cut sizes.now bytes.now }
+    {
+        ByteView {
+            bytes,
+            starts,
+            sizes,
+        }
+    }
+}
+
+impl<'b> Segments for ByteView<'b> {
+    ghost segments = { λ m. cut m.sizes.now m.bytes.now };
+
+    #[inline]
+    fn count(&self) -> u32 {
+        self.sizes.len() as u32
+    }
+
+    #[inline]
+    fn len(&self, s: u32) -> u32 {
+        self.sizes[s as usize]
+    }
+
+    #[inline]
+    fn word(&self, s: u32, w: u32) -> u64 {
+        let at = (self.starts[s as usize] + w) as usize;
+        LittleEndian::read_u64(&self.bytes[8 * at..])
+    }
+
+    ghost is_message = { λ m. m.is_message };
+}
