@@ -9,3 +9,4 @@ pub mod Converse
 pub mod Outlines
 pub mod Putting
 pub mod Cuts
+pub mod Parts

@@ -1,9 +1,10 @@
 //! Messages whose bytes are borrowed.
 
 ghost use Rattle.cap_frame.specs.Bytes.{cut, starts_of};
-ghost use Rattle.cap_spec.specs.Messages.{IsMessage};
+ghost use Rattle.cap_spec.specs.Messages.{IsMessage, segment_of};
+ghost use Rattle.cap_spec.specs.Plain.{plain_text, plain_words};
 ghost use Rattle.std.proofs.Props.{props};
-ghost use Rattle.std.specs.Prelude.{◌*◌, ◌^◌, ◌≡◌, ◌≤◌, length, sum};
+ghost use Rattle.std.specs.Prelude.{◌*◌, ◌+◌, ◌<◌, ◌^◌, ◌≡◌, ◌≤◌, drop, length, slice_range, sum, take};
 
 use crate::segments::Segments;
 use byteorder::{ByteOrder, LittleEndian};
@@ -44,6 +45,28 @@ impl<'b> ByteView<'b> {
             sizes,
         }
     }
+
+    /// The bytes of so many words of segment `s` from word `start` on, as they stand (encoding:
+    /// 64-bit Words).
+    #[inline]
+    pub fn bytes(&self, s: u32, start: u32, words: u32) -> &'b [u8]
+        requires exists { let m = ⟦<ByteView<'b> as Segments>⟧.segments self.now in s < length m }
+        requires inside { let m = ⟦<ByteView<'b> as Segments>⟧.segments self.now in start + words ≤ length (segment_of m s) }
+        ensures { let m = ⟦<ByteView<'b> as Segments>⟧.segments self.now in result.now ≡ plain_text (slice_range (segment_of m s) start (start + words)) }
+    {
+        let at = (self.starts[s as usize] + start) as usize;
+        words_at(self.bytes, at, words as usize)
+    }
+}
+
+// The bytes of so many words from word `at` on.
+#[inline(always)]
+fn words_at<'b>(bytes: &'b [u8], at: usize, words: usize) -> &'b [u8]
+    requires { 8 * (at + words) ≤ length bytes.now }
+    ensures part { result.now ≡ take (8 * words) (drop (8 * at) bytes.now) }
+    ensures text { result.now ≡ plain_text (plain_words result.now) }
+{
+    &bytes[8 * at..8 * (at + words)]
 }
 
 impl<'b> Segments for ByteView<'b> {

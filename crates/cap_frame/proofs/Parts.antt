@@ -1,0 +1,123 @@
+-- The bytes of some words of a segment, where the segments stand one behind the other.
+use Rattle.std.proofs.Common.{◌≡◌, ℕ, zero, suc, ◌+◌, ◌-◌, ◌*◌, ◌<◌, ◌≤◌, List, [], ◌∷◌, length, drop, take, sum, get_or, slice_range, ◌++◌, Fits, w8, refl, sym, ap, ◌∙◌, arith, append-nil}
+use Rattle.std.specs.List.{AllByRecursion}
+use Rattle.std.proofs.lemmas.List.{drop-drop, drop-take, drop_all, length-drop, length-take-le, take-take, take_all}
+use Rattle.byteorder.specs.Endian.{little_number}
+use Rattle.cap_frame.specs.Bytes.{cut, starts_of}
+use Rattle.cap_frame.proofs.Cuts.{cut_at, cut_length, cut_words, front_sum, start_is, words_exact}
+use Rattle.cap_spec.proofs.Plain.{plain_short, plain_split}
+use Rattle.cap_spec.specs.Plain.{plain_text, plain_words}
+
+-- less than a word has no first words, however many are taken
+short_front : (k : ℕ) (bs : List ℕ) → length bs < 8 → take (suc k) (plain_words bs) ≡ plain_words (take (8 * suc k) bs)
+short_front k bs l =
+    let none : plain_words bs ≡ [] = plain_short bs l in
+    ap (take (suc k)) none ∙ sym (ap plain_words (take_all (8 * suc k) bs (omega arith)) ∙ none)
+
+-- and none behind them
+short_back : (k : ℕ) (bs : List ℕ) → length bs < 8 → drop (suc k) (plain_words bs) ≡ plain_words (drop (8 * suc k) bs)
+short_back k bs l = ap (drop (suc k)) (plain_short bs l) ∙ sym (ap plain_words (drop_all (8 * suc k) bs (omega arith)))
+
+-- the first bytes spell the first words
+pub take_words : (k : ℕ) (bs : List ℕ) → take k (plain_words bs) ≡ plain_words (take (8 * k) bs)
+take_words zero bs = refl
+take_words (suc k) (a ∷ b ∷ c ∷ d ∷ e ∷ f ∷ g ∷ h ∷ rest) =
+    let j : suc (suc (suc (suc (suc (suc (suc (suc (8 * k)))))))) ≡ 8 * suc k = omega arith in
+    ap (λ ws. little_number 8 (a ∷ b ∷ c ∷ d ∷ e ∷ f ∷ g ∷ h ∷ []) ∷ ws) (take_words k rest)
+    ∙ ap (λ n. plain_words (take n (a ∷ b ∷ c ∷ d ∷ e ∷ f ∷ g ∷ h ∷ rest))) j
+take_words (suc k) [] = short_front k [] (omega arith)
+take_words (suc k) (a ∷ []) = short_front k (a ∷ []) (omega arith)
+take_words (suc k) (a ∷ b ∷ []) = short_front k (a ∷ b ∷ []) (omega arith)
+take_words (suc k) (a ∷ b ∷ c ∷ []) = short_front k (a ∷ b ∷ c ∷ []) (omega arith)
+take_words (suc k) (a ∷ b ∷ c ∷ d ∷ []) = short_front k (a ∷ b ∷ c ∷ d ∷ []) (omega arith)
+take_words (suc k) (a ∷ b ∷ c ∷ d ∷ e ∷ []) = short_front k (a ∷ b ∷ c ∷ d ∷ e ∷ []) (omega arith)
+take_words (suc k) (a ∷ b ∷ c ∷ d ∷ e ∷ f ∷ []) = short_front k (a ∷ b ∷ c ∷ d ∷ e ∷ f ∷ []) (omega arith)
+take_words (suc k) (a ∷ b ∷ c ∷ d ∷ e ∷ f ∷ g ∷ []) = short_front k (a ∷ b ∷ c ∷ d ∷ e ∷ f ∷ g ∷ []) (omega arith)
+
+-- and the other bytes the other words
+pub drop_words : (k : ℕ) (bs : List ℕ) → drop k (plain_words bs) ≡ plain_words (drop (8 * k) bs)
+drop_words zero bs = refl
+drop_words (suc k) (a ∷ b ∷ c ∷ d ∷ e ∷ f ∷ g ∷ h ∷ rest) =
+    let j : suc (suc (suc (suc (suc (suc (suc (suc (8 * k)))))))) ≡ 8 * suc k = omega arith in
+    drop_words k rest ∙ ap (λ n. plain_words (drop n (a ∷ b ∷ c ∷ d ∷ e ∷ f ∷ g ∷ h ∷ rest))) j
+drop_words (suc k) [] = short_back k [] (omega arith)
+drop_words (suc k) (a ∷ []) = short_back k (a ∷ []) (omega arith)
+drop_words (suc k) (a ∷ b ∷ []) = short_back k (a ∷ b ∷ []) (omega arith)
+drop_words (suc k) (a ∷ b ∷ c ∷ []) = short_back k (a ∷ b ∷ c ∷ []) (omega arith)
+drop_words (suc k) (a ∷ b ∷ c ∷ d ∷ []) = short_back k (a ∷ b ∷ c ∷ d ∷ []) (omega arith)
+drop_words (suc k) (a ∷ b ∷ c ∷ d ∷ e ∷ []) = short_back k (a ∷ b ∷ c ∷ d ∷ e ∷ []) (omega arith)
+drop_words (suc k) (a ∷ b ∷ c ∷ d ∷ e ∷ f ∷ []) = short_back k (a ∷ b ∷ c ∷ d ∷ e ∷ f ∷ []) (omega arith)
+drop_words (suc k) (a ∷ b ∷ c ∷ d ∷ e ∷ f ∷ g ∷ []) = short_back k (a ∷ b ∷ c ∷ d ∷ e ∷ f ∷ g ∷ []) (omega arith)
+
+-- numbers that fit are bytes
+small_bytes : (bs : List ℕ) → ((i : ℕ) → Fits w8 (get_or bs i 0)) → AllByRecursion (λ b. b < 256) bs
+small_bytes [] fits = tt
+small_bytes (b ∷ bs) fits = ((fits 0).fits, small_bytes bs (λ i. fits (suc i)))
+
+-- and so are the first of them
+small_front : (k : ℕ) (bs : List ℕ) → AllByRecursion (λ b. b < 256) bs → AllByRecursion (λ b. b < 256) (take k bs)
+small_front zero bs all = tt
+small_front (suc k) [] all = tt
+small_front (suc k) (b ∷ bs) all = (all.0, small_front k bs all.1)
+
+-- and the others
+small_back : (k : ℕ) (bs : List ℕ) → AllByRecursion (λ b. b < 256) bs → AllByRecursion (λ b. b < 256) (drop k bs)
+small_back zero bs all = all
+small_back (suc k) [] all = tt
+small_back (suc k) (b ∷ bs) all = small_back k bs all.1
+
+-- bytes that are whole words are the text of these words
+whole_text : (bs : List ℕ) (n : ℕ) → AllByRecursion (λ b. b < 256) bs → length bs ≡ 8 * n → bs ≡ plain_text (plain_words bs)
+whole_text bs n all e =
+    let s = plain_split bs all in
+    let k : length (plain_words bs) ≡ n = sym (words_exact bs) ∙ omega (arith, e) in
+    let r : drop (8 * length (plain_words bs)) bs ≡ [] = drop_all (8 * length (plain_words bs)) bs (omega (arith, e, k)) in
+    s.whole ∙ (ap (λ xs. plain_text (plain_words bs) ++ xs) r ∙ append-nil (plain_text (plain_words bs)))
+
+-- and so are some of them, from a word on
+pub part_text : (bs : List ℕ) (at words : ℕ) → ((i : ℕ) → Fits w8 (get_or bs i 0)) → 8 * (at + words) ≤ length bs
+    → take (8 * words) (drop (8 * at) bs) ≡ plain_text (plain_words (take (8 * words) (drop (8 * at) bs)))
+part_text bs at words fits inside =
+    let d : length (drop (8 * at) bs) ≡ length bs - 8 * at = length-drop (8 * at) bs in
+    let e : length (take (8 * words) (drop (8 * at) bs)) ≡ 8 * words = length-take-le (8 * words) (drop (8 * at) bs) (omega (arith, d, inside)) in
+    whole_text (take (8 * words) (drop (8 * at) bs)) words (small_front (8 * words) (drop (8 * at) bs) (small_back (8 * at) bs (small_bytes bs fits))) e
+
+-- some words of a segment are spelled where their start and that of the segment tell
+pub part_words : (ns bs : List ℕ) (s start words : ℕ) → s < length ns → 8 * sum ns ≤ length bs → start + words ≤ length (get_or (cut ns bs) s [])
+    → slice_range (get_or (cut ns bs) s []) start (start + words)
+        ≡ plain_words (take (8 * words) (drop (8 * (sum (take s ns) + start)) bs))
+part_words ns bs s start words l h inside =
+    let n = get_or ns s 0 in
+    let at = 8 * sum (take s ns) in
+    let own = take (8 * n) (drop at bs) in
+    let e : length (get_or (cut ns bs) s []) ≡ n = cut_words ns bs s l h in
+    let c : get_or (cut ns bs) s [] ≡ plain_words own = cut_at ns bs s l in
+    let few : (start + words) - start ≡ words = omega arith in
+    let r = 8 * n - 8 * start in
+    let q : 8 * n ≡ 8 * start + r = omega (arith, inside, e) in
+    let x : drop (8 * start) own ≡ take r (drop (8 * start) (drop at bs)) = ap (λ k. drop (8 * start) (take k (drop at bs))) q ∙ drop-take (8 * start) r (drop at bs) in
+    let m : 8 * words ≤ r = omega (arith, inside, e) in
+    let z : at + 8 * start ≡ 8 * (sum (take s ns) + start) = omega arith in
+    let y : drop (8 * start) (drop at bs) ≡ drop (8 * (sum (take s ns) + start)) bs = drop-drop (8 * start) at bs ∙ ap (λ k. drop k bs) z in
+    ap (λ xs. slice_range xs start (start + words)) c
+    ∙ (ap (λ k. take k (drop start (plain_words own))) few
+    ∙ (ap (take words) (drop_words start own)
+    ∙ (take_words words (drop (8 * start) own)
+    ∙ ap plain_words (ap (take (8 * words)) x ∙ (take-take (8 * words) r (drop (8 * start) (drop at bs)) m ∙ ap (take (8 * words)) y)))))
+
+-- where words of segment s stand, by the table of starts, and what they are
+pub record PartFacts (ns starts bs : List ℕ) (s start words : ℕ) : Type 0 where
+  pub sums : get_or starts s 0 + start + words ≤ sum ns
+  pub spelled : plain_words (take (8 * words) (drop (8 * (get_or starts s 0 + start)) bs)) ≡ slice_range (get_or (cut ns bs) s []) start (start + words)
+
+pub part_facts : (ns starts bs : List ℕ) (s start words : ℕ) → starts ≡ starts_of 0 ns → 8 * sum ns ≤ length bs → s < length (cut ns bs)
+    → start + words ≤ length (get_or (cut ns bs) s []) → PartFacts ns starts bs s start words
+part_facts ns starts bs s start words are inside exists within =
+    let l : s < length ns = omega (arith, cut_length ns bs) in
+    let at : get_or starts s 0 ≡ sum (take s ns) = ap (λ xs. get_or xs s 0) are ∙ (start_is 0 ns s l ∙ (let z : 0 + sum (take s ns) ≡ sum (take s ns) = omega arith in z)) in
+    let e : length (get_or (cut ns bs) s []) ≡ get_or ns s 0 = cut_words ns bs s l inside in
+    let f : sum (take s ns) + get_or ns s 0 ≤ sum ns = front_sum ns s l in
+    record {
+      sums = omega (arith, at, e, f, within);
+      spelled = ap (λ k. plain_words (take (8 * words) (drop (8 * (k + start)) bs))) at ∙ sym (part_words ns bs s start words l inside within);
+    }
