@@ -1,8 +1,10 @@
 -- What nodes and views are of (profile).
-use Rattle.std.specs.Prelude.{Option, None, Some}
+use Rattle.std.specs.Prelude.{ℕ, List, [], Option, None, Some}
 use Rattle.cap_frame.specs.declared.segments.Segments as segments
 use Rattle.cap_spec.specs.Arriving.{own_at}
+use Rattle.cap_spec.specs.Denoting.{words_from}
 use Rattle.cap_spec.specs.Paths.{Spot}
+use Rattle.cap_spec.specs.Plain.{plain_text}
 use Rattle.cap_spec.specs.Showing.{Own}
 use Rattle.cap_spec.specs.declared.Kind.{Kind}
 use Rattle.cap_spec.specs.declared.Kind.TheVariants.{Null, Cap}
@@ -40,6 +42,11 @@ place_of_kind _ p = Some p
 -- the words of what a view is of
 abbrev pub view_place : {M : Type 0} {g : segments.Ghosts M} → View M g → Option Place
 view_place v = place_of_kind v.found.kind v.found.place
+
+-- the bytes of the words of a place, and none where there is no place
+abbrev pub bytes_of_place : List (List ℕ) → Option Place → List ℕ
+bytes_of_place m None = []
+bytes_of_place m (Some p) = plain_text (words_from m p.segment p.start p.words)
 
 -- what a view shows
 abbrev pub shown : {M : Type 0} {g : segments.Ghosts M} → View M g → Own

@@ -7,7 +7,7 @@ ghost use Rattle.std.specs.Prelude.{◌+◌, ◌<◌, ◌≡◌, ◌≤◌, ⊤,
 
 use crate::found::Found;
 use crate::place::Place;
-use cap_frame::Segments;
+use cap_frame::{ByteView, Segments};
 use cap_spec::Kind;
 use cap_words::{bits, bytes_of};
 use std::alloc::AllocError;
@@ -176,6 +176,22 @@ impl<'m, M: Segments> View<'m, M> {
         let start = u64::from(i) * u64::from(size);
         let word = self.word_at((start / 64) as u32);
         bits(word, (start % 64) as u32, size)
+    }
+}
+
+impl<'m, 'b> View<'m, ByteView<'b>> {
+    ghost use Rattle.cap_vet.specs.Handles.{bytes_of_place, view_message, view_place};
+
+    /// The bytes of the words of its [`place`](View::place) as they stand, a tag, surplus words and the
+    /// bits past the last value of a list included. Empty for null and a capability.
+    pub fn bytes(&self) -> &'b [u8]
+        ensures { result.now ≡ bytes_of_place (⟦<ByteView<'b> as Segments>⟧.segments (view_message self.now)) (view_place self.now) }
+    {
+        match self.place() {
+            Some(place) => self.message
+                .bytes(place.segment, place.start, place.words),
+            None => &[],
+        }
     }
 }
 
