@@ -7,6 +7,8 @@ pub mod Behind
 pub mod Before
 pub mod Converse
 pub mod Outlines
+pub mod InOneBuffer
+pub mod Starts
 pub mod Putting
 pub mod Cuts
 pub mod Parts

@@ -8,3 +8,4 @@ pub mod Putting
 pub mod Numbers
 pub mod Bytes
 pub mod HeldBytes
+pub mod ByteRoom

@@ -1,7 +1,9 @@
 //! Framed messages: reading them from a source of words, and writing them to a sink.
 #![tactic(auto)]
 
+mod byte_contents;
 pub mod byte_message;
+pub mod byte_reader;
 pub mod fault;
 pub mod limit;
 pub mod message;
@@ -15,6 +17,7 @@ mod words;
 pub mod writer;
 
 pub use byte_message::ByteMessage;
+pub use byte_reader::{read_byte_message, read_into};
 pub use fault::FrameFault;
 pub use limit::SizeLimit;
 pub use message::{OneSegment, WordMessage};

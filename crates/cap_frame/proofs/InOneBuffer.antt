@@ -1,0 +1,114 @@
+-- Words that are read into one buffer, piece by piece.
+use Rattle.std.proofs.Common.{◌≡◌, ◌∙◌, Bool, true, Result, Ok, ℕ, ◌+◌, ◌-◌, ◌*◌, ◌/◌, ◌%◌, ◌≤◌, false, List, [], ◌∷◌, ◌++◌, length, take, drop, sum, refl, sym, ap, subst, arith, append_assoc, length-append, length-drop}
+use Rattle.std.proofs.Math.Seq.{take-add, take-append_seam}
+use Rattle.std.proofs.lemmas.List.{length-take-le, take-append-le, take-take}
+use Rattle.std.proofs.lemmas.List.Sums.{sum_by-cons}
+use Rattle.cap_words.specs.declared.sources.WordSource as source
+use Rattle.cap_words.specs.declared.sources.SourceFault.{SourceFault}
+use Rattle.cap_words.proofs.Filling.{plain_join}
+use Rattle.cap_spec.specs.Frames.{Frames, joined, sizes_of}
+use Rattle.cap_spec.specs.Plain.{plain_words}
+use Rattle.cap_frame.specs.Bytes.{cut}
+use Rattle.cap_frame.specs.Faults.{TakesTable}
+use Rattle.cap_frame.specs.Taking.{Takes, Reads, IsUsable, Stops}
+use Rattle.cap_frame.specs.declared.fault.FrameFault.{FrameFault}
+use Rattle.cap_frame.proofs.Behind.{behind_message}
+use Rattle.cap_frame.proofs.Cuts.{words_exact, words_inside}
+use Rattle.cap_frame.proofs.Outlines.{FindsMessage}
+use Rattle.cap_frame.proofs.Taking.{takes_none, takes_both, reads_none, reads_both, usable_both, stops_later, stops_weaker}
+
+-- what stands in a buffer up to the end of a piece that was written over it
+pub piece_in : (start end many : ℕ) (before held more items piece post rest : List ℕ) → start ≤ length before → end ≤ many → length piece ≡ end - start → start ≤ end
+    → held ≡ before ++ more → items ≡ take many ((take start held ++ (piece ++ post)) ++ rest) → take end items ≡ take start before ++ piece
+piece_in start end many before held more items piece post rest h e l k b i =
+    let front : take start held ≡ take start before = ap (take start) b ∙ take-append-le start before more h in
+    let parts : (take start held ++ (piece ++ post)) ++ rest ≡ (take start before ++ piece) ++ (post ++ rest) =
+    ap (λ (xs : List ℕ). (xs ++ (piece ++ post)) ++ rest) front ∙ (append_assoc (take start before) (piece ++ post) rest
+    ∙ (ap (λ (xs : List ℕ). take start before ++ xs) (append_assoc piece post rest) ∙ sym (append_assoc (take start before) piece (post ++ rest)))) in
+    let long : length (take start before ++ piece) ≡ end = omega (arith, length-append (take start before) piece, length-take-le start before h) in
+    let shown : take end ((take start before ++ piece) ++ (post ++ rest)) ≡ take start before ++ piece =
+    ap (λ (n : ℕ). take n ((take start before ++ piece) ++ (post ++ rest))) (sym long) ∙ take-append_seam (take start before ++ piece) (post ++ rest) in
+    ap (take end) i ∙ (take-take end many _ e ∙ (ap (take end) parts ∙ shown))
+
+-- as many words as there are bytes for
+pub words_taken : (n : ℕ) (bytes : List ℕ) → 8 * n ≤ length bytes → length (plain_words (take (8 * n) bytes)) ≡ n
+words_taken n bytes h = omega (arith, words_exact (take (8 * n) bytes), length-take-le (8 * n) bytes h)
+
+-- the segments have these sizes
+pub held_sizes : (ns bytes : List ℕ) → 8 * sum ns ≤ length bytes → sizes_of (cut ns bytes) ≡ ns
+held_sizes [] bytes h = refl
+held_sizes (n ∷ ns) bytes h =
+    let all = sum_by-cons (λ x. x) n ns in
+    let front : length (plain_words (take (8 * n) bytes)) ≡ n = words_taken n bytes (omega (arith, all)) in
+    let back : sizes_of (cut ns (drop (8 * n) bytes)) ≡ ns = held_sizes ns (drop (8 * n) bytes) (omega (arith, all, length-drop (8 * n) bytes)) in
+    cc
+
+-- joined, they are the words of the bytes in front
+pub held_joined : (ns bytes : List ℕ) → 8 * sum ns ≤ length bytes → joined (cut ns bytes) ≡ plain_words (take (8 * sum ns) bytes)
+held_joined [] bytes h = refl
+held_joined (n ∷ ns) bytes h =
+    let all = sum_by-cons (λ x. x) n ns in
+    let back : joined (cut ns (drop (8 * n) bytes)) ≡ plain_words (take (8 * sum ns) (drop (8 * n) bytes)) = held_joined ns (drop (8 * n) bytes) (omega (arith, all, length-drop (8 * n) bytes)) in
+    let long : length (take (8 * n) bytes) ≡ 8 * n = length-take-le (8 * n) bytes (omega (arith, all)) in
+    let bound : 8 * n + 8 * sum ns ≡ 8 * sum (n ∷ ns) = omega (arith, all) in
+    let parts : take (8 * sum (n ∷ ns)) bytes ≡ take (8 * n) bytes ++ take (8 * sum ns) (drop (8 * n) bytes) =
+    ap (λ (k : ℕ). take k bytes) (sym bound) ∙ take-add (8 * n) (8 * sum ns) bytes in
+    ap (λ (ws : List ℕ). plain_words (take (8 * n) bytes) ++ ws) back
+    ∙ sym (ap plain_words parts ∙ plain_join (take (8 * n) bytes) (take (8 * sum ns) (drop (8 * n) bytes)) (omega (arith, long)))
+
+module _ {X : Type 0} (g : source.Ghosts X) where
+  -- The words of so many bytes in front of a buffer were read.
+  pub record BytesSoFar (old now : X) (done : ℕ) (bytes : List ℕ) : Type 0 where
+    pub whole : done % 8 ≡ 0
+    pub within : done ≤ length bytes
+    pub takes : Takes g old now (plain_words (take done bytes))
+    pub reads : Reads g old now
+    pub usable : IsUsable g old now
+
+  -- none yet
+  pub bytes_none : (s : X) (bytes : List ℕ) → g.spent s ≡ false → BytesSoFar s s 0 bytes
+  bytes_none s bytes u = record {
+    whole = refl;
+    within = omega arith;
+    takes = takes_none g s;
+    reads = reads_none g s;
+    usable = record { usable = u; still = u; none_failed = refl };
+  }
+
+  -- one more piece
+  pub bytes_more : (old now new : X) (done end : ℕ) (bytes longer piece : List ℕ) → end % 8 ≡ 0 → end ≤ length longer → take end longer ≡ take done bytes ++ piece
+      → BytesSoFar old now done bytes → Takes g now new (plain_words piece) → Reads g now new → IsUsable g now new → BytesSoFar old new end longer
+  bytes_more old now new done end bytes longer piece w i e t takes r u =
+      let front : length (take done bytes) % 8 ≡ 0 = omega (arith, length-take-le done bytes t.within, t.whole) in
+      let words : plain_words (take end longer) ≡ plain_words (take done bytes) ++ plain_words piece = ap plain_words e ∙ plain_join (take done bytes) piece front in
+      record {
+        whole = w;
+        within = i;
+        takes = subst (Takes g old new) (sym words) (takes_both g old now new (plain_words (take done bytes)) (plain_words piece) t.takes takes);
+        reads = reads_both g old now new t.reads r;
+        usable = usable_both g old now new t.usable u;
+      }
+
+  -- the source stopped inside a piece
+  pub bytes_stop : (old now new : X) (done end words : ℕ) (bytes : List ℕ) (fault : SourceFault) → done ≤ end → end ≤ 8 * words → BytesSoFar old now done bytes
+      → Stops g ((end - done) / 8) now new fault → Stops g words old new fault
+  bytes_stop old now new done end words bytes fault h w t s =
+      let taken = length (plain_words (take done bytes)) in
+      let few : 8 * taken ≤ done = omega (arith, words_inside (take done bytes), length-take-le done bytes t.within) in
+      let some : taken + (end - done) / 8 ≤ words = omega (arith, t.whole) in
+      stops_weaker g old new (taken + (end - done) / 8) words fault some (stops_later g old now new (plain_words (take done bytes)) ((end - done) / 8) fault t.takes t.usable s)
+
+  -- the table and the words of the bytes in front frame the message
+  pub behind_held : (limit words : ℕ) (old mid new : X) (sizes bytes : List ℕ) → TakesTable g old mid sizes → sum sizes ≤ limit → words ≡ sum sizes → 8 * words ≤ length bytes
+      → Takes g mid new (plain_words (take (8 * words) bytes)) → (own : List ℕ) × Takes g old new own × Frames own (cut sizes bytes) × (sum (sizes_of (cut sizes bytes)) ≤ limit)
+  behind_held limit words old mid new sizes bytes table within e inside takes =
+      let enough : 8 * sum sizes ≤ length bytes = omega (arith, e, inside) in
+      let ns : sizes_of (cut sizes bytes) ≡ sizes = held_sizes sizes bytes enough in
+      let ws : joined (cut sizes bytes) ≡ plain_words (take (8 * words) bytes) = held_joined sizes bytes enough ∙ ap (λ (n : ℕ). plain_words (take (8 * n) bytes)) (sym e) in
+      let read = behind_message g old mid new sizes (cut sizes bytes) table (subst (Takes g mid new) (sym ws) takes) ns in
+      (read.0, read.1, read.2, rw ns within)
+
+-- a message that a clause names
+pub held_found : {X : Type 0} (g : source.Ghosts X) (limit : ℕ) (old new : X) (held : List (List ℕ)) (r : Result Bool FrameFault)
+    → (r ≡ Ok true → (own : List ℕ) × Takes g old new own × Frames own held × (sum (sizes_of held) ≤ limit)) → FindsMessage g (λ m. held ≡ m) limit old new r
+held_found g limit old new held r f = λ e. let t = f e in (t.0, held, t.1, t.2, t.3, refl)

@@ -1,0 +1,26 @@
+-- Each piece reads on behind those before it.
+use Rattle.std.proofs.Common.{◌%◌, ◌≡◌, ◌≤◌, ◌*◌, arith}
+use Rattle.cap_frame.proofs.Taking.{reads_both}
+use Rattle.cap_frame.proofs.InOneBuffer.{bytes_more, bytes_stop}
+use Rattle.cap_frame.proofs.byte_contents.read_bytes.Goals as goal
+
+pub pieces-preserved : goal.pieces-preserved
+pieces-preserved g c =
+    let piece = c.in-Ok.ensures.ok in
+    let so_far = c.pieces.invariant.0 in
+    let whole : c.max-end.result % 8 ≡ 0 = omega (arith, so_far.whole, c.max-end.ensures, c.min.ensures, c.min-held.ensures) in
+    let end : c.max-end.result ≤ 8 * c.args.words = omega (arith, c.pieces.invariant.1, c.max-end.ensures, c.min.ensures, c.min-held.ensures) in (
+      bytes_more g.S.WordSource c.args.source.now c.pieces.source c.read_piece.new.source c.pieces.done c.max-end.result c.pieces.bytes.items c.read_piece.new.bytes.items piece.0 whole (omega (arith, c.in-Ok.ensures.within))
+          piece.1 so_far piece.3 c.read_piece.ensures.reads c.in-Ok.ensures.works,
+      end,
+      omega (arith, c.pieces.invariant.2, c.read_piece.ensures.capacity),
+    )
+
+pub returns-in-Err-clause-reads : goal.returns-in-Err-clause-reads
+returns-in-Err-clause-reads g c = reads_both g.S.WordSource c.args.source.now c.pieces.source c.read_piece.new.source c.pieces.invariant.0.reads c.read_piece.ensures.reads
+
+pub returns-in-Err-clause-err : goal.returns-in-Err-clause-err
+returns-in-Err-clause-err g c =
+    let later : c.pieces.done ≤ c.max-end.result = omega (arith, c.max-end.ensures, c.min.ensures, c.min-held.ensures) in
+    let end : c.max-end.result ≤ 8 * c.args.words = omega (arith, c.pieces.invariant.1, c.max-end.ensures, c.min.ensures, c.min-held.ensures) in
+    bytes_stop g.S.WordSource c.args.source.now c.pieces.source c.read_piece.new.source c.pieces.done c.max-end.result c.args.words c.pieces.bytes.items c.in-Err.fault later end c.pieces.invariant.0 c.in-Err.ensures.err

@@ -1,0 +1,121 @@
+//! Reading the words of a message into one buffer of bytes.
+
+ghost use Rattle.cap_frame.specs.Bytes.{starts_of};
+ghost use Rattle.cap_frame.specs.Taking.{IsUsable, Reads, Stops, Takes};
+ghost use Rattle.cap_spec.specs.Plain.{plain_words};
+ghost use Rattle.std.specs.Prelude.{◌%◌, ◌*◌, ◌+◌, ◌++◌, ◌-◌, ◌/◌, ◌<◌, ◌≡◌, ◌≤◌, [], ◌∷◌, IfErr, List, OnErr, OnOk, false, length, sum, take, ℕ};
+ghost use Rattle.std.specs.Vec.{vec_capacity, vec_len};
+
+use crate::table::Sizes;
+use cap_words::{SourceFault, WordSource};
+use std::alloc::{AllocError, Global};
+
+/// Where each segment of a message starts, in words.
+pub(crate) type Starts = Sizes;
+
+// How far a fresh buffer is made ready before it is read over, in bytes. Little enough to be in the cache
+// still, and twice the buffer of an input: what that holds already of a piece would else leave too little
+// of it to be read without a copy.
+const PIECE: usize = 131_072;
+
+/// Where segments of these sizes start, one behind the other.
+pub(crate) fn fill_starts(sizes: &[u32], starts: &mut Starts)
+    requires few { length sizes.now ≤ 512 }
+    requires small { sum sizes.now ≤ 268435456 }
+    ensures { starts.new.items ≡ starts_of 0 sizes.now }
+{
+    starts.clear();
+    let mut at = 0u32;
+    'segments: for size in sizes {
+        starts.push(at);
+        at += *size;
+    }
+}
+
+/// Sees to it that a buffer has room for so many bytes. Where it hasn't, it is let go before another is
+/// taken, so that what it holds is neither moved nor kept beside the new one.
+pub(crate) fn make_room(alloc: Global, bytes: &mut Vec<u8>, need: usize) -> Result<(), AllocError>
+    ensures ok { OnOk result (need ≤ vec_capacity bytes.new) }
+    ensures refused { OnErr result (vec_capacity bytes.old < need) }
+{
+    if bytes.capacity() < need {
+        *bytes = Vec::new(alloc);
+        *bytes = Vec::with_capacity(alloc, need)?;
+    }
+    Ok(())
+}
+
+// Makes a buffer at least so long, within its room.
+#[inline(always)]
+fn lengthen(bytes: &mut Vec<u8>, end: usize)
+    requires room { end ≤ vec_capacity bytes.old }
+    ensures kept { (more : List ℕ) × (bytes.new.items ≡ bytes.old.items ++ more) }
+    ensures long { (end ≤ vec_len bytes.new) × (vec_len bytes.old ≤ vec_len bytes.new) }
+    ensures capacity { vec_capacity bytes.old ≤ vec_capacity bytes.new }
+{
+    if bytes.len() < end {
+        // there is room, so no growth is asked for
+        bytes.resize(end, 0).unwrap();
+    }
+}
+
+// Reads whole words over the bytes from `start` to `end`, which are made ready first where there are
+// none yet.
+#[inline(always)]
+fn read_piece<S: WordSource>(
+    source: &mut S,
+    bytes: &mut Vec<u8>,
+    start: usize,
+    end: usize,
+) -> Result<(), SourceFault>
+    requires whole { (start % 8 ≡ 0) × (end % 8 ≡ 0) }
+    requires some { start < end }
+    requires begun { start ≤ vec_len bytes.old }
+    requires room { end ≤ vec_capacity bytes.old }
+    ensures ok { OnOk result ((piece : List ℕ) × (take end bytes.new.items ≡ take start bytes.old.items ++ piece)
+        × (length piece ≡ end - start) × Takes S.WordSource source.old source.new (plain_words piece)) }
+    ensures within { OnOk result (end ≤ vec_len bytes.new) }
+    ensures capacity { vec_capacity bytes.old ≤ vec_capacity bytes.new }
+    ensures works { OnOk result (IsUsable S.WordSource source.old source.new) }
+    ensures reads { Reads S.WordSource source.old source.new }
+    ensures err { IfErr result (Stops S.WordSource ((end - start) / 8) source.old source.new) }
+{
+    lengthen(bytes, end);
+    match source.fill(&mut bytes[start..end]) {
+        Ok(true) => Ok(()),
+        Ok(false) => Err(SourceFault::Truncated {
+            byte: source.position(),
+        }),
+        Err(fault) => Err(fault),
+    }
+}
+
+/// Reads so many words into a buffer with room for their bytes. What it holds already is read over in
+/// one piece, and the rest in pieces of no more than `PIECE`.
+pub(crate) fn read_bytes<S: WordSource>(
+    source: &mut S,
+    words: usize,
+    bytes: &mut Vec<u8>,
+) -> Result<(), SourceFault>
+    requires usable { S.spent source.old ≡ false }
+    requires small { words ≤ 268435456 }
+    requires room { 8 * words ≤ vec_capacity bytes.old }
+    ensures ok { OnOk result (Takes S.WordSource source.old source.new (plain_words (take (8 * words) bytes.new.items))) }
+    ensures within { OnOk result (8 * words ≤ vec_len bytes.new) }
+    ensures works { OnOk result (IsUsable S.WordSource source.old source.new) }
+    ensures reads { Reads S.WordSource source.old source.new }
+    ensures err { IfErr result (Stops S.WordSource words source.old source.new) }
+{
+    let need = 8 * words;
+    let mut done = 0;
+    'pieces: while done < need {
+        // whole words, since an earlier message may have left any number of bytes
+        let held = need.min(bytes.len() / 8 * 8);
+        let end = held.max(done + PIECE.min(need - done));
+        match read_piece(source, bytes, done, end) {
+            Ok(()) => done = end,
+            Err(fault) => return Err(fault),
+        }
+    }
+    Ok(())
+}
