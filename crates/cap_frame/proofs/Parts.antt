@@ -85,7 +85,7 @@ part_text bs at words fits inside =
 -- some words of a segment are spelled where their start and that of the segment tell
 pub part_words : (ns bs : List ℕ) (s start words : ℕ) → s < length ns → 8 * sum ns ≤ length bs → start + words ≤ length (get_or (cut ns bs) s [])
     → slice_range (get_or (cut ns bs) s []) start (start + words)
-        ≡ plain_words (take (8 * words) (drop (8 * (sum (take s ns) + start)) bs))
+    ≡ plain_words (take (8 * words) (drop (8 * (sum (take s ns) + start)) bs))
 part_words ns bs s start words l h inside =
     let n = get_or ns s 0 in
     let at = 8 * sum (take s ns) in

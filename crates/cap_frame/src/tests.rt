@@ -1,5 +1,7 @@
 //! What no contract can say: that calls succeed, and values from outside.
 
+mod views;
+
 use super::{
     FrameFault, OneSegment, Outline, Segments, SizeLimit, WordMessage, read_message, read_outline,
     write_message,

@@ -188,8 +188,7 @@ impl<'m, 'b> View<'m, ByteView<'b>> {
         ensures { result.now ≡ bytes_of_place (⟦<ByteView<'b> as Segments>⟧.segments (view_message self.now)) (view_place self.now) }
     {
         match self.place() {
-            Some(place) => self.message
-                .bytes(place.segment, place.start, place.words),
+            Some(place) => self.message.bytes(place.segment, place.start, place.words),
             None => &[],
         }
     }
