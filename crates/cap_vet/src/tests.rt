@@ -1,10 +1,14 @@
 //! Verdicts of messages that are known from outside.
 
+mod bytes;
 mod charges;
 mod nodes;
 
 use crate::{Limits, Reason, Refusal, Report, vet};
-use cap_frame::{OneSegment, Segments, WordMessage};
+use cap_frame::{
+    ByteMessage, OneSegment, Segments, SizeLimit, WordMessage, read_byte_message, write_message,
+};
+use cap_words::{PlainSink, PlainWords, SliceIn, VecOut};
 use std::alloc::Global;
 use std::process::Abort;
 use std::test::Fail;
@@ -21,8 +25,38 @@ fn words(alloc: Global, spelled: &[u64]) -> Result<Vec<u64>, Fail> {
     Ok(words)
 }
 
-// The verdict of a message of any kind.
-fn verdict<M: Segments>(rt: &impl Abort, message: &M, limits: Limits) -> Result<Report, Refusal> {
+// The same message in one buffer.
+fn in_one_buffer<M: Segments>(alloc: Global, message: &M) -> Result<ByteMessage, Fail> {
+    let mut sink = PlainSink::new(VecOut::new(alloc));
+    write_message(&mut sink, message)?;
+    let output = sink.into_inner();
+    let mut source = PlainWords::new(SliceIn::new(output.bytes()));
+    let limit = SizeLimit::new(268435456).ok_or("no limit")?;
+    match read_byte_message(alloc, &mut source, limit)? {
+        Some(held) => Ok(held),
+        None => Err("no message".into()),
+    }
+}
+
+// The verdict of a message of any kind, and of the same in one buffer.
+fn verdict<M: Segments>(
+    rt: &impl Abort,
+    alloc: Global,
+    message: &M,
+    limits: Limits,
+) -> Result<Result<Report, Refusal>, Fail> {
+    let answer = verdict_of(rt, message, limits);
+    let held = in_one_buffer(alloc, message)?;
+    assert_eq!(rt; verdict_of(rt, &held.view(), limits), answer);
+    Ok(answer)
+}
+
+// The verdict of a message as it is held.
+fn verdict_of<M: Segments>(
+    rt: &impl Abort,
+    message: &M,
+    limits: Limits,
+) -> Result<Report, Refusal> {
     match vet(message, limits) {
         Ok(vetted) => {
             assert_eq!(rt; vetted.message().count(), message.count());
@@ -32,7 +66,7 @@ fn verdict<M: Segments>(rt: &impl Abort, message: &M, limits: Limits) -> Result<
     }
 }
 
-// The verdict of a message whose one segment has these words, held in both ways.
+// The verdict of a message whose one segment has these words, held in each way.
 fn one_segment(
     rt: &impl Abort,
     alloc: Global,
@@ -40,11 +74,11 @@ fn one_segment(
     limits: Limits,
 ) -> Result<Result<Report, Refusal>, Fail> {
     let borrowed = OneSegment::new(&segment).ok_or("no message")?;
-    let answer = verdict(rt, &borrowed, limits);
+    let answer = verdict(rt, alloc, &borrowed, limits)?;
     let mut segments = Vec::new(alloc);
     segments.push(segment)?;
     let message = WordMessage::new(segments).ok_or("no message")?;
-    assert_eq!(rt; verdict(rt, &message, limits), answer);
+    assert_eq!(rt; verdict_of(rt, &message, limits), answer);
     Ok(answer)
 }
 
@@ -482,7 +516,7 @@ fn messages_of_several_segments(rt: HostRuntime) -> Result<(), Fail> {
         let message = WordMessage::new(segments).ok_or("no message")?;
         let limits = Limits::new(most_words, DEPTH).ok_or("no limits")?;
         assert_eq!(rt;
-            verdict(&rt, &message, limits),
+            verdict(&rt, rt.alloc(), &message, limits)?,
             answer,
             "at {root:016x} within {limits:?}"
         );
@@ -588,7 +622,8 @@ fn a_chain_that_doubles(rt: HostRuntime) -> Result<(), Fail> {
         (6291453, refused(0, 42, Reason::WordLimit, 4194303)),
     ] {
         let limits = Limits::new(most_words, 22).ok_or("no limits")?;
-        assert_eq!(rt; verdict(&rt, &message, limits), answer, "within {limits:?}");
+        let found = verdict(&rt, rt.alloc(), &message, limits)?;
+        assert_eq!(rt; found, answer, "within {limits:?}");
     }
     Ok(())
 }

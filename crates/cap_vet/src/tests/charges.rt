@@ -1,7 +1,7 @@
 //! What paths arrive at, what views show there, and what it is charged, of messages that are known
 //! from outside.
 
-use super::words;
+use super::{in_one_buffer, words};
 use crate::{Budget, Kind, Place, Reason, Refusal, Step, View, get_charged};
 use cap_frame::{OneSegment, Segments, WordMessage};
 use std::alloc::Global;
@@ -55,29 +55,35 @@ fn refused(reason: Reason, pointers: u64) -> Result<Seen, Refusal> {
 fn a_cycle_is_charged_step_by_step(rt: HostRuntime) -> Result<(), Fail> {
     let segment = words(rt.alloc(), &[0xfcffffff00000100])?;
     let itself = OneSegment::new(&segment).ok_or("no message")?;
+    steps_of_a_cycle(&rt, rt.alloc(), &itself)?;
+    let held = in_one_buffer(rt.alloc(), &itself)?;
+    steps_of_a_cycle(&rt, rt.alloc(), &held.view())
+}
+
+fn steps_of_a_cycle<M: Segments>(rt: &impl Abort, alloc: Global, itself: &M) -> Result<(), Fail> {
     let p0 = Step::Ptr(0);
     let path = &[p0, p0, p0];
-    assert_eq!(rt; charged(&itself, 10, 64, path), (a_struct(0, 1, 0), 6));
-    assert_eq!(rt; charged(&itself, 4, 4, path), (a_struct(0, 1, 0), 0));
+    assert_eq!(rt; charged(itself, 10, 64, path), (a_struct(0, 1, 0), 6));
+    assert_eq!(rt; charged(itself, 4, 4, path), (a_struct(0, 1, 0), 0));
     assert_eq!(rt;
-        charged(&itself, 3, 64, path),
+        charged(itself, 3, 64, path),
         (refused(Reason::WordLimit, 4), 3)
     );
     assert_eq!(rt;
-        charged(&itself, 10, 3, path),
+        charged(itself, 10, 3, path),
         (refused(Reason::DepthLimit, 4), 10)
     );
     // Both limits are passed at the fourth pointer.
     assert_eq!(rt;
-        charged(&itself, 3, 3, path),
+        charged(itself, 3, 3, path),
         (refused(Reason::DepthLimit, 4), 3)
     );
-    let mut long: Vec<Step> = Vec::new(rt.alloc());
+    let mut long: Vec<Step> = Vec::new(alloc);
     for _ in 0..1000 {
         long.push(p0)?;
     }
     assert_eq!(rt;
-        charged(&itself, u64::MAX, u32::MAX, &long),
+        charged(itself, u64::MAX, u32::MAX, &long),
         (a_struct(0, 1, 0), u64::MAX - 1001)
     );
     Ok(())
@@ -126,19 +132,17 @@ fn a_message_without_a_root_is_refused_on_each_path(rt: HostRuntime) -> Result<(
     segments.push(Vec::new(rt.alloc()))?;
     segments.push(words(rt.alloc(), &[0x0000000001000000, 42])?)?;
     let rootless = WordMessage::new(segments).ok_or("no message")?;
-    assert_eq!(rt;
-        charged(&rootless, 9, 64, &[]),
-        (refused(Reason::NoRoot, 0), 9)
-    );
-    assert_eq!(rt;
-        charged(&rootless, 9, 64, &[Step::Ptr(0)]),
-        (refused(Reason::NoRoot, 0), 9)
-    );
+    let held = in_one_buffer(rt.alloc(), &rootless)?;
+    let answer = (refused(Reason::NoRoot, 0), 9);
+    for path in [&[][..], &[Step::Ptr(0)]] {
+        assert_eq!(rt; charged(&rootless, 9, 64, path), answer);
+        assert_eq!(rt; charged(&held.view(), 9, 64, path), answer);
+    }
     Ok(())
 }
 
-// The root of a message whose one segment has these words.
-fn root<'m>(message: &'m OneSegment<'m>) -> Result<View<'m, OneSegment<'m>>, Fail> {
+// The root of a message.
+fn root<M: Segments>(message: &M) -> Result<View<'_, M>, Fail> {
     match get_charged(message, &mut Budget::new(u64::MAX), 64, &[]) {
         Ok(Some(view)) => Ok(view),
         _ => Err("no root".into()),
@@ -155,7 +159,19 @@ fn values(
 ) -> Result<(), Fail> {
     let segment = words(alloc, spelled)?;
     let message = OneSegment::new(&segment).ok_or("no message")?;
-    let view = root(&message)?;
+    shows_values(rt, root(&message)?, spelled, elements, list_words);
+    let held = in_one_buffer(alloc, &message)?;
+    shows_values(rt, root(&held.view())?, spelled, elements, list_words);
+    Ok(())
+}
+
+fn shows_values<M: Segments>(
+    rt: &impl Abort,
+    view: View<'_, M>,
+    spelled: &[u64],
+    elements: &[u64],
+    list_words: &[u64],
+) {
     let mut i: u32 = 0;
     for element in elements {
         assert_eq!(rt;
@@ -175,7 +191,6 @@ fn values(
     assert_eq!(rt; view.data_word(i), None, "past the words of {spelled:?}");
     assert_eq!(rt; view.byte(0), None);
     assert_eq!(rt; view.bit(0), None);
-    Ok(())
 }
 
 #[test]
@@ -224,7 +239,13 @@ fn values_of_each_size(rt: HostRuntime) -> Result<(), Fail> {
 fn the_data_of_a_struct(rt: HostRuntime) -> Result<(), Fail> {
     let segment = words(rt.alloc(), &[0x0000000002000000, 0x0102030405060708, 0x80])?;
     let message = OneSegment::new(&segment).ok_or("no message")?;
-    let view = root(&message)?;
+    shows_data(&rt, root(&message)?);
+    let held = in_one_buffer(rt.alloc(), &message)?;
+    shows_data(&rt, root(&held.view())?);
+    Ok(())
+}
+
+fn shows_data<M: Segments>(rt: &impl Abort, view: View<'_, M>) {
     assert_eq!(rt; view.data_word(0), Some(0x0807060504030201));
     assert_eq!(rt; view.data_word(1), Some(0x8000000000000000));
     assert_eq!(rt; view.data_word(2), None);
@@ -241,5 +262,4 @@ fn the_data_of_a_struct(rt: HostRuntime) -> Result<(), Fail> {
         (Some(false), Some(true), None)
     );
     assert_eq!(rt; (view.scalar(0), view.count()), (None, None));
-    Ok(())
 }

@@ -1,6 +1,6 @@
 //! Nodes and places of messages that are known from outside.
 
-use super::words;
+use super::{in_one_buffer, words};
 use crate::{Kind, Limits, Node, Place, Step, Vetted, vet};
 use cap_frame::{OneSegment, Segments, WordMessage};
 use std::alloc::Global;
@@ -49,40 +49,36 @@ fn at<M: Segments>(rt: &impl Abort, vetted: &Vetted<'_, M>, path: &[Step]) -> Se
     answer
 }
 
-// Looks at each path of a message whose one segment has these words, held in both ways.
+// Looks at each path of a message.
+fn look_at<M: Segments>(
+    rt: &impl Abort,
+    message: &M,
+    rows: &[(&[Step], Seen)],
+) -> Result<(), Fail> {
+    let limits = Limits::new(8388608, 64).ok_or("no limits")?;
+    let Ok(vetted) = vet(message, limits) else {
+        return Err("refused".into());
+    };
+    for (path, answer) in rows {
+        assert_eq!(rt; at(rt, &vetted, path), *answer, "at {path:?}");
+    }
+    Ok(())
+}
+
+// Looks at each path of a message whose one segment has these words, held in each way.
 fn look(
     rt: &impl Abort,
     alloc: Global,
     spelled: &[u64],
     rows: &[(&[Step], Seen)],
 ) -> Result<(), Fail> {
-    let limits = Limits::new(8388608, 64).ok_or("no limits")?;
     let segment = words(alloc, spelled)?;
     let borrowed = OneSegment::new(&segment).ok_or("no message")?;
-    let Ok(vetted) = vet(&borrowed, limits) else {
-        return Err("refused".into());
-    };
-    for (path, answer) in rows {
-        assert_eq!(rt;
-            at(rt, &vetted, path),
-            *answer,
-            "at {path:?} of {spelled:?}"
-        );
-    }
+    look_at(rt, &borrowed, rows)?;
+    look_at(rt, &in_one_buffer(alloc, &borrowed)?.view(), rows)?;
     let mut segments = Vec::new(alloc);
     segments.push(words(alloc, spelled)?)?;
-    let message = WordMessage::new(segments).ok_or("no message")?;
-    let Ok(vetted) = vet(&message, limits) else {
-        return Err("refused".into());
-    };
-    for (path, answer) in rows {
-        assert_eq!(rt;
-            at(rt, &vetted, path),
-            *answer,
-            "at {path:?} of {spelled:?}"
-        );
-    }
-    Ok(())
+    look_at(rt, &WordMessage::new(segments).ok_or("no message")?, rows)
 }
 
 #[test]
@@ -242,10 +238,6 @@ fn a_node_in_another_segment(rt: HostRuntime) -> Result<(), Fail> {
     segments.push(words(alloc, &[0x0200000002000000, 0x0000000001000000])?)?;
     segments.push(words(alloc, &[0x2a00000000000000])?)?;
     let message = WordMessage::new(segments).ok_or("no message")?;
-    let limits = Limits::new(3, 1).ok_or("no limits")?;
-    let Ok(vetted) = vet(&message, limits) else {
-        return Err("refused".into());
-    };
     let kind = Kind::Struct {
         data_words: 1,
         pointers: 0,
@@ -255,9 +247,10 @@ fn a_node_in_another_segment(rt: HostRuntime) -> Result<(), Fail> {
         start: 0,
         words: 1,
     };
-    assert_eq!(rt; at(&rt, &vetted, &[]), Some((kind, Some(place))));
-    assert_eq!(rt; at(&rt, &vetted, &[Step::Ptr(0)]), None);
-    Ok(())
+    let nothing = &[Step::Ptr(0)];
+    let rows = [(&[][..], Some((kind, Some(place)))), (nothing, None)];
+    look_at(&rt, &message, &rows)?;
+    look_at(&rt, &in_one_buffer(alloc, &message)?.view(), &rows)
 }
 
 // A clone, by its bound alone.

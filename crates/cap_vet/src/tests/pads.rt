@@ -230,7 +230,7 @@ fn messages_over_landing_pads(rt: HostRuntime) -> Result<(), Fail> {
         let message = WordMessage::new(held).ok_or("no message")?;
         let limits = Limits::new(most_words, DEPTH).ok_or("no limits")?;
         assert_eq!(rt;
-            verdict(&rt, &message, limits),
+            verdict(&rt, rt.alloc(), &message, limits)?,
             answer,
             "of {segments:?} within {limits:?}"
         );
