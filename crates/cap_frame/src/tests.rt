@@ -1,10 +1,11 @@
 //! What no contract can say: that calls succeed, and values from outside.
 
+mod buffers;
 mod views;
 
 use super::{
-    FrameFault, OneSegment, Outline, Segments, SizeLimit, WordMessage, read_message, read_outline,
-    write_message,
+    ByteMessage, FrameFault, OneSegment, Outline, Segments, SizeLimit, WordMessage, read_message,
+    read_outline, write_message,
 };
 use cap_words::{
     BufferedIn, PlainSink, PlainWords, SliceIn, SourceFault, VecOut, WordSink, WordSource, bytes_of,
@@ -61,7 +62,7 @@ fn is_outline(outline: &Outline, want: &[&[u64]]) -> bool {
 }
 
 // The first bytes of these words give this message, none, or this fault, and then this answer; and
-// so do they where the outline alone is kept.
+// so do they where the outline alone is kept, and where the message is in one buffer.
 fn expect_message(
     rt: &impl Abort,
     alloc: Global,
@@ -94,7 +95,8 @@ fn expect_message(
         _ => assert!(rt; false, "another answer to the outline"),
     }
     assert_eq!(rt; source.next(), then);
-    Ok(())
+    let mut held = ByteMessage::blank(alloc);
+    buffers::expect_same_answers(rt, alloc, &bytes[..cut.min(bytes.len())], limit, &mut held)
 }
 
 // The number in the low and in the high half of a word.

@@ -7,7 +7,7 @@ use std::process::Abort;
 use std::test::Fail;
 
 // As many segments, with the same words.
-fn is_same<A: Segments, B: Segments>(one: &A, other: &B) -> bool {
+pub(super) fn is_same<A: Segments, B: Segments>(one: &A, other: &B) -> bool {
     if one.count() != other.count() {
         return false;
     }
