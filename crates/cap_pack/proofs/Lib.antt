@@ -8,3 +8,4 @@ pub mod Turns
 pub mod Steps
 pub mod FullWords
 pub mod Telling
+pub mod PuttingEach

@@ -9,6 +9,7 @@ ghost use Rattle.std.specs.Prelude.{◌++◌, ◌≡◌, ◌||◌, [], ◌∷◌
 
 use super::group::{Group, MORE_WORDS, write_group, write_marked};
 use super::spelling::{GROUP_BYTES, count_zeros, is_full};
+use byteorder::{ByteOrder, LittleEndian};
 use cap_words::{ByteOut, OutFault, SinkFault, WordSink};
 
 /// Writes words in one packed spelling (encoding: Packing). At a zero word that is the longest run
@@ -152,6 +153,21 @@ impl<O: ByteOut> WordSink for Packer<O> {
                 Err(SinkFault::from(fault))
             }
         }
+    }
+
+    fn put_bytes(&mut self, bytes: &[u8]) -> Result<(), SinkFault> {
+        if self.closed {
+            return Err(SinkFault::Spent);
+        }
+        let mut done = 0;
+        while bytes.len() - done >= 8 {
+            let word = LittleEndian::read_u64(&bytes[done..]);
+            if let Err(fault) = self.put(word) {
+                return Err(fault);
+            }
+            done += 8;
+        }
+        Ok(())
     }
 
     fn finish(&mut self) -> Result<(), SinkFault> {

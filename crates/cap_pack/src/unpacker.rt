@@ -132,6 +132,15 @@ impl<I: ByteIn> WordSource for Unpacker<I> {
         }
     }
 
+    // Zero words of a run that are still to be given are no bytes: they don't keep anyone from being
+    // told what was written so far.
+    fn is_at_hand(&self) -> bool {
+        match self.phase {
+            Phase::Open => !self.bytes.input.held().is_empty(),
+            _ => false,
+        }
+    }
+
     fn position(&self) -> u64 {
         self.bytes.read
     }

@@ -7,3 +7,4 @@ pub mod PlainSpelling
 pub mod Skipped
 pub mod Told
 pub mod Turns
+pub mod WholeWords

@@ -1,7 +1,7 @@
 //! The ends that bytes come in and go out by.
 
 ghost use Rattle.cap_words.specs.Ends.{DeviceFails, Failures, Fails, GrowthFails, WasSpent, Works};
-ghost use Rattle.std.specs.Io.KnownBytes.{Consumes, ReadConsumes, WriteAppends};
+ghost use Rattle.std.specs.Io.KnownBytes.{Consumes, Keeps, ReadConsumes, WriteAppends};
 ghost use Rattle.std.specs.List.{AllByRecursion};
 ghost use Rattle.std.specs.Prelude.{◌++◌, ◌<◌, ◌≡◌, ◌≤◌, [], Bool, IfOk, IfSome, IsErrOf, List, OnOk, Option, drop, false, length, take, true, ℕ};
 
@@ -94,4 +94,18 @@ pub trait ByteOut {
         ensures device { IsErrOf result OutFault.Device → DeviceFails (spent self.old) (failures self.old) (failures self.new) × (spent self.new ≡ true) }
         ensures memory { IsErrOf result OutFault.Memory → GrowthFails (spent self.old) (failures self.old) (failures self.new) }
         ensures was_spent { IsErrOf result OutFault.Spent → WasSpent (spent self.old) (spent self.new) (failures self.old) (failures self.new) };
+
+    /// Hands on what was written, where the output or its device holds some of it back. No byte is
+    /// added or lost. After `Device` every write with bytes answers `Spent`, and so does `flush`, where
+    /// there is anything to hand on: an output that holds nothing back answers `Ok` even then.
+    fn flush(&mut self) -> Result<(), OutFault>
+        ensures bytes { Keeps (written self.old) (written self.new) }
+        ensures for_good { spent self.old ≡ true → self.new ≡ self.old }
+        ensures ok { OnOk result ((spent self.new ≡ spent self.old) × (failures self.new ≡ failures self.old)) }
+        ensures device { IsErrOf result OutFault.Device → DeviceFails (spent self.old) (failures self.old) (failures self.new) × (spent self.new ≡ true) }
+        ensures memory { IsErrOf result OutFault.Memory → GrowthFails (spent self.old) (failures self.old) (failures self.new) }
+        ensures was_spent { IsErrOf result OutFault.Spent → WasSpent (spent self.old) (spent self.new) (failures self.old) (failures self.new) }
+    {
+        Ok(())
+    }
 }

@@ -7,9 +7,9 @@ ghost use Rattle.std.specs.Prelude.{◌≡◌, false, if◌then◌else◌, ℕ};
 use super::ends::{ByteOut, OutFault};
 use std::io::Write;
 
-/// Writes to a std writer, which it never flushes. Each error of the writer, an interruption too,
-/// is one failure, and so is a write that takes none of some bytes. The writer isn't called again
-/// after it.
+/// Writes to a std writer, and flushes it where `flush` asks for it. Each error of the writer, an
+/// interruption too, is one failure, and so is a write that takes none of some bytes. The writer
+/// isn't called again after it, and from then on `flush` answers `Spent` too.
 #[derive(Drop)]
 pub struct FromWrite<W: Write> {
     writer: W,
@@ -68,5 +68,14 @@ impl<W: Write> ByteOut for FromWrite<W> {
                 Err(OutFault::Device)
             }
         }
+    }
+
+    fn flush(&mut self) -> Result<(), OutFault> {
+        if self.failed {
+            return Err(OutFault::Spent);
+        }
+        let answer = self.writer.flush();
+        self.failed = answer.is_err();
+        answer.map_err(|_| OutFault::Device)
     }
 }

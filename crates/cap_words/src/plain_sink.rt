@@ -72,6 +72,21 @@ impl<O: ByteOut> WordSink for PlainSink<O> {
         }
     }
 
+    // All words at once: an output that has no room for them hands them on without a copy.
+    fn put_bytes(&mut self, bytes: &[u8]) -> Result<(), SinkFault> {
+        let whole = bytes.len() / 8 * 8;
+        if self.closed {
+            return Err(SinkFault::Spent);
+        }
+        match write_all(&mut self.output, &bytes[..whole]) {
+            Ok(()) => Ok(()),
+            Err(fault) => {
+                self.closed = true;
+                Err(SinkFault::from(fault))
+            }
+        }
+    }
+
     fn finish(&mut self) -> Result<(), SinkFault> {
         if self.closed {
             return Err(SinkFault::Spent);

@@ -169,6 +169,13 @@ impl<I: ByteIn> WordSource for PlainWords<I> {
         }
     }
 
+    fn is_at_hand(&self) -> bool {
+        match self.phase {
+            Phase::Open => !self.input.held().is_empty(),
+            _ => false,
+        }
+    }
+
     fn position(&self) -> u64 {
         self.read
     }

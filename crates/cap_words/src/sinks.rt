@@ -1,7 +1,8 @@
 //! Sinks of words.
 
+ghost use Rattle.cap_spec.specs.Plain.{plain_words};
 ghost use Rattle.cap_words.specs.Ends.{DeviceFails, Failures, GrowthFails, WasSpent};
-ghost use Rattle.cap_words.specs.Sinks.{Begins, WasFinished, WasPut, sink_fault_of};
+ghost use Rattle.cap_words.specs.Sinks.{Begins, StoppedPutting, WasFinished, WasPut, sink_fault_of};
 ghost use Rattle.std.specs.Io.KnownBytes.{Keeps};
 ghost use Rattle.std.specs.Prelude.{◌≡◌, [], ◌∷◌, Bool, IsErrOf, List, OnErr, OnOk, Option, false, true, ℕ};
 
@@ -59,6 +60,19 @@ pub trait WordSink {
         ensures memory { IsErrOf result SinkFault.Memory → GrowthFails (spent self.old) (failures self.old) (failures self.new) }
         ensures was_spent { IsErrOf result SinkFault.Spent → WasSpent (spent self.old) (spent self.new) (failures self.old) (failures self.new)
             × Keeps (taken self.old) (taken self.new) };
+
+    /// Takes the words of these bytes, one after the other, the lowest byte of each first; less than a
+    /// word at the end is left out. After a fault every call answers `Spent`, and what the output took
+    /// is a beginning of the text. A closed sink answers `Spent` also where there is no word.
+    fn put_bytes(&mut self, bytes: &[u8]) -> Result<(), SinkFault>
+        ensures put { OnOk result (WasPut text self.old self.new (plain_words bytes.now)) }
+        ensures ok { OnOk result ((closed self.old ≡ false) × (closed self.new ≡ false) × (spent self.new ≡ spent self.old)
+            × (failures self.new ≡ failures self.old)) }
+        ensures err { OnErr result ((closed self.new ≡ true) × StoppedPutting text taken self.old self.new (plain_words bytes.now)) }
+        ensures stays { closed self.old ≡ true → (result ≡ Err SinkFault.Spent) × (self.new ≡ self.old) }
+        ensures device { IsErrOf result SinkFault.Device → DeviceFails (spent self.old) (failures self.old) (failures self.new) }
+        ensures memory { IsErrOf result SinkFault.Memory → GrowthFails (spent self.old) (failures self.old) (failures self.new) }
+        ensures was_spent { IsErrOf result SinkFault.Spent → WasSpent (spent self.old) (spent self.new) (failures self.old) (failures self.new) };
 
     /// Writes what is held back. After `Ok` as after a fault every call answers `Spent`.
     fn finish(&mut self) -> Result<(), SinkFault>

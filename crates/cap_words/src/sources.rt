@@ -137,6 +137,17 @@ pub trait WordSource {
         Ok(true)
     }
 
+    /// Whether bytes of the input are at hand, so that the next word may come without a call of the
+    /// device. `false` doesn't say that no words are to come: `next` tells that. A source that has ended
+    /// or failed has no bytes at hand, nor has one whose input is spent.
+    fn is_at_hand(&self) -> bool
+        ensures usable { result ≡ true → spent self.now ≡ false }
+        ensures stays { ended self.now ≡ true → result ≡ false }
+        ensures for_good { failed self.now ≡ true → result ≡ false }
+    {
+        false
+    }
+
     /// How many bytes of the input were read so far, or 2^64 - 1 where there were more.
     fn position(&self) -> u64
         ensures { result ≡ place self.now };

@@ -67,7 +67,10 @@ impl Write for SlowWriter {
 
     fn flush(&mut self) -> io::Result<()> {
         self.calls = self.calls.saturating_add(1);
-        Ok(())
+        match self.kind {
+            Some(kind) if self.calls == self.fails_at => Err(io::Error::from(kind)),
+            _ => Ok(()),
+        }
     }
 }
 
@@ -377,6 +380,45 @@ fn words_at_hand(rt: HostRuntime) -> Result<(), Fail> {
     Ok(())
 }
 
+// By the source's bound.
+fn has_more_at_hand<S: WordSource>(source: &S) -> bool {
+    source.is_at_hand()
+}
+
+#[test]
+fn whether_bytes_are_at_hand(rt: HostRuntime) -> Result<(), Fail> {
+    let mut cut = PlainWords::new(SliceIn::new(&TEXT));
+    for word in WORDS {
+        assert!(rt; has_more_at_hand(&cut));
+        assert_eq!(rt; cut.next(), Ok(Some(word)));
+    }
+    // the bytes of a part of a word
+    assert!(rt; has_more_at_hand(&cut));
+    assert_eq!(rt; cut.next(), Err(SourceFault::Truncated { byte: 20 }));
+    assert!(rt; !has_more_at_hand(&cut));
+    assert!(rt; !has_more_at_hand(&PlainWords::new(SliceIn::new(&[]))));
+    assert!(rt; !has_more_at_hand(&PlainWords::new(FromRead::new(TEXT.as_slice()))));
+
+    let mut reader = SlowReader {
+        rest: &TEXT,
+        most: 16,
+        fails_at: 2,
+        kind: ErrorKind::Other,
+        calls: 0,
+    };
+    let mut source = PlainWords::new(BufferedIn::new(rt.alloc(), &mut reader)?);
+    assert!(rt; !has_more_at_hand(&source));
+    assert_eq!(rt; source.next(), Ok(Some(WORDS[0])));
+    assert!(rt; has_more_at_hand(&source));
+    assert_eq!(rt; source.next(), Ok(Some(WORDS[1])));
+    assert!(rt; !has_more_at_hand(&source));
+    assert_eq!(rt; source.next(), Err(SourceFault::Device));
+    assert!(rt; !has_more_at_hand(&source));
+    drop(source);
+    assert_eq!(rt; reader.calls, 2);
+    Ok(())
+}
+
 // The source fills 131,080 bytes in pieces, is then told of the rest, which is cut or not, and answers
 // the same from then on.
 fn expect_filled<S: WordSource>(
@@ -476,6 +518,100 @@ fn a_writer_that_fails_is_not_called_again(rt: HostRuntime) {
             }
             let writer = output.into_inner();
             let calls = if fails_at > 0 { fails_at } else { 4 };
+            assert_eq!(rt; writer.calls, calls, "{most} a call");
+            assert_eq!(rt; writer.taken.as_slice(), taken, "{most} a call");
+        }
+    }
+}
+
+#[test]
+fn a_flush_is_one_call_of_the_writer(rt: HostRuntime) -> Result<(), Fail> {
+    for kind in [ErrorKind::Interrupted, ErrorKind::Other] {
+        let mut output = FromWrite::new(SlowWriter {
+            taken: Vec::new(rt.alloc()),
+            most: 20,
+            fails_at: 3,
+            kind: Some(kind),
+            calls: 0,
+        });
+        assert_eq!(rt; output.write(&TEXT), Ok(20));
+        assert_eq!(rt; output.flush(), Ok(()));
+        assert!(rt; !output.has_failed());
+        assert_eq!(rt; output.flush(), Err(OutFault::Device));
+        assert!(rt; output.has_failed());
+        assert_eq!(rt; output.flush(), Err(OutFault::Spent));
+        assert_eq!(rt; output.write(&TEXT), Err(OutFault::Spent));
+        let writer = output.into_inner();
+        assert_eq!(rt; writer.calls, 3);
+        assert_eq!(rt; writer.taken.as_slice(), TEXT.as_slice());
+    }
+    let mut memory = VecOut::new(rt.alloc());
+    assert_eq!(rt; memory.write(&TEXT), Ok(20));
+    assert_eq!(rt; flushed(&mut memory), Ok(()));
+    assert_eq!(rt; memory.bytes(), TEXT.as_slice());
+    Ok(())
+}
+
+// By the output's bound.
+fn flushed<O: ByteOut>(output: &mut O) -> Result<(), OutFault> {
+    output.flush()
+}
+
+// By the sink's bound: the words of the bytes, and then none.
+fn put_piece<K: WordSink>(sink: &mut K, bytes: &[u8]) -> Result<(), SinkFault> {
+    sink.put_bytes(bytes)?;
+    sink.put_bytes(part(bytes, 0, 7))?;
+    sink.put_bytes(&[])
+}
+
+#[test]
+fn pieces_into_memory(rt: HostRuntime) -> Result<(), Fail> {
+    let mut sink = PlainSink::new(VecOut::new(rt.alloc()));
+    // less than a word at the end is left out
+    put_piece(&mut sink, &TEXT)?;
+    sink.put(WORDS[0])?;
+    put_piece(&mut sink, &TEXT[..8])?;
+    sink.finish()?;
+    for bytes in [TEXT.as_slice(), &TEXT[..8], &TEXT[..7], &[]] {
+        assert_eq!(rt; sink.put_bytes(bytes), Err(SinkFault::Spent));
+    }
+    let output = sink.into_inner();
+    assert_eq!(rt; output.bytes().len(), 32);
+    assert_eq!(rt; part(output.bytes(), 0, 16), &TEXT[..16]);
+    assert_eq!(rt; part(output.bytes(), 16, 8), &TEXT[..8]);
+    assert_eq!(rt; part(output.bytes(), 24, 8), &TEXT[..8]);
+    Ok(())
+}
+
+#[test]
+fn a_writer_that_fails_in_a_piece(rt: HostRuntime) {
+    for (most, fails_at, taken, calls) in [
+        (1, 1, &TEXT[..0], 1),
+        (3, 5, &TEXT[..12], 5),
+        (7, 3, &TEXT[..14], 3),
+        (8, 2, &TEXT[..8], 2),
+        (7, 0, &TEXT[..16], 3),
+        // all words in one call
+        (20, 0, &TEXT[..16], 1),
+    ] {
+        for kind in [Some(ErrorKind::Interrupted), None] {
+            let writer = SlowWriter {
+                taken: Vec::new(rt.alloc()),
+                most,
+                fails_at,
+                kind,
+                calls: 0,
+            };
+            let mut sink = PlainSink::new(FromWrite::new(writer));
+            let fault = Err(SinkFault::Device);
+            let answer = if fails_at > 0 { fault } else { Ok(()) };
+            assert_eq!(rt; sink.put_bytes(&TEXT), answer);
+            if fails_at > 0 {
+                assert_eq!(rt; sink.put_bytes(&TEXT), Err(SinkFault::Spent));
+                assert_eq!(rt; sink.put_bytes(&[]), Err(SinkFault::Spent));
+                assert_eq!(rt; sink.put(0), Err(SinkFault::Spent));
+            }
+            let writer = sink.into_inner().into_inner();
             assert_eq!(rt; writer.calls, calls, "{most} a call");
             assert_eq!(rt; writer.taken.as_slice(), taken, "{most} a call");
         }

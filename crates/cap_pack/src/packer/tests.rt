@@ -2,7 +2,7 @@ ghost use Rattle.std.specs.Prelude.{None};
 
 use super::*;
 use crate::Unpacker;
-use cap_words::{FromWrite, SliceIn, VecOut, WordSource};
+use cap_words::{FromWrite, SliceIn, VecOut, WordSource, bytes_of};
 use std::alloc::{AllocError, Global};
 use std::cmp::Ordering;
 use std::io::{self, ErrorKind, Write};
@@ -37,8 +37,31 @@ fn put_all<K: WordSink>(sink: &mut K, words: &[u64]) -> Result<(), SinkFault> {
     sink.finish()
 }
 
-// Packs the words, at once and a byte at a time, and unpacks the text again.
+// Puts the bytes in two pieces, of which the second ends inside a word.
+fn put_pieces<K: WordSink>(sink: &mut K, bytes: &[u8]) -> Result<(), SinkFault> {
+    let (front, back) = bytes.split_at(bytes.len() / 16 * 8);
+    sink.put_bytes(front)?;
+    sink.put_bytes(&[])?;
+    sink.put_bytes(back)
+}
+
+// The bytes of the words, and a few more.
+fn bytes_from(alloc: Global, words: &[u64]) -> Result<Vec<u8>, AllocError> {
+    let mut bytes = Vec::new(alloc);
+    for word in words {
+        bytes.extend_from_slice(&bytes_of(*word))?;
+    }
+    bytes.extend_from_slice(&[1, 2, 3])?;
+    Ok(bytes)
+}
+
+// Packs the words, one by one, in pieces and a byte at a time, and unpacks the text again.
 fn check<R: AllocGlobal + Abort>(rt: &R, words: &[u64], packed: &[u8]) -> Result<(), Fail> {
+    let mut pieces = Packer::new(VecOut::new(rt.alloc()));
+    put_pieces(&mut pieces, &bytes_from(rt.alloc(), words)?)?;
+    pieces.finish()?;
+    assert_eq!(rt; pieces.put_bytes(&[]), Err(SinkFault::Spent));
+    assert_eq!(rt; pieces.into_inner().bytes(), packed);
     let mut sink = Packer::new(VecOut::new(rt.alloc()));
     put_all(&mut sink, words)?;
     assert_eq!(rt; sink.put(0), Err(SinkFault::Spent));
@@ -243,6 +266,15 @@ fn answer(call: usize, fails: usize) -> Result<(), SinkFault> {
     }
 }
 
+fn failing(alloc: Global, most: usize, fails_at: u32) -> FromWrite<FailingWriter> {
+    FromWrite::new(FailingWriter {
+        taken: Vec::new(alloc),
+        most,
+        fails_at,
+        calls: 0,
+    })
+}
+
 // Packs the words into a writer that fails in one of its calls, if any. The sink then tells the
 // fault in this call of its own, and has its output called no more. The writer took these bytes.
 fn check_fault<R: AllocGlobal + Abort>(
@@ -252,12 +284,20 @@ fn check_fault<R: AllocGlobal + Abort>(
     call: usize,
     taken: &[u8],
 ) -> Result<(), Fail> {
-    let mut sink = Packer::new(FromWrite::new(FailingWriter {
-        taken: Vec::new(rt.alloc()),
-        most,
-        fails_at,
-        calls: 0,
-    }));
+    let mut pieces = Packer::new(failing(rt.alloc(), most, fails_at));
+    let fault = Err(SinkFault::Device);
+    let in_piece = if call < WORDS.len() { fault } else { Ok(()) };
+    assert_eq!(rt;
+        pieces.put_bytes(&bytes_from(rt.alloc(), &WORDS)?),
+        in_piece
+    );
+    if in_piece.is_err() {
+        assert_eq!(rt; pieces.put_bytes(&[]), Err(SinkFault::Spent));
+    } else {
+        assert_eq!(rt; pieces.finish(), answer(WORDS.len(), call));
+    }
+    assert_eq!(rt; pieces.into_inner().into_inner().taken.as_slice(), taken);
+    let mut sink = Packer::new(failing(rt.alloc(), most, fails_at));
     for (i, word) in WORDS.iter().enumerate() {
         assert_eq!(rt; sink.put(*word), answer(i, call));
     }

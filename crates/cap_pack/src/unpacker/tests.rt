@@ -225,3 +225,22 @@ fn a_device_that_fails(rt: HostRuntime) {
         assert_eq!(rt; source.position(), position);
     }
 }
+
+// Zero words that are still to be given are no bytes at hand.
+#[test]
+fn whether_bytes_are_at_hand(rt: HostRuntime) {
+    let mut source = Unpacker::new(SliceIn::new(&[0x10, 1, 0, 1, 0x10]));
+    for (word, more) in [(1 << 32, true), (0, true), (0, true)] {
+        assert_eq!(rt; source.next(), Ok(Some(word)));
+        assert_eq!(rt; source.is_at_hand(), more);
+    }
+    assert_eq!(rt; source.next(), Err(SourceFault::Truncated { byte: 5 }));
+    assert!(rt; !source.is_at_hand());
+    let mut run = Unpacker::new(SliceIn::new(&[0, 1]));
+    assert!(rt; run.is_at_hand());
+    assert_eq!(rt; run.next(), Ok(Some(0)));
+    assert!(rt; !run.is_at_hand());
+    assert_eq!(rt; run.next(), Ok(Some(0)));
+    assert_eq!(rt; run.next(), Ok(None));
+    assert!(rt; !run.is_at_hand());
+}
