@@ -21,13 +21,13 @@ fits-untrimmed = (
   ),
 )
 
--- some message denotes it, at a charge of 11 and a depth of 2
-denotes-untrimmed : Denotes (layout untrimmed ∷ []) 0 0 untrimmed 11 2
+-- some message denotes it, at a charge of 11 and a depth of 3
+denotes-untrimmed : Denotes (layout untrimmed ∷ []) 0 0 untrimmed 11 3
 denotes-untrimmed = layout_denotes untrimmed fits-untrimmed (lit< tt)
 
 -- so that the law speaks of it
-denotes-trimmed : (c' : ℕ) × Denotes (layout (trim untrimmed) ∷ []) 0 0 (trim untrimmed) c' 2 × (c' ≤ 11)
-denotes-trimmed = trimmed_layout_denotes (layout untrimmed ∷ []) 0 0 untrimmed 11 2 denotes-untrimmed (lit< tt)
+denotes-trimmed : (c' : ℕ) × Denotes (layout (trim untrimmed) ∷ []) 0 0 (trim untrimmed) c' 3 × (c' ≤ 11)
+denotes-trimmed = trimmed_layout_denotes (layout untrimmed ∷ []) 0 0 untrimmed 11 3 denotes-untrimmed (lit< tt)
 
 -- the zero word, the null pointer and each element's null pointer are gone
 layout-trimmed : layout (trim untrimmed) ≡ 0x0002000100000000 ∷ 5 ∷ 0x0000001900000005 ∷ 0x0000001700000005 ∷ 5 ∷ 0x0000000100000008 ∷ 7 ∷ 0 ∷ []

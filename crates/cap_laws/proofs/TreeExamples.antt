@@ -193,7 +193,7 @@ one_element = (0x0000000f00000001 ∷ 0x0000000100000004 ∷ 9 ∷ []) ∷ []
 elements_one : AreElements one_element 0 2 1 0 1 (more (struct (9 ∷ []) none) none) 0 0
 elements_one = (0, 0, 0, 0, 0, refl, refl, (refl, refl, refl), (refl, refl, refl), refl, refl)
 
-denotes_one : Denotes one_element 0 0 (structs 1 0 (more (struct (9 ∷ []) none) none)) 2 1
+denotes_one : Denotes one_element 0 0 (structs 1 0 (more (struct (9 ∷ []) none) none)) 2 2
 denotes_one = (
   0,
   0,

@@ -11,7 +11,7 @@ use Rattle.cap_spec.specs.declared.Step.{Step}
 use Rattle.cap_spec.specs.declared.Step.TheVariants.{Ptr, Item}
 use Rattle.cap_spec.proofs.OneTree.{Formed, formed, cons_parts}
 use Rattle.cap_spec.proofs.Arrivals.{lead_word}
-use Rattle.cap_spec.proofs.Depths.{below_struct, below_pointers, below_structs, below_scalars}
+use Rattle.cap_spec.proofs.Depths.{below_struct, below_pointers, below_structs, below_scalars, levels_of_some}
 
 -- a path from a spot to a word whose object is this deep, counted from the spot
 pub record Deep (m : List (List ℕ)) (a : Spot) (d : ℕ) : Type 0 where
@@ -77,10 +77,6 @@ greater x y = grind arith
 none_or_more : (x : ℕ) → (x ≡ 0) ⊎ (0 < x)
 none_or_more zero = inl refl
 none_or_more (suc x) = inr (omega arith)
-
--- some elements take the levels of one
-levels_of_some : (n : ℕ) → 0 < n → element_levels 1 ≡ element_levels n
-levels_of_some n lt = refl
 
 mutual
   -- what a word denotes is as deep as some object that a path from the word reaches

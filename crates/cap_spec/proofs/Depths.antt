@@ -72,9 +72,10 @@ abbrev level_if : Bool → ℕ
 level_if true = element_levels 1
 level_if false = 1
 
--- one element takes at most the levels of several
-levels_of_one : (n : ℕ) → 0 < n → element_levels 1 ≤ element_levels n
-levels_of_one n lt = omega arith
+-- some elements take the levels of one
+pub levels_of_some : (n : ℕ) → 0 < n → element_levels n ≡ element_levels 1
+levels_of_some zero lt = absurd (omega arith)
+levels_of_some (suc n) lt = refl
 
 -- each of some trees is at most as deep as all
 tree_depth : (ts : Trees) (i : ℕ) (u : Tree) → tree_at ts i ≡ Some u → depth_of u ≤ depth_each ts
@@ -106,7 +107,7 @@ part_depth m a (pointers ts) (Item i) u h e = omega (arith, tree_depth ts i u e)
 part_depth m (word s w) (structs d p es) (Item i) u h e =
     let f = h.2 in
     let r = element_depth es i u (elements_are_structs m f.1 (f.2 + 1) d p (middle f.4) es f.5 f.6 f.8) e in
-    omega (arith, r.0, levels_of_one (tree_count es) r.1)
+    omega (arith, r.0, levels_of_some (tree_count es) r.1)
 part_depth m (element x b ds ps) (structs d p es) (Item i) u h e = absurd h
 part_depth m a t step u h e = absurd (cc e)
 

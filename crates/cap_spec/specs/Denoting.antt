@@ -1,6 +1,6 @@
 -- Which tree a pointer word denotes, at what charge and depth (standard: Objects, Structs, Lists; charge and depth
 -- are the profile's reading of Security Considerations).
-use Rattle.std.specs.Prelude.{ℕ, suc, ◌+◌, ◌*◌, ◌/◌, ◌%◌, ◌<◌, ◌≡◌, max, List, [], ◌∷◌, map, pos, slice_index, slice_range}
+use Rattle.std.specs.Prelude.{ℕ, zero, suc, ◌+◌, ◌*◌, ◌/◌, ◌%◌, ◌<◌, ◌≡◌, max, List, [], ◌∷◌, map, pos, slice_index, slice_range}
 use Rattle.std.specs.List.{range_with_len}
 use Rattle.cap_spec.specs.Words.{field}
 use Rattle.cap_spec.specs.Messages.{HasWord, segment_of}
@@ -28,9 +28,10 @@ value_at words b bits i = field (slice_index words (b + (i * bits) / 64)) ((i * 
 abbrev pub values_of : List (List ℕ) → ℕ → ℕ → ℕ → ℕ → List ℕ
 values_of m t b c n = map (value_at (segment_of m t) b (element_bits c)) (range_with_len 0 n)
 
--- how many levels the n elements of a struct list take below their list: none. The number stands here alone.
+-- how many levels the n elements of a struct list take below their list: one, where there are any. The number stands here alone.
 abbrev pub element_levels : ℕ → ℕ
-element_levels n = 0
+element_levels zero = 0
+element_levels (suc n) = 1
 
 -- A struct with these data words is found at s:w. Its children's charges and greatest depth are inner and deep.
 pub record FindsStruct (m : List (List ℕ)) (s w : ℕ) (words : List ℕ) (k t b q inner deep c d : ℕ) : Type 0 where

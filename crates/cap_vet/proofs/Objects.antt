@@ -49,6 +49,11 @@ near-elements base depth level t b ds ps i (suc n) h k =
     near-append depth (row (base ++ Item i ∷ []) level Ptr t (b + ds) 0 ps) (element_rows base level t (b + ds + ps) ds ps (i + 1) n)
     (near-row (base ++ Item i ∷ []) depth level Ptr t (b + ds) 0 ps h k) (near-elements base depth level t (b + ds + ps) ds ps (i + 1) n h k)
 
+-- the pointers of the elements of a list are near where the elements are the deepest
+near-structs : (base : List Step) (low level t b ds ps n : ℕ) → AreNear (max low (level + element_levels n)) (element_rows base (level + (element_levels 1 + 1)) t b ds ps 0 n)
+near-structs base low level t b ds ps zero = tt
+near-structs base low level t b ds ps (suc n) = near-elements base (max low (level + element_levels 1)) (level + (element_levels 1 + 1)) t b ds ps 0 (suc n) (omega arith) (omega arith)
+
 -- what is near stays so where the walk goes deeper
 pub near-deeper : (depth deeper : ℕ) (xs : List Ahead) → depth ≤ deeper → AreNear depth xs → AreNear deeper xs
 near-deeper depth deeper [] h k = tt
@@ -138,7 +143,7 @@ structs-brings m a k t b q tag low r f e c has =
       counts = rw ch (counts-at m a (element_rows a.path (a.level + (element_levels 1 + 1)) t (b + 1) (data_size tag) (pointer_size tag) 0 (middle tag)) (k + extent q + extra q tag) (k + extent q + extra q tag) low (max low (a.level + element_levels (middle tag))) (max low (a.level + levels_below q tag)) 0 refl (omega (arith, l)) (structs-counts m a k t b q tag low f e c has));
       places = rw (ch, pl) (places-elements a.path (a.level + (element_levels 1 + 1)) t (b + 1) (data_size tag) (pointer_size tag) 0 (middle tag));
       few = rw ch (omega (arith, length-elements a.path (a.level + (element_levels 1 + 1)) t (b + 1) (data_size tag) (pointer_size tag) 0 (middle tag), extent_structs q e c, room));
-      near = rw ch (near-elements a.path (max low (a.level + levels_below q tag)) (a.level + (element_levels 1 + 1)) t (b + 1) (data_size tag) (pointer_size tag) 0 (middle tag) (omega arith) (omega arith));
+      near = rw (ch, l) (near-structs a.path low a.level t (b + 1) (data_size tag) (pointer_size tag) (middle tag));
     }
 
 -- the kinds and codes of an object

@@ -98,6 +98,7 @@ pub record ElementsAre (m : List (List ℕ)) (t b ds ps n level c d p k : ℕ) :
   pub deep : ℕ
   pub are : AreElements m t b ds ps n elements c deep
   pub depth : max level d ≡ level + deep
+  pub none : n ≡ 0 → d ≡ 0
   pub count : tree_count elements ≡ n
   pub pointers : p ≡ child_counts elements
   pub caps : k ≡ cap_counts elements
@@ -110,6 +111,7 @@ owes-elements m base level t b ds ps i zero c d p k (e1, e2, e3, e4) = record {
   deep = 0;
   are = (refl, e1, refl);
   depth = omega (arith, e2);
+  none = λ _. e2;
   count = refl;
   pointers = e3;
   caps = e4;
@@ -122,6 +124,7 @@ owes-elements m base level t b ds ps i (suc n) c d p k h =
       deep = max a.deep r.deep;
       are = (n, parts.c1, a.deep, parts.c2, r.deep, refl, refl, a.denote, r.are, parts.charge, refl);
       depth = omega (arith, parts.top, a.depth, r.depth);
+      none = λ e. absurd (omega (arith, e));
       count = ap suc r.count;
       pointers = omega (arith, parts.pointers, a.pointers, r.pointers);
       caps = omega (arith, parts.caps, a.caps, r.caps);

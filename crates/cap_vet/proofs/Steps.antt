@@ -1,5 +1,5 @@
 -- How the count goes on at each kind of word.
-use Rattle.std.proofs.Common.{◌≡◌, ℕ, ◌+◌, ◌<◌, ◌≤◌, max, List, [], refl, subst, arith}
+use Rattle.std.proofs.Common.{◌≡◌, ℕ, zero, suc, ◌+◌, ◌<◌, ◌≤◌, max, List, [], refl, subst, arith}
 use Rattle.std.specs.Prelude.{pos}
 use Rattle.cap_spec.specs.Messages.{HasWord}
 use Rattle.cap_spec.specs.Pointers.{kind, middle, code, data_size, pointer_size, list_size, extent}
@@ -90,6 +90,12 @@ pointers-counts m a k t b q low f is_list is_pointers = record {
   };
 }
 
+-- how deep a list of structs goes, by what its elements owe
+elements-level : (low level n top deep : ℕ) → (n ≡ 0 → top ≡ 0) → max (level + (element_levels 1 + 1)) top ≡ level + (element_levels 1 + 1) + deep
+    → max (low + 1) (level + (1 + element_levels n + deep)) ≡ max (max low (level + element_levels n) + 1) top
+elements-level low level zero top deep none h = omega (arith, none refl, h)
+elements-level low level (suc n) top deep none h = omega (arith, h)
+
 -- a list of structs costs its pads, its words and its elements without words
 pub structs-counts : (m : List (List ℕ)) (a : Ahead) (k t b q tag low : ℕ) → Finds m a.segment a.word k t b q → kind q ≡ 1 → code q ≡ 7 → HasWord m t b tag
     → Counts m a (element_rows a.path (a.level + (element_levels 1 + 1)) t (b + 1) (data_size tag) (pointer_size tag) 0 (middle tag)) (k + extent q + extra q tag) low (max low (a.level + element_levels (middle tag))) 0
@@ -98,7 +104,7 @@ structs-counts m a k t b q tag low f is_list is_structs has = record {
     tree = structs (data_size tag) (pointer_size tag) r.elements;
     depth = 1 + element_levels (middle tag) + r.deep;
     denotes = (k, t, b, q, tag, c, r.deep, record { finds = f; kind = is_list; code = is_structs; has_tag = has; data_sizes = refl; pointer_sizes = refl; charge = refl; depth = refl }, r.are);
-    level = omega (arith, r.depth);
+    level = elements-level low a.level (middle tag) top r.deep r.none r.depth;
     pointers = omega (arith, r.pointers);
     cap_total = omega (arith, r.caps);
   };

@@ -12,11 +12,11 @@ use crate::frame::Frame;
 use cap_ptr::{Shape, Target};
 
 // How many levels the structs of a list of so many take below their list.
-pub(crate) fn levels_of_elements(_count: u32) -> u32
-    ensures value { result ≡ element_levels _count }
+pub(crate) fn levels_of_elements(count: u32) -> u32
+    ensures value { result ≡ element_levels count }
     ensures few { result ≤ 1 }
 {
-    0
+    if count == 0 { 0 } else { 1 }
 }
 
 // How many levels an object takes below its own.

@@ -267,7 +267,27 @@ fn messages_of_one_segment(rt: HostRuntime) -> Result<(), Fail> {
             &[0x010000001f000000, 0x0800000001000000, 5, 0, 255],
             WORDS,
             DEPTH,
-            accepted(4, 1, 1),
+            accepted(4, 2, 1),
+        ),
+        (
+            &[0x010000001f000000, 0x0800000001000000, 5, 0, 255],
+            WORDS,
+            1,
+            refused(0, 0, Reason::DepthLimit, 1),
+        ),
+        // A list without structs takes no level below its own, and one of structs without words does.
+        (&[0x0100000007000000, 0], WORDS, 1, accepted(1, 1, 1)),
+        (
+            &[0x0100000007000000, 0x1400000000000000],
+            WORDS,
+            DEPTH,
+            accepted(6, 2, 1),
+        ),
+        (
+            &[0x0100000007000000, 0x1400000000000000],
+            WORDS,
+            1,
+            refused(0, 0, Reason::DepthLimit, 1),
         ),
         (
             &[0x010000000f000000, 0x0800000001000000, 5, 0, 255],
@@ -285,10 +305,11 @@ fn messages_of_one_segment(rt: HostRuntime) -> Result<(), Fail> {
             &[0x0100000027000000, 0x0800000001000100, 1, 0, 0, 0, 0],
             WORDS,
             DEPTH,
-            accepted(5, 1, 3),
+            accepted(5, 2, 3),
         ),
-        (below_a_list, WORDS, DEPTH, accepted(3, 2, 2)),
-        (below_a_list, WORDS, 1, refused(0, 2, Reason::DepthLimit, 2)),
+        (below_a_list, WORDS, DEPTH, accepted(3, 3, 2)),
+        (below_a_list, WORDS, 2, refused(0, 2, Reason::DepthLimit, 2)),
+        (below_a_list, WORDS, 1, refused(0, 0, Reason::DepthLimit, 1)),
         (below_a_list, 2, DEPTH, refused(0, 2, Reason::WordLimit, 2)),
         (
             &[0x0100000016000000, 0, 0x0000000001000000, 9],
@@ -340,7 +361,7 @@ fn messages_of_one_segment(rt: HostRuntime) -> Result<(), Fail> {
             ],
             WORDS,
             DEPTH,
-            with_caps(7, 1, 5, 2, 4),
+            with_caps(7, 2, 5, 2, 4),
         ),
         // Two faults: the first in preorder is told.
         (
@@ -537,6 +558,17 @@ fn ladder(alloc: Global, levels: u32) -> Result<Vec<u64>, Fail> {
     words(alloc, &spelled)
 }
 
+// Lists of one struct of one pointer, each below the struct of the one before it.
+fn nested_lists(alloc: Global, count: u32) -> Result<Vec<u64>, Fail> {
+    let mut spelled = Vec::new(alloc);
+    for _ in 0..count {
+        spelled.push(0x010000000f000000)?;
+        spelled.push(0x0400000000000100)?;
+    }
+    spelled.push(0)?;
+    words(alloc, &spelled)
+}
+
 // Structs of two pointers, each pair of which leads to the next struct, and the last to one word.
 fn doubled(alloc: Global, times: u32) -> Result<Vec<u64>, Fail> {
     let mut spelled = Vec::new(alloc);
@@ -603,6 +635,25 @@ fn the_bounds_of_limits(rt: HostRuntime) -> Result<(), Fail> {
             268435456,
             256,
             refused(0, 511, Reason::DepthLimit, 257),
+        ),
+        // A list of structs takes two levels, so that half as many fit.
+        (
+            nested_lists(rt.alloc(), 128)?,
+            268435456,
+            256,
+            accepted(256, 256, 129),
+        ),
+        (
+            nested_lists(rt.alloc(), 128)?,
+            268435456,
+            255,
+            refused(0, 254, Reason::DepthLimit, 128),
+        ),
+        (
+            nested_lists(rt.alloc(), 129)?,
+            268435456,
+            256,
+            refused(0, 256, Reason::DepthLimit, 129),
         ),
     ] {
         let limits = Limits::new(most_words, most_depth).ok_or("no limits")?;

@@ -127,6 +127,50 @@ fn pointers_up_to_a_step_that_leads_nowhere_are_charged(rt: HostRuntime) -> Resu
 }
 
 #[test]
+fn structs_of_a_list_stand_a_level_below_it(rt: HostRuntime) -> Result<(), Fail> {
+    // A list of one struct, whose pointer leads to a struct of one word.
+    let below = words(
+        rt.alloc(),
+        &[
+            0x010000000f000000,
+            0x0400000000000100,
+            0x0000000001000000,
+            0x2a00000000000000,
+        ],
+    )?;
+    let below = OneSegment::new(&below).ok_or("no message")?;
+    let path = &[Step::Item(0), Step::Ptr(0)];
+    assert_eq!(rt; charged(&below, 9, 3, path), (a_struct(1, 0, 3), 6));
+    let past = Refusal {
+        segment: 0,
+        word: 2,
+        reason: Reason::DepthLimit,
+        pointers: 2,
+    };
+    assert_eq!(rt; charged(&below, 9, 2, path), (Err(past), 9));
+    assert_eq!(rt;
+        charged(&below, 9, 2, &[Step::Item(0)]),
+        (a_struct(0, 1, 2), 7)
+    );
+    // The list alone is past the limit, since its struct is, whether or not a step leads to it.
+    for path in [&[][..], &[Step::Item(0)][..], &[Step::Item(1)][..]] {
+        assert_eq!(rt;
+            charged(&below, 9, 1, path),
+            (refused(Reason::DepthLimit, 1), 9)
+        );
+    }
+    // A list without structs isn't.
+    let none = words(rt.alloc(), &[0x0100000007000000, 0])?;
+    let none = OneSegment::new(&none).ok_or("no message")?;
+    assert_eq!(rt; charged(&none, 9, 1, &[Step::Item(0)]), (Ok(None), 8));
+    assert_eq!(rt;
+        charged(&none, 9, 0, &[Step::Item(0)]),
+        (refused(Reason::DepthLimit, 1), 9)
+    );
+    Ok(())
+}
+
+#[test]
 fn a_message_without_a_root_is_refused_on_each_path(rt: HostRuntime) -> Result<(), Fail> {
     let mut segments: Vec<Vec<u64>> = Vec::new(rt.alloc());
     segments.push(Vec::new(rt.alloc()))?;

@@ -172,7 +172,7 @@ fn messages_over_landing_pads(rt: HostRuntime) -> Result<(), Fail> {
         (
             [&[0x0100000007000000, 0x1400000000000000], &[], &[]],
             6,
-            accepted(6, 1, 1),
+            accepted(6, 2, 1),
         ),
         (
             [&[0x0100000007000000, 0x1400000000000000], &[], &[]],
@@ -186,7 +186,7 @@ fn messages_over_landing_pads(rt: HostRuntime) -> Result<(), Fail> {
                 &[],
             ],
             7,
-            accepted(7, 1, 1),
+            accepted(7, 2, 1),
         ),
         (
             [
@@ -195,7 +195,7 @@ fn messages_over_landing_pads(rt: HostRuntime) -> Result<(), Fail> {
                 &[0x1400000000000000],
             ],
             8,
-            accepted(8, 1, 1),
+            accepted(8, 2, 1),
         ),
         // Cycles of three objects.
         (
@@ -219,7 +219,7 @@ fn messages_over_landing_pads(rt: HostRuntime) -> Result<(), Fail> {
         (
             THROUGH_STRUCTS,
             WORDS,
-            refused(0, 1, Reason::DepthLimit, 86),
+            refused(1, 4, Reason::DepthLimit, 65),
         ),
         (THROUGH_STRUCTS, 10, refused(0, 1, Reason::WordLimit, 6)),
     ] {
