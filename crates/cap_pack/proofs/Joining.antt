@@ -5,7 +5,7 @@ use Rattle.std.proofs.lemmas.Grind.{take-set_at}
 use Rattle.std.proofs.lemmas.List.{length-replicate, length-take, length-take-le}
 use Rattle.std.specs.Io.KnownBytes.{Appends, Keeps, append_known}
 use Rattle.cap_spec.specs.Packing.{zero_bytes, zero_run, full_run, group_size, pack_text}
-use Rattle.cap_spec.proofs.Packing.{full_run-push, group_size-plain, group_size-zeros, pack_text-plain, pack_text-zeros, plain_full}
+use Rattle.cap_spec.proofs.Packing.{full_run-push, group_size-plain, pack_text-plain, pack_text-zeros, plain_full}
 use Rattle.cap_words.specs.Sinks.{Begins}
 use Rattle.cap_words.proofs.PlainSpelling.{part_begins}
 use Rattle.cap_pack.specs.Holding.{held, first_zeros, group_bytes}
@@ -50,13 +50,6 @@ one_group-push g words first more w e one full long room few =
     let whole_size = group_size-plain first (take more words ++ w ∷ []) [] z (full_run-push (take more words) w whole.0 few ∙ sym longer) (omega (arith, count, longer, room)) (λ _. refl) in
     let joined : group_size (first ∷ (take more words ++ w ∷ [])) ≡ 1 + length (take more words ++ w ∷ []) = subst (λ t. group_size (first ∷ t) ≡ 1 + length (take more words ++ w ∷ [])) (append-nil (take more words ++ w ∷ [])) whole_size in
     subst (λ t. group_size (first ∷ t) ≡ suc (length t)) (sym pushed) (omega (arith, joined))
-
--- so does a zero word with a run of zero words
-pub one_group-zero : (more : ℕ) → more < 255 → group_size (0 ∷ replicate (more + 1) 0) ≡ suc (length {A = ℕ} (replicate (more + 1) 0))
-one_group-zero more room =
-    let size : group_size (0 ∷ replicate (more + 1) 0) ≡ 1 + (more + 1) =
-    subst (λ t. group_size (0 ∷ t) ≡ 1 + (more + 1)) (append-nil (replicate (more + 1) 0)) (group_size-zeros (more + 1) [] (omega (arith, room)) (λ _. refl)) in
-    omega (arith, size, length-replicate {A = ℕ} (more + 1) 0)
 
 -- a group was written, all of it
 pub group_written : (a b : Option (List ℕ)) (bytes : List ℕ) (all : List ℕ) → Appends a b bytes → all ≡ bytes ++ [] → Keeps (append_known a all) b

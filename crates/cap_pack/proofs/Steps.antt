@@ -63,29 +63,12 @@ none_words f g to at None b e h p q = tt
 none_words f g to at (Some x) None e h p q = absurd p
 none_words f g to at (Some x) (Some y) e h p q = ap words_of (ap f (all_taken x y [] p q) ∙ e) ∙ sym (ap words_of (h y))
 
--- a source that has ended has nothing left
-pub left_ended : (phase : Phase) (z p at : ℕ) (a : Option (List ℕ)) → phase ≡ Ended →
-    OnSome (option_map (λ l. words_of (ahead phase z p at l)) a) ((option_map (λ l. words_of (ahead phase z p at l)) a ≡ Some []) × (is_cut_of (ahead phase z p at (unwrap_or a [])) ≡ false) × (places_of (ahead phase z p at (unwrap_or a [])) ≡ at ∷ []))
-left_ended Ended z p at None e = tt
-left_ended Ended z p at (Some x) e = (refl, refl, refl)
-left_ended Open z p at a e = absurd (cc)
-left_ended Failed z p at a e = absurd (cc)
-
 -- a zero word that was held
 pub zero_step : (phase : Phase) (z p at : ℕ) → phase ≡ Open → 0 < z → (ys : List ℕ) → ahead phase z p at ([] ++ ys) ≡ gives 0 at (ahead phase (z - 1) p at ys)
 zero_step Open zero p at e q ys = absurd (omega arith)
 zero_step Open (suc z) p at e q ys = let less : z ≡ suc z - 1 = omega arith in ap (λ n. gives 0 at (zeros_then n at (course p at ys))) less
 zero_step Ended z p at e q ys = absurd (cc)
 zero_step Failed z p at e q ys = absurd (cc)
-
--- a word as it is
-pub word_step : (phase : Phase) (z p at to w : ℕ) (bs : List ℕ) → phase ≡ Open → z ≡ 0 → 0 < p → ((n : ℕ) (ys : List ℕ) → course (suc n) at (bs ++ ys) ≡ gives w to (course n to ys)) →
-    (ys : List ℕ) → ahead phase z p at (bs ++ ys) ≡ gives w to (ahead phase z (p - 1) to ys)
-word_step Open (suc z) p at to w bs e o q s ys = absurd (omega arith)
-word_step Open zero zero at to w bs e o q s ys = absurd (omega arith)
-word_step Open zero (suc p) at to w bs e o q s ys = let less : p ≡ suc p - 1 = omega arith in s p ys ∙ ap (λ n. gives w to (course n to ys)) less
-word_step Ended z p at to w bs e o q s ys = absurd (cc)
-word_step Failed z p at to w bs e o q s ys = absurd (cc)
 
 -- the input ends inside it
 pub word_cut_step : (phase : Phase) (z p at to : ℕ) (bs : List ℕ) → phase ≡ Open → z ≡ 0 → 0 < p → ((n : ℕ) → course (suc n) at bs ≡ stops to) → ahead phase z p at bs ≡ stops to
@@ -94,15 +77,6 @@ word_cut_step Open zero zero at to bs e o q s = absurd (omega arith)
 word_cut_step Open zero (suc p) at to bs e o q s = s p
 word_cut_step Ended z p at to bs e o q s = absurd (cc)
 word_cut_step Failed z p at to bs e o q s = absurd (cc)
-
--- the head of a group
-pub head_step : (phase : Phase) (z p at to w n m : ℕ) (bs : List ℕ) → phase ≡ Open → z ≡ 0 → p ≡ 0 → ((ys : List ℕ) → course 0 at (bs ++ ys) ≡ gives w to (zeros_then n to (course m to ys))) →
-    (ys : List ℕ) → ahead phase z p at (bs ++ ys) ≡ gives w to (ahead phase n m to ys)
-head_step Open zero zero at to w n m bs e o q s ys = s ys
-head_step Open (suc z) p at to w n m bs e o q s ys = absurd (omega arith)
-head_step Open zero (suc p) at to w n m bs e o q s ys = absurd (omega arith)
-head_step Ended z p at to w n m bs e o q s ys = absurd (cc)
-head_step Failed z p at to w n m bs e o q s ys = absurd (cc)
 
 -- between groups the bytes are those of groups
 pub between : (phase : Phase) (z p at : ℕ) (bs : List ℕ) (c : Course) → phase ≡ Open → z ≡ 0 → p ≡ 0 → course 0 at bs ≡ c → ahead phase z p at bs ≡ c

@@ -137,10 +137,6 @@ own_cost m s w (pointers ts) c d h =
 own_cost m s w (structs ds ps es) c d h =
     (h.0 + extent h.3 + extra h.3 h.4, inr (inr (h.0, h.1, h.2, h.3, h.4, h.7.finds, λ z. h.7.has_tag, refl)), own_below (h.0 + extent h.3 + extra h.3 h.4) h.5 c h.7.charge)
 
--- What a word denotes is charged at least what following the word costs.
-pub cost_charged : (m : List (List ℕ)) (s w : ℕ) (t : Tree) (c d x : ℕ) → Denotes m s w t c d → Costs m s w x → x ≤ c
-cost_charged m s w t c d x h y = let o = own_cost m s w t c d h in rw (one_cost m s w x o.0 y o.1) o.2
-
 -- The pointers of what a word denotes are at most its charge and one.
 pub pointers_charged : (m : List (List ℕ)) (s w : ℕ) (t : Tree) (c d : ℕ) → Denotes m s w t c d → pointer_count t ≤ c + 1
 pointers_charged m s w t c d h = omega (arith, children_charged m s w t c d h)

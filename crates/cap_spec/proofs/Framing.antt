@@ -12,20 +12,6 @@ same_parts (c ∷ a) (d ∷ b) x y l e =
     let h : c ≡ d = cc in
     ((cc), t.1)
 
--- the halves of a word tell it
-pub same_word : (x y : ℕ) → x % 2 ^ 32 ≡ y % 2 ^ 32 → x / 2 ^ 32 ≡ y / 2 ^ 32 → x ≡ y
-same_word x y low high = omega arith
-
--- and those of words tell them
-pub same_halves : (a b : List ℕ) → flat_map halves a ≡ flat_map halves b → a ≡ b
-same_halves [] [] e = refl
-same_halves [] (y ∷ b) e = absurd (cc)
-same_halves (x ∷ a) [] e = absurd (cc)
-same_halves (x ∷ a) (y ∷ b) e =
-    let h : x ≡ y = same_word x y (cc) (cc) in
-    let t : a ≡ b = same_halves a b (cc) in
-    cc
-
 -- two halves a word
 pub length_halves : (a : List ℕ) → length (flat_map halves a) ≡ 2 * length a
 length_halves [] = refl

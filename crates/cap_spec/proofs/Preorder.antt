@@ -115,27 +115,6 @@ one_tour m p tour tour' g h =
     (λ q i. let r = g.reached q i in h.all q r.0 r.1 r.2 r.3 (g.none_after q i))
     (λ q i. let r = h.reached q i in g.all q r.0 r.1 r.2 r.3 (h.none_after q i))
 
--- the last path of a list
-abbrev pub EndsWith : List (List Step) → List Step → Type 0
-EndsWith [] p = ⊥
-EndsWith (q ∷ []) p = q ≡ p
-EndsWith (q ∷ r ∷ rs) p = EndsWith (r ∷ rs) p
-
--- where a path reaches a pointer word, the tour up to it ends with it
-pub tour_ends : (m : List (List ℕ)) (p : List Step) (level s w : ℕ) (tour : List (List Step)) → Reaches m p level s w → IsTour m p tour → EndsWith tour p
-tour_ends m p level s w tour g h = go tour h.rising (h.all p level s w g (inl refl)) h.none_after
-  where
-    go : (qs : List (List Step)) → Rises qs → IsOneOf p qs → ((q : List Step) → IsOneOf q qs → (q ≡ p) ⊎ Before q p) → EndsWith qs p
-    go [] r i k = i
-    go (q ∷ []) r (inl e) k = sym e
-    go (q ∷ []) r (inr e) k = absurd e
-    go (q ∷ x ∷ xs) r (inl e) k = absurd (late (k x (inr (inl refl))))
-      where
-        late : (x ≡ p) ⊎ Before x p → ⊥
-        late (inl f) = Before-irreflexive p (subst (λ (v : List Step). Before p v) f (subst (λ (v : List Step). Before v x) (sym e) r.0))
-        late (inr f) = Before-asymmetric x p f (subst (λ (v : List Step). Before v x) (sym e) r.0)
-    go (q ∷ x ∷ xs) r (inr e) k = go (x ∷ xs) r.1 e (λ y i. k y (inr i))
-
 -- the first capability in preorder is one pointer word
 pub one_first_cap : (m : List (List ℕ)) (s w s' w' : ℕ) → IsFirstCap m s w → IsFirstCap m s' w' → (s ≡ s') × (w ≡ w')
 one_first_cap m s w s' w' g h = go (Before-total_coming m g.path h.path g.level h.level (word s w) (word s' w') g.reached h.reached)

@@ -1,33 +1,20 @@
 -- What is read of the words of a message, one word, value or byte at a time.
-use Rattle.std.proofs.Common.{ℕ, zero, suc, ◌+◌, ◌-◌, ◌*◌, ◌/◌, ◌%◌, ◌<◌, ◌≤◌, min, List, [], ◌∷◌, ◌≡◌, sym, ap, refl, ◌∙◌, arith, length, drop, get_or, Some, None}
+use Rattle.std.proofs.Common.{ℕ, zero, suc, ◌+◌, ◌-◌, ◌*◌, ◌<◌, ◌≤◌, min, List, [], ◌∷◌, ◌≡◌, ap, refl, ◌∙◌, arith, length, get_or, Some, None}
 use Rattle.std.specs.Prelude.{slice_get}
-use Rattle.std.proofs.lemmas.List.{get_or-take, get_or-drop}
 use Rattle.std.proofs.lemmas.List.FromFn.{length-map-range_with_len, get_or-map-range_with_len}
 use Rattle.std.proofs.lemmas.Option.{slice_get-get_or, slice_get_past, get_or_from_slice_get}
 use Rattle.cap_spec.specs.Words.{field}
 use Rattle.cap_spec.specs.Messages.{HasWord, segment_of}
 use Rattle.cap_spec.specs.Pointers.{element_bits, list_words}
-use Rattle.cap_spec.specs.Denoting.{value_at, values_of, words_from}
+use Rattle.cap_spec.specs.Denoting.{value_at, values_of}
 use Rattle.cap_spec.specs.Plain.{plain_text, word_bytes}
 use Rattle.cap_spec.specs.Scalars.{scalar_words}
 use Rattle.cap_spec.proofs.ReadingBack.{length-scalar_words}
-use Rattle.cap_spec.proofs.Shapes.{range_length}
 use Rattle.cap_spec.proofs.WordsRead.{as_many_words, whole_words, word_read}
 
 -- a word that a message has, as an element of its segment
 pub word_there : (m : List (List ℕ)) (t w x : ℕ) → HasWord m t w x → get_or (segment_of m t) w 0 ≡ x
 word_there m t w x h = get_or_from_slice_get (segment_of m t) w x 0 h
-
--- word i of n words from b on
-pub range_word : (m : List (List ℕ)) (t b n i x : ℕ) → b + n ≤ length (segment_of m t) → i < n → HasWord m t (b + i) x → Some x ≡ slice_get (words_from m t b n) i
-range_word m t b n i x le lt h =
-    let l : i < length (words_from m t b n) = omega (arith, range_length m t b n le) in
-    let e : get_or (words_from m t b n) i 0 ≡ x = get_or-take (b + n - b) (drop b (segment_of m t)) i 0 (omega arith) ∙ (get_or-drop b (segment_of m t) i 0 ∙ word_there m t (b + i) x h) in
-    sym (slice_get-get_or (words_from m t b n) i 0 l ∙ ap Some e)
-
--- and none past them
-pub range_past : (m : List (List ℕ)) (t b n i : ℕ) → b + n ≤ length (segment_of m t) → n ≤ i → slice_get (words_from m t b n) i ≡ None
-range_past m t b n i le past = slice_get_past (words_from m t b n) i (omega (arith, range_length m t b n le))
 
 -- how many values a list has
 pub length-values : (m : List (List ℕ)) (t b c n : ℕ) → length (values_of m t b c n) ≡ n
@@ -80,22 +67,6 @@ word_past (suc (suc (suc (suc (suc c))))) n i h =
     let x : ℕ = suc (suc (suc (suc (suc c)))) in
     let e : element_bits x * n ≡ 64 * n = ap (λ y. y * n) (whole_words x (omega arith)) in
     omega (arith, h, e, as_many_words x n (omega arith))
-
--- where a value of a list stands: in one of the list's words, all of it
-pub record ValueStands (c n i : ℕ) : Type 0 where
-  pub word : i * element_bits c / 64 < list_words c n
-  pub all : i * element_bits c % 64 + element_bits c ≤ 64
-
-pub value_stands : (c n i : ℕ) → i < n → 0 < element_bits c → ValueStands c n i
-value_stands zero n i lt some = absurd (omega (arith, some))
-value_stands (suc zero) n i lt some = record { word = omega (arith, lt); all = omega arith }
-value_stands (suc (suc zero)) n i lt some = record { word = omega (arith, lt); all = omega arith }
-value_stands (suc (suc (suc zero))) n i lt some = record { word = omega (arith, lt); all = omega arith }
-value_stands (suc (suc (suc (suc zero)))) n i lt some = record { word = omega (arith, lt); all = omega arith }
-value_stands (suc (suc (suc (suc (suc c))))) n i lt some =
-    let x : ℕ = suc (suc (suc (suc (suc c)))) in
-    let e : i * element_bits x ≡ i * 64 = ap (λ y. i * y) (whole_words x (omega arith)) in
-    record { word = omega (arith, lt, e, as_many_words x n (omega arith)); all = omega (arith, e, whole_words x (omega arith)) }
 
 -- byte i of words: that of the word where it stands
 pub byte_there : (words : List ℕ) (i j x : ℕ) → j < 8 → slice_get words i ≡ Some x → slice_get (plain_text words) (i * 8 + j) ≡ slice_get (word_bytes x) j

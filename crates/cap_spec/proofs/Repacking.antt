@@ -36,10 +36,6 @@ tag_zero b bytes e = ap (λ k. tag_of (k ∷ bytes)) e ∙ (omega arith)
 tag_more : (b : ℕ) (bytes : List ℕ) → b ≢ 0 → tag_of (b ∷ bytes) ≡ 1 + 2 * tag_of bytes
 tag_more b bytes n = ap (λ t. (if t then 0 else 1) + 2 * tag_of bytes) (ne_eqb b 0 n)
 
--- a zero byte counts
-count_zero : (b : ℕ) (bytes : List ℕ) → b ≡ 0 → zeros_in (b ∷ bytes) ≡ 1 + zeros_in bytes
-count_zero b bytes e = ap (λ k. zeros_in (k ∷ bytes)) e
-
 -- any other doesn't
 count_more : (b : ℕ) (bytes : List ℕ) → b ≢ 0 → zeros_in (b ∷ bytes) ≡ zeros_in bytes
 count_more b bytes n = ap (λ t. (if t then 1 else 0) + zeros_in bytes) (ne_eqb b 0 n) ∙ (omega arith)

@@ -34,10 +34,6 @@ stream_append words rest ms ns s t = record {
   messages = ap (λ k. k ++ ns) s.messages ∙ (ap (λ k. map (λ f. f.1) s.frames ++ k) t.messages ∙ sym (map-append (λ f. f.1) s.frames t.frames));
 }
 
--- with a frame behind a stream
-pub stream_push : (words own : List ℕ) (ms : List (List (List ℕ))) (m : List (List ℕ)) → Stream words ms → Frames own m → Stream (words ++ own) (ms ++ m ∷ [])
-stream_push words own ms m s f = stream_append words own ms (m ∷ []) s (stream_one own m f)
-
 -- frames in front of others, in front of any words: the others go on from there
 pub frames_front : (fs hs : List (List ℕ × List (List ℕ))) (back : List ℕ) → AllByRecursion (λ f. Frames f.0 f.1) fs → AllByRecursion (λ f. Frames f.0 f.1) hs
     → flat_map (λ f. f.0) hs ≡ flat_map (λ f. f.0) fs ++ back
