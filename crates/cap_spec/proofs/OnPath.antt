@@ -1,15 +1,15 @@
 -- The pointers on a path: they are one list, which grows with the path, and they aren't both charged and refused.
-use Rattle.std.proofs.Common.{ℕ, ◌+◌, ◌<◌, ◌≤◌, List, [], ◌∷◌, ◌++◌, ◌≡◌, ◌⊎◌, sym, ap, refl, subst, ◌∙◌, arith, inl, inr, length, append_assoc}
+use Rattle.std.proofs.Common.{ℕ, ◌+◌, ◌<◌, ◌≤◌, List, [], ◌∷◌, ◌++◌, ◌≡◌, ◌⊎◌, sym, ap, refl, subst, ◌∙◌, arith, inl, inr, length, length-append, append_assoc}
 use Rattle.std.proofs.lemmas.List.{append-nil}
 use Rattle.cap_spec.specs.Messages.{HasWord}
-use Rattle.cap_spec.specs.Faults.{AreShallow, IsDeepAt, IsFirstReason, is_deep, is_past, is_wrong}
-use Rattle.cap_spec.specs.Getting.{AreOnPath, Begins, IsRefusedOnPath}
+use Rattle.cap_spec.specs.Faults.{AreShallow, IsDeepAt}
+use Rattle.cap_spec.specs.Getting.{AreOnPath, Begins, IsFaultOnPath, IsRefusedOnPath}
 use Rattle.cap_spec.specs.Paths.{Before, Comes, Costs, Goes, IsOneOf, Reaches, Rises, Spot, Walks, element, word}
 use Rattle.cap_spec.specs.Verdicts.{CostOf}
 use Rattle.cap_spec.specs.declared.Refusal.{Refusal}
 use Rattle.cap_spec.specs.declared.Step.{Step}
-use Rattle.cap_spec.proofs.OneFault.{costs_not_wrong, distinct_last, last_is_one, one_of_last, rootless}
-use Rattle.cap_spec.proofs.OneVerdict.{cost_reached, distinct_cost, take_out}
+use Rattle.cap_spec.proofs.OneFault.{distinct_last, kept_without_fault, last_is_one, one_of_last, one_rootless, rootless, same_fault}
+use Rattle.cap_spec.proofs.OneVerdict.{cost_reached}
 use Rattle.cap_spec.proofs.Preorder.{Before-longer, Rises-distinct, Rises-same}
 use Rattle.cap_spec.proofs.Walks.{one_coming, one_reached, one_walk, walk_parts}
 
@@ -172,11 +172,10 @@ pub path_not_refused : (m : List (List ℕ)) (words depth : ℕ) (path : List St
 path_not_refused m words depth path [] cost r on some costs shallow within (inl h) = omega (arith, some)
 path_not_refused m words depth path (q ∷ qs) cost r on some costs shallow within (inl h) =
     let x = on.reached q (inl refl) in rootless m q x.0 x.1 x.2 h.empty x.3
-path_not_refused m words depth path ways cost r on some costs shallow within (inr f) = by_reason f.reason
+path_not_refused m words depth path ways cost r on some costs shallow within (inr f) =
+    kept_without_fault m words depth f.level f.charge cost r f.way f.before ways f.reached f.costs f.reason
+    (distinct_last f.before f.way (Rises-distinct (f.before ++ f.way ∷ []) f.on_path.rising)) all costs shallow within
   where
-    here : IsOneOf f.way ways
-    here = on.all f.way f.level r.segment r.word f.begin f.reached
-
     earlier : (q : List Step) → IsOneOf q f.before → IsOneOf q ways
     earlier q i =
         let x = cost_reached m f.before f.charge q f.costs i in
@@ -185,17 +184,62 @@ path_not_refused m words depth path ways cost r on some costs shallow within (in
         on.all q x.0 x.1 x.2 (subst (λ y. Begins q y) (sym e) (begins_longer q f.way f.begin.0 b)) x.3
 
     all : (q : List Step) → IsOneOf q (f.way ∷ f.before) → IsOneOf q ways
-    all q (inl e) = subst (λ x. IsOneOf x ways) (sym e) here
+    all q (inl e) = subst (λ x. IsOneOf x ways) (sym e) (on.all f.way f.level r.segment r.word f.begin f.reached)
     all q (inr i) = earlier q i
 
-    by_reason : IsFirstReason m words depth f.charge r.segment r.word f.level r.reason → ⊥
-    by_reason (is_wrong h) =
-        let t = take_out m f.way ways cost here costs in
-        let o = one_reached m f.way f.level t.level r.segment r.word t.s t.w f.reached t.reached in
-        let c : Costs m r.segment r.word t.one = subst (λ u. Costs m u r.word t.one) (sym o.1) (subst (λ u. Costs m t.s u t.one) (sym o.2) t.costs) in
-        costs_not_wrong m r.segment r.word t.one r.reason c h
-    by_reason (is_deep e deep) = shallow f.way f.level r.segment r.word here f.reached deep
-    by_reason (is_past one e none c past) =
-        let whole : CostOf m (f.way ∷ f.before) (one + f.charge) = (f.level, r.segment, r.word, one, f.charge, f.reached, c, f.costs, refl) in
-        let distinct = distinct_last f.before f.way (Rises-distinct (f.before ++ f.way ∷ []) f.on_path.rising) in
-        omega (arith, past, within, distinct_cost m (f.way ∷ f.before) ways (one + f.charge) cost distinct all whole costs)
+-- of two beginnings of one path, each is the other or goes on from it
+begins_one : (p q path : List Step) → Begins p path → Begins q path → (p ≡ q) ⊎ ((x : Step) × (more : List Step) × (q ≡ p ++ x ∷ more)) ⊎ ((x : Step) × (more : List Step) × (p ≡ q ++ x ∷ more))
+begins_one p q path ([], e) (s, f) = all s (sym (append-nil p) ∙ (sym e ∙ f))
+  where
+    all : (s : List Step) → p ≡ q ++ s → (p ≡ q) ⊎ ((x : Step) × (more : List Step) × (q ≡ p ++ x ∷ more)) ⊎ ((x : Step) × (more : List Step) × (p ≡ q ++ x ∷ more))
+    all [] h = inl (h ∙ append-nil q)
+    all (x ∷ s) h = inr (inr (x, s, h))
+begins_one p q path (x ∷ rest, e) (s, f) = part (begins_either q p rest s x (sym e ∙ f))
+  where
+    all : (t : List Step) → p ≡ q ++ t → (p ≡ q) ⊎ ((x : Step) × (more : List Step) × (q ≡ p ++ x ∷ more)) ⊎ ((x : Step) × (more : List Step) × (p ≡ q ++ x ∷ more))
+    all [] h = inl (h ∙ append-nil q)
+    all (y ∷ t) h = inr (inr (y, t, h))
+
+    part : Begins q p ⊎ ((more : List Step) × (q ≡ p ++ x ∷ more) × (rest ≡ more ++ s)) → (p ≡ q) ⊎ ((x : Step) × (more : List Step) × (q ≡ p ++ x ∷ more)) ⊎ ((x : Step) × (more : List Step) × (p ≡ q ++ x ∷ more))
+    part (inl (t, h)) = all t h
+    part (inr (more, h, k)) = inr (inl (x, more, h))
+
+-- No fault on a path comes before another.
+no_earlier_on : (m : List (List ℕ)) (words depth : ℕ) (path : List Step) (r r' : Refusal) (f : IsFaultOnPath m words depth path r) (f' : IsFaultOnPath m words depth path r') (x : Step) (more : List Step)
+    → f'.way ≡ f.way ++ x ∷ more → ⊥
+no_earlier_on m words depth path r r' f f' x more e =
+    kept_without_fault m words depth f.level f.charge f'.charge r f.way f.before f'.before f.reached f.costs f.reason
+    (distinct_last f.before f.way (Rises-distinct (f.before ++ f.way ∷ []) f.on_path.rising)) all f'.costs f'.shallow f'.within
+  where
+    -- what begins the shorter one is among those before the longer one
+    kept : (q : List Step) (level s w : ℕ) → Reaches m q level s w → Begins q f.way → IsOneOf q f'.before
+    kept q level s w h (rest, k) = elim (one_of_last q f'.way f'.before (f'.on_path.all q level s w (subst (λ y. Begins q y) (sym e) (begins_longer q f.way (x ∷ more) (rest, k))) h)) [
+      | inl same ↦
+          let whole : q ≡ (q ++ rest) ++ x ∷ more = same ∙ e ∙ ap (λ y. y ++ x ∷ more) k in
+          let long = ap length whole in
+          absurd (omega (arith, long, length-append (q ++ rest) (x ∷ more), length-append q rest))
+      | inr i ↦ i
+    ]
+
+    all : (q : List Step) → IsOneOf q (f.way ∷ f.before) → IsOneOf q f'.before
+    all q (inl same) = subst (λ y. IsOneOf y f'.before) (sym same) (kept f.way f.level r.segment r.word f.reached (begins_itself f.way))
+    all q (inr i) = let c = cost_reached m f.before f.charge q f.costs i in kept q c.0 c.1 c.2 c.3 (f.on_path.begin q (last_is_one f.way q f.before i))
+
+-- A path is refused in one way.
+pub one_path_refusal : (m : List (List ℕ)) (words depth : ℕ) (path : List Step) (r r' : Refusal) → IsRefusedOnPath m words depth path r → IsRefusedOnPath m words depth path r' → r ≡ r'
+one_path_refusal m words depth path r r' (inl h) (inl k) = one_rootless m r r' h k
+one_path_refusal m words depth path r r' (inl h) (inr f) = absurd (rootless m f.way f.level r'.segment r'.word h.empty f.reached)
+one_path_refusal m words depth path r r' (inr f) (inl h) = absurd (rootless m f.way f.level r.segment r.word h.empty f.reached)
+one_path_refusal m words depth path r r' (inr f) (inr f') = by_order (begins_one f.way f'.way path f.begin f'.begin)
+  where
+    same : f'.way ≡ f.way → r ≡ r'
+    same e =
+        let on : AreOnPath m f.way (f'.before ++ f.way ∷ []) = subst (λ u. AreOnPath m u (f'.before ++ u ∷ [])) e f'.on_path in
+        let lists = one_path_list m f.way (f.before ++ f.way ∷ []) (f'.before ++ f.way ∷ []) f.on_path on in
+        same_fault m words depth f.level f'.level f.charge f'.charge r r' f.way f.before f'.before lists f.on_path.rising f.reached (subst (λ u. Reaches m u f'.level r'.segment r'.word) e f'.reached)
+        f.costs f'.costs f.reason f'.reason f.pointers (f'.pointers ∙ ap (λ u. length (f'.before ++ u ∷ [])) e)
+
+    by_order : (f.way ≡ f'.way) ⊎ ((x : Step) × (more : List Step) × (f'.way ≡ f.way ++ x ∷ more)) ⊎ ((x : Step) × (more : List Step) × (f.way ≡ f'.way ++ x ∷ more)) → r ≡ r'
+    by_order (inl e) = same (sym e)
+    by_order (inr (inl (x, more, e))) = absurd (no_earlier_on m words depth path r r' f f' x more e)
+    by_order (inr (inr (x, more, e))) = absurd (no_earlier_on m words depth path r' r f' f x more e)

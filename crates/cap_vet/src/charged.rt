@@ -227,6 +227,7 @@ pub fn get_charged<'m, M: Segments>(
     // The other direction.
     ensures accepts { (ways : List (List Step)) (cost : ℕ) → AreOnPath (M.segments message.now) path.now ways → 0 < length ways →
         CostOf (M.segments message.now) ways cost → AreShallow (M.segments message.now) depth ways → cost ≤ left_of budget.old → IsOk result }
+    ensures refuses { (refusal : Refusal) → IsRefusedOnPath (M.segments message.now) (left_of budget.old) depth path.now refusal → result ≡ Err refusal }
 {
     let words = budget.words;
     let mut at = match at_root(message, words, depth) {
