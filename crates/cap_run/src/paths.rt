@@ -4,7 +4,7 @@ ghost use Rattle.cap_run.specs.PathReading.{ended_by, longer_number as number_wi
 ghost use Rattle.cap_spec.specs.PathTexts.{IsBadAt, IsStep, path_text};
 ghost use Rattle.cap_spec.specs.declared.Step.{Step};
 ghost use Rattle.std.specs.List.{AllByRecursion};
-ghost use Rattle.std.specs.Prelude.{◌<◌, ◌≤◌, ◌^◌, ◌≡◌, ◌⊎◌, Err, IfOk, IsErrOf, List, MatchResult, ℕ};
+ghost use Rattle.std.specs.Prelude.{◌<◌, ◌≤◌, ◌^◌, ◌≡◌, ◌⊎◌, [], Err, IfOk, IsErrOf, IsOk, List, MatchResult, ℕ};
 
 use cap_spec::Step;
 use std::alloc::Global;
@@ -108,6 +108,8 @@ pub fn parse_path(alloc: Global, text: &str) -> Result<Vec<Step>, PathFault>
     ensures path { (steps : List Step) → AllByRecursion IsStep steps → text.now ≡ path_text steps →
         MatchResult result (λ v. v.items ≡ steps) (λ fault. fault ≡ PathFault.Memory) }
     ensures no_path { (at : ℕ) → IsBadAt text.now at → (result ≡ Err (PathFault.Bad at)) ⊎ (result ≡ Err PathFault.Memory) }
+    // The empty path takes no memory.
+    ensures root { text.now ≡ path_text [] → IsOk result }
 {
     let mut steps = Vec::new(alloc);
     let mut reading = Reading::Start;

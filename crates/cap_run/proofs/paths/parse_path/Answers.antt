@@ -77,3 +77,6 @@ returns-in_default-reading-clause-path c = λ steps a e. let b = bad_last c in a
 
 pub returns-in_default-reading-clause-no_path : goal.returns-in_default-reading-clause-no_path
 returns-in_default-reading-clause-no_path c = λ at q. let same = one_bad_place c.args.text.now (length c.as_bytes-bytes.result.now) at (bad_last c) q in inl (cc)
+
+pub returns-in_default-reading-clause-root : goal.returns-in_default-reading-clause-root
+returns-in_default-reading-clause-root c = λ e. let b = bad_last c in absurd (b.none ([], tt, e))
