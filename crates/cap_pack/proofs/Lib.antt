@@ -9,3 +9,6 @@ pub mod Steps
 pub mod FullWords
 pub mod Telling
 pub mod PuttingEach
+pub mod Tags
+pub mod Runs
+pub mod Shuffles

@@ -5,3 +5,4 @@ pub mod Input
 pub mod Output
 pub mod Reading
 pub mod State
+pub mod Places

@@ -4,6 +4,7 @@
 mod counted;
 mod group;
 mod head;
+pub mod lanes;
 pub mod packer;
 mod spelling;
 pub mod unpacker;

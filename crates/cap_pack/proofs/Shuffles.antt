@@ -1,0 +1,271 @@
+-- Shuffles of bytes, by places that stand for the bits of a tag.
+use Rattle.std.proofs.Common.{◌≡◌, ℕ, zero, suc, ◌+◌, ◌-◌, ◌*◌, ◌/◌, ◌%◌, ◌<◌, ◌≤◌, eqb, leb, cond, not, Bool, true, false, ◌&&◌, List, [], ◌∷◌, ◌++◌, length, get_or, map, take, drop, replicate, refl, sym, ap, subst, ◌∙◌, arith, w8, T, ltb, ◌||◌, append_assoc, get_or-drop, add-zero, add-one, zero-add, append-nil}
+use Rattle.std.specs.Prelude.{◌==◌, if◌then◌else◌, filter}
+use Rattle.std.specs.Simd.Lanes.{Each1, number_l}
+use Rattle.std.proofs.lemmas.Bool.{false≢true, and_parts, cond-true, cond-false, eq-eqb, ne_eqb, eqb-true, lt-leb, lt-ltb}
+use Rattle.std.proofs.lemmas.List.{map-append, length-append, take-replicate, length-replicate}
+use Rattle.std.proofs.Math.Seq.{take-append-add}
+use Rattle.cap_pack.proofs.Spreads.{marks-le}
+use Rattle.std.proofs.lemmas.Simd.{swz_l, SwzOk, SwzOk-from_Each1, ones-mask_l}
+use Rattle.std.proofs.lemmas.List.Sums.{length-filter}
+use lib.Count.{ones}
+use Rattle.cap_spec.specs.Plain.{word_bytes}
+use Rattle.byteorder.specs.Endian.{little_number}
+use Rattle.cap_spec.specs.Packing.{tag_of}
+use Rattle.cap_spec.specs.Unpacking.{marks, spread}
+use Rattle.cap_pack.specs.Places.{spread_from, marked_from, spread_row, squeeze_row}
+use Rattle.cap_pack.proofs.Tags.{eight_number, word_tag, mask_is_tag}
+
+-- whether lists are the same
+abbrev same_list : List ℕ → List ℕ → Bool
+same_list [] [] = true
+same_list [] (y ∷ ys) = false
+same_list (x ∷ xs) [] = false
+same_list (x ∷ xs) (y ∷ ys) = eqb x y && same_list xs ys
+
+same_from_test : (xs ys : List ℕ) → same_list xs ys ≡ true → xs ≡ ys
+same_from_test [] [] e = refl
+same_from_test [] (y ∷ ys) e = absurd (false≢true e)
+same_from_test (x ∷ xs) [] e = absurd (false≢true e)
+same_from_test (x ∷ xs) (y ∷ ys) e =
+    let both = and_parts (eqb x y) (same_list xs ys) e in
+    ap (λ z. z ∷ xs) (eqb-true x y both.0) ∙ ap (λ zs. y ∷ zs) (same_from_test xs ys both.1)
+
+-- whether each row of a table is that of its number
+abbrev pub rows_are : (ℕ → List ℕ) → ℕ → List (List ℕ) → Bool
+rows_are f t [] = true
+rows_are f t (row ∷ rows) = same_list row (f t) && rows_are f (t + 1) rows
+
+row_at : (f : ℕ → List ℕ) (t : ℕ) (rows : List (List ℕ)) → rows_are f t rows ≡ true → (i : ℕ) → i < length rows → get_or rows i [] ≡ f (t + i)
+row_at f t [] e i l = absurd (omega arith)
+row_at f t (row ∷ rows) e zero l = same_from_test row (f t) (and_parts (same_list row (f t)) (rows_are f (t + 1) rows) e).0 ∙ ap f (sym (add-zero t))
+row_at f t (row ∷ rows) e (suc i) l =
+    let next : t + 1 + i ≡ t + suc i = omega arith in
+    row_at f (t + 1) rows (and_parts (same_list row (f t)) (rows_are f (t + 1) rows) e).1 i (omega arith) ∙ ap f next
+
+pub row_of : (f : ℕ → List ℕ) (rows : List (List ℕ)) → rows_are f 0 rows ≡ true → (i : ℕ) → i < length rows → get_or rows i [] ≡ f i
+row_of f rows e i l = row_at f 0 rows e i l ∙ ap f (zero-add i)
+
+-- what a lane gets for its place
+abbrev pick : List ℕ → ℕ → ℕ
+pick xs j = cond (leb 128 j) 0 (get_or xs j 0)
+
+shuffled : (xs js : List ℕ) (i : ℕ) → i + length js ≤ 16 → swz_l w8 16 xs i js ≡ map (pick xs) js
+shuffled xs [] i h = refl
+shuffled xs (j ∷ js) i h =
+    let at : 16 * (i / 16) + j ≡ j = omega arith in
+    ap (λ k. cond (leb 128 j) 0 (get_or xs k 0) ∷ swz_l w8 16 xs (suc i) js) at ∙ ap (λ r. pick xs j ∷ r) (shuffled xs js (suc i) (omega arith))
+
+-- a place below 128 gets the byte there
+picked : (xs : List ℕ) (k : ℕ) → k < 128 → pick xs k ≡ get_or (drop k xs) 0 0
+picked xs k h =
+    ap (λ t. cond t 0 (get_or xs k 0)) (lt-leb 128 k h) ∙ sym (get_or-drop k xs 0 0 ∙ ap (λ i. get_or xs i 0) (add-zero k))
+
+drop_more : (n : ℕ) (l : List ℕ) → drop 1 (drop n l) ≡ drop (suc n) l
+drop_more zero l = refl
+drop_more (suc n) [] = refl
+drop_more (suc n) (x ∷ l) = drop_more n l
+
+drop_next : (k : ℕ) (xs : List ℕ) → drop (k + 1) xs ≡ drop 1 (drop k xs)
+drop_next k xs = ap (λ i. drop i xs) (add-one k) ∙ sym (drop_more k xs)
+
+-- a place that a lane may have
+abbrev pub IsPlace : ℕ → Type 0
+IsPlace j = T (leb 128 j || ltb j 16)
+
+holds : (t : Bool) → T (t || true)
+holds true = tt
+holds false = tt
+
+is_place : (k : ℕ) → k < 16 → IsPlace k
+is_place k h = subst (λ t. T (leb 128 k || t)) (sym (lt-ltb k 16 h)) (holds (leb 128 k))
+
+each_append : (xs ys : List ℕ) → Each1 IsPlace xs → Each1 IsPlace ys → Each1 IsPlace (xs ++ ys)
+each_append [] ys h k = k
+each_append (x ∷ xs) ys h k = (h.0, each_append xs ys h.1 k)
+
+no_places : (n : ℕ) → Each1 IsPlace (replicate n 128)
+no_places zero = tt
+no_places (suc n) = (tt, no_places n)
+
+-- the places of a row
+
+spread_place : (t : Bool) (k : ℕ) → k < 16 → IsPlace (cond t 128 k)
+spread_place true k h = tt
+spread_place false k h = is_place k h
+
+spread_places : (n tag k : ℕ) → k + n ≤ 16 → Each1 IsPlace (spread_from n tag k)
+spread_places zero tag k h = tt
+spread_places (suc n) tag k h = (spread_place (eqb (tag % 2) 0) k (omega arith), spread_places n (tag / 2) (k + tag % 2) (omega arith))
+
+pub spread_ok : (row : List ℕ) (tag : ℕ) → row ≡ spread_row tag → SwzOk w8 16 16 0 row
+spread_ok row tag e =
+    let each : Each1 IsPlace (spread_row tag) = each_append (spread_from 8 tag 0) (replicate 8 128) (spread_places 8 tag 0 (omega arith)) (no_places 8) in
+    subst (λ js. SwzOk w8 16 16 0 js) (sym e) (SwzOk-from_Each1 w8 16 1 16 0 (spread_row tag) refl (omega arith) each)
+
+-- spreading bytes takes the next of them at each bit that is set
+none_spread : (n tag : ℕ) → spread n tag [] ≡ 0
+none_spread zero tag = refl
+none_spread (suc n) tag = refl
+
+both_zero : (t : Bool) (m : ℕ) → m ≡ 0 → 0 ≡ cond t (256 * m) (0 + 256 * m)
+both_zero true m e = omega arith
+both_zero false m e = omega arith
+
+spread_step : (n tag : ℕ) (ys : List ℕ) →
+    spread (suc n) tag ys ≡ cond (eqb (tag % 2) 0) (256 * spread n (tag / 2) ys) (get_or ys 0 0 + 256 * spread n (tag / 2) (drop 1 ys))
+spread_step n tag [] = both_zero (eqb (tag % 2) 0) (spread n (tag / 2) []) (none_spread n (tag / 2))
+spread_step n tag (y ∷ ys) = refl
+
+spread_one : (n up k : ℕ) (xs : List ℕ) (r : ℕ) → r < 2 → k < 128 → pick xs (cond (eqb r 0) 128 k) + 256 * spread n up (drop (k + r) xs)
+    ≡ cond (eqb r 0) (256 * spread n up (drop k xs)) (get_or (drop k xs) 0 0 + 256 * spread n up (drop 1 (drop k xs)))
+spread_one n up k xs zero h l = zero-add (256 * spread n up (drop (k + 0) xs)) ∙ ap (λ i. 256 * spread n up (drop i xs)) (add-zero k)
+spread_one n up k xs (suc zero) h l =
+    ap (λ b. b + 256 * spread n up (drop (k + 1) xs)) (picked xs k l) ∙ ap (λ ys. get_or (drop k xs) 0 0 + 256 * spread n up ys) (drop_next k xs)
+spread_one n up k xs (suc (suc r)) h l = absurd (omega arith)
+
+spread_picked : (n tag k : ℕ) (xs : List ℕ) → k + n ≤ 128 → number_l 256 (map (pick xs) (spread_from n tag k)) ≡ spread n tag (drop k xs)
+spread_picked zero tag k xs h = refl
+spread_picked (suc n) tag k xs h =
+    ap (λ m. pick xs (cond (eqb (tag % 2) 0) 128 k) + 256 * m) (spread_picked n (tag / 2) (k + tag % 2) xs (omega arith))
+    ∙ spread_one n (tag / 2) k xs (tag % 2) (omega arith) (omega arith) ∙ sym (spread_step n tag (drop k xs))
+
+pub spread_by_places : (xs row : List ℕ) (tag : ℕ) → row ≡ spread_row tag → little_number 8 (take 8 (swz_l w8 16 xs 0 row)) ≡ spread 8 tag xs
+spread_by_places xs row tag e =
+    ap (λ js. little_number 8 (take 8 (swz_l w8 16 xs 0 js))) e ∙ ap (λ l. little_number 8 (take 8 l)) (shuffled xs (spread_row tag) 0 (omega arith))
+    ∙ sym (eight_number (map (pick xs) (spread_from 8 tag 0)) refl) ∙ spread_picked 8 tag 0 xs (omega arith)
+
+-- zeros behind the bytes change nothing
+none_either_way : (t : Bool) (x y : ℕ) → x ≡ 0 → y ≡ 0 → cond t (256 * x) (0 + 256 * y) ≡ 0
+none_either_way true x y e f = omega arith
+none_either_way false x y e f = omega arith
+
+zeros_spread : (n tag m : ℕ) → spread n tag (replicate m 0) ≡ 0
+zeros_spread zero tag m = refl
+zeros_spread (suc n) tag zero = refl
+zeros_spread (suc n) tag (suc m) = none_either_way (eqb (tag % 2) 0) _ _ (zeros_spread n (tag / 2) (suc m)) (zeros_spread n (tag / 2) m)
+
+spread_with_zeros : (n tag m : ℕ) (bs : List ℕ) → spread n tag (bs ++ replicate m 0) ≡ spread n tag bs
+spread_with_zeros zero tag m bs = refl
+spread_with_zeros (suc n) tag m [] = zeros_spread (suc n) tag m
+spread_with_zeros (suc n) tag m (b ∷ bs) =
+    ap (λ x. cond (eqb (tag % 2) 0) (256 * x) (b + 256 * spread n (tag / 2) (bs ++ replicate m 0))) (spread_with_zeros n (tag / 2) m (b ∷ bs))
+    ∙ ap (λ x. cond (eqb (tag % 2) 0) (256 * spread n (tag / 2) (b ∷ bs)) (b + 256 * x)) (spread_with_zeros n (tag / 2) m bs)
+
+-- the lowest bit of a tag is that of the first byte
+low_bit : (z : Bool) (t : ℕ) → (cond z 0 1 + 2 * t) % 2 ≡ cond z 0 1
+low_bit true t = omega arith
+low_bit false t = omega arith
+
+bits_behind : (z : Bool) (t : ℕ) → (cond z 0 1 + 2 * t) / 2 ≡ t
+bits_behind true t = omega arith
+bits_behind false t = omega arith
+
+clear_bit : (z : Bool) → eqb (cond z 0 1) 0 ≡ z
+clear_bit true = refl
+clear_bit false = refl
+
+-- the bytes that aren't zero
+abbrev present : List ℕ → List ℕ
+present bs = filter (λ b. not (b == 0)) bs
+
+marked_first : (z : Bool) (n t k : ℕ) → marked_from (suc n) (cond z 0 1 + 2 * t) k ≡ cond z [] (k ∷ []) ++ marked_from n t (k + 1)
+marked_first z n t k =
+    ap (λ r. cond (eqb r 0) [] (k ∷ []) ++ marked_from n ((cond z 0 1 + 2 * t) / 2) (k + 1)) (low_bit z t)
+    ∙ ap (λ u. cond u [] (k ∷ []) ++ marked_from n ((cond z 0 1 + 2 * t) / 2) (k + 1)) (clear_bit z) ∙ ap (λ u. cond z [] (k ∷ []) ++ marked_from n u (k + 1)) (bits_behind z t)
+
+first_picked : (z : Bool) (xs ks : List ℕ) (k b : ℕ) → pick xs k ≡ b → map (pick xs) (cond z [] (k ∷ []) ++ ks) ≡ cond (not z) (b ∷ map (pick xs) ks) (map (pick xs) ks)
+first_picked true xs ks k b e = refl
+first_picked false xs ks k b e = ap (λ x. x ∷ map (pick xs) ks) e
+
+-- the places of the bits of a tag pick the bytes that aren't zero
+marked_picked : (bs xs ys : List ℕ) (k : ℕ) → drop k xs ≡ bs ++ ys → k + length bs ≤ 128 → map (pick xs) (marked_from (length bs) (tag_of bs) k) ≡ present bs
+marked_picked [] xs ys k e h = refl
+marked_picked (b ∷ bs) xs ys k e h =
+    let z : Bool = eqb b 0 in
+    let this : pick xs k ≡ b = picked xs k (omega arith) ∙ ap (λ l. get_or l 0 0) e in
+    let behind : drop (k + 1) xs ≡ bs ++ ys = drop_next k xs ∙ ap (drop 1) e in
+    ap (map (pick xs)) (marked_first z (length bs) (tag_of bs) k) ∙ first_picked z xs (marked_from (length bs) (tag_of bs) (k + 1)) k b this
+    ∙ ap (λ l. cond (not z) (b ∷ l) l) (marked_picked bs xs ys (k + 1) behind (omega arith))
+
+-- as many as the tag has bits set
+count_first : (z : Bool) (b : ℕ) (l : List ℕ) → length (cond (not z) (b ∷ l) l) ≡ cond z 0 1 + length l
+count_first true b l = omega arith
+count_first false b l = omega arith
+
+present_count : (bs : List ℕ) → marks (length bs) (tag_of bs) ≡ length (present bs)
+present_count [] = refl
+present_count (b ∷ bs) =
+    let z : Bool = eqb b 0 in
+    ap (λ r. r + marks (length bs) (tag_of (b ∷ bs) / 2)) (low_bit z (tag_of bs)) ∙ ap (λ t. cond z 0 1 + marks (length bs) t) (bits_behind z (tag_of bs))
+    ∙ ap (λ m. cond z 0 1 + m) (present_count bs) ∙ sym (count_first z b (present bs))
+
+-- the places of a row
+squeeze_place : (t : Bool) (k : ℕ) (ys : List ℕ) → k < 16 → Each1 IsPlace ys → Each1 IsPlace (cond t [] (k ∷ []) ++ ys)
+squeeze_place true k ys h each = each
+squeeze_place false k ys h each = (is_place k h, each)
+
+squeeze_places : (n tag k : ℕ) → k + n ≤ 16 → Each1 IsPlace (marked_from n tag k)
+squeeze_places zero tag k h = tt
+squeeze_places (suc n) tag k h = squeeze_place (eqb (tag % 2) 0) k (marked_from n (tag / 2) (k + 1)) (omega arith) (squeeze_places n (tag / 2) (k + 1) (omega arith))
+
+length_first : (r k : ℕ) (ys : List ℕ) → r < 2 → length (cond (eqb r 0) [] (k ∷ []) ++ ys) ≡ r + length ys
+length_first zero k ys h = omega arith
+length_first (suc zero) k ys h = omega arith
+length_first (suc (suc r)) k ys h = absurd (omega arith)
+
+length_marked : (n tag k : ℕ) → length (marked_from n tag k) ≡ marks n tag
+length_marked zero tag k = refl
+length_marked (suc n) tag k =
+    length_first (tag % 2) k (marked_from n (tag / 2) (k + 1)) (omega arith) ∙ ap (λ m. tag % 2 + m) (length_marked n (tag / 2) (k + 1))
+
+length_row : (tag : ℕ) → length (squeeze_row tag) ≡ 16
+length_row tag =
+    let few = marks-le 8 tag in
+    length-append (marked_from 8 tag 0) (replicate (16 - marks 8 tag) 128)
+    ∙ omega (arith, length_marked 8 tag 0, length-replicate {A = ℕ} (16 - marks 8 tag) 128, few)
+
+pub squeeze_ok : (row : List ℕ) (tag : ℕ) → row ≡ squeeze_row tag → SwzOk w8 16 16 0 row
+squeeze_ok row tag e =
+    let each : Each1 IsPlace (squeeze_row tag) =
+    each_append (marked_from 8 tag 0) (replicate (16 - marks 8 tag) 128) (squeeze_places 8 tag 0 (omega arith)) (no_places (16 - marks 8 tag)) in
+    subst (λ js. SwzOk w8 16 16 0 js) (sym e) (SwzOk-from_Each1 w8 16 1 16 0 (squeeze_row tag) refl (omega (arith, length_row tag)) each)
+
+none_picked : (xs : List ℕ) (n : ℕ) → map (pick xs) (replicate n 128) ≡ replicate n 0
+none_picked xs zero = refl
+none_picked xs (suc n) = ap (λ l. 0 ∷ l) (none_picked xs n)
+
+-- the bytes that aren't zero, and zeros behind them
+front_of : (l : List ℕ) (m : ℕ) → length l ≡ m → m ≤ 8 → take 8 (l ++ replicate (16 - m) 0) ≡ l ++ replicate (8 - m) 0
+front_of l m e h =
+    let eight : length l + (8 - m) ≡ 8 = omega arith in
+    ap (λ n. take n (l ++ replicate (16 - m) 0)) (sym eight) ∙ take-append-add l (replicate (16 - m) 0) (8 - m) ∙ ap (λ r. l ++ r) (take-replicate (8 - m) (16 - m) 0 (omega arith))
+
+pub squeeze_by_places : (word xs row : List ℕ) (tag : ℕ) → length word ≡ 8 → xs ≡ word ++ replicate 8 0 → tag ≡ tag_of word → row ≡ squeeze_row tag →
+    take 8 (swz_l w8 16 xs 0 row) ≡ present word ++ replicate (8 - marks 8 tag) 0
+squeeze_by_places word xs row tag l e t r =
+    let m : ℕ = marks 8 tag in
+    let few : m ≤ 8 = marks-le 8 tag in
+    let count : length (present word) ≡ m = sym (ap (marks 8) t ∙ ap (λ n. marks n (tag_of word)) (sym l) ∙ present_count word) in
+    let front : map (pick xs) (marked_from 8 tag 0) ≡ present word =
+    ap (λ u. map (pick xs) (marked_from 8 u 0)) t ∙ ap (λ n. map (pick xs) (marked_from n (tag_of word) 0)) (sym l)
+    ∙ marked_picked word xs (replicate 8 0) 0 e (omega arith) in
+    let all : swz_l w8 16 xs 0 row ≡ present word ++ replicate (16 - m) 0 =
+    ap (swz_l w8 16 xs 0) r ∙ shuffled xs (squeeze_row tag) 0 (omega (arith, length_row tag)) ∙ map-append (pick xs) (marked_from 8 tag 0) (replicate (16 - m) 128)
+    ∙ ap (λ f. f ++ map (pick xs) (replicate (16 - m) 128)) front ∙ ap (λ z. present word ++ z) (none_picked xs (16 - m)) in
+    ap (take 8) all ∙ front_of (present word) m count few
+
+-- the number of bits that are set
+pub ones_of_tag : (w tag : ℕ) → tag ≡ word_tag w → ones tag ≡ length (present (word_bytes w))
+ones_of_tag w tag e =
+    ap ones (e ∙ sym (mask_is_tag (word_bytes w))) ∙ ones-mask_l (λ b. not (eqb b 0)) (word_bytes w) ∙ sym (length-filter (λ b. not (b == 0)) (word_bytes w))
+
+pub gathered : (w tag : ℕ) (bs out : List ℕ) → bs ≡ word_bytes w → tag ≡ word_tag w → out ≡ present bs ++ replicate (8 - marks 8 tag) 0 →
+    out ≡ present (word_bytes w) ++ replicate (8 - ones tag) 0
+gathered w tag bs out b t e =
+    let count : marks 8 tag ≡ ones tag = ap (marks 8) t ∙ present_count (word_bytes w) ∙ sym (ones_of_tag w tag t) in
+    e ∙ ap (λ l. present l ++ replicate (8 - marks 8 tag) 0) b ∙ ap (λ n. present (word_bytes w) ++ replicate (8 - n) 0) count
+
+pub scattered : (tag word : ℕ) (bytes wide lanes low : List ℕ) → word ≡ little_number 8 low → low ≡ take 8 lanes → little_number 8 (take 8 lanes) ≡ spread 8 tag wide →
+    wide ≡ bytes ++ replicate 8 0 → word ≡ spread 8 tag bytes
+scattered tag word bytes wide lanes low e f g h = e ∙ ap (little_number 8) f ∙ g ∙ ap (spread 8 tag) h ∙ spread_with_zeros 8 tag 8 bytes

@@ -1,0 +1,118 @@
+-- The tags of words, as the bits of one comparison of all their bytes.
+use Rattle.std.proofs.Common.{◌≡◌, ℕ, zero, suc, ◌+◌, ◌*◌, ◌/◌, ◌%◌, ◌^◌, ◌<◌, eqb, cond, not, Bool, true, false, List, [], ◌∷◌, ◌++◌, length, map, take, ◌≤◌, replicate, refl, sym, ap, subst, ◌∙◌, arith, w8, w64}
+use Rattle.std.specs.Prelude.{◌==◌, if◌then◌else◌}
+use Rattle.std.specs.List.{flat_map, AllByRecursion}
+use Rattle.std.specs.Simd.Lanes.{Each1, zip2, top, mask_l, number_l, digits_l, chunk, put_chunk}
+use Rattle.std.specs.Int.{byte_at}
+use Rattle.std.proofs.Math.Nat.{pow-succ'}
+use Rattle.std.proofs.lemmas.List.{length-map, map-append}
+use Rattle.std.proofs.Math.Seq.{take-add}
+use Rattle.std.proofs.lemmas.Simd.{bitmask_splat, length-chunk, take_more_put_chunk}
+use Rattle.byteorder.specs.Endian.{little_number, little_bytes}
+use Rattle.cap_spec.specs.Plain.{word_bytes}
+use Rattle.cap_spec.specs.Packing.{tag_of}
+use Rattle.cap_spec.proofs.WordBytes.{bytes_back}
+use Rattle.cap_spec.proofs.Plain.{length_plain}
+
+-- the tag of a word
+abbrev pub word_tag : ℕ → ℕ
+word_tag w = tag_of (word_bytes w)
+
+-- the lowest eight bytes of a number above whose lowest word stands another number
+eight_digits : (n w r : ℕ) → w < 18446744073709551616 → digits_l 256 (8 * suc n) (w + 18446744073709551616 * r) ≡ word_bytes w ++ digits_l 256 (8 * n) r
+eight_digits n w r h =
+    let size : 8 * suc n ≡ suc (suc (suc (suc (suc (suc (suc (suc (8 * n)))))))) = omega arith in
+    let x : ℕ = w + 18446744073709551616 * r in
+    let a : x % 256 ≡ byte_at 0 w = omega arith in
+    let b : x / 256 % 256 ≡ byte_at 1 w = omega arith in
+    let c : x / 256 / 256 % 256 ≡ byte_at 2 w = omega arith in
+    let d : x / 256 / 256 / 256 % 256 ≡ byte_at 3 w = omega arith in
+    let e : x / 256 / 256 / 256 / 256 % 256 ≡ byte_at 4 w = omega arith in
+    let f : x / 256 / 256 / 256 / 256 / 256 % 256 ≡ byte_at 5 w = omega arith in
+    let g : x / 256 / 256 / 256 / 256 / 256 / 256 % 256 ≡ byte_at 6 w = omega arith in
+    let i : x / 256 / 256 / 256 / 256 / 256 / 256 / 256 % 256 ≡ byte_at 7 w = omega arith in
+    let rest : x / 256 / 256 / 256 / 256 / 256 / 256 / 256 / 256 ≡ r = omega arith in
+    ap (λ k. digits_l 256 k x) size ∙ cc
+
+-- the lanes of words, as bytes, are the bytes of the words
+pub lanes_are_bytes : (ws : List ℕ) → Each1 (λ x. x < 18446744073709551616) ws → digits_l 256 (8 * length ws) (number_l 18446744073709551616 ws) ≡ flat_map word_bytes ws
+lanes_are_bytes [] e = refl
+lanes_are_bytes (w ∷ ws) e = eight_digits (length ws) w (number_l 18446744073709551616 ws) e.0 ∙ ap (λ bs. word_bytes w ++ bs) (lanes_are_bytes ws e.1)
+
+-- the bits that mark the bytes that aren't zero are the tag
+one_bit : (t : Bool) (m : ℕ) → cond (not t) 1 0 + 2 * m ≡ cond t 0 1 + 2 * m
+one_bit true m = refl
+one_bit false m = refl
+
+pub mask_is_tag : (bs : List ℕ) → mask_l (map (λ b. not (eqb b 0)) bs) ≡ tag_of bs
+mask_is_tag [] = refl
+mask_is_tag (b ∷ bs) = one_bit (eqb b 0) _ ∙ ap (λ t. (if b == 0 then 0 else 1) + 2 * t) (mask_is_tag bs)
+
+-- the tag of a word's bytes and of those behind it
+tag_above : (w : ℕ) (bs : List ℕ) → tag_of (word_bytes w ++ bs) ≡ word_tag w + 256 * tag_of bs
+tag_above w bs = omega arith
+
+tags_of_bytes : (ws : List ℕ) → tag_of (flat_map word_bytes ws) ≡ number_l 256 (map word_tag ws)
+tags_of_bytes [] = refl
+tags_of_bytes (w ∷ ws) = tag_above w (flat_map word_bytes ws) ∙ ap (λ t. word_tag w + 256 * t) (tags_of_bytes ws)
+
+-- a tag of eight bytes is a byte
+bit_fits : (t : Bool) (m n : ℕ) → m < n → cond t 0 1 + 2 * m < 2 * n
+bit_fits true m n h = omega arith
+bit_fits false m n h = omega arith
+
+-- so many bytes have a tag of so many bits
+bits_fit : (bs : List ℕ) → tag_of bs < 2 ^ length bs
+bits_fit [] = omega arith
+bits_fit (b ∷ bs) =
+    let twice : 2 ^ suc (length bs) ≡ 2 * 2 ^ length bs = pow-succ' 2 (length bs) in
+    let less = bit_fits (b == 0) (tag_of bs) (2 ^ length bs) (bits_fit bs) in
+    omega arith
+
+pub tag_fits : (w : ℕ) → word_tag w < 256
+tag_fits w = bits_fit (word_bytes w)
+
+tags_fit : (ws : List ℕ) → AllByRecursion (λ t. t < 256) (map word_tag ws)
+tags_fit [] = tt
+tags_fit (w ∷ ws) = (tag_fits w, tags_fit ws)
+
+pub eight_number : (ts : List ℕ) → length ts ≡ 8 → number_l 256 ts ≡ little_number 8 ts
+eight_number (a ∷ b ∷ c ∷ d ∷ e ∷ f ∷ g ∷ h ∷ []) l = refl
+eight_number ts l = absurd (omega (arith, l))
+
+tags_back : (ts : List ℕ) → AllByRecursion (λ t. t < 256) ts → length ts ≡ 8 → word_bytes (number_l 256 ts) ≡ ts
+tags_back ts fit l =
+    let back : little_bytes 8 (little_number 8 ts) ≡ ts = subst (λ n. little_bytes n (little_number n ts) ≡ ts) l (bytes_back ts fit) in
+    ap word_bytes (eight_number ts l) ∙ back
+
+-- whether a lane is a byte that isn't zero
+abbrev differs : ℕ → ℕ → Bool
+differs a b = not (eqb a b)
+
+-- the bits that mark the bytes of eight words that aren't zero are, as a word, the tags of the words
+marked_tags : (bs ws : List ℕ) → bs ≡ flat_map word_bytes ws → length ws ≡ 8 →
+    word_bytes (mask_l (map (top 7) (zip2 (λ a b. cond (not (eqb a b)) 255 0) bs (replicate 64 0))) % 18446744073709551616) ≡ map word_tag ws
+marked_tags bs ws e l =
+    let long : length bs ≡ 64 = ap length e ∙ length_plain ws ∙ ap (λ n. 8 * n) l in
+    let few : length (map word_tag ws) ≡ 8 = length-map ws word_tag ∙ l in
+    ap word_bytes (bitmask_splat w8 differs bs 64 0 long (omega arith) ∙ mask_is_tag bs ∙ ap tag_of e ∙ tags_of_bytes ws) ∙ tags_back (map word_tag ws) (tags_fit ws) few
+
+pub eight_tags : (ws : List ℕ) → Each1 (λ x. x < 18446744073709551616) ws → length ws ≡ 8 →
+    word_bytes (mask_l (map (top 7) (zip2 (λ a b. cond (not (eqb a b)) 255 0) (digits_l 256 64 (number_l 18446744073709551616 ws)) (replicate 64 0))) % 18446744073709551616) ≡ map word_tag ws
+eight_tags ws fit l =
+    marked_tags (digits_l 256 64 (number_l 18446744073709551616 ws)) ws (ap (λ n. digits_l 256 (8 * n) (number_l 18446744073709551616 ws)) (sym l) ∙ lanes_are_bytes ws fit) l
+
+-- eight tags more are written
+pub eights_more : (ws out eight : List ℕ) (i : ℕ) → i + 8 ≤ length ws → length out ≡ length ws → eight ≡ map word_tag (chunk i 8 ws) → take i out ≡ map word_tag (take i ws) →
+    take (i + 8) (put_chunk i out eight) ≡ map word_tag (take (i + 8) ws)
+eights_more ws out eight i room l e before =
+    let few : length eight ≡ 8 = ap length e ∙ length-map (chunk i 8 ws) word_tag ∙ length-chunk i 8 ws room in
+    take_more_put_chunk i out eight (i + 8) (omega arith) (omega arith) ∙ ap (λ t. t ++ eight) before ∙ ap (λ t. map word_tag (take i ws) ++ t) e
+    ∙ sym (map-append word_tag (take i ws) (chunk i 8 ws)) ∙ ap (λ t. map word_tag t) (sym (take-add i 8 ws))
+
+-- the bits that mark the bytes of one word that aren't zero are its tag
+pub tag_by_lanes : (w : ℕ) (bs : List ℕ) → bs ≡ word_bytes w →
+    mask_l (map (top 7) (zip2 (λ a b. cond (not (eqb a b)) 255 0) bs (replicate 8 0))) % 18446744073709551616 ≡ word_tag w
+tag_by_lanes w bs e =
+    let eight : length bs ≡ 8 = ap length e in
+    bitmask_splat w8 differs bs 8 0 eight (omega arith) ∙ mask_is_tag bs ∙ ap tag_of e

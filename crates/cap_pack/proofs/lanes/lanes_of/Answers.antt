@@ -1,0 +1,7 @@
+use Rattle.std.proofs.Common.{◌++◌, arith, replicate}
+use Rattle.std.proofs.lemmas.Simd.{pick_l_whole}
+use Rattle.std.proofs.lemmas.List.{length-append}
+use Rattle.cap_pack.proofs.lanes.lanes_of.Goals as goal
+
+pub returns : goal.returns
+returns c = pick_l_whole 0 (c.args.bytes ++ replicate 8 0) 16 (omega (arith, length-append c.args.bytes (replicate 8 0)))

@@ -1,0 +1,7 @@
+use Rattle.std.proofs.Common.{ap, ◌∙◌, arith, length, w8}
+use Rattle.cap_spec.specs.Packing.{tag_of}
+use Rattle.cap_pack.proofs.Tags.{tag_by_lanes}
+use Rattle.cap_pack.proofs.lanes.tag_of_word.Goals as goal
+
+pub returns : goal.returns
+returns c = tag_by_lanes c.args.word c.bytes_of-bytes.result c.bytes_of-bytes.ensures.value

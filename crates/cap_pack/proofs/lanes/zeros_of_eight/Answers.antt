@@ -1,0 +1,9 @@
+use Rattle.std.proofs.Common.{◌∙◌, refl}
+use Rattle.std.specs.Simd.Lanes.{chunk}
+use Rattle.std.proofs.lemmas.Simd.{length-chunk}
+use Rattle.cap_pack.proofs.Runs.{zeros_by_lanes}
+use Rattle.cap_pack.proofs.lanes.zeros_of_eight.Goals as goal
+
+pub returns : goal.returns
+returns c =
+    c.before_first.ensures ∙ zeros_by_lanes (chunk c.args.at 8 c.args.words.now) (length-chunk c.args.at 8 c.args.words.now c.requires) _ refl

@@ -1,0 +1,21 @@
+-- The places that the lanes of a shuffle take their bytes from. 128 is no place, and gives a zero (encoding: Packing).
+use Rattle.std.specs.Prelude.{ℕ, zero, suc, ◌+◌, ◌-◌, ◌/◌, ◌%◌, ◌==◌, if◌then◌else◌, List, [], ◌∷◌, ◌++◌, replicate}
+use Rattle.cap_spec.specs.Unpacking.{marks}
+
+-- for each of so many bits of a tag, the next place from k on where the bit is set, else none
+abbrev pub spread_from : ℕ → ℕ → ℕ → List ℕ
+spread_from zero tag k = []
+spread_from (suc n) tag k = (if tag % 2 == 0 then 128 else k) ∷ spread_from n (tag / 2) (k + tag % 2)
+
+-- the places, counted from k on, of those of so many bits that are set
+abbrev pub marked_from : ℕ → ℕ → ℕ → List ℕ
+marked_from zero tag k = []
+marked_from (suc n) tag k = (if tag % 2 == 0 then [] else k ∷ []) ++ marked_from n (tag / 2) (k + 1)
+
+-- 16 lanes that spread the bytes behind a tag over a word
+abbrev pub spread_row : ℕ → List ℕ
+spread_row tag = spread_from 8 tag 0 ++ replicate 8 128
+
+-- 16 lanes that squeeze a word to the bytes that its tag marks
+abbrev pub squeeze_row : ℕ → List ℕ
+squeeze_row tag = marked_from 8 tag 0 ++ replicate (16 - marks 8 tag) 128
