@@ -3,8 +3,8 @@ use Rattle.std.proofs.Common.{◌≡◌, ℕ, zero, suc, ◌+◌, ◌-◌, ◌*�
 use Rattle.std.specs.Prelude.{◌==◌, if◌then◌else◌, filter}
 use Rattle.std.specs.Simd.Lanes.{Each1, number_l}
 use Rattle.std.proofs.lemmas.Bool.{false≢true, and_parts, cond-true, cond-false, eq-eqb, ne_eqb, eqb-true, lt-leb, lt-ltb}
-use Rattle.std.proofs.lemmas.List.{map-append, length-append, take-replicate, length-replicate}
-use Rattle.std.proofs.Math.Seq.{take-append-add}
+use Rattle.std.proofs.lemmas.List.{length-map, map-append, length-append, length-replicate}
+use Rattle.std.proofs.Math.Seq.{take-append_seam}
 use Rattle.cap_pack.proofs.Spreads.{marks-le}
 use Rattle.std.proofs.lemmas.Simd.{swz_l, SwzOk, SwzOk-from_Each1, ones-mask_l}
 use Rattle.std.proofs.lemmas.List.Sums.{length-filter}
@@ -98,10 +98,11 @@ spread_places : (n tag k : ℕ) → k + n ≤ 16 → Each1 IsPlace (spread_from 
 spread_places zero tag k h = tt
 spread_places (suc n) tag k h = (spread_place (eqb (tag % 2) 0) k (omega arith), spread_places n (tag / 2) (k + tag % 2) (omega arith))
 
-pub spread_ok : (row : List ℕ) (tag : ℕ) → row ≡ spread_row tag → SwzOk w8 16 16 0 row
-spread_ok row tag e =
-    let each : Each1 IsPlace (spread_row tag) = each_append (spread_from 8 tag 0) (replicate 8 128) (spread_places 8 tag 0 (omega arith)) (no_places 8) in
-    subst (λ js. SwzOk w8 16 16 0 js) (sym e) (SwzOk-from_Each1 w8 16 1 16 0 (spread_row tag) refl (omega arith) each)
+pub spread_ok : (row lanes : List ℕ) (tag : ℕ) → row ≡ spread_row tag → lanes ≡ row ++ replicate 8 128 → SwzOk w8 16 16 0 lanes
+spread_ok row lanes tag e f =
+    let all : lanes ≡ spread_row tag ++ replicate 8 128 = f ∙ ap (λ r. r ++ replicate 8 128) e in
+    let each : Each1 IsPlace (spread_row tag ++ replicate 8 128) = each_append (spread_row tag) (replicate 8 128) (spread_places 8 tag 0 (omega arith)) (no_places 8) in
+    subst (λ js. SwzOk w8 16 16 0 js) (sym all) (SwzOk-from_Each1 w8 16 1 16 0 (spread_row tag ++ replicate 8 128) refl (omega arith) each)
 
 -- spreading bytes takes the next of them at each bit that is set
 none_spread : (n tag : ℕ) → spread n tag [] ≡ 0
@@ -130,10 +131,11 @@ spread_picked (suc n) tag k xs h =
     ap (λ m. pick xs (cond (eqb (tag % 2) 0) 128 k) + 256 * m) (spread_picked n (tag / 2) (k + tag % 2) xs (omega arith))
     ∙ spread_one n (tag / 2) k xs (tag % 2) (omega arith) (omega arith) ∙ sym (spread_step n tag (drop k xs))
 
-pub spread_by_places : (xs row : List ℕ) (tag : ℕ) → row ≡ spread_row tag → little_number 8 (take 8 (swz_l w8 16 xs 0 row)) ≡ spread 8 tag xs
-spread_by_places xs row tag e =
-    ap (λ js. little_number 8 (take 8 (swz_l w8 16 xs 0 js))) e ∙ ap (λ l. little_number 8 (take 8 l)) (shuffled xs (spread_row tag) 0 (omega arith))
-    ∙ sym (eight_number (map (pick xs) (spread_from 8 tag 0)) refl) ∙ spread_picked 8 tag 0 xs (omega arith)
+pub spread_by_places : (xs row lanes : List ℕ) (tag : ℕ) → row ≡ spread_row tag → lanes ≡ row ++ replicate 8 128 → little_number 8 (take 8 (swz_l w8 16 xs 0 lanes)) ≡ spread 8 tag xs
+spread_by_places xs row lanes tag e f =
+    let all : lanes ≡ spread_row tag ++ replicate 8 128 = f ∙ ap (λ r. r ++ replicate 8 128) e in
+    ap (λ js. little_number 8 (take 8 (swz_l w8 16 xs 0 js))) all ∙ ap (λ l. little_number 8 (take 8 l)) (shuffled xs (spread_row tag ++ replicate 8 128) 0 (omega arith))
+    ∙ sym (eight_number (map (pick xs) (spread_row tag)) refl) ∙ spread_picked 8 tag 0 xs (omega arith)
 
 -- zeros behind the bytes change nothing
 none_either_way : (t : Bool) (x y : ℕ) → x ≡ 0 → y ≡ 0 → cond t (256 * x) (0 + 256 * y) ≡ 0
@@ -219,41 +221,42 @@ length_marked zero tag k = refl
 length_marked (suc n) tag k =
     length_first (tag % 2) k (marked_from n (tag / 2) (k + 1)) (omega arith) ∙ ap (λ m. tag % 2 + m) (length_marked n (tag / 2) (k + 1))
 
-length_row : (tag : ℕ) → length (squeeze_row tag) ≡ 16
+length_row : (tag : ℕ) → length (squeeze_row tag) ≡ 8
 length_row tag =
     let few = marks-le 8 tag in
-    length-append (marked_from 8 tag 0) (replicate (16 - marks 8 tag) 128)
-    ∙ omega (arith, length_marked 8 tag 0, length-replicate {A = ℕ} (16 - marks 8 tag) 128, few)
+    length-append (marked_from 8 tag 0) (replicate (8 - marks 8 tag) 128)
+    ∙ omega (arith, length_marked 8 tag 0, length-replicate {A = ℕ} (8 - marks 8 tag) 128, few)
 
-pub squeeze_ok : (row : List ℕ) (tag : ℕ) → row ≡ squeeze_row tag → SwzOk w8 16 16 0 row
-squeeze_ok row tag e =
-    let each : Each1 IsPlace (squeeze_row tag) =
-    each_append (marked_from 8 tag 0) (replicate (16 - marks 8 tag) 128) (squeeze_places 8 tag 0 (omega arith)) (no_places (16 - marks 8 tag)) in
-    subst (λ js. SwzOk w8 16 16 0 js) (sym e) (SwzOk-from_Each1 w8 16 1 16 0 (squeeze_row tag) refl (omega (arith, length_row tag)) each)
+length_lanes : (tag : ℕ) → length (squeeze_row tag ++ replicate 8 128) ≡ 16
+length_lanes tag = length-append (squeeze_row tag) (replicate 8 128) ∙ ap (λ n. n + 8) (length_row tag)
+
+pub squeeze_ok : (row lanes : List ℕ) (tag : ℕ) → row ≡ squeeze_row tag → lanes ≡ row ++ replicate 8 128 → SwzOk w8 16 16 0 lanes
+squeeze_ok row lanes tag e f =
+    let all : lanes ≡ squeeze_row tag ++ replicate 8 128 = f ∙ ap (λ r. r ++ replicate 8 128) e in
+    let each : Each1 IsPlace (squeeze_row tag ++ replicate 8 128) = each_append (squeeze_row tag) (replicate 8 128)
+    (each_append (marked_from 8 tag 0) (replicate (8 - marks 8 tag) 128) (squeeze_places 8 tag 0 (omega arith)) (no_places (8 - marks 8 tag))) (no_places 8) in
+    subst (λ js. SwzOk w8 16 16 0 js) (sym all) (SwzOk-from_Each1 w8 16 1 16 0 (squeeze_row tag ++ replicate 8 128) refl (omega (arith, length_lanes tag)) each)
 
 none_picked : (xs : List ℕ) (n : ℕ) → map (pick xs) (replicate n 128) ≡ replicate n 0
 none_picked xs zero = refl
 none_picked xs (suc n) = ap (λ l. 0 ∷ l) (none_picked xs n)
 
--- the bytes that aren't zero, and zeros behind them
-front_of : (l : List ℕ) (m : ℕ) → length l ≡ m → m ≤ 8 → take 8 (l ++ replicate (16 - m) 0) ≡ l ++ replicate (8 - m) 0
-front_of l m e h =
-    let eight : length l + (8 - m) ≡ 8 = omega arith in
-    ap (λ n. take n (l ++ replicate (16 - m) 0)) (sym eight) ∙ take-append-add l (replicate (16 - m) 0) (8 - m) ∙ ap (λ r. l ++ r) (take-replicate (8 - m) (16 - m) 0 (omega arith))
+-- the lanes below
+low_lanes : (low above : List ℕ) → length low ≡ 8 → take 8 (low ++ above) ≡ low
+low_lanes low above e = ap (λ n. take n (low ++ above)) (sym e) ∙ take-append_seam low above
 
-pub squeeze_by_places : (word xs row : List ℕ) (tag : ℕ) → length word ≡ 8 → xs ≡ word ++ replicate 8 0 → tag ≡ tag_of word → row ≡ squeeze_row tag →
-    take 8 (swz_l w8 16 xs 0 row) ≡ present word ++ replicate (8 - marks 8 tag) 0
-squeeze_by_places word xs row tag l e t r =
-    let m : ℕ = marks 8 tag in
-    let few : m ≤ 8 = marks-le 8 tag in
-    let count : length (present word) ≡ m = sym (ap (marks 8) t ∙ ap (λ n. marks n (tag_of word)) (sym l) ∙ present_count word) in
-    let front : map (pick xs) (marked_from 8 tag 0) ≡ present word =
-    ap (λ u. map (pick xs) (marked_from 8 u 0)) t ∙ ap (λ n. map (pick xs) (marked_from n (tag_of word) 0)) (sym l)
-    ∙ marked_picked word xs (replicate 8 0) 0 e (omega arith) in
-    let all : swz_l w8 16 xs 0 row ≡ present word ++ replicate (16 - m) 0 =
-    ap (swz_l w8 16 xs 0) r ∙ shuffled xs (squeeze_row tag) 0 (omega (arith, length_row tag)) ∙ map-append (pick xs) (marked_from 8 tag 0) (replicate (16 - m) 128)
-    ∙ ap (λ f. f ++ map (pick xs) (replicate (16 - m) 128)) front ∙ ap (λ z. present word ++ z) (none_picked xs (16 - m)) in
-    ap (take 8) all ∙ front_of (present word) m count few
+pub squeeze_by_places : (word xs row lanes : List ℕ) (tag : ℕ) → length word ≡ 8 → xs ≡ word ++ replicate 8 0 → tag ≡ tag_of word → row ≡ squeeze_row tag →
+    lanes ≡ row ++ replicate 8 128 → take 8 (swz_l w8 16 xs 0 lanes) ≡ present word ++ replicate (8 - marks 8 tag) 0
+squeeze_by_places word xs row lanes tag l e t r f =
+    let all : lanes ≡ squeeze_row tag ++ replicate 8 128 = f ∙ ap (λ js. js ++ replicate 8 128) r in
+    let low : map (pick xs) (squeeze_row tag) ≡ present word ++ replicate (8 - marks 8 tag) 0 =
+    map-append (pick xs) (marked_from 8 tag 0) (replicate (8 - marks 8 tag) 128)
+    ∙ ap (λ front. front ++ map (pick xs) (replicate (8 - marks 8 tag) 128))
+    (ap (λ u. map (pick xs) (marked_from 8 u 0)) t ∙ ap (λ n. map (pick xs) (marked_from n (tag_of word) 0)) (sym l) ∙ marked_picked word xs (replicate 8 0) 0 e (omega arith))
+    ∙ ap (λ zeros. present word ++ zeros) (none_picked xs (8 - marks 8 tag)) in
+    ap (λ js. take 8 (swz_l w8 16 xs 0 js)) all ∙ ap (take 8) (shuffled xs (squeeze_row tag ++ replicate 8 128) 0 (omega (arith, length_lanes tag)))
+    ∙ ap (take 8) (map-append (pick xs) (squeeze_row tag) (replicate 8 128))
+    ∙ low_lanes (map (pick xs) (squeeze_row tag)) (map (pick xs) (replicate 8 128)) (length-map (squeeze_row tag) (pick xs) ∙ length_row tag) ∙ low
 
 -- the number of bits that are set
 pub ones_of_tag : (w tag : ℕ) → tag ≡ word_tag w → ones tag ≡ length (present (word_bytes w))

@@ -12,10 +12,10 @@ abbrev pub marked_from : ℕ → ℕ → ℕ → List ℕ
 marked_from zero tag k = []
 marked_from (suc n) tag k = (if tag % 2 == 0 then [] else k ∷ []) ++ marked_from n (tag / 2) (k + 1)
 
--- 16 lanes that spread the bytes behind a tag over a word
+-- for each byte of a word its place behind the tag, or none where it is zero
 abbrev pub spread_row : ℕ → List ℕ
-spread_row tag = spread_from 8 tag 0 ++ replicate 8 128
+spread_row tag = spread_from 8 tag 0
 
--- 16 lanes that squeeze a word to the bytes that its tag marks
+-- the places of the bytes of a word that its tag marks, and then none
 abbrev pub squeeze_row : ℕ → List ℕ
-squeeze_row tag = marked_from 8 tag 0 ++ replicate (16 - marks 8 tag) 128
+squeeze_row tag = marked_from 8 tag 0 ++ replicate (8 - marks 8 tag) 128

@@ -159,13 +159,13 @@ pub fn full_run(words: &[u64]) -> usize
     i
 }
 
-// Eight bytes, and eight zeros above them.
+// Eight bytes, and above them eight times another.
 #[inline(always)]
-fn lanes_of(bytes: [u8; 8]) -> u8x16
-    ensures { result ≡ bytes ++ replicate 8 0 }
+fn lanes_of(bytes: [u8; 8], above: u8) -> u8x16
+    ensures { result ≡ bytes ++ replicate 8 above }
 {
     u8x8::from_array(bytes).shuffle(
-        u8x8::splat(0),
+        u8x8::splat(above),
         [0, 1, 2, 3, 4, 5, 6, 7, 8, 9, 10, 11, 12, 13, 14, 15],
     )
 }
@@ -183,7 +183,7 @@ fn low_bytes(lanes: u8x16) -> [u8; 8]
 fn spread_lanes(tag: u8, bytes: u8x16) -> u8x16
     ensures { little_number 8 (take 8 result) ≡ spread 8 tag bytes }
 {
-    bytes.swizzle_dyn_within::<16>(u8x16::from_array(spread_places(tag)))
+    bytes.swizzle_dyn_within::<16>(lanes_of(spread_places(tag), 128))
 }
 
 // The bytes of a word that its tag marks, in order, and zeros behind them.
@@ -192,7 +192,7 @@ fn squeeze_lanes(tag: u8, word: [u8; 8]) -> u8x16
     requires { tag ≡ tag_of word }
     ensures { take 8 result ≡ filter (λ b. not (b == 0)) word ++ replicate (8 - marks 8 tag) 0 }
 {
-    lanes_of(word).swizzle_dyn_within::<16>(u8x16::from_array(squeeze_places(tag)))
+    lanes_of(word, 0).swizzle_dyn_within::<16>(lanes_of(squeeze_places(tag), 128))
 }
 
 /// The bytes of a word that aren't zero, in order, at the front of `out`, and zeros behind them.
@@ -213,7 +213,7 @@ pub fn gather(word: u64, out: &mut [u8; 8]) -> usize
 pub fn scatter(tag: u8, bytes: &[u8; 8]) -> u64
     ensures { result ≡ spread 8 tag bytes.now }
 {
-    word_of(&low_bytes(spread_lanes(tag, lanes_of(*bytes))))
+    word_of(&low_bytes(spread_lanes(tag, lanes_of(*bytes, 0))))
 }
 
 #[cfg(test)]

@@ -4,4 +4,4 @@ use Rattle.std.proofs.lemmas.List.{length-append}
 use Rattle.cap_pack.proofs.lanes.lanes_of.Goals as goal
 
 pub returns : goal.returns
-returns c = pick_l_whole 0 (c.args.bytes ++ replicate 8 0) 16 (omega (arith, length-append c.args.bytes (replicate 8 0)))
+returns c = pick_l_whole 0 (c.args.bytes ++ replicate 8 c.args.above) 16 (omega (arith, length-append c.args.bytes (replicate 8 c.args.above)))

@@ -2,7 +2,7 @@ use Rattle.cap_pack.proofs.Shuffles.{spread_ok, spread_by_places}
 use Rattle.cap_pack.proofs.lanes.spread_lanes.Goals as goal
 
 pub swizzle : goal.swizzle
-swizzle c = spread_ok c.spread_places.result c.args.tag c.spread_places.ensures
+swizzle c = spread_ok c.spread_places.result c.lanes_of.result c.args.tag c.spread_places.ensures c.lanes_of.ensures
 
 pub returns : goal.returns
-returns c = spread_by_places c.args.bytes c.spread_places.result c.args.tag c.spread_places.ensures
+returns c = spread_by_places c.args.bytes c.spread_places.result c.lanes_of.result c.args.tag c.spread_places.ensures c.lanes_of.ensures
