@@ -54,3 +54,4 @@ pub mod Offsets
 pub mod LayoutWords
 pub mod PathTexts
 pub mod Copies
+pub mod Overlaps
