@@ -3,6 +3,7 @@
 #![tactic(auto)]
 
 pub mod canonical;
+pub mod disjoint;
 pub mod following;
 pub mod framing;
 pub mod packing;
