@@ -19,4 +19,6 @@ pub use fault::CanonFault;
 pub use length::canonical_len;
 
 #[cfg(test)]
+mod held;
+#[cfg(test)]
 mod tests;

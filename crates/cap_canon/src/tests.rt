@@ -1,5 +1,6 @@
 //! What the three calls say together of messages whose copies are known from outside.
 
+use crate::held::in_one_buffer;
 use crate::{CanonFault, canonical, canonical_len, is_canonical};
 use cap_frame::{OneSegment, Segments};
 use cap_vet::{Limits, Vetted, vet};
@@ -28,7 +29,20 @@ fn accepted<M: Segments>(message: &M, words: u64, depth: u32) -> Result<Vetted<'
 // accepted under limits as low as the message's own numbers, and is canonical.
 fn has_copy(rt: &impl Abort, alloc: Global, segment: &[u64], copied: &[u64]) -> Result<(), Fail> {
     let message = OneSegment::new(segment).ok_or("no message")?;
-    let vetted = accepted(&message, 268435456, 256)?;
+    makes_copy(rt, alloc, &message, segment, copied)?;
+    let held = in_one_buffer(alloc, &message)?;
+    makes_copy(rt, alloc, &held.view(), segment, copied)
+}
+
+// As above, of a message as it is held.
+fn makes_copy<M: Segments>(
+    rt: &impl Abort,
+    alloc: Global,
+    message: &M,
+    segment: &[u64],
+    copied: &[u64],
+) -> Result<(), Fail> {
+    let vetted = accepted(message, 268435456, 256)?;
     let report = vetted.report();
     assert_eq!(rt;
         canonical_len(&vetted),

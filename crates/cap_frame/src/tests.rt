@@ -1,8 +1,5 @@
 //! What no contract can say: that calls succeed, and values from outside.
 
-mod buffers;
-mod views;
-
 use super::{
     ByteMessage, FrameFault, OneSegment, Outline, Segments, SizeLimit, WordMessage, read_message,
     read_outline, write_message,
@@ -13,6 +10,9 @@ use cap_words::{
 use std::alloc::{AllocError, Global};
 use std::process::Abort;
 use std::test::Fail;
+
+mod buffers;
+mod views;
 
 // The plain bytes of words.
 fn plain(alloc: Global, words: &[u64]) -> Result<Vec<u8>, AllocError> {

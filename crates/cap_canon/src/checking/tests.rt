@@ -1,5 +1,6 @@
 //! Messages of which it is known from outside whether they are canonical.
 
+use crate::held::in_one_buffer;
 use crate::is_canonical;
 use cap_frame::{OneSegment, Segments, WordMessage};
 use cap_vet::{Limits, vet};
@@ -94,6 +95,8 @@ fn messages_of_one_segment(rt: HostRuntime) -> Result<(), Fail> {
         let segment = words(rt.alloc(), spelled)?;
         let message = OneSegment::new(&segment).ok_or("no message")?;
         assert_eq!(rt; check(&message)?, canonical, "of {segment:?}");
+        let held = in_one_buffer(rt.alloc(), &message)?;
+        assert_eq!(rt; check(&held.view())?, canonical, "of {segment:?}");
     }
     Ok(())
 }
@@ -105,5 +108,7 @@ fn a_second_segment(rt: HostRuntime) -> Result<(), Fail> {
     segments.push(words(rt.alloc(), &[])?)?;
     let message = WordMessage::new(segments).ok_or("no message")?;
     assert_eq!(rt; check(&message)?, false);
+    let held = in_one_buffer(rt.alloc(), &message)?;
+    assert_eq!(rt; check(&held.view())?, false);
     Ok(())
 }

@@ -1,5 +1,6 @@
 //! The canonical copies of messages that are known from outside.
 
+use crate::held::in_one_buffer;
 use crate::{CanonFault, canonical};
 use cap_frame::{OneSegment, Segments, WordMessage};
 use cap_vet::{Limits, vet};
@@ -15,8 +16,27 @@ fn words(alloc: Global, spelled: &[u64]) -> Result<Vec<u64>, Fail> {
     Ok(words)
 }
 
-// The copy of a message of any kind, which is accepted.
+// The copy of a message of any kind, which is accepted. The same in one buffer has the same copy.
 fn copy_of<M: Segments>(alloc: Global, message: &M) -> Result<Result<Vec<u64>, CanonFault>, Fail> {
+    let held = in_one_buffer(alloc, message)?;
+    let answer = copy_as_held(alloc, message)?;
+    let is_same = match (&answer, &copy_as_held(alloc, &held.view())?) {
+        (Ok(one), Ok(other)) => one.as_slice() == other.as_slice(),
+        (Err(one), Err(other)) => one == other,
+        _ => false,
+    };
+    if is_same {
+        Ok(answer)
+    } else {
+        Err("another copy out of one buffer".into())
+    }
+}
+
+// The copy of a message as it is held.
+fn copy_as_held<M: Segments>(
+    alloc: Global,
+    message: &M,
+) -> Result<Result<Vec<u64>, CanonFault>, Fail> {
     let limits = Limits::new(268435456, 256).ok_or("no limits")?;
     match vet(message, limits) {
         Ok(vetted) => Ok(canonical(alloc, &vetted)),

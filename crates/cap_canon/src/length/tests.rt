@@ -1,5 +1,6 @@
 //! How long the canonical copies of messages are that are known from outside.
 
+use crate::held::in_one_buffer;
 use crate::{CanonFault, canonical_len};
 use cap_frame::{OneSegment, Segments, WordMessage};
 use cap_vet::{Limits, vet};
@@ -105,6 +106,8 @@ fn messages_of_one_segment(rt: HostRuntime) -> Result<(), Fail> {
         let segment = words(rt.alloc(), segment)?;
         let message = OneSegment::new(&segment).ok_or("no message")?;
         assert_eq!(rt; length_of(&message)?, answer, "of {segment:?}");
+        let held = in_one_buffer(rt.alloc(), &message)?;
+        assert_eq!(rt; length_of(&held.view())?, answer, "of {segment:?}");
     }
     Ok(())
 }
@@ -135,6 +138,8 @@ fn messages_of_several_segments(rt: HostRuntime) -> Result<(), Fail> {
         segments.push(words(rt.alloc(), third)?)?;
         let message = WordMessage::new(segments).ok_or("no message")?;
         assert_eq!(rt; length_of(&message)?, Ok(answer), "at {root:016x}");
+        let held = in_one_buffer(rt.alloc(), &message)?;
+        assert_eq!(rt; length_of(&held.view())?, Ok(answer), "at {root:016x}");
     }
     Ok(())
 }
@@ -151,6 +156,8 @@ fn messages_of_many_levels(rt: HostRuntime) -> Result<(), Fail> {
         let segment = words(rt.alloc(), &spelled)?;
         let message = OneSegment::new(&segment).ok_or("no message")?;
         assert_eq!(rt; length_of(&message)?, Ok(levels), "of {levels} levels");
+        let held = in_one_buffer(rt.alloc(), &message)?;
+        assert_eq!(rt; length_of(&held.view())?, Ok(levels), "of {levels} levels");
     }
     Ok(())
 }
