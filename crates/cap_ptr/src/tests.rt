@@ -1,10 +1,26 @@
 //! Pointer words that are known from outside, and what they lead to.
 
 use crate::{Followed, Pointer, Reason, Shape, Target, follow};
-use cap_frame::{OneSegment, Segments, WordMessage};
+use cap_frame::{
+    ByteMessage, OneSegment, Segments, SizeLimit, WordMessage, read_byte_message, write_message,
+};
+use cap_words::{PlainSink, PlainWords, SliceIn, VecOut};
 use std::alloc::Global;
 use std::process::Abort;
 use std::test::Fail;
+
+// The same message in one buffer.
+fn in_one_buffer<M: Segments>(alloc: Global, message: &M) -> Result<ByteMessage, Fail> {
+    let mut sink = PlainSink::new(VecOut::new(alloc));
+    write_message(&mut sink, message)?;
+    let output = sink.into_inner();
+    let mut source = PlainWords::new(SliceIn::new(output.bytes()));
+    let limit = SizeLimit::new(268435456).ok_or("no limit")?;
+    match read_byte_message(alloc, &mut source, limit)? {
+        Some(held) => Ok(held),
+        None => Err("no message".into()),
+    }
+}
 
 // The answer at the first word of a message.
 fn at_root<M: Segments>(rt: &impl Abort, message: &M) -> Result<Followed, Reason> {
@@ -212,6 +228,8 @@ fn near_words(rt: HostRuntime) -> Result<(), Fail> {
         segment.extend_from_slice(&words(rt.alloc(), rest)?)?;
         let message = OneSegment::new(&segment).ok_or("no message")?;
         assert_eq!(rt; at_root(&rt, &message), answer, "at {root:016x}");
+        let held = in_one_buffer(rt.alloc(), &message)?;
+        assert_eq!(rt; at_root(&rt, &held.view()), answer, "at {root:016x}");
     }
     Ok(())
 }
@@ -428,6 +446,8 @@ fn words_of_landing_pads(rt: HostRuntime) -> Result<(), Fail> {
         segments.push(words(rt.alloc(), content)?)?;
         let message = WordMessage::new(segments).ok_or("no message")?;
         assert_eq!(rt; at_root(&rt, &message), answer, "at {root:016x}");
+        let held = in_one_buffer(rt.alloc(), &message)?;
+        assert_eq!(rt; at_root(&rt, &held.view()), answer, "at {root:016x}");
     }
     Ok(())
 }
