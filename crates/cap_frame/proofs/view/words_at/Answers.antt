@@ -1,6 +1,5 @@
 -- Whole words out of bytes.
 use Rattle.std.proofs.Common.{arith, ◌≡◌, ◌*◌, ◌+◌, ◌-◌, take, drop, ap}
-use Rattle.cap_spec.specs.Plain.{plain_text, plain_words}
 use Rattle.cap_frame.proofs.Parts.{part_text}
 use Rattle.cap_frame.proofs.view.words_at.Goals as goal
 

@@ -1,5 +1,5 @@
 -- The words that are asked for stand where the table of starts tells.
-use Rattle.std.proofs.Common.{rules, arith, ◌≡◌, ◌<◌, ◌≤◌, ◌*◌, ◌+◌, ◌^◌, ◌∙◌, ap, sym, length, sum, slice_index_or}
+use Rattle.std.proofs.Common.{rules, arith, ◌≡◌, ◌<◌, ◌+◌, ◌^◌, ◌∙◌, ap, length, slice_index_or}
 use Rattle.cap_frame.proofs.Cuts.{starts_length, cut_length}
 use Rattle.cap_frame.proofs.Parts.{part_facts}
 use Rattle.cap_spec.specs.Plain.{plain_text, plain_words}
