@@ -1,5 +1,5 @@
 -- How long the front of a list is whose elements pass a test.
-use Rattle.std.proofs.Common.{◌≡◌, ℕ, zero, suc, ◌+◌, ◌≤◌, ◌<◌, ◌%◌, ◌^◌, eqb, cond, not, Bool, true, false, List, [], ◌∷◌, length, get_or, map, take, leb, ◌&&◌, ◌-◌, ◌*◌, ◌/◌, bit_and, w8, drop, replicate, refl, sym, ap, subst, ⊎_elim, ◌∙◌, arith, length-take-le, w64}
+use Rattle.std.proofs.Common.{◌≡◌, ℕ, zero, suc, ◌+◌, ◌≤◌, ◌<◌, ◌%◌, eqb, cond, not, Bool, true, false, List, [], ◌∷◌, length, get_or, map, take, leb, ◌&&◌, ◌-◌, ◌*◌, ◌/◌, bit_and, w8, replicate, refl, sym, ap, ⊎_elim, ◌∙◌, arith, length-take-le, w64}
 use Rattle.std.specs.Prelude.{◌==◌, if◌then◌else◌, take_while}
 use Rattle.std.specs.List.{prefix_len}
 use Rattle.std.specs.Int.Count.{count_trailing_zeros}

@@ -1,8 +1,8 @@
 -- Shuffles of bytes, by places that stand for the bits of a tag.
-use Rattle.std.proofs.Common.{◌≡◌, ℕ, zero, suc, ◌+◌, ◌-◌, ◌*◌, ◌/◌, ◌%◌, ◌<◌, ◌≤◌, eqb, leb, cond, not, Bool, true, false, ◌&&◌, List, [], ◌∷◌, ◌++◌, length, get_or, map, take, drop, replicate, refl, sym, ap, subst, ◌∙◌, arith, w8, T, ltb, ◌||◌, append_assoc, get_or-drop, add-zero, add-one, zero-add, append-nil}
-use Rattle.std.specs.Prelude.{◌==◌, if◌then◌else◌, filter}
+use Rattle.std.proofs.Common.{◌≡◌, ℕ, zero, suc, ◌+◌, ◌-◌, ◌*◌, ◌/◌, ◌%◌, ◌<◌, ◌≤◌, eqb, leb, cond, not, Bool, true, false, ◌&&◌, List, [], ◌∷◌, ◌++◌, length, get_or, map, take, drop, replicate, refl, sym, ap, subst, ◌∙◌, arith, w8, T, ltb, ◌||◌, get_or-drop, add-zero, add-one, zero-add}
+use Rattle.std.specs.Prelude.{◌==◌, filter}
 use Rattle.std.specs.Simd.Lanes.{Each1, number_l}
-use Rattle.std.proofs.lemmas.Bool.{false≢true, and_parts, cond-true, cond-false, eq-eqb, ne_eqb, eqb-true, lt-leb, lt-ltb}
+use Rattle.std.proofs.lemmas.Bool.{false≢true, and_parts, eqb-true, lt-leb, lt-ltb}
 use Rattle.std.proofs.lemmas.List.{length-map, map-append, length-append, length-replicate}
 use Rattle.std.proofs.Math.Seq.{take-append_seam}
 use Rattle.cap_pack.proofs.Spreads.{marks-le}

@@ -1,4 +1,4 @@
--- The places that the lanes of a shuffle take their bytes from. 128 is no place, and gives a zero (encoding: Packing).
+-- The places that the lanes of a shuffle take their bytes from. 128 is no place, and gives a zero (standard: Packing).
 use Rattle.std.specs.Prelude.{ℕ, zero, suc, ◌+◌, ◌-◌, ◌/◌, ◌%◌, ◌==◌, if◌then◌else◌, List, [], ◌∷◌, ◌++◌, replicate}
 use Rattle.cap_spec.specs.Unpacking.{marks}
 

@@ -1,4 +1,4 @@
-use Rattle.std.proofs.Common.{arith, leb, ◌∙◌, ap}
+use Rattle.std.proofs.Common.{arith, leb}
 use Rattle.std.proofs.lemmas.Bool.{le-leb, lt-leb}
 use Rattle.cap_spec.specs.Packing.{zero_bytes}
 use Rattle.cap_pack.proofs.Runs.{run_more, run_ends}

@@ -1,5 +1,3 @@
-use Rattle.std.proofs.Common.{ap, ◌∙◌, arith, length, w8}
-use Rattle.cap_spec.specs.Packing.{tag_of}
 use Rattle.cap_pack.proofs.Tags.{tag_by_lanes}
 use Rattle.cap_pack.proofs.lanes.tag_of_word.Goals as goal
 

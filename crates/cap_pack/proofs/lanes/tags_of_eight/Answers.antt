@@ -1,4 +1,4 @@
-use Rattle.std.proofs.Common.{◌∙◌, w64, arith, ap}
+use Rattle.std.proofs.Common.{◌∙◌, w64}
 use Rattle.std.specs.Simd.Lanes.{chunk}
 use Rattle.std.proofs.lemmas.Simd.{chunk-fits, below_from_Fits, length-chunk}
 use Rattle.cap_pack.proofs.Tags.{eight_tags}

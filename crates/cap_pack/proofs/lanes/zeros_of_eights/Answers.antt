@@ -1,5 +1,4 @@
-use Rattle.std.proofs.Common.{arith, leb, ◌==◌}
-use Rattle.cap_spec.specs.Packing.{zero_bytes}
+use Rattle.std.proofs.Common.{arith, ◌==◌}
 use Rattle.cap_pack.proofs.Runs.{run_goes_on}
 use Rattle.cap_pack.proofs.lanes.zeros_of_eights.Goals as goal
 
