@@ -208,9 +208,9 @@ impl Arrival {
 /// # Errors
 ///
 /// The first pointer on the path at which anything is wrong, with the first reason that applies: it
-/// can't be followed, what it leads to stands past `depth` levels, or the charges up to it are more
-/// words than the budget has. `NoRoot` where segment 0 has no words. `pointers` counts the pointers on
-/// the path up to the named one. The budget is then as it was.
+/// can't be followed, what it leads to stands past `depth` levels, or the structs of that list do, or
+/// the charges up to it are more words than the budget has. `NoRoot` where segment 0 has no words.
+/// `pointers` counts the pointers on the path up to the named one. The budget is then as it was.
 pub fn get_charged<'m, M: Segments>(
     message: &'m M,
     budget: &mut Budget,

@@ -5,7 +5,7 @@
 pub struct Report {
     /// The charge of all followings, in words; a target that is reached twice is charged twice.
     pub charge: u64,
-    /// The deepest level of an object, or 0 where there is none.
+    /// The deepest level of an object, a struct of a list among them, or 0 where there is none.
     pub depth: u32,
     /// The pointer words, the root and null ones too.
     pub pointers: u64,
