@@ -1,9 +1,9 @@
 -- The lines of children, one after the other, and how deep they nest.
-use Rattle.std.proofs.Common.{◌≡◌, ℕ, zero, suc, ◌+◌, ◌*◌, ◌<◌, ◌≤◌, false, List, [], ◌++◌, Some, None, Result, codes, refl, sym, ap, ◌∙◌, subst, arith, inl, inr}
+use Rattle.std.proofs.Common.{◌≡◌, ℕ, zero, suc, ◌+◌, ◌<◌, ◌≤◌, false, List, [], ◌++◌, Some, None, Result, codes, refl, sym, ap, ◌∙◌, subst, arith, inl, inr}
 use Rattle.std.proofs.lemmas.Bool.Decides.{eqb_tells}
 use Rattle.cap_words.specs.declared.ends.ByteOut as output
 use Rattle.cap_words.specs.declared.ends.OutFault.{OutFault}
-use Rattle.cap_spec.specs.Denoting.{Denotes, DenoteEach, AreElements, places}
+use Rattle.cap_spec.specs.Denoting.{Denotes, DenoteEach, AreElements, places, element_levels}
 use Rattle.cap_spec.specs.Pointers.{data_size, list_size, middle, pointer_size}
 use Rattle.cap_spec.specs.Showing.{Own, own_of, kind_of}
 use Rattle.cap_spec.specs.Standing.{DenotesAt}
@@ -116,9 +116,14 @@ below m m' a t own kind i n step e k lt many s same p = record {
   denotes = subst (λ x. DenotesAt x a p.0) (sym same) p.2;
 }
 
+-- no elements take more levels than some
+levels_of_few : (n : ℕ) → element_levels n ≤ element_levels 1
+levels_of_few zero = omega arith
+levels_of_few (suc n) = omega arith
+
 mutual
-  -- what a pointer word denotes nests two levels of lines for each of depth
-  pub height_denoted : (m : List (List ℕ)) (s w : ℕ) (t : Tree) (c d : ℕ) → Denotes m s w t c d → height t ≤ 2 * d
+  -- what a pointer word denotes nests one level of lines for each of depth
+  pub height_denoted : (m : List (List ℕ)) (s w : ℕ) (t : Tree) (c d : ℕ) → Denotes m s w t c d → height t ≤ d
   height_denoted m s w null c d h = omega arith
   height_denoted m s w (cap i) c d h = omega arith
   height_denoted m s w (struct words ts) c d h =
@@ -129,19 +134,19 @@ mutual
       let r = heights_elements m h.1 (h.2 + 1) ds ps (middle h.4) es h.5 h.6 h.8 in
       elim (eqb_tells (ds + ps) 0) [ inl e ↦ rw e.0 (omega arith) | inr e ↦ rw e.0 (omega (arith, h.7.depth, r)) ]
 
-  heights_each : (m : List (List ℕ)) (ps : List (ℕ × ℕ)) (ts : Trees) (c d : ℕ) → DenoteEach m ps ts c d → heights ts ≤ 1 + 2 * d
+  heights_each : (m : List (List ℕ)) (ps : List (ℕ × ℕ)) (ts : Trees) (c d : ℕ) → DenoteEach m ps ts c d → heights ts ≤ 1 + d
   heights_each m ps none c d h = omega arith
   heights_each m ps (more t ts) c d h =
       let a = height_denoted m h.0 h.1 t h.3 h.4 h.8 in
       let b = heights_each m h.2 ts h.5 h.6 h.9 in
       omega (arith, a, b, h.11)
 
-  heights_elements : (m : List (List ℕ)) (t b ds ps n : ℕ) (es : Trees) (c d : ℕ) → AreElements m t b ds ps n es c d → heights es ≤ 2 + 2 * d
+  heights_elements : (m : List (List ℕ)) (t b ds ps n : ℕ) (es : Trees) (c d : ℕ) → AreElements m t b ds ps n es c d → heights es ≤ element_levels n + (1 + d)
   heights_elements m t b ds ps n none c d h = omega arith
   heights_elements m t b ds ps n (more (struct words ts) es) c d h =
       let a = heights_each m (places t (b + ds) ps) ts h.1 h.2 h.7 in
       let r = heights_elements m t (b + ds + ps) ds ps h.0 es h.3 h.4 h.8 in
-      omega (arith, a, r, h.10)
+      omega (arith, a, r, h.10, ap element_levels h.5, levels_of_few h.0)
   heights_elements m t b ds ps n (more x es) c d h = absurd h
 
 module _ {O : Type 0} (g : output.Ghosts O) (level : ℕ) (t : Tree) (kind : Kind) where

@@ -59,7 +59,7 @@ fn child_step(kind: Kind, i: u32) -> Step
 }
 
 /// Writes what stands below a node, where at most `left` levels of lines are below it: each child at
-/// this level, and what stands below that. Calls itself with one level less, so at most 513 calls
+/// this level, and what stands below that. Calls itself with one level less, so at most 257 calls
 /// stand in one another. After a fault the output took a beginning of that text.
 fn write_children<M: Segments, O: ByteOut>(
     out: &mut O,
@@ -69,7 +69,7 @@ fn write_children<M: Segments, O: ByteOut>(
 ) -> Result<(), OutFault>
     requires open { O.spent out.old ≡ false }
     requires low { (t : Tree) × DenotesAt (M.segments (node_message node.now)) (node_spot node.now) t × (height t ≤ left) }
-    requires few { level + left ≤ 513 }
+    requires few { level + left ≤ 257 }
     ensures { (t : Tree) → DenotesAt (M.segments (node_message node.now)) (node_spot node.now) t →
         Writes O.ByteOut out.old out.new result (child_lines level t) }
 {
@@ -93,14 +93,14 @@ fn write_children<M: Segments, O: ByteOut>(
 /// Writes the tree of a message that was accepted: a line for each node, with its own words and its
 /// children below it, two spaces deeper each. The elements of a list of structs without words aren't
 /// shown. After a fault the output took a beginning of that text, and the fault is the output's own.
-/// Takes no memory. The calls of its recursion are at most 513 deep, of some 130 bytes of stack each.
+/// Takes no memory. The calls of its recursion are at most 257 deep, of some 130 bytes of stack each.
 pub fn dump<M: Segments, O: ByteOut>(vetted: &Vetted<'_, M>, out: &mut O) -> Result<(), OutFault>
     ensures { (t : Tree) (c d : ℕ) → Denotes (M.segments (message_of vetted.now)) 0 0 t c d →
         Writes O.ByteOut out.old out.new result (dump_text t) }
 {
     let root = vetted.root();
-    // A list of structs takes a level of its own, and its elements one more.
-    let levels = 2 * vetted.report().depth;
+    // An object's children stand at the level of lines that is its own: a struct of a list has one too.
+    let levels = vetted.report().depth;
     match write_named(out, b"root", &root) {
         Ok(()) => write_children(out, &root, 1, levels),
         Err(fault) => Err(fault),

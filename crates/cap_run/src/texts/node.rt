@@ -17,9 +17,9 @@ use cap_frame::Segments;
 use cap_vet::{Kind, Node, View};
 use cap_words::{ByteOut, OutFault};
 
-/// No node stands below level 512: 256 lists of structs, with an element each. The words of a node
-/// there would stand at this level.
-const DEEPEST: usize = 513;
+/// No node stands below level 256, the deepest that a message may have: the root stands at level 0.
+/// The words of a node there would stand at this level.
+const DEEPEST: usize = 257;
 
 // The spaces before a line, two a level.
 static SPACES: [u8; 2 * DEEPEST] = [b' '; 2 * DEEPEST];
@@ -96,7 +96,7 @@ fn word_line(letter: u8, i: u32, word: u64) -> ArrayVec<u8, LINE>
 
 /// The spaces before a line at a level.
 fn spaces(level: u32) -> &'static [u8]
-    requires { level ≤ 513 }
+    requires { level ≤ 257 }
     ensures { result.now ≡ replicate (2 * level) 32 }
 {
     &SPACES[..2 * level as usize]
@@ -104,7 +104,7 @@ fn spaces(level: u32) -> &'static [u8]
 
 /// Writes a line at a level. After a fault the output took a beginning of it.
 fn write_line<O: ByteOut>(out: &mut O, level: u32, text: &[u8]) -> Result<(), OutFault>
-    requires low { level ≤ 513 }
+    requires low { level ≤ 257 }
     requires some { 0 < length text.now }
     ensures { Writes O.ByteOut out.old out.new result (replicate (2 * level) 32 ++ text.now) }
 {
@@ -135,7 +135,7 @@ fn write_words<M: Segments, O: ByteOut>(
     view: &View<'_, M>,
 ) -> Result<(), OutFault>
     requires open { O.spent out.old ≡ false }
-    requires low { level ≤ 513 }
+    requires low { level ≤ 257 }
     ensures { Writes O.ByteOut out.old out.new result (word_lines level letter 0 (words_of_own (shown view.now))) }
 {
     let mut i = 0;
@@ -179,7 +179,7 @@ pub(crate) fn write_child<M: Segments, O: ByteOut>(
     i: u32,
     node: &Node<'_, M>,
 ) -> Result<(), OutFault>
-    requires { level < 513 }
+    requires { level < 257 }
     ensures { (t : Tree) → DenotesAt (M.segments (node_message node.now)) (node_spot node.now) t →
         Writes O.ByteOut out.old out.new result (own_text level (label letter i) t) }
 {

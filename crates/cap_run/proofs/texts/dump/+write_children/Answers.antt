@@ -54,7 +54,7 @@ write_children-requires g t c κs within =
     (ap g.M.Segments.segments c.in-Some.ensures.message) (c.in-Some.ensures.part x d) in
     let low = at_child c.requires.low.0 c.requires.low.1 in
     let lower = child_height c.requires.low.0 c.kind-kind.result c.loop-i.i low.of_tree low.within low.tree low.at_i in
-    let few : c.args.level + 1 + (c.args.left - 1) ≤ 513 = omega (arith, lower, c.requires.low.2, c.requires.few) in
+    let few : c.args.level + 1 + (c.args.left - 1) ≤ 257 = omega (arith, lower, c.requires.low.2, c.requires.few) in
     let less : height low.tree ≤ c.args.left - 1 = omega (arith, lower, c.requires.low.2, c.requires.few) in
     let falls : c.args.left - 1 < t = omega (arith, lower, c.requires.low.2, c.decreases) in
     (falls, (within.0, (within.1, ((c.in-Ok.ensures low.tree low.denotes).works.still, ((low.tree, low.denotes, less), few)))))

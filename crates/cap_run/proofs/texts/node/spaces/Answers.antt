@@ -3,4 +3,4 @@ use Rattle.std.proofs.lemmas.List.{take-replicate}
 use Rattle.cap_run.proofs.texts.node.spaces.Goals as goal
 
 pub returns : goal.returns
-returns c = take-replicate (2 * c.args.level) 1026 32 (omega arith)
+returns c = take-replicate (2 * c.args.level) 514 32 (omega arith)
