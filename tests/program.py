@@ -110,15 +110,15 @@ CAPABILITY = framed("0300000005000000")
 CYCLE_REFUSED = "message 0: refused DepthLimit at 0:0 pointers 65\n"
 
 # ------------------------------------------------------------------ samples
-CONTACTS = "message 0: accepted charge 391 depth 8 pointers 125 caps 0\n"
+CONTACTS = "message 0: accepted charge 391 depth 11 pointers 125 caps 0\n"
 VERDICTS = {
     "contacts.bin": CONTACTS,
-    "contacts-many-segments.bin": "message 0: accepted charge 495 depth 8 pointers 125 caps 0\n",
-    "telemetry.bin": "message 0: accepted charge 234 depth 3 pointers 69 caps 0\n",
+    "contacts-many-segments.bin": "message 0: accepted charge 495 depth 11 pointers 125 caps 0\n",
+    "telemetry.bin": "message 0: accepted charge 234 depth 4 pointers 69 caps 0\n",
     "stream-of-four.bin": CONTACTS
-    + "message 1: accepted charge 76 depth 3 pointers 34 caps 0\n"
+    + "message 1: accepted charge 76 depth 4 pointers 34 caps 0\n"
     + "message 2: accepted charge 20 depth 2 pointers 7 caps 0\n"
-    + "message 3: accepted charge 78 depth 5 pointers 21 caps 0\n",
+    + "message 3: accepted charge 78 depth 7 pointers 21 caps 0\n",
 }
 CHECKS = {
     "contacts.bin": "message 0: not canonical\n",
@@ -209,7 +209,7 @@ case("vet --size 391 examples/contacts.bin", err="capvet: message 0: TooLarge 39
 case("check", "message 0: canonical\n" + CYCLE_REFUSED.replace("0", "1", 1), status=1, stdin=NULL + CYCLE)
 case("canon", NULL, "capvet: message 1: refused DepthLimit at 0:0\n", 1, NULL + CYCLE + NULL)
 case("canon", NULL, "capvet: message 1: HasCapability at 0:0\n", 1, NULL + CAPABILITY)
-case("canon --depth 3 examples/contacts.bin", err="capvet: message 0: refused DepthLimit at 0:62\n", status=1)
+case("canon --depth 3 examples/contacts.bin", err="capvet: message 0: refused DepthLimit at 0:7\n", status=1)
 case("canon", NULL, "capvet: message 1: Truncated at byte 23\n", 1, NULL + NULL[:7])
 case("vet", NULL_ACCEPTED, "capvet: message 1: Truncated at byte 23\n", 1, NULL + NULL[:7])
 case("dump", NULL_DUMP, "capvet: message 1: Truncated at byte 23\n", 1, NULL + NULL[:7])
@@ -223,13 +223,13 @@ for command in (*RUNS, *PACKED):
 
 
 def deepest_dump():
-    """The deepest of all trees, 256 lists of one struct, each the pointer of the struct before it, dumped with a
+    """The deepest of all trees, 128 lists of one struct, each the pointer of the struct before it, dumped with a
     stack of 8 MiB and of 1 MiB."""
     list_pointer, tag, null = "010000000f000000", "0400000000000100", "0000000000000000"
-    stream = framed(*[list_pointer, tag] * 256, null)
-    wanted = "message 0: accepted charge 512 depth 256 pointers 257 caps 0\nroot structs 1 0 1\n"
-    for level in range(1, 512, 2):
-        below = "structs 1 0 1" if level < 511 else "null"
+    stream = framed(*[list_pointer, tag] * 128, null)
+    wanted = "message 0: accepted charge 256 depth 256 pointers 129 caps 0\nroot structs 1 0 1\n"
+    for level in range(1, 256, 2):
+        below = "structs 1 0 1" if level < 255 else "null"
         wanted += "  " * level + "i0 struct 0 1\n" + "  " * (level + 1) + f"p0 {below}\n"
     with tempfile.TemporaryDirectory() as folder:
         file = Path(folder) / "deepest.bin"
@@ -330,7 +330,7 @@ Exit status:
 
 Example:
   $ capvet vet examples/contacts.bin
-  message 0: accepted charge 391 depth 8 pointers 125 caps 0
+  message 0: accepted charge 391 depth 11 pointers 125 caps 0
 """
 HELP_VET = """\
 Checks that each message is safe to traverse
@@ -348,12 +348,13 @@ Options:
   -h, --help       Print help
 
 An accepted message is told with its charge in words, which bounds what a traversal reads; with
-the deepest level of an object; and with how many pointers, null ones too, and capabilities it
-has. A refused one is told with the reason, and the SEGMENT:WORD of the first pointer at fault.
+the deepest level of an object, where a list's structs stand one below the list; and with how many
+pointers, null ones too, and capabilities it has. A refused one is told with the reason, and the
+SEGMENT:WORD of the first pointer at fault.
 
 Example:
   $ capvet vet --depth 3 examples/contacts.bin
-  message 0: refused DepthLimit at 0:62 pointers 6
+  message 0: refused DepthLimit at 0:7 pointers 3
 """
 HELP_GET = """\
 Shows the node at a path in each message that is safe to traverse

@@ -132,9 +132,9 @@ fn an_output_that_fails_has_a_beginning_of_the_dump(rt: HostRuntime) -> Result<(
 }
 
 // A list of one struct of one word and one pointer, so many of them one below the other.
-fn ladder(alloc: Global, depth: u64) -> Result<Vec<u64>, Fail> {
+fn ladder(alloc: Global, count: u64) -> Result<Vec<u64>, Fail> {
     let mut segment = Vec::new(alloc);
-    for step in 0..depth {
+    for step in 0..count {
         segment.push(0x0000_0017_0000_0001)?;
         segment.push(0x0001_0001_0000_0004)?;
         segment.push(step)?;
@@ -154,23 +154,23 @@ fn push_line(text: &mut String, level: u64, line: &str) -> Result<(), Fail> {
 }
 
 #[test]
-fn the_deepest_dump_has_512_levels_below_its_root(rt: HostRuntime) -> Result<(), Fail> {
+fn the_deepest_dump_has_256_levels_below_its_root(rt: HostRuntime) -> Result<(), Fail> {
     let alloc = rt.alloc();
     let mut text = String::new(alloc);
     text.push_str("root structs 1 1 1\n")?;
-    for step in 0..256 {
+    for step in 0..128 {
         push_line(&mut text, 2 * step + 1, "i0 struct 1 1")?;
         let word = if step < 16 { "d0 0" } else { "d0 " };
         let digits = format!(in alloc; "{word}{step:x}00000000000000")?;
         push_line(&mut text, 2 * step + 2, digits.as_str())?;
-        let below = if step == 255 {
+        let below = if step == 127 {
             "p0 null"
         } else {
             "p0 structs 1 1 1"
         };
         push_line(&mut text, 2 * step + 2, below)?;
     }
-    let segment = ladder(alloc, 256)?;
+    let segment = ladder(alloc, 128)?;
     let out = text_of(&rt, alloc, segment.as_slice())?;
     assert_eq!(rt; out.bytes(), text.as_bytes());
     Ok(())

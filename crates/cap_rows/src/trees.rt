@@ -54,7 +54,7 @@ const EMPTIES: &str = "000000000200000001000000070000000c00000000000000";
 const CAPABILITY: &str = "00000000010000000300000005000000";
 
 const STRUCTS_DUMP: &str = "\
-message 0: accepted charge 5 depth 1 pointers 3 caps 0
+message 0: accepted charge 5 depth 2 pointers 3 caps 0
 root structs 2 1 1
   i0 struct 1 1
     d0 0100000000000000
@@ -98,7 +98,7 @@ root struct 0 2
         options: &[],
         stream: SURPLUS,
         out: "\
-message 0: accepted charge 4 depth 1 pointers 1 caps 0
+message 0: accepted charge 4 depth 2 pointers 1 caps 0
 root structs 2 1 0
   i0 struct 1 0
     d0 0500000000000000
@@ -248,7 +248,7 @@ const GETS: [Row; 15] = [
 ];
 
 // The packed spelling of a stream, in hexadecimal digits.
-fn packed(alloc: Global, stream: &str) -> Result<String, Fail> {
+pub(crate) fn packed(alloc: Global, stream: &str) -> Result<String, Fail> {
     let bytes = hex::decode(alloc, stream)?;
     let mut source = PlainWords::new(SliceIn::new(bytes.as_slice()));
     let mut sink = Packer::new(VecOut::new(alloc));

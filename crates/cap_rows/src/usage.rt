@@ -243,7 +243,7 @@ Exit status:
 
 Example:
   $ capvet vet examples/contacts.bin
-  message 0: accepted charge 391 depth 8 pointers 125 caps 0
+  message 0: accepted charge 391 depth 11 pointers 125 caps 0
 ",
     },
     Help {
@@ -294,12 +294,13 @@ Options:
   -h, --help       Print help
 
 An accepted message is told with its charge in words, which bounds what a traversal reads; with
-the deepest level of an object; and with how many pointers, null ones too, and capabilities it
-has. A refused one is told with the reason, and the SEGMENT:WORD of the first pointer at fault.
+the deepest level of an object, where a list's structs stand one below the list; and with how many
+pointers, null ones too, and capabilities it has. A refused one is told with the reason, and the
+SEGMENT:WORD of the first pointer at fault.
 
 Example:
   $ capvet vet --depth 3 examples/contacts.bin
-  message 0: refused DepthLimit at 0:62 pointers 6
+  message 0: refused DepthLimit at 0:7 pointers 3
 ",
     },
     Help {
@@ -325,7 +326,7 @@ to which the steps /pN and /iN of a PATH lead, as 'get' takes it.
 
 Example:
   $ capvet dump examples/contacts.bin | head -n 6
-  message 0: accepted charge 391 depth 8 pointers 125 caps 0
+  message 0: accepted charge 391 depth 11 pointers 125 caps 0
   root struct 1 3
     d0 50f708d100000000
     p0 structs 7 1 6
@@ -428,7 +429,7 @@ Options:
 
 Example:
   $ capvet pack examples/contacts.bin | capvet vet --packed
-  message 0: accepted charge 391 depth 8 pointers 125 caps 0
+  message 0: accepted charge 391 depth 11 pointers 125 caps 0
 ",
     },
     Help {
@@ -450,7 +451,7 @@ Options:
 
 Example:
   $ capvet unpack examples/contacts.packed | capvet vet
-  message 0: accepted charge 391 depth 8 pointers 125 caps 0
+  message 0: accepted charge 391 depth 11 pointers 125 caps 0
 ",
     },
 ];

@@ -119,12 +119,12 @@ const ROWS: [Row; 26] = [
     Row {
         options: &[],
         stream: BELOW_A_LIST,
-        out: "message 0: accepted charge 3 depth 2 pointers 2 caps 0\n",
+        out: "message 0: accepted charge 3 depth 3 pointers 2 caps 0\n",
         err: "",
         status: 0,
     },
     Row {
-        options: &["--depth", "1"],
+        options: &["--depth", "2"],
         stream: BELOW_A_LIST,
         out: "message 0: refused DepthLimit at 0:2 pointers 2\n",
         err: "",
@@ -325,7 +325,7 @@ const MESSAGES: [(&str, &str); 20] = [
     // two structs in three words, in one word, and behind a tag that is no struct
     (
         "0000000005000000010000001f000000080000000100000005000000000000000000000000000000ff00000000000000",
-        "accepted charge 4 depth 1 pointers 1 caps 0",
+        "accepted charge 4 depth 2 pointers 1 caps 0",
     ),
     (
         "0000000005000000010000000f000000080000000100000005000000000000000000000000000000ff00000000000000",
@@ -338,7 +338,7 @@ const MESSAGES: [(&str, &str); 20] = [
     // two structs with a null pointer each
     (
         "0000000006000000010000002700000008000000010001000100000000000000000000000000000000000000000000000000000000000000",
-        "accepted charge 5 depth 1 pointers 3 caps 0",
+        "accepted charge 5 depth 2 pointers 3 caps 0",
     ),
     // two pointers, one of them null
     (
