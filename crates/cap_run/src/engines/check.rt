@@ -1,6 +1,6 @@
 //! The engine that tells of each message whether it is canonical.
 
-ghost use Rattle.cap_run.specs.Checking.{TellsCheck};
+ghost use Rattle.cap_run.specs.Checking.{TellsCheck, TellsChecked};
 ghost use Rattle.cap_run.specs.Engines.{TellsStream};
 ghost use Rattle.cap_frame.specs.Limit.{limit_of};
 ghost use Rattle.cap_vet.specs.Limits.{depth_of, words_of};
@@ -10,45 +10,35 @@ use crate::engines::stream::{Mark, tell_all};
 use crate::engines::whole::{Teller, Whole};
 use crate::fault::RunFault;
 use crate::settings::{Outcome, Settings};
+use crate::texts::line::LINE;
 use crate::texts::output::write_bytes;
-use crate::texts::verdict::{check_line, refused_line};
+use crate::texts::verdict::check_line;
+use arrayvec::ArrayVec;
 use cap_canon::is_canonical;
 use cap_frame::Segments;
-use cap_vet::{Limits, vet};
+use cap_vet::Vetted;
 use cap_words::{ByteOut, OutFault, WordSource};
 use std::alloc::Global;
 
-/// Tells whether a message is canonical, where it is accepted under these limits.
+/// Tells whether a message is canonical.
 #[derive(Clone, Copy)]
-struct CheckTeller {
-    limits: Limits,
-}
+struct CheckTeller;
 
 impl Teller for CheckTeller {
-    ghost tells = { λ t n m text mark. TellsCheck (words_of t.limits) (depth_of t.limits) n m text mark };
+    ghost tells = { λ _ words depth n m text mark. TellsChecked words depth n m text mark };
 
     fn tell<M: Segments, O: ByteOut>(
         &self,
+        line: &mut ArrayVec<u8, LINE>,
         out: &mut O,
         number: u32,
-        message: &M,
+        vetted: &Vetted<'_, M>,
     ) -> Result<Mark, OutFault> {
-        match vet(message, self.limits) {
-            Ok(vetted) => {
-                let canonical = is_canonical(&vetted);
-                let line = check_line(number, canonical);
-                match write_bytes(out, line.as_slice()) {
-                    Ok(()) => Ok(check_mark(canonical)),
-                    Err(fault) => Err(fault),
-                }
-            }
-            Err(refusal) => {
-                let line = refused_line(number, &refusal);
-                match write_bytes(out, line.as_slice()) {
-                    Ok(()) => Ok(Mark::Refused),
-                    Err(fault) => Err(fault),
-                }
-            }
+        let canonical = is_canonical(vetted);
+        check_line(line, number, canonical);
+        match write_bytes(out, line.as_slice()) {
+            Ok(()) => Ok(check_mark(canonical)),
+            Err(fault) => Err(fault),
         }
     }
 }
@@ -78,8 +68,10 @@ pub fn run_check<S: WordSource, O: ByteOut>(
     ensures { TellsStream S.WordSource O.ByteOut (TellsCheck (words_of settings.now.limits) (depth_of settings.now.limits))
         (limit_of settings.now.size) settings.now.messages source.old source.new out.old out.new result }
 {
-    let teller = CheckTeller {
+    let engine = Whole {
+        alloc,
         limits: settings.limits,
+        teller: CheckTeller,
     };
-    tell_all(source, out, settings, &Whole { alloc, teller })
+    tell_all(source, out, settings, &engine)
 }

@@ -1,7 +1,7 @@
 //! The engine that writes the tree of each message.
 
 ghost use Rattle.cap_run.specs.Engines.{TellsStream};
-ghost use Rattle.cap_run.specs.Vetting.{TellsDump};
+ghost use Rattle.cap_run.specs.Vetting.{TellsDump, TellsTree};
 ghost use Rattle.cap_run.specs.Writing.{Writes};
 ghost use Rattle.cap_frame.specs.Limit.{limit_of};
 ghost use Rattle.cap_spec.specs.Denoting.{Denotes};
@@ -16,21 +16,22 @@ use crate::engines::whole::{Teller, Whole};
 use crate::fault::RunFault;
 use crate::settings::{Outcome, Settings};
 use crate::texts::dump::dump;
+use crate::texts::line::LINE;
 use crate::texts::output::write_bytes;
-use crate::texts::verdict::{accepted_line, write_refused};
+use crate::texts::verdict::accepted_line;
+use arrayvec::ArrayVec;
 use cap_frame::Segments;
-use cap_vet::{Limits, Vetted, vet};
+use cap_vet::Vetted;
 use cap_words::{ByteOut, OutFault, WordSource};
 use std::alloc::Global;
 
-/// Tells the tree of a message that is accepted under these limits.
+/// Tells a message's tree.
 #[derive(Clone, Copy)]
-struct DumpTeller {
-    limits: Limits,
-}
+struct DumpTeller;
 
 /// Writes the line of an accepted message, and its tree.
 fn write_tree<M: Segments, O: ByteOut>(
+    line: &mut ArrayVec<u8, LINE>,
     out: &mut O,
     number: u32,
     vetted: &Vetted<'_, M>,
@@ -38,7 +39,7 @@ fn write_tree<M: Segments, O: ByteOut>(
     ensures { (t : Tree) (c d : ℕ) → Denotes (M.segments (message_of vetted.now)) 0 0 t c d → let report = report_of vetted.now in
         Writes O.ByteOut out.old out.new result (vet_text number (accepted report.charge report.depth report.pointers report.caps) ++ dump_text t) }
 {
-    let line = accepted_line(number, &vetted.report());
+    accepted_line(line, number, &vetted.report());
     match write_bytes(out, line.as_slice()) {
         Ok(()) => dump(vetted, out),
         Err(fault) => Err(fault),
@@ -46,23 +47,18 @@ fn write_tree<M: Segments, O: ByteOut>(
 }
 
 impl Teller for DumpTeller {
-    ghost tells = { λ t n m text mark. TellsDump (words_of t.limits) (depth_of t.limits) n m text mark };
+    ghost tells = { λ _ words depth n m text mark. TellsTree words depth n m text mark };
 
     fn tell<M: Segments, O: ByteOut>(
         &self,
+        line: &mut ArrayVec<u8, LINE>,
         out: &mut O,
         number: u32,
-        message: &M,
+        vetted: &Vetted<'_, M>,
     ) -> Result<Mark, OutFault> {
-        match vet(message, self.limits) {
-            Ok(vetted) => match write_tree(out, number, &vetted) {
-                Ok(()) => Ok(Mark::Accepted),
-                Err(fault) => Err(fault),
-            },
-            Err(refusal) => match write_refused(out, number, &refusal) {
-                Ok(()) => Ok(Mark::Refused),
-                Err(fault) => Err(fault),
-            },
+        match write_tree(line, out, number, vetted) {
+            Ok(()) => Ok(Mark::Accepted),
+            Err(fault) => Err(fault),
         }
     }
 }
@@ -81,8 +77,10 @@ pub fn run_dump<S: WordSource, O: ByteOut>(
     ensures { TellsStream S.WordSource O.ByteOut (TellsDump (words_of settings.now.limits) (depth_of settings.now.limits))
         (limit_of settings.now.size) settings.now.messages source.old source.new out.old out.new result }
 {
-    let teller = DumpTeller {
+    let engine = Whole {
+        alloc,
         limits: settings.limits,
+        teller: DumpTeller,
     };
-    tell_all(source, out, settings, &Whole { alloc, teller })
+    tell_all(source, out, settings, &engine)
 }

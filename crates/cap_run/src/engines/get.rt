@@ -1,7 +1,7 @@
 //! The engine that shows the node of each message at one path.
 
 ghost use Rattle.cap_run.specs.Engines.{TellsStream};
-ghost use Rattle.cap_run.specs.Vetting.{TellsGet};
+ghost use Rattle.cap_run.specs.Vetting.{TellsGet, TellsNode};
 ghost use Rattle.cap_frame.specs.Limit.{limit_of};
 ghost use Rattle.cap_vet.specs.Limits.{depth_of, words_of};
 
@@ -10,38 +10,33 @@ use crate::engines::whole::{Teller, Whole};
 use crate::fault::RunFault;
 use crate::settings::{Outcome, Settings};
 use crate::texts::found::write_node;
-use crate::texts::verdict::write_refused;
+use crate::texts::line::LINE;
+use arrayvec::ArrayVec;
 use cap_frame::Segments;
 use cap_spec::Step;
-use cap_vet::{Limits, vet};
+use cap_vet::Vetted;
 use cap_words::{ByteOut, OutFault, WordSource};
 use std::alloc::Global;
 
-/// Tells the node at this path of a message that is accepted under these limits.
+/// Tells the node at this path of a message's tree.
 #[derive(Clone, Copy)]
 struct GetTeller<'p> {
-    limits: Limits,
     path: &'p [Step],
 }
 
 impl<'p> Teller for GetTeller<'p> {
-    ghost tells = { λ t n m text mark. TellsGet (words_of t.limits) (depth_of t.limits) t.path.now n m text mark };
+    ghost tells = { λ t words depth n m text mark. TellsNode words depth t.path.now n m text mark };
 
     fn tell<M: Segments, O: ByteOut>(
         &self,
+        _line: &mut ArrayVec<u8, LINE>,
         out: &mut O,
         number: u32,
-        message: &M,
+        vetted: &Vetted<'_, M>,
     ) -> Result<Mark, OutFault> {
-        match vet(message, self.limits) {
-            Ok(vetted) => match write_node(out, number, vetted.get(self.path)) {
-                Ok(()) => Ok(Mark::Accepted),
-                Err(fault) => Err(fault),
-            },
-            Err(refusal) => match write_refused(out, number, &refusal) {
-                Ok(()) => Ok(Mark::Refused),
-                Err(fault) => Err(fault),
-            },
+        match write_node(out, number, vetted.get(self.path)) {
+            Ok(()) => Ok(Mark::Accepted),
+            Err(fault) => Err(fault),
         }
     }
 }
@@ -61,9 +56,10 @@ pub fn run_get<S: WordSource, O: ByteOut>(
     ensures { TellsStream S.WordSource O.ByteOut (TellsGet (words_of settings.now.limits) (depth_of settings.now.limits) path.now)
         (limit_of settings.now.size) settings.now.messages source.old source.new out.old out.new result }
 {
-    let teller = GetTeller {
+    let engine = Whole {
+        alloc,
         limits: settings.limits,
-        path,
+        teller: GetTeller { path },
     };
-    tell_all(source, out, settings, &Whole { alloc, teller })
+    tell_all(source, out, settings, &engine)
 }

@@ -22,16 +22,22 @@ impl Engine for SegmentsEngine {
 
     ghost takes_memory = { false };
 
+    type Room = Outline;
+
+    fn room(&self) -> Outline {
+        Outline::new()
+    }
+
     fn tell_next<S: WordSource, O: ByteOut>(
         &self,
+        outline: &mut Outline,
         source: &mut S,
         out: &mut O,
         limit: SizeLimit,
         number: u32,
     ) -> Result<Option<Mark>, Cause> {
-        let mut outline = Outline::new();
-        match read_outline(source, limit, &mut outline) {
-            Ok(true) => match write_segments_text(out, number, &outline) {
+        match read_outline(source, limit, outline) {
+            Ok(true) => match write_segments_text(out, number, outline) {
                 Ok(()) => Ok(Some(Mark::Accepted)),
                 Err(fault) => Err(Cause::Output(fault)),
             },

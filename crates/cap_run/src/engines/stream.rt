@@ -33,10 +33,18 @@ pub(crate) trait Engine {
     // Whether it takes memory for a message.
     ghost takes_memory: { Bool };
 
+    /// What it fills anew at each message, and keeps from one to the next.
+    type Room: Drop;
+
+    /// Room as it is before the first message.
+    fn room(&self) -> Self::Room;
+
     /// Reads the next message and writes its text. `None` where the stream ends before it. After a
-    /// fault of the output, the output took a beginning of the text.
+    /// fault of the output, the output took a beginning of the text. Nothing that is told depends on
+    /// what the room holds.
     fn tell_next<S: WordSource, O: ByteOut>(
         &self,
+        room: &mut Self::Room,
         source: &mut S,
         out: &mut O,
         limit: SizeLimit,
@@ -105,8 +113,9 @@ pub(crate) fn tell_all<S: WordSource, O: ByteOut, E: Engine>(
         refused: 0,
         noncanonical: 0,
     };
+    let mut room = engine.room();
     for number in 0..settings.messages {
-        match engine.tell_next(source, out, settings.size, number) {
+        match engine.tell_next(&mut room, source, out, settings.size, number) {
             Ok(Some(mark)) => outcome = count(outcome, mark),
             Ok(None) => return Ok(outcome),
             Err(cause) => return Err(RunFault {

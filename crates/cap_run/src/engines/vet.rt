@@ -1,7 +1,7 @@
 //! The engine that tells of each message whether it is accepted.
 
 ghost use Rattle.cap_run.specs.Engines.{TellsStream};
-ghost use Rattle.cap_run.specs.Vetting.{TellsVerdict};
+ghost use Rattle.cap_run.specs.Vetting.{TellsAccepted, TellsVerdict};
 ghost use Rattle.cap_frame.specs.Limit.{limit_of};
 ghost use Rattle.cap_vet.specs.Limits.{depth_of, words_of};
 
@@ -9,43 +9,33 @@ use crate::engines::stream::{Mark, tell_all};
 use crate::engines::whole::{Teller, Whole};
 use crate::fault::RunFault;
 use crate::settings::{Outcome, Settings};
+use crate::texts::line::LINE;
 use crate::texts::output::write_bytes;
-use crate::texts::verdict::{accepted_line, refused_line};
+use crate::texts::verdict::accepted_line;
+use arrayvec::ArrayVec;
 use cap_frame::Segments;
-use cap_vet::{Limits, vet};
+use cap_vet::Vetted;
 use cap_words::{ByteOut, OutFault, WordSource};
 use std::alloc::Global;
 
-/// Tells whether a message is accepted under these limits.
+/// Tells the numbers of a message's tree.
 #[derive(Clone, Copy)]
-struct VetTeller {
-    limits: Limits,
-}
+struct VetTeller;
 
 impl Teller for VetTeller {
-    ghost tells = { λ t n m text mark. TellsVerdict (words_of t.limits) (depth_of t.limits) n m text mark };
+    ghost tells = { λ _ words depth n m text mark. TellsAccepted words depth n m text mark };
 
     fn tell<M: Segments, O: ByteOut>(
         &self,
+        line: &mut ArrayVec<u8, LINE>,
         out: &mut O,
         number: u32,
-        message: &M,
+        vetted: &Vetted<'_, M>,
     ) -> Result<Mark, OutFault> {
-        match vet(message, self.limits) {
-            Ok(vetted) => {
-                let line = accepted_line(number, &vetted.report());
-                match write_bytes(out, line.as_slice()) {
-                    Ok(()) => Ok(Mark::Accepted),
-                    Err(fault) => Err(fault),
-                }
-            }
-            Err(refusal) => {
-                let line = refused_line(number, &refusal);
-                match write_bytes(out, line.as_slice()) {
-                    Ok(()) => Ok(Mark::Refused),
-                    Err(fault) => Err(fault),
-                }
-            }
+        accepted_line(line, number, &vetted.report());
+        match write_bytes(out, line.as_slice()) {
+            Ok(()) => Ok(Mark::Accepted),
+            Err(fault) => Err(fault),
         }
     }
 }
@@ -63,8 +53,10 @@ pub fn run_vet<S: WordSource, O: ByteOut>(
     ensures { TellsStream S.WordSource O.ByteOut (TellsVerdict (words_of settings.now.limits) (depth_of settings.now.limits))
         (limit_of settings.now.size) settings.now.messages source.old source.new out.old out.new result }
 {
-    let teller = VetTeller {
+    let engine = Whole {
+        alloc,
         limits: settings.limits,
+        teller: VetTeller,
     };
-    tell_all(source, out, settings, &Whole { alloc, teller })
+    tell_all(source, out, settings, &engine)
 }

@@ -1,54 +1,111 @@
 //! Telling something about messages that are held whole.
 
+ghost use Rattle.cap_run.specs.Vetting.{TellsRefused};
 ghost use Rattle.cap_run.specs.Writing.{Stopped, Wrote};
-ghost use Rattle.std.specs.Prelude.{IfErr, IfOk, List, true, ℕ};
+ghost use Rattle.cap_vet.specs.Limits.{depth_of, words_of};
+ghost use Rattle.cap_vet.specs.Reports.{IsReport};
+ghost use Rattle.cap_vet.specs.Vettings.{message_of, report_of};
+ghost use Rattle.cap_spec.specs.Tree.{Tree};
+ghost use Rattle.std.specs.Prelude.{◌⊎◌, IfErr, IfOk, List, true, ℕ};
 
 use crate::engines::stream::{Engine, Mark};
 use crate::fault::Cause;
+use crate::texts::line::LINE;
+use crate::texts::output::write_bytes;
+use crate::texts::verdict::refused_line;
+use arrayvec::ArrayVec;
 use cap_frame::{Segments, SizeLimit, read_message};
+use cap_vet::{Limits, Vetted, vet};
 use cap_words::{ByteOut, OutFault, WordSource};
 use std::alloc::Global;
 
-/// What an engine writes about a message that it holds.
+/// What an engine writes about a message that is accepted.
 pub(crate) trait Teller {
     ghost use Rattle.cap_run.specs.declared.engines.stream.Mark.{Mark};
 
-    // The texts that may be written of a message by its number, each with what is counted then.
-    ghost tells: { Self → ℕ → List (List ℕ) → List ℕ → Mark → Type 0 };
+    // The texts that may be written of a message that is accepted within so many words and levels, by
+    // its number, each with what is counted then.
+    ghost tells: { Self → ℕ → ℕ → ℕ → List (List ℕ) → List ℕ → Mark → Type 0 };
 
+    /// Writes the text of an accepted message. After a fault the output took a beginning of it. The
+    /// line is filled anew.
+    fn tell<M: Segments, O: ByteOut>(
+        &self,
+        line: &mut ArrayVec<u8, LINE>,
+        out: &mut O,
+        number: u32,
+        vetted: &Vetted<'_, M>,
+    ) -> Result<Mark, OutFault>
+        ensures ok { (words depth : ℕ) (t : Tree) → IsReport (M.segments (message_of vetted.now)) words depth (report_of vetted.now) t →
+            IfOk result (λ mark. (text : List ℕ) × tells self.now words depth number (M.segments (message_of vetted.now)) text mark
+            × Wrote O.ByteOut out.old out.new text) }
+        ensures err { (words depth : ℕ) (t : Tree) → IsReport (M.segments (message_of vetted.now)) words depth (report_of vetted.now) t →
+            IfErr result (λ fault. (text : List ℕ) × (mark : Mark) × tells self.now words depth number (M.segments (message_of vetted.now)) text mark
+            × Stopped O.ByteOut out.old out.new fault text) };
+}
+
+/// Reads each message whole, and tells of it where it is accepted within the limits. Else it tells
+/// the first fault.
+#[derive(Clone, Copy)]
+pub(crate) struct Whole<T> {
+    pub(crate) alloc: Global,
+    pub(crate) limits: Limits,
+    pub(crate) teller: T,
+}
+
+impl<T: Teller> Whole<T> {
     /// Writes the text of a message. After a fault the output took a beginning of it.
     fn tell<M: Segments, O: ByteOut>(
         &self,
+        line: &mut ArrayVec<u8, LINE>,
         out: &mut O,
         number: u32,
         message: &M,
     ) -> Result<Mark, OutFault>
-        ensures ok { IfOk result (λ mark. (text : List ℕ) × tells self.now number (M.segments message.now) text mark × Wrote O.ByteOut out.old out.new text) }
-        ensures err { IfErr result (λ fault. (text : List ℕ) × (mark : Mark) × tells self.now number (M.segments message.now) text mark
-            × Stopped O.ByteOut out.old out.new fault text) };
-}
-
-/// Reads each message whole, and tells of it.
-#[derive(Clone, Copy)]
-pub(crate) struct Whole<T> {
-    pub(crate) alloc: Global,
-    pub(crate) teller: T,
+        ensures ok { IfOk result (λ mark. (text : List ℕ)
+            × (T.tells self.now.teller (words_of self.now.limits) (depth_of self.now.limits) number (M.segments message.now) text mark
+            ⊎ TellsRefused (words_of self.now.limits) (depth_of self.now.limits) number (M.segments message.now) text mark)
+            × Wrote O.ByteOut out.old out.new text) }
+        ensures err { IfErr result (λ fault. (text : List ℕ) × (mark : Mark)
+            × (T.tells self.now.teller (words_of self.now.limits) (depth_of self.now.limits) number (M.segments message.now) text mark
+            ⊎ TellsRefused (words_of self.now.limits) (depth_of self.now.limits) number (M.segments message.now) text mark)
+            × Stopped O.ByteOut out.old out.new fault text) }
+    {
+        match vet(message, self.limits) {
+            Ok(vetted) => self.teller.tell(line, out, number, &vetted),
+            Err(refusal) => {
+                refused_line(line, number, &refusal);
+                match write_bytes(out, line.as_slice()) {
+                    Ok(()) => Ok(Mark::Refused),
+                    Err(fault) => Err(fault),
+                }
+            }
+        }
+    }
 }
 
 impl<T: Teller> Engine for Whole<T> {
-    ghost tells = { λ w. T.tells w.teller };
+    ghost tells = { λ w n m text mark. T.tells w.teller (words_of w.limits) (depth_of w.limits) n m text mark
+        ⊎ TellsRefused (words_of w.limits) (depth_of w.limits) n m text mark };
 
     ghost takes_memory = { true };
 
+    type Room = ArrayVec<u8, LINE>;
+
+    fn room(&self) -> ArrayVec<u8, LINE> {
+        ArrayVec::new()
+    }
+
     fn tell_next<S: WordSource, O: ByteOut>(
         &self,
+        line: &mut ArrayVec<u8, LINE>,
         source: &mut S,
         out: &mut O,
         limit: SizeLimit,
         number: u32,
     ) -> Result<Option<Mark>, Cause> {
         match read_message(self.alloc, source, limit) {
-            Ok(Some(message)) => match self.teller.tell(out, number, &message) {
+            Ok(Some(message)) => match self.tell(line, out, number, &message) {
                 Ok(mark) => Ok(Some(mark)),
                 Err(fault) => Err(Cause::Output(fault)),
             },

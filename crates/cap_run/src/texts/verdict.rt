@@ -1,27 +1,23 @@
 //! The line of a verdict.
 
 ghost use Rattle.arrayvec.specs.ArrayVec.{array_vec_len};
-ghost use Rattle.cap_run.specs.Writing.{Writes};
 ghost use Rattle.cap_spec.specs.Texts.{accepted, check_text, reason_name, refusal_verdict, then_number, vet_text};
 ghost use Rattle.std.specs.Prelude.{◌+◌, ◌++◌, ◌≡◌, ◌≤◌, codes, length};
 
 use crate::texts::line::{LINE, push_named, push_number, push_text};
-use crate::texts::output::write_bytes;
 use arrayvec::ArrayVec;
 use cap_vet::{Reason, Refusal, Report};
-use cap_words::{ByteOut, OutFault};
 
-/// The line of a message that is accepted, with the numbers of its tree.
-pub(crate) fn accepted_line(number: u32, report: &Report) -> ArrayVec<u8, LINE>
-    ensures { result.items ≡ vet_text number (accepted report.now.charge report.now.depth report.now.pointers report.now.caps) }
+/// Makes the line that of a message that is accepted, with the numbers of its tree.
+pub(crate) fn accepted_line(line: &mut ArrayVec<u8, LINE>, number: u32, report: &Report)
+    ensures { line.new.items ≡ vet_text number (accepted report.now.charge report.now.depth report.now.pointers report.now.caps) }
 {
-    let mut line = ArrayVec::new();
-    push_text(&mut line, b"message ");
-    push_number(&mut line, u64::from(number));
-    push_text(&mut line, b": ");
-    push_report(&mut line, report);
-    push_text(&mut line, b"\n");
-    line
+    line.clear();
+    push_text(line, b"message ");
+    push_number(line, u64::from(number));
+    push_text(line, b": ");
+    push_report(line, report);
+    push_text(line, b"\n");
 }
 
 /// Appends what is said of a message that is accepted.
@@ -38,49 +34,36 @@ fn push_report(line: &mut ArrayVec<u8, LINE>, report: &Report)
     push_named(line, b" caps ", report.caps);
 }
 
-/// The line of a message that is refused, with the reason and the place.
-pub(crate) fn refused_line(number: u32, refusal: &Refusal) -> ArrayVec<u8, LINE>
-    ensures { result.items ≡ vet_text number (refusal_verdict refusal.now) }
+/// Makes the line that of a message that is refused, with the reason and the place.
+pub(crate) fn refused_line(line: &mut ArrayVec<u8, LINE>, number: u32, refusal: &Refusal)
+    ensures { line.new.items ≡ vet_text number (refusal_verdict refusal.now) }
 {
-    let mut line = ArrayVec::new();
-    push_text(&mut line, b"message ");
-    push_number(&mut line, u64::from(number));
-    push_text(&mut line, b": refused ");
-    push_text(&mut line, name_of(refusal.reason));
-    push_text(&mut line, b" at ");
-    push_number(&mut line, u64::from(refusal.segment));
-    push_text(&mut line, b":");
-    push_number(&mut line, u64::from(refusal.word));
-    push_text(&mut line, b" pointers ");
-    push_number(&mut line, refusal.pointers);
-    push_text(&mut line, b"\n");
-    line
+    line.clear();
+    push_text(line, b"message ");
+    push_number(line, u64::from(number));
+    push_text(line, b": refused ");
+    push_text(line, name_of(refusal.reason));
+    push_text(line, b" at ");
+    push_number(line, u64::from(refusal.segment));
+    push_text(line, b":");
+    push_number(line, u64::from(refusal.word));
+    push_text(line, b" pointers ");
+    push_number(line, refusal.pointers);
+    push_text(line, b"\n");
 }
 
-/// Writes the line of a message that is refused.
-pub(crate) fn write_refused<O: ByteOut>(
-    out: &mut O,
-    number: u32,
-    refusal: &Refusal,
-) -> Result<(), OutFault>
-    ensures { Writes O.ByteOut out.old out.new result (vet_text number (refusal_verdict refusal.now)) }
+/// Makes the line that of a message that is accepted, by whether it is canonical.
+pub(crate) fn check_line(line: &mut ArrayVec<u8, LINE>, number: u32, canonical: bool)
+    ensures { line.new.items ≡ check_text number canonical }
 {
-    write_bytes(out, refused_line(number, refusal).as_slice())
-}
-
-/// The line of a message that is accepted, by whether it is canonical.
-pub(crate) fn check_line(number: u32, canonical: bool) -> ArrayVec<u8, LINE>
-    ensures { result.items ≡ check_text number canonical }
-{
-    let mut line = ArrayVec::new();
-    push_text(&mut line, b"message ");
-    push_number(&mut line, u64::from(number));
+    line.clear();
+    push_text(line, b"message ");
+    push_number(line, u64::from(number));
     if canonical {
-        push_text(&mut line, b": canonical\n");
+        push_text(line, b": canonical\n");
     } else {
-        push_text(&mut line, b": not canonical\n");
+        push_text(line, b": not canonical\n");
     }
-    line
 }
 
 /// The name of a reason.
