@@ -1,7 +1,9 @@
 -- Texts that are written one after the other.
-use Rattle.std.proofs.Common.{◌≡◌, ℕ, false, List, [], ◌++◌, ◌+◌, Option, refl, sym, ap, ◌∙◌, append_assoc, append-nil, subst, Result, Ok, Err}
-use Rattle.std.specs.Io.KnownBytes.{Appends}
-use Rattle.std.proofs.KnownBytes.{Appends-nil, Appends-trans}
+use Rattle.std.proofs.Common.{◌≡◌, ℕ, false, true, List, [], ◌++◌, ◌+◌, Option, refl, sym, ap, ◌∙◌, append_assoc, append-nil, subst, Result, Ok, Err}
+use Rattle.std.specs.Prelude.{IsErrOf, OnOk}
+use Rattle.std.specs.Io.KnownBytes.{Appends, Keeps}
+use Rattle.std.proofs.KnownBytes.{Appends-kept, Appends-nil, Appends-trans}
+use Rattle.cap_words.specs.Ends.{DeviceFails, GrowthFails, WasSpent}
 use Rattle.cap_words.specs.declared.ends.ByteOut as output
 use Rattle.cap_words.specs.declared.ends.OutFault.{OutFault}
 use Rattle.cap_words.specs.declared.ends.OutFault.TheVariants.{Device, Memory, Spent}
@@ -98,3 +100,22 @@ module _ {O : Type 0} (g : output.Ghosts O) where
       wrote_then a c d (xs ++ ys) zs (wrote_then a b c xs ys (subst (Wrote g a b) e p) q) (subst (Wrote g c d) f w)
   writes_third a b c d (Err fault) text xs ys zs last e f p q w =
       stopped_then a c d fault (xs ++ ys) zs (wrote_then a b c xs ys (subst (Wrote g a b) e p) q) (subst (Stopped g c d fault) f w)
+
+  -- the output was asked to hand on what was written
+  pub writes_kept : {T : Type 0} (a b c : O) (r : Result T OutFault) (text : List ℕ) → Wrote g a b text → Keeps (g.written b) (g.written c)
+      → OnOk r ((g.spent c ≡ g.spent b) × (g.failures c ≡ g.failures b)) → (IsErrOf r Device → DeviceFails (g.spent b) (g.failures b) (g.failures c) × (g.spent c ≡ true))
+      → (IsErrOf r Memory → GrowthFails (g.spent b) (g.failures b) (g.failures c)) → (IsErrOf r Spent → WasSpent (g.spent b) (g.spent c) (g.failures b) (g.failures c)) → Writes g a c r text
+  writes_kept a b c (Ok x) text w k ok device memory spent = record {
+    appended = Appends-kept (g.written a) (g.written b) (g.written c) text w.appended k;
+    works = record { usable = w.works.usable; still = ok.0 ∙ w.works.still; none_failed = ok.1 ∙ w.works.none_failed };
+  }
+  writes_kept a b c (Err Device) text w k ok device memory spent = (
+    record { usable = w.works.usable; failed = (device refl).0.failed ∙ ap (λ f. f.device + 1) w.works.none_failed; memory = (device refl).0.memory ∙ ap (λ f. f.memory) w.works.none_failed },
+    (device refl).1,
+    record { part = text; rest = []; whole = sym (append-nil text); appended = Appends-kept (g.written a) (g.written b) (g.written c) text w.appended k },
+  )
+  writes_kept a b c (Err Memory) text w k ok device memory spent = (
+    record { usable = w.works.usable; device = (memory refl).device ∙ ap (λ f. f.device) w.works.none_failed; failed = (memory refl).failed ∙ ap (λ f. f.memory + 1) w.works.none_failed },
+    record { part = text; rest = []; whole = sym (append-nil text); appended = Appends-kept (g.written a) (g.written b) (g.written c) text w.appended k },
+  )
+  writes_kept a b c (Err Spent) text w k ok device memory spent = let e = w.works.still in let f = (spent refl).spent in absurd (cc)

@@ -14,7 +14,7 @@ use crate::engines::stream::end_stream;
 use crate::fault::{Cause, RunFault};
 use crate::settings::{Outcome, Settings};
 use cap_canon::canonical;
-use cap_frame::{OneSegment, Segments, read_message, write_message};
+use cap_frame::{ByteMessage, OneSegment, Segments, read_into, write_message};
 use cap_vet::{Limits, vet};
 use cap_words::{WordSink, WordSource};
 use std::alloc::Global;
@@ -48,9 +48,11 @@ fn put_copy<K: WordSink, M: Segments>(
     }
 }
 
-/// Reads the next message, and puts its copy. `false` where the stream ends before it.
+/// Reads the next message in the place of the last, and puts its copy. `false` where the stream ends
+/// before it.
 fn put_next<S: WordSource, K: WordSink>(
     alloc: Global,
+    message: &mut ByteMessage,
     source: &mut S,
     sink: &mut K,
     settings: &Settings,
@@ -62,12 +64,12 @@ fn put_next<S: WordSource, K: WordSink>(
     ensures err { IfErr result (λ cause. NextStops S.WordSource K.WordSink (words_of settings.now.limits) (depth_of settings.now.limits)
         (limit_of settings.now.size) source.old source.new sink.old sink.new cause) }
 {
-    match read_message(alloc, source, settings.size) {
-        Ok(Some(message)) => match put_copy(alloc, sink, &message, settings.limits) {
+    match read_into(alloc, source, settings.size, message) {
+        Ok(true) => match put_copy(alloc, sink, &message.view(), settings.limits) {
             Ok(()) => Ok(true),
             Err(cause) => Err(cause),
         },
-        Ok(None) => Ok(false),
+        Ok(false) => Ok(false),
         Err(fault) => Err(Cause::Frame(fault)),
     }
 }
@@ -83,8 +85,9 @@ fn put_copies<S: WordSource, K: WordSink>(
     ensures { Making S.WordSource K.WordSink (words_of settings.now.limits) (depth_of settings.now.limits) (limit_of settings.now.size)
         settings.now.messages source.old source.new sink.old sink.new result.0 result.1 }
 {
+    let mut message = ByteMessage::blank(alloc);
     for number in 0..settings.messages {
-        match put_next(alloc, source, sink, settings) {
+        match put_next(alloc, &mut message, source, sink, settings) {
             Ok(true) => {}
             Ok(false) => return (number, Ok(())),
             Err(cause) => return (number, Err(cause)),

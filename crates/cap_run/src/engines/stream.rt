@@ -3,14 +3,14 @@
 ghost use Rattle.cap_run.specs.Running.{Appended, EndStops, RunStops, StepStops};
 ghost use Rattle.cap_run.specs.Streams.{EndsStream, ReadsAll, ReadsStream};
 ghost use Rattle.cap_run.specs.Telling.{TellsEach, Told, messages_of, one_noncanonical, one_refused, outcome_of, texts_of};
-ghost use Rattle.cap_run.specs.Writing.{Wrote};
+ghost use Rattle.cap_run.specs.Writing.{Writes, Wrote};
 ghost use Rattle.cap_frame.specs.Limit.{limit_of};
 ghost use Rattle.std.specs.Prelude.{◌+◌, ◌-◌, ◌<◌, ◌^◌, ◌≡◌, ◌≤◌, [], ◌∷◌, Bool, IfErr, IfOk, IfSome, List, OnOk, length, true, ℕ};
 
 use crate::fault::{Cause, RunFault};
 use crate::settings::{Outcome, Settings};
 use cap_frame::{FrameFault, Outline, SizeLimit, read_outline};
-use cap_words::{ByteOut, WordSource};
+use cap_words::{ByteOut, OutFault, WordSource};
 
 /// What is counted of a message.
 #[derive(Clone, Copy)]
@@ -71,6 +71,27 @@ pub(crate) fn end_stream<S: WordSource>(source: &mut S, limit: SizeLimit) -> Res
     }
 }
 
+/// Hands on what was written where the next message may have to be waited for. After a fault the
+/// output took all that it was given.
+fn hand_on<S: WordSource, O: ByteOut>(source: &S, out: &mut O) -> Result<(), OutFault>
+    ensures { (before : O) (text : List ℕ) → Wrote O.ByteOut before out.old text → Writes O.ByteOut before out.new result text }
+{
+    if source.is_at_hand() {
+        return Ok(());
+    }
+    out.flush()
+}
+
+/// The fault of an output at a message.
+fn output_fault_at(message: u32, fault: OutFault) -> RunFault
+    ensures { result ≡ record { message = message; cause = Cause.Output fault } }
+{
+    RunFault {
+        message,
+        cause: Cause::Output(fault),
+    }
+}
+
 /// Counts one more message.
 fn count(outcome: Outcome, mark: Mark) -> Outcome
     requires messages { outcome.messages < 2 ^ 32 - 1 }
@@ -116,7 +137,10 @@ pub(crate) fn tell_all<S: WordSource, O: ByteOut, E: Engine>(
     let mut room = engine.room();
     for number in 0..settings.messages {
         match engine.tell_next(&mut room, source, out, settings.size, number) {
-            Ok(Some(mark)) => outcome = count(outcome, mark),
+            Ok(Some(mark)) => match hand_on(source, out) {
+                Ok(()) => outcome = count(outcome, mark),
+                Err(fault) => return Err(output_fault_at(number, fault)),
+            },
             Ok(None) => return Ok(outcome),
             Err(cause) => return Err(RunFault {
                 message: number,

@@ -14,7 +14,7 @@ use crate::texts::line::LINE;
 use crate::texts::output::write_bytes;
 use crate::texts::verdict::refused_line;
 use arrayvec::ArrayVec;
-use cap_frame::{Segments, SizeLimit, read_message};
+use cap_frame::{ByteMessage, Segments, SizeLimit, read_into};
 use cap_vet::{Limits, Vetted, vet};
 use cap_words::{ByteOut, OutFault, WordSource};
 use std::alloc::Global;
@@ -42,6 +42,13 @@ pub(crate) trait Teller {
         ensures err { (words depth : ℕ) (t : Tree) → IsReport (M.segments (message_of vetted.now)) words depth (report_of vetted.now) t →
             IfErr result (λ fault. (text : List ℕ) × (mark : Mark) × tells self.now words depth number (M.segments (message_of vetted.now)) text mark
             × Stopped O.ByteOut out.old out.new fault text) };
+}
+
+/// A message that was read, and a line of what is told of it.
+#[derive(Drop)]
+pub(crate) struct Desk {
+    message: ByteMessage,
+    line: ArrayVec<u8, LINE>,
 }
 
 /// Reads each message whole, and tells of it where it is accepted within the limits. Else it tells
@@ -90,26 +97,29 @@ impl<T: Teller> Engine for Whole<T> {
 
     ghost takes_memory = { true };
 
-    type Room = ArrayVec<u8, LINE>;
+    type Room = Desk;
 
-    fn room(&self) -> ArrayVec<u8, LINE> {
-        ArrayVec::new()
+    fn room(&self) -> Desk {
+        Desk {
+            message: ByteMessage::blank(self.alloc),
+            line: ArrayVec::new(),
+        }
     }
 
     fn tell_next<S: WordSource, O: ByteOut>(
         &self,
-        line: &mut ArrayVec<u8, LINE>,
+        desk: &mut Desk,
         source: &mut S,
         out: &mut O,
         limit: SizeLimit,
         number: u32,
     ) -> Result<Option<Mark>, Cause> {
-        match read_message(self.alloc, source, limit) {
-            Ok(Some(message)) => match self.tell(line, out, number, &message) {
+        match read_into(self.alloc, source, limit, &mut desk.message) {
+            Ok(true) => match self.tell(&mut desk.line, out, number, &desk.message.view()) {
                 Ok(mark) => Ok(Some(mark)),
                 Err(fault) => Err(Cause::Output(fault)),
             },
-            Ok(None) => Ok(None),
+            Ok(false) => Ok(None),
             Err(fault) => Err(Cause::Frame(fault)),
         }
     }

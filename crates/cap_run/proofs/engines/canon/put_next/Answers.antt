@@ -6,18 +6,18 @@ use Rattle.cap_run.proofs.engines.canon.put_next.Goals as goal
 
 pub returns-in-Ok-clause-some : goal.returns-in-Ok-clause-some
 returns-in-Ok-clause-some g c = λ _.
-    let r = rw c.in-Ok-Some.field-0-is at c.in-Ok-Some.ensures.message in
-    let put = c.in-Ok.ensures.ok in (
+    let r = c.in-Ok-true.ensures.message (cc) in
+    let put = rw c.view.ensures at c.in-Ok.ensures.ok in (
       record { message = _; copy = put.0 },
-      reads_one g.S.WordSource (limit_of c.args.settings.now.size) c.args.source.now c.read_message.new.source r.0 _ r.1 r.2 r.3 c.in-Ok-Some.ensures.works,
+      reads_one g.S.WordSource (limit_of c.args.settings.now.size) c.args.source.now c.read_into.new.source r.0 _ r.1 r.2 r.3 c.in-Ok-true.ensures.works,
       put.1,
       put.2,
     )
 
-pub returns-in-Ok-Some-clause-err : goal.returns-in-Ok-Some-clause-err
-returns-in-Ok-Some-clause-err g c =
-    let r = rw c.in-Ok-Some.field-0-is at c.in-Ok-Some.ensures.message in
-    next_stops g.S.WordSource g.K.WordSink (words_of c.args.settings.now.limits) (depth_of c.args.settings.now.limits) (limit_of c.args.settings.now.size) _ c.args.source.now c.read_message.new.source
+pub returns-in-Err-put_copy-clause-err : goal.returns-in-Err-put_copy-clause-err
+returns-in-Err-put_copy-clause-err g c =
+    let r = c.in-Ok-true.ensures.message (cc) in
+    next_stops g.S.WordSource g.K.WordSink (words_of c.args.settings.now.limits) (depth_of c.args.settings.now.limits) (limit_of c.args.settings.now.size) _ c.args.source.now c.read_into.new.source
     c.args.sink.now c.put_copy.new.sink c.in-Err-put_copy.cause
-    (reads_one g.S.WordSource (limit_of c.args.settings.now.size) c.args.source.now c.read_message.new.source r.0 _ r.1 r.2 r.3 c.in-Ok-Some.ensures.works)
-    c.in-Err-put_copy.ensures.err
+    (reads_one g.S.WordSource (limit_of c.args.settings.now.size) c.args.source.now c.read_into.new.source r.0 _ r.1 r.2 r.3 c.in-Ok-true.ensures.works)
+    (rw c.view.ensures at c.in-Err-put_copy.ensures.err)

@@ -1,5 +1,6 @@
 use Rattle.std.proofs.Common.{sym, arith}
 use Rattle.cap_frame.specs.Limit.{limit_of}
+use Rattle.cap_run.specs.declared.fault.Cause.TheVariants.{Output}
 use Rattle.cap_run.proofs.Going.{going_none, going_more, going_stops, going_refused, going_noncanonical}
 use Rattle.cap_run.proofs.engines.stream.tell_all.Goals as goal
 
@@ -27,9 +28,25 @@ returns-in-Err-clause-err g c =
           c.args.out.now c.loop-number.out c.tell_next.new.out c.loop-number.outcome c.loop-number.number c.args.settings.now.messages c.in-Err.cause w (omega arith) c.in-Err.ensures.err,
     )
 
+pub returns-in-Err-hand_on-clause-err : goal.returns-in-Err-hand_on-clause-err
+returns-in-Err-hand_on-clause-err g c =
+    let w = c.loop-number.invariant in
+    let r = rw c.in-Ok-Some.field-0-is at c.in-Ok-Some.ensures.some in
+    rw c.output_fault_at.ensures (
+      w.ts,
+      c.loop-number.source,
+      sym w.many,
+      omega (arith, w.many),
+      w.reads,
+      w.each,
+      going_stops g.S.WordSource g.O.ByteOut (g.E.Engine.tells c.args.engine.now) (limit_of c.args.settings.now.size) c.args.source.now c.loop-number.source c.tell_next.new.source
+          c.args.out.now c.loop-number.out c.hand_on.new.out c.loop-number.outcome c.loop-number.number c.args.settings.now.messages (Output c.in-Err-hand_on.fault) w (omega arith)
+          (r.0, r.2, r.3, c.in-Err-hand_on.ensures c.loop-number.out r.0.text r.4),
+    )
+
 pub loop-number-preserved : goal.loop-number-preserved
 loop-number-preserved g c =
     let r = rw c.in-Ok-Some.field-0-is at c.in-Ok-Some.ensures.some in
     going_more g.S.WordSource g.O.ByteOut (g.E.Engine.tells c.args.engine.now) (limit_of c.args.settings.now.size) c.args.source.now c.loop-number.source c.tell_next.new.source
-    c.args.out.now c.loop-number.out c.tell_next.new.out c.loop-number.outcome c.count-outcome.result c.loop-number.number r.0 c.in-Ok-Some.mark r.1
-    c.loop-number.invariant r.2 r.3 r.4 c.count-outcome.ensures
+    c.args.out.now c.loop-number.out c.hand_on.new.out c.loop-number.outcome c.count-outcome.result c.loop-number.number r.0 c.in-Ok-Some.mark r.1
+    c.loop-number.invariant r.2 r.3 (c.in-Ok.ensures c.loop-number.out r.0.text r.4) c.count-outcome.ensures

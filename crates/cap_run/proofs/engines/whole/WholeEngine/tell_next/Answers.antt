@@ -5,21 +5,21 @@ use Rattle.cap_run.proofs.engines.whole.WholeEngine.tell_next.Goals as goal
 
 pub returns-in-Ok-clause-some : goal.returns-in-Ok-clause-some
 returns-in-Ok-clause-some g c =
-    let r = rw c.in-Ok-Some.field-0-is at c.in-Ok-Some.ensures.message in
+    let r = c.in-Ok-true.ensures.message (cc) in
     let told = c.in-Ok.ensures.ok in (
       record { message = _; text = told.0; mark = c.in-Ok.mark },
       refl,
-      told.1,
-      reads_one g.S.WordSource (limit_of c.args.limit) c.args.source.now c.read_message.new.source r.0 _ r.1 r.2 r.3 c.in-Ok-Some.ensures.works,
+      rw c.view.ensures at told.1,
+      reads_one g.S.WordSource (limit_of c.args.limit) c.args.source.now c.read_into.new.source r.0 _ r.1 r.2 r.3 c.in-Ok-true.ensures.works,
       told.2,
     )
 
-pub returns-in-Ok-Some-clause-err : goal.returns-in-Ok-Some-clause-err
-returns-in-Ok-Some-clause-err g c =
-    let r = rw c.in-Ok-Some.field-0-is at c.in-Ok-Some.ensures.message in
+pub returns-in-Err-tell-clause-err : goal.returns-in-Err-tell-clause-err
+returns-in-Err-tell-clause-err g c =
+    let r = c.in-Ok-true.ensures.message (cc) in
     let told = c.in-Err-tell.ensures.err in (
       record { message = _; text = told.0; mark = told.1 },
-      told.2,
-      reads_one g.S.WordSource (limit_of c.args.limit) c.args.source.now c.read_message.new.source r.0 _ r.1 r.2 r.3 c.in-Ok-Some.ensures.works,
+      rw c.view.ensures at told.2,
+      reads_one g.S.WordSource (limit_of c.args.limit) c.args.source.now c.read_into.new.source r.0 _ r.1 r.2 r.3 c.in-Ok-true.ensures.works,
       told.3,
     )

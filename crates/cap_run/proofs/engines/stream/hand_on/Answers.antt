@@ -1,0 +1,6 @@
+use Rattle.cap_run.proofs.Writing.{writes_kept}
+use Rattle.cap_run.proofs.engines.stream.hand_on.Goals as goal
+
+pub returns : goal.returns
+returns g c = λ before text w.
+    writes_kept g.O.ByteOut before c.args.out.now c.flush.new.self c.flush.result text w c.flush.ensures.bytes c.flush.ensures.ok c.flush.ensures.device c.flush.ensures.memory c.flush.ensures.was_spent
