@@ -1,23 +1,28 @@
 -- What is read at the end of a path.
-use Rattle.std.proofs.Common.{◌≡◌, ℕ, ◌+◌, ◌<◌, ◌≤◌, ◌∙◌, List, length, ap, sym, subst, Option, None, Some}
+use Rattle.std.proofs.Common.{◌≡◌, ℕ, ◌+◌, ◌<◌, ◌≤◌, ◌∙◌, List, [], length, pos, ap, refl, sym, subst, Option, None, Some}
 use Rattle.std.specs.Prelude.{IfSome, MatchOption}
 use Rattle.std.specs.Option.{option_map}
-use Rattle.cap_spec.specs.Denoting.{Denotes}
+use Rattle.cap_spec.specs.Denoting.{Denotes, words_from}
+use Rattle.cap_spec.specs.Following.{to_object}
 use Rattle.cap_spec.specs.Messages.{segment_of}
-use Rattle.cap_spec.specs.Paths.{Comes, IsPlace, Spot, Stands}
+use Rattle.cap_spec.specs.Paths.{Comes, IsPlace, Spot, Stands, word, element}
+use Rattle.cap_spec.specs.Plain.{plain_text}
+use Rattle.cap_spec.specs.Pointers.{extent}
 use Rattle.cap_spec.specs.Showing.{Own, own_of}
 use Rattle.cap_spec.specs.Standing.{DenotesAt}
 use Rattle.cap_spec.specs.Tree.{Tree, node_at}
 use Rattle.cap_spec.specs.declared.Step.{Step}
+use Rattle.cap_spec.proofs.Following.{one_lead}
 use Rattle.cap_spec.proofs.OneTree.{one_tree}
 use Rattle.cap_spec.proofs.Walks.{one_coming}
+use Rattle.cap_vet.specs.Handles.{bytes_of_place}
 use Rattle.cap_vet.specs.Reports.{IsReport}
 use Rattle.cap_vet.specs.declared.place.Place.{Place}
 use Rattle.cap_vet.specs.declared.report.Report.{Report}
 use Rattle.cap_read.specs.Reading.{IsPlaceInside, IsRead}
 
 -- nothing has a place where a path doesn't come to a spot,
-no_place : (m : List (List ℕ)) (path : List Step) → ((level : ℕ) (a : Spot) → Comes m path level a → ⊥) → (t b n : ℕ) → IsPlace m path t b n → ⊥
+pub no_place : (m : List (List ℕ)) (path : List Step) → ((level : ℕ) (a : Spot) → Comes m path level a → ⊥) → (t b n : ℕ) → IsPlace m path t b n → ⊥
 no_place m path none t b n h = none h.0 h.1 h.2
 
 -- or where nothing stands at that spot;
@@ -66,3 +71,29 @@ node_read m words depth path r t a own o o' h come node shows same s e i =
       node = ap Some (shows x.0 x.2) ∙ ap (option_map own_of) (sym x.1);
       placed = placed_there m path come.0 a o come.1 there e i;
     }
+
+-- one thing stands at a spot
+one_stands : (m : List (List ℕ)) (a : Spot) (t b n t' b' n' : ℕ) → Stands m a t b n → Stands m a t' b' n' → (t ≡ t') × (b ≡ b') × (n ≡ n')
+one_stands m (word s w) t b n t' b' n' h g =
+    let l : to_object t (pos b) h.1 ≡ to_object t' (pos b') g.1 = (one_lead m s w h.0 g.0 (to_object t (pos b) h.1) (to_object t' (pos b') g.1) h.2.leads g.2.leads).1 in
+    let q : h.1 ≡ g.1 = cc in
+    (cc, cc, h.3 ∙ (ap extent q ∙ sym g.3))
+one_stands m (element t'' b'' ds ps) t b n t' b' n' h g = (h.0 ∙ sym g.0, h.1 ∙ sym g.1, h.2 ∙ sym g.2)
+
+-- the bytes of the place of what stands at the end of a path are those of the place of the path
+pub bytes_there : (m : List (List ℕ)) (path : List Step) (level : ℕ) (a : Spot) (o : Option Place) → Comes m path level a
+    → MatchOption o ((t b n : ℕ) → Stands m a t b n → ⊥) (λ p. Stands m a p.segment p.start p.words)
+    → (t b n : ℕ) → IsPlace m path t b n → bytes_of_place m o ≡ plain_text (words_from m t b n)
+bytes_there m path level a None h s t b n g = absurd (no_place_there m path level a h s t b n g)
+bytes_there m path level a (Some p) h s t b n g =
+    let same : g.1 ≡ a = sym (one_coming m path level g.0 a g.1 h g.2).1 in
+    let e = one_stands m a p.segment p.start p.words t b n s (subst (λ (x : Spot). Stands m x t b n) same g.3) in
+    ap (λ x. plain_text (words_from m x p.start p.words)) e.0
+    ∙ (ap (λ x. plain_text (words_from m t x p.words)) e.1 ∙ ap (λ x. plain_text (words_from m t b x)) e.2)
+
+-- and there are none where the path has no place
+pub no_bytes_there : (m : List (List ℕ)) (path : List Step) (level : ℕ) (a : Spot) (o : Option Place) → Comes m path level a
+    → MatchOption o ((t b n : ℕ) → Stands m a t b n → ⊥) (λ p. Stands m a p.segment p.start p.words)
+    → ((t b n : ℕ) → IsPlace m path t b n → ⊥) → bytes_of_place m o ≡ []
+no_bytes_there m path level a None h s none = refl
+no_bytes_there m path level a (Some p) h s none = absurd (none p.segment p.start p.words (level, a, h, s))

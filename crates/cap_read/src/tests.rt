@@ -1,9 +1,27 @@
 //! A message that is read at a path.
 
-use crate::read;
-use cap_frame::{OneSegment, WordMessage};
+use crate::{read, read_bytes};
+use cap_frame::{
+    ByteMessage, OneSegment, Segments, SizeLimit, WordMessage, read_byte_message, write_message,
+};
 use cap_vet::{Kind, Limits, Place, Reason, Step};
+use cap_words::{PlainSink, PlainWords, SliceIn, VecOut};
+use std::alloc::Global;
+use std::process::Abort;
 use std::test::Fail;
+
+// The same message in one buffer.
+fn in_one_buffer<M: Segments>(alloc: Global, message: &M) -> Result<ByteMessage, Fail> {
+    let mut sink = PlainSink::new(VecOut::new(alloc));
+    write_message(&mut sink, message)?;
+    let output = sink.into_inner();
+    let mut source = PlainWords::new(SliceIn::new(output.bytes()));
+    let limit = SizeLimit::new(268435456).ok_or("no limit")?;
+    match read_byte_message(alloc, &mut source, limit)? {
+        Some(held) => Ok(held),
+        None => Err("no message".into()),
+    }
+}
 
 #[test]
 fn a_struct_in_another_segment(rt: HostRuntime) -> Result<(), Fail> {
@@ -13,8 +31,13 @@ fn a_struct_in_another_segment(rt: HostRuntime) -> Result<(), Fail> {
     segments.push(vec![in alloc; 0x0000000100000002]?)?;
     segments.push(vec![in alloc; 0x0000000100000000, 42]?)?;
     let message = WordMessage::new(segments).ok_or("no message")?;
+    reads_struct(&rt, &message)?;
+    reads_struct(&rt, &in_one_buffer(alloc, &message)?.view())
+}
+
+fn reads_struct<M: Segments>(rt: &impl Abort, message: &M) -> Result<(), Fail> {
     let limits = Limits::new(2, 1).ok_or("no limits")?;
-    let Ok(reading) = read(&message, limits, &[]) else {
+    let Ok(reading) = read(message, limits, &[]) else {
         return Err("refused".into());
     };
     assert_eq!(rt; (reading.report.charge, reading.report.depth), (2, 1));
@@ -30,7 +53,7 @@ fn a_struct_in_another_segment(rt: HostRuntime) -> Result<(), Fail> {
         words: 1,
     };
     assert_eq!(rt; reading.place, Some(place));
-    let Ok(nothing) = read(&message, limits, &[Step::Ptr(0)]) else {
+    let Ok(nothing) = read(message, limits, &[Step::Ptr(0)]) else {
         return Err("refused".into());
     };
     assert!(rt; nothing.view.is_none());
@@ -42,11 +65,51 @@ fn a_struct_in_another_segment(rt: HostRuntime) -> Result<(), Fail> {
 fn a_message_past_its_limit(rt: HostRuntime) -> Result<(), Fail> {
     let segment = [0x0000000100000000, 42];
     let message = OneSegment::new(&segment).ok_or("no message")?;
+    is_past_its_limit(&rt, &message)?;
+    is_past_its_limit(&rt, &in_one_buffer(rt.alloc(), &message)?.view())
+}
+
+fn is_past_its_limit<M: Segments>(rt: &impl Abort, message: &M) -> Result<(), Fail> {
     let limits = Limits::new(0, 1).ok_or("no limits")?;
-    let Err(refusal) = read(&message, limits, &[]) else {
+    let Err(refusal) = read(message, limits, &[]) else {
         return Err("accepted".into());
     };
     assert_eq!(rt; (refusal.segment, refusal.word), (0, 0));
     assert_eq!(rt; refusal.reason, Reason::WordLimit);
+    Ok(())
+}
+
+#[test]
+fn the_bytes_at_paths(rt: HostRuntime) -> Result<(), Fail> {
+    let alloc = rt.alloc();
+    // A struct of one data word and a pointer to a struct of one word.
+    let segment = [
+        0x0001000100000000,
+        0x0807060504030201,
+        0x0000000100000000,
+        42,
+    ];
+    let message = OneSegment::new(&segment).ok_or("no message")?;
+    let held = in_one_buffer(alloc, &message)?;
+    let limits = Limits::new(3, 2).ok_or("no limits")?;
+    let below = &[Step::Ptr(0)];
+    let root = [1, 2, 3, 4, 5, 6, 7, 8, 0, 0, 0, 0, 1, 0, 0, 0];
+    let Ok(bytes) = read_bytes(&held.view(), limits, &[]) else {
+        return Err("refused".into());
+    };
+    assert_eq!(rt; bytes, root.as_slice());
+    let Ok(bytes) = read_bytes(&held.view(), limits, below) else {
+        return Err("refused".into());
+    };
+    assert_eq!(rt; bytes, [42, 0, 0, 0, 0, 0, 0, 0].as_slice());
+    let Ok(bytes) = read_bytes(&held.view(), limits, &[Step::Ptr(1)]) else {
+        return Err("refused".into());
+    };
+    assert_eq!(rt; bytes.len(), 0);
+    let low = Limits::new(2, 2).ok_or("no limits")?;
+    let Err(refusal) = read_bytes(&held.view(), low, below) else {
+        return Err("accepted".into());
+    };
+    assert_eq!(rt; (refusal.word, refusal.reason), (2, Reason::WordLimit));
     Ok(())
 }

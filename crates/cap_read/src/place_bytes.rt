@@ -1,0 +1,44 @@
+//! A message in one buffer is vetted, and the bytes of what stands at a path are given.
+
+ghost use Rattle.cap_spec.specs.Denoting.{Denotes, words_from};
+ghost use Rattle.cap_spec.specs.Faults.{IsRefused};
+ghost use Rattle.cap_spec.specs.Paths.{IsPlace};
+ghost use Rattle.cap_spec.specs.Plain.{plain_text};
+ghost use Rattle.cap_spec.specs.Tree.{Tree};
+ghost use Rattle.cap_vet.specs.Limits.{depth_of, words_of};
+ghost use Rattle.std.specs.Prelude.{◌≡◌, ◌≤◌, [], IfErr, IfOk, IsOk, ℕ};
+
+use cap_frame::{ByteView, Segments};
+use cap_vet::{Limits, Refusal, Step, vet};
+
+/// Vets a message in one buffer within limits, and gives the bytes of the words at a path of steps from
+/// its root, as they stand and without a copy. Takes no memory.
+///
+/// The words are those of the object that stands at the path, with tag and surplus words, or of the
+/// element of a list of structs that the path ends at. Empty where nothing stands there, and for null
+/// and a capability. Refused as [`vet`] refuses it (encoding: Security Considerations).
+pub fn read_bytes<'b>(
+    message: &ByteView<'b>,
+    limits: Limits,
+    path: &[Step],
+) -> Result<&'b [u8], Refusal>
+    ensures bytes { let m = ⟦<ByteView<'b> as Segments>⟧.segments message.now in
+        IfOk result (λ bytes. (t b n : ℕ) → IsPlace m path.now t b n → bytes.now ≡ plain_text (words_from m t b n)) }
+    ensures empty { let m = ⟦<ByteView<'b> as Segments>⟧.segments message.now in
+        IfOk result (λ bytes. ((t b n : ℕ) → ¬ IsPlace m path.now t b n) → bytes.now ≡ []) }
+    ensures err { let m = ⟦<ByteView<'b> as Segments>⟧.segments message.now in IfErr result (IsRefused m (words_of limits) (depth_of limits)) }
+    ensures accepts { let m = ⟦<ByteView<'b> as Segments>⟧.segments message.now in
+        (t : Tree) (c d : ℕ) → Denotes m 0 0 t c d → c ≤ words_of limits → d ≤ depth_of limits → IsOk result }
+{
+    let vetted = match vet(message, limits) {
+        Ok(vetted) => vetted,
+        Err(refusal) => return Err(refusal),
+    };
+    match vetted.get(path) {
+        None => Ok(&[]),
+        Some(node) => {
+            let view = node.view();
+            Ok(view.bytes())
+        }
+    }
+}
