@@ -101,8 +101,8 @@ fn read_over<S: WordSource>(
 /// The words that are taken, the faults, and where these leave the source are those of
 /// [`read_byte_message`]. After another answer than `true` the message has one segment without words,
 /// as a blank one. Memory is asked for only where the buffer hasn't room for the message's words, eight
-/// bytes each; the buffer is then let go first. So a stream can be read into one message, and takes
-/// memory only where a message is larger than all before it.
+/// bytes each. The buffer is let go first, and where no memory is given it stays empty. So a stream that
+/// is read into one message takes memory only where a message is larger than all before it.
 pub fn read_into<S: WordSource>(
     alloc: Global,
     source: &mut S,
