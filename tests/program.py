@@ -8,6 +8,7 @@ the status is 1 where a case failed. The texts that are wanted were written from
 numbers of the samples counted by another program. Those of a wrong command line are the library clap's.
 """
 import os
+import select
 import shlex
 import struct
 import subprocess
@@ -190,8 +191,27 @@ def samples():
             case("unpack", stream, stdin=text)
 
 
+def live_pipe(command, wanted):
+    """The text of a message comes while the input is still open behind it, and not only at the end."""
+    piped = {"stdin": subprocess.PIPE, "stdout": subprocess.PIPE, "stderr": subprocess.PIPE}
+    with subprocess.Popen([PROGRAM, *command.split()], cwd=TOP, **piped) as ran:
+        ran.stdin.write(sample("contacts.bin"))
+        ran.stdin.flush()
+        text = b""
+        while len(text) < len(wanted) and select.select([ran.stdout], [], [], 2)[0]:
+            text += os.read(ran.stdout.fileno(), 65536)
+        ran.stdin.close()
+        compare(f"capvet {command}, with an input that stays open", (wanted.encode(), b"", 0),
+                (text, ran.stderr.read(), ran.wait(60)))
+
+
 samples()
 canonical_copies()
+contacts = sample("contacts.bin")
+live_pipe("vet", CONTACTS)
+live_pipe("segments", segments_text(contacts))
+live_pipe("dump", dump_text(contacts, CONTACTS))
+live_pipe("get /p0", get_text(contacts, "/p0"))
 case("unpack examples/contacts.packed", sample("contacts.bin"))
 case("vet --packed examples/contacts.packed", CONTACTS)
 # The two texts of the encoding specification's section on packing.
