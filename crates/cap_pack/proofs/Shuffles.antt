@@ -263,11 +263,10 @@ pub ones_of_tag : (w tag : ℕ) → tag ≡ word_tag w → ones tag ≡ length (
 ones_of_tag w tag e =
     ap ones (e ∙ sym (mask_is_tag (word_bytes w))) ∙ ones-mask_l (λ b. not (eqb b 0)) (word_bytes w) ∙ sym (length-filter (λ b. not (b == 0)) (word_bytes w))
 
-pub gathered : (w tag : ℕ) (bs out : List ℕ) → bs ≡ word_bytes w → tag ≡ word_tag w → out ≡ present bs ++ replicate (8 - marks 8 tag) 0 →
-    out ≡ present (word_bytes w) ++ replicate (8 - ones tag) 0
-gathered w tag bs out b t e =
+pub gathered : (w tag : ℕ) (out : List ℕ) → tag ≡ word_tag w → out ≡ present (word_bytes w) ++ replicate (8 - marks 8 tag) 0 → out ≡ present (word_bytes w) ++ replicate (8 - ones tag) 0
+gathered w tag out t e =
     let count : marks 8 tag ≡ ones tag = ap (marks 8) t ∙ present_count (word_bytes w) ∙ sym (ones_of_tag w tag t) in
-    e ∙ ap (λ l. present l ++ replicate (8 - marks 8 tag) 0) b ∙ ap (λ n. present (word_bytes w) ++ replicate (8 - n) 0) count
+    e ∙ ap (λ n. present (word_bytes w) ++ replicate (8 - n) 0) count
 
 pub scattered : (tag word : ℕ) (bytes wide lanes low : List ℕ) → word ≡ little_number 8 low → low ≡ take 8 lanes → little_number 8 (take 8 lanes) ≡ spread 8 tag wide →
     wide ≡ bytes ++ replicate 8 0 → word ≡ spread 8 tag bytes

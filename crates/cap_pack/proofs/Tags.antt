@@ -110,9 +110,13 @@ eights_more ws out eight i room l e before =
     take_more_put_chunk i out eight (i + 8) (omega arith) (omega arith) ∙ ap (λ t. t ++ eight) before ∙ ap (λ t. map word_tag (take i ws) ++ t) e
     ∙ sym (map-append word_tag (take i ws) (chunk i 8 ws)) ∙ ap (λ t. map word_tag t) (sym (take-add i 8 ws))
 
+-- the lanes of one word, and of zeros above it
+pub lanes_of_one : (w : ℕ) → w < 18446744073709551616 → digits_l 256 16 (number_l 18446744073709551616 (w ∷ 0 ∷ [])) ≡ word_bytes w ++ replicate 8 0
+lanes_of_one w h = lanes_are_bytes (w ∷ 0 ∷ []) (h, (omega arith, tt))
+
 -- the bits that mark the bytes of one word that aren't zero are its tag
-pub tag_by_lanes : (w : ℕ) (bs : List ℕ) → bs ≡ word_bytes w →
-    mask_l (map (top 7) (zip2 (λ a b. cond (not (eqb a b)) 255 0) bs (replicate 8 0))) % 18446744073709551616 ≡ word_tag w
+pub tag_by_lanes : (w : ℕ) (bs : List ℕ) → bs ≡ word_bytes w ++ replicate 8 0 →
+    mask_l (map (top 7) (zip2 (λ a b. cond (not (eqb a b)) 255 0) bs (replicate 16 0))) % 18446744073709551616 ≡ word_tag w
 tag_by_lanes w bs e =
-    let eight : length bs ≡ 8 = ap length e in
-    bitmask_splat w8 differs bs 8 0 eight (omega arith) ∙ mask_is_tag bs ∙ ap tag_of e
+    let long : length bs ≡ 16 = ap length e in
+    bitmask_splat w8 differs bs 16 0 long (omega arith) ∙ mask_is_tag bs ∙ ap tag_of e ∙ tag_above w (replicate 8 0) ∙ omega arith

@@ -44,13 +44,21 @@ fn tags_of_eights(words: &[u64], out: &mut [u8]) -> usize
     i
 }
 
+// The bytes of a word, and zeros above them.
+#[inline(always)]
+fn lanes_of_word(word: u64) -> u8x16
+    ensures { result ≡ word_bytes word ++ replicate 8 0 }
+{
+    u64x2::from_array([word, 0]).to_le_bytes()
+}
+
 // The tag of one word.
 #[inline]
 fn tag_of_word(word: u64) -> u8
     ensures { result ≡ tag_of (word_bytes word) }
 {
-    let bytes = u8x8::from_array(bytes_of(word));
-    bytes.simd_ne(u8x8::splat(0)).to_bitmask() as u8
+    let present = lanes_of_word(word).simd_ne(u8x16::splat(0));
+    present.to_bitmask() as u8
 }
 
 /// The tag of each word, as it stands before the bytes of a group: bit `i` of `out[k]` is set exactly
@@ -188,11 +196,12 @@ fn spread_lanes(tag: u8, bytes: u8x16) -> u8x16
 
 // The bytes of a word that its tag marks, in order, and zeros behind them.
 #[inline(always)]
-fn squeeze_lanes(tag: u8, word: [u8; 8]) -> u8x16
-    requires { tag ≡ tag_of word }
-    ensures { take 8 result ≡ filter (λ b. not (b == 0)) word ++ replicate (8 - marks 8 tag) 0 }
+fn squeeze_lanes(tag: u8, word: u64) -> u8x16
+    requires { tag ≡ tag_of (word_bytes word) }
+    ensures { take 8 result ≡ filter (λ b. not (b == 0)) (word_bytes word) ++ replicate (8 - marks 8 tag) 0 }
 {
-    lanes_of(word, 0).swizzle_dyn_within::<16>(lanes_of(squeeze_places(tag), 128))
+    let places = lanes_of(squeeze_places(tag), 128);
+    lanes_of_word(word).swizzle_dyn_within::<16>(places)
 }
 
 /// The bytes of a word that aren't zero, in order, at the front of `out`, and zeros behind them.
@@ -203,7 +212,7 @@ pub fn gather(word: u64, out: &mut [u8; 8]) -> usize
     ensures bytes { out.new ≡ filter (λ b. not (b == 0)) (word_bytes word) ++ replicate (8 - result) 0 }
 {
     let tag = tag_of_word(word);
-    *out = low_bytes(squeeze_lanes(tag, bytes_of(word)));
+    *out = low_bytes(squeeze_lanes(tag, word));
     tag.count_ones() as usize
 }
 

@@ -1,10 +1,11 @@
-use Rattle.std.proofs.Common.{arith}
+use Rattle.std.proofs.Common.{refl}
+use Rattle.cap_spec.specs.Plain.{word_bytes}
 use Rattle.cap_pack.proofs.Shuffles.{squeeze_ok, squeeze_by_places}
 use Rattle.cap_pack.proofs.lanes.squeeze_lanes.Goals as goal
 
 pub swizzle : goal.swizzle
-swizzle c = squeeze_ok c.squeeze_places.result c.lanes_of-2.result c.args.tag c.squeeze_places.ensures c.lanes_of-2.ensures
+swizzle c = squeeze_ok c.squeeze_places.result c.lanes_of-places.result c.args.tag c.squeeze_places.ensures c.lanes_of-places.ensures
 
 pub returns : goal.returns
 returns c =
-    squeeze_by_places c.args.word c.lanes_of.result c.squeeze_places.result c.lanes_of-2.result c.args.tag (omega arith) c.lanes_of.ensures c.requires c.squeeze_places.ensures c.lanes_of-2.ensures
+    squeeze_by_places (word_bytes c.args.word) c.lanes_of_word.result c.squeeze_places.result c.lanes_of-places.result c.args.tag refl c.lanes_of_word.ensures c.requires c.squeeze_places.ensures c.lanes_of-places.ensures
