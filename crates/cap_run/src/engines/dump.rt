@@ -15,7 +15,7 @@ use crate::engines::stream::{Mark, tell_all};
 use crate::engines::whole::{Teller, Whole};
 use crate::fault::RunFault;
 use crate::settings::{Outcome, Settings};
-use crate::texts::dump::dump;
+use crate::texts::dump::write_dump;
 use crate::texts::line::LINE;
 use crate::texts::output::write_bytes;
 use crate::texts::verdict::accepted_line;
@@ -41,7 +41,7 @@ fn write_tree<M: Segments, O: ByteOut>(
 {
     accepted_line(line, number, &vetted.report());
     match write_bytes(out, line.as_slice()) {
-        Ok(()) => dump(vetted, out),
+        Ok(()) => write_dump(line, out, vetted),
         Err(fault) => Err(fault),
     }
 }
@@ -64,7 +64,7 @@ impl Teller for DumpTeller {
 }
 
 /// Reads the messages of a stream to its end, and writes of each the line that `run_vet` writes, and
-/// behind it, where the message is accepted, its whole tree, as [`dump`] does. A refused message
+/// behind it, where the message is accepted, its whole tree, as [`dump`](crate::dump) does. A refused message
 /// doesn't end the run. The text of a message is written before the next is read. A fault comes
 /// behind the messages whose text is out, and tells how many they are; where it is the output's, a
 /// beginning of the next text may be out too.

@@ -29,12 +29,12 @@ impl<'p> Teller for GetTeller<'p> {
 
     fn tell<M: Segments, O: ByteOut>(
         &self,
-        _line: &mut ArrayVec<u8, LINE>,
+        line: &mut ArrayVec<u8, LINE>,
         out: &mut O,
         number: u32,
         vetted: &Vetted<'_, M>,
     ) -> Result<Mark, OutFault> {
-        match write_node(out, number, vetted.get(self.path)) {
+        match write_node(line, out, number, vetted.get(self.path)) {
             Ok(()) => Ok(Mark::Accepted),
             Err(fault) => Err(fault),
         }

@@ -9,9 +9,18 @@ ghost use Rattle.std.specs.Prelude.{◌≡◌, false};
 use crate::engines::stream::{Engine, Mark, tell_all};
 use crate::fault::{Cause, RunFault};
 use crate::settings::{Outcome, Settings};
+use crate::texts::line::LINE;
 use crate::texts::segments::write_segments_text;
+use arrayvec::ArrayVec;
 use cap_frame::{Outline, SizeLimit, read_outline};
 use cap_words::{ByteOut, WordSource};
+
+/// What is kept of a message that was read, and a line of what is told of it.
+#[derive(Drop)]
+struct Desk {
+    outline: Outline,
+    line: ArrayVec<u8, LINE>,
+}
 
 /// Tells how a message is cut into segments, of which its outline is enough.
 #[derive(Clone, Copy)]
@@ -22,22 +31,25 @@ impl Engine for SegmentsEngine {
 
     ghost takes_memory = { false };
 
-    type Room = Outline;
+    type Room = Desk;
 
-    fn room(&self) -> Outline {
-        Outline::new()
+    fn room(&self) -> Desk {
+        Desk {
+            outline: Outline::new(),
+            line: ArrayVec::new(),
+        }
     }
 
     fn tell_next<S: WordSource, O: ByteOut>(
         &self,
-        outline: &mut Outline,
+        desk: &mut Desk,
         source: &mut S,
         out: &mut O,
         limit: SizeLimit,
         number: u32,
     ) -> Result<Option<Mark>, Cause> {
-        match read_outline(source, limit, outline) {
-            Ok(true) => match write_segments_text(out, number, outline) {
+        match read_outline(source, limit, &mut desk.outline) {
+            Ok(true) => match write_segments_text(&mut desk.line, out, number, &desk.outline) {
                 Ok(()) => Ok(Some(Mark::Accepted)),
                 Err(fault) => Err(Cause::Output(fault)),
             },

@@ -113,7 +113,8 @@ fn count(outcome: Outcome, mark: Mark) -> Outcome
     counted
 }
 
-/// Reads the messages of a stream to its end, and writes the text of each before it reads the next.
+/// Reads the messages of a stream to its end, and writes the text of each before it reads the next. It
+/// hands on what was written where nothing is at hand of the source.
 pub(crate) fn tell_all<S: WordSource, O: ByteOut, E: Engine>(
     source: &mut S,
     out: &mut O,

@@ -10,7 +10,9 @@ ghost use Rattle.cap_vet.specs.Handles.{node_message, node_spot};
 ghost use Rattle.cap_vet.specs.Vettings.{message_of};
 ghost use Rattle.std.specs.Prelude.{◌+◌, ◌<◌, ◌≡◌, ◌≤◌, false, ℕ};
 
+use crate::texts::line::LINE;
 use crate::texts::node::{write_child, write_named};
+use arrayvec::ArrayVec;
 use cap_frame::Segments;
 use cap_vet::{Kind, Node, Step, Vetted};
 use cap_words::{ByteOut, OutFault};
@@ -62,6 +64,7 @@ fn child_step(kind: Kind, i: u32) -> Step
 /// this level, and what stands below that. Calls itself with one level less, so at most 257 calls
 /// stand in one another. After a fault the output took a beginning of that text.
 fn write_children<M: Segments, O: ByteOut>(
+    line: &mut ArrayVec<u8, LINE>,
     out: &mut O,
     node: &Node<'_, M>,
     level: u32,
@@ -78,16 +81,34 @@ fn write_children<M: Segments, O: ByteOut>(
         let Some(child) = node.child(child_step(kind, i)) else {
             unreachable!()
         };
-        match write_child(out, level, child_letter(kind), i, &child) {
+        match write_child(line, out, level, child_letter(kind), i, &child) {
             Ok(()) => {}
             Err(fault) => return Err(fault),
         }
-        match write_children(out, &child, level + 1, left - 1) {
+        match write_children(line, out, &child, level + 1, left - 1) {
             Ok(()) => {}
             Err(fault) => return Err(fault),
         }
     }
     Ok(())
+}
+
+/// Writes the tree of a message that was accepted, as [`dump`] does, by a line that is lent.
+pub(crate) fn write_dump<M: Segments, O: ByteOut>(
+    line: &mut ArrayVec<u8, LINE>,
+    out: &mut O,
+    vetted: &Vetted<'_, M>,
+) -> Result<(), OutFault>
+    ensures { (t : Tree) (c d : ℕ) → Denotes (M.segments (message_of vetted.now)) 0 0 t c d →
+        Writes O.ByteOut out.old out.new result (dump_text t) }
+{
+    let root = vetted.root();
+    // An object's children stand at the level of lines that is its own: a struct of a list has one too.
+    let levels = vetted.report().depth;
+    match write_named(line, out, b"root", &root) {
+        Ok(()) => write_children(line, out, &root, 1, levels),
+        Err(fault) => Err(fault),
+    }
 }
 
 /// Writes the tree of a message that was accepted: a line for each node, with its own words and its
@@ -98,11 +119,5 @@ pub fn dump<M: Segments, O: ByteOut>(vetted: &Vetted<'_, M>, out: &mut O) -> Res
     ensures { (t : Tree) (c d : ℕ) → Denotes (M.segments (message_of vetted.now)) 0 0 t c d →
         Writes O.ByteOut out.old out.new result (dump_text t) }
 {
-    let root = vetted.root();
-    // An object's children stand at the level of lines that is its own: a struct of a list has one too.
-    let levels = vetted.report().depth;
-    match write_named(out, b"root", &root) {
-        Ok(()) => write_children(out, &root, 1, levels),
-        Err(fault) => Err(fault),
-    }
+    write_dump(&mut ArrayVec::new(), out, vetted)
 }

@@ -18,7 +18,7 @@ use cap_words::{ByteOut, OutFault, SourceFault};
 
 /// Appends what is said of a message that couldn't be read.
 fn push_frame_fault(line: &mut ArrayVec<u8, LINE>, fault: FrameFault)
-    requires { array_vec_len line.old + 40 ≤ 192 }
+    requires { array_vec_len line.old + 40 ≤ 768 }
     ensures items { line.new.items ≡ line.old.items ++ frame_fault_text fault }
     ensures few { array_vec_len line.new ≤ array_vec_len line.old + 40 }
 {
@@ -34,7 +34,7 @@ fn push_frame_fault(line: &mut ArrayVec<u8, LINE>, fault: FrameFault)
 
 /// Appends the message that is spoken of.
 fn push_message(line: &mut ArrayVec<u8, LINE>, number: u32)
-    requires { array_vec_len line.old + 40 ≤ 192 }
+    requires { array_vec_len line.old + 40 ≤ 768 }
     ensures items { line.new.items ≡ line.old.items ++ message_name number }
     ensures few { array_vec_len line.new ≤ array_vec_len line.old + 30 }
 {
@@ -44,7 +44,7 @@ fn push_message(line: &mut ArrayVec<u8, LINE>, number: u32)
 
 /// Appends the place of a pointer word.
 fn push_place(line: &mut ArrayVec<u8, LINE>, segment: u32, word: u32)
-    requires { array_vec_len line.old + 45 ≤ 192 }
+    requires { array_vec_len line.old + 45 ≤ 768 }
     ensures items { line.new.items ≡ line.old.items ++ place_text segment word }
     ensures few { array_vec_len line.new ≤ array_vec_len line.old + 45 }
 {
@@ -54,7 +54,7 @@ fn push_place(line: &mut ArrayVec<u8, LINE>, segment: u32, word: u32)
 
 /// Appends what is said of a message that is refused, where that ends an engine.
 fn push_refusal(line: &mut ArrayVec<u8, LINE>, refusal: Refusal)
-    requires { array_vec_len line.old + 70 ≤ 192 }
+    requires { array_vec_len line.old + 70 ≤ 768 }
     ensures items { line.new.items ≡ line.old.items ++ refusal_text refusal }
     ensures few { array_vec_len line.new ≤ array_vec_len line.old + 70 }
 {
@@ -65,7 +65,7 @@ fn push_refusal(line: &mut ArrayVec<u8, LINE>, refusal: Refusal)
 
 /// Appends what is said of a message of which no canonical copy was made.
 fn push_canon_fault(line: &mut ArrayVec<u8, LINE>, fault: CanonFault)
-    requires { array_vec_len line.old + 70 ≤ 192 }
+    requires { array_vec_len line.old + 70 ≤ 768 }
     ensures items { line.new.items ≡ line.old.items ++ canon_fault_text fault }
     ensures few { array_vec_len line.new ≤ array_vec_len line.old + 70 }
 {
@@ -80,7 +80,7 @@ fn push_canon_fault(line: &mut ArrayVec<u8, LINE>, fault: CanonFault)
 
 /// Appends what is said of an engine that ended at a message.
 fn push_cause(line: &mut ArrayVec<u8, LINE>, number: u32, cause: Cause)
-    requires { array_vec_len line.old + 110 ≤ 192 }
+    requires { array_vec_len line.old + 110 ≤ 768 }
     ensures items { line.new.items ≡ line.old.items ++ cause_text number cause }
     ensures few { array_vec_len line.new ≤ array_vec_len line.old + 110 }
 {
@@ -125,7 +125,7 @@ pub fn write_fault<E: ByteOut>(err: &mut E, fault: &RunFault) -> Result<(), OutF
 
 /// Appends what is said of a source that gave no word.
 fn push_source_fault(line: &mut ArrayVec<u8, LINE>, fault: SourceFault)
-    requires { array_vec_len line.old + 40 ≤ 192 }
+    requires { array_vec_len line.old + 40 ≤ 768 }
     ensures items { line.new.items ≡ line.old.items ++ source_fault_text fault }
     ensures few { array_vec_len line.new ≤ array_vec_len line.old + 40 }
 {
@@ -138,7 +138,7 @@ fn push_source_fault(line: &mut ArrayVec<u8, LINE>, fault: SourceFault)
 
 /// Appends what is said of a copy of words that ended early.
 fn push_copy_fault(line: &mut ArrayVec<u8, LINE>, fault: CopyFault)
-    requires { array_vec_len line.old + 40 ≤ 192 }
+    requires { array_vec_len line.old + 40 ≤ 768 }
     ensures items { line.new.items ≡ line.old.items ++ copy_text fault }
     ensures few { array_vec_len line.new ≤ array_vec_len line.old + 40 }
 {

@@ -15,30 +15,29 @@ use cap_frame::Segments;
 use cap_vet::Node;
 use cap_words::{ByteOut, OutFault};
 
-/// The line that says that there is a node.
-fn found_line(number: u32) -> ArrayVec<u8, LINE>
-    ensures { result.items ≡ message_text number (codes "found") }
+/// Makes the line the one that says that there is a node.
+fn found_line(line: &mut ArrayVec<u8, LINE>, number: u32)
+    ensures { line.new.items ≡ message_text number (codes "found") }
 {
-    let mut line = ArrayVec::new();
-    push_text(&mut line, b"message ");
-    push_number(&mut line, u64::from(number));
-    push_text(&mut line, b": found\n");
-    line
+    line.clear();
+    push_text(line, b"message ");
+    push_number(line, u64::from(number));
+    push_text(line, b": found\n");
 }
 
-/// The line that says that there is none.
-fn none_line(number: u32) -> ArrayVec<u8, LINE>
-    ensures { result.items ≡ get_text number None }
+/// Makes the line the one that says that there is none.
+fn none_line(line: &mut ArrayVec<u8, LINE>, number: u32)
+    ensures { line.new.items ≡ get_text number None }
 {
-    let mut line = ArrayVec::new();
-    push_text(&mut line, b"message ");
-    push_number(&mut line, u64::from(number));
-    push_text(&mut line, b": none\n");
-    line
+    line.clear();
+    push_text(line, b"message ");
+    push_number(line, u64::from(number));
+    push_text(line, b": none\n");
 }
 
 /// Writes the node at a path, without its children, or that there is none.
 pub(crate) fn write_node<M: Segments, O: ByteOut>(
+    line: &mut ArrayVec<u8, LINE>,
     out: &mut O,
     number: u32,
     node: Option<Node<'_, M>>,
@@ -48,10 +47,12 @@ pub(crate) fn write_node<M: Segments, O: ByteOut>(
     ensures none { IfNone node.entry (Writes O.ByteOut out.old out.new result (get_text number None)) }
 {
     let Some(node) = node else {
-        return write_bytes(out, none_line(number).as_slice());
+        none_line(line, number);
+        return write_bytes(out, line.as_slice());
     };
-    match write_bytes(out, found_line(number).as_slice()) {
-        Ok(()) => write_named(out, b"node", &node),
+    found_line(line, number);
+    match write_bytes(out, line.as_slice()) {
+        Ok(()) => write_named(line, out, b"node", &node),
         Err(fault) => Err(fault),
     }
 }

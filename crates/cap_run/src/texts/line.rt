@@ -7,12 +7,13 @@ ghost use Rattle.std.specs.Prelude.{◌+◌, ◌++◌, ◌≡◌, ◌≤◌, dec
 use arrayvec::ArrayVec;
 use cap_words::bytes_of;
 
-/// The bytes of a line. The longest has five numbers and what stands between them.
-pub(crate) const LINE: usize = 192;
+/// The bytes of a line. The longest has the spaces of 257 levels, and behind them the head of a node;
+/// without spaces the longest has five numbers and what stands between them.
+pub(crate) const LINE: usize = 768;
 
 /// Appends text.
 pub(crate) fn push_text(line: &mut ArrayVec<u8, LINE>, text: &[u8])
-    requires { array_vec_len line.old + length text.now ≤ 192 }
+    requires { array_vec_len line.old + length text.now ≤ 768 }
     ensures { line.new.items ≡ line.old.items ++ text.now }
 {
     if line.try_extend_from_slice(text).is_err() {
@@ -22,7 +23,7 @@ pub(crate) fn push_text(line: &mut ArrayVec<u8, LINE>, text: &[u8])
 
 /// Appends the digits of a number.
 fn push_digits(line: &mut ArrayVec<u8, LINE>, n: u64)
-    requires { array_vec_len line.old + length (decimal n) ≤ 192 }
+    requires { array_vec_len line.old + length (decimal n) ≤ 768 }
     ensures { line.new.items ≡ line.old.items ++ decimal n }
 {
     if n < 10 {
@@ -35,7 +36,7 @@ fn push_digits(line: &mut ArrayVec<u8, LINE>, n: u64)
 
 /// Appends a number, of at most 20 digits.
 pub(crate) fn push_number(line: &mut ArrayVec<u8, LINE>, n: u64)
-    requires { array_vec_len line.old + 20 ≤ 192 }
+    requires { array_vec_len line.old + 20 ≤ 768 }
     ensures items { line.new.items ≡ line.old.items ++ decimal n }
     ensures few { array_vec_len line.new ≤ array_vec_len line.old + 20 }
 {
@@ -44,7 +45,7 @@ pub(crate) fn push_number(line: &mut ArrayVec<u8, LINE>, n: u64)
 
 /// Appends a name and a number behind it.
 pub(crate) fn push_named(line: &mut ArrayVec<u8, LINE>, name: &[u8], number: u64)
-    requires room { array_vec_len line.old + length name.now + 20 ≤ 192 }
+    requires room { array_vec_len line.old + length name.now + 20 ≤ 768 }
     ensures items { line.new.items ≡ line.old.items ++ (name.now ++ decimal number) }
     ensures few { array_vec_len line.new ≤ array_vec_len line.old + length name.now + 20 }
 {
@@ -65,7 +66,7 @@ fn hex_digits(word: u64) -> [u8; 16]
 
 /// Appends the 16 digits of a word's bytes.
 pub(crate) fn push_hex(line: &mut ArrayVec<u8, LINE>, word: u64)
-    requires { array_vec_len line.old + 16 ≤ 192 }
+    requires { array_vec_len line.old + 16 ≤ 768 }
     ensures items { line.new.items ≡ line.old.items ++ hex word }
     ensures len { array_vec_len line.new ≡ array_vec_len line.old + 16 }
 {

@@ -5,7 +5,7 @@ ghost use Rattle.cap_run.specs.Dumping.{head_of, word_letter_of};
 ghost use Rattle.cap_run.specs.Writing.{Writes};
 ghost use Rattle.cap_spec.specs.Showing.{own_of, words_of_own};
 ghost use Rattle.cap_spec.specs.Standing.{DenotesAt};
-ghost use Rattle.cap_spec.specs.Texts.{hex, label, line, own_text, word_lines};
+ghost use Rattle.cap_spec.specs.Texts.{hex, label, own_text, word_lines};
 ghost use Rattle.cap_spec.specs.Tree.{Tree};
 ghost use Rattle.cap_vet.specs.Handles.{node_message, node_spot, shown};
 ghost use Rattle.std.specs.Prelude.{◌*◌, ◌+◌, ◌++◌, ◌<◌, ◌≡◌, ◌≤◌, ◌∷◌, [], false, length, replicate};
@@ -26,7 +26,7 @@ static SPACES: [u8; 2 * DEEPEST] = [b' '; 2 * DEEPEST];
 
 /// Appends the head of a node of a kind.
 fn push_head(line: &mut ArrayVec<u8, LINE>, kind: Kind)
-    requires { array_vec_len line.old + 80 ≤ 192 }
+    requires { array_vec_len line.old + 80 ≤ 768 }
     ensures items { line.new.items ≡ line.old.items ++ head_of kind }
     ensures few { array_vec_len line.new ≤ array_vec_len line.old + 80 }
 {
@@ -57,41 +57,16 @@ fn push_head(line: &mut ArrayVec<u8, LINE>, kind: Kind)
     }
 }
 
-/// The line of a node under a name, without the spaces before it.
-fn named_line(name: &[u8], kind: Kind) -> ArrayVec<u8, LINE>
+/// Makes the line that of a node under a name.
+fn named_line(line: &mut ArrayVec<u8, LINE>, name: &[u8], kind: Kind)
     requires { length name.now ≤ 32 }
-    ensures { result.items ≡ name.now ++ 32 ∷ head_of kind ++ 10 ∷ [] }
+    ensures { line.new.items ≡ name.now ++ 32 ∷ head_of kind ++ 10 ∷ [] }
 {
-    let mut line = ArrayVec::new();
-    push_text(&mut line, name);
-    push_text(&mut line, b" ");
-    push_head(&mut line, kind);
-    push_text(&mut line, b"\n");
-    line
-}
-
-/// The line of a child by its letter and number, without the spaces before it.
-fn child_line(letter: u8, i: u32, kind: Kind) -> ArrayVec<u8, LINE>
-    ensures { result.items ≡ label letter i ++ 32 ∷ head_of kind ++ 10 ∷ [] }
-{
-    let mut line = ArrayVec::new();
-    push_named(&mut line, &[letter], u64::from(i));
-    push_text(&mut line, b" ");
-    push_head(&mut line, kind);
-    push_text(&mut line, b"\n");
-    line
-}
-
-/// The line of a node's own word by its letter and number, without the spaces before it.
-fn word_line(letter: u8, i: u32, word: u64) -> ArrayVec<u8, LINE>
-    ensures { result.items ≡ label letter i ++ 32 ∷ hex word ++ 10 ∷ [] }
-{
-    let mut line = ArrayVec::new();
-    push_named(&mut line, &[letter], u64::from(i));
-    push_text(&mut line, b" ");
-    push_hex(&mut line, word);
-    push_text(&mut line, b"\n");
-    line
+    line.clear();
+    push_text(line, name);
+    push_text(line, b" ");
+    push_head(line, kind);
+    push_text(line, b"\n");
 }
 
 /// The spaces before a line at a level.
@@ -102,19 +77,38 @@ fn spaces(level: u32) -> &'static [u8]
     &SPACES[..2 * level as usize]
 }
 
-/// Writes a line at a level. After a fault the output took a beginning of it.
-fn write_line<O: ByteOut>(out: &mut O, level: u32, text: &[u8]) -> Result<(), OutFault>
-    requires low { level ≤ 257 }
-    requires some { 0 < length text.now }
-    ensures { Writes O.ByteOut out.old out.new result (replicate (2 * level) 32 ++ text.now) }
+/// Begins a line at a level, with its spaces.
+fn begin_line(line: &mut ArrayVec<u8, LINE>, level: u32)
+    requires { level ≤ 257 }
+    ensures items { line.new.items ≡ replicate (2 * level) 32 }
+    ensures few { array_vec_len line.new ≤ 514 }
 {
-    if level == 0 {
-        return write_bytes(out, text);
-    }
-    match write_bytes(out, spaces(level)) {
-        Ok(()) => write_bytes(out, text),
-        Err(fault) => Err(fault),
-    }
+    line.clear();
+    push_text(line, spaces(level));
+}
+
+/// Makes the line that of a child at a level, by its letter and number.
+fn child_line(line: &mut ArrayVec<u8, LINE>, level: u32, letter: u8, i: u32, kind: Kind)
+    requires { level ≤ 257 }
+    ensures { line.new.items ≡ replicate (2 * level) 32 ++ (label letter i ++ 32 ∷ head_of kind ++ 10 ∷ []) }
+{
+    begin_line(line, level);
+    push_named(line, &[letter], u64::from(i));
+    push_text(line, b" ");
+    push_head(line, kind);
+    push_text(line, b"\n");
+}
+
+/// Makes the line that of a node's own word at a level, by its letter and number.
+fn word_line(line: &mut ArrayVec<u8, LINE>, level: u32, letter: u8, i: u32, word: u64)
+    requires { level ≤ 257 }
+    ensures { line.new.items ≡ replicate (2 * level) 32 ++ (label letter i ++ 32 ∷ hex word ++ 10 ∷ []) }
+{
+    begin_line(line, level);
+    push_named(line, &[letter], u64::from(i));
+    push_text(line, b" ");
+    push_hex(line, word);
+    push_text(line, b"\n");
 }
 
 /// The letter before the numbers of a node's own words.
@@ -129,6 +123,7 @@ fn word_letter(kind: Kind) -> u8
 
 /// Writes the lines of a node's own words at a level. After a fault the output took a beginning of them.
 fn write_words<M: Segments, O: ByteOut>(
+    line: &mut ArrayVec<u8, LINE>,
     out: &mut O,
     level: u32,
     letter: u8,
@@ -140,7 +135,8 @@ fn write_words<M: Segments, O: ByteOut>(
 {
     let mut i = 0;
     while let Some(word) = view.data_word(i) {
-        match write_line(out, level, word_line(letter, i, word).as_slice()) {
+        word_line(line, level, letter, i, word);
+        match write_bytes(out, line.as_slice()) {
             Ok(()) => i += 1,
             Err(fault) => return Err(fault),
         }
@@ -152,6 +148,7 @@ fn write_words<M: Segments, O: ByteOut>(
 /// words, or those of its values with unused bits as zeros. After a fault the output took a beginning
 /// of that text. Takes no memory.
 pub(crate) fn write_named<M: Segments, O: ByteOut>(
+    line: &mut ArrayVec<u8, LINE>,
     out: &mut O,
     name: &[u8],
     node: &Node<'_, M>,
@@ -162,17 +159,19 @@ pub(crate) fn write_named<M: Segments, O: ByteOut>(
 {
     let view = node.view();
     let kind = view.kind();
-    match write_line(out, 0, named_line(name, kind).as_slice()) {
-        Ok(()) => write_words(out, 1, word_letter(kind), &view),
+    named_line(line, name, kind);
+    match write_bytes(out, line.as_slice()) {
+        Ok(()) => write_words(line, out, 1, word_letter(kind), &view),
         Err(fault) => Err(fault),
     }
 }
 
 /// Writes at a level the line of a child by its letter and number, and one level deeper the lines of
-/// its own words. After a fault the output took a beginning of that text. The lines are put together
-/// in a frame of its own, which a recursion that calls it doesn't keep.
+/// its own words. After a fault the output took a beginning of that text. It has a frame of its own,
+/// which a recursion that calls it doesn't keep.
 #[inline(never)]
 pub(crate) fn write_child<M: Segments, O: ByteOut>(
+    line: &mut ArrayVec<u8, LINE>,
     out: &mut O,
     level: u32,
     letter: u8,
@@ -185,8 +184,9 @@ pub(crate) fn write_child<M: Segments, O: ByteOut>(
 {
     let view = node.view();
     let kind = view.kind();
-    match write_line(out, level, child_line(letter, i, kind).as_slice()) {
-        Ok(()) => write_words(out, level + 1, word_letter(kind), &view),
+    child_line(line, level, letter, i, kind);
+    match write_bytes(out, line.as_slice()) {
+        Ok(()) => write_words(line, out, level + 1, word_letter(kind), &view),
         Err(fault) => Err(fault),
     }
 }

@@ -22,7 +22,7 @@ pub(crate) fn accepted_line(line: &mut ArrayVec<u8, LINE>, number: u32, report: 
 
 /// Appends what is said of a message that is accepted.
 fn push_report(line: &mut ArrayVec<u8, LINE>, report: &Report)
-    requires { array_vec_len line.old + 119 ≤ 192 }
+    requires { array_vec_len line.old + 119 ≤ 768 }
     ensures items { line.new.items ≡ line.old.items ++ (codes "accepted charge" ++ then_number report.now.charge
         ++ codes " depth" ++ then_number report.now.depth
         ++ codes " pointers" ++ then_number report.now.pointers ++ codes " caps" ++ then_number report.now.caps) }

@@ -6,8 +6,8 @@ use Rattle.cap_run.proofs.engines.dump.write_tree.Goals as goal
 pub returns-in-Ok : goal.returns-in-Ok
 returns-in-Ok g c = λ t k d tree.
     let report = report_of c.args.vetted.now in
-    writes_behind g.O.ByteOut c.args.out.now c.write_bytes.new.out c.dump.new.out c.dump.result c.as_slice.result.now
-    (vet_text c.args.number (accepted report.charge report.depth report.pointers report.caps)) (dump_text t) (cc) c.in-Ok.ensures (c.dump.ensures t k d tree)
+    writes_behind g.O.ByteOut c.args.out.now c.write_bytes.new.out c.write_dump.new.out c.write_dump.result c.as_slice.result.now
+    (vet_text c.args.number (accepted report.charge report.depth report.pointers report.caps)) (dump_text t) (cc) c.in-Ok.ensures (c.write_dump.ensures t k d tree)
 
 pub returns-in-Err : goal.returns-in-Err
 returns-in-Err g c = λ t k d tree.

@@ -2,7 +2,7 @@ use Rattle.std.proofs.Common.{ap, arith}
 use Rattle.cap_vet.specs.Handles.{node_message, node_spot}
 use Rattle.cap_vet.specs.Vettings.{message_of}
 use Rattle.cap_run.proofs.Dumping.{at_root, height_denoted, stops_dump, writes_dump}
-use Rattle.cap_run.proofs.texts.dump.dump.Goals as goal
+use Rattle.cap_run.proofs.texts.dump.write_dump.Goals as goal
 
 pub write_children-requires-clause-open : goal.write_children-requires-clause-open
 write_children-requires-clause-open g c =
