@@ -1,4 +1,4 @@
-use Rattle.std.proofs.Common.{ap, arith, length, length-append, replicate, ◌*◌, ◌+◌, ◌∙◌, ◌++◌, ◌∷◌, [], List, refl, subst}
+use Rattle.std.proofs.Common.{ap, arith, length, length-append, replicate, ◌*◌, ◌+◌, ◌∙◌, ◌++◌, ◌∷◌, [], refl, subst}
 use Rattle.cap_spec.specs.Showing.{words_of_own}
 use Rattle.cap_spec.specs.Texts.{word_lines, label}
 use Rattle.cap_vet.specs.Handles.{shown}

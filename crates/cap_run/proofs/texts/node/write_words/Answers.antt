@@ -1,4 +1,4 @@
-use Rattle.std.proofs.Common.{ap, arith, length, length-append, ◌∙◌, ◌*◌, ◌++◌, ◌∷◌, [], List, refl, replicate, subst}
+use Rattle.std.proofs.Common.{ap, arith, length, length-append, ◌∙◌, ◌*◌, ◌++◌, ◌∷◌, [], refl, replicate, subst}
 use Rattle.cap_spec.specs.Showing.{words_of_own}
 use Rattle.cap_spec.specs.Texts.{hex, label}
 use Rattle.cap_vet.specs.Handles.{shown}
