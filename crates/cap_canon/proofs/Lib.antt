@@ -16,6 +16,7 @@ mod Lengths
 mod Needed
 mod Owing
 mod Ranges
+pub mod SpelledWords
 mod Standing
 mod Structs
 mod Trimmed

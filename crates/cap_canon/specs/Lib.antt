@@ -6,5 +6,6 @@ pub mod InPlace
 pub mod Laying
 pub mod Objects
 pub mod Owing
+pub mod Spelled
 pub mod Trimming
 pub mod Values

@@ -64,9 +64,9 @@ pub fn canonical<M: Segments>(alloc: Global, v: &Vetted<'_, M>) -> Result<Vec<u6
     Ok(words)
 }
 
-// Appends the layout of a message of this depth, trimmed. The frames are made ready anew for each
-// message, so a walk that can't be deep has few of them.
-fn copy_into<M: Segments, T: Target>(message: &M, depth: u32, copy: &mut T)
+/// Appends the layout of a message of this depth, trimmed. The frames are made ready anew for each
+/// message, so a walk that can't be deep has few of them.
+pub(crate) fn copy_into<M: Segments, T: Target>(message: &M, depth: u32, copy: &mut T)
     requires denotes { (t : Tree) × (c : ℕ) × Denotes (M.segments message.now) 0 0 t c depth × (c ≤ 268435456) × (depth ≤ 256)
         × (length (layout (trim t)) ≤ T.room copy.old) }
     requires empty { T.words copy.old ≡ [] }

@@ -8,6 +8,7 @@ pub mod fault;
 mod frame;
 pub mod length;
 mod objects;
+pub mod spelled;
 mod target;
 mod trimming;
 mod walk;
@@ -17,6 +18,7 @@ pub use checking::is_canonical;
 pub use copying::canonical;
 pub use fault::CanonFault;
 pub use length::canonical_len;
+pub use spelled::canonical_bytes;
 
 #[cfg(test)]
 mod held;

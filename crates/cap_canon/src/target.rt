@@ -36,7 +36,12 @@ pub(crate) trait Target {
         requires room { length (words self.old) + count ≤ room self.old }
         ensures words { words self.new ≡ words self.old ++ words_from (M.segments message.now) segment start count }
         ensures room { room self.old ≤ room self.new }
-        ensures are_words { AllByRecursion IsWord (words_from (M.segments message.now) segment start count) };
+        ensures are_words { AllByRecursion IsWord (words_from (M.segments message.now) segment start count) }
+    {
+        'words: for k in 0..count {
+            self.push(message.word(segment, start + k));
+        }
+    }
 }
 
 impl Target for Vec<u64> {
@@ -50,11 +55,5 @@ impl Target for Vec<u64> {
 
     fn set(&mut self, place: u32, word: u64) {
         self[place as usize] = word;
-    }
-
-    fn append_from<M: Segments>(&mut self, message: &M, segment: u32, start: u32, count: u32) {
-        'words: for k in 0..count {
-            self.push_reserved(message.word(segment, start + k));
-        }
     }
 }

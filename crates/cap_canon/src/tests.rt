@@ -1,9 +1,10 @@
-//! What the three calls say together of messages whose copies are known from outside.
+//! What the four calls say together of messages whose copies are known from outside.
 
 use crate::held::in_one_buffer;
-use crate::{CanonFault, canonical, canonical_len, is_canonical};
+use crate::{CanonFault, canonical, canonical_bytes, canonical_len, is_canonical};
 use cap_frame::{OneSegment, Segments};
 use cap_vet::{Limits, Vetted, vet};
+use cap_words::bytes_of;
 use std::alloc::Global;
 use std::process::Abort;
 use std::test::Fail;
@@ -53,6 +54,14 @@ fn makes_copy<M: Segments>(
         return Err("no copy".into());
     };
     assert_eq!(rt; made.as_slice(), copied, "of {segment:?}");
+    let Ok(bytes) = canonical_bytes(alloc, &vetted) else {
+        return Err("no bytes".into());
+    };
+    let mut spelled = Vec::new(alloc);
+    for word in copied {
+        spelled.extend_from_slice(&bytes_of(*word))?;
+    }
+    assert_eq!(rt; bytes.as_slice(), spelled.as_slice(), "of {segment:?}");
     assert_eq!(rt; is_canonical(&vetted), segment == copied, "of {segment:?}");
     let copy = OneSegment::new(&made).ok_or("no message")?;
     let again = accepted(&copy, report.charge, report.depth)?;
@@ -327,7 +336,7 @@ fn messages_of_many_levels(rt: HostRuntime) -> Result<(), Fail> {
     Ok(())
 }
 
-// The one reservation of a copy may be refused. Nothing else here takes memory.
+// The one reservation of each copy may be refused. Nothing else here takes memory.
 #[test]
 fn a_copy_or_no_memory(rt: HostRuntime) -> Result<(), Fail> {
     let segment = [0x0000000100000000, 42, 0];
@@ -337,5 +346,20 @@ fn a_copy_or_no_memory(rt: HostRuntime) -> Result<(), Fail> {
         Ok(made) => assert_eq!(rt; made.as_slice(), [0x0000000100000000, 42].as_slice()),
         Err(fault) => assert_eq!(rt; fault, CanonFault::Memory),
     }
+    match canonical_bytes(rt.alloc(), &vetted) {
+        Ok(made) => assert_eq!(rt;
+            made.as_slice(),
+            [0, 0, 0, 0, 1, 0, 0, 0, 42, 0, 0, 0, 0, 0, 0, 0].as_slice()
+        ),
+        Err(fault) => assert_eq!(rt; fault, CanonFault::Memory),
+    }
+    let with_capability = [3];
+    let message = OneSegment::new(&with_capability).ok_or("no message")?;
+    let vetted = accepted(&message, 268435456, 256)?;
+    let fault = CanonFault::HasCapability {
+        segment: 0,
+        word: 0,
+    };
+    assert!(rt; canonical_bytes(rt.alloc(), &vetted).is_err_and(|other| other == fault));
     Ok(())
 }

@@ -1,19 +1,21 @@
-use Rattle.std.proofs.Common.{◌∙◌, ◌++◌, [], ◌∷◌, List, ℕ, ap, sym, subst, rules, append_assoc}
+use Rattle.std.proofs.Common.{◌∙◌, ◌++◌, [], ◌∷◌, List, ℕ, ap, sym, subst, arith, rules, append_assoc, length-append}
 use Rattle.std.specs.List.{AllByRecursion}
 use Rattle.cap_spec.specs.Denoting.{words_from}
 use Rattle.cap_spec.specs.Words.{IsWord}
 use Rattle.cap_spec.proofs.Lists.{all_append}
+use Rattle.cap_spec.proofs.Shapes.{range_length}
 use Rattle.cap_canon.proofs.Ranges.{range_more}
-use Rattle.cap_canon.proofs.target.VecU64Target.append_from.Goals as goal
+use Rattle.cap_canon.proofs.target.Target.append_from.Goals as goal
 
 pub words-preserved : goal.words-preserved
 words-preserved g c =
     let m = g.M.Segments.segments c.args.message.now in
+    let old = g.Self.Target.words c.args.self.now in
     let front = words_from m c.args.segment c.args.start c.words.k in
     let more = range_more m c.args.segment c.args.start c.words.k c.word.result c.word.ensures in
     let small : IsWord c.word.result = search rules in record {
-      words = c.push_reserved.ensures.items ∙ (ap (λ xs. xs ++ c.word.result ∷ []) c.words.invariant.words
-          ∙ (append_assoc c.args.self.now.items front (c.word.result ∷ []) ∙ ap (λ xs. c.args.self.now.items ++ xs) (sym more)));
-      room = c.push_reserved.ensures.capacity ∙ c.words.invariant.room;
+      words = c.push.ensures.words ∙ (ap (λ xs. xs ++ c.word.result ∷ []) c.words.invariant.words
+          ∙ (append_assoc old front (c.word.result ∷ []) ∙ ap (λ xs. old ++ xs) (sym more)));
+      room = omega (arith, c.push.ensures.room, c.words.invariant.room);
       are_words = subst (λ (xs : List ℕ). AllByRecursion IsWord xs) (sym more) (all_append IsWord front (c.word.result ∷ []) c.words.invariant.are_words (small, tt));
     }

@@ -1,0 +1,17 @@
+use Rattle.std.proofs.Common.{◌∙◌, ◌<◌, arith}
+use Rattle.cap_canon.proofs.SpelledWords.{spelled_count, word_set}
+use Rattle.cap_canon.proofs.spelled.SpelledTarget.set.Goals as goal
+
+pub write_word-requires : goal.write_word-requires
+write_word-requires c =
+    let self = c.args.self.now in
+    let few = spelled_count self.count self.bytes.items (omega arith) in
+    omega (arith, few)
+
+pub returns-clause-words : goal.returns-clause-words
+returns-clause-words c =
+    let self = c.args.self.now in
+    let few = spelled_count self.count self.bytes.items (omega arith) in
+    let below : c.args.place < self.count = omega (arith, few) in
+    word_set _ self.count c.args.place c.args.word c.write_word.new.bytes c.as_mut_slice.result.now self.bytes.items c.as_mut_slice.ensures.value
+    (c.write_word.ensures.len ∙ c.as_mut_slice.ensures.len) below c.write_word.ensures.words

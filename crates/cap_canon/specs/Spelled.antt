@@ -1,0 +1,7 @@
+-- Words that are written as bytes into room for more of them (profile).
+use Rattle.std.specs.Prelude.{ℕ, List, take}
+use Rattle.cap_spec.specs.Plain.{plain_words}
+
+-- the first so many words of the bytes
+abbrev pub spelled_words : ℕ → List ℕ → List ℕ
+spelled_words count bytes = take count (plain_words bytes)
