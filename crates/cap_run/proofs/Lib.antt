@@ -6,6 +6,7 @@ pub mod Digits
 pub mod Dumping
 pub mod FoundNodes
 pub mod Going
+pub mod Handing
 pub mod Nodes
 pub mod Making
 pub mod Numbers

@@ -5,19 +5,38 @@ ghost use Rattle.cap_run.specs.Copying.{Fills};
 ghost use Rattle.cap_run.specs.Making.{CopyStops, Made, Making, NextStops, is_unfinished};
 ghost use Rattle.cap_run.specs.Streams.{EndsStream, ReadsStream};
 ghost use Rattle.cap_frame.specs.Limit.{limit_of};
+ghost use Rattle.cap_frame.specs.Putting.{Halts};
 ghost use Rattle.cap_spec.specs.Frames.{frame_text};
+ghost use Rattle.cap_spec.specs.Plain.{plain_words};
 ghost use Rattle.cap_vet.specs.Limits.{depth_of, words_of};
-ghost use Rattle.std.specs.Prelude.{◌≡◌, [], ◌∷◌, IfErr, List, OnOk, false, true, ℕ};
+ghost use Rattle.std.specs.Prelude.{◌<◌, ◌≡◌, ◌^◌, [], ◌∷◌, IfErr, List, OnOk, false, length, true, ℕ};
 
 use crate::engines::copy::output_fault;
 use crate::engines::stream::end_stream;
 use crate::fault::{Cause, RunFault};
 use crate::settings::{Outcome, Settings};
-use cap_canon::canonical;
-use cap_frame::{ByteMessage, OneSegment, Segments, read_into, write_message};
+use cap_canon::canonical_bytes;
+use cap_frame::{ByteMessage, Segments, read_into};
 use cap_vet::{Limits, vet};
-use cap_words::{WordSink, WordSource};
+use cap_words::{SinkFault, WordSink, WordSource};
 use std::alloc::Global;
+
+/// Puts the words of these bytes as a framed message of one segment: its table, and then all of them
+/// in one piece.
+fn put_framed<K: WordSink>(sink: &mut K, copy: &[u8]) -> Result<(), SinkFault>
+    requires { length copy.now < 2 ^ 35 }
+    ensures ok { OnOk result (Fills K.WordSink sink.old sink.new (frame_text (plain_words copy.now ∷ []))) }
+    ensures err { IfErr result (Halts K.WordSink sink.old sink.new (frame_text (plain_words copy.now ∷ []))) }
+{
+    let table = copy.len() as u64 / 8 * 0x1_0000_0000;
+    if let Err(fault) = sink.put(table) {
+        return Err(fault);
+    }
+    if let Err(fault) = sink.put_bytes(copy) {
+        return Err(fault);
+    }
+    Ok(())
+}
 
 /// Puts the copy of a message that is accepted within the limits and has one.
 fn put_copy<K: WordSink, M: Segments>(
@@ -35,14 +54,11 @@ fn put_copy<K: WordSink, M: Segments>(
         Ok(vetted) => vetted,
         Err(refusal) => return Err(Cause::Refused(refusal)),
     };
-    let copy = match canonical(alloc, &vetted) {
+    let copy = match canonical_bytes(alloc, &vetted) {
         Ok(copy) => copy,
         Err(fault) => return Err(Cause::Canon(fault)),
     };
-    let Some(framed) = OneSegment::new(&copy) else {
-        unreachable!()
-    };
-    match write_message(sink, &framed) {
+    match put_framed(sink, &copy) {
         Ok(()) => Ok(()),
         Err(fault) => Err(Cause::Output(output_fault(fault))),
     }

@@ -1,0 +1,22 @@
+-- A message of one segment, whose words are handed over in one piece.
+use Rattle.std.proofs.Common.{◌≡◌, ◌∙◌, ◌-◌, ◌*◌, ◌/◌, ◌^◌, ℕ, List, [], ◌∷◌, ◌++◌, length, ap, arith, append-nil}
+use Rattle.cap_spec.specs.Frames.{frame_text}
+use Rattle.cap_spec.specs.Plain.{plain_words}
+use Rattle.cap_words.specs.Sinks.{WasPut}
+use Rattle.cap_words.specs.declared.sinks.WordSink as sink
+use Rattle.cap_canon.proofs.SpelledWords.{word_count}
+use Rattle.cap_run.specs.Copying.{Fills}
+use Rattle.std.proofs.Common.{◌+◌, false, sym}
+
+-- the table of one segment is one word
+pub frame_of_bytes : (bytes : List ℕ) (x : ℕ) → x ≡ length bytes / 8 * 2 ^ 32 → frame_text (plain_words bytes ∷ []) ≡ (x ∷ []) ++ plain_words bytes
+frame_of_bytes bytes x e =
+    let ws = plain_words bytes in
+    let same : 1 - 1 + 2 ^ 32 * length ws ≡ x = omega (arith, word_count bytes, e) in
+    ap (λ n. n ∷ (ws ++ [])) same ∙ ap (λ l. x ∷ l) (append-nil ws)
+
+module _ {K : Type 0} (gk : sink.Ghosts K) where
+  -- words were put, and no fault came
+  pub fills_of : (old new : K) (own : List ℕ) → WasPut gk.text old new own
+      → (gk.closed old ≡ false) × (gk.closed new ≡ false) × (gk.spent new ≡ gk.spent old) × (gk.failures new ≡ gk.failures old) → Fills gk old new own
+  fills_of old new own p o = record { put = p; closed = o.1 ∙ sym o.0; spent = o.2; failures = o.3 }

@@ -1,0 +1,34 @@
+use Rattle.std.proofs.Common.{◌≡◌, [], ◌∷◌, ◌++◌, ◌*◌, ◌/◌, List, ℕ, length, subst, sym, arith}
+use Rattle.cap_spec.specs.Frames.{frame_text}
+use Rattle.cap_spec.specs.Plain.{plain_words}
+use Rattle.cap_frame.specs.Putting.{Halts}
+use Rattle.cap_frame.proofs.Putting.{halts_before, halts_one}
+use Rattle.cap_run.specs.Copying.{Fills}
+use Rattle.cap_run.proofs.Copying.{fills_both}
+use Rattle.cap_run.proofs.Handing.{fills_of, frame_of_bytes}
+use Rattle.cap_run.proofs.Making.{halts_behind, halts_of}
+use Rattle.cap_run.proofs.engines.canon.put_framed.Goals as goal
+
+pub returns-in-Err-clause-err : goal.returns-in-Err-clause-err
+returns-in-Err-clause-err g c =
+    let whole = frame_of_bytes c.args.copy.now (length c.args.copy.now / 8 * 4294967296) (omega arith) in
+    subst (λ (ws : List ℕ). Halts g.K.WordSink c.args.sink.now c.put.new.self ws c.in-Err.fault) (sym whole)
+    (halts_before g.K.WordSink c.args.sink.now c.put.new.self _ (plain_words c.args.copy.now) c.in-Err.fault
+    (halts_one g.K.WordSink c.args.sink.now c.put.new.self _ c.put.result c.in-Err.fault c.in-Err.is c.in-Err.ensures.err c.put.ensures.device c.put.ensures.memory c.put.ensures.was_spent))
+
+pub returns-in-Err-put_bytes-clause-err : goal.returns-in-Err-put_bytes-clause-err
+returns-in-Err-put_bytes-clause-err g c =
+    let ws = plain_words c.args.copy.now in
+    let whole = frame_of_bytes c.args.copy.now (length c.args.copy.now / 8 * 4294967296) (omega arith) in
+    let first = fills_of g.K.WordSink c.args.sink.now c.put.new.self (length c.args.copy.now / 8 * 4294967296 ∷ []) c.in_default.ensures.put c.in_default.ensures.ok in
+    let halts = halts_of g.K.WordSink c.put.new.self c.put_bytes.new.self ws c.put_bytes.result c.in-Err-put_bytes.fault c.in-Err-put_bytes.is c.in-Err-put_bytes.ensures.err c.put_bytes.ensures.device c.put_bytes.ensures.memory c.put_bytes.ensures.was_spent in
+    subst (λ (xs : List ℕ). Halts g.K.WordSink c.args.sink.now c.put_bytes.new.self xs c.in-Err-put_bytes.fault) (sym whole)
+    (halts_behind g.K.WordSink c.args.sink.now c.put.new.self c.put_bytes.new.self _ ws c.in-Err-put_bytes.fault first halts)
+
+pub returns-clause-ok : goal.returns-clause-ok
+returns-clause-ok g c =
+    let ws = plain_words c.args.copy.now in
+    let whole = frame_of_bytes c.args.copy.now (length c.args.copy.now / 8 * 4294967296) (omega arith) in
+    let first = fills_of g.K.WordSink c.args.sink.now c.put.new.self (length c.args.copy.now / 8 * 4294967296 ∷ []) c.in_default.ensures.put c.in_default.ensures.ok in
+    let rest = fills_of g.K.WordSink c.put.new.self c.put_bytes.new.self ws c.in_default-put_bytes.ensures.put c.in_default-put_bytes.ensures.ok in
+    subst (Fills g.K.WordSink c.args.sink.now c.put_bytes.new.self) (sym whole) (fills_both g.K.WordSink c.args.sink.now c.put.new.self c.put_bytes.new.self _ ws first rest)
