@@ -198,7 +198,7 @@ def live_pipe(command, wanted):
         ran.stdin.write(sample("contacts.bin"))
         ran.stdin.flush()
         text = b""
-        while len(text) < len(wanted) and select.select([ran.stdout], [], [], 2)[0]:
+        while len(text) < len(wanted) and select.select([ran.stdout], [], [], 60)[0]:
             text += os.read(ran.stdout.fileno(), 65536)
         ran.stdin.close()
         compare(f"capvet {command}, with an input that stays open", (wanted.encode(), b"", 0),

@@ -11,7 +11,8 @@ use thiserror::Error;
 #[error("message {message}: {cause:?}")]
 pub struct RunFault {
     /// The number of the message at which it ended, counted from 0. Where the output failed, as
-    /// many messages' texts were handed over whole.
+    /// many messages' texts were handed over whole: the next one was taken in part, or was taken and
+    /// couldn't be flushed.
     pub message: u32,
     /// Why it ended there.
     pub cause: Cause,
@@ -24,7 +25,7 @@ pub enum Cause {
     TooManyMessages,
     /// No message could be read.
     Frame(FrameFault),
-    /// The output didn't take the text. It took a beginning of it.
+    /// The output didn't take the text, or didn't hand it on. It took a beginning of it.
     Output(OutFault),
     /// The message was refused, where it has to have a canonical copy.
     Refused(Refusal),

@@ -71,8 +71,8 @@ pub(crate) fn end_stream<S: WordSource>(source: &mut S, limit: SizeLimit) -> Res
     }
 }
 
-/// Hands on what was written where the next message may have to be waited for. After a fault the
-/// output took all that it was given.
+/// Hands on what was written where no byte of the next message has come yet. After a fault the output
+/// took all that it was given.
 fn hand_on<S: WordSource, O: ByteOut>(source: &S, out: &mut O) -> Result<(), OutFault>
     ensures { (before : O) (text : List ℕ) → Wrote O.ByteOut before out.old text → Writes O.ByteOut before out.new result text }
 {
