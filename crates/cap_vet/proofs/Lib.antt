@@ -24,3 +24,8 @@ mod NodeTrees
 mod Placed
 mod Views
 mod Charging
+mod Bits
+mod Marking
+mod Pointing
+mod Ranges
+mod Pads

@@ -7,11 +7,12 @@ use Rattle.cap_spec.specs.Following.{Leads, extra, to_cap, to_null}
 use Rattle.cap_spec.specs.Pointers.{extent}
 use Rattle.cap_spec.specs.Denoting.{Finds}
 use Rattle.cap_spec.specs.Verdicts.{levels_below}
+use Rattle.cap_spec.specs.declared.Step.{Step}
 use Rattle.cap_vet.specs.Trails.{Ahead}
 use Rattle.cap_vet.specs.Frames.{FrameIn, IsRest, LevelIs, OptionIn, all_spots, option_spots, place_of, spots}
 use Rattle.cap_vet.specs.Looking.{FrameRises, IsLooked, object_children}
 use Rattle.cap_vet.specs.Turning.{added, frame_below}
-use Rattle.cap_vet.specs.Walking.{IsNext, AreStacked, IsWalking, Progress, work_left, work_next}
+use Rattle.cap_vet.specs.Walking.{IsNext, AreStacked, IsWalking, Progress, Walks, work_left, work_next}
 use Rattle.cap_vet.specs.declared.frame.Frame.{Frame}
 use Rattle.cap_vet.specs.declared.looking.Looked.{Looked}
 use Rattle.cap_vet.specs.declared.looking.Looked.TheVariants as looked
@@ -46,39 +47,45 @@ stacked-below : (depth level : ℕ) (r : Option Frame) (frames : List Frame) →
 stacked-below depth level None frames h l s = s
 stacked-below depth level (Some r) frames h l s = (omega (arith, l.0), l.1, s)
 
--- The first word of the topmost frame is the next to look at.
-pub next_of : (m : List (List ℕ)) (words depth : ℕ) (frames : List Frame) (f : Frame) (r : Option Frame) (report : Report) → IsWalking m words depth (frames ++ f ∷ []) report → IsRest f r
-    → IsNext m words depth f.segment f.at f.level (frames ++ option_to_list r) report
-next_of m words depth frames f r report (seen, aheads, w) rest =
+-- The first word of the topmost frame is the next to look at, and what was looked at stays.
+pub next_seen : (m : List (List ℕ)) (words depth : ℕ) (frames : List Frame) (f : Frame) (r : Option Frame) (report : Report) (seen : List (List Step)) (aheads : List Ahead) → Walks m words depth (frames ++ f ∷ []) report seen aheads → IsRest f r
+    → (n : IsNext m words depth f.segment f.at f.level (frames ++ option_to_list r) report) × (n.seen ≡ seen)
+next_seen m words depth frames f r report seen aheads w rest =
     let e : reverse (frames ++ f ∷ []) ≡ f ∷ reverse frames = reverse-append frames (f ∷ []) in
     let places : map place_of aheads ≡ spots f ++ all_spots (reverse frames) = rw e at w.places in
     let inside : AllByRecursion (FrameIn m) (f ∷ reverse frames) = rw e at w.inside in
     let stacked : AreStacked depth (f ∷ reverse frames) = rw e at w.stacked in
     let more = reverse-more frames r in
-    let next = next_ahead (f.segment, f.at, f.level) (option_spots r ++ all_spots (reverse frames)) aheads (places ∙ ap (λ u. u ++ all_spots (reverse frames)) rest.words) in record {
-      seen = seen;
-      a = next.a;
-      ahead = next.ahead;
-      progress = subst (λ u. Progress m words depth report.charge report.depth report.pointers report.caps report.first_cap seen u) next.whole w.progress;
-      segment = next.segment;
-      at = next.word;
-      leads_to = next.level;
-      exists = inside.0.exists;
-      within = omega (arith, inside.0.some, inside.0.inside);
-      places = rw more (next.rest ∙ sym (spots-more r (reverse frames)));
-      inside = rw more (inside-more m r (reverse frames) (rest.inside m inside.0) inside.1);
-      stacked = rw more (stacked-rest depth f.level r (reverse frames) stacked.0 stacked.1 rest.level stacked.2);
-      high = rw more (high-rest f.level r (reverse frames) stacked.0);
-      low = stacked.1;
-    }
+    let next = next_ahead (f.segment, f.at, f.level) (option_spots r ++ all_spots (reverse frames)) aheads (places ∙ ap (λ u. u ++ all_spots (reverse frames)) rest.words) in (
+      record {
+        seen = seen;
+        a = next.a;
+        ahead = next.ahead;
+        progress = subst (λ u. Progress m words depth report.charge report.depth report.pointers report.caps report.first_cap seen u) next.whole w.progress;
+        segment = next.segment;
+        at = next.word;
+        leads_to = next.level;
+        exists = inside.0.exists;
+        within = omega (arith, inside.0.some, inside.0.inside);
+        places = rw more (next.rest ∙ sym (spots-more r (reverse frames)));
+        inside = rw more (inside-more m r (reverse frames) (rest.inside m inside.0) inside.1);
+        stacked = rw more (stacked-rest depth f.level r (reverse frames) stacked.0 stacked.1 rest.level stacked.2);
+        high = rw more (high-rest f.level r (reverse frames) stacked.0);
+        low = stacked.1;
+      },
+      refl,
+    )
 
--- Looking at the next word keeps the walk.
-pub walk_on : (m : List (List ℕ)) (words depth s w level : ℕ) (frames : List Frame) (report : Report) (l : Looked) → IsNext m words depth s w level frames report
-    → IsLooked m words depth report.charge s w level l → IsWalking m words depth (frames ++ option_to_list (frame_below l)) (added report s w l)
-walk_on m words depth s w level frames report (looked.Null cost) t (h, within) =
+pub next_of : (m : List (List ℕ)) (words depth : ℕ) (frames : List Frame) (f : Frame) (r : Option Frame) (report : Report) → IsWalking m words depth (frames ++ f ∷ []) report → IsRest f r
+    → IsNext m words depth f.segment f.at f.level (frames ++ option_to_list r) report
+next_of m words depth frames f r report (seen, aheads, w) rest = (next_seen m words depth frames f r report seen aheads w rest).0
+
+-- Looking at the next word keeps the walk, and that word is the last that was looked at.
+pub walks_on : (m : List (List ℕ)) (words depth s w level : ℕ) (frames : List Frame) (report : Report) (l : Looked) (t : IsNext m words depth s w level frames report)
+    → IsLooked m words depth report.charge s w level l → (later : List Ahead) × Walks m words depth (frames ++ option_to_list (frame_below l)) (added report s w l) (t.a.path ∷ t.seen) later
+walks_on m words depth s w level frames report (looked.Null cost) t (h, within) =
     let own : Leads m t.a.segment t.a.word cost to_null = rw (t.segment, t.at) h in
     let more = reverse-more frames None in (
-      t.a.path ∷ t.seen,
       t.ahead,
       record {
         progress = turn_null m words depth report.charge report.depth report.pointers report.caps cost report.first_cap t.seen t.a t.ahead t.progress own within;
@@ -87,10 +94,9 @@ walk_on m words depth s w level frames report (looked.Null cost) t (h, within) =
         stacked = rw more t.stacked;
       },
     )
-walk_on m words depth s w level frames report (looked.Cap cost) t ((i, h), within) =
+walks_on m words depth s w level frames report (looked.Cap cost) t ((i, h), within) =
     let own : Leads m t.a.segment t.a.word cost (to_cap i) = rw (t.segment, t.at) h in
     let more = reverse-more frames None in (
-      t.a.path ∷ t.seen,
       t.ahead,
       record {
         progress = rw (← t.segment, ← t.at) (turn_cap m words depth report.charge report.depth report.pointers report.caps cost i report.first_cap t.seen t.a t.ahead t.progress own within);
@@ -99,7 +105,7 @@ walk_on m words depth s w level frames report (looked.Cap cost) t ((i, h), withi
         stacked = rw more t.stacked;
       },
     )
-walk_on m words depth s w level frames report (looked.Object cost deep below) t (k, u, b, q, tag, o) =
+walks_on m words depth s w level frames report (looked.Object cost deep below) t (k, u, b, q, tag, o) =
     let own : Finds m t.a.segment t.a.word k u b q = rw (t.segment, t.at) o.finds in
     let children : List Ahead = object_children t.a.path q tag u b t.a.level in
     let within : report.charge + (k + extent q + extra q tag) ≤ words = omega (arith, o.within, o.charge) in
@@ -110,7 +116,6 @@ walk_on m words depth s w level frames report (looked.Object cost deep below) t 
     let places : map place_of (children ++ t.ahead) ≡ option_spots below ++ all_spots (reverse frames) =
     map-append place_of children t.ahead ∙ rw (object_places-children t.a.path q tag u b t.a.level, t.leads_to, o.places, t.places) refl in
     let more = reverse-more frames below in (
-      t.a.path ∷ t.seen,
       children ++ t.ahead,
       record {
         progress = rw (e, g) at done;
@@ -119,6 +124,10 @@ walk_on m words depth s w level frames report (looked.Object cost deep below) t 
         stacked = rw more (stacked-below depth level below (reverse frames) t.high o.rises t.stacked);
       },
     )
+
+pub walk_on : (m : List (List ℕ)) (words depth s w level : ℕ) (frames : List Frame) (report : Report) (l : Looked) → IsNext m words depth s w level frames report
+    → IsLooked m words depth report.charge s w level l → IsWalking m words depth (frames ++ option_to_list (frame_below l)) (added report s w l)
+walk_on m words depth s w level frames report l t h = let r = walks_on m words depth s w level frames report l t h in (t.a.path ∷ t.seen, r.0, r.1)
 
 -- a word has no more words below it than it costs
 few_below : (m : List (List ℕ)) (words depth s w level : ℕ) (frames : List Frame) (report : Report) (l : Looked) → IsNext m words depth s w level frames report

@@ -81,7 +81,7 @@ Apart-under a q (b ∷ ahead) h (inl (rest, e)) = subst (Apart a.path) (sym e) (
 Apart-under a q (b ∷ ahead) h (inr k) = Apart-trans a.path b.path q h.0 (Apart-under b q ahead h.1 k)
 
 -- what a path reaches up to the head of what is ahead was looked at, or is the head
-up_to_head : (a : Ahead) (seen : List (List Step)) (ahead : List Ahead) (q : List Step) → AreApart (a ∷ ahead)
+pub up_to_head : (a : Ahead) (seen : List (List Step)) (ahead : List Ahead) (q : List Step) → AreApart (a ∷ ahead)
     → IsOneOf q seen ⊎ IsUnder q (a ∷ ahead) → (q ≡ a.path) ⊎ Before q a.path → IsOneOf q (a.path ∷ seen)
 up_to_head a seen ahead q apart (inl h) k = inr h
 up_to_head a seen ahead q apart (inr (inl ([], e))) k = inl (e ∙ append-nil a.path)

@@ -53,7 +53,7 @@ first_fault m words depth s w level frames report v t h =
     }
 
 -- where no word is ahead, none is left on the frames
-none_ahead : (ahead : List Ahead) → map place_of ahead ≡ [] → ahead ≡ []
+pub none_ahead : (ahead : List Ahead) → map place_of ahead ≡ [] → ahead ≡ []
 none_ahead [] e = refl
 none_ahead (a ∷ ahead) e = absurd (let h : place_of a ∷ map place_of ahead ≡ [] = e in cc)
 

@@ -5,12 +5,14 @@ pub mod Frames
 pub mod Handles
 pub mod Limits
 pub mod Looking
+pub mod Marks
 pub mod Nodes
 pub mod Owing
 pub mod Reports
 pub mod Rows
 pub mod Shapes
 pub mod Spots
+pub mod Taken
 pub mod Trails
 pub mod Turning
 pub mod Vettings

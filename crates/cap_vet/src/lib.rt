@@ -7,6 +7,7 @@ mod found;
 mod frame;
 pub mod limits;
 mod looking;
+mod marks;
 pub mod node;
 pub mod place;
 pub mod report;

@@ -4,9 +4,10 @@ ghost use Rattle.cap_spec.specs.Faults.{IsFirstFault};
 ghost use Rattle.cap_vet.specs.Frames.{kept};
 ghost use Rattle.cap_vet.specs.Limits.{depth_of, words_of};
 ghost use Rattle.cap_vet.specs.Turning.{added, frame_below};
-ghost use Rattle.cap_vet.specs.Walking.{IsNext, IsWalking, work_left, work_next};
+ghost use Rattle.cap_vet.specs.Trails.{Ahead};
+ghost use Rattle.cap_vet.specs.Walking.{IsNext, IsWalking, Walks, work_left, work_next};
 ghost use Rattle.std.specs.Option.{option_to_list};
-ghost use Rattle.std.specs.Prelude.{◌+◌, ◌++◌, ◌<◌, ◌≡◌, ◌≢◌, ◌≤◌, ◌^◌, [], IfErr, IfOk, List, length, ℕ};
+ghost use Rattle.std.specs.Prelude.{◌+◌, ◌++◌, ◌<◌, ◌≡◌, ◌≢◌, ◌≤◌, ◌^◌, [], ◌∷◌, IfErr, IfOk, List, length, ℕ};
 
 use crate::frame::Frame;
 use crate::limits::Limits;
@@ -35,6 +36,10 @@ pub(crate) fn visit<M: Segments>(
     requires next { (frames : List Frame) × IsNext (M.segments message.now) (words_of limits.now) (depth_of limits.now) s w level frames report.old }
     ensures ok { (frames : List Frame) → IsNext (M.segments message.now) (words_of limits.now) (depth_of limits.now) s w level frames report.old →
         IfOk result (λ below. IsWalking (M.segments message.now) (words_of limits.now) (depth_of limits.now) (frames ++ option_to_list below) report.new) }
+    // And this word is the last that was looked at.
+    ensures last { (frames : List Frame) (n : IsNext (M.segments message.now) (words_of limits.now) (depth_of limits.now) s w level frames report.old) →
+        IfOk result (λ below. (later : List Ahead)
+        × Walks (M.segments message.now) (words_of limits.now) (depth_of limits.now) (frames ++ option_to_list below) report.new (n.a.path ∷ n.seen) later) }
     ensures falls { (frames : List Frame) → IsNext (M.segments message.now) (words_of limits.now) (depth_of limits.now) s w level frames report.old →
         IfOk result (λ below. work_left (words_of limits.now) (frames ++ option_to_list below) report.new < work_next (words_of limits.now) frames report.old) }
     ensures err { IfErr result (IsFirstFault (M.segments message.now) (words_of limits.now) (depth_of limits.now)) }

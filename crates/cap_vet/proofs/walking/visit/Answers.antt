@@ -1,4 +1,4 @@
-use Rattle.cap_vet.proofs.Stacks.{walk_on, work_falls}
+use Rattle.cap_vet.proofs.Stacks.{walk_on, walks_on, work_falls}
 use Rattle.cap_vet.proofs.Verdicts.{first_fault}
 use Rattle.cap_vet.proofs.walking.visit.Goals as goal
 
@@ -19,6 +19,12 @@ returns-in-Ok-clause-falls g c = λ frames next. rw (c.add-in-Ok.ensures.report,
 
 pub returns-in-Some-clause-ok : goal.returns-in-Some-clause-ok
 returns-in-Some-clause-ok g c = λ frames next. rw (c.add.ensures.report, c.add.ensures.frame) (walk_on _ _ _ _ _ _ frames _ _ next c.in-Some.ensures)
+
+pub returns-in-Ok-clause-last : goal.returns-in-Ok-clause-last
+returns-in-Ok-clause-last g c = λ frames next. rw (c.add-in-Ok.ensures.report, c.add-in-Ok.ensures.frame) (walks_on _ _ _ _ _ _ frames _ _ next c.in-Ok.ensures.ok)
+
+pub returns-in-Some-clause-last : goal.returns-in-Some-clause-last
+returns-in-Some-clause-last g c = λ frames next. rw (c.add.ensures.report, c.add.ensures.frame) (walks_on _ _ _ _ _ _ frames _ _ next c.in-Some.ensures)
 
 pub returns-in-Some-clause-falls : goal.returns-in-Some-clause-falls
 returns-in-Some-clause-falls g c = λ frames next. rw (c.add.ensures.report, c.add.ensures.frame) (work_falls _ _ _ _ _ _ frames _ _ next c.in-Some.ensures)

@@ -1,0 +1,106 @@
+-- What marking a range of bits does to the places of a message.
+use Rattle.std.proofs.Common.{ℕ, zero, suc, ◌+◌, ◌*◌, ◌/◌, ◌%◌, ◌<◌, ◌≤◌, ◌≡◌, ◌⊎◌, ◌-◌, List, [], ◌∷◌, ◌++◌, length, inl, inr, refl, sym, ap, subst, ◌∙◌, arith, slice_index_or}
+use Rattle.std.proofs.lemmas.Bool.{cases_eq, cases_lt}
+use Rattle.std.proofs.lemmas.List.{get_or_append_left}
+use Rattle.std.proofs.Math.Seq.{get_or-append_seam}
+use Rattle.cap_spec.specs.Messages.{segment_of}
+use Rattle.cap_spec.specs.Denoting.{places}
+use Rattle.cap_spec.specs.Occupying.{AreApart, IsPlaceOf}
+use Rattle.cap_vet.specs.Marks.{MarksAll}
+use Rattle.cap_vet.specs.Taken.{IsTaken, bit_of, start_of}
+
+-- the places of a range
+pub in_places : (t b n s w : ℕ) → IsPlaceOf (s, w) (places t b n) → (s ≡ t) × (b ≤ w) × (w < b + n)
+in_places t b zero s w h = absurd h
+in_places t b (suc n) s w (inl e) = (ap (λ u. u.0) e, (let f : w ≡ b = ap (λ u. u.1) e in omega arith), (let f : w ≡ b = ap (λ u. u.1) e in omega arith))
+in_places t b (suc n) s w (inr h) = let r = in_places t (b + 1) n s w h in (r.0, omega (arith, r.1), omega (arith, r.2))
+
+pub at_place : (t b n w : ℕ) → b ≤ w → w < b + n → IsPlaceOf (t, w) (places t b n)
+at_place t b zero w h k = absurd (omega arith)
+at_place t b (suc n) w h k = elim (cases_eq w b) [
+  | inl e ↦ inl cc
+  | inr e ↦ inr (at_place t (b + 1) n w (omega arith) (omega arith))
+]
+
+pub apart_places : (t b n : ℕ) → AreApart (places t b n)
+apart_places t b zero = tt
+apart_places t b (suc n) = ((λ h. let r = in_places t (b + 1) n t b h in omega (arith, r.1)), apart_places t (b + 1) n)
+
+-- a segment ends before a later one starts
+start_order : (m : List (List ℕ)) (s s' : ℕ) → s < s' → s' ≤ length m → start_of m s + length (segment_of m s) ≤ start_of m s'
+start_order [] s s' h k = absurd (omega arith)
+start_order (x ∷ m) zero (suc s') h k = omega arith
+start_order (x ∷ m) (suc s) (suc s') h k = let r = start_order m s s' (omega arith) (omega arith) in omega (arith, r)
+start_order (x ∷ m) s zero h k = absurd (omega arith)
+
+-- where a place's bit lies in a range of bits of a segment, the place lies in the range
+same_place : (m : List (List ℕ)) (s from len s' w' : ℕ) → s < length m → s' < length m → from + len ≤ length (segment_of m s) → w' < length (segment_of m s')
+    → start_of m s + from ≤ start_of m s' + w' → start_of m s' + w' < start_of m s + from + len → (s' ≡ s) × (from ≤ w') × (w' < from + len)
+same_place m s from len s' w' h h' inside inside' low high = elim (cases_eq s' s) [
+  | inl e ↦ let f : start_of m s' ≡ start_of m s = ap (start_of m) e in (e, omega (arith, f), omega (arith, f))
+  | inr n ↦ elim (cases_lt s s') [
+    | inl less ↦ let r = start_order m s s' less (omega arith) in absurd (omega (arith, r))
+    | inr more ↦ let r = start_order m s' s (omega (arith, n)) (omega arith) in absurd (omega (arith, r))
+  ]
+]
+
+-- the bits of a range, which were free, are set
+pub marks_range : (m : List (List ℕ)) (old new : List ℕ) (s from len at : ℕ) → s < length m → from + len ≤ length (segment_of m s) → at ≡ start_of m s + from
+    → ((i : ℕ) → at ≤ i → i < at + len → bit_of new i ≡ 1) → ((i : ℕ) → at ≤ i → i < at + len → bit_of old i ≡ 0)
+    → ((i : ℕ) → i < at → bit_of new i ≡ bit_of old i) → ((i : ℕ) → at + len ≤ i → bit_of new i ≡ bit_of old i)
+    → MarksAll (IsTaken m old) (IsTaken m new) (places s from len)
+marks_range m old new s from len at h inside e set free below above = record {
+  apart = apart_places s from len;
+  free = λ s' w' p q. let r = in_places s from len s' w' p in
+      let f : start_of m s' ≡ start_of m s = ap (start_of m) r.0 in
+      let z : bit_of old (start_of m s' + w') ≡ 0 = free (start_of m s' + w') (omega (arith, f, r.1, e)) (omega (arith, f, r.2, e)) in
+      omega (arith, q.2, z);
+  set = λ s' w' p. let r = in_places s from len s' w' p in
+      let f : start_of m s' ≡ start_of m s = ap (start_of m) r.0 in
+      let g : length (segment_of m s') ≡ length (segment_of m s) = ap (λ u. length (segment_of m u)) r.0 in
+      (omega (arith, r.0), omega (arith, g, r.2), set (start_of m s' + w') (omega (arith, f, r.1, e)) (omega (arith, f, r.2, e)));
+  kept = λ s' w' q. elim (cases_lt (start_of m s' + w') at) [
+    | inl x ↦ (q.0, q.1, below (start_of m s' + w') x ∙ q.2)
+    | inr x ↦ elim (cases_lt (start_of m s' + w') (at + len)) [
+      | inl y ↦ (q.0, q.1, set (start_of m s' + w') x y)
+      | inr y ↦ (q.0, q.1, above (start_of m s' + w') y ∙ q.2)
+    ]
+  ];
+  only = λ s' w' q. elim (cases_lt (start_of m s' + w') at) [
+    | inl x ↦ inl (q.0, q.1, sym (below (start_of m s' + w') x) ∙ q.2)
+    | inr x ↦ elim (cases_lt (start_of m s' + w') (at + len)) [
+      | inl y ↦ let r = same_place m s from len s' w' h q.0 inside q.1 (omega (arith, e)) (omega (arith, e)) in
+          inr (subst (λ (u : ℕ). IsPlaceOf (u, w') (places s from len)) (sym r.0) (at_place s from len w' r.1 r.2))
+      | inr y ↦ inl (q.0, q.1, sym (above (start_of m s' + w') y) ∙ q.2)
+    ]
+  ];
+}
+
+-- a bit of the range that was set before is a place of it
+pub range_conflict : (m : List (List ℕ)) (old : List ℕ) (s from len at i : ℕ) → s < length m → from + len ≤ length (segment_of m s) → at ≡ start_of m s + from
+    → at ≤ i → i < at + len → bit_of old i ≡ 1 → (w : ℕ) × IsPlaceOf (s, w) (places s from len) × IsTaken m old s w
+range_conflict m old s from len at i h inside e low high taken =
+    let w : ℕ = from + (i - at) in
+    let f : i ≡ start_of m s + w = omega (arith, e) in
+    (w, at_place s from len w (omega arith) (omega (arith, e)), (h, omega (arith, e), subst (λ (u : ℕ). bit_of old u ≡ 1) f taken))
+
+-- a segment's bits are among all
+pub start_within : (m : List (List ℕ)) (s : ℕ) → s < length m → start_of m s + length (segment_of m s) ≤ start_of m (length m)
+start_within m s h = start_order m s (length m) h (omega arith)
+
+-- the next segment starts behind this one
+start_suc : (m : List (List ℕ)) (s : ℕ) → s < length m → start_of m (suc s) ≡ start_of m s + length (segment_of m s)
+start_suc [] s h = absurd (omega arith)
+start_suc (x ∷ m) zero h = omega arith
+start_suc (x ∷ m) (suc s) h = let r = start_suc m s (omega arith) in omega (arith, r)
+
+pub start_next : (m : List (List ℕ)) (s : ℕ) → s < length m → start_of m (s + 1) ≡ start_of m s + length (segment_of m s)
+start_next m s h = let e : s + 1 ≡ suc s = omega arith in ap (start_of m) e ∙ start_suc m s h
+
+-- the starts of one more segment
+pub starts_more : (m : List (List ℕ)) (starts : List ℕ) (s words k : ℕ) → length starts ≡ s → ((k : ℕ) → k < s → slice_index_or starts k 0 ≡ start_of m k) → words ≡ start_of m s → k < s + 1
+    → slice_index_or (starts ++ words ∷ []) k 0 ≡ start_of m k
+starts_more m starts s words k many h e less = elim (cases_eq k s) [
+  | inl f ↦ ap (λ u. slice_index_or (starts ++ words ∷ []) u 0) (f ∙ sym many) ∙ get_or-append_seam starts words [] 0 ∙ e ∙ sym (ap (start_of m) f)
+  | inr f ↦ get_or_append_left starts (words ∷ []) 0 k (omega (arith, f, many)) ∙ h k (omega (arith, f))
+]

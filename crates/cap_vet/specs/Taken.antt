@@ -1,0 +1,42 @@
+-- Which words of a message are marked in a flat map of bits (profile).
+use Rattle.std.specs.Prelude.{ℕ, zero, suc, ◌+◌, ◌*◌, ◌/◌, ◌%◌, ◌^◌, ◌<◌, ◌≤◌, ◌≡◌, List, [], ◌∷◌, length, slice_index}
+use Rattle.std.specs.Int.{bit_at}
+use Rattle.cap_spec.specs.Messages.{segment_of}
+use Rattle.cap_spec.specs.declared.Step.{Step}
+use Rattle.cap_vet.specs.Marks.{IsMarked}
+use Rattle.cap_vet.specs.Trails.{Ahead}
+use Rattle.cap_vet.specs.Walking.{Walks}
+use Rattle.cap_vet.specs.declared.frame.Frame.{Frame}
+use Rattle.cap_vet.specs.declared.marks.Starts.{Starts}
+use Rattle.cap_vet.specs.declared.report.Report.{Report}
+
+-- bit i of all the words, 0 or 1
+abbrev pub bit_of : List ℕ → ℕ → ℕ
+bit_of words i = bit_at (slice_index words (i / 64)) (i % 64)
+
+-- the words of the segments before segment s
+abbrev pub start_of : List (List ℕ) → ℕ → ℕ
+start_of m zero = 0
+start_of [] (suc s) = 0
+start_of (segment ∷ m) (suc s) = length segment + start_of m s
+
+-- the word exists, and its bit is set
+abbrev pub IsTaken : List (List ℕ) → List ℕ → ℕ → ℕ → Type 0
+IsTaken m bits s w = (s < length m) × (w < length (segment_of m s)) × (bit_of bits (start_of m s + w) ≡ 1)
+
+-- The starts are those of the message's segments.
+pub record AreStarts (m : List (List ℕ)) (starts : Starts) : Type 0 where
+  pub many : length starts.segments.items ≡ length m
+  pub each : (s : ℕ) → s < length m → slice_index starts.segments.items s ≡ start_of m s
+  pub words : starts.words ≡ start_of m (length m)
+  pub few : start_of m (length m) < 2 ^ 42
+
+-- There is a bit for each word.
+pub record HasRoom (m : List (List ℕ)) (starts : Starts) (bits : List ℕ) : Type 0 where
+  pub known : AreStarts m starts
+  pub enough : start_of m (length m) ≤ 64 * length bits
+
+-- The walk goes on with these frames, and the root word and what it has looked at so far are marked, with nothing used twice.
+abbrev pub IsMarking : List (List ℕ) → ℕ → ℕ → List Frame → Report → List ℕ → Type 0
+IsMarking m words depth frames report bits =
+    (seen : List (List Step)) × (ahead : List Ahead) × Walks m words depth frames report seen ahead × IsMarked m seen (IsTaken m bits)
