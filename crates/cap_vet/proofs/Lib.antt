@@ -28,4 +28,5 @@ mod Bits
 mod Marking
 mod Pointing
 mod Ranges
+mod SecondWalk
 mod Pads

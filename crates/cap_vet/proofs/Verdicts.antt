@@ -142,3 +142,8 @@ starts m words depth report some root e1 e2 e3 e4 e5 =
       high = omega arith;
       low = omega arith;
     }
+
+pub begins : (m : List (List ℕ)) (words depth : ℕ) (report : Report) → 0 < length m → 0 < length (segment_of m 0)
+    → report.charge ≡ 0 → report.depth ≡ 0 → report.pointers ≡ 0 → report.caps ≡ 0 → report.first_cap ≡ None → (n : IsNext m words depth 0 0 1 [] report) × (n.seen ≡ [])
+unfolding starts
+begins m words depth report some root e1 e2 e3 e4 e5 = (starts m words depth report some root e1 e2 e3 e4 e5, refl)

@@ -1,5 +1,6 @@
 pub mod Budgets
 pub mod Charging
+pub mod Exclusives
 pub mod Finding
 pub mod Frames
 pub mod Handles

@@ -3,6 +3,8 @@
 
 pub mod budget;
 pub mod charged;
+pub mod exclusive;
+pub mod exclusive_vetting;
 mod found;
 mod frame;
 pub mod limits;
@@ -23,6 +25,8 @@ pub use budget::Budget;
 pub use cap_ptr::Reason;
 pub use cap_spec::{Kind, Refusal, Step};
 pub use charged::get_charged;
+pub use exclusive::Exclusive;
+pub use exclusive_vetting::{ExclusiveRefusal, vet_exclusive};
 pub use limits::Limits;
 pub use node::Node;
 pub use place::Place;
