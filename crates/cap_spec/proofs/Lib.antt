@@ -55,3 +55,5 @@ pub mod LayoutWords
 pub mod PathTexts
 pub mod Copies
 pub mod Overlaps
+pub mod Places
+pub mod Bounds

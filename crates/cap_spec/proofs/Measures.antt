@@ -102,7 +102,7 @@ pub extra_structs : (q tag : ℕ) → kind q ≡ 1 → code q ≡ 7 → extra q 
 extra_structs q tag k f = rw (k, f) refl
 
 -- the values of a list are as many as it tells
-length-values : (m : List (List ℕ)) (t b e n : ℕ) → length (values_of m t b e n) ≡ n
+pub length-values : (m : List (List ℕ)) (t b e n : ℕ) → length (values_of m t b e n) ≡ n
 length-values m t b e n = length-map-range_with_len (value_at (segment_of m t) b (element_bits e)) 0 n
 
 -- fields fit their bits
