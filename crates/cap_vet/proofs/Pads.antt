@@ -1,4 +1,4 @@
--- The pad words of a pointer, and that they stand in their segment.
+-- The pad words of a pointer, and what else following it uses.
 use Rattle.std.proofs.Common.{ℕ, zero, suc, ◌+◌, ◌<◌, ◌≤◌, ◌≡◌, ◌≢◌, ◌==◌, ◌⊎◌, inl, inr, List, [], ◌++◌, length, Bool, true, false, refl, sym, ap, subst, ◌∙◌, arith, eqb, ne_eqb}
 use Rattle.std.specs.Prelude.{pos}
 use Rattle.std.proofs.lemmas.Bool.{cases_eq, eqb-true}
@@ -10,35 +10,7 @@ use Rattle.cap_spec.specs.Occupying.{Occupies, pads_of}
 use Rattle.cap_spec.specs.declared.Reason.{Reason}
 use Rattle.cap_spec.proofs.Arrivals.{lead_word}
 use Rattle.cap_spec.proofs.Following.{cap-not_wrong, null-not_wrong, object-not_wrong}
-use Rattle.cap_spec.proofs.Messages.{HasWord-inside, HasWord-segment, one_word}
-
--- a pointer that isn't far has none
-pub no_pads : (p : ℕ) → kind p ≢ 2 → pads_of p ≡ []
-no_pads p n = let e : eqb (kind p) 2 ≡ false = ne_eqb (kind p) 2 n in rw e refl
-
--- one that is far has one or two in a row
-pub pads_in_a_row : (p : ℕ) → kind p ≡ 2 → two p < 2 → pads_of p ≡ places (far_segment p) (pad p) (1 + two p)
-pads_in_a_row p h few = by_two (two p) refl few
-  where
-    by_two : (n : ℕ) → two p ≡ n → n < 2 → pads_of p ≡ places (far_segment p) (pad p) (1 + two p)
-    by_two zero e lt = rw (h, e) refl
-    by_two (suc zero) e lt = rw (h, e) refl
-    by_two (suc (suc n)) e lt = absurd (omega arith)
-
--- where it leads somewhere, they exist
-pub pads_inside : (m : List (List ℕ)) (s w k p : ℕ) (r : Lead) → Leads m s w k r → HasWord m s w p → kind p ≡ 2
-    → (far_segment p < length m) × (pad p + (1 + two p) ≤ length (segment_of m (far_segment p)))
-pads_inside m s w k p r (near p' has n says e) h far = absurd (n (ap kind (one_word m s w p' p has h) ∙ far))
-pads_inside m s w k p r (one_pad p' q has (f, one) hasq n says e) h far =
-    let same : p' ≡ p = one_word m s w p' p has h in
-    let own : HasWord m (far_segment p) (pad p) q = subst (λ (u : ℕ). HasWord m (far_segment u) (pad u) q) same hasq in
-    let one' : two p ≡ 0 = ap two (sym same) ∙ one in
-    (HasWord-segment m (far_segment p) (pad p) q own, omega (arith, one', HasWord-inside m (far_segment p) (pad p) q own))
-pads_inside m s w k p r (two_pads p' f q has (far', both) hasf hasq one tag e e') h far =
-    let same : p' ≡ p = one_word m s w p' p has h in
-    let own : HasWord m (far_segment p) (pad p + 1) q = subst (λ (u : ℕ). HasWord m (far_segment u) (pad u + 1) q) same hasq in
-    let both' : two p ≡ 1 = ap two (sym same) ∙ both in
-    (HasWord-segment m (far_segment p) (pad p + 1) q own, omega (arith, both', HasWord-inside m (far_segment p) (pad p + 1) q own))
+use Rattle.cap_spec.proofs.Places.{pads_in_a_row}
 
 -- they are as many words in a row as the form of the pointer tells
 two_few : (p : ℕ) → two p < 2
@@ -55,7 +27,7 @@ many_pads p n both e (inr (f, k)) = elim (cases_eq (two p) 1) [
     eqb_refl_of h = rw h refl
 
 pub pad_places : (p t b n : ℕ) → kind p ≡ 2 → t ≡ far_segment p → b ≡ pad p → n ≡ 1 + two p → places t b n ≡ pads_of p
-pad_places p t b n h e f k = rw (e, f, k) refl ∙ sym (pads_in_a_row p h (two_few p))
+pad_places p t b n h e f k = rw (e, f, k) refl ∙ sym (pads_in_a_row p h)
 
 -- What a pointer word that isn't wrong uses: of null and of a capability its pads,
 pub null_used : (m : List (List ℕ)) (s w k : ℕ) → Leads m s w k to_null → (p : ℕ) × HasWord m s w p × Occupies m s w (pads_of p)

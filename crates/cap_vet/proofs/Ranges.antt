@@ -6,25 +6,9 @@ use Rattle.std.proofs.Math.Seq.{get_or-append_seam}
 use Rattle.cap_spec.specs.Messages.{segment_of}
 use Rattle.cap_spec.specs.Denoting.{places}
 use Rattle.cap_spec.specs.Occupying.{AreApart, IsPlaceOf}
+use Rattle.cap_spec.proofs.Places.{apart_places, at_place, in_places}
 use Rattle.cap_vet.specs.Marks.{MarksAll}
 use Rattle.cap_vet.specs.Taken.{IsTaken, bit_of, start_of}
-
--- the places of a range
-pub in_places : (t b n s w : ℕ) → IsPlaceOf (s, w) (places t b n) → (s ≡ t) × (b ≤ w) × (w < b + n)
-in_places t b zero s w h = absurd h
-in_places t b (suc n) s w (inl e) = (ap (λ u. u.0) e, (let f : w ≡ b = ap (λ u. u.1) e in omega arith), (let f : w ≡ b = ap (λ u. u.1) e in omega arith))
-in_places t b (suc n) s w (inr h) = let r = in_places t (b + 1) n s w h in (r.0, omega (arith, r.1), omega (arith, r.2))
-
-pub at_place : (t b n w : ℕ) → b ≤ w → w < b + n → IsPlaceOf (t, w) (places t b n)
-at_place t b zero w h k = absurd (omega arith)
-at_place t b (suc n) w h k = elim (cases_eq w b) [
-  | inl e ↦ inl cc
-  | inr e ↦ inr (at_place t (b + 1) n w (omega arith) (omega arith))
-]
-
-pub apart_places : (t b n : ℕ) → AreApart (places t b n)
-apart_places t b zero = tt
-apart_places t b (suc n) = ((λ h. let r = in_places t (b + 1) n t b h in omega (arith, r.1)), apart_places t (b + 1) n)
 
 -- a segment ends before a later one starts
 start_order : (m : List (List ℕ)) (s s' : ℕ) → s < s' → s' ≤ length m → start_of m s + length (segment_of m s) ≤ start_of m s'

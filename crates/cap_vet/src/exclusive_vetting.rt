@@ -3,16 +3,17 @@
 ghost use Rattle.cap_spec.specs.Denoting.{Denotes};
 ghost use Rattle.cap_spec.specs.Faults.{IsRefused};
 ghost use Rattle.cap_spec.specs.Messages.{segment_of};
-ghost use Rattle.cap_spec.specs.Occupying.{IsDisjoint, IsFirstOverlap};
+ghost use Rattle.cap_spec.specs.Frames.{sizes_of};
+ghost use Rattle.cap_spec.specs.Occupying.{IsDisjoint, IsFirstOverlap, empty_count};
 ghost use Rattle.cap_spec.specs.Tree.{Tree};
 ghost use Rattle.cap_spec.specs.declared.Refusal.{Refusal};
 ghost use Rattle.cap_vet.specs.Exclusives.{IsStopped, vetted_of};
 ghost use Rattle.cap_vet.specs.Limits.{depth_of, words_of};
-ghost use Rattle.cap_vet.specs.Reports.{IsAccepted};
+ghost use Rattle.cap_vet.specs.Reports.{IsAccepted, IsReport};
 ghost use Rattle.cap_vet.specs.Taken.{HasRoom, IsMarking, IsTaken};
 ghost use Rattle.cap_vet.specs.Vettings.{message_of, report_of};
 ghost use Rattle.cap_vet.specs.declared.report.Report.{Report};
-ghost use Rattle.std.specs.Prelude.{Err, ◌<◌, ◌≡◌, ◌≤◌, ◌⊎◌, [], ◌∷◌, ◌++◌, IfErr, IfNone, IfOk, IfSome, IsErrOf, IsOk, length, ℕ};
+ghost use Rattle.std.specs.Prelude.{Err, ◌+◌, ◌<◌, ◌≡◌, ◌≤◌, ◌⊎◌, [], ◌∷◌, ◌++◌, IfErr, IfNone, IfOk, IfSome, IsErrOf, IsOk, length, sum, ℕ};
 
 use crate::exclusive::Exclusive;
 use crate::frame::Frame;
@@ -60,6 +61,11 @@ pub fn vet_exclusive<'m, M: Segments>(
     ensures ok { IfOk result (λ e. IsAccepted (M.segments message.now) (words_of limits) (depth_of limits) (report_of (vetted_of e))
         × IsDisjoint (M.segments message.now)) }
     ensures message { IfOk result (λ e. message_of (vetted_of e) ≡ message.now) }
+
+    // Without that of elements which take no bits or no words, the charge is less than the words of all segments.
+    ensures bound { IfOk result (λ e. (t : Tree) × IsReport (M.segments message.now) (words_of limits) (depth_of limits) (report_of (vetted_of e)) t
+        × ((report_of (vetted_of e)).charge < sum (sizes_of (M.segments message.now)) + empty_count t)) }
+
     ensures refused { (r : Refusal) → IsErrOf result (ExclusiveRefusal.Refused r) → IsRefused (M.segments message.now) (words_of limits) (depth_of limits) r }
     ensures overlap { (s w n : ℕ) → IsErrOf result (ExclusiveRefusal.Overlap s w n) → IsFirstOverlap (M.segments message.now) s w n }
 

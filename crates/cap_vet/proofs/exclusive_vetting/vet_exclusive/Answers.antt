@@ -1,4 +1,5 @@
 use Rattle.std.proofs.Common.{ap, inl, inr, refl, Err, subst, sym}
+use Rattle.cap_spec.proofs.Bounds.{charge_below_words}
 use Rattle.cap_spec.proofs.OneFault.{one_refusal}
 use Rattle.cap_spec.proofs.Overlaps.{none_of_disjoint}
 use Rattle.cap_spec.proofs.Refusals.{tree_not_refused}
@@ -47,3 +48,8 @@ returns-clause-accepts g c =
 pub returns-clause-names : goal.returns-clause-names
 returns-clause-names g c =
     λ t charge d s w n h e f first. inl (ap Err (stopped_there (g.M.Segments.segments c.args.message.now) (words_of c.args.limits) (depth_of c.args.limits) c.in-Ok.vetted.report c.in-Err-mark_all.refusal s w n c.in-Ok.ensures.ok c.in-Err-mark_all.ensures.err first))
+
+pub returns-in-Ok-mark_all-clause-bound : goal.returns-in-Ok-mark_all-clause-bound
+returns-in-Ok-mark_all-clause-bound g c =
+    let a = c.in-Ok.ensures.ok in
+    (a.0, a.1, charge_below_words (g.M.Segments.segments c.args.message.now) a.0 c.in-Ok.vetted.report.charge c.in-Ok.vetted.report.depth a.1.denotes c.in-Ok-mark_all.ensures.ok)

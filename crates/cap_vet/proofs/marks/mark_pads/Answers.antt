@@ -7,7 +7,8 @@ use Rattle.cap_spec.proofs.Messages.{one_word}
 use Rattle.cap_ptr.specs.declared.forms.Pointer.TheVariants.{Far}
 use Rattle.cap_vet.specs.Marks.{MarksAll}
 use Rattle.cap_vet.specs.Taken.{IsTaken}
-use Rattle.cap_vet.proofs.Pads.{many_pads, no_pads, pad_places, pads_inside}
+use Rattle.cap_spec.proofs.Places.{no_pads, pads_inside}
+use Rattle.cap_vet.proofs.Pads.{many_pads, pad_places}
 use Rattle.cap_vet.proofs.Pointing.{marks_none}
 use Rattle.cap_vet.proofs.marks.mark_pads.Goals as goal
 use Rattle.cap_vet.proofs.marks.mark_pads.Goals.{then-two, else-two}
