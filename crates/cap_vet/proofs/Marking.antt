@@ -1,8 +1,7 @@
 -- How the marks of a second walk go on, and what they tell at its end.
-use Rattle.std.proofs.Common.{ℕ, ◌+◌, ◌≡◌, ◌⊎◌, List, [], ◌∷◌, ◌++◌, length, inl, inr, refl, sym, ap, subst, ◌∙◌, arith}
-use Rattle.std.proofs.lemmas.List.{length-append}
+use Rattle.std.proofs.Common.{ℕ, ◌+◌, ◌≡◌, ◌⊎◌, List, [], ◌∷◌, length, inl, inr, refl, sym, subst, arith}
 use Rattle.cap_spec.specs.Occupying.{Occupies, AreApart, IsPlaceOf, Uses, IsDisjoint, Overlaps, twice, on_root, on_earlier, IsFirstOverlap}
-use Rattle.cap_spec.specs.Paths.{Before, IsOneOf, IsTour, Reaches}
+use Rattle.cap_spec.specs.Paths.{Before, IsOneOf, Reaches}
 use Rattle.cap_spec.specs.declared.Step.{Step}
 use Rattle.cap_spec.proofs.Overlaps.{disjoint_of_none, one_used}
 use Rattle.cap_spec.proofs.Preorder.{Before-irreflexive}

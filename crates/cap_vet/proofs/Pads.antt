@@ -1,10 +1,10 @@
 -- The pad words of a pointer, and what else following it uses.
-use Rattle.std.proofs.Common.{ℕ, zero, suc, ◌+◌, ◌<◌, ◌≤◌, ◌≡◌, ◌≢◌, ◌==◌, ◌⊎◌, inl, inr, List, [], ◌++◌, length, Bool, true, false, refl, sym, ap, subst, ◌∙◌, arith, eqb, ne_eqb}
+use Rattle.std.proofs.Common.{ℕ, ◌+◌, ◌<◌, ◌≡◌, ◌==◌, ◌⊎◌, inl, inr, List, ◌++◌, Bool, true, false, refl, sym, ap, ◌∙◌, arith, eqb}
 use Rattle.std.specs.Prelude.{pos}
 use Rattle.std.proofs.lemmas.Bool.{cases_eq, eqb-true}
-use Rattle.cap_spec.specs.Messages.{HasWord, segment_of}
+use Rattle.cap_spec.specs.Messages.{HasWord}
 use Rattle.cap_spec.specs.Pointers.{extent, far_segment, kind, pad, two}
-use Rattle.cap_spec.specs.Following.{Lead, to_null, to_cap, to_object, Leads, near, one_pad, two_pads, Wrong}
+use Rattle.cap_spec.specs.Following.{to_null, to_cap, to_object, Leads, Wrong}
 use Rattle.cap_spec.specs.Denoting.{Finds, places}
 use Rattle.cap_spec.specs.Occupying.{Occupies, pads_of}
 use Rattle.cap_spec.specs.declared.Reason.{Reason}

@@ -1,11 +1,11 @@
 -- What marking a range of bits does to the places of a message.
-use Rattle.std.proofs.Common.{ℕ, zero, suc, ◌+◌, ◌*◌, ◌/◌, ◌%◌, ◌<◌, ◌≤◌, ◌≡◌, ◌⊎◌, ◌-◌, List, [], ◌∷◌, ◌++◌, length, inl, inr, refl, sym, ap, subst, ◌∙◌, arith, slice_index_or}
+use Rattle.std.proofs.Common.{ℕ, zero, suc, ◌+◌, ◌<◌, ◌≤◌, ◌≡◌, ◌-◌, List, [], ◌∷◌, ◌++◌, length, inl, inr, sym, ap, subst, ◌∙◌, arith, slice_index_or}
 use Rattle.std.proofs.lemmas.Bool.{cases_eq, cases_lt}
 use Rattle.std.proofs.lemmas.List.{get_or_append_left}
 use Rattle.std.proofs.Math.Seq.{get_or-append_seam}
 use Rattle.cap_spec.specs.Messages.{segment_of}
 use Rattle.cap_spec.specs.Denoting.{places}
-use Rattle.cap_spec.specs.Occupying.{AreApart, IsPlaceOf}
+use Rattle.cap_spec.specs.Occupying.{IsPlaceOf}
 use Rattle.cap_spec.proofs.Places.{apart_places, at_place, in_places}
 use Rattle.cap_vet.specs.Marks.{MarksAll}
 use Rattle.cap_vet.specs.Taken.{IsTaken, bit_of, start_of}

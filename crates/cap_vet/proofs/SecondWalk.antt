@@ -1,12 +1,12 @@
 -- The turns and the end of a second walk.
-use Rattle.std.proofs.Common.{ℕ, ◌+◌, ◌<◌, ◌≡◌, ◌⊎◌, List, [], ◌∷◌, ◌++◌, length, map, inl, inr, refl, sym, ap, subst, ◌∙◌, arith, true, false}
+use Rattle.std.proofs.Common.{ℕ, ◌+◌, ◌<◌, ◌≡◌, List, [], ◌∷◌, ◌++◌, length, inl, inr, refl, sym, ap, subst, arith}
 use Rattle.std.proofs.Props.{props}
 use Rattle.std.proofs.Math.Logic.{∥∥₁_elim}
-use Rattle.cap_spec.specs.Messages.{HasWord, segment_of}
+use Rattle.cap_spec.specs.Messages.{segment_of}
 use Rattle.cap_spec.specs.Pointers.{extent}
 use Rattle.cap_spec.specs.Denoting.{places}
 use Rattle.cap_spec.specs.Occupying.{pads_of, Occupies, IsDisjoint, IsFirstOverlap}
-use Rattle.cap_spec.specs.Paths.{Costs, Reaches}
+use Rattle.cap_spec.specs.Paths.{Costs}
 use Rattle.cap_spec.specs.declared.Step.{Step}
 use Rattle.cap_spec.proofs.Arrivals.{lead_word}
 use Rattle.cap_spec.proofs.Messages.{HasWord-inside}

@@ -1,11 +1,10 @@
-use Rattle.std.proofs.Common.{◌+◌, ◌<◌, ◌≡◌, ℕ, List, [], ◌∷◌, length, arith, rules, refl, subst}
+use Rattle.std.proofs.Common.{◌+◌, ◌<◌, ◌≡◌, ℕ, [], ◌∷◌, length, arith, rules, subst}
 use Rattle.std.specs.Option.{option_to_list}
 use Rattle.cap_spec.specs.Occupying.{IsFirstOverlap}
 use Rattle.cap_vet.specs.Limits.{depth_of, words_of}
 use Rattle.cap_vet.specs.Marks.{IsMarked}
 use Rattle.cap_vet.specs.Taken.{IsTaken}
 use Rattle.cap_vet.specs.Walking.{Walks}
-use Rattle.cap_vet.specs.declared.frame.Frame.{Frame}
 use Rattle.cap_vet.proofs.SecondWalk.{ends_disjoint, room_kept, root_marked, turn_on, turn_overlap}
 use Rattle.cap_vet.proofs.Verdicts.{begins}
 use Rattle.cap_vet.proofs.exclusive_vetting.mark_all.Goals as goal

@@ -1,11 +1,10 @@
-use Rattle.std.proofs.Common.{ap, inl, inr, refl, Err, subst, sym}
+use Rattle.std.proofs.Common.{ap, inl, Err}
 use Rattle.cap_spec.proofs.Bounds.{charge_below_words}
 use Rattle.cap_spec.proofs.OneFault.{one_refusal}
 use Rattle.cap_spec.proofs.Overlaps.{none_of_disjoint}
 use Rattle.cap_spec.proofs.Refusals.{tree_not_refused}
 use Rattle.cap_vet.specs.Limits.{depth_of, words_of}
-use Rattle.cap_vet.specs.Exclusives.{IsStopped}
-use Rattle.cap_vet.specs.declared.exclusive_vetting.ExclusiveRefusal.TheVariants.{Refused, Overlap, Memory}
+use Rattle.cap_vet.specs.declared.exclusive_vetting.ExclusiveRefusal.TheVariants.{Refused}
 use Rattle.cap_vet.proofs.SecondWalk.{not_stopped, root_there, stopped_there}
 use Rattle.cap_vet.proofs.exclusive_vetting.vet_exclusive.Goals as goal
 

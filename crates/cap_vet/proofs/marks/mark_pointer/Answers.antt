@@ -1,5 +1,4 @@
-use Rattle.std.proofs.Common.{ℕ, List, ◌≡◌, ◌++◌, sym, subst, inr}
-use Rattle.cap_spec.specs.Denoting.{places}
+use Rattle.std.proofs.Common.{ℕ, List, subst, inr}
 use Rattle.cap_spec.specs.Occupying.{pads_of}
 use Rattle.cap_spec.proofs.Overlaps.{one_used}
 use Rattle.cap_vet.specs.Marks.{MarksAll}

@@ -1,4 +1,4 @@
-use Rattle.std.proofs.Common.{◌≡◌, ◌≤◌, ◌^◌, ◌-◌, ◌%◌, ◌/◌, ◌<◌, ◌≢◌, ◌∙◌, sym, subst, arith, slice_index_or, bit_and, length}
+use Rattle.std.proofs.Common.{◌≡◌, ◌≤◌, ◌/◌, ◌≢◌, ◌∙◌, sym, subst, arith, slice_index_or, bit_and}
 use Rattle.std.proofs.Math.Facts.{Fits-lt-pow}
 use Rattle.cap_vet.proofs.Bits.{finds_taken, sets_word, reaches_on}
 use Rattle.cap_vet.proofs.marks.set_bits.Goals as goal

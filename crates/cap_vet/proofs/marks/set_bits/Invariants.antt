@@ -1,4 +1,4 @@
-use Rattle.std.proofs.Common.{◌-◌, ◌≡◌, ◌≤◌, length}
+use Rattle.std.proofs.Common.{◌-◌, ◌≤◌}
 use Rattle.cap_vet.proofs.Bits.{Reached}
 use Rattle.cap_vet.proofs.marks.set_bits.Given as goal
 

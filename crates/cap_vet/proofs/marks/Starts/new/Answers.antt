@@ -1,6 +1,4 @@
-use Rattle.std.proofs.Common.{◌≡◌, ◌+◌, ◌<◌, ◌^◌, ◌∙◌, ℕ, arith, ap, rules, length, List, slice_index_or, subst, sym}
-use Rattle.cap_spec.specs.Messages.{segment_of}
-use Rattle.cap_vet.specs.Taken.{start_of}
+use Rattle.std.proofs.Common.{◌<◌, ◌∙◌, ℕ, arith, ap, length, List, slice_index_or}
 use Rattle.cap_vet.proofs.Ranges.{start_next, starts_more}
 use Rattle.cap_vet.proofs.marks.Starts.new.Goals as goal
 
