@@ -1,4 +1,5 @@
-//! Packed words: the source that unpacks them, and the sink that packs them.
+//! Packed words: the source that unpacks them, the sink that packs them, and kernels that take a
+//! vector of words or bytes at a time.
 #![tactic(auto)]
 
 mod counted;
