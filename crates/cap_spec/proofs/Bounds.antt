@@ -1,10 +1,10 @@
 -- What a disjoint message is charged, but for its empty elements, is less than its words.
-use Rattle.std.proofs.Common.{ℕ, zero, suc, ◌+◌, ◌*◌, ◌<◌, List, [], ◌∷◌, ◌++◌, ◌≡◌, ◌≢◌, ◌⊎◌, sym, ap, refl, subst, ◌∙◌, arith, inl, inr, length, sum, true, false}
+use Rattle.std.proofs.Common.{ℕ, zero, suc, ◌+◌, ◌*◌, ◌<◌, List, [], ◌∷◌, ◌++◌, ◌≡◌, ◌≢◌, sym, ap, refl, subst, ◌∙◌, arith, inl, inr, length, sum, true, false}
 use Rattle.std.specs.Prelude.{pos}
 use Rattle.std.proofs.lemmas.List.{append_assoc, length-append}
 use Rattle.cap_spec.specs.Messages.{HasWord, segment_of}
 use Rattle.cap_spec.specs.Frames.{sizes_of}
-use Rattle.cap_spec.specs.Pointers.{kind, code, middle, data_size, pointer_size, list_size, extent}
+use Rattle.cap_spec.specs.Pointers.{middle, data_size, pointer_size, list_size, extent}
 use Rattle.cap_spec.specs.Following.{to_null, to_cap, to_object, Leads, extra}
 use Rattle.cap_spec.specs.Tree.{Tree, null, cap, struct, scalars, pointers, structs, Trees, none, more, tree_count}
 use Rattle.cap_spec.specs.Denoting.{Finds, Denotes, DenoteEach, AreElements, places}
