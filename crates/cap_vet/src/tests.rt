@@ -13,6 +13,7 @@ use std::alloc::Global;
 use std::process::Abort;
 use std::test::Fail;
 
+mod exclusives;
 mod pads;
 mod rows;
 
