@@ -160,7 +160,7 @@ used_apart m d root has (p ∷ ps) a us g =
     subst AreApart (sym g.8)
     (apart_append g.3 g.4 (d.each p (1 + g.0) g.1 g.2 g.3 (root, g.0, has, g.5, refl) g.6) (used_apart m d root has ps a.1 g.4 g.7)
     (λ x i j. let r = place_used m root has ps g.4 g.7 x j in
-        not_one_of p r.0 ps a.0 r.1 (d.apart p r.0 x (1 + g.0, g.1, g.2, g.3, (root, g.0, has, g.5, refl), g.6, i) r.2)))
+    not_one_of p r.0 ps a.0 r.1 (d.apart p r.0 x (1 + g.0, g.1, g.2, g.3, (root, g.0, has, g.5, refl), g.6, i) r.2)))
 
 -- a place that is used is a word of the message
 used_inside : (m : List (List ℕ)) (p : List Step) (t x : ℕ) → Uses m p (t, x) → (t < length m) × (x < length (segment_of m t))

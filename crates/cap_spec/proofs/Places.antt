@@ -30,7 +30,6 @@ pub apart_places : (t b n : ℕ) → AreApart (places t b n)
 apart_places t b zero = tt
 apart_places t b (suc n) = ((λ h. let r = in_places t (b + 1) n t b h in omega (arith, r.1)), apart_places t (b + 1) n)
 
-
 -- a place of two lists joined is one of the first or one of the second
 pub place_left : (x : ℕ × ℕ) (xs ys : List (ℕ × ℕ)) → IsPlaceOf x xs → IsPlaceOf x (xs ++ ys)
 place_left x [] ys h = absurd h
