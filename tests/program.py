@@ -7,6 +7,7 @@ A case is one call of `case`. Failures are printed as they come. The last line i
 the status is 1 where a case failed. The texts that are wanted were written from docs/format.md, and the
 numbers of the samples counted by another program. Those of a wrong command line are the library clap's.
 """
+import fcntl
 import os
 import select
 import shlex
@@ -14,6 +15,9 @@ import struct
 import subprocess
 import sys
 import tempfile
+import termios
+import threading
+import time
 from pathlib import Path
 
 from trees import dump_text, get_text
@@ -191,18 +195,55 @@ def samples():
             case("unpack", stream, stdin=text)
 
 
+def text_of(process, length):
+    """What a running process writes, up to so many bytes, or until nothing came for a minute."""
+    text, output = b"", process.stdout.fileno()
+    while len(text) < length and select.select([output], [], [], 60)[0] and (part := os.read(output, 65536)):
+        text += part
+    return text
+
+
 def live_pipe(command, wanted):
     """The text of a message comes while the input is still open behind it, and not only at the end."""
     piped = {"stdin": subprocess.PIPE, "stdout": subprocess.PIPE, "stderr": subprocess.PIPE}
     with subprocess.Popen([PROGRAM, *command.split()], cwd=TOP, **piped) as ran:
         ran.stdin.write(sample("contacts.bin"))
         ran.stdin.flush()
-        text = b""
-        while len(text) < len(wanted) and select.select([ran.stdout], [], [], 60)[0]:
-            text += os.read(ran.stdout.fileno(), 65536)
+        text = text_of(ran, len(wanted))
         ran.stdin.close()
         compare(f"capvet {command}, with an input that stays open", (wanted.encode(), b"", 0),
                 (text, ran.stderr.read(), ran.wait(60)))
+
+
+def most_memory(process):
+    """The most memory that a running process ever had resident, in KiB."""
+    status = Path(f"/proc/{process.pid}/status").read_text()
+    return int(status.split("VmHWM:")[1].split()[0])
+
+
+def waits_for_input(process):
+    """Waits, for at most a minute, until a process has taken all that is in its input, and sleeps."""
+    for _ in range(6000):
+        unread = struct.unpack("i", fcntl.ioctl(process.stdin.fileno(), termios.FIONREAD, bytes(4)))[0]
+        state = Path(f"/proc/{process.pid}/stat").read_text().rsplit(")", 1)[1].split()[0]
+        if unread == 0 and state == "S":
+            return
+        time.sleep(0.01)
+
+
+def resident(name, parts, wanted, most):
+    """What `vet` wrote of these parts of a stream while its input is still open, and whether the most memory that it
+    ever had resident is within so many KiB."""
+    pipes = {"stdin": subprocess.PIPE, "stdout": subprocess.PIPE}
+    with subprocess.Popen([PROGRAM, "vet"], cwd=TOP, **pipes) as ran:
+        writer = threading.Thread(target=lambda: [ran.stdin.write(part) for part in parts] + [ran.stdin.flush()])
+        writer.start()
+        text = text_of(ran, len(wanted))
+        writer.join()
+        waits_for_input(ran)
+        memory = most_memory(ran)
+        ran.kill()
+    compare(f"capvet vet of {name}, and its memory: {memory} KiB", (wanted.encode(), b"", True), (text, b"", memory <= most))
 
 
 samples()
@@ -212,6 +253,14 @@ live_pipe("vet", CONTACTS)
 live_pipe("segments", segments_text(contacts))
 live_pipe("dump", dump_text(contacts, CONTACTS))
 live_pipe("get /p0", get_text(contacts, "/p0"))
+resident("a table that claims 64 MiB and has nothing behind it", [word("0000000000008000")], "", 4 << 10)
+COPIES = (64 << 20) // len(contacts)
+resident("64 MiB of small messages", [contacts] * COPIES,
+         "".join(CONTACTS.replace("0", str(number), 1) for number in range(COPIES)), 4 << 10)
+# The message itself, and 2 MiB.
+LIST = (8 << 20) - 1
+resident("a message of 64 MiB", [struct.pack("<IIII", 0, 1 + LIST, 1, 8 * LIST << 3 | 2), bytes(8 * LIST)],
+         f"message 0: accepted charge {LIST} depth 1 pointers 1 caps 0\n", (64 + 2) << 10)
 case("unpack examples/contacts.packed", sample("contacts.bin"))
 case("vet --packed examples/contacts.packed", CONTACTS)
 # The two texts of the encoding specification's section on packing.
