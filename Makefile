@@ -30,6 +30,7 @@ test:
 	rt ci
 	python3 tests/program.py $(PROGRAM)
 
-# Times the built program beside plain copying of the same bytes.
+# Times the built program beside plain copying of the same bytes, and beside Cap'n Proto's own C++ library and
+# Rust crate where they are installed.
 bench:
 	python3 bench/bench.py

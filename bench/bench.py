@@ -1,18 +1,21 @@
 #!/usr/bin/env python3
-"""Times the built program beside plain copying of the same bytes, and prints a table.
+"""Times the built program beside plain copying of the same bytes, and beside Cap'n Proto's own C++ library and
+Rust crate where they are installed, and prints a table.
 
     bench.py [--rounds N] [--only WORD] [--program PATH]
 
 The inputs are made anew in a temporary folder. In each round every command runs once, in turn, so that
 a busy machine slows them alike; the table has the median of the rounds. MiB, MB/s and `ratio`, against `dd`
 with blocks of 64 KiB, are those of the plain file also where a command gets it packed or packs it. Memory
-is the largest resident size of any round, and never less than this script's own, some 16 MiB, which a
-program that it starts inherits.
+is the largest resident size of any round, and never less than this script's own, some 17 MiB, which a
+program that it starts inherits. `peer` is capvet's seconds over those of the faster of the two libraries at
+the same job. They don't do just the same work: the programs in peers/ tell what differs.
 """
 import argparse
 import multiprocessing
 import os
 import random
+import shutil
 import statistics
 import struct
 import subprocess
@@ -149,12 +152,19 @@ INPUTS = MESSAGES | WORDS
 
 @dataclass
 class Timed:
-    """What is timed on a kind of inputs: its name in the table, its words, whether it gets the input packed, and
-    the statuses that it may end with."""
+    """What is timed on a kind of inputs: its name in the table, its words, whether it gets the input packed, the
+    statuses that it may end with, and the job that peers do too."""
     name: str
     words: str
     packed: bool = False
     statuses: tuple = (0,)
+    job: str = ""
+
+    @property
+    def peer(self):
+        """The name of the peer that runs, or None."""
+        first = self.words.split()[0]
+        return first if first in PEERS else None
 
 
 @dataclass
@@ -172,26 +182,52 @@ class Case:
         return self.timed.packed
 
 
+@dataclass
+class Peer:
+    """A program over another library: the folder of its source, what builds it there, and the file that this makes."""
+    folder: str
+    build: str
+    program: str
+
+
+PEERS = {
+    "C++": Peer("cpp", f"{os.environ.get('CXX', 'g++')} -O2 -DNDEBUG peer.cpp -o peer -lcapnp -lkj -lpthread", "peer"),
+    "Rust": Peer("rust", "cargo build --quiet --release --offline --target-dir target", "target/release/peer"),
+}
 SIZE = "--size 268435456"
-LIMITS = SIZE + " --words 268435456"
+WORDS_LIMIT = "--words 268435456"
+LIMITS = f"{SIZE} {WORDS_LIMIT}"
+
+
+def with_peers(job, limits="", theirs=None, **more):
+    """The rows of a job that peers do too: capvet's, and theirs, which may have another name for it."""
+    theirs = theirs or job
+    mine = Timed(f"capvet {job}", f"PROGRAM {job} {limits} FILE", job=job, **more)
+    return [mine] + [Timed(f"{it} {theirs}", f"{it} {theirs} {WORDS_LIMIT} FILE", job=job, **more) for it in PEERS]
+
+
 ON_ALL = [
     Timed("cat", "cat FILE"),
     Timed("dd bs=64K", "dd if=FILE of=/dev/null bs=64K"),
 ]
 ON_MESSAGES = [
     Timed("capvet segments", f"PROGRAM segments {SIZE} FILE"),
-    Timed("capvet vet", f"PROGRAM vet {LIMITS} FILE"),
-    Timed("capvet check", f"PROGRAM check {LIMITS} FILE", statuses=(0, 1)),
-    Timed("capvet canon", f"PROGRAM canon {LIMITS} FILE"),
-    Timed("capvet vet --packed", f"PROGRAM vet --packed {LIMITS} FILE", packed=True),
+    *with_peers("vet", LIMITS, "walk"),
+    *with_peers("check", LIMITS, statuses=(0, 1)),
+    *with_peers("canon", LIMITS),
+    *with_peers("vet --packed", LIMITS, "walk --packed", packed=True),
 ]
+# Peers pack and unpack nothing but messages, so they are timed on two of those and not on words of any kind.
+COPIES_OF_MESSAGES = with_peers("pack") + with_peers("unpack", packed=True)
 # What writes a tree or a node is timed on these inputs alone: `big` would be a line for each of its words.
 ON_TREE = [
     Timed("capvet dump", f"PROGRAM dump {LIMITS} FILE"),
+    *COPIES_OF_MESSAGES,
 ]
 ON_SMALL = [
     Timed("capvet dump", f"PROGRAM dump {LIMITS} FILE"),
     Timed("capvet get /p0", f"PROGRAM get /p0 {LIMITS} FILE"),
+    *COPIES_OF_MESSAGES,
 ]
 ON_WORDS = [
     Timed("capvet pack", "PROGRAM pack FILE"),
@@ -229,9 +265,36 @@ def apart(job, *arguments):
         sys.exit(f"{job.__name__} failed")
 
 
-def run(timed, program, file):
+def why_not_built(peer, folder):
+    """Builds a peer in a folder, and gives None; or why it can't be built, in a few words."""
+    words = peer.build.split()
+    if shutil.which(words[0]) is None:
+        return f"{words[0]} isn't there"
+    done = subprocess.run(words, cwd=folder, stdout=subprocess.DEVNULL, stderr=subprocess.PIPE, text=True)
+    if done.returncode == 0:
+        return None
+    lines = [it.strip() for it in done.stderr.splitlines() if "error" in it]
+    return lines[0] if lines else f"{words[0]} ended with status {done.returncode}"
+
+
+def build_peers(names, folder):
+    """The paths of the programs that these names stand for. A peer that can't be built is left out, and said so."""
+    sources = Path(__file__).resolve().parent / "peers"
+    built = {}
+    for name in names:
+        peer = PEERS[name]
+        there = shutil.copytree(sources / peer.folder, Path(folder) / "peers" / peer.folder)
+        reason = why_not_built(peer, there)
+        if reason is None:
+            built[name] = str(there / peer.program)
+        else:
+            print(f"without the rows of {name}: {reason}", flush=True)
+    return built
+
+
+def run(timed, programs, file):
     """Seconds, and the largest resident size in KiB. A command that ends with another status ends the run."""
-    words = [it.replace("PROGRAM", program).replace("FILE", str(file)) for it in timed.words.split()]
+    words = [programs[it] if it in programs else it.replace("FILE", str(file)) for it in timed.words.split()]
     null = os.open(os.devnull, os.O_WRONLY)
     started = time.perf_counter()
     pid = os.posix_spawnp(words[0], words, os.environ, file_actions=[
@@ -276,30 +339,45 @@ def make_files(program, chosen, folder):
     return files
 
 
-def measure(chosen, program, files, rounds):
+def measure(chosen, programs, files, rounds):
     """The median of the seconds of each row, and its largest resident size in KiB."""
     runs = [[] for _ in chosen]
     for _ in range(rounds):
         for it, mine in zip(chosen, runs):
-            mine.append(run(it.timed, program, files[it.input, it.packed]))
+            mine.append(run(it.timed, programs, files[it.input, it.packed]))
     return [(statistics.median(seconds for seconds, _ in mine), max(memory for _, memory in mine)) for mine in runs]
+
+
+def fastest_peers(chosen, results):
+    """The seconds of the faster peer, by input and job."""
+    fastest = {}
+    for it, (seconds, _) in zip(chosen, results):
+        if it.timed.peer:
+            place = it.input, it.timed.job
+            fastest[place] = min(seconds, fastest.get(place, seconds))
+    return fastest
 
 
 def show(chosen, results, sizes):
     dd = {it.input: seconds for it, (seconds, _) in zip(chosen, results) if it.name == "dd bs=64K"}
-    print(f"{'input':8} {'command':20} {'MiB':>7} {'seconds':>9} {'MB/s':>8} {'ratio':>7} {'MiB used':>9}")
+    fastest = fastest_peers(chosen, results)
+    print(f"{'input':8} {'command':20} {'MiB':>7} {'seconds':>9} {'MB/s':>8} {'ratio':>7} {'MiB used':>9} {'peer':>7}")
     for it, (seconds, memory) in zip(chosen, results):
         size = sizes[it.input]
+        peer = None if it.timed.peer else fastest.get((it.input, it.timed.job))
         print(f"{it.input:8} {it.name:20} {size / MIB:7.1f} {seconds:9.4f} {size / seconds / 1e6:8.0f}"
-              f" {seconds / dd[it.input]:7.2f} {memory / 1024:9.1f}")
+              f" {seconds / dd[it.input]:7.2f} {memory / 1024:9.1f}" + (f" {seconds / peer:7.2f}" if peer else ""))
 
 
 def main():
     args = options()
     chosen = choose(args.only)
     with tempfile.TemporaryDirectory() as folder:
+        wanted = [name for name in PEERS if any(it.timed.peer == name for it in chosen)]
+        programs = build_peers(wanted, folder) | {"PROGRAM": args.program}
+        chosen = [it for it in chosen if it.timed.peer is None or it.timed.peer in programs]
         files = make_files(args.program, chosen, folder)
-        results = measure(chosen, args.program, files, args.rounds)
+        results = measure(chosen, programs, files, args.rounds)
         sizes = {it.input: files[it.input, False].stat().st_size for it in chosen}
     show(chosen, results, sizes)
 
