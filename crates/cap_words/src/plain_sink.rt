@@ -87,6 +87,19 @@ impl<O: ByteOut> WordSink for PlainSink<O> {
         }
     }
 
+    fn flush(&mut self) -> Result<(), SinkFault> {
+        if self.closed {
+            return Err(SinkFault::Spent);
+        }
+        match self.output.flush() {
+            Ok(()) => Ok(()),
+            Err(fault) => {
+                self.closed = true;
+                Err(SinkFault::from(fault))
+            }
+        }
+    }
+
     fn finish(&mut self) -> Result<(), SinkFault> {
         if self.closed {
             return Err(SinkFault::Spent);

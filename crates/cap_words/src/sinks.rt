@@ -74,6 +74,19 @@ pub trait WordSink {
         ensures memory { IsErrOf result SinkFault.Memory → GrowthFails (spent self.old) (failures self.old) (failures self.new) }
         ensures was_spent { IsErrOf result SinkFault.Spent → WasSpent (spent self.old) (spent self.new) (failures self.old) (failures self.new) };
 
+    /// Hands on what the output took, where that holds some of it back. A word that the sink holds back
+    /// itself stays: `finish` writes it. After a fault every call answers `Spent`.
+    fn flush(&mut self) -> Result<(), SinkFault>
+        ensures put { OnOk result (WasPut text self.old self.new []) }
+        ensures ok { OnOk result ((closed self.old ≡ false) × (closed self.new ≡ false) × (spent self.new ≡ spent self.old)
+            × (failures self.new ≡ failures self.old)) }
+        ensures err { OnErr result ((closed self.new ≡ true) × StoppedPutting text taken self.old self.new []) }
+        ensures kept { Keeps (taken self.old) (taken self.new) }
+        ensures stays { closed self.old ≡ true → (result ≡ Err SinkFault.Spent) × (self.new ≡ self.old) }
+        ensures device { IsErrOf result SinkFault.Device → DeviceFails (spent self.old) (failures self.old) (failures self.new) }
+        ensures memory { IsErrOf result SinkFault.Memory → GrowthFails (spent self.old) (failures self.old) (failures self.new) }
+        ensures was_spent { IsErrOf result SinkFault.Spent → WasSpent (spent self.old) (spent self.new) (failures self.old) (failures self.new) };
+
     /// Writes what is held back. After `Ok` as after a fault every call answers `Spent`.
     fn finish(&mut self) -> Result<(), SinkFault>
         ensures finished { OnOk result (WasFinished text taken self.old self.new []) }
