@@ -211,7 +211,7 @@ def live_pipe(command, wanted):
         ran.stdin.flush()
         text = text_of(ran, len(wanted))
         ran.stdin.close()
-        compare(f"capvet {command}, with an input that stays open", (wanted.encode(), b"", 0),
+        compare(f"capvet {command}, with an input that stays open", (wanted, b"", 0),
                 (text, ran.stderr.read(), ran.wait(60)))
 
 
@@ -249,10 +249,16 @@ def resident(name, parts, wanted, most):
 samples()
 canonical_copies()
 contacts = sample("contacts.bin")
-live_pipe("vet", CONTACTS)
-live_pipe("segments", segments_text(contacts))
-live_pipe("dump", dump_text(contacts, CONTACTS))
-live_pipe("get /p0", get_text(contacts, "/p0"))
+for command, text in {
+    "vet": CONTACTS,
+    "segments": segments_text(contacts),
+    "dump": dump_text(contacts, CONTACTS),
+    "get /p0": get_text(contacts, "/p0"),
+    "check": CHECKS["contacts.bin"],
+}.items():
+    live_pipe(command, text.encode())
+copy = sample("canonical/contacts.bin")
+live_pipe("canon", struct.pack("<II", 0, len(copy) // 8) + copy)
 resident("a table that claims 64 MiB and has nothing behind it", [word("0000000000008000")], "", 4 << 10)
 COPIES = (64 << 20) // len(contacts)
 resident("64 MiB of small messages", [contacts] * COPIES,

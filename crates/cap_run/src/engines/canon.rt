@@ -64,6 +64,17 @@ fn put_copy<K: WordSink, M: Segments>(
     }
 }
 
+/// Hands on what was put where no byte of the next message has come yet.
+fn hand_on<S: WordSource, K: WordSink>(source: &S, sink: &mut K) -> Result<(), SinkFault>
+    ensures ok { OnOk result ((before : K) (own : List ℕ) → Fills K.WordSink before sink.old own → Fills K.WordSink before sink.new own) }
+    ensures err { IfErr result (λ fault. (before : K) (own : List ℕ) → Fills K.WordSink before sink.old own → Halts K.WordSink before sink.new own fault) }
+{
+    if source.is_at_hand() {
+        return Ok(());
+    }
+    sink.flush()
+}
+
 /// Reads the next message in the place of the last, and puts its copy. `false` where the stream ends
 /// before it.
 fn put_next<S: WordSource, K: WordSink>(
@@ -81,10 +92,15 @@ fn put_next<S: WordSource, K: WordSink>(
         (limit_of settings.now.size) source.old source.new sink.old sink.new cause) }
 {
     match read_into(alloc, source, settings.size, message) {
-        Ok(true) => match put_copy(alloc, sink, &message.view(), settings.limits) {
-            Ok(()) => Ok(true),
-            Err(cause) => Err(cause),
-        },
+        Ok(true) => {
+            if let Err(cause) = put_copy(alloc, sink, &message.view(), settings.limits) {
+                return Err(cause);
+            }
+            match hand_on(source, sink) {
+                Ok(()) => Ok(true),
+                Err(fault) => Err(Cause::Output(output_fault(fault))),
+            }
+        }
         Ok(false) => Ok(false),
         Err(fault) => Err(Cause::Frame(fault)),
     }

@@ -1,4 +1,7 @@
+use Rattle.std.proofs.Common.{[], ◌∷◌, subst, sym}
+use Rattle.cap_spec.specs.Frames.{frame_text}
 use Rattle.cap_frame.specs.Limit.{limit_of}
+use Rattle.cap_frame.specs.Putting.{Halts}
 use Rattle.cap_vet.specs.Limits.{depth_of, words_of}
 use Rattle.cap_run.proofs.Making.{next_stops}
 use Rattle.cap_run.proofs.Streams.{reads_one}
@@ -7,11 +10,25 @@ use Rattle.cap_run.proofs.engines.canon.put_next.Goals as goal
 pub returns-in-Ok-clause-some : goal.returns-in-Ok-clause-some
 returns-in-Ok-clause-some g c = λ _.
     let r = c.in-Ok-true.ensures.message (cc) in
-    let put = rw c.view.ensures at c.in-Ok.ensures.ok in (
+    let put = rw c.view.ensures at c.in_default.ensures.ok in (
       record { message = _; copy = put.0 },
       reads_one g.S.WordSource (limit_of c.args.settings.now.size) c.args.source.now c.read_into.new.source r.0 _ r.1 r.2 r.3 c.in-Ok-true.ensures.works,
       put.1,
-      put.2,
+      c.in-Ok.ensures.ok c.args.sink.now (frame_text (put.0 ∷ [])) put.2,
+    )
+
+pub returns-in-Err-hand_on-clause-err : goal.returns-in-Err-hand_on-clause-err
+returns-in-Err-hand_on-clause-err g c =
+    let r = c.in-Ok-true.ensures.message (cc) in
+    let put = rw c.view.ensures at c.in_default.ensures.ok in (
+      _,
+      reads_one g.S.WordSource (limit_of c.args.settings.now.size) c.args.source.now c.read_into.new.source r.0 _ r.1 r.2 r.3 c.in-Ok-true.ensures.works,
+      (
+        put.0,
+        put.1,
+        subst (λ fault. Halts g.K.WordSink c.args.sink.now c.hand_on.new.sink (frame_text (put.0 ∷ [])) fault) (sym c.output_fault.ensures)
+            (c.in-Err-hand_on.ensures.err c.args.sink.now (frame_text (put.0 ∷ [])) put.2),
+      ),
     )
 
 pub returns-in-Err-put_copy-clause-err : goal.returns-in-Err-put_copy-clause-err
