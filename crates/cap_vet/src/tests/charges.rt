@@ -101,7 +101,8 @@ fn pointers_up_to_a_step_that_leads_nowhere_are_charged(rt: HostRuntime) -> Resu
         ],
     )?;
     let shared = OneSegment::new(&shared).ok_or("no message")?;
-    assert_eq!(rt; charged(&shared, 4, 64, &[Step::Ptr(5)]), (Ok(None), 2));
+    past_the_pointers(&rt, &shared);
+    past_the_pointers(&rt, &in_one_buffer(rt.alloc(), &shared)?.view());
     let elements = words(
         rt.alloc(),
         &[
@@ -113,13 +114,22 @@ fn pointers_up_to_a_step_that_leads_nowhere_are_charged(rt: HostRuntime) -> Resu
         ],
     )?;
     let elements = OneSegment::new(&elements).ok_or("no message")?;
+    past_the_elements(&rt, &elements)?;
+    past_the_elements(&rt, &in_one_buffer(rt.alloc(), &elements)?.view())
+}
+
+fn past_the_pointers<M: Segments>(rt: &impl Abort, shared: &M) {
+    assert_eq!(rt; charged(shared, 4, 64, &[Step::Ptr(5)]), (Ok(None), 2));
+}
+
+fn past_the_elements<M: Segments>(rt: &impl Abort, elements: &M) -> Result<(), Fail> {
     assert_eq!(rt;
-        charged(&elements, 4, 64, &[Step::Item(1)]),
+        charged(elements, 4, 64, &[Step::Item(1)]),
         (a_struct(1, 0, 3), 0)
     );
-    assert_eq!(rt; charged(&elements, 4, 64, &[Step::Item(2)]), (Ok(None), 0));
+    assert_eq!(rt; charged(elements, 4, 64, &[Step::Item(2)]), (Ok(None), 0));
     let mut budget = Budget::new(4);
-    match get_charged(&elements, &mut budget, 64, &[Step::Item(1)]) {
+    match get_charged(elements, &mut budget, 64, &[Step::Item(1)]) {
         Ok(Some(view)) => assert_eq!(rt; view.data_word(0), Some(0)),
         _ => return Err("no element".into()),
     }
@@ -139,35 +149,45 @@ fn structs_of_a_list_stand_a_level_below_it(rt: HostRuntime) -> Result<(), Fail>
         ],
     )?;
     let below = OneSegment::new(&below).ok_or("no message")?;
+    levels_below_a_list(&rt, &below);
+    levels_below_a_list(&rt, &in_one_buffer(rt.alloc(), &below)?.view());
+    let none = words(rt.alloc(), &[0x0100000007000000, 0])?;
+    let none = OneSegment::new(&none).ok_or("no message")?;
+    level_without_structs(&rt, &none);
+    level_without_structs(&rt, &in_one_buffer(rt.alloc(), &none)?.view());
+    Ok(())
+}
+
+fn levels_below_a_list<M: Segments>(rt: &impl Abort, below: &M) {
     let path = &[Step::Item(0), Step::Ptr(0)];
-    assert_eq!(rt; charged(&below, 9, 3, path), (a_struct(1, 0, 3), 6));
+    assert_eq!(rt; charged(below, 9, 3, path), (a_struct(1, 0, 3), 6));
     let past = Refusal {
         segment: 0,
         word: 2,
         reason: Reason::DepthLimit,
         pointers: 2,
     };
-    assert_eq!(rt; charged(&below, 9, 2, path), (Err(past), 9));
+    assert_eq!(rt; charged(below, 9, 2, path), (Err(past), 9));
     assert_eq!(rt;
-        charged(&below, 9, 2, &[Step::Item(0)]),
+        charged(below, 9, 2, &[Step::Item(0)]),
         (a_struct(0, 1, 2), 7)
     );
     // The list alone is past the limit, since its struct is, whether or not a step leads to it.
     for path in [&[][..], &[Step::Item(0)][..], &[Step::Item(1)][..]] {
         assert_eq!(rt;
-            charged(&below, 9, 1, path),
+            charged(below, 9, 1, path),
             (refused(Reason::DepthLimit, 1), 9)
         );
     }
-    // A list without structs isn't.
-    let none = words(rt.alloc(), &[0x0100000007000000, 0])?;
-    let none = OneSegment::new(&none).ok_or("no message")?;
-    assert_eq!(rt; charged(&none, 9, 1, &[Step::Item(0)]), (Ok(None), 8));
+}
+
+// A list without structs takes no level below its own.
+fn level_without_structs<M: Segments>(rt: &impl Abort, none: &M) {
+    assert_eq!(rt; charged(none, 9, 1, &[Step::Item(0)]), (Ok(None), 8));
     assert_eq!(rt;
-        charged(&none, 9, 0, &[Step::Item(0)]),
+        charged(none, 9, 0, &[Step::Item(0)]),
         (refused(Reason::DepthLimit, 1), 9)
     );
-    Ok(())
 }
 
 #[test]
