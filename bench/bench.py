@@ -213,6 +213,7 @@ ON_ALL = [
 ON_MESSAGES = [
     Timed("capvet segments", f"PROGRAM segments {SIZE} FILE"),
     *with_peers("vet", LIMITS, "walk"),
+    Timed("capvet vet --exclusive", f"PROGRAM vet --exclusive {LIMITS} FILE", statuses=(0, 1)),
     *with_peers("check", LIMITS, statuses=(0, 1)),
     *with_peers("canon", LIMITS),
     *with_peers("vet --packed", LIMITS, "walk --packed", packed=True),

@@ -112,6 +112,8 @@ NULL_DUMP = NULL_ACCEPTED + "root null\n"
 NULL_FOUND = "message 0: found\nnode null\n"
 CYCLE = framed("fcffffff00000100")
 CAPABILITY = framed("0300000005000000")
+SHARED = framed("0000000000000200", "0400000001000000", "0000000001000000", "0700000000000000")
+OVERLAP = "message 1: refused Overlap at 0:2 pointers 3\n"
 CYCLE_REFUSED = "message 0: refused DepthLimit at 0:0 pointers 65\n"
 
 # ------------------------------------------------------------------ samples
@@ -179,7 +181,7 @@ def samples():
         for name, verdicts in VERDICTS.items():
             file, packed = f"examples/{name}", f"{folder}/{name}.packed"
             stream = sample(name)
-            texts = {"vet": verdicts, "segments": segments_text(stream), "dump": dump_text(stream, verdicts)}
+            texts = {"vet": verdicts, "vet --exclusive": verdicts, "segments": segments_text(stream), "dump": dump_text(stream, verdicts)}
             texts["check"] = CHECKS[name]
             texts |= {f"get {path}": get_text(stream, path) for path in PATHS}
             shell_case(f"capvet pack {file} > {packed}", "")
@@ -231,11 +233,11 @@ def waits_for_input(process):
         time.sleep(0.01)
 
 
-def resident(name, parts, wanted, most):
-    """What `vet` wrote of these parts of a stream while its input is still open, and whether the most memory that it
-    ever had resident is within so many KiB."""
+def resident(name, parts, wanted, most, *options):
+    """What `vet` with these options wrote of these parts of a stream while its input is still open, and whether the
+    most memory that it ever had resident is within so many KiB."""
     pipes = {"stdin": subprocess.PIPE, "stdout": subprocess.PIPE}
-    with subprocess.Popen([PROGRAM, "vet"], cwd=TOP, **pipes) as ran:
+    with subprocess.Popen([PROGRAM, "vet", *options], cwd=TOP, **pipes) as ran:
         writer = threading.Thread(target=lambda: [ran.stdin.write(part) for part in parts] + [ran.stdin.flush()])
         writer.start()
         text = text_of(ran, len(wanted))
@@ -243,7 +245,8 @@ def resident(name, parts, wanted, most):
         waits_for_input(ran)
         memory = most_memory(ran)
         ran.kill()
-    compare(f"capvet vet of {name}, and its memory: {memory} KiB", (wanted.encode(), b"", True), (text, b"", memory <= most))
+    command = " ".join(("capvet vet", *options))
+    compare(f"{command} of {name}, and its memory: {memory} KiB", (wanted.encode(), b"", True), (text, b"", memory <= most))
 
 
 samples()
@@ -263,10 +266,12 @@ resident("a table that claims 64 MiB and has nothing behind it", [word("00000000
 COPIES = (64 << 20) // len(contacts)
 resident("64 MiB of small messages", [contacts] * COPIES,
          "".join(CONTACTS.replace("0", str(number), 1) for number in range(COPIES)), 4 << 10)
-# The message itself, and 2 MiB.
+# The message itself, and 2 MiB; and with its marks a 64th of it.
 LIST = (8 << 20) - 1
-resident("a message of 64 MiB", [struct.pack("<IIII", 0, 1 + LIST, 1, 8 * LIST << 3 | 2), bytes(8 * LIST)],
-         f"message 0: accepted charge {LIST} depth 1 pointers 1 caps 0\n", (64 + 2) << 10)
+LARGE = [struct.pack("<IIII", 0, 1 + LIST, 1, 8 * LIST << 3 | 2), bytes(8 * LIST)]
+LARGE_ACCEPTED = f"message 0: accepted charge {LIST} depth 1 pointers 1 caps 0\n"
+resident("a message of 64 MiB", LARGE, LARGE_ACCEPTED, (64 + 2) << 10)
+resident("a message of 64 MiB", LARGE, LARGE_ACCEPTED, (64 + 1 + 2) << 10, "--exclusive")
 case("unpack examples/contacts.packed", sample("contacts.bin"))
 case("vet --packed examples/contacts.packed", CONTACTS)
 # The two texts of the encoding specification's section on packing.
@@ -279,6 +284,7 @@ case("unpack", bytes(32), stdin=word("0003"))
 case("vet", CYCLE_REFUSED, status=1, stdin=CYCLE)
 case("dump", CYCLE_REFUSED, status=1, stdin=CYCLE)
 case("get /p0", CYCLE_REFUSED, status=1, stdin=CYCLE)
+case("vet --exclusive", NULL_ACCEPTED + OVERLAP + CYCLE_REFUSED.replace("0", "2", 1), status=1, stdin=NULL + SHARED + CYCLE)
 case("vet --words 100 examples/contacts.bin", "message 0: refused WordLimit at 0:21 pointers 22\n", status=1)
 case("vet --size 391 examples/contacts.bin", err="capvet: message 0: TooLarge 392\n", status=1)
 case("check", "message 0: canonical\n" + CYCLE_REFUSED.replace("0", "1", 1), status=1, stdin=NULL + CYCLE)

@@ -18,7 +18,7 @@ use Rattle.cap_cmd.specs.Statuses.{cause_status, copy_status, frame_status, outc
 use Rattle.cap_cmd.specs.Jobs.{BeginsOutput, CopiesInput, DoesTask, CanonsInput, GivesOutput, ShowsInput, TellsCopy, TellsInput, TellsRun}
 use Rattle.cap_run.specs.Telling.{Tells, outcome_of}
 use Rattle.cap_run.specs.declared.fault.Cause.{Cause}
-use Rattle.cap_run.specs.declared.fault.Cause.TheVariants.{TooManyMessages, Frame, Output, Refused, Canon}
+use Rattle.cap_run.specs.declared.fault.Cause.TheVariants.{TooManyMessages, Frame, Output, Refused, Canon, Memory as no_marks}
 use Rattle.cap_run.specs.declared.fault.CopyFault.{CopyFault}
 use Rattle.cap_run.specs.declared.fault.CopyFault.TheVariants.{TooManyWords, Source, Output as copy_output}
 use Rattle.cap_words.specs.declared.sources.SourceFault.TheVariants.{Truncated as source_truncated, Device as source_device, Spent as source_spent}
@@ -60,6 +60,7 @@ cause_fails (Output fault) e = cc
 cause_fails (Refused refusal) e = cc
 cause_fails (Canon (HasCapability s w)) e = cc
 cause_fails (Canon canon_memory) e = cc
+cause_fails no_marks e = cc
 
 -- with it no message was refused
 pub none_refused : (o : Outcome) → outcome_status o ≡ 0 → o.refused ≡ 0
@@ -79,10 +80,10 @@ module _ {S O : Type 0} (gs : source.Ghosts S) (go : output.Ghosts O) where
   shown_all limit most old new before after (Err fault) e s = absurd (cause_fails fault.cause e)
 
   -- all messages were accepted
-  pub told_all : (tells : Tells) (limit most : ℕ) (old new : S) (before after : O) (r : Result Outcome RunFault) → run_status r ≡ 0
-      → TellsStream gs go tells limit most old new before after r
+  pub told_all : (tells : Tells) (wants : List (List ℕ) → Type 0) (limit most : ℕ) (old new : S) (before after : O) (r : Result Outcome RunFault) → run_status r ≡ 0
+      → TellsStream gs go tells wants limit most old new before after r
       → TellsInput tells (gs.words old) (gs.is_cut old) (go.written before) (go.written after) limit most
-  told_all tells limit most old new before after (Ok o) e s =
+  told_all tells wants limit most old new before after (Ok o) e s =
       let k = s.ok in
       record {
         own = k.1.own;
@@ -96,7 +97,7 @@ module _ {S O : Type 0} (gs : source.Ghosts S) (go : output.Ghosts O) where
         canonical = none_noncanonical (outcome_of k.0) (subst (λ (x : Outcome). outcome_status x ≡ 0) k.5 e);
         appended = k.3.appended;
       }
-  told_all tells limit most old new before after (Err fault) e s = absurd (cause_fails fault.cause e)
+  told_all tells wants limit most old new before after (Err fault) e s = absurd (cause_fails fault.cause e)
 
 module _ {S O K : Type 0} (gs : source.Ghosts S) (go : output.Ghosts O) (gk : sink.Ghosts K) where
   -- all words were copied

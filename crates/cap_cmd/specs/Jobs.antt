@@ -23,8 +23,8 @@ use Rattle.cap_run.specs.Checking.{TellsCheck}
 use Rattle.cap_run.specs.Engines.{CopiesWords, ShowsStream, TellsStream, most_words}
 use Rattle.cap_run.specs.Faults.{copy_fault_line, run_fault_line}
 use Rattle.cap_cmd.specs.Statuses.{copy_status, run_status}
-use Rattle.cap_run.specs.Telling.{Tells, TellsEach, Told, messages_of, noncanonical_in, refused_in, segments_texts, texts_of}
-use Rattle.cap_run.specs.Vetting.{TellsDump, TellsGet, TellsVerdict}
+use Rattle.cap_run.specs.Telling.{Tells, TellsEach, Told, WantsNone, messages_of, noncanonical_in, refused_in, segments_texts, texts_of}
+use Rattle.cap_run.specs.Vetting.{TellsDump, TellsExclusive, TellsGet, TellsVerdict, WantsMarks}
 use Rattle.cap_run.specs.Writing.{Writes}
 use Rattle.cap_run.specs.declared.fault.CopyFault.{CopyFault}
 use Rattle.cap_run.specs.declared.fault.RunFault.{RunFault}
@@ -36,7 +36,7 @@ use Rattle.cap_run.specs.declared.settings.Settings.{Settings}
 -- what is unpacked is packed, what is packed isn't yet, and of messages the user tells it
 abbrev pub is_packed : Task → Bool → Bool
 is_packed Segments told = told
-is_packed Vet told = told
+is_packed (Vet exclusive) told = told
 is_packed Dump told = told
 is_packed (Get path) told = told
 is_packed Check told = told
@@ -109,17 +109,20 @@ module _ {S O E P U : Type 0} (gs : source.Ghosts S) (go : output.Ghosts O) (ge 
   abbrev pub DoesTask : Task → Settings → S → O → O → E → E → ℕ → Type 0
   DoesTask Segments s first before after old new status = (answer : Result Outcome RunFault) × (last : S)
       × ShowsStream gs go (limit_of s.size) s.messages first last before after answer × TellsRun ge answer old new status
-  DoesTask Vet s first before after old new status = (answer : Result Outcome RunFault) × (last : S)
-      × TellsStream gs go (TellsVerdict (words_of s.limits) (depth_of s.limits)) (limit_of s.size) s.messages first last before after answer
+  DoesTask (Vet false) s first before after old new status = (answer : Result Outcome RunFault) × (last : S)
+      × TellsStream gs go (TellsVerdict (words_of s.limits) (depth_of s.limits)) WantsNone (limit_of s.size) s.messages first last before after answer
       × TellsRun ge answer old new status
+  DoesTask (Vet true) s first before after old new status = (answer : Result Outcome RunFault) × (last : S)
+      × TellsStream gs go (TellsExclusive (words_of s.limits) (depth_of s.limits)) (WantsMarks (words_of s.limits) (depth_of s.limits)) (limit_of s.size)
+      s.messages first last before after answer × TellsRun ge answer old new status
   DoesTask Dump s first before after old new status = (answer : Result Outcome RunFault) × (last : S)
-      × TellsStream gs go (TellsDump (words_of s.limits) (depth_of s.limits)) (limit_of s.size) s.messages first last before after answer
+      × TellsStream gs go (TellsDump (words_of s.limits) (depth_of s.limits)) WantsNone (limit_of s.size) s.messages first last before after answer
       × TellsRun ge answer old new status
   DoesTask (Get path) s first before after old new status = (answer : Result Outcome RunFault) × (last : S)
-      × TellsStream gs go (TellsGet (words_of s.limits) (depth_of s.limits) path.items) (limit_of s.size) s.messages first last before after answer
+      × TellsStream gs go (TellsGet (words_of s.limits) (depth_of s.limits) path.items) WantsNone (limit_of s.size) s.messages first last before after answer
       × TellsRun ge answer old new status
   DoesTask Check s first before after old new status = (answer : Result Outcome RunFault) × (last : S)
-      × TellsStream gs go (TellsCheck (words_of s.limits) (depth_of s.limits)) (limit_of s.size) s.messages first last before after answer
+      × TellsStream gs go (TellsCheck (words_of s.limits) (depth_of s.limits)) WantsNone (limit_of s.size) s.messages first last before after answer
       × TellsRun ge answer old new status
   DoesTask Canon s first before after old new status = (answer : Result Outcome RunFault) × (last : S) × (begun : U) × (ended : U)
       × BeginsOutput go gu plain_text before begun

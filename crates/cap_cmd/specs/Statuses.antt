@@ -7,7 +7,7 @@ use Rattle.cap_frame.specs.declared.fault.FrameFault.TheVariants.{TooManySegment
 use Rattle.cap_canon.specs.declared.fault.CanonFault.{CanonFault}
 use Rattle.cap_canon.specs.declared.fault.CanonFault.TheVariants.{HasCapability, Memory as canon_memory}
 use Rattle.cap_run.specs.declared.fault.Cause.{Cause}
-use Rattle.cap_run.specs.declared.fault.Cause.TheVariants.{TooManyMessages, Frame, Output, Refused, Canon}
+use Rattle.cap_run.specs.declared.fault.Cause.TheVariants.{TooManyMessages, Frame, Output, Refused, Canon, Memory as no_marks}
 use Rattle.cap_run.specs.declared.fault.CopyFault.{CopyFault}
 use Rattle.cap_run.specs.declared.fault.CopyFault.TheVariants.{TooManyWords, Source as copy_source, Output as copy_output}
 use Rattle.cap_run.specs.declared.fault.RunFault.{RunFault}
@@ -33,6 +33,7 @@ cause_status (Frame fault) = frame_status fault
 cause_status (Output fault) = 3
 cause_status (Refused refusal) = 1
 cause_status (Canon fault) = canon_status fault
+cause_status no_marks = 3
 
 -- 0 where every message was accepted, and canonical where that was asked
 abbrev pub outcome_status : Outcome → ℕ

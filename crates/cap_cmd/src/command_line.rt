@@ -43,6 +43,10 @@ the deepest level of an object, where a list's structs stand one below the list;
 pointers, null ones too, and capabilities it has. A refused one is told with the reason, and the
 SEGMENT:WORD of the first pointer at fault.
 
+With --exclusive a message is also refused, as Overlap, where a pointer leads to a word that is in
+use already: the root word, or a word that it or an earlier pointer leads to. Then a traversal reads
+no more words than the message has.
+
 Example:
   $ capvet vet --depth 3 examples/contacts.bin
   message 0: refused DepthLimit at 0:7 pointers 3";
@@ -146,6 +150,14 @@ fn depth_option<'a>(alloc: Global) -> Arg<'a> {
         .default_value("64")
 }
 
+// The option that no word is used twice.
+fn exclusive_option<'a>(alloc: Global) -> Arg<'a> {
+    Arg::new(alloc, "exclusive")
+        .long("exclusive")
+        .help("No word may be used by two pointers")
+        .action(ArgAction::SetTrue)
+}
+
 // The path of a node.
 fn path_argument<'a>(alloc: Global) -> Arg<'a> {
     Arg::new(alloc, "path")
@@ -180,6 +192,7 @@ fn vet_command<'a>(alloc: Global) -> Result<Command<'a>, AllocError> {
         .arg(size_option(alloc))?
         .arg(words_option(alloc))?
         .arg(depth_option(alloc))?
+        .arg(exclusive_option(alloc))?
         .arg(file_argument(alloc))
 }
 
@@ -295,6 +308,14 @@ fn limits_of(options: &ArgMatches<'_>) -> Option<Limits> {
     Limits::new(words, depth)
 }
 
+// The job of `vet`.
+fn vet_job(alloc: Global, options: &ArgMatches<'_>) -> Result<Job, JobFault>
+    ensures messages { IfOk result (λ job. job.settings.messages ≡ most_messages) }
+{
+    let exclusive = options.get_flag("exclusive");
+    job_of(alloc, Task::Vet { exclusive }, options)
+}
+
 // The job of `get`, whose path is read first.
 fn get_job(alloc: Global, options: &ArgMatches<'_>) -> Result<Job, JobFault>
     ensures messages { IfOk result (λ job. job.settings.messages ≡ most_messages) }
@@ -359,7 +380,7 @@ pub fn read_job(alloc: Global, words: Vec<String>) -> Result<Job, JobFault>
     match command.try_get_matches_from(words.as_slice()) {
         Ok(matches) => match matches.subcommand() {
             Some(("segments", options)) => job_of(alloc, Task::Segments, options),
-            Some(("vet", options)) => job_of(alloc, Task::Vet, options),
+            Some(("vet", options)) => vet_job(alloc, options),
             Some(("dump", options)) => job_of(alloc, Task::Dump, options),
             Some(("get", options)) => get_job(alloc, options),
             Some(("check", options)) => job_of(alloc, Task::Check, options),

@@ -3,7 +3,7 @@
 ghost use Rattle.cap_run.specs.Engines.{most_words};
 ghost use Rattle.cap_cmd.specs.Jobs.{CanonsInput, CopiesInput, DoesJob, DoesTask, ShowsInput, TellsCopy, TellsInput, TellsRun, input_is_cut, input_words, is_packed, path_of};
 ghost use Rattle.cap_run.specs.Checking.{TellsCheck};
-ghost use Rattle.cap_run.specs.Vetting.{TellsDump, TellsGet, TellsVerdict};
+ghost use Rattle.cap_run.specs.Vetting.{TellsDump, TellsExclusive, TellsGet, TellsVerdict};
 ghost use Rattle.cap_spec.specs.declared.Step.{Step};
 ghost use Rattle.cap_frame.specs.Limit.{limit_of};
 ghost use Rattle.cap_spec.specs.Packing.{pack_text};
@@ -16,7 +16,7 @@ use crate::status::{stream_status, words_status};
 use cap_pack::{Packer, Unpacker};
 use cap_run::{
     CopyFault, Outcome, RunFault, run_canon, run_check, run_dump, run_get, run_pack, run_segments,
-    run_unpack, run_vet, write_copy_fault, write_fault,
+    run_unpack, run_vet, run_vet_exclusive, write_copy_fault, write_fault,
 };
 use cap_words::{ByteIn, ByteOut, PlainSink, PlainWords, WordSink, WordSource};
 use std::alloc::Global;
@@ -29,7 +29,7 @@ fn input_is_packed(job: &Job) -> bool
     ensures { result ≡ is_packed job.now.task job.now.packed }
 {
     match &job.task {
-        Task::Segments | Task::Vet | Task::Dump | Task::Get { .. } => job.packed,
+        Task::Segments | Task::Vet { .. } | Task::Dump | Task::Get { .. } => job.packed,
         Task::Check | Task::Canon => job.packed,
         Task::Pack => false,
         Task::Unpack => true,
@@ -68,8 +68,11 @@ fn run_over<S: WordSource + Drop, O: ByteOut, E: ByteOut>(
         source out result.1 err.old err.new result.0 }
     ensures segments { job.now.task ≡ Task.Segments → result.0 ≡ 0 →
         ShowsInput (S.words source) (S.is_cut source) (O.written out) (O.written result.1) (limit_of job.now.settings.size) job.now.settings.messages }
-    ensures vet { job.now.task ≡ Task.Vet → result.0 ≡ 0 →
+    ensures vet { job.now.task ≡ Task.Vet false → result.0 ≡ 0 →
         TellsInput (TellsVerdict (words_of job.now.settings.limits) (depth_of job.now.settings.limits)) (S.words source) (S.is_cut source)
+        (O.written out) (O.written result.1) (limit_of job.now.settings.size) job.now.settings.messages }
+    ensures vet_exclusive { job.now.task ≡ Task.Vet true → result.0 ≡ 0 →
+        TellsInput (TellsExclusive (words_of job.now.settings.limits) (depth_of job.now.settings.limits)) (S.words source) (S.is_cut source)
         (O.written out) (O.written result.1) (limit_of job.now.settings.size) job.now.settings.messages }
     ensures dump { job.now.task ≡ Task.Dump → result.0 ≡ 0 →
         TellsInput (TellsDump (words_of job.now.settings.limits) (depth_of job.now.settings.limits)) (S.words source) (S.is_cut source)
@@ -88,15 +91,18 @@ fn run_over<S: WordSource + Drop, O: ByteOut, E: ByteOut>(
     ensures unpack { job.now.task ≡ Task.Unpack → result.0 ≡ 0
         → CopiesInput (S.words source) (S.is_cut source) (O.written out) (O.written result.1) plain_text most_words }
 {
-    let mut source = source;
-    let mut out = out;
+    let (mut source, mut out) = (source, out);
     match &job.task {
         Task::Segments => {
             let answer = run_segments(&mut source, &mut out, &job.settings);
             (report(err, &answer), out)
         }
-        Task::Vet => {
+        Task::Vet { exclusive: false } => {
             let answer = run_vet(alloc, &mut source, &mut out, &job.settings);
+            (report(err, &answer), out)
+        }
+        Task::Vet { exclusive: true } => {
+            let answer = run_vet_exclusive(alloc, &mut source, &mut out, &job.settings);
             (report(err, &answer), out)
         }
         Task::Dump => {
@@ -133,8 +139,8 @@ fn run_over<S: WordSource + Drop, O: ByteOut, E: ByteOut>(
 /// answers the exit status and the output. A line that can't be written changes no status.
 ///
 /// The status is 0 where every message was accepted, and canonical where that was asked, or all words
-/// were copied; 1 where a message was refused, or isn't canonical where that was asked, or has a
-/// capability where its canonical copy is wanted, or where the input is no stream of messages within
+/// were copied; 1 where a message was refused, also for a word that is used twice where that was asked,
+/// or isn't canonical where that was asked, or has a capability where its canonical copy is wanted, or where the input is no stream of messages within
 /// the limits, is cut inside a word or a group, or has more words than are copied; and 3 where a device
 /// failed, an end was spent before, or a growth was refused.
 pub fn run_job<I: ByteIn + Drop, O: ByteOut, E: ByteOut>(
@@ -155,8 +161,11 @@ pub fn run_job<I: ByteIn + Drop, O: ByteOut, E: ByteOut>(
     ensures segments { job.now.task ≡ Task.Segments → result.0 ≡ 0 →
         ShowsInput (input_words job.now.packed (I.to_come input)) (input_is_cut job.now.packed (I.to_come input)) (O.written out) (O.written result.1)
         (limit_of job.now.settings.size) job.now.settings.messages }
-    ensures vet { job.now.task ≡ Task.Vet → result.0 ≡ 0 →
+    ensures vet { job.now.task ≡ Task.Vet false → result.0 ≡ 0 →
         TellsInput (TellsVerdict (words_of job.now.settings.limits) (depth_of job.now.settings.limits)) (input_words job.now.packed (I.to_come input))
+        (input_is_cut job.now.packed (I.to_come input)) (O.written out) (O.written result.1) (limit_of job.now.settings.size) job.now.settings.messages }
+    ensures vet_exclusive { job.now.task ≡ Task.Vet true → result.0 ≡ 0 →
+        TellsInput (TellsExclusive (words_of job.now.settings.limits) (depth_of job.now.settings.limits)) (input_words job.now.packed (I.to_come input))
         (input_is_cut job.now.packed (I.to_come input)) (O.written out) (O.written result.1) (limit_of job.now.settings.size) job.now.settings.messages }
     ensures dump { job.now.task ≡ Task.Dump → result.0 ≡ 0 →
         TellsInput (TellsDump (words_of job.now.settings.limits) (depth_of job.now.settings.limits)) (input_words job.now.packed (I.to_come input))

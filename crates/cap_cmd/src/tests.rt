@@ -45,18 +45,29 @@ fn reads_the_command_line(rt: HostRuntime) -> Result<(), Fail> {
 #[test]
 fn reads_which_input_is_packed(rt: HostRuntime) -> Result<(), Fail> {
     let alloc = rt.alloc();
-    let jobs: [(&[&str], Task, bool, Option<&str>); 6] = [
+    let jobs: [(&[&str], Task, bool, Option<&str>); 7] = [
         (
             &["capvet", "segments", "--packed"],
             Task::Segments,
             true,
             None,
         ),
-        (&["capvet", "vet"], Task::Vet, false, None),
+        (
+            &["capvet", "vet"],
+            Task::Vet { exclusive: false },
+            false,
+            None,
+        ),
         (
             &["capvet", "vet", "a", "--packed"],
-            Task::Vet,
+            Task::Vet { exclusive: false },
             true,
+            Some("a"),
+        ),
+        (
+            &["capvet", "vet", "--exclusive", "a"],
+            Task::Vet { exclusive: true },
+            false,
             Some("a"),
         ),
         (&["capvet", "pack"], Task::Pack, false, None),
@@ -241,7 +252,7 @@ fn tells_the_faults(rt: HostRuntime) -> Result<(), Fail> {
         segment: 2,
         word: 30,
     };
-    let faults: [(Cause, &str); 11] = [
+    let faults: [(Cause, &str); 12] = [
         (
             Cause::TooManyMessages,
             "capvet: message 7: TooManyMessages\n",
@@ -285,6 +296,7 @@ fn tells_the_faults(rt: HostRuntime) -> Result<(), Fail> {
             Cause::Canon(CanonFault::Memory),
             "capvet: message 7: Memory\n",
         ),
+        (Cause::Memory, "capvet: message 7: Memory\n"),
     ];
     for (cause, text) in &faults {
         let fault = RunFault {

@@ -20,7 +20,7 @@ use Rattle.cap_run.specs.Making.{Made}
 use Rattle.cap_run.specs.Running.{Settled, SettledAt}
 use Rattle.cap_run.specs.Streams.{ReadsAll, ReadsStream}
 use Rattle.cap_run.specs.declared.fault.Cause.{Cause}
-use Rattle.cap_run.specs.declared.fault.Cause.TheVariants.{TooManyMessages, Frame, Output, Refused, Canon}
+use Rattle.cap_run.specs.declared.fault.Cause.TheVariants.{TooManyMessages, Frame, Output, Refused, Canon, Memory as no_marks}
 use Rattle.cap_run.specs.declared.fault.RunFault.{RunFault}
 use Rattle.cap_run.specs.declared.settings.Outcome.{Outcome}
 use Rattle.cap_run.proofs.Settling.{none_faulted, none_over, on_known, reads_next}
@@ -82,6 +82,7 @@ module _ {S K : Type 0} (gs : source.Ghosts S) (gk : sink.Ghosts K) (words depth
       let h = next_has mid cs ds own stops.0.1 w s a reads stops.0.3 in
       absurd (cap_no_copy stops.0.1 seg word h.0 stops.0.5 h.1.has_copy)
   canon_behind mid cs ds own (Canon Memory) P w c s l a few reads stops = tt
+  canon_behind mid cs ds own no_marks P w c s l a few reads stops = absurd stops
 
   -- such a stream is read to its end
   canon_settled : (r : Result Outcome RunFault) (own : List ℕ) (ds : List Canonised) → SaysCopies r → SaysNoCopies r → gs.words old ≡ Some own → gs.is_cut old ≡ false → Stream own (canonised ds)

@@ -7,11 +7,11 @@ use Rattle.cap_words.specs.declared.ends.OutFault.TheVariants.{Device, Memory, S
 use Rattle.cap_words.specs.declared.sources.WordSource as source
 use Rattle.cap_run.specs.declared.engines.stream.Mark.{Mark}
 use Rattle.cap_run.specs.declared.fault.Cause.{Cause}
-use Rattle.cap_run.specs.declared.fault.Cause.TheVariants.{TooManyMessages, Frame, Output, Refused, Canon}
+use Rattle.cap_run.specs.declared.fault.Cause.TheVariants.{TooManyMessages, Frame, Output, Refused, Canon, Memory as no_marks}
 use Rattle.cap_run.specs.declared.settings.Outcome.{Outcome}
 use Rattle.cap_run.specs.Running.{Appended, EndStops, RunStops, StepStops, StopsIn}
 use Rattle.cap_run.specs.Streams.{ReadsStream}
-use Rattle.cap_run.specs.Telling.{Told, messages_of, texts_of, TellsEach, one_refused, one_noncanonical, outcome_of}
+use Rattle.cap_run.specs.Telling.{Tells, Told, messages_of, texts_of, TellsEach, one_refused, one_noncanonical, outcome_of}
 use Rattle.cap_run.specs.Writing.{Wrote, Stopped}
 use Rattle.cap_run.proofs.Streams.{reads_none, reads_both}
 use Rattle.cap_run.proofs.Telling.{messages_of-snoc, texts_of-snoc, each-snoc, outcome_of-snoc, refused_in_le, noncanonical_in_le}
@@ -64,7 +64,7 @@ module _ {O : Type 0} (g : output.Ghosts O) where
     appended = Appends-trans (g.written a) (g.written b) (g.written c) xs [] p.appended (rw q.1 (Appends-nil (g.written b)));
   }
 
-module _ {S O : Type 0} (gs : source.Ghosts S) (go : output.Ghosts O) (tells : ℕ → List (List ℕ) → List ℕ → Mark → Type 0) (limit : ℕ) where
+module _ {S O : Type 0} (gs : source.Ghosts S) (go : output.Ghosts O) (tells : Tells) (limit : ℕ) where
   -- so many messages were read and told of
   pub record Going (old new : S) (before after : O) (outcome : Outcome) (number : ℕ) : Type 0 where
     pub ts : List Told
@@ -102,21 +102,24 @@ module _ {S O : Type 0} (gs : source.Ghosts S) (go : output.Ghosts O) (tells : �
   pub going_noncanonical : (old new : S) (before after : O) (outcome : Outcome) (number : ℕ) → Going old new before after outcome number → outcome.noncanonical ≤ outcome.messages
   going_noncanonical old new before after outcome number w = rw w.counts (noncanonical_in_le w.ts)
 
+module _ {S O : Type 0} (gs : source.Ghosts S) (go : output.Ghosts O) (tells : Tells) (wants : List (List ℕ) → Type 0) (limit : ℕ) where
   -- it ended at the next message
-  pub going_stops : (old mid new : S) (before between after : O) (outcome : Outcome) (number most : ℕ) (cause : Cause) → (w : Going old mid before between outcome number) → number < most
-      → StepStops gs go tells limit number mid new between after cause → RunStops gs go tells limit most w.ts mid new before after cause
+  pub going_stops : (old mid new : S) (before between after : O) (outcome : Outcome) (number most : ℕ) (cause : Cause) → (w : Going gs go tells limit old mid before between outcome number) → number < most
+      → StepStops gs go tells wants limit number mid new between after cause → RunStops gs go tells wants limit most w.ts mid new before after cause
   going_stops old mid new before between after outcome number most TooManyMessages w h q = absurd q
   going_stops old mid new before between after outcome number most (Frame fault) w h q = (rw q.1 w.appended, q.0)
   going_stops old mid new before between after outcome number most (Output fault) w h q =
       (q.0, omega (arith, w.many), subst (λ k. tells k q.0.message q.0.text q.0.mark) (sym w.many) q.1, q.2, stops_in go before between after fault (texts_of w.ts) q.0.text w.appended q.3)
   going_stops old mid new before between after outcome number most (Refused refusal) w h q = absurd q
   going_stops old mid new before between after outcome number most (Canon fault) w h q = absurd q
+  going_stops old mid new before between after outcome number most no_marks w h q = (omega (arith, w.many), rw q.3 w.appended, (q.0, q.1, q.2))
 
   -- it ended behind the last message that it may read
-  pub going_over : (old mid new : S) (before after : O) (outcome : Outcome) (most : ℕ) (cause : Cause) → (w : Going old mid before after outcome most)
-      → EndStops gs limit mid new cause → RunStops gs go tells limit most w.ts mid new before after cause
+  pub going_over : (old mid new : S) (before after : O) (outcome : Outcome) (most : ℕ) (cause : Cause) → (w : Going gs go tells limit old mid before after outcome most)
+      → EndStops gs limit mid new cause → RunStops gs go tells wants limit most w.ts mid new before after cause
   going_over old mid new before after outcome most TooManyMessages w q = (w.many, w.appended, q)
   going_over old mid new before after outcome most (Frame fault) w q = (w.appended, q)
   going_over old mid new before after outcome most (Output fault) w q = absurd q
   going_over old mid new before after outcome most (Refused refusal) w q = absurd q
   going_over old mid new before after outcome most (Canon fault) w q = absurd q
+  going_over old mid new before after outcome most no_marks w q = absurd q

@@ -24,7 +24,7 @@ use Rattle.cap_run.specs.Making.{CopiesEnd, CopiesSoFar, CopyStops, Made, Making
 use Rattle.cap_run.specs.Running.{EndStops}
 use Rattle.cap_run.specs.Streams.{EndsStream, ReadsStream}
 use Rattle.cap_run.specs.declared.fault.Cause.{Cause}
-use Rattle.cap_run.specs.declared.fault.Cause.TheVariants.{TooManyMessages, Frame, Output, Refused, Canon}
+use Rattle.cap_run.specs.declared.fault.Cause.TheVariants.{TooManyMessages, Frame, Output, Refused, Canon, Memory as no_marks}
 use Rattle.cap_run.proofs.Copying.{fills_both, fills_none, finishes_behind, spoils_last}
 use Rattle.cap_run.proofs.Streams.{reads_both, reads_none}
 
@@ -70,6 +70,7 @@ module _ {S K : Type 0} (gs : source.Ghosts S) (gk : sink.Ghosts K) (words depth
   next_stops m old new before after (Output fault) r s = (m, r, s)
   next_stops m old new before after (Refused refusal) r s = (m, r, s)
   next_stops m old new before after (Canon fault) r s = (m, r, s)
+  next_stops m old new before after no_marks r s = s
 
   -- nothing was put yet
   pub so_far_none : (s : S) (k : K) → CopiesSoFar gs gk words depth limit s s k k 0
@@ -106,6 +107,7 @@ module _ {S K : Type 0} (gs : source.Ghosts S) (gk : sink.Ghosts K) (words depth
   }
   stops_next most old mid new before between after n (Refused refusal) less w s = ((omega (arith, less, w.many), s.0, s.1, s.2.0), rw s.2.1 w.fills)
   stops_next most old mid new before between after n (Canon fault) less w s = ((omega (arith, less, w.many), s.0, s.2.0, s.1, s.2.1, s.2.2), rw s.2.3 w.fills)
+  stops_next most old mid new before between after n no_marks less w s = absurd s
 
   pub making_stops : (most : ℕ) (old mid new : S) (before between after : K) (n : ℕ) (cause : Cause) → n < most → CopiesSoFar gs gk words depth limit old mid before between n
       → NextStops gs gk words depth limit mid new between after cause → Making gs gk words depth limit most old new before after n (Err cause)
@@ -128,6 +130,7 @@ module _ {S K : Type 0} (gs : source.Ghosts S) (gk : sink.Ghosts K) (words depth
   stops_last most old mid new before after (Err (Output fault)) w e s = absurd s
   stops_last most old mid new before after (Err (Refused refusal)) w e s = absurd s
   stops_last most old mid new before after (Err (Canon fault)) w e s = absurd s
+  stops_last most old mid new before after (Err no_marks) w e s = absurd s
 
   pub making_last : (most : ℕ) (old mid new : S) (before after : K) (end : Result (Unit {0}) Cause) → CopiesSoFar gs gk words depth limit old mid before after most
       → OnOk end (EndsStream gs mid new) → IfErr end (λ cause. EndStops gs limit mid new cause) → Making gs gk words depth limit most old new before after most end
@@ -143,6 +146,7 @@ module _ {S K : Type 0} (gs : source.Ghosts S) (gk : sink.Ghosts K) (words depth
   ends_failed most cs mid new before after (Err (Output fault)) e s = inl s
   ends_failed most cs mid new before after (Err (Refused refusal)) e s = absurd (false≢true (sym e))
   ends_failed most cs mid new before after (Err (Canon fault)) e s = absurd (false≢true (sym e))
+  ends_failed most cs mid new before after (Err no_marks) e s = absurd s
 
   pub made_failed : (most : ℕ) (old new : S) (before after : K) (n : ℕ) (end : Result (Unit {0}) Cause) → is_unfinished end ≡ false
       → Making gs gk words depth limit most old new before after n end → Made gs gk words depth limit most old new before after n end
@@ -158,6 +162,7 @@ module _ {S K : Type 0} (gs : source.Ghosts S) (gk : sink.Ghosts K) (words depth
   ends_before most cs mid new before after (Err (Output fault)) e s = absurd (false≢true e)
   ends_before most cs mid new before after (Err (Refused refusal)) e s = s
   ends_before most cs mid new before after (Err (Canon fault)) e s = s
+  ends_before most cs mid new before after (Err no_marks) e s = absurd s
 
   -- and once it is
   ends_behind : (most : ℕ) (cs : List Canonised) (mid new : S) (before after : K) (end : Result (Unit {0}) Cause) → CanonEnds gs gk words depth limit most cs mid new end
@@ -168,6 +173,7 @@ module _ {S K : Type 0} (gs : source.Ghosts S) (gk : sink.Ghosts K) (words depth
   ends_behind most cs mid new before after (Err (Output fault)) s f = absurd s
   ends_behind most cs mid new before after (Err (Refused refusal)) s f = (s, f)
   ends_behind most cs mid new before after (Err (Canon fault)) s f = (s, f)
+  ends_behind most cs mid new before after (Err no_marks) s f = absurd s
 
   pub made_finished : (most : ℕ) (old new : S) (before between after : K) (n : ℕ) (end : Result (Unit {0}) Cause) → is_unfinished end ≡ true
       → Making gs gk words depth limit most old new before between n end → Keeps (gk.text between []) (gk.taken after)

@@ -15,10 +15,9 @@ use Rattle.cap_frame.proofs.Converse.{known_still, same_some, tells, whole_answe
 use Rattle.cap_canon.specs.declared.fault.CanonFault.TheVariants.{HasCapability, Memory as canon_memory}
 use Rattle.cap_run.specs.Running.{Appended, RunStops, Settled, SettledAt}
 use Rattle.cap_run.specs.Streams.{ReadsAll, ReadsStream}
-use Rattle.cap_run.specs.Telling.{TellsEach, Told, messages_of, outcome_of, texts_of}
-use Rattle.cap_run.specs.declared.engines.stream.Mark.{Mark}
+use Rattle.cap_run.specs.Telling.{Tells, TellsEach, Told, messages_of, outcome_of, texts_of}
 use Rattle.cap_run.specs.declared.fault.Cause.{Cause}
-use Rattle.cap_run.specs.declared.fault.Cause.TheVariants.{TooManyMessages, Frame, Output, Refused, Canon}
+use Rattle.cap_run.specs.declared.fault.Cause.TheVariants.{TooManyMessages, Frame, Output, Refused, Canon, Memory as no_marks}
 use Rattle.cap_run.specs.declared.fault.RunFault.{RunFault}
 use Rattle.cap_run.specs.declared.settings.Outcome.{Outcome}
 use Rattle.cap_run.proofs.Telling.{length-messages_of}
@@ -48,6 +47,7 @@ settled_at_map (Output fault) P Q h a = tt
 settled_at_map (Refused refusal) P Q h a = h a
 settled_at_map (Canon (HasCapability s w)) P Q h a = h a
 settled_at_map (Canon canon_memory) P Q h a = tt
+settled_at_map no_marks P Q h a = tt
 
 pub settled_map : (r : Result Outcome RunFault) (P Q : Type 0) → (P → Q) → Settled r P → Settled r Q
 settled_map (Ok outcome) P Q h a = h a
@@ -103,33 +103,34 @@ module _ {S : Type 0} (gs : source.Ghosts S) (limit : ℕ) (old mid new : S) (re
       no_fault gs limit mid new front.0 front.2.0 fault P front.1 (cut.0 ∙ c) front.2.2
       (all_back (λ m. sum (sizes_of m) ≤ limit) read front.2.0 (subst (AllByRecursion (λ m. sum (sizes_of m) ≤ limit)) front.2.1 l)) stops
 
-module _ {S O : Type 0} (gs : source.Ghosts S) (go : output.Ghosts O) (tells_of : ℕ → List (List ℕ) → List ℕ → Mark → Type 0) (limit most : ℕ) (old new : S) (before after : O) where
+module _ {S O : Type 0} (gs : source.Ghosts S) (go : output.Ghosts O) (tells_of : Tells) (limit most : ℕ) (old new : S) (before after : O) where
   -- what an engine's clauses say where it ended, and where it didn't
   abbrev pub SaysEnd : Result Outcome RunFault → Type 0
   SaysEnd r = IfOk r (λ outcome. (ts : List Told) × ReadsAll gs limit old new (messages_of ts) × TellsEach tells_of 0 ts × Appended go before after (texts_of ts) × (length ts ≤ most) × (outcome ≡ outcome_of ts))
 
-  abbrev pub SaysFault : Result Outcome RunFault → Type 0
-  SaysFault r = IfErr r (λ fault. (ts : List Told) × (mid : S) × (fault.message ≡ length ts) × (length ts ≤ most) × ReadsStream gs limit old mid (messages_of ts) × TellsEach tells_of 0 ts
-      × RunStops gs go tells_of limit most ts mid new before after fault.cause)
+  abbrev pub SaysFault : (List (List ℕ) → Type 0) → Result Outcome RunFault → Type 0
+  SaysFault wants r = IfErr r (λ fault. (ts : List Told) × (mid : S) × (fault.message ≡ length ts) × (length ts ≤ most) × ReadsStream gs limit old mid (messages_of ts) × TellsEach tells_of 0 ts
+      × RunStops gs go tells_of wants limit most ts mid new before after fault.cause)
 
   -- each of these messages was told of, and the stream ended
   abbrev pub ToldEach : List (List (List ℕ)) → Result Outcome RunFault → Type 0
   ToldEach ms r = (ts : List Told) × (messages_of ts ≡ ms) × TellsEach tells_of 0 ts × Appended go before after (texts_of ts) × (r ≡ Ok (outcome_of ts))
 
   -- behind some messages of the stream, no fault comes of the others
-  pub settled_behind : (mid : S) (ts : List Told) (own : List ℕ) (ms : List (List (List ℕ))) (cause : Cause) (P : Type 0) → gs.words old ≡ Some own → gs.is_cut old ≡ false → Stream own ms
-      → AllByRecursion (λ m. sum (sizes_of m) ≤ limit) ms → length ms ≤ most → ReadsStream gs limit old mid (messages_of ts) → RunStops gs go tells_of limit most ts mid new before after cause → SettledAt cause P
-  settled_behind mid ts own ms TooManyMessages P w c s l few reads stops =
+  pub settled_behind : (wants : List (List ℕ) → Type 0) (mid : S) (ts : List Told) (own : List ℕ) (ms : List (List (List ℕ))) (cause : Cause) (P : Type 0) → gs.words old ≡ Some own → gs.is_cut old ≡ false → Stream own ms
+      → AllByRecursion (λ m. sum (sizes_of m) ≤ limit) ms → length ms ≤ most → ReadsStream gs limit old mid (messages_of ts) → RunStops gs go tells_of wants limit most ts mid new before after cause → SettledAt cause P
+  settled_behind wants mid ts own ms TooManyMessages P w c s l few reads stops =
       absurd (none_over gs limit old mid new (messages_of ts) own ms stops.2.0 w s reads stops.2.1 (omega (arith, few, stops.0, length-messages_of ts)))
-  settled_behind mid ts own ms (Frame fault) P w c s l few reads stops = none_faulted gs limit old mid new (messages_of ts) own ms fault P w c s l reads stops.1
-  settled_behind mid ts own ms (Output fault) P w c s l few reads stops = tt
-  settled_behind mid ts own ms (Refused refusal) P w c s l few reads stops = absurd stops
-  settled_behind mid ts own ms (Canon fault) P w c s l few reads stops = absurd stops
+  settled_behind wants mid ts own ms (Frame fault) P w c s l few reads stops = none_faulted gs limit old mid new (messages_of ts) own ms fault P w c s l reads stops.1
+  settled_behind wants mid ts own ms (Output fault) P w c s l few reads stops = tt
+  settled_behind wants mid ts own ms (Refused refusal) P w c s l few reads stops = absurd stops
+  settled_behind wants mid ts own ms (Canon fault) P w c s l few reads stops = absurd stops
+  settled_behind wants mid ts own ms no_marks P w c s l few reads stops = tt
 
   -- a stream of messages within the limits is read to its end
-  pub settled : (r : Result Outcome RunFault) (own : List ℕ) (ms : List (List (List ℕ))) → SaysEnd r → SaysFault r → gs.words old ≡ Some own → gs.is_cut old ≡ false → Stream own ms
+  pub settled : (wants : List (List ℕ) → Type 0) (r : Result Outcome RunFault) (own : List ℕ) (ms : List (List (List ℕ))) → SaysEnd r → SaysFault wants r → gs.words old ≡ Some own → gs.is_cut old ≡ false → Stream own ms
       → AllByRecursion (λ m. sum (sizes_of m) ≤ limit) ms → length ms ≤ most → Settled r (ToldEach ms r)
-  settled (Ok outcome) own ms end fault w c s l few =
+  settled wants (Ok outcome) own ms end fault w c s l few =
       let all = on_known (gs.words old) own _ w end.1.all in
       let same = same_some own end.1.own (sym w ∙ all.0) in (
         end.0,
@@ -138,5 +139,5 @@ module _ {S O : Type 0} (gs : source.Ghosts S) (go : output.Ghosts O) (tells_of 
         end.3,
         ap (λ (o : Outcome). Ok o) end.5,
       )
-  settled (Err fault) own ms end f w c s l few =
-      settled_behind f.1 f.0 own ms fault.cause _ w c s l few f.4 f.6
+  settled wants (Err fault) own ms end f w c s l few =
+      settled_behind wants f.1 f.0 own ms fault.cause _ w c s l few f.4 f.6

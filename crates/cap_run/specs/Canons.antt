@@ -20,7 +20,7 @@ use Rattle.cap_run.specs.Copying.{Finishes, Spoils}
 use Rattle.cap_run.specs.Running.{Settled}
 use Rattle.cap_run.specs.Streams.{EndsStream, ReadsAll, ReadsStream}
 use Rattle.cap_run.specs.declared.fault.Cause.{Cause}
-use Rattle.cap_run.specs.declared.fault.Cause.TheVariants.{TooManyMessages, Frame, Output, Refused, Canon}
+use Rattle.cap_run.specs.declared.fault.Cause.TheVariants.{TooManyMessages, Frame, Output, Refused, Canon, Memory as no_marks}
 use Rattle.cap_run.specs.declared.fault.RunFault.{RunFault}
 use Rattle.cap_run.specs.declared.settings.Outcome.{Outcome}
 
@@ -62,6 +62,7 @@ module _ {S K : Type 0} (gs : source.Ghosts S) (gk : sink.Ghosts K) (words depth
   CanonEnds mid new (Err (Refused refusal)) = (length cs < most) × (m : List (List ℕ)) × ReadsStream gs limit mid new (m ∷ []) × IsRefused m words depth refusal
   CanonEnds mid new (Err (Canon fault)) = (length cs < most) × (m : List (List ℕ)) × (report : Report) × ReadsStream gs limit mid new (m ∷ [])
       × IsAccepted m words depth report × HasNoCopy m fault
+  CanonEnds mid new (Err no_marks) = ⊥
 
   -- One more message was read, and the output answered this fault while its copy was put.
   pub record StopsInCopy (mid new : S) (before after : K) (fault : OutFault) : Type 0 where
@@ -84,6 +85,7 @@ module _ {S K : Type 0} (gs : source.Ghosts S) (gk : sink.Ghosts K) (words depth
   CanonStops mid new before after (Output fault) = StopsInCopy mid new before after fault ⊎ StopsBehindCopies mid new before after fault
   CanonStops mid new before after (Refused refusal) = CanonEnds mid new (Err (Refused refusal)) × Finishes gk before after (copies_of cs)
   CanonStops mid new before after (Canon fault) = CanonEnds mid new (Err (Canon fault)) × Finishes gk before after (copies_of cs)
+  CanonStops mid new before after no_marks = ⊥
 
 module _ {S K : Type 0} (gs : source.Ghosts S) (gk : sink.Ghosts K) where
   -- What the engine does over a stream of at most so many messages, each of at most `limit` words, where a message may be

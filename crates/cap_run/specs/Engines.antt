@@ -16,9 +16,8 @@ use Rattle.cap_canon.specs.declared.fault.CanonFault.{CanonFault}
 use Rattle.cap_run.specs.Copying.{Copied, CopySettled, Finishes}
 use Rattle.cap_run.specs.Running.{Appended, RunStops, Settled, ShowsSegments, StopsShowing}
 use Rattle.cap_run.specs.Streams.{ReadsAll, ReadsStream}
-use Rattle.cap_run.specs.Telling.{TellsEach, Told, messages_of, outcome_of, segments_texts, texts_of}
-use Rattle.cap_run.specs.declared.engines.stream.Mark.{Mark}
-use Rattle.cap_run.specs.declared.fault.Cause.TheVariants.{TooManyMessages, Frame, Output, Refused, Canon}
+use Rattle.cap_run.specs.Telling.{Tells, TellsEach, Told, messages_of, outcome_of, segments_texts, texts_of}
+use Rattle.cap_run.specs.declared.fault.Cause.TheVariants.{TooManyMessages, Frame, Output, Refused, Canon, Memory as no_marks}
 use Rattle.cap_run.specs.declared.fault.CopyFault.{CopyFault}
 use Rattle.cap_run.specs.declared.fault.CopyFault.TheVariants.{TooManyWords, Source}
 use Rattle.cap_run.specs.declared.fault.RunFault.{RunFault}
@@ -33,8 +32,9 @@ abbrev pub most_messages : ℕ
 most_messages = 2 ^ 32 - 1
 
 module _ {S O : Type 0} (gs : source.Ghosts S) (go : output.Ghosts O) where
-  -- What an engine does that writes such texts of the messages of a stream, of at most so many messages, each of at most `limit` words.
-  pub record TellsStream (tells : ℕ → List (List ℕ) → List ℕ → Mark → Type 0) (limit most : ℕ)
+  -- What an engine does that writes such texts of the messages of a stream, of at most so many messages, each of at most `limit` words,
+  -- where it may want memory for such messages once they were read.
+  pub record TellsStream (tells : Tells) (wants : List (List ℕ) → Type 0) (limit most : ℕ)
       (old new : S) (before after : O) (answer : Result Outcome RunFault) : Type 0 where
     -- All words of the source are frames of these messages, and of each its text was written.
     pub ok : IfOk answer (λ outcome. (ts : List Told) × ReadsAll gs limit old new (messages_of ts) × TellsEach tells 0 ts
@@ -43,7 +43,7 @@ module _ {S O : Type 0} (gs : source.Ghosts S) (go : output.Ghosts O) where
     -- The source stood at `mid` when the messages before the fault had been read.
     pub err : IfErr answer (λ fault. (ts : List Told) × (mid : S) × (fault.message ≡ length ts) × (length ts ≤ most)
         × ReadsStream gs limit old mid (messages_of ts)
-        × TellsEach tells 0 ts × RunStops gs go tells limit most ts mid new before after fault.cause)
+        × TellsEach tells 0 ts × RunStops gs go tells wants limit most ts mid new before after fault.cause)
     -- And the other way round: a stream of at most so many messages, each within the limit, is read to its end.
     pub whole : (own : List ℕ) (ms : List (List (List ℕ))) → gs.words old ≡ Some own → gs.is_cut old ≡ false → Stream own ms
         → AllByRecursion (λ m. sum (sizes_of m) ≤ limit) ms → length ms ≤ most →
@@ -64,9 +64,10 @@ module _ {S O : Type 0} (gs : source.Ghosts S) (go : output.Ghosts O) where
         × StopsShowing gs go limit n old new before after fault
     -- No memory is taken in reading.
     pub no_memory : (n : ℕ) → IsErrOf answer (record { message = n; cause = Frame Memory }) → ⊥
-    -- Nothing is vetted, and nothing copied.
+    -- Nothing is vetted, nothing copied, and nothing marked.
     pub none_refused : (n : ℕ) (refusal : Refusal) → IsErrOf answer (record { message = n; cause = Refused refusal }) → ⊥
     pub none_copied : (n : ℕ) (fault : CanonFault) → IsErrOf answer (record { message = n; cause = Canon fault }) → ⊥
+    pub none_marked : (n : ℕ) → IsErrOf answer (record { message = n; cause = no_marks }) → ⊥
     -- And the other way round: a stream of at most so many messages, each within the limit, is read to its end.
     pub whole : (own : List ℕ) (ms : List (List (List ℕ))) → gs.words old ≡ Some own → gs.is_cut old ≡ false → Stream own ms
         → AllByRecursion (λ m. sum (sizes_of m) ≤ limit) ms → length ms ≤ most →

@@ -9,7 +9,7 @@ use Rattle.cap_frame.specs.declared.fault.FrameFault.TheVariants.{TooManySegment
 use Rattle.cap_canon.specs.declared.fault.CanonFault.{CanonFault}
 use Rattle.cap_canon.specs.declared.fault.CanonFault.TheVariants.{HasCapability, Memory as canon_memory}
 use Rattle.cap_run.specs.declared.fault.Cause.{Cause}
-use Rattle.cap_run.specs.declared.fault.Cause.TheVariants.{TooManyMessages, Frame, Output, Refused, Canon}
+use Rattle.cap_run.specs.declared.fault.Cause.TheVariants.{TooManyMessages, Frame, Output, Refused, Canon, Memory as no_marks}
 use Rattle.cap_run.specs.declared.fault.CopyFault.{CopyFault}
 use Rattle.cap_run.specs.declared.fault.CopyFault.TheVariants.{TooManyWords, Source as copy_source, Output as copy_output}
 use Rattle.cap_run.specs.declared.fault.RunFault.{RunFault}
@@ -47,6 +47,7 @@ cause_text n (Frame fault) = message_name n ++ frame_fault_text fault
 cause_text n (Output fault) = codes "output failed"
 cause_text n (Refused refusal) = message_name n ++ refusal_text refusal
 cause_text n (Canon fault) = message_name n ++ canon_fault_text fault
+cause_text n no_marks = message_name n ++ codes "Memory"
 
 -- the line of a fault
 abbrev pub fault_line : ℕ → Cause → List ℕ

@@ -14,7 +14,7 @@ use Rattle.cap_run.specs.Canons.{AreCanonised, CanonEnds, CanonStops, Canonised,
 use Rattle.cap_run.specs.Copying.{Fills, Finishes}
 use Rattle.cap_run.specs.Streams.{ReadsStream}
 use Rattle.cap_run.specs.declared.fault.Cause.{Cause}
-use Rattle.cap_run.specs.declared.fault.Cause.TheVariants.{TooManyMessages, Frame, Output, Refused, Canon}
+use Rattle.cap_run.specs.declared.fault.Cause.TheVariants.{TooManyMessages, Frame, Output, Refused, Canon, Memory as no_marks}
 
 -- whether the sink is still to be finished
 abbrev pub is_unfinished : Result (Unit {0}) Cause → Bool
@@ -24,6 +24,7 @@ is_unfinished (Err (Frame fault)) = true
 is_unfinished (Err (Output fault)) = false
 is_unfinished (Err (Refused refusal)) = true
 is_unfinished (Err (Canon fault)) = true
+is_unfinished (Err no_marks) = true
 
 module _ {K : Type 0} (gk : sink.Ghosts K) (words depth : ℕ) where
   -- why the copy of a message wasn't put
@@ -34,6 +35,7 @@ module _ {K : Type 0} (gk : sink.Ghosts K) (words depth : ℕ) where
       × Halts gk before after (frame_text (copy ∷ [])) (sink_fault_of fault)
   CopyStops m before after (Refused refusal) = IsRefused m words depth refusal × (after ≡ before)
   CopyStops m before after (Canon fault) = (report : Report) × IsAccepted m words depth report × HasNoCopy m fault × (after ≡ before)
+  CopyStops m before after no_marks = ⊥
 
 module _ {S K : Type 0} (gs : source.Ghosts S) (gk : sink.Ghosts K) (words depth limit : ℕ) where
   -- why no copy of a next message was put
@@ -46,6 +48,7 @@ module _ {S K : Type 0} (gs : source.Ghosts S) (gk : sink.Ghosts K) (words depth
       × CopyStops gk words depth m before after (Refused refusal)
   NextStops old new before after (Canon fault) = (m : List (List ℕ)) × ReadsStream gs limit old new (m ∷ [])
       × CopyStops gk words depth m before after (Canon fault)
+  NextStops old new before after no_marks = ⊥
 
   -- So many messages were read, and their copies put.
   pub record CopiesSoFar (old new : S) (before after : K) (n : ℕ) : Type 0 where
@@ -67,6 +70,7 @@ module _ {S K : Type 0} (gs : source.Ghosts S) (gk : sink.Ghosts K) (words depth
       CanonEnds gs gk words depth limit most cs mid new (Err (Refused refusal)) × Fills gk before after (copies_of cs)
   StopsMaking most cs mid new before after (Err (Canon fault)) =
       CanonEnds gs gk words depth limit most cs mid new (Err (Canon fault)) × Fills gk before after (copies_of cs)
+  StopsMaking most cs mid new before after (Err no_marks) = ⊥
 
   -- So many messages were read, and this is why no more copies were put.
   pub record Making (most : ℕ) (old new : S) (before after : K) (n : ℕ) (end : Result (Unit {0}) Cause) : Type 0 where

@@ -8,14 +8,13 @@ use Rattle.cap_words.specs.declared.ends.OutFault.TheVariants.{Device, Memory, S
 use Rattle.cap_words.specs.declared.sources.WordSource as source
 use Rattle.cap_frame.specs.Faults.{Answered, Faults}
 use Rattle.cap_canon.specs.declared.fault.CanonFault.TheVariants.{HasCapability, Memory as canon_memory}
-use Rattle.cap_run.specs.declared.engines.stream.Mark.{Mark}
 use Rattle.cap_run.specs.declared.fault.Cause.{Cause}
-use Rattle.cap_run.specs.declared.fault.Cause.TheVariants.{TooManyMessages, Frame, Output, Refused, Canon}
+use Rattle.cap_run.specs.declared.fault.Cause.TheVariants.{TooManyMessages, Frame, Output, Refused, Canon, Memory as no_marks}
 use Rattle.cap_run.specs.declared.fault.RunFault.{RunFault}
 use Rattle.cap_run.specs.declared.settings.Outcome.{Outcome}
 use Rattle.cap_run.specs.Streams.{ReadsStream}
 use Rattle.cap_spec.specs.Texts.{segments_text}
-use Rattle.cap_run.specs.Telling.{Told, texts_of, segments_texts}
+use Rattle.cap_run.specs.Telling.{Tells, Told, texts_of, segments_texts}
 use Rattle.cap_run.specs.Writing.{Stopped}
 
 -- P, unless this fault is one of a device or of the output, of memory, or of an end that was spent
@@ -26,6 +25,7 @@ SettledAt (Output fault) P = Unit {0}
 SettledAt (Refused refusal) P = P
 SettledAt (Canon (HasCapability s w)) P = P
 SettledAt (Canon canon_memory) P = Unit {0}
+SettledAt no_marks P = Unit {0}
 
 -- P, unless the answer is such a fault
 abbrev pub Settled : Result Outcome RunFault → Type 0 → Type 0
@@ -61,6 +61,7 @@ module _ {S : Type 0} (g : source.Ghosts S) where
   EndStops limit old new (Output fault) = ⊥
   EndStops limit old new (Refused refusal) = ⊥
   EndStops limit old new (Canon fault) = ⊥
+  EndStops limit old new no_marks = ⊥
 
 module _ {S O : Type 0} (gs : source.Ghosts S) (go : output.Ghosts O) where
   -- So many messages were read, and the text of their segments written.
@@ -79,22 +80,25 @@ module _ {S O : Type 0} (gs : source.Ghosts S) (go : output.Ghosts O) where
     pub stops : StopsIn go before after fault (segments_texts ms) (segments_text n m)
 
 module _ {S O : Type 0} (gs : source.Ghosts S) (go : output.Ghosts O) where
-  -- why an engine ended at message n
-  abbrev pub StepStops : (ℕ → List (List ℕ) → List ℕ → Mark → Type 0) → ℕ → ℕ → S → S → O → O → Cause → Type 0
-  StepStops tells limit n old new before after TooManyMessages = ⊥
-  StepStops tells limit n old new before after (Frame fault) = Faults gs limit old new fault × (after ≡ before)
-  StepStops tells limit n old new before after (Output fault) =
+  -- why an engine ended at message n, which may want memory once it was read
+  abbrev pub StepStops : Tells → (List (List ℕ) → Type 0) → ℕ → ℕ → S → S → O → O → Cause → Type 0
+  StepStops tells wants limit n old new before after TooManyMessages = ⊥
+  StepStops tells wants limit n old new before after (Frame fault) = Faults gs limit old new fault × (after ≡ before)
+  StepStops tells wants limit n old new before after (Output fault) =
       (t : Told) × tells n t.message t.text t.mark × ReadsStream gs limit old new (t.message ∷ []) × Stopped go before after fault t.text
-  StepStops tells limit n old new before after (Refused refusal) = ⊥
-  StepStops tells limit n old new before after (Canon fault) = ⊥
+  StepStops tells wants limit n old new before after (Refused refusal) = ⊥
+  StepStops tells wants limit n old new before after (Canon fault) = ⊥
+  StepStops tells wants limit n old new before after no_marks = (m : List (List ℕ)) × ReadsStream gs limit old new (m ∷ []) × wants m × (after ≡ before)
 
   -- why an engine ended behind these messages, the source standing at `mid` then
-  abbrev pub RunStops : (ℕ → List (List ℕ) → List ℕ → Mark → Type 0) → ℕ → ℕ → List Told → S → S → O → O → Cause → Type 0
-  RunStops tells limit most ts mid new before after TooManyMessages =
+  abbrev pub RunStops : Tells → (List (List ℕ) → Type 0) → ℕ → ℕ → List Told → S → S → O → O → Cause → Type 0
+  RunStops tells wants limit most ts mid new before after TooManyMessages =
       (length ts ≡ most) × Appended go before after (texts_of ts) × ((m : List (List ℕ)) × ReadsStream gs limit mid new (m ∷ []))
-  RunStops tells limit most ts mid new before after (Frame fault) = Appended go before after (texts_of ts) × Faults gs limit mid new fault
-  RunStops tells limit most ts mid new before after (Output fault) =
+  RunStops tells wants limit most ts mid new before after (Frame fault) = Appended go before after (texts_of ts) × Faults gs limit mid new fault
+  RunStops tells wants limit most ts mid new before after (Output fault) =
       (t : Told) × (length ts < most) × tells (length ts) t.message t.text t.mark × ReadsStream gs limit mid new (t.message ∷ [])
       × StopsIn go before after fault (texts_of ts) t.text
-  RunStops tells limit most ts mid new before after (Refused refusal) = ⊥
-  RunStops tells limit most ts mid new before after (Canon fault) = ⊥
+  RunStops tells wants limit most ts mid new before after (Refused refusal) = ⊥
+  RunStops tells wants limit most ts mid new before after (Canon fault) = ⊥
+  RunStops tells wants limit most ts mid new before after no_marks =
+      (length ts < most) × Appended go before after (texts_of ts) × ((m : List (List ℕ)) × ReadsStream gs limit mid new (m ∷ []) × wants m)

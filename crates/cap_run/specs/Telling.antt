@@ -32,6 +32,10 @@ texts_of ts = flat_map (λ t. t.text) ts
 abbrev pub Tells : Type 1
 Tells = ℕ → List (List ℕ) → List ℕ → Mark → Type 0
 
+-- of which messages memory is wanted once they were read: of none
+abbrev pub WantsNone : List (List ℕ) → Type 0
+WantsNone m = ⊥
+
 -- each text is one that may be told of its message by its number, from this number on
 abbrev pub TellsEach : Tells → ℕ → List Told → Type 0
 TellsEach tells n [] = Unit {0}

@@ -1,7 +1,8 @@
 -- What may be told of a message that is vetted (profile).
-use Rattle.std.specs.Prelude.{ℕ, ◌≡◌, ◌⊎◌, List, ◌++◌}
+use Rattle.std.specs.Prelude.{ℕ, ◌≡◌, ◌⊎◌, List, ◌++◌, codes}
 use Rattle.cap_spec.specs.Faults.{IsRefused}
-use Rattle.cap_spec.specs.Texts.{accepted, dump_text, get_text, refusal_verdict, vet_text}
+use Rattle.cap_spec.specs.Occupying.{IsDisjoint, IsFirstOverlap}
+use Rattle.cap_spec.specs.Texts.{accepted, dump_text, get_text, refusal_verdict, refused, vet_text}
 use Rattle.cap_spec.specs.Tree.{Tree, node_at}
 use Rattle.cap_spec.specs.declared.Refusal.{Refusal}
 use Rattle.cap_spec.specs.declared.Step.{Step}
@@ -27,6 +28,26 @@ pub record TellsRefused (words depth n : ℕ) (m : List (List ℕ)) (text : List
 -- the one or the other
 abbrev pub TellsVerdict : ℕ → ℕ → ℕ → List (List ℕ) → List ℕ → Mark → Type 0
 TellsVerdict words depth n m text mark = TellsAccepted words depth n m text mark ⊎ TellsRefused words depth n m text mark
+
+-- where it is accepted and some word is used twice, with the first pointer that overlaps
+pub record TellsOverlap (words depth n : ℕ) (m : List (List ℕ)) (text : List ℕ) (mark : Mark) : Type 0 where
+  pub report : Report
+  pub is_accepted : IsAccepted m words depth report
+  pub segment : ℕ
+  pub word : ℕ
+  pub pointers : ℕ
+  pub is_first : IsFirstOverlap m segment word pointers
+  pub line : text ≡ vet_text n (refused (codes "Overlap") segment word pointers)
+  pub counted : mark ≡ Refused
+
+-- that, or that it is refused, or else that it is accepted
+abbrev pub TellsExclusive : ℕ → ℕ → ℕ → List (List ℕ) → List ℕ → Mark → Type 0
+TellsExclusive words depth n m text mark =
+    (IsDisjoint m × TellsAccepted words depth n m text mark) ⊎ (TellsRefused words depth n m text mark ⊎ TellsOverlap words depth n m text mark)
+
+-- the messages whose words are marked: those that are accepted
+abbrev pub WantsMarks : ℕ → ℕ → List (List ℕ) → Type 0
+WantsMarks words depth m = (report : Report) × IsAccepted m words depth report
 
 -- the line of message n where it is accepted, with the numbers of its tree, and behind it the whole tree
 pub record TellsTree (words depth n : ℕ) (m : List (List ℕ)) (text : List ℕ) (mark : Mark) : Type 0 where

@@ -5,6 +5,7 @@ pub mod canon;
 pub mod check;
 pub mod copy;
 pub mod dump;
+pub mod exclusive;
 pub mod get;
 pub mod segments;
 pub(crate) mod stream;

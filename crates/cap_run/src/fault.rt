@@ -31,6 +31,8 @@ pub enum Cause {
     Refused(Refusal),
     /// The message was accepted, and no canonical copy of it was made.
     Canon(CanonFault),
+    /// The message was accepted, and room to mark its words was refused, where none may be used twice.
+    Memory,
 }
 
 /// Why a copy of words ended before its source did.

@@ -16,6 +16,7 @@ pub use engines::canon::run_canon;
 pub use engines::check::run_check;
 pub use engines::copy::{run_pack, run_unpack};
 pub use engines::dump::run_dump;
+pub use engines::exclusive::run_vet_exclusive;
 pub use engines::get::run_get;
 pub use engines::segments::run_segments;
 pub use engines::vet::run_vet;

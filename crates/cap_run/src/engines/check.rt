@@ -2,6 +2,7 @@
 
 ghost use Rattle.cap_run.specs.Checking.{TellsCheck, TellsChecked};
 ghost use Rattle.cap_run.specs.Engines.{TellsStream};
+ghost use Rattle.cap_run.specs.Telling.{WantsNone};
 ghost use Rattle.cap_frame.specs.Limit.{limit_of};
 ghost use Rattle.cap_vet.specs.Limits.{depth_of, words_of};
 ghost use Rattle.std.specs.Prelude.{◌≡◌, if◌then◌else◌};
@@ -65,7 +66,7 @@ pub fn run_check<S: WordSource, O: ByteOut>(
     out: &mut O,
     settings: &Settings,
 ) -> Result<Outcome, RunFault>
-    ensures { TellsStream S.WordSource O.ByteOut (TellsCheck (words_of settings.now.limits) (depth_of settings.now.limits))
+    ensures { TellsStream S.WordSource O.ByteOut (TellsCheck (words_of settings.now.limits) (depth_of settings.now.limits)) WantsNone
         (limit_of settings.now.size) settings.now.messages source.old source.new out.old out.new result }
 {
     let engine = Whole {

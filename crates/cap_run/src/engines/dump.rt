@@ -1,6 +1,7 @@
 //! The engine that writes the tree of each message.
 
 ghost use Rattle.cap_run.specs.Engines.{TellsStream};
+ghost use Rattle.cap_run.specs.Telling.{WantsNone};
 ghost use Rattle.cap_run.specs.Vetting.{TellsDump, TellsTree};
 ghost use Rattle.cap_run.specs.Writing.{Writes};
 ghost use Rattle.cap_frame.specs.Limit.{limit_of};
@@ -74,7 +75,7 @@ pub fn run_dump<S: WordSource, O: ByteOut>(
     out: &mut O,
     settings: &Settings,
 ) -> Result<Outcome, RunFault>
-    ensures { TellsStream S.WordSource O.ByteOut (TellsDump (words_of settings.now.limits) (depth_of settings.now.limits))
+    ensures { TellsStream S.WordSource O.ByteOut (TellsDump (words_of settings.now.limits) (depth_of settings.now.limits)) WantsNone
         (limit_of settings.now.size) settings.now.messages source.old source.new out.old out.new result }
 {
     let engine = Whole {

@@ -1,6 +1,7 @@
 //! The engine that shows the node of each message at one path.
 
 ghost use Rattle.cap_run.specs.Engines.{TellsStream};
+ghost use Rattle.cap_run.specs.Telling.{WantsNone};
 ghost use Rattle.cap_run.specs.Vetting.{TellsGet, TellsNode};
 ghost use Rattle.cap_frame.specs.Limit.{limit_of};
 ghost use Rattle.cap_vet.specs.Limits.{depth_of, words_of};
@@ -53,7 +54,7 @@ pub fn run_get<S: WordSource, O: ByteOut>(
     settings: &Settings,
     path: &[Step],
 ) -> Result<Outcome, RunFault>
-    ensures { TellsStream S.WordSource O.ByteOut (TellsGet (words_of settings.now.limits) (depth_of settings.now.limits) path.now)
+    ensures { TellsStream S.WordSource O.ByteOut (TellsGet (words_of settings.now.limits) (depth_of settings.now.limits) path.now) WantsNone
         (limit_of settings.now.size) settings.now.messages source.old source.new out.old out.new result }
 {
     let engine = Whole {

@@ -1,6 +1,7 @@
 //! The engine that shows how each message is cut into segments.
 
 ghost use Rattle.cap_run.specs.Engines.{ShowsStream};
+ghost use Rattle.cap_run.specs.Telling.{WantsNone};
 ghost use Rattle.cap_run.specs.declared.engines.stream.Mark.TheVariants.{Accepted};
 ghost use Rattle.cap_spec.specs.Texts.{segments_text};
 ghost use Rattle.cap_frame.specs.Limit.{limit_of};
@@ -28,6 +29,8 @@ struct SegmentsEngine;
 
 impl Engine for SegmentsEngine {
     ghost tells = { λ _ n m text mark. (text ≡ segments_text n m) × (mark ≡ Accepted) };
+
+    ghost wants = { λ _. WantsNone };
 
     ghost takes_memory = { false };
 

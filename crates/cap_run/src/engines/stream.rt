@@ -30,7 +30,10 @@ pub(crate) trait Engine {
     // The texts that may be written of a message by its number, each with what is counted then.
     ghost tells: { Self → ℕ → List (List ℕ) → List ℕ → Mark → Type 0 };
 
-    // Whether it takes memory for a message.
+    // Of which messages memory may be wanted once they were read.
+    ghost wants: { Self → List (List ℕ) → Type 0 };
+
+    // Whether it takes memory to read a message.
     ghost takes_memory: { Bool };
 
     /// What it fills anew at each message, and keeps from one to the next.
@@ -40,8 +43,8 @@ pub(crate) trait Engine {
     fn room(&self) -> Self::Room;
 
     /// Reads the next message and writes its text. `None` where the stream ends before it. After a
-    /// fault of the output, the output took a beginning of the text. Nothing that is told depends on
-    /// what the room holds.
+    /// fault of the output, the output took a beginning of the text, and where memory was wanted once
+    /// the message was read, it took nothing. Nothing that is told depends on what the room holds.
     fn tell_next<S: WordSource, O: ByteOut>(
         &self,
         room: &mut Self::Room,
@@ -53,7 +56,7 @@ pub(crate) trait Engine {
         ensures some { IfOk result (λ r. IfSome r (λ mark. (t : Told) × (t.mark ≡ mark) × tells self.now number t.message t.text t.mark
             × ReadsStream S.WordSource (limit_of limit) source.old source.new (t.message ∷ []) × Wrote O.ByteOut out.old out.new t.text)) }
         ensures none { result ≡ Ok None → EndsStream S.WordSource source.old source.new × (out.new ≡ out.old) }
-        ensures err { IfErr result (λ cause. StepStops S.WordSource O.ByteOut (tells self.now) (limit_of limit) number
+        ensures err { IfErr result (λ cause. StepStops S.WordSource O.ByteOut (tells self.now) (wants self.now) (limit_of limit) number
             source.old source.new out.old out.new cause) }
         ensures memory { result ≡ Err (Cause.Frame FrameFault.Memory) → takes_memory ≡ true };
 }
@@ -126,8 +129,8 @@ pub(crate) fn tell_all<S: WordSource, O: ByteOut, E: Engine>(
         × (outcome ≡ outcome_of ts)) }
     ensures err { IfErr result (λ fault. (ts : List Told) × (mid : S) × (fault.message ≡ length ts) × (length ts ≤ settings.now.messages)
         × ReadsStream S.WordSource (limit_of settings.now.size) source.old mid (messages_of ts) × TellsEach (E.tells engine.now) 0 ts
-        × RunStops S.WordSource O.ByteOut (E.tells engine.now) (limit_of settings.now.size) settings.now.messages
-        ts mid source.new out.old out.new fault.cause) }
+        × RunStops S.WordSource O.ByteOut (E.tells engine.now) (E.wants engine.now) (limit_of settings.now.size)
+        settings.now.messages ts mid source.new out.old out.new fault.cause) }
     ensures memory { (n : ℕ) → result ≡ Err (record { message = n; cause = Cause.Frame FrameFault.Memory }) → E.takes_memory ≡ true }
 {
     let mut outcome = Outcome {

@@ -1,6 +1,7 @@
 //! The engine that tells of each message whether it is accepted.
 
 ghost use Rattle.cap_run.specs.Engines.{TellsStream};
+ghost use Rattle.cap_run.specs.Telling.{WantsNone};
 ghost use Rattle.cap_run.specs.Vetting.{TellsAccepted, TellsVerdict};
 ghost use Rattle.cap_frame.specs.Limit.{limit_of};
 ghost use Rattle.cap_vet.specs.Limits.{depth_of, words_of};
@@ -50,7 +51,7 @@ pub fn run_vet<S: WordSource, O: ByteOut>(
     out: &mut O,
     settings: &Settings,
 ) -> Result<Outcome, RunFault>
-    ensures { TellsStream S.WordSource O.ByteOut (TellsVerdict (words_of settings.now.limits) (depth_of settings.now.limits))
+    ensures { TellsStream S.WordSource O.ByteOut (TellsVerdict (words_of settings.now.limits) (depth_of settings.now.limits)) WantsNone
         (limit_of settings.now.size) settings.now.messages source.old source.new out.old out.new result }
 {
     let engine = Whole {

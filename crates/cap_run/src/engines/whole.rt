@@ -1,5 +1,6 @@
 //! Telling something about messages that are held whole.
 
+ghost use Rattle.cap_run.specs.Telling.{WantsNone};
 ghost use Rattle.cap_run.specs.Vetting.{TellsRefused};
 ghost use Rattle.cap_run.specs.Writing.{Stopped, Wrote};
 ghost use Rattle.cap_vet.specs.Limits.{depth_of, words_of};
@@ -47,8 +48,8 @@ pub(crate) trait Teller {
 /// A message that was read, and a line of what is told of it.
 #[derive(Drop)]
 pub(crate) struct Desk {
-    message: ByteMessage,
-    line: ArrayVec<u8, LINE>,
+    pub(crate) message: ByteMessage,
+    pub(crate) line: ArrayVec<u8, LINE>,
 }
 
 /// Reads each message whole, and tells of it where it is accepted within the limits. Else it tells
@@ -94,6 +95,8 @@ impl<T: Teller> Whole<T> {
 impl<T: Teller> Engine for Whole<T> {
     ghost tells = { λ w n m text mark. T.tells w.teller (words_of w.limits) (depth_of w.limits) n m text mark
         ⊎ TellsRefused (words_of w.limits) (depth_of w.limits) n m text mark };
+
+    ghost wants = { λ _. WantsNone };
 
     ghost takes_memory = { true };
 

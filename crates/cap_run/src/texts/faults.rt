@@ -102,6 +102,10 @@ fn push_cause(line: &mut ArrayVec<u8, LINE>, number: u32, cause: Cause)
             push_message(line, number);
             push_canon_fault(line, fault);
         }
+        Cause::Memory => {
+            push_message(line, number);
+            push_text(line, b"Memory");
+        }
     }
 }
 

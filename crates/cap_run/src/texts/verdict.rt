@@ -1,7 +1,7 @@
 //! The line of a verdict.
 
 ghost use Rattle.arrayvec.specs.ArrayVec.{array_vec_len};
-ghost use Rattle.cap_spec.specs.Texts.{accepted, check_text, reason_name, refusal_verdict, then_number, vet_text};
+ghost use Rattle.cap_spec.specs.Texts.{accepted, check_text, reason_name, refusal_verdict, refused, then_number, vet_text};
 ghost use Rattle.std.specs.Prelude.{◌+◌, ◌++◌, ◌≡◌, ◌≤◌, codes, length};
 
 use crate::texts::line::{LINE, push_named, push_number, push_text};
@@ -38,17 +38,53 @@ fn push_report(line: &mut ArrayVec<u8, LINE>, report: &Report)
 pub(crate) fn refused_line(line: &mut ArrayVec<u8, LINE>, number: u32, refusal: &Refusal)
     ensures { line.new.items ≡ vet_text number (refusal_verdict refusal.now) }
 {
+    fill_refused(
+        line,
+        number,
+        name_of(refusal.reason),
+        refusal.segment,
+        refusal.word,
+        refusal.pointers,
+    );
+}
+
+/// Makes the line that of a message of which some word is used twice, with the place of the first
+/// pointer that overlaps.
+pub(crate) fn overlap_line(
+    line: &mut ArrayVec<u8, LINE>,
+    number: u32,
+    segment: u32,
+    word: u32,
+    pointers: u64,
+)
+    ensures { line.new.items ≡ vet_text number (refused (codes "Overlap") segment word pointers) }
+{
+    fill_refused(line, number, b"Overlap", segment, word, pointers);
+}
+
+/// Makes the line that of a message that is refused, with the name of the reason and the place.
+fn fill_refused(
+    line: &mut ArrayVec<u8, LINE>,
+    number: u32,
+    name: &[u8],
+    segment: u32,
+    word: u32,
+    pointers: u64,
+)
+    requires short { length name.now ≤ 16 }
+    ensures { line.new.items ≡ vet_text number (refused name.now segment word pointers) }
+{
     line.clear();
     push_text(line, b"message ");
     push_number(line, u64::from(number));
     push_text(line, b": refused ");
-    push_text(line, name_of(refusal.reason));
+    push_text(line, name);
     push_text(line, b" at ");
-    push_number(line, u64::from(refusal.segment));
+    push_number(line, u64::from(segment));
     push_text(line, b":");
-    push_number(line, u64::from(refusal.word));
+    push_number(line, u64::from(word));
     push_text(line, b" pointers ");
-    push_number(line, refusal.pointers);
+    push_number(line, pointers);
     push_text(line, b"\n");
 }
 

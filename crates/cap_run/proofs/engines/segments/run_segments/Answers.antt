@@ -2,7 +2,7 @@ use Rattle.std.proofs.Common.{◌∙◌, subst, arith}
 use Rattle.std.proofs.lemmas.Result.{IfOk-weaker}
 use Rattle.cap_frame.specs.Limit.{limit_of}
 use Rattle.cap_run.specs.Running.{Appended}
-use Rattle.cap_run.specs.Telling.{messages_of}
+use Rattle.cap_run.specs.Telling.{WantsNone, messages_of}
 use Rattle.cap_run.proofs.Settling.{settled, settled_map}
 use Rattle.cap_run.proofs.Shown.{ShowsText, each_shown, shows, stops_showing, outcome_shown, texts_shown}
 use Rattle.cap_run.proofs.Telling.{length-messages_of}
@@ -39,9 +39,10 @@ returns g c =
       no_memory = λ n h. absurd (let e = c.tell_all.ensures.memory n h in cc);
       none_refused = λ n refusal h. let e = rw h at c.tell_all.ensures.err in e.6;
       none_copied = λ n fault h. let e = rw h at c.tell_all.ensures.err in e.6;
+      none_marked = λ n h. let e = rw h at c.tell_all.ensures.err in e.6.2.2;
       whole = λ own ms w i s l few.
           settled_map c.tell_all.result _ _
           (each_shown g.S.WordSource g.O.ByteOut limit c.args.source.now c.tell_all.new.source c.args.out.now c.tell_all.new.out most ms c.tell_all.result)
-          (settled g.S.WordSource g.O.ByteOut ShowsText limit most c.args.source.now c.tell_all.new.source c.args.out.now c.tell_all.new.out c.tell_all.result own ms
+          (settled g.S.WordSource g.O.ByteOut ShowsText limit most c.args.source.now c.tell_all.new.source c.args.out.now c.tell_all.new.out WantsNone c.tell_all.result own ms
           c.tell_all.ensures.ok c.tell_all.ensures.err w i s l few);
     }

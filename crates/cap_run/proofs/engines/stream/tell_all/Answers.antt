@@ -24,7 +24,7 @@ returns-in-Err-clause-err g c =
       omega (arith, w.many),
       w.reads,
       w.each,
-      going_stops g.S.WordSource g.O.ByteOut (g.E.Engine.tells c.args.engine.now) (limit_of c.args.settings.now.size) c.args.source.now c.loop-number.source c.tell_next.new.source
+      going_stops g.S.WordSource g.O.ByteOut (g.E.Engine.tells c.args.engine.now) (g.E.Engine.wants c.args.engine.now) (limit_of c.args.settings.now.size) c.args.source.now c.loop-number.source c.tell_next.new.source
           c.args.out.now c.loop-number.out c.tell_next.new.out c.loop-number.outcome c.loop-number.number c.args.settings.now.messages c.in-Err.cause w (omega arith) c.in-Err.ensures.err,
     )
 
@@ -39,7 +39,7 @@ returns-in-Err-hand_on-clause-err g c =
       omega (arith, w.many),
       w.reads,
       w.each,
-      going_stops g.S.WordSource g.O.ByteOut (g.E.Engine.tells c.args.engine.now) (limit_of c.args.settings.now.size) c.args.source.now c.loop-number.source c.tell_next.new.source
+      going_stops g.S.WordSource g.O.ByteOut (g.E.Engine.tells c.args.engine.now) (g.E.Engine.wants c.args.engine.now) (limit_of c.args.settings.now.size) c.args.source.now c.loop-number.source c.tell_next.new.source
           c.args.out.now c.loop-number.out c.hand_on.new.out c.loop-number.outcome c.loop-number.number c.args.settings.now.messages (Output c.in-Err-hand_on.fault) w (omega arith)
           (r.0, r.2, r.3, c.in-Err-hand_on.ensures c.loop-number.out r.0.text r.4),
     )
