@@ -1,5 +1,5 @@
 -- The lines of children, one after the other, and how deep they nest.
-use Rattle.std.proofs.Common.{◌≡◌, ℕ, zero, suc, ◌+◌, ◌<◌, ◌≤◌, false, List, [], ◌++◌, Some, None, Result, codes, refl, sym, ap, ◌∙◌, subst, arith, inl, inr}
+use Rattle.std.proofs.Common.{◌≡◌, ℕ, zero, suc, ◌+◌, ◌<◌, ◌≤◌, List, [], ◌++◌, Some, None, Result, codes, refl, sym, ap, ◌∙◌, subst, arith, inl, inr}
 use Rattle.std.proofs.lemmas.Bool.Decides.{eqb_tells}
 use Rattle.cap_words.specs.declared.ends.ByteOut as output
 use Rattle.cap_words.specs.declared.ends.OutFault.{OutFault}
@@ -13,8 +13,8 @@ use Rattle.cap_spec.specs.Tree.{Tree, null, cap, struct, scalars, pointers, stru
 use Rattle.cap_spec.specs.declared.Kind.{Kind}
 use Rattle.cap_spec.specs.declared.Step.{Step}
 use Rattle.cap_run.specs.Dumping.{child_letter_of, child_step_of, height, heights, shown_below, shown_count_of, trees_from}
-use Rattle.cap_run.specs.Writing.{Wrote, Stopped, Writes}
-use Rattle.cap_run.proofs.Writing.{Left, left_done, left_start, left_step, left_stop, stopped_more, stopped_then, writes_then, wrote_then}
+use Rattle.cap_run.specs.Paging.{Added, Adds, Halted}
+use Rattle.cap_run.proofs.Paging.{Left, added_then, adds_then, halted_more, halted_then, left_done, left_start, left_step, left_stop}
 
 -- the next of some trees
 next_tree : (ts : Trees) (i : ℕ) (u : Tree) → tree_at ts i ≡ Some u → trees_from i ts ≡ more u (trees_from (i + 1) ts)
@@ -150,26 +150,26 @@ mutual
   heights_elements m t b ds ps n (more x es) c d h = absurd h
 
 module _ {O : Type 0} (g : output.Ghosts O) (level : ℕ) (t : Tree) (kind : Kind) where
-  -- The children before number i are out.
-  abbrev pub ChildrenOut : O → O → ℕ → Type 0
+  -- The children before number i are put.
+  abbrev pub ChildrenOut : O × List ℕ → O × List ℕ → ℕ → Type 0
   ChildrenOut a b i = Left g a b (all_lines level (child_letter_of kind) 0 (shown_below t)) (all_lines level (child_letter_of kind) i (trees_from i (shown_below t)))
 
   -- before the first none is
-  pub none_out : (a : O) → g.spent a ≡ false → ChildrenOut a a 0
-  none_out a h = left_start g a (all_lines level (child_letter_of kind) 0 (shown_below t)) h
+  pub none_out : (a : O × List ℕ) → ChildrenOut a a 0
+  none_out a = left_start g a (all_lines level (child_letter_of kind) 0 (shown_below t))
 
 module _ {O : Type 0} (g : output.Ghosts O) (level : ℕ) (t : Tree) (kind : Kind) (k : kind ≡ kind_of (own_of t)) where
   lines_are : all_lines level (child_letter_of kind) 0 (shown_below t) ≡ child_lines level t
   lines_are = ap (λ x. all_lines level (child_letter_of x) 0 (shown_below t)) k ∙ sym (lines_below level t)
 
   -- behind the last all are
-  pub all_out : (a b : O) (i : ℕ) → shown_count_of kind ≤ i → ChildrenOut g level t kind a b i → Wrote g a b (child_lines level t)
+  pub all_out : (a b : O × List ℕ) (i : ℕ) → shown_count_of kind ≤ i → ChildrenOut g level t kind a b i → Added g a b (child_lines level t)
   all_out a b i h l =
       let many : tree_count (shown_below t) ≤ i = subst (λ n. n ≤ i) (ap shown_count_of k ∙ count_below t) h in
       let rest = ap (all_lines level (child_letter_of kind) i) (no_tree (shown_below t) i many) in
-      subst (Wrote g a b) lines_are (left_done g a b _ (subst (Left g a b (all_lines level (child_letter_of kind) 0 (shown_below t))) rest l))
+      subst (Added g a b) lines_are (left_done g a b _ (subst (Left g a b (all_lines level (child_letter_of kind) 0 (shown_below t))) rest l))
 
-  module _ (i : ℕ) (within : i < shown_count_of kind) (u : Tree) (at_i : part_at t (child_step_of kind i) ≡ Some u) (letter : ℕ) (is : letter ≡ child_letter_of kind) (a b : O) where
+  module _ (i : ℕ) (within : i < shown_count_of kind) (u : Tree) (at_i : part_at t (child_step_of kind i) ≡ Some u) (letter : ℕ) (is : letter ≡ child_letter_of kind) (a b : O × List ℕ) where
     -- The next child's lines, those below it, and those of the others are left.
     left_next : ChildrenOut g level t kind a b i
         → Left g a b (all_lines level (child_letter_of kind) 0 (shown_below t))
@@ -179,31 +179,31 @@ module _ {O : Type 0} (g : output.Ghosts O) (level : ℕ) (t : Tree) (kind : Kin
         (ap (all_lines level (child_letter_of kind) i) (next_tree (shown_below t) i u (child_of t kind i k within u at_i))
         ∙ ap (λ x. own_text level (label x i) u ++ child_lines (level + 1) u ++ all_lines level (child_letter_of kind) (i + 1) (trees_from (i + 1) (shown_below t))) (sym is)) l
 
-    -- one more child is out
-    pub child_out : (c d : O) → ChildrenOut g level t kind a b i → Wrote g b c (own_text level (label letter i) u) → Wrote g c d (child_lines (level + 1) u)
+    -- one more child is put
+    pub child_out : (c d : O × List ℕ) → ChildrenOut g level t kind a b i → Added g b c (own_text level (label letter i) u) → Added g c d (child_lines (level + 1) u)
         → ChildrenOut g level t kind a d (i + 1)
     child_out c d l v w =
         left_step g a b d (all_lines level (child_letter_of kind) 0 (shown_below t)) (own_text level (label letter i) u ++ child_lines (level + 1) u)
         (all_lines level (child_letter_of kind) (i + 1) (trees_from (i + 1) (shown_below t))) (left_next l)
-        (wrote_then g b c d (own_text level (label letter i) u) (child_lines (level + 1) u) v w)
+        (added_then g b c d (own_text level (label letter i) u) (child_lines (level + 1) u) v w)
 
     -- a fault came in its own lines
-    pub child_fails : (c : O) (fault : OutFault) → ChildrenOut g level t kind a b i → Stopped g b c fault (own_text level (label letter i) u)
-        → Stopped g a c fault (child_lines level t)
+    pub child_fails : (c : O × List ℕ) (fault : OutFault) → ChildrenOut g level t kind a b i → Halted g b c fault (own_text level (label letter i) u)
+        → Halted g a c fault (child_lines level t)
     child_fails c fault l q =
-        subst (Stopped g a c fault) lines_are
+        subst (Halted g a c fault) lines_are
         (left_stop g a b c fault (all_lines level (child_letter_of kind) 0 (shown_below t)) (own_text level (label letter i) u ++ child_lines (level + 1) u)
         (all_lines level (child_letter_of kind) (i + 1) (trees_from (i + 1) (shown_below t))) (left_next l)
-        (stopped_more g b c fault (own_text level (label letter i) u) (child_lines (level + 1) u) q))
+        (halted_more g b c fault (own_text level (label letter i) u) (child_lines (level + 1) u) q))
 
     -- or in those below it
-    pub below_fails : (c d : O) (fault : OutFault) → ChildrenOut g level t kind a b i → Wrote g b c (own_text level (label letter i) u)
-        → Stopped g c d fault (child_lines (level + 1) u) → Stopped g a d fault (child_lines level t)
+    pub below_fails : (c d : O × List ℕ) (fault : OutFault) → ChildrenOut g level t kind a b i → Added g b c (own_text level (label letter i) u)
+        → Halted g c d fault (child_lines (level + 1) u) → Halted g a d fault (child_lines level t)
     below_fails c d fault l v q =
-        subst (Stopped g a d fault) lines_are
+        subst (Halted g a d fault) lines_are
         (left_stop g a b d fault (all_lines level (child_letter_of kind) 0 (shown_below t)) (own_text level (label letter i) u ++ child_lines (level + 1) u)
         (all_lines level (child_letter_of kind) (i + 1) (trees_from (i + 1) (shown_below t))) (left_next l)
-        (stopped_then g b c d fault (own_text level (label letter i) u) (child_lines (level + 1) u) v q))
+        (halted_then g b c d fault (own_text level (label letter i) u) (child_lines (level + 1) u) v q))
 
 -- The tree of a message stands at the spot to which the empty path comes.
 pub at_root : (m m' : List (List ℕ)) (a : Spot) (t : Tree) (c d : ℕ) → m' ≡ m → Comes m [] 1 a → Denotes m 0 0 t c d → DenotesAt m' a t
@@ -212,9 +212,9 @@ at_root m m' a t c d same comes h =
 
 module _ {O : Type 0} (g : output.Ghosts O) where
   -- the root's own lines, and then what is below it
-  pub writes_dump : {T : Type 0} (a b c : O) (r : Result T OutFault) (t : Tree) → Wrote g a b (own_text 0 (codes "root") t) → Writes g b c r (child_lines 1 t) → Writes g a c r (dump_text t)
-  writes_dump a b c r t v w = writes_then g a b c r (own_text 0 (codes "root") t) (child_lines 1 t) v w
+  pub adds_dump : {T : Type 0} (a b c : O × List ℕ) (r : Result T OutFault) (t : Tree) → Added g a b (own_text 0 (codes "root") t) → Adds g b c r (child_lines 1 t) → Adds g a c r (dump_text t)
+  adds_dump a b c r t v w = adds_then g a b c r (own_text 0 (codes "root") t) (child_lines 1 t) v w
 
   -- or a fault in its own lines
-  pub stops_dump : (a b : O) (fault : OutFault) (t : Tree) → Stopped g a b fault (own_text 0 (codes "root") t) → Stopped g a b fault (dump_text t)
-  stops_dump a b fault t q = stopped_more g a b fault (own_text 0 (codes "root") t) (child_lines 1 t) q
+  pub halts_dump : (a b : O × List ℕ) (fault : OutFault) (t : Tree) → Halted g a b fault (own_text 0 (codes "root") t) → Halted g a b fault (dump_text t)
+  halts_dump a b fault t q = halted_more g a b fault (own_text 0 (codes "root") t) (child_lines 1 t) q

@@ -1,24 +1,11 @@
--- What is told of an accepted message behind its line: two texts, and the node at a path.
-use Rattle.std.proofs.Common.{◌≡◌, ℕ, List, ◌++◌, Option, Some, None, IfSome, IfNone, MatchOption, Result, subst, sym}
-use Rattle.cap_words.specs.declared.ends.ByteOut as output
-use Rattle.cap_words.specs.declared.ends.OutFault.{OutFault}
+-- What is told of the node at a path of an accepted message.
+use Rattle.std.proofs.Common.{◌≡◌, ℕ, List, Option, Some, None, IfSome, IfNone, MatchOption, subst, sym}
 use Rattle.cap_frame.specs.declared.segments.Segments as segments
 use Rattle.cap_spec.specs.Standing.{DenotesAt}
 use Rattle.cap_spec.specs.Texts.{get_text}
 use Rattle.cap_spec.specs.Tree.{Tree}
 use Rattle.cap_vet.specs.Handles.{node_message, node_spot}
 use Rattle.cap_vet.specs.declared.node.Node.{Node}
-use Rattle.cap_run.specs.Writing.{Wrote, Stopped, Writes}
-use Rattle.cap_run.proofs.Writing.{stopped_more, writes_then}
-
-module _ {O : Type 0} (g : output.Ghosts O) where
-  -- the second of two texts, and a fault in it
-  pub writes_behind : {T : Type 0} (a b c : O) (r : Result T OutFault) (text xs ys : List ℕ) → text ≡ xs → Wrote g a b text → Writes g b c r ys → Writes g a c r (xs ++ ys)
-  writes_behind a b c r text xs ys e p w = writes_then g a b c r xs ys (subst (Wrote g a b) e p) w
-
-  -- a fault in the first of two texts
-  pub stopped_in_front : (a b : O) (fault : OutFault) (text xs ys : List ℕ) → text ≡ xs → Stopped g a b fault text → Stopped g a b fault (xs ++ ys)
-  stopped_in_front a b fault text xs ys e q = stopped_more g a b fault xs ys (subst (Stopped g a b fault) e q)
 
 module _ {M : Type 0} (g : segments.Ghosts M) where
   -- what holds of the text of a node that was found, and of the text that there is none, holds of the text of the tree's node

@@ -2,13 +2,13 @@ pub mod CanonEnds
 pub mod Checking
 pub mod Copying
 pub mod CopyEnds
-pub mod Digits
 pub mod Dumping
 pub mod FoundNodes
 pub mod Going
 pub mod Handing
 pub mod Nodes
 pub mod Making
+pub mod Paging
 pub mod Numbers
 pub mod Segments
 pub mod Settling

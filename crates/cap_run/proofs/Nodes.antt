@@ -8,9 +8,9 @@ use Rattle.cap_spec.specs.Texts.{head, hex, label, line, own_lines, own_text, wo
 use Rattle.cap_spec.specs.Tree.{Tree, null, cap, struct, scalars, pointers, structs}
 use Rattle.cap_spec.specs.declared.Kind.{Kind}
 use Rattle.cap_run.specs.Dumping.{head_of, word_letter_of}
-use Rattle.cap_run.specs.Writing.{Wrote, Stopped, Writes}
+use Rattle.cap_run.specs.Paging.{Added, Adds, Halted}
 use Rattle.cap_run.proofs.Segments.{drop_size}
-use Rattle.cap_run.proofs.Writing.{Left, left_done, left_step, left_stop, stopped_more, writes_then}
+use Rattle.cap_run.proofs.Paging.{Left, adds_then, left_done, left_step, left_stop}
 
 -- a line that is put together from a name, a space and a text
 pub four_texts : (name text a b c d : List ℕ) → a ≡ name → b ≡ a ++ 32 ∷ [] → c ≡ b ++ text → d ≡ c ++ 10 ∷ [] → d ≡ name ++ 32 ∷ text ++ 10 ∷ []
@@ -68,43 +68,37 @@ drop_last [] (suc i) e = refl
 drop_last (w ∷ ws) zero e = absurd (cc e)
 drop_last (w ∷ ws) (suc i) e = drop_last ws i e
 
-module _ {O : Type 0} (g : output.Ghosts O) (level letter i w : ℕ) (ws written : List ℕ) (at_i : Some w ≡ slice_get ws i) (is : written ≡ label letter i ++ 32 ∷ hex w ++ 10 ∷ []) where
-  lines_next : word_lines level letter i (drop i ws) ≡ (replicate (2 * level) 32 ++ written) ++ word_lines level letter (i + 1) (drop (i + 1) ws)
+-- the lines from the next word on
+module _ (level letter i w : ℕ) (ws : List ℕ) (at_i : Some w ≡ slice_get ws i) where
+  pub lines_next : word_lines level letter i (drop i ws)
+      ≡ (replicate (2 * level) 32 ++ (label letter i ++ 32 ∷ hex w ++ 10 ∷ [])) ++ word_lines level letter (i + 1) (drop (i + 1) ws)
   lines_next =
       ap (word_lines level letter i) (drop_word ws i w at_i)
-      ∙ ap (λ l. l ++ word_lines level letter (i + 1) (drop (i + 1) ws)) (sym (line_is level (label letter i ++ 32 ∷ hex w) written is))
+      ∙ ap (λ l. l ++ word_lines level letter (i + 1) (drop (i + 1) ws)) (sym (line_is level (label letter i ++ 32 ∷ hex w) (label letter i ++ 32 ∷ hex w ++ 10 ∷ []) refl))
 
-  -- one more word is out
-  pub word_step : (a b c : O) → Left g a b (word_lines level letter 0 ws) (word_lines level letter i (drop i ws)) → Wrote g b c (replicate (2 * level) 32 ++ written)
+module _ {O : Type 0} (g : output.Ghosts O) (level letter i w : ℕ) (ws : List ℕ) (at_i : Some w ≡ slice_get ws i) where
+  -- one more word is put
+  pub word_step : (a b c : O × List ℕ) → Left g a b (word_lines level letter 0 ws) (word_lines level letter i (drop i ws))
+      → Added g b c (replicate (2 * level) 32 ++ (label letter i ++ 32 ∷ hex w ++ 10 ∷ []))
       → Left g a c (word_lines level letter 0 ws) (word_lines level letter (i + 1) (drop (i + 1) ws))
   word_step a b c l v =
-      left_step g a b c (word_lines level letter 0 ws) (replicate (2 * level) 32 ++ written) (word_lines level letter (i + 1) (drop (i + 1) ws))
-      (subst (Left g a b (word_lines level letter 0 ws)) lines_next l) v
-
-  -- a fault came in its line
-  pub word_stop : (a b c : O) (fault : OutFault) → Left g a b (word_lines level letter 0 ws) (word_lines level letter i (drop i ws))
-      → Stopped g b c fault (replicate (2 * level) 32 ++ written) → Stopped g a c fault (word_lines level letter 0 ws)
-  word_stop a b c fault l q =
-      left_stop g a b c fault (word_lines level letter 0 ws) (replicate (2 * level) 32 ++ written) (word_lines level letter (i + 1) (drop (i + 1) ws))
-      (subst (Left g a b (word_lines level letter 0 ws)) lines_next l) q
+      left_step g a b c (word_lines level letter 0 ws) (replicate (2 * level) 32 ++ (label letter i ++ 32 ∷ hex w ++ 10 ∷ [])) (word_lines level letter (i + 1) (drop (i + 1) ws))
+      (subst (Left g a b (word_lines level letter 0 ws)) (lines_next level letter i w ws at_i) l) v
 
 module _ {O : Type 0} (g : output.Ghosts O) where
-  -- all words are out
-  pub words_done : (level letter i : ℕ) (ws : List ℕ) (a b : O) → None ≡ slice_get ws i → Left g a b (word_lines level letter 0 ws) (word_lines level letter i (drop i ws))
-      → Wrote g a b (word_lines level letter 0 ws)
+  -- a fault came before its line
+  pub lines_stop : (a b c : O × List ℕ) (fault : OutFault) (all rest : List ℕ) → Left g a b all rest → Halted g b c fault [] → Halted g a c fault all
+  lines_stop a b c fault all rest l q = left_stop g a b c fault all [] rest l q
+
+  -- all words are put
+  pub words_done : (level letter i : ℕ) (ws : List ℕ) (a b : O × List ℕ) → None ≡ slice_get ws i → Left g a b (word_lines level letter 0 ws) (word_lines level letter i (drop i ws))
+      → Added g a b (word_lines level letter 0 ws)
   words_done level letter i ws a b e l =
       left_done g a b (word_lines level letter 0 ws) (subst (Left g a b (word_lines level letter 0 ws)) (ap (word_lines level letter i) (drop_last ws i e)) l)
 
   -- a node's line, and then the lines of its own words
-  pub writes_own : {T : Type 0} (a b c : O) (r : Result T OutFault) (level : ℕ) (name written words : List ℕ) (t : Tree) → written ≡ name ++ 32 ∷ head t ++ 10 ∷ []
-      → words ≡ own_lines (level + 1) t → Wrote g a b (replicate (2 * level) 32 ++ written) → Writes g b c r words → Writes g a c r (own_text level name t)
-  writes_own a b c r level name written words t e f v w =
-      writes_then g a b c r (line level (name ++ 32 ∷ head t)) (own_lines (level + 1) t)
-      (subst (Wrote g a b) (line_is level (name ++ 32 ∷ head t) written e) v) (subst (Writes g b c r) f w)
-
-  -- or a fault in its line
-  pub stops_own : (a b : O) (fault : OutFault) (level : ℕ) (name written : List ℕ) (t : Tree) → written ≡ name ++ 32 ∷ head t ++ 10 ∷ []
-      → Stopped g a b fault (replicate (2 * level) 32 ++ written) → Stopped g a b fault (own_text level name t)
-  stops_own a b fault level name written t e q =
-      stopped_more g a b fault (line level (name ++ 32 ∷ head t)) (own_lines (level + 1) t)
-      (subst (Stopped g a b fault) (line_is level (name ++ 32 ∷ head t) written e) q)
+  pub adds_own : {T : Type 0} (a b c : O × List ℕ) (r : Result T OutFault) (level : ℕ) (name written words : List ℕ) (t : Tree) → written ≡ name ++ 32 ∷ head t ++ 10 ∷ []
+      → words ≡ own_lines (level + 1) t → Added g a b (replicate (2 * level) 32 ++ written) → Adds g b c r words → Adds g a c r (own_text level name t)
+  adds_own a b c r level name written words t e f v w =
+      adds_then g a b c r (line level (name ++ 32 ∷ head t)) (own_lines (level + 1) t)
+      (subst (Added g a b) (line_is level (name ++ 32 ∷ head t) written e) v) (subst (Adds g b c r) f w)

@@ -1,5 +1,6 @@
--- The digits of a number, one more at the end.
-use Rattle.std.proofs.Common.{◌≡◌, ◌≤◌, ◌<◌, ◌+◌, ◌/◌, ◌^◌, ◌∙◌, ℕ, length, decimal, ap, arith, length-append}
+-- How many digits a number has.
+use Rattle.std.proofs.Common.{◌≡◌, ◌≤◌, ◌<◌, ◌+◌, ◌/◌, ◌^◌, ◌∙◌, ℕ, List, ◌++◌, length, decimal, ap, arith, drop, length-append, sym, take}
+use Rattle.std.proofs.Math.Seq.{take-add, take-append_seam}
 use Rattle.std.proofs.lemmas.Fmt.{decimal_digit, decimal_step, length-decimal-le}
 
 -- a number of one digit is one digit long
@@ -7,9 +8,25 @@ pub length-decimal_digit : (n : ℕ) → n < 10 → length (decimal n) ≡ 1
 length-decimal_digit n h = ap length (decimal_digit n h)
 
 -- a longer number is one digit longer than its front
-pub length-decimal_step : (n : ℕ) → 10 ≤ n → n < 2 ^ 64 → length (decimal n) ≡ length (decimal (n / 10)) + 1
+length-decimal_step : (n : ℕ) → 10 ≤ n → n < 2 ^ 64 → length (decimal n) ≡ length (decimal (n / 10)) + 1
 length-decimal_step n h fits = ap length (decimal_step n h fits) ∙ length-append (decimal (n / 10)) _
+
+-- below 100 that is two
+pub length-decimal_two : (n : ℕ) → 10 ≤ n → n < 100 → n < 2 ^ 64 → length (decimal n) ≡ 2
+length-decimal_two n h few fits = length-decimal_step n h fits ∙ ap (λ k. k + 1) (length-decimal_digit (n / 10) (omega arith))
+
+-- from 100 on it is two digits longer than what is in front of them
+pub length-decimal_pair : (n : ℕ) → 100 ≤ n → n < 2 ^ 64 → length (decimal n) ≡ 2 + length (decimal (n / 100))
+length-decimal_pair n h fits =
+    let front : n / 10 / 10 ≡ n / 100 = omega arith in
+    omega (arith, length-decimal_step n (omega arith) fits, length-decimal_step (n / 10) (omega arith) (omega arith), ap (λ k. length (decimal k)) front)
 
 -- a number of 64 bits has at most 20 digits
 pub length-decimal_few : (n : ℕ) → n < 2 ^ 64 → length (decimal n) ≤ 20
 length-decimal_few n h = length-decimal-le 20 n (omega arith) (omega arith) h
+
+-- a text that was written behind the first bytes stands behind them
+pub text_behind : (old new text rest : List ℕ) (start end : ℕ) → start + length text ≡ end → take start new ≡ take start old → drop start new ≡ text ++ rest → take end new ≡ take start old ++ text
+text_behind old new text rest start end e before written =
+    ap (λ n. take n new) (sym e) ∙ take-add start (length text) new ∙ ap (λ l. l ++ take (length text) (drop start new)) before
+    ∙ ap (λ l. take start old ++ take (length text) l) written ∙ ap (λ l. take start old ++ l) (take-append_seam text rest)

@@ -1,8 +1,8 @@
 -- Texts that are written one after the other.
-use Rattle.std.proofs.Common.{◌≡◌, ℕ, false, true, List, [], ◌++◌, ◌+◌, Option, refl, sym, ap, ◌∙◌, append_assoc, append-nil, subst, Result, Ok, Err}
+use Rattle.std.proofs.Common.{◌≡◌, ℕ, true, List, [], ◌++◌, ◌+◌, Option, refl, sym, ap, ◌∙◌, append_assoc, append-nil, Result, Ok, Err}
 use Rattle.std.specs.Prelude.{IsErrOf, OnOk}
 use Rattle.std.specs.Io.KnownBytes.{Appends, Keeps}
-use Rattle.std.proofs.KnownBytes.{Appends-kept, Appends-nil, Appends-trans}
+use Rattle.std.proofs.KnownBytes.{Appends-kept, Appends-trans}
 use Rattle.cap_words.specs.Ends.{DeviceFails, GrowthFails, WasSpent}
 use Rattle.cap_words.specs.declared.ends.ByteOut as output
 use Rattle.cap_words.specs.declared.ends.OutFault.{OutFault}
@@ -55,51 +55,6 @@ module _ {O : Type 0} (g : output.Ghosts O) where
   pub writes_then : {T : Type 0} (a b c : O) (r : Result T OutFault) (xs ys : List ℕ) → Wrote g a b xs → Writes g b c r ys → Writes g a c r (xs ++ ys)
   writes_then a b c (Ok x) xs ys p w = wrote_then a b c xs ys p w
   writes_then a b c (Err fault) xs ys p w = stopped_then a b c fault xs ys p w
-
-  -- what was written so far, and the rest, are the whole text
-  pub record Left (a b : O) (all rest : List ℕ) : Type 0 where
-    pub part : List ℕ
-    pub whole : all ≡ part ++ rest
-    pub wrote : Wrote g a b part
-
-  pub left_start : (a : O) (all : List ℕ) → g.spent a ≡ false → Left a a all all
-  left_start a all h = record {
-    part = [];
-    whole = refl;
-    wrote = record { appended = Appends-nil (g.written a); works = record { usable = h; still = h; none_failed = refl } };
-  }
-
-  pub left_step : (a b c : O) (all xs rest : List ℕ) → Left a b all (xs ++ rest) → Wrote g b c xs → Left a c all rest
-  left_step a b c all xs rest l w =
-      record { part = l.part ++ xs; whole = l.whole ∙ sym (append_assoc l.part xs rest); wrote = wrote_then a b c l.part xs l.wrote w }
-
-  pub left_done : (a b : O) (all : List ℕ) → Left a b all [] → Wrote g a b all
-  left_done a b all l = let e : all ≡ l.part = l.whole ∙ append-nil l.part in rw e l.wrote
-
-  pub left_stop : (a b c : O) (fault : OutFault) (all xs rest : List ℕ) → Left a b all (xs ++ rest) → Stopped g b c fault xs
-      → Stopped g a c fault all
-  left_stop a b c fault all xs rest l q =
-      rw l.whole (stopped_then a b c fault l.part (xs ++ rest) l.wrote (stopped_more b c fault xs rest q))
-
-  -- a fault in the first of three texts
-  pub stopped_first : (a b : O) (fault : OutFault) (text xs ys zs : List ℕ) → text ≡ xs → Stopped g a b fault text
-      → Stopped g a b fault (xs ++ ys ++ zs)
-  stopped_first a b fault text xs ys zs e q =
-      stopped_more a b fault (xs ++ ys) zs (stopped_more a b fault xs ys (subst (Stopped g a b fault) e q))
-
-  -- a fault in the second of three texts
-  pub stopped_second : (a b c : O) (fault : OutFault) (text xs ys zs : List ℕ) → text ≡ xs → Wrote g a b text
-      → Stopped g b c fault ys → Stopped g a c fault (xs ++ ys ++ zs)
-  stopped_second a b c fault text xs ys zs e p q =
-      stopped_more a c fault (xs ++ ys) zs (stopped_then a b c fault xs ys (subst (Wrote g a b) e p) q)
-
-  -- the last of three texts, and a fault in it
-  pub writes_third : {T : Type 0} (a b c d : O) (r : Result T OutFault) (text xs ys zs last : List ℕ) → text ≡ xs → last ≡ zs → Wrote g a b text
-      → Wrote g b c ys → Writes g c d r last → Writes g a d r (xs ++ ys ++ zs)
-  writes_third a b c d (Ok x) text xs ys zs last e f p q w =
-      wrote_then a c d (xs ++ ys) zs (wrote_then a b c xs ys (subst (Wrote g a b) e p) q) (subst (Wrote g c d) f w)
-  writes_third a b c d (Err fault) text xs ys zs last e f p q w =
-      stopped_then a c d fault (xs ++ ys) zs (wrote_then a b c xs ys (subst (Wrote g a b) e p) q) (subst (Stopped g c d fault) f w)
 
   -- the output was asked to hand on what was written
   pub writes_kept : {T : Type 0} (a b c : O) (r : Result T OutFault) (text : List ℕ) → Wrote g a b text → Keeps (g.written b) (g.written c)

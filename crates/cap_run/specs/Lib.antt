@@ -5,6 +5,7 @@ pub mod Dumping
 pub mod Engines
 pub mod Faults
 pub mod Making
+pub mod Paging
 pub mod PathReading
 pub mod Putting
 pub mod Running

@@ -1,7 +1,7 @@
 //! The engines of the program: each goes through the messages of a source and tells something about
 //! each, or copies the words of a source.
 //!
-//! Their lines are put together in buffers of a fixed size, so that no text takes memory.
+//! Their lines are put together on a page of a fixed size, so that no text takes memory.
 #![tactic(auto)]
 
 pub mod engines;

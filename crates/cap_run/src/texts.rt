@@ -1,10 +1,11 @@
 //! The lines that the program writes.
 
+pub(crate) mod digits;
 pub mod dump;
 pub mod faults;
 pub(crate) mod found;
-pub(crate) mod line;
 pub(crate) mod node;
 pub(crate) mod output;
+pub(crate) mod page;
 pub(crate) mod segments;
 pub(crate) mod verdict;

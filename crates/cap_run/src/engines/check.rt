@@ -11,10 +11,9 @@ use crate::engines::stream::{Mark, tell_all};
 use crate::engines::whole::{Teller, Whole};
 use crate::fault::RunFault;
 use crate::settings::{Outcome, Settings};
-use crate::texts::line::LINE;
 use crate::texts::output::write_bytes;
+use crate::texts::page::Page;
 use crate::texts::verdict::check_line;
-use arrayvec::ArrayVec;
 use cap_canon::is_canonical;
 use cap_frame::Segments;
 use cap_vet::Vetted;
@@ -30,14 +29,14 @@ impl Teller for CheckTeller {
 
     fn tell<M: Segments, O: ByteOut>(
         &self,
-        line: &mut ArrayVec<u8, LINE>,
+        page: &mut Page,
         out: &mut O,
         number: u32,
         vetted: &Vetted<'_, M>,
     ) -> Result<Mark, OutFault> {
         let canonical = is_canonical(vetted);
-        check_line(line, number, canonical);
-        match write_bytes(out, line.as_slice()) {
+        check_line(page, number, canonical);
+        match write_bytes(out, page.text()) {
             Ok(()) => Ok(check_mark(canonical)),
             Err(fault) => Err(fault),
         }

@@ -16,11 +16,10 @@ use crate::engines::stream::{Mark, tell_all};
 use crate::engines::whole::{Teller, Whole};
 use crate::fault::RunFault;
 use crate::settings::{Outcome, Settings};
-use crate::texts::dump::write_dump;
-use crate::texts::line::LINE;
-use crate::texts::output::write_bytes;
+use crate::texts::dump::put_dump;
+use crate::texts::output::write_page;
+use crate::texts::page::Page;
 use crate::texts::verdict::accepted_line;
-use arrayvec::ArrayVec;
 use cap_frame::Segments;
 use cap_vet::Vetted;
 use cap_words::{ByteOut, OutFault, WordSource};
@@ -32,7 +31,7 @@ struct DumpTeller;
 
 /// Writes the line of an accepted message, and its tree.
 fn write_tree<M: Segments, O: ByteOut>(
-    line: &mut ArrayVec<u8, LINE>,
+    page: &mut Page,
     out: &mut O,
     number: u32,
     vetted: &Vetted<'_, M>,
@@ -40,9 +39,9 @@ fn write_tree<M: Segments, O: ByteOut>(
     ensures { (t : Tree) (c d : ℕ) → Denotes (M.segments (message_of vetted.now)) 0 0 t c d → let report = report_of vetted.now in
         Writes O.ByteOut out.old out.new result (vet_text number (accepted report.charge report.depth report.pointers report.caps) ++ dump_text t) }
 {
-    accepted_line(line, number, &vetted.report());
-    match write_bytes(out, line.as_slice()) {
-        Ok(()) => write_dump(line, out, vetted),
+    accepted_line(page, number, &vetted.report());
+    match put_dump(page, out, vetted) {
+        Ok(()) => write_page(page, out),
         Err(fault) => Err(fault),
     }
 }
@@ -52,12 +51,12 @@ impl Teller for DumpTeller {
 
     fn tell<M: Segments, O: ByteOut>(
         &self,
-        line: &mut ArrayVec<u8, LINE>,
+        page: &mut Page,
         out: &mut O,
         number: u32,
         vetted: &Vetted<'_, M>,
     ) -> Result<Mark, OutFault> {
-        match write_tree(line, out, number, vetted) {
+        match write_tree(page, out, number, vetted) {
             Ok(()) => Ok(Mark::Accepted),
             Err(fault) => Err(fault),
         }

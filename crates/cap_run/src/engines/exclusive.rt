@@ -10,10 +10,9 @@ use crate::engines::stream::{Engine, Mark, tell_all};
 use crate::engines::whole::Desk;
 use crate::fault::{Cause, RunFault};
 use crate::settings::{Outcome, Settings};
-use crate::texts::line::LINE;
 use crate::texts::output::write_bytes;
+use crate::texts::page::Page;
 use crate::texts::verdict::{accepted_line, overlap_line, refused_line};
-use arrayvec::ArrayVec;
 use cap_frame::{ByteMessage, Segments, SizeLimit, read_into};
 use cap_vet::{ExclusiveRefusal, Limits, vet_exclusive};
 use cap_words::{ByteOut, WordSource};
@@ -28,26 +27,21 @@ struct ExclusiveEngine {
 }
 
 impl ExclusiveEngine {
-    /// Makes the line that of a message's verdict. `None` where room to mark the words of a message that
-    /// is accepted was refused.
-    fn verdict_line<M: Segments>(
-        &self,
-        line: &mut ArrayVec<u8, LINE>,
-        number: u32,
-        message: &M,
-    ) -> Option<Mark>
+    /// Begins the page with the line of a message's verdict. `None` where room to mark the words of a
+    /// message that is accepted was refused.
+    fn verdict_line<M: Segments>(&self, page: &mut Page, number: u32, message: &M) -> Option<Mark>
         ensures some { IfSome result (λ mark. TellsExclusive (words_of self.now.limits) (depth_of self.now.limits) number (M.segments message.now)
-            line.new.items mark) }
-        ensures text { IfSome result (λ mark. 0 < length line.new.items) }
+            page.new mark) }
+        ensures text { IfSome result (λ mark. 0 < length page.new) }
         ensures none { result ≡ None → WantsMarks (words_of self.now.limits) (depth_of self.now.limits) (M.segments message.now) }
     {
         match vet_exclusive(self.alloc, message, self.limits) {
             Ok(exclusive) => {
-                accepted_line(line, number, &exclusive.into_vetted().report());
+                accepted_line(page, number, &exclusive.into_vetted().report());
                 Some(Mark::Accepted)
             }
             Err(ExclusiveRefusal::Refused(refusal)) => {
-                refused_line(line, number, &refusal);
+                refused_line(page, number, &refusal);
                 Some(Mark::Refused)
             }
             Err(
@@ -57,7 +51,7 @@ impl ExclusiveEngine {
                     pointers,
                 },
             ) => {
-                overlap_line(line, number, segment, word, pointers);
+                overlap_line(page, number, segment, word, pointers);
                 Some(Mark::Refused)
             }
             Err(ExclusiveRefusal::Memory) => None,
@@ -77,7 +71,7 @@ impl Engine for ExclusiveEngine {
     fn room(&self) -> Desk {
         Desk {
             message: ByteMessage::blank(self.alloc),
-            line: ArrayVec::new(),
+            page: Page::new(),
         }
     }
 
@@ -90,8 +84,8 @@ impl Engine for ExclusiveEngine {
         number: u32,
     ) -> Result<Option<Mark>, Cause> {
         match read_into(self.alloc, source, limit, &mut desk.message) {
-            Ok(true) => match self.verdict_line(&mut desk.line, number, &desk.message.view()) {
-                Some(mark) => match write_bytes(out, desk.line.as_slice()) {
+            Ok(true) => match self.verdict_line(&mut desk.page, number, &desk.message.view()) {
+                Some(mark) => match write_bytes(out, desk.page.text()) {
                     Ok(()) => Ok(Some(mark)),
                     Err(fault) => Err(Cause::Output(fault)),
                 },

@@ -11,8 +11,7 @@ use crate::engines::whole::{Teller, Whole};
 use crate::fault::RunFault;
 use crate::settings::{Outcome, Settings};
 use crate::texts::found::write_node;
-use crate::texts::line::LINE;
-use arrayvec::ArrayVec;
+use crate::texts::page::Page;
 use cap_frame::Segments;
 use cap_spec::Step;
 use cap_vet::Vetted;
@@ -30,12 +29,12 @@ impl<'p> Teller for GetTeller<'p> {
 
     fn tell<M: Segments, O: ByteOut>(
         &self,
-        line: &mut ArrayVec<u8, LINE>,
+        page: &mut Page,
         out: &mut O,
         number: u32,
         vetted: &Vetted<'_, M>,
     ) -> Result<Mark, OutFault> {
-        match write_node(line, out, number, vetted.get(self.path)) {
+        match write_node(page, out, number, vetted.get(self.path)) {
             Ok(()) => Ok(Mark::Accepted),
             Err(fault) => Err(fault),
         }

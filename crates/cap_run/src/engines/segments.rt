@@ -10,17 +10,16 @@ ghost use Rattle.std.specs.Prelude.{◌≡◌, false};
 use crate::engines::stream::{Engine, Mark, tell_all};
 use crate::fault::{Cause, RunFault};
 use crate::settings::{Outcome, Settings};
-use crate::texts::line::LINE;
+use crate::texts::page::Page;
 use crate::texts::segments::write_segments_text;
-use arrayvec::ArrayVec;
 use cap_frame::{Outline, SizeLimit, read_outline};
 use cap_words::{ByteOut, WordSource};
 
-/// What is kept of a message that was read, and a line of what is told of it.
+/// What is kept of a message that was read, and the page of what is told of it.
 #[derive(Drop)]
 struct Desk {
     outline: Outline,
-    line: ArrayVec<u8, LINE>,
+    page: Page,
 }
 
 /// Tells how a message is cut into segments, of which its outline is enough.
@@ -39,7 +38,7 @@ impl Engine for SegmentsEngine {
     fn room(&self) -> Desk {
         Desk {
             outline: Outline::new(),
-            line: ArrayVec::new(),
+            page: Page::new(),
         }
     }
 
@@ -52,7 +51,7 @@ impl Engine for SegmentsEngine {
         number: u32,
     ) -> Result<Option<Mark>, Cause> {
         match read_outline(source, limit, &mut desk.outline) {
-            Ok(true) => match write_segments_text(&mut desk.line, out, number, &desk.outline) {
+            Ok(true) => match write_segments_text(&mut desk.page, out, number, &desk.outline) {
                 Ok(()) => Ok(Some(Mark::Accepted)),
                 Err(fault) => Err(Cause::Output(fault)),
             },

@@ -10,10 +10,9 @@ use crate::engines::stream::{Mark, tell_all};
 use crate::engines::whole::{Teller, Whole};
 use crate::fault::RunFault;
 use crate::settings::{Outcome, Settings};
-use crate::texts::line::LINE;
 use crate::texts::output::write_bytes;
+use crate::texts::page::Page;
 use crate::texts::verdict::accepted_line;
-use arrayvec::ArrayVec;
 use cap_frame::Segments;
 use cap_vet::Vetted;
 use cap_words::{ByteOut, OutFault, WordSource};
@@ -28,13 +27,13 @@ impl Teller for VetTeller {
 
     fn tell<M: Segments, O: ByteOut>(
         &self,
-        line: &mut ArrayVec<u8, LINE>,
+        page: &mut Page,
         out: &mut O,
         number: u32,
         vetted: &Vetted<'_, M>,
     ) -> Result<Mark, OutFault> {
-        accepted_line(line, number, &vetted.report());
-        match write_bytes(out, line.as_slice()) {
+        accepted_line(page, number, &vetted.report());
+        match write_bytes(out, page.text()) {
             Ok(()) => Ok(Mark::Accepted),
             Err(fault) => Err(fault),
         }

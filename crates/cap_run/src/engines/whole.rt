@@ -11,10 +11,9 @@ ghost use Rattle.std.specs.Prelude.{◌⊎◌, IfErr, IfOk, List, true, ℕ};
 
 use crate::engines::stream::{Engine, Mark};
 use crate::fault::Cause;
-use crate::texts::line::LINE;
 use crate::texts::output::write_bytes;
+use crate::texts::page::Page;
 use crate::texts::verdict::refused_line;
-use arrayvec::ArrayVec;
 use cap_frame::{ByteMessage, Segments, SizeLimit, read_into};
 use cap_vet::{Limits, Vetted, vet};
 use cap_words::{ByteOut, OutFault, WordSource};
@@ -29,10 +28,10 @@ pub(crate) trait Teller {
     ghost tells: { Self → ℕ → ℕ → ℕ → List (List ℕ) → List ℕ → Mark → Type 0 };
 
     /// Writes the text of an accepted message. After a fault the output took a beginning of it. The
-    /// line is filled anew.
+    /// page is begun anew.
     fn tell<M: Segments, O: ByteOut>(
         &self,
-        line: &mut ArrayVec<u8, LINE>,
+        page: &mut Page,
         out: &mut O,
         number: u32,
         vetted: &Vetted<'_, M>,
@@ -45,11 +44,11 @@ pub(crate) trait Teller {
             × Stopped O.ByteOut out.old out.new fault text) };
 }
 
-/// A message that was read, and a line of what is told of it.
+/// A message that was read, and the page of what is told of it.
 #[derive(Drop)]
 pub(crate) struct Desk {
     pub(crate) message: ByteMessage,
-    pub(crate) line: ArrayVec<u8, LINE>,
+    pub(crate) page: Page,
 }
 
 /// Reads each message whole, and tells of it where it is accepted within the limits. Else it tells
@@ -65,7 +64,7 @@ impl<T: Teller> Whole<T> {
     /// Writes the text of a message. After a fault the output took a beginning of it.
     fn tell<M: Segments, O: ByteOut>(
         &self,
-        line: &mut ArrayVec<u8, LINE>,
+        page: &mut Page,
         out: &mut O,
         number: u32,
         message: &M,
@@ -80,10 +79,10 @@ impl<T: Teller> Whole<T> {
             × Stopped O.ByteOut out.old out.new fault text) }
     {
         match vet(message, self.limits) {
-            Ok(vetted) => self.teller.tell(line, out, number, &vetted),
+            Ok(vetted) => self.teller.tell(page, out, number, &vetted),
             Err(refusal) => {
-                refused_line(line, number, &refusal);
-                match write_bytes(out, line.as_slice()) {
+                refused_line(page, number, &refusal);
+                match write_bytes(out, page.text()) {
                     Ok(()) => Ok(Mark::Refused),
                     Err(fault) => Err(fault),
                 }
@@ -105,7 +104,7 @@ impl<T: Teller> Engine for Whole<T> {
     fn room(&self) -> Desk {
         Desk {
             message: ByteMessage::blank(self.alloc),
-            line: ArrayVec::new(),
+            page: Page::new(),
         }
     }
 
@@ -118,7 +117,7 @@ impl<T: Teller> Engine for Whole<T> {
         number: u32,
     ) -> Result<Option<Mark>, Cause> {
         match read_into(self.alloc, source, limit, &mut desk.message) {
-            Ok(true) => match self.tell(&mut desk.line, out, number, &desk.message.view()) {
+            Ok(true) => match self.tell(&mut desk.page, out, number, &desk.message.view()) {
                 Ok(mark) => Ok(Some(mark)),
                 Err(fault) => Err(Cause::Output(fault)),
             },

@@ -1,6 +1,7 @@
 //! The text of a message's tree.
 
 ghost use Rattle.cap_run.specs.Dumping.{child_letter_of, child_step_of, height, shown_count_of};
+ghost use Rattle.cap_run.specs.Paging.{Adds};
 ghost use Rattle.cap_run.specs.Writing.{Writes};
 ghost use Rattle.cap_spec.specs.Denoting.{Denotes};
 ghost use Rattle.cap_spec.specs.Standing.{DenotesAt};
@@ -8,11 +9,11 @@ ghost use Rattle.cap_spec.specs.Texts.{child_lines, dump_text};
 ghost use Rattle.cap_spec.specs.Tree.{Tree};
 ghost use Rattle.cap_vet.specs.Handles.{node_message, node_spot};
 ghost use Rattle.cap_vet.specs.Vettings.{message_of};
-ghost use Rattle.std.specs.Prelude.{◌+◌, ◌<◌, ◌≡◌, ◌≤◌, false, ℕ};
+ghost use Rattle.std.specs.Prelude.{◌+◌, ◌<◌, ◌≡◌, ◌≤◌, ℕ};
 
-use crate::texts::line::LINE;
-use crate::texts::node::{write_child, write_named};
-use arrayvec::ArrayVec;
+use crate::texts::node::{put_child, put_named};
+use crate::texts::output::write_page;
+use crate::texts::page::Page;
 use cap_frame::Segments;
 use cap_vet::{Kind, Node, Step, Vetted};
 use cap_words::{ByteOut, OutFault};
@@ -60,32 +61,32 @@ fn child_step(kind: Kind, i: u32) -> Step
     }
 }
 
-/// Writes what stands below a node, where at most `left` levels of lines are below it: each child at
+/// Puts on a page what stands below a node, where at most `left` levels of lines are below it: each child at
 /// this level, and what stands below that. Calls itself with one level less, so at most 257 calls
-/// stand in one another. After a fault the output took a beginning of that text.
-fn write_children<M: Segments, O: ByteOut>(
-    line: &mut ArrayVec<u8, LINE>,
+/// stand in one another. What has no room is written. After a fault the output took a beginning of what
+/// stood on the page and of that text.
+fn put_children<M: Segments, O: ByteOut>(
+    page: &mut Page,
     out: &mut O,
     node: &Node<'_, M>,
     level: u32,
     left: u32,
 ) -> Result<(), OutFault>
-    requires open { O.spent out.old ≡ false }
     requires low { (t : Tree) × DenotesAt (M.segments (node_message node.now)) (node_spot node.now) t × (height t ≤ left) }
     requires few { level + left ≤ 257 }
     ensures { (t : Tree) → DenotesAt (M.segments (node_message node.now)) (node_spot node.now) t →
-        Writes O.ByteOut out.old out.new result (child_lines level t) }
+        Adds O.ByteOut (out.old, page.old) (out.new, page.new) result (child_lines level t) }
 {
     let kind = node.view().kind();
     for i in 0..shown_count(kind) {
         let Some(child) = node.child(child_step(kind, i)) else {
             unreachable!()
         };
-        match write_child(line, out, level, child_letter(kind), i, &child) {
+        match put_child(page, out, level, child_letter(kind), i, &child) {
             Ok(()) => {}
             Err(fault) => return Err(fault),
         }
-        match write_children(line, out, &child, level + 1, left - 1) {
+        match put_children(page, out, &child, level + 1, left - 1) {
             Ok(()) => {}
             Err(fault) => return Err(fault),
         }
@@ -93,20 +94,21 @@ fn write_children<M: Segments, O: ByteOut>(
     Ok(())
 }
 
-/// Writes the tree of a message that was accepted, as [`dump`] does, by a line that is lent.
-pub(crate) fn write_dump<M: Segments, O: ByteOut>(
-    line: &mut ArrayVec<u8, LINE>,
+/// Puts on a page the tree of a message that was accepted. What has no room is written. After a fault
+/// the output took a beginning of what stood on the page and of that text.
+pub(crate) fn put_dump<M: Segments, O: ByteOut>(
+    page: &mut Page,
     out: &mut O,
     vetted: &Vetted<'_, M>,
 ) -> Result<(), OutFault>
     ensures { (t : Tree) (c d : ℕ) → Denotes (M.segments (message_of vetted.now)) 0 0 t c d →
-        Writes O.ByteOut out.old out.new result (dump_text t) }
+        Adds O.ByteOut (out.old, page.old) (out.new, page.new) result (dump_text t) }
 {
     let root = vetted.root();
     // An object's children stand at the level of lines that is its own: a struct of a list has one too.
     let levels = vetted.report().depth;
-    match write_named(line, out, b"root", &root) {
-        Ok(()) => write_children(line, out, &root, 1, levels),
+    match put_named(page, out, b"root", &root) {
+        Ok(()) => put_children(page, out, &root, 1, levels),
         Err(fault) => Err(fault),
     }
 }
@@ -119,5 +121,9 @@ pub fn dump<M: Segments, O: ByteOut>(vetted: &Vetted<'_, M>, out: &mut O) -> Res
     ensures { (t : Tree) (c d : ℕ) → Denotes (M.segments (message_of vetted.now)) 0 0 t c d →
         Writes O.ByteOut out.old out.new result (dump_text t) }
 {
-    write_dump(&mut ArrayVec::new(), out, vetted)
+    let mut page = Page::new();
+    match put_dump(&mut page, out, vetted) {
+        Ok(()) => write_page(&page, out),
+        Err(fault) => Err(fault),
+    }
 }

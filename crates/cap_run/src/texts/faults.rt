@@ -1,172 +1,170 @@
 //! The lines of faults.
 
-ghost use Rattle.arrayvec.specs.ArrayVec.{array_vec_len};
 ghost use Rattle.cap_run.specs.Faults.{canon_fault_text, cause_text, copy_fault_line, copy_fault_text as copy_text, fault_line, frame_fault_text, message_name, place_text, refusal_text, run_fault_line, source_fault_text};
 ghost use Rattle.cap_run.specs.Writing.{Writes};
 ghost use Rattle.cap_spec.specs.Texts.{then_number};
 ghost use Rattle.std.specs.Prelude.{◌+◌, ◌++◌, ◌≡◌, ◌≤◌, ◌∷◌, [], codes, decimal, length};
 
 use crate::fault::{Cause, CopyFault, RunFault};
-use crate::texts::line::{LINE, push_named, push_number, push_text};
 use crate::texts::output::write_bytes;
+use crate::texts::page::Page;
 use crate::texts::verdict::name_of;
-use arrayvec::ArrayVec;
 use cap_canon::CanonFault;
 use cap_frame::FrameFault;
 use cap_vet::Refusal;
 use cap_words::{ByteOut, OutFault, SourceFault};
 
 /// Appends what is said of a message that couldn't be read.
-fn push_frame_fault(line: &mut ArrayVec<u8, LINE>, fault: FrameFault)
-    requires { array_vec_len line.old + 40 ≤ 768 }
-    ensures items { line.new.items ≡ line.old.items ++ frame_fault_text fault }
-    ensures few { array_vec_len line.new ≤ array_vec_len line.old + 40 }
+fn push_frame_fault(page: &mut Page, fault: FrameFault)
+    requires { length page.old + 40 ≤ 4096 }
+    ensures items { page.new ≡ page.old ++ frame_fault_text fault }
+    ensures few { length page.new ≤ length page.old + 40 }
 {
     match fault {
-        FrameFault::TooManySegments { count } => push_named(line, b"TooManySegments ", count),
-        FrameFault::TooLarge { words } => push_named(line, b"TooLarge ", words),
-        FrameFault::Truncated { byte } => push_named(line, b"Truncated at byte ", byte),
-        FrameFault::Device => push_text(line, b"Device"),
-        FrameFault::Memory => push_text(line, b"Memory"),
-        FrameFault::Spent => push_text(line, b"Spent"),
+        FrameFault::TooManySegments { count } => page.push_named(b"TooManySegments ", count),
+        FrameFault::TooLarge { words } => page.push_named(b"TooLarge ", words),
+        FrameFault::Truncated { byte } => page.push_named(b"Truncated at byte ", byte),
+        FrameFault::Device => page.push_text(b"Device"),
+        FrameFault::Memory => page.push_text(b"Memory"),
+        FrameFault::Spent => page.push_text(b"Spent"),
     }
 }
 
 /// Appends the message that is spoken of.
-fn push_message(line: &mut ArrayVec<u8, LINE>, number: u32)
-    requires { array_vec_len line.old + 40 ≤ 768 }
-    ensures items { line.new.items ≡ line.old.items ++ message_name number }
-    ensures few { array_vec_len line.new ≤ array_vec_len line.old + 30 }
+fn push_message(page: &mut Page, number: u32)
+    requires { length page.old + 40 ≤ 4096 }
+    ensures items { page.new ≡ page.old ++ message_name number }
+    ensures few { length page.new ≤ length page.old + 30 }
 {
-    push_named(line, b"message ", u64::from(number));
-    push_text(line, b": ");
+    page.push_named(b"message ", u64::from(number));
+    page.push_text(b": ");
 }
 
 /// Appends the place of a pointer word.
-fn push_place(line: &mut ArrayVec<u8, LINE>, segment: u32, word: u32)
-    requires { array_vec_len line.old + 45 ≤ 768 }
-    ensures items { line.new.items ≡ line.old.items ++ place_text segment word }
-    ensures few { array_vec_len line.new ≤ array_vec_len line.old + 45 }
+fn push_place(page: &mut Page, segment: u32, word: u32)
+    requires { length page.old + 45 ≤ 4096 }
+    ensures items { page.new ≡ page.old ++ place_text segment word }
+    ensures few { length page.new ≤ length page.old + 45 }
 {
-    push_named(line, b" at ", u64::from(segment));
-    push_named(line, b":", u64::from(word));
+    page.push_named(b" at ", u64::from(segment));
+    page.push_named(b":", u64::from(word));
 }
 
 /// Appends what is said of a message that is refused, where that ends an engine.
-fn push_refusal(line: &mut ArrayVec<u8, LINE>, refusal: Refusal)
-    requires { array_vec_len line.old + 70 ≤ 768 }
-    ensures items { line.new.items ≡ line.old.items ++ refusal_text refusal }
-    ensures few { array_vec_len line.new ≤ array_vec_len line.old + 70 }
+fn push_refusal(page: &mut Page, refusal: Refusal)
+    requires { length page.old + 70 ≤ 4096 }
+    ensures items { page.new ≡ page.old ++ refusal_text refusal }
+    ensures few { length page.new ≤ length page.old + 70 }
 {
-    push_text(line, b"refused ");
-    push_text(line, name_of(refusal.reason));
-    push_place(line, refusal.segment, refusal.word);
+    page.push_text(b"refused ");
+    page.push_text(name_of(refusal.reason));
+    push_place(page, refusal.segment, refusal.word);
 }
 
 /// Appends what is said of a message of which no canonical copy was made.
-fn push_canon_fault(line: &mut ArrayVec<u8, LINE>, fault: CanonFault)
-    requires { array_vec_len line.old + 70 ≤ 768 }
-    ensures items { line.new.items ≡ line.old.items ++ canon_fault_text fault }
-    ensures few { array_vec_len line.new ≤ array_vec_len line.old + 70 }
+fn push_canon_fault(page: &mut Page, fault: CanonFault)
+    requires { length page.old + 70 ≤ 4096 }
+    ensures items { page.new ≡ page.old ++ canon_fault_text fault }
+    ensures few { length page.new ≤ length page.old + 70 }
 {
     match fault {
         CanonFault::HasCapability { segment, word } => {
-            push_text(line, b"HasCapability");
-            push_place(line, segment, word);
+            page.push_text(b"HasCapability");
+            push_place(page, segment, word);
         }
-        CanonFault::Memory => push_text(line, b"Memory"),
+        CanonFault::Memory => page.push_text(b"Memory"),
     }
 }
 
 /// Appends what is said of an engine that ended at a message.
-fn push_cause(line: &mut ArrayVec<u8, LINE>, number: u32, cause: Cause)
-    requires { array_vec_len line.old + 110 ≤ 768 }
-    ensures items { line.new.items ≡ line.old.items ++ cause_text number cause }
-    ensures few { array_vec_len line.new ≤ array_vec_len line.old + 110 }
+fn push_cause(page: &mut Page, number: u32, cause: Cause)
+    requires { length page.old + 110 ≤ 4096 }
+    ensures items { page.new ≡ page.old ++ cause_text number cause }
+    ensures few { length page.new ≤ length page.old + 110 }
 {
     match cause {
         Cause::TooManyMessages => {
-            push_message(line, number);
-            push_text(line, b"TooManyMessages");
+            push_message(page, number);
+            page.push_text(b"TooManyMessages");
         }
         Cause::Frame(fault) => {
-            push_message(line, number);
-            push_frame_fault(line, fault);
+            push_message(page, number);
+            push_frame_fault(page, fault);
         }
-        Cause::Output(_) => push_text(line, b"output failed"),
+        Cause::Output(_) => page.push_text(b"output failed"),
         Cause::Refused(refusal) => {
-            push_message(line, number);
-            push_refusal(line, refusal);
+            push_message(page, number);
+            push_refusal(page, refusal);
         }
         Cause::Canon(fault) => {
-            push_message(line, number);
-            push_canon_fault(line, fault);
+            push_message(page, number);
+            push_canon_fault(page, fault);
         }
         Cause::Memory => {
-            push_message(line, number);
-            push_text(line, b"Memory");
+            push_message(page, number);
+            page.push_text(b"Memory");
         }
     }
 }
 
 /// The line of a fault.
-fn fault_text(fault: &RunFault) -> ArrayVec<u8, LINE>
-    ensures { result.items ≡ fault_line fault.now.message fault.now.cause }
+fn fault_text(fault: &RunFault) -> Page
+    ensures { result ≡ fault_line fault.now.message fault.now.cause }
 {
-    let mut line = ArrayVec::new();
-    push_text(&mut line, b"capvet: ");
-    push_cause(&mut line, fault.message, fault.cause);
-    push_text(&mut line, b"\n");
-    line
+    let mut page = Page::new();
+    page.push_text(b"capvet: ");
+    push_cause(&mut page, fault.message, fault.cause);
+    page.push_text(b"\n");
+    page
 }
 
 /// Writes the line of a fault at a message. After a fault of its own the output took a beginning of it.
 pub fn write_fault<E: ByteOut>(err: &mut E, fault: &RunFault) -> Result<(), OutFault>
     ensures { Writes E.ByteOut err.old err.new result (run_fault_line fault.now) }
 {
-    write_bytes(err, fault_text(fault).as_slice())
+    write_bytes(err, fault_text(fault).text())
 }
 
 /// Appends what is said of a source that gave no word.
-fn push_source_fault(line: &mut ArrayVec<u8, LINE>, fault: SourceFault)
-    requires { array_vec_len line.old + 40 ≤ 768 }
-    ensures items { line.new.items ≡ line.old.items ++ source_fault_text fault }
-    ensures few { array_vec_len line.new ≤ array_vec_len line.old + 40 }
+fn push_source_fault(page: &mut Page, fault: SourceFault)
+    requires { length page.old + 40 ≤ 4096 }
+    ensures items { page.new ≡ page.old ++ source_fault_text fault }
+    ensures few { length page.new ≤ length page.old + 40 }
 {
     match fault {
-        SourceFault::Truncated { byte } => push_named(line, b"Truncated at byte ", byte),
-        SourceFault::Device => push_text(line, b"Device"),
-        SourceFault::Spent => push_text(line, b"Spent"),
+        SourceFault::Truncated { byte } => page.push_named(b"Truncated at byte ", byte),
+        SourceFault::Device => page.push_text(b"Device"),
+        SourceFault::Spent => page.push_text(b"Spent"),
     }
 }
 
 /// Appends what is said of a copy of words that ended early.
-fn push_copy_fault(line: &mut ArrayVec<u8, LINE>, fault: CopyFault)
-    requires { array_vec_len line.old + 40 ≤ 768 }
-    ensures items { line.new.items ≡ line.old.items ++ copy_text fault }
-    ensures few { array_vec_len line.new ≤ array_vec_len line.old + 40 }
+fn push_copy_fault(page: &mut Page, fault: CopyFault)
+    requires { length page.old + 40 ≤ 4096 }
+    ensures items { page.new ≡ page.old ++ copy_text fault }
+    ensures few { length page.new ≤ length page.old + 40 }
 {
     match fault {
-        CopyFault::TooManyWords => push_text(line, b"TooManyWords"),
-        CopyFault::Source(fault) => push_source_fault(line, fault),
-        CopyFault::Output(_) => push_text(line, b"output failed"),
+        CopyFault::TooManyWords => page.push_text(b"TooManyWords"),
+        CopyFault::Source(fault) => push_source_fault(page, fault),
+        CopyFault::Output(_) => page.push_text(b"output failed"),
     }
 }
 
 /// The line of a fault of a copy.
-fn copy_fault_text(fault: &CopyFault) -> ArrayVec<u8, LINE>
-    ensures { result.items ≡ copy_fault_line fault.now }
+fn copy_fault_text(fault: &CopyFault) -> Page
+    ensures { result ≡ copy_fault_line fault.now }
 {
-    let mut line = ArrayVec::new();
-    push_text(&mut line, b"capvet: ");
-    push_copy_fault(&mut line, *fault);
-    push_text(&mut line, b"\n");
-    line
+    let mut page = Page::new();
+    page.push_text(b"capvet: ");
+    push_copy_fault(&mut page, *fault);
+    page.push_text(b"\n");
+    page
 }
 
 /// Writes the line of a fault of a copy. After a fault of its own the output took a beginning of it.
 pub fn write_copy_fault<E: ByteOut>(err: &mut E, fault: &CopyFault) -> Result<(), OutFault>
     ensures { Writes E.ByteOut err.old err.new result (copy_fault_line fault.now) }
 {
-    write_bytes(err, copy_fault_text(fault).as_slice())
+    write_bytes(err, copy_fault_text(fault).text())
 }

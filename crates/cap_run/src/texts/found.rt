@@ -7,37 +7,36 @@ ghost use Rattle.cap_spec.specs.Tree.{Tree};
 ghost use Rattle.cap_vet.specs.Handles.{node_message, node_spot};
 ghost use Rattle.std.specs.Prelude.{◌≡◌, IfNone, IfSome, None, Some, codes};
 
-use crate::texts::line::{LINE, push_number, push_text};
-use crate::texts::node::write_named;
-use crate::texts::output::write_bytes;
-use arrayvec::ArrayVec;
+use crate::texts::node::put_named;
+use crate::texts::output::{write_bytes, write_page};
+use crate::texts::page::Page;
 use cap_frame::Segments;
 use cap_vet::Node;
 use cap_words::{ByteOut, OutFault};
 
-/// Makes the line the one that says that there is a node.
-fn found_line(line: &mut ArrayVec<u8, LINE>, number: u32)
-    ensures { line.new.items ≡ message_text number (codes "found") }
+/// Begins the page with the line that says that there is a node.
+fn found_line(page: &mut Page, number: u32)
+    ensures { page.new ≡ message_text number (codes "found") }
 {
-    line.clear();
-    push_text(line, b"message ");
-    push_number(line, u64::from(number));
-    push_text(line, b": found\n");
+    page.clear();
+    page.push_text(b"message ");
+    page.push_number(u64::from(number));
+    page.push_text(b": found\n");
 }
 
-/// Makes the line the one that says that there is none.
-fn none_line(line: &mut ArrayVec<u8, LINE>, number: u32)
-    ensures { line.new.items ≡ get_text number None }
+/// Begins the page with the line that says that there is none.
+fn none_line(page: &mut Page, number: u32)
+    ensures { page.new ≡ get_text number None }
 {
-    line.clear();
-    push_text(line, b"message ");
-    push_number(line, u64::from(number));
-    push_text(line, b": none\n");
+    page.clear();
+    page.push_text(b"message ");
+    page.push_number(u64::from(number));
+    page.push_text(b": none\n");
 }
 
 /// Writes the node at a path, without its children, or that there is none.
 pub(crate) fn write_node<M: Segments, O: ByteOut>(
-    line: &mut ArrayVec<u8, LINE>,
+    page: &mut Page,
     out: &mut O,
     number: u32,
     node: Option<Node<'_, M>>,
@@ -47,12 +46,12 @@ pub(crate) fn write_node<M: Segments, O: ByteOut>(
     ensures none { IfNone node.entry (Writes O.ByteOut out.old out.new result (get_text number None)) }
 {
     let Some(node) = node else {
-        none_line(line, number);
-        return write_bytes(out, line.as_slice());
+        none_line(page, number);
+        return write_bytes(out, page.text());
     };
-    found_line(line, number);
-    match write_bytes(out, line.as_slice()) {
-        Ok(()) => write_named(line, out, b"node", &node),
+    found_line(page, number);
+    match put_named(page, out, b"node", &node) {
+        Ok(()) => write_page(page, out),
         Err(fault) => Err(fault),
     }
 }

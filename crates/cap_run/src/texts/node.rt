@@ -1,18 +1,16 @@
 //! The line of a node of a message's tree, and the lines of its own words.
 
-ghost use Rattle.arrayvec.specs.ArrayVec.{array_vec_len};
 ghost use Rattle.cap_run.specs.Dumping.{head_of, word_letter_of};
-ghost use Rattle.cap_run.specs.Writing.{Writes};
+ghost use Rattle.cap_run.specs.Paging.{Adds};
 ghost use Rattle.cap_spec.specs.Showing.{own_of, words_of_own};
 ghost use Rattle.cap_spec.specs.Standing.{DenotesAt};
 ghost use Rattle.cap_spec.specs.Texts.{hex, label, own_text, word_lines};
 ghost use Rattle.cap_spec.specs.Tree.{Tree};
 ghost use Rattle.cap_vet.specs.Handles.{node_message, node_spot, shown};
-ghost use Rattle.std.specs.Prelude.{◌*◌, ◌+◌, ◌++◌, ◌<◌, ◌≡◌, ◌≤◌, ◌∷◌, [], false, length, replicate};
+ghost use Rattle.std.specs.Prelude.{◌*◌, ◌+◌, ◌++◌, ◌<◌, ◌≡◌, ◌≤◌, ◌∷◌, [], length, replicate};
 
-use crate::texts::line::{LINE, push_hex, push_named, push_number, push_text};
-use crate::texts::output::write_bytes;
-use arrayvec::ArrayVec;
+use crate::texts::output::make_room;
+use crate::texts::page::Page;
 use cap_frame::Segments;
 use cap_vet::{Kind, Node, View};
 use cap_words::{ByteOut, OutFault};
@@ -25,48 +23,48 @@ const DEEPEST: usize = 257;
 static SPACES: [u8; 2 * DEEPEST] = [b' '; 2 * DEEPEST];
 
 /// Appends the head of a node of a kind.
-fn push_head(line: &mut ArrayVec<u8, LINE>, kind: Kind)
-    requires { array_vec_len line.old + 80 ≤ 768 }
-    ensures items { line.new.items ≡ line.old.items ++ head_of kind }
-    ensures few { array_vec_len line.new ≤ array_vec_len line.old + 80 }
+fn push_head(page: &mut Page, kind: Kind)
+    requires { length page.old + 80 ≤ 4096 }
+    ensures items { page.new ≡ page.old ++ head_of kind }
+    ensures few { length page.new ≤ length page.old + 80 }
 {
     match kind {
-        Kind::Null => push_text(line, b"null"),
-        Kind::Cap { index } => push_named(line, b"cap ", u64::from(index)),
+        Kind::Null => page.push_text(b"null"),
+        Kind::Cap { index } => page.push_named(b"cap ", u64::from(index)),
         Kind::Struct {
             data_words,
             pointers,
         } => {
-            push_named(line, b"struct ", u64::from(data_words));
-            push_named(line, b" ", u64::from(pointers));
+            page.push_named(b"struct ", u64::from(data_words));
+            page.push_named(b" ", u64::from(pointers));
         }
         Kind::Scalars { code, count } => {
-            push_named(line, b"list ", u64::from(code));
-            push_named(line, b" ", u64::from(count));
+            page.push_named(b"list ", u64::from(code));
+            page.push_named(b" ", u64::from(count));
         }
-        Kind::Pointers { count } => push_named(line, b"pointers ", u64::from(count)),
+        Kind::Pointers { count } => page.push_named(b"pointers ", u64::from(count)),
         Kind::Structs {
             count,
             data_words,
             pointers,
         } => {
-            push_named(line, b"structs ", u64::from(count));
-            push_named(line, b" ", u64::from(data_words));
-            push_named(line, b" ", u64::from(pointers));
+            page.push_named(b"structs ", u64::from(count));
+            page.push_named(b" ", u64::from(data_words));
+            page.push_named(b" ", u64::from(pointers));
         }
     }
 }
 
-/// Makes the line that of a node under a name.
-fn named_line(line: &mut ArrayVec<u8, LINE>, name: &[u8], kind: Kind)
-    requires { length name.now ≤ 32 }
-    ensures { line.new.items ≡ name.now ++ 32 ∷ head_of kind ++ 10 ∷ [] }
+/// Appends the line of a node under a name.
+fn named_line(page: &mut Page, name: &[u8], kind: Kind)
+    requires short { length name.now ≤ 32 }
+    requires room { length page.old + 768 ≤ 4096 }
+    ensures { page.new ≡ page.old ++ (name.now ++ 32 ∷ head_of kind ++ 10 ∷ []) }
 {
-    line.clear();
-    push_text(line, name);
-    push_text(line, b" ");
-    push_head(line, kind);
-    push_text(line, b"\n");
+    page.push_text(name);
+    page.push_text(b" ");
+    push_head(page, kind);
+    page.push_text(b"\n");
 }
 
 /// The spaces before a line at a level.
@@ -78,37 +76,39 @@ fn spaces(level: u32) -> &'static [u8]
 }
 
 /// Begins a line at a level, with its spaces.
-fn begin_line(line: &mut ArrayVec<u8, LINE>, level: u32)
-    requires { level ≤ 257 }
-    ensures items { line.new.items ≡ replicate (2 * level) 32 }
-    ensures few { array_vec_len line.new ≤ 514 }
+fn begin_line(page: &mut Page, level: u32)
+    requires low { level ≤ 257 }
+    requires room { length page.old + 768 ≤ 4096 }
+    ensures items { page.new ≡ page.old ++ replicate (2 * level) 32 }
+    ensures few { length page.new ≤ length page.old + 514 }
 {
-    line.clear();
-    push_text(line, spaces(level));
+    page.push_text(spaces(level));
 }
 
-/// Makes the line that of a child at a level, by its letter and number.
-fn child_line(line: &mut ArrayVec<u8, LINE>, level: u32, letter: u8, i: u32, kind: Kind)
-    requires { level ≤ 257 }
-    ensures { line.new.items ≡ replicate (2 * level) 32 ++ (label letter i ++ 32 ∷ head_of kind ++ 10 ∷ []) }
+/// Appends at a level the line of a child, by its letter and number.
+fn child_line(page: &mut Page, level: u32, letter: u8, i: u32, kind: Kind)
+    requires low { level ≤ 257 }
+    requires room { length page.old + 768 ≤ 4096 }
+    ensures { page.new ≡ page.old ++ (replicate (2 * level) 32 ++ (label letter i ++ 32 ∷ head_of kind ++ 10 ∷ [])) }
 {
-    begin_line(line, level);
-    push_named(line, &[letter], u64::from(i));
-    push_text(line, b" ");
-    push_head(line, kind);
-    push_text(line, b"\n");
+    begin_line(page, level);
+    page.push_named(&[letter], u64::from(i));
+    page.push_text(b" ");
+    push_head(page, kind);
+    page.push_text(b"\n");
 }
 
-/// Makes the line that of a node's own word at a level, by its letter and number.
-fn word_line(line: &mut ArrayVec<u8, LINE>, level: u32, letter: u8, i: u32, word: u64)
-    requires { level ≤ 257 }
-    ensures { line.new.items ≡ replicate (2 * level) 32 ++ (label letter i ++ 32 ∷ hex word ++ 10 ∷ []) }
+/// Appends at a level the line of a node's own word, by its letter and number.
+fn word_line(page: &mut Page, level: u32, letter: u8, i: u32, word: u64)
+    requires low { level ≤ 257 }
+    requires room { length page.old + 768 ≤ 4096 }
+    ensures { page.new ≡ page.old ++ (replicate (2 * level) 32 ++ (label letter i ++ 32 ∷ hex word ++ 10 ∷ [])) }
 {
-    begin_line(line, level);
-    push_named(line, &[letter], u64::from(i));
-    push_text(line, b" ");
-    push_hex(line, word);
-    push_text(line, b"\n");
+    begin_line(page, level);
+    page.push_named(&[letter], u64::from(i));
+    page.push_text(b" ");
+    page.push_hex(word);
+    page.push_text(b"\n");
 }
 
 /// The letter before the numbers of a node's own words.
@@ -121,57 +121,61 @@ fn word_letter(kind: Kind) -> u8
     }
 }
 
-/// Writes the lines of a node's own words at a level. After a fault the output took a beginning of them.
-fn write_words<M: Segments, O: ByteOut>(
-    line: &mut ArrayVec<u8, LINE>,
+/// Puts on a page the lines of a node's own words at a level. What has no room is written. After a
+/// fault the output took a beginning of what stood on the page and of them.
+fn put_words<M: Segments, O: ByteOut>(
+    page: &mut Page,
     out: &mut O,
     level: u32,
     letter: u8,
     view: &View<'_, M>,
 ) -> Result<(), OutFault>
-    requires open { O.spent out.old ≡ false }
-    requires low { level ≤ 257 }
-    ensures { Writes O.ByteOut out.old out.new result (word_lines level letter 0 (words_of_own (shown view.now))) }
+    requires { level ≤ 257 }
+    ensures { Adds O.ByteOut (out.old, page.old) (out.new, page.new) result (word_lines level letter 0 (words_of_own (shown view.now))) }
 {
     let mut i = 0;
     while let Some(word) = view.data_word(i) {
-        word_line(line, level, letter, i, word);
-        match write_bytes(out, line.as_slice()) {
-            Ok(()) => i += 1,
+        match make_room(page, out) {
+            Ok(()) => {}
             Err(fault) => return Err(fault),
         }
+        word_line(page, level, letter, i, word);
+        i += 1;
     }
     Ok(())
 }
 
-/// Writes the line of a node under a name, and one level deeper the lines of its own words: its data
-/// words, or those of its values with unused bits as zeros. After a fault the output took a beginning
-/// of that text. Takes no memory.
-pub(crate) fn write_named<M: Segments, O: ByteOut>(
-    line: &mut ArrayVec<u8, LINE>,
+/// Puts on a page the line of a node under a name, and one level deeper the lines of its own words: its
+/// data words, or those of its values with unused bits as zeros. What has no room is written. After a
+/// fault the output took a beginning of what stood on the page and of that text. Takes no memory.
+pub(crate) fn put_named<M: Segments, O: ByteOut>(
+    page: &mut Page,
     out: &mut O,
     name: &[u8],
     node: &Node<'_, M>,
 ) -> Result<(), OutFault>
     requires { length name.now ≤ 32 }
     ensures { (t : Tree) → DenotesAt (M.segments (node_message node.now)) (node_spot node.now) t →
-        Writes O.ByteOut out.old out.new result (own_text 0 name.now t) }
+        Adds O.ByteOut (out.old, page.old) (out.new, page.new) result (own_text 0 name.now t) }
 {
     let view = node.view();
     let kind = view.kind();
-    named_line(line, name, kind);
-    match write_bytes(out, line.as_slice()) {
-        Ok(()) => write_words(line, out, 1, word_letter(kind), &view),
+    match make_room(page, out) {
+        Ok(()) => {
+            named_line(page, name, kind);
+            put_words(page, out, 1, word_letter(kind), &view)
+        }
         Err(fault) => Err(fault),
     }
 }
 
-/// Writes at a level the line of a child by its letter and number, and one level deeper the lines of
-/// its own words. After a fault the output took a beginning of that text. It has a frame of its own,
-/// which a recursion that calls it doesn't keep.
+/// Puts on a page at a level the line of a child by its letter and number, and one level deeper the
+/// lines of its own words. What has no room is written. After a fault the output took a beginning of
+/// what stood on the page and of that text. It has a frame of its own, which a recursion that calls it
+/// doesn't keep.
 #[inline(never)]
-pub(crate) fn write_child<M: Segments, O: ByteOut>(
-    line: &mut ArrayVec<u8, LINE>,
+pub(crate) fn put_child<M: Segments, O: ByteOut>(
+    page: &mut Page,
     out: &mut O,
     level: u32,
     letter: u8,
@@ -180,13 +184,15 @@ pub(crate) fn write_child<M: Segments, O: ByteOut>(
 ) -> Result<(), OutFault>
     requires { level < 257 }
     ensures { (t : Tree) → DenotesAt (M.segments (node_message node.now)) (node_spot node.now) t →
-        Writes O.ByteOut out.old out.new result (own_text level (label letter i) t) }
+        Adds O.ByteOut (out.old, page.old) (out.new, page.new) result (own_text level (label letter i) t) }
 {
     let view = node.view();
     let kind = view.kind();
-    child_line(line, level, letter, i, kind);
-    match write_bytes(out, line.as_slice()) {
-        Ok(()) => write_words(line, out, level + 1, word_letter(kind), &view),
+    match make_room(page, out) {
+        Ok(()) => {
+            child_line(page, level, letter, i, kind);
+            put_words(page, out, level + 1, word_letter(kind), &view)
+        }
         Err(fault) => Err(fault),
     }
 }

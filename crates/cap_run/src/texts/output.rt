@@ -1,8 +1,10 @@
 //! Texts as they go out.
 
+ghost use Rattle.cap_run.specs.Paging.{Added, Adds};
 ghost use Rattle.cap_run.specs.Writing.{Writes};
-ghost use Rattle.std.specs.Prelude.{◌<◌, length};
+ghost use Rattle.std.specs.Prelude.{◌+◌, ◌++◌, ◌<◌, ◌≤◌, [], List, OnOk, length, ℕ};
 
+use crate::texts::page::{CAPACITY, LINE, Page};
 use cap_words::{ByteOut, OutFault, write_all};
 
 /// Writes a text that isn't empty. After a fault the output took a beginning of it.
@@ -11,4 +13,44 @@ pub(crate) fn write_bytes<O: ByteOut>(out: &mut O, text: &[u8]) -> Result<(), Ou
     ensures { Writes O.ByteOut out.old out.new result text.now }
 {
     write_all(out, text)
+}
+
+/// Makes room for a line on a page: where there is none, what stands there is written first.
+#[inline]
+pub(crate) fn make_room<O: ByteOut>(page: &mut Page, out: &mut O) -> Result<(), OutFault>
+    ensures room { OnOk result (length page.new + 768 ≤ 4096) }
+    ensures adds { Adds O.ByteOut (out.old, page.old) (out.new, page.new) result [] }
+{
+    if page.len() <= CAPACITY - LINE {
+        return Ok(());
+    }
+    turn(page, out)
+}
+
+// Writes what stands on a page, and begins it anew.
+#[inline(never)]
+fn turn<O: ByteOut>(page: &mut Page, out: &mut O) -> Result<(), OutFault>
+    requires { 0 < length page.old }
+    ensures room { OnOk result (length page.new + 768 ≤ 4096) }
+    ensures adds { Adds O.ByteOut (out.old, page.old) (out.new, page.new) result [] }
+{
+    match write_bytes(out, page.text()) {
+        Ok(()) => {
+            page.clear();
+            Ok(())
+        }
+        Err(fault) => Err(fault),
+    }
+}
+
+/// Writes what is left on a page of a text that isn't empty. After a fault the output took a beginning
+/// of the whole text.
+pub(crate) fn write_page<O: ByteOut>(page: &Page, out: &mut O) -> Result<(), OutFault>
+    ensures { (before : O) (held text : List ℕ) → 0 < length (held ++ text) → Added O.ByteOut (before, held) (out.old, page.now) text
+        → Writes O.ByteOut before out.new result (held ++ text) }
+{
+    if page.len() == 0 {
+        return Ok(());
+    }
+    write_bytes(out, page.text())
 }

@@ -1,107 +1,120 @@
 //! The text of a message's segments: their number and sizes, and the root word.
 
+ghost use Rattle.cap_run.specs.Paging.{Adds};
 ghost use Rattle.cap_run.specs.Writing.{Writes};
 ghost use Rattle.cap_frame.specs.Outlines.{root_in, sizes_in};
 ghost use Rattle.cap_spec.specs.Texts.{hex, line as plain_line, message_text, outline_text, root_text, segment_lines, then_number};
-ghost use Rattle.std.specs.Prelude.{◌++◌, ◌≡◌, ◌∷◌, codes, false};
+ghost use Rattle.std.specs.Prelude.{◌+◌, ◌++◌, ◌≡◌, ◌≤◌, ◌∷◌, codes, length};
 
-use crate::texts::line::{LINE, push_hex, push_number, push_text};
-use crate::texts::output::write_bytes;
-use arrayvec::ArrayVec;
+use crate::texts::output::{make_room, write_page};
+use crate::texts::page::Page;
 use cap_frame::Outline;
 use cap_words::{ByteOut, OutFault};
 
-/// Makes the line the one on the message as a whole.
-fn head_line(line: &mut ArrayVec<u8, LINE>, number: u32, count: u32, words: u64)
-    ensures { line.new.items ≡ message_text number (codes "segments" ++ then_number count ++ codes " words" ++ then_number words) }
+/// Begins the page with the line on the message as a whole.
+fn head_line(page: &mut Page, number: u32, count: u32, words: u64)
+    ensures { page.new ≡ message_text number (codes "segments" ++ then_number count ++ codes " words" ++ then_number words) }
 {
-    line.clear();
-    push_text(line, b"message ");
-    push_number(line, u64::from(number));
-    push_text(line, b": segments ");
-    push_number(line, u64::from(count));
-    push_text(line, b" words ");
-    push_number(line, words);
-    push_text(line, b"\n");
+    page.clear();
+    page.push_text(b"message ");
+    page.push_number(u64::from(number));
+    page.push_text(b": segments ");
+    page.push_number(u64::from(count));
+    page.push_text(b" words ");
+    page.push_number(words);
+    page.push_text(b"\n");
 }
 
-/// Makes the line that of segment `s`, which has so many words.
-fn segment_line(line: &mut ArrayVec<u8, LINE>, s: u32, words: u32)
-    ensures { line.new.items ≡ plain_line 0 (codes "segment" ++ then_number s ++ 58 ∷ then_number words) }
+/// Appends the line of segment `s`, which has so many words.
+fn segment_line(page: &mut Page, s: u32, words: u32)
+    requires { length page.old + 768 ≤ 4096 }
+    ensures { page.new ≡ page.old ++ plain_line 0 (codes "segment" ++ then_number s ++ 58 ∷ then_number words) }
 {
-    line.clear();
-    push_text(line, b"segment ");
-    push_number(line, u64::from(s));
-    push_text(line, b": ");
-    push_number(line, u64::from(words));
-    push_text(line, b"\n");
+    page.push_named(b"segment ", u64::from(s));
+    page.push_named(b": ", u64::from(words));
+    page.push_text(b"\n");
 }
 
-/// Makes the line the one in place of the root word's, where there is none.
-fn rootless_line(line: &mut ArrayVec<u8, LINE>)
-    ensures { line.new.items ≡ plain_line 0 (codes "root " ++ codes "none") }
+/// Appends the line that stands in place of the root word's, where there is none.
+fn rootless_line(page: &mut Page)
+    requires { length page.old + 768 ≤ 4096 }
+    ensures { page.new ≡ page.old ++ plain_line 0 (codes "root " ++ codes "none") }
 {
-    line.clear();
-    push_text(line, b"root none\n");
+    page.push_text(b"root none\n");
 }
 
-/// Makes the line that of a root word.
-fn word_line(line: &mut ArrayVec<u8, LINE>, word: u64)
-    ensures { line.new.items ≡ plain_line 0 (codes "root " ++ hex word) }
+/// Appends the line of a root word.
+fn word_line(page: &mut Page, word: u64)
+    requires { length page.old + 768 ≤ 4096 }
+    ensures { page.new ≡ page.old ++ plain_line 0 (codes "root " ++ hex word) }
 {
-    line.clear();
-    push_text(line, b"root ");
-    push_hex(line, word);
-    push_text(line, b"\n");
+    page.push_text(b"root ");
+    page.push_hex(word);
+    page.push_text(b"\n");
 }
 
-/// Makes the line that of the root word, or of its absence.
-fn root_line(line: &mut ArrayVec<u8, LINE>, root: Option<u64>)
-    ensures { line.new.items ≡ plain_line 0 (codes "root " ++ root_text root) }
+/// Appends the line of the root word, or of its absence.
+fn root_line(page: &mut Page, root: Option<u64>)
+    requires { length page.old + 768 ≤ 4096 }
+    ensures { page.new ≡ page.old ++ plain_line 0 (codes "root " ++ root_text root) }
 {
     match root {
-        Some(word) => word_line(line, word),
-        None => rootless_line(line),
+        Some(word) => word_line(page, word),
+        None => rootless_line(page),
     }
 }
 
-/// Writes the line of each segment.
-fn write_segment_lines<O: ByteOut>(
-    line: &mut ArrayVec<u8, LINE>,
+/// Puts on a page the line of each segment. What has no room is written. After a fault the output took
+/// a beginning of what stood on the page and of them.
+fn put_segment_lines<O: ByteOut>(
+    page: &mut Page,
     out: &mut O,
     outline: &Outline,
 ) -> Result<(), OutFault>
-    requires { O.spent out.old ≡ false }
-    ensures { Writes O.ByteOut out.old out.new result (segment_lines 0 (sizes_in outline.now)) }
+    ensures { Adds O.ByteOut (out.old, page.old) (out.new, page.new) result (segment_lines 0 (sizes_in outline.now)) }
 {
     for s in 0..outline.count() {
-        segment_line(line, s, outline.len(s));
-        match write_bytes(out, line.as_slice()) {
-            Ok(()) => {}
+        match make_room(page, out) {
+            Ok(()) => segment_line(page, s, outline.len(s)),
             Err(fault) => return Err(fault),
         }
     }
     Ok(())
 }
 
+/// Puts on a page the line of the root word. What has no room is written.
+fn put_root_line<O: ByteOut>(
+    page: &mut Page,
+    out: &mut O,
+    root: Option<u64>,
+) -> Result<(), OutFault>
+    ensures { Adds O.ByteOut (out.old, page.old) (out.new, page.new) result (plain_line 0 (codes "root " ++ root_text root)) }
+{
+    match make_room(page, out) {
+        Ok(()) => {
+            root_line(page, root);
+            Ok(())
+        }
+        Err(fault) => Err(fault),
+    }
+}
+
 /// Writes what is shown of a message's segments.
 pub(crate) fn write_segments_text<O: ByteOut>(
-    line: &mut ArrayVec<u8, LINE>,
+    page: &mut Page,
     out: &mut O,
     number: u32,
     outline: &Outline,
 ) -> Result<(), OutFault>
     ensures { Writes O.ByteOut out.old out.new result (outline_text number (sizes_in outline.now) (root_in outline.now)) }
 {
-    head_line(line, number, outline.count(), outline.words());
-    match write_bytes(out, line.as_slice()) {
+    head_line(page, number, outline.count(), outline.words());
+    match put_segment_lines(page, out, outline) {
         Ok(()) => {}
         Err(fault) => return Err(fault),
     }
-    match write_segment_lines(line, out, outline) {
-        Ok(()) => {}
-        Err(fault) => return Err(fault),
+    match put_root_line(page, out, outline.root()) {
+        Ok(()) => write_page(page, out),
+        Err(fault) => Err(fault),
     }
-    root_line(line, outline.root());
-    write_bytes(out, line.as_slice())
 }

@@ -1,45 +1,43 @@
 //! The line of a verdict.
 
-ghost use Rattle.arrayvec.specs.ArrayVec.{array_vec_len};
 ghost use Rattle.cap_spec.specs.Texts.{accepted, check_text, reason_name, refusal_verdict, refused, then_number, vet_text};
 ghost use Rattle.std.specs.Prelude.{◌+◌, ◌++◌, ◌≡◌, ◌≤◌, codes, length};
 
-use crate::texts::line::{LINE, push_named, push_number, push_text};
-use arrayvec::ArrayVec;
+use crate::texts::page::Page;
 use cap_vet::{Reason, Refusal, Report};
 
-/// Makes the line that of a message that is accepted, with the numbers of its tree.
-pub(crate) fn accepted_line(line: &mut ArrayVec<u8, LINE>, number: u32, report: &Report)
-    ensures { line.new.items ≡ vet_text number (accepted report.now.charge report.now.depth report.now.pointers report.now.caps) }
+/// Begins the page with the line of a message that is accepted, with the numbers of its tree.
+pub(crate) fn accepted_line(page: &mut Page, number: u32, report: &Report)
+    ensures { page.new ≡ vet_text number (accepted report.now.charge report.now.depth report.now.pointers report.now.caps) }
 {
-    line.clear();
-    push_text(line, b"message ");
-    push_number(line, u64::from(number));
-    push_text(line, b": ");
-    push_report(line, report);
-    push_text(line, b"\n");
+    page.clear();
+    page.push_text(b"message ");
+    page.push_number(u64::from(number));
+    page.push_text(b": ");
+    push_report(page, report);
+    page.push_text(b"\n");
 }
 
 /// Appends what is said of a message that is accepted.
-fn push_report(line: &mut ArrayVec<u8, LINE>, report: &Report)
-    requires { array_vec_len line.old + 119 ≤ 768 }
-    ensures items { line.new.items ≡ line.old.items ++ (codes "accepted charge" ++ then_number report.now.charge
+fn push_report(page: &mut Page, report: &Report)
+    requires { length page.old + 119 ≤ 4096 }
+    ensures items { page.new ≡ page.old ++ (codes "accepted charge" ++ then_number report.now.charge
         ++ codes " depth" ++ then_number report.now.depth
         ++ codes " pointers" ++ then_number report.now.pointers ++ codes " caps" ++ then_number report.now.caps) }
-    ensures few { array_vec_len line.new ≤ array_vec_len line.old + 119 }
+    ensures few { length page.new ≤ length page.old + 119 }
 {
-    push_named(line, b"accepted charge ", report.charge);
-    push_named(line, b" depth ", u64::from(report.depth));
-    push_named(line, b" pointers ", report.pointers);
-    push_named(line, b" caps ", report.caps);
+    page.push_named(b"accepted charge ", report.charge);
+    page.push_named(b" depth ", u64::from(report.depth));
+    page.push_named(b" pointers ", report.pointers);
+    page.push_named(b" caps ", report.caps);
 }
 
-/// Makes the line that of a message that is refused, with the reason and the place.
-pub(crate) fn refused_line(line: &mut ArrayVec<u8, LINE>, number: u32, refusal: &Refusal)
-    ensures { line.new.items ≡ vet_text number (refusal_verdict refusal.now) }
+/// Begins the page with the line of a message that is refused, with the reason and the place.
+pub(crate) fn refused_line(page: &mut Page, number: u32, refusal: &Refusal)
+    ensures { page.new ≡ vet_text number (refusal_verdict refusal.now) }
 {
-    fill_refused(
-        line,
+    put_refused(
+        page,
         number,
         name_of(refusal.reason),
         refusal.segment,
@@ -48,57 +46,45 @@ pub(crate) fn refused_line(line: &mut ArrayVec<u8, LINE>, number: u32, refusal: 
     );
 }
 
-/// Makes the line that of a message of which some word is used twice, with the place of the first
-/// pointer that overlaps.
-pub(crate) fn overlap_line(
-    line: &mut ArrayVec<u8, LINE>,
-    number: u32,
-    segment: u32,
-    word: u32,
-    pointers: u64,
-)
-    ensures { line.new.items ≡ vet_text number (refused (codes "Overlap") segment word pointers) }
+/// Begins the page with the line of a message of which some word is used twice, with the place of the
+/// first pointer that overlaps.
+pub(crate) fn overlap_line(page: &mut Page, number: u32, segment: u32, word: u32, pointers: u64)
+    ensures { page.new ≡ vet_text number (refused (codes "Overlap") segment word pointers) }
 {
-    fill_refused(line, number, b"Overlap", segment, word, pointers);
+    put_refused(page, number, b"Overlap", segment, word, pointers);
 }
 
-/// Makes the line that of a message that is refused, with the name of the reason and the place.
-fn fill_refused(
-    line: &mut ArrayVec<u8, LINE>,
-    number: u32,
-    name: &[u8],
-    segment: u32,
-    word: u32,
-    pointers: u64,
-)
+/// Begins the page with the line of a message that is refused, with the name of the reason and the
+/// place.
+fn put_refused(page: &mut Page, number: u32, name: &[u8], segment: u32, word: u32, pointers: u64)
     requires short { length name.now ≤ 16 }
-    ensures { line.new.items ≡ vet_text number (refused name.now segment word pointers) }
+    ensures { page.new ≡ vet_text number (refused name.now segment word pointers) }
 {
-    line.clear();
-    push_text(line, b"message ");
-    push_number(line, u64::from(number));
-    push_text(line, b": refused ");
-    push_text(line, name);
-    push_text(line, b" at ");
-    push_number(line, u64::from(segment));
-    push_text(line, b":");
-    push_number(line, u64::from(word));
-    push_text(line, b" pointers ");
-    push_number(line, pointers);
-    push_text(line, b"\n");
+    page.clear();
+    page.push_text(b"message ");
+    page.push_number(u64::from(number));
+    page.push_text(b": refused ");
+    page.push_text(name);
+    page.push_text(b" at ");
+    page.push_number(u64::from(segment));
+    page.push_text(b":");
+    page.push_number(u64::from(word));
+    page.push_text(b" pointers ");
+    page.push_number(pointers);
+    page.push_text(b"\n");
 }
 
-/// Makes the line that of a message that is accepted, by whether it is canonical.
-pub(crate) fn check_line(line: &mut ArrayVec<u8, LINE>, number: u32, canonical: bool)
-    ensures { line.new.items ≡ check_text number canonical }
+/// Begins the page with the line of a message that is accepted, by whether it is canonical.
+pub(crate) fn check_line(page: &mut Page, number: u32, canonical: bool)
+    ensures { page.new ≡ check_text number canonical }
 {
-    line.clear();
-    push_text(line, b"message ");
-    push_number(line, u64::from(number));
+    page.clear();
+    page.push_text(b"message ");
+    page.push_number(u64::from(number));
     if canonical {
-        push_text(line, b": canonical\n");
+        page.push_text(b": canonical\n");
     } else {
-        push_text(line, b": not canonical\n");
+        page.push_text(b": not canonical\n");
     }
 }
 

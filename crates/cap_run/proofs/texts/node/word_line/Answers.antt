@@ -1,11 +1,12 @@
-use Rattle.std.proofs.Common.{◌≡◌, ◌∷◌, ◌++◌, ◌∙◌, ◌*◌, ap, decimal, replicate}
-use Rattle.cap_spec.specs.Texts.{hex}
+use Rattle.std.proofs.Common.{◌≡◌, ◌∷◌, ◌++◌, ◌∙◌, ◌*◌, [], ap, append_assoc, decimal, replicate}
+use Rattle.cap_spec.specs.Texts.{hex, label}
 use Rattle.cap_run.proofs.Nodes.{five_texts}
 use Rattle.cap_run.proofs.texts.node.word_line.Goals as goal
 
 pub returns : goal.returns
 returns c =
     let number : c.from.result ≡ c.args.i = cc in
-    five_texts (replicate (2 * c.args.level) 32) (c.args.letter ∷ decimal c.args.i) (hex c.args.word) c.begin_line.new.line.items c.push_named.new.line.items c.push_text.new.line.items
-    c.push_hex.new.line.items c.push_text-2.new.line.items c.begin_line.ensures.items
-    (c.push_named.ensures.items ∙ ap (λ n. c.begin_line.new.line.items ++ (c.args.letter ∷ decimal n)) number) c.push_text.ensures c.push_hex.ensures.items c.push_text-2.ensures
+    five_texts (c.args.page.now ++ replicate (2 * c.args.level) 32) (c.args.letter ∷ decimal c.args.i) (hex c.args.word) c.begin_line.new.page c.push_named.new.self c.push_text.new.self
+    c.push_hex.new.self c.push_text-2.new.self c.begin_line.ensures.items
+    (c.push_named.ensures.items ∙ ap (λ n. c.begin_line.new.page ++ (c.args.letter ∷ decimal n)) number) c.push_text.ensures c.push_hex.ensures.items c.push_text-2.ensures
+    ∙ append_assoc c.args.page.now (replicate (2 * c.args.level) 32) (label c.args.letter c.args.i ++ 32 ∷ hex c.args.word ++ 10 ∷ [])

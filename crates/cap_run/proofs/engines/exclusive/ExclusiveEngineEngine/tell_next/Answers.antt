@@ -6,9 +6,9 @@ use Rattle.cap_run.proofs.engines.exclusive.ExclusiveEngineEngine.tell_next.Goal
 pub returns-in-Ok-clause-some : goal.returns-in-Ok-clause-some
 returns-in-Ok-clause-some g c =
     let r = c.in-Ok-true.ensures.message (cc) in (
-      record { message = _; text = c.as_slice.result.now; mark = c.in-Some.mark },
+      record { message = _; text = c.text.result.now; mark = c.in-Some.mark },
       refl,
-      rw c.as_slice.ensures.value (rw c.view.ensures at c.in-Some.ensures.some),
+      rw c.text.ensures (rw c.view.ensures at c.in-Some.ensures.some),
       reads_one g.S.WordSource (limit_of c.args.limit) c.args.source.now c.read_into.new.source r.0 _ r.1 r.2 r.3 c.in-Ok-true.ensures.works,
       c.in-Ok.ensures,
     )
@@ -16,8 +16,8 @@ returns-in-Ok-clause-some g c =
 pub returns-in-Err-write_bytes-clause-err : goal.returns-in-Err-write_bytes-clause-err
 returns-in-Err-write_bytes-clause-err g c =
     let r = c.in-Ok-true.ensures.message (cc) in (
-      record { message = _; text = c.as_slice.result.now; mark = c.in-Some.mark },
-      rw c.as_slice.ensures.value (rw c.view.ensures at c.in-Some.ensures.some),
+      record { message = _; text = c.text.result.now; mark = c.in-Some.mark },
+      rw c.text.ensures (rw c.view.ensures at c.in-Some.ensures.some),
       reads_one g.S.WordSource (limit_of c.args.limit) c.args.source.now c.read_into.new.source r.0 _ r.1 r.2 r.3 c.in-Ok-true.ensures.works,
       c.in-Err-write_bytes.ensures,
     )

@@ -1,0 +1,113 @@
+//! The page on which lines are put together before they go out.
+
+ghost use Rattle.cap_spec.specs.Texts.{hex};
+ghost use Rattle.std.specs.Prelude.{◌+◌, ◌++◌, ◌≡◌, ◌≤◌, ◌==◌, [], decimal, length, take};
+
+use crate::texts::digits::{digit_count, hex_digits};
+use itoa::write_digits;
+use std::marker::Model;
+
+/// The bytes of a page, which holds the lines of most messages.
+pub(crate) const CAPACITY: usize = 4096;
+
+/// The bytes of a line. The longest has the spaces of 257 levels, and behind them the head of a node;
+/// without spaces the longest has five numbers and what stands between them.
+pub(crate) const LINE: usize = 768;
+
+/// Lines that aren't written yet. What stood on the page before they were begun is left in its bytes,
+/// so that a page costs nothing when it is begun anew.
+#[derive(Drop)]
+pub(crate) struct Page {
+    bytes: [u8; CAPACITY],
+    len: usize,
+}
+
+impl Model for Page {
+    ghost use Rattle.std.specs.Prelude.{◌≤◌, List, take, ℕ};
+
+    ghost Value = { List ℕ };
+
+    ghost view = { λ p. take p.len p.bytes };
+
+    ghost invariant = { λ p. p.len ≤ 4096 };
+}
+
+impl Page {
+    /// An empty page.
+    pub(crate) fn new() -> Self
+        ensures { result ≡ [] }
+    {
+        Page {
+            bytes: [0; CAPACITY],
+            len: 0,
+        }
+    }
+
+    /// Begins it anew.
+    #[inline]
+    pub(crate) fn clear(&mut self)
+        ensures { self.new ≡ [] }
+    {
+        self.len = 0;
+    }
+
+    /// What stands on it.
+    #[inline]
+    pub(crate) fn text(&self) -> &[u8]
+        ensures { result.now ≡ self.now }
+    {
+        &self.bytes[..self.len]
+    }
+
+    /// How many bytes stand on it.
+    #[inline]
+    pub(crate) fn len(&self) -> usize
+        ensures { result ≡ length self.now }
+    {
+        self.len
+    }
+
+    /// Appends text.
+    #[inline(always)]
+    pub(crate) fn push_text(&mut self, text: &[u8])
+        requires { length self.old + length text.now ≤ 4096 }
+        ensures { self.new ≡ self.old ++ text.now }
+    {
+        let end = self.len + text.len();
+        self.bytes[self.len..end].copy_from_slice(text);
+        self.len = end;
+    }
+
+    /// Appends a number, of at most 20 digits.
+    #[inline]
+    pub(crate) fn push_number(&mut self, n: u64)
+        requires { length self.old + 20 ≤ 4096 }
+        ensures items { self.new ≡ self.old ++ decimal n }
+        ensures few { length self.new ≤ length self.old + 20 }
+    {
+        let end = self.len + digit_count(n);
+        write_digits(n, &mut self.bytes, end);
+        self.len = end;
+    }
+
+    /// Appends a name and a number behind it.
+    #[inline(always)]
+    pub(crate) fn push_named(&mut self, name: &[u8], number: u64)
+        requires room { length self.old + length name.now + 20 ≤ 4096 }
+        ensures items { self.new ≡ self.old ++ (name.now ++ decimal number) }
+        ensures few { length self.new ≤ length self.old + length name.now + 20 }
+    {
+        self.push_text(name);
+        self.push_number(number);
+    }
+
+    /// Appends the 16 digits of a word's bytes.
+    #[inline]
+    pub(crate) fn push_hex(&mut self, word: u64)
+        requires { length self.old + 16 ≤ 4096 }
+        ensures items { self.new ≡ self.old ++ hex word }
+        ensures len { length self.new ≡ length self.old + 16 }
+    {
+        self.push_text(&hex_digits(word));
+    }
+}
