@@ -43,14 +43,14 @@ near_rises level depth (Some f) h e = (omega (arith, e), omega (arith, e))
 -- an object near by within the limits
 pub looks_row : (m : List (List ℕ)) (words depth spent s w level : ℕ) (r : Row) (frame : Option Frame) → FindsRow m s w r → level ≤ depth → r.charge ≤ words - spent → spent ≤ words
     → option_spots frame ≡ row_places (level + 1) s r.at r.left → OptionIn m frame → LevelIs (level + 1) frame → IsLooked m words depth spent s w level (Object r.charge level frame)
-looks_row m words depth spent s w level r frame (room, b, q, n, x, f, h) shallow charge within places inside here =
+looks_row m words depth spent s w level r frame f shallow charge within places inside here =
     let same : level + 0 ≡ level = omega arith in
-    let o = looks_object m words depth spent s w level 0 s b q 0 n r.charge 0 x frame f (near_levels b r.at r.left x h) (omega arith) charge within
-    (places ∙ near_places m s w s b q n r.charge r.at r.left level x f h) inside (near_rises level depth frame shallow here) in (
+    let o = looks_object m words depth spent s w level 0 s r.start f.word 0 r.charge r.charge 0 f.shape frame f.finds (near_levels r.start r.at r.left f.shape f.row) (omega arith) charge within
+    (places ∙ near_places m s w s r.start f.word r.charge r.charge r.at r.left level f.shape f.finds f.row) inside (near_rises level depth frame shallow here) in (
       0,
       s,
-      b,
-      q,
+      r.start,
+      f.word,
       0,
-      subst (λ u. LooksObject m words depth spent s w level r.charge u frame 0 s b q 0) same o,
+      subst (λ u. LooksObject m words depth spent s w level r.charge u frame 0 s r.start f.word 0) same o,
     )

@@ -34,29 +34,20 @@ module _ (m : List (List ℕ)) (s w q start own left : ℕ) (has : HasWord m s w
   leads : kind q < 2 → LeadsTo m s w 0 s start q
   leads k = object-lead m s w 0 s w q (pos start) (stands-near m s w q has (λ e. omega arith)) k some (rw (offset-behind q behind) (ap pos start_is))
 
-  pub row_found : IsParts q (own, left) → (b q n : ℕ) × (x : Shape) × FindsObject m s w 0 s b q 0 n (own + left) x × HasRow x b (start + own) left
+  pub row_found : IsParts q (own, left) → (x : Shape) × FindsObject m s w 0 s start q 0 (own + left) (own + left) x × HasRow x start (start + own) left
   row_found (inl (k, d, p)) = (
-    start,
-    q,
-    own + left,
     Struct (data_size q) (pointer_size q),
     found-plain m s w 0 s start q (leads (omega (arith, k))) there 0 (own + left) (own + left) (Struct (data_size q) (pointer_size q)) (omega arith) (λ c. let e = c.0 in omega (arith, k, e)) (omega (arith, d, p, extent_struct q k)) few (omega arith)
         (rw k refl) (omega arith) (omega arith) record { kind = k; data_words = refl; pointers = refl },
     (omega (arith, d), p),
   )
   row_found (inr (inl (k, c, d, p))) = (
-    start,
-    q,
-    own + left,
     Pointers (list_size q),
     found-plain m s w 0 s start q (leads (omega (arith, k))) there 0 (own + left) (own + left) (Pointers (list_size q)) (omega arith) (λ x. let e = x.1 in omega (arith, c, e)) (omega (arith, d, p, extent_pointers q k c)) few (omega arith)
         (rw (k, c) refl) (omega arith) (omega arith) record { kind = k; code = c; count = refl },
     (omega (arith, d), p),
   )
   row_found (inr (inr (k, c, below, d, p))) = (
-    start,
-    q,
-    own + left,
     Scalars (code q) (list_size q),
     found-plain m s w 0 s start q (leads (omega (arith, k))) there 0 (own + left) (own + left) (Scalars (code q) (list_size q)) (omega arith) (λ x. let e = x.1 in omega (arith, below, e)) (omega (arith, d, p)) few (omega arith)
         (sym (no_extra q k c below)) (omega arith) (omega arith) record { kind = k; code = refl; scalar = below; count = refl },

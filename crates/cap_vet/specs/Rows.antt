@@ -1,6 +1,6 @@
 -- What the word alone tells of an object near by (standard: Structs, Lists).
 use Rattle.std.specs.Prelude.{ℕ, ◌+◌, ◌<◌, ◌≡◌, ◌≤◌, ◌⊎◌, List, length}
-use Rattle.cap_spec.specs.Messages.{segment_of}
+use Rattle.cap_spec.specs.Messages.{HasWord, segment_of}
 use Rattle.cap_spec.specs.Pointers.{code, data_size, extent, kind, list_size, pointer_size}
 use Rattle.cap_ptr.specs.Shapes.{FindsObject}
 use Rattle.cap_vet.specs.declared.rows.Row.{Row}
@@ -14,9 +14,14 @@ HasRow (Scalars c n) b at left = left ≡ 0
 HasRow (Pointers n) b at left = (at ≡ b) × (left ≡ n)
 HasRow (Structs size n d p) b at left = ⊥
 
--- the pointer word at s:w leads to an object in its segment, with these pointer words there and this charge
-abbrev pub FindsRow : List (List ℕ) → ℕ → ℕ → Row → Type 0
-FindsRow m s w r = (r.at + r.left ≤ length (segment_of m s)) × (b q n : ℕ) × (x : Shape) × FindsObject m s w 0 s b q 0 n r.charge x × HasRow x b r.at r.left
+-- The word at s:w is a pointer to an object in its segment, with these words, and with these pointer words among them.
+pub record FindsRow (m : List (List ℕ)) (s w : ℕ) (r : Row) : Type 0 where
+  pub inside : r.at + r.left ≤ length (segment_of m s)
+  pub word : ℕ
+  pub has : HasWord m s w word
+  pub shape : Shape
+  pub finds : FindsObject m s w 0 s r.start word 0 r.charge r.charge shape
+  pub row : HasRow shape r.start r.at r.left
 
 -- the object of the word q has so many words without pointers, and then so many pointer words
 abbrev pub IsParts : ℕ → ℕ × ℕ → Type 0

@@ -1,16 +1,23 @@
 //! What stands at a spot, and where steps from there lead.
 
-ghost use Rattle.cap_ptr.specs.Shapes.{IsFollowed};
+ghost use Rattle.cap_ptr.specs.Shapes.{IsFollowed, IsShape};
+ghost use Rattle.cap_ptr.specs.declared.shapes.Shape.{Shape};
+ghost use Rattle.cap_spec.specs.Following.{Wrong};
 ghost use Rattle.cap_spec.specs.Messages.{IsMessage, segment_of};
 ghost use Rattle.cap_spec.specs.Paths.{Goes, Spot as Where, word};
+ghost use Rattle.cap_spec.specs.declared.Reason.{Reason};
 ghost use Rattle.cap_vet.specs.Finding.{IsFound, element_of, kind_of_shape};
+ghost use Rattle.cap_vet.specs.Rows.{HasRow};
 ghost use Rattle.cap_vet.specs.Spots.{end_at, segment_at, spot_of};
 ghost use Rattle.std.specs.Prelude.{◌+◌, ◌<◌, ◌≡◌, ◌≤◌, IfNone, IfSome, List, length, ℕ};
 
 use crate::place::Place;
+use crate::rows::row_at;
 use crate::spot::Spot;
-use cap_ptr::{Followed, Shape};
+use cap_frame::Segments;
+use cap_ptr::{Followed, Shape, follow};
 use cap_spec::{Kind, Step};
+use cap_words::bits;
 
 /// What stands at a spot: its kind and its words. Null and a capability have no words, at 0:0.
 #[derive(Clone, Copy)]
@@ -152,6 +159,70 @@ pub(crate) fn found_of(followed: Followed) -> Found
                 start: target.start,
                 words: target.words,
             },
+        },
+    }
+}
+
+/// What word `w` of segment `s` leads to, which isn't wrong.
+pub(crate) fn found_at<M: Segments>(message: &M, s: u32, w: u32) -> Found
+    requires exists { s < length (M.segments message.now) }
+    requires inside { w < length (segment_of (M.segments message.now) s) }
+    requires right { (v : Reason) → ¬ Wrong (M.segments message.now) s w v }
+    ensures { IsFound (M.segments message.now) (word s w) result }
+{
+    // Most pointers lead to an object near by.
+    match found_near(message, s, w) {
+        Some(found) => found,
+        None => found_far(message, s, w),
+    }
+}
+
+// The same, where the word alone tells it.
+fn found_near<M: Segments>(message: &M, s: u32, w: u32) -> Option<Found>
+    requires exists { s < length (M.segments message.now) }
+    requires inside { w < length (segment_of (M.segments message.now) s) }
+    ensures { IfSome result (IsFound (M.segments message.now) (word s w)) }
+{
+    let row = row_at(message, s, w)?;
+    let place = Place {
+        segment: s,
+        start: row.start,
+        words: row.charge as u32,
+    };
+    let kind = near_kind(message.word(s, w));
+    Some(Found { kind, place })
+}
+
+// The same, where it takes a following.
+#[inline(never)]
+fn found_far<M: Segments>(message: &M, s: u32, w: u32) -> Found
+    requires exists { s < length (M.segments message.now) }
+    requires inside { w < length (segment_of (M.segments message.now) s) }
+    requires right { (v : Reason) → ¬ Wrong (M.segments message.now) s w v }
+    ensures { IsFound (M.segments message.now) (word s w) result }
+{
+    match follow(message, s, w) {
+        Ok(followed) => found_of(followed),
+        Err(_) => unreachable!(),
+    }
+}
+
+// The kind of the object that this pointer word tells, where no tag does.
+fn near_kind(pointer: u64) -> Kind
+    ensures { (x : Shape) (b at left : ℕ) → IsShape pointer 0 x → HasRow x b at left → result ≡ kind_of_shape x }
+{
+    if bits(pointer, 0, 2) == 0 {
+        return Kind::Struct {
+            data_words: bits(pointer, 32, 16) as u16,
+            pointers: bits(pointer, 48, 16) as u16,
+        };
+    }
+    let count = bits(pointer, 35, 29) as u32;
+    match bits(pointer, 32, 3) {
+        6 => Kind::Pointers { count },
+        code => Kind::Scalars {
+            code: code as u8,
+            count,
         },
     }
 }

@@ -5,11 +5,10 @@ ghost use Rattle.cap_vet.specs.Nodes.{IsNode};
 ghost use Rattle.cap_vet.specs.Spots.{end_at, segment_at, spot_of};
 ghost use Rattle.std.specs.Prelude.{◌<◌, ◌≡◌, ◌≤◌, ⊤, length};
 
-use crate::found::{Found, element, found_of};
+use crate::found::{Found, element, found_at};
 use crate::spot::Spot;
 use crate::view::View;
 use cap_frame::Segments;
-use cap_ptr::follow;
 use cap_spec::Step;
 use std::alloc::AllocError;
 
@@ -51,10 +50,7 @@ impl<'m, M: Segments> Node<'m, M> {
         ensures { IsFound (M.segments (node_message self.now)) (node_spot self.now) result }
     {
         match self.spot {
-            Spot::Word { segment, word } => match follow(self.message, segment, word) {
-                Ok(followed) => found_of(followed),
-                Err(_) => unreachable!(),
-            },
+            Spot::Word { segment, word } => found_at(self.message, segment, word),
             Spot::Element {
                 segment,
                 start,

@@ -13,6 +13,8 @@ use cap_words::bits;
 pub(crate) struct Row {
     /// The words of the object, at most 2^29.
     pub(crate) charge: u64,
+    /// The first of them.
+    pub(crate) start: u32,
     /// The first of its pointer words, if it has any.
     pub(crate) at: u32,
     /// How many pointer words it has.
@@ -42,6 +44,7 @@ pub(crate) fn row_at<M: Segments>(message: &M, s: u32, w: u32) -> Option<Row>
     }
     Some(Row {
         charge: own + left,
+        start: start as u32,
         at: (start + own) as u32,
         left: left as u32,
     })

@@ -14,8 +14,13 @@ fn row_at_root<M: Segments>(rt: &impl Abort, message: &M) -> Option<Row> {
 }
 
 // A row of pointer words.
-fn row(charge: u64, at: u32, left: u32) -> Option<Row> {
-    Some(Row { charge, at, left })
+fn row(charge: u64, start: u32, at: u32, left: u32) -> Option<Row> {
+    Some(Row {
+        charge,
+        start,
+        at,
+        left,
+    })
 }
 
 #[test]
@@ -29,17 +34,17 @@ fn rows_near_by(rt: HostRuntime) -> Result<(), Fail> {
         (0x0100000018000000, &[], None),
         (0xfcffffff01000000, &[], None),
         // A struct of one data word and two pointers, one word further, and past the end.
-        (0x0400000001000200, &[7, 42, 0, 0], row(3, 3, 2)),
+        (0x0400000001000200, &[7, 42, 0, 0], row(3, 2, 3, 2)),
         (0x0400000001000200, &[7, 42, 0], None),
         // 65 bits, 3 bytes, and 5, 3 and 2 elements of two, four and eight bytes.
-        (0x0100000009020000, &[0, 0], row(2, 3, 0)),
+        (0x0100000009020000, &[0, 0], row(2, 1, 3, 0)),
         (0x0100000009020000, &[0], None),
-        (0x010000001a000000, &[0], row(1, 2, 0)),
-        (0x010000002b000000, &[0, 0], row(2, 3, 0)),
-        (0x010000001c000000, &[0, 0], row(2, 3, 0)),
-        (0x0100000015000000, &[0, 0], row(2, 3, 0)),
+        (0x010000001a000000, &[0], row(1, 1, 2, 0)),
+        (0x010000002b000000, &[0, 0], row(2, 1, 3, 0)),
+        (0x010000001c000000, &[0, 0], row(2, 1, 3, 0)),
+        (0x0100000015000000, &[0, 0], row(2, 1, 3, 0)),
         // Two pointers.
-        (0x0100000016000000, &[0, 0], row(2, 1, 2)),
+        (0x0100000016000000, &[0, 0], row(2, 1, 1, 2)),
         (0x0100000016000000, &[0], None),
     ] {
         let mut segment = words(rt.alloc(), &[root])?;

@@ -9,4 +9,11 @@ returns g c =
     let found = row_found (g.M.Segments.segments c.args.message.now) c.args.s c.args.w c.word-word.result (c.from.result + 1 + c.bits-offset.result) c.in_ok-own.own c.in_ok-own.left
     c.word-word.ensures c.requires.exists c.if-word-eq0.false (omega (arith, c.if-offset.false, c.bits-offset.ensures)) (omega (arith, c.from.ensures, c.bits-offset.ensures))
     c.in_ok-own.ensures.few inside c.in_ok-own.ensures.parts in
-    (inside, found.0, found.1, found.2, found.3, found.4, found.5)
+    record {
+      inside = inside;
+      word = c.word-word.result;
+      has = c.word-word.ensures;
+      shape = found.0;
+      finds = found.1;
+      row = found.2;
+    }
