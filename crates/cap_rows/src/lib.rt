@@ -16,6 +16,8 @@ mod levels;
 #[cfg(test)]
 mod paths;
 #[cfg(test)]
+mod pieces;
+#[cfg(test)]
 mod segments;
 #[cfg(test)]
 mod trees;
@@ -25,3 +27,5 @@ mod usage;
 mod verdicts;
 #[cfg(test)]
 mod whole;
+#[cfg(test)]
+mod words;

@@ -44,13 +44,13 @@ pub(crate) fn run(
 ) -> Result<Left, Fail> {
     let bytes = hex::decode(alloc, stream)?;
     let job = job(alloc, command, options)?;
+    Ok(run_over(alloc, &job, bytes.as_slice()))
+}
+
+/// Runs a job on these bytes.
+pub(crate) fn run_over(alloc: Global, job: &Job, bytes: &[u8]) -> Left {
     let mut err = VecOut::new(alloc);
-    let (status, out) = run_job(
-        alloc,
-        &job,
-        SliceIn::new(bytes.as_slice()),
-        VecOut::new(alloc),
-        &mut err,
-    );
-    Ok(Left { status, out, err })
+    let input = SliceIn::new(bytes);
+    let (status, out) = run_job(alloc, job, input, VecOut::new(alloc), &mut err);
+    Left { status, out, err }
 }

@@ -1,0 +1,474 @@
+//! Runs over devices that give and take few bytes a call, each of their calls failing in turn.
+
+use crate::engines::settings;
+use crate::whole::{job, run_over};
+use cap_cmd::{Cause, Job, Outcome, RunFault, run_job, run_vet};
+use cap_frame::FrameFault;
+use cap_words::{FromRead, FromWrite, OutFault, PlainWords, VecOut};
+use std::alloc::Global;
+use std::io::{self, ErrorKind, Read, Write};
+use std::process::Abort;
+use std::test::Fail;
+
+// In which of its calls a device fails, counted from 1, and how. A writer without an error to answer
+// takes no bytes.
+#[derive(Clone, Copy)]
+pub(crate) struct Fault {
+    pub(crate) at: u32,
+    pub(crate) kind: Option<ErrorKind>,
+}
+
+// A device that never fails.
+pub(crate) const HONEST: Fault = Fault { at: 0, kind: None };
+
+pub(crate) const PIECES: [usize; 4] = [1, 2, 3, 7];
+
+// An interruption is an error as any other.
+pub(crate) const READ_FAULTS: [ErrorKind; 2] = [ErrorKind::Interrupted, ErrorKind::Other];
+
+pub(crate) const WRITE_FAULTS: [Option<ErrorKind>; 3] = [
+    Some(ErrorKind::Interrupted),
+    Some(ErrorKind::Other),
+    None,
+];
+
+// A reader that gives few bytes a call, and counts its calls.
+#[derive(Drop)]
+pub(crate) struct Reader<'a> {
+    pub(crate) rest: &'a [u8],
+    pub(crate) most: usize,
+    pub(crate) fault: Fault,
+    pub(crate) calls: u32,
+}
+
+impl Read for Reader<'_> {
+    fn read(&mut self, buf: &mut [u8]) -> io::Result<usize> {
+        self.calls = self.calls.saturating_add(1);
+        if self.calls == self.fault.at {
+            let kind = self.fault.kind.unwrap_or(ErrorKind::Other);
+            return Err(io::Error::from(kind));
+        }
+        let count = buf.len().min(self.rest.len()).min(self.most);
+        let (given, rest) = self.rest.split_at(count);
+        buf[..count].copy_from_slice(given);
+        self.rest = rest;
+        Ok(count)
+    }
+}
+
+// A writer that takes few bytes a call, and counts its calls, flushes among them.
+#[derive(Drop)]
+pub(crate) struct Writer {
+    pub(crate) taken: Vec<u8>,
+    pub(crate) most: usize,
+    pub(crate) fault: Fault,
+    pub(crate) calls: u32,
+}
+
+impl Write for Writer {
+    fn write(&mut self, buf: &[u8]) -> io::Result<usize> {
+        self.calls = self.calls.saturating_add(1);
+        if self.calls == self.fault.at {
+            return match self.fault.kind {
+                Some(kind) => Err(io::Error::from(kind)),
+                None => Ok(0),
+            };
+        }
+        let count = buf.len().min(self.most);
+        self.taken.extend_from_slice(&buf[..count])?;
+        Ok(count)
+    }
+
+    fn flush(&mut self) -> io::Result<()> {
+        self.calls = self.calls.saturating_add(1);
+        if self.calls == self.fault.at {
+            let kind = self.fault.kind.unwrap_or(ErrorKind::Other);
+            return Err(io::Error::from(kind));
+        }
+        Ok(())
+    }
+}
+
+// A run over two such devices: what they gave and took, and how often they were called.
+#[derive(Drop)]
+struct Ran {
+    status: u8,
+    given: usize,
+    reads: u32,
+    taken: Vec<u8>,
+    writes: u32,
+    err: VecOut,
+}
+
+fn run_in_pieces(
+    alloc: Global,
+    job: &Job,
+    bytes: &[u8],
+    most: usize,
+    reading: Fault,
+    writing: Fault,
+) -> Ran {
+    let mut reader = Reader {
+        rest: bytes,
+        most,
+        fault: reading,
+        calls: 0,
+    };
+    let out = FromWrite::new(Writer {
+        taken: Vec::new(alloc),
+        most,
+        fault: writing,
+        calls: 0,
+    });
+    let mut err = VecOut::new(alloc);
+    let (status, out) = run_job(alloc, job, FromRead::new(&mut reader), out, &mut err);
+    let writer = out.into_inner();
+    Ran {
+        status,
+        given: bytes.len().saturating_sub(reader.rest.len()),
+        reads: reader.calls,
+        taken: writer.taken,
+        writes: writer.calls,
+        err,
+    }
+}
+
+// A command with its options, its input, and the line of a read that fails, by how many bytes were
+// given before it.
+struct Row {
+    command: &'static str,
+    options: &'static [&'static str],
+    stream: &'static str,
+    lines: &'static [(usize, &'static str)],
+}
+
+// A list of three bits, a word that is no pointer, and two pointers to one struct.
+const MESSAGES: &str =
+    "00000000020000000100000019000000ffffffffffffffff0000000001000000070000000500000000000000040000000000000000000200040000000100000000000000010000000700000000000000";
+
+const LINES: &[(usize, &str)] = &[
+    (0, "capvet: message 0: Device\n"),
+    (24, "capvet: message 1: Device\n"),
+    (40, "capvet: message 2: Device\n"),
+    (80, "capvet: message 3: Device\n"),
+];
+
+const MESSAGES_PACKED: &str = "1002110119ffffffffffffffffff0010011107051004400211040110010107";
+
+const LINES_PACKED: &[(usize, &str)] = &[
+    (0, "capvet: message 0: Device\n"),
+    (15, "capvet: message 1: Device\n"),
+    (20, "capvet: message 2: Device\n"),
+    (31, "capvet: message 3: Device\n"),
+];
+
+// The first and the last of them, which have canonical copies.
+const COPIED: &str =
+    "00000000020000000100000019000000ffffffffffffffff00000000040000000000000000000200040000000100000000000000010000000700000000000000";
+
+const LINES_COPIED: &[(usize, &str)] = &[
+    (0, "capvet: message 0: Device\n"),
+    (24, "capvet: message 1: Device\n"),
+    (64, "capvet: message 2: Device\n"),
+];
+
+const COPIED_PACKED: &str = "1002110119ffffffffffffffffff001004400211040110010107";
+
+const LINES_COPIED_PACKED: &[(usize, &str)] = &[
+    (0, "capvet: message 0: Device\n"),
+    (15, "capvet: message 1: Device\n"),
+    (26, "capvet: message 2: Device\n"),
+];
+
+// Words of each kind of group, and their packed spelling.
+const WORDS: &str =
+    "0800000003000200616161616161616161626364656667000000000000000000000000000000000019000000aa010000";
+
+const GROUPS: &str = "51080302ff616161616161616101616263646566670000013119aa01";
+
+const NO_MESSAGE: &[(usize, &str)] = &[(0, "capvet: Device\n")];
+
+const ROWS: [Row; 15] = [
+    Row {
+        command: "segments",
+        options: &[],
+        stream: MESSAGES,
+        lines: LINES,
+    },
+    Row {
+        command: "segments",
+        options: &["--packed"],
+        stream: MESSAGES_PACKED,
+        lines: LINES_PACKED,
+    },
+    Row {
+        command: "vet",
+        options: &[],
+        stream: MESSAGES,
+        lines: LINES,
+    },
+    Row {
+        command: "vet",
+        options: &["--packed"],
+        stream: MESSAGES_PACKED,
+        lines: LINES_PACKED,
+    },
+    Row {
+        command: "dump",
+        options: &[],
+        stream: MESSAGES,
+        lines: LINES,
+    },
+    Row {
+        command: "dump",
+        options: &["--packed"],
+        stream: MESSAGES_PACKED,
+        lines: LINES_PACKED,
+    },
+    Row {
+        command: "get",
+        options: &["/"],
+        stream: MESSAGES,
+        lines: LINES,
+    },
+    Row {
+        command: "get",
+        options: &["/", "--packed"],
+        stream: MESSAGES_PACKED,
+        lines: LINES_PACKED,
+    },
+    Row {
+        command: "check",
+        options: &[],
+        stream: MESSAGES,
+        lines: LINES,
+    },
+    Row {
+        command: "check",
+        options: &["--packed"],
+        stream: MESSAGES_PACKED,
+        lines: LINES_PACKED,
+    },
+    Row {
+        command: "canon",
+        options: &[],
+        stream: MESSAGES,
+        lines: LINES,
+    },
+    Row {
+        command: "canon",
+        options: &[],
+        stream: COPIED,
+        lines: LINES_COPIED,
+    },
+    Row {
+        command: "canon",
+        options: &["--packed"],
+        stream: COPIED_PACKED,
+        lines: LINES_COPIED_PACKED,
+    },
+    Row {
+        command: "pack",
+        options: &[],
+        stream: WORDS,
+        lines: NO_MESSAGE,
+    },
+    Row {
+        command: "unpack",
+        options: &[],
+        stream: GROUPS,
+        lines: NO_MESSAGE,
+    },
+];
+
+// Reads that fail: the device isn't called again, the output is what the bytes given before tell, and
+// the line and the status are those of the fault.
+fn expect_read_faults<R: AllocGlobal + Abort>(
+    rt: &R,
+    row: &Row,
+    job: &Job,
+    bytes: &[u8],
+    most: usize,
+    kind: ErrorKind,
+    reads: u32,
+) -> Result<(), Fail> {
+    for at in 1..=reads {
+        let reading = Fault {
+            at,
+            kind: Some(kind),
+        };
+        let ran = run_in_pieces(rt.alloc(), job, bytes, most, reading, HONEST);
+        let name = row.command;
+        assert_eq!(rt; ran.reads, at, "{name} calls again, {most} bytes a call");
+        let before = run_over(rt.alloc(), job, &bytes[..ran.given.min(bytes.len())]);
+        assert_eq!(rt;
+            ran.taken.as_slice(),
+            before.out.bytes(),
+            "{name} to read {at}"
+        );
+        assert_eq!(rt;
+            ran.err.bytes(),
+            line_of(row, ran.given).as_bytes(),
+            "{name} to read {at}"
+        );
+        assert_eq!(rt; ran.status, 3, "{name} to read {at}");
+    }
+    Ok(())
+}
+
+// The line of a read that fails behind so many bytes.
+fn line_of(row: &Row, given: usize) -> &'static str {
+    let mut line = "";
+    for (from, text) in row.lines {
+        if *from <= given {
+            line = *text;
+        }
+    }
+    line
+}
+
+// Writes and flushes that fail: the device isn't called again, and what it took is a beginning of the
+// text, no shorter than where an earlier call failed.
+fn expect_write_faults<R: AllocGlobal + Abort>(
+    rt: &R,
+    row: &Row,
+    job: &Job,
+    bytes: &[u8],
+    most: usize,
+    kind: Option<ErrorKind>,
+    honest: &Ran,
+) -> Result<(), Fail> {
+    let mut least = 0;
+    for at in 1..=honest.writes {
+        let writing = Fault { at, kind };
+        let ran = run_in_pieces(rt.alloc(), job, bytes, most, HONEST, writing);
+        let name = row.command;
+        assert_eq!(rt; ran.writes, at, "{name} calls again, {most} bytes a call");
+        assert!(rt;
+            honest.taken.starts_with(ran.taken.as_slice()),
+            "{name} to write {at}"
+        );
+        assert!(rt; ran.taken.len() >= least, "{name} to write {at}");
+        least = ran.taken.len();
+        assert_eq!(rt;
+            ran.err.bytes(),
+            b"capvet: output failed\n".as_slice(),
+            "{name} to write {at}"
+        );
+        assert_eq!(rt; ran.status, 3, "{name} to write {at}");
+    }
+    Ok(())
+}
+
+// A row over devices that never fail, and then over each that fails.
+fn expect_row<R: AllocGlobal + Abort>(rt: &R, row: &Row, most: usize) -> Result<(), Fail> {
+    let bytes = hex::decode(rt.alloc(), row.stream)?;
+    let job = job(rt.alloc(), row.command, row.options)?;
+    let whole = run_over(rt.alloc(), &job, bytes.as_slice());
+    let ran = run_in_pieces(rt.alloc(), &job, bytes.as_slice(), most, HONEST, HONEST);
+    assert!(rt; !ran.taken.is_empty(), "{}", row.command);
+    assert_eq!(rt; ran.taken.as_slice(), whole.out.bytes(), "{}", row.command);
+    assert_eq!(rt; ran.err.bytes(), whole.err.bytes(), "{}", row.command);
+    assert_eq!(rt; ran.status, whole.status, "{}", row.command);
+    for kind in READ_FAULTS {
+        expect_read_faults(rt, row, &job, bytes.as_slice(), most, kind, ran.reads)?;
+    }
+    for kind in WRITE_FAULTS {
+        expect_write_faults(rt, row, &job, bytes.as_slice(), most, kind, &ran)?;
+    }
+    Ok(())
+}
+
+#[test]
+fn each_call_of_a_device_fails_in_turn(rt: HostRuntime) -> Result<(), Fail> {
+    for row in &ROWS {
+        for most in PIECES {
+            expect_row(&rt, row, most)?;
+        }
+    }
+    Ok(())
+}
+
+// Two pointers to one struct, and the line of `vet`.
+const SHARED: &str =
+    "00000000040000000000000000000200040000000100000000000000010000000700000000000000";
+
+const SHARED_VET: &[u8] = b"message 0: accepted charge 4 depth 2 pointers 3 caps 0\n";
+
+// What vetting these bytes answers a byte a call, and what was written.
+fn vet_by_bytes(
+    alloc: Global,
+    bytes: &[u8],
+    reading: Fault,
+    writing: Fault,
+) -> Result<(Result<Outcome, RunFault>, Vec<u8>), Fail> {
+    let settings = settings(u32::MAX).ok_or("settings")?;
+    let mut source = PlainWords::new(FromRead::new(Reader {
+        rest: bytes,
+        most: 1,
+        fault: reading,
+        calls: 0,
+    }));
+    let mut out = FromWrite::new(Writer {
+        taken: Vec::new(alloc),
+        most: 1,
+        fault: writing,
+        calls: 0,
+    });
+    let answer = run_vet(alloc, &mut source, &mut out, &settings);
+    Ok((answer, out.into_inner().taken))
+}
+
+// A fault of a run behind so many messages.
+fn fault_at(message: u32, cause: Cause) -> Result<Outcome, RunFault> {
+    Err(RunFault { message, cause })
+}
+
+#[test]
+fn a_line_of_55_bytes_breaks_off_at_each(rt: HostRuntime) -> Result<(), Fail> {
+    let alloc = rt.alloc();
+    let bytes = hex::decode(alloc, SHARED)?;
+    let (answer, taken) = vet_by_bytes(alloc, bytes.as_slice(), HONEST, HONEST)?;
+    let accepted = Ok(Outcome {
+        messages: 1,
+        refused: 0,
+        noncanonical: 0,
+    });
+    assert!(rt; answer == accepted);
+    assert_eq!(rt; taken.as_slice(), SHARED_VET);
+    for done in 0..55u32 {
+        for kind in WRITE_FAULTS {
+            let writing = Fault { at: done + 1, kind };
+            let (answer, taken) = vet_by_bytes(alloc, bytes.as_slice(), HONEST, writing)?;
+            assert!(rt; answer == fault_at(0, Cause::Output(OutFault::Device)));
+            assert_eq!(rt; taken.len(), done as usize);
+            assert!(rt; SHARED_VET.starts_with(taken.as_slice()));
+        }
+    }
+    Ok(())
+}
+
+#[test]
+fn a_message_of_40_bytes_breaks_off_at_each(rt: HostRuntime) -> Result<(), Fail> {
+    let alloc = rt.alloc();
+    let bytes = hex::decode(alloc, SHARED)?;
+    let failed = Cause::Frame(FrameFault::Device);
+    for done in 0..41u32 {
+        for kind in READ_FAULTS {
+            let reading = Fault {
+                at: done + 1,
+                kind: Some(kind),
+            };
+            let (answer, taken) = vet_by_bytes(alloc, bytes.as_slice(), reading, HONEST)?;
+            // the last read is the one that looks behind the message
+            let (message, text) = if done < 40 {
+                (0, &b""[..])
+            } else {
+                (1, SHARED_VET)
+            };
+            assert!(rt; answer == fault_at(message, failed), "behind {done} bytes");
+            assert_eq!(rt; taken.as_slice(), text, "behind {done} bytes");
+        }
+    }
+    Ok(())
+}

@@ -1,0 +1,219 @@
+//! Sources and sinks by themselves, over devices each of whose calls fails in turn.
+
+use crate::pieces::{Fault, PIECES, READ_FAULTS, Reader, WRITE_FAULTS, Writer};
+use cap_pack::{Packer, Unpacker};
+use cap_words::{
+    BufferedIn, ByteIn, ByteOut, FromRead, FromWrite, InFault, OutFault, PlainSink, PlainWords,
+    SinkFault, SliceIn, SourceFault, WordSink, WordSource,
+};
+use std::alloc::Global;
+use std::io::ErrorKind;
+use std::process::Abort;
+use std::test::Fail;
+
+// Words of each kind of group, and their packed spelling.
+const WORDS: &str =
+    "0800000003000200616161616161616161626364656667000000000000000000000000000000000019000000aa010000";
+
+const GROUPS: &str = "51080302ff616161616161616101616263646566670000013119aa01";
+
+const FIRST: u64 = 0x0002_0003_0000_0008;
+
+// More calls than any of these runs makes.
+const MANY: u32 = 100;
+
+// The words that a source gives before it ends, or answers a fault.
+fn words_of<S: WordSource>(
+    alloc: Global,
+    source: &mut S,
+) -> Result<(Vec<u64>, Option<SourceFault>), Fail> {
+    let mut words = Vec::new(alloc);
+    for _ in 0..MANY {
+        match source.next() {
+            Ok(Some(word)) => words.push(word)?,
+            Ok(None) => return Ok((words, None)),
+            Err(fault) => return Ok((words, Some(fault))),
+        }
+    }
+    Err(Fail::from("no end"))
+}
+
+// The words that a source gave before its device failed, and how many bytes it had read; it has ended
+// for good. `None` where no device failed.
+fn words_before_fault<R: AllocGlobal + Abort, S: WordSource>(
+    rt: &R,
+    source: &mut S,
+) -> Result<Option<(Vec<u64>, u64)>, Fail> {
+    let (words, fault) = words_of(rt.alloc(), source)?;
+    if fault.is_none() {
+        return Ok(None);
+    }
+    assert_eq!(rt; fault, Some(SourceFault::Device));
+    let position = source.position();
+    assert_eq!(rt; source.next(), Err(SourceFault::Spent));
+    assert_eq!(rt; source.fill(&mut [0; 8]), Err(SourceFault::Spent));
+    assert_eq!(rt; source.next(), Err(SourceFault::Spent));
+    assert_eq!(rt; source.position(), position);
+    Ok(Some((words, position)))
+}
+
+// The words of the first bytes.
+fn words_of_front(
+    alloc: Global,
+    packed: bool,
+    bytes: &[u8],
+    position: u64,
+) -> Result<Vec<u64>, Fail> {
+    let front = SliceIn::new(&bytes[..bytes.len().min(position as usize)]);
+    let (words, _) = if packed {
+        words_of(alloc, &mut Unpacker::new(front))?
+    } else {
+        words_of(alloc, &mut PlainWords::new(front))?
+    };
+    Ok(words)
+}
+
+// A source over an input whose device fails gives the words of the bytes before, and answers how many
+// these are. `None` where no device failed.
+fn read_to_fault<R: AllocGlobal + Abort, I: ByteIn + Drop>(
+    rt: &R,
+    input: I,
+    packed: bool,
+    bytes: &[u8],
+) -> Result<Option<u64>, Fail> {
+    let (end, input) = if packed {
+        let mut source = Unpacker::new(input);
+        (words_before_fault(rt, &mut source)?, source.into_inner())
+    } else {
+        let mut source = PlainWords::new(input);
+        (words_before_fault(rt, &mut source)?, source.into_inner())
+    };
+    let Some((words, position)) = end else {
+        return Ok(None);
+    };
+    let mut input = input;
+    assert_eq!(rt; input.read(&mut [0]), Err(InFault::Spent));
+    let before = words_of_front(rt.alloc(), packed, bytes, position)?;
+    assert_eq!(rt; words.as_slice(), before.as_slice(), "to byte {position}");
+    Ok(Some(position))
+}
+
+// Each read of these bytes fails in turn, until a run meets no fault.
+fn expect_reads<R: AllocGlobal + Abort>(
+    rt: &R,
+    packed: bool,
+    buffered: bool,
+    bytes: &[u8],
+    most: usize,
+    kind: ErrorKind,
+) -> Result<(), Fail> {
+    for at in 1..MANY {
+        let mut reader = Reader {
+            rest: bytes,
+            most,
+            fault: Fault {
+                at,
+                kind: Some(kind),
+            },
+            calls: 0,
+        };
+        let end = if buffered {
+            let input = BufferedIn::new(rt.alloc(), &mut reader)?;
+            read_to_fault(rt, input, packed, bytes)?
+        } else {
+            read_to_fault(rt, FromRead::new(&mut reader), packed, bytes)?
+        };
+        let Some(position) = end else {
+            assert!(rt; reader.rest.is_empty(), "a fault where no device failed");
+            return Ok(());
+        };
+        assert_eq!(rt; reader.calls, at, "{most} bytes a call");
+        let given = bytes.len().saturating_sub(reader.rest.len());
+        assert_eq!(rt; position, given as u64, "{most} bytes a call");
+    }
+    Err(Fail::from("no end"))
+}
+
+#[test]
+fn a_source_gives_the_words_before_each_fault(rt: HostRuntime) -> Result<(), Fail> {
+    let plain = hex::decode(rt.alloc(), WORDS)?;
+    let groups = hex::decode(rt.alloc(), GROUPS)?;
+    for most in PIECES {
+        for kind in READ_FAULTS {
+            for buffered in [false, true] {
+                expect_reads(&rt, false, buffered, plain.as_slice(), most, kind)?;
+                expect_reads(&rt, true, buffered, groups.as_slice(), most, kind)?;
+            }
+        }
+    }
+    Ok(())
+}
+
+// One word, then the others at once, and then the end.
+fn put_all<K: WordSink>(sink: &mut K, rest: &[u8]) -> Result<(), SinkFault> {
+    sink.put(FIRST)?;
+    sink.put_bytes(rest)?;
+    sink.finish()
+}
+
+// Puts the words to a sink whose device may fail. It takes nothing more then, nor where it is finished.
+fn put_to_fault<K: WordSink>(rt: &impl Abort, sink: &mut K, rest: &[u8]) -> Result<(), SinkFault> {
+    let answer = put_all(sink, rest);
+    assert_eq!(rt; sink.put(FIRST), Err(SinkFault::Spent));
+    assert_eq!(rt; sink.put_bytes(rest), Err(SinkFault::Spent));
+    assert_eq!(rt; sink.finish(), Err(SinkFault::Spent));
+    answer
+}
+
+// Each write of these words fails in turn, until a run meets no fault.
+fn expect_writes<R: AllocGlobal + Abort>(
+    rt: &R,
+    packed: bool,
+    rest: &[u8],
+    text: &[u8],
+    most: usize,
+    kind: Option<ErrorKind>,
+) -> Result<(), Fail> {
+    for at in 1..MANY {
+        let output = FromWrite::new(Writer {
+            taken: Vec::new(rt.alloc()),
+            most,
+            fault: Fault { at, kind },
+            calls: 0,
+        });
+        let (answer, output) = if packed {
+            let mut sink = Packer::new(output);
+            (put_to_fault(rt, &mut sink, rest), sink.into_inner())
+        } else {
+            let mut sink = PlainSink::new(output);
+            (put_to_fault(rt, &mut sink, rest), sink.into_inner())
+        };
+        let mut output = output;
+        if answer.is_ok() {
+            let writer = output.into_inner();
+            assert!(rt; writer.calls < at, "a failure that wasn't told");
+            assert_eq!(rt; writer.taken.as_slice(), text);
+            return Ok(());
+        }
+        assert_eq!(rt; answer, Err(SinkFault::Device));
+        assert_eq!(rt; output.write(&[0]), Err(OutFault::Spent));
+        let writer = output.into_inner();
+        assert_eq!(rt; writer.calls, at, "{most} bytes a call");
+        assert!(rt; text.starts_with(writer.taken.as_slice()), "to write {at}");
+    }
+    Err(Fail::from("no end"))
+}
+
+#[test]
+fn a_sink_leaves_a_beginning_before_each_fault(rt: HostRuntime) -> Result<(), Fail> {
+    let plain = hex::decode(rt.alloc(), WORDS)?;
+    let groups = hex::decode(rt.alloc(), GROUPS)?;
+    let rest = &plain.as_slice()[plain.len().min(8)..];
+    for most in PIECES {
+        for kind in WRITE_FAULTS {
+            expect_writes(&rt, false, rest, plain.as_slice(), most, kind)?;
+            expect_writes(&rt, true, rest, groups.as_slice(), most, kind)?;
+        }
+    }
+    Ok(())
+}
