@@ -12,6 +12,8 @@ mod dumps;
 #[cfg(test)]
 mod engines;
 #[cfg(test)]
+mod fronts;
+#[cfg(test)]
 mod levels;
 #[cfg(test)]
 mod paths;
