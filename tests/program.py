@@ -9,8 +9,10 @@ numbers of the samples counted by another program. Those of a wrong command line
 """
 import fcntl
 import os
+import resource
 import select
 import shlex
+import signal
 import struct
 import subprocess
 import sys
@@ -348,6 +350,122 @@ with open("/dev/full", "wb") as full:
         case("vet", stdout=stdout)
         for words in ("help", "help vet", "--version"):
             case(words, err=FAILED, status=3, stdout=stdout)
+
+# ------------------------------------------------------------------ faults at each byte, and want of memory
+# A message of two pointers to one struct, its packed spelling, and what each command writes of it.
+SHARED = framed("0000000000000200", "0400000001000000", "0000000001000000", "0700000000000000")
+SHARED_PACKED = word("1004400211040110010107")
+SHARED_VET = "message 0: accepted charge 4 depth 2 pointers 3 caps 0\n"
+SHARED_TEXTS = {
+    "segments": segments_text(SHARED),
+    "vet": SHARED_VET,
+    "dump": dump_text(SHARED, SHARED_VET),
+    "get /p1": get_text(SHARED, "/p1"),
+    "check": "message 0: not canonical\n",
+    "canon": framed("0000000000000200", "0400000001000000", "0400000001000000", "0700000000000000", "0700000000000000"),
+}
+
+
+def cut_inputs():
+    """Each front of a message, plain and packed, through each command that reads messages, and behind a whole one."""
+    for command, text in SHARED_TEXTS.items():
+        for option, stream in ("", SHARED), (" --packed", SHARED_PACKED):
+            for size in range(1, len(stream)):
+                cut = f"capvet: message 0: Truncated at byte {size}\n"
+                case(command + option, err=cut, status=1, stdin=stream[:size])
+            case(command + option, text, status=1 if command == "check" else 0, stdin=stream)
+    for size in range(1, len(SHARED)):
+        cut = f"capvet: message 1: Truncated at byte {len(SHARED) + size}\n"
+        case("vet", SHARED_VET, cut, 1, SHARED + SHARED[:size])
+
+
+def limit_files(size):
+    """For a process that is about to start: its files take so many bytes, and a write past that fails."""
+    signal.signal(signal.SIGXFSZ, signal.SIG_IGN)
+    resource.setrlimit(resource.RLIMIT_FSIZE, (size, size))
+
+
+def short_outputs():
+    """An output that takes so many bytes and no more, for each number of them up to the whole text."""
+    runs = [(command, SHARED, encoded(text)) for command, text in SHARED_TEXTS.items()]
+    runs += [("pack", SHARED, SHARED_PACKED), ("unpack", SHARED_PACKED, SHARED)]
+    for command, stream, text in runs:
+        for size in range(len(text)):
+            with tempfile.TemporaryFile() as out:
+                _, err, status = run([PROGRAM, *command.split()], input=stream, stdout=out,
+                                     preexec_fn=lambda: limit_files(size))
+                out.seek(0)
+                compare(f"capvet {command}, to a file that takes {size} bytes", (text[:size], FAILED.encode(), 3),
+                        (out.read(), err, status))
+
+
+def closing_pipe(command, text):
+    """A pipe whose reader takes so many bytes of a message's text and closes it, for each number of them, while the
+    input stays open: the text of the next message fails."""
+    piped = {"stdin": subprocess.PIPE, "stdout": subprocess.PIPE, "stderr": subprocess.PIPE}
+    for size in range(len(text) + 1):
+        with subprocess.Popen([PROGRAM, *command.split()], cwd=TOP, **piped) as ran:
+            ran.stdin.write(SHARED)
+            ran.stdin.flush()
+            taken = b""
+            while len(taken) < size and (part := os.read(ran.stdout.fileno(), size - len(taken))):
+                taken += part
+            ran.stdout.close()
+            _, err = ran.communicate(SHARED, 60)
+            compare(f"capvet {command}, to a pipe that is closed behind {size} bytes",
+                    (text[:size].encode(), FAILED.encode(), 3), (taken, err, ran.returncode))
+
+
+def limit_memory(kibibytes):
+    """For a process that is about to start: so much address space, as by `ulimit -v`."""
+    resource.setrlimit(resource.RLIMIT_AS, (kibibytes << 10, kibibytes << 10))
+
+
+def wants_memory(command, stream, *wanted):
+    """What comes of a run with more and more memory, from too little to start with until it ends with status 0."""
+    seen = []
+    for kibibytes in range(1 << 10, 64 << 10, 16):
+        got = run([PROGRAM, *command.split()], input=stream, stdout=subprocess.PIPE,
+                  preexec_fn=lambda: limit_memory(kibibytes))
+        # (the loader has no room for the program itself)
+        started = got[2] in (0, 1, 2, 3)
+        if started and got not in seen[-1:]:
+            seen.append(got)
+        if got[2] == 0:
+            break
+    compare(f"capvet {command}, with more and more memory", [(encoded(out), encoded(err), status) for out, err, status in wanted],
+            seen)
+
+
+def wants():
+    """A small message, and one of 1 MiB behind it, which has no room at first, and in `canon` a copy as large."""
+    words = 1 << 17
+    large = struct.pack("<IIII", 0, 1 + words, 1, 8 * words << 3 | 2) + bytes(8 * words)
+    nothing = ("", "capvet: out of memory\n", 3)
+    accepted = f"message 1: accepted charge {words} depth 1 pointers 1 caps 0\n"
+    firsts = {"vet": NULL_ACCEPTED, "dump": NULL_DUMP, "get /": NULL_FOUND, "check": "message 0: canonical\n", "canon": NULL}
+    seconds = {
+        "vet": accepted,
+        "dump": accepted + f"root list 2 {8 * words}\n" + "".join(f"  w{i} {'0' * 16}\n" for i in range(words)),
+        "get /": f"message 1: found\nnode list 2 {8 * words}\n" + "".join(f"  w{i} {'0' * 16}\n" for i in range(words)),
+        "check": "message 1: canonical\n",
+        "canon": large,
+    }
+    for command, first in firsts.items():
+        second = (first, "capvet: message 1: Memory\n", 3)
+        wants_memory(command, NULL + large, nothing, second, (encoded(first) + encoded(seconds[command]), "", 0))
+    # These hold nothing of a message.
+    wants_memory("segments", NULL + large, nothing, (segments_text(NULL + large), "", 0))
+    zeros = word("00ff") * (words // 256)
+    wants_memory("unpack", zeros, nothing, (bytes(8 * words), "", 0))
+    wants_memory("pack", bytes(8 * words), nothing, (zeros, "", 0))
+
+
+cut_inputs()
+short_outputs()
+for command in ("segments", "vet", "dump", "get /p1", "check"):
+    closing_pipe(command, SHARED_TEXTS[command])
+wants()
 
 # ------------------------------------------------------------------ command lines
 case([b"vet", b"\xff"], err="capvet: an argument is not UTF-8\n", status=2, stdin=NULL)
