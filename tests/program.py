@@ -373,7 +373,8 @@ def cut_inputs():
             for size in range(1, len(stream)):
                 cut = f"capvet: message 0: Truncated at byte {size}\n"
                 case(command + option, err=cut, status=1, stdin=stream[:size])
-            case(command + option, text, status=1 if command == "check" else 0, stdin=stream)
+            status = 1 if "refused" in str(text) or "not canonical" in str(text) else 0
+            case(command + option, text, status=status, stdin=stream)
     for size in range(1, len(SHARED)):
         cut = f"capvet: message 1: Truncated at byte {len(SHARED) + size}\n"
         case("vet", SHARED_VET, cut, 1, SHARED + SHARED[:size])
@@ -463,8 +464,10 @@ def wants():
 
 cut_inputs()
 short_outputs()
-for command in ("segments", "vet", "dump", "get /p1", "check"):
-    closing_pipe(command, SHARED_TEXTS[command])
+for command in SHARED_TEXTS:
+    # (`canon` writes to its output at the end alone)
+    if command != "canon":
+        closing_pipe(command, SHARED_TEXTS[command])
 wants()
 
 # ------------------------------------------------------------------ command lines
