@@ -1,5 +1,5 @@
 # What capvet does on a sample, every proof and test, and how fast it is.
-.PHONY: try run build sample test bench
+.PHONY: try run build sample test growths bench
 
 PROGRAM = crates/capvet/out/capvet
 
@@ -29,6 +29,10 @@ sample:
 test:
 	rt ci
 	python3 tests/program.py $(PROGRAM)
+
+# Refuses each growth in turn of the calls that take memory.
+growths:
+	python3 tests/growths.py
 
 # Times the built program beside plain copying of the same bytes, and beside Cap'n Proto's own C++ library and
 # Rust crate where they are installed.

@@ -1,0 +1,55 @@
+#!/usr/bin/env python3
+"""Has each growth refused in turn that a test of crates/cap_growths makes, and reads how the test ended.
+
+A run over all tests, which `rt try` builds anew and proves nothing of, makes the allocation of one number fail in
+each test's own process. A test ends well where it made fewer of them. Else it has to end with the error `refused`:
+the call that it tests has answered its want of memory, and what it left is as promised. The numbers go up from 1
+until each test ends well. How a test ended in a run is a case. Failures are printed as they come. The last line is
+'N passed, M failed', and the status is 1 where a case failed.
+"""
+import re
+import subprocess
+import sys
+from pathlib import Path
+
+CRATE = Path(__file__).resolve().parent.parent / "crates/cap_growths"
+# The tests of calls that take no memory: nothing is ever refused in them.
+WITHOUT_GROWTHS = {"reading::a_table_that_tells_of_too_many_words"}
+# More growths than any test makes.
+MOST = 20
+
+
+def ends(number):
+    """How each test ended where the allocation of this number failed: 'ok', 'refused', or the lines of its failure."""
+    command = ["rt", "try", "--test", "--fail-alloc", str(number)]
+    ran = subprocess.run(command, cwd=CRATE, stdin=subprocess.DEVNULL, stdout=subprocess.PIPE, stderr=subprocess.STDOUT)
+    text = ran.stdout.decode()
+    found = {}
+    for name, end, lines in re.findall(r"^test (\S+) \.\.\. (\w+)\n((?:    .*\n)*)", text, re.M):
+        found[name] = "ok" if end == "ok" else "refused" if '    error: "refused"\n' in lines else lines or end
+    counted = re.search(r"^tests: (\d+)$", text, re.M)
+    if not counted or int(counted[1]) != len(found) or not found:
+        sys.exit(f"{text}{' '.join(command)}: not every test ended\n0 passed, 1 failed")
+    return found
+
+
+passed = failed = 0
+for number in range(1, MOST + 1):
+    found = ends(number)
+    for name, end in found.items():
+        wanted = {"ok"} if name in WITHOUT_GROWTHS else {"refused"} if number == 1 else {"ok", "refused"}
+        if end in wanted:
+            passed += 1
+        else:
+            failed += 1
+            print(f"FAILED: {name}, allocation {number}: wanted {' or '.join(sorted(wanted))}, got {end}")
+    count = sum(end == "refused" for end in found.values())
+    print(f"allocation {number}: refused in {count} of {len(found)} tests", flush=True)
+    if all(end == "ok" for end in found.values()):
+        break
+else:
+    failed += 1
+    print(f"FAILED: a test still fails with allocation {MOST}")
+
+print(f"{passed} passed, {failed} failed")
+sys.exit(failed > 0)
