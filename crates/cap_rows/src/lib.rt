@@ -12,6 +12,8 @@ mod dumps;
 #[cfg(test)]
 mod engines;
 #[cfg(test)]
+mod exclusives;
+#[cfg(test)]
 mod fronts;
 #[cfg(test)]
 mod levels;
