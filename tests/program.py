@@ -547,12 +547,17 @@ Options:
       --size <N>   Most words of a message, all its segments together, 0 to 268435456 [default: 8388608]
       --words <N>  Traversal limit in words, 0 to 268435456; a target reached twice counts twice [default: 8388608]
       --depth <N>  Deepest level of an object, 0 to 256; the root's object has level 1 [default: 64]
+      --exclusive  No word may be used by two pointers
   -h, --help       Print help
 
 An accepted message is told with its charge in words, which bounds what a traversal reads; with
 the deepest level of an object, where a list's structs stand one below the list; and with how many
 pointers, null ones too, and capabilities it has. A refused one is told with the reason, and the
 SEGMENT:WORD of the first pointer at fault.
+
+With --exclusive a message is also refused, as Overlap, where a pointer leads to a word that is in
+use already: the root word, or a word that it or an earlier pointer leads to. Then a traversal reads
+no more words than the message has.
 
 Example:
   $ capvet vet --depth 3 examples/contacts.bin
