@@ -12,3 +12,7 @@ pub mod Starts
 pub mod Putting
 pub mod Cuts
 pub mod Parts
+pub mod Halves
+pub mod Fronts
+pub mod FrontAnswers
+pub mod BehindTable

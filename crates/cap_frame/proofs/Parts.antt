@@ -50,7 +50,7 @@ drop_words (suc k) (a ∷ b ∷ c ∷ d ∷ e ∷ f ∷ []) = short_back k (a �
 drop_words (suc k) (a ∷ b ∷ c ∷ d ∷ e ∷ f ∷ g ∷ []) = short_back k (a ∷ b ∷ c ∷ d ∷ e ∷ f ∷ g ∷ []) (omega arith)
 
 -- numbers that fit are bytes
-small_bytes : (bs : List ℕ) → ((i : ℕ) → Fits w8 (get_or bs i 0)) → AllByRecursion (λ b. b < 256) bs
+pub small_bytes : (bs : List ℕ) → ((i : ℕ) → Fits w8 (get_or bs i 0)) → AllByRecursion (λ b. b < 256) bs
 small_bytes [] fits = tt
 small_bytes (b ∷ bs) fits = ((fits 0).fits, small_bytes bs (λ i. fits (suc i)))
 

@@ -9,3 +9,5 @@ pub mod Numbers
 pub mod Bytes
 pub mod HeldBytes
 pub mod ByteRoom
+pub mod Fronts
+pub mod Framed

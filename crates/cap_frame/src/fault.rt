@@ -24,6 +24,18 @@ pub enum FrameFault {
     Spent,
 }
 
+/// Why bytes begin with no message.
+#[derive(Clone, Copy, Debug, PartialEq, Eq, Drop)]
+pub enum FrontFault {
+    /// The first word tells so many segments, more than 512.
+    TooManySegments { count: u64 },
+    /// The table's sizes sum to so many words, more than the limit.
+    TooLarge { words: u64 },
+    /// The bytes end inside the message. For more to be told there must be so many of them: 8, then
+    /// those of the table, then those of the whole frame.
+    Truncated { wanted: u64 },
+}
+
 /// What a fault of the source is to the reading of a message.
 pub(crate) fn frame_fault(fault: SourceFault) -> FrameFault
     ensures { result ≡ frame_fault_of fault }

@@ -4,7 +4,7 @@ ghost use Rattle.cap_frame.specs.Bytes.{cut, starts_of};
 ghost use Rattle.cap_spec.specs.Messages.{IsMessage, segment_of};
 ghost use Rattle.cap_spec.specs.Plain.{plain_text, plain_words};
 ghost use Rattle.std.proofs.Props.{props};
-ghost use Rattle.std.specs.Prelude.{◌*◌, ◌+◌, ◌<◌, ◌^◌, ◌≡◌, ◌≤◌, drop, length, slice_range, sum, take};
+ghost use Rattle.std.specs.Prelude.{◌%◌, ◌*◌, ◌+◌, ◌<◌, ◌^◌, ◌≡◌, ◌≤◌, ◌↔◌, [], ◌∷◌, IfSome, IsSome, drop, length, slice_range, sum, take};
 
 use crate::segments::Segments;
 use byteorder::{ByteOrder, LittleEndian};
@@ -46,6 +46,20 @@ impl<'b> ByteView<'b> {
         }
     }
 
+    /// A message of one segment, whose words these bytes spell, without a table. Its size is put into
+    /// this room. `None` where the bytes aren't whole words, or are more than 268435456 of them.
+    #[inline]
+    pub fn of_words(bytes: &'b [u8], size: &'b mut [u32; 1]) -> Option<ByteView<'b>>
+        ensures some { IsSome result ↔ (length bytes.now % 8 ≡ 0) × (length bytes.now ≤ 8 * 268435456) }
+        ensures segments { IfSome result (λ v. ⟦<ByteView<'b> as Segments>⟧.segments v ≡ plain_words bytes.now ∷ []) }
+    {
+        if bytes.len() % 8 != 0 || bytes.len() > 8 * 268_435_456 {
+            return None;
+        }
+        *size = [(bytes.len() / 8) as u32];
+        Some(ByteView::over(bytes, &[0], size))
+    }
+
     /// The bytes of so many words of segment `s` from word `start` on, as they stand (encoding:
     /// 64-bit Words).
     #[inline]
@@ -59,9 +73,9 @@ impl<'b> ByteView<'b> {
     }
 }
 
-// The bytes of so many words from word `at` on.
+/// The bytes of so many words from word `at` on.
 #[inline(always)]
-fn words_at<'b>(bytes: &'b [u8], at: usize, words: usize) -> &'b [u8]
+pub(crate) fn words_at<'b>(bytes: &'b [u8], at: usize, words: usize) -> &'b [u8]
     requires { 8 * (at + words) ≤ length bytes.now }
     ensures part { result.now ≡ take (8 * words) (drop (8 * at) bytes.now) }
     ensures text { result.now ≡ plain_text (plain_words result.now) }

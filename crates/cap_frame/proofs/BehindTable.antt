@@ -1,0 +1,47 @@
+-- What is kept of a framed message in front of bytes, and its segments.
+use Rattle.std.proofs.Common.{◌≡◌, ◌∙◌, ℕ, ◌+◌, ◌*◌, ◌≤◌, List, [], ◌∷◌, length, drop, take, sum, flat_map, sym, ap, arith, zero-add}
+use Rattle.std.proofs.lemmas.List.{length-drop, length-take-le}
+use Rattle.cap_spec.specs.Frames.{halves, joined, sizes_of}
+use Rattle.cap_spec.specs.Plain.{plain_words}
+use Rattle.cap_spec.proofs.Framing.{length_halves}
+use Rattle.cap_frame.specs.Bytes.{cut}
+use Rattle.cap_frame.specs.Fronts.{sizes_told, table_words}
+use Rattle.cap_frame.proofs.Cuts.{cut_length, words_all}
+use Rattle.cap_frame.proofs.InOneBuffer.{held_joined, held_sizes}
+
+-- a table tells as many sizes as there are segments
+pub many_told : (bs : List ℕ) (count : ℕ) → 8 * table_words count ≤ length bs → length (sizes_told count (plain_words bs)) ≡ count
+many_told bs count inside =
+    let numbers = flat_map halves (plain_words bs) in
+    length-take-le count (drop 1 numbers) (omega (arith, length-drop 1 numbers, length_halves (plain_words bs), words_all bs, inside))
+
+module _ (bs : List ℕ) (count words : ℕ) (total : words ≡ sum (sizes_told count (plain_words bs))) (inside : 8 * (table_words count + words) ≤ length bs) where
+  -- the words of the segments are there
+  pub enough : 8 * sum (sizes_told count (plain_words bs)) ≤ length (drop (8 * table_words count) bs)
+  enough = omega (arith, length-drop (8 * table_words count) bs, total, inside)
+
+  -- there are so many segments
+  pub segments_are : count ≡ length (cut (sizes_told count (plain_words bs)) (drop (8 * table_words count) bs))
+  segments_are = sym (cut_length (sizes_told count (plain_words bs)) (drop (8 * table_words count) bs) ∙ many_told bs count (omega (arith, inside)))
+
+  -- of so many words
+  pub words_are : words ≡ sum (sizes_of (cut (sizes_told count (plain_words bs)) (drop (8 * table_words count) bs)))
+  words_are = total ∙ ap sum (sym (held_sizes (sizes_told count (plain_words bs)) (drop (8 * table_words count) bs) enough))
+
+  -- whose bytes stand behind the table
+  pub contents_are : plain_words (take (8 * words) (drop (8 * table_words count) bs)) ≡ joined (cut (sizes_told count (plain_words bs)) (drop (8 * table_words count) bs))
+  contents_are =
+      ap (λ n. plain_words (take (8 * n) (drop (8 * table_words count) bs))) total
+      ∙ sym (held_joined (sizes_told count (plain_words bs)) (drop (8 * table_words count) bs) enough)
+
+-- a list of one number is its sum
+pub one_size : (ns : List ℕ) → length ns ≡ 1 → ns ≡ sum ns ∷ []
+one_size [] e = absurd (omega (arith, e))
+one_size (n ∷ []) e = ap (λ k. k ∷ []) (sym (zero-add n))
+one_size (n ∷ m ∷ ns) e = absurd (omega (arith, e))
+
+-- the size of one segment is how many words there are
+pub one_told : (bs : List ℕ) (count words : ℕ) → words ≡ sum (sizes_told count (plain_words bs)) → 8 * (table_words count + words) ≤ length bs → count ≡ 1
+    → sizes_told count (plain_words bs) ≡ words ∷ []
+one_told bs count words total inside one =
+    one_size (sizes_told count (plain_words bs)) (many_told bs count (omega (arith, inside)) ∙ one) ∙ ap (λ n. n ∷ []) (sym total)

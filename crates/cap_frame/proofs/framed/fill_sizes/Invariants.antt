@@ -1,0 +1,8 @@
+use Rattle.std.proofs.Common.{◌≡◌, length}
+use Rattle.cap_spec.specs.Plain.{plain_words}
+use Rattle.cap_frame.specs.Fronts.{sizes_told}
+use Rattle.cap_frame.proofs.framed.fill_sizes.Given as goal
+
+-- the sizes so far
+abbrev pub invariant-sizes : goal.invariant-sizes
+invariant-sizes l = record { told : l.sizes.items ≡ sizes_told l.s (plain_words l.bytes); many : length l.sizes.items ≡ l.s }

@@ -1,0 +1,30 @@
+-- What contracts see of a framed message in front of borrowed bytes (profile).
+use Rattle.std.specs.Prelude.{ℕ, ◌+◌, ◌*◌, ◌≡◌, ◌<◌, ◌≤◌, List, [], drop, length, Option, Some, None, Result, Ok, Err}
+use Rattle.cap_spec.specs.Frames.{IsPartial}
+use Rattle.cap_spec.specs.Plain.{plain_words, plain_is_cut}
+use Rattle.cap_frame.specs.Bytes.{cut}
+use Rattle.cap_frame.specs.Fronts.{IsFront, TellsMany, TellsLarge, Wants, sizes_told, table_words}
+use Rattle.cap_frame.specs.declared.framed.Framed.{Framed}
+use Rattle.cap_frame.specs.declared.fault.FrontFault.{FrontFault}
+use Rattle.cap_frame.specs.declared.fault.FrontFault.TheVariants.{TooManySegments, TooLarge, Truncated}
+
+-- the size of each segment
+abbrev pub framed_sizes : Framed → List ℕ
+framed_sizes f = sizes_told f.count (plain_words f.bytes.now)
+
+-- the words of each segment
+abbrev pub framed_segments : Framed → List (List ℕ)
+framed_segments f = cut (framed_sizes f) (drop (8 * table_words f.count) f.bytes.now)
+
+-- how many bytes the frame has
+abbrev pub frame_bytes : Framed → ℕ
+frame_bytes f = 8 * (table_words f.count + f.words)
+
+-- what each answer tells of the bytes
+abbrev pub TellsFront : ℕ → List ℕ → Result (Option Framed) FrontFault → Type 0
+TellsFront limit bytes (Ok None) = bytes ≡ []
+TellsFront limit bytes (Ok (Some f)) = IsFront limit bytes (framed_segments f) (frame_bytes f)
+TellsFront limit bytes (Err (TooManySegments count)) = TellsMany bytes count
+TellsFront limit bytes (Err (TooLarge words)) = TellsLarge limit bytes words
+TellsFront limit bytes (Err (Truncated wanted)) = IsPartial limit (plain_words bytes) (plain_is_cut bytes) × Wants (plain_words bytes) wanted
+    × (length bytes < wanted) × (wanted ≤ 8 * limit + 2056)

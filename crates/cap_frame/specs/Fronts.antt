@@ -1,0 +1,50 @@
+-- A framed message in front of bytes (standard: Serialization Over a Stream; the limit is the profile's).
+use Rattle.std.specs.Prelude.{ℕ, ◌+◌, ◌*◌, ◌/◌, ◌%◌, ◌^◌, ◌<◌, ◌≡◌, ◌≤◌, List, [], ◌∷◌, ◌++◌, length, sum, drop, take}
+use Rattle.std.specs.List.{flat_map}
+use Rattle.cap_spec.specs.Frames.{halves, Frames, IsTable, sizes_of}
+use Rattle.cap_spec.specs.Plain.{plain_words}
+
+-- The first n bytes are a frame of this message, which is within the limit.
+pub record IsFront (limit : ℕ) (bytes : List ℕ) (m : List (List ℕ)) (n : ℕ) : Type 0 where
+  pub own : List ℕ
+  pub rest : List ℕ
+  pub words : plain_words bytes ≡ own ++ rest
+  pub frames : Frames own m
+  pub within : sum (sizes_of m) ≤ limit
+  pub long : n ≡ 8 * length own
+
+-- The first word tells of so many segments, more than 512.
+pub record TellsMany (bytes : List ℕ) (count : ℕ) : Type 0 where
+  pub first : ℕ
+  pub rest : List ℕ
+  pub words : plain_words bytes ≡ first ∷ rest
+  pub count_is : count ≡ first % 2 ^ 32 + 1
+  pub many : 512 < count
+
+-- The bytes begin with a table of at most 512 segments, whose sizes are so many words together, more than the limit.
+pub record TellsLarge (limit : ℕ) (bytes : List ℕ) (total : ℕ) : Type 0 where
+  pub table : List ℕ
+  pub rest : List ℕ
+  pub sizes : List ℕ
+  pub words : plain_words bytes ≡ table ++ rest
+  pub is_table : IsTable table sizes
+  pub total_is : total ≡ sum sizes
+  pub past : limit < total
+
+-- how many words the table of so many segments has
+abbrev pub table_words : ℕ → ℕ
+table_words count = count / 2 + 1
+
+-- Of words that end inside a frame: how many bytes there must be for them to tell more.
+pub data Wants (words : List ℕ) (n : ℕ) : Type 0 where
+  -- those of the first word
+  a_word : words ≡ [] → n ≡ 8 → Wants words n
+  -- those of the table
+  a_table : (first : ℕ) (rest : List ℕ) → words ≡ first ∷ rest → length rest < (first % 2 ^ 32 + 1) / 2
+      → n ≡ 8 * table_words (first % 2 ^ 32 + 1) → Wants words n
+  -- those of the whole frame
+  a_frame : (table sizes rest : List ℕ) → words ≡ table ++ rest → IsTable table sizes → n ≡ 8 * (length table + sum sizes) → Wants words n
+
+-- the sizes of so many segments, as the table in front of words tells them
+abbrev pub sizes_told : ℕ → List ℕ → List ℕ
+sizes_told count words = take count (drop 1 (flat_map halves words))

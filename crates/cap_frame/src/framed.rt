@@ -1,0 +1,112 @@
+//! A framed message in front of borrowed bytes.
+
+ghost use Rattle.cap_frame.specs.Bytes.{starts_of};
+ghost use Rattle.cap_frame.specs.Fronts.{sizes_told, table_words};
+ghost use Rattle.cap_spec.specs.Frames.{joined, sizes_of};
+ghost use Rattle.cap_spec.specs.Plain.{plain_text, plain_words};
+ghost use Rattle.std.specs.Prelude.{◌*◌, ◌+◌, ◌≡◌, ◌≤◌, ◌↔◌, IfSome, IsSome, length, sum};
+
+use crate::byte_contents::fill_starts;
+use crate::segment_tables::SegmentTables;
+use crate::segments::Segments;
+use crate::table::Sizes;
+use crate::view::{ByteView, words_at};
+use byteorder::{ByteOrder, LittleEndian};
+
+/// The framed message in front of borrowed bytes: its table is read, and its words stay where they are.
+#[derive(Clone, Copy, Drop)]
+pub struct Framed<'b> {
+    // of the frame; more may stand behind it
+    pub(crate) bytes: &'b [u8],
+    // how many segments there are
+    pub(crate) count: u32,
+    // how many words they have together
+    pub(crate) words: u64,
+    ghost some: { 1 ≤ count },
+    ghost few: { count ≤ 512 },
+    ghost total: { words ≡ sum (sizes_told count (plain_words bytes.now)) },
+    ghost small: { words ≤ 268435456 },
+    ghost inside: { 8 * (table_words count + words) ≤ length bytes.now },
+}
+
+impl<'b> Framed<'b> {
+    ghost use Rattle.cap_frame.specs.Framed.{frame_bytes, framed_segments};
+
+    /// How many segments the message has, 1 to 512.
+    #[inline]
+    pub fn count(&self) -> u32
+        ensures { result ≡ length (framed_segments self.now) }
+    {
+        self.count
+    }
+
+    /// How many words the segments have together, at most 268435456.
+    #[inline]
+    pub fn words(&self) -> u64
+        ensures total { result ≡ sum (sizes_of (framed_segments self.now)) }
+        ensures most { result ≤ 268435456 }
+    {
+        self.words
+    }
+
+    /// How many bytes the frame has: those of its table and of its words.
+    #[inline]
+    pub fn length(&self) -> usize
+        ensures { result ≡ frame_bytes self.now }
+    {
+        8 * (self.count as usize / 2 + 1 + self.words as usize)
+    }
+
+    /// The bytes of the segments' words, one segment behind the other, as they stand (encoding: 64-bit
+    /// Words).
+    #[inline]
+    pub fn contents(&self) -> &'b [u8]
+        ensures { result.now ≡ plain_text (joined (framed_segments self.now)) }
+    {
+        words_at(self.bytes, self.count as usize / 2 + 1, self.words as usize)
+    }
+
+    // Puts the tables of the message into this room, in the place of what it held.
+    fn fill(&self, tables: &mut SegmentTables)
+        ensures sizes { tables.new.sizes.items ≡ sizes_told self.now.count (plain_words self.now.bytes.now) }
+        ensures starts { tables.new.starts.items ≡ starts_of 0 (sizes_told self.now.count (plain_words self.now.bytes.now)) }
+    {
+        fill_sizes(self.bytes, self.count, &mut tables.sizes);
+        fill_starts(&tables.sizes, &mut tables.starts);
+    }
+
+    /// The message as its segments, whose tables are put into this room.
+    #[inline]
+    pub fn view(&self, tables: &'b mut SegmentTables) -> ByteView<'b>
+        ensures { ⟦<ByteView<'b> as Segments>⟧.segments result ≡ framed_segments self.now }
+    {
+        self.fill(tables);
+        let behind = &self.bytes[8 * (self.count as usize / 2 + 1)..];
+        ByteView::over(behind, &tables.starts, &tables.sizes)
+    }
+
+    /// The message as its one segment, whose size is put into this room, or `None` where it has more.
+    #[inline]
+    pub fn one_segment(&self, size: &'b mut [u32; 1]) -> Option<ByteView<'b>>
+        ensures one { IsSome result ↔ (length (framed_segments self.now) ≡ 1) }
+        ensures segments { IfSome result (λ v. ⟦<ByteView<'b> as Segments>⟧.segments v ≡ framed_segments self.now) }
+    {
+        if self.count != 1 {
+            return None;
+        }
+        *size = [self.words as u32];
+        Some(ByteView::over(&self.bytes[8..], &[0], size))
+    }
+}
+
+// The sizes that the table in front of bytes tells of so many segments.
+fn fill_sizes(bytes: &[u8], count: u32, sizes: &mut Sizes)
+    requires few { count ≤ 512 }
+    requires inside { 8 * table_words count ≤ length bytes.now }
+    ensures { sizes.new.items ≡ sizes_told count (plain_words bytes.now) }
+{
+    sizes.clear();
+    'sizes: for s in 0..count as usize {
+        sizes.push(LittleEndian::read_u32(&bytes[4 + 4 * s..]));
+    }
+}

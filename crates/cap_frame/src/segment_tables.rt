@@ -1,0 +1,21 @@
+//! Room for the tables of a message that is borrowed.
+
+use crate::byte_contents::Starts;
+use crate::table::Sizes;
+
+/// Room for how many words each segment of a message has, and where it starts: 4 KiB, and no memory.
+#[derive(Drop)]
+pub struct SegmentTables {
+    pub(crate) sizes: Sizes,
+    pub(crate) starts: Starts,
+}
+
+impl SegmentTables {
+    /// Room that holds no tables yet.
+    pub fn new() -> SegmentTables {
+        SegmentTables {
+            sizes: Sizes::new(),
+            starts: Starts::new(),
+        }
+    }
+}
