@@ -12,6 +12,7 @@ use std::process::Abort;
 use std::test::Fail;
 
 mod buffers;
+mod fronts;
 mod views;
 
 // The plain bytes of words.

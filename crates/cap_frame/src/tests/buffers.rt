@@ -1,5 +1,6 @@
 //! Messages that are read into one buffer, beside the same in a vector for each segment.
 
+use super::fronts::expect_same_front;
 use super::views::is_same;
 use super::{pair, plain};
 use crate::{
@@ -51,6 +52,8 @@ pub(super) fn expect_same_answers(
         if !goes_on {
             break;
         }
+        let rest = bytes.get(apart.position() as usize..).unwrap_or(&[]);
+        expect_same_front(rt, alloc, rest, limit)?;
         let wanted = read_message(alloc, &mut apart, limit);
         let given = read_byte_message(alloc, &mut fresh, limit);
         let answer = read_into(alloc, &mut again, limit, held);
