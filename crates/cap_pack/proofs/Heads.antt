@@ -1,6 +1,7 @@
 -- The head of a group by its bytes alone, whatever comes behind them.
-use Rattle.std.proofs.Common.{◌≡◌, ◌≢◌, subst, ℕ, zero, suc, ◌+◌, ◌*◌, ◌/◌, ◌%◌, ◌<◌, ◌≤◌, ◌^◌, eqb, cond, Bool, true, false, List, [], ◌∷◌, ◌++◌, length, take, length-take, refl, sym, ap, ◌∙◌, arith, get_or, ⊎_elim}
+use Rattle.std.proofs.Common.{◌≡◌, ◌≢◌, subst, ℕ, zero, suc, ◌+◌, ◌*◌, ◌/◌, ◌%◌, ◌<◌, ◌≤◌, ◌^◌, eqb, cond, Bool, true, false, List, [], ◌∷◌, ◌++◌, length, take, drop, length-take, refl, sym, ap, ◌∙◌, arith, get_or, ⊎_elim}
 use Rattle.std.proofs.lemmas.Bool.{eqb-true, eqb-false, eq-eqb, ne_eqb, cond-true, cond-false, cases_lt}
+use Rattle.std.proofs.lemmas.List.{take-append-drop}
 use Rattle.std.proofs.Math.Nat.{pow-succ'}
 use lib.Count.{ones, ones_step}
 use Rattle.std.proofs.Math.ListN.{get_or-append}
@@ -35,6 +36,23 @@ spread-append (suc n) tag (b ∷ bs) ys e =
     let one : tag % 2 ≡ 1 = omega arith in
     let rest : length bs ≡ marks n (tag / 2) = omega arith in
     ap (λ x. b + 256 * x) (spread-append n (tag / 2) bs ys rest))
+
+-- a tag has no bits for more bytes than these
+pub spread_front : (n tag : ℕ) (bs ys : List ℕ) → n ≤ length bs → spread n tag (bs ++ ys) ≡ spread n tag bs
+spread_front zero tag bs ys l = refl
+spread_front (suc n) tag [] ys l = absurd (omega arith)
+spread_front (suc n) tag (b ∷ bs) ys l =
+    let less : n ≤ length (b ∷ bs) = omega arith in
+    let rest : n ≤ length bs = omega arith in
+    both_same (eqb (tag % 2) 0) _ _ _ _
+    (λ t. ap (λ x. 256 * x) (spread_front n (tag / 2) (b ∷ bs) ys less))
+    (λ t. ap (λ x. b + 256 * x) (spread_front n (tag / 2) bs ys rest))
+
+-- the first eight bytes are enough for a word
+pub spread_eight : (tag : ℕ) (bytes : List ℕ) → 8 ≤ length bytes → spread 8 tag (take 8 bytes) ≡ spread 8 tag bytes
+spread_eight tag bytes l =
+    let many : 8 ≤ length (take 8 bytes) = omega (arith, length-take 8 bytes) in
+    sym (ap (spread 8 tag) (sym (take-append-drop 8 bytes)) ∙ spread_front 8 tag (take 8 bytes) (drop 8 bytes) many)
 
 -- a tag that isn't zero marks a byte
 pub marks_some : (n tag : ℕ) → 0 < tag → tag < 2 ^ n → 0 < marks n tag

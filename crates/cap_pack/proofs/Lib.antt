@@ -1,3 +1,4 @@
+pub mod AtHand
 pub mod Written
 pub mod Joining
 pub mod Heads

@@ -1,3 +1,4 @@
+pub mod AtHand
 pub mod Course
 pub mod CourseWords
 pub mod Holding

@@ -2,11 +2,10 @@
 //! what comes after that one (encoding: Packing).
 
 ghost use Rattle.cap_pack.specs.Course.{first_word, head_rest, plain_of, zeros_of};
-ghost use Rattle.cap_spec.specs.Unpacking.{spread};
 ghost use Rattle.std.specs.Prelude.{◌<◌, ◌≡◌, ◌≤◌};
 
+use super::lanes::scatter;
 use byteorder::{ByteOrder, LittleEndian};
-use cap_words::word_of;
 
 /// What the head of a group tells.
 #[derive(Clone, Copy)]
@@ -20,6 +19,7 @@ pub(crate) struct Head {
 }
 
 /// How many bytes of a head follow the tag.
+#[inline(always)]
 pub(crate) fn head_len(tag: u8) -> usize
     ensures rest { result ≡ head_rest tag }
     ensures some { 0 < result }
@@ -33,6 +33,7 @@ pub(crate) fn head_len(tag: u8) -> usize
 }
 
 /// What a head tells, by its tag and the bytes behind the tag. Bytes behind the head change nothing.
+#[inline(always)]
 pub(crate) fn head_of(tag: u8, room: &[u8; 9]) -> Head
     ensures word { result.word ≡ first_word tag room.now }
     ensures zeros { result.zeros ≡ zeros_of tag room.now }
@@ -49,28 +50,14 @@ pub(crate) fn head_of(tag: u8, room: &[u8; 9]) -> Head
             zeros: 0,
             plain: room[8],
         },
-        _ => Head {
-            word: spread_word(tag, room),
-            zeros: 0,
-            plain: 0,
-        },
+        _ => {
+            let mut present = [0; 8];
+            present.copy_from_slice(&room[..8]);
+            Head {
+                word: scatter(tag, &present),
+                zeros: 0,
+                plain: 0,
+            }
+        }
     }
-}
-
-/// The word whose byte `i` is the next of these bytes where bit `i` of the tag is set, and else zero.
-// Each turn reads a byte and then keeps it or not, so that no jump hangs on the bits of the tag.
-fn spread_word(tag: u8, room: &[u8; 9]) -> u64
-    ensures { result ≡ spread 8 tag room.now }
-{
-    let mut bytes = [0; 8];
-    let mut bits = tag;
-    let mut next = 0;
-    for i in 0..8usize {
-        let present = room[next];
-        let byte = if bits % 2 == 1 { present } else { 0 };
-        bytes[i] = byte;
-        next += (bits % 2) as usize;
-        bits /= 2;
-    }
-    word_of(&bytes)
 }

@@ -2,6 +2,7 @@
 //! vector of words or bytes at a time.
 #![tactic(auto)]
 
+mod at_hand;
 mod counted;
 mod group;
 mod head;

@@ -8,6 +8,7 @@ ghost use Rattle.cap_spec.specs.Unpacking.{packed_is_cut, unpacked};
 ghost use Rattle.std.specs.Option.{option_map};
 ghost use Rattle.std.specs.Prelude.{◌<◌, ◌≡◌, ◌||◌, [], OnSome, false, if◌then◌else◌, unwrap_or, ℕ};
 
+use super::at_hand::unpack;
 use super::counted::Counted;
 use cap_words::{ByteIn, SourceFault, WordSource};
 
@@ -24,7 +25,7 @@ pub struct Unpacker<I: ByteIn> {
     // how many words as they are are still to be read
     plain: u8,
     // while zero words are held the input works
-    ghost ready: { 0 < zeros → I.spent bytes.input ≡ false },
+    ghost usable: { 0 < zeros → I.spent bytes.input ≡ false },
 }
 
 // What a source does at its next call.
@@ -130,6 +131,24 @@ impl<I: ByteIn> WordSource for Unpacker<I> {
                 Err(fault)
             }
         }
+    }
+
+    fn ready(&mut self, out: &mut [u8]) -> usize {
+        let _read = self.bytes.read;
+        match self.phase {
+            Phase::Open => {}
+            _ => return 0,
+        }
+        let done = unpack(self.bytes.input.held(), out, self.zeros, self.plain);
+        if done.written == 0 {
+            return 0;
+        }
+        let input = &mut self.bytes.input;
+        input.skip(done.read);
+        self.bytes.read = self.bytes.read.saturating_add(done.read as u64);
+        self.zeros = done.zeros;
+        self.plain = done.plain;
+        done.written
     }
 
     // Zero words of a run that are still to be given are no bytes: they don't keep anyone from being

@@ -1,5 +1,6 @@
-use Rattle.std.proofs.Common.{arith, ◌∙◌}
-use Rattle.cap_pack.proofs.Heads.{first_word-zeros, first_word-plain, first_word-marked, zeros_of-zeros, zeros_of-others, plain_of-plain, plain_of-others}
+use Rattle.std.proofs.Common.{arith, ap, ◌∙◌}
+use Rattle.cap_spec.specs.Unpacking.{spread}
+use Rattle.cap_pack.proofs.Heads.{first_word-zeros, first_word-plain, first_word-marked, zeros_of-zeros, zeros_of-others, plain_of-plain, plain_of-others, spread_eight}
 use Rattle.cap_pack.proofs.head.head_of.Goals as goal
 
 pub returns-in-0-clause-word : goal.returns-in-0-clause-word
@@ -21,7 +22,7 @@ pub returns-in-255-clause-plain : goal.returns-in-255-clause-plain
 returns-in-255-clause-plain c = plain_of-plain c.args.tag c.args.room.now c.in-255.is
 
 pub returns-in_default-clause-word : goal.returns-in_default-clause-word
-returns-in_default-clause-word c = c.spread_word.ensures ∙ first_word-marked c.args.tag c.args.room.now (omega arith) (omega arith)
+returns-in_default-clause-word c = c.scatter.ensures ∙ (ap (spread 8 c.args.tag) c.copy_from_slice.ensures.after ∙ spread_eight c.args.tag c.args.room.now (omega arith)) ∙ first_word-marked c.args.tag c.args.room.now (omega arith) (omega arith)
 
 pub returns-in_default-clause-zeros : goal.returns-in_default-clause-zeros
 returns-in_default-clause-zeros c = zeros_of-others c.args.tag c.args.room.now (omega arith)

@@ -1,0 +1,27 @@
+-- What bytes at hand give of the words of an unpacker (profile).
+use Rattle.std.specs.Prelude.{ℕ, ◌+◌, ◌%◌, ◌<◌, ◌^◌, ◌≡◌, ◌≤◌, List, ◌∷◌, ◌++◌, length, take, drop}
+use Rattle.cap_spec.specs.Plain.{capped, plain_words}
+use Rattle.cap_pack.specs.Course.{Course, words_of, is_cut_of, places_of}
+use Rattle.cap_pack.specs.State.{ahead}
+use Rattle.cap_pack.specs.declared.at_hand.Unpacked.{Unpacked}
+use Rattle.cap_pack.specs.declared.unpacker.Phase.TheVariants.{Open}
+
+-- One course from a place on gives these words, and then it is the other one, from another place on.
+pub record Leads (from to : Course) (place now : ℕ) (own : List ℕ) : Type 0 where
+  pub words : words_of from ≡ own ++ words_of to
+  pub cut : is_cut_of from ≡ is_cut_of to
+  pub places : now ∷ places_of to ≡ drop (length own) (place ∷ places_of from)
+
+-- Whatever comes behind them, these bytes give these words, where so many zero words are held and so many words as they are
+-- to be read before them; the other two numbers are those behind them.
+abbrev pub Gives : ℕ → ℕ → ℕ → ℕ → List ℕ → List ℕ → Type 0
+Gives zeros plain zeros_left plain_left bytes own = (place : ℕ) (rest : List ℕ) → place < 2 ^ 64 →
+    Leads (ahead Open zeros plain place (bytes ++ rest)) (ahead Open zeros_left plain_left (capped (place + length bytes)) rest)
+    place (capped (place + length bytes)) own
+
+-- Of these bytes so many at the front were read, and the words that they give were written at the front of this room.
+pub record Unpacks (zeros plain : ℕ) (bytes room : List ℕ) (done : Unpacked) : Type 0 where
+  pub within : done.read ≤ length bytes
+  pub fits : done.written ≤ length room
+  pub whole : done.written % 8 ≡ 0
+  pub gives : Gives zeros plain done.zeros done.plain (take done.read bytes) (plain_words (take done.written room))

@@ -1,0 +1,153 @@
+//! Unpacking bytes that are at hand, many words at once (encoding: Packing).
+
+ghost use Rattle.cap_pack.specs.AtHand.{Unpacks};
+ghost use Rattle.std.specs.Prelude.{◌*◌, ◌<◌, ◌≡◌, ◌≤◌, length, replicate, take};
+
+use super::head::{head_len, head_of};
+use cap_words::bytes_of;
+
+// The bytes that are to be at hand for a group: its tag, and as many as a head may have behind that.
+const HEAD: usize = 10;
+
+// The bytes of a few words, which are written at once where there is room: a run of no more of them is
+// no call then.
+const FEW: usize = 32;
+
+/// How much of the bytes at hand was unpacked, and what is left of the run behind that.
+#[derive(Clone, Copy)]
+pub(crate) struct Unpacked {
+    /// how many bytes were read
+    pub(crate) read: usize,
+    /// how many bytes were written, eight for each word
+    pub(crate) written: usize,
+    /// how many zero words of the run are still to be given
+    pub(crate) zeros: u8,
+    /// how many words as they are of the run are still to be read
+    pub(crate) plain: u8,
+}
+
+// Writes zero words, so many or as many as there is room for, and tells how many.
+#[inline(always)]
+fn zero_words(count: u8, out: &mut [u8]) -> u8
+    ensures within { result ≤ count }
+    ensures room { 8 * result ≤ length out.new }
+    ensures zeros { take (8 * result) out.new ≡ replicate (8 * result) 0 }
+{
+    let words = (count as usize).min(out.len() / 8);
+    if 8 * words <= FEW && FEW <= out.len() {
+        out[..FEW].copy_from_slice(&[0; FEW]);
+        return words as u8;
+    }
+    out[..8 * words].fill(0);
+    words as u8
+}
+
+// Copies words as they are, so many or as many as there are and as there is room for, and tells how many.
+#[inline(always)]
+fn plain_words(count: u8, from: &[u8], out: &mut [u8]) -> u8
+    ensures within { result ≤ count }
+    ensures held { 8 * result ≤ length from.now }
+    ensures room { 8 * result ≤ length out.new }
+    ensures copied { take (8 * result) out.new ≡ take (8 * result) from.now }
+{
+    let words = (count as usize).min(from.len() / 8).min(out.len() / 8);
+    if 8 * words <= FEW && FEW <= from.len() && FEW <= out.len() {
+        out[..FEW].copy_from_slice(&from[..FEW]);
+        return words as u8;
+    }
+    out[..8 * words].copy_from_slice(&from[..8 * words]);
+    words as u8
+}
+
+// What is left of a run, as far as there are bytes for it and room.
+#[inline(always)]
+fn run(from: &[u8], out: &mut [u8], zeros: u8, plain: u8) -> Unpacked
+    ensures { Unpacks zeros plain from.now out.new result }
+{
+    let given = zero_words(zeros, out);
+    if given < zeros {
+        return Unpacked {
+            read: 0,
+            written: 8 * given as usize,
+            zeros: zeros - given,
+            plain,
+        };
+    }
+    let copied = plain_words(plain, from, &mut out[8 * given as usize..]);
+    Unpacked {
+        read: 8 * copied as usize,
+        written: 8 * (given as usize + copied as usize),
+        zeros: 0,
+        plain: plain - copied,
+    }
+}
+
+// The head of a group, with its first word.
+#[inline(always)]
+fn first(from: &[u8], out: &mut [u8]) -> Unpacked
+    requires held { 10 ≤ length from.now }
+    requires room { 8 ≤ length out.old }
+    ensures unpacks { Unpacks 0 0 from.now out.new result }
+    ensures some { 0 < result.read }
+{
+    let tag = from[0];
+    let mut room = [0; 9];
+    room.copy_from_slice(&from[1..10]);
+    let head = head_of(tag, &room);
+    out[..8].copy_from_slice(&bytes_of(head.word));
+    Unpacked {
+        read: 1 + head_len(tag),
+        written: 8,
+        zeros: head.zeros,
+        plain: head.plain,
+    }
+}
+
+// A group, as far as there are bytes for its run and room.
+#[inline(always)]
+fn group(from: &[u8], out: &mut [u8]) -> Unpacked
+    requires held { 10 ≤ length from.now }
+    requires room { 8 ≤ length out.old }
+    ensures unpacks { Unpacks 0 0 from.now out.new result }
+    ensures some { 0 < result.read }
+{
+    let head = first(from, out);
+    if head.zeros == 0 && head.plain == 0 {
+        return head;
+    }
+    let more = run(
+        &from[head.read..],
+        &mut out[head.written..],
+        head.zeros,
+        head.plain,
+    );
+    Unpacked {
+        read: head.read + more.read,
+        written: head.written + more.written,
+        zeros: more.zeros,
+        plain: more.plain,
+    }
+}
+
+/// Unpacks bytes at hand as far as there is room, behind so many zero words that are still to be given
+/// and so many words as they are that are still to be read. It stops before a group that begins less
+/// than ten bytes before the end of these bytes.
+pub(crate) fn unpack(from: &[u8], out: &mut [u8], zeros: u8, plain: u8) -> Unpacked
+    ensures { Unpacks zeros plain from.now out.new result }
+{
+    let mut done = run(from, out, zeros, plain);
+    while done.zeros == 0
+        && done.plain == 0
+        && from.len() - done.read >= HEAD
+        && out.len() - done.written >= 8
+    {
+        let next = group(&from[done.read..], &mut out[done.written..]);
+        done = Unpacked {
+            read: done.read + next.read,
+            written: done.written + next.written,
+            zeros: next.zeros,
+            plain: next.plain,
+        };
+    }
+    done
+}
