@@ -127,6 +127,3 @@ fn ends_with_values<M: Segments>(message: &M, start: u32, code: u8, count: u32, 
     let last = message.word(0, start + before);
     last == last_word(code, count, words, last)
 }
-
-#[cfg(test)]
-mod tests;

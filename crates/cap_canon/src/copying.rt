@@ -115,6 +115,3 @@ fn lay<M: Segments, T: Target>(message: &M, object: &Object, slot: u32, end: u32
     copy.set(slot, pointer_word(end - slot - 1, object));
     append_own(message, object, copy);
 }
-
-#[cfg(test)]
-mod tests;

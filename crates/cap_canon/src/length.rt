@@ -66,6 +66,3 @@ fn length_within<M: Segments, const N: usize>(message: &M, depth: u32) -> u32
     }
     end
 }
-
-#[cfg(test)]
-mod tests;

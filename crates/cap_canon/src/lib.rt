@@ -19,8 +19,3 @@ pub use copying::canonical;
 pub use fault::CanonFault;
 pub use length::canonical_len;
 pub use spelled::canonical_bytes;
-
-#[cfg(test)]
-mod held;
-#[cfg(test)]
-mod tests;

@@ -10,6 +10,3 @@ pub use cap_spec::Reason;
 pub use following::follow;
 pub use forms::Pointer;
 pub use shapes::{Followed, Shape, Target};
-
-#[cfg(test)]
-mod tests;

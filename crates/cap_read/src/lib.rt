@@ -6,6 +6,3 @@ pub mod reading;
 
 pub use place_bytes::read_bytes;
 pub use reading::{Reading, read};
-
-#[cfg(test)]
-mod tests;

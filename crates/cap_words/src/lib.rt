@@ -11,8 +11,6 @@ pub mod plain_words;
 pub mod sinks;
 pub mod slice_in;
 pub mod sources;
-#[cfg(test)]
-mod tests;
 pub mod transfer;
 pub mod vec_out;
 pub mod word;

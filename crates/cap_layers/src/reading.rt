@@ -1,27 +1,11 @@
 //! A message that is read at a path.
 
-use crate::{read, read_bytes};
-use cap_frame::{
-    ByteMessage, OneSegment, Segments, SizeLimit, WordMessage, read_byte_message, write_message,
-};
+use crate::held::in_one_buffer;
+use cap_frame::{OneSegment, Segments, WordMessage};
+use cap_read::{read, read_bytes};
 use cap_vet::{Kind, Limits, Place, Reason, Step};
-use cap_words::{PlainSink, PlainWords, SliceIn, VecOut};
-use std::alloc::Global;
 use std::process::Abort;
 use std::test::Fail;
-
-// The same message in one buffer.
-fn in_one_buffer<M: Segments>(alloc: Global, message: &M) -> Result<ByteMessage, Fail> {
-    let mut sink = PlainSink::new(VecOut::new(alloc));
-    write_message(&mut sink, message)?;
-    let output = sink.into_inner();
-    let mut source = PlainWords::new(SliceIn::new(output.bytes()));
-    let limit = SizeLimit::new(268435456).ok_or("no limit")?;
-    match read_byte_message(alloc, &mut source, limit)? {
-        Some(held) => Ok(held),
-        None => Err("no message".into()),
-    }
-}
 
 #[test]
 fn a_struct_in_another_segment(rt: HostRuntime) -> Result<(), Fail> {

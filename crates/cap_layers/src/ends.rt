@@ -1,6 +1,6 @@
 //! What no contract can say: that calls succeed, and how often a device is called.
 
-use super::{
+use cap_words::{
     BufferedIn, ByteIn, ByteOut, FromRead, FromWrite, InFault, OutFault, PlainSink, PlainWords,
     SinkFault, SliceIn, SourceFault, VecOut, WordSink, WordSource, bits, bytes_of, fill,
     signed_offset, word_of, write_all,

@@ -1,11 +1,20 @@
-//! Messages held in the other way, for tests.
+//! Words and messages for tests.
 
 use cap_frame::{ByteMessage, Segments, SizeLimit, read_byte_message, write_message};
 use cap_words::{PlainSink, PlainWords, SliceIn, VecOut};
 use std::alloc::Global;
 use std::test::Fail;
 
-// The same message in one buffer.
+/// The words of a stream, each read from its first byte on.
+pub(crate) fn words(alloc: Global, spelled: &[u64]) -> Result<Vec<u64>, Fail> {
+    let mut words = Vec::with_capacity(alloc, spelled.len())?;
+    for word in spelled {
+        words.push(word.swap_bytes())?;
+    }
+    Ok(words)
+}
+
+/// The same message in one buffer.
 pub(crate) fn in_one_buffer<M: Segments>(alloc: Global, message: &M) -> Result<ByteMessage, Fail> {
     let mut sink = PlainSink::new(VecOut::new(alloc));
     write_message(&mut sink, message)?;

@@ -1,20 +1,11 @@
 //! The canonical copies of messages that are known from outside.
 
-use crate::held::in_one_buffer;
-use crate::{CanonFault, canonical};
+use crate::held::{in_one_buffer, words};
+use cap_canon::{CanonFault, canonical};
 use cap_frame::{OneSegment, Segments, WordMessage};
 use cap_vet::{Limits, vet};
 use std::alloc::Global;
 use std::test::Fail;
-
-// The words of a stream, each read from its first byte on.
-fn words(alloc: Global, spelled: &[u64]) -> Result<Vec<u64>, Fail> {
-    let mut words = Vec::with_capacity(alloc, spelled.len())?;
-    for word in spelled {
-        words.push(word.swap_bytes())?;
-    }
-    Ok(words)
-}
 
 // The copy of a message of any kind, which is accepted. The same in one buffer has the same copy.
 fn copy_of<M: Segments>(alloc: Global, message: &M) -> Result<Result<Vec<u64>, CanonFault>, Fail> {

@@ -1,20 +1,10 @@
 //! How long the canonical copies of messages are that are known from outside.
 
-use crate::held::in_one_buffer;
-use crate::{CanonFault, canonical_len};
+use crate::held::{in_one_buffer, words};
+use cap_canon::{CanonFault, canonical_len};
 use cap_frame::{OneSegment, Segments, WordMessage};
 use cap_vet::{Limits, vet};
-use std::alloc::Global;
 use std::test::Fail;
-
-// The words of a stream, each read from its first byte on.
-fn words(alloc: Global, spelled: &[u64]) -> Result<Vec<u64>, Fail> {
-    let mut words = Vec::new(alloc);
-    for word in spelled {
-        words.push(word.swap_bytes())?;
-    }
-    Ok(words)
-}
 
 // The length for a message of any kind, which is accepted.
 fn length_of<M: Segments>(message: &M) -> Result<Result<u64, CanonFault>, Fail> {

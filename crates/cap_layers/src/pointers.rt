@@ -1,41 +1,16 @@
 //! Pointer words that are known from outside, and what they lead to.
 
-use crate::{Followed, Pointer, Reason, Shape, Target, follow};
-use cap_frame::{
-    ByteMessage, OneSegment, Segments, SizeLimit, WordMessage, read_byte_message, write_message,
-};
-use cap_words::{PlainSink, PlainWords, SliceIn, VecOut};
-use std::alloc::Global;
+use crate::held::{in_one_buffer, words};
+use cap_frame::{OneSegment, Segments, WordMessage};
+use cap_ptr::{Followed, Pointer, Reason, Shape, Target, follow};
 use std::process::Abort;
 use std::test::Fail;
-
-// The same message in one buffer.
-fn in_one_buffer<M: Segments>(alloc: Global, message: &M) -> Result<ByteMessage, Fail> {
-    let mut sink = PlainSink::new(VecOut::new(alloc));
-    write_message(&mut sink, message)?;
-    let output = sink.into_inner();
-    let mut source = PlainWords::new(SliceIn::new(output.bytes()));
-    let limit = SizeLimit::new(268435456).ok_or("no limit")?;
-    match read_byte_message(alloc, &mut source, limit)? {
-        Some(held) => Ok(held),
-        None => Err("no message".into()),
-    }
-}
 
 // The answer at the first word of a message.
 fn at_root<M: Segments>(rt: &impl Abort, message: &M) -> Result<Followed, Reason> {
     assert!(rt; message.count() > 0);
     assert!(rt; message.len(0) > 0);
     follow(message, 0, 0)
-}
-
-// The words of a stream, each read from its first byte on.
-fn words(alloc: Global, spelled: &[u64]) -> Result<Vec<u64>, Fail> {
-    let mut words = Vec::new(alloc);
-    for word in spelled {
-        words.push(word.swap_bytes())?;
-    }
-    Ok(words)
 }
 
 // A struct of one data word.

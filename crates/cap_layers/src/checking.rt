@@ -1,20 +1,10 @@
 //! Messages of which it is known from outside whether they are canonical.
 
-use crate::held::in_one_buffer;
-use crate::is_canonical;
+use crate::held::{in_one_buffer, words};
+use cap_canon::is_canonical;
 use cap_frame::{OneSegment, Segments, WordMessage};
 use cap_vet::{Limits, vet};
-use std::alloc::Global;
 use std::test::Fail;
-
-// The words of a stream, each read from its first byte on.
-fn words(alloc: Global, spelled: &[u64]) -> Result<Vec<u64>, Fail> {
-    let mut words = Vec::with_capacity(alloc, spelled.len())?;
-    for word in spelled {
-        words.push(word.swap_bytes())?;
-    }
-    Ok(words)
-}
 
 // Whether a message of any kind, which is accepted, is canonical.
 fn check<M: Segments>(message: &M) -> Result<bool, Fail> {

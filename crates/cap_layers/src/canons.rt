@@ -1,22 +1,13 @@
 //! What the four calls say together of messages whose copies are known from outside.
 
-use crate::held::in_one_buffer;
-use crate::{CanonFault, canonical, canonical_bytes, canonical_len, is_canonical};
+use crate::held::{in_one_buffer, words};
+use cap_canon::{CanonFault, canonical, canonical_bytes, canonical_len, is_canonical};
 use cap_frame::{OneSegment, Segments};
 use cap_vet::{Limits, Vetted, vet};
 use cap_words::bytes_of;
 use std::alloc::Global;
 use std::process::Abort;
 use std::test::Fail;
-
-// The words of a stream, each read from its first byte on.
-fn words(alloc: Global, spelled: &[u64]) -> Result<Vec<u64>, Fail> {
-    let mut words = Vec::with_capacity(alloc, spelled.len())?;
-    for word in spelled {
-        words.push(word.swap_bytes())?;
-    }
-    Ok(words)
-}
 
 fn accepted<M: Segments>(message: &M, words: u64, depth: u32) -> Result<Vetted<'_, M>, Fail> {
     let limits = Limits::new(words, depth).ok_or("no limits")?;
