@@ -1,5 +1,6 @@
 -- The tag of eight bytes of which none is zero.
-use Rattle.std.proofs.Common.{◌≡◌, ℕ, ◌+◌, Bool, true, false, [], ◌∷◌, refl, arith}
+use Rattle.std.proofs.Common.{◌≡◌, ℕ, ◌+◌, ◌<◌, ◌%◌, ◌/◌, ⊎_elim, ap, Bool, true, false, [], ◌∷◌, refl, arith}
+use Rattle.std.proofs.lemmas.Bool.Decides.{eqb_tells}
 use Rattle.std.specs.Prelude.{◌==◌, if◌then◌else◌}
 use Rattle.cap_spec.specs.Plain.{word_bytes}
 use Rattle.cap_spec.specs.Packing.{tag_of, zero_bytes, zeros_in}
@@ -25,3 +26,24 @@ full_word w t = full_from_tag _ _ _ _ _ _ _ _ t
 
 pub word_tag : (w : ℕ) → zero_bytes w ≡ 0 → tag_of (word_bytes w) ≡ 255
 word_tag w z = tag_from_full _ _ _ _ _ _ _ _ z
+
+-- where no bit is set, every byte is zero, and so is the word
+no_bit : (b : ℕ) → ◌≡◌ {A = ℕ} (if b == 0 then 0 else 1) 0 → b ≡ 0
+no_bit b h =
+    ⊎_elim (λ (t, e). e)
+    (λ (t, n).
+    let one : ◌≡◌ {A = ℕ} (if b == 0 then 0 else 1) 1 = ap (λ (v : Bool). if v then 0 else 1) t in
+    absurd (omega (arith, h, one)))
+    (eqb_tells b 0)
+
+pub zero_word : (w : ℕ) → w < 18446744073709551616 → tag_of (word_bytes w) ≡ 0 → w ≡ 0
+zero_word w h t =
+    let a = no_bit (w % 256) (omega (arith, t)) in
+    let b = no_bit (w / 256 % 256) (omega (arith, t)) in
+    let c = no_bit (w / 65536 % 256) (omega (arith, t)) in
+    let d = no_bit (w / 16777216 % 256) (omega (arith, t)) in
+    let e = no_bit (w / 4294967296 % 256) (omega (arith, t)) in
+    let f = no_bit (w / 1099511627776 % 256) (omega (arith, t)) in
+    let g = no_bit (w / 281474976710656 % 256) (omega (arith, t)) in
+    let i = no_bit (w / 72057594037927936 % 256) (omega (arith, t)) in
+    omega (arith, a, b, c, d, e, f, g, i, h)

@@ -1,11 +1,12 @@
--- The words of a piece of bytes, put to a sink one by one.
-use Rattle.std.proofs.Common.{◌≡◌, ◌+◌, ◌-◌, ◌<◌, ◌≤◌, ◌∙◌, ℕ, Bool, Option, Some, None, List, [], ◌∷◌, ◌++◌, length, take, drop, refl, sym, ap, subst, arith, append_assoc, append-nil, drop-drop, length-drop, false}
-use Rattle.std.proofs.lemmas.List.{take_rest}
+-- The words of a list or of bytes, put to a sink a piece after the other.
+use Rattle.std.proofs.Common.{◌≡◌, ◌+◌, ◌-◌, ◌*◌, ◌<◌, ◌≤◌, ◌∙◌, ℕ, suc, Bool, Option, Some, None, List, [], ◌∷◌, ◌++◌, length, take, drop, refl, sym, ap, subst, arith, append_assoc, append-nil, drop-drop, length-drop, take-append-drop, false}
+use Rattle.std.proofs.lemmas.List.{length-take-le, take_rest}
 use Rattle.std.specs.Io.KnownBytes.{Keeps}
 use Rattle.std.proofs.KnownBytes.{Keeps-refl, Keeps-trans}
-use Rattle.byteorder.specs.Endian.{little_number}
+use Rattle.byteorder.specs.Endian.{IsRead, little_number}
 use Rattle.cap_spec.specs.Plain.{plain_words}
 use Rattle.cap_spec.proofs.Plain.{plain_short}
+use Rattle.cap_words.proofs.Filling.{plain_join}
 use Rattle.cap_words.specs.Sinks.{Begins, StoppedPutting, WasPut}
 use Rattle.cap_words.specs.Ends.{Failures}
 
@@ -28,12 +29,27 @@ word_first (a ∷ b ∷ c ∷ d ∷ e ∷ f ∷ []) h = absurd (omega arith)
 word_first (a ∷ b ∷ c ∷ d ∷ e ∷ f ∷ g ∷ []) h = absurd (omega arith)
 word_first (a ∷ b ∷ c ∷ d ∷ e ∷ f ∷ g ∷ x ∷ rest) h = refl
 
-pub word_next : (bytes : List ℕ) (done : ℕ) → 8 ≤ length bytes - done
-    → plain_words (drop done bytes) ≡ little_number 8 (take (length bytes - done) (drop done bytes)) ∷ plain_words (drop (done + 8) bytes)
-word_next bytes done h =
-    word_first (drop done bytes) (omega (arith, length-drop done bytes, h))
-    ∙ ap (λ l. little_number 8 l ∷ plain_words (drop 8 (drop done bytes))) (sym (take_rest bytes done))
-    ∙ ap (λ l. little_number 8 (take (length bytes - done) (drop done bytes)) ∷ plain_words l) (drop-drop 8 done bytes)
+-- the words that stand in bytes, each read from its place
+pub words_read : (words bytes : List ℕ) → length bytes ≡ 8 * length words → IsRead little_number 8 bytes words → words ≡ plain_words bytes
+words_read [] bytes l r = sym (plain_short bytes (omega (arith, l)))
+words_read (w ∷ words) bytes l r =
+    let moved : (k : ℕ) → drop (8 * suc k) bytes ≡ drop (8 * k) (drop 8 bytes) = λ k.
+    let same : 8 + 8 * k ≡ 8 * suc k = omega arith in sym (drop-drop (8 * k) 8 bytes ∙ ap (λ n. drop n bytes) same) in
+    let rest =
+    words_read words (drop 8 bytes) (omega (arith, l, length-drop 8 bytes)) (λ k h. r (suc k) (omega (arith, h)) ∙ ap (little_number 8) (moved k)) in
+    ap (λ (x : ℕ). x ∷ words) (r 0 (omega arith)) ∙ ap (λ ws. little_number 8 bytes ∷ ws) rest ∙ sym (word_first bytes (omega (arith, l)))
+
+-- the words of a piece of whole words, and those behind it
+pub words_next : (bytes words : List ℕ) (done count : ℕ) → done ≤ length bytes → 8 * count ≤ length bytes - done → words ≡ plain_words (take (8 * count) (take (length bytes - done) (drop done bytes)))
+    → plain_words (drop done bytes) ≡ words ++ plain_words (drop (done + 8 * count) bytes)
+words_next bytes words done count w h e =
+    let rest = drop done bytes in
+    let long : length (take (8 * count) rest) ≡ 8 * count = length-take-le (8 * count) rest (omega (arith, h, length-drop done bytes)) in
+    ap plain_words (sym (take-append-drop (8 * count) rest))
+    ∙ plain_join (take (8 * count) rest) (drop (8 * count) rest) (omega (arith, long))
+    ∙ ap (λ l. plain_words (take (8 * count) rest) ++ plain_words l) (drop-drop (8 * count) done bytes)
+    ∙ ap (λ l. plain_words (take (8 * count) l) ++ plain_words (drop (done + 8 * count) bytes)) (sym (take_rest bytes done))
+    ∙ ap (λ (ws : List ℕ). ws ++ plain_words (drop (done + 8 * count) bytes)) (sym e)
 
 -- no word is left of less than eight bytes
 pub no_word : (bytes : List ℕ) (done : ℕ) → length bytes - done < 8 → plain_words (drop done bytes) ≡ []
@@ -54,15 +70,15 @@ module _ {K : Type 0} (text : K → List ℕ → Option (List ℕ)) (taken : K �
   pub put_none : (s : K) (all : List ℕ) → closed s ≡ false → PutSoFar s s all all
   put_none s all o = record { done = []; whole = refl; put = λ ws. Keeps-refl (text s ws); is_open = o; same_spent = refl; none_failed = refl }
 
-  -- the next one was put
-  pub put_more : (old now new : K) (all rest less : List ℕ) (word : ℕ) → rest ≡ word ∷ less → PutSoFar old now all rest → WasPut text now new (word ∷ [])
+  -- the next ones were put
+  pub put_more : (old now new : K) (all rest less xs : List ℕ) → rest ≡ xs ++ less → PutSoFar old now all rest → WasPut text now new xs
       → (closed now ≡ false) × (closed new ≡ false) × (spent new ≡ spent now) × (failures new ≡ failures now) → PutSoFar old new all less
-  put_more old now new all rest less word e s p o = record {
-    done = s.done ++ word ∷ [];
-    whole = s.whole ∙ ap (λ (ws : List ℕ). s.done ++ ws) e ∙ sym (append_assoc s.done (word ∷ []) less);
+  put_more old now new all rest less xs e s p o = record {
+    done = s.done ++ xs;
+    whole = s.whole ∙ ap (λ (ws : List ℕ). s.done ++ ws) e ∙ sym (append_assoc s.done xs less);
     put = λ ws.
-        subst (λ (xs : List ℕ). Keeps (text old xs) (text new ws)) (sym (append_assoc s.done (word ∷ []) ws))
-        (Keeps-trans (text old (s.done ++ (word ∷ ws))) (text now (word ∷ ws)) (text new ws) (s.put (word ∷ ws)) (p ws));
+        subst (λ (ys : List ℕ). Keeps (text old ys) (text new ws)) (sym (append_assoc s.done xs ws))
+        (Keeps-trans (text old (s.done ++ (xs ++ ws))) (text now (xs ++ ws)) (text new ws) (s.put (xs ++ ws)) (p ws));
     is_open = o.1;
     same_spent = o.2 ∙ s.same_spent;
     none_failed = o.3 ∙ s.none_failed;
@@ -72,11 +88,12 @@ module _ {K : Type 0} (text : K → List ℕ → Option (List ℕ)) (taken : K �
   pub put_all : (old now : K) (all rest : List ℕ) → rest ≡ [] → PutSoFar old now all rest → WasPut text old now all
   put_all old now all rest e s = subst (WasPut text old now) (sym (s.whole ∙ ap (λ (ws : List ℕ). s.done ++ ws) e ∙ append-nil s.done)) s.put
 
-  -- the next one was refused
-  pub put_stops : (old now new : K) (all rest less : List ℕ) (word : ℕ) → rest ≡ word ∷ less → PutSoFar old now all rest
-      → ((ws : List ℕ) → Begins (text now (word ∷ ws)) (taken new)) → StoppedPutting text taken old new all
-  put_stops old now new all rest less word e s h = λ ws.
-      let same : s.done ++ (word ∷ (less ++ ws)) ≡ all ++ ws =
-      sym (ap (λ (xs : List ℕ). xs ++ ws) (s.whole ∙ ap (λ (xs : List ℕ). s.done ++ xs) e) ∙ append_assoc s.done (word ∷ less) ws) in
-      subst (λ (xs : List ℕ). Begins (text old xs) (taken new)) same
-      (begins_kept (text old (s.done ++ (word ∷ (less ++ ws)))) (text now (word ∷ (less ++ ws))) (taken new) (s.put (word ∷ (less ++ ws))) (h (less ++ ws)))
+  -- a fault came at the next ones
+  pub put_stops : (old now new : K) (all rest less xs : List ℕ) → rest ≡ xs ++ less → PutSoFar old now all rest
+      → ((ws : List ℕ) → Begins (text now (xs ++ ws)) (taken new)) → StoppedPutting text taken old new all
+  put_stops old now new all rest less xs e s h = λ ws.
+      let same : s.done ++ (xs ++ (less ++ ws)) ≡ all ++ ws =
+      sym (ap (λ (ys : List ℕ). ys ++ ws) (s.whole ∙ ap (λ (ys : List ℕ). s.done ++ ys) e) ∙ append_assoc s.done (xs ++ less) ws
+      ∙ ap (λ (ys : List ℕ). s.done ++ ys) (append_assoc xs less ws)) in
+      subst (λ (ys : List ℕ). Begins (text old ys) (taken new)) same
+      (begins_kept (text old (s.done ++ (xs ++ (less ++ ws)))) (text now (xs ++ (less ++ ws))) (taken new) (s.put (xs ++ (less ++ ws))) (h (less ++ ws)))

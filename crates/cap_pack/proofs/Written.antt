@@ -1,7 +1,7 @@
 -- What stands at the front of a buffer after the writes that spell a group.
 use Rattle.std.proofs.Common.{◌≡◌, ℕ, ◌+◌, ◌<◌, ◌≤◌, List, [], ◌∷◌, ◌++◌, length, get_or, set, take, refl, ap, sym, ◌∙◌, arith, length-set, rules}
 use Rattle.std.proofs.lemmas.Grind.{flat_map-append, take-set_at}
-use Rattle.std.proofs.lemmas.List.{append-nil, append_assoc, places, take_more}
+use Rattle.std.proofs.lemmas.List.{append-nil, append_assoc, length-append, length-take-le, places, take_at, take_more, take-take}
 use Rattle.std.proofs.lemmas.Slice.{take-put_mid}
 use borrow.Rule.Slice.PartMut.{put_mid}
 use Rattle.cap_spec.specs.Plain.{word_bytes, plain_text}
@@ -11,15 +11,50 @@ pub take-first : (xs : List ℕ) (x : ℕ) → 0 < length xs → take 1 (set xs 
 take-first [] x h = absurd (omega (arith, h))
 take-first (y ∷ xs) x h = refl
 
--- after writes of the tag, of the first word and of the count
-pub take-head : (text first : List ℕ) (tag count : ℕ) → 10 ≤ length text → length first ≡ 8 →
-    take 10 (set (put_mid 1 8 (set text 0 tag) first) 9 count) ≡ tag ∷ (first ++ count ∷ [])
-take-head text first tag count h e =
-    let xs = set text 0 tag in
-    let least : 10 ≤ length xs = omega (arith, h, length-set text 0 tag) in
-    let long : 9 < length (put_mid 1 8 xs first) = search (rules, places) in
-    take-set_at (put_mid 1 8 xs first) 9 10 count refl long
-    ∙ ap (λ t. t ++ count ∷ []) (take-put_mid 1 8 xs first 9 (omega (arith, e)) (omega (arith, h, length-set text 0 tag)) ∙ ap (λ t. t ++ first) (take-first text tag (omega (arith, h))))
+-- after one write more behind the front
+pub take-pushed : (xs : List ℕ) (n m x : ℕ) → m ≡ n + 1 → n < length xs → take m (set xs n x) ≡ take n xs ++ x ∷ []
+take-pushed xs n m x e h = take-set_at xs n m x e h
+
+-- after writes of a word as it is and of those behind it
+pub take-plain : (text first head bytes more : List ℕ) (len k m count end : ℕ) → len + 10 ≤ length text → length head ≡ 8 → k ≡ 8 → end ≡ len + 10 + length bytes → head ≡ first → more ≡ bytes →
+    take end (put_mid (len + 10) m (set (put_mid (len + 1) k (set text len 255) head) (len + 9) count) more) ≡ take len text ++ 255 ∷ (first ++ count ∷ bytes)
+take-plain text first head bytes more len k m count end h l e n f b =
+    let tagged = set text len 255 in
+    let headed = put_mid (len + 1) k tagged head in
+    let counted = set headed (len + 9) count in
+    let long : length tagged ≡ length text = length-set text len 255 in
+    let same : length headed ≡ length text = search (rules, places) in
+    let wide : length counted ≡ length text = length-set headed (len + 9) count ∙ same in
+    let ends : end ≡ len + 10 + length more = n ∙ ap (λ l. len + 10 + length l) (sym b) in
+    take-put_mid (len + 10) m counted more end ends (omega arith)
+    ∙ ap (λ t. t ++ more) (take-pushed headed (len + 9) (len + 10) count (omega arith) (omega arith)
+    ∙ ap (λ t. t ++ count ∷ []) (take-put_mid (len + 1) k tagged head (len + 9) (omega (arith, l)) (omega arith)
+    ∙ ap (λ t. t ++ head) (take-pushed text len (len + 1) 255 (omega arith) (omega arith))))
+    ∙ append_assoc ((take len text ++ 255 ∷ []) ++ head) (count ∷ []) more
+    ∙ append_assoc (take len text ++ 255 ∷ []) head (count ∷ more)
+    ∙ append_assoc (take len text) (255 ∷ []) (head ++ count ∷ more)
+    ∙ ap (λ t. take len text ++ 255 ∷ (t ++ count ∷ more)) f
+    ∙ ap (λ t. take len text ++ 255 ∷ (first ++ count ∷ t)) b
+
+-- after writes of a tag and of the bytes that it marks, with some behind them
+pub take-marked : (text marked bytes zeros : List ℕ) (len k tag ones end : ℕ) → ones ≡ length marked → len < length text → bytes ≡ marked ++ zeros → end ≡ len + 1 + ones →
+    take end (put_mid (len + 1) k (set text len tag) bytes) ≡ take len text ++ tag ∷ marked
+take-marked text marked bytes zeros len k tag ones end o h b e =
+    let tagged = set text len tag in
+    let long : length tagged ≡ length text = length-set text len tag in
+    let front = take len text ++ tag ∷ marked in
+    let count = length-append (take len text) (tag ∷ marked) in
+    let many : length front ≡ end = omega (arith, count, length-take-le len text (omega (arith, h)), o, e) in
+    let all : length bytes ≡ length marked + length zeros = ap length b ∙ length-append marked zeros in
+    let written : take (len + 1 + length bytes) (put_mid (len + 1) k tagged bytes) ≡ front ++ zeros =
+    take-put_mid (len + 1) k tagged bytes (len + 1 + length bytes) refl (omega (arith, h, long))
+    ∙ ap (λ t. t ++ bytes) (take-pushed text len (len + 1) tag refl h)
+    ∙ append_assoc (take len text) (tag ∷ []) bytes
+    ∙ ap (λ t. take len text ++ tag ∷ t) b
+    ∙ sym (append_assoc (take len text) (tag ∷ marked) zeros) in
+    sym (take-take end (len + 1 + length bytes) (put_mid (len + 1) k tagged bytes) (omega (arith, all, o, e)))
+    ∙ ap (take end) written
+    ∙ take_at front zeros end many
 
 -- the plain text of one word more
 pub plain_text-more : (ws : List ℕ) (i : ℕ) → i < length ws → plain_text (take (i + 1) ws) ≡ plain_text (take i ws) ++ word_bytes (get_or ws i 0)

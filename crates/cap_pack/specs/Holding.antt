@@ -1,6 +1,6 @@
 -- The open group of a packer: the words that it stands for so far, and the bytes that spell it (profile).
-use Rattle.std.specs.Prelude.{ℕ, List, [], ◌∷◌, ◌++◌, length, take, replicate}
-use Rattle.cap_spec.specs.Packing.{zero_bytes}
+use Rattle.std.specs.Prelude.{ℕ, ◌≡◌, ◌⊎◌, ⊤, List, [], ◌∷◌, ◌++◌, length, take, replicate}
+use Rattle.cap_spec.specs.Packing.{zero_bytes, zero_run, full_run, pack_text}
 use Rattle.cap_spec.specs.Plain.{word_bytes, plain_text}
 use Rattle.cap_pack.specs.declared.group.Group.{Group}
 use Rattle.cap_pack.specs.declared.group.Group.TheVariants.{Empty, Zeros, Plain}
@@ -22,3 +22,12 @@ abbrev pub group_bytes : Group → List ℕ → List ℕ
 group_bytes Empty words = []
 group_bytes (Zeros more) words = 0 ∷ more ∷ []
 group_bytes (Plain first more) words = 255 ∷ (word_bytes first ++ length (take more words) ∷ plain_text (take more words))
+
+-- words that one open group holds: none, zero words, or a word without a zero byte and words with at most one
+abbrev pub IsRun : List ℕ → Type 0
+IsRun [] = ⊤
+IsRun (w ∷ ws) = ((w ≡ 0) × (zero_run ws ≡ length ws)) ⊎ ((zero_bytes w ≡ 0) × (full_run ws ≡ length ws))
+
+-- whatever comes behind these words, this text spells them but for those that are left
+abbrev pub Spells : List ℕ → List ℕ → List ℕ → Type 0
+Spells all text left = (ws : List ℕ) → pack_text (all ++ ws) ≡ text ++ pack_text (left ++ ws)

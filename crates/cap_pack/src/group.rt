@@ -5,9 +5,9 @@ ghost use Rattle.cap_spec.specs.Packing.{tag_of};
 ghost use Rattle.cap_spec.specs.Plain.{word_bytes};
 ghost use Rattle.cap_words.specs.Ends.{DeviceFails, GrowthFails};
 ghost use Rattle.std.specs.Io.KnownBytes.{Appends};
-ghost use Rattle.std.specs.Prelude.{◌==◌, ◌≡◌, ◌∷◌, IsErrOf, OnErr, OnOk, filter, not, take, true, ℕ};
+ghost use Rattle.std.specs.Prelude.{◌==◌, ◌≡◌, ◌≤◌, ◌∷◌, IsErrOf, OnErr, OnOk, filter, not, take, true, ℕ};
 
-use super::spelling::{GROUP_BYTES, spell_marked, spell_plain};
+use super::spelling::{ROOM_BYTES, spell_marked, spell_plain, spell_zeros};
 use cap_words::{ByteOut, OutFault, bytes_of, write_all};
 
 /// The most words that stand behind the first one of a group.
@@ -24,13 +24,30 @@ pub(crate) enum Group {
     Plain { first: u64, more: u8 },
 }
 
+/// Spells the group at the front of the room. Answers how many bytes that takes.
+#[inline(always)]
+pub(crate) fn spell_group(
+    group: Group,
+    words: &[u64; MORE_WORDS],
+    room: &mut [u8; ROOM_BYTES],
+) -> usize
+    ensures within { result ≤ 2050 }
+    ensures spelled { take result room.new ≡ group_bytes group words.now }
+{
+    match group {
+        Group::Empty => 0,
+        Group::Zeros { more } => spell_zeros(room, 0, more),
+        Group::Plain { first, more } => spell_plain(room, 0, first, &words[..more as usize]),
+    }
+}
+
 /// Writes the group, of which `words` holds the words behind the first.
 #[inline(always)]
 pub(crate) fn write_group<O: ByteOut>(
     output: &mut O,
     group: Group,
     words: &[u64; MORE_WORDS],
-    room: &mut [u8; GROUP_BYTES],
+    room: &mut [u8; ROOM_BYTES],
 ) -> Result<(), OutFault>
     ensures ok { OnOk result (Appends (O.written output.old) (O.written output.new) (group_bytes group words.now)) }
     ensures err { OnErr result ((n : ℕ) × Appends (O.written output.old) (O.written output.new) (take n (group_bytes group words.now))) }
@@ -41,14 +58,8 @@ pub(crate) fn write_group<O: ByteOut>(
     ensures memory { IsErrOf result OutFault.Memory → GrowthFails (O.spent output.old) (O.failures output.old) (O.failures output.new) }
     ensures was_spent { IsErrOf result OutFault.Spent → (O.spent output.old ≡ true) × (output.new ≡ output.old) }
 {
-    match group {
-        Group::Empty => Ok(()),
-        Group::Zeros { more } => write_all(output, &[0, more]),
-        Group::Plain { first, more } => {
-            let len = spell_plain(first, &words[..more as usize], room);
-            write_all(output, &room[..len])
-        }
-    }
+    let len = spell_group(group, words, room);
+    write_all(output, &room[..len])
 }
 
 /// Writes a word by its tag and its bytes that aren't zero.

@@ -52,9 +52,9 @@ fn lanes_of_word(word: u64) -> u8x16
     u64x2::from_array([word, 0]).to_le_bytes()
 }
 
-// The tag of one word.
-#[inline]
-fn tag_of_word(word: u64) -> u8
+/// The tag of one word.
+#[inline(always)]
+pub(crate) fn tag_of_word(word: u64) -> u8
     ensures { result ≡ tag_of (word_bytes word) }
 {
     let present = lanes_of_word(word).simd_ne(u8x16::splat(0));
@@ -204,6 +204,15 @@ fn squeeze_lanes(tag: u8, word: u64) -> u8x16
     lanes_of_word(word).swizzle_dyn_within::<16>(places)
 }
 
+/// The bytes of a word that its tag marks, in order, and zeros behind them.
+#[inline(always)]
+pub(crate) fn squeezed(tag: u8, word: u64) -> [u8; 8]
+    requires { tag ≡ tag_of (word_bytes word) }
+    ensures { result ≡ filter (λ b. not (b == 0)) (word_bytes word) ++ replicate (8 - marks 8 tag) 0 }
+{
+    low_bytes(squeeze_lanes(tag, word))
+}
+
 /// The bytes of a word that aren't zero, in order, at the front of `out`, and zeros behind them.
 /// Answers how many they are.
 #[inline]
@@ -212,7 +221,7 @@ pub fn gather(word: u64, out: &mut [u8; 8]) -> usize
     ensures bytes { out.new ≡ filter (λ b. not (b == 0)) (word_bytes word) ++ replicate (8 - result) 0 }
 {
     let tag = tag_of_word(word);
-    *out = low_bytes(squeeze_lanes(tag, word));
+    *out = squeezed(tag, word);
     tag.count_ones() as usize
 }
 

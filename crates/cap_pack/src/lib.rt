@@ -8,6 +8,7 @@ mod group;
 mod head;
 pub mod lanes;
 pub mod packer;
+mod pieces;
 mod spelling;
 pub mod unpacker;
 

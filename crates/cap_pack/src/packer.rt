@@ -1,16 +1,17 @@
 //! A sink of words over packed bytes.
 
-ghost use Rattle.cap_pack.specs.Holding.{first_zeros, group_bytes, held};
+ghost use Rattle.cap_pack.specs.Holding.{IsRun, Spells, first_zeros, group_bytes, held};
 ghost use Rattle.cap_spec.specs.Packing.{group_size, pack_text};
-ghost use Rattle.cap_words.specs.Ends.{DeviceFails, GrowthFails};
-ghost use Rattle.cap_words.specs.Sinks.{Begins, begins_appended};
+ghost use Rattle.cap_words.specs.Ends.{DeviceFails, GrowthFails, WasSpent};
+ghost use Rattle.cap_words.specs.Sinks.{Begins, StoppedPutting, WasPut, begins_appended};
 ghost use Rattle.std.specs.Io.KnownBytes.{Keeps, append_known};
-ghost use Rattle.std.specs.Prelude.{◌++◌, ◌≡◌, ◌||◌, [], ◌∷◌, IsErrOf, List, OnErr, OnOk, false, length, true, ℕ};
+ghost use Rattle.std.specs.Prelude.{◌++◌, ◌<◌, ◌≡◌, ◌≤◌, ◌||◌, [], ◌∷◌, IsErrOf, List, OnErr, OnOk, drop, false, length, take, true, ℕ};
 
-use super::group::{Group, MORE_WORDS, write_group, write_marked};
-use super::spelling::{GROUP_BYTES, count_zeros, is_full};
-use byteorder::{ByteOrder, LittleEndian};
-use cap_words::{ByteOut, OutFault, SinkFault, WordSink};
+use super::group::{Group, MORE_WORDS, spell_group, write_group, write_marked};
+use super::lanes::{full_run, zero_run};
+use super::pieces::{PIECE_WORDS, read_words, spell_groups};
+use super::spelling::{ROOM_BYTES, count_zeros, is_full};
+use cap_words::{ByteOut, OutFault, SinkFault, WordSink, write_all};
 
 /// Writes words in one packed spelling (encoding: Packing). At a zero word that is the longest run
 /// of zero words, at most 256. At a word without a zero byte it is the word as it is, with the
@@ -24,7 +25,7 @@ pub struct Packer<O> {
     // behind the first word of a run of words as they are
     words: [u64; MORE_WORDS],
     // where a group is spelled before it is written
-    room: [u8; GROUP_BYTES],
+    room: [u8; ROOM_BYTES],
     ghost one_group: { group_size (held group words) ≡ length (held group words) },
     ghost full_first: { first_zeros group ≡ 0 },
 }
@@ -51,7 +52,7 @@ impl<O: ByteOut> Packer<O> {
             closed: false,
             group: Group::Empty,
             words: [0; MORE_WORDS],
-            room: [0; GROUP_BYTES],
+            room: [0; ROOM_BYTES],
         }
     }
 
@@ -60,6 +61,121 @@ impl<O: ByteOut> Packer<O> {
         ensures { result ≡ output_of self }
     {
         self.output
+    }
+
+    /// Takes the words, one after the other. After a fault every call answers `Spent`, and what the
+    /// output took is a beginning of the text. A closed sink answers `Spent` also where there is no
+    /// word.
+    pub fn put_all(&mut self, words: &[u64]) -> Result<(), SinkFault>
+        ensures put { OnOk result (WasPut ⟦<Packer<O> as WordSink>⟧.text self.old self.new words.now) }
+        ensures ok { OnOk result ((⟦<Packer<O> as WordSink>⟧.closed self.old ≡ false) × (⟦<Packer<O> as WordSink>⟧.closed self.new ≡ false)
+            × (⟦<Packer<O> as WordSink>⟧.spent self.new ≡ ⟦<Packer<O> as WordSink>⟧.spent self.old)
+            × (⟦<Packer<O> as WordSink>⟧.failures self.new ≡ ⟦<Packer<O> as WordSink>⟧.failures self.old)) }
+        ensures err { OnErr result ((⟦<Packer<O> as WordSink>⟧.closed self.new ≡ true)
+            × StoppedPutting ⟦<Packer<O> as WordSink>⟧.text ⟦<Packer<O> as WordSink>⟧.taken self.old self.new words.now) }
+        ensures stays { ⟦<Packer<O> as WordSink>⟧.closed self.old ≡ true → (result ≡ Err SinkFault.Spent) × (self.new ≡ self.old) }
+        ensures device { IsErrOf result SinkFault.Device → DeviceFails (⟦<Packer<O> as WordSink>⟧.spent self.old)
+            (⟦<Packer<O> as WordSink>⟧.failures self.old) (⟦<Packer<O> as WordSink>⟧.failures self.new) }
+        ensures memory { IsErrOf result SinkFault.Memory → GrowthFails (⟦<Packer<O> as WordSink>⟧.spent self.old)
+            (⟦<Packer<O> as WordSink>⟧.failures self.old) (⟦<Packer<O> as WordSink>⟧.failures self.new) }
+        ensures was_spent { IsErrOf result SinkFault.Spent → WasSpent (⟦<Packer<O> as WordSink>⟧.spent self.old) (⟦<Packer<O> as WordSink>⟧.spent self.new)
+            (⟦<Packer<O> as WordSink>⟧.failures self.old) (⟦<Packer<O> as WordSink>⟧.failures self.new)
+            × Keeps (⟦<Packer<O> as WordSink>⟧.taken self.old) (⟦<Packer<O> as WordSink>⟧.taken self.new) }
+    {
+        if self.closed {
+            return Err(SinkFault::Spent);
+        }
+        let mut done = 0;
+        while done < words.len() {
+            let end = words.len().min(done + PIECE_WORDS);
+            if let Err(fault) = self.put_piece(&words[done..end]) {
+                self.closed = true;
+                return Err(SinkFault::from(fault));
+            }
+            done = end;
+        }
+        Ok(())
+    }
+
+    // Takes as many words in front into the open group as go on with it, and answers how many.
+    fn extend(&mut self, words: &[u64]) -> usize
+        ensures output { (self.new.output ≡ self.old.output) × (self.new.closed ≡ self.old.closed) }
+        ensures within { result ≤ length words.now }
+        ensures joined { held self.new.group self.new.words ≡ held self.old.group self.old.words ++ take result words.now }
+        ensures apart { result < length words.now → Spells (held self.new.group self.new.words ++ drop result words.now)
+            (group_bytes self.new.group self.new.words) (drop result words.now) }
+    {
+        match self.group {
+            Group::Empty => 0,
+            Group::Zeros { more } => {
+                let count = zero_run(words).min(255 - more as usize);
+                self.group = Group::Zeros {
+                    more: more + count as u8,
+                };
+                count
+            }
+            Group::Plain { first, more } => {
+                let count = full_run(words).min(255 - more as usize);
+                let end = more as usize + count;
+                self.words[more as usize..end].copy_from_slice(&words[..count]);
+                self.group = Group::Plain {
+                    first,
+                    more: end as u8,
+                };
+                count
+            }
+        }
+    }
+
+    // Holds these words open, and no others.
+    fn open(&mut self, words: &[u64])
+        requires few { length words.now ≤ 64 }
+        requires run { IsRun words.now }
+        ensures output { (self.new.output ≡ self.old.output) × (self.new.closed ≡ self.old.closed) }
+        ensures held { held self.new.group self.new.words ≡ words.now }
+    {
+        if words.len() == 0 {
+            self.group = Group::Empty;
+            return;
+        }
+        let first = words[0];
+        let more = words.len() - 1;
+        if first == 0 {
+            self.group = Group::Zeros { more: more as u8 };
+            return;
+        }
+        self.words[0..more].copy_from_slice(&words[1..]);
+        self.group = Group::Plain {
+            first,
+            more: more as u8,
+        };
+    }
+
+    // Takes a piece of words. What spells the groups that ended is written at once.
+    fn put_piece(&mut self, words: &[u64]) -> Result<(), OutFault>
+        requires { length words.now ≤ 64 }
+        ensures ok { OnOk result ((ws : List ℕ) → Keeps (append_known (O.written self.old.output) (pack_text (held self.old.group self.old.words
+            ++ (words.now ++ ws)))) (append_known (O.written self.new.output) (pack_text (held self.new.group self.new.words ++ ws)))) }
+        ensures err { OnErr result ((ws : List ℕ) → Begins (append_known (O.written self.old.output) (pack_text (held self.old.group self.old.words
+            ++ (words.now ++ ws)))) (O.written self.new.output)) }
+        ensures works { OnOk result ((O.spent self.new.output ≡ O.spent self.old.output) × (O.failures self.new.output ≡ O.failures self.old.output)) }
+        ensures idle { OnOk result (O.spent self.new.output ≡ true → self.new.output ≡ self.old.output) }
+        ensures device { IsErrOf result OutFault.Device → DeviceFails (O.spent self.old.output) (O.failures self.old.output) (O.failures self.new.output) }
+        ensures memory { IsErrOf result OutFault.Memory → GrowthFails (O.spent self.old.output) (O.failures self.old.output) (O.failures self.new.output) }
+        ensures was_spent { IsErrOf result OutFault.Spent → (O.spent self.old.output ≡ true) × (self.new.output ≡ self.old.output) }
+        ensures closed { self.new.closed ≡ self.old.closed }
+    {
+        let joined = self.extend(words);
+        if joined == words.len() {
+            return Ok(());
+        }
+        let start = spell_group(self.group, &self.words, &mut self.room);
+        let spelled = spell_groups(&words[joined..], &mut self.room, start);
+        if let Err(fault) = write_all(&mut self.output, &self.room[..spelled.bytes]) {
+            return Err(fault);
+        }
+        self.open(&words[joined + spelled.words..]);
+        Ok(())
     }
 
     // Takes the word into the open group, where it goes on with it.
@@ -159,13 +275,14 @@ impl<O: ByteOut> WordSink for Packer<O> {
         if self.closed {
             return Err(SinkFault::Spent);
         }
+        let mut words = [0; PIECE_WORDS];
         let mut done = 0;
         while bytes.len() - done >= 8 {
-            let word = LittleEndian::read_u64(&bytes[done..]);
-            if let Err(fault) = self.put(word) {
+            let count = read_words(&bytes[done..], &mut words);
+            if let Err(fault) = self.put_all(&words[..count]) {
                 return Err(fault);
             }
-            done += 8;
+            done += 8 * count;
         }
         Ok(())
     }

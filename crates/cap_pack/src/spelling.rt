@@ -2,12 +2,14 @@
 
 ghost use Rattle.cap_spec.specs.Packing.{tag_of, zero_bytes};
 ghost use Rattle.cap_spec.specs.Plain.{plain_text, word_bytes};
-ghost use Rattle.std.specs.Prelude.{◌*◌, ◌+◌, ◌++◌, ◌==◌, ◌≡◌, ◌≢◌, ◌≤◌, ◌∷◌, false, filter, if◌then◌else◌, length, not, take, true};
+ghost use Rattle.std.specs.Prelude.{◌*◌, ◌+◌, ◌++◌, ◌==◌, ◌≡◌, ◌≢◌, ◌≤◌, [], ◌∷◌, false, filter, if◌then◌else◌, length, not, take, true};
 
+use byteorder::{ByteOrder, LittleEndian};
 use cap_words::bytes_of;
 
-/// The most bytes that a group has: a tag, a word, a count, and 255 further words.
-pub(crate) const GROUP_BYTES: usize = 2050;
+/// Room for the groups of a piece of words: the longest group, of a tag, a word, a count and 255
+/// further words, and ten bytes for each of 64 words.
+pub(crate) const ROOM_BYTES: usize = 2690;
 
 // 1 where the byte is zero, and 0 where it isn't.
 fn is_zero(byte: u8) -> u8
@@ -77,20 +79,36 @@ pub(crate) fn spell_marked(bytes: &[u8; 8], text: &mut [u8; 9]) -> usize
     len
 }
 
-/// Spells a word as it is, and at most 255 more. Answers how many bytes that takes.
-#[inline(never)]
-pub(crate) fn spell_plain(head: u64, more: &[u64], text: &mut [u8; GROUP_BYTES]) -> usize
-    requires { length more.now ≤ 255 }
-    ensures within { result ≤ 2050 }
-    ensures spelled { take result text.new ≡ 255 ∷ (word_bytes head ++ length more.now ∷ plain_text more.now) }
+/// Spells a run of a zero word and so many more, behind so many bytes. Answers how many bytes there
+/// are then.
+#[inline(always)]
+pub(crate) fn spell_zeros(text: &mut [u8; ROOM_BYTES], len: usize, more: u8) -> usize
+    requires { len + 2 ≤ 2690 }
+    ensures end { result ≡ len + 2 }
+    ensures spelled { take result text.new ≡ take len text.old ++ 0 ∷ more ∷ [] }
 {
-    text[0] = 255;
-    text[1..9].copy_from_slice(&bytes_of(head));
-    text[9] = more.len() as u8;
-    let mut len = 10;
-    for word in more {
-        text[len..len + 8].copy_from_slice(&bytes_of(*word));
-        len += 8;
-    }
-    len
+    text[len] = 0;
+    text[len + 1] = more;
+    len + 2
+}
+
+/// Spells a word as it is, and at most 255 more, behind so many bytes. Answers how many bytes there are
+/// then.
+pub(crate) fn spell_plain(
+    text: &mut [u8; ROOM_BYTES],
+    len: usize,
+    first: u64,
+    more: &[u64],
+) -> usize
+    requires few { length more.now ≤ 255 }
+    requires room { len + 10 + 8 * length more.now ≤ 2690 }
+    ensures end { result ≡ len + 10 + 8 * length more.now }
+    ensures spelled { take result text.new ≡ take len text.old ++ 255 ∷ (word_bytes first ++ length more.now ∷ plain_text more.now) }
+{
+    text[len] = 255;
+    text[len + 1..len + 9].copy_from_slice(&bytes_of(first));
+    text[len + 9] = more.len() as u8;
+    let end = len + 10 + 8 * more.len();
+    LittleEndian::write_u64_into(more, &mut text[len + 10..end]);
+    end
 }

@@ -55,8 +55,27 @@ fn bytes_from(alloc: Global, words: &[u64]) -> Result<Vec<u8>, AllocError> {
     Ok(bytes)
 }
 
+// Packs the words by pieces of so many, and finishes the packer.
+fn pack_pieces<R: AllocGlobal + Abort>(
+    rt: &R,
+    words: &[u64],
+    size: usize,
+    packed: &[u8],
+) -> Result<(), Fail> {
+    let mut sink = Packer::new(VecOut::new(rt.alloc()));
+    for piece in words.chunks(size.max(1)) {
+        sink.put_all(piece)?;
+    }
+    sink.finish()?;
+    assert_eq!(rt; sink.put_all(&[]), Err(SinkFault::Spent));
+    assert_eq!(rt; sink.into_inner().bytes(), packed);
+    Ok(())
+}
+
 // Packs the words, one by one, in pieces and a byte at a time, and unpacks the text again.
 fn check<R: AllocGlobal + Abort>(rt: &R, words: &[u64], packed: &[u8]) -> Result<(), Fail> {
+    pack_pieces(rt, words, words.len(), packed)?;
+    pack_pieces(rt, words, words.len() % 64, packed)?;
     let mut pieces = Packer::new(VecOut::new(rt.alloc()));
     put_pieces(&mut pieces, &bytes_from(rt.alloc(), words)?)?;
     pieces.finish()?;
@@ -181,6 +200,37 @@ fn packs_long_runs(rt: HostRuntime) -> Result<(), Fail> {
     Ok(())
 }
 
+// The text of words that are put one by one.
+fn packed_each<R: AllocGlobal + Abort>(rt: &R, words: &[u64]) -> Result<VecOut, Fail> {
+    let mut sink = Packer::new(VecOut::new(rt.alloc()));
+    put_all(&mut sink, words)?;
+    Ok(sink.into_inner())
+}
+
+// Lists of up to 600 words: with one zero byte each, and of each kind in turn, in runs that end at
+// other places of a piece each time.
+#[test]
+fn packs_other_runs(rt: HostRuntime) -> Result<(), Fail> {
+    let mut sparse = Vec::new(rt.alloc());
+    let mut turns = Vec::new(rt.alloc());
+    for count in 0..=600usize {
+        check(&rt, &sparse, packed_each(&rt, &sparse)?.bytes())?;
+        check(&rt, &turns, packed_each(&rt, &turns)?.bytes())?;
+        sparse.push(0x0001_0101_0101_0101)?;
+        turns.push(match count / 31 % 5 {
+            0 => 0,
+            1 => 0x8a8a_8a8a_8a8a_8a8a,
+            2 => 0x0001_0101_0101_0101,
+            3 if count % 2 == 0 => 0,
+            _ => 0x0007_0000_2a00_0001,
+        })?;
+    }
+    for size in 1..=64 {
+        pack_pieces(&rt, &turns, size, packed_each(&rt, &turns)?.bytes())?;
+    }
+    Ok(())
+}
+
 // Behind a word without a zero byte, words with one: 255 of them go on with it, and no more.
 #[test]
 fn goes_on_with_one_zero_byte(rt: HostRuntime) -> Result<(), Fail> {
@@ -275,6 +325,52 @@ fn failing(alloc: Global, most: usize, fails_at: u32) -> FromWrite<FailingWriter
     })
 }
 
+// Packs the bytes of the words into a writer that fails in one of its calls, as they are put or as the
+// packer is finished. The writer took these bytes.
+fn check_piece_fault<R: AllocGlobal + Abort>(
+    rt: &R,
+    most: usize,
+    fails_at: u32,
+    is_put: bool,
+    taken: &[u8],
+) -> Result<(), Fail> {
+    let mut sink = Packer::new(failing(rt.alloc(), most, fails_at));
+    let fault = Err(SinkFault::Device);
+    assert_eq!(rt;
+        sink.put_bytes(&bytes_from(rt.alloc(), &WORDS)?),
+        if is_put { Ok(()) } else { fault }
+    );
+    assert_eq!(rt;
+        sink.finish(),
+        if is_put { fault } else { Err(SinkFault::Spent) }
+    );
+    assert_eq!(rt; sink.put_all(&[]), Err(SinkFault::Spent));
+    let writer = sink.into_inner().into_inner();
+    assert_eq!(rt; writer.calls, fails_at);
+    assert_eq!(rt; writer.taken.as_slice(), taken);
+    Ok(())
+}
+
+// The groups that end inside a piece are written at once, and the open one as the packer is finished.
+#[test]
+fn an_output_that_fails_inside_a_piece(rt: HostRuntime) -> Result<(), Fail> {
+    let mut text = Vec::new(rt.alloc());
+    for (group, _) in &GROUPS[..4] {
+        text.extend_from_slice(group)?;
+    }
+    for most in [1usize, 3, 9, 64] {
+        let mut taken = Vec::new(rt.alloc());
+        let mut fails_at = 0u32;
+        for part in text.chunks(most.max(1)) {
+            fails_at = fails_at.saturating_add(1);
+            check_piece_fault(&rt, most, fails_at, false, &taken)?;
+            taken.extend_from_slice(part)?;
+        }
+        check_piece_fault(&rt, most, fails_at.saturating_add(1), true, &taken)?;
+    }
+    Ok(())
+}
+
 // Packs the words into a writer that fails in one of its calls, if any. The sink then tells the
 // fault in this call of its own, and has its output called no more. The writer took these bytes.
 fn check_fault<R: AllocGlobal + Abort>(
@@ -284,19 +380,6 @@ fn check_fault<R: AllocGlobal + Abort>(
     call: usize,
     taken: &[u8],
 ) -> Result<(), Fail> {
-    let mut pieces = Packer::new(failing(rt.alloc(), most, fails_at));
-    let fault = Err(SinkFault::Device);
-    let in_piece = if call < WORDS.len() { fault } else { Ok(()) };
-    assert_eq!(rt;
-        pieces.put_bytes(&bytes_from(rt.alloc(), &WORDS)?),
-        in_piece
-    );
-    if in_piece.is_err() {
-        assert_eq!(rt; pieces.put_bytes(&[]), Err(SinkFault::Spent));
-    } else {
-        assert_eq!(rt; pieces.finish(), answer(WORDS.len(), call));
-    }
-    assert_eq!(rt; pieces.into_inner().into_inner().taken.as_slice(), taken);
     let mut sink = Packer::new(failing(rt.alloc(), most, fails_at));
     for (i, word) in WORDS.iter().enumerate() {
         assert_eq!(rt; sink.put(*word), answer(i, call));

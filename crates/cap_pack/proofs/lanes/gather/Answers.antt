@@ -1,4 +1,3 @@
-use Rattle.std.proofs.Common.{◌∙◌}
 use Rattle.cap_pack.proofs.Shuffles.{ones_of_tag, gathered}
 use Rattle.cap_pack.proofs.lanes.gather.Goals as goal
 
@@ -6,4 +5,4 @@ pub returns-clause-count : goal.returns-clause-count
 returns-clause-count c = ones_of_tag c.args.word c.tag_of_word-tag.result c.tag_of_word-tag.ensures
 
 pub returns-clause-bytes : goal.returns-clause-bytes
-returns-clause-bytes c = gathered c.args.word c.tag_of_word-tag.result c.low_bytes.result c.tag_of_word-tag.ensures (c.low_bytes.ensures ∙ c.squeeze_lanes.ensures)
+returns-clause-bytes c = gathered c.args.word c.tag_of_word-tag.result c.squeezed.result c.tag_of_word-tag.ensures c.squeezed.ensures

@@ -1,0 +1,236 @@
+-- The groups of a piece of words: which words a run takes from the front of others, and what spells it.
+use Rattle.std.proofs.Common.{◌≡◌, ◌≢◌, ℕ, zero, suc, ◌+◌, ◌-◌, ◌≤◌, ◌<◌, cond, eqb, leb, get_or, ⊎_elim, drop-drop, Bool, true, false, List, [], ◌∷◌, ◌++◌, length, take, drop, replicate, refl, ap, sym, subst, ◌∙◌, arith, append-nil, append_assoc, length-drop, length-append, take-append-drop}
+use Rattle.std.specs.Prelude.{◌==◌, filter, not}
+use Rattle.std.specs.List.{prefix_len}
+use Rattle.std.proofs.lemmas.Bool.{cases_lt, eqb-true}
+use Rattle.std.proofs.lemmas.List.{drop_more, length-replicate, length-take-le, replicate-append-replicate, take_all, take_rest}
+use Rattle.cap_spec.specs.Plain.{word_bytes, plain_text}
+use Rattle.cap_spec.specs.Packing.{zero_bytes, zero_run, full_run, tag_of, group_size, pack_text}
+use Rattle.cap_spec.proofs.Packing.{front-append, front-le, nonzero_word, pack_text-marked, pack_text-plain, pack_text-zeros, plain_full, group_size-plain, group_size-zeros}
+use Rattle.std.proofs.lemmas.Slice.{take-put_mid}
+use borrow.Rule.Slice.PartMut.{put_mid}
+use Rattle.cap_pack.specs.Holding.{IsRun, Spells, held, first_zeros}
+use Rattle.cap_pack.specs.declared.group.Group.{Group}
+use Rattle.cap_pack.specs.declared.group.Group.TheVariants.{Plain}
+use Rattle.cap_pack.proofs.Runs.{run, run_is}
+
+-- each element of the front that passes does
+passes_more : (p : ℕ → Bool) (t : Bool) (x n m : ℕ) (xs : List ℕ) → p x ≡ t → suc n ≤ cond t (1 + m) 0 → (n ≤ m → prefix_len p (take n xs) ≡ n) → prefix_len p (x ∷ take n xs) ≡ suc n
+passes_more p true x n m xs e h k =
+    let first : prefix_len p (x ∷ take n xs) ≡ 1 + prefix_len p (take n xs) = ap (λ t. cond t (1 + prefix_len p (take n xs)) 0) e in
+    omega (arith, first, k (omega arith))
+passes_more p false x n m xs e h k = absurd (omega arith)
+
+front_passes : (p : ℕ → Bool) (n : ℕ) (xs : List ℕ) → n ≤ prefix_len p xs → prefix_len p (take n xs) ≡ n
+front_passes p zero xs h = refl
+front_passes p (suc n) [] h = absurd (omega arith)
+front_passes p (suc n) (x ∷ xs) h = passes_more p (p x) x n (prefix_len p xs) xs refl h (front_passes p n xs)
+
+-- what stands behind the front doesn't pass
+stops_more : (p : ℕ → Bool) (t : Bool) (x : ℕ) (xs ys : List ℕ) → p x ≡ t → (prefix_len p xs < length xs → prefix_len p (drop (prefix_len p xs) xs ++ ys) ≡ 0) →
+    cond t (1 + prefix_len p xs) 0 < suc (length xs) → prefix_len p (drop (cond t (1 + prefix_len p xs) 0) (x ∷ xs) ++ ys) ≡ 0
+stops_more p true x xs ys e k h =
+    let one : suc (prefix_len p xs) ≡ 1 + prefix_len p xs = omega arith in
+    subst (λ n. prefix_len p (drop n (x ∷ xs) ++ ys) ≡ 0) one (k (omega arith))
+stops_more p false x xs ys e k h = ap (λ t. cond t (1 + prefix_len p (xs ++ ys)) 0) e
+
+stops_behind : (p : ℕ → Bool) (xs ys : List ℕ) → prefix_len p xs < length xs → prefix_len p (drop (prefix_len p xs) xs ++ ys) ≡ 0
+stops_behind p [] ys h = absurd (omega arith)
+stops_behind p (x ∷ xs) ys h = stops_more p (p x) x xs ys refl (stops_behind p xs ys) h
+
+-- the same of the length of a run
+pub run_takes : (p : ℕ → Bool) (n : ℕ) (xs : List ℕ) → n ≤ run p xs → run p (take n xs) ≡ n
+run_takes p n xs h = run_is p (take n xs) ∙ front_passes p n xs (omega (arith, run_is p xs))
+
+pub run_stops : (p : ℕ → Bool) (xs ys : List ℕ) (n : ℕ) → n ≡ run p xs → n < length xs → run p (drop n xs ++ ys) ≡ 0
+run_stops p xs ys n e h =
+    let at : n ≡ prefix_len p xs = e ∙ run_is p xs in
+    run_is p (drop n xs ++ ys) ∙ ap (λ k. prefix_len p (drop k xs ++ ys)) at ∙ stops_behind p xs ys (omega arith)
+
+-- the zero words of a run
+zeros_more : (t : Bool) (x n m : ℕ) (xs : List ℕ) → eqb x 0 ≡ t → suc n ≤ cond t (1 + m) 0 → (n ≤ m → take n xs ≡ replicate n 0) → x ∷ take n xs ≡ 0 ∷ replicate n 0
+zeros_more true x n m xs e h k = ap (λ (y : ℕ). y ∷ take n xs) (eqb-true x 0 e) ∙ ap (λ (l : List ℕ). 0 ∷ l) (k (omega arith))
+zeros_more false x n m xs e h k = absurd (omega arith)
+
+zeros_of : (n : ℕ) (xs : List ℕ) → n ≤ prefix_len (λ x. x == 0) xs → take n xs ≡ replicate n 0
+zeros_of zero xs h = refl
+zeros_of (suc n) [] h = absurd (omega arith)
+zeros_of (suc n) (x ∷ xs) h = zeros_more (eqb x 0) x n (prefix_len (λ x. x == 0) xs) xs refl h (zeros_of n xs)
+
+pub zeros_front : (n : ℕ) (xs : List ℕ) → n ≤ zero_run xs → take n xs ≡ replicate n 0
+zeros_front n xs h = zeros_of n xs (omega (arith, run_is (λ x. x == 0) xs))
+
+-- so many more zero words in a run
+pub zeros_joined : (more n : ℕ) (xs : List ℕ) → n ≤ zero_run xs → 0 ∷ replicate (more + n) 0 ≡ (0 ∷ replicate more 0) ++ take n xs
+zeros_joined more n xs h = ap (λ (l : List ℕ). 0 ∷ l) (sym (replicate-append-replicate more n 0) ∙ ap (λ l. replicate more 0 ++ l) (sym (zeros_front n xs h)))
+
+pub zeros_one : (more : ℕ) → more ≤ 255 → group_size (0 ∷ replicate more 0) ≡ suc (length (replicate {A = ℕ} more 0))
+zeros_one more h =
+    let whole : group_size (0 ∷ replicate more 0) ≡ 1 + more = ap (λ (l : List ℕ). group_size (0 ∷ l)) (sym (append-nil (replicate more 0))) ∙ group_size-zeros more [] h (λ _. refl) in
+    omega (arith, whole, length-replicate {A = ℕ} more 0)
+
+-- a word without a zero byte, and words with at most one
+pub full_one : (x : ℕ) (more : List ℕ) → zero_bytes x ≡ 0 → full_run more ≡ length more → length more ≤ 255 → group_size (x ∷ more) ≡ suc (length more)
+full_one x more z f h =
+    let whole : group_size (x ∷ more) ≡ 1 + length more = ap (λ (l : List ℕ). group_size (x ∷ l)) (sym (append-nil more)) ∙ group_size-plain x more [] z f h (λ _. refl) in
+    omega (arith, whole)
+
+pub full_joined : (xs ys : List ℕ) (n : ℕ) → full_run xs ≡ length xs → n ≤ full_run ys → n ≤ length ys → full_run (xs ++ take n ys) ≡ length (xs ++ take n ys)
+full_joined xs ys n f h l =
+    let front = front-append (λ x. leb (zero_bytes x) 1) xs (take n ys) f in
+    let taken : full_run (take n ys) ≡ n = run_takes (λ x. leb (zero_bytes x) 1) n ys h in
+    omega (arith, front, taken, length-take-le n ys l, length-append xs (take n ys))
+
+-- a run of zero words that ended inside the piece
+pub zeros_spelled : (w k : ℕ) (xs : List ℕ) → w ≡ 0 → k ≡ zero_run xs → k < length xs → k ≤ 255 → Spells (w ∷ xs) (0 ∷ k ∷ []) (drop k xs)
+zeros_spelled w k xs e r h few = λ ws.
+    let rest = drop k xs ++ ws in
+    let front : take k xs ≡ replicate k 0 = zeros_front k xs (omega arith) in
+    let split : w ∷ (xs ++ ws) ≡ 0 ∷ (replicate k 0 ++ rest) =
+    ap (λ (y : ℕ). y ∷ (xs ++ ws)) e
+    ∙ ap (λ (l : List ℕ). 0 ∷ l) (ap (λ l. l ++ ws) (sym (take-append-drop k xs)) ∙ append_assoc (take k xs) (drop k xs) ws ∙ ap (λ l. l ++ rest) front) in
+    ap pack_text split ∙ pack_text-zeros k rest few (λ _. run_stops (λ x. x == 0) xs ws k r h)
+
+-- a run of words as they are that ended inside the piece
+pub full_spelled : (w k : ℕ) (xs : List ℕ) → zero_bytes w ≡ 0 → k ≡ full_run xs → k < length xs → k ≤ 255 →
+    Spells (w ∷ xs) (255 ∷ (word_bytes w ++ length (take k xs) ∷ plain_text (take k xs))) (drop k xs)
+full_spelled w k xs z r h few = λ ws.
+    let rest = drop k xs ++ ws in
+    let long : length (take k xs) ≡ k = length-take-le k xs (omega arith) in
+    let full : full_run (take k xs) ≡ length (take k xs) = run_takes (λ x. leb (zero_bytes x) 1) k xs (omega arith) ∙ sym long in
+    let split : w ∷ (xs ++ ws) ≡ w ∷ (take k xs ++ rest) = ap (λ (l : List ℕ). w ∷ l) (ap (λ l. l ++ ws) (sym (take-append-drop k xs)) ∙ append_assoc (take k xs) (drop k xs) ws) in
+    ap pack_text split ∙ pack_text-plain w (take k xs) rest z full (omega (arith, long)) (λ _. run_stops (λ x. leb (zero_bytes x) 1) xs ws k r h)
+
+-- any other word
+pub marked_spelled : (w : ℕ) (xs : List ℕ) → w ≢ 0 → zero_bytes w ≢ 0 → Spells (w ∷ xs) (tag_of (word_bytes w) ∷ filter (λ b. not (b == 0)) (word_bytes w)) xs
+marked_spelled w xs n z = λ ws. pack_text-marked w (xs ++ ws) n z
+
+-- The groups so far and one more.
+pub more_spelled : (front next text : List ℕ) (all : List ℕ → List ℕ) (left less : List ℕ) → next ≡ front ++ text → Spells left text less →
+    ((ws : List ℕ) → all ws ≡ front ++ pack_text (left ++ ws)) → (ws : List ℕ) → all ws ≡ next ++ pack_text (less ++ ws)
+more_spelled front next text all left less e s h = λ ws.
+    h ws ∙ ap (λ t. front ++ t) (s ws) ∙ sym (append_assoc front text (pack_text (less ++ ws))) ∙ ap (λ t. t ++ pack_text (less ++ ws)) (sym e)
+
+-- a run of zero words that took n more of these words
+pub zeros_apart : (more n : ℕ) (xs : List ℕ) → more + n ≤ 255 → (more + n < 255 → n ≡ zero_run xs) → n < length xs → Spells ((0 ∷ replicate (more + n) 0) ++ drop n xs) (0 ∷ (more + n) ∷ []) (drop n xs)
+zeros_apart more n xs few all h = λ ws.
+    ap pack_text (append_assoc (0 ∷ replicate (more + n) 0) (drop n xs) ws)
+    ∙ pack_text-zeros (more + n) (drop n xs ++ ws) few (λ l. run_stops (λ x. x == 0) xs ws n (all l) h)
+
+-- a run of words as they are that did
+pub full_apart : (first n : ℕ) (more xs : List ℕ) → zero_bytes first ≡ 0 → full_run more ≡ length more → length more ≤ 255 → (length more < 255 → n ≡ full_run xs) → n < length xs →
+    Spells ((first ∷ more) ++ drop n xs) (255 ∷ (word_bytes first ++ length more ∷ plain_text more)) (drop n xs)
+full_apart first n more xs z f few all h = λ ws.
+    ap pack_text (append_assoc (first ∷ more) (drop n xs) ws)
+    ∙ pack_text-plain first more (drop n xs ++ ws) z f few (λ l. run_stops (λ x. leb (zero_bytes x) 1) xs ws n (all l) h)
+
+-- what a run of words as they are holds
+pub plain_held : (g : Group) (words : List ℕ) (first more : ℕ) → g ≡ Plain first more → group_size (held g words) ≡ length (held g words) → first_zeros g ≡ 0 →
+    (zero_bytes first ≡ 0) × (full_run (take more words) ≡ length (take more words)) × (length (take more words) ≤ 255)
+plain_held g words first more e one full =
+    let z : zero_bytes first ≡ 0 = ap first_zeros (sym e) ∙ full in
+    let size : group_size (first ∷ take more words) ≡ suc (length (take more words)) = subst (λ v. group_size (held v words) ≡ length (held v words)) e one in
+    let whole = plain_full first (take more words) z (omega (arith, size)) in
+    (z, whole.0, whole.1)
+
+-- the words behind the first after n more were written
+pub more_written : (words piece xs : List ℕ) (more n k end : ℕ) → piece ≡ take n xs → n ≤ length xs → more ≤ length words → end ≡ more + n → take end (put_mid more k words piece) ≡ take more words ++ take n xs
+more_written words piece xs more n k end e h l m =
+    let long : length piece ≡ n = ap length e ∙ length-take-le n xs h in
+    take-put_mid more k words piece end (omega (arith, m, long)) l ∙ ap (λ t. take more words ++ t) e
+
+-- a run of words as they are after n more of these words were written behind it
+pub record Extended (first : ℕ) (now front xs : List ℕ) (n count : ℕ) : Type 0 where
+  pub whole : now ≡ front ++ take n xs
+  pub zero : zero_bytes first ≡ 0
+  pub full : full_run now ≡ length now
+  pub many : length now ≡ count
+
+pub plain_extended : (g : Group) (words piece xs : List ℕ) (first more n k end : ℕ) → g ≡ Plain first more → group_size (held g words) ≡ length (held g words) → first_zeros g ≡ 0 →
+    length words ≡ 255 → end ≤ 255 → end ≡ more + n → piece ≡ take n xs → n ≤ full_run xs → Extended first (take end (put_mid more k words piece)) (take more words) xs n end
+plain_extended g words piece xs first more n k end e one full long most m copied run =
+    let h = plain_held g words first more e one full in
+    let few : n ≤ length xs = omega (arith, run, front-le (λ x. leb (zero_bytes x) 1) xs) in
+    let whole = more_written words piece xs more n k end copied few (omega (arith, long, most, m)) m in
+    let fulls = full_joined (take more words) xs n h.1 run few in
+    let count = length-append (take more words) (take n xs) in
+    record {
+      whole = whole;
+      zero = h.0;
+      full = subst (λ l. full_run l ≡ length l) (sym whole) fulls;
+      many = ap length whole ∙ omega (arith, count, length-take-le more words (omega (arith, long, most, m)), length-take-le n xs few, m);
+    }
+
+-- words of a run that begins with a zero word
+pub run_zeros : (ws : List ℕ) → IsRun ws → 0 < length ws → get_or ws 0 0 ≡ 0 → 0 ∷ replicate (length ws - 1) 0 ≡ ws
+run_zeros [] r h e = absurd (omega (arith, h))
+run_zeros (w ∷ ws) r h e =
+    ⊎_elim (λ (z, run).
+    let less : suc (length ws) - 1 ≡ length ws = omega arith in
+    ap (λ n. 0 ∷ replicate n 0) less ∙ ap (λ (l : List ℕ). 0 ∷ l) (sym (zeros_front (length ws) ws (omega (arith, run))) ∙ take_all (length ws) ws (omega arith)) ∙ ap (λ (y : ℕ). y ∷ ws) (sym e))
+    (λ (z, run). absurd (nonzero_word w (omega (arith, z)) e))
+    r
+
+-- what the groups do that end inside the words of a piece
+moved_behind : (words : List ℕ) (at k : ℕ) → drop k (drop (at + 1) words) ≡ drop (at + (1 + k)) words
+moved_behind words at k = let same : at + 1 + k ≡ at + (1 + k) = omega arith in drop-drop k (at + 1) words ∙ ap (λ n. drop n words) same
+
+ends_inside : (p : ℕ → Bool) (words : List ℕ) (at k : ℕ) → at < length words → k ≡ run p (drop (at + 1) words) → at + 1 + k ≢ length words → k < length (drop (at + 1) words)
+ends_inside p words at k h r n =
+    ⊎_elim (λ less. less) (λ all. absurd (n (omega (arith, h, all, r, front-le p (drop (at + 1) words), length-drop (at + 1) words)))) (cases_lt k (length (drop (at + 1) words)))
+
+pub zeros_step : (words : List ℕ) (at k : ℕ) → at < length words → length words ≤ 64 → get_or words at 0 ≡ 0 → k ≡ zero_run (take (length words - (at + 1)) (drop (at + 1) words)) →
+    at + 1 + k ≢ length words → (k < length (drop (at + 1) words)) × Spells (drop at words) (0 ∷ k ∷ []) (drop (at + (1 + k)) words)
+zeros_step words at k h few e r n =
+    let rest = drop (at + 1) words in
+    let whole : k ≡ zero_run rest = r ∙ ap zero_run (take_rest words (at + 1)) in
+    let less : k < length rest = ends_inside (λ x. x == 0) words at k h whole n in
+    let spelled = zeros_spelled (get_or words at 0) k rest e whole less (omega (arith, less, few, length-drop (at + 1) words)) in (
+      less,
+      subst (λ l. Spells l (0 ∷ k ∷ []) (drop (at + (1 + k)) words)) (sym (drop_more words at 0 h))
+          (subst (λ l. Spells (get_or words at 0 ∷ rest) (0 ∷ k ∷ []) l) (moved_behind words at k) spelled),
+    )
+
+pub full_step : (words more : List ℕ) (at k j : ℕ) → at < length words → length words ≤ 64 → zero_bytes (get_or words at 0) ≡ 0 → k ≡ full_run (take (length words - (at + 1)) (drop (at + 1) words)) →
+    at + 1 + k ≢ length words → more ≡ take j (drop (at + 1) words) → j ≡ k →
+    (k < length (drop (at + 1) words)) × Spells (drop at words) (255 ∷ (word_bytes (get_or words at 0) ++ length more ∷ plain_text more)) (drop (at + (1 + k)) words)
+full_step words more at k j h few z r n m same =
+    let rest = drop (at + 1) words in
+    let text = λ (l : List ℕ). 255 ∷ (word_bytes (get_or words at 0) ++ length l ∷ plain_text l) in
+    let whole : k ≡ full_run rest = r ∙ ap full_run (take_rest words (at + 1)) in
+    let less : k < length rest = ends_inside (λ x. leb (zero_bytes x) 1) words at k h whole n in
+    let spelled = full_spelled (get_or words at 0) k rest z whole less (omega (arith, less, few, length-drop (at + 1) words)) in
+    let front : take k rest ≡ more = ap (λ i. take i rest) (sym same) ∙ sym m in (
+      less,
+      subst (λ l. Spells l (text more) (drop (at + (1 + k)) words)) (sym (drop_more words at 0 h))
+          (subst (λ l. Spells (get_or words at 0 ∷ rest) (text more) l) (moved_behind words at k)
+          (subst (λ l. Spells (get_or words at 0 ∷ rest) (text l) (drop k rest)) front spelled)),
+    )
+
+pub marked_step : (words : List ℕ) (at : ℕ) → at < length words → get_or words at 0 ≢ 0 → zero_bytes (get_or words at 0) ≢ 0 →
+    Spells (drop at words) (tag_of (word_bytes (get_or words at 0)) ∷ filter (λ b. not (b == 0)) (word_bytes (get_or words at 0))) (drop (at + 1) words)
+marked_step words at h n z =
+    subst (λ l. Spells l (tag_of (word_bytes (get_or words at 0)) ∷ filter (λ b. not (b == 0)) (word_bytes (get_or words at 0))) (drop (at + 1) words)) (sym (drop_more words at 0 h))
+    (marked_spelled (get_or words at 0) (drop (at + 1) words) n z)
+
+-- what a whole piece does: words that join the open group, and the groups behind it
+pub piece_spelled : (before now xs piece front group text left : List ℕ) (j : ℕ) → now ≡ before ++ take j xs → Spells (now ++ drop j xs) group (drop j xs) → front ≡ group → piece ≡ drop j xs →
+    ((ws : List ℕ) → front ++ pack_text (piece ++ ws) ≡ text ++ pack_text (left ++ ws)) → (ws : List ℕ) → pack_text (before ++ (xs ++ ws)) ≡ text ++ pack_text (left ++ ws)
+piece_spelled before now xs piece front group text left j joined apart f p spelled ws =
+    let whole : before ++ xs ≡ now ++ drop j xs =
+    ap (λ t. before ++ t) (sym (take-append-drop j xs)) ∙ sym (append_assoc before (take j xs) (drop j xs)) ∙ ap (λ t. t ++ drop j xs) (sym joined) in
+    ap pack_text (sym (append_assoc before xs ws) ∙ ap (λ t. t ++ ws) whole)
+    ∙ apart ws
+    ∙ ap (λ t. t ++ pack_text (drop j xs ++ ws)) (sym f)
+    ∙ ap (λ t. front ++ pack_text (t ++ ws)) (sym p)
+    ∙ spelled ws
+
+-- the words behind those that were spelled
+pub left_behind : (xs : List ℕ) (j k : ℕ) → drop k (take (length xs - j) (drop j xs)) ≡ take (length xs - (j + k)) (drop (j + k) xs)
+left_behind xs j k = ap (drop k) (take_rest xs j) ∙ drop-drop k j xs ∙ sym (take_rest xs (j + k))
+
+-- a piece of words and those behind it
+pub piece_split : (xs : List ℕ) (done end : ℕ) → done ≤ end → drop done xs ≡ take (end - done) (drop done xs) ++ drop end xs
+piece_split xs done end h =
+    let same : done + (end - done) ≡ end = omega (arith, h) in
+    sym (take-append-drop (end - done) (drop done xs)) ∙ ap (λ l. take (end - done) (drop done xs) ++ l) (drop-drop (end - done) done xs ∙ ap (λ n. drop n xs) same)

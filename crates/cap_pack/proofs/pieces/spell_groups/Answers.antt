@@ -1,0 +1,49 @@
+use Rattle.std.proofs.Common.{◌+◌, ◌-◌, ◌++◌, ◌∷◌, [], ℕ, take, drop, get_or, ap, refl, sym, ◌∙◌, arith, length-drop}
+use Rattle.std.specs.Prelude.{◌==◌, filter, not}
+use Rattle.std.proofs.lemmas.List.{length-take}
+use Rattle.cap_spec.specs.Packing.{pack_text, tag_of}
+use Rattle.cap_spec.specs.Plain.{word_bytes}
+use Rattle.cap_pack.proofs.FullWords.{full_word, word_tag, zero_word}
+use Rattle.cap_pack.proofs.GroupsSpelled.{full_step, marked_step, more_spelled, zeros_step}
+use Rattle.cap_pack.proofs.pieces.spell_groups.Goals as goal
+
+pub loop-at-preserved-then-tag-eq0 : goal.loop-at-preserved-then-tag-eq0
+loop-at-preserved-then-tag-eq0 c =
+    let words = c.args.words.now in
+    let at = c.loop-at.at in
+    let zero = zero_word (get_or words at 0) (c.type_inv.words at).fits (sym c.tag_of_word-tag.ensures ∙ c.if-tag-eq0.true) in
+    let step = zeros_step words at c.zero_run-more.result (omega arith) c.requires.few zero c.zero_run-more.ensures c.if-at-more.false in
+    record {
+      within = omega (arith, step.0, length-drop (at + 1) words);
+      room = omega (arith, c.spell_zeros-len.ensures.end, c.loop-at.invariant.room);
+      spelled =
+          more_spelled _ _ (0 ∷ c.zero_run-more.result ∷ []) (λ ws. take c.args.start c.args.text.now ++ pack_text (words ++ ws)) (drop at words) (drop (at + (1 + c.zero_run-more.result)) words) c.spell_zeros-len.ensures.spelled step.1
+          c.loop-at.invariant.spelled;
+    }
+
+pub loop-at-preserved-then-tag : goal.loop-at-preserved-then-tag
+loop-at-preserved-then-tag c =
+    let words = c.args.words.now in
+    let at = c.loop-at.at in
+    let full = full_word (get_or words at 0) (sym c.tag_of_word-tag.ensures ∙ c.if-tag.true) in
+    let step = full_step words _ at c.full_run-more.result _ (omega arith) c.requires.few full c.full_run-more.ensures c.if-at-more-2.false refl (omega arith) in
+    record {
+      within = omega (arith, step.0, length-drop (at + 1) words);
+      room = omega (arith, c.spell_plain-len.ensures.end, c.loop-at.invariant.room, length-take (at + 1 + c.full_run-more.result - (at + 1)) (drop (at + 1) words));
+      spelled =
+          more_spelled _ _ _ (λ ws. take c.args.start c.args.text.now ++ pack_text (words ++ ws)) (drop at words) (drop (at + (1 + c.full_run-more.result)) words) c.spell_plain-len.ensures.spelled step.1 c.loop-at.invariant.spelled;
+    }
+
+pub loop-at-preserved : goal.loop-at-preserved
+loop-at-preserved c =
+    let words = c.args.words.now in
+    let at = c.loop-at.at in
+    let tag = c.tag_of_word-tag.ensures in
+    let step = marked_step words at (omega arith) (λ e. c.if-tag-eq0.false (tag ∙ ap (λ v. tag_of (word_bytes v)) e)) (λ z. c.if-tag.false (tag ∙ word_tag (get_or words at 0) z)) in
+    record {
+      within = omega arith;
+      room = omega (arith, c.spell_marked-len.ensures.within, c.loop-at.invariant.room);
+      spelled =
+          more_spelled _ _ _ (λ ws. take c.args.start c.args.text.now ++ pack_text (words ++ ws)) (drop at words) (drop (at + 1) words)
+          (c.spell_marked-len.ensures.spelled ∙ ap (λ (t : ℕ). take c.loop-at.len c.loop-at.text ++ t ∷ filter (λ b. not (b == 0)) (word_bytes (get_or words at 0))) tag) step c.loop-at.invariant.spelled;
+    }

@@ -1,0 +1,13 @@
+use Rattle.std.proofs.Common.{◌≡◌, ◌≤◌, ◌*◌, ◌+◌, ◌-◌, ◌++◌, ℕ, List, length, take, drop}
+use Rattle.cap_spec.specs.Packing.{pack_text}
+use Rattle.cap_pack.proofs.pieces.spell_groups.Given as goal
+
+abbrev pub invariant-loop-at : goal.invariant-loop-at
+invariant-loop-at l = record {
+  within : l.at ≤ length l.words;
+  room : l.len ≤ 2050 + 10 * l.at;
+  spelled : (ws : List ℕ) → take l.start l.initial.text ++ pack_text (l.words ++ ws) ≡ take l.len l.text ++ pack_text (drop l.at l.words ++ ws);
+}
+
+abbrev pub decreases-loop-at : goal.decreases-loop-at
+decreases-loop-at l = length l.words - l.at

@@ -1,0 +1,95 @@
+//! The groups of a piece of words, spelled one behind the other.
+
+ghost use Rattle.cap_pack.specs.Holding.{IsRun};
+ghost use Rattle.cap_spec.specs.Packing.{pack_text, tag_of};
+ghost use Rattle.cap_spec.specs.Plain.{plain_words, word_bytes};
+ghost use Rattle.std.specs.Prelude.{◌*◌, ◌+◌, ◌++◌, ◌<◌, ◌==◌, ◌≡◌, ◌≤◌, ◌∷◌, List, drop, filter, length, not, take, ℕ};
+
+use super::lanes::{full_run, squeezed, tag_of_word, zero_run};
+use super::spelling::{ROOM_BYTES, spell_plain, spell_zeros};
+use byteorder::{ByteOrder, LittleEndian};
+
+/// The most words of a piece.
+pub(crate) const PIECE_WORDS: usize = 64;
+
+/// Reads the words of these bytes, as many as there are and a piece has room for. Answers how many.
+pub(crate) fn read_words(bytes: &[u8], words: &mut [u64; PIECE_WORDS]) -> usize
+    ensures few { result ≤ 64 }
+    ensures some { 8 ≤ length bytes.now → 0 < result }
+    ensures within { 8 * result ≤ length bytes.now }
+    ensures words { take result words.new ≡ plain_words (take (8 * result) bytes.now) }
+{
+    let count = (bytes.len() / 8).min(PIECE_WORDS);
+    LittleEndian::read_u64_into(&bytes[..8 * count], &mut words[..count]);
+    count
+}
+
+/// How much of a piece was spelled.
+#[derive(Clone, Copy)]
+pub(crate) struct Spelled {
+    /// the words of the groups that ended
+    pub(crate) words: usize,
+    /// the bytes in the room
+    pub(crate) bytes: usize,
+}
+
+// Spells a word by its tag and its bytes that aren't zero, behind so many bytes. Answers how many
+// bytes there are then.
+#[inline(always)]
+fn spell_marked(text: &mut [u8; ROOM_BYTES], len: usize, tag: u8, word: u64) -> usize
+    requires marked { tag ≡ tag_of (word_bytes word) }
+    requires room { len + 9 ≤ 2690 }
+    ensures within { result ≤ len + 9 }
+    ensures spelled { take result text.new ≡ take len text.old ++ tag ∷ filter (λ b. not (b == 0)) (word_bytes word) }
+{
+    text[len] = tag;
+    text[len + 1..len + 9].copy_from_slice(&squeezed(tag, word));
+    len + 1 + tag.count_ones() as usize
+}
+
+/// Spells the groups of a piece of words behind so many bytes, but for a run at the end, which words
+/// behind the piece may go on with.
+pub(crate) fn spell_groups(words: &[u64], text: &mut [u8; ROOM_BYTES], start: usize) -> Spelled
+    requires few { length words.now ≤ 64 }
+    requires room { start ≤ 2050 }
+    ensures words { result.words ≤ length words.now }
+    ensures bytes { result.bytes ≤ 2690 }
+    ensures spelled { (ws : List ℕ) → take start text.old ++ pack_text (words.now ++ ws)
+        ≡ take result.bytes text.new ++ pack_text (drop result.words words.now ++ ws) }
+    ensures run { IsRun (drop result.words words.now) }
+{
+    let mut at = 0;
+    let mut len = start;
+    while at < words.len() {
+        let word = words[at];
+        let tag = tag_of_word(word);
+        if tag == 0 {
+            let more = zero_run(&words[at + 1..]);
+            if at + 1 + more == words.len() {
+                return Spelled {
+                    words: at,
+                    bytes: len,
+                };
+            }
+            len = spell_zeros(text, len, more as u8);
+            at += 1 + more;
+        } else if tag == 255 {
+            let more = full_run(&words[at + 1..]);
+            if at + 1 + more == words.len() {
+                return Spelled {
+                    words: at,
+                    bytes: len,
+                };
+            }
+            len = spell_plain(text, len, word, &words[at + 1..at + 1 + more]);
+            at += 1 + more;
+        } else {
+            len = spell_marked(text, len, tag, word);
+            at += 1;
+        }
+    }
+    Spelled {
+        words: at,
+        bytes: len,
+    }
+}
