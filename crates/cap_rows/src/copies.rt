@@ -156,6 +156,48 @@ fn ends_at_a_word_too_many(rt: HostRuntime) -> Result<(), Fail> {
     Ok(())
 }
 
+// 130 zero words, and three others.
+const MANY: &str = "00810f010203040f010203040f01020304";
+
+// In pieces, of which the last one ends where the most words do.
+#[test]
+fn unpacks_no_word_past_the_most(rt: HostRuntime) -> Result<(), Fail> {
+    let alloc = rt.alloc();
+    let text = hex::decode(alloc, MANY)?;
+    for (words, len) in [
+        (0, 0),
+        (1, 8),
+        (64, 512),
+        (65, 520),
+        (129, 1032),
+        (132, 1056),
+        (133, 1064),
+        (134, 1064),
+    ] {
+        let mut source = Unpacker::new(SliceIn::new(text.as_slice()));
+        let mut sink = PlainSink::new(VecOut::new(alloc));
+        let answer = if words < 133 {
+            Err(CopyFault::TooManyWords)
+        } else {
+            Ok(133)
+        };
+        assert!(rt; run_unpack(&mut source, &mut sink, words) == answer);
+        assert_eq!(rt; sink.into_inner().bytes().len(), len);
+    }
+    for room in [0, 1, 511, 512, 513, 1063] {
+        let mut source = Unpacker::new(SliceIn::new(text.as_slice()));
+        let mut sink = PlainSink::new(FromWrite::new(Full {
+            taken: Vec::new(alloc),
+            room,
+            tells: true,
+        }));
+        let answer = run_unpack(&mut source, &mut sink, MOST);
+        assert!(rt; answer == Err(CopyFault::Output(OutFault::Device)));
+        assert_eq!(rt; sink.into_inner().into_inner().taken.len(), room);
+    }
+    Ok(())
+}
+
 #[test]
 fn leaves_a_beginning_where_the_output_fails(rt: HostRuntime) -> Result<(), Fail> {
     let alloc = rt.alloc();
@@ -193,7 +235,7 @@ struct Row {
     answer: Result<Outcome, RunFault>,
 }
 
-const ROWS: [Row; 4] = [
+const ROWS: [Row; 5] = [
     Row {
         stream: "10010000",
         status: 0,
@@ -213,6 +255,18 @@ const ROWS: [Row; 4] = [
         err: "",
         answer: Ok(Outcome {
             messages: 2,
+            refused: 1,
+            noncanonical: 0,
+        }),
+    },
+    // and the same with further messages behind it
+    Row {
+        stream: "10010001100440021104011001010710044002110401100101071004400211040110010107",
+        status: 1,
+        out: "message 0: accepted charge 0 depth 0 pointers 1 caps 0\nmessage 1: refused NoRoot at 0:0 pointers 0\nmessage 2: accepted charge 4 depth 2 pointers 3 caps 0\nmessage 3: accepted charge 4 depth 2 pointers 3 caps 0\nmessage 4: accepted charge 4 depth 2 pointers 3 caps 0\n",
+        err: "",
+        answer: Ok(Outcome {
+            messages: 5,
             refused: 1,
             noncanonical: 0,
         }),

@@ -5,6 +5,7 @@ pub mod CopyEnds
 pub mod Dumping
 pub mod FoundNodes
 pub mod Going
+pub mod Handed
 pub mod Handing
 pub mod Nodes
 pub mod Making

@@ -4,6 +4,7 @@ pub mod Copying
 pub mod Dumping
 pub mod Engines
 pub mod Faults
+pub mod Handed
 pub mod Making
 pub mod Paging
 pub mod PathReading

@@ -1,10 +1,11 @@
 //! The engines that copy words from one spelling to another. They don't look at framing.
 
-ghost use Rattle.cap_run.specs.Copying.{Copied};
+ghost use Rattle.cap_run.specs.Copying.{Copied, StopsMidway};
 ghost use Rattle.cap_run.specs.Engines.{CopiesWords};
-ghost use Rattle.cap_run.specs.Putting.{StopsAt, StopsPutting};
+ghost use Rattle.cap_run.specs.Handed.{HandsOver};
+ghost use Rattle.cap_run.specs.Putting.{Copies, StopsPutting};
 ghost use Rattle.cap_words.specs.Sinks.{sink_fault_of};
-ghost use Rattle.std.specs.Prelude.{◌≡◌, IfErr, IfOk};
+ghost use Rattle.std.specs.Prelude.{◌*◌, ◌/◌, ◌≡◌, ◌≤◌, IfErr, IfOk, length};
 
 use crate::fault::CopyFault;
 use cap_pack::Packer;
@@ -21,17 +22,53 @@ pub(crate) fn output_fault(fault: SinkFault) -> OutFault
     }
 }
 
-/// Puts the words of a source, at most so many, and answers what is to be answered once the sink is
-/// finished, or the fault of its output.
+// The most words that are handed to the sink at once.
+const MOST_AT_ONCE: u64 = 64;
+
+/// Puts the words at hand, as many as there is room for, and answers how many. 0 doesn't say that no
+/// words are to come.
+#[inline]
+fn put_ready<S: WordSource, K: WordSink>(
+    source: &mut S,
+    sink: &mut K,
+    room: &mut [u8],
+) -> Result<u64, OutFault>
+    ensures few { IfOk result (λ n. 8 * n ≤ length room.old) }
+    ensures ok { IfOk result (Copies S.WordSource K.WordSink source.old source.new sink.old sink.new) }
+    ensures err { IfErr result (HandsOver S.WordSource K.WordSink (length room.old / 8) source.old source.new sink.old sink.new) }
+{
+    let count = source.ready(room);
+    if count == 0 {
+        return Ok(0);
+    }
+    match sink.put_bytes(&room[..count]) {
+        Ok(()) => Ok(count as u64 / 8),
+        Err(fault) => Err(output_fault(fault)),
+    }
+}
+
+/// Puts the words of a source, at most so many, in pieces of those at hand, and answers what is to be
+/// answered once the sink is finished, or the fault of its output.
 fn put_words<S: WordSource, K: WordSink>(
     source: &mut S,
     sink: &mut K,
     words: u64,
 ) -> Result<Result<u64, CopyFault>, OutFault>
     ensures ok { IfOk result (StopsPutting S.WordSource K.WordSink words source.old source.new sink.old sink.new) }
-    ensures err { IfErr result (StopsAt S.WordSource K.WordSink words source.old source.new sink.old sink.new) }
+    ensures err { IfErr result (StopsMidway S.WordSource K.WordSink words source.old source.new sink.old sink.new) }
 {
-    for copied in 0..words {
+    let mut room = [0; 512];
+    let mut copied = 0;
+    while copied < words {
+        let most = (words - copied).min(MOST_AT_ONCE) as usize;
+        let count = match put_ready(source, sink, &mut room[..8 * most]) {
+            Ok(count) => count,
+            Err(fault) => return Err(fault),
+        };
+        copied += count;
+        if count > 0 {
+            continue;
+        }
         match source.next() {
             Ok(Some(word)) => if let Err(fault) = sink.put(word) {
                 return Err(output_fault(fault));
@@ -39,10 +76,11 @@ fn put_words<S: WordSource, K: WordSink>(
             Ok(None) => return Ok(Ok(copied)),
             Err(fault) => return Ok(Err(CopyFault::Source(fault))),
         }
+        copied += 1;
     }
     match source.next() {
         Ok(Some(_)) => Ok(Err(CopyFault::TooManyWords)),
-        Ok(None) => Ok(Ok(words)),
+        Ok(None) => Ok(Ok(copied)),
         Err(fault) => Ok(Err(CopyFault::Source(fault))),
     }
 }

@@ -1,6 +1,6 @@
 use Rattle.std.proofs.Common.{inl, inr, subst, sym}
 use Rattle.cap_frame.specs.Putting.{Blames}
-use Rattle.cap_run.proofs.Copying.{blames_of, copied_finished, copied_spoiled, copied_stopped}
+use Rattle.cap_run.proofs.Copying.{blames_of, copied_finished, copied_spoiled}
 use Rattle.cap_run.proofs.engines.copy.copy_words.Goals as goal
 
 pub returns-in-Ok-finish : goal.returns-in-Ok-finish
@@ -15,5 +15,4 @@ returns-in-Err-finish g c =
     c.in-Ok.ensures.ok c.in-Err-finish.ensures.err (subst (Blames g.K.WordSink c.put_words.new.sink c.finish.new.self) (sym c.output_fault.ensures) blames))
 
 pub returns-in-Err : goal.returns-in-Err
-returns-in-Err g c =
-    inl (copied_stopped g.S.WordSource g.K.WordSink c.args.words c.args.source.now c.put_words.new.source c.args.sink.now c.put_words.new.sink c.in-Err.fault c.in-Err.ensures.err)
+returns-in-Err g c = inl c.in-Err.ensures.err

@@ -1,20 +1,67 @@
-use Rattle.std.proofs.Common.{subst, sym}
+use Rattle.std.proofs.Common.{◌*◌, ◌+◌, arith, subst, sym}
+use Rattle.std.proofs.lemmas.List.{length-take-le}
 use Rattle.cap_frame.specs.Putting.{Halts}
 use Rattle.cap_frame.proofs.Putting.{halts_one}
-use Rattle.cap_run.proofs.Copying.{copies_more, copies_stops, fills_one, gives_one}
+use Rattle.cap_run.proofs.Copying.{copied_stopped, copies_more, copies_stops, fills_one, gives_one}
+use Rattle.cap_run.proofs.Handed.{copies_both, copies_start, gives_no_next, stops_midway}
 use Rattle.cap_run.proofs.engines.copy.put_words.Goals as goal
+
+pub loop-copied-init : goal.loop-copied-init
+loop-copied-init g c = record { few = omega arith; copies = copies_start g.S.WordSource g.K.WordSink c.args.source.now c.args.sink.now }
+
+pub returns-in-Err-clause-err : goal.returns-in-Err-clause-err
+returns-in-Err-clause-err g c =
+    let long = length-take-le (8 * c.min-most.result) c.loop-copied.room (omega arith) in
+    stops_midway g.S.WordSource g.K.WordSink c.args.words c.loop-copied.copied _ c.args.source.now c.loop-copied.source c.put_ready.new.source c.args.sink.now c.loop-copied.sink c.put_ready.new.sink
+    c.in-Err.fault c.loop-copied.invariant.copies c.in-Err.ensures.err (omega (arith, long)) (omega (arith, long))
+
+pub loop-copied-preserved-then-count-gt0 : goal.loop-copied-preserved-then-count-gt0
+loop-copied-preserved-then-count-gt0 g c =
+    let few = c.in-Ok.ensures.few in
+    let long = length-take-le (8 * c.min-most.result) c.loop-copied.room (omega arith) in
+    record {
+      few = omega (arith, few, long);
+      copies = copies_both g.S.WordSource g.K.WordSink c.args.source.now c.loop-copied.source c.put_ready.new.source c.args.sink.now c.loop-copied.sink c.put_ready.new.sink c.loop-copied.copied c.in-Ok.count
+          c.loop-copied.invariant.copies c.in-Ok.ensures.ok;
+    }
 
 pub returns-in-Err-put-clause-err : goal.returns-in-Err-put-clause-err
 returns-in-Err-put-clause-err g c =
-    let gives = gives_one g.S.WordSource c.loop-copied.source c.next.new.self c.in-Ok-Some.word
+    let now = copies_both g.S.WordSource g.K.WordSink c.args.source.now c.loop-copied.source c.put_ready.new.source c.args.sink.now c.loop-copied.sink c.put_ready.new.sink c.loop-copied.copied c.in-Ok.count
+    c.loop-copied.invariant.copies c.in-Ok.ensures.ok in
+    let gives = gives_one g.S.WordSource c.put_ready.new.source c.next.new.self c.in-Ok-Some.word
     (rw c.in-Ok-Some.field-0-is at c.in-Ok-Some.ensures.words) (rw c.in-Ok-Some.field-0-is at c.in-Ok-Some.ensures.word) c.in-Ok-Some.ensures.ok in
-    let halts = halts_one g.K.WordSink c.loop-copied.sink c.put.new.self c.in-Ok-Some.word c.put.result c.in-Err-put.fault c.in-Err-put.is c.in-Err-put.ensures.err c.put.ensures.device c.put.ensures.memory c.put.ensures.was_spent in
-    copies_stops g.S.WordSource g.K.WordSink c.args.words c.args.source.now c.loop-copied.source c.next.new.self c.args.sink.now c.loop-copied.sink c.put.new.self c.loop-copied.copied c.in-Ok-Some.word c.output_fault.result
-    c.loop-copied-test.true c.loop-copied.invariant gives (subst (Halts g.K.WordSink c.loop-copied.sink c.put.new.self _) (sym c.output_fault.ensures) halts)
+    let halts = halts_one g.K.WordSink c.put_ready.new.sink c.put.new.self c.in-Ok-Some.word c.put.result c.in-Err-put.fault c.in-Err-put.is c.in-Err-put.ensures.err c.put.ensures.device c.put.ensures.memory c.put.ensures.was_spent in
+    copied_stopped g.S.WordSource g.K.WordSink c.args.words c.args.source.now c.next.new.self c.args.sink.now c.put.new.self c.output_fault.result
+    (copies_stops g.S.WordSource g.K.WordSink c.args.words c.args.source.now c.put_ready.new.source c.next.new.self c.args.sink.now c.put_ready.new.sink c.put.new.self (c.loop-copied.copied + c.in-Ok.count) c.in-Ok-Some.word c.output_fault.result
+    (omega arith) now gives (subst (Halts g.K.WordSink c.put_ready.new.sink c.put.new.self _) (sym c.output_fault.ensures) halts))
+
+pub returns-in-Ok-None-clause-ok : goal.returns-in-Ok-None-clause-ok
+returns-in-Ok-None-clause-ok g c =
+    let now = copies_both g.S.WordSource g.K.WordSink c.args.source.now c.loop-copied.source c.put_ready.new.source c.args.sink.now c.loop-copied.sink c.put_ready.new.sink c.loop-copied.copied c.in-Ok.count
+    c.loop-copied.invariant.copies c.in-Ok.ensures.ok in
+    (c.put_ready.new.source, omega arith, now, record { none = c.in-Ok-None.ensures.none (cc); ended = c.in-Ok-None.ensures.ended (cc); works = c.in-Ok-None.ensures.ok })
+
+pub returns-in-Err-next-clause-ok : goal.returns-in-Err-next-clause-ok
+returns-in-Err-next-clause-ok g c =
+    let now = copies_both g.S.WordSource g.K.WordSink c.args.source.now c.loop-copied.source c.put_ready.new.source c.args.sink.now c.loop-copied.sink c.put_ready.new.sink c.loop-copied.copied c.in-Ok.count
+    c.loop-copied.invariant.copies c.in-Ok.ensures.ok in (
+      c.put_ready.new.source,
+      c.loop-copied.copied + c.in-Ok.count,
+      omega arith,
+      now,
+      gives_no_next g.S.WordSource c.put_ready.new.source c.next.new.self c.in-Err-next.fault c.in-Err-next.ensures.err (λ byte e. c.in-Err-next.ensures.truncated byte (cc)) (λ byte e. c.in-Err-next.ensures.at byte (cc))
+          (λ e. c.in-Err-next.ensures.device (cc)) (λ e. c.in-Err-next.ensures.was_spent (cc)),
+    )
 
 pub loop-copied-preserved : goal.loop-copied-preserved
 loop-copied-preserved g c =
-    let gives = gives_one g.S.WordSource c.loop-copied.source c.next.new.self c.in-Ok-Some.word
+    let now = copies_both g.S.WordSource g.K.WordSink c.args.source.now c.loop-copied.source c.put_ready.new.source c.args.sink.now c.loop-copied.sink c.put_ready.new.sink c.loop-copied.copied c.in-Ok.count
+    c.loop-copied.invariant.copies c.in-Ok.ensures.ok in
+    let gives = gives_one g.S.WordSource c.put_ready.new.source c.next.new.self c.in-Ok-Some.word
     (rw c.in-Ok-Some.field-0-is at c.in-Ok-Some.ensures.words) (rw c.in-Ok-Some.field-0-is at c.in-Ok-Some.ensures.word) c.in-Ok-Some.ensures.ok in
-    copies_more g.S.WordSource g.K.WordSink c.args.source.now c.loop-copied.source c.next.new.self c.args.sink.now c.loop-copied.sink c.put.new.self c.loop-copied.copied c.in-Ok-Some.word
-    c.loop-copied.invariant gives (fills_one g.K.WordSink c.loop-copied.sink c.put.new.self c.in-Ok-Some.word c.in_default.ensures.put c.in_default.ensures.ok)
+    record {
+      few = omega arith;
+      copies = copies_more g.S.WordSource g.K.WordSink c.args.source.now c.put_ready.new.source c.next.new.self c.args.sink.now c.put_ready.new.sink c.put.new.self (c.loop-copied.copied + c.in-Ok.count) c.in-Ok-Some.word
+          now gives (fills_one g.K.WordSink c.put_ready.new.sink c.put.new.self c.in-Ok-Some.word c.in_default.ensures.put c.in_default.ensures.ok);
+    }

@@ -1,5 +1,12 @@
+use Rattle.std.proofs.Common.{◌-◌, ◌≤◌}
 use Rattle.cap_run.specs.Putting.{Copies}
 use Rattle.cap_run.proofs.engines.copy.put_words.Given as goal
 
 abbrev pub invariant-loop-copied : goal.invariant-loop-copied
-invariant-loop-copied g l = Copies g.S.WordSource g.K.WordSink l.initial.source l.source l.initial.sink l.sink l.copied
+invariant-loop-copied g l = record {
+  few : l.copied ≤ l.words;
+  copies : Copies g.S.WordSource g.K.WordSink l.initial.source l.source l.initial.sink l.sink l.copied;
+}
+
+abbrev pub decreases-loop-copied : goal.decreases-loop-copied
+decreases-loop-copied g l = l.words - l.copied

@@ -1,0 +1,92 @@
+-- Words that are read at once and handed to a sink.
+use Rattle.std.proofs.Common.{◌≡◌, ◌∙◌, ℕ, ◌+◌, ◌*◌, ◌<◌, ◌≤◌, false, true, ◌⊎◌, inl, inr, List, [], ◌∷◌, ◌++◌, length, take, Some, OnSome, refl, sym, ap, arith, length-append}
+use Rattle.std.specs.Io.KnownBytes.{Keeps}
+use Rattle.std.proofs.lemmas.List.{length-take-le}
+use Rattle.cap_spec.specs.Plain.{plain_text, plain_words}
+use Rattle.cap_spec.proofs.Plain.{length_plain}
+use Rattle.cap_words.specs.Ends.{Fails, WasSpent}
+use Rattle.cap_words.specs.Sinks.{sink_fault_of}
+use Rattle.cap_words.specs.Taking.{TakesAll}
+use Rattle.cap_words.specs.declared.ends.OutFault.{OutFault}
+use Rattle.cap_words.specs.declared.sinks.WordSink as sink
+use Rattle.cap_words.specs.declared.sources.SourceFault.{SourceFault}
+use Rattle.cap_words.specs.declared.sources.SourceFault.TheVariants.{Truncated, Device, Spent}
+use Rattle.cap_words.specs.declared.sources.WordSource as source
+use Rattle.cap_frame.specs.Putting.{Halts}
+use Rattle.cap_run.specs.Copying.{Fills, Gives, GivesNone, StopsMidway}
+use Rattle.cap_run.specs.Handed.{HandsOver}
+use Rattle.cap_run.specs.Putting.{Copies}
+use Rattle.cap_run.proofs.Copying.{fills_both, fills_none, gives_both, gives_none}
+use Rattle.cap_run.proofs.Making.{halts_behind}
+
+-- so many words are that many bytes
+pub words_in : (n : ℕ) (room : List ℕ) → n ≤ length room → take n room ≡ plain_text (plain_words (take n room)) → 8 * length (plain_words (take n room)) ≡ n
+words_in n room fits text = sym (length_plain (plain_words (take n room))) ∙ (sym (ap length text) ∙ length-take-le n room fits)
+
+module _ {S : Type 0} (gs : source.Ghosts S) where
+  -- the words at hand
+  pub gives_ready : (old new : S) (n : ℕ) (room : List ℕ) → n ≤ length room → take n room ≡ plain_text (plain_words (take n room))
+      → TakesAll (gs.words old) (gs.words new) (gs.is_cut old) (gs.is_cut new) (gs.place old) (gs.place new) (gs.places old) (gs.places new) (plain_words (take n room))
+      → (n ≡ 0) ⊎ (gs.spent old ≡ false) → gs.spent new ≡ gs.spent old → gs.failures new ≡ gs.failures old → Gives gs old new (plain_words (take n room))
+  gives_ready old new n room fits text t u s f = record {
+    takes = record { words = t.consumed; goes_on = t.goes_on };
+    usable = usable u;
+    spent = s;
+    failures = f;
+  }
+    where
+      usable : (n ≡ 0) ⊎ (gs.spent old ≡ false) → (plain_words (take n room) ≡ []) ⊎ (gs.spent old ≡ false)
+      usable (inl e) = inl (ap (λ (k : ℕ). plain_words (take k room)) e)
+      usable (inr w) = inr w
+
+  -- why there was no next word
+  pub gives_no_next : (old new : S) (fault : SourceFault) → gs.failed new ≡ true
+      → ((byte : ℕ) → fault ≡ Truncated byte → OnSome (gs.words old) ((gs.words old ≡ Some []) × (gs.is_cut old ≡ true) × (gs.places old ≡ gs.place new ∷ [])))
+      → ((byte : ℕ) → fault ≡ Truncated byte → (byte ≡ gs.place new) × (gs.spent old ≡ false) × (gs.spent new ≡ true) × (gs.failures new ≡ gs.failures old))
+      → (fault ≡ Device → Fails (gs.spent old) (gs.failures old) (gs.failures new) × (gs.spent new ≡ true))
+      → (fault ≡ Spent → WasSpent (gs.spent old) (gs.spent new) (gs.failures old) (gs.failures new) × (gs.place new ≡ gs.place old) × Keeps (gs.unread old) (gs.unread new))
+      → GivesNone gs old new fault
+  gives_no_next old new (Truncated byte) failed cut at device spent =
+      let a = at byte refl in
+      record {
+        none = rw a.0 (cut byte refl);
+        place = a.0;
+        usable = a.1;
+        spent = a.2;
+        failed = failed;
+        none_failed = a.3;
+      }
+  gives_no_next old new Device failed cut at device spent = let d = device refl in record { fails = d.0; spent = d.1; failed = failed }
+  gives_no_next old new Spent failed cut at device spent = let w = spent refl in record { was_spent = w.0; failed = failed; place = w.1; unread = w.2 }
+
+module _ {S K : Type 0} (gs : source.Ghosts S) (gk : sink.Ghosts K) where
+  -- nothing yet
+  pub copies_start : (s : S) (k : K) → Copies gs gk s s k k 0
+  copies_start s k = record { own = []; many = refl; gives = gives_none gs s; fills = fills_none gk k }
+
+  -- some words, and then others
+  pub copies_both : (old now new : S) (before between after : K) (n m : ℕ) → Copies gs gk old now before between n → Copies gs gk now new between after m → Copies gs gk old new before after (n + m)
+  copies_both old now new before between after n m c d = record {
+    own = c.own ++ d.own;
+    many = let a = c.many in let b = d.many in omega (arith, length-append c.own d.own);
+    gives = gives_both gs old now new c.own d.own c.gives d.gives;
+    fills = fills_both gk before between after c.own d.own c.fills d.fills;
+  }
+
+  -- the output failed behind words that were put
+  pub stops_midway : (most n rest : ℕ) (old now new : S) (before between after : K) (out : OutFault) → Copies gs gk old now before between n → HandsOver gs gk rest now new between after out → rest ≤ 64 → n + rest ≤ most
+      → StopsMidway gs gk most old new before after out
+  stops_midway most n rest old now new before between after out c h once room = record {
+    done = c.own;
+    piece = h.piece;
+    mid = new;
+    between = between;
+    few = let a = c.many in let b = h.few in omega (arith, length-append c.own h.piece);
+    some = h.some;
+    at_once = let b = h.few in omega arith;
+    gives = gives_both gs old now new c.own h.piece c.gives h.gives;
+    behind = inl refl;
+    fills = c.fills;
+    halts = h.halts;
+    part = (halts_behind gk before between after c.own h.piece (sink_fault_of out) c.fills h.halts).stopped;
+  }
