@@ -207,7 +207,7 @@ def text_of(process, length):
     return text
 
 
-def live_pipe(command, wanted):
+def live_pipe(command, wanted, status=0):
     """The text of a message comes while the input is still open behind it, and not only at the end."""
     piped = {"stdin": subprocess.PIPE, "stdout": subprocess.PIPE, "stderr": subprocess.PIPE}
     with subprocess.Popen([PROGRAM, *command.split()], cwd=TOP, **piped) as ran:
@@ -215,7 +215,7 @@ def live_pipe(command, wanted):
         ran.stdin.flush()
         text = text_of(ran, len(wanted))
         ran.stdin.close()
-        compare(f"capvet {command}, with an input that stays open", (wanted, b"", 0),
+        compare(f"capvet {command}, with an input that stays open", (wanted, b"", status),
                 (text, ran.stderr.read(), ran.wait(60)))
 
 
@@ -259,9 +259,9 @@ for command, text in {
     "segments": segments_text(contacts),
     "dump": dump_text(contacts, CONTACTS),
     "get /p0": get_text(contacts, "/p0"),
-    "check": CHECKS["contacts.bin"],
 }.items():
     live_pipe(command, text.encode())
+live_pipe("check", CHECKS["contacts.bin"].encode(), status=1)
 copy = sample("canonical/contacts.bin")
 live_pipe("canon", struct.pack("<II", 0, len(copy) // 8) + copy)
 resident("a table that claims 64 MiB and has nothing behind it", [word("0000000000008000")], "", 4 << 10)
@@ -359,6 +359,7 @@ SHARED_VET = "message 0: accepted charge 4 depth 2 pointers 3 caps 0\n"
 SHARED_TEXTS = {
     "segments": segments_text(SHARED),
     "vet": SHARED_VET,
+    "vet --exclusive": "message 0: refused Overlap at 0:2 pointers 3\n",
     "dump": dump_text(SHARED, SHARED_VET),
     "get /p1": get_text(SHARED, "/p1"),
     "check": "message 0: not canonical\n",
@@ -414,7 +415,7 @@ def closing_pipe(command, text):
             ran.stdout.close()
             _, err = ran.communicate(SHARED, 60)
             compare(f"capvet {command}, to a pipe that is closed behind {size} bytes",
-                    (text[:size].encode(), FAILED.encode(), 3), (taken, err, ran.returncode))
+                    (text[:size], FAILED.encode(), 3), (taken, err, ran.returncode))
 
 
 def limit_memory(kibibytes):
@@ -444,9 +445,17 @@ def wants():
     large = struct.pack("<IIII", 0, 1 + words, 1, 8 * words << 3 | 2) + bytes(8 * words)
     nothing = ("", "capvet: out of memory\n", 3)
     accepted = f"message 1: accepted charge {words} depth 1 pointers 1 caps 0\n"
-    firsts = {"vet": NULL_ACCEPTED, "dump": NULL_DUMP, "get /": NULL_FOUND, "check": "message 0: canonical\n", "canon": NULL}
+    firsts = {
+        "vet": NULL_ACCEPTED,
+        "vet --exclusive": NULL_ACCEPTED,
+        "dump": NULL_DUMP,
+        "get /": NULL_FOUND,
+        "check": "message 0: canonical\n",
+        "canon": NULL,
+    }
     seconds = {
         "vet": accepted,
+        "vet --exclusive": accepted,
         "dump": accepted + f"root list 2 {8 * words}\n" + "".join(f"  w{i} {'0' * 16}\n" for i in range(words)),
         "get /": f"message 1: found\nnode list 2 {8 * words}\n" + "".join(f"  w{i} {'0' * 16}\n" for i in range(words)),
         "check": "message 1: canonical\n",
@@ -464,10 +473,8 @@ def wants():
 
 cut_inputs()
 short_outputs()
-for command in SHARED_TEXTS:
-    # (`canon` writes to its output at the end alone)
-    if command != "canon":
-        closing_pipe(command, SHARED_TEXTS[command])
+for command, text in SHARED_TEXTS.items():
+    closing_pipe(command, encoded(text))
 wants()
 
 # ------------------------------------------------------------------ command lines

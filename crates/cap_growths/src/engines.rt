@@ -6,7 +6,7 @@ use cap_frame::{FrameFault, SizeLimit};
 use cap_pack::{Packer, Unpacker};
 use cap_run::{
     Cause, CopyFault, Limits, Outcome, RunFault, Settings, Step, run_canon, run_check, run_dump,
-    run_get, run_pack, run_segments, run_unpack, run_vet,
+    run_get, run_pack, run_segments, run_unpack, run_vet, run_vet_exclusive,
 };
 use cap_words::{OutFault, PlainSink, PlainWords, SliceIn, VecOut};
 use std::process::Abort;
@@ -54,7 +54,9 @@ fn settle(
             assert!(rt; message < 2);
             let before = if message == 0 { 0 } else { first };
             match cause {
-                Cause::Frame(FrameFault::Memory) | Cause::Canon(CanonFault::Memory) => {
+                Cause::Frame(FrameFault::Memory)
+                | Cause::Canon(CanonFault::Memory)
+                | Cause::Memory => {
                     assert_eq!(rt; written.len(), before, "at message {message}");
                 }
                 Cause::Output(OutFault::Memory) => {
@@ -87,6 +89,14 @@ fn the_verdict_of_each_message(rt: HostRuntime) -> Result<(), Fail> {
     let mut source = PlainWords::new(SliceIn::new(STREAM));
     let mut out = VecOut::new(rt.alloc());
     let answer = run_vet(rt.alloc(), &mut source, &mut out, &settings()?);
+    settle(&rt, answer, &out, 55, VET)
+}
+
+#[test]
+fn the_exclusive_verdict_of_each_message(rt: HostRuntime) -> Result<(), Fail> {
+    let mut source = PlainWords::new(SliceIn::new(STREAM));
+    let mut out = VecOut::new(rt.alloc());
+    let answer = run_vet_exclusive(rt.alloc(), &mut source, &mut out, &settings()?);
     settle(&rt, answer, &out, 55, VET)
 }
 
