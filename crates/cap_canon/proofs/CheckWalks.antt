@@ -10,7 +10,7 @@ use Rattle.cap_spec.proofs.TrimmedMeasures.{Trimmed, trimmed}
 use Rattle.cap_canon.specs.InPlace.{AreInPlace}
 use Rattle.cap_canon.specs.Laying.{Due, Laid, IsPointed, OwnAt, own_size, below}
 use Rattle.cap_canon.specs.Objects.{IsObject}
-use Rattle.cap_canon.specs.Owing.{IsWalking}
+use Rattle.cap_canon.specs.StillToLay.{IsWalking}
 use Rattle.cap_canon.specs.declared.frame.Frame.{Frame}
 use Rattle.cap_canon.specs.declared.objects.Object.{Object}
 use Rattle.cap_canon.proofs.LaidSteps.{object_laid}

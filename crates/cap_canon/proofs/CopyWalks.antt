@@ -12,7 +12,7 @@ use Rattle.cap_spec.proofs.TrimmedMeasures.{Trimmed, trimmed}
 use Rattle.cap_spec.proofs.Placing.{stand_inside}
 use Rattle.cap_spec.proofs.Sizes.{length-content}
 use Rattle.cap_canon.specs.Laying.{Due, Laid, IsPointed, OwnAt, own_size, below}
-use Rattle.cap_canon.specs.Owing.{IsOwed, IsNext, IsWalking}
+use Rattle.cap_canon.specs.StillToLay.{IsOwed, IsNext, IsWalking}
 use Rattle.cap_canon.specs.Filling.{Agrees, OwnAppended}
 use Rattle.cap_canon.specs.declared.frame.Frame.{Frame}
 use Rattle.cap_canon.proofs.Agreeing.{agrees_set, agrees_append, agrees_all}

@@ -2,7 +2,7 @@
 use Rattle.std.proofs.Common.{ℕ, zero, suc, ◌+◌, ◌-◌, ◌<◌, List, [], ◌∷◌, ◌++◌, ◌≡◌, ap, refl, sym, ◌∙◌, arith, length, Option, None, Some}
 use Rattle.std.specs.Option.{option_to_list}
 use Rattle.std.proofs.lemmas.List.{append-nil, append_assoc, length-append}
-use Rattle.cap_canon.specs.Frames.{AreShort, IsFull, IsRest, IsShort, Place, all_places, further_places, option_places, places_of, row_places}
+use Rattle.cap_canon.specs.CopyFrames.{AreShort, IsFull, IsRest, IsShort, Place, all_places, further_places, option_places, places_of, row_places}
 use Rattle.cap_canon.specs.declared.frame.Frame.{Frame}
 
 -- behind the first of several words in a row

@@ -9,7 +9,7 @@ use Rattle.cap_spec.proofs.Measures.{Measured, measured}
 use Rattle.cap_spec.proofs.TrimmedMeasures.{Trimmed, trimmed}
 use Rattle.cap_spec.proofs.Sizes.{length-content, trimmed_size_charged}
 use Rattle.cap_canon.specs.Laying.{Due, slots, element_slots, own_size, below, size_due}
-use Rattle.cap_canon.specs.Owing.{IsNext, IsWalking}
+use Rattle.cap_canon.specs.StillToLay.{IsNext, IsWalking}
 use Rattle.cap_canon.specs.Objects.{IsObject}
 use Rattle.cap_canon.specs.declared.frame.Frame.{Frame}
 use Rattle.cap_canon.specs.declared.objects.Object.{Object}

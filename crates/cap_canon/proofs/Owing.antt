@@ -8,9 +8,9 @@ use Rattle.cap_spec.specs.Tree.{Tree}
 use Rattle.cap_spec.proofs.Arrivals.{lead_word}
 use Rattle.cap_spec.proofs.Messages.{HasWord-inside, HasWord-segment}
 use Rattle.cap_spec.proofs.OneTree.{Formed, formed}
-use Rattle.cap_canon.specs.Frames.{AreShort, IsFull, IsRest, OptionFull, Place, all_places, option_places, places_of}
+use Rattle.cap_canon.specs.CopyFrames.{AreShort, IsFull, IsRest, OptionFull, Place, all_places, option_places, places_of}
 use Rattle.cap_canon.specs.Laying.{Due, AreBefore, size_due}
-use Rattle.cap_canon.specs.Owing.{AreOwed, FrameOwes, IsNext, IsWalking, Stacked, work_left}
+use Rattle.cap_canon.specs.StillToLay.{AreOwed, FrameOwes, IsNext, IsWalking, Stacked, work_left}
 use Rattle.cap_canon.specs.declared.frame.Frame.{Frame}
 use Rattle.cap_canon.proofs.Frames.{count_more}
 

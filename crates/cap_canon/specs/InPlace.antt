@@ -1,7 +1,7 @@
 -- What stands in segment 0 where a copy has it (profile).
 use Rattle.std.specs.Prelude.{ℕ, ◌+◌, ◌<◌, ◌≡◌, List, ⊤}
 use Rattle.std.specs.List.{AllByRecursion}
-use Rattle.cap_canon.specs.Frames.{Place, all_places}
+use Rattle.cap_canon.specs.CopyFrames.{Place, all_places}
 use Rattle.cap_canon.specs.declared.frame.Frame.{Frame}
 use Rattle.cap_canon.specs.declared.objects.Object.{Object}
 use Rattle.cap_canon.specs.declared.objects.Object.TheVariants.{Null, Cap, Struct, Scalars, Pointers, Structs}

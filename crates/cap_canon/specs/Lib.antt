@@ -1,11 +1,11 @@
-pub mod Copies
+pub mod CanonicalCopies
+pub mod CopyFrames
 pub mod Filling
 pub mod Found
-pub mod Frames
 pub mod InPlace
 pub mod Laying
 pub mod Objects
-pub mod Owing
 pub mod Spelled
+pub mod StillToLay
 pub mod Trimming
 pub mod Values

@@ -1,6 +1,6 @@
 //! The canonical copy of a message.
 
-ghost use Rattle.cap_canon.specs.Copies.{UnlessMemory};
+ghost use Rattle.cap_canon.specs.CanonicalCopies.{UnlessMemory};
 ghost use Rattle.cap_canon.specs.Filling.{Agrees};
 ghost use Rattle.cap_canon.specs.Laying.{Due, IsPointed, OwnAt, below, own_size};
 ghost use Rattle.cap_canon.specs.Objects.{IsObject};

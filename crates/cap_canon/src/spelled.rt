@@ -1,6 +1,6 @@
 //! The canonical copy of a message as bytes.
 
-ghost use Rattle.cap_canon.specs.Copies.{UnlessMemory};
+ghost use Rattle.cap_canon.specs.CanonicalCopies.{UnlessMemory};
 ghost use Rattle.cap_canon.specs.Spelled.{spelled_words};
 ghost use Rattle.cap_spec.specs.Copies.{HasCopy};
 ghost use Rattle.cap_spec.specs.Paths.{IsFirstCap};

@@ -1,10 +1,10 @@
 //! The walk over an accepted message, in preorder: one pointer word a turn.
 
-ghost use Rattle.cap_canon.specs.Frames.{OptionFull, option_places, row_places};
+ghost use Rattle.cap_canon.specs.CopyFrames.{OptionFull, option_places, row_places};
 ghost use Rattle.cap_canon.specs.InPlace.{AreInPlace, IsInPlace, StandsIn};
 ghost use Rattle.cap_canon.specs.Laying.{Due, below, own_size};
 ghost use Rattle.cap_canon.specs.Objects.{IsObject, IsStructs};
-ghost use Rattle.cap_canon.specs.Owing.{AreOwed, IsNext, IsWalking, work_left};
+ghost use Rattle.cap_canon.specs.StillToLay.{AreOwed, IsNext, IsWalking, work_left};
 ghost use Rattle.cap_spec.specs.Messages.{IsMessage};
 ghost use Rattle.cap_spec.specs.Tree.{Tree};
 ghost use Rattle.std.specs.List.{AllByRecursion};

@@ -21,7 +21,7 @@ use Rattle.cap_vet.specs.Limits.{depth_of, words_of}
 use Rattle.cap_run.specs.Canons.{AreCanonised, Canonised, MakesCopies, canonised, copies_of}
 use Rattle.cap_run.specs.Checking.{TellsCheck}
 use Rattle.cap_run.specs.Engines.{CopiesWords, ShowsStream, TellsStream, most_words}
-use Rattle.cap_run.specs.Faults.{copy_fault_line, run_fault_line}
+use Rattle.cap_run.specs.FaultLines.{copy_fault_line, run_fault_line}
 use Rattle.cap_cmd.specs.Statuses.{copy_status, run_status}
 use Rattle.cap_run.specs.Telling.{Tells, TellsEach, Told, WantsNone, messages_of, noncanonical_in, refused_in, segments_texts, texts_of}
 use Rattle.cap_run.specs.Vetting.{TellsDump, TellsExclusive, TellsGet, TellsVerdict, WantsMarks}

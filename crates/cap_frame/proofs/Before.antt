@@ -6,7 +6,7 @@ use Rattle.cap_spec.specs.Frames.{IsPartial}
 use Rattle.cap_frame.specs.declared.fault.FrameFault.{FrameFault}
 use Rattle.cap_frame.specs.declared.fault.FrameFault.TheVariants.{TooManySegments, TooLarge, Truncated, Device, Memory, Spent}
 use Rattle.cap_frame.specs.Taking.{Takes, IsUsable}
-use Rattle.cap_frame.specs.Faults.{TakesTable, TakesTableBehind, Faults, FaultsBehind}
+use Rattle.cap_frame.specs.ReadingFaults.{TakesTable, TakesTableBehind, Faults, FaultsBehind}
 use Rattle.cap_frame.proofs.Taking.{over_both, takes_both, usable_both, breaks_later}
 
 -- a part of a frame, with its first word in front

@@ -9,7 +9,7 @@ use Rattle.cap_words.specs.declared.sources.SourceFault.TheVariants.{Truncated, 
 use Rattle.cap_spec.specs.Messages.{IsMessage}
 use Rattle.cap_spec.specs.Frames.{joined, sizes_of, IsTable, Frames, IsPartial, in_table, in_contents}
 use Rattle.cap_frame.specs.Taking.{Takes, IsUsable, Stops}
-use Rattle.cap_frame.specs.Faults.{TakesTable, Faults, FaultsBehind}
+use Rattle.cap_frame.specs.ReadingFaults.{TakesTable, Faults, FaultsBehind}
 use Rattle.cap_frame.specs.SourceFaults.{frame_fault_of}
 use Rattle.cap_frame.proofs.Taking.{takes_both, breaks_later, stops_later}
 

@@ -9,7 +9,7 @@ use Rattle.cap_spec.proofs.Endings.{message_not_none, message_not_too_many, mess
 use Rattle.cap_frame.specs.declared.fault.FrameFault.{FrameFault}
 use Rattle.cap_frame.specs.declared.fault.FrameFault.TheVariants.{TooManySegments, TooLarge, Truncated, Device, Memory, Spent}
 use Rattle.cap_frame.specs.Taking.{Takes}
-use Rattle.cap_frame.specs.Faults.{Answered, Faults}
+use Rattle.cap_frame.specs.ReadingFaults.{Answered, Faults}
 
 -- known words that were taken from are known still
 pub known_still : (ws own : List ℕ) (b : Option (List ℕ)) → Consumes (Some ws) b own → (rest : List ℕ) × (b ≡ Some rest) × (ws ≡ own ++ rest)

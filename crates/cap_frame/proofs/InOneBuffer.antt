@@ -9,7 +9,7 @@ use Rattle.cap_words.proofs.Filling.{plain_join}
 use Rattle.cap_spec.specs.Frames.{Frames, joined, sizes_of}
 use Rattle.cap_spec.specs.Plain.{plain_words}
 use Rattle.cap_frame.specs.Bytes.{cut}
-use Rattle.cap_frame.specs.Faults.{TakesTable}
+use Rattle.cap_frame.specs.ReadingFaults.{TakesTable}
 use Rattle.cap_frame.specs.Taking.{Takes, Reads, IsUsable, Stops}
 use Rattle.cap_frame.specs.declared.fault.FrameFault.{FrameFault}
 use Rattle.cap_frame.proofs.Behind.{behind_message}

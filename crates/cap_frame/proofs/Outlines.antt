@@ -5,7 +5,7 @@ use Rattle.cap_spec.specs.Frames.{sizes_of, IsTable, Frames, IsPartial}
 use Rattle.cap_frame.specs.declared.fault.FrameFault.{FrameFault}
 use Rattle.cap_frame.specs.declared.fault.FrameFault.TheVariants.{TooManySegments, TooLarge, Truncated, Device, Memory, Spent}
 use Rattle.cap_frame.specs.Taking.{Takes}
-use Rattle.cap_frame.specs.Faults.{Answered, Faults}
+use Rattle.cap_frame.specs.ReadingFaults.{Answered, Faults}
 use Rattle.cap_frame.proofs.Converse.{Tells, tells, whole_answer, none_answer, many_answer, large_answer, partial_answer}
 
 -- an answer that tells whether there was a message, as one that gives it

@@ -1,7 +1,7 @@
 pub mod Limit
 pub mod Outlines
 pub mod Taking
-pub mod Faults
+pub mod ReadingFaults
 pub mod Rooms
 pub mod SourceFaults
 pub mod Putting

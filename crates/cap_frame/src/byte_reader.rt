@@ -2,7 +2,7 @@
 
 ghost use Rattle.cap_frame.specs.ByteRoom.{room_in};
 ghost use Rattle.cap_frame.specs.Bytes.{cut};
-ghost use Rattle.cap_frame.specs.Faults.{Answered, EndsInside, Faults, OnUsable, TakesTable, TakesTooMany};
+ghost use Rattle.cap_frame.specs.ReadingFaults.{Answered, EndsInside, Faults, OnUsable, TakesTable, TakesTooMany};
 ghost use Rattle.cap_frame.specs.HeldBytes.{held_segments};
 ghost use Rattle.cap_frame.specs.Limit.{limit_of};
 ghost use Rattle.cap_frame.specs.Taking.{Breaks, IsUsable, Reads, Refuses, Takes};

@@ -1,6 +1,6 @@
 //! Reading messages of which only the outline is kept.
 
-ghost use Rattle.cap_frame.specs.Faults.{Answered, Faults};
+ghost use Rattle.cap_frame.specs.ReadingFaults.{Answered, Faults};
 ghost use Rattle.cap_frame.specs.Limit.{limit_of};
 ghost use Rattle.cap_frame.specs.Outlines.{Outlines, root_in, sizes_in};
 ghost use Rattle.cap_frame.specs.Taking.{IsUsable, Reads, Takes};

@@ -1,6 +1,6 @@
 //! Reading messages from a source of words.
 
-ghost use Rattle.cap_frame.specs.Faults.{Answered, EndsInside, Faults, OnUsable, TakesTable, TakesTooMany};
+ghost use Rattle.cap_frame.specs.ReadingFaults.{Answered, EndsInside, Faults, OnUsable, TakesTable, TakesTooMany};
 ghost use Rattle.cap_frame.specs.Limit.{limit_of};
 ghost use Rattle.cap_frame.specs.Taking.{Breaks, IsUsable, Reads, Refuses, Takes};
 ghost use Rattle.cap_spec.specs.Frames.{Frames, IsPartial, IsTable, sizes_of};

@@ -1,7 +1,7 @@
 //! The table in front of a message: how many segments it has, and how many words each of them.
 
 ghost use Rattle.arrayvec.specs.ArrayVec.{array_vec_len};
-ghost use Rattle.cap_frame.specs.Faults.{Faults, FaultsBehind, TakesTable, TakesTableBehind};
+ghost use Rattle.cap_frame.specs.ReadingFaults.{Faults, FaultsBehind, TakesTable, TakesTableBehind};
 ghost use Rattle.cap_frame.specs.Limit.{limit_of};
 ghost use Rattle.cap_frame.specs.Taking.{IsUsable, Reads, Stops};
 ghost use Rattle.cap_spec.specs.Frames.{halves};

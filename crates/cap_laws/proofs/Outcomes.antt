@@ -3,7 +3,7 @@ use Rattle.std.proofs.Common.{◌≡◌, ℕ, inl, inr, List, pos, ap}
 use Rattle.cap_spec.specs.Following.{to_null, to_cap, to_object}
 use Rattle.cap_spec.proofs.Following.{one_lead, one_wrong, null-not_wrong, cap-not_wrong, object-not_wrong}
 use Rattle.cap_spec.proofs.Fates.{fate}
-use Rattle.cap_laws.specs.Following.{Outcome, refused, null, cap, object, ComesOf, OneOutcome}
+use Rattle.cap_laws.specs.FollowingLaws.{Outcome, refused, null, cap, object, ComesOf, OneOutcome}
 
 -- two things that come of one word are one
 same : (m : List (List ℕ)) (s w : ℕ) (o o' : Outcome) → ComesOf m s w o → ComesOf m s w o' → o' ≡ o

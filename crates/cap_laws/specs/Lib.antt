@@ -1,4 +1,4 @@
-pub mod Following
+pub mod FollowingLaws
 pub mod Framing
-pub mod Plain
-pub mod Packing
+pub mod PlainLaws
+pub mod PackingLaws

@@ -1,6 +1,6 @@
 //! What following a pointer word comes to.
 
-ghost use Rattle.cap_laws.specs.Following.{OneOutcome};
+ghost use Rattle.cap_laws.specs.FollowingLaws.{OneOutcome};
 ghost use Rattle.cap_spec.specs.Following.{Lead, Leads};
 ghost use Rattle.std.specs.Prelude.{◌≡◌, List, ℕ};
 

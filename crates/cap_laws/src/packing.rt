@@ -1,6 +1,6 @@
 //! Words in their packed spellings.
 
-ghost use Rattle.cap_laws.specs.Packing.{CutAsComputed, EndsByGroups, GroupHasEnds, OneUnpacking, PackedByGroups, UnpacksAsComputed};
+ghost use Rattle.cap_laws.specs.PackingLaws.{CutAsComputed, EndsByGroups, GroupHasEnds, OneUnpacking, PackedByGroups, UnpacksAsComputed};
 ghost use Rattle.cap_spec.specs.Packing.{pack_text};
 ghost use Rattle.cap_spec.specs.Unpacking.{Unpacks, packed_is_cut, unpacked};
 ghost use Rattle.cap_spec.specs.Words.{IsWord};

@@ -1,6 +1,6 @@
 //! Words in their plain spelling, eight bytes each.
 
-ghost use Rattle.cap_laws.specs.Plain.{CutWithRest, OneSplit};
+ghost use Rattle.cap_laws.specs.PlainLaws.{CutWithRest, OneSplit};
 ghost use Rattle.cap_spec.specs.Plain.{plain_text, plain_words};
 ghost use Rattle.cap_spec.specs.Words.{IsWord};
 ghost use Rattle.std.specs.List.{AllByRecursion};

@@ -9,7 +9,7 @@ use Rattle.byteorder.specs.Endian.{little_number}
 use Rattle.cap_spec.specs.Plain.{capped, plain_text, plain_words}
 use Rattle.cap_spec.proofs.Plain.{length_plain, plain_split}
 use Rattle.cap_words.proofs.Filling.{plain_join}
-use Rattle.cap_words.specs.Taking.{TakesAll}
+use Rattle.cap_words.specs.TakingMany.{TakesAll}
 use Rattle.cap_pack.specs.AtHand.{Gives, Leads, Unpacks}
 use Rattle.cap_pack.specs.Course.{Course, gives, words_of, is_cut_of, places_of, zeros_then, course, head_rest, first_word, zeros_of, plain_of}
 use Rattle.cap_pack.specs.State.{ahead}

@@ -4,6 +4,6 @@ pub mod CourseWords
 pub mod Holding
 pub mod Input
 pub mod Output
-pub mod Reading
+pub mod InputReads
 pub mod State
 pub mod Places

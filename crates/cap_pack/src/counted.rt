@@ -1,7 +1,7 @@
 //! An input, and how many bytes were read of it.
 
 ghost use Rattle.cap_pack.specs.Course.{course, gives, stops, zeros_then};
-ghost use Rattle.cap_pack.specs.Reading.{Took};
+ghost use Rattle.cap_pack.specs.InputReads.{Took};
 ghost use Rattle.cap_words.specs.Ends.{Fails, Works};
 ghost use Rattle.std.specs.Io.KnownBytes.{IsAtEnd};
 ghost use Rattle.std.specs.Prelude.{◌<◌, ◌≡◌, [], ◌++◌, IfOk, IfSome, IsErrOf, List, OnOk, length, suc, take, ◌≤◌, true, ℕ};

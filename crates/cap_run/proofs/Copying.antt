@@ -13,7 +13,7 @@ use Rattle.cap_frame.proofs.Taking.{takes_none, takes_one, takes_both}
 use Rattle.cap_frame.specs.Putting.{Blames, Halts}
 use Rattle.cap_frame.proofs.Putting.{begins_kept, blames_later}
 use Rattle.cap_run.specs.Copying.{Copied, Fills, Finishes, Gives, Spoils, StopsFinishing, StopsMidway}
-use Rattle.cap_run.specs.Putting.{Copies, StopsAt, StopsPutting}
+use Rattle.cap_run.specs.PuttingEnds.{Copies, StopsAt, StopsPutting}
 use Rattle.cap_run.specs.declared.fault.CopyFault.{CopyFault}
 use Rattle.cap_run.specs.declared.fault.CopyFault.TheVariants.{TooManyWords, Source, Output}
 use Rattle.cap_run.proofs.Streams.{all_taken}

@@ -6,7 +6,7 @@ use Rattle.cap_spec.specs.Plain.{plain_text, plain_words}
 use Rattle.cap_spec.proofs.Plain.{length_plain}
 use Rattle.cap_words.specs.Ends.{Fails, WasSpent}
 use Rattle.cap_words.specs.Sinks.{sink_fault_of}
-use Rattle.cap_words.specs.Taking.{TakesAll}
+use Rattle.cap_words.specs.TakingMany.{TakesAll}
 use Rattle.cap_words.specs.declared.ends.OutFault.{OutFault}
 use Rattle.cap_words.specs.declared.sinks.WordSink as sink
 use Rattle.cap_words.specs.declared.sources.SourceFault.{SourceFault}
@@ -15,7 +15,7 @@ use Rattle.cap_words.specs.declared.sources.WordSource as source
 use Rattle.cap_frame.specs.Putting.{Halts}
 use Rattle.cap_run.specs.Copying.{Fills, Gives, GivesNone, StopsMidway}
 use Rattle.cap_run.specs.Handed.{HandsOver}
-use Rattle.cap_run.specs.Putting.{Copies}
+use Rattle.cap_run.specs.PuttingEnds.{Copies}
 use Rattle.cap_run.proofs.Copying.{fills_both, fills_none, gives_both, gives_none}
 use Rattle.cap_run.proofs.Making.{halts_behind}
 

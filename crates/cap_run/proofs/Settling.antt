@@ -8,7 +8,7 @@ use Rattle.cap_spec.proofs.Lists.{all_back}
 use Rattle.cap_spec.proofs.Streams.{StreamNext, stream_front, stream_next}
 use Rattle.cap_words.specs.declared.ends.ByteOut as output
 use Rattle.cap_words.specs.declared.sources.WordSource as source
-use Rattle.cap_frame.specs.Faults.{Answered, Faults}
+use Rattle.cap_frame.specs.ReadingFaults.{Answered, Faults}
 use Rattle.cap_frame.specs.declared.fault.FrameFault.{FrameFault}
 use Rattle.cap_frame.specs.declared.fault.FrameFault.TheVariants.{TooManySegments, TooLarge, Truncated, Device, Memory, Spent}
 use Rattle.cap_frame.proofs.Converse.{known_still, same_some, tells, whole_answer, none_answer}

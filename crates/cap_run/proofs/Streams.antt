@@ -7,7 +7,7 @@ use Rattle.cap_spec.proofs.Streams.{stream_append, stream_none, stream_one}
 use Rattle.cap_words.specs.declared.sources.WordSource as source
 use Rattle.cap_words.specs.Ends.{Works}
 use Rattle.cap_frame.specs.Taking.{Takes, Breaks, Refuses}
-use Rattle.cap_frame.specs.Faults.{EndsInside, Faults, OnUsable, TakesTable, TakesTooMany}
+use Rattle.cap_frame.specs.ReadingFaults.{EndsInside, Faults, OnUsable, TakesTable, TakesTooMany}
 use Rattle.cap_frame.specs.declared.fault.FrameFault.{FrameFault}
 use Rattle.cap_frame.specs.declared.fault.FrameFault.TheVariants.{TooManySegments, TooLarge, Truncated, Device, Memory, Spent}
 use Rattle.std.specs.Prelude.{IfErr, IsErrOf}

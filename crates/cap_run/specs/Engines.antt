@@ -9,7 +9,7 @@ use Rattle.cap_words.specs.declared.ends.OutFault.{OutFault}
 use Rattle.cap_words.specs.declared.sinks.WordSink as sink
 use Rattle.cap_words.specs.declared.sources.SourceFault.TheVariants.{Truncated}
 use Rattle.cap_words.specs.declared.sources.WordSource as source
-use Rattle.cap_frame.specs.Faults.{Faults}
+use Rattle.cap_frame.specs.ReadingFaults.{Faults}
 use Rattle.cap_frame.specs.declared.fault.FrameFault.{FrameFault}
 use Rattle.cap_frame.specs.declared.fault.FrameFault.TheVariants.{Memory}
 use Rattle.cap_canon.specs.declared.fault.CanonFault.{CanonFault}

@@ -3,12 +3,12 @@ pub mod Checking
 pub mod Copying
 pub mod Dumping
 pub mod Engines
-pub mod Faults
+pub mod FaultLines
 pub mod Handed
 pub mod Making
 pub mod Paging
 pub mod PathReading
-pub mod Putting
+pub mod PuttingEnds
 pub mod Running
 pub mod Streams
 pub mod Telling

@@ -6,7 +6,7 @@ use Rattle.cap_words.specs.declared.ends.ByteOut as output
 use Rattle.cap_words.specs.declared.ends.OutFault.{OutFault}
 use Rattle.cap_words.specs.declared.ends.OutFault.TheVariants.{Device, Memory, Spent}
 use Rattle.cap_words.specs.declared.sources.WordSource as source
-use Rattle.cap_frame.specs.Faults.{Answered, Faults}
+use Rattle.cap_frame.specs.ReadingFaults.{Answered, Faults}
 use Rattle.cap_canon.specs.declared.fault.CanonFault.TheVariants.{HasCapability, Memory as canon_memory}
 use Rattle.cap_run.specs.declared.fault.Cause.{Cause}
 use Rattle.cap_run.specs.declared.fault.Cause.TheVariants.{TooManyMessages, Frame, Output, Refused, Canon, Memory as no_marks}

@@ -11,9 +11,9 @@ use Rattle.cap_spec.specs.declared.Reason.TheVariants.{DepthLimit, WordLimit}
 use Rattle.cap_ptr.specs.Shapes.{FindsObject, IsShape}
 use Rattle.cap_ptr.specs.declared.shapes.Shape.{Shape}
 use Rattle.cap_ptr.specs.declared.shapes.Shape.TheVariants.{Struct, Pointers, Scalars, Structs}
-use Rattle.cap_vet.specs.Frames.{OptionIn, option_spots}
+use Rattle.cap_vet.specs.WalkFrames.{OptionIn, option_spots}
 use Rattle.cap_vet.specs.Looking.{FrameRises, LooksObject, object_places}
-use Rattle.cap_vet.specs.Shapes.{levels_of}
+use Rattle.cap_vet.specs.Levels.{levels_of}
 use Rattle.cap_vet.specs.declared.frame.Frame.{Frame}
 use Rattle.cap_vet.proofs.Steps.{cap_no_object, null_no_object}
 use Rattle.cap_vet.proofs.Turning.{deep_once}

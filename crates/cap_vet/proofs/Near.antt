@@ -7,9 +7,9 @@ use Rattle.cap_ptr.specs.Shapes.{FindsObject}
 use Rattle.cap_vet.specs.declared.rows.Row.{Row}
 use Rattle.cap_ptr.specs.declared.shapes.Shape.{Shape}
 use Rattle.cap_ptr.specs.declared.shapes.Shape.TheVariants.{Pointers, Scalars, Struct, Structs}
-use Rattle.cap_vet.specs.Frames.{LevelIs, OptionIn, option_spots, row_places}
+use Rattle.cap_vet.specs.WalkFrames.{LevelIs, OptionIn, option_spots, row_places}
 use Rattle.cap_vet.specs.Looking.{FrameRises, IsLooked, LooksObject, object_places}
-use Rattle.cap_vet.specs.Shapes.{levels_of}
+use Rattle.cap_vet.specs.Levels.{levels_of}
 use Rattle.cap_vet.specs.declared.frame.Frame.{Frame}
 use Rattle.cap_vet.specs.declared.looking.Looked.TheVariants.{Object}
 use Rattle.cap_vet.proofs.Looks.{looks_object}

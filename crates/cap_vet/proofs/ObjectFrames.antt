@@ -7,7 +7,7 @@ use Rattle.cap_spec.specs.Following.{TagFits}
 use Rattle.cap_spec.proofs.Charges.{extent_struct, extent_structs}
 use Rattle.cap_ptr.specs.Shapes.{FindsObject}
 use Rattle.cap_ptr.specs.declared.shapes.Shape.TheVariants.{Struct, Structs}
-use Rattle.cap_vet.specs.Frames.{FrameIn, Place, element_places, spots}
+use Rattle.cap_vet.specs.WalkFrames.{FrameIn, Place, element_places, spots}
 use Rattle.cap_vet.specs.Looking.{object_places}
 
 -- a struct's words lie inside its segment

@@ -9,7 +9,7 @@ use Rattle.cap_spec.specs.Denoting.{Finds}
 use Rattle.cap_spec.specs.Verdicts.{levels_below}
 use Rattle.cap_spec.specs.declared.Step.{Step}
 use Rattle.cap_vet.specs.Trails.{Ahead}
-use Rattle.cap_vet.specs.Frames.{FrameIn, IsRest, LevelIs, OptionIn, all_spots, option_spots, place_of, spots}
+use Rattle.cap_vet.specs.WalkFrames.{FrameIn, IsRest, LevelIs, OptionIn, all_spots, option_spots, place_of, spots}
 use Rattle.cap_vet.specs.Looking.{FrameRises, IsLooked, object_children}
 use Rattle.cap_vet.specs.Turning.{added, frame_below}
 use Rattle.cap_vet.specs.Walking.{IsNext, AreStacked, IsWalking, Progress, Walks, work_left, work_next}

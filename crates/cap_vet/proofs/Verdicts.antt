@@ -12,7 +12,7 @@ use Rattle.cap_spec.specs.Verdicts.{CostOf}
 use Rattle.cap_spec.specs.declared.Reason.{Reason}
 use Rattle.cap_spec.specs.declared.Step.{Step}
 use Rattle.cap_vet.specs.Trails.{Ahead, IsTrail}
-use Rattle.cap_vet.specs.Frames.{place_of}
+use Rattle.cap_vet.specs.WalkFrames.{place_of}
 use Rattle.cap_vet.specs.Walking.{IsFirstOf, IsNext, IsWalking, Progress}
 use Rattle.cap_vet.specs.declared.frame.Frame.{Frame}
 use Rattle.cap_vet.specs.declared.report.Report.{Report}

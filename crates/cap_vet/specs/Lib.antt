@@ -2,8 +2,8 @@ pub mod Budgets
 pub mod Charging
 pub mod Exclusives
 pub mod Finding
-pub mod Frames
 pub mod Handles
+pub mod Levels
 pub mod Limits
 pub mod Looking
 pub mod Marks
@@ -11,10 +11,10 @@ pub mod Nodes
 pub mod Owing
 pub mod Reports
 pub mod Rows
-pub mod Shapes
 pub mod Spots
 pub mod Taken
 pub mod Trails
 pub mod Turning
 pub mod Vettings
+pub mod WalkFrames
 pub mod Walking

@@ -8,7 +8,7 @@ use Rattle.cap_spec.specs.Verdicts.{levels_below}
 use Rattle.cap_spec.specs.declared.Step.{Step}
 use Rattle.cap_spec.specs.declared.Step.TheVariants.{Ptr, Item}
 use Rattle.cap_vet.specs.Trails.{Ahead, row, element_rows}
-use Rattle.cap_vet.specs.Frames.{Place, row_places, element_places, option_spots, OptionIn}
+use Rattle.cap_vet.specs.WalkFrames.{Place, row_places, element_places, option_spots, OptionIn}
 use Rattle.cap_vet.specs.declared.frame.Frame.{Frame}
 use Rattle.cap_vet.specs.declared.looking.Looked.{Looked}
 use Rattle.cap_vet.specs.declared.looking.Looked.TheVariants.{Null, Cap, Object}

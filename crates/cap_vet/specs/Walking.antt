@@ -9,7 +9,7 @@ use Rattle.cap_spec.specs.Faults.{AreShallow}
 use Rattle.cap_spec.specs.declared.Step.{Step}
 use Rattle.cap_vet.specs.Trails.{Ahead, IsTrail}
 use Rattle.cap_vet.specs.Owing.{AreNear, IsCount}
-use Rattle.cap_vet.specs.Frames.{FrameIn, all_spots, place_of}
+use Rattle.cap_vet.specs.WalkFrames.{FrameIn, all_spots, place_of}
 use Rattle.cap_vet.specs.declared.frame.Frame.{Frame}
 use Rattle.cap_vet.specs.declared.report.Report.{Report}
 

@@ -1,6 +1,6 @@
 //! A run of pointer words that a walk still has to look at.
 
-ghost use Rattle.cap_vet.specs.Frames.{FrameIn, IsRest, kept};
+ghost use Rattle.cap_vet.specs.WalkFrames.{FrameIn, IsRest, kept};
 ghost use Rattle.cap_spec.specs.Messages.{IsMessage};
 ghost use Rattle.std.specs.Prelude.{List, ℕ};
 

@@ -4,7 +4,7 @@ ghost use Rattle.cap_ptr.specs.Shapes.{FindsObject, FindsTarget};
 ghost use Rattle.cap_spec.specs.Denoting.{element_levels};
 ghost use Rattle.cap_spec.specs.Messages.{IsMessage, segment_of};
 ghost use Rattle.cap_spec.specs.Verdicts.{levels_below};
-ghost use Rattle.cap_vet.specs.Frames.{OptionIn, option_spots};
+ghost use Rattle.cap_vet.specs.WalkFrames.{OptionIn, option_spots};
 ghost use Rattle.cap_vet.specs.Limits.{depth_of, words_of};
 ghost use Rattle.cap_spec.specs.Faults.{IsFirstReason};
 ghost use Rattle.cap_vet.specs.Looking.{IsLooked};

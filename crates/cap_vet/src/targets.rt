@@ -3,9 +3,9 @@
 ghost use Rattle.cap_ptr.specs.Shapes.{FindsObject};
 ghost use Rattle.cap_spec.specs.Denoting.{element_levels};
 ghost use Rattle.cap_spec.specs.Messages.{IsMessage, segment_of};
-ghost use Rattle.cap_vet.specs.Frames.{LevelIs, OptionIn, option_spots, row_places};
+ghost use Rattle.cap_vet.specs.WalkFrames.{LevelIs, OptionIn, option_spots, row_places};
 ghost use Rattle.cap_vet.specs.Looking.{FrameRises, object_places};
-ghost use Rattle.cap_vet.specs.Shapes.{levels_of};
+ghost use Rattle.cap_vet.specs.Levels.{levels_of};
 ghost use Rattle.std.specs.Prelude.{◌+◌, ◌<◌, ◌^◌, ◌≡◌, ◌≤◌, List, ℕ, length};
 
 use crate::frame::Frame;

@@ -1,7 +1,7 @@
 //! The walk: one pointer word a turn, in preorder.
 
 ghost use Rattle.cap_spec.specs.Faults.{IsFirstFault};
-ghost use Rattle.cap_vet.specs.Frames.{kept};
+ghost use Rattle.cap_vet.specs.WalkFrames.{kept};
 ghost use Rattle.cap_vet.specs.Limits.{depth_of, words_of};
 ghost use Rattle.cap_vet.specs.Turning.{added, frame_below};
 ghost use Rattle.cap_vet.specs.Trails.{Ahead};

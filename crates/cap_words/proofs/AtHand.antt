@@ -8,7 +8,7 @@ use Rattle.cap_spec.specs.Words.{IsWord}
 use Rattle.cap_spec.specs.Plain.{capped, plain_ends, plain_is_cut, plain_text, plain_words}
 use Rattle.cap_spec.proofs.Plain.{length_plain, plain_back, plain_cut_back, plain_split}
 use Rattle.cap_words.specs.PlainSource.{bytes_left}
-use Rattle.cap_words.specs.Taking.{TakesAll}
+use Rattle.cap_words.specs.TakingMany.{TakesAll}
 use Rattle.cap_words.specs.declared.plain_words.Phase.{Phase}
 use Rattle.cap_words.specs.declared.plain_words.Phase.TheVariants.{Open}
 

@@ -10,7 +10,7 @@ use Rattle.cap_spec.proofs.Plain.{length_plain, plain_back, plain_short}
 use Rattle.cap_words.proofs.Pieces.{on_some}
 use Rattle.cap_words.proofs.Turns.{filled, filled_within}
 use Rattle.cap_words.specs.Ends.{Works}
-use Rattle.cap_words.specs.Taking.{EndsWithin, ReadsBytes, TakesAll}
+use Rattle.cap_words.specs.TakingMany.{EndsWithin, ReadsBytes, TakesAll}
 use Rattle.cap_words.specs.declared.sources.WordSource as source
 use borrow.Rule.Slice.PartMut.{put_mid}
 

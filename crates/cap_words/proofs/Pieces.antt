@@ -9,7 +9,7 @@ use Rattle.cap_spec.specs.Plain.{capped, plain_ends, plain_is_cut, plain_text, p
 use Rattle.cap_spec.proofs.Plain.{length_plain, plain_back, plain_short, plain_split}
 use Rattle.cap_words.proofs.AtHand.{taken}
 use Rattle.cap_words.specs.PlainSource.{bytes_left}
-use Rattle.cap_words.specs.Taking.{EndsWithin, TakesAll}
+use Rattle.cap_words.specs.TakingMany.{EndsWithin, TakesAll}
 use Rattle.cap_words.specs.declared.plain_words.Phase.{Phase}
 use Rattle.cap_words.specs.declared.plain_words.Phase.TheVariants.{Open}
 

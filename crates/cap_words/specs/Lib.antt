@@ -3,6 +3,6 @@ pub mod Inner
 pub mod Laws
 pub mod PlainSource
 pub mod Sinks
-pub mod Taking
+pub mod TakingMany
 pub mod Told
 pub mod Vectors

@@ -3,7 +3,7 @@
 ghost use Rattle.cap_spec.specs.Plain.{plain_text, plain_words};
 ghost use Rattle.cap_spec.specs.Words.{IsWord};
 ghost use Rattle.cap_words.specs.Ends.{Fails, WasSpent, Works};
-ghost use Rattle.cap_words.specs.Taking.{EndsWithin, ReadsBytes, TakesAll};
+ghost use Rattle.cap_words.specs.TakingMany.{EndsWithin, ReadsBytes, TakesAll};
 ghost use Rattle.std.specs.Io.KnownBytes.{Consumes, Keeps};
 ghost use Rattle.std.specs.List.{AllByRecursion};
 ghost use Rattle.std.specs.Option.{option_to_list};

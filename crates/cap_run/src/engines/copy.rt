@@ -3,7 +3,7 @@
 ghost use Rattle.cap_run.specs.Copying.{Copied, StopsMidway};
 ghost use Rattle.cap_run.specs.Engines.{CopiesWords};
 ghost use Rattle.cap_run.specs.Handed.{HandsOver};
-ghost use Rattle.cap_run.specs.Putting.{Copies, StopsPutting};
+ghost use Rattle.cap_run.specs.PuttingEnds.{Copies, StopsPutting};
 ghost use Rattle.cap_words.specs.Sinks.{sink_fault_of};
 ghost use Rattle.std.specs.Prelude.{◌*◌, ◌/◌, ◌≡◌, ◌≤◌, IfErr, IfOk, length};
 

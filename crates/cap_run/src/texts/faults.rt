@@ -1,6 +1,6 @@
 //! The lines of faults.
 
-ghost use Rattle.cap_run.specs.Faults.{canon_fault_text, cause_text, copy_fault_line, copy_fault_text as copy_text, fault_line, frame_fault_text, message_name, place_text, refusal_text, run_fault_line, source_fault_text};
+ghost use Rattle.cap_run.specs.FaultLines.{canon_fault_text, cause_text, copy_fault_line, copy_fault_text as copy_text, fault_line, frame_fault_text, message_name, place_text, refusal_text, run_fault_line, source_fault_text};
 ghost use Rattle.cap_run.specs.Writing.{Writes};
 ghost use Rattle.cap_spec.specs.Texts.{then_number};
 ghost use Rattle.std.specs.Prelude.{◌+◌, ◌++◌, ◌≡◌, ◌≤◌, ◌∷◌, [], codes, decimal, length};

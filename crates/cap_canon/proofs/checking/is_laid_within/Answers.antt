@@ -4,7 +4,7 @@ use Rattle.std.proofs.lemmas.List.{nil_from_length}
 use Rattle.cap_spec.specs.Messages.{IsMessage}
 use Rattle.cap_spec.specs.Canonical.{trim}
 use Rattle.cap_canon.specs.Laying.{own_size}
-use Rattle.cap_canon.specs.Owing.{work_left}
+use Rattle.cap_canon.specs.StillToLay.{work_left}
 use Rattle.cap_canon.proofs.CheckWalks.{IsCheckWalk, check_all, check_no, check_on, next_laid, object_in_place, root_due, root_fits, same_layout}
 use Rattle.cap_canon.proofs.CopyWalks.{owed_fits}
 use Rattle.cap_canon.proofs.Lengths.{object_next, own_within, root_next, work_falls}

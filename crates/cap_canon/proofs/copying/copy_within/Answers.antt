@@ -5,7 +5,7 @@ use Rattle.cap_spec.specs.Messages.{IsMessage}
 use Rattle.cap_spec.specs.Canonical.{layout, trim}
 use Rattle.cap_canon.specs.Filling.{Agrees}
 use Rattle.cap_canon.specs.Laying.{own_size}
-use Rattle.cap_canon.specs.Owing.{work_left}
+use Rattle.cap_canon.specs.StillToLay.{work_left}
 use Rattle.cap_canon.proofs.CopyWalks.{IsCopyWalk, copy_all, copy_on, next_turn, root_agrees, root_turn}
 use Rattle.cap_canon.proofs.Lengths.{object_next, own_within, root_next, work_falls}
 use Rattle.cap_canon.proofs.copying.copy_within.Goals as goal

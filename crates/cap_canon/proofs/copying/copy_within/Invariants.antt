@@ -1,5 +1,5 @@
 use Rattle.std.proofs.Common.{◌+◌, ◌-◌}
-use Rattle.cap_canon.specs.Owing.{work_left}
+use Rattle.cap_canon.specs.StillToLay.{work_left}
 use Rattle.cap_canon.proofs.CopyWalks.{IsCopyWalk}
 use Rattle.cap_canon.proofs.copying.copy_within.Given as goal
 

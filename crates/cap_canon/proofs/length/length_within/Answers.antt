@@ -5,7 +5,7 @@ use Rattle.cap_spec.specs.Messages.{IsMessage}
 use Rattle.cap_spec.specs.Canonical.{trim}
 use Rattle.cap_canon.proofs.Lengths.{IsLengthWalk, length_all, length_on, object_next, own_within, root_next, work_falls}
 use Rattle.cap_canon.specs.Laying.{own_size}
-use Rattle.cap_canon.specs.Owing.{work_left}
+use Rattle.cap_canon.specs.StillToLay.{work_left}
 use Rattle.cap_canon.proofs.length.length_within.Goals as goal
 
 pub enter-end-requires : goal.enter-end-requires

@@ -1,5 +1,5 @@
 use Rattle.std.proofs.Common.{◌+◌, ◌-◌}
-use Rattle.cap_canon.specs.Owing.{work_left}
+use Rattle.cap_canon.specs.StillToLay.{work_left}
 use Rattle.cap_canon.proofs.Lengths.{IsLengthWalk}
 use Rattle.cap_canon.proofs.length.length_within.Given as goal
 

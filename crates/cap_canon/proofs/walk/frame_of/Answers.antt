@@ -2,7 +2,7 @@ use Rattle.std.proofs.Common.{◌+◌, arith, subst, sym}
 use Rattle.std.specs.List.{AllByRecursion}
 use Rattle.cap_canon.specs.InPlace.{IsInPlace}
 use Rattle.cap_canon.proofs.Kept.{row_in_place}
-use Rattle.cap_canon.specs.Frames.{option_places}
+use Rattle.cap_canon.specs.CopyFrames.{option_places}
 use Rattle.cap_canon.proofs.Entering.{pointers_owed, struct_owed}
 use Rattle.cap_canon.proofs.walk.frame_of.Goals as goal
 

@@ -1,6 +1,6 @@
 use Rattle.std.proofs.Common.{rules, subst}
 use Rattle.cap_canon.specs.InPlace.{AreInPlace}
-use Rattle.cap_canon.specs.Owing.{IsWalking}
+use Rattle.cap_canon.specs.StillToLay.{IsWalking}
 use Rattle.cap_canon.proofs.Kept.{taken_in_place}
 use Rattle.cap_canon.proofs.Owing.{next_fits, next_of, next_work, top_short}
 use Rattle.cap_canon.proofs.walk.take_next.Goals as goal

@@ -1,7 +1,7 @@
 -- The table and the words of the buffer behind it frame the message.
 use Rattle.std.proofs.Common.{◌≡◌, ◌∙◌, sum, refl, arith, subst, sym}
 use Rattle.cap_frame.specs.Limit.{limit_of}
-use Rattle.cap_frame.specs.Faults.{Faults}
+use Rattle.cap_frame.specs.ReadingFaults.{Faults}
 use Rattle.cap_frame.specs.Taking.{Stops}
 use Rattle.cap_frame.proofs.Behind.{behind_contents}
 use Rattle.cap_frame.proofs.InOneBuffer.{behind_held}

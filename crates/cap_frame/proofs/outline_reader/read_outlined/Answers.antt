@@ -1,7 +1,7 @@
 -- The table and the contents behind it frame the message.
 use Rattle.std.proofs.Common.{subst, sym}
 use Rattle.cap_frame.specs.Limit.{limit_of}
-use Rattle.cap_frame.specs.Faults.{Faults}
+use Rattle.cap_frame.specs.ReadingFaults.{Faults}
 use Rattle.cap_frame.proofs.Behind.{behind_contents, behind_message}
 use Rattle.cap_frame.proofs.Taking.{reads_both}
 use Rattle.cap_frame.proofs.outline_reader.read_outlined.Goals as goal

@@ -2,7 +2,7 @@
 use Rattle.std.proofs.Common.{◌∙◌, subst, sym, map}
 use Rattle.cap_spec.specs.Frames.{IsTable}
 use Rattle.cap_frame.specs.Limit.{limit_of}
-use Rattle.cap_frame.specs.Faults.{Faults}
+use Rattle.cap_frame.specs.ReadingFaults.{Faults}
 use Rattle.cap_frame.proofs.Behind.{behind_contents, behind_message, message_of}
 use Rattle.cap_frame.proofs.Taking.{reads_both}
 use Rattle.cap_frame.proofs.reader.read_framed.Goals as goal

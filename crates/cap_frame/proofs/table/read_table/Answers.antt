@@ -1,7 +1,7 @@
 -- The source stopped inside the table.
 use Rattle.std.proofs.Common.{arith, subst, sym}
 use Rattle.cap_frame.specs.Limit.{limit_of}
-use Rattle.cap_frame.specs.Faults.{FaultsBehind}
+use Rattle.cap_frame.specs.ReadingFaults.{FaultsBehind}
 use Rattle.cap_frame.proofs.Behind.{behind_table}
 use Rattle.cap_frame.proofs.table.read_table.Goals as goal
 

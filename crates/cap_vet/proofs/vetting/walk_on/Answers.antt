@@ -2,7 +2,7 @@ use Rattle.std.proofs.Common.{arith, rules, refl, length, sym, ◌≡◌, ◌<�
 use Rattle.std.proofs.lemmas.List.{append-nil, nil_from_length}
 use Rattle.std.proofs.lemmas.Bool.{eqb-true}
 use Rattle.std.specs.Option.{option_to_list}
-use Rattle.cap_vet.specs.Frames.{kept}
+use Rattle.cap_vet.specs.WalkFrames.{kept}
 use Rattle.cap_vet.specs.Limits.{depth_of, words_of}
 use Rattle.cap_vet.specs.Walking.{IsWalking, work_left}
 use Rattle.cap_vet.specs.declared.frame.Frame.{Frame}

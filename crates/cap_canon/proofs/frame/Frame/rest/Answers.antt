@@ -1,5 +1,5 @@
 use Rattle.std.proofs.Common.{◌≡◌, ◌+◌, arith}
-use Rattle.cap_canon.specs.Frames.{IsShort, further_places}
+use Rattle.cap_canon.specs.CopyFrames.{IsShort, further_places}
 use Rattle.cap_canon.proofs.Frames.{next_short, rest_of_elements, rest_of_last, rest_of_row, second_short}
 use Rattle.cap_canon.proofs.frame.Frame.rest.Goals as goal
 

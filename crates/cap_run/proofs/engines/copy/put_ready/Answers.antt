@@ -1,7 +1,7 @@
 use Rattle.std.proofs.Common.{◌≡◌, ◌/◌, ◌<◌, List, ℕ, length, take, arith, subst, sym}
 use Rattle.cap_spec.specs.Plain.{plain_words}
 use Rattle.cap_frame.specs.Putting.{Halts}
-use Rattle.cap_run.specs.Putting.{Copies}
+use Rattle.cap_run.specs.PuttingEnds.{Copies}
 use Rattle.cap_run.proofs.Handed.{copies_start, gives_ready, words_in}
 use Rattle.cap_run.proofs.Handing.{fills_of}
 use Rattle.cap_run.proofs.Making.{halts_of}

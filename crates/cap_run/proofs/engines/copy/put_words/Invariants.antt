@@ -1,5 +1,5 @@
 use Rattle.std.proofs.Common.{◌-◌, ◌≤◌}
-use Rattle.cap_run.specs.Putting.{Copies}
+use Rattle.cap_run.specs.PuttingEnds.{Copies}
 use Rattle.cap_run.proofs.engines.copy.put_words.Given as goal
 
 abbrev pub invariant-loop-copied : goal.invariant-loop-copied

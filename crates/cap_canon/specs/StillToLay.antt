@@ -4,7 +4,7 @@ use Rattle.cap_spec.specs.Messages.{IsMessage}
 use Rattle.cap_spec.specs.Denoting.{Denotes}
 use Rattle.cap_spec.specs.Tree.{Tree}
 use Rattle.cap_spec.specs.Canonical.{trim}
-use Rattle.cap_canon.specs.Frames.{IsFull, Place, places_of, all_places}
+use Rattle.cap_canon.specs.CopyFrames.{IsFull, Place, places_of, all_places}
 use Rattle.cap_canon.specs.Laying.{Due, AreBefore, size_due}
 use Rattle.cap_canon.specs.declared.frame.Frame.{Frame}
 
