@@ -3,18 +3,4 @@
 #![tactic(auto)]
 
 #[cfg(test)]
-mod canons;
-#[cfg(test)]
-mod checking;
-#[cfg(test)]
-mod copying;
-#[cfg(test)]
-mod ends;
-#[cfg(test)]
-mod held;
-#[cfg(test)]
-mod length;
-#[cfg(test)]
-mod pointers;
-#[cfg(test)]
-mod reading;
+mod tests;

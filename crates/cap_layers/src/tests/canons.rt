@@ -1,6 +1,6 @@
 //! What the four calls say together of messages whose copies are known from outside.
 
-use crate::held::{in_one_buffer, words};
+use super::held::{in_one_buffer, words};
 use cap_canon::{CanonFault, canonical, canonical_bytes, canonical_len, is_canonical};
 use cap_frame::{OneSegment, Segments};
 use cap_vet::{Limits, Vetted, vet};

@@ -1,6 +1,6 @@
 //! A message that is read at a path.
 
-use crate::held::in_one_buffer;
+use super::held::in_one_buffer;
 use cap_frame::{OneSegment, Segments, WordMessage};
 use cap_read::{read, read_bytes};
 use cap_vet::{Kind, Limits, Place, Reason, Step};

@@ -1,6 +1,6 @@
 //! How long the canonical copies of messages are that are known from outside.
 
-use crate::held::{in_one_buffer, words};
+use super::held::{in_one_buffer, words};
 use cap_canon::{CanonFault, canonical_len};
 use cap_frame::{OneSegment, Segments, WordMessage};
 use cap_vet::{Limits, vet};

@@ -1,6 +1,6 @@
 //! Pointer words that are known from outside, and what they lead to.
 
-use crate::held::{in_one_buffer, words};
+use super::held::{in_one_buffer, words};
 use cap_frame::{OneSegment, Segments, WordMessage};
 use cap_ptr::{Followed, Pointer, Reason, Shape, Target, follow};
 use std::process::Abort;

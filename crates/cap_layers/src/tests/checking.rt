@@ -1,6 +1,6 @@
 //! Messages of which it is known from outside whether they are canonical.
 
-use crate::held::{in_one_buffer, words};
+use super::held::{in_one_buffer, words};
 use cap_canon::is_canonical;
 use cap_frame::{OneSegment, Segments, WordMessage};
 use cap_vet::{Limits, vet};
