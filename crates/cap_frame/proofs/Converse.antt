@@ -9,7 +9,7 @@ use Rattle.cap_spec.proofs.Endings.{message_not_none, message_not_too_many, mess
 use Rattle.cap_frame.specs.declared.fault.FrameFault.{FrameFault}
 use Rattle.cap_frame.specs.declared.fault.FrameFault.TheVariants.{TooManySegments, TooLarge, Truncated, Device, Memory, Spent}
 use Rattle.cap_frame.specs.Taking.{Takes}
-use Rattle.cap_frame.specs.ReadingFaults.{Answered, Faults}
+use Rattle.cap_frame.specs.ReadingFaults.{Answered, Decides, Faults}
 
 -- known words that were taken from are known still
 pub known_still : (ws own : List ℕ) (b : Option (List ℕ)) → Consumes (Some ws) b own → (rest : List ℕ) × (b ≡ Some rest) × (ws ≡ own ++ rest)
@@ -34,7 +34,7 @@ module _ {M : Type 0} (f : M → List (List ℕ)) (limit : ℕ) (ws : List ℕ) 
 
   -- where the words begin with a frame within the limit, that message is the answer
   pub whole_answer : (r : Result (Option M) FrameFault) (own rest : List ℕ) (m : List (List ℕ)) → ws ≡ own ++ rest → Frames own m → sum (sizes_of m) ≤ limit → Tells r
-      → Answered r (IsOkAnd r (λ o. IsSomeAnd o (λ k. (f k ≡ m) × (left ≡ Some rest))))
+      → Answered r (IsOkAnd r (λ o. IsSomeAnd o (λ k. f k ≡ m)) × (left ≡ Some rest))
   whole_answer (Ok (Some k)) own rest m e g l t =
       let same = one_frame t.0 own t.1 rest (f k) m t.4 g (sym t.3 ∙ e) in
       (same.1, t.2 ∙ ap Some same.2)
@@ -129,3 +129,14 @@ module _ {X M : Type 0} (g : source.Ghosts X) (f : M → List (List ℕ)) (limit
   tells (Err Device) ws e m n h = tt
   tells (Err Memory) ws e m n h = tt
   tells (Err Spent) ws e m n h = tt
+
+  -- so known words decide the answer: no two of the ways in which reading ends hold of the same words
+  pub decides : (r : Result (Option M) FrameFault) → SaysMessage r → SaysNone r → IfErr r (Faults g limit old new)
+      → Decides g None (λ m. IsOkAnd r (λ o. IsSomeAnd o (λ k. f k ≡ m))) limit old new r
+  decides r s n h = record {
+    whole = λ own rest m e w l. whole_answer f limit (own ++ rest) (g.is_cut old) (g.places old) (g.words new) r own rest m refl w l (tells r (own ++ rest) e s n h);
+    no_word = λ e c. none_answer f limit [] (g.is_cut old) (g.places old) (g.words new) r refl c (tells r [] e s n h);
+    many = λ first rest e p. many_answer f limit (first ∷ rest) (g.is_cut old) (g.places old) (g.words new) r first rest refl p (tells r (first ∷ rest) e s n h);
+    large = λ table rest sizes e i p. large_answer f limit (table ++ rest) (g.is_cut old) (g.places old) (g.words new) r table rest sizes refl i p (tells r (table ++ rest) e s n h);
+    cut_short = λ words e p. partial_answer f limit words (g.is_cut old) (g.places old) (g.words new) r p (tells r words e s n h);
+  }

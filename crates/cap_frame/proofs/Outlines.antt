@@ -1,11 +1,11 @@
 -- What is known of the words of a source decides also the answer of reading a message's outline.
-use Rattle.std.proofs.Common.{◌≡◌, ◌∙◌, ℕ, ◌+◌, ◌%◌, ◌^◌, ◌<◌, ◌≤◌, Bool, true, false, Option, Some, None, Result, Ok, Err, List, [], ◌∷◌, ◌++◌, length, drop, sum, IfErr, IsOkAnd, IsSomeAnd, OnSome, refl, sym, ap, subst}
+use Rattle.std.proofs.Common.{◌≡◌, ◌∙◌, ℕ, ◌≤◌, Bool, true, false, Option, Some, None, Result, Ok, Err, List, [], ◌∷◌, ◌++◌, sum, IfErr, IsOkAnd, IsSomeAnd, OnSome, refl, sym, ap, subst}
 use Rattle.cap_words.specs.declared.sources.WordSource as source
-use Rattle.cap_spec.specs.Frames.{sizes_of, IsTable, Frames, IsPartial}
+use Rattle.cap_spec.specs.Frames.{sizes_of, Frames}
 use Rattle.cap_frame.specs.declared.fault.FrameFault.{FrameFault}
 use Rattle.cap_frame.specs.declared.fault.FrameFault.TheVariants.{TooManySegments, TooLarge, Truncated, Device, Memory, Spent}
 use Rattle.cap_frame.specs.Taking.{Takes}
-use Rattle.cap_frame.specs.ReadingFaults.{Answered, Faults}
+use Rattle.cap_frame.specs.ReadingFaults.{Answered, Decides, Faults}
 use Rattle.cap_frame.proofs.Converse.{Tells, tells, whole_answer, none_answer, many_answer, large_answer, partial_answer}
 
 -- an answer that tells whether there was a message, as one that gives it
@@ -63,42 +63,29 @@ module _ {X : Type 0} (g : source.Ghosts X) (R : List (List ℕ) → Type 0) (li
 
   -- the message that the words frame is the one that was read
   pub found_whole : (r : Result Bool FrameFault) (f : FindsMessage r) (m : List (List ℕ)) (rest : List ℕ)
-      → IsOkAnd (given (message_of r f) r) (λ o. IsSomeAnd o (λ k. (k ≡ m) × (g.words new ≡ Some rest))) → (r ≡ Ok true) × R m × (g.words new ≡ Some rest)
-  found_whole (Ok true) f m rest a = (refl, subst R a.0 (f refl).5, a.1)
-  found_whole (Ok false) f m rest a = absurd a
-  found_whole (Err fault) f m rest a = absurd a
+      → IsOkAnd (given (message_of r f) r) (λ o. IsSomeAnd o (λ k. k ≡ m)) × (g.words new ≡ Some rest) → ((r ≡ Ok true) × R m) × (g.words new ≡ Some rest)
+  found_whole (Ok true) f m rest a = ((refl, subst R a.0 (f refl).5), a.1)
+  found_whole (Ok false) f m rest a = absurd a.0
+  found_whole (Err fault) f m rest a = absurd a.0
 
-  module _ (r : Result Bool FrameFault) (f : FindsMessage r) (n : FindsNone r) (h : IfErr r (Faults g limit old new)) where
-    -- where the words begin with a frame within the limit, that message was read
-    pub finds_whole : (own rest : List ℕ) (m : List (List ℕ)) → g.words old ≡ Some (own ++ rest) → Frames own m → sum (sizes_of m) ≤ limit
-        → Answered r ((r ≡ Ok true) × R m × (g.words new ≡ Some rest))
-    finds_whole own rest m e w l =
-        answered_as _ _ (message_of r f) r (found_whole r f m rest)
-        (whole_answer (λ m. m) limit (own ++ rest) (g.is_cut old) (g.places old) (g.words new) (given (message_of r f) r) own rest m refl w l (found_tells r (own ++ rest) e f n h))
-
-    -- where there is no word and the input doesn't end inside one, there is no message
-    pub finds_none : g.words old ≡ Some [] → g.is_cut old ≡ false → Answered r (r ≡ Ok false)
-    finds_none e c =
-        answered_as _ _ (message_of r f) r (λ a. found_as (message_of r f) r _ a)
-        (none_answer (λ m. m) limit [] (g.is_cut old) (g.places old) (g.words new) (given (message_of r f) r) refl c (found_tells r [] e f n h))
-
-    -- where the first word tells of too many segments, that is the answer
-    pub finds_many : (first : ℕ) (rest : List ℕ) → g.words old ≡ Some (first ∷ rest) → 512 < first % 2 ^ 32 + 1
-        → Answered r ((r ≡ Err (TooManySegments (first % 2 ^ 32 + 1))) × (g.words new ≡ Some rest))
-    finds_many first rest e p =
-        answered_as _ _ (message_of r f) r (λ a. (found_as (message_of r f) r _ a.0, a.1))
-        (many_answer (λ m. m) limit (first ∷ rest) (g.is_cut old) (g.places old) (g.words new) (given (message_of r f) r) first rest refl p (found_tells r (first ∷ rest) e f n h))
-
-    -- where a table is past the limit, that is the answer
-    pub finds_large : (table rest sizes : List ℕ) → g.words old ≡ Some (table ++ rest) → IsTable table sizes → limit < sum sizes
-        → Answered r ((r ≡ Err (TooLarge (sum sizes))) × (g.words new ≡ Some rest))
-    finds_large table rest sizes e t p =
-        answered_as _ _ (message_of r f) r (λ a. (found_as (message_of r f) r _ a.0, a.1))
-        (large_answer (λ m. m) limit (table ++ rest) (g.is_cut old) (g.places old) (g.words new) (given (message_of r f) r) table rest sizes refl t p (found_tells r (table ++ rest) e f n h))
-
-    -- where the words are a part of a frame, the answer is that they are cut short
-    pub finds_part : (words : List ℕ) → g.words old ≡ Some words → IsPartial limit words (g.is_cut old)
-        → Answered r ((byte : ℕ) × (r ≡ Err (Truncated byte)) × (drop (length words) (g.places old) ≡ byte ∷ []))
-    finds_part words e p =
-        answered_as _ _ (message_of r f) r (λ a. (a.0, found_as (message_of r f) r _ a.1, a.2))
-        (partial_answer (λ m. m) limit words (g.is_cut old) (g.places old) (g.words new) (given (message_of r f) r) p (found_tells r words e f n h))
+  -- so known words decide the answer
+  pub finds : (r : Result Bool FrameFault) → FindsMessage r → FindsNone r → IfErr r (Faults g limit old new) → Decides g false (λ m. (r ≡ Ok true) × R m) limit old new r
+  finds r f n h =
+      let o = given (message_of r f) r in
+      record {
+        whole = λ own rest m e w l.
+            answered_as _ _ (message_of r f) r (found_whole r f m rest)
+            (whole_answer (λ m. m) limit (own ++ rest) (g.is_cut old) (g.places old) (g.words new) o own rest m refl w l (found_tells r (own ++ rest) e f n h));
+        no_word = λ e c.
+            answered_as _ _ (message_of r f) r (λ a. found_as (message_of r f) r _ a)
+            (none_answer (λ m. m) limit [] (g.is_cut old) (g.places old) (g.words new) o refl c (found_tells r [] e f n h));
+        many = λ first rest e p.
+            answered_as _ _ (message_of r f) r (λ a. (found_as (message_of r f) r _ a.0, a.1))
+            (many_answer (λ m. m) limit (first ∷ rest) (g.is_cut old) (g.places old) (g.words new) o first rest refl p (found_tells r (first ∷ rest) e f n h));
+        large = λ table rest sizes e t p.
+            answered_as _ _ (message_of r f) r (λ a. (found_as (message_of r f) r _ a.0, a.1))
+            (large_answer (λ m. m) limit (table ++ rest) (g.is_cut old) (g.places old) (g.words new) o table rest sizes refl t p (found_tells r (table ++ rest) e f n h));
+        cut_short = λ words e p.
+            answered_as _ _ (message_of r f) r (λ a. (a.0, found_as (message_of r f) r _ a.1, a.2))
+            (partial_answer (λ m. m) limit words (g.is_cut old) (g.places old) (g.words new) o p (found_tells r words e f n h));
+      }

@@ -6,6 +6,7 @@ use Rattle.byteorder.specs.Endian.{little_number}
 use Rattle.cap_frame.specs.Bytes.{cut, starts_of}
 use Rattle.cap_frame.proofs.Cuts.{cut_at, cut_length, cut_words, front_sum, start_is, words_exact}
 use Rattle.cap_spec.proofs.Plain.{plain_short, plain_split}
+use Rattle.cap_words.proofs.AtHand.{bytes_small, front_small}
 use Rattle.cap_spec.specs.Plain.{plain_text, plain_words}
 
 -- less than a word has no first words, however many are taken
@@ -49,18 +50,7 @@ drop_words (suc k) (a ∷ b ∷ c ∷ d ∷ e ∷ []) = short_back k (a ∷ b �
 drop_words (suc k) (a ∷ b ∷ c ∷ d ∷ e ∷ f ∷ []) = short_back k (a ∷ b ∷ c ∷ d ∷ e ∷ f ∷ []) (omega arith)
 drop_words (suc k) (a ∷ b ∷ c ∷ d ∷ e ∷ f ∷ g ∷ []) = short_back k (a ∷ b ∷ c ∷ d ∷ e ∷ f ∷ g ∷ []) (omega arith)
 
--- numbers that fit are bytes
-pub small_bytes : (bs : List ℕ) → ((i : ℕ) → Fits w8 (get_or bs i 0)) → AllByRecursion (λ b. b < 256) bs
-small_bytes [] fits = tt
-small_bytes (b ∷ bs) fits = ((fits 0).fits, small_bytes bs (λ i. fits (suc i)))
-
--- and so are the first of them
-small_front : (k : ℕ) (bs : List ℕ) → AllByRecursion (λ b. b < 256) bs → AllByRecursion (λ b. b < 256) (take k bs)
-small_front zero bs all = tt
-small_front (suc k) [] all = tt
-small_front (suc k) (b ∷ bs) all = (all.0, small_front k bs all.1)
-
--- and the others
+-- the other ones of numbers below 256 are below it
 small_back : (k : ℕ) (bs : List ℕ) → AllByRecursion (λ b. b < 256) bs → AllByRecursion (λ b. b < 256) (drop k bs)
 small_back zero bs all = all
 small_back (suc k) [] all = tt
@@ -80,7 +70,7 @@ pub part_text : (bs : List ℕ) (at words : ℕ) → ((i : ℕ) → Fits w8 (get
 part_text bs at words fits inside =
     let d : length (drop (8 * at) bs) ≡ length bs - 8 * at = length-drop (8 * at) bs in
     let e : length (take (8 * words) (drop (8 * at) bs)) ≡ 8 * words = length-take-le (8 * words) (drop (8 * at) bs) (omega (arith, d, inside)) in
-    whole_text (take (8 * words) (drop (8 * at) bs)) words (small_front (8 * words) (drop (8 * at) bs) (small_back (8 * at) bs (small_bytes bs fits))) e
+    whole_text (take (8 * words) (drop (8 * at) bs)) words (front_small (8 * words) (drop (8 * at) bs) (small_back (8 * at) bs (bytes_small bs fits))) e
 
 -- some words of a segment are spelled where their start and that of the segment tell
 pub part_words : (ns bs : List ℕ) (s start words : ℕ) → s < length ns → 8 * sum ns ≤ length bs → start + words ≤ length (get_or (cut ns bs) s [])

@@ -6,12 +6,8 @@ use Rattle.std.proofs.lemmas.List.{drop-drop}
 use Rattle.cap_words.specs.declared.sources.WordSource as source
 use Rattle.cap_words.specs.declared.sources.SourceFault.{SourceFault}
 use Rattle.cap_words.specs.declared.sources.SourceFault.TheVariants.{Truncated, Device, Spent}
+use Rattle.cap_words.proofs.Pieces.{on_some}
 use Rattle.cap_frame.specs.Taking.{Takes, Reads, IsUsable, IsOver, Breaks, Stops}
-
--- what holds is said of a known value
-pub on_some : {A : Type 0} (o : Option A) (P : Type 0) → P → OnSome o P
-on_some None P h = tt
-on_some (Some x) P h = h
 
 -- the places after the next word, turned round
 pub goes_on_one : (o : Option (List ℕ)) (A : Type 0) (p q : ℕ) (ps qs : List ℕ) → OnSome o (A × (ps ≡ q ∷ qs)) → OnSome o (A × (q ∷ qs ≡ drop 1 (p ∷ ps)))

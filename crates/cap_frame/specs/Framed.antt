@@ -5,6 +5,7 @@ use Rattle.cap_spec.specs.Plain.{plain_words, plain_is_cut}
 use Rattle.cap_frame.specs.Bytes.{cut}
 use Rattle.cap_frame.specs.Fronts.{IsFront, TellsMany, TellsLarge, Wants, sizes_told, table_words}
 use Rattle.cap_frame.specs.declared.framed.Framed.{Framed}
+use Rattle.cap_frame.specs.declared.segment_tables.SegmentTables.{SegmentTables}
 use Rattle.cap_frame.specs.declared.fault.FrontFault.{FrontFault}
 use Rattle.cap_frame.specs.declared.fault.FrontFault.TheVariants.{TooManySegments, TooLarge, Truncated}
 
@@ -19,6 +20,10 @@ framed_segments f = cut (framed_sizes f) (drop (8 * table_words f.count) f.bytes
 -- how many bytes the frame has
 abbrev pub frame_bytes : Framed → ℕ
 frame_bytes f = 8 * (table_words f.count + f.words)
+
+-- the sizes that room for tables holds
+abbrev pub sizes_held : SegmentTables → List ℕ
+sizes_held tables = tables.sizes.items
 
 -- what each answer tells of the bytes
 abbrev pub TellsFront : ℕ → List ℕ → Result (Option Framed) FrontFault → Type 0

@@ -2,12 +2,12 @@
 
 ghost use Rattle.cap_frame.specs.ByteRoom.{room_in};
 ghost use Rattle.cap_frame.specs.Bytes.{cut};
-ghost use Rattle.cap_frame.specs.ReadingFaults.{Answered, EndsInside, Faults, OnUsable, TakesTable, TakesTooMany};
+ghost use Rattle.cap_frame.specs.ReadingFaults.{Decides, EndsInside, Faults, OnUsable, TakesTable, TakesTooMany};
 ghost use Rattle.cap_frame.specs.HeldBytes.{held_segments};
 ghost use Rattle.cap_frame.specs.Limit.{limit_of};
 ghost use Rattle.cap_frame.specs.Taking.{Breaks, IsUsable, Reads, Refuses, Takes};
-ghost use Rattle.cap_spec.specs.Frames.{Frames, IsPartial, IsTable, sizes_of};
-ghost use Rattle.std.specs.Prelude.{◌%◌, ◌*◌, ◌+◌, ◌++◌, ◌<◌, ◌^◌, ◌≡◌, ◌≤◌, [], ◌∷◌, IfErr, IfOk, IfSome, IsErrOf, IsOkAnd, IsSomeAnd, List, None, OnOk, OnSome, drop, false, length, sum, true, ℕ};
+ghost use Rattle.cap_spec.specs.Frames.{Frames, sizes_of};
+ghost use Rattle.std.specs.Prelude.{◌*◌, ◌<◌, ◌≡◌, ◌≤◌, [], ◌∷◌, IfErr, IfOk, IfSome, IsErrOf, IsOkAnd, IsSomeAnd, List, None, OnOk, OnSome, false, length, sum, true, ℕ};
 ghost use Rattle.std.specs.Vec.{vec_capacity, vec_len};
 
 use crate::byte_contents::{fill_starts, make_room, read_bytes};
@@ -128,20 +128,7 @@ pub fn read_into<S: WordSource>(
         × (sum sizes ≤ limit_of limit) × (room_in message.old < 8 * sum sizes) }
     ensures blank { (result ≡ Ok true → ⊥) → held_segments message.new ≡ [] ∷ [] }
     // And the other way round, where the words are known and no device, memory or earlier fault is in the way.
-    // A front of them frames a message within the limit: that one is held, and the source has the other words.
-    ensures whole { (own rest : List ℕ) (m : List (List ℕ)) → S.words source.old ≡ Some (own ++ rest) → Frames own m → sum (sizes_of m) ≤ limit_of limit →
-        Answered result ((result ≡ Ok true) × (held_segments message.new ≡ m) × (S.words source.new ≡ Some rest)) }
-    // They end before the first one.
-    ensures no_word { S.words source.old ≡ Some [] → S.is_cut source.old ≡ false → Answered result (result ≡ Ok false) }
-    // The first word tells of too many segments.
-    ensures many { (first : ℕ) (rest : List ℕ) → S.words source.old ≡ Some (first ∷ rest) → 512 < first % 2 ^ 32 + 1 →
-        Answered result ((result ≡ Err (FrameFault.TooManySegments (first % 2 ^ 32 + 1))) × (S.words source.new ≡ Some rest)) }
-    // The table is whole and past the limit.
-    ensures large { (table rest sizes : List ℕ) → S.words source.old ≡ Some (table ++ rest) → IsTable table sizes → limit_of limit < sum sizes →
-        Answered result ((result ≡ Err (FrameFault.TooLarge (sum sizes))) × (S.words source.new ≡ Some rest)) }
-    // They end inside a message.
-    ensures cut_short { (words : List ℕ) → S.words source.old ≡ Some words → IsPartial (limit_of limit) words (S.is_cut source.old) →
-        Answered result ((byte : ℕ) × (result ≡ Err (FrameFault.Truncated byte)) × (drop (length words) (S.places source.old) ≡ byte ∷ [])) }
+    ensures decides { Decides S.WordSource false (λ m. (result ≡ Ok true) × (held_segments message.new ≡ m)) (limit_of limit) source.old source.new result }
 {
     read_over(alloc, source, limit, message)
 }
@@ -220,20 +207,8 @@ pub fn read_byte_message<S: WordSource>(
         (sizes : List ℕ) × TakesTable S.WordSource source.old source.new sizes × (sum sizes ≤ limit_of limit) }
     ensures was_spent { IsErrOf result FrameFault.Spent → Refuses S.WordSource source.old source.new }
     // And the other way round, where the words are known and no device, memory or earlier fault is in the way.
-    // A front of them frames a message within the limit: that is the answer, and the source has the other words.
-    ensures whole { (own rest : List ℕ) (m : List (List ℕ)) → S.words source.old ≡ Some (own ++ rest) → Frames own m → sum (sizes_of m) ≤ limit_of limit →
-        Answered result (IsOkAnd result (λ r. IsSomeAnd r (λ k. (held_segments k ≡ m) × (S.words source.new ≡ Some rest)))) }
-    // They end before the first one.
-    ensures no_word { S.words source.old ≡ Some [] → S.is_cut source.old ≡ false → Answered result (result ≡ Ok None) }
-    // The first word tells of too many segments.
-    ensures many { (first : ℕ) (rest : List ℕ) → S.words source.old ≡ Some (first ∷ rest) → 512 < first % 2 ^ 32 + 1 →
-        Answered result ((result ≡ Err (FrameFault.TooManySegments (first % 2 ^ 32 + 1))) × (S.words source.new ≡ Some rest)) }
-    // The table is whole and past the limit.
-    ensures large { (table rest sizes : List ℕ) → S.words source.old ≡ Some (table ++ rest) → IsTable table sizes → limit_of limit < sum sizes →
-        Answered result ((result ≡ Err (FrameFault.TooLarge (sum sizes))) × (S.words source.new ≡ Some rest)) }
-    // They end inside a message.
-    ensures cut_short { (words : List ℕ) → S.words source.old ≡ Some words → IsPartial (limit_of limit) words (S.is_cut source.old) →
-        Answered result ((byte : ℕ) × (result ≡ Err (FrameFault.Truncated byte)) × (drop (length words) (S.places source.old) ≡ byte ∷ [])) }
+    ensures decides { Decides S.WordSource None (λ m. IsOkAnd result (λ r. IsSomeAnd r (λ k. held_segments k ≡ m)))
+        (limit_of limit) source.old source.new result }
 {
     read_one(alloc, source, limit)
 }

@@ -1,11 +1,11 @@
 //! Reading messages of which only the outline is kept.
 
-ghost use Rattle.cap_frame.specs.ReadingFaults.{Answered, Faults};
+ghost use Rattle.cap_frame.specs.ReadingFaults.{Decides, Faults};
 ghost use Rattle.cap_frame.specs.Limit.{limit_of};
 ghost use Rattle.cap_frame.specs.Outlines.{Outlines, root_in, sizes_in};
 ghost use Rattle.cap_frame.specs.Taking.{IsUsable, Reads, Takes};
-ghost use Rattle.cap_spec.specs.Frames.{Frames, IsPartial, IsTable, sizes_of};
-ghost use Rattle.std.specs.Prelude.{◌%◌, ◌+◌, ◌++◌, ◌<◌, ◌^◌, ◌≡◌, ◌≤◌, [], ◌∷◌, IfErr, IsErrOf, List, None, OnOk, OnSome, drop, false, length, sum, true, ℕ};
+ghost use Rattle.cap_spec.specs.Frames.{Frames, sizes_of};
+ghost use Rattle.std.specs.Prelude.{◌≡◌, ◌≤◌, [], ◌∷◌, IfErr, IsErrOf, List, None, OnOk, OnSome, false, sum, true, ℕ};
 
 use crate::fault::{FrameFault, frame_fault};
 use crate::limit::SizeLimit;
@@ -82,20 +82,7 @@ pub fn read_outline<S: WordSource>(
     ensures no_memory { IsErrOf result FrameFault.Memory → ⊥ }
     ensures emptied { (result ≡ Ok true → ⊥) → (sizes_in outline.new ≡ []) × (root_in outline.new ≡ None) }
     // And the other way round, where the words are known and no device or earlier fault is in the way.
-    // A front of them frames a message within the limit: the outline is its, and the source has the other words.
-    ensures whole { (own rest : List ℕ) (m : List (List ℕ)) → S.words source.old ≡ Some (own ++ rest) → Frames own m → sum (sizes_of m) ≤ limit_of limit →
-        Answered result ((result ≡ Ok true) × Outlines outline.new m × (S.words source.new ≡ Some rest)) }
-    // They end before the first one.
-    ensures no_word { S.words source.old ≡ Some [] → S.is_cut source.old ≡ false → Answered result (result ≡ Ok false) }
-    // The first word tells of too many segments.
-    ensures many { (first : ℕ) (rest : List ℕ) → S.words source.old ≡ Some (first ∷ rest) → 512 < first % 2 ^ 32 + 1 →
-        Answered result ((result ≡ Err (FrameFault.TooManySegments (first % 2 ^ 32 + 1))) × (S.words source.new ≡ Some rest)) }
-    // The table is whole and past the limit.
-    ensures large { (table rest sizes : List ℕ) → S.words source.old ≡ Some (table ++ rest) → IsTable table sizes → limit_of limit < sum sizes →
-        Answered result ((result ≡ Err (FrameFault.TooLarge (sum sizes))) × (S.words source.new ≡ Some rest)) }
-    // They end inside a message.
-    ensures cut_short { (words : List ℕ) → S.words source.old ≡ Some words → IsPartial (limit_of limit) words (S.is_cut source.old) →
-        Answered result ((byte : ℕ) × (result ≡ Err (FrameFault.Truncated byte)) × (drop (length words) (S.places source.old) ≡ byte ∷ [])) }
+    ensures decides { Decides S.WordSource false (λ m. (result ≡ Ok true) × Outlines outline.new m) (limit_of limit) source.old source.new result }
 {
     read_outlined(source, limit, outline)
 }

@@ -1,5 +1,7 @@
 //! Room for the tables of a message that is borrowed.
 
+ghost use Rattle.std.specs.Prelude.{◌≡◌, []};
+
 use crate::byte_contents::Starts;
 use crate::table::Sizes;
 
@@ -11,8 +13,12 @@ pub struct SegmentTables {
 }
 
 impl SegmentTables {
+    ghost use Rattle.cap_frame.specs.Framed.{sizes_held};
+
     /// Room that holds no tables yet.
-    pub fn new() -> SegmentTables {
+    pub fn new() -> SegmentTables
+        ensures { sizes_held result ≡ [] }
+    {
         SegmentTables {
             sizes: Sizes::new(),
             starts: Starts::new(),

@@ -54,7 +54,7 @@ pub(crate) fn read_words<S: WordSource>(
     Ok(())
 }
 
-/// Empty vectors with exactly the room that segments of these sizes need.
+/// Empty vectors with room for the words of segments of these sizes.
 pub(crate) fn rooms(alloc: Global, sizes: &[u32]) -> Result<Vec<Vec<u64>>, AllocError>
     ensures { IfOk result (λ rooms. AreRooms (λ v. v.items) (λ v. vec_capacity v) rooms.items sizes.now) }
 {

@@ -69,7 +69,7 @@ module _ {S : Type 0} (g : source.Ghosts S) (limit : ℕ) where
           answered_absurd fault P _ (λ a. (cc))
           (none_answer (λ m. m) limit rest (g.is_cut mid) (g.places mid) (g.words new) (Err fault) e c (tells g (λ m. m) limit mid new (Err fault) rest w tt (λ i. absurd (cc)) h))
       next (inr t) =
-          answered_absurd fault P _ (λ a. a)
+          answered_absurd fault P _ (λ a. a.0)
           (whole_answer (λ m. m) limit rest (g.is_cut mid) (g.places mid) (g.words new) (Err fault) t.own t.rest t.message t.whole t.frames (subst (AllByRecursion (λ m. sum (sizes_of m) ≤ limit)) t.messages l).0
           (tells g (λ m. m) limit mid new (Err fault) rest w tt (λ i. absurd (cc)) h))
 

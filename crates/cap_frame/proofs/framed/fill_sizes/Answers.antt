@@ -6,7 +6,7 @@ use Rattle.cap_spec.specs.Plain.{plain_words}
 use Rattle.cap_frame.specs.Fronts.{sizes_told}
 use Rattle.cap_frame.proofs.Cuts.{words_all}
 use Rattle.cap_frame.proofs.Halves.{more_told}
-use Rattle.cap_frame.proofs.Parts.{small_bytes}
+use Rattle.cap_words.proofs.AtHand.{bytes_small}
 use Rattle.cap_frame.proofs.framed.fill_sizes.Goals as goal
 
 pub sizes-preserved : goal.sizes-preserved
@@ -16,7 +16,7 @@ sizes-preserved c =
     let room : s + 2 ≤ 2 * length (plain_words bs) = omega (arith, words_all bs, c.requires.inside) in
     let read : c.read_u32.result ≡ little_number 4 (drop (4 + 4 * s) bs) = c.read_u32.ensures ∙ ap (little_number 4) (take_rest bs (4 + 4 * s)) in
     let more : sizes_told (s + 1) (plain_words bs) ≡ sizes_told s (plain_words bs) ++ little_number 4 (drop (4 + 4 * s) bs) ∷ [] =
-    more_told bs s (small_bytes bs (λ i. c.type_inv.bytes i)) room in
+    more_told bs s (bytes_small bs (λ i. c.type_inv.bytes i)) room in
     record {
       told =
           c.push.ensures.items

@@ -4,7 +4,7 @@ use Rattle.std.proofs.lemmas.Bool.Decides.{nat_tests}
 use Rattle.cap_frame.specs.Fronts.{table_words}
 use Rattle.cap_frame.specs.Limit.{limit_of}
 use Rattle.cap_frame.proofs.Fronts.{begins, has_table, is_front, no_contents, no_first, no_table, tells_large, tells_many}
-use Rattle.cap_frame.proofs.Parts.{small_bytes}
+use Rattle.cap_words.proofs.AtHand.{bytes_small}
 use Rattle.cap_frame.proofs.front.read_front.Goals as goal
 
 pub returns-then-bytes-lt8 : goal.returns-then-bytes-lt8
@@ -13,20 +13,20 @@ returns-then-bytes-lt8 c = no_first c.args.bytes.now (limit_of c.args.limit) (gr
 pub returns-then-last-ge512 : goal.returns-then-last-ge512
 returns-then-last-ge512 c =
     let bs = c.args.bytes.now in
-    let b = begins bs (small_bytes bs (λ i. c.type_inv.bytes i)) c.if-bytes-lt8.false in
+    let b = begins bs (bytes_small bs (λ i. c.type_inv.bytes i)) c.if-bytes-lt8.false in
     tells_many bs _ (c.from.result + 1) b (omega (arith, c.read_u32-last.ensures, c.if-last-ge512.true)) (omega (arith, c.from.ensures, c.read_u32-last.ensures))
 
 pub returns-then-bytes-table : goal.returns-then-bytes-table
 returns-then-bytes-table c =
     let bs = c.args.bytes.now in
-    let b = begins bs (small_bytes bs (λ i. c.type_inv.bytes i)) c.if-bytes-lt8.false in
+    let b = begins bs (bytes_small bs (λ i. c.type_inv.bytes i)) c.if-bytes-lt8.false in
     no_table bs (limit_of c.args.limit) _ (8 * (c.from-2.result / 2 + 1)) b (omega (arith, c.read_u32-last.ensures, c.if-last-ge512.false))
     (ap (λ n. 8 * table_words n) (c.from-2.ensures ∙ ap (λ n. n + 1) c.read_u32-last.ensures)) c.if-bytes-table.true
 
 pub returns-then-words : goal.returns-then-words
 returns-then-words c =
     let bs = c.args.bytes.now in
-    let all = small_bytes bs (λ i. c.type_inv.bytes i) in
+    let all = bytes_small bs (λ i. c.type_inv.bytes i) in
     let b = begins bs all c.if-bytes-lt8.false in
     let t = has_table bs _ (c.read_u32-last.result + 1) all b (omega (arith, c.read_u32-last.ensures, c.if-last-ge512.false)) (ap (λ n. n + 1) c.read_u32-last.ensures)
     (omega (arith, c.if-bytes-table.false, c.from-2.ensures)) in
@@ -35,7 +35,7 @@ returns-then-words c =
 pub returns-then-bytes-wanted : goal.returns-then-bytes-wanted
 returns-then-bytes-wanted c =
     let bs = c.args.bytes.now in
-    let all = small_bytes bs (λ i. c.type_inv.bytes i) in
+    let all = bytes_small bs (λ i. c.type_inv.bytes i) in
     let b = begins bs all c.if-bytes-lt8.false in
     let t = has_table bs _ (c.read_u32-last.result + 1) all b (omega (arith, c.read_u32-last.ensures, c.if-last-ge512.false)) (ap (λ n. n + 1) c.read_u32-last.ensures)
     (omega (arith, c.if-bytes-table.false, c.from-2.ensures)) in
@@ -45,7 +45,7 @@ returns-then-bytes-wanted c =
 pub returns : goal.returns
 returns c =
     let bs = c.args.bytes.now in
-    let all = small_bytes bs (λ i. c.type_inv.bytes i) in
+    let all = bytes_small bs (λ i. c.type_inv.bytes i) in
     let b = begins bs all c.if-bytes-lt8.false in
     let t = has_table bs _ (c.read_u32-last.result + 1) all b (omega (arith, c.read_u32-last.ensures, c.if-last-ge512.false)) (ap (λ n. n + 1) c.read_u32-last.ensures)
     (omega (arith, c.if-bytes-table.false, c.from-2.ensures)) in

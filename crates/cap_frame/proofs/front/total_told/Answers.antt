@@ -6,7 +6,7 @@ use Rattle.cap_spec.specs.Plain.{plain_words}
 use Rattle.cap_frame.specs.Fronts.{sizes_told}
 use Rattle.cap_frame.proofs.Cuts.{words_all}
 use Rattle.cap_frame.proofs.Halves.{more_total}
-use Rattle.cap_frame.proofs.Parts.{small_bytes}
+use Rattle.cap_words.proofs.AtHand.{bytes_small}
 use Rattle.cap_frame.proofs.front.total_told.Goals as goal
 
 pub sizes-preserved : goal.sizes-preserved
@@ -17,5 +17,5 @@ sizes-preserved c =
     let read : c.from-words.result ≡ little_number 4 (drop (4 + 4 * s) bs) =
     c.from-words.ensures ∙ (c.read_u32.ensures ∙ ap (little_number 4) (take_rest bs (4 + 4 * s))) in
     let more : sum (sizes_told (s + 1) (plain_words bs)) ≡ sum (sizes_told s (plain_words bs)) + little_number 4 (drop (4 + 4 * s) bs) =
-    more_total bs s (small_bytes bs (λ i. c.type_inv.bytes i)) room in
+    more_total bs s (bytes_small bs (λ i. c.type_inv.bytes i)) room in
     record { total = omega (arith, c.sizes.invariant.total, read, more); small = omega (arith, c.sizes.invariant.small, c.from-words.ensures, c.read_u32.type_inv) }

@@ -1,30 +1,10 @@
 -- No two of the ways in which reading ends hold of the same words, so what holds of them decides the answer.
 use Rattle.cap_frame.specs.Limit.{limit_of}
 use Rattle.cap_frame.specs.Outlines.{Outlines}
-use Rattle.cap_frame.proofs.Outlines.{finds_whole, finds_none, finds_many, finds_large, finds_part}
+use Rattle.cap_frame.proofs.Outlines.{finds}
 use Rattle.cap_frame.proofs.outline_reader.read_outline.Goals as goal
 
-pub returns-clause-whole : goal.returns-clause-whole
-returns-clause-whole g c =
-    finds_whole g.S.WordSource (Outlines c.read_outlined.new.outline) (limit_of c.args.limit) c.args.source.now c.read_outlined.new.source c.read_outlined.result
-    c.read_outlined.ensures.message c.read_outlined.ensures.none c.read_outlined.ensures.err
-
-pub returns-clause-no_word : goal.returns-clause-no_word
-returns-clause-no_word g c =
-    finds_none g.S.WordSource (Outlines c.read_outlined.new.outline) (limit_of c.args.limit) c.args.source.now c.read_outlined.new.source c.read_outlined.result
-    c.read_outlined.ensures.message c.read_outlined.ensures.none c.read_outlined.ensures.err
-
-pub returns-clause-many : goal.returns-clause-many
-returns-clause-many g c =
-    finds_many g.S.WordSource (Outlines c.read_outlined.new.outline) (limit_of c.args.limit) c.args.source.now c.read_outlined.new.source c.read_outlined.result
-    c.read_outlined.ensures.message c.read_outlined.ensures.none c.read_outlined.ensures.err
-
-pub returns-clause-large : goal.returns-clause-large
-returns-clause-large g c =
-    finds_large g.S.WordSource (Outlines c.read_outlined.new.outline) (limit_of c.args.limit) c.args.source.now c.read_outlined.new.source c.read_outlined.result
-    c.read_outlined.ensures.message c.read_outlined.ensures.none c.read_outlined.ensures.err
-
-pub returns-clause-cut_short : goal.returns-clause-cut_short
-returns-clause-cut_short g c =
-    finds_part g.S.WordSource (Outlines c.read_outlined.new.outline) (limit_of c.args.limit) c.args.source.now c.read_outlined.new.source c.read_outlined.result
-    c.read_outlined.ensures.message c.read_outlined.ensures.none c.read_outlined.ensures.err
+pub returns-clause-decides : goal.returns-clause-decides
+returns-clause-decides g c =
+    let one = c.read_outlined.ensures in
+    finds g.S.WordSource (Outlines c.read_outlined.new.outline) (limit_of c.args.limit) c.args.source.now c.read_outlined.new.source c.read_outlined.result one.message one.none one.err
