@@ -1,5 +1,5 @@
 -- Words that are read at once and handed to a sink.
-use Rattle.std.proofs.Common.{◌≡◌, ◌∙◌, ℕ, ◌+◌, ◌*◌, ◌<◌, ◌≤◌, false, true, ◌⊎◌, inl, inr, List, [], ◌∷◌, ◌++◌, length, take, Some, OnSome, refl, sym, ap, arith, length-append}
+use Rattle.std.proofs.Common.{◌≡◌, ◌∙◌, ℕ, ◌+◌, ◌*◌, ◌≤◌, false, true, ◌⊎◌, inl, inr, List, [], ◌∷◌, ◌++◌, length, take, Some, OnSome, refl, sym, ap, arith, length-append}
 use Rattle.std.specs.Io.KnownBytes.{Keeps}
 use Rattle.std.proofs.lemmas.List.{length-take-le}
 use Rattle.cap_spec.specs.Plain.{plain_text, plain_words}
@@ -12,8 +12,7 @@ use Rattle.cap_words.specs.declared.sinks.WordSink as sink
 use Rattle.cap_words.specs.declared.sources.SourceFault.{SourceFault}
 use Rattle.cap_words.specs.declared.sources.SourceFault.TheVariants.{Truncated, Device, Spent}
 use Rattle.cap_words.specs.declared.sources.WordSource as source
-use Rattle.cap_frame.specs.Putting.{Halts}
-use Rattle.cap_run.specs.Copying.{Fills, Gives, GivesNone, StopsMidway}
+use Rattle.cap_run.specs.Copying.{Gives, GivesNone, StopsMidway}
 use Rattle.cap_run.specs.Handed.{HandsOver}
 use Rattle.cap_run.specs.PuttingEnds.{Copies}
 use Rattle.cap_run.proofs.Copying.{fills_both, fills_none, gives_both, gives_none}

@@ -9,7 +9,7 @@ ghost use Rattle.std.specs.Prelude.{◌*◌, ◌/◌, ◌≡◌, ◌≤◌, IfEr
 
 use crate::fault::CopyFault;
 use cap_pack::Packer;
-use cap_words::{ByteOut, OutFault, SinkFault, SourceFault, WordSink, WordSource};
+use cap_words::{ByteOut, OutFault, SinkFault, WordSink, WordSource};
 
 /// The fault of a sink's output.
 pub(crate) fn output_fault(fault: SinkFault) -> OutFault

@@ -1,4 +1,4 @@
-use Rattle.std.proofs.Common.{◌≡◌, ◌∙◌, ◌≤◌, ◌+◌, arith, length, ap, sym, subst, Err, refl}
+use Rattle.std.proofs.Common.{◌≡◌, ◌∙◌, arith, length, ap, sym, subst, Err, refl}
 use Rattle.cap_spec.specs.Canonical.{layout, trim}
 use Rattle.cap_spec.specs.Copies.{HasCopy}
 use Rattle.cap_spec.specs.Plain.{plain_text}

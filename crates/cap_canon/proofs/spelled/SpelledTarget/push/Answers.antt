@@ -1,4 +1,4 @@
-use Rattle.std.proofs.Common.{◌≡◌, ◌*◌, ◌+◌, ◌≤◌, ◌∙◌, arith, length}
+use Rattle.std.proofs.Common.{◌*◌, ◌+◌, ◌≤◌, ◌∙◌, arith, length}
 use Rattle.cap_canon.proofs.SpelledWords.{spelled_count, word_count, word_pushed}
 use Rattle.cap_canon.proofs.spelled.SpelledTarget.push.Goals as goal
 

@@ -1,9 +1,8 @@
-use Rattle.std.proofs.Common.{◌∙◌, ◌++◌, [], ◌∷◌, List, ℕ, ap, sym, subst, arith, rules, append_assoc, length-append}
+use Rattle.std.proofs.Common.{◌∙◌, ◌++◌, [], ◌∷◌, List, ℕ, ap, sym, subst, arith, rules, append_assoc}
 use Rattle.std.specs.List.{AllByRecursion}
 use Rattle.cap_spec.specs.Denoting.{words_from}
 use Rattle.cap_spec.specs.Words.{IsWord}
 use Rattle.cap_spec.proofs.Lists.{all_append}
-use Rattle.cap_spec.proofs.Shapes.{range_length}
 use Rattle.cap_canon.proofs.Ranges.{range_more}
 use Rattle.cap_canon.proofs.target.Target.append_from.Goals as goal
 

@@ -1,5 +1,4 @@
-use Rattle.std.proofs.Common.{◌≡◌, [], ◌∷◌, ◌++◌, ◌*◌, ◌/◌, List, ℕ, length, subst, sym, arith}
-use Rattle.cap_spec.specs.Frames.{frame_text}
+use Rattle.std.proofs.Common.{[], ◌∷◌, ◌*◌, ◌/◌, List, ℕ, length, subst, sym, arith}
 use Rattle.cap_spec.specs.Plain.{plain_words}
 use Rattle.cap_frame.specs.Putting.{Halts}
 use Rattle.cap_frame.proofs.Putting.{halts_before, halts_one}

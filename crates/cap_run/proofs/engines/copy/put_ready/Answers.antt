@@ -1,4 +1,4 @@
-use Rattle.std.proofs.Common.{◌≡◌, ◌/◌, ◌<◌, List, ℕ, length, take, arith, subst, sym}
+use Rattle.std.proofs.Common.{take, arith, subst, sym}
 use Rattle.cap_spec.specs.Plain.{plain_words}
 use Rattle.cap_frame.specs.Putting.{Halts}
 use Rattle.cap_run.specs.PuttingEnds.{Copies}
