@@ -13,9 +13,9 @@ use Rattle.cap_spec.specs.Packing.{pack_text}
 use Rattle.cap_spec.specs.Plain.{plain_text}
 use Rattle.cap_run.specs.Canons.{MakesCopies, copies_of}
 use Rattle.cap_run.specs.Copying.{Copied, CopiesAll}
-use Rattle.cap_run.specs.Engines.{CopiesWords, ShowsStream, TellsStream, most_words}
+use Rattle.cap_run.specs.Engines.{CopiesWords, TellsStream, most_words}
 use Rattle.cap_cmd.specs.Statuses.{cause_status, copy_status, frame_status, outcome_status, run_status}
-use Rattle.cap_cmd.specs.Jobs.{BeginsOutput, CopiesInput, DoesTask, CanonsInput, GivesOutput, ShowsInput, TellsCopy, TellsInput, TellsRun}
+use Rattle.cap_cmd.specs.Jobs.{BeginsOutput, CopiesInput, DoesTask, CanonsInput, GivesOutput, TellsCopy, TellsInput, TellsRun}
 use Rattle.cap_run.specs.Telling.{Tells, outcome_of}
 use Rattle.cap_run.specs.declared.fault.Cause.{Cause}
 use Rattle.cap_run.specs.declared.fault.Cause.TheVariants.{TooManyMessages, Frame, Output, Refused, Canon, Memory as no_marks}
@@ -71,14 +71,6 @@ pub none_noncanonical : (o : Outcome) → outcome_status o ≡ 0 → o.noncanoni
 none_noncanonical o e = grind (arith, e)
 
 module _ {S O : Type 0} (gs : source.Ghosts S) (go : output.Ghosts O) where
-  -- all messages were shown
-  pub shown_all : (limit most : ℕ) (old new : S) (before after : O) (r : Result Outcome RunFault) → run_status r ≡ 0 → ShowsStream gs go limit most old new before after r
-      → ShowsInput (gs.words old) (gs.is_cut old) (go.written before) (go.written after) limit most
-  shown_all limit most old new before after (Ok o) e s =
-      let k = s.ok in
-      record { own = k.1.own; all = k.1.all; ms = k.0; stream = k.1.stream; within = k.1.within; many = k.3; appended = k.2.appended }
-  shown_all limit most old new before after (Err fault) e s = absurd (cause_fails fault.cause e)
-
   -- all messages were accepted
   pub told_all : (tells : Tells) (wants : List (List ℕ) → Type 0) (limit most : ℕ) (old new : S) (before after : O) (r : Result Outcome RunFault) → run_status r ≡ 0
       → TellsStream gs go tells wants limit most old new before after r

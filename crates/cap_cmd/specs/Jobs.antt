@@ -1,7 +1,7 @@
 -- What a job does: its engine gives an answer over the words of its input, and the status and the line of a fault tell that (profile).
 -- The members of types have the letters of types: gi of the input's, gs of the source's over it, go and ge of the two
 -- outputs', gp of a packer's over the first, and gu of a plain sink's.
-use Rattle.std.specs.Prelude.{ℕ, ◌≡◌, ◌≤◌, ◌||◌, if◌then◌else◌, true, false, Bool, List, length, sum, [], Option, Some, None, OnSome, Result, Ok, Err, unwrap_or}
+use Rattle.std.specs.Prelude.{ℕ, ◌≡◌, ◌≤◌, ◌||◌, if◌then◌else◌, true, false, Bool, List, length, sum, [], Option, Some, OnSome, Result, Ok, Err, unwrap_or}
 use Rattle.std.specs.List.{AllByRecursion}
 use Rattle.std.specs.Option.{option_map}
 use Rattle.std.specs.Io.KnownBytes.{Appends, append_known}
@@ -10,7 +10,6 @@ use Rattle.cap_spec.specs.PackedEnds.{packed_ends}
 use Rattle.cap_spec.specs.Packing.{pack_text}
 use Rattle.cap_spec.specs.Plain.{plain_ends, plain_is_cut, plain_text, plain_words}
 use Rattle.cap_spec.specs.Unpacking.{packed_is_cut, unpacked}
-use Rattle.cap_spec.specs.declared.Step.{Step}
 use Rattle.cap_words.specs.declared.ends.ByteIn as input
 use Rattle.cap_words.specs.declared.ends.ByteOut as output
 use Rattle.cap_words.specs.declared.ends.OutFault.{OutFault}
@@ -23,7 +22,7 @@ use Rattle.cap_run.specs.Checking.{TellsCheck}
 use Rattle.cap_run.specs.Engines.{CopiesWords, ShowsStream, TellsStream, most_words}
 use Rattle.cap_run.specs.FaultLines.{copy_fault_line, run_fault_line}
 use Rattle.cap_cmd.specs.Statuses.{copy_status, run_status}
-use Rattle.cap_run.specs.Telling.{Tells, TellsEach, Told, WantsNone, messages_of, noncanonical_in, refused_in, segments_texts, texts_of}
+use Rattle.cap_run.specs.Telling.{Tells, TellsEach, TellsSegments, Told, WantsNone, messages_of, noncanonical_in, refused_in, texts_of}
 use Rattle.cap_run.specs.Vetting.{TellsDump, TellsExclusive, TellsGet, TellsVerdict, WantsMarks}
 use Rattle.cap_run.specs.Writing.{Writes}
 use Rattle.cap_run.specs.declared.fault.CopyFault.{CopyFault}
@@ -43,11 +42,6 @@ is_packed Check told = told
 is_packed Canon told = told
 is_packed Pack told = false
 is_packed Unpack told = true
-
--- the steps of the path that is asked for
-abbrev pub path_of : Task → Option (List Step)
-path_of (Get path) = Some path.items
-path_of _ = None
 
 -- the words of an input that is packed or not, where its bytes are known
 abbrev pub input_words : Bool → Option (List ℕ) → Option (List ℕ)
@@ -143,16 +137,6 @@ module _ {I S O E P U : Type 0} (gi : input.Ghosts I) (gs : source.Ghosts S) (go
     pub begins : BeginsInput gi gs packed start first
     pub does : DoesTask gs go ge gp gu task settings first before after old new status
 
--- All words are frames of messages, each within the limit, and none is cut short. The text of their segments was written.
-pub record ShowsInput (words : Option (List ℕ)) (is_cut : Bool) (before after : Option (List ℕ)) (limit most : ℕ) : Type 0 where
-  pub own : List ℕ
-  pub all : OnSome words ((words ≡ Some own) × (is_cut ≡ false))
-  pub ms : List (List (List ℕ))
-  pub stream : Stream own ms
-  pub within : AllByRecursion (λ m. sum (sizes_of m) ≤ limit) ms
-  pub many : length ms ≤ most
-  pub appended : Appends before after (segments_texts ms)
-
 -- All words are frames of messages, each within the limit, and none is cut short. Each message is accepted, and canonical where that was asked,
 -- and such a text of it was written.
 pub record TellsInput (tells : Tells) (words : Option (List ℕ)) (is_cut : Bool) (before after : Option (List ℕ))
@@ -186,3 +170,20 @@ pub record CopiesInput (words : Option (List ℕ)) (is_cut : Bool) (before after
   pub all : OnSome words ((words ≡ Some own) × (is_cut ≡ false))
   pub few : length own ≤ most
   pub appended : Appends before after (text own)
+
+-- What a task with the status of success wrote of all words, by the task.
+abbrev pub WritesAll : Task → Settings → Option (List ℕ) → Bool → Option (List ℕ) → Option (List ℕ) → Type 0
+WritesAll Segments s words is_cut before after = TellsInput TellsSegments words is_cut before after (limit_of s.size) s.messages
+WritesAll (Vet false) s words is_cut before after =
+    TellsInput (TellsVerdict (words_of s.limits) (depth_of s.limits)) words is_cut before after (limit_of s.size) s.messages
+WritesAll (Vet true) s words is_cut before after =
+    TellsInput (TellsExclusive (words_of s.limits) (depth_of s.limits)) words is_cut before after (limit_of s.size) s.messages
+WritesAll Dump s words is_cut before after =
+    TellsInput (TellsDump (words_of s.limits) (depth_of s.limits)) words is_cut before after (limit_of s.size) s.messages
+WritesAll (Get path) s words is_cut before after =
+    TellsInput (TellsGet (words_of s.limits) (depth_of s.limits) path.items) words is_cut before after (limit_of s.size) s.messages
+WritesAll Check s words is_cut before after =
+    TellsInput (TellsCheck (words_of s.limits) (depth_of s.limits)) words is_cut before after (limit_of s.size) s.messages
+WritesAll Canon s words is_cut before after = CanonsInput words is_cut before after (words_of s.limits) (depth_of s.limits) (limit_of s.size) s.messages
+WritesAll Pack s words is_cut before after = CopiesInput words is_cut before after pack_text most_words
+WritesAll Unpack s words is_cut before after = CopiesInput words is_cut before after plain_text most_words

@@ -1,22 +1,14 @@
 //! Doing a job: its engine is run over an input, an output and an output for faults.
 
-ghost use Rattle.cap_run.specs.Engines.{most_words};
-ghost use Rattle.cap_cmd.specs.Jobs.{CanonsInput, CopiesInput, DoesJob, DoesTask, ShowsInput, TellsCopy, TellsInput, TellsRun, input_is_cut, input_words, is_packed, path_of};
-ghost use Rattle.cap_run.specs.Checking.{TellsCheck};
-ghost use Rattle.cap_run.specs.Vetting.{TellsDump, TellsExclusive, TellsGet, TellsVerdict};
-ghost use Rattle.cap_spec.specs.declared.Step.{Step};
-ghost use Rattle.cap_frame.specs.Limit.{limit_of};
-ghost use Rattle.cap_spec.specs.Packing.{pack_text};
-ghost use Rattle.cap_spec.specs.Plain.{plain_text};
-ghost use Rattle.cap_vet.specs.Limits.{depth_of, words_of};
-ghost use Rattle.std.specs.Prelude.{◌≡◌, List, Some, false, true};
+ghost use Rattle.cap_cmd.specs.Jobs.{DoesJob, DoesTask, TellsCopy, TellsRun, WritesAll, input_is_cut, input_words, is_packed};
+ghost use Rattle.std.specs.Prelude.{◌≡◌, false, true};
 
 use crate::job::{Job, Task};
 use crate::status::{stream_status, words_status};
 use cap_pack::{Packer, Unpacker};
 use cap_run::{
-    CopyFault, Outcome, RunFault, run_canon, run_check, run_dump, run_get, run_pack, run_segments,
-    run_unpack, run_vet, run_vet_exclusive, write_copy_fault, write_fault,
+    CopyFault, Outcome, RunFault, Settings, run_canon, run_check, run_dump, run_get, run_pack,
+    run_segments, run_unpack, run_vet, run_vet_exclusive, write_copy_fault, write_fault,
 };
 use cap_words::{ByteIn, ByteOut, PlainSink, PlainWords, WordSink, WordSource};
 use std::alloc::Global;
@@ -56,6 +48,27 @@ fn report_copy<E: ByteOut>(err: &mut E, answer: &Result<u64, CopyFault>) -> u8
     words_status(answer)
 }
 
+/// Vets each message, also for words that are used twice where that is asked, and answers the status.
+fn vet_over<S: WordSource, O: ByteOut, E: ByteOut>(
+    alloc: Global,
+    exclusive: bool,
+    settings: &Settings,
+    source: &mut S,
+    out: &mut O,
+    err: &mut E,
+) -> u8
+    ensures does { DoesTask S.WordSource O.ByteOut E.ByteOut ⟦<Packer<O> as WordSink>⟧ ⟦<PlainSink<O> as WordSink>⟧ (Task.Vet exclusive) settings.now
+        source.old out.old out.new err.old err.new result }
+    ensures success { result ≡ 0 →
+        WritesAll (Task.Vet exclusive) settings.now (S.words source.old) (S.is_cut source.old) (O.written out.old) (O.written out.new) }
+{
+    if exclusive {
+        report(err, &run_vet_exclusive(alloc, source, out, settings))
+    } else {
+        report(err, &run_vet(alloc, source, out, settings))
+    }
+}
+
 /// Does a job over the words of its input.
 fn run_over<S: WordSource + Drop, O: ByteOut, E: ByteOut>(
     alloc: Global,
@@ -66,60 +79,34 @@ fn run_over<S: WordSource + Drop, O: ByteOut, E: ByteOut>(
 ) -> (u8, O)
     ensures does { DoesTask S.WordSource O.ByteOut E.ByteOut ⟦<Packer<O> as WordSink>⟧ ⟦<PlainSink<O> as WordSink>⟧ job.now.task job.now.settings
         source out result.1 err.old err.new result.0 }
-    ensures segments { job.now.task ≡ Task.Segments → result.0 ≡ 0 →
-        ShowsInput (S.words source) (S.is_cut source) (O.written out) (O.written result.1) (limit_of job.now.settings.size) job.now.settings.messages }
-    ensures vet { job.now.task ≡ Task.Vet false → result.0 ≡ 0 →
-        TellsInput (TellsVerdict (words_of job.now.settings.limits) (depth_of job.now.settings.limits)) (S.words source) (S.is_cut source)
-        (O.written out) (O.written result.1) (limit_of job.now.settings.size) job.now.settings.messages }
-    ensures vet_exclusive { job.now.task ≡ Task.Vet true → result.0 ≡ 0 →
-        TellsInput (TellsExclusive (words_of job.now.settings.limits) (depth_of job.now.settings.limits)) (S.words source) (S.is_cut source)
-        (O.written out) (O.written result.1) (limit_of job.now.settings.size) job.now.settings.messages }
-    ensures dump { job.now.task ≡ Task.Dump → result.0 ≡ 0 →
-        TellsInput (TellsDump (words_of job.now.settings.limits) (depth_of job.now.settings.limits)) (S.words source) (S.is_cut source)
-        (O.written out) (O.written result.1) (limit_of job.now.settings.size) job.now.settings.messages }
-    ensures get { (path : List Step) → path_of job.now.task ≡ Some path → result.0 ≡ 0 →
-        TellsInput (TellsGet (words_of job.now.settings.limits) (depth_of job.now.settings.limits) path) (S.words source) (S.is_cut source)
-        (O.written out) (O.written result.1) (limit_of job.now.settings.size) job.now.settings.messages }
-    ensures check { job.now.task ≡ Task.Check → result.0 ≡ 0 →
-        TellsInput (TellsCheck (words_of job.now.settings.limits) (depth_of job.now.settings.limits)) (S.words source) (S.is_cut source)
-        (O.written out) (O.written result.1) (limit_of job.now.settings.size) job.now.settings.messages }
-    ensures canon { job.now.task ≡ Task.Canon → result.0 ≡ 0 →
-        CanonsInput (S.words source) (S.is_cut source) (O.written out) (O.written result.1) (words_of job.now.settings.limits)
-        (depth_of job.now.settings.limits) (limit_of job.now.settings.size) job.now.settings.messages }
-    ensures pack { job.now.task ≡ Task.Pack → result.0 ≡ 0 →
-        CopiesInput (S.words source) (S.is_cut source) (O.written out) (O.written result.1) pack_text most_words }
-    ensures unpack { job.now.task ≡ Task.Unpack → result.0 ≡ 0
-        → CopiesInput (S.words source) (S.is_cut source) (O.written out) (O.written result.1) plain_text most_words }
+    ensures success { result.0 ≡ 0 →
+        WritesAll job.now.task job.now.settings (S.words source) (S.is_cut source) (O.written out) (O.written result.1) }
 {
-    let (mut source, mut out) = (source, out);
+    let (mut source, mut out, settings) = (source, out, &job.settings);
     match &job.task {
         Task::Segments => {
-            let answer = run_segments(&mut source, &mut out, &job.settings);
+            let answer = run_segments(&mut source, &mut out, settings);
             (report(err, &answer), out)
         }
-        Task::Vet { exclusive: false } => {
-            let answer = run_vet(alloc, &mut source, &mut out, &job.settings);
-            (report(err, &answer), out)
-        }
-        Task::Vet { exclusive: true } => {
-            let answer = run_vet_exclusive(alloc, &mut source, &mut out, &job.settings);
-            (report(err, &answer), out)
+        Task::Vet { exclusive } => {
+            let status = vet_over(alloc, *exclusive, settings, &mut source, &mut out, err);
+            (status, out)
         }
         Task::Dump => {
-            let answer = run_dump(alloc, &mut source, &mut out, &job.settings);
+            let answer = run_dump(alloc, &mut source, &mut out, settings);
             (report(err, &answer), out)
         }
         Task::Get { path } => {
-            let answer = run_get(alloc, &mut source, &mut out, &job.settings, path.as_slice());
+            let answer = run_get(alloc, &mut source, &mut out, settings, path.as_slice());
             (report(err, &answer), out)
         }
         Task::Check => {
-            let answer = run_check(alloc, &mut source, &mut out, &job.settings);
+            let answer = run_check(alloc, &mut source, &mut out, settings);
             (report(err, &answer), out)
         }
         Task::Canon => {
             let mut sink = PlainSink::new(out);
-            let answer = run_canon(alloc, &mut source, &mut sink, &job.settings);
+            let answer = run_canon(alloc, &mut source, &mut sink, settings);
             (report(err, &answer), sink.into_inner())
         }
         Task::Pack => {
@@ -140,9 +127,10 @@ fn run_over<S: WordSource + Drop, O: ByteOut, E: ByteOut>(
 ///
 /// The status is 0 where every message was accepted, and canonical where that was asked, or all words
 /// were copied; 1 where a message was refused, also for a word that is used twice where that was asked,
-/// or isn't canonical where that was asked, or has a capability where its canonical copy is wanted, or where the input is no stream of messages within
-/// the limits, is cut inside a word or a group, or has more words than are copied; and 3 where a device
-/// failed, an end was spent before, or a growth was refused.
+/// or isn't canonical where that was asked, or has a capability where its canonical copy is wanted, or
+/// where the input is no stream of messages within the limits, is cut inside a word or a group, or has
+/// more words than are copied; and 3 where a device failed, an end was spent before, or a growth was
+/// refused.
 pub fn run_job<I: ByteIn + Drop, O: ByteOut, E: ByteOut>(
     alloc: Global,
     job: &Job,
@@ -158,31 +146,9 @@ pub fn run_job<I: ByteIn + Drop, O: ByteOut, E: ByteOut>(
         DoesJob I.ByteIn ⟦<Unpacker<I> as WordSource>⟧ O.ByteOut E.ByteOut ⟦<Packer<O> as WordSink>⟧ ⟦<PlainSink<O> as WordSink>⟧
         true job.now.task job.now.settings input out result.1 err.old err.new result.0 }
     // So with status 0 all of the input was read, and exactly this was written.
-    ensures segments { job.now.task ≡ Task.Segments → result.0 ≡ 0 →
-        ShowsInput (input_words job.now.packed (I.to_come input)) (input_is_cut job.now.packed (I.to_come input)) (O.written out) (O.written result.1)
-        (limit_of job.now.settings.size) job.now.settings.messages }
-    ensures vet { job.now.task ≡ Task.Vet false → result.0 ≡ 0 →
-        TellsInput (TellsVerdict (words_of job.now.settings.limits) (depth_of job.now.settings.limits)) (input_words job.now.packed (I.to_come input))
-        (input_is_cut job.now.packed (I.to_come input)) (O.written out) (O.written result.1) (limit_of job.now.settings.size) job.now.settings.messages }
-    ensures vet_exclusive { job.now.task ≡ Task.Vet true → result.0 ≡ 0 →
-        TellsInput (TellsExclusive (words_of job.now.settings.limits) (depth_of job.now.settings.limits)) (input_words job.now.packed (I.to_come input))
-        (input_is_cut job.now.packed (I.to_come input)) (O.written out) (O.written result.1) (limit_of job.now.settings.size) job.now.settings.messages }
-    ensures dump { job.now.task ≡ Task.Dump → result.0 ≡ 0 →
-        TellsInput (TellsDump (words_of job.now.settings.limits) (depth_of job.now.settings.limits)) (input_words job.now.packed (I.to_come input))
-        (input_is_cut job.now.packed (I.to_come input)) (O.written out) (O.written result.1) (limit_of job.now.settings.size) job.now.settings.messages }
-    ensures get { (path : List Step) → path_of job.now.task ≡ Some path → result.0 ≡ 0 →
-        TellsInput (TellsGet (words_of job.now.settings.limits) (depth_of job.now.settings.limits) path) (input_words job.now.packed (I.to_come input))
-        (input_is_cut job.now.packed (I.to_come input)) (O.written out) (O.written result.1) (limit_of job.now.settings.size) job.now.settings.messages }
-    ensures check { job.now.task ≡ Task.Check → result.0 ≡ 0 →
-        TellsInput (TellsCheck (words_of job.now.settings.limits) (depth_of job.now.settings.limits)) (input_words job.now.packed (I.to_come input))
-        (input_is_cut job.now.packed (I.to_come input)) (O.written out) (O.written result.1) (limit_of job.now.settings.size) job.now.settings.messages }
-    ensures canon { job.now.task ≡ Task.Canon → result.0 ≡ 0 →
-        CanonsInput (input_words job.now.packed (I.to_come input)) (input_is_cut job.now.packed (I.to_come input)) (O.written out) (O.written result.1)
-        (words_of job.now.settings.limits) (depth_of job.now.settings.limits) (limit_of job.now.settings.size) job.now.settings.messages }
-    ensures pack { job.now.task ≡ Task.Pack → result.0 ≡ 0 →
-        CopiesInput (input_words false (I.to_come input)) (input_is_cut false (I.to_come input)) (O.written out) (O.written result.1) pack_text most_words }
-    ensures unpack { job.now.task ≡ Task.Unpack → result.0 ≡ 0 →
-        CopiesInput (input_words true (I.to_come input)) (input_is_cut true (I.to_come input)) (O.written out) (O.written result.1) plain_text most_words }
+    ensures success { result.0 ≡ 0 →
+        WritesAll job.now.task job.now.settings (input_words (is_packed job.now.task job.now.packed) (I.to_come input))
+        (input_is_cut (is_packed job.now.task job.now.packed) (I.to_come input)) (O.written out) (O.written result.1) }
 {
     if input_is_packed(job) {
         run_over(alloc, job, Unpacker::new(input), out, err)

@@ -16,7 +16,6 @@ pub mod Settling
 pub mod Reading
 pub mod PathReading
 pub mod Reports
-pub mod Shown
 pub mod Streams
 pub mod Telling
 pub mod Writing

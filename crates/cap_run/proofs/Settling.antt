@@ -12,7 +12,6 @@ use Rattle.cap_frame.specs.ReadingFaults.{Answered, Faults}
 use Rattle.cap_frame.specs.declared.fault.FrameFault.{FrameFault}
 use Rattle.cap_frame.specs.declared.fault.FrameFault.TheVariants.{TooManySegments, TooLarge, Truncated, Device, Memory, Spent}
 use Rattle.cap_frame.proofs.Converse.{known_still, same_some, tells, whole_answer, none_answer}
-use Rattle.cap_canon.specs.declared.fault.CanonFault.TheVariants.{HasCapability, Memory as canon_memory}
 use Rattle.cap_run.specs.Running.{Appended, RunStops, Settled, SettledAt}
 use Rattle.cap_run.specs.Streams.{ReadsAll, ReadsStream}
 use Rattle.cap_run.specs.Telling.{Tells, TellsEach, Told, messages_of, outcome_of, texts_of}
@@ -30,28 +29,6 @@ answered_absurd (Truncated n) P Q h a = absurd (h a)
 answered_absurd Device P Q h a = tt
 answered_absurd Memory P Q h a = tt
 answered_absurd Spent P Q h a = tt
-
--- what follows from what is said
-pub answered_map : (fault : FrameFault) (P Q : Type 0) → (P → Q) → Answered {A = Outcome} (Err fault) P → Answered {A = Outcome} (Err fault) Q
-answered_map (TooManySegments n) P Q h a = h a
-answered_map (TooLarge n) P Q h a = h a
-answered_map (Truncated n) P Q h a = h a
-answered_map Device P Q h a = tt
-answered_map Memory P Q h a = tt
-answered_map Spent P Q h a = tt
-
-pub settled_at_map : (cause : Cause) (P Q : Type 0) → (P → Q) → SettledAt cause P → SettledAt cause Q
-settled_at_map TooManyMessages P Q h a = h a
-settled_at_map (Frame fault) P Q h a = answered_map fault P Q h a
-settled_at_map (Output fault) P Q h a = tt
-settled_at_map (Refused refusal) P Q h a = h a
-settled_at_map (Canon (HasCapability s w)) P Q h a = h a
-settled_at_map (Canon canon_memory) P Q h a = tt
-settled_at_map no_marks P Q h a = tt
-
-pub settled_map : (r : Result Outcome RunFault) (P Q : Type 0) → (P → Q) → Settled r P → Settled r Q
-settled_map (Ok outcome) P Q h a = h a
-settled_map (Err fault) P Q h a = settled_at_map fault.cause P Q h a
 
 -- what is said of a known value
 pub on_known : {A : Type 0} (o : Option A) (x : A) (P : Type 0) → o ≡ Some x → OnSome o P → P

@@ -3,21 +3,16 @@
 use Rattle.std.specs.Prelude.{ℕ, ◌-◌, ◌≡◌, ◌<◌, ◌≤◌, ◌^◌, false, true, List, [], ◌∷◌, length, sum, take, drop, Some, Result, Ok, Err, IfOk, IfErr, IsErrOf}
 use Rattle.std.specs.List.{AllByRecursion}
 use Rattle.cap_spec.specs.Frames.{Stream, sizes_of}
-use Rattle.cap_spec.specs.declared.Refusal.{Refusal}
 use Rattle.cap_words.specs.declared.ends.ByteOut as output
-use Rattle.cap_words.specs.declared.ends.OutFault.{OutFault}
 use Rattle.cap_words.specs.declared.sinks.WordSink as sink
 use Rattle.cap_words.specs.declared.sources.SourceFault.TheVariants.{Truncated}
 use Rattle.cap_words.specs.declared.sources.WordSource as source
-use Rattle.cap_frame.specs.ReadingFaults.{Faults}
-use Rattle.cap_frame.specs.declared.fault.FrameFault.{FrameFault}
 use Rattle.cap_frame.specs.declared.fault.FrameFault.TheVariants.{Memory}
-use Rattle.cap_canon.specs.declared.fault.CanonFault.{CanonFault}
 use Rattle.cap_run.specs.Copying.{Copied, CopySettled, Finishes}
-use Rattle.cap_run.specs.Running.{Appended, RunStops, Settled, ShowsSegments, StopsShowing}
+use Rattle.cap_run.specs.Running.{Appended, RunStops, Settled}
 use Rattle.cap_run.specs.Streams.{ReadsAll, ReadsStream}
-use Rattle.cap_run.specs.Telling.{Tells, TellsEach, Told, messages_of, outcome_of, segments_texts, texts_of}
-use Rattle.cap_run.specs.declared.fault.Cause.TheVariants.{TooManyMessages, Frame, Output, Refused, Canon, Memory as no_marks}
+use Rattle.cap_run.specs.Telling.{Tells, TellsEach, TellsSegments, Told, WantsNone, messages_of, outcome_of, texts_of}
+use Rattle.cap_run.specs.declared.fault.Cause.TheVariants.{Frame}
 use Rattle.cap_run.specs.declared.fault.CopyFault.{CopyFault}
 use Rattle.cap_run.specs.declared.fault.CopyFault.TheVariants.{TooManyWords, Source}
 use Rattle.cap_run.specs.declared.fault.RunFault.{RunFault}
@@ -50,28 +45,10 @@ module _ {S O : Type 0} (gs : source.Ghosts S) (go : output.Ghosts O) where
         Settled answer ((ts : List Told) × (messages_of ts ≡ ms) × TellsEach tells 0 ts × Appended go before after (texts_of ts)
         × (answer ≡ Ok (outcome_of ts)))
 
-  -- What the engine does that shows the segments of each message, of at most so many messages, each of at most `limit` words.
+  -- What the engine does that shows the segments of each message. No memory is taken in reading.
   pub record ShowsStream (limit most : ℕ) (old new : S) (before after : O) (answer : Result Outcome RunFault) : Type 0 where
-    -- All words of the source are frames of these messages.
-    pub ok : IfOk answer (λ outcome. (ms : List (List (List ℕ))) × ReadsAll gs limit old new ms × Appended go before after (segments_texts ms)
-        × (length ms ≤ most) × (outcome ≡ record { messages = length ms; refused = 0; noncanonical = 0 }))
-    -- In each of these the source stood at `mid` when the messages before the fault had been read.
-    pub too_many : (n : ℕ) → IsErrOf answer (record { message = n; cause = TooManyMessages }) → (n ≡ most)
-        × ((mid : S) × (m : List (List ℕ)) × ShowsSegments gs go limit n old mid before after × ReadsStream gs limit mid new (m ∷ []))
-    pub frame : (n : ℕ) (fault : FrameFault) → IsErrOf answer (record { message = n; cause = Frame fault }) → (n ≤ most)
-        × ((mid : S) × ShowsSegments gs go limit n old mid before after × Faults gs limit mid new fault)
-    pub output : (n : ℕ) (fault : OutFault) → IsErrOf answer (record { message = n; cause = Output fault }) → (n < most)
-        × StopsShowing gs go limit n old new before after fault
-    -- No memory is taken in reading.
+    pub told : TellsStream TellsSegments WantsNone limit most old new before after answer
     pub no_memory : (n : ℕ) → IsErrOf answer (record { message = n; cause = Frame Memory }) → ⊥
-    -- Nothing is vetted, nothing copied, and nothing marked.
-    pub none_refused : (n : ℕ) (refusal : Refusal) → IsErrOf answer (record { message = n; cause = Refused refusal }) → ⊥
-    pub none_copied : (n : ℕ) (fault : CanonFault) → IsErrOf answer (record { message = n; cause = Canon fault }) → ⊥
-    pub none_marked : (n : ℕ) → IsErrOf answer (record { message = n; cause = no_marks }) → ⊥
-    -- And the other way round: a stream of at most so many messages, each within the limit, is read to its end.
-    pub whole : (own : List ℕ) (ms : List (List (List ℕ))) → gs.words old ≡ Some own → gs.is_cut old ≡ false → Stream own ms
-        → AllByRecursion (λ m. sum (sizes_of m) ≤ limit) ms → length ms ≤ most →
-        Settled answer (Appended go before after (segments_texts ms) × (answer ≡ Ok (record { messages = length ms; refused = 0; noncanonical = 0 })))
 
 module _ {S K : Type 0} (gs : source.Ghosts S) (gk : sink.Ghosts K) where
   -- What an engine does that copies words, at most so many.

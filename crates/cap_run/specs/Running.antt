@@ -13,8 +13,7 @@ use Rattle.cap_run.specs.declared.fault.Cause.TheVariants.{TooManyMessages, Fram
 use Rattle.cap_run.specs.declared.fault.RunFault.{RunFault}
 use Rattle.cap_run.specs.declared.settings.Outcome.{Outcome}
 use Rattle.cap_run.specs.Streams.{ReadsStream}
-use Rattle.cap_spec.specs.Texts.{segments_text}
-use Rattle.cap_run.specs.Telling.{Tells, Told, texts_of, segments_texts}
+use Rattle.cap_run.specs.Telling.{Tells, Told, texts_of}
 use Rattle.cap_run.specs.Writing.{Stopped}
 
 -- P, unless this fault is one of a device or of the output, of memory, or of an end that was spent
@@ -62,22 +61,6 @@ module _ {S : Type 0} (g : source.Ghosts S) where
   EndStops limit old new (Refused refusal) = ⊥
   EndStops limit old new (Canon fault) = ⊥
   EndStops limit old new no_marks = ⊥
-
-module _ {S O : Type 0} (gs : source.Ghosts S) (go : output.Ghosts O) where
-  -- So many messages were read, and the text of their segments written.
-  pub record ShowsSegments (limit n : ℕ) (old new : S) (before after : O) : Type 0 where
-    pub ms : List (List (List ℕ))
-    pub many : length ms ≡ n
-    pub reads : ReadsStream gs limit old new ms
-    pub appended : Appended go before after (segments_texts ms)
-
-  -- So many messages were read and the text of their segments written. Then one more was read, and in its text the output answered this fault.
-  pub record StopsShowing (limit n : ℕ) (old new : S) (before after : O) (fault : OutFault) : Type 0 where
-    pub ms : List (List (List ℕ))
-    pub m : List (List ℕ)
-    pub many : length ms ≡ n
-    pub reads : ReadsStream gs limit old new (ms ++ m ∷ [])
-    pub stops : StopsIn go before after fault (segments_texts ms) (segments_text n m)
 
 module _ {S O : Type 0} (gs : source.Ghosts S) (go : output.Ghosts O) where
   -- why an engine ended at message n, which may want memory once it was read

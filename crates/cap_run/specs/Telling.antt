@@ -1,19 +1,10 @@
 -- What was told of each message of a stream: a text, and what is counted of it (profile).
-use Rattle.std.specs.Prelude.{ℕ, ◌+◌, List, [], ◌∷◌, ◌++◌, map, length}
+use Rattle.std.specs.Prelude.{ℕ, ◌≡◌, ◌+◌, List, [], ◌∷◌, map, length}
 use Rattle.std.specs.List.{flat_map}
 use Rattle.cap_spec.specs.Texts.{segments_text}
 use Rattle.cap_run.specs.declared.engines.stream.Mark.{Mark}
 use Rattle.cap_run.specs.declared.engines.stream.Mark.TheVariants.{Accepted, Refused, NotCanonical}
 use Rattle.cap_run.specs.declared.settings.Outcome.{Outcome}
-
--- a text of each, one after the other, each by its number from this number on
-abbrev pub texts_from : {A : Type 0} → (ℕ → A → List ℕ) → ℕ → List A → List ℕ
-texts_from text n [] = []
-texts_from text n (x ∷ xs) = text n x ++ texts_from text (n + 1) xs
-
--- the text of the segments of each message of a stream
-abbrev pub segments_texts : List (List (List ℕ)) → List ℕ
-segments_texts ms = texts_from segments_text 0 ms
 
 -- a message, and what was told of it
 pub record Told : Type 0 where
@@ -31,6 +22,10 @@ texts_of ts = flat_map (λ t. t.text) ts
 -- which texts may be told of a message by its number, each with what is counted of it
 abbrev pub Tells : Type 1
 Tells = ℕ → List (List ℕ) → List ℕ → Mark → Type 0
+
+-- the text of message n's segments, whatever their words say
+abbrev pub TellsSegments : ℕ → List (List ℕ) → List ℕ → Mark → Type 0
+TellsSegments n m text mark = (text ≡ segments_text n m) × (mark ≡ Accepted)
 
 -- of which messages memory is wanted once they were read: of none
 abbrev pub WantsNone : List (List ℕ) → Type 0

@@ -7,7 +7,7 @@ ghost use Rattle.cap_vet.specs.Limits.{depth_of, words_of};
 ghost use Rattle.std.specs.Prelude.{None, ◌<◌, ◌≡◌, IfSome, length, true};
 
 use crate::engines::stream::{Engine, Mark, tell_all};
-use crate::engines::whole::Desk;
+use crate::engines::whole::MessageRoom;
 use crate::fault::{Cause, RunFault};
 use crate::settings::{Outcome, Settings};
 use crate::texts::output::write_bytes;
@@ -66,10 +66,10 @@ impl Engine for ExclusiveEngine {
 
     ghost takes_memory = { true };
 
-    type Room = Desk;
+    type Room = MessageRoom;
 
-    fn room(&self) -> Desk {
-        Desk {
+    fn room(&self) -> MessageRoom {
+        MessageRoom {
             message: ByteMessage::blank(self.alloc),
             page: Page::new(),
         }
@@ -77,15 +77,15 @@ impl Engine for ExclusiveEngine {
 
     fn tell_next<S: WordSource, O: ByteOut>(
         &self,
-        desk: &mut Desk,
+        room: &mut MessageRoom,
         source: &mut S,
         out: &mut O,
         limit: SizeLimit,
         number: u32,
     ) -> Result<Option<Mark>, Cause> {
-        match read_into(self.alloc, source, limit, &mut desk.message) {
-            Ok(true) => match self.verdict_line(&mut desk.page, number, &desk.message.view()) {
-                Some(mark) => match write_bytes(out, desk.page.text()) {
+        match read_into(self.alloc, source, limit, &mut room.message) {
+            Ok(true) => match self.verdict_line(&mut room.page, number, &room.message.view()) {
+                Some(mark) => match write_bytes(out, room.page.text()) {
                     Ok(()) => Ok(Some(mark)),
                     Err(fault) => Err(Cause::Output(fault)),
                 },

@@ -1,11 +1,9 @@
 //! The engine that shows how each message is cut into segments.
 
 ghost use Rattle.cap_run.specs.Engines.{ShowsStream};
-ghost use Rattle.cap_run.specs.Telling.{WantsNone};
-ghost use Rattle.cap_run.specs.declared.engines.stream.Mark.TheVariants.{Accepted};
-ghost use Rattle.cap_spec.specs.Texts.{segments_text};
+ghost use Rattle.cap_run.specs.Telling.{TellsSegments, WantsNone};
 ghost use Rattle.cap_frame.specs.Limit.{limit_of};
-ghost use Rattle.std.specs.Prelude.{◌≡◌, false};
+ghost use Rattle.std.specs.Prelude.{false};
 
 use crate::engines::stream::{Engine, Mark, tell_all};
 use crate::fault::{Cause, RunFault};
@@ -17,7 +15,7 @@ use cap_words::{ByteOut, WordSource};
 
 /// What is kept of a message that was read, and the page of what is told of it.
 #[derive(Drop)]
-struct Desk {
+struct OutlineRoom {
     outline: Outline,
     page: Page,
 }
@@ -27,16 +25,16 @@ struct Desk {
 struct SegmentsEngine;
 
 impl Engine for SegmentsEngine {
-    ghost tells = { λ _ n m text mark. (text ≡ segments_text n m) × (mark ≡ Accepted) };
+    ghost tells = { λ _ n m text mark. TellsSegments n m text mark };
 
     ghost wants = { λ _. WantsNone };
 
     ghost takes_memory = { false };
 
-    type Room = Desk;
+    type Room = OutlineRoom;
 
-    fn room(&self) -> Desk {
-        Desk {
+    fn room(&self) -> OutlineRoom {
+        OutlineRoom {
             outline: Outline::new(),
             page: Page::new(),
         }
@@ -44,14 +42,14 @@ impl Engine for SegmentsEngine {
 
     fn tell_next<S: WordSource, O: ByteOut>(
         &self,
-        desk: &mut Desk,
+        room: &mut OutlineRoom,
         source: &mut S,
         out: &mut O,
         limit: SizeLimit,
         number: u32,
     ) -> Result<Option<Mark>, Cause> {
-        match read_outline(source, limit, &mut desk.outline) {
-            Ok(true) => match write_segments_text(&mut desk.page, out, number, &desk.outline) {
+        match read_outline(source, limit, &mut room.outline) {
+            Ok(true) => match write_segments_text(&mut room.page, out, number, &room.outline) {
                 Ok(()) => Ok(Some(Mark::Accepted)),
                 Err(fault) => Err(Cause::Output(fault)),
             },

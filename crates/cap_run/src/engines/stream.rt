@@ -1,5 +1,6 @@
 //! Going through the messages of a stream, and telling something about each.
 
+ghost use Rattle.cap_run.specs.Engines.{TellsStream};
 ghost use Rattle.cap_run.specs.Running.{Appended, EndStops, RunStops, StepStops};
 ghost use Rattle.cap_run.specs.Streams.{EndsStream, ReadsAll, ReadsStream};
 ghost use Rattle.cap_run.specs.Telling.{TellsEach, Told, messages_of, one_noncanonical, one_refused, outcome_of, texts_of};
@@ -116,9 +117,9 @@ fn count(outcome: Outcome, mark: Mark) -> Outcome
     counted
 }
 
-/// Reads the messages of a stream to its end, and writes the text of each before it reads the next. It
-/// hands on what was written where nothing is at hand of the source.
-pub(crate) fn tell_all<S: WordSource, O: ByteOut, E: Engine>(
+// Reads the messages of a stream to its end, and writes the text of each. Its clauses say what each answer
+// tells.
+fn tell_each<S: WordSource, O: ByteOut, E: Engine>(
     source: &mut S,
     out: &mut O,
     settings: &Settings,
@@ -159,4 +160,19 @@ pub(crate) fn tell_all<S: WordSource, O: ByteOut, E: Engine>(
             cause,
         }),
     }
+}
+
+/// Reads the messages of a stream to its end, and writes the text of each before it reads the next. It
+/// hands on what was written where nothing is at hand of the source.
+pub(crate) fn tell_all<S: WordSource, O: ByteOut, E: Engine>(
+    source: &mut S,
+    out: &mut O,
+    settings: &Settings,
+    engine: &E,
+) -> Result<Outcome, RunFault>
+    ensures told { TellsStream S.WordSource O.ByteOut (E.tells engine.now) (E.wants engine.now) (limit_of settings.now.size) settings.now.messages
+        source.old source.new out.old out.new result }
+    ensures memory { (n : ℕ) → result ≡ Err (record { message = n; cause = Cause.Frame FrameFault.Memory }) → E.takes_memory ≡ true }
+{
+    tell_each(source, out, settings, engine)
 }

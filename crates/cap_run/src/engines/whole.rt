@@ -46,7 +46,7 @@ pub(crate) trait Teller {
 
 /// A message that was read, and the page of what is told of it.
 #[derive(Drop)]
-pub(crate) struct Desk {
+pub(crate) struct MessageRoom {
     pub(crate) message: ByteMessage,
     pub(crate) page: Page,
 }
@@ -99,10 +99,10 @@ impl<T: Teller> Engine for Whole<T> {
 
     ghost takes_memory = { true };
 
-    type Room = Desk;
+    type Room = MessageRoom;
 
-    fn room(&self) -> Desk {
-        Desk {
+    fn room(&self) -> MessageRoom {
+        MessageRoom {
             message: ByteMessage::blank(self.alloc),
             page: Page::new(),
         }
@@ -110,14 +110,14 @@ impl<T: Teller> Engine for Whole<T> {
 
     fn tell_next<S: WordSource, O: ByteOut>(
         &self,
-        desk: &mut Desk,
+        room: &mut MessageRoom,
         source: &mut S,
         out: &mut O,
         limit: SizeLimit,
         number: u32,
     ) -> Result<Option<Mark>, Cause> {
-        match read_into(self.alloc, source, limit, &mut desk.message) {
-            Ok(true) => match self.tell(&mut desk.page, out, number, &desk.message.view()) {
+        match read_into(self.alloc, source, limit, &mut room.message) {
+            Ok(true) => match self.tell(&mut room.page, out, number, &room.message.view()) {
                 Ok(mark) => Ok(Some(mark)),
                 Err(fault) => Err(Cause::Output(fault)),
             },

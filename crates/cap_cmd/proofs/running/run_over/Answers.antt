@@ -3,7 +3,7 @@ use Rattle.std.specs.Io.KnownBytes.{append_known}
 use Rattle.cap_spec.specs.Packing.{pack_text}
 use Rattle.cap_spec.specs.Plain.{plain_text}
 use Rattle.cap_run.specs.Engines.{most_words}
-use Rattle.cap_cmd.specs.Jobs.{GivesOutput}
+use Rattle.cap_cmd.specs.Jobs.{GivesOutput, WritesAll}
 use Rattle.cap_cmd.proofs.JobEnds.{all_copied, does_canon, does_pack, does_unpack}
 use Rattle.cap_cmd.proofs.running.run_over.Goals as goal
 
@@ -30,15 +30,19 @@ returns-in-Pack-clause-does g c =
     (subst (GivesOutput g.O.ByteOut _ last) (sym c.into_inner-in-Pack.ensures) (record { taken = new.taken last; spent = new.when_spent last; failures = new.failures last }))
     c.report_copy.ensures
 
-pub returns-in-Pack-clause-pack : goal.returns-in-Pack-clause-pack
-returns-in-Pack-clause-pack g c = λ _ h.
+pub returns-in-Pack-clause-success : goal.returns-in-Pack-clause-success
+returns-in-Pack-clause-success g c = λ h.
     let new = c.new-sink-in-Pack.ensures in
     let last = c.run_pack-answer.new.sink in
-    all_copied g.S.WordSource g.O.ByteOut _ pack_text most_words c.args.source c.run_pack-answer.new.source c.args.out c.into_inner-in-Pack.result c.new-sink-in-Pack.result last
+    let out = c.into_inner-in-Pack.result in
+    subst
+    (λ task. WritesAll task c.args.job.now.settings (g.S.WordSource.words c.args.source) (g.S.WordSource.is_cut c.args.source) (g.O.ByteOut.written c.args.out) (g.O.ByteOut.written out))
+    (sym c.in-Pack.is)
+    (all_copied g.S.WordSource g.O.ByteOut _ pack_text most_words c.args.source c.run_pack-answer.new.source c.args.out out c.new-sink-in-Pack.result last
     c.run_pack-answer.result (sym c.report_copy.ensures.status_is ∙ h)
     (record { empty = new.empty; taken = new.starts; closed = new.open; spent = new.spent; failures = new.failures c.new-sink-in-Pack.result ∙ ap (λ o. g.O.ByteOut.failures o) new.output })
     c.run_pack-answer.ensures
-    (subst (GivesOutput g.O.ByteOut _ last) (sym c.into_inner-in-Pack.ensures) (record { taken = new.taken last; spent = new.when_spent last; failures = new.failures last }))
+    (subst (GivesOutput g.O.ByteOut _ last) (sym c.into_inner-in-Pack.ensures) (record { taken = new.taken last; spent = new.when_spent last; failures = new.failures last })))
 
 pub returns-clause-does : goal.returns-clause-does
 returns-clause-does g c =

@@ -1,52 +1,15 @@
-use Rattle.std.proofs.Common.{sym, arith}
+-- What is known of the words of the source decides the answer.
 use Rattle.cap_frame.specs.Limit.{limit_of}
-use Rattle.cap_run.specs.declared.fault.Cause.TheVariants.{Output}
-use Rattle.cap_run.proofs.Going.{going_none, going_more, going_stops, going_refused, going_noncanonical}
+use Rattle.cap_run.proofs.Settling.{settled}
 use Rattle.cap_run.proofs.engines.stream.tell_all.Goals as goal
 
-pub loop-number-init : goal.loop-number-init
-loop-number-init g c = going_none g.S.WordSource g.O.ByteOut (g.E.Engine.tells c.args.engine.now) (limit_of c.args.settings.now.size) c.args.source.now c.args.out.now
-
-pub count-outcome-requires-clause-refused : goal.count-outcome-requires-clause-refused
-count-outcome-requires-clause-refused g c =
-    going_refused g.S.WordSource g.O.ByteOut (g.E.Engine.tells c.args.engine.now) (limit_of c.args.settings.now.size) _ _ _ _ _ _ c.loop-number.invariant
-
-pub count-outcome-requires-clause-noncanonical : goal.count-outcome-requires-clause-noncanonical
-count-outcome-requires-clause-noncanonical g c =
-    going_noncanonical g.S.WordSource g.O.ByteOut (g.E.Engine.tells c.args.engine.now) (limit_of c.args.settings.now.size) _ _ _ _ _ _ c.loop-number.invariant
-
-pub returns-in-Err-clause-err : goal.returns-in-Err-clause-err
-returns-in-Err-clause-err g c =
-    let w = c.loop-number.invariant in (
-      w.ts,
-      c.loop-number.source,
-      sym w.many,
-      omega (arith, w.many),
-      w.reads,
-      w.each,
-      going_stops g.S.WordSource g.O.ByteOut (g.E.Engine.tells c.args.engine.now) (g.E.Engine.wants c.args.engine.now) (limit_of c.args.settings.now.size) c.args.source.now c.loop-number.source c.tell_next.new.source
-          c.args.out.now c.loop-number.out c.tell_next.new.out c.loop-number.outcome c.loop-number.number c.args.settings.now.messages c.in-Err.cause w (omega arith) c.in-Err.ensures.err,
-    )
-
-pub returns-in-Err-hand_on-clause-err : goal.returns-in-Err-hand_on-clause-err
-returns-in-Err-hand_on-clause-err g c =
-    let w = c.loop-number.invariant in
-    let r = rw c.in-Ok-Some.field-0-is at c.in-Ok-Some.ensures.some in
-    rw c.output_fault_at.ensures (
-      w.ts,
-      c.loop-number.source,
-      sym w.many,
-      omega (arith, w.many),
-      w.reads,
-      w.each,
-      going_stops g.S.WordSource g.O.ByteOut (g.E.Engine.tells c.args.engine.now) (g.E.Engine.wants c.args.engine.now) (limit_of c.args.settings.now.size) c.args.source.now c.loop-number.source c.tell_next.new.source
-          c.args.out.now c.loop-number.out c.hand_on.new.out c.loop-number.outcome c.loop-number.number c.args.settings.now.messages (Output c.in-Err-hand_on.fault) w (omega arith)
-          (r.0, r.2, r.3, c.in-Err-hand_on.ensures c.loop-number.out r.0.text r.4),
-    )
-
-pub loop-number-preserved : goal.loop-number-preserved
-loop-number-preserved g c =
-    let r = rw c.in-Ok-Some.field-0-is at c.in-Ok-Some.ensures.some in
-    going_more g.S.WordSource g.O.ByteOut (g.E.Engine.tells c.args.engine.now) (limit_of c.args.settings.now.size) c.args.source.now c.loop-number.source c.tell_next.new.source
-    c.args.out.now c.loop-number.out c.hand_on.new.out c.loop-number.outcome c.count-outcome.result c.loop-number.number r.0 c.in-Ok-Some.mark r.1
-    c.loop-number.invariant r.2 r.3 (c.in-Ok.ensures c.loop-number.out r.0.text r.4) c.count-outcome.ensures
+pub returns-clause-told : goal.returns-clause-told
+returns-clause-told g c =
+    let e = c.tell_each.ensures in
+    record {
+      ok = e.ok;
+      err = e.err;
+      whole = λ own ms.
+          settled g.S.WordSource g.O.ByteOut (g.E.Engine.tells c.args.engine.now) (limit_of c.args.settings.now.size) c.args.settings.now.messages
+          c.args.source.now c.tell_each.new.source c.args.out.now c.tell_each.new.out (g.E.Engine.wants c.args.engine.now) c.tell_each.result own ms e.ok e.err;
+    }

@@ -1,6 +1,6 @@
 use Rattle.cap_frame.specs.Limit.{limit_of}
 use Rattle.cap_run.proofs.Going.{Going}
-use Rattle.cap_run.proofs.engines.stream.tell_all.Given as goal
+use Rattle.cap_run.proofs.engines.stream.tell_each.Given as goal
 
 abbrev pub invariant-loop-number : goal.invariant-loop-number
 invariant-loop-number g l =
