@@ -1,16 +1,19 @@
 -- The pad words of a pointer, and what else following it uses.
-use Rattle.std.proofs.Common.{ℕ, ◌+◌, ◌<◌, ◌≡◌, ◌==◌, ◌⊎◌, inl, inr, List, ◌++◌, Bool, true, false, refl, sym, ap, ◌∙◌, arith, eqb}
+use Rattle.std.proofs.Common.{ℕ, ◌+◌, ◌<◌, ◌≡◌, ◌==◌, ◌⊎◌, inl, inr, List, [], ◌++◌, Bool, true, false, refl, sym, ap, subst, ◌∙◌, arith, eqb}
 use Rattle.std.specs.Prelude.{pos}
 use Rattle.std.proofs.lemmas.Bool.{cases_eq, eqb-true}
 use Rattle.cap_spec.specs.Messages.{HasWord}
 use Rattle.cap_spec.specs.Pointers.{extent, far_segment, kind, pad, two}
-use Rattle.cap_spec.specs.Following.{to_null, to_cap, to_object, Leads, Wrong}
+use Rattle.cap_spec.specs.Following.{to_null, to_cap, to_object, Lead, Leads, near, one_pad, two_pads, Wrong}
 use Rattle.cap_spec.specs.Denoting.{Finds, places}
 use Rattle.cap_spec.specs.Occupying.{Occupies, pads_of}
 use Rattle.cap_spec.specs.declared.Reason.{Reason}
 use Rattle.cap_spec.proofs.Arrivals.{lead_word}
 use Rattle.cap_spec.proofs.Following.{cap-not_wrong, null-not_wrong, object-not_wrong}
-use Rattle.cap_spec.proofs.Places.{pads_in_a_row}
+use Rattle.cap_spec.proofs.Messages.{one_word}
+use Rattle.cap_spec.proofs.Places.{no_pads, pads_in_a_row}
+use Rattle.cap_vet.specs.Rows.{FindsRow}
+use Rattle.cap_vet.specs.declared.rows.Row.{Row}
 
 -- they are as many words in a row as the form of the pointer tells
 two_few : (p : ℕ) → two p < 2
@@ -29,6 +32,12 @@ many_pads p n both e (inr (f, k)) = elim (cases_eq (two p) 1) [
 pub pad_places : (p t b n : ℕ) → kind p ≡ 2 → t ≡ far_segment p → b ≡ pad p → n ≡ 1 + two p → places t b n ≡ pads_of p
 pad_places p t b n h e f k = rw (e, f, k) refl ∙ sym (pads_in_a_row p h)
 
+-- a word that leads somewhere over no pad has none
+unpadded : (m : List (List ℕ)) (s w p : ℕ) (r : Lead) → Leads m s w 0 r → HasWord m s w p → pads_of p ≡ []
+unpadded m s w p r (near p' has n says e) h = no_pads p (λ far. n (ap kind (one_word m s w p' p has h) ∙ far))
+unpadded m s w p r (one_pad p' q has far hasq n says e) h = absurd (omega (arith, e))
+unpadded m s w p r (two_pads p' f q has far hasf hasq one tag e e') h = absurd (omega (arith, e'))
+
 -- What a pointer word that isn't wrong uses: of null and of a capability its pads,
 pub null_used : (m : List (List ℕ)) (s w k : ℕ) → Leads m s w k to_null → (p : ℕ) × HasWord m s w p × Occupies m s w (pads_of p)
 null_used m s w k h = let p = lead_word m s w k to_null h in (p.0, p.1, (p.0, p.1, inl (k, h, refl)))
@@ -41,6 +50,19 @@ pub object_used : (m : List (List ℕ)) (s w k t b q n : ℕ) → Finds m s w k 
 object_used m s w k t b q n f e =
     let p = lead_word m s w k (to_object t (pos b) q) f.leads in
     (p.0, p.1, (p.0, p.1, inr (inr (k, t, b, q, f, ap (λ (u : ℕ). pads_of p.0 ++ places t b u) e))))
+
+-- A word of zeros uses nothing,
+pub zero_used : (m : List (List ℕ)) (s w q : ℕ) → HasWord m s w q → q ≡ 0 → Occupies m s w []
+zero_used m s w q has e =
+    let l : Leads m s w 0 to_null = near q has (omega (arith, e)) e refl in
+    let r = null_used m s w 0 l in
+    subst (λ (u : List (ℕ × ℕ)). Occupies m s w u) (unpadded m s w r.0 to_null l r.1) r.2
+
+-- and one that tells an object near by its words alone.
+pub near_used : (m : List (List ℕ)) (s w : ℕ) (x : Row) → FindsRow m s w x → Occupies m s w (places s x.start x.charge)
+near_used m s w x f =
+    let r = object_used m s w 0 s x.start f.word x.charge f.finds.finds f.finds.object.words in
+    subst (λ (u : List (ℕ × ℕ)). Occupies m s w (u ++ places s x.start x.charge)) (unpadded m s w r.0 (to_object s (pos x.start) f.word) f.finds.finds.leads r.1) r.2
 
 -- a pointer word that is wrong uses nothing
 pub wrong_unused : (m : List (List ℕ)) (s w : ℕ) (v : Reason) (used : List (ℕ × ℕ)) → Wrong m s w v → Occupies m s w used → ⊥

@@ -1,14 +1,14 @@
 -- What marking a range of bits does to the places of a message.
-use Rattle.std.proofs.Common.{ℕ, zero, suc, ◌+◌, ◌<◌, ◌≤◌, ◌≡◌, ◌-◌, List, [], ◌∷◌, ◌++◌, length, inl, inr, sym, ap, subst, ◌∙◌, arith, slice_index_or}
+use Rattle.std.proofs.Common.{ℕ, zero, suc, ◌+◌, ◌<◌, ◌≤◌, ◌≡◌, ◌-◌, ◌^◌, List, [], ◌∷◌, ◌++◌, length, inl, inr, refl, sym, ap, subst, ◌∙◌, arith, slice_index, slice_index_or}
 use Rattle.std.proofs.lemmas.Bool.{cases_eq, cases_lt}
 use Rattle.std.proofs.lemmas.List.{get_or_append_left}
 use Rattle.std.proofs.Math.Seq.{get_or-append_seam}
-use Rattle.cap_spec.specs.Messages.{segment_of}
+use Rattle.cap_spec.specs.Messages.{IsMessage, segment_of}
 use Rattle.cap_spec.specs.Denoting.{places}
 use Rattle.cap_spec.specs.Occupying.{IsPlaceOf}
 use Rattle.cap_spec.proofs.Places.{apart_places, at_place, in_places}
 use Rattle.cap_vet.specs.Marks.{MarksAll}
-use Rattle.cap_vet.specs.Taken.{IsTaken, bit_of, start_of}
+use Rattle.cap_vet.specs.Taken.{AreStarts, IsTaken, bit_of, start_of}
 
 -- a segment ends before a later one starts
 start_order : (m : List (List ℕ)) (s s' : ℕ) → s < s' → s' ≤ length m → start_of m s + length (segment_of m s) ≤ start_of m s'
@@ -88,3 +88,15 @@ starts_more m starts s words k many h e less = elim (cases_eq k s) [
   | inl f ↦ ap (λ u. slice_index_or (starts ++ words ∷ []) u 0) (f ∙ sym many) ∙ get_or-append_seam starts words [] 0 ∙ e ∙ sym (ap (start_of m) f)
   | inr f ↦ get_or_append_left starts (words ∷ []) 0 k (omega (arith, f, many)) ∙ h k (omega (arith, f))
 ]
+
+-- the words of a message of one segment have the bits from the first on
+only_start : (m : List (List ℕ)) (s : ℕ) → s < 1 → slice_index (0 ∷ []) s ≡ start_of m s
+only_start m zero h = refl
+only_start m (suc s) h = absurd (omega arith)
+
+pub one_start : (m : List (List ℕ)) → IsMessage m → length m ≡ 1 → AreStarts m (0 ∷ [])
+one_start m h one =
+    let short : length (segment_of m 0) < 2 ^ 32 = h.lengths 0 [] (omega (arith, one)) in
+    let all : start_of m (length m) ≡ start_of m (0 + 1) = ap (start_of m) one in
+    let next = start_next m 0 (omega (arith, one)) in
+    record { many = sym one; each = λ s less. only_start m s (omega (arith, one)); few = omega (arith, all, next, short, only_start m 0 (omega arith)) }

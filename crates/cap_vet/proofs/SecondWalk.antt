@@ -21,7 +21,6 @@ use Rattle.cap_vet.specs.Taken.{HasRoom}
 use Rattle.cap_vet.specs.Trails.{Ahead, IsTrail}
 use Rattle.cap_vet.specs.declared.exclusive_vetting.ExclusiveRefusal.{ExclusiveRefusal}
 use Rattle.cap_vet.specs.declared.exclusive_vetting.ExclusiveRefusal.TheVariants.{Refused, Overlap, Memory}
-use Rattle.cap_vet.specs.declared.marks.Starts.{Starts}
 use Rattle.cap_vet.specs.Walking.{IsNext, Walks}
 use Rattle.cap_vet.specs.declared.frame.Frame.{Frame}
 use Rattle.cap_vet.specs.declared.report.Report.{Report}
@@ -57,7 +56,7 @@ pub ends_disjoint : (m : List (List ℕ)) (words depth : ℕ) (report : Report) 
 ends_disjoint m words depth report seen ahead T w k = all_disjoint m seen T (subst (λ (u : List Ahead). IsTrail m seen u) (none_ahead ahead w.places) w.progress.trail) k
 
 -- there is room whatever is marked
-pub room_kept : (m : List (List ℕ)) (starts : Starts) (marks after : List ℕ) → HasRoom m starts marks → length after ≡ length marks → HasRoom m starts after
+pub room_kept : (m : List (List ℕ)) (starts marks after : List ℕ) → HasRoom m starts marks → length after ≡ length marks → HasRoom m starts after
 room_kept m starts marks after h e = record { known = h.known; enough = omega (arith, h.enough, e) }
 
 -- where nothing was marked, the root word's own mark is the first

@@ -7,7 +7,6 @@ use Rattle.cap_vet.specs.Marks.{IsMarked}
 use Rattle.cap_vet.specs.Trails.{Ahead}
 use Rattle.cap_vet.specs.Walking.{Walks}
 use Rattle.cap_vet.specs.declared.frame.Frame.{Frame}
-use Rattle.cap_vet.specs.declared.marks.Starts.{Starts}
 use Rattle.cap_vet.specs.declared.report.Report.{Report}
 
 -- bit i of all the words, 0 or 1
@@ -25,14 +24,13 @@ abbrev pub IsTaken : List (List ℕ) → List ℕ → ℕ → ℕ → Type 0
 IsTaken m bits s w = (s < length m) × (w < length (segment_of m s)) × (bit_of bits (start_of m s + w) ≡ 1)
 
 -- The starts are those of the message's segments.
-pub record AreStarts (m : List (List ℕ)) (starts : Starts) : Type 0 where
-  pub many : length starts.segments.items ≡ length m
-  pub each : (s : ℕ) → s < length m → slice_index starts.segments.items s ≡ start_of m s
-  pub words : starts.words ≡ start_of m (length m)
+pub record AreStarts (m : List (List ℕ)) (starts : List ℕ) : Type 0 where
+  pub many : length starts ≡ length m
+  pub each : (s : ℕ) → s < length m → slice_index starts s ≡ start_of m s
   pub few : start_of m (length m) < 2 ^ 42
 
 -- There is a bit for each word.
-pub record HasRoom (m : List (List ℕ)) (starts : Starts) (bits : List ℕ) : Type 0 where
+pub record HasRoom (m : List (List ℕ)) (starts bits : List ℕ) : Type 0 where
   pub known : AreStarts m starts
   pub enough : start_of m (length m) ≤ 64 * length bits
 

@@ -10,15 +10,15 @@ ghost use Rattle.cap_spec.specs.declared.Refusal.{Refusal};
 ghost use Rattle.cap_vet.specs.Exclusives.{IsStopped, vetted_of};
 ghost use Rattle.cap_vet.specs.Limits.{depth_of, words_of};
 ghost use Rattle.cap_vet.specs.Reports.{IsAccepted, IsReport};
-ghost use Rattle.cap_vet.specs.Taken.{HasRoom, IsMarking, IsTaken};
+ghost use Rattle.cap_vet.specs.Taken.{HasRoom, IsMarking, IsTaken, start_of};
 ghost use Rattle.cap_vet.specs.Vettings.{message_of, report_of};
 ghost use Rattle.cap_vet.specs.declared.report.Report.{Report};
-ghost use Rattle.std.specs.Prelude.{Err, ◌+◌, ◌<◌, ◌≡◌, ◌≤◌, ◌⊎◌, [], ◌∷◌, ◌++◌, IfErr, IfNone, IfOk, IfSome, IsErrOf, IsOk, length, sum, ℕ};
+ghost use Rattle.std.specs.Prelude.{Err, ◌+◌, ◌*◌, ◌<◌, ◌≡◌, ◌≤◌, ◌⊎◌, [], ◌∷◌, ◌++◌, IfErr, IfNone, IfOk, IfSome, IsErrOf, IsOk, length, sum, ℕ};
 
 use crate::exclusive::Exclusive;
 use crate::frame::Frame;
 use crate::limits::Limits;
-use crate::marks::{Starts, mark_pointer, mark_words};
+use crate::marks::{mark_pointer, mark_words, numbers_for, starts_in};
 use crate::report::Report;
 use crate::vetted::Vetted;
 use crate::vetting::vet;
@@ -86,21 +86,57 @@ pub fn vet_exclusive<'m, M: Segments>(
         Ok(vetted) => vetted,
         Err(fault) => return Err(ExclusiveRefusal::Refused(fault)),
     };
-    let starts = Starts::new(message);
-    let Ok(mut marks) = Vec::from_elem(alloc, 0u64, starts.room(message)) else {
+    let Ok(mut marks) = Vec::from_elem(alloc, 0u64, numbers_for(message)) else {
         return Err(ExclusiveRefusal::Memory);
     };
-    match mark_all(message, &limits, &starts, marks.as_mut_slice()) {
+    match mark_message(message, &limits, marks.as_mut_slice()) {
         Ok(()) => Ok(Exclusive { vetted }),
         Err(refusal) => Err(refusal),
     }
 }
 
-// Walks a message that is accepted once more, and marks what each pointer uses.
+// Walks a message that is accepted once more. A table of where the bits of its segments start is made ready
+// for each message of several alone.
+fn mark_message<M: Segments>(
+    message: &M,
+    limits: &Limits,
+    marks: &mut [u64],
+) -> Result<(), ExclusiveRefusal>
+    requires enough { start_of (M.segments message.now) (length (M.segments message.now)) ≤ 64 * length marks.old }
+    requires none { (s w : ℕ) → ¬ IsTaken (M.segments message.now) marks.old s w }
+    requires root { 0 < length (segment_of (M.segments message.now) 0) }
+    ensures ok { IfOk result (λ _. IsDisjoint (M.segments message.now)) }
+    ensures err { IfErr result (IsStopped (M.segments message.now) (words_of limits.now) (depth_of limits.now)) }
+{
+    if message.count() == 1 {
+        return mark_all(message, limits, &[0], marks);
+    }
+    mark_segments(message, limits, marks)
+}
+
+// The same of a message of several segments.
+#[cold]
+#[inline(never)]
+fn mark_segments<M: Segments>(
+    message: &M,
+    limits: &Limits,
+    marks: &mut [u64],
+) -> Result<(), ExclusiveRefusal>
+    requires enough { start_of (M.segments message.now) (length (M.segments message.now)) ≤ 64 * length marks.old }
+    requires none { (s w : ℕ) → ¬ IsTaken (M.segments message.now) marks.old s w }
+    requires root { 0 < length (segment_of (M.segments message.now) 0) }
+    ensures ok { IfOk result (λ _. IsDisjoint (M.segments message.now)) }
+    ensures err { IfErr result (IsStopped (M.segments message.now) (words_of limits.now) (depth_of limits.now)) }
+{
+    let starts = starts_in(message);
+    mark_all(message, limits, starts.as_slice(), marks)
+}
+
+// Marks what each pointer uses, from the root on.
 fn mark_all<M: Segments>(
     message: &M,
     limits: &Limits,
-    starts: &Starts,
+    starts: &[u64],
     marks: &mut [u64],
 ) -> Result<(), ExclusiveRefusal>
     requires room { HasRoom (M.segments message.now) starts.now marks.old }
@@ -131,7 +167,7 @@ fn mark_all<M: Segments>(
 fn mark_below<M: Segments>(
     message: &M,
     limits: &Limits,
-    starts: &Starts,
+    starts: &[u64],
     marks: &mut [u64],
     frame: Frame,
     mut report: Report,
@@ -163,7 +199,7 @@ fn mark_below<M: Segments>(
 fn mark_deep<M: Segments>(
     message: &M,
     limits: &Limits,
-    starts: &Starts,
+    starts: &[u64],
     marks: &mut [u64],
     few: &Stack<8>,
     frame: Frame,
@@ -198,7 +234,7 @@ fn mark_deep<M: Segments>(
 fn mark_on<M: Segments, const N: usize>(
     message: &M,
     limits: &Limits,
-    starts: &Starts,
+    starts: &[u64],
     marks: &mut [u64],
     stack: &mut Stack<N>,
     mut frame: Frame,

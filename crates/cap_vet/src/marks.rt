@@ -5,52 +5,71 @@ ghost use Rattle.cap_spec.specs.Following.{Lead, Leads};
 ghost use Rattle.cap_spec.specs.Messages.{HasWord, segment_of};
 ghost use Rattle.cap_spec.specs.Occupying.{IsPlaceOf, Occupies, pads_of};
 ghost use Rattle.cap_vet.specs.Marks.{Conflicts, MarksAll};
-ghost use Rattle.cap_vet.specs.Taken.{AreStarts, HasRoom, IsTaken, bit_of};
+ghost use Rattle.cap_vet.specs.Taken.{AreStarts, HasRoom, IsTaken, bit_of, start_of};
 ghost use Rattle.std.specs.Prelude.{◌+◌, ◌-◌, ◌*◌, ◌<◌, ◌^◌, ◌≡◌, ◌≤◌, List, ℕ, false, length, true};
 
+use crate::rows::row_at;
 use arrayvec::ArrayVec;
 use cap_frame::Segments;
 use cap_ptr::{Followed, Pointer, follow};
 
-/// Where the bits of each segment's words start, in a flat map of a bit for each word of a message.
-#[derive(Drop)]
-pub(crate) struct Starts {
-    segments: ArrayVec<u64, 512>,
-    words: u64,
+/// How many numbers of 64 bits hold a bit for each word of a message.
+pub(crate) fn numbers_for<M: Segments>(message: &M) -> usize
+    ensures { start_of (M.segments message.now) (length (M.segments message.now)) ≤ 64 * result }
+{
+    let mut words = 0u64;
+    for s in 0..message.count() {
+        words += u64::from(message.len(s));
+    }
+    (words / 64 + 1) as usize
 }
 
-impl Starts {
-    /// The starts of a message's segments, one behind the other.
-    pub(crate) fn new<M: Segments>(message: &M) -> Starts
-        ensures { AreStarts (M.segments message.now) result }
-    {
-        let mut segments = ArrayVec::new();
-        let mut words = 0u64;
-        for s in 0..message.count() {
-            segments.push(words);
-            words += u64::from(message.len(s));
-        }
-        Starts { segments, words }
+/// Where the bits of each segment's words start, one segment's behind the other's.
+pub(crate) fn starts_in<M: Segments>(message: &M) -> ArrayVec<u64, 512>
+    ensures { AreStarts (M.segments message.now) result.items }
+{
+    let mut starts = ArrayVec::new();
+    let mut words = 0u64;
+    for s in 0..message.count() {
+        starts.push(words);
+        words += u64::from(message.len(s));
     }
-
-    /// How many numbers of 64 bits hold all the bits.
-    pub(crate) fn room<M: Segments>(&self, _message: &M) -> usize
-        requires { AreStarts (M.segments _message.now) self.now }
-        ensures { (bits : List ℕ) → length bits ≡ result → HasRoom (M.segments _message.now) self.now bits }
-    {
-        (self.words / 64 + 1) as usize
-    }
+    starts
 }
 
 /// Marks what following the pointer at word `w` of segment `s` uses, or answers `false` where a part of
 /// it is used twice or was marked before. A pointer that is wrong uses nothing.
+// It and what it calls for an object near by are inlined: a walk may look at millions of words.
+#[inline(always)]
 pub(crate) fn mark_pointer<M: Segments>(
     message: &M,
-    starts: &Starts,
+    starts: &[u64],
     marks: &mut [u64],
     s: u32,
     w: u32,
 ) -> bool
+    requires room { HasRoom (M.segments message.now) starts.now marks.old }
+    requires exists { s < length (M.segments message.now) }
+    requires inside { w < length (segment_of (M.segments message.now) s) }
+    ensures length { length marks.new ≡ length marks.old }
+    ensures taken { result ≡ true → (used : List (ℕ × ℕ)) → Occupies (M.segments message.now) s w used →
+        MarksAll (IsTaken (M.segments message.now) marks.old) (IsTaken (M.segments message.now) marks.new) used }
+    ensures conflict { result ≡ false → (used : List (ℕ × ℕ)) × Occupies (M.segments message.now) s w used
+        × Conflicts (IsTaken (M.segments message.now) marks.old) used }
+{
+    if message.word(s, w) == 0 {
+        return true;
+    }
+    // Most other pointers lead to an object near by, without a pad.
+    match row_at(message, s, w) {
+        Some(row) => mark_words(message, starts, marks, s, row.start, row.charge as u32),
+        None => mark_far(message, starts, marks, s, w),
+    }
+}
+
+// The same, where it takes a following.
+#[inline(never)]
+fn mark_far<M: Segments>(message: &M, starts: &[u64], marks: &mut [u64], s: u32, w: u32) -> bool
     requires room { HasRoom (M.segments message.now) starts.now marks.old }
     requires exists { s < length (M.segments message.now) }
     requires inside { w < length (segment_of (M.segments message.now) s) }
@@ -81,7 +100,7 @@ pub(crate) fn mark_pointer<M: Segments>(
 }
 
 // Marks the pad words of a pointer.
-fn mark_pads<M: Segments>(message: &M, starts: &Starts, marks: &mut [u64], s: u32, w: u32) -> bool
+fn mark_pads<M: Segments>(message: &M, starts: &[u64], marks: &mut [u64], s: u32, w: u32) -> bool
     requires room { HasRoom (M.segments message.now) starts.now marks.old }
     requires exists { s < length (M.segments message.now) }
     requires inside { w < length (segment_of (M.segments message.now) s) }
@@ -103,9 +122,10 @@ fn mark_pads<M: Segments>(message: &M, starts: &Starts, marks: &mut [u64], s: u3
 
 /// Marks `count` words of segment `s` from word `from` on, or answers `false` where one of them was marked
 /// before.
+#[inline(always)]
 pub(crate) fn mark_words<M: Segments>(
     _message: &M,
-    starts: &Starts,
+    starts: &[u64],
     marks: &mut [u64],
     s: u32,
     from: u32,
@@ -119,11 +139,12 @@ pub(crate) fn mark_words<M: Segments>(
         MarksAll (IsTaken (M.segments _message.now) marks.old) (IsTaken (M.segments _message.now) marks.new) (places s from count) }
     ensures conflict { result ≡ false → (w : ℕ) × IsPlaceOf (s, w) (places s from count) × IsTaken (M.segments _message.now) marks.old s w }
 {
-    let start = starts.segments[s as usize] + u64::from(from);
+    let start = starts[s as usize] + u64::from(from);
     set_bits(marks, start, u64::from(count))
 }
 
 // Sets `count` bits from bit `from` on, or answers `false` where one of them was set before.
+#[inline(always)]
 fn set_bits(words: &mut [u64], from: u64, count: u64) -> bool
     requires inside { from + count ≤ 64 * length words.old }
     requires small { from + count < 2 ^ 63 }
@@ -151,6 +172,7 @@ fn set_bits(words: &mut [u64], from: u64, count: u64) -> bool
 }
 
 // The bits from `low` up to `high`.
+#[inline(always)]
 fn mask(low: u32, high: u32) -> u64
     requires some { low < high }
     requires few { high ≤ 64 }

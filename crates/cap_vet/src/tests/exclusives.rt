@@ -1,6 +1,6 @@
 //! Messages of which some word is used twice, and messages of which none is.
 
-use super::{DEPTH, WORDS, words};
+use super::{DEPTH, WORDS, in_one_buffer, words};
 use crate::{ExclusiveRefusal, Limits, Reason, Refusal, vet, vet_exclusive};
 use cap_frame::{OneSegment, Segments, WordMessage};
 use std::alloc::Global;
@@ -9,7 +9,7 @@ use std::test::Fail;
 
 // The first pointer of an accepted message that overlaps: its segment, its word, and how many pointer
 // words were looked at. Where none does, the answer is that of `vet`.
-fn overlap<M: Segments>(
+fn overlap_as_held<M: Segments>(
     rt: &impl Abort,
     alloc: Global,
     message: &M,
@@ -35,7 +35,19 @@ fn overlap<M: Segments>(
     }
 }
 
-// The same of a message of one segment, held in both ways.
+// The same of a message of any kind, and of that message in one buffer.
+fn overlap<M: Segments>(
+    rt: &impl Abort,
+    alloc: Global,
+    message: &M,
+) -> Result<Option<(u32, u32, u64)>, Fail> {
+    let found = overlap_as_held(rt, alloc, message)?;
+    let held = in_one_buffer(alloc, message)?;
+    assert_eq!(rt; overlap_as_held(rt, alloc, &held.view())?, found);
+    Ok(found)
+}
+
+// The same of a message of one segment, held in each way.
 fn overlap_of(
     rt: &impl Abort,
     alloc: Global,

@@ -8,8 +8,8 @@ use Rattle.cap_vet.specs.declared.exclusive_vetting.ExclusiveRefusal.TheVariants
 use Rattle.cap_vet.proofs.SecondWalk.{not_stopped, root_there, stopped_there}
 use Rattle.cap_vet.proofs.exclusive_vetting.vet_exclusive.Goals as goal
 
-pub mark_all-requires-clause-root : goal.mark_all-requires-clause-root
-mark_all-requires-clause-root g c =
+pub mark_message-requires-clause-root : goal.mark_message-requires-clause-root
+mark_message-requires-clause-root g c =
     root_there (g.M.Segments.segments c.args.message.now) (words_of c.args.limits) (depth_of c.args.limits) _ c.in-Ok.ensures.ok
 
 pub returns-in-Err-clause-refuses : goal.returns-in-Err-clause-refuses
@@ -28,13 +28,13 @@ pub returns-in_default-clause-refuses : goal.returns-in_default-clause-refuses
 returns-in_default-clause-refuses g c =
     λ r h. let a = c.in-Ok.ensures.ok in absurd (tree_not_refused (g.M.Segments.segments c.args.message.now) a.0 c.in-Ok.vetted.report.charge c.in-Ok.vetted.report.depth (words_of c.args.limits) (depth_of c.args.limits) r a.1.denotes a.1.within a.1.shallow h)
 
-pub returns-in-Ok-mark_all-clause-refuses : goal.returns-in-Ok-mark_all-clause-refuses
-returns-in-Ok-mark_all-clause-refuses g c =
+pub returns-in-Ok-mark_message-clause-refuses : goal.returns-in-Ok-mark_message-clause-refuses
+returns-in-Ok-mark_message-clause-refuses g c =
     λ r h. let a = c.in-Ok.ensures.ok in absurd (tree_not_refused (g.M.Segments.segments c.args.message.now) a.0 c.in-Ok.vetted.report.charge c.in-Ok.vetted.report.depth (words_of c.args.limits) (depth_of c.args.limits) r a.1.denotes a.1.within a.1.shallow h)
 
-pub returns-in-Ok-mark_all-clause-names : goal.returns-in-Ok-mark_all-clause-names
-returns-in-Ok-mark_all-clause-names g c =
-    λ t charge d s w n h e f first. absurd (none_of_disjoint (g.M.Segments.segments c.args.message.now) c.in-Ok-mark_all.ensures.ok first.path first.overlaps)
+pub returns-in-Ok-mark_message-clause-names : goal.returns-in-Ok-mark_message-clause-names
+returns-in-Ok-mark_message-clause-names g c =
+    λ t charge d s w n h e f first. absurd (none_of_disjoint (g.M.Segments.segments c.args.message.now) c.in-Ok-mark_message.ensures.ok first.path first.overlaps)
 
 pub returns-clause-refuses : goal.returns-clause-refuses
 returns-clause-refuses g c =
@@ -42,13 +42,13 @@ returns-clause-refuses g c =
 
 pub returns-clause-accepts : goal.returns-clause-accepts
 returns-clause-accepts g c =
-    λ t charge d h e f disjoint. absurd (not_stopped (g.M.Segments.segments c.args.message.now) (words_of c.args.limits) (depth_of c.args.limits) c.in-Ok.vetted.report c.in-Err-mark_all.refusal c.in-Ok.ensures.ok c.in-Err-mark_all.ensures.err disjoint)
+    λ t charge d h e f disjoint. absurd (not_stopped (g.M.Segments.segments c.args.message.now) (words_of c.args.limits) (depth_of c.args.limits) c.in-Ok.vetted.report c.in-Err-mark_message.refusal c.in-Ok.ensures.ok c.in-Err-mark_message.ensures.err disjoint)
 
 pub returns-clause-names : goal.returns-clause-names
 returns-clause-names g c =
-    λ t charge d s w n h e f first. inl (ap Err (stopped_there (g.M.Segments.segments c.args.message.now) (words_of c.args.limits) (depth_of c.args.limits) c.in-Ok.vetted.report c.in-Err-mark_all.refusal s w n c.in-Ok.ensures.ok c.in-Err-mark_all.ensures.err first))
+    λ t charge d s w n h e f first. inl (ap Err (stopped_there (g.M.Segments.segments c.args.message.now) (words_of c.args.limits) (depth_of c.args.limits) c.in-Ok.vetted.report c.in-Err-mark_message.refusal s w n c.in-Ok.ensures.ok c.in-Err-mark_message.ensures.err first))
 
-pub returns-in-Ok-mark_all-clause-bound : goal.returns-in-Ok-mark_all-clause-bound
-returns-in-Ok-mark_all-clause-bound g c =
+pub returns-in-Ok-mark_message-clause-bound : goal.returns-in-Ok-mark_message-clause-bound
+returns-in-Ok-mark_message-clause-bound g c =
     let a = c.in-Ok.ensures.ok in
-    (a.0, a.1, charge_below_words (g.M.Segments.segments c.args.message.now) a.0 c.in-Ok.vetted.report.charge c.in-Ok.vetted.report.depth a.1.denotes c.in-Ok-mark_all.ensures.ok)
+    (a.0, a.1, charge_below_words (g.M.Segments.segments c.args.message.now) a.0 c.in-Ok.vetted.report.charge c.in-Ok.vetted.report.depth a.1.denotes c.in-Ok-mark_message.ensures.ok)
