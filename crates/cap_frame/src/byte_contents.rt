@@ -18,6 +18,10 @@ pub(crate) type Starts = Sizes;
 // of it to be read without a copy.
 const PIECE: usize = 131_072;
 
+// How much of a fresh buffer is made ready by one call, in bytes. The C library fills 2 KiB and more by one
+// string instruction, which was seen to be slow over pages that the system gives only as they are touched.
+const STEP: usize = 1024;
+
 /// Where segments of these sizes start, one behind the other.
 pub(crate) fn fill_starts(sizes: &[u32], starts: &mut Starts)
     requires few { length sizes.now ≤ 512 }
@@ -53,9 +57,10 @@ fn lengthen(bytes: &mut Vec<u8>, end: usize)
     ensures long { (end ≤ vec_len bytes.new) × (vec_len bytes.old ≤ vec_len bytes.new) }
     ensures capacity { vec_capacity bytes.old ≤ vec_capacity bytes.new }
 {
-    if bytes.len() < end {
+    'steps: while bytes.len() < end {
+        let next = bytes.len() + STEP.min(end - bytes.len());
         // there is room, so no growth is asked for
-        bytes.resize(end, 0).unwrap();
+        bytes.resize(next, 0).unwrap();
     }
 }
 
