@@ -2,7 +2,6 @@ pub mod AtHand
 pub mod Written
 pub mod Joining
 pub mod Heads
-pub mod Spreads
 pub mod Courses
 pub mod Ties
 pub mod Turns

@@ -5,7 +5,6 @@ use Rattle.std.specs.Simd.Lanes.{Each1, number_l}
 use Rattle.std.proofs.lemmas.Bool.{false≢true, and_parts, eqb-true, lt-leb, lt-ltb}
 use Rattle.std.proofs.lemmas.List.{length-map, map-append, length-append, length-replicate}
 use Rattle.std.proofs.Math.Seq.{take-append_seam}
-use Rattle.cap_pack.proofs.Spreads.{marks-le}
 use Rattle.std.proofs.lemmas.Simd.{swz_l, SwzOk, SwzOk-from_Each1, ones-mask_l}
 use Rattle.std.proofs.lemmas.List.Sums.{length-filter}
 use lib.Count.{ones}
@@ -15,6 +14,11 @@ use Rattle.cap_spec.specs.Packing.{tag_of}
 use Rattle.cap_spec.specs.Unpacking.{marks, spread}
 use Rattle.cap_pack.specs.Places.{spread_from, marked_from, spread_row, squeeze_row}
 use Rattle.cap_pack.proofs.Tags.{eight_number, word_tag, mask_is_tag}
+
+-- a tag marks no more bytes than it has bits
+marks-le : (n tag : ℕ) → marks n tag ≤ n
+marks-le zero tag = omega arith
+marks-le (suc n) tag = let rest = marks-le n (tag / 2) in omega arith
 
 -- whether lists are the same
 abbrev same_list : List ℕ → List ℕ → Bool
