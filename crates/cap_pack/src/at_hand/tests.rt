@@ -133,12 +133,7 @@ fn lists_by_pieces(rt: HostRuntime) -> Result<(), Fail> {
             let text = packed(rt.alloc(), &list(rt.alloc(), kind, len)?)?;
             let (bytes, cut) = plain(rt.alloc(), text.bytes())?;
             assert!(rt; !cut && bytes.len() == 8 * len as usize);
-            let pieces = if matches!(len, 65 | 256 | 511 | 600) {
-                64
-            } else {
-                0
-            };
-            for words in (1..=pieces).chain([600]) {
+            for words in (1..=64).chain([600]) {
                 let mut source = Unpacker::new(SliceIn::new(text.bytes()));
                 expect(&rt, &mut source, &bytes, words, Ok(false));
             }
@@ -150,16 +145,38 @@ fn lists_by_pieces(rt: HostRuntime) -> Result<(), Fail> {
 #[test]
 fn lists_by_reads_of_many_sizes(rt: HostRuntime) -> Result<(), Fail> {
     for kind in 0..4 {
-        for len in [1, 63, 257, 600] {
+        for len in 0..=600 {
             let text = packed(rt.alloc(), &list(rt.alloc(), kind, len)?)?;
             let (bytes, _) = plain(rt.alloc(), text.bytes())?;
             for most in [1, 3, 7, 9, 10, 11, 17, 18, 19, 65536] {
-                for words in [1, 64, 600] {
+                for words in [1 + len as usize % 64, 600] {
                     let rest = text.bytes();
                     let input = BufferedIn::new(rt.alloc(), Sips { rest, most })?;
                     expect(&rt, &mut Unpacker::new(input), &bytes, words, Ok(false));
                 }
             }
+        }
+    }
+    Ok(())
+}
+
+// Groups of each kind, and runs of a few words.
+fn groups(alloc: Global) -> Result<Vec<u64>, AllocError> {
+    let mut words = list(alloc, 3, 20)?;
+    words.extend_from_slice(&[0, 0, 0, 0x0102, FULL, SPARSE, FULL, 0x0102, 0, FULL])?;
+    Ok(words)
+}
+
+// A buffer that ends behind each byte in turn, and pieces that end behind each word.
+#[test]
+fn ends_of_buffers_and_pieces(rt: HostRuntime) -> Result<(), Fail> {
+    let text = packed(rt.alloc(), &groups(rt.alloc())?)?;
+    let (bytes, _) = plain(rt.alloc(), text.bytes())?;
+    for most in 1..=text.bytes().len() {
+        for words in 1..=30 {
+            let rest = text.bytes();
+            let input = BufferedIn::new(rt.alloc(), Sips { rest, most })?;
+            expect(&rt, &mut Unpacker::new(input), &bytes, words, Ok(false));
         }
     }
     Ok(())
@@ -221,14 +238,12 @@ fn samples_before_other_groups(rt: HostRuntime) -> Result<(), Fail> {
 
 #[test]
 fn cut_at_every_byte(rt: HostRuntime) -> Result<(), Fail> {
-    let mut words = list(rt.alloc(), 3, 20)?;
-    words.extend_from_slice(&[0, 0, 0, 0x0102, FULL])?;
-    let text = packed(rt.alloc(), &words)?;
+    let text = packed(rt.alloc(), &groups(rt.alloc())?)?;
     for len in 0..=text.bytes().len() {
-        let Some(text) = text.bytes().get(..len) else {
+        let Some(rest) = text.bytes().get(..len) else {
             continue;
         };
-        let (bytes, cut) = plain(rt.alloc(), text)?;
+        let (bytes, cut) = plain(rt.alloc(), rest)?;
         let byte = len as u64;
         let end = if cut {
             Err(SourceFault::Truncated { byte })
@@ -236,13 +251,12 @@ fn cut_at_every_byte(rt: HostRuntime) -> Result<(), Fail> {
             Ok(false)
         };
         for words in [1, 4, 600] {
-            expect(
-                &rt,
-                &mut Unpacker::new(SliceIn::new(text)),
-                &bytes,
-                words,
-                end,
-            );
+            let mut source = Unpacker::new(SliceIn::new(rest));
+            expect(&rt, &mut source, &bytes, words, end);
+            for most in [1, 9, 18, 65536] {
+                let input = BufferedIn::new(rt.alloc(), Sips { rest, most })?;
+                expect(&rt, &mut Unpacker::new(input), &bytes, words, end);
+            }
         }
     }
     Ok(())
