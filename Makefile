@@ -30,9 +30,10 @@ test:
 	rt ci
 	python3 tests/program.py $(PROGRAM)
 
-# Refuses each growth in turn of the calls that take memory.
+# Refuses each growth in turn of the calls that take memory, and each allocation of the built program.
 growths:
 	python3 tests/growths.py
+	python3 tests/refusals.py $(PROGRAM)
 
 # Times the built program beside plain copying of the same bytes, and beside Cap'n Proto's own C++ library and
 # Rust crate where they are installed.
