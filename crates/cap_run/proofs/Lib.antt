@@ -7,6 +7,7 @@ pub mod FoundNodes
 pub mod Going
 pub mod Handed
 pub mod Handing
+pub mod Hexes
 pub mod Nodes
 pub mod Making
 pub mod Paging

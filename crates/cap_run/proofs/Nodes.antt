@@ -1,12 +1,13 @@
 -- The lines of a node and of its own words.
-use Rattle.std.proofs.Common.{◌≡◌, ℕ, zero, suc, ◌+◌, ◌*◌, List, [], ◌∷◌, ◌++◌, drop, replicate, slice_get, Some, None, Result, refl, sym, ap, ◌∙◌, append_assoc, subst}
+use Rattle.std.proofs.Common.{◌≡◌, ℕ, zero, suc, ◌+◌, ◌*◌, List, [], ◌∷◌, ◌++◌, drop, length, replicate, slice_get, Some, None, Result, refl, sym, ap, ◌∙◌, append_assoc, subst}
 use Rattle.std.proofs.lemmas.Option.{slice_get_within, get_or_from_slice_get}
 use Rattle.cap_words.specs.declared.ends.ByteOut as output
 use Rattle.cap_words.specs.declared.ends.OutFault.{OutFault}
-use Rattle.cap_spec.specs.Showing.{Own, own_of, kind_of, words_of_own}
+use Rattle.cap_spec.specs.Showing.{Own, own_null, own_cap, own_struct, own_scalars, own_pointers, own_structs, own_of, kind_of, words_of_own}
 use Rattle.cap_spec.specs.Texts.{head, hex, label, line, own_lines, own_text, word_lines}
 use Rattle.cap_spec.specs.Tree.{Tree, null, cap, struct, scalars, pointers, structs}
 use Rattle.cap_spec.specs.declared.Kind.{Kind}
+use Rattle.cap_spec.specs.declared.Kind.TheVariants.{Struct, Scalars}
 use Rattle.cap_run.specs.Dumping.{head_of, word_letter_of}
 use Rattle.cap_run.specs.Paging.{Added, Adds, Halted}
 use Rattle.cap_run.proofs.Segments.{drop_size}
@@ -42,6 +43,15 @@ words_are level (struct words ts) = refl
 words_are level (scalars c vs) = refl
 words_are level (pointers ts) = refl
 words_are level (structs d p es) = refl
+
+-- a node that is neither a struct nor a list of values has no words of its own
+pub no_words : (own : Own) (kind : Kind) → kind ≡ kind_of own → ((d p : ℕ) → kind ≡ Struct d p → ⊥) → ((c n : ℕ) → kind ≡ Scalars c n → ⊥) → words_of_own own ≡ []
+no_words own_null kind e f g = refl
+no_words (own_cap i) kind e f g = refl
+no_words (own_struct words n) kind e f g = absurd (f (length words) n e)
+no_words (own_scalars c vs) kind e f g = absurd (g c (length vs) e)
+no_words (own_pointers n) kind e f g = refl
+no_words (own_structs n d p) kind e f g = refl
 
 -- the same of what a view shows of a tree
 pub head_shown : (t : Tree) (own : Own) (kind : Kind) (name written : List ℕ) → own ≡ own_of t → kind ≡ kind_of own → written ≡ name ++ 32 ∷ head_of kind ++ 10 ∷ []

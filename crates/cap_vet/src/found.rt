@@ -164,6 +164,7 @@ pub(crate) fn found_of(followed: Followed) -> Found
 }
 
 /// What word `w` of segment `s` leads to, which isn't wrong.
+#[inline(always)]
 pub(crate) fn found_at<M: Segments>(message: &M, s: u32, w: u32) -> Found
     requires exists { s < length (M.segments message.now) }
     requires inside { w < length (segment_of (M.segments message.now) s) }
@@ -178,6 +179,7 @@ pub(crate) fn found_at<M: Segments>(message: &M, s: u32, w: u32) -> Found
 }
 
 // The same, where the word alone tells it.
+#[inline(always)]
 fn found_near<M: Segments>(message: &M, s: u32, w: u32) -> Option<Found>
     requires exists { s < length (M.segments message.now) }
     requires inside { w < length (segment_of (M.segments message.now) s) }
@@ -208,6 +210,7 @@ fn found_far<M: Segments>(message: &M, s: u32, w: u32) -> Found
 }
 
 // The kind of the object that this pointer word tells, where no tag does.
+#[inline(always)]
 fn near_kind(pointer: u64) -> Kind
     ensures { (x : Shape) (b at left : ℕ) → IsShape pointer 0 x → HasRow x b at left → result ≡ kind_of_shape x }
 {

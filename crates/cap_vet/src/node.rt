@@ -45,7 +45,9 @@ impl<'m, M: Segments> Node<'m, M> {
     ghost use Rattle.cap_vet.specs.Handles.{kept_place, node_message, node_spot, shown, view_kind, view_message, view_place};
     ghost use Rattle.std.specs.Prelude.{IfNone, IfSome, MatchOption, Some, None, ℕ};
 
-    // What stands there. Following its pointer can't fail.
+    // What stands there. Following its pointer can't fail. It and what calls it are inlined, so that what
+    // was found stays in registers.
+    #[inline(always)]
     fn found(&self) -> Found
         ensures { IsFound (M.segments (node_message self.now)) (node_spot self.now) result }
     {
@@ -62,6 +64,7 @@ impl<'m, M: Segments> Node<'m, M> {
 
     /// A view of the node: what it is without its children. A pointer that leads to it is followed
     /// anew, and no memory is taken.
+    #[inline(always)]
     pub fn view(&self) -> View<'m, M>
         ensures message { view_message result ≡ node_message self.now }
         ensures stands { let place = kept_place result in
@@ -82,6 +85,7 @@ impl<'m, M: Segments> Node<'m, M> {
     /// The node that one step leads to, or `None` where this node has no such part: a struct's pointer
     /// `i`, or element `i` of a list of pointers or of structs. The child of a path's node is the node
     /// of that path with the step added. Takes no memory.
+    #[inline(always)]
     pub fn child(&self, step: Step) -> Option<Node<'m, M>>
         ensures message { IfSome result (λ n. node_message n ≡ node_message self.now) }
         ensures some { IfSome result (λ n. Goes (M.segments (node_message self.now)) (node_spot self.now) step (node_spot n)) }

@@ -116,7 +116,7 @@ pub(crate) fn put_dump<M: Segments, O: ByteOut>(
 /// Writes the tree of a message that was accepted: a line for each node, with its own words and its
 /// children below it, two spaces deeper each. The elements of a list of structs without words aren't
 /// shown. After a fault the output took a beginning of that text, and the fault is the output's own.
-/// Takes no memory. The calls of its recursion are at most 257 deep, of some 130 bytes of stack each.
+/// Takes no memory. The calls of its recursion are at most 257 deep, of some 150 bytes of stack each.
 pub fn dump<M: Segments, O: ByteOut>(vetted: &Vetted<'_, M>, out: &mut O) -> Result<(), OutFault>
     ensures { (t : Tree) (c d : ℕ) → Denotes (M.segments (message_of vetted.now)) 0 0 t c d →
         Writes O.ByteOut out.old out.new result (dump_text t) }

@@ -2,7 +2,7 @@
 
 ghost use Rattle.cap_run.specs.Dumping.{head_of, word_letter_of};
 ghost use Rattle.cap_run.specs.Paging.{Adds};
-ghost use Rattle.cap_spec.specs.Showing.{own_of, words_of_own};
+ghost use Rattle.cap_spec.specs.Showing.{kind_of, own_of, words_of_own};
 ghost use Rattle.cap_spec.specs.Standing.{DenotesAt};
 ghost use Rattle.cap_spec.specs.Texts.{hex, label, own_text, word_lines};
 ghost use Rattle.cap_spec.specs.Tree.{Tree};
@@ -23,6 +23,7 @@ const DEEPEST: usize = 257;
 static SPACES: [u8; 2 * DEEPEST] = [b' '; 2 * DEEPEST];
 
 /// Appends the head of a node of a kind.
+#[inline(always)]
 fn push_head(page: &mut Page, kind: Kind)
     requires { length page.old + 80 ≤ 4096 }
     ensures items { page.new ≡ page.old ++ head_of kind }
@@ -56,6 +57,7 @@ fn push_head(page: &mut Page, kind: Kind)
 }
 
 /// Appends the line of a node under a name.
+#[inline(always)]
 fn named_line(page: &mut Page, name: &[u8], kind: Kind)
     requires short { length name.now ≤ 32 }
     requires room { length page.old + 768 ≤ 4096 }
@@ -68,6 +70,7 @@ fn named_line(page: &mut Page, name: &[u8], kind: Kind)
 }
 
 /// The spaces before a line at a level.
+#[inline(always)]
 fn spaces(level: u32) -> &'static [u8]
     requires { level ≤ 257 }
     ensures { result.now ≡ replicate (2 * level) 32 }
@@ -76,6 +79,7 @@ fn spaces(level: u32) -> &'static [u8]
 }
 
 /// Begins a line at a level, with its spaces.
+#[inline(always)]
 fn begin_line(page: &mut Page, level: u32)
     requires low { level ≤ 257 }
     requires room { length page.old + 768 ≤ 4096 }
@@ -99,6 +103,7 @@ fn child_line(page: &mut Page, level: u32, letter: u8, i: u32, kind: Kind)
 }
 
 /// Appends at a level the line of a node's own word, by its letter and number.
+#[inline(always)]
 fn word_line(page: &mut Page, level: u32, letter: u8, i: u32, word: u64)
     requires low { level ≤ 257 }
     requires room { length page.old + 768 ≤ 4096 }
@@ -111,18 +116,9 @@ fn word_line(page: &mut Page, level: u32, letter: u8, i: u32, word: u64)
     page.push_text(b"\n");
 }
 
-/// The letter before the numbers of a node's own words.
-fn word_letter(kind: Kind) -> u8
-    ensures { result ≡ word_letter_of kind }
-{
-    match kind {
-        Kind::Struct { .. } => b'd',
-        _ => b'w',
-    }
-}
-
 /// Puts on a page the lines of a node's own words at a level. What has no room is written. After a
 /// fault the output took a beginning of what stood on the page and of them.
+#[inline(always)]
 fn put_words<M: Segments, O: ByteOut>(
     page: &mut Page,
     out: &mut O,
@@ -145,9 +141,34 @@ fn put_words<M: Segments, O: ByteOut>(
     Ok(())
 }
 
+/// Puts on a page the lines of the own words of a node of a kind at a level: a struct and a list of
+/// values have some. What has no room is written. After a fault the output took a beginning of what
+/// stood on the page and of them.
+// The kind is asked here, and so not at each word.
+#[inline(always)]
+fn put_own<M: Segments, O: ByteOut>(
+    page: &mut Page,
+    out: &mut O,
+    level: u32,
+    kind: Kind,
+    view: &View<'_, M>,
+) -> Result<(), OutFault>
+    requires low { level ≤ 257 }
+    requires kind { kind ≡ kind_of (shown view.now) }
+    ensures { Adds O.ByteOut (out.old, page.old) (out.new, page.new) result (word_lines level (word_letter_of kind) 0 (words_of_own (shown view.now))) }
+{
+    match kind {
+        Kind::Struct { .. } => put_words(page, out, level, b'd', view),
+        Kind::Scalars { .. } => put_words(page, out, level, b'w', view),
+        _ => Ok(()),
+    }
+}
+
 /// Puts on a page the line of a node under a name, and one level deeper the lines of its own words: its
 /// data words, or those of its values with unused bits as zeros. What has no room is written. After a
 /// fault the output took a beginning of what stood on the page and of that text. Takes no memory.
+// It and what it calls are inlined: a stream may have millions of messages, each told by a few lines.
+#[inline(always)]
 pub(crate) fn put_named<M: Segments, O: ByteOut>(
     page: &mut Page,
     out: &mut O,
@@ -158,12 +179,12 @@ pub(crate) fn put_named<M: Segments, O: ByteOut>(
     ensures { (t : Tree) → DenotesAt (M.segments (node_message node.now)) (node_spot node.now) t →
         Adds O.ByteOut (out.old, page.old) (out.new, page.new) result (own_text 0 name.now t) }
 {
-    let view = node.view();
-    let kind = view.kind();
     match make_room(page, out) {
         Ok(()) => {
+            let view = node.view();
+            let kind = view.kind();
             named_line(page, name, kind);
-            put_words(page, out, 1, word_letter(kind), &view)
+            put_own(page, out, 1, kind, &view)
         }
         Err(fault) => Err(fault),
     }
@@ -191,7 +212,7 @@ pub(crate) fn put_child<M: Segments, O: ByteOut>(
     match make_room(page, out) {
         Ok(()) => {
             child_line(page, level, letter, i, kind);
-            put_words(page, out, level + 1, word_letter(kind), &view)
+            put_own(page, out, level + 1, kind, &view)
         }
         Err(fault) => Err(fault),
     }

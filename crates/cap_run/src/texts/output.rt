@@ -28,6 +28,7 @@ pub(crate) fn make_room<O: ByteOut>(page: &mut Page, out: &mut O) -> Result<(), 
 }
 
 // Writes what stands on a page, and begins it anew.
+#[cold]
 #[inline(never)]
 fn turn<O: ByteOut>(page: &mut Page, out: &mut O) -> Result<(), OutFault>
     requires { 0 < length page.old }
