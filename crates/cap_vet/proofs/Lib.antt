@@ -10,6 +10,7 @@ mod Frames
 mod Objects
 mod Turning
 mod Stacks
+mod Passing
 mod Verdicts
 mod ObjectFrames
 mod Looks

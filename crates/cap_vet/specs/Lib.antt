@@ -9,6 +9,7 @@ pub mod Looking
 pub mod Marks
 pub mod Nodes
 pub mod Owing
+pub mod Passing
 pub mod Reports
 pub mod Rows
 pub mod Spots

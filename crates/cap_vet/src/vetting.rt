@@ -15,7 +15,7 @@ use crate::frame::Frame;
 use crate::limits::Limits;
 use crate::report::Report;
 use crate::vetted::Vetted;
-use crate::walking::{Stack, push_kept, visit};
+use crate::walking::{Stack, pass_nulls, push_kept, visit};
 use cap_frame::Segments;
 use cap_spec::{Reason, Refusal};
 
@@ -128,6 +128,7 @@ fn walk_on<M: Segments, const N: usize>(
 {
     'walk: loop {
         let (s, w, level) = (frame.segment, frame.at, frame.level);
+        let is_null = message.word(s, w) == 0;
         let more = frame.advance();
         match visit(message, limits, report, s, w, level) {
             Ok(Some(below)) => {
@@ -143,6 +144,8 @@ fn walk_on<M: Segments, const N: usize>(
                         Some(below) => frame = below,
                         None => return Ok(None),
                     }
+                } else if is_null {
+                    pass_nulls(message, &mut frame, report);
                 }
             }
             Err(refusal) => return Err(refusal),

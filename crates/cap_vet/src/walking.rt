@@ -2,6 +2,7 @@
 
 ghost use Rattle.cap_spec.specs.Faults.{IsFirstFault};
 ghost use Rattle.cap_vet.specs.WalkFrames.{kept};
+ghost use Rattle.cap_vet.specs.Passing.{Passes};
 ghost use Rattle.cap_vet.specs.Limits.{depth_of, words_of};
 ghost use Rattle.cap_vet.specs.Turning.{added, frame_below};
 ghost use Rattle.cap_vet.specs.Trails.{Ahead};
@@ -55,6 +56,23 @@ pub(crate) fn visit<M: Segments>(
             pointers: report.pointers + 1,
         }),
         Ok(looked) => Ok(add(report, s, w, looked)),
+    }
+}
+
+/// Goes past the null words in front of the others of a row, as long as another word stands behind them.
+// Most words of a list may be null, and these cost no turn.
+#[inline(always)]
+pub(crate) fn pass_nulls<M: Segments>(message: &M, frame: &mut Frame, report: &mut Report)
+    requires { (words : ℕ) × (depth : ℕ) × (frames : List Frame) × IsWalking (M.segments message.now) words depth (frames ++ frame.old ∷ []) report.old }
+    ensures { (words depth : ℕ) (frames : List Frame) → IsWalking (M.segments message.now) words depth (frames ++ frame.old ∷ []) report.old →
+        Passes (M.segments message.now) words depth frames frame.old report.old frame.new report.new }
+{
+    'nulls: while frame.left > 1 && message.word(frame.segment, frame.at) == 0 {
+        // The count stays below the charge, a number of 64 bits.
+        let _charge = report.charge;
+        frame.at += 1;
+        frame.left -= 1;
+        report.pointers += 1;
     }
 }
 

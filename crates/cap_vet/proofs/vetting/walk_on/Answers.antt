@@ -6,12 +6,21 @@ use Rattle.cap_vet.specs.WalkFrames.{kept}
 use Rattle.cap_vet.specs.Limits.{depth_of, words_of}
 use Rattle.cap_vet.specs.Walking.{IsWalking, work_left}
 use Rattle.cap_vet.specs.declared.frame.Frame.{Frame}
+use Rattle.cap_vet.proofs.Passing.{topmost_in}
 use Rattle.cap_vet.proofs.Stacks.{next_of, work_smaller}
 use Rattle.cap_vet.proofs.Verdicts.{accepted_at_end}
 use Rattle.cap_vet.proofs.vetting.walk_on.Goals as goal
 
 pub visit-requires : goal.visit-requires
 visit-requires g c = record { next = (c.walk.stack.items ++ option_to_list (kept c.advance-more.result c.advance-more.new.self), next_of _ _ _ c.walk.stack.items c.walk.frame (kept c.advance-more.result c.advance-more.new.self) c.walk.report c.walk.invariant.1 c.advance-more.ensures) }
+
+pub word-is_null-requires-clause-exists : goal.word-is_null-requires-clause-exists
+word-is_null-requires-clause-exists g c = (topmost_in _ _ _ c.walk.stack.items c.walk.frame c.walk.report c.walk.invariant.1).exists
+
+pub word-is_null-requires-clause-inside : goal.word-is_null-requires-clause-inside
+word-is_null-requires-clause-inside g c =
+    let f = topmost_in _ _ _ c.walk.stack.items c.walk.frame c.walk.report c.walk.invariant.1 in
+    omega (arith, f.some, f.inside)
 
 pub walk-preserved-in-Ok-Some : goal.walk-preserved-in-Ok-Some
 walk-preserved-in-Ok-Some g c =
@@ -48,6 +57,42 @@ walk-smaller-in-Some g c =
     let less : work_left (words_of c.args.limits.now) (frames ++ option_to_list c.in-Ok-None.field-0) c.visit.new.report < work_left (words_of c.args.limits.now) (c.walk.stack.items ++ c.walk.frame ∷ []) c.walk.report =
     work_smaller (words_of c.args.limits.now) c.walk.stack.items (frames ++ option_to_list c.in-Ok-None.field-0) c.walk.frame (kept c.advance-more.result c.advance-more.new.self) c.walk.report c.visit.new.report c.advance-more.ensures falls in
     subst (λ u. work_left (words_of c.args.limits.now) u c.visit.new.report < work_left (words_of c.args.limits.now) (c.walk.stack.items ++ c.walk.frame ∷ []) c.walk.report) e less
+
+pub pass_nulls-requires : goal.pass_nulls-requires
+pass_nulls-requires g c =
+    let frames : List Frame = c.walk.stack.items ++ option_to_list (kept c.advance-more.result c.advance-more.new.self) in
+    let next = next_of _ _ _ c.walk.stack.items c.walk.frame (kept c.advance-more.result c.advance-more.new.self) c.walk.report c.walk.invariant.1 c.advance-more.ensures in
+    let e : frames ++ option_to_list c.in-Ok-None.field-0 ≡ c.walk.stack.items ++ c.advance-more.new.self ∷ [] =
+    rw (c.in-Ok-None.field-0-is, c.if-not-more.false) (append-nil (c.walk.stack.items ++ c.advance-more.new.self ∷ [])) in
+    let walking : IsWalking (g.M.Segments.segments c.args.message.now) (words_of c.args.limits.now) (depth_of c.args.limits.now) (c.walk.stack.items ++ c.advance-more.new.self ∷ []) c.visit.new.report =
+    subst (λ u. IsWalking (g.M.Segments.segments c.args.message.now) (words_of c.args.limits.now) (depth_of c.args.limits.now) u c.visit.new.report) e (c.in-Ok-None.ensures.ok frames next) in
+    (words_of c.args.limits.now, depth_of c.args.limits.now, c.walk.stack.items, walking)
+
+pub walk-preserved-then-is_null : goal.walk-preserved-then-is_null
+walk-preserved-then-is_null g c =
+    let frames : List Frame = c.walk.stack.items ++ option_to_list (kept c.advance-more.result c.advance-more.new.self) in
+    let next = next_of _ _ _ c.walk.stack.items c.walk.frame (kept c.advance-more.result c.advance-more.new.self) c.walk.report c.walk.invariant.1 c.advance-more.ensures in
+    let e : frames ++ option_to_list c.in-Ok-None.field-0 ≡ c.walk.stack.items ++ c.advance-more.new.self ∷ [] =
+    rw (c.in-Ok-None.field-0-is, c.if-not-more.false) (append-nil (c.walk.stack.items ++ c.advance-more.new.self ∷ [])) in
+    let walking : IsWalking (g.M.Segments.segments c.args.message.now) (words_of c.args.limits.now) (depth_of c.args.limits.now) (c.walk.stack.items ++ c.advance-more.new.self ∷ []) c.visit.new.report =
+    subst (λ u. IsWalking (g.M.Segments.segments c.args.message.now) (words_of c.args.limits.now) (depth_of c.args.limits.now) u c.visit.new.report) e (c.in-Ok-None.ensures.ok frames next) in
+    (c.walk.invariant.0, (c.pass_nulls.ensures (words_of c.args.limits.now) (depth_of c.args.limits.now) c.walk.stack.items walking).0)
+
+pub walk-smaller-then-is_null : goal.walk-smaller-then-is_null
+walk-smaller-then-is_null g c =
+    let frames : List Frame = c.walk.stack.items ++ option_to_list (kept c.advance-more.result c.advance-more.new.self) in
+    let next = next_of _ _ _ c.walk.stack.items c.walk.frame (kept c.advance-more.result c.advance-more.new.self) c.walk.report c.walk.invariant.1 c.advance-more.ensures in
+    let e : frames ++ option_to_list c.in-Ok-None.field-0 ≡ c.walk.stack.items ++ c.advance-more.new.self ∷ [] =
+    rw (c.in-Ok-None.field-0-is, c.if-not-more.false) (append-nil (c.walk.stack.items ++ c.advance-more.new.self ∷ [])) in
+    let walking : IsWalking (g.M.Segments.segments c.args.message.now) (words_of c.args.limits.now) (depth_of c.args.limits.now) (c.walk.stack.items ++ c.advance-more.new.self ∷ []) c.visit.new.report =
+    subst (λ u. IsWalking (g.M.Segments.segments c.args.message.now) (words_of c.args.limits.now) (depth_of c.args.limits.now) u c.visit.new.report) e (c.in-Ok-None.ensures.ok frames next) in
+    let falls = c.in-Ok-None.ensures.falls frames next in
+    let less : work_left (words_of c.args.limits.now) (frames ++ option_to_list c.in-Ok-None.field-0) c.visit.new.report < work_left (words_of c.args.limits.now) (c.walk.stack.items ++ c.walk.frame ∷ []) c.walk.report =
+    work_smaller (words_of c.args.limits.now) c.walk.stack.items (frames ++ option_to_list c.in-Ok-None.field-0) c.walk.frame (kept c.advance-more.result c.advance-more.new.self) c.walk.report c.visit.new.report c.advance-more.ensures falls in
+    let here : work_left (words_of c.args.limits.now) (c.walk.stack.items ++ c.advance-more.new.self ∷ []) c.visit.new.report < work_left (words_of c.args.limits.now) (c.walk.stack.items ++ c.walk.frame ∷ []) c.walk.report =
+    subst (λ u. work_left (words_of c.args.limits.now) u c.visit.new.report < work_left (words_of c.args.limits.now) (c.walk.stack.items ++ c.walk.frame ∷ []) c.walk.report) e less in
+    let passed = (c.pass_nulls.ensures (words_of c.args.limits.now) (depth_of c.args.limits.now) c.walk.stack.items walking).1 in
+    omega (arith, here, passed)
 
 pub walk-preserved : goal.walk-preserved
 walk-preserved g c =
