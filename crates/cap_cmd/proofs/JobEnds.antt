@@ -128,6 +128,11 @@ module _ {S O K : Type 0} (gs : source.Ghosts S) (go : output.Ghosts O) (gk : si
   all_made charge depth limit most old new before after begun ended (Err fault) e b c g = absurd (cause_fails fault.cause e)
 
 module _ {S O E P U : Type 0} (gs : source.Ghosts S) (go : output.Ghosts O) (ge : output.Ghosts E) (gp : sink.Ghosts P) (gu : sink.Ghosts U) where
+  -- what the task's engine does was done
+  pub does_as : (task one : Task) (s : Settings) (first : S) (before after : O) (old new : E) (status : ℕ) → task ≡ one → DoesTask gs go ge gp gu one s first before after old new status
+      → DoesTask gs go ge gp gu task s first before after old new status
+  does_as task one s first before after old new status e d = subst (λ (x : Task). DoesTask gs go ge gp gu x s first before after old new status) (sym e) d
+
   -- words were packed
   pub does_pack : (task : Task) (s : Settings) (first last : S) (before after : O) (old new : E) (status : ℕ) (begun ended : P) (answer : Result ℕ CopyFault) → task ≡ Pack
       → BeginsOutput go gp pack_text before begun → CopiesWords gs gp most_words first last begun ended answer → GivesOutput go gp ended after → TellsCopy ge answer old new status

@@ -2,10 +2,61 @@ use Rattle.std.proofs.Common.{◌∙◌, ap, subst, sym}
 use Rattle.std.specs.Io.KnownBytes.{append_known}
 use Rattle.cap_spec.specs.Packing.{pack_text}
 use Rattle.cap_spec.specs.Plain.{plain_text}
+use Rattle.cap_frame.specs.Limit.{limit_of}
+use Rattle.cap_run.specs.Checking.{TellsCheck}
 use Rattle.cap_run.specs.Engines.{most_words}
+use Rattle.cap_run.specs.Telling.{TellsSegments, WantsNone}
+use Rattle.cap_run.specs.Vetting.{TellsDump}
+use Rattle.cap_vet.specs.Limits.{depth_of, words_of}
 use Rattle.cap_cmd.specs.Jobs.{GivesOutput, WritesAll}
-use Rattle.cap_cmd.proofs.JobEnds.{all_copied, does_canon, does_pack, does_unpack}
+use Rattle.cap_cmd.specs.declared.job.Task.TheVariants.{Check, Dump, Segments}
+use Rattle.cap_cmd.proofs.JobEnds.{all_copied, does_as, does_canon, does_pack, does_unpack, told_all}
 use Rattle.cap_cmd.proofs.running.run_over.Goals as goal
+
+pub returns-in-Segments-clause-does : goal.returns-in-Segments-clause-does
+returns-in-Segments-clause-does g c =
+    let answer = c.run_segments-answer in
+    does_as g.S.WordSource g.O.ByteOut g.E.ByteOut _ _ c.args.job.now.task Segments c.args.job.now.settings c.args.source c.args.out answer.new.out c.args.err.now c.report.new.err c.report.result
+    c.in-Segments.is (answer.result, answer.new.source, answer.ensures, c.report.ensures)
+
+pub returns-in-Segments-clause-success : goal.returns-in-Segments-clause-success
+returns-in-Segments-clause-success g c = λ h.
+    let answer = c.run_segments-answer in
+    subst
+    (λ task. WritesAll task c.args.job.now.settings (g.S.WordSource.words c.args.source) (g.S.WordSource.is_cut c.args.source) (g.O.ByteOut.written c.args.out) (g.O.ByteOut.written answer.new.out))
+    (sym c.in-Segments.is)
+    (told_all g.S.WordSource g.O.ByteOut TellsSegments WantsNone (limit_of c.args.job.now.settings.size) c.args.job.now.settings.messages c.args.source answer.new.source c.args.out answer.new.out
+    answer.result (sym c.report.ensures.status_is ∙ h) answer.ensures.told)
+
+pub returns-in-Dump-clause-does : goal.returns-in-Dump-clause-does
+returns-in-Dump-clause-does g c =
+    let answer = c.run_dump-answer in
+    does_as g.S.WordSource g.O.ByteOut g.E.ByteOut _ _ c.args.job.now.task Dump c.args.job.now.settings c.args.source c.args.out answer.new.out c.args.err.now c.report-in-Dump.new.err c.report-in-Dump.result
+    c.in-Dump.is (answer.result, answer.new.source, answer.ensures, c.report-in-Dump.ensures)
+
+pub returns-in-Dump-clause-success : goal.returns-in-Dump-clause-success
+returns-in-Dump-clause-success g c = λ h.
+    let answer = c.run_dump-answer in
+    subst
+    (λ task. WritesAll task c.args.job.now.settings (g.S.WordSource.words c.args.source) (g.S.WordSource.is_cut c.args.source) (g.O.ByteOut.written c.args.out) (g.O.ByteOut.written answer.new.out))
+    (sym c.in-Dump.is)
+    (told_all g.S.WordSource g.O.ByteOut (TellsDump (words_of c.args.job.now.settings.limits) (depth_of c.args.job.now.settings.limits)) WantsNone (limit_of c.args.job.now.settings.size) c.args.job.now.settings.messages c.args.source answer.new.source c.args.out answer.new.out
+    answer.result (sym c.report-in-Dump.ensures.status_is ∙ h) answer.ensures)
+
+pub returns-in-Check-clause-does : goal.returns-in-Check-clause-does
+returns-in-Check-clause-does g c =
+    let answer = c.run_check-answer in
+    does_as g.S.WordSource g.O.ByteOut g.E.ByteOut _ _ c.args.job.now.task Check c.args.job.now.settings c.args.source c.args.out answer.new.out c.args.err.now c.report-in-Check.new.err c.report-in-Check.result
+    c.in-Check.is (answer.result, answer.new.source, answer.ensures, c.report-in-Check.ensures)
+
+pub returns-in-Check-clause-success : goal.returns-in-Check-clause-success
+returns-in-Check-clause-success g c = λ h.
+    let answer = c.run_check-answer in
+    subst
+    (λ task. WritesAll task c.args.job.now.settings (g.S.WordSource.words c.args.source) (g.S.WordSource.is_cut c.args.source) (g.O.ByteOut.written c.args.out) (g.O.ByteOut.written answer.new.out))
+    (sym c.in-Check.is)
+    (told_all g.S.WordSource g.O.ByteOut (TellsCheck (words_of c.args.job.now.settings.limits) (depth_of c.args.job.now.settings.limits)) WantsNone (limit_of c.args.job.now.settings.size) c.args.job.now.settings.messages c.args.source answer.new.source c.args.out answer.new.out
+    answer.result (sym c.report-in-Check.ensures.status_is ∙ h) answer.ensures)
 
 pub returns-in-Canon-clause-does : goal.returns-in-Canon-clause-does
 returns-in-Canon-clause-does g c =
