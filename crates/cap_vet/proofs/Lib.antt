@@ -31,3 +31,4 @@ mod Pointing
 mod Ranges
 mod SecondWalk
 mod Pads
+mod NearUses

@@ -12,8 +12,6 @@ use Rattle.cap_spec.proofs.Arrivals.{lead_word}
 use Rattle.cap_spec.proofs.Following.{cap-not_wrong, null-not_wrong, object-not_wrong}
 use Rattle.cap_spec.proofs.Messages.{one_word}
 use Rattle.cap_spec.proofs.Places.{no_pads, pads_in_a_row}
-use Rattle.cap_vet.specs.Rows.{FindsRow}
-use Rattle.cap_vet.specs.declared.rows.Row.{Row}
 
 -- they are as many words in a row as the form of the pointer tells
 two_few : (p : ℕ) → two p < 2
@@ -58,11 +56,11 @@ zero_used m s w q has e =
     let r = null_used m s w 0 l in
     subst (λ (u : List (ℕ × ℕ)). Occupies m s w u) (unpadded m s w r.0 to_null l r.1) r.2
 
--- and one that tells an object near by its words alone.
-pub near_used : (m : List (List ℕ)) (s w : ℕ) (x : Row) → FindsRow m s w x → Occupies m s w (places s x.start x.charge)
-near_used m s w x f =
-    let r = object_used m s w 0 s x.start f.word x.charge f.finds.finds f.finds.object.words in
-    subst (λ (u : List (ℕ × ℕ)). Occupies m s w (u ++ places s x.start x.charge)) (unpadded m s w r.0 (to_object s (pos x.start) f.word) f.finds.finds.leads r.1) r.2
+-- and one that leads to an object over no pad its words alone.
+pub found_used : (m : List (List ℕ)) (s w t b q n : ℕ) → Finds m s w 0 t b q → n ≡ extent q → Occupies m s w (places t b n)
+found_used m s w t b q n f e =
+    let r = object_used m s w 0 t b q n f e in
+    subst (λ (u : List (ℕ × ℕ)). Occupies m s w (u ++ places t b n)) (unpadded m s w r.0 (to_object t (pos b) q) f.leads r.1) r.2
 
 -- a pointer word that is wrong uses nothing
 pub wrong_unused : (m : List (List ℕ)) (s w : ℕ) (v : Reason) (used : List (ℕ × ℕ)) → Wrong m s w v → Occupies m s w used → ⊥

@@ -20,6 +20,7 @@ use crate::frame::Frame;
 use crate::limits::Limits;
 use crate::marks::{mark_pointer, mark_words, numbers_for, starts_in};
 use crate::report::Report;
+use crate::uses::near_use;
 use crate::vetted::Vetted;
 use crate::vetting::vet;
 use crate::walking::{Stack, push_kept, visit};
@@ -149,17 +150,21 @@ fn mark_all<M: Segments>(
         unreachable!();
     }
     let mut report = Report::default();
-    if !mark_pointer(message, starts, marks, 0, 0) {
+    let near = near_use(message, 0, 0);
+    let child = match visit(message, limits, &mut report, 0, 0, 1) {
+        Ok(child) => child,
+        Err(refusal) => return Err(ExclusiveRefusal::Refused(refusal)),
+    };
+    if !mark_pointer(message, starts, marks, 0, 0, near) {
         return Err(ExclusiveRefusal::Overlap {
             segment: 0,
             word: 0,
             pointers: 1,
         });
     }
-    match visit(message, limits, &mut report, 0, 0, 1) {
-        Ok(Some(frame)) => mark_below(message, limits, starts, marks, frame, report),
-        Ok(None) => Ok(()),
-        Err(refusal) => Err(ExclusiveRefusal::Refused(refusal)),
+    match child {
+        Some(frame) => mark_below(message, limits, starts, marks, frame, report),
+        None => Ok(()),
     }
 }
 
@@ -252,22 +257,29 @@ fn mark_on<M: Segments, const N: usize>(
     'walk: loop {
         let (s, w, level) = (frame.segment, frame.at, frame.level);
         let more = frame.advance();
-        if !mark_pointer(message, starts, marks, s, w) {
+        // What the word uses is looked at beside what it leads to, and marked behind that: where nothing is
+        // written in between, both take its fields from it once.
+        let near = near_use(message, s, w);
+        let child = match visit(message, limits, report, s, w, level) {
+            Ok(child) => child,
+            Err(refusal) => return Err(ExclusiveRefusal::Refused(refusal)),
+        };
+        if !mark_pointer(message, starts, marks, s, w, near) {
             return Err(ExclusiveRefusal::Overlap {
                 segment: s,
                 word: w,
-                pointers: report.pointers + 1,
+                pointers: report.pointers,
             });
         }
-        match visit(message, limits, report, s, w, level) {
-            Ok(Some(below)) => {
+        match child {
+            Some(below) => {
                 push_kept(stack, more, frame);
                 if stack.is_full() {
                     return Ok(Some(below));
                 }
                 frame = below;
             }
-            Ok(None) => {
+            None => {
                 if !more {
                     match stack.pop() {
                         Some(below) => frame = below,
@@ -275,7 +287,6 @@ fn mark_on<M: Segments, const N: usize>(
                     }
                 }
             }
-            Err(refusal) => return Err(ExclusiveRefusal::Refused(refusal)),
         }
     }
 }

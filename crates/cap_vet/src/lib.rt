@@ -16,6 +16,7 @@ pub mod report;
 mod rows;
 mod spot;
 mod targets;
+mod uses;
 pub mod vetted;
 pub mod vetting;
 pub mod view;

@@ -4,11 +4,12 @@ ghost use Rattle.cap_spec.specs.Denoting.{places};
 ghost use Rattle.cap_spec.specs.Following.{Lead, Leads};
 ghost use Rattle.cap_spec.specs.Messages.{HasWord, segment_of};
 ghost use Rattle.cap_spec.specs.Occupying.{IsPlaceOf, Occupies, pads_of};
-ghost use Rattle.cap_vet.specs.Marks.{Conflicts, MarksAll};
+ghost use Rattle.cap_vet.specs.Marks.{Conflicts, MarksAll, UsesPlace};
 ghost use Rattle.cap_vet.specs.Taken.{AreStarts, HasRoom, IsTaken, bit_of, start_of};
-ghost use Rattle.std.specs.Prelude.{◌+◌, ◌-◌, ◌*◌, ◌<◌, ◌^◌, ◌≡◌, ◌≤◌, List, ℕ, false, length, true};
+ghost use Rattle.std.specs.Prelude.{◌+◌, ◌-◌, ◌*◌, ◌<◌, ◌^◌, ◌≡◌, ◌≤◌, List, ℕ, IfSome, false, length, true};
 
-use crate::rows::row_at;
+use crate::place::Place;
+use crate::uses::structs_use;
 use arrayvec::ArrayVec;
 use cap_frame::Segments;
 use cap_ptr::{Followed, Pointer, follow};
@@ -38,7 +39,8 @@ pub(crate) fn starts_in<M: Segments>(message: &M) -> ArrayVec<u64, 512>
 }
 
 /// Marks what following the pointer at word `w` of segment `s` uses, or answers `false` where a part of
-/// it is used twice or was marked before. A pointer that is wrong uses nothing.
+/// it is used twice or was marked before. A pointer that is wrong uses nothing. `near` is what
+/// `near_use` answers of the word.
 // It and what it calls for an object near by are inlined: a walk may look at millions of words.
 #[inline(always)]
 pub(crate) fn mark_pointer<M: Segments>(
@@ -47,7 +49,34 @@ pub(crate) fn mark_pointer<M: Segments>(
     marks: &mut [u64],
     s: u32,
     w: u32,
+    near: Option<Place>,
 ) -> bool
+    requires room { HasRoom (M.segments message.now) starts.now marks.old }
+    requires exists { s < length (M.segments message.now) }
+    requires inside { w < length (segment_of (M.segments message.now) s) }
+    requires near { IfSome near (UsesPlace (M.segments message.now) s w) }
+    ensures length { length marks.new ≡ length marks.old }
+    ensures taken { result ≡ true → (used : List (ℕ × ℕ)) → Occupies (M.segments message.now) s w used →
+        MarksAll (IsTaken (M.segments message.now) marks.old) (IsTaken (M.segments message.now) marks.new) used }
+    ensures conflict { result ≡ false → (used : List (ℕ × ℕ)) × Occupies (M.segments message.now) s w used
+        × Conflicts (IsTaken (M.segments message.now) marks.old) used }
+{
+    match near {
+        Some(place) => mark_words(
+            message,
+            starts,
+            marks,
+            place.segment,
+            place.start,
+            place.words,
+        ),
+        None => mark_far(message, starts, marks, s, w),
+    }
+}
+
+// The same of a word that alone doesn't tell it.
+#[inline(never)]
+fn mark_far<M: Segments>(message: &M, starts: &[u64], marks: &mut [u64], s: u32, w: u32) -> bool
     requires room { HasRoom (M.segments message.now) starts.now marks.old }
     requires exists { s < length (M.segments message.now) }
     requires inside { w < length (segment_of (M.segments message.now) s) }
@@ -57,19 +86,21 @@ pub(crate) fn mark_pointer<M: Segments>(
     ensures conflict { result ≡ false → (used : List (ℕ × ℕ)) × Occupies (M.segments message.now) s w used
         × Conflicts (IsTaken (M.segments message.now) marks.old) used }
 {
-    if message.word(s, w) == 0 {
-        return true;
+    if let Some(list) = structs_use(message, s, w) {
+        return mark_words(message, starts, marks, list.segment, list.start, list.words);
     }
-    // Most other pointers lead to an object near by, without a pad.
-    match row_at(message, s, w) {
-        Some(row) => mark_words(message, starts, marks, s, row.start, row.charge as u32),
-        None => mark_far(message, starts, marks, s, w),
-    }
+    mark_followed(message, starts, marks, s, w)
 }
 
-// The same, where it takes a following.
+// The same of a word that has to be followed.
 #[inline(never)]
-fn mark_far<M: Segments>(message: &M, starts: &[u64], marks: &mut [u64], s: u32, w: u32) -> bool
+fn mark_followed<M: Segments>(
+    message: &M,
+    starts: &[u64],
+    marks: &mut [u64],
+    s: u32,
+    w: u32,
+) -> bool
     requires room { HasRoom (M.segments message.now) starts.now marks.old }
     requires exists { s < length (M.segments message.now) }
     requires inside { w < length (segment_of (M.segments message.now) s) }

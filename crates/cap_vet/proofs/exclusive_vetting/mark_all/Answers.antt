@@ -39,14 +39,14 @@ mark_below-requires-clause-marking g c =
     let zero = c.default-report.ensures in
     let b = begins (g.M.Segments.segments c.args.message.now) (words_of c.args.limits.now) (depth_of c.args.limits.now) c.default-report.result some c.requires.root zero.0 zero.1.0 zero.1.1.0 zero.1.1.1.0 zero.1.1.1.1 in
     let k : IsMarked (g.M.Segments.segments c.args.message.now) [] (IsTaken (g.M.Segments.segments c.args.message.now) c.mark_words.new.marks) = root_marked (g.M.Segments.segments c.args.message.now) (IsTaken (g.M.Segments.segments c.args.message.now) c.args.marks.now) (IsTaken (g.M.Segments.segments c.args.message.now) c.mark_words.new.marks) c.requires.none (c.mark_words.ensures.taken c.if-not-mark_words.false) in
-    let r = c.in-Ok-Some.ensures.last [] b.0 in
-    (b.0.a.path ∷ b.0.seen, r.0, subst (λ u. Walks (g.M.Segments.segments c.args.message.now) (words_of c.args.limits.now) (depth_of c.args.limits.now) (option_to_list u) c.visit.new.report (b.0.a.path ∷ b.0.seen) r.0) c.in-Ok-Some.field-0-is r.1, (turn_on (g.M.Segments.segments c.args.message.now) (words_of c.args.limits.now) (depth_of c.args.limits.now) 0 0 1 [] (option_to_list c.in-Ok-Some.field-0) c.default-report.result c.visit.new.report [] r.0 (IsTaken (g.M.Segments.segments c.args.message.now) c.mark_words.new.marks) (IsTaken (g.M.Segments.segments c.args.message.now) c.mark_pointer.new.marks) b.0 b.1 r.1 k (c.mark_pointer.ensures.taken c.if-not-mark_pointer.false)))
+    let r = c.in-Ok.ensures.last [] b.0 in
+    (b.0.a.path ∷ b.0.seen, r.0, subst (λ u. Walks (g.M.Segments.segments c.args.message.now) (words_of c.args.limits.now) (depth_of c.args.limits.now) (option_to_list u) c.visit.new.report (b.0.a.path ∷ b.0.seen) r.0) c.in-Some.is r.1, (turn_on (g.M.Segments.segments c.args.message.now) (words_of c.args.limits.now) (depth_of c.args.limits.now) 0 0 1 [] (option_to_list c.in-Ok.child) c.default-report.result c.visit.new.report [] r.0 (IsTaken (g.M.Segments.segments c.args.message.now) c.mark_words.new.marks) (IsTaken (g.M.Segments.segments c.args.message.now) c.mark_pointer.new.marks) b.0 b.1 r.1 k (c.mark_pointer.ensures.taken c.if-not-mark_pointer.false)))
 
-pub returns-in-Ok-None-clause-ok : goal.returns-in-Ok-None-clause-ok
-returns-in-Ok-None-clause-ok g c =
+pub returns-in-None-clause-ok : goal.returns-in-None-clause-ok
+returns-in-None-clause-ok g c =
     let some : 0 < length (g.M.Segments.segments c.args.message.now) = search rules in
     let zero = c.default-report.ensures in
     let b = begins (g.M.Segments.segments c.args.message.now) (words_of c.args.limits.now) (depth_of c.args.limits.now) c.default-report.result some c.requires.root zero.0 zero.1.0 zero.1.1.0 zero.1.1.1.0 zero.1.1.1.1 in
     let k : IsMarked (g.M.Segments.segments c.args.message.now) [] (IsTaken (g.M.Segments.segments c.args.message.now) c.mark_words.new.marks) = root_marked (g.M.Segments.segments c.args.message.now) (IsTaken (g.M.Segments.segments c.args.message.now) c.args.marks.now) (IsTaken (g.M.Segments.segments c.args.message.now) c.mark_words.new.marks) c.requires.none (c.mark_words.ensures.taken c.if-not-mark_words.false) in
-    let r = c.in-Ok-None.ensures.last [] b.0 in
-    ends_disjoint (g.M.Segments.segments c.args.message.now) (words_of c.args.limits.now) (depth_of c.args.limits.now) c.visit.new.report (b.0.a.path ∷ b.0.seen) r.0 (IsTaken (g.M.Segments.segments c.args.message.now) c.mark_pointer.new.marks) (subst (λ u. Walks (g.M.Segments.segments c.args.message.now) (words_of c.args.limits.now) (depth_of c.args.limits.now) (option_to_list u) c.visit.new.report (b.0.a.path ∷ b.0.seen) r.0) c.in-Ok-None.field-0-is r.1) (turn_on (g.M.Segments.segments c.args.message.now) (words_of c.args.limits.now) (depth_of c.args.limits.now) 0 0 1 [] (option_to_list c.in-Ok-None.field-0) c.default-report.result c.visit.new.report [] r.0 (IsTaken (g.M.Segments.segments c.args.message.now) c.mark_words.new.marks) (IsTaken (g.M.Segments.segments c.args.message.now) c.mark_pointer.new.marks) b.0 b.1 r.1 k (c.mark_pointer.ensures.taken c.if-not-mark_pointer.false))
+    let r = c.in-Ok.ensures.last [] b.0 in
+    ends_disjoint (g.M.Segments.segments c.args.message.now) (words_of c.args.limits.now) (depth_of c.args.limits.now) c.visit.new.report (b.0.a.path ∷ b.0.seen) r.0 (IsTaken (g.M.Segments.segments c.args.message.now) c.mark_pointer.new.marks) (subst (λ u. Walks (g.M.Segments.segments c.args.message.now) (words_of c.args.limits.now) (depth_of c.args.limits.now) (option_to_list u) c.visit.new.report (b.0.a.path ∷ b.0.seen) r.0) c.in-None.is r.1) (turn_on (g.M.Segments.segments c.args.message.now) (words_of c.args.limits.now) (depth_of c.args.limits.now) 0 0 1 [] (option_to_list c.in-Ok.child) c.default-report.result c.visit.new.report [] r.0 (IsTaken (g.M.Segments.segments c.args.message.now) c.mark_words.new.marks) (IsTaken (g.M.Segments.segments c.args.message.now) c.mark_pointer.new.marks) b.0 b.1 r.1 k (c.mark_pointer.ensures.taken c.if-not-mark_pointer.false))
