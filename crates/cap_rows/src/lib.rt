@@ -10,6 +10,8 @@ mod devices;
 #[cfg(test)]
 mod dumps;
 #[cfg(test)]
+mod edges;
+#[cfg(test)]
 mod engines;
 #[cfg(test)]
 mod exclusives;
