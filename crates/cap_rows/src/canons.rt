@@ -8,6 +8,7 @@ use cap_frame::FrameFault;
 use cap_pack::Packer;
 use cap_words::{FromRead, FromWrite, OutFault, PlainSink, PlainWords, SliceIn, VecOut};
 use std::alloc::Global;
+use std::process::Abort;
 use std::test::Fail;
 
 // A message, its canonical copy, and whether it is that itself.
@@ -280,55 +281,53 @@ message 4: refused NoRoot at 0:0 pointers 0
     Ok(())
 }
 
-// What copies of these messages, at most so many, end in, and what a packer wrote of them.
-fn packed_copies(
-    alloc: Global,
-    stream: &[u8],
+// What copies of a message and of this behind it, at most so many, end in. A packer holds its last words
+// back, so that it shows whether it was finished.
+fn end_of_copies<R: AllocGlobal + Abort>(
+    rt: &R,
+    next: &str,
     messages: u32,
-) -> Result<(Result<Outcome, RunFault>, VecOut), Fail> {
+) -> Result<Result<Outcome, RunFault>, Fail> {
+    let stream = format!(in rt.alloc(); "{LONG} {next}")?;
+    let bytes = bytes_of(rt.alloc(), stream.as_str())?;
     let settings = settings(messages).ok_or("settings")?;
     let mut source = PlainWords::new(FromRead::new(Sips {
-        bytes: stream,
+        bytes: bytes.as_slice(),
         most: 1,
     }));
-    let mut sink = Packer::new(VecOut::new(alloc));
-    let answer = run_canon(alloc, &mut source, &mut sink, &settings);
-    Ok((answer, sink.into_inner()))
+    let mut sink = Packer::new(VecOut::new(rt.alloc()));
+    let answer = run_canon(rt.alloc(), &mut source, &mut sink, &settings);
+    let packed = b"\x10\x02\x10\x01\x01\x2a".as_slice();
+    assert_eq!(rt; sink.into_inner().bytes(), packed, "{next}");
+    Ok(answer)
 }
 
-// A packer holds its last words back, so that it shows whether it was finished.
+// What comes behind a message, how many are copied at most, and the fault that ends the copies.
+const ENDS: [(&str, u32, Cause); 4] = [
+    ("00", 2, Cause::Frame(FrameFault::Truncated { byte: 33 })),
+    (SHORT, 1, Cause::TooManyMessages),
+    (CYCLE, 1, Cause::TooManyMessages),
+    (CAP, 1, Cause::TooManyMessages),
+];
+
 #[test]
 fn finishes_the_sink_before_each_fault(rt: HostRuntime) -> Result<(), Fail> {
-    let alloc = rt.alloc();
-    let packed = b"\x10\x02\x10\x01\x01\x2a".as_slice();
-    for (next, messages, cause) in [
-        ("00", 2, Cause::Frame(FrameFault::Truncated { byte: 33 })),
-        (SHORT, 1, Cause::TooManyMessages),
-        (CYCLE, 1, Cause::TooManyMessages),
-        (CAP, 1, Cause::TooManyMessages),
-    ] {
-        let stream = format!(in alloc; "{LONG} {next}")?;
-        let stream = bytes_of(alloc, stream.as_str())?;
-        let (answer, out) = packed_copies(alloc, stream.as_slice(), messages)?;
-        assert!(rt; answer == Err(RunFault { message: 1, cause }), "{next}");
-        assert_eq!(rt; out.bytes(), packed, "{next}");
+    for (next, messages, cause) in &ENDS {
+        let wanted = Err(RunFault {
+            message: 1,
+            cause: *cause,
+        });
+        assert!(rt; end_of_copies(&rt, next, *messages)? == wanted, "{next}");
     }
     for next in [CAP, CYCLE, ROOTLESS] {
-        let stream = format!(in alloc; "{LONG} {next}")?;
-        let stream = bytes_of(alloc, stream.as_str())?;
-        let (answer, out) = packed_copies(alloc, stream.as_slice(), 2)?;
-        assert!(rt; answer.is_err(), "{next}");
-        assert_eq!(rt; out.bytes(), packed, "{next}");
+        assert!(rt; end_of_copies(&rt, next, 2)?.is_err(), "{next}");
     }
-    let stream = bytes_of(alloc, LONG)?;
-    let (answer, out) = packed_copies(alloc, stream.as_slice(), 1)?;
     let wanted = Ok(Outcome {
         messages: 1,
         refused: 0,
         noncanonical: 0,
     });
-    assert!(rt; answer == wanted);
-    assert_eq!(rt; out.bytes(), packed);
+    assert!(rt; end_of_copies(&rt, "", 1)? == wanted);
     Ok(())
 }
 

@@ -164,16 +164,7 @@ const MANY: &str = "00810f010203040f010203040f01020304";
 fn unpacks_no_word_past_the_most(rt: HostRuntime) -> Result<(), Fail> {
     let alloc = rt.alloc();
     let text = hex::decode(alloc, MANY)?;
-    for (words, len) in [
-        (0, 0),
-        (1, 8),
-        (64, 512),
-        (65, 520),
-        (129, 1032),
-        (132, 1056),
-        (133, 1064),
-        (134, 1064),
-    ] {
+    for words in [0, 1, 64, 65, 129, 132, 133, 134] {
         let mut source = Unpacker::new(SliceIn::new(text.as_slice()));
         let mut sink = PlainSink::new(VecOut::new(alloc));
         let answer = if words < 133 {
@@ -182,8 +173,15 @@ fn unpacks_no_word_past_the_most(rt: HostRuntime) -> Result<(), Fail> {
             Ok(133)
         };
         assert!(rt; run_unpack(&mut source, &mut sink, words) == answer);
-        assert_eq!(rt; sink.into_inner().bytes().len(), len);
+        assert_eq!(rt; sink.into_inner().bytes().len() as u64, 8 * words.min(133));
     }
+    Ok(())
+}
+
+#[test]
+fn unpacks_no_word_past_a_full_output(rt: HostRuntime) -> Result<(), Fail> {
+    let alloc = rt.alloc();
+    let text = hex::decode(alloc, MANY)?;
     for room in [0, 1, 511, 512, 513, 1063] {
         let mut source = Unpacker::new(SliceIn::new(text.as_slice()));
         let mut sink = PlainSink::new(FromWrite::new(Full {
@@ -263,7 +261,13 @@ const ROWS: [Row; 5] = [
     Row {
         stream: "10010001100440021104011001010710044002110401100101071004400211040110010107",
         status: 1,
-        out: "message 0: accepted charge 0 depth 0 pointers 1 caps 0\nmessage 1: refused NoRoot at 0:0 pointers 0\nmessage 2: accepted charge 4 depth 2 pointers 3 caps 0\nmessage 3: accepted charge 4 depth 2 pointers 3 caps 0\nmessage 4: accepted charge 4 depth 2 pointers 3 caps 0\n",
+        out: "\
+message 0: accepted charge 0 depth 0 pointers 1 caps 0
+message 1: refused NoRoot at 0:0 pointers 0
+message 2: accepted charge 4 depth 2 pointers 3 caps 0
+message 3: accepted charge 4 depth 2 pointers 3 caps 0
+message 4: accepted charge 4 depth 2 pointers 3 caps 0
+",
         err: "",
         answer: Ok(Outcome {
             messages: 5,
@@ -299,16 +303,28 @@ fn vets_packed_streams(rt: HostRuntime) -> Result<(), Fail> {
     let alloc = rt.alloc();
     for row in &ROWS {
         let left = run(alloc, "vet", &["--packed"], row.stream)?;
-        assert_eq!(rt; left.status, row.status);
-        assert_eq!(rt; left.out.bytes(), row.out.as_bytes());
-        assert_eq!(rt; left.err.bytes(), row.err.as_bytes());
+        left.expect(
+            &rt,
+            row.stream,
+            row.out.as_bytes(),
+            row.err.as_bytes(),
+            row.status,
+        );
+    }
+    Ok(())
+}
+
+#[test]
+fn vets_packed_streams_a_byte_at_a_time(rt: HostRuntime) -> Result<(), Fail> {
+    let alloc = rt.alloc();
+    let settings = settings(u32::MAX).ok_or("settings")?;
+    for row in &ROWS {
         let bytes = hex::decode(alloc, row.stream)?;
         let mut source = Unpacker::new(FromRead::new(Sips {
             bytes: bytes.as_slice(),
             most: 1,
         }));
         let mut text = VecOut::new(alloc);
-        let settings = settings(u32::MAX).ok_or("settings")?;
         assert!(rt;
             run_vet(alloc, &mut source, &mut text, &settings) == row.answer,
             "{}",

@@ -1,9 +1,10 @@
 //! Whole runs over devices that fail.
 
-use crate::whole::job;
-use cap_cmd::run_job;
+use crate::whole::{Left, job};
+use cap_cmd::{Job, run_job};
 use cap_words::{ByteIn, ByteOut, FromRead, FromWrite, InFault, OutFault, SliceIn, VecOut};
 use std::io::{self, ErrorKind, Read, Write};
+use std::process::Abort;
 use std::test::Fail;
 
 // A reader that gives its bytes, and then fails where others end.
@@ -185,9 +186,8 @@ fn an_input_that_fails_ends_the_run_with_status_3(rt: HostRuntime) -> Result<(),
         });
         let mut err = VecOut::new(alloc);
         let (status, out) = run_job(alloc, &job, input, VecOut::new(alloc), &mut err);
-        assert_eq!(rt; out.bytes(), row.out.as_bytes(), "{}", row.stream);
-        assert_eq!(rt; err.bytes(), row.err.as_bytes(), "{}", row.stream);
-        assert_eq!(rt; status, 3, "{}", row.stream);
+        let left = Left { status, out, err };
+        left.expect(&rt, row.stream, row.out.as_bytes(), row.err.as_bytes(), 3);
     }
     Ok(())
 }
@@ -216,28 +216,36 @@ const TEXTS: [(&str, &str, &str); 8] = [
     ),
 ];
 
+// A run whose output takes these bytes and then fails.
+fn expect_front<R: AllocGlobal + Abort>(
+    rt: &R,
+    job: &Job,
+    bytes: &[u8],
+    front: &[u8],
+    tells: bool,
+) {
+    let out = FromWrite::new(Full {
+        taken: Vec::new(rt.alloc()),
+        room: front.len(),
+        tells,
+    });
+    let mut err = VecOut::new(rt.alloc());
+    let (status, out) = run_job(rt.alloc(), job, SliceIn::new(bytes), out, &mut err);
+    assert!(rt; out.has_failed());
+    let taken = out.into_inner().taken;
+    let wanted = (front, b"capvet: output failed\n".as_slice(), 3);
+    assert_eq!(rt; (taken.as_slice(), err.bytes(), status), wanted);
+}
+
 #[test]
 fn an_output_that_fails_ends_the_run_with_status_3(rt: HostRuntime) -> Result<(), Fail> {
-    let alloc = rt.alloc();
-    for (command, stream, text) in TEXTS {
-        let bytes = hex::decode(alloc, stream)?;
-        let job = job(alloc, command, &[])?;
+    for (command, stream, text) in &TEXTS {
+        let bytes = hex::decode(rt.alloc(), stream)?;
+        let job = job(rt.alloc(), command, &[])?;
         for room in 0..text.len() {
-            for tells in [false, true] {
-                let out = FromWrite::new(Full {
-                    taken: Vec::new(alloc),
-                    room,
-                    tells,
-                });
-                let input = SliceIn::new(bytes.as_slice());
-                let mut err = VecOut::new(alloc);
-                let (status, out) = run_job(alloc, &job, input, out, &mut err);
-                assert!(rt; out.has_failed());
-                let taken = out.into_inner().taken;
-                assert_eq!(rt; taken.as_slice(), &text.as_bytes()[..room]);
-                assert_eq!(rt; err.bytes(), b"capvet: output failed\n".as_slice());
-                assert_eq!(rt; status, 3, "{command} with room for {room}");
-            }
+            let front = &text.as_bytes()[..room];
+            expect_front(&rt, &job, bytes.as_slice(), front, false);
+            expect_front(&rt, &job, bytes.as_slice(), front, true);
         }
     }
     Ok(())
@@ -257,9 +265,8 @@ fn an_input_that_was_spent_ends_the_run_with_status_3(rt: HostRuntime) -> Result
         assert_eq!(rt; input.read(&mut [0]), Err(InFault::Device));
         let mut err = VecOut::new(alloc);
         let (status, out) = run_job(alloc, &job, input, VecOut::new(alloc), &mut err);
-        assert_eq!(rt; out.bytes(), b"".as_slice());
-        assert_eq!(rt; err.bytes(), line.as_bytes());
-        assert_eq!(rt; status, 3, "{command}");
+        let left = Left { status, out, err };
+        left.expect(&rt, command, &[], line.as_bytes(), 3);
     }
     Ok(())
 }
@@ -267,7 +274,7 @@ fn an_input_that_was_spent_ends_the_run_with_status_3(rt: HostRuntime) -> Result
 #[test]
 fn an_output_that_was_spent_ends_the_run_with_status_3(rt: HostRuntime) -> Result<(), Fail> {
     let alloc = rt.alloc();
-    for (command, stream, _) in TEXTS {
+    for (command, stream, _) in &TEXTS {
         let job = job(alloc, command, &[])?;
         let mut out = FromWrite::new(Full {
             taken: Vec::new(alloc),
@@ -303,6 +310,13 @@ fn a_line_that_cannot_be_written_changes_no_status(rt: HostRuntime) -> Result<()
         assert_eq!(rt; err.into_inner().taken.as_slice(), &line[..room]);
         assert_eq!(rt; status, 1, "with room for {room}");
     }
+    Ok(())
+}
+
+#[test]
+fn where_no_line_can_be_written_a_fault_has_its_status(rt: HostRuntime) -> Result<(), Fail> {
+    let alloc = rt.alloc();
+    let job = job(alloc, "vet", &[])?;
     for stream in ["", NULL, RESERVED] {
         let bytes = hex::decode(alloc, stream)?;
         let input = FromRead::new(Broken {

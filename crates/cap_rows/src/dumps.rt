@@ -101,7 +101,7 @@ const NESTED_TEXT: &str =
 #[test]
 fn a_dump_shows_each_node_with_its_own_words(rt: HostRuntime) -> Result<(), Fail> {
     let alloc = rt.alloc();
-    for (digits, text) in TEXTS {
+    for (digits, text) in &TEXTS {
         let segment = words(alloc, digits)?;
         let out = text_of(&rt, alloc, segment.as_slice())?;
         assert_eq!(rt; out.bytes(), text.as_bytes(), "{digits}");
@@ -109,24 +109,34 @@ fn a_dump_shows_each_node_with_its_own_words(rt: HostRuntime) -> Result<(), Fail
     Ok(())
 }
 
+// A dump to an output that fails behind so many bytes, and another to the same.
+fn expect_beginning<R: AllocGlobal + Abort>(
+    rt: &R,
+    segment: &[u64],
+    room: usize,
+    tells: bool,
+) -> Result<(), Fail> {
+    let message = OneSegment::new(segment).ok_or("no message")?;
+    let mut out = FromWrite::new(Full {
+        taken: Vec::new(rt.alloc()),
+        room,
+        tells,
+    });
+    assert_eq!(rt; dump_to(&message, &mut out)?, Err(OutFault::Device));
+    assert!(rt; out.has_failed());
+    assert_eq!(rt; dump_to(&message, &mut out)?, Err(OutFault::Spent));
+    let taken = out.into_inner().taken;
+    let text = NESTED_TEXT.as_bytes();
+    assert_eq!(rt; taken.as_slice(), &text[..room.min(text.len())]);
+    Ok(())
+}
+
 #[test]
 fn an_output_that_fails_has_a_beginning_of_the_dump(rt: HostRuntime) -> Result<(), Fail> {
-    let alloc = rt.alloc();
-    let segment = words(alloc, NESTED)?;
-    let message = OneSegment::new(segment.as_slice()).ok_or("no message")?;
+    let segment = words(rt.alloc(), NESTED)?;
     for room in 0..NESTED_TEXT.len() {
-        for tells in [false, true] {
-            let mut out = FromWrite::new(Full {
-                taken: Vec::new(alloc),
-                room,
-                tells,
-            });
-            assert_eq!(rt; dump_to(&message, &mut out)?, Err(OutFault::Device));
-            assert!(rt; out.has_failed());
-            assert_eq!(rt; dump_to(&message, &mut out)?, Err(OutFault::Spent));
-            let taken = out.into_inner().taken;
-            assert_eq!(rt; taken.as_slice(), &NESTED_TEXT.as_bytes()[..room]);
-        }
+        expect_beginning(&rt, segment.as_slice(), room, false)?;
+        expect_beginning(&rt, segment.as_slice(), room, true)?;
     }
     Ok(())
 }
@@ -153,9 +163,8 @@ fn push_line(text: &mut String, level: u64, line: &str) -> Result<(), Fail> {
     Ok(())
 }
 
-#[test]
-fn the_deepest_dump_has_256_levels_below_its_root(rt: HostRuntime) -> Result<(), Fail> {
-    let alloc = rt.alloc();
+// The dump of 128 of them.
+fn ladder_text(alloc: Global) -> Result<String, Fail> {
     let mut text = String::new(alloc);
     text.push_str("root structs 1 1 1\n")?;
     for step in 0..128 {
@@ -170,8 +179,14 @@ fn the_deepest_dump_has_256_levels_below_its_root(rt: HostRuntime) -> Result<(),
         };
         push_line(&mut text, 2 * step + 2, below)?;
     }
-    let segment = ladder(alloc, 128)?;
-    let out = text_of(&rt, alloc, segment.as_slice())?;
+    Ok(text)
+}
+
+#[test]
+fn the_deepest_dump_has_256_levels_below_its_root(rt: HostRuntime) -> Result<(), Fail> {
+    let text = ladder_text(rt.alloc())?;
+    let segment = ladder(rt.alloc(), 128)?;
+    let out = text_of(&rt, rt.alloc(), segment.as_slice())?;
     assert_eq!(rt; out.bytes(), text.as_bytes());
     Ok(())
 }

@@ -126,9 +126,7 @@ fn tells_the_first_pointer_that_overlaps(rt: HostRuntime) -> Result<(), Fail> {
             } else {
                 1
             };
-            assert_eq!(rt; left.out.bytes(), line.as_bytes(), "{stream}");
-            assert_eq!(rt; left.err.bytes(), b"".as_slice(), "{stream}");
-            assert_eq!(rt; left.status, status, "{stream}");
+            left.expect(&rt, stream, line.as_bytes(), &[], status);
         }
     }
     Ok(())

@@ -1,6 +1,6 @@
 //! Streams that break off at each byte, and tables that tell of more words than there are.
 
-use crate::whole::{Left, job, run_over};
+use crate::whole::{job, run_over};
 use cap_frame::{FrameFault, SizeLimit, read_byte_message, read_message};
 use cap_pack::Unpacker;
 use cap_words::{PlainWords, SliceIn, WordSource};
@@ -26,7 +26,16 @@ struct Row {
     status: u8,
 }
 
-const ROWS: [Row; 6] = [
+const DUMP: &[u8] = b"\
+message 0: accepted charge 4 depth 2 pointers 3 caps 0
+root struct 0 2
+  p0 struct 1 0
+    d0 0700000000000000
+  p1 struct 1 0
+    d0 0700000000000000
+";
+
+const ROWS: [Row; 7] = [
     Row {
         command: "segments",
         plain: &[],
@@ -42,10 +51,17 @@ const ROWS: [Row; 6] = [
         status: 0,
     },
     Row {
+        command: "vet",
+        plain: &["--exclusive"],
+        packed: &["--exclusive", "--packed"],
+        text: b"message 0: refused Overlap at 0:2 pointers 3\n",
+        status: 1,
+    },
+    Row {
         command: "dump",
         plain: &[],
         packed: &["--packed"],
-        text: b"message 0: accepted charge 4 depth 2 pointers 3 caps 0\nroot struct 0 2\n  p0 struct 1 0\n    d0 0700000000000000\n  p1 struct 1 0\n    d0 0700000000000000\n",
+        text: DUMP,
         status: 0,
     },
     Row {
@@ -71,12 +87,6 @@ const ROWS: [Row; 6] = [
     },
 ];
 
-fn expect_left(rt: &impl Abort, left: &Left, name: &str, out: &[u8], err: &str, status: u8) {
-    assert_eq!(rt; left.out.bytes(), out, "{name}");
-    assert_eq!(rt; left.err.bytes(), err.as_bytes(), "{name}");
-    assert_eq!(rt; left.status, status, "{name}");
-}
-
 // A command over each front of a message.
 fn expect_fronts<R: AllocGlobal + Abort>(
     rt: &R,
@@ -86,14 +96,14 @@ fn expect_fronts<R: AllocGlobal + Abort>(
 ) -> Result<(), Fail> {
     let job = job(rt.alloc(), row.command, options)?;
     let nothing = run_over(rt.alloc(), &job, &[]);
-    expect_left(rt, &nothing, row.command, &[], "", 0);
+    nothing.expect(rt, row.command, &[], &[], 0);
     for len in 1..bytes.len() {
         let line = format!(in rt.alloc(); "capvet: message 0: Truncated at byte {len}\n")?;
         let cut = run_over(rt.alloc(), &job, &bytes[..len]);
-        expect_left(rt, &cut, row.command, &[], line.as_str(), 1);
+        cut.expect(rt, row.command, &[], line.as_bytes(), 1);
     }
     let whole = run_over(rt.alloc(), &job, bytes);
-    expect_left(rt, &whole, row.command, row.text, "", row.status);
+    whole.expect(rt, row.command, row.text, &[], row.status);
     Ok(())
 }
 
@@ -162,6 +172,21 @@ fn what_is_read_behind_a_message_that_breaks_off(rt: HostRuntime) -> Result<(), 
     Ok(())
 }
 
+// A command over a table that tells of too many words, plain and packed.
+fn expect_too_large<R: AllocGlobal + Abort>(
+    rt: &R,
+    row: &Row,
+    plain: &[u8],
+    packed: &[u8],
+    line: &[u8],
+) -> Result<(), Fail> {
+    let job_plain = job(rt.alloc(), row.command, row.plain)?;
+    run_over(rt.alloc(), &job_plain, plain).expect(rt, row.command, &[], line, 1);
+    let job_packed = job(rt.alloc(), row.command, row.packed)?;
+    run_over(rt.alloc(), &job_packed, packed).expect(rt, row.command, &[], line, 1);
+    Ok(())
+}
+
 // One segment, and 512 segments, each of the most words that a table can tell of.
 #[test]
 fn a_table_that_tells_of_too_many_words(rt: HostRuntime) -> Result<(), Fail> {
@@ -175,19 +200,17 @@ fn a_table_that_tells_of_too_many_words(rt: HostRuntime) -> Result<(), Fail> {
     for (stream, line) in [
         (
             "00000000ffffffff",
-            "capvet: message 0: TooLarge 4294967295\n",
+            b"capvet: message 0: TooLarge 4294967295\n".as_slice(),
         ),
-        (many.as_str(), "capvet: message 0: TooLarge 2199023255040\n"),
+        (
+            many.as_str(),
+            b"capvet: message 0: TooLarge 2199023255040\n".as_slice(),
+        ),
     ] {
         let plain = hex::decode(alloc, stream)?;
         let packed = run_over(alloc, &pack, plain.as_slice()).out;
         for row in &ROWS {
-            let job_plain = job(alloc, row.command, row.plain)?;
-            let left = run_over(alloc, &job_plain, plain.as_slice());
-            expect_left(&rt, &left, row.command, &[], line, 1);
-            let job_packed = job(alloc, row.command, row.packed)?;
-            let left = run_over(alloc, &job_packed, packed.bytes());
-            expect_left(&rt, &left, row.command, &[], line, 1);
+            expect_too_large(&rt, row, plain.as_slice(), packed.bytes(), line)?;
         }
     }
     Ok(())

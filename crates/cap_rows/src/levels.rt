@@ -128,8 +128,7 @@ fn says(
         0
     };
     let plain = run(alloc, command, &["--depth", depth], stream)?;
-    assert_eq!(rt; plain.out.bytes(), line.as_bytes(), "{stream}");
-    assert_eq!(rt; plain.status, status, "{stream}");
+    plain.expect(rt, stream, line.as_bytes(), &[], status);
     let spelled = packed(alloc, stream)?;
     let other = run(
         alloc,
@@ -137,8 +136,7 @@ fn says(
         &["--packed", "--depth", depth],
         spelled.as_str(),
     )?;
-    assert_eq!(rt; other.out.bytes(), line.as_bytes(), "{stream}, packed");
-    assert_eq!(rt; other.status, status, "{stream}, packed");
+    other.expect(rt, stream, line.as_bytes(), &[], status);
     Ok(())
 }
 

@@ -133,6 +133,14 @@ fn run_in_pieces(
     }
 }
 
+impl Ran {
+    // That a run ended with this line and this status, and its output took this.
+    fn expect(&self, rt: &impl Abort, name: &str, taken: &[u8], line: &[u8], status: u8) {
+        let left = (self.taken.as_slice(), self.err.bytes(), self.status);
+        assert_eq!(rt; left, (taken, line, status), "{name}");
+    }
+}
+
 // A command with its options, its input, and the line of a read that fails, by how many bytes were
 // given before it.
 struct Row {
@@ -143,8 +151,10 @@ struct Row {
 }
 
 // A list of three bits, a word that is no pointer, and two pointers to one struct.
-const MESSAGES: &str =
-    "00000000020000000100000019000000ffffffffffffffff0000000001000000070000000500000000000000040000000000000000000200040000000100000000000000010000000700000000000000";
+const MESSAGES: &str = "\
+    00000000020000000100000019000000ffffffffffffffff\
+    00000000010000000700000005000000\
+    00000000040000000000000000000200040000000100000000000000010000000700000000000000";
 
 const LINES: &[(usize, &str)] = &[
     (0, "capvet: message 0: Device\n"),
@@ -188,7 +198,7 @@ const GROUPS: &str = "51080302ff616161616161616101616263646566670000013119aa01";
 
 const NO_MESSAGE: &[(usize, &str)] = &[(0, "capvet: Device\n")];
 
-const ROWS: [Row; 15] = [
+const ROWS: [Row; 17] = [
     Row {
         command: "segments",
         options: &[],
@@ -210,6 +220,18 @@ const ROWS: [Row; 15] = [
     Row {
         command: "vet",
         options: &["--packed"],
+        stream: MESSAGES_PACKED,
+        lines: LINES_PACKED,
+    },
+    Row {
+        command: "vet",
+        options: &["--exclusive"],
+        stream: MESSAGES,
+        lines: LINES,
+    },
+    Row {
+        command: "vet",
+        options: &["--exclusive", "--packed"],
         stream: MESSAGES_PACKED,
         lines: LINES_PACKED,
     },
@@ -291,29 +313,18 @@ fn expect_read_faults<R: AllocGlobal + Abort>(
     most: usize,
     kind: ErrorKind,
     reads: u32,
-) -> Result<(), Fail> {
+) {
     for at in 1..=reads {
         let reading = Fault {
             at,
             kind: Some(kind),
         };
         let ran = run_in_pieces(rt.alloc(), job, bytes, most, reading, HONEST);
-        let name = row.command;
-        assert_eq!(rt; ran.reads, at, "{name} calls again, {most} bytes a call");
+        assert_eq!(rt; ran.reads, at, "{}", row.command);
         let before = run_over(rt.alloc(), job, &bytes[..ran.given.min(bytes.len())]);
-        assert_eq!(rt;
-            ran.taken.as_slice(),
-            before.out.bytes(),
-            "{name} to read {at}"
-        );
-        assert_eq!(rt;
-            ran.err.bytes(),
-            line_of(row, ran.given).as_bytes(),
-            "{name} to read {at}"
-        );
-        assert_eq!(rt; ran.status, 3, "{name} to read {at}");
+        let line = line_of(row, ran.given).as_bytes();
+        ran.expect(rt, row.command, before.out.bytes(), line, 3);
     }
-    Ok(())
 }
 
 // The line of a read that fails behind so many bytes.
@@ -337,27 +348,22 @@ fn expect_write_faults<R: AllocGlobal + Abort>(
     most: usize,
     kind: Option<ErrorKind>,
     honest: &Ran,
-) -> Result<(), Fail> {
+) {
     let mut least = 0;
     for at in 1..=honest.writes {
         let writing = Fault { at, kind };
         let ran = run_in_pieces(rt.alloc(), job, bytes, most, HONEST, writing);
-        let name = row.command;
-        assert_eq!(rt; ran.writes, at, "{name} calls again, {most} bytes a call");
+        assert_eq!(rt; ran.writes, at, "{}", row.command);
+        let len = ran.taken.len();
         assert!(rt;
-            honest.taken.starts_with(ran.taken.as_slice()),
-            "{name} to write {at}"
+            least <= len && len <= honest.taken.len(),
+            "{}",
+            row.command
         );
-        assert!(rt; ran.taken.len() >= least, "{name} to write {at}");
-        least = ran.taken.len();
-        assert_eq!(rt;
-            ran.err.bytes(),
-            b"capvet: output failed\n".as_slice(),
-            "{name} to write {at}"
-        );
-        assert_eq!(rt; ran.status, 3, "{name} to write {at}");
+        least = len;
+        let front = &honest.taken.as_slice()[..len.min(honest.taken.len())];
+        ran.expect(rt, row.command, front, b"capvet: output failed\n", 3);
     }
-    Ok(())
 }
 
 // A row over devices that never fail, and then over each that fails.
@@ -367,14 +373,18 @@ fn expect_row<R: AllocGlobal + Abort>(rt: &R, row: &Row, most: usize) -> Result<
     let whole = run_over(rt.alloc(), &job, bytes.as_slice());
     let ran = run_in_pieces(rt.alloc(), &job, bytes.as_slice(), most, HONEST, HONEST);
     assert!(rt; !ran.taken.is_empty(), "{}", row.command);
-    assert_eq!(rt; ran.taken.as_slice(), whole.out.bytes(), "{}", row.command);
-    assert_eq!(rt; ran.err.bytes(), whole.err.bytes(), "{}", row.command);
-    assert_eq!(rt; ran.status, whole.status, "{}", row.command);
-    for kind in READ_FAULTS {
-        expect_read_faults(rt, row, &job, bytes.as_slice(), most, kind, ran.reads)?;
+    ran.expect(
+        rt,
+        row.command,
+        whole.out.bytes(),
+        whole.err.bytes(),
+        whole.status,
+    );
+    for kind in &READ_FAULTS {
+        expect_read_faults(rt, row, &job, bytes.as_slice(), most, *kind, ran.reads);
     }
-    for kind in WRITE_FAULTS {
-        expect_write_faults(rt, row, &job, bytes.as_slice(), most, kind, &ran)?;
+    for kind in &WRITE_FAULTS {
+        expect_write_faults(rt, row, &job, bytes.as_slice(), most, *kind, &ran);
     }
     Ok(())
 }

@@ -105,9 +105,13 @@ const ROWS: [Row; 13] = [
 fn shows_each_message_and_names_each_fault(rt: HostRuntime) -> Result<(), Fail> {
     for row in &ROWS {
         let left = run(rt.alloc(), "segments", &[], row.stream)?;
-        assert_eq!(rt; left.out.bytes(), row.out.as_bytes(), "{}", row.stream);
-        assert_eq!(rt; left.err.bytes(), row.err.as_bytes(), "{}", row.stream);
-        assert_eq!(rt; left.status, row.status, "{}", row.stream);
+        left.expect(
+            &rt,
+            row.stream,
+            row.out.as_bytes(),
+            row.err.as_bytes(),
+            row.status,
+        );
     }
     Ok(())
 }
@@ -116,18 +120,9 @@ fn shows_each_message_and_names_each_fault(rt: HostRuntime) -> Result<(), Fail> 
 fn keeps_to_the_size_limit(rt: HostRuntime) -> Result<(), Fail> {
     let stream = "000000000200000000000000010000002a00000000000000";
     let left = run(rt.alloc(), "segments", &["--size", "1"], stream)?;
-    assert_eq!(rt; left.out.bytes(), b"".as_slice());
-    assert_eq!(rt;
-        left.err.bytes(),
-        b"capvet: message 0: TooLarge 2\n".as_slice()
-    );
-    assert_eq!(rt; left.status, 1);
+    left.expect(&rt, "1", &[], b"capvet: message 0: TooLarge 2\n", 1);
     let left = run(rt.alloc(), "segments", &["--size", "2"], stream)?;
-    assert_eq!(rt;
-        left.out.bytes(),
-        b"message 0: segments 1 words 2\nsegment 0: 2\nroot 0000000001000000\n".as_slice()
-    );
-    assert_eq!(rt; left.err.bytes(), b"".as_slice());
-    assert_eq!(rt; left.status, 0);
+    let text = b"message 0: segments 1 words 2\nsegment 0: 2\nroot 0000000001000000\n";
+    left.expect(&rt, "2", text, &[], 0);
     Ok(())
 }

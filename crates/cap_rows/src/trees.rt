@@ -7,6 +7,7 @@ use cap_cmd::{Cause, Outcome, RunFault, Step, run_dump, run_get, run_pack};
 use cap_pack::Packer;
 use cap_words::{FromRead, FromWrite, OutFault, PlainWords, SliceIn, VecOut};
 use std::alloc::Global;
+use std::process::Abort;
 use std::test::Fail;
 
 // A command with its options, a stream, and the lines that are written of it.
@@ -272,30 +273,25 @@ fn run_row(alloc: Global, row: &Row, is_packed: bool) -> Result<Left, Fail> {
     run(alloc, row.command, options.as_slice(), stream.as_str())
 }
 
-#[test]
-fn dumps_the_tree_of_each_message(rt: HostRuntime) -> Result<(), Fail> {
-    for row in &DUMPS {
+// Each row plain, and packed.
+fn expect_rows<R: AllocGlobal + Abort>(rt: &R, rows: &[Row]) -> Result<(), Fail> {
+    for row in rows {
         for is_packed in [false, true] {
             let left = run_row(rt.alloc(), row, is_packed)?;
-            assert_eq!(rt; left.out.bytes(), row.out.as_bytes(), "{:?}", row.options);
-            assert_eq!(rt; left.err.bytes(), b"".as_slice());
-            assert_eq!(rt; left.status, row.status);
+            left.expect(rt, row.stream, row.out.as_bytes(), &[], row.status);
         }
     }
     Ok(())
 }
 
 #[test]
+fn dumps_the_tree_of_each_message(rt: HostRuntime) -> Result<(), Fail> {
+    expect_rows(&rt, &DUMPS)
+}
+
+#[test]
 fn gets_the_node_at_a_path(rt: HostRuntime) -> Result<(), Fail> {
-    for row in &GETS {
-        for is_packed in [false, true] {
-            let left = run_row(rt.alloc(), row, is_packed)?;
-            assert_eq!(rt; left.out.bytes(), row.out.as_bytes(), "{:?}", row.options);
-            assert_eq!(rt; left.err.bytes(), b"".as_slice());
-            assert_eq!(rt; left.status, row.status);
-        }
-    }
-    Ok(())
+    expect_rows(&rt, &GETS)
 }
 
 // A null pointer, a message that is refused, and two pointers.

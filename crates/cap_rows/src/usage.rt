@@ -2,6 +2,7 @@
 
 use crate::whole::{job, words};
 use cap_cmd::{JobFault, Limits, Step, Task, read_job};
+use std::alloc::Global;
 use std::test::Fail;
 
 // What a command line is answered with; `Other` is another job, or no text for the user.
@@ -14,85 +15,86 @@ enum Answer {
     Other,
 }
 
+// Command lines, and how they are answered.
+const LINES: [(&[&str], Answer); 14] = [
+    (&["segments"], Answer::Job),
+    (&["segments", "some.bin"], Answer::Job),
+    (&["segments", "--size", "268435456", "-"], Answer::Job),
+    (&["--help"], Answer::Help),
+    (&["segments", "--help"], Answer::Help),
+    (&["help", "segments"], Answer::Help),
+    (&[], Answer::Usage),
+    (&["segment"], Answer::Usage),
+    (&["segments", "--size", "268435457"], Answer::Usage),
+    (&["segments", "--size", "many"], Answer::Usage),
+    (&["segments", "--words", "1"], Answer::Usage),
+    (&["dump", "--exclusive"], Answer::Usage),
+    (&["vet", "--exclusive=1"], Answer::Usage),
+    (&["segments", "one", "two"], Answer::Usage),
+];
+
+// How a command line is answered.
+fn answer_to(alloc: Global, line: &[&str]) -> Result<Answer, Fail> {
+    let answer = match read_job(alloc, words(alloc, line)?) {
+        Ok(job) => if job.task == Task::Segments {
+            Answer::Job
+        } else {
+            Answer::Other
+        },
+        Err(JobFault::Help { text }) => if text.is_empty() {
+            Answer::Other
+        } else {
+            Answer::Help
+        },
+        Err(JobFault::Usage { text }) => if text.is_empty() {
+            Answer::Other
+        } else {
+            Answer::Usage
+        },
+        Err(JobFault::Path { .. }) => Answer::Other,
+        Err(JobFault::Memory) => Answer::Memory,
+    };
+    Ok(answer)
+}
+
 #[test]
 fn tells_jobs_help_and_mistakes_apart(rt: HostRuntime) -> Result<(), Fail> {
-    let lines: [(&[&str], Answer); 14] = [
-        (&["segments"], Answer::Job),
-        (&["segments", "some.bin"], Answer::Job),
-        (&["segments", "--size", "268435456", "-"], Answer::Job),
-        (&["--help"], Answer::Help),
-        (&["segments", "--help"], Answer::Help),
-        (&["help", "segments"], Answer::Help),
-        (&[], Answer::Usage),
-        (&["segment"], Answer::Usage),
-        (&["segments", "--size", "268435457"], Answer::Usage),
-        (&["segments", "--size", "many"], Answer::Usage),
-        (&["segments", "--words", "1"], Answer::Usage),
-        (&["dump", "--exclusive"], Answer::Usage),
-        (&["vet", "--exclusive=1"], Answer::Usage),
-        (&["segments", "one", "two"], Answer::Usage),
-    ];
-    for (line, wanted) in lines {
-        let answer = match read_job(rt.alloc(), words(rt.alloc(), line)?) {
-            Ok(job) => if job.task == Task::Segments {
-                Answer::Job
-            } else {
-                Answer::Other
-            },
-            Err(JobFault::Help { text }) => if text.is_empty() {
-                Answer::Other
-            } else {
-                Answer::Help
-            },
-            Err(JobFault::Usage { text }) => if text.is_empty() {
-                Answer::Other
-            } else {
-                Answer::Usage
-            },
-            Err(JobFault::Path { .. }) => Answer::Other,
-            Err(JobFault::Memory) => Answer::Memory,
-        };
-        assert_eq!(rt; answer, wanted, "{line:?}");
+    for (line, wanted) in &LINES {
+        assert_eq!(rt; answer_to(rt.alloc(), line)?, *wanted, "{line:?}");
     }
     Ok(())
 }
 
+// Options of `vet`, and the file, the limits of a message's size, of words and of depth.
+const VETS: [(&[&str], Option<&str>, u64, u64, u32); 10] = [
+    (&[], None, 8388608, 8388608, 64),
+    (&["some.bin"], Some("some.bin"), 8388608, 8388608, 64),
+    (&["-"], Some("-"), 8388608, 8388608, 64),
+    (&["--size", "268435456"], None, 268435456, 8388608, 64),
+    (&["--words", "268435456"], None, 8388608, 268435456, 64),
+    (&["--depth", "256"], None, 8388608, 8388608, 256),
+    (&["--size", "0"], None, 0, 8388608, 64),
+    (&["--words", "0"], None, 8388608, 0, 64),
+    (&["--depth", "0"], None, 8388608, 8388608, 0),
+    (
+        &["--depth=3", "--size=1", "some.bin", "--words=2"],
+        Some("some.bin"),
+        1,
+        2,
+        3,
+    ),
+];
+
 #[test]
 fn reads_the_options_of_vet(rt: HostRuntime) -> Result<(), Fail> {
-    let jobs: [(&[&str], Option<&str>, u64, u64, u32); 10] = [
-        (&[], None, 8388608, 8388608, 64),
-        (&["some.bin"], Some("some.bin"), 8388608, 8388608, 64),
-        (&["-"], Some("-"), 8388608, 8388608, 64),
-        (&["--size", "268435456"], None, 268435456, 8388608, 64),
-        (&["--words", "268435456"], None, 8388608, 268435456, 64),
-        (&["--depth", "256"], None, 8388608, 8388608, 256),
-        (&["--size", "0"], None, 0, 8388608, 64),
-        (&["--words", "0"], None, 8388608, 0, 64),
-        (&["--depth", "0"], None, 8388608, 8388608, 0),
-        (
-            &["--depth=3", "--size=1", "some.bin", "--words=2"],
-            Some("some.bin"),
-            1,
-            2,
-            3,
-        ),
-    ];
-    for (options, file, size, words, depth) in jobs {
+    for (options, file, size, words, depth) in &VETS {
         let job = job(rt.alloc(), "vet", options)?;
-        assert!(rt;
-            job.task == Task::Vet { exclusive: false } && !job.packed,
-            "{options:?}"
-        );
-        assert!(rt;
-            job.file.as_ref().map(|name| name.as_str()) == file,
-            "{options:?}"
-        );
-        assert_eq!(rt; job.settings.size.words(), size, "{options:?}");
-        assert!(rt;
-            Some(job.settings.limits) == Limits::new(words, depth),
-            "{options:?}"
-        );
-        assert_eq!(rt; job.settings.messages, 4294967295, "{options:?}");
+        let name = job.file.as_ref().map(|name| name.as_str());
+        let vets = job.task == Task::Vet { exclusive: false };
+        assert!(rt; vets && !job.packed && name == *file, "{options:?}");
+        let limits = Some(job.settings.limits) == Limits::new(*words, *depth);
+        let sizes = job.settings.size.words() == *size && job.settings.messages == u32::MAX;
+        assert!(rt; limits && sizes, "{options:?}");
     }
     Ok(())
 }
@@ -141,68 +143,69 @@ const MISTAKES: [(&[&str], &str); 9] = [
 
 #[test]
 fn refuses_what_a_command_does_not_take(rt: HostRuntime) -> Result<(), Fail> {
-    for (line, wanted) in MISTAKES {
+    for (line, wanted) in &MISTAKES {
         let Err(JobFault::Usage { text }) = read_job(rt.alloc(), words(rt.alloc(), line)?) else {
             return Err(Fail::from("no mistake"));
         };
-        assert_eq!(rt; text.as_str(), wanted, "{line:?}");
+        assert_eq!(rt; text.as_str(), *wanted, "{line:?}");
     }
     Ok(())
 }
 
+// Options of `get`, the path, the file, and whether the input is packed.
+const GETS: [(&[&str], &[Step], Option<&str>, bool); 4] = [
+    (&["/"], &[], None, false),
+    (&["/p0/i12"], &[Step::Ptr(0), Step::Item(12)], None, false),
+    (
+        &["/p65535", "some.bin", "--packed"],
+        &[Step::Ptr(65535)],
+        Some("some.bin"),
+        true,
+    ),
+    (
+        &["--size=1", "--words=2", "--depth=3", "/i4294967295", "-"],
+        &[Step::Item(4294967295)],
+        Some("-"),
+        false,
+    ),
+];
+
 #[test]
 fn reads_the_path_of_get(rt: HostRuntime) -> Result<(), Fail> {
-    let jobs: [(&[&str], &[Step], Option<&str>, bool); 4] = [
-        (&["/"], &[], None, false),
-        (&["/p0/i12"], &[Step::Ptr(0), Step::Item(12)], None, false),
-        (
-            &["/p65535", "some.bin", "--packed"],
-            &[Step::Ptr(65535)],
-            Some("some.bin"),
-            true,
-        ),
-        (
-            &["--size=1", "--words=2", "--depth=3", "/i4294967295", "-"],
-            &[Step::Item(4294967295)],
-            Some("-"),
-            false,
-        ),
-    ];
-    for (options, steps, file, packed) in jobs {
+    for (options, steps, file, packed) in &GETS {
         let job = job(rt.alloc(), "get", options)?;
         let Task::Get { path } = &job.task else {
             return Err(Fail::from("no path"));
         };
+        let name = job.file.as_ref().map(|name| name.as_str());
         assert!(rt;
-            path.as_slice() == steps && job.packed == packed,
-            "{options:?}"
-        );
-        assert!(rt;
-            job.file.as_ref().map(|name| name.as_str()) == file,
+            path.as_slice() == *steps && job.packed == *packed && name == *file,
             "{options:?}"
         );
     }
     Ok(())
 }
 
+// Paths that are none, and where they go wrong.
+const PATHS: [(&[&str], usize); 9] = [
+    (&["get", ""], 0),
+    (&["get", "p1"], 0),
+    (&["get", "é"], 0),
+    (&["get", "//"], 1),
+    (&["get", "/p"], 2),
+    (&["get", "/p01", "some.bin"], 3),
+    (&["get", "/p1/"], 4),
+    (&["get", "/p65536"], 6),
+    (&["get", "--packed", "/i4294967296"], 11),
+];
+
 #[test]
 fn tells_where_a_path_goes_wrong(rt: HostRuntime) -> Result<(), Fail> {
-    let lines: [(&[&str], usize); 9] = [
-        (&["get", ""], 0),
-        (&["get", "p1"], 0),
-        (&["get", "é"], 0),
-        (&["get", "//"], 1),
-        (&["get", "/p"], 2),
-        (&["get", "/p01", "some.bin"], 3),
-        (&["get", "/p1/"], 4),
-        (&["get", "/p65536"], 6),
-        (&["get", "--packed", "/i4294967296"], 11),
-    ];
-    for (line, wanted) in lines {
+    for (line, wanted) in &PATHS {
         let Err(JobFault::Path { at }) = read_job(rt.alloc(), words(rt.alloc(), line)?) else {
             return Err(Fail::from("no bad path"));
         };
-        assert_eq!(rt; at, wanted, "{line:?}");
+        assert_eq!(rt; at, *wanted, "{line:?}");
     }
     Ok(())
 }
@@ -469,7 +472,7 @@ Example:
 #[test]
 fn helps_with_each_command(rt: HostRuntime) -> Result<(), Fail> {
     for help in &HELPS {
-        for line in help.lines {
+        for line in &help.lines {
             let Err(JobFault::Help { text }) = read_job(rt.alloc(), words(rt.alloc(), line)?) else {
                 return Err(Fail::from("no help"));
             };

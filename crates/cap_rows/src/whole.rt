@@ -3,6 +3,7 @@
 use cap_cmd::{Job, read_job, run_job};
 use cap_words::{SliceIn, VecOut};
 use std::alloc::Global;
+use std::process::Abort;
 use std::test::Fail;
 
 /// What a run left: its status, and what it wrote.
@@ -11,6 +12,14 @@ pub(crate) struct Left {
     pub(crate) status: u8,
     pub(crate) out: VecOut,
     pub(crate) err: VecOut,
+}
+
+impl Left {
+    /// That a run wrote this output and these lines of faults, and ended with this status.
+    pub(crate) fn expect(&self, rt: &impl Abort, name: &str, out: &[u8], err: &[u8], status: u8) {
+        let left = (self.out.bytes(), self.err.bytes(), self.status);
+        assert_eq!(rt; left, (out, err, status), "{name}");
+    }
 }
 
 /// The words of a command line, the program's name in front.
