@@ -198,7 +198,7 @@ const GROUPS: &str = "51080302ff616161616161616101616263646566670000013119aa01";
 
 const NO_MESSAGE: &[(usize, &str)] = &[(0, "capvet: Device\n")];
 
-const ROWS: [Row; 17] = [
+static ROWS: [Row; 17] = [
     Row {
         command: "segments",
         options: &[],
