@@ -1,7 +1,18 @@
 # What capvet does on a sample, every proof and test, and how fast it is.
-.PHONY: try run build sample test growths bench
+.PHONY: try run build sample install uninstall test growths bench
 
 PROGRAM = crates/capvet/out/capvet
+
+# Where things are installed. DESTDIR stands in front of all of it, and in nothing that is installed.
+PREFIX ?= /usr/local
+bindir ?= $(PREFIX)/bin
+mandir ?= $(PREFIX)/share/man
+completionsdir ?= $(PREFIX)/share/bash-completion/completions
+INSTALL ?= install
+
+# What a build is made from, and what is installed of it: a file of its own, so that whoever installs builds nothing.
+SOURCES = crates.txt $(shell find crates -name out -prune -o \( -name '*.rt' -o -name '*.antt' \) -print)
+BUILT_PROGRAM = build/capvet
 
 # What the program writes of a stream of sample messages, from a build that nothing has proved yet.
 try:
@@ -20,15 +31,32 @@ run: build
 build:
 	cd crates/capvet && rt run -- --version
 
+build/capvet: $(SOURCES)
+	@$(MAKE) --no-print-directory build
+	@mkdir -p build && cp $(PROGRAM) $@
+
+# Puts the program, its manual page and its completions under PREFIX, and builds it first where a source is newer.
+install: $(BUILT_PROGRAM)
+	@case '$(PREFIX)' in /*) ;; *) echo "PREFIX has to be a path from /, and is '$(PREFIX)'" >&2; exit 2;; esac
+	$(INSTALL) -d '$(DESTDIR)$(bindir)' '$(DESTDIR)$(mandir)/man1' '$(DESTDIR)$(completionsdir)'
+	$(INSTALL) -m 755 '$(BUILT_PROGRAM)' '$(DESTDIR)$(bindir)/capvet'
+	$(INSTALL) -m 644 docs/capvet.1 '$(DESTDIR)$(mandir)/man1/capvet.1'
+	$(INSTALL) -m 644 completions/capvet.bash '$(DESTDIR)$(completionsdir)/capvet'
+
+# Takes away just these files, and leaves their folders.
+uninstall:
+	rm -f '$(DESTDIR)$(bindir)/capvet' '$(DESTDIR)$(mandir)/man1/capvet.1' '$(DESTDIR)$(completionsdir)/capvet'
+
 # How each message of a stream of samples is cut into segments, and its verdict.
 sample:
 	$(PROGRAM) segments examples/stream-of-four.bin
 	$(PROGRAM) vet examples/stream-of-four.bin
 
-# All proofs, must-fail edits and tests, and then the built program as its users run it.
+# All proofs, must-fail edits and tests, and then the built program as its users run it and install it.
 test:
 	rt ci
 	python3 tests/program.py $(PROGRAM)
+	python3 tests/install.py $(PROGRAM)
 
 # Refuses each growth in turn of the calls that take memory, and each allocation of the built program.
 growths:

@@ -1,0 +1,52 @@
+# Completions of capvet for bash: its commands, the options of each, and files.
+
+# What may stand at the word at hand, into COMPREPLY.
+_capvet() {
+  local commands="segments vet dump get check canon pack unpack help"
+  local current=${COMP_WORDS[COMP_CWORD]} previous=${COMP_WORDS[COMP_CWORD - 1]}
+  local command="" options="" places=0 file_at=0 ended="" word at
+  COMPREPLY=()
+  # The command, and how many words that aren't options stand behind it, up to the word at hand.
+  for ((at = 1; at < COMP_CWORD; at++)); do
+    word=${COMP_WORDS[at]}
+    if [[ -z $command ]]; then
+      [[ $word == -* ]] || command=$word
+    elif [[ -z $ended && $word == -- ]]; then
+      ended=yes
+    elif [[ -z $ended && $word == --@(size|words|depth) ]]; then
+      [[ ${COMP_WORDS[at + 1]} != "=" ]] || ((at++))
+      ((at++))
+    elif [[ -n $ended || $word != -* ]]; then
+      ((places++))
+    fi
+  done
+  # A number is the user's to say.
+  if [[ -z $ended && ($previous == --@(size|words|depth) || $previous == "=" || $current == "=") ]]; then
+    return
+  fi
+  case $command in
+    "") options="--help --version" ;;
+    segments) options="--packed --size --help" ;;
+    vet) options="--packed --size --words --depth --exclusive --help" ;;
+    dump | get | check | canon) options="--packed --size --words --depth --help" ;;
+    pack | unpack) options="--help" ;;
+    help)
+      ((places > 0)) || mapfile -t COMPREPLY < <(compgen -W "${commands% help}" -- "$current")
+      return
+      ;;
+    *) return ;;
+  esac
+  # `get` has its path in front of the file.
+  [[ $command != get ]] || file_at=1
+  if [[ -z $ended && $current == -* ]]; then
+    mapfile -t COMPREPLY < <(compgen -W "$options" -- "$current")
+  elif [[ -z $command ]]; then
+    mapfile -t COMPREPLY < <(compgen -W "$commands" -- "$current")
+  elif ((places == file_at)); then
+    # (outside of a completion there is nothing to set)
+    compopt -o filenames 2> /dev/null
+    mapfile -t COMPREPLY < <(compgen -f -- "$current")
+  fi
+}
+
+complete -F _capvet capvet

@@ -1,0 +1,179 @@
+#!/usr/bin/env python3
+"""Installs the built program into scratch folders as its users do, and compares what stands there.
+
+    install.py [PROGRAM]
+
+A case is one call of `compare`. Failures are printed as they come. The last line is 'N passed, M failed', and the
+status is 1 where a case failed. Nothing is built here: `rt` is a command that fails, and PROGRAM is what is installed.
+"""
+import os
+import re
+import shutil
+import subprocess
+import sys
+import tempfile
+from pathlib import Path
+
+TOP = Path(__file__).resolve().parent.parent
+PROGRAM = Path(sys.argv[1] if len(sys.argv) > 1 else TOP / "crates/capvet/out/capvet").resolve()
+COMPLETIONS = "share/bash-completion/completions/capvet"
+PAGE = "share/man/man1/capvet.1"
+FILES = {"bin/capvet": (0o755, PROGRAM), PAGE: (0o644, TOP / "docs/capvet.1"),
+         COMPLETIONS: (0o644, TOP / "completions/capvet.bash")}
+COMMANDS = ("segments", "vet", "dump", "get", "check", "canon", "pack", "unpack")
+CONTACTS = "message 0: accepted charge 391 depth 11 pointers 125 caps 0\n"
+passed = failed = 0
+
+
+def compare(name, wanted, got):
+    """Counts a case as passed where what is wanted is what came, and else shows both."""
+    global passed, failed
+    if wanted == got:
+        passed += 1
+        return
+    failed += 1
+    print(f"FAILED: {name}\n  wanted {wanted!r}\n     got {got!r}")
+
+
+def missing(what, tool):
+    """Says what isn't tested, since this machine hasn't the tool."""
+    if shutil.which(tool):
+        return False
+    print(f"not tested, without {tool} on the path: {what}")
+    return True
+
+
+def run(command, **how):
+    """What a command wrote, on its standard error too, and its status."""
+    ran = subprocess.run(command, stdout=subprocess.PIPE, stderr=subprocess.STDOUT, stdin=subprocess.DEVNULL,
+                         timeout=60, text=True, **how)
+    return ran.stdout, ran.returncode
+
+
+def make(target, folder, *variables):
+    """`make` of a target with nothing to build by, and its status."""
+    refused = Path(folder) / "refused"
+    refused.mkdir(exist_ok=True)
+    for tool in ("rt", "cargo", "cc"):
+        (refused / tool).write_text(f"#!/bin/sh\necho {tool} was called\nexit 1\n")
+        (refused / tool).chmod(0o755)
+    told = ("PREFIX", "DESTDIR", "bindir", "mandir", "completionsdir", "INSTALL", "MAKEFLAGS", "MAKELEVEL")
+    environment = {name: value for name, value in os.environ.items() if name not in told}
+    environment["PATH"] = f"{refused}:{os.environ['PATH']}"
+    return run(["make", "-s", target, f"BUILT_PROGRAM={PROGRAM}", *variables], cwd=TOP, env=environment)
+
+
+def files_of(folder):
+    """The files below a folder, each with its mode."""
+    return {str(path.relative_to(folder)): path.stat().st_mode & 0o777
+            for path in Path(folder).rglob("*") if path.is_file()}
+
+
+def installed(folder, prefix, *variables):
+    """Installs under a prefix, where a file of somebody else's is, compares each file, and takes all away again."""
+    other = Path(prefix) / "bin/other"
+    other.parent.mkdir(parents=True)
+    other.write_text("other\n")
+    modes = {name: mode for name, (mode, _) in FILES.items()}
+    for _ in range(2):
+        compare(f"make install {variables}", ("", 0), make("install", folder, *variables))
+        compare(f"files of {variables}", modes, {n: m for n, m in files_of(prefix).items() if n != "bin/other"})
+    for name, (_, source) in FILES.items():
+        compare(f"{name} of {variables}", source.read_bytes(), (Path(prefix) / name).read_bytes())
+    works(Path(prefix))
+    for _ in range(2):
+        compare(f"make uninstall {variables}", ("", 0), make("uninstall", folder, *variables))
+        compare(f"files left of {variables}", ["bin/other"], list(files_of(prefix)))
+
+
+def works(prefix):
+    """The installed program runs, its page is found and read without a warning, and its completions are loaded."""
+    program = prefix / "bin/capvet"
+    compare("the installed program", (CONTACTS, 0), run([program, "vet", TOP / "examples/contacts.bin"]))
+    if not missing("that the manual page is found and read", "man"):
+        environment = {**os.environ, "LC_ALL": "C.UTF-8", "MANPATH": str(prefix / "share/man")}
+        environment["PATH"] = f"{program.parent}:{os.environ['PATH']}"
+        text, status = run(["man", "--warnings", "capvet"], env={**environment, "MANWIDTH": "200"})
+        compare("man capvet", (True, 0), ("check Cap'n Proto messages that nobody vouches for" in text, status))
+        page = prefix / PAGE
+        text = run(["man", "--warnings", "-l", "-Tutf8", "-Z", page], env={**environment, "MANWIDTH": "80"})
+        compare("warnings of the manual page", [], [line for line in text[0].splitlines() if "warning" in line])
+
+
+def options_of_help(command):
+    """The long options that the program's own help tells."""
+    text, _ = run([PROGRAM, "help", command])
+    return sorted(set(re.findall(r"^ +(?:-\w, |    )(--[a-z]+)", text.partition("\nOptions:\n")[2].partition("\n\n")[0], re.M)))
+
+
+def options():
+    """The page, the completions and the program's help have the same commands and options."""
+    page = (TOP / "docs/capvet.1").read_text().replace("\\-", "-")
+    told = set(re.findall(r"--[a-z]+", page))
+    of_help = {option for command in COMMANDS for option in options_of_help(command)} | {"--version"}
+    compare("options of the manual page", of_help, told)
+    commands, _, _ = page.partition(".SH COMMANDS\n")[2].partition("\n.SH ")
+    compare("commands of the manual page", [*COMMANDS, "help"], re.findall(r"^\.TP\n\.B (\w+)$", commands, re.M))
+    synopsis = page.partition(".SH SYNOPSIS\n")[2].partition(".SH ")[0]
+    compare("commands of the synopsis", [*COMMANDS, "help", "--version"], re.findall(r"^\.B capvet (\S+)$", synopsis, re.M))
+
+
+def examples():
+    """Each example of the manual page, run as it stands there."""
+    page = (TOP / "docs/capvet.1").read_text().replace("\\-", "-")
+    environment = {**os.environ, "PATH": f"{PROGRAM.parent}:{os.environ['PATH']}"}
+    found = re.findall(r"^\$ (.*)\n((?:[^.$].*\n)*)", page, re.M)
+    compare("examples of the manual page are found", 5, len(found))
+    for line, wanted in found:
+        compare(line, wanted, run(["sh", "-c", line], cwd=TOP, env=environment)[0])
+
+
+def completed(*words):
+    """What bash offers for the last of these words, in order."""
+    script = 'source "$1"; shift; COMP_WORDS=("$@"); COMP_CWORD=$(($# - 1)); _capvet; printf "%s\\n" "${COMPREPLY[@]}"'
+    page = TOP / "completions/capvet.bash"
+    text, _ = run(["bash", "-c", script, "bash", page, "capvet", *words], cwd=TOP / "examples")
+    return sorted(line for line in text.splitlines() if line)
+
+
+def completions():
+    """What bash offers at each place of a command line."""
+    samples = sorted(path.name for path in (TOP / "examples").iterdir())
+    compare("commands", sorted([*COMMANDS, "help"]), completed(""))
+    compare("commands by their beginning", ["pack"], completed("p"))
+    compare("options without a command", ["--help", "--version"], completed("-"))
+    compare("commands of help", sorted(COMMANDS), completed("help", ""))
+    compare("nothing behind help's command", [], completed("help", "vet", ""))
+    compare("nothing of another command", [], completed("vat", ""))
+    for command in COMMANDS:
+        front = [command, "/p0"] if command == "get" else [command]
+        compare(f"options of {command}", options_of_help(command), completed(*front, "-"))
+        compare(f"files of {command}", samples, completed(*front, ""))
+        compare(f"one file of {command}", [], completed(*front, "contacts.bin", ""))
+        compare(f"files of {command} behind --", samples, completed(*front, "--", ""))
+        compare(f"no option of {command} behind --", [], completed(*front, "--", "-"))
+    compare("files by their beginning", ["contacts.bin"], completed("vet", "--packed", "contacts.b"))
+    compare("no file for a path", [], completed("get", ""))
+    for option in ("--size", "--words", "--depth"):
+        compare(f"nothing for the number of {option}", [], completed("vet", option, ""))
+        compare(f"nothing for the number of {option}=", [], completed("vet", option, "=", ""))
+        compare(f"files behind {option}", samples, completed("vet", option, "7", ""))
+        compare(f"files behind {option}=", samples, completed("vet", option, "=", "7", ""))
+
+
+with tempfile.TemporaryDirectory() as scratch:
+    prefix = Path(scratch) / "some where"
+    installed(scratch, prefix, f"PREFIX={prefix}")
+    stage = Path(scratch) / "stage"
+    installed(scratch, stage / "usr", "PREFIX=/usr", f"DESTDIR={stage}")
+    text, status = make("install", scratch, "PREFIX=usr", f"DESTDIR={stage}/")
+    compare("make install, with a prefix that isn't whole", ("PREFIX has to be a path from /, and is 'usr'\n", False),
+            (text.partition("make:")[0], status == 0))
+    compare("files of a prefix that isn't whole", ["usr/bin/other"], list(files_of(stage)))
+options()
+examples()
+if not missing("what bash completes", "bash"):
+    completions()
+
+print(f"{passed} passed, {failed} failed")
+sys.exit(failed > 0)
