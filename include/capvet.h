@@ -1,0 +1,139 @@
+/* capvet: vets Cap'n Proto messages that come from elsewhere.
+ *
+ * Every function reads and writes only the buffers that it is passed, takes no memory, keeps nothing
+ * between calls, leaves errno alone, always returns, and may be called from any number of threads at
+ * once. How long it takes depends on what the bytes say.
+ *
+ * Buffers: a pointer and a length in bytes. Bytes need no alignment; structs and numbers have the
+ * alignment that C gives them. No pointer may be NULL, not even with length 0: for an empty buffer pass
+ * the address of any byte of yours (the data() of an empty C++ vector may be NULL). No buffer may be
+ * larger than PTRDIFF_MAX bytes. What is passed as `const` is only read: other threads may read it
+ * meanwhile, and nobody may write it. What is passed without `const` belongs to the call until it
+ * returns, and may not overlap another argument.
+ *
+ * An answer is about the bytes as they were during the call. Bytes that the sender can still write
+ * (shared memory, a mapped file) are never vetted: copy them first, and vet and use the copy.
+ *
+ * A message begins at the buffer's first byte. What stands behind it is not looked at: where the
+ * buffer should be one message and nothing else, compare report->length with its length.
+ *
+ * A word is eight bytes. A place is a segment's number and a word in it, both from 0. */
+#ifndef CAPVET_H
+#define CAPVET_H
+
+#include <stddef.h>
+#include <stdint.h>
+
+#if defined(__GNUC__)
+#define CAPVET_CHECKED __attribute__((nonnull, warn_unused_result))
+#else
+#define CAPVET_CHECKED
+#endif
+
+#ifdef __cplusplus
+extern "C" {
+#endif
+
+#define CAPVET_VERSION_MAJOR 1
+#define CAPVET_VERSION_MINOR 0
+
+/* The library is built for 64-bit machines alone. */
+typedef char capvet_needs_64_bits[sizeof(size_t) == 8 ? 1 : -1];
+
+/* What a call answers. 1 to 15 tell of the frame or of the call, 16 to 31 of an accepted message, from
+ * 32 on why it is refused. Numbers never change; new ones may come, so treat any but CAPVET_OK as a
+ * no. Where several hold, the order is: CAPVET_BAD_LIMITS, the frame (empty, fewer than 8 bytes, too
+ * many segments, the table cut, too large, the contents cut), the refusal, CAPVET_NOT_CANONICAL. */
+enum {
+  CAPVET_OK = 0,
+  CAPVET_NO_MESSAGE = 1, /* the buffer is empty: where a stream ends; `number` is 8 */
+
+  /* No front of the buffer frames a message within `size`. */
+  CAPVET_TOO_MANY_SEGMENTS = 2, /* `number`: how many, above 512 */
+  CAPVET_TOO_LARGE = 3,         /* `number`: how many words, above `size` */
+  CAPVET_TRUNCATED = 4,         /* `number`: how many bytes the buffer must have at least for a
+                                   call to tell more: 8, the table's, then the whole frame's */
+
+  /* The call can't be served as it was made. */
+  CAPVET_BAD_LIMITS = 8, /* a limit is above its most; told by each call that takes limits */
+
+  /* The message is not what was asked for, though it is accepted. */
+  CAPVET_NOT_CANONICAL = 16,
+
+  /* The message is refused: why, at the first pointer in preorder where anything is wrong
+     (`segment`, `word`, `pointers`). */
+  CAPVET_NO_ROOT = 32,
+  CAPVET_RESERVED = 33,
+  CAPVET_SEGMENT_MISSING = 34,
+  CAPVET_PAD_OUTSIDE = 35,
+  CAPVET_PAD_IS_FAR = 36,
+  CAPVET_PAD_NOT_FAR = 37,
+  CAPVET_TAG_KIND = 38,
+  CAPVET_TAG_OFFSET = 39,
+  CAPVET_OUT_OF_SEGMENT = 40,
+  CAPVET_COMPOSITE_TAG = 41,
+  CAPVET_COMPOSITE_OVERRUN = 42,
+  CAPVET_DEPTH_LIMIT = 43,
+  CAPVET_WORD_LIMIT = 44
+};
+
+#define CAPVET_MOST_WORDS 268435456
+#define CAPVET_MOST_DEPTH 256
+#define CAPVET_MOST_SEGMENTS 512
+
+/* All zero is a valid value, and refuses nearly everything. */
+typedef struct capvet_limits {
+  uint64_t size;  /* most words of a message, its table not counted: at most CAPVET_MOST_WORDS */
+  uint64_t words; /* most words that a walk is charged: at most CAPVET_MOST_WORDS */
+  uint32_t depth; /* most levels of objects: at most CAPVET_MOST_DEPTH */
+} capvet_limits;
+
+/* An initializer, the limits of the program: capvet_limits l = CAPVET_LIMITS_INIT; */
+#define CAPVET_LIMITS_INIT { 8388608, 8388608, 64 }
+
+/* Written whole by each call that takes one, whatever it answers: what doesn't apply is 0. `Accepted`
+ * means CAPVET_OK of any call but capvet_frame, and CAPVET_NOT_CANONICAL. */
+typedef struct capvet_report {
+  uint64_t length;   /* bytes of the frame with its table, also of a refused message; 0: no frame */
+  uint64_t number;   /* of a fault of the frame: see there */
+  uint64_t charge;   /* accepted: words of all followings, a shared target once for each */
+  uint64_t pointers; /* accepted: pointer words, null ones too; refused: those looked at */
+  uint64_t caps;     /* accepted: capabilities */
+  uint32_t depth;    /* accepted: the deepest level of an object */
+  uint32_t segment;  /* the pointer that is named; accepted with caps > 0: the first capability */
+  uint32_t word;
+  uint32_t segments; /* how many segments, where there is a frame */
+} capvet_report;
+
+/* The length in bytes of the frame that `bytes` begin with, in report->length. Reads the table alone,
+ * and vets nothing; of the limits only `size` matters, though all three are tested.
+ *
+ * To read a message from a connection: call it again with at least report->number bytes while it
+ * answers CAPVET_NO_MESSAGE or CAPVET_TRUNCATED. That number is the sender's claim, at most
+ * 8 * size + 2056: choose `size` as what you would hold for a stranger, or grow as bytes arrive.
+ * To go through a buffer of messages: go on by report->length after each, refused ones too, and stop
+ * where it is 0. */
+CAPVET_CHECKED
+uint32_t capvet_frame(const uint8_t *bytes, size_t length, const capvet_limits *limits,
+                      capvet_report *report);
+
+/* Vets the message that `bytes` begin with. On CAPVET_OK its root denotes a finite tree that lies inside
+ * its segments and keeps to the limits, and every message of which that holds is accepted. */
+CAPVET_CHECKED
+uint32_t capvet_vet(const uint8_t *bytes, size_t length, const capvet_limits *limits,
+                    capvet_report *report);
+
+/* Whether the message has one segment and is its own canonical copy: CAPVET_OK, or
+ * CAPVET_NOT_CANONICAL, also where it has a capability; or why it isn't accepted. */
+CAPVET_CHECKED
+uint32_t capvet_is_canonical(const uint8_t *bytes, size_t length, const capvet_limits *limits,
+                             capvet_report *report);
+
+/* CAPVET_VERSION_MAJOR * 65536 + CAPVET_VERSION_MINOR of the archive. It fits this header where the
+ * major is the same and the minor not less. */
+uint32_t capvet_version(void);
+
+#ifdef __cplusplus
+}
+#endif
+#endif
