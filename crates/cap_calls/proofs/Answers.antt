@@ -1,0 +1,173 @@
+-- The bytes decide what each call answers and tells.
+use Rattle.std.proofs.Common.{ℕ, ap₂, List, [], ◌≡◌, ◌∙◌, ◌<◌, ◌≤◌, ◌+◌, ◌*◌, ap, sym, subst, refl, length, Option, Some, None, Result, Ok, Err, inl, inr}
+use Rattle.std.specs.Prelude.{◌⊎◌}
+use Rattle.cap_spec.specs.Copies.{IsCanonical}
+use Rattle.cap_spec.specs.Faults.{IsRefused}
+use Rattle.cap_spec.specs.Tree.{cap_count, pointer_count}
+use Rattle.cap_spec.specs.declared.Refusal.{Refusal}
+use Rattle.cap_spec.proofs.Framing.{one_frame}
+use Rattle.cap_spec.proofs.OneFault.{one_refusal}
+use Rattle.cap_spec.proofs.OneTree.{one_tree}
+use Rattle.cap_spec.proofs.Preorder.{one_first_cap}
+use Rattle.cap_spec.proofs.Refusals.{tree_not_refused}
+use Rattle.cap_frame.specs.Framed.{TellsFront}
+use Rattle.cap_frame.specs.Fronts.{TellsLarge, TellsMany, Wants}
+use Rattle.cap_spec.specs.Frames.{IsPartial}
+use Rattle.cap_spec.specs.Plain.{plain_is_cut, plain_words}
+use Rattle.cap_frame.specs.declared.fault.FrontFault.{FrontFault}
+use Rattle.cap_frame.specs.declared.fault.FrontFault.TheVariants.{TooManySegments, TooLarge, Truncated}
+use Rattle.cap_frame.specs.declared.framed.Framed.{Framed}
+use Rattle.cap_frame.proofs.FrontAnswers.{empty_answer, large_answer, many_answer, short_answer, whole_answer}
+use Rattle.cap_vet.specs.Reports.{IsAccepted, IsFirstCapOf}
+use Rattle.cap_vet.specs.declared.report.Report.{Report}
+use Rattle.cap_calls.specs.Calls.{TellsFrame, without, whole, TellsVet, TellsCheck}
+use Rattle.cap_calls.specs.Calls.{refused, canonical, not_canonical}
+use Rattle.cap_calls.specs.AnswerNumbers.{reason_answer}
+use Rattle.cap_calls.specs.CallReports.{cause_answer, extent_report, no_frame_report, verdict_answer, verdict_report}
+use Rattle.cap_calls.specs.CallVerdicts.{HasFrame, HasNoFrame, IsVerdict}
+use Rattle.cap_calls.specs.declared.answer.Answer.{Answer}
+use Rattle.cap_calls.specs.declared.answer.Answer.TheVariants.{Good, NotCanonical}
+use Rattle.cap_calls.specs.declared.limits.CallLimits.{CallLimits}
+use Rattle.cap_calls.specs.declared.report.CallReport.{CallReport}
+use Rattle.cap_calls.specs.declared.verdict.NoFrame.{NoFrame}
+use Rattle.cap_calls.specs.declared.verdict.NoFrame.TheVariants.{BadLimits, NoMessage, Fault}
+use Rattle.cap_calls.specs.declared.verdict.Verdict.{Verdict}
+use Rattle.cap_calls.specs.declared.verdict.Verdict.TheVariants.{Without, Refused, Accepted}
+
+-- an answer without a frame
+abbrev Without-fault : FrontFault → Result (Option Framed) FrontFault
+Without-fault e = Err e
+
+-- what a fault tells, by the clauses of the call that answers it
+pub fault_told : (limit : ℕ) (bs : List ℕ) (e : FrontFault) → ((n : ℕ) → Without-fault e ≡ Without-fault (TooManySegments n) → TellsMany bs n)
+    → ((n : ℕ) → Without-fault e ≡ Without-fault (TooLarge n) → TellsLarge limit bs n)
+    → ((n : ℕ) → Without-fault e ≡ Without-fault (Truncated n) → IsPartial limit (plain_words bs) (plain_is_cut bs) × Wants (plain_words bs) n)
+    → ((n : ℕ) → Without-fault e ≡ Without-fault (Truncated n) → (length bs < n) × (n ≤ 8 * limit + 2056)) → TellsFront limit bs (Err e)
+fault_told limit bs (TooManySegments n) many large short more = many n refl
+fault_told limit bs (TooLarge n) many large short more = large n refl
+fault_told limit bs (Truncated n) many large short more = (let h = short n refl in let k = more n refl in (h.0, h.1, k.0, k.1))
+
+-- bytes begin with no message in one way
+one_fault : (limit : ℕ) (bs : List ℕ) (a b : FrontFault) → TellsFront limit bs (Err a) → TellsFront limit bs (Err b) → a ≡ b
+one_fault limit bs a (TooManySegments n) h k = (let e = many_answer limit bs (Without-fault a) n k h in cc)
+one_fault limit bs a (TooLarge n) h k = (let e = large_answer limit bs (Without-fault a) n k h in cc)
+one_fault limit bs a (Truncated n) h k = (let e = short_answer limit bs (Without-fault a) n k.0 k.1 h in cc)
+
+-- no bytes begin with no message in no other way
+no_fault : (limit : ℕ) (bs : List ℕ) (a : FrontFault) → bs ≡ [] → TellsFront limit bs (Err a) → ⊥
+no_fault limit bs a e h = (let f = empty_answer limit bs (Without-fault a) e h in cc)
+
+module _ (l : CallLimits) (bs : List ℕ) where
+  -- there is no frame for one cause
+  one_cause : (a b : NoFrame) → HasNoFrame l bs a → HasNoFrame l bs b → a ≡ b
+  one_cause BadLimits BadLimits h k = refl
+  one_cause BadLimits NoMessage h k = absurd (h k.0)
+  one_cause BadLimits (Fault b) h k = absurd (h k.0)
+  one_cause NoMessage BadLimits h k = absurd (k h.0)
+  one_cause NoMessage NoMessage h k = refl
+  one_cause NoMessage (Fault b) h k = absurd (no_fault l.size bs b h.1 k.1)
+  one_cause (Fault a) BadLimits h k = absurd (k h.0)
+  one_cause (Fault a) NoMessage h k = absurd (no_fault l.size bs a k.1 h.1)
+  one_cause (Fault a) (Fault b) h k = ap Fault (one_fault l.size bs a b h.1 k.1)
+
+  -- where there is a frame, there is no cause for none
+  no_cause : (a : NoFrame) (frame segments : ℕ) (m : List (List ℕ)) → HasNoFrame l bs a → HasFrame l bs frame segments m → ⊥
+  no_cause BadLimits frame segments m h f = h f.are_limits
+  no_cause NoMessage frame segments m h f = whole_answer l.size bs (Ok None) m frame f.front h.1
+  no_cause (Fault a) frame segments m h f = whole_answer l.size bs (Without-fault a) m frame f.front h.1
+
+  -- there is one frame
+  one_extent : (a b x y : ℕ) (m n : List (List ℕ)) → HasFrame l bs a x m → HasFrame l bs b y n → (a ≡ b) × (x ≡ y) × (m ≡ n)
+  one_extent a b x y m n f g =
+      let same = one_frame f.front.own g.front.own f.front.rest g.front.rest m n f.front.frames g.front.frames (sym f.front.words ∙ g.front.words) in
+      (f.front.long ∙ (ap (λ (ws : List ℕ). 8 * length ws) same.0 ∙ sym g.front.long), f.count ∙ (ap length same.1 ∙ sym g.count), same.1)
+
+-- there is one first capability, or none
+one_cap : (m : List (List ℕ)) (a b : Option (ℕ × ℕ)) → IsFirstCapOf m a → IsFirstCapOf m b → a ≡ b
+one_cap m None None h k = refl
+one_cap m None (Some (s, w)) h k = absurd (h k.path k.level s w k.k k.index k.reached k.leads)
+one_cap m (Some (s, w)) None h k = absurd (k h.path h.level s w h.k h.index h.reached h.leads)
+one_cap m (Some (s, w)) (Some (t, x)) h k = (let same = one_first_cap m s w t x h k in ap₂ (λ (a b : ℕ). Some (a, b)) same.0 same.1)
+
+same_report : (a b : Report) → a.charge ≡ b.charge → a.depth ≡ b.depth → a.pointers ≡ b.pointers → a.caps ≡ b.caps → a.first_cap ≡ b.first_cap → a ≡ b
+same_report a b e1 e2 e3 e4 e5 =
+    let make : ℕ → ℕ → ℕ → ℕ → Option (ℕ × ℕ) → Report = λ c d p n f. record { charge = c; depth = d; pointers = p; caps = n; first_cap = f } in
+    ap (λ c. make c a.depth a.pointers a.caps a.first_cap) e1 ∙ (ap (λ d. make b.charge d a.pointers a.caps a.first_cap) e2
+    ∙ (ap (λ p. make b.charge b.depth p a.caps a.first_cap) e3 ∙ (ap (λ n. make b.charge b.depth b.pointers n a.first_cap) e4
+    ∙ ap (λ f. make b.charge b.depth b.pointers b.caps f) e5)))
+
+-- An accepted message has one report.
+one_report : (m : List (List ℕ)) (words depth : ℕ) (a b : Report) → IsAccepted m words depth a → IsAccepted m words depth b → a ≡ b
+one_report m words depth a b (t, h) (u, k) =
+    let same = one_tree m 0 0 t u a.charge a.depth b.charge b.depth h.denotes k.denotes in
+    same_report a b same.charge same.depth (h.pointers ∙ (ap pointer_count same.part ∙ sym k.pointers))
+    (h.caps ∙ (ap cap_count same.part ∙ sym k.caps)) (one_cap m a.first_cap b.first_cap h.first_cap k.first_cap)
+
+-- A message isn't both accepted and refused.
+not_both : (m : List (List ℕ)) (words depth : ℕ) (a : Report) (r : Refusal) → IsAccepted m words depth a → IsRefused m words depth r → ⊥
+not_both m words depth a r (t, h) k = tree_not_refused m t a.charge a.depth words depth r h.denotes h.within h.shallow k
+
+-- There is one verdict.
+pub one_verdict : (l : CallLimits) (bs : List ℕ) (v w : Verdict) → IsVerdict l bs v → IsVerdict l bs w → v ≡ w
+one_verdict l bs (Without a) (Without b) h k = ap Without (one_cause l bs a b h k)
+one_verdict l bs (Without a) (Refused f s r) h k = absurd (no_cause l bs a f s k.0 h k.1)
+one_verdict l bs (Without a) (Accepted f s r) h k = absurd (no_cause l bs a f s k.0 h k.1)
+one_verdict l bs (Refused f s r) (Without b) h k = absurd (no_cause l bs b f s h.0 k h.1)
+one_verdict l bs (Accepted f s r) (Without b) h k = absurd (no_cause l bs b f s h.0 k h.1)
+one_verdict l bs (Refused f s r) (Refused g t q) (m, x, y) (n, z, w) =
+    let same = one_extent l bs f g s t m n x z in
+    let refusal = one_refusal m l.words l.depth r q y (rw same.2 w) in
+    ap (λ (k : ℕ). Refused k s r) same.0 ∙ (ap (λ (k : ℕ). Refused g k r) same.1 ∙ ap (λ k. Refused g t k) refusal)
+one_verdict l bs (Refused f s r) (Accepted g t q) (m, x, y) (n, z, w) =
+    let same = one_extent l bs f g s t m n x z in
+    absurd (not_both m l.words l.depth q r (rw same.2 w) y)
+one_verdict l bs (Accepted f s r) (Refused g t q) (m, x, y) (n, z, w) =
+    let same = one_extent l bs f g s t m n x z in
+    absurd (not_both m l.words l.depth r q y (rw same.2 w))
+one_verdict l bs (Accepted f s r) (Accepted g t q) (m, x, y) (n, z, w) =
+    let same = one_extent l bs f g s t m n x z in
+    let report = one_report m l.words l.depth r q y (rw same.2 w) in
+    ap (λ (k : ℕ). Accepted k s r) same.0 ∙ (ap (λ (k : ℕ). Accepted g k r) same.1 ∙ ap (λ k. Accepted g t k) report)
+
+-- The call for the frame answers and tells one thing.
+pub one_frame_told : (l : CallLimits) (bs : List ℕ) (a b : Answer) (r q : CallReport) → TellsFrame l bs a r → TellsFrame l bs b q → (a ≡ b) × (r ≡ q)
+one_frame_told l bs a b r q (without c h e f) (without d k g i) =
+    let same = one_cause l bs c d h k in (e ∙ (ap cause_answer same ∙ sym g), f ∙ (ap no_frame_report same ∙ sym i))
+one_frame_told l bs a b r q (without c h e f) (whole m x y k g i) = absurd (no_cause l bs c x y m h k)
+one_frame_told l bs a b r q (whole m x y k g i) (without c h e f) = absurd (no_cause l bs c x y m h k)
+one_frame_told l bs a b r q (whole m x y h e f) (whole n z w k g i) =
+    let same = one_extent l bs x z y w m n h k in (e ∙ sym g, f ∙ (ap₂ extent_report same.0 same.1 ∙ sym i))
+
+-- So does that for a verdict.
+pub one_vet_told : (l : CallLimits) (bs : List ℕ) (a b : Answer) (r q : CallReport) → TellsVet l bs a r → TellsVet l bs b q → (a ≡ b) × (r ≡ q)
+one_vet_told l bs a b r q (v, h, e, f) (w, k, g, i) =
+    let same = one_verdict l bs v w h k in (e ∙ (ap verdict_answer same ∙ sym g), f ∙ (ap verdict_report same ∙ sym i))
+
+-- what is answered where this is the verdict
+abbrev IsCheck : CallLimits → List ℕ → Verdict → Answer → Type 0
+IsCheck l bs (Without cause) a = a ≡ cause_answer cause
+IsCheck l bs (Refused f s q) a = a ≡ reason_answer q.reason
+IsCheck l bs (Accepted f s r) a = (m : List (List ℕ)) × HasFrame l bs f s m × ((IsCanonical m × (a ≡ Good)) ⊎ ((IsCanonical m → ⊥) × (a ≡ NotCanonical)))
+
+checked_verdict : (l : CallLimits) (bs : List ℕ) (a : Answer) (r : CallReport) → TellsCheck l bs a r
+    → (v : Verdict) × IsVerdict l bs v × (r ≡ verdict_report v) × IsCheck l bs v a
+checked_verdict l bs a r (without c h e f) = (Without c, h, f, e)
+checked_verdict l bs a r (refused m x y q h g e f) = (Refused x y q, (m, h, g), f, e)
+checked_verdict l bs a r (canonical m x y q h g i e f) = (Accepted x y q, (m, h, g), f, (m, h, inl (i, e)))
+checked_verdict l bs a r (not_canonical m x y q h g i e f) = (Accepted x y q, (m, h, g), f, (m, h, inr (i, e)))
+
+one_check : (l : CallLimits) (bs : List ℕ) (v : Verdict) (a b : Answer) → IsCheck l bs v a → IsCheck l bs v b → a ≡ b
+one_check l bs (Without c) a b h k = h ∙ sym k
+one_check l bs (Refused f s q) a b h k = h ∙ sym k
+one_check l bs (Accepted f s r) a b (m, x, inl (i, e)) (n, y, inl (j, g)) = e ∙ sym g
+one_check l bs (Accepted f s r) a b (m, x, inr (i, e)) (n, y, inr (j, g)) = e ∙ sym g
+one_check l bs (Accepted f s r) a b (m, x, inl (i, e)) (n, y, inr (j, g)) = (let same = one_extent l bs f f s s m n x y in absurd (j (subst IsCanonical same.2 i)))
+one_check l bs (Accepted f s r) a b (m, x, inr (i, e)) (n, y, inl (j, g)) = (let same = one_extent l bs f f s s m n x y in absurd (i (subst IsCanonical (sym same.2) j)))
+
+-- So does that for whether it is canonical.
+pub one_check_told : (l : CallLimits) (bs : List ℕ) (a b : Answer) (r q : CallReport) → TellsCheck l bs a r → TellsCheck l bs b q → (a ≡ b) × (r ≡ q)
+one_check_told l bs a b r q h k =
+    let x = checked_verdict l bs a r h in
+    let y = checked_verdict l bs b q k in
+    let same = one_verdict l bs x.0 y.0 x.1 y.1 in
+    (one_check l bs x.0 a b x.3 (subst (λ v. IsCheck l bs v b) (sym same) y.3), x.2 ∙ (ap verdict_report same ∙ sym y.2))

@@ -1,0 +1,4 @@
+pub mod AnswerNumbers
+pub mod CallVerdicts
+pub mod CallReports
+pub mod Calls

@@ -1,0 +1,72 @@
+//! What a call answers, by its number.
+
+ghost use Rattle.std.specs.Prelude.{◌≡◌};
+
+use cap_spec::Reason;
+
+/// What a call answers. The numbers are those of `include/capvet.h` and never change.
+#[derive(Clone, Copy, Debug, PartialEq, Eq, Drop)]
+pub enum Answer {
+    /// What was asked for was done, or is so.
+    Good = 0,
+    /// There are no bytes.
+    NoMessage = 1,
+    /// The table tells of more than 512 segments.
+    TooManySegments = 2,
+    /// The table's sizes sum to more words than the limit.
+    TooLarge = 3,
+    /// The bytes end inside the message.
+    Truncated = 4,
+    /// A limit is above its most.
+    BadLimits = 8,
+    /// The message is accepted, and isn't its own canonical copy.
+    NotCanonical = 16,
+    /// The message is refused for [`Reason::NoRoot`], as those behind it for the reasons of their names.
+    NoRoot = 32,
+    Reserved = 33,
+    SegmentMissing = 34,
+    PadOutside = 35,
+    PadIsFar = 36,
+    PadNotFar = 37,
+    TagKind = 38,
+    TagOffset = 39,
+    OutOfSegment = 40,
+    CompositeTag = 41,
+    CompositeOverrun = 42,
+    DepthLimit = 43,
+    WordLimit = 44,
+}
+
+impl Answer {
+    ghost use Rattle.cap_calls.specs.AnswerNumbers.{number_of, reason_answer};
+
+    /// Its number in the header.
+    #[inline]
+    pub fn number(self) -> u32
+        ensures { result ≡ number_of self }
+    {
+        self as u32
+    }
+
+    // The answer for a message that is refused for this reason.
+    #[inline]
+    pub(crate) fn of_reason(reason: Reason) -> Answer
+        ensures { result ≡ reason_answer reason }
+    {
+        match reason {
+            Reason::NoRoot => Answer::NoRoot,
+            Reason::Reserved => Answer::Reserved,
+            Reason::SegmentMissing => Answer::SegmentMissing,
+            Reason::PadOutside => Answer::PadOutside,
+            Reason::PadIsFar => Answer::PadIsFar,
+            Reason::PadNotFar => Answer::PadNotFar,
+            Reason::TagKind => Answer::TagKind,
+            Reason::TagOffset => Answer::TagOffset,
+            Reason::OutOfSegment => Answer::OutOfSegment,
+            Reason::CompositeTag => Answer::CompositeTag,
+            Reason::CompositeOverrun => Answer::CompositeOverrun,
+            Reason::DepthLimit => Answer::DepthLimit,
+            Reason::WordLimit => Answer::WordLimit,
+        }
+    }
+}
