@@ -52,11 +52,12 @@ sample:
 	$(PROGRAM) segments examples/stream-of-four.bin
 	$(PROGRAM) vet examples/stream-of-four.bin
 
-# All proofs, must-fail edits and tests, and then the built program as its users run it and install it.
+# All proofs, must-fail edits and tests, then the built program as its users run it and install it, and what pages show.
 test:
 	rt ci
 	python3 tests/program.py $(PROGRAM)
 	python3 tests/install.py $(PROGRAM)
+	python3 tests/pages.py $(PROGRAM)
 
 # Refuses each growth in turn of the calls that take memory, and each allocation of the built program.
 growths:
