@@ -1,10 +1,11 @@
 #!/usr/bin/env python3
-"""Runs the commands that the pages show with the built program, and looks up what they link to.
+"""Runs the commands that the pages show with the built program, and looks up what they quote.
 
     pages.py [PROGRAM]
 
 A block of a page that has lines '$ COMMAND' is run line by line in a folder with the samples, and each line has to write
-just what the page shows behind it. The last line is 'N passed, M failed', and the status is 1 where a case failed.
+just what the page shows behind it. A block of docs/proofs.md without such lines has to stand in a file that the page
+names. The last line is 'N passed, M failed', and the status is 1 where a case failed.
 """
 import os
 import re
@@ -51,6 +52,17 @@ def shown(page):
         compare(f"{page} shows commands", True, count > 0)
 
 
+def quoted(page):
+    """What a page quotes of the repository stands in a file that it names, word for word."""
+    text = (TOP / page).read_text()
+    named = {name: (TOP / name).read_text() for name in re.findall(r"`(crates/[\w/.]+\.\w+)`", text)}
+    count = 0
+    for _, block in BLOCK.findall(text):
+        compare(f"{page} quotes {block!r}", True, any(block in file for file in named.values()))
+        count += 1
+    compare(f"{page} quotes", True, count > 0)
+
+
 def links(page):
     """Each file and each heading that a page links to is there."""
     text = (TOP / page).read_text()
@@ -68,6 +80,7 @@ def links(page):
 
 for name in PAGES:
     shown(name)
+quoted("docs/proofs.md")
 for name in ("README.md", *(f"docs/{path.name}" for path in sorted((TOP / "docs").glob("*.md")))):
     links(name)
 print(f"{passed} passed, {failed} failed")
