@@ -1,7 +1,8 @@
 # What capvet does on a sample, every proof and test, and how fast it is.
-.PHONY: try run build sample install uninstall test growths bench
+.PHONY: try run build lib sample install uninstall test test-c growths bench
 
 PROGRAM = crates/capvet/out/capvet
+ARCHIVE = crates/capvet_c/out/libcapvet_c.a
 
 # Where things are installed. DESTDIR stands in front of all of it, and in nothing that is installed.
 PREFIX ?= /usr/local
@@ -31,6 +32,10 @@ run: build
 build:
 	cd crates/capvet && rt run -- --version
 
+# Proves and builds the library that C calls by include/capvet.h.
+lib:
+	cd crates/capvet_c && rt lib
+
 build/capvet: $(SOURCES)
 	@$(MAKE) --no-print-directory build
 	@mkdir -p build && cp $(PROGRAM) $@
@@ -58,6 +63,16 @@ test:
 	python3 tests/program.py $(PROGRAM)
 	python3 tests/install.py $(PROGRAM)
 	python3 tests/pages.py $(PROGRAM)
+	@$(MAKE) --no-print-directory test-c
+
+# The header's numbers, and the calls from C where there is a compiler for it.
+test-c:
+	python3 tests/header.py
+	@if command -v cc > /dev/null; then \
+	  $(MAKE) --no-print-directory lib && python3 tests/calls.py $(ARCHIVE) $(PROGRAM); \
+	else \
+	  echo "The calls from C weren't tested: no cc is on the path."; \
+	fi
 
 # Refuses each growth in turn of the calls that take memory, and each allocation of the built program.
 growths:

@@ -1,0 +1,52 @@
+//! The calls that C makes, under their names in `include/capvet.h`.
+#![tactic(auto)]
+
+ghost use Rattle.cap_calls.specs.Calls.{TellsCheck, TellsFrame, TellsVet};
+ghost use Rattle.cap_calls.specs.AnswerNumbers.{number_of};
+ghost use Rattle.cap_calls.specs.declared.answer.Answer.{Answer};
+ghost use Rattle.cap_calls.specs.declared.report.CallReport.{CallReport};
+ghost use Rattle.std.specs.Prelude.{◌≡◌};
+
+use cap_calls::{CallLimits, CallReport, frame, is_canonical, version, vet};
+
+/// The version of the library: 65536 times its major number, and its minor number.
+#[unsafe(no_mangle)]
+pub extern "C" fn capvet_version() -> u32
+    ensures { result ≡ 65536 }
+{
+    version()
+}
+
+/// [`frame`], with the number of its answer.
+#[unsafe(no_mangle)]
+pub extern "C" fn capvet_frame(bytes: &[u8], limits: &CallLimits, report: &mut CallReport) -> u32
+    ensures tells { (a : Answer) × TellsFrame limits.now bytes.now a report.new × (result ≡ number_of a) }
+    // Nothing else is to be told of the bytes.
+    ensures only { (a : Answer) (r : CallReport) → TellsFrame limits.now bytes.now a r → (result ≡ number_of a) × (report.new ≡ r) }
+{
+    frame(bytes, limits, report).number()
+}
+
+/// [`vet`], with the number of its answer.
+#[unsafe(no_mangle)]
+pub extern "C" fn capvet_vet(bytes: &[u8], limits: &CallLimits, report: &mut CallReport) -> u32
+    ensures tells { (a : Answer) × TellsVet limits.now bytes.now a report.new × (result ≡ number_of a) }
+    // Nothing else is to be told of the bytes.
+    ensures only { (a : Answer) (r : CallReport) → TellsVet limits.now bytes.now a r → (result ≡ number_of a) × (report.new ≡ r) }
+{
+    vet(bytes, limits, report).number()
+}
+
+/// [`is_canonical`], with the number of its answer.
+#[unsafe(no_mangle)]
+pub extern "C" fn capvet_is_canonical(
+    bytes: &[u8],
+    limits: &CallLimits,
+    report: &mut CallReport,
+) -> u32
+    ensures tells { (a : Answer) × TellsCheck limits.now bytes.now a report.new × (result ≡ number_of a) }
+    // Nothing else is to be told of the bytes.
+    ensures only { (a : Answer) (r : CallReport) → TellsCheck limits.now bytes.now a r → (result ≡ number_of a) × (report.new ≡ r) }
+{
+    is_canonical(bytes, limits, report).number()
+}

@@ -1,0 +1,191 @@
+/* What the calls of capvet.h answer, over the built archive. Each buffer is a block of its own of
+ * exactly its length, so that a tool that watches memory sees a read or write beside it. */
+#include <capvet.h>
+
+#include <stdio.h>
+#include <stdlib.h>
+#include <string.h>
+
+static int failures = 0;
+
+static void expect(int holds, const char *what, unsigned long long got) {
+  if (!holds) {
+    failures++;
+    fprintf(stderr, "calls: %s (got %llu)\n", what, got);
+  }
+}
+
+#define EXPECT(holds, what, got) expect((holds), (what), (unsigned long long)(got))
+
+/* A block with these bytes at an address that is `odd` behind an even one. */
+static uint8_t *block(const uint8_t *bytes, size_t length, size_t odd) {
+  uint8_t *whole = malloc(length + odd + (length + odd == 0));
+  if (whole == NULL) exit(3);
+  if (length != 0) memcpy(whole + odd, bytes, length);
+  return whole;
+}
+
+static const capvet_limits LIMITS = CAPVET_LIMITS_INIT;
+
+/* A report that no call has written. */
+static capvet_report unwritten(void) {
+  capvet_report r;
+  memset(&r, 0xa5, sizeof r);
+  return r;
+}
+
+/* A message of two segments, whose tree has three pointers, the third a capability, and 8 bytes behind. */
+static const uint8_t TWO[64] = {
+    1, 0, 0, 0, 1, 0, 0, 0, 4, 0, 0, 0, 0, 0, 0, 0, 2, 0, 0, 0, 1, 0, 0, 0, 0, 0, 0, 0, 1, 0, 2, 0,
+    7, 0, 0, 0, 0, 0, 0, 0, 0, 0, 0, 0, 0, 0, 0, 0, 3, 0, 0, 0, 5, 0, 0, 0, 9, 9, 9, 9, 9, 9, 9, 9};
+
+/* The places of the fields, by numbers. */
+static void layout(void) {
+  EXPECT(sizeof(capvet_limits) == 24, "size of limits", sizeof(capvet_limits));
+  EXPECT(offsetof(capvet_limits, words) == 8, "limits.words", offsetof(capvet_limits, words));
+  EXPECT(offsetof(capvet_limits, depth) == 16, "limits.depth", offsetof(capvet_limits, depth));
+  EXPECT(sizeof(capvet_report) == 56, "size of a report", sizeof(capvet_report));
+  EXPECT(offsetof(capvet_report, caps) == 32, "report.caps", offsetof(capvet_report, caps));
+  EXPECT(offsetof(capvet_report, depth) == 40, "report.depth", offsetof(capvet_report, depth));
+  EXPECT(offsetof(capvet_report, segments) == 52, "report.segments", offsetof(capvet_report, segments));
+}
+
+/* Each field of an accepted message's report, at each alignment. */
+static void fields(void) {
+  size_t odd;
+  for (odd = 0; odd < 8; odd++) {
+    uint8_t *whole = block(TWO, sizeof TWO, odd);
+    capvet_report r = unwritten();
+    EXPECT(capvet_vet(whole + odd, sizeof TWO, &LIMITS, &r) == CAPVET_OK, "vet", odd);
+    EXPECT(r.length == 56, "length", r.length);
+    EXPECT(r.number == 0, "number", r.number);
+    EXPECT(r.charge == 4, "charge", r.charge);
+    EXPECT(r.pointers == 3, "pointers", r.pointers);
+    EXPECT(r.caps == 1, "caps", r.caps);
+    EXPECT(r.depth == 1, "depth", r.depth);
+    EXPECT(r.segment == 1, "segment", r.segment);
+    EXPECT(r.word == 3, "word", r.word);
+    EXPECT(r.segments == 2, "segments", r.segments);
+    EXPECT(memcmp(whole + odd, TWO, sizeof TWO) == 0, "the bytes stay", odd);
+    free(whole);
+  }
+}
+
+/* How many bytes a buffer must have that ends behind so many of TWO. */
+static uint64_t wanted(size_t length) { return length < 8 ? 8 : length < 16 ? 16 : 56; }
+
+/* A message that arrives byte by byte. */
+static void arriving(void) {
+  size_t length;
+  for (length = 0; length <= sizeof TWO; length++) {
+    uint8_t *whole = block(TWO, length, 0);
+    capvet_report framed = unwritten(), vetted = unwritten();
+    uint32_t f = capvet_frame(whole, length, &LIMITS, &framed);
+    uint32_t v = capvet_vet(whole, length, &LIMITS, &vetted);
+    uint32_t answer = length == 0 ? CAPVET_NO_MESSAGE : length < 56 ? CAPVET_TRUNCATED : CAPVET_OK;
+    EXPECT(f == answer, "frame of a front", length);
+    EXPECT(v == answer, "vet of a front", length);
+    EXPECT(framed.number == (length < 56 ? wanted(length) : 0), "wanted", framed.number);
+    EXPECT(vetted.number == framed.number, "wanted by vet", vetted.number);
+    EXPECT(framed.length == (length < 56 ? 0u : 56u), "length of a frame", framed.length);
+    EXPECT(framed.segments == (length < 56 ? 0u : 2u), "segments of a frame", framed.segments);
+    EXPECT(framed.charge == 0 && framed.pointers == 0 && framed.caps == 0, "a frame vets nothing", 1);
+    free(whole);
+  }
+}
+
+/* What is answered for a buffer, where the report has this number. */
+static void answers(const uint8_t *bytes, size_t length, capvet_limits limits, uint32_t answer, uint64_t number) {
+  uint8_t *whole = block(bytes, length, 0);
+  capvet_report r = unwritten();
+  uint32_t got = capvet_vet(whole, length, &limits, &r);
+  EXPECT(got == answer, "answer", got);
+  EXPECT(r.number == number, "number", r.number);
+  free(whole);
+}
+
+/* Limits above their most, and faults of the frame. */
+static void faults(void) {
+  capvet_limits l = LIMITS;
+  uint8_t many[8] = {0, 2, 0, 0, 0, 0, 0, 0};
+  l.size = CAPVET_MOST_WORDS;
+  l.words = CAPVET_MOST_WORDS;
+  l.depth = CAPVET_MOST_DEPTH;
+  answers(TWO, sizeof TWO, l, CAPVET_OK, 0);
+  l.size++;
+  answers(TWO, sizeof TWO, l, CAPVET_BAD_LIMITS, 0);
+  l.size--;
+  l.words++;
+  answers(TWO, sizeof TWO, l, CAPVET_BAD_LIMITS, 0);
+  l.words--;
+  l.depth++;
+  answers(many, 0, l, CAPVET_BAD_LIMITS, 0);
+  answers(many, 0, LIMITS, CAPVET_NO_MESSAGE, 8);
+  answers(many, 8, LIMITS, CAPVET_TOO_MANY_SEGMENTS, 513);
+  l = LIMITS;
+  l.size = 4;
+  answers(TWO, sizeof TWO, l, CAPVET_TOO_LARGE, 5);
+  l.size = 5;
+  answers(TWO, sizeof TWO, l, CAPVET_OK, 0);
+}
+
+/* A message of one segment. */
+struct refused {
+  uint32_t answer;
+  size_t words;
+  uint64_t word[4];
+};
+
+/* A message of each refusal, worked by hand. */
+static const struct refused REFUSED[] = {
+    {CAPVET_NO_ROOT, 0, {0}},
+    {CAPVET_RESERVED, 1, {0x0000000000000007}},
+    {CAPVET_SEGMENT_MISSING, 1, {0x0000000100000002}},
+    {CAPVET_PAD_OUTSIDE, 1, {0x000000000000000a}},
+    {CAPVET_PAD_IS_FAR, 2, {0x000000000000000a, 0x0000000000000002}},
+    {CAPVET_PAD_NOT_FAR, 3, {0x000000000000000e, 0x0000000000000000, 0x0000000000000000}},
+    {CAPVET_TAG_KIND, 3, {0x000000000000000e, 0x0000000000000002, 0x0000000000000003}},
+    {CAPVET_TAG_OFFSET, 3, {0x000000000000000e, 0x0000000000000002, 0x0000000000000004}},
+    {CAPVET_OUT_OF_SEGMENT, 1, {0x0000000100000000}},
+    {CAPVET_COMPOSITE_TAG, 2, {0x0000000700000001, 0x0000000000000001}},
+    {CAPVET_COMPOSITE_OVERRUN, 2, {0x0000000700000001, 0x0000000100000004}},
+    {CAPVET_DEPTH_LIMIT, 1, {0x00010000fffffffc}},
+    {CAPVET_WORD_LIMIT, 3, {0x0000000200000000, 0, 0}},
+};
+
+static void refusals(void) {
+  size_t i, w, b;
+  for (i = 0; i < sizeof REFUSED / sizeof REFUSED[0]; i++) {
+    const struct refused *m = &REFUSED[i];
+    uint8_t bytes[40] = {0};
+    size_t length = 8 + 8 * m->words;
+    capvet_limits l = LIMITS;
+    capvet_report r = unwritten();
+    uint8_t *whole;
+    uint32_t got;
+    bytes[4] = (uint8_t)m->words;
+    for (w = 0; w < m->words; w++)
+      for (b = 0; b < 8; b++) bytes[8 + 8 * w + b] = (uint8_t)(m->word[w] >> (8 * b));
+    if (m->answer == CAPVET_WORD_LIMIT) l.words = 1;
+    whole = block(bytes, length, 1);
+    got = capvet_vet(whole + 1, length, &l, &r);
+    EXPECT(got == m->answer, "a refusal", got);
+    EXPECT(r.length == length, "length of a refused message", r.length);
+    EXPECT(r.segments == 1, "segments of a refused message", r.segments);
+    EXPECT(r.charge == 0 && r.caps == 0 && r.depth == 0, "nothing else of a refused message", i);
+    EXPECT(r.pointers == (m->answer == CAPVET_NO_ROOT ? 0u : m->answer == CAPVET_DEPTH_LIMIT ? 65u : 1u),
+           "pointers that were looked at", r.pointers);
+    free(whole);
+  }
+}
+
+int main(void) {
+  EXPECT(capvet_version() == 65536ul * CAPVET_VERSION_MAJOR + CAPVET_VERSION_MINOR, "version", capvet_version());
+  layout();
+  fields();
+  arriving();
+  faults();
+  refusals();
+  if (failures == 0) printf("calls: all as promised\n");
+  return failures != 0;
+}

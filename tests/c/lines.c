@@ -1,0 +1,93 @@
+/* lines vet FILE, lines check FILE: what the program writes of a stream of messages, and its fault, from
+ * a buffer that holds the stream, by the calls of capvet.h. Each message is vetted in a block of its own
+ * of exactly the bytes that are left, up to a limit, so that a tool that watches memory sees a read
+ * behind them. */
+#include <capvet.h>
+
+#include <stdio.h>
+#include <stdlib.h>
+#include <string.h>
+
+static const char *reason(uint32_t answer) {
+  static const char *const names[] = {
+      "NoRoot",   "Reserved",  "SegmentMissing", "PadOutside",   "PadIsFar",         "PadNotFar", "TagKind",
+      "TagOffset", "OutOfSegment", "CompositeTag",   "CompositeOverrun", "DepthLimit", "WordLimit"};
+  return answer >= CAPVET_NO_ROOT && answer <= CAPVET_WORD_LIMIT ? names[answer - CAPVET_NO_ROOT] : "?";
+}
+
+/* The line of a message, by its number in the stream. */
+static void line(int check, unsigned long n, uint32_t answer, const capvet_report *r) {
+  if (answer >= CAPVET_NO_ROOT)
+    printf("message %lu: refused %s at %lu:%lu pointers %llu\n", n, reason(answer), (unsigned long)r->segment,
+           (unsigned long)r->word, (unsigned long long)r->pointers);
+  else if (check)
+    printf("message %lu: %s\n", n, answer == CAPVET_OK ? "canonical" : "not canonical");
+  else
+    printf("message %lu: accepted charge %llu depth %lu pointers %llu caps %llu\n", n, (unsigned long long)r->charge,
+           (unsigned long)r->depth, (unsigned long long)r->pointers, (unsigned long long)r->caps);
+}
+
+/* The line of a fault of the frame, where the stream has so many bytes. */
+static void fault(unsigned long n, uint32_t answer, const capvet_report *r, size_t length) {
+  if (answer == CAPVET_TOO_MANY_SEGMENTS)
+    fprintf(stderr, "capvet: message %lu: TooManySegments %llu\n", n, (unsigned long long)r->number);
+  else if (answer == CAPVET_TOO_LARGE)
+    fprintf(stderr, "capvet: message %lu: TooLarge %llu\n", n, (unsigned long long)r->number);
+  else if (answer == CAPVET_TRUNCATED)
+    fprintf(stderr, "capvet: message %lu: Truncated at byte %llu\n", n, (unsigned long long)length);
+  else
+    fprintf(stderr, "capvet: message %lu: answer %lu\n", n, (unsigned long)answer);
+}
+
+/* All bytes of a file. */
+static uint8_t *contents(const char *name, size_t *length) {
+  FILE *file = fopen(name, "rb");
+  uint8_t *bytes;
+  long end;
+  if (file == NULL || fseek(file, 0, SEEK_END) != 0 || (end = ftell(file)) < 0) exit(3);
+  rewind(file);
+  bytes = malloc((size_t)end + 1);
+  if (bytes == NULL || fread(bytes, 1, (size_t)end, file) != (size_t)end) exit(3);
+  fclose(file);
+  *length = (size_t)end;
+  return bytes;
+}
+
+int main(int count, char **words) {
+  const capvet_limits limits = CAPVET_LIMITS_INIT;
+  size_t length = 0, at = 0;
+  unsigned long n;
+  int status = 0, check;
+  uint8_t *bytes;
+  if (count != 3) return 2;
+  check = strcmp(words[1], "check") == 0;
+  bytes = contents(words[2], &length);
+  for (n = 0;; n++) {
+    capvet_report framed, report;
+    size_t size;
+    uint8_t *block;
+    uint32_t answer = capvet_frame(bytes + at, length - at, &limits, &framed);
+    if (answer == CAPVET_NO_MESSAGE) break;
+    /* a message that isn't whole is shown as it is */
+    size = answer == CAPVET_OK ? (size_t)framed.length : length - at;
+    block = malloc(size + 1);
+    if (block == NULL) return 3;
+    memcpy(block + 1, bytes + at, size);
+    memset(&report, 0xa5, sizeof report);
+    answer = check ? capvet_is_canonical(block + 1, size, &limits, &report)
+                   : capvet_vet(block + 1, size, &limits, &report);
+    free(block);
+    if (report.length != framed.length || report.number != framed.number || report.segments != framed.segments)
+      return 4;
+    if (report.length == 0) {
+      fault(n, answer, &report, length);
+      status = 1;
+      break;
+    }
+    line(check, n, answer, &report);
+    if (answer != CAPVET_OK) status = 1;
+    at += (size_t)report.length;
+  }
+  free(bytes);
+  return status;
+}

@@ -1,0 +1,176 @@
+#!/usr/bin/env python3
+"""Builds the C programs of tests/c over the built archive, and runs them, beside the built program.
+
+    calls.py ARCHIVE PROGRAM
+
+The header alone is compiled in each standard of C and C++ that it is promised for. `calls` looks at known
+buffers; `lines` writes what the program writes of a stream, and both outputs are compared, for the samples, for
+each front of one of them, and for 100,000 messages of a fixed seed, most of which are samples with changed bytes. Both
+run with the compiler's checks of memory, and `calls` under valgrind, where these are there. The last line is
+'N passed, M failed', and the status is 1 where something failed.
+"""
+import random
+import shutil
+import struct
+import subprocess
+import sys
+import tempfile
+from pathlib import Path
+
+TOP = Path(__file__).resolve().parent.parent
+WARN = ["-Wall", "-Wextra", "-pedantic", "-Werror", f"-I{TOP / 'include'}"]
+CHECKS = ["-fsanitize=address,undefined", "-fno-sanitize-recover=all"]
+MANY = 100_000
+SEED = 20240229
+passed = failed = 0
+
+
+def told(name, holds, said=""):
+    global passed, failed
+    if holds:
+        passed += 1
+    else:
+        failed += 1
+        print(f"FAILED: {name}\n{said}")
+
+
+def run(command):
+    return subprocess.run([str(word) for word in command], capture_output=True, text=True, errors="replace", cwd=TOP)
+
+
+def compiled(folder, name, compiler, standard, archive, *flags):
+    """The program that a compiler makes of a file of tests/c, or nothing where it refuses the file."""
+    out = folder / f"{name}-{compiler}-{standard}"
+    language = ["-x", "c++"] if standard.startswith("c++") else []
+    source = [*language, TOP / f"tests/c/{name}.c", *(["-x", "none"] if language else [])]
+    ran = run([compiler, f"-std={standard}", "-g", *WARN, *flags, *source, archive, "-o", out])
+    told(f"{compiler} -std={standard} {' '.join(flags)} {name}.c", ran.returncode == 0, ran.stderr)
+    return out if ran.returncode == 0 else None
+
+
+def header_alone(folder, compiler, standard):
+    source = folder / ("alone.cc" if standard.startswith("c++") else "alone.c")
+    source.write_text("#include <capvet.h>\n")
+    ran = run([compiler, f"-std={standard}", *WARN, "-fsyntax-only", source])
+    told(f"the header in {compiler} -std={standard}", ran.returncode == 0, ran.stderr)
+
+
+def wanted_symbols(archive):
+    """The names that the archive wants of others: those for memory that LLVM takes for granted, and no other."""
+    lines = run(["nm", archive]).stdout.splitlines()
+    undefined = {line.split()[-1] for line in lines if " U " in line}
+    own = {line.split()[-1] for line in lines if " T " in line}
+    told("what the archive wants", undefined - own <= {"memcpy", "memmove", "memset"}, str(undefined - own))
+    for name in ("capvet_version", "capvet_frame", "capvet_vet", "capvet_is_canonical"):
+        told(f"the archive has {name}", name in own)
+
+
+def samples():
+    """The framed messages of the samples."""
+    messages = []
+    for name in ("contacts.bin", "contacts-many-segments.bin", "telemetry.bin", "stream-of-four.bin"):
+        stream = (TOP / "examples" / name).read_bytes()
+        while stream:
+            count = struct.unpack_from("<I", stream)[0] + 1
+            sizes = struct.unpack_from(f"<{count}I", stream, 4)
+            end = 8 * (count // 2 + 1 + sum(sizes))
+            messages.append(stream[:end])
+            stream = stream[end:]
+    return messages
+
+
+def changed(message, chance):
+    """The message with some of the bytes of its words changed."""
+    table = 8 * ((struct.unpack_from("<I", message)[0] + 1) // 2 + 1)
+    message = bytearray(message)
+    if len(message) == table:
+        return bytes(message)
+    for _ in range(chance.choice((0, 1, 1, 1, 2, 3, 8))):
+        at = chance.randrange(table, len(message))
+        kind = chance.randrange(4)
+        if kind == 0:
+            message[at] ^= 1 << chance.randrange(8)
+        elif kind == 1:
+            message[at] = chance.randrange(256)
+        else:
+            # a word in place of another, or a pointer that is made up
+            word = at - at % 8
+            other = chance.randrange(table, len(message)) // 8 * 8
+            made = struct.pack("<I", chance.randrange(4) | chance.randrange(-4, 40) * 4 & 0xFFFFFFFF) + struct.pack(
+                "<HH", chance.randrange(6), chance.randrange(6))
+            message[word:word + 8] = message[other:other + 8] if kind == 2 else made
+    return bytes(message)
+
+
+def made_up(chance):
+    """A message of few words, which are small numbers in the places of pointers."""
+    sizes = [chance.randrange(0, 5) for _ in range(chance.choice((1, 1, 2, 3)))]
+    numbers = [len(sizes) - 1, *sizes]
+    numbers += [0] * (len(numbers) % 2)
+    words = b"".join(
+        struct.pack("<IHH", (chance.randrange(4) | chance.randrange(-2, 5) * 4) & 0xFFFFFFFF, chance.randrange(3),
+                    chance.randrange(3)) for _ in range(sum(sizes)))
+    return struct.pack(f"<{len(numbers)}I", *numbers) + words
+
+
+def streams(chance):
+    """What is compared: the samples, the fronts of one of them, lies in tables, and many messages."""
+    whole = samples()
+    yield b"".join(whole)
+    small = min(whole, key=len)
+    for end in range(0, 120):
+        yield whole[0] + small[:end]
+    for count, size in ((511, 0), (512, 0), (0xFFFFFFFF, 0), (0, 8388608), (0, 8388609), (1, 0xFFFFFFFF)):
+        yield small + struct.pack("<II", count, size) + bytes(chance.randrange(0, 64))
+    small = [message for message in whole if len(message) < 1000]
+    for _ in range(20):
+        yield b"".join(made_up(chance) if chance.randrange(3) == 0 else changed(chance.choice(small), chance)
+                       for _ in range(MANY // 20))
+
+
+def compare(lines, program):
+    """Both programs over each stream."""
+    count = 0
+    with tempfile.TemporaryDirectory() as folder:
+        path = Path(folder) / "stream"
+        for stream in streams(random.Random(SEED)):
+            path.write_bytes(stream)
+            for command in ("vet", "check"):
+                got, wanted = run([lines, command, path]), run([program, command, path])
+                count += wanted.stdout.count("\n")
+                told(f"{command} of stream {path} of {len(stream)} bytes",
+                     (got.stdout, got.stderr, got.returncode) == (wanted.stdout, wanted.stderr, wanted.returncode),
+                     f"  {got.returncode} {got.stderr[:300]!r}\n  {wanted.returncode} {wanted.stderr[:300]!r}")
+    print(f"calls: {count} lines compared with the program's")
+
+
+def main():
+    archive, program = (Path(word).resolve() for word in sys.argv[1:3])
+    compilers = [name for name in ("gcc", "clang") if shutil.which(name)] or ["cc"]
+    wanted_symbols(archive)
+    with tempfile.TemporaryDirectory() as folder:
+        folder = Path(folder)
+        for compiler in compilers:
+            for standard in ("c99", "c11", "c++98", "c++11"):
+                header_alone(folder, compiler, standard)
+        for compiler in compilers:
+            built = compiled(folder, "calls", compiler, "c99", archive)
+            if built is not None:
+                ran = run([built])
+                told(f"calls, by {compiler}", ran.returncode == 0, ran.stderr)
+                if shutil.which("valgrind"):
+                    ran = run(["valgrind", "-q", "--error-exitcode=9", "--leak-check=full", built])
+                    told(f"calls, by {compiler}, under valgrind", ran.returncode == 0, ran.stderr)
+            checked = compiled(folder, "calls", compiler, "c11", archive, *CHECKS)
+            if checked is not None:
+                ran = run([checked])
+                told(f"calls, by {compiler}, with its checks", ran.returncode == 0, ran.stderr)
+        lines = compiled(folder, "lines", compilers[0], "c99", archive, "-O1", *CHECKS)
+        if lines is not None:
+            compare(lines, program)
+    print(f"{passed} passed, {failed} failed")
+    return 1 if failed else 0
+
+
+if __name__ == "__main__":
+    sys.exit(main())

@@ -1,0 +1,38 @@
+#!/usr/bin/env python3
+"""Compares the answers of include/capvet.h, and their numbers, with those of the enum in code and of its definition."""
+
+import pathlib
+import re
+import sys
+
+ROOT = pathlib.Path(__file__).resolve().parent.parent
+
+
+def answers(path, pattern):
+    """The names and numbers that a file tells, each name once."""
+    pairs = re.findall(pattern, (ROOT / path).read_text(), re.MULTILINE)
+    told = {name: int(number) for name, number in pairs}
+    if len(told) != len(pairs) or not told:
+        sys.exit(f"header: {path} tells {len(pairs)} answers, {len(told)} of them by names of their own")
+    return told
+
+
+def constant(name):
+    """A name as the header writes it."""
+    return "OK" if name == "Good" else re.sub(r"(?<!^)(?=[A-Z])", "_", name).upper()
+
+
+def main():
+    header = answers("include/capvet.h", r"^\s*CAPVET_([A-Z_]+) = (\d+)")
+    code = answers("crates/cap_calls/src/answer.rt", r"^    ([A-Z]\w+) = (\d+),")
+    specs = answers("crates/cap_calls/specs/AnswerNumbers.antt", r"^number_of ([A-Z]\w+) = (\d+)")
+    for path, told in (("answer.rt", code), ("AnswerNumbers.antt", specs)):
+        there = {constant(name): number for name, number in told.items()}
+        for name in sorted(header.keys() | there.keys()):
+            if header.get(name) != there.get(name):
+                sys.exit(f"header: CAPVET_{name} is {header.get(name)}, and in {path} {there.get(name)}")
+    print(f"header: {len(header)} answers have the numbers of the code")
+
+
+if __name__ == "__main__":
+    main()
