@@ -118,7 +118,7 @@ def streams(chance):
     whole = samples()
     yield b"".join(whole)
     small = min(whole, key=len)
-    for end in range(0, 120):
+    for end in range(len(small) + 1):
         yield whole[0] + small[:end]
     for count, size in ((511, 0), (512, 0), (0xFFFFFFFF, 0), (0, 8388608), (0, 8388609), (1, 0xFFFFFFFF)):
         yield small + struct.pack("<II", count, size) + bytes(chance.randrange(0, 64))

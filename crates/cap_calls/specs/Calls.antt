@@ -32,7 +32,7 @@ pub data TellsCheck (l : CallLimits) (bytes : List ℕ) (a : Answer) (r : CallRe
   without : (cause : NoFrame) → HasNoFrame l bytes cause → a ≡ cause_answer cause → r ≡ no_frame_report cause → TellsCheck l bytes a r
   refused : (m : List (List ℕ)) (frame segments : ℕ) (refusal : Refusal) → HasFrame l bytes frame segments m → IsRefused m l.words l.depth refusal
       → a ≡ reason_answer refusal.reason → r ≡ verdict_report (Refused frame segments refusal) → TellsCheck l bytes a r
-  canonical : (m : List (List ℕ)) (frame segments : ℕ) (report : Report) → HasFrame l bytes frame segments m → IsAccepted m l.words l.depth report → IsCanonical m
-      → a ≡ Good → r ≡ verdict_report (Accepted frame segments report) → TellsCheck l bytes a r
-  not_canonical : (m : List (List ℕ)) (frame segments : ℕ) (report : Report) → HasFrame l bytes frame segments m → IsAccepted m l.words l.depth report → ¬ IsCanonical m
-      → a ≡ NotCanonical → r ≡ verdict_report (Accepted frame segments report) → TellsCheck l bytes a r
+  canonical : (m : List (List ℕ)) (frame segments : ℕ) (report : Report) → HasFrame l bytes frame segments m → IsAccepted m l.words l.depth report
+      → IsCanonical m → a ≡ Good → r ≡ verdict_report (Accepted frame segments report) → TellsCheck l bytes a r
+  not_canonical : (m : List (List ℕ)) (frame segments : ℕ) (report : Report) → HasFrame l bytes frame segments m → IsAccepted m l.words l.depth report
+      → ¬ IsCanonical m → a ≡ NotCanonical → r ≡ verdict_report (Accepted frame segments report) → TellsCheck l bytes a r
