@@ -7,6 +7,9 @@ ARCHIVE = crates/capvet_c/out/libcapvet_c.a
 # Where things are installed. DESTDIR stands in front of all of it, and in nothing that is installed.
 PREFIX ?= /usr/local
 bindir ?= $(PREFIX)/bin
+libdir ?= $(PREFIX)/lib
+includedir ?= $(PREFIX)/include
+pkgconfigdir ?= $(libdir)/pkgconfig
 mandir ?= $(PREFIX)/share/man
 completionsdir ?= $(PREFIX)/share/bash-completion/completions
 INSTALL ?= install
@@ -14,6 +17,10 @@ INSTALL ?= install
 # What a build is made from, and what is installed of it: a file of its own, so that whoever installs builds nothing.
 SOURCES = crates.txt $(shell find crates -name out -prune -o \( -name '*.rt' -o -name '*.antt' \) -print)
 BUILT_PROGRAM = build/capvet
+BUILT_ARCHIVE = build/libcapvet.a
+
+# The version of the calls, as their header has it.
+VERSION = $(shell sed -n 's/^.define CAPVET_VERSION_M[AIJNOR]* \([0-9]*\)$$/\1/p' include/capvet.h | paste -sd.)
 
 # What the program writes of a stream of sample messages, from a build that nothing has proved yet.
 try:
@@ -40,17 +47,29 @@ build/capvet: $(SOURCES)
 	@$(MAKE) --no-print-directory build
 	@mkdir -p build && cp $(PROGRAM) $@
 
-# Puts the program, its manual page and its completions under PREFIX, and builds it first where a source is newer.
-install: $(BUILT_PROGRAM)
+build/libcapvet.a: $(SOURCES)
+	@$(MAKE) --no-print-directory lib
+	@mkdir -p build && cp $(ARCHIVE) $@
+
+# Puts the program, its manual page and its completions under PREFIX, and the library with its header and what
+# pkg-config wants to know; builds first what has a newer source.
+install: $(BUILT_PROGRAM) $(BUILT_ARCHIVE)
 	@case '$(PREFIX)' in /*) ;; *) echo "PREFIX has to be a path from /, and is '$(PREFIX)'" >&2; exit 2;; esac
 	$(INSTALL) -d '$(DESTDIR)$(bindir)' '$(DESTDIR)$(mandir)/man1' '$(DESTDIR)$(completionsdir)'
+	$(INSTALL) -d '$(DESTDIR)$(includedir)' '$(DESTDIR)$(libdir)' '$(DESTDIR)$(pkgconfigdir)'
 	$(INSTALL) -m 755 '$(BUILT_PROGRAM)' '$(DESTDIR)$(bindir)/capvet'
 	$(INSTALL) -m 644 docs/capvet.1 '$(DESTDIR)$(mandir)/man1/capvet.1'
 	$(INSTALL) -m 644 completions/capvet.bash '$(DESTDIR)$(completionsdir)/capvet'
+	$(INSTALL) -m 644 include/capvet.h '$(DESTDIR)$(includedir)/capvet.h'
+	$(INSTALL) -m 644 '$(BUILT_ARCHIVE)' '$(DESTDIR)$(libdir)/libcapvet.a'
+	sed -e 's|@prefix@|$(PREFIX)|' -e 's|@libdir@|$(libdir)|' -e 's|@includedir@|$(includedir)|' \
+	  -e 's|@version@|$(VERSION)|' capvet.pc.in > '$(DESTDIR)$(pkgconfigdir)/capvet.pc'
+	chmod 644 '$(DESTDIR)$(pkgconfigdir)/capvet.pc'
 
 # Takes away just these files, and leaves their folders.
 uninstall:
 	rm -f '$(DESTDIR)$(bindir)/capvet' '$(DESTDIR)$(mandir)/man1/capvet.1' '$(DESTDIR)$(completionsdir)/capvet'
+	rm -f '$(DESTDIR)$(includedir)/capvet.h' '$(DESTDIR)$(libdir)/libcapvet.a' '$(DESTDIR)$(pkgconfigdir)/capvet.pc'
 
 # How each message of a stream of samples is cut into segments, and its verdict.
 sample:
@@ -60,8 +79,9 @@ sample:
 # All proofs, must-fail edits and tests, then the built program as its users run it and install it, and what pages show.
 test:
 	rt ci
+	@$(MAKE) --no-print-directory lib
 	python3 tests/program.py $(PROGRAM)
-	python3 tests/install.py $(PROGRAM)
+	python3 tests/install.py $(PROGRAM) $(ARCHIVE)
 	python3 tests/pages.py $(PROGRAM)
 	@$(MAKE) --no-print-directory test-c
 

@@ -1,10 +1,11 @@
 #!/usr/bin/env python3
-"""Installs the built program into scratch folders as its users do, and compares what stands there.
+"""Installs the built program and library into scratch folders as their users do, and compares what stands there.
 
-    install.py [PROGRAM]
+    install.py [PROGRAM [ARCHIVE]]
 
 A case is one call of `compare`. Failures are printed as they come. The last line is 'N passed, M failed', and the
-status is 1 where a case failed. Nothing is built here: `rt` is a command that fails, and PROGRAM is what is installed.
+status is 1 where a case failed. Nothing is built here: `rt` is a command that fails, and PROGRAM and ARCHIVE are what is
+installed.
 """
 import os
 import re
@@ -16,10 +17,14 @@ from pathlib import Path
 
 TOP = Path(__file__).resolve().parent.parent
 PROGRAM = Path(sys.argv[1] if len(sys.argv) > 1 else TOP / "crates/capvet/out/capvet").resolve()
+ARCHIVE = Path(sys.argv[2] if len(sys.argv) > 2 else TOP / "crates/capvet_c/out/libcapvet_c.a").resolve()
 COMPLETIONS = "share/bash-completion/completions/capvet"
 PAGE = "share/man/man1/capvet.1"
+DESCRIPTION = "lib/pkgconfig/capvet.pc"
+# What is installed, its mode, and the file that it is a copy of, where it is one.
 FILES = {"bin/capvet": (0o755, PROGRAM), PAGE: (0o644, TOP / "docs/capvet.1"),
-         COMPLETIONS: (0o644, TOP / "completions/capvet.bash")}
+         COMPLETIONS: (0o644, TOP / "completions/capvet.bash"), "include/capvet.h": (0o644, TOP / "include/capvet.h"),
+         "lib/libcapvet.a": (0o644, ARCHIVE), DESCRIPTION: (0o644, None)}
 COMMANDS = ("segments", "vet", "dump", "get", "check", "canon", "pack", "unpack")
 CONTACTS = "message 0: accepted charge 391 depth 11 pointers 125 caps 0\n"
 passed = failed = 0
@@ -57,10 +62,11 @@ def make(target, folder, *variables):
     for tool in ("rt", "cargo", "cc"):
         (refused / tool).write_text(f"#!/bin/sh\necho {tool} was called\nexit 1\n")
         (refused / tool).chmod(0o755)
-    told = ("PREFIX", "DESTDIR", "bindir", "mandir", "completionsdir", "INSTALL", "MAKEFLAGS", "MAKELEVEL")
+    told = ("PREFIX", "DESTDIR", "bindir", "libdir", "includedir", "mandir", "pkgconfigdir", "completionsdir", "INSTALL",
+            "MAKEFLAGS", "MAKELEVEL")
     environment = {name: value for name, value in os.environ.items() if name not in told}
     environment["PATH"] = f"{refused}:{os.environ['PATH']}"
-    return run(["make", "-s", target, f"BUILT_PROGRAM={PROGRAM}", *variables], cwd=TOP, env=environment)
+    return run(["make", "-s", target, f"BUILT_PROGRAM={PROGRAM}", f"BUILT_ARCHIVE={ARCHIVE}", *variables], cwd=TOP, env=environment)
 
 
 def files_of(folder):
@@ -79,7 +85,8 @@ def installed(folder, prefix, *variables):
         compare(f"make install {variables}", ("", 0), make("install", folder, *variables))
         compare(f"files of {variables}", modes, {n: m for n, m in files_of(prefix).items() if n != "bin/other"})
     for name, (_, source) in FILES.items():
-        compare(f"{name} of {variables}", source.read_bytes(), (Path(prefix) / name).read_bytes())
+        if source:
+            compare(f"{name} of {variables}", source.read_bytes(), (Path(prefix) / name).read_bytes())
     works(Path(prefix))
     for _ in range(2):
         compare(f"make uninstall {variables}", ("", 0), make("uninstall", folder, *variables))
@@ -161,19 +168,28 @@ def completions():
         compare(f"files behind {option}=", samples, completed("vet", option, "=", "7", ""))
 
 
-with tempfile.TemporaryDirectory() as scratch:
-    prefix = Path(scratch) / "some where"
-    installed(scratch, prefix, f"PREFIX={prefix}")
-    stage = Path(scratch) / "stage"
-    installed(scratch, stage / "usr", "PREFIX=/usr", f"DESTDIR={stage}")
-    text, status = make("install", scratch, "PREFIX=usr", f"DESTDIR={stage}/")
-    compare("make install, with a prefix that isn't whole", ("PREFIX has to be a path from /, and is 'usr'\n", False),
-            (text.partition("make:")[0], status == 0))
-    compare("files of a prefix that isn't whole", ["usr/bin/other"], list(files_of(stage)))
-options()
-examples()
-if not missing("what bash completes", "bash"):
-    completions()
+def main():
+    with tempfile.TemporaryDirectory() as scratch:
+        prefix = Path(scratch) / "some where"
+        installed(scratch, prefix, f"PREFIX={prefix}")
+        stage = Path(scratch) / "stage"
+        installed(scratch, stage / "usr", "PREFIX=/usr", f"DESTDIR={stage}")
+        text, status = make("install", scratch, "PREFIX=usr", f"DESTDIR={stage}/")
+        compare("make install, with a prefix that isn't whole",
+                ("PREFIX has to be a path from /, and is 'usr'\n", False), (text.partition("make:")[0], status == 0))
+        compare("files of a prefix that isn't whole", ["usr/bin/other"], list(files_of(stage)))
+    options()
+    examples()
+    if not missing("what bash completes", "bash"):
+        completions()
+    return ended()
 
-print(f"{passed} passed, {failed} failed")
-sys.exit(failed > 0)
+
+def ended():
+    """Writes how many cases passed; the status."""
+    print(f"{passed} passed, {failed} failed")
+    return failed > 0
+
+
+if __name__ == "__main__":
+    sys.exit(main())
