@@ -1,0 +1,101 @@
+//! The messages of a stream that is in one buffer.
+
+use crate::sys::{self, Answer};
+use crate::{Limits, Refusal, Report};
+use core::iter::FusedIterator;
+
+/// An accepted message of a stream.
+#[derive(Clone, Copy, Debug, PartialEq, Eq, Hash)]
+pub struct Message<'b> {
+    bytes: &'b [u8],
+    report: Report,
+}
+
+impl<'b> Message<'b> {
+    /// Exactly the bytes of its frame.
+    #[must_use]
+    pub const fn bytes(&self) -> &'b [u8] {
+        self.bytes
+    }
+
+    /// What it is.
+    #[must_use]
+    pub const fn report(&self) -> &Report {
+        &self.report
+    }
+}
+
+/// Goes over the messages of a stream, as [`messages`] says.
+#[derive(Clone, Debug)]
+#[must_use = "an iterator vets nothing before it is asked"]
+pub struct Messages<'b> {
+    rest: &'b [u8],
+    limits: Limits,
+    is_over: bool,
+}
+
+/// The messages that stand one behind the other in `bytes`, each vetted as it is reached.
+///
+/// A message that is refused is told as a [`Refusal::Pointer`], and the next one follows. Any other [`Refusal`] says that
+/// the bytes behind the messages so far frame none within the limits, and is the last item. Where the bytes end between
+/// two messages there are no more items, and no fault: so of no bytes there is none.
+///
+/// # Examples
+///
+/// ```
+/// use capvet::{Limits, Refusal};
+///
+/// let null = [0, 0, 0, 0, 1, 0, 0, 0, 0, 0, 0, 0, 0, 0, 0, 0];
+/// let cycle = [0, 0, 0, 0, 1, 0, 0, 0, 0xfc, 0xff, 0xff, 0xff, 0, 0, 1, 0];
+/// let received = [&null[..], &cycle, &null, &null[..10]].concat();
+///
+/// let mut messages = capvet::messages(&received, Limits::DEFAULT);
+/// assert_eq!(messages.next().unwrap()?.bytes(), null);
+/// assert!(matches!(messages.next(), Some(Err(Refusal::Pointer { .. }))));
+/// assert_eq!(messages.next().unwrap()?.report().pointers, 1);
+/// // What has come of a fourth message; a reader of a connection keeps it, and goes on with more bytes.
+/// assert_eq!(messages.next(), Some(Err(Refusal::Truncated { wanted: 16 })));
+/// assert_eq!(messages.rest(), &null[..10]);
+/// assert_eq!(messages.next(), None);
+/// # Ok::<(), Refusal>(())
+/// ```
+pub const fn messages(bytes: &[u8], limits: Limits) -> Messages<'_> {
+    Messages {
+        rest: bytes,
+        limits,
+        is_over: false,
+    }
+}
+
+impl<'b> Messages<'b> {
+    /// The bytes behind the messages so far, refused ones too.
+    #[must_use]
+    pub const fn rest(&self) -> &'b [u8] {
+        self.rest
+    }
+}
+
+impl<'b> Iterator for Messages<'b> {
+    type Item = Result<Message<'b>, Refusal>;
+
+    fn next(&mut self) -> Option<Self::Item> {
+        if self.is_over || self.rest.is_empty() {
+            return None;
+        }
+        let (answer, told) = sys::vet(self.rest, &self.limits);
+        let frame = told.frame();
+        // (without a frame there is nothing to go on behind)
+        self.is_over = frame == 0;
+        let (bytes, rest) = self.rest.split_at(frame);
+        self.rest = rest;
+        Some(match answer {
+            Answer::OK => Ok(Message {
+                bytes,
+                report: Report::of(&told),
+            }),
+            fault => Err(Refusal::of(fault, &told)),
+        })
+    }
+}
+
+impl FusedIterator for Messages<'_> {}

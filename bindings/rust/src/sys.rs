@@ -1,0 +1,123 @@
+//! The calls of the archive, as `include/capvet.h` declares them. The only file with `unsafe`.
+
+use crate::Limits;
+
+/// What a call answers, by the numbers of the header.
+#[derive(Clone, Copy, Debug, PartialEq, Eq)]
+#[repr(transparent)]
+pub(crate) struct Answer(pub(crate) u32);
+
+impl Answer {
+    pub(crate) const OK: Self = Self(0);
+    pub(crate) const NO_MESSAGE: Self = Self(1);
+    pub(crate) const TOO_MANY_SEGMENTS: Self = Self(2);
+    pub(crate) const TOO_LARGE: Self = Self(3);
+    pub(crate) const TRUNCATED: Self = Self(4);
+    pub(crate) const NOT_CANONICAL: Self = Self(16);
+
+    /// The number of the first reason of a refusal; the others follow in order.
+    pub(crate) const FIRST_REASON: u32 = 32;
+}
+
+// `capvet_limits`.
+#[repr(C)]
+struct RawLimits {
+    size: u64,
+    words: u64,
+    depth: u32,
+}
+
+impl RawLimits {
+    fn of(limits: &Limits) -> Self {
+        Self {
+            size: limits.size(),
+            words: limits.words(),
+            depth: limits.depth(),
+        }
+    }
+}
+
+/// `capvet_report`.
+#[repr(C)]
+#[derive(Clone, Copy, Debug, Default, PartialEq, Eq)]
+pub(crate) struct Told {
+    pub(crate) length: u64,
+    pub(crate) number: u64,
+    pub(crate) charge: u64,
+    pub(crate) pointers: u64,
+    pub(crate) caps: u64,
+    pub(crate) depth: u32,
+    pub(crate) segment: u32,
+    pub(crate) word: u32,
+    pub(crate) segments: u32,
+}
+
+impl Told {
+    /// How many bytes the frame takes. (The archive is built for 64-bit machines alone.)
+    pub(crate) const fn frame(&self) -> usize {
+        self.length as usize
+    }
+}
+
+extern "C" {
+    fn capvet_frame(
+        bytes: *const u8,
+        length: usize,
+        limits: *const RawLimits,
+        report: *mut Told,
+    ) -> Answer;
+    fn capvet_vet(
+        bytes: *const u8,
+        length: usize,
+        limits: *const RawLimits,
+        report: *mut Told,
+    ) -> Answer;
+    fn capvet_is_canonical(
+        bytes: *const u8,
+        length: usize,
+        limits: *const RawLimits,
+        report: *mut Told,
+    ) -> Answer;
+    fn capvet_version() -> u32;
+}
+
+// The address of a slice's first byte, or of some byte for an empty one: the header asks for that of a byte of ours.
+fn address(bytes: &[u8]) -> *const u8 {
+    if bytes.is_empty() {
+        static NONE: u8 = 0;
+        &NONE
+    } else {
+        bytes.as_ptr()
+    }
+}
+
+/// The length of the frame that the bytes begin with.
+pub(crate) fn frame(bytes: &[u8], limits: &Limits) -> (Answer, Told) {
+    let (limits, mut told) = (RawLimits::of(limits), Told::default());
+    // SAFETY: the declaration is the header's; the address and length are those of a slice that is borrowed for the call,
+    // or 0 bytes at one of ours; the limits are borrowed too, and the report is this frame's alone and nobody else's.
+    let answer = unsafe { capvet_frame(address(bytes), bytes.len(), &limits, &mut told) };
+    (answer, told)
+}
+
+/// The verdict of the message that the bytes begin with.
+pub(crate) fn vet(bytes: &[u8], limits: &Limits) -> (Answer, Told) {
+    let (limits, mut told) = (RawLimits::of(limits), Told::default());
+    // SAFETY: as in `frame`, whose arguments these are.
+    let answer = unsafe { capvet_vet(address(bytes), bytes.len(), &limits, &mut told) };
+    (answer, told)
+}
+
+/// Whether the message that the bytes begin with is its own canonical copy.
+pub(crate) fn is_canonical(bytes: &[u8], limits: &Limits) -> (Answer, Told) {
+    let (limits, mut told) = (RawLimits::of(limits), Told::default());
+    // SAFETY: as in `frame`, whose arguments these are.
+    let answer = unsafe { capvet_is_canonical(address(bytes), bytes.len(), &limits, &mut told) };
+    (answer, told)
+}
+
+/// The archive's version, as one number.
+pub(crate) fn version() -> u32 {
+    // SAFETY: the declaration is the header's, and the call takes nothing.
+    unsafe { capvet_version() }
+}
