@@ -82,6 +82,7 @@ test:
 	@$(MAKE) --no-print-directory lib
 	python3 tests/program.py $(PROGRAM)
 	python3 tests/install.py $(PROGRAM) $(ARCHIVE)
+	python3 tests/library.py $(PROGRAM) $(ARCHIVE)
 	python3 tests/pages.py $(PROGRAM)
 	@$(MAKE) --no-print-directory test-c
 

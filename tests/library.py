@@ -1,0 +1,166 @@
+#!/usr/bin/env python3
+"""Takes the installed library as its users do: through pkg-config, from C, from C++ and from Rust, where they are there.
+
+    library.py [PROGRAM [ARCHIVE]]
+
+Each example is built against an installed tree, and has to write what PROGRAM writes of the same bytes. What a machine has
+no compiler for is said in a line of its own. The last line is 'N passed, M failed', and the status is 1 where a case failed.
+"""
+import os
+import random
+import re
+import shutil
+import subprocess
+import sys
+import tempfile
+from pathlib import Path
+
+import install
+from install import PROGRAM, TOP, compare, make, missing, run
+
+SAMPLES = ("contacts.bin", "contacts-many-segments.bin", "telemetry.bin", "stream-of-four.bin")
+CYCLE = bytes.fromhex("0000000001000000fcffffff00000100")
+STRICT = ("-Wall", "-Wextra", "-pedantic", "-Werror")
+SERVED = """\
+accepted, 391 words in libcapnp
+refused, answer 43 at 0:0
+accepted, 391 words in libcapnp
+no frame: the connection is dropped
+"""
+
+
+def inputs(folder):
+    """Streams to vet: the samples, a front of one, nothing, and messages of which one bit is turned."""
+    streams = {name: (TOP / "examples" / name).read_bytes() for name in SAMPLES}
+    streams["cut.bin"] = streams["stream-of-four.bin"][:3200]
+    streams["empty.bin"] = b""
+    turned, known = b"", random.Random(7)
+    for _ in range(500):
+        message = bytearray(streams[known.choice(("contacts.bin", "telemetry.bin"))])
+        # (behind its table, so that it stays a frame)
+        message[known.randrange(8, len(message))] ^= 1 << known.randrange(8)
+        turned += message
+    streams["turned.bin"] = turned
+    for name, stream in streams.items():
+        (folder / name).write_bytes(stream)
+    return [folder / name for name in streams]
+
+
+def verdicts(command):
+    """The standard output and the status of a command."""
+    ran = subprocess.run(command, stdout=subprocess.PIPE, stderr=subprocess.DEVNULL, stdin=subprocess.DEVNULL, timeout=60)
+    return ran.stdout, ran.returncode
+
+
+def same(name, command, files):
+    """The example writes of each file what the program writes, with the same status."""
+    for file in files:
+        compare(f"{name}, of {file.name}", verdicts([PROGRAM, "vet", file]), verdicts([*command, file]))
+    refused = verdicts([*command, files[-1]])[0].count(b"refused")
+    compare(f"{name}, of turned bits, refuses some and accepts some", True, 0 < refused < 500)
+
+
+def flags(environment, *packages):
+    """What pkg-config wants a compiler to be told."""
+    text, status = run(["pkg-config", "--cflags", "--libs", *packages], env=environment)
+    compare(f"pkg-config {packages}", 0, status)
+    return text.split()
+
+
+def described(prefix, environment):
+    """The description for pkg-config is a whole one, and tells the folders and the version of the header."""
+    compare("pkg-config --validate", ("", 0), run(["pkg-config", "--validate", prefix / install.DESCRIPTION], env=environment))
+    header = (TOP / "include/capvet.h").read_text()
+    version = ".".join(re.search(rf"#define CAPVET_VERSION_{part} (\d+)", header)[1] for part in ("MAJOR", "MINOR"))
+    compare("the version", (f"{version}\n", 0), run(["pkg-config", "--modversion", "capvet"], env=environment))
+    compare("the flags", [f"-I{prefix}/include", f"-L{prefix}/lib", "-lcapvet"], flags(environment, "capvet"))
+
+
+def of_pages(language, folder, front="", behind=""):
+    """What the pages show in a language, each block as a file of its own."""
+    for page in ("README.md", "docs/guide.md"):
+        blocks = re.findall(rf"^```{language}\n(.*?)^```$", (TOP / page).read_text(), re.M | re.S)
+        compare(f"{page} has a block of {language}", 1, len(blocks))
+        file = folder / f"{Path(page).stem.lower()}.{language}"
+        file.write_text(front + "".join(blocks) + behind)
+        yield file
+
+
+def from_c(folder, environment, files):
+    """The example in C and what the pages show, by each compiler that is there."""
+    for compiler in ("cc", "clang"):
+        if missing(f"the example in C, by {compiler}", compiler):
+            continue
+        program = folder / f"vet-{compiler}"
+        built = run([compiler, "-std=c99", *STRICT, TOP / "examples/c/vet.c", *flags(environment, "capvet"), "-o", program])
+        compare(f"{compiler} vet.c", ("", 0), built)
+        same(f"vet.c by {compiler}", [program], files)
+        for file in of_pages("c", folder):
+            include = run(["pkg-config", "--cflags", "capvet"], env=environment)[0].split()
+            built = run([compiler, "-std=c99", *STRICT, *include, "-c", file, "-o", folder / "block.o"])
+            compare(f"{compiler} {file.name}", ("", 0), built)
+
+
+def from_cplusplus(folder, environment, files):
+    """The server in front of libcapnp."""
+    if missing("the server in front of libcapnp", "c++"):
+        return
+    if run(["pkg-config", "capnp"], env=environment)[1]:
+        print("not tested, without libcapnp for pkg-config: the server in front of it")
+        return
+    program, cycle = folder / "serve", folder / "cycle.bin"
+    cycle.write_bytes(CYCLE)
+    built = run(["c++", "-std=c++17", *STRICT, TOP / "examples/c/serve.cpp", *flags(environment, "capvet", "capnp"), "-o", program])
+    compare("c++ serve.cpp", ("", 0), built)
+    compare("serve", (SERVED, 0), run([program, files[0], cycle, files[1]]))
+
+
+def from_rust(folder, environment, files):
+    """The tests of the crate, those of its pages too, and the example over it."""
+    if missing("the crate and the example in Rust", "cargo"):
+        return
+    version = re.match(r"cargo 1\.(\d+)", run(["cargo", "--version"])[0])
+    if not version or int(version[1]) < 63:
+        print("not tested, with a cargo before 1.63: the crate and the example in Rust")
+        return
+    environment = {**environment, "CARGO_TARGET_DIR": str(folder / "target")}
+    environment.pop("CAPVET_LIB_DIR", None)
+    # (cargo writes a lock file beside a crate, so each is taken from a copy of the repository's files)
+    for part in ("bindings", "examples", "include"):
+        shutil.copytree(TOP / part, folder / "copy" / part, ignore=shutil.ignore_patterns("target", "Cargo.lock"))
+    for words in (["test"], ["build", "--no-default-features"]):
+        text, status = run(["cargo", *words, "--offline", "--quiet"], cwd=folder / "copy/bindings/rust", env=environment)
+        compare(f"cargo {words}", 0, status)
+        if status:
+            print(text)
+    (folder / "copy/examples/rust/src/bin").mkdir()
+    for file in of_pages("rust", folder, "#![allow(dead_code)]\n", "fn main() {}\n"):
+        file.rename(folder / f"copy/examples/rust/src/bin/{file.stem}.rs")
+    built = run(["cargo", "build", "--offline", "--quiet"], cwd=folder / "copy/examples/rust", env=environment)
+    compare("cargo build of the example", ("", 0), built)
+    same("the example in Rust", [folder / "target/debug/vet"], files)
+
+
+def main():
+    with tempfile.TemporaryDirectory() as scratch:
+        folder = Path(scratch)
+        prefix, stage = folder / "prefix", folder / "stage"
+        compare("make install", ("", 0), make("install", scratch, f"PREFIX={prefix}"))
+        compare("make install, staged", ("", 0), make("install", scratch, "PREFIX=/opt/capvet", f"DESTDIR={stage}"))
+        if missing("the library, by pkg-config", "pkg-config"):
+            return install.ended()
+        files = inputs(folder)
+        environment = {**os.environ, "PKG_CONFIG_PATH": str(prefix / "lib/pkgconfig")}
+        described(prefix, environment)
+        from_c(folder, environment, files)
+        from_cplusplus(folder, environment, files)
+        from_rust(folder, environment, files)
+        environment["PKG_CONFIG_PATH"] = str(stage / "opt/capvet/lib/pkgconfig")
+        environment["PKG_CONFIG_SYSROOT_DIR"] = str(stage)
+        wanted = [f"-I{stage}/opt/capvet/include", f"-L{stage}/opt/capvet/lib", "-lcapvet"]
+        compare("the flags of a staged tree", wanted, flags(environment, "capvet"))
+    return install.ended()
+
+
+if __name__ == "__main__":
+    sys.exit(main())
