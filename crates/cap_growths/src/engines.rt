@@ -108,8 +108,13 @@ fn the_verdict_of_each_packed_message(rt: HostRuntime) -> Result<(), Fail> {
     settle(&rt, answer, &out, 55, VET)
 }
 
-const DUMP: &[u8] =
-    b"message 0: accepted charge 0 depth 0 pointers 1 caps 0\nroot null\nmessage 1: accepted charge 1 depth 1 pointers 1 caps 0\nroot struct 1 0\n  d0 2a00000000000000\n";
+const DUMP: &[u8] = b"\
+message 0: accepted charge 0 depth 0 pointers 1 caps 0
+root null
+message 1: accepted charge 1 depth 1 pointers 1 caps 0
+root struct 1 0
+  d0 2a00000000000000
+";
 
 #[test]
 fn the_tree_of_each_message(rt: HostRuntime) -> Result<(), Fail> {
