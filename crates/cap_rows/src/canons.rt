@@ -19,7 +19,7 @@ struct Row {
     is_canonical: bool,
 }
 
-const ROWS: [Row; 21] = [
+static ROWS: [Row; 21] = [
     // a null root
     Row {
         stream: "0000000001000000 0000000000000000",
@@ -303,7 +303,7 @@ fn end_of_copies<R: AllocGlobal + Abort>(
 }
 
 // What comes behind a message, how many are copied at most, and the fault that ends the copies.
-const ENDS: [(&str, u32, Cause); 4] = [
+static ENDS: [(&str, u32, Cause); 4] = [
     ("00", 2, Cause::Frame(FrameFault::Truncated { byte: 33 })),
     (SHORT, 1, Cause::TooManyMessages),
     (CYCLE, 1, Cause::TooManyMessages),

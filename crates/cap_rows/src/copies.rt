@@ -16,7 +16,7 @@ use std::test::Fail;
 const MOST: u64 = 1099511627776;
 
 // Words, and their packed spelling.
-const SPELLINGS: [(&str, &str); 8] = [
+static SPELLINGS: [(&str, &str); 8] = [
     ("0800000003000200 19000000aa010000", "51080302 3119aa01"),
     ("", ""),
     ("0000000000000000", "0000"),
@@ -85,7 +85,7 @@ fn spells(alloc: Global, plain: &str, text: &str) -> Result<bool, Fail> {
 #[test]
 fn packs_and_unpacks(rt: HostRuntime) -> Result<(), Fail> {
     let alloc = rt.alloc();
-    for (plain, text) in SPELLINGS {
+    for (plain, text) in &SPELLINGS {
         assert!(rt; spells(alloc, plain, text)?, "{plain}");
     }
     // a run of zero words has at most 256 of them
@@ -233,7 +233,7 @@ struct Row {
     answer: Result<Outcome, RunFault>,
 }
 
-const ROWS: [Row; 5] = [
+static ROWS: [Row; 5] = [
     Row {
         stream: "10010000",
         status: 0,

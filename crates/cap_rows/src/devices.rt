@@ -70,7 +70,7 @@ struct Row {
     err: &'static str,
 }
 
-const ROWS: [Row; 16] = [
+static ROWS: [Row; 16] = [
     // at the first read
     Row {
         command: "vet",
@@ -193,7 +193,7 @@ fn an_input_that_fails_ends_the_run_with_status_3(rt: HostRuntime) -> Result<(),
 }
 
 // A command, its input, and what it writes.
-const TEXTS: [(&str, &str, &str); 8] = [
+static TEXTS: [(&str, &str, &str); 8] = [
     ("vet", NULL, NULL_VET),
     ("vet", RESERVED, RESERVED_VET),
     ("segments", NULL, NULL_SEGMENTS),

@@ -43,7 +43,7 @@ fn text_of(rt: &impl Abort, alloc: Global, segment: &[u64]) -> Result<VecOut, Fa
 }
 
 // The words of a message's one segment, and its text.
-const TEXTS: [(&str, &str); 14] = [
+static TEXTS: [(&str, &str); 14] = [
     ("0000000000000000", "root null\n"),
     ("fcffffff00000000", "root struct 0 0\n"),
     ("0300000005000000", "root cap 5\n"),

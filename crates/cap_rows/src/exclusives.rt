@@ -8,7 +8,7 @@ use std::alloc::Global;
 use std::test::Fail;
 
 // Streams of one message, what is said of it, and what is said of it without the option.
-const MESSAGES: [(&str, &str, &str); 15] = [
+static MESSAGES: [(&str, &str, &str); 15] = [
     // two pointers to one struct, of which the second overlaps
     (
         "00000000040000000000000000000200040000000100000000000000010000000700000000000000",

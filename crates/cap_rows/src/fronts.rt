@@ -35,7 +35,7 @@ root struct 0 2
     d0 0700000000000000
 ";
 
-const ROWS: [Row; 7] = [
+static ROWS: [Row; 7] = [
     Row {
         command: "segments",
         plain: &[],

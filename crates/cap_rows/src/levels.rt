@@ -32,7 +32,7 @@ const POINTERS: &str =
     "00000000040000000100000016000000000000000000000000000000010000000900000000000000";
 
 // A command, the deepest level that is allowed, a stream, and what is said of its one message.
-const ROWS: [(&str, &str, &str, &str); 17] = [
+static ROWS: [(&str, &str, &str, &str); 17] = [
     (
         "vet",
         "64",

@@ -11,7 +11,7 @@ struct Row {
     status: u8,
 }
 
-const ROWS: [Row; 13] = [
+static ROWS: [Row; 13] = [
     // one null root
     Row {
         stream: "00000000010000000000000000000000",

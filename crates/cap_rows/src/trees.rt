@@ -65,7 +65,7 @@ root structs 2 1 1
     p0 null
 ";
 
-const DUMPS: [Row; 8] = [
+static DUMPS: [Row; 8] = [
     Row {
         command: "dump",
         options: &[],
@@ -138,7 +138,7 @@ root structs 2 1 0
     },
 ];
 
-const GETS: [Row; 15] = [
+static GETS: [Row; 15] = [
     Row {
         command: "get",
         options: &["/p1"],

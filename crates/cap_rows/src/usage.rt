@@ -16,7 +16,7 @@ enum Answer {
 }
 
 // Command lines, and how they are answered.
-const LINES: [(&[&str], Answer); 14] = [
+static LINES: [(&[&str], Answer); 14] = [
     (&["segments"], Answer::Job),
     (&["segments", "some.bin"], Answer::Job),
     (&["segments", "--size", "268435456", "-"], Answer::Job),
@@ -66,7 +66,7 @@ fn tells_jobs_help_and_mistakes_apart(rt: HostRuntime) -> Result<(), Fail> {
 }
 
 // Options of `vet`, and the file, the limits of a message's size, of words and of depth.
-const VETS: [(&[&str], Option<&str>, u64, u64, u32); 10] = [
+static VETS: [(&[&str], Option<&str>, u64, u64, u32); 10] = [
     (&[], None, 8388608, 8388608, 64),
     (&["some.bin"], Some("some.bin"), 8388608, 8388608, 64),
     (&["-"], Some("-"), 8388608, 8388608, 64),
@@ -100,7 +100,7 @@ fn reads_the_options_of_vet(rt: HostRuntime) -> Result<(), Fail> {
 }
 
 // Command lines that are wrong, and what is said of them.
-const MISTAKES: [(&[&str], &str); 9] = [
+static MISTAKES: [(&[&str], &str); 9] = [
     (
         &["vet", "--size", "268435457"],
         "error: invalid value '268435457' for '--size <N>': 268435457 is not in 0..=268435456\n\nFor more information, try '--help'.\n",
@@ -153,7 +153,7 @@ fn refuses_what_a_command_does_not_take(rt: HostRuntime) -> Result<(), Fail> {
 }
 
 // Options of `get`, the path, the file, and whether the input is packed.
-const GETS: [(&[&str], &[Step], Option<&str>, bool); 4] = [
+static GETS: [(&[&str], &[Step], Option<&str>, bool); 4] = [
     (&["/"], &[], None, false),
     (&["/p0/i12"], &[Step::Ptr(0), Step::Item(12)], None, false),
     (
@@ -187,7 +187,7 @@ fn reads_the_path_of_get(rt: HostRuntime) -> Result<(), Fail> {
 }
 
 // Paths that are none, and where they go wrong.
-const PATHS: [(&[&str], usize); 9] = [
+static PATHS: [(&[&str], usize); 9] = [
     (&["get", ""], 0),
     (&["get", "p1"], 0),
     (&["get", "é"], 0),
@@ -216,7 +216,7 @@ struct Help {
     text: &'static str,
 }
 
-const HELPS: [Help; 10] = [
+static HELPS: [Help; 10] = [
     Help {
         lines: [&["--help"], &["-h"], &["help"]],
         text: "\

@@ -37,7 +37,7 @@ const EMPTY_STRUCTS: &str = "00000000020000000100000007000000fcffffff00000000";
 // 268435455 elements without bits
 const EMPTY_ELEMENTS: &str = "000000000100000001000000f8ffff7f";
 
-const ROWS: [Row; 26] = [
+static ROWS: [Row; 26] = [
     Row {
         options: &[],
         stream: "00000000010000000000000000000000",
@@ -230,7 +230,7 @@ const ROWS: [Row; 26] = [
 ];
 
 // Streams that end, or that aren't one of framed messages within the limits.
-const ENDS: [Row; 9] = [
+static ENDS: [Row; 9] = [
     // no message
     Row {
         options: &[],
@@ -302,7 +302,7 @@ const ENDS: [Row; 9] = [
 ];
 
 // Streams of one message, and what is said of it.
-const MESSAGES: [(&str, &str); 20] = [
+static MESSAGES: [(&str, &str); 20] = [
     // a struct of two words
     (
         "000000000300000000000000020000002a000000000000000000000000000000",
