@@ -1,12 +1,15 @@
 -- Passing over the words of segments.
-use Rattle.std.proofs.Common.{◌≡◌, ◌∙◌, ℕ, zero, suc, ◌+◌, ◌<◌, ◌≤◌, false, Option, Some, None, List, [], ◌∷◌, ◌++◌, length, take, drop, sum, get_or, refl, ap, arith, length-drop}
-use Rattle.std.proofs.lemmas.List.{length-take, take-append-drop}
+use Rattle.std.proofs.Common.{◌≡◌, ◌∙◌, ℕ, zero, suc, ◌+◌, ◌<◌, ◌≤◌, ◌*◌, false, Option, Some, None, List, [], ◌∷◌, ◌++◌, length, take, drop, sum, get_or, refl, sym, ap, arith, length-append, length-drop}
+use Rattle.std.proofs.lemmas.List.{length-take, length-take-le, take-append-drop}
 use Rattle.std.proofs.lemmas.List.Sums.{sum_by-cons}
 use Rattle.cap_words.specs.declared.sources.WordSource as source
 use Rattle.cap_spec.specs.Frames.{joined, sizes_of}
 use Rattle.cap_spec.specs.Messages.{root_of}
+use Rattle.cap_spec.specs.Plain.{plain_text, plain_words}
+use Rattle.cap_spec.proofs.Plain.{length_plain}
 use Rattle.cap_frame.specs.Taking.{Takes, Reads, IsUsable}
-use Rattle.cap_frame.proofs.Contents.{WordsSoFar, words_more, words_start}
+use Rattle.cap_frame.proofs.Contents.{WordsSoFar, words_start}
+use Rattle.cap_frame.proofs.Taking.{reads_both, takes_both, usable_both}
 
 -- words cut into segments of these sizes
 abbrev pub cut : List ℕ → List ℕ → List (List ℕ)
@@ -45,6 +48,10 @@ pub first_of_sum : (ns : List ℕ) → get_or ns 0 0 ≤ sum ns
 first_of_sum [] = omega arith
 first_of_sum (n ∷ ns) = omega (arith, sum_by-cons (λ x. x) n ns)
 
+-- so many bytes of words are that many words
+pub words_in : (n : ℕ) (room : List ℕ) → n ≤ length room → take n room ≡ plain_text (plain_words (take n room)) → 8 * length (plain_words (take n room)) ≡ n
+words_in n room fits text = sym (length_plain (plain_words (take n room))) ∙ (sym (ap length text) ∙ length-take-le n room fits)
+
 module _ {X : Type 0} (g : source.Ghosts X) where
   -- So many words were passed over.
   pub record SkippedSoFar (old now : X) (many : ℕ) : Type 0 where
@@ -55,9 +62,17 @@ module _ {X : Type 0} (g : source.Ghosts X) where
   pub skipped_none : (s : X) → g.spent s ≡ false → SkippedSoFar s s 0
   skipped_none s u = record { own = []; so_far = words_start g s [] u refl }
 
-  -- one more
-  pub skipped_more : (old now new : X) (many word : ℕ) → SkippedSoFar old now many → Takes g now new (word ∷ []) → Reads g now new → IsUsable g now new → SkippedSoFar old new (many + 1)
-  skipped_more old now new many word w t r u = record { own = w.own ++ word ∷ []; so_far = words_more g old now new w.own (w.own ++ word ∷ []) many word w.so_far t r u refl }
+  -- some more
+  pub skipped_more : (old now new : X) (many n : ℕ) (own : List ℕ) → SkippedSoFar old now many → Takes g now new own → length own ≡ n → Reads g now new → IsUsable g now new → SkippedSoFar old new (many + n)
+  skipped_more old now new many n own w t l r u = record {
+    own = w.own ++ own;
+    so_far = record {
+      takes = takes_both g old now new w.own own w.so_far.takes t;
+      reads = reads_both g old now new w.so_far.reads r;
+      usable = usable_both g old now new w.so_far.usable u;
+      length_is = omega (arith, length-append w.own own, w.so_far.length_is, l);
+    };
+  }
 
   -- the words of the segments
   pub skipped_all : (old new : X) (ns own : List ℕ) (root : Option ℕ) → Takes g old new own → length own ≡ sum ns → root_of (cut ns own) ≡ root

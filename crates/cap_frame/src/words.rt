@@ -4,7 +4,7 @@ ghost use Rattle.cap_frame.specs.Taking.{IsUsable, Reads, Stops, Takes};
 ghost use Rattle.cap_frame.specs.Rooms.{AreRooms};
 ghost use Rattle.cap_spec.specs.Frames.{joined, sizes_of};
 ghost use Rattle.cap_spec.specs.Messages.{root_of};
-ghost use Rattle.std.specs.Prelude.{◌<◌, ◌^◌, ◌≡◌, ◌≤◌, [], ◌∷◌, IfErr, IfOk, List, OnOk, false, length, map, sum, ℕ};
+ghost use Rattle.std.specs.Prelude.{◌<◌, ◌*◌, ◌^◌, ◌≡◌, ◌≤◌, [], ◌∷◌, IfErr, IfOk, List, OnOk, false, length, map, sum, ℕ};
 ghost use Rattle.std.specs.Vec.{vec_capacity};
 
 use crate::table::total;
@@ -88,6 +88,31 @@ pub(crate) fn read_contents<S: WordSource>(
     Ok(())
 }
 
+// Room for the words that are passed over at once, in bytes.
+const AT_ONCE: usize = 512;
+
+// Takes the words at hand, as far as there is room for them, or the next one where there are none, and
+// answers how many.
+#[inline(always)]
+fn skip_some<S: WordSource>(source: &mut S, room: &mut [u8]) -> Result<u64, SourceFault>
+    requires usable { S.spent source.old ≡ false }
+    requires room { 8 ≤ length room.old }
+    ensures some { IfOk result (λ n. (1 ≤ n) × (8 * n ≤ length room.old)) }
+    ensures ok { IfOk result (λ n. (own : List ℕ) × Takes S.WordSource source.old source.new own × (length own ≡ n)) }
+    ensures works { OnOk result (IsUsable S.WordSource source.old source.new) }
+    ensures reads { Reads S.WordSource source.old source.new }
+    ensures err { IfErr result (Stops S.WordSource 1 source.old source.new) }
+{
+    let count = source.ready(room);
+    if count > 0 {
+        return Ok(count as u64 / 8);
+    }
+    match next_word(source) {
+        Ok(_) => Ok(1),
+        Err(fault) => Err(fault),
+    }
+}
+
 /// Reads so many words, and keeps none.
 pub(crate) fn skip_words<S: WordSource>(source: &mut S, many: u64) -> Result<(), SourceFault>
     requires usable { S.spent source.old ≡ false }
@@ -96,9 +121,12 @@ pub(crate) fn skip_words<S: WordSource>(source: &mut S, many: u64) -> Result<(),
     ensures reads { Reads S.WordSource source.old source.new }
     ensures err { IfErr result (Stops S.WordSource many source.old source.new) }
 {
-    'words: for _ in 0..many {
-        match next_word(source) {
-            Ok(_) => {}
+    let mut room = [0; AT_ONCE];
+    let mut done = 0;
+    'words: while done < many {
+        let most = (many - done).min(AT_ONCE as u64 / 8) as usize;
+        match skip_some(source, &mut room[..8 * most]) {
+            Ok(count) => done += count,
             Err(fault) => return Err(fault),
         }
     }

@@ -1,5 +1,12 @@
+use Rattle.std.proofs.Common.{◌-◌, ◌≤◌}
 use Rattle.cap_frame.proofs.Skipping.{SkippedSoFar}
 use Rattle.cap_frame.proofs.words.skip_words.Given as goal
 
 abbrev pub invariant-words : goal.invariant-words
-invariant-words g l = SkippedSoFar g.S.WordSource l.initial.source l.source l.counter
+invariant-words g l = record {
+  few : l.done ≤ l.many;
+  skipped : SkippedSoFar g.S.WordSource l.initial.source l.source l.done;
+}
+
+abbrev pub decreases-words : goal.decreases-words
+decreases-words g l = l.many - l.done
