@@ -186,6 +186,37 @@ fn a_long_message_is_read_through_a_buffer(rt: HostRuntime) -> Result<(), Fail> 
     assert!(rt; is_message(&message, &[&[7], &second]), "the segments");
     assert_eq!(rt; source.next(), Ok(None));
     assert_eq!(rt; source.position(), 320_016);
+    let mut source = PlainWords::new(BufferedIn::new(alloc, bytes.as_slice())?);
+    let mut outline = Outline::new();
+    assert_eq!(rt; read_outline(&mut source, limit, &mut outline), Ok(true));
+    assert!(rt; is_outline(&outline, &[&[7], &second]), "the outline");
+    assert_eq!(rt; source.next(), Ok(None));
+    assert_eq!(rt; source.position(), 320_016);
+    Ok(())
+}
+
+#[test]
+fn words_are_passed_over_in_pieces(rt: HostRuntime) -> Result<(), Fail> {
+    let alloc = rt.alloc();
+    // An outline passes over 64 words at once, behind the root word: messages about so long, whole with
+    // a word behind them, and cut inside their last word.
+    for size in [64u32, 65, 66, 129, 130] {
+        let mut segment = Vec::new(alloc);
+        for word in 0..u64::from(size) {
+            segment.push(word)?;
+        }
+        let mut words = vec![in alloc; pair(0, size)]?;
+        words.extend_from_slice(&segment)?;
+        words.push(99)?;
+        let limit = u64::from(size);
+        let segments: &[&[u64]] = &[&segment];
+        let whole = Ok(Some(segments));
+        expect_message(&rt, alloc, &words, usize::MAX, limit, whole, Ok(Some(99)))?;
+        let cut = 8 * limit + 7;
+        let want = Err(FrameFault::Truncated { byte: cut });
+        let spent = Err(SourceFault::Spent);
+        expect_message(&rt, alloc, &words, cut as usize, limit, want, spent)?;
+    }
     Ok(())
 }
 
