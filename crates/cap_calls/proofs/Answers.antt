@@ -5,11 +5,11 @@ use Rattle.cap_spec.specs.Copies.{IsCanonical}
 use Rattle.cap_spec.specs.Faults.{IsRefused}
 use Rattle.cap_spec.specs.Tree.{cap_count, pointer_count}
 use Rattle.cap_spec.specs.declared.Refusal.{Refusal}
-use Rattle.cap_spec.proofs.Framing.{one_frame}
-use Rattle.cap_spec.proofs.OneFault.{one_refusal}
-use Rattle.cap_spec.proofs.OneTree.{one_tree}
-use Rattle.cap_spec.proofs.Preorder.{one_first_cap}
-use Rattle.cap_spec.proofs.Refusals.{tree_not_refused}
+use Rattle.cap_spec.proofs.Frames.Framing.{one_frame}
+use Rattle.cap_spec.proofs.Verdicts.OneFault.{one_refusal}
+use Rattle.cap_spec.proofs.Trees.OneTree.{one_tree}
+use Rattle.cap_spec.proofs.Paths.Preorder.{one_first_cap}
+use Rattle.cap_spec.proofs.Verdicts.Refusals.{tree_not_refused}
 use Rattle.cap_frame.specs.Framed.{TellsFront}
 use Rattle.cap_frame.specs.Fronts.{TellsLarge, TellsMany, Wants}
 use Rattle.cap_spec.specs.Frames.{IsPartial}

@@ -4,9 +4,9 @@ use Rattle.cap_spec.specs.Messages.{segment_of}
 use Rattle.cap_spec.specs.Tree.{Tree}
 use Rattle.cap_spec.specs.Denoting.{Denotes}
 use Rattle.cap_spec.specs.Canonical.{layout, trim}
-use Rattle.cap_spec.proofs.OneTree.{one_tree}
-use Rattle.cap_spec.proofs.Measures.{Fits, Measured, measured}
-use Rattle.cap_spec.proofs.TrimmedMeasures.{Trimmed, trimmed}
+use Rattle.cap_spec.proofs.Trees.OneTree.{one_tree}
+use Rattle.cap_spec.proofs.Canonical.TreeMeasures.{Fits, Measured, measured}
+use Rattle.cap_spec.proofs.Canonical.TrimmedMeasures.{Trimmed, trimmed}
 use Rattle.cap_canon.specs.InPlace.{AreInPlace}
 use Rattle.cap_canon.specs.Laying.{Due, Laid, IsPointed, OwnAt, own_size, below}
 use Rattle.cap_canon.specs.Objects.{IsObject}

@@ -6,9 +6,9 @@ use Rattle.std.proofs.lemmas.Option.{same_Some}
 use Rattle.cap_spec.specs.Denoting.{Denotes, DenoteEach, places}
 use Rattle.cap_spec.specs.Tree.{Tree, Trees, none, more, tree_at, tree_count}
 use Rattle.cap_spec.specs.Canonical.{is_null, children_needed}
-use Rattle.cap_spec.proofs.OneTree.{cons_parts}
-use Rattle.cap_spec.proofs.Charges.{each_charged, length-places}
-use Rattle.cap_spec.proofs.TrimmedMeasures.{children_needed_le}
+use Rattle.cap_spec.proofs.Trees.OneTree.{cons_parts}
+use Rattle.cap_spec.proofs.Trees.Charges.{each_charged, length-places}
+use Rattle.cap_spec.proofs.Canonical.TrimmedMeasures.{children_needed_le}
 use Rattle.cap_canon.proofs.Needed.{later_needed, later_zero}
 
 -- the first of several words in a row, and the others

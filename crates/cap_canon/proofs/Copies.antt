@@ -5,9 +5,9 @@ use Rattle.cap_spec.specs.Tree.{Tree, cap_count, has_cap}
 use Rattle.cap_spec.specs.Denoting.{Denotes}
 use Rattle.cap_spec.specs.Canonical.{layout, trim}
 use Rattle.cap_spec.specs.Paths.{IsFirstCap}
-use Rattle.cap_spec.proofs.OneTree.{one_tree}
-use Rattle.cap_spec.proofs.PathCounts.{first_cap}
-use Rattle.cap_spec.proofs.Sizes.{layout_charged}
+use Rattle.cap_spec.proofs.Trees.OneTree.{one_tree}
+use Rattle.cap_spec.proofs.Paths.PathCounts.{first_cap}
+use Rattle.cap_spec.proofs.Canonical.Sizes.{layout_charged}
 use Rattle.cap_vet.specs.Reports.{IsFirstCapOf, IsReport}
 use Rattle.cap_vet.specs.declared.report.Report.{Report}
 use Rattle.std.proofs.Common.{Result, Err}

@@ -6,11 +6,11 @@ use Rattle.std.proofs.lemmas.Option.{get_or_from_slice_get}
 use Rattle.cap_spec.specs.Tree.{Tree}
 use Rattle.cap_spec.specs.Denoting.{Denotes}
 use Rattle.cap_spec.specs.Canonical.{pointer_to, content, layout, trim}
-use Rattle.cap_spec.proofs.OneTree.{one_tree}
-use Rattle.cap_spec.proofs.Measures.{Fits, Measured, measured}
-use Rattle.cap_spec.proofs.TrimmedMeasures.{Trimmed, trimmed}
-use Rattle.cap_spec.proofs.Placing.{stand_inside}
-use Rattle.cap_spec.proofs.Sizes.{length-content}
+use Rattle.cap_spec.proofs.Trees.OneTree.{one_tree}
+use Rattle.cap_spec.proofs.Canonical.TreeMeasures.{Fits, Measured, measured}
+use Rattle.cap_spec.proofs.Canonical.TrimmedMeasures.{Trimmed, trimmed}
+use Rattle.cap_spec.proofs.Canonical.Placing.{stand_inside}
+use Rattle.cap_spec.proofs.Canonical.Sizes.{length-content}
 use Rattle.cap_canon.specs.Laying.{Due, Laid, IsPointed, OwnAt, own_size, below}
 use Rattle.cap_canon.specs.StillToLay.{IsOwed, IsNext, IsWalking}
 use Rattle.cap_canon.specs.Filling.{Agrees, OwnAppended}

@@ -7,7 +7,7 @@ use Rattle.cap_spec.specs.Messages.{IsMessage, segment_of}
 use Rattle.cap_spec.specs.Pointers.{element_bits, list_words}
 use Rattle.cap_spec.specs.Tree.{Tree, null, cap, struct, scalars, pointers, structs, Trees, none, more, tree_count}
 use Rattle.cap_spec.specs.Denoting.{value_at}
-use Rattle.cap_spec.proofs.Shapes.{range_length}
+use Rattle.cap_spec.proofs.Trees.DenotedTrees.{range_length}
 use Rattle.cap_canon.specs.CopyFrames.{OptionFull, Place, further_places, option_places, places_of, row_places}
 use Rattle.cap_canon.specs.Laying.{Due, AreBefore, below, element_slots, own_size, slots}
 use Rattle.cap_canon.specs.Objects.{AreLeft, AreElementsLeft, IsObject, IsStructObject, IsScalarsObject, IsPointersObject, IsStructsObject}

@@ -11,9 +11,9 @@ use Rattle.std.proofs.lemmas.List.FromFn.{length-map-range_with_len}
 use Rattle.cap_spec.specs.Scalars.{scalar_words}
 use Rattle.cap_spec.specs.Canonical.{struct_word}
 use Rattle.cap_spec.specs.Placing.{StandAt}
-use Rattle.cap_spec.proofs.Placing.{stand_word}
-use Rattle.cap_spec.proofs.ReadingBack.{length-scalar_words}
-use Rattle.cap_spec.proofs.Shapes.{range_length}
+use Rattle.cap_spec.proofs.Canonical.Placing.{stand_word}
+use Rattle.cap_spec.proofs.Trees.ReadingBack.{length-scalar_words}
+use Rattle.cap_spec.proofs.Trees.DenotedTrees.{range_length}
 use Rattle.cap_canon.specs.Laying.{Due, slots, element_slots, own_size, DataAt}
 use Rattle.cap_canon.specs.Filling.{IsDue, Fills, OwnAppended, elements_from}
 use Rattle.cap_canon.specs.Objects.{AreElementsLeft, IsStructObject, IsScalarsObject, IsPointersObject, IsStructsObject}

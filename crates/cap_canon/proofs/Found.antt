@@ -6,14 +6,14 @@ use Rattle.cap_spec.specs.Following.{TagFits}
 use Rattle.cap_spec.specs.Denoting.{Denotes, DenoteEach, AreElements, places, values_of, words_from}
 use Rattle.cap_spec.specs.Tree.{Tree, null, cap, struct, scalars, pointers, structs, Trees}
 use Rattle.cap_spec.specs.Canonical.{data_needed, children_needed, take_trees, data_of, children_of, cut_elements, trim, trim_all, trim_elements}
-use Rattle.cap_spec.proofs.Arrivals.{found_form}
-use Rattle.cap_spec.proofs.Charges.{extent_struct, extent_pointers, extent_structs}
-use Rattle.cap_spec.proofs.Finding.{SameObject, one_object}
-use Rattle.cap_spec.proofs.Measures.{extent_scalars}
-use Rattle.cap_spec.proofs.Messages.{one_word}
-use Rattle.cap_spec.proofs.OneTree.{HasForm, number_struct, number_list}
-use Rattle.cap_spec.proofs.Depths.{elements_depth}
-use Rattle.cap_spec.proofs.TrimmedMeasures.{children_needed_le, tree_count-take_le}
+use Rattle.cap_spec.proofs.Paths.Arrivals.{found_form}
+use Rattle.cap_spec.proofs.Trees.Charges.{extent_struct, extent_pointers, extent_structs}
+use Rattle.cap_spec.proofs.Trees.Finding.{SameObject, one_object}
+use Rattle.cap_spec.proofs.Canonical.TreeMeasures.{extent_scalars}
+use Rattle.cap_spec.proofs.Frames.Messages.{one_word}
+use Rattle.cap_spec.proofs.Trees.OneTree.{HasForm, number_struct, number_list}
+use Rattle.cap_spec.proofs.Paths.Depths.{elements_depth}
+use Rattle.cap_spec.proofs.Canonical.TrimmedMeasures.{children_needed_le, tree_count-take_le}
 use Rattle.cap_ptr.specs.Shapes.{FindsObject}
 use Rattle.cap_ptr.specs.declared.shapes.Shape.TheVariants as shape
 use Rattle.cap_canon.specs.Found.{IsStructAt, IsStructsAt}

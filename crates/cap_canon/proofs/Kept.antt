@@ -2,7 +2,7 @@
 use Rattle.std.proofs.Common.{ℕ, zero, suc, ◌+◌, ◌<◌, List, [], ◌∷◌, ◌++◌, ◌≡◌, sym, subst, arith, Option, Some}
 use Rattle.std.specs.List.{AllByRecursion}
 use Rattle.std.specs.Option.{option_to_list}
-use Rattle.cap_spec.proofs.Lists.{all_append, all_back}
+use Rattle.cap_spec.proofs.Bytes.Lists.{all_append, all_back}
 use Rattle.cap_canon.specs.CopyFrames.{IsRest, Place, all_places, further_places, option_places, places_of, row_places}
 use Rattle.cap_canon.specs.InPlace.{AreInPlace, IsInPlace}
 use Rattle.cap_canon.specs.declared.frame.Frame.{Frame}

@@ -5,9 +5,9 @@ use Rattle.std.specs.Prelude.{Some, slice_get}
 use Rattle.cap_spec.specs.Tree.{Tree, null, cap, struct, scalars, pointers, structs, Trees, none, more, tree_count}
 use Rattle.cap_spec.specs.Canonical.{struct_word, size, sizes, element_sizes, contents, element_contents, pointer_words, element_words}
 use Rattle.cap_spec.specs.Placing.{StandAt}
-use Rattle.cap_spec.proofs.Placing.{stand_front, stand_back}
-use Rattle.cap_spec.proofs.Measures.{Fits, FitElements}
-use Rattle.cap_spec.proofs.Sizes.{length-contents, length-pointer_words, length-element_words}
+use Rattle.cap_spec.proofs.Canonical.Placing.{stand_front, stand_back}
+use Rattle.cap_spec.proofs.Canonical.TreeMeasures.{Fits, FitElements}
+use Rattle.cap_spec.proofs.Canonical.Sizes.{length-contents, length-pointer_words, length-element_words}
 use Rattle.cap_canon.specs.Laying.{Due, Laid, IsPointed, OwnAt, slots, element_slots, DataAt, own_size, below}
 use Rattle.cap_canon.proofs.Laying.{stand_join, laid_inside, row_due, due_row}
 

@@ -5,9 +5,9 @@ use Rattle.cap_spec.specs.Tree.{Trees, none, more, tree_count}
 use Rattle.cap_spec.specs.Canonical.{pointer_to, size, sizes, content, contents, pointer_words}
 use Rattle.cap_canon.specs.Laying.{Due, Laid, slots}
 use Rattle.cap_spec.specs.Placing.{StandAt}
-use Rattle.cap_spec.proofs.Placing.{stand_front, stand_back, stand_inside}
-use Rattle.cap_spec.proofs.Measures.{FitEach}
-use Rattle.cap_spec.proofs.Sizes.{length-content}
+use Rattle.cap_spec.proofs.Canonical.Placing.{stand_front, stand_back, stand_inside}
+use Rattle.cap_spec.proofs.Canonical.TreeMeasures.{FitEach}
+use Rattle.cap_spec.proofs.Canonical.Sizes.{length-content}
 
 -- parts that stand one behind the other stand joined
 pub stand_join : (words : List ℕ) (b c : ℕ) (xs ys : List ℕ) → c ≡ b + length xs → StandAt words b xs → StandAt words c ys → StandAt words b (xs ++ ys)

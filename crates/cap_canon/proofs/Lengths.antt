@@ -4,10 +4,10 @@ use Rattle.cap_spec.specs.Messages.{IsMessage}
 use Rattle.cap_spec.specs.Tree.{Tree, null, cap, struct, scalars, pointers, structs, Trees, none, more, tree_count}
 use Rattle.cap_spec.specs.Denoting.{Denotes}
 use Rattle.cap_spec.specs.Canonical.{size, sizes, element_sizes, layout, trim}
-use Rattle.cap_spec.proofs.OneTree.{one_tree}
-use Rattle.cap_spec.proofs.Measures.{Measured, measured}
-use Rattle.cap_spec.proofs.TrimmedMeasures.{Trimmed, trimmed}
-use Rattle.cap_spec.proofs.Sizes.{length-content, trimmed_size_charged}
+use Rattle.cap_spec.proofs.Trees.OneTree.{one_tree}
+use Rattle.cap_spec.proofs.Canonical.TreeMeasures.{Measured, measured}
+use Rattle.cap_spec.proofs.Canonical.TrimmedMeasures.{Trimmed, trimmed}
+use Rattle.cap_spec.proofs.Canonical.Sizes.{length-content, trimmed_size_charged}
 use Rattle.cap_canon.specs.Laying.{Due, slots, element_slots, own_size, below, size_due}
 use Rattle.cap_canon.specs.StillToLay.{IsNext, IsWalking}
 use Rattle.cap_canon.specs.Objects.{IsObject}

@@ -7,8 +7,8 @@ use Rattle.std.proofs.lemmas.Bool.Decides.{eqb_tells}
 use Rattle.cap_spec.specs.Canonical.{data_needed}
 use Rattle.cap_spec.specs.Denoting.{words_from}
 use Rattle.cap_spec.specs.Messages.{HasWord, segment_of}
-use Rattle.cap_spec.proofs.TrimmedMeasures.{data_needed_le}
-use Rattle.cap_spec.proofs.Shapes.{range_length}
+use Rattle.cap_spec.proofs.Canonical.TrimmedMeasures.{data_needed_le}
+use Rattle.cap_spec.proofs.Trees.DenotedTrees.{range_length}
 use Rattle.cap_canon.specs.Trimming.{most_data}
 
 -- a word that isn't zero is needed

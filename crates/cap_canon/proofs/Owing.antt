@@ -5,9 +5,9 @@ use Rattle.std.proofs.lemmas.List.{append-nil, length-append, length-reverse, re
 use Rattle.cap_spec.specs.Messages.{IsMessage, segment_of}
 use Rattle.cap_spec.specs.Denoting.{Denotes}
 use Rattle.cap_spec.specs.Tree.{Tree}
-use Rattle.cap_spec.proofs.Arrivals.{lead_word}
-use Rattle.cap_spec.proofs.Messages.{HasWord-inside, HasWord-segment}
-use Rattle.cap_spec.proofs.OneTree.{Formed, formed}
+use Rattle.cap_spec.proofs.Paths.Arrivals.{lead_word}
+use Rattle.cap_spec.proofs.Frames.Messages.{HasWord-inside, HasWord-segment}
+use Rattle.cap_spec.proofs.Trees.OneTree.{Formed, formed}
 use Rattle.cap_canon.specs.CopyFrames.{AreShort, IsFull, IsRest, OptionFull, Place, all_places, option_places, places_of}
 use Rattle.cap_canon.specs.Laying.{Due, AreBefore, size_due}
 use Rattle.cap_canon.specs.StillToLay.{AreOwed, FrameOwes, IsNext, IsWalking, Stacked, work_left}

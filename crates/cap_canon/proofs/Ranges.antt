@@ -11,11 +11,11 @@ use Rattle.cap_spec.specs.Pointers.{element_bits, list_words}
 use Rattle.cap_spec.specs.Denoting.{words_from, values_of, value_at}
 use Rattle.cap_spec.specs.Scalars.{scalar_words}
 use Rattle.cap_spec.specs.Placing.{StandAt}
-use Rattle.cap_spec.proofs.Messages.{HasWord-at}
-use Rattle.cap_spec.proofs.Placing.{rest_at}
-use Rattle.cap_spec.proofs.ReadingBack.{length-scalar_words}
-use Rattle.cap_spec.proofs.Shapes.{range_length}
-use Rattle.cap_spec.proofs.WordsRead.{values_read}
+use Rattle.cap_spec.proofs.Frames.Messages.{HasWord-at}
+use Rattle.cap_spec.proofs.Canonical.Placing.{rest_at}
+use Rattle.cap_spec.proofs.Trees.ReadingBack.{length-scalar_words}
+use Rattle.cap_spec.proofs.Trees.DenotedTrees.{range_length}
+use Rattle.cap_spec.proofs.Trees.WordsRead.{values_read}
 use Rattle.cap_canon.specs.Filling.{elements_from}
 use Rattle.cap_canon.specs.Values.{used_bits}
 

@@ -3,7 +3,7 @@ use Rattle.std.proofs.Common.{◌≡◌, ◌+◌, ◌*◌, ◌/◌, ◌<◌, ◌
 use Rattle.std.specs.List.{AllByRecursion}
 use Rattle.cap_spec.specs.Plain.{plain_text, plain_words, word_bytes}
 use Rattle.cap_spec.specs.Words.{IsWord}
-use Rattle.cap_spec.proofs.Plain.{plain_back}
+use Rattle.cap_spec.proofs.Bytes.Plain.{plain_back}
 use Rattle.std.proofs.lemmas.List.{length-take-le, take-append-le, take_all}
 use Rattle.std.proofs.lemmas.Grind.{take-set_at}
 use Rattle.std.proofs.Math.Seq.{take-set-lt}

@@ -13,11 +13,11 @@ use Rattle.cap_spec.specs.Canonical.{pointer_to, struct_word, list_word}
 use Rattle.cap_spec.specs.Scalars.{scalar_words}
 use Rattle.cap_spec.specs.Placing.{StandAt}
 use Rattle.std.proofs.lemmas.List.FromFn.{length-map-range_with_len}
-use Rattle.cap_spec.proofs.Lists.{all_append}
-use Rattle.cap_spec.proofs.Messages.{one_word}
-use Rattle.cap_spec.proofs.Placing.{stand_back}
-use Rattle.cap_spec.proofs.PointerFields.{StructFields, struct_fields, ListFields, list_fields}
-use Rattle.cap_spec.proofs.Shapes.{range_length}
+use Rattle.cap_spec.proofs.Bytes.Lists.{all_append}
+use Rattle.cap_spec.proofs.Frames.Messages.{one_word}
+use Rattle.cap_spec.proofs.Canonical.Placing.{stand_back}
+use Rattle.cap_spec.proofs.Canonical.PointerFields.{StructFields, struct_fields, ListFields, list_fields}
+use Rattle.cap_spec.proofs.Trees.DenotedTrees.{range_length}
 use Rattle.cap_canon.specs.Laying.{DataAt, IsPointed, OwnAt, own_size}
 use Rattle.cap_canon.specs.Objects.{AreElementsLeft, IsStructObject, IsScalarsObject, IsPointersObject, IsStructsObject}
 use Rattle.cap_canon.specs.Values.{used_bits}

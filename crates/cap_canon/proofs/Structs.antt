@@ -2,7 +2,7 @@
 use Rattle.std.proofs.Common.{ℕ, suc, ◌+◌, ◌-◌, ◌*◌, ◌<◌, ◌≤◌, List, ◌++◌, ◌≡◌, ap, sym, subst, ◌∙◌, arith, length, append_assoc, length-append}
 use Rattle.cap_spec.specs.Messages.{segment_of}
 use Rattle.cap_spec.specs.Denoting.{words_from}
-use Rattle.cap_spec.proofs.Shapes.{range_length}
+use Rattle.cap_spec.proofs.Trees.DenotedTrees.{range_length}
 use Rattle.cap_canon.specs.Filling.{elements_from}
 
 -- the first i were appended, and the next one stands at t:at

@@ -4,9 +4,9 @@ use Rattle.std.specs.Prelude.{Some, slice_get}
 use Rattle.std.proofs.lemmas.List.{take_all}
 use Rattle.cap_spec.specs.Tree.{Tree}
 use Rattle.cap_spec.specs.Canonical.{pointer_to, size, content, layout}
-use Rattle.cap_spec.proofs.Measures.{Fits}
-use Rattle.cap_spec.proofs.Placing.{rest_at, stand_taken, stand_whole}
-use Rattle.cap_spec.proofs.Sizes.{length-content}
+use Rattle.cap_spec.proofs.Canonical.TreeMeasures.{Fits}
+use Rattle.cap_spec.proofs.Canonical.Placing.{rest_at, stand_taken, stand_whole}
+use Rattle.cap_spec.proofs.Canonical.Sizes.{length-content}
 use Rattle.cap_canon.specs.Laying.{Laid}
 
 -- words are a layout exactly where it is laid from word 1 on, with the root word due

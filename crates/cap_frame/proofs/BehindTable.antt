@@ -3,7 +3,7 @@ use Rattle.std.proofs.Common.{◌≡◌, ◌∙◌, ℕ, ◌+◌, ◌*◌, ◌�
 use Rattle.std.proofs.lemmas.List.{length-drop, length-take-le}
 use Rattle.cap_spec.specs.Frames.{halves, joined, sizes_of}
 use Rattle.cap_spec.specs.Plain.{plain_words}
-use Rattle.cap_spec.proofs.Framing.{length_halves}
+use Rattle.cap_spec.proofs.Frames.Framing.{length_halves}
 use Rattle.cap_frame.specs.Bytes.{cut}
 use Rattle.cap_frame.specs.Fronts.{sizes_told, table_words}
 use Rattle.cap_frame.proofs.Cuts.{cut_length, words_all}

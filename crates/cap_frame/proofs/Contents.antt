@@ -8,7 +8,7 @@ use Rattle.std.proofs.lemmas.Grind.{flat_map-append}
 use Rattle.cap_words.specs.declared.sources.WordSource as source
 use Rattle.cap_words.specs.declared.sources.SourceFault.{SourceFault}
 use Rattle.cap_spec.specs.Frames.{joined, sizes_of}
-use Rattle.cap_spec.proofs.Endings.{length_joined}
+use Rattle.cap_spec.proofs.Frames.Endings.{length_joined}
 use Rattle.cap_frame.specs.Taking.{Takes, Reads, IsUsable, Stops}
 use Rattle.cap_frame.specs.Rooms.{AreRooms}
 use Rattle.cap_frame.proofs.Taking.{takes_none, takes_both, reads_none, reads_both, usable_both, stops_later, stops_weaker}

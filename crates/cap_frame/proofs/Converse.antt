@@ -4,8 +4,8 @@ use Rattle.std.specs.Bool.{⊤}
 use Rattle.std.specs.Io.KnownBytes.{Consumes}
 use Rattle.cap_words.specs.declared.sources.WordSource as source
 use Rattle.cap_spec.specs.Frames.{sizes_of, IsTable, Frames, IsPartial}
-use Rattle.cap_spec.proofs.Framing.{one_frame, same_table}
-use Rattle.cap_spec.proofs.Endings.{message_not_none, message_not_too_many, message_not_too_large, message_not_partial, no_table, too_many_not_too_large, too_many_not_partial, too_large_not_partial, none_not_partial}
+use Rattle.cap_spec.proofs.Frames.Framing.{one_frame, same_table}
+use Rattle.cap_spec.proofs.Frames.Endings.{message_not_none, message_not_too_many, message_not_too_large, message_not_partial, no_table, too_many_not_too_large, too_many_not_partial, too_large_not_partial, none_not_partial}
 use Rattle.cap_frame.specs.declared.fault.FrameFault.{FrameFault}
 use Rattle.cap_frame.specs.declared.fault.FrameFault.TheVariants.{TooManySegments, TooLarge, Truncated, Device, Memory, Spent}
 use Rattle.cap_frame.specs.Taking.{Takes}

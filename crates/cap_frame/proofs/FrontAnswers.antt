@@ -2,8 +2,8 @@
 use Rattle.std.proofs.Common.{◌≡◌, ◌∙◌, ℕ, ◌+◌, ◌*◌, ◌%◌, ◌^◌, ◌<◌, ◌≤◌, Option, Some, None, Result, Ok, Err, List, [], length, sum, IfOk, IfSome, IsErrOf, IsOkAnd, IsSomeAnd, refl, sym, ap, subst, arith}
 use Rattle.cap_spec.specs.Frames.{IsPartial}
 use Rattle.cap_spec.specs.Plain.{plain_words, plain_is_cut}
-use Rattle.cap_spec.proofs.Framing.{one_frame, same_table}
-use Rattle.cap_spec.proofs.Endings.{message_not_none, message_not_too_many, message_not_too_large, message_not_partial, no_table, table_whole, too_many_not_too_large, too_many_not_partial, too_large_not_partial, none_not_partial}
+use Rattle.cap_spec.proofs.Frames.Framing.{one_frame, same_table}
+use Rattle.cap_spec.proofs.Frames.Endings.{message_not_none, message_not_too_many, message_not_too_large, message_not_partial, no_table, table_whole, too_many_not_too_large, too_many_not_partial, too_large_not_partial, none_not_partial}
 use Rattle.cap_frame.specs.Framed.{TellsFront, frame_bytes, framed_segments}
 use Rattle.cap_frame.specs.Fronts.{IsFront, TellsMany, TellsLarge, Wants, a_word, a_table, a_frame, table_words}
 use Rattle.cap_frame.specs.declared.framed.Framed.{Framed}

@@ -7,10 +7,10 @@ use Rattle.byteorder.specs.Endian.{little_number}
 use Rattle.cap_spec.specs.Frames.{halves, joined, sizes_of, IsTable, IsPartial, in_word, in_table, in_contents}
 use Rattle.cap_spec.specs.Plain.{plain_words, plain_is_cut}
 use Rattle.cap_spec.specs.Words.{IsWord}
-use Rattle.cap_spec.proofs.Framing.{length_halves, table_length}
-use Rattle.cap_spec.proofs.Lists.{all_take}
-use Rattle.cap_spec.proofs.OneEnding.{makes_table}
-use Rattle.cap_spec.proofs.Plain.{plain_cut_short, plain_short, plain_split}
+use Rattle.cap_spec.proofs.Frames.Framing.{length_halves, table_length}
+use Rattle.cap_spec.proofs.Bytes.Lists.{all_take}
+use Rattle.cap_spec.proofs.Frames.OneEnding.{makes_table}
+use Rattle.cap_spec.proofs.Bytes.Plain.{plain_cut_short, plain_short, plain_split}
 use Rattle.cap_frame.specs.Bytes.{cut}
 use Rattle.cap_frame.specs.Fronts.{IsFront, TellsMany, TellsLarge, Wants, a_word, a_table, a_frame, sizes_told, table_words}
 use Rattle.cap_frame.proofs.Cuts.{words_all, words_inside}

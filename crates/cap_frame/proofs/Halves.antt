@@ -7,7 +7,7 @@ use Rattle.std.proofs.lemmas.List.Sums.{sum_by-append}
 use Rattle.byteorder.specs.Endian.{little_number}
 use Rattle.cap_spec.specs.Frames.{halves}
 use Rattle.cap_spec.specs.Plain.{plain_words}
-use Rattle.cap_spec.proofs.Framing.{length_halves}
+use Rattle.cap_spec.proofs.Frames.Framing.{length_halves}
 use Rattle.cap_frame.specs.Fronts.{sizes_told}
 
 -- half k of the words is the number at byte 4 k

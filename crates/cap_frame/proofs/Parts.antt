@@ -5,7 +5,7 @@ use Rattle.std.proofs.lemmas.List.{drop-drop, drop-take, drop_all, length-drop, 
 use Rattle.byteorder.specs.Endian.{little_number}
 use Rattle.cap_frame.specs.Bytes.{cut, starts_of}
 use Rattle.cap_frame.proofs.Cuts.{cut_at, cut_length, cut_words, front_sum, start_is, words_exact}
-use Rattle.cap_spec.proofs.Plain.{plain_short, plain_split}
+use Rattle.cap_spec.proofs.Bytes.Plain.{plain_short, plain_split}
 use Rattle.cap_words.proofs.AtHand.{bytes_small, front_small}
 use Rattle.cap_spec.specs.Plain.{plain_text, plain_words}
 

@@ -6,7 +6,7 @@ use Rattle.cap_words.specs.declared.sources.WordSource as source
 use Rattle.cap_spec.specs.Frames.{joined, sizes_of}
 use Rattle.cap_spec.specs.Messages.{root_of}
 use Rattle.cap_spec.specs.Plain.{plain_text, plain_words}
-use Rattle.cap_spec.proofs.Plain.{length_plain}
+use Rattle.cap_spec.proofs.Bytes.Plain.{length_plain}
 use Rattle.cap_frame.specs.Taking.{Takes, Reads, IsUsable}
 use Rattle.cap_frame.proofs.Contents.{WordsSoFar, words_start}
 use Rattle.cap_frame.proofs.Taking.{reads_both, takes_both, usable_both}

@@ -6,8 +6,8 @@ use Rattle.std.proofs.lemmas.Grind.{flat_map-append}
 use Rattle.cap_words.specs.declared.sources.WordSource as source
 use Rattle.cap_words.specs.declared.sources.SourceFault.{SourceFault}
 use Rattle.cap_spec.specs.Frames.{halves, IsTable}
-use Rattle.cap_spec.proofs.Framing.{length_halves}
-use Rattle.cap_spec.proofs.Lists.{all_append, all_drop, all_take}
+use Rattle.cap_spec.proofs.Frames.Framing.{length_halves}
+use Rattle.cap_spec.proofs.Bytes.Lists.{all_append, all_drop, all_take}
 use Rattle.cap_frame.specs.Taking.{Takes, Reads, IsUsable, Stops}
 use Rattle.cap_frame.proofs.Taking.{takes_none, takes_both, reads_none, reads_both, usable_both, stops_later, stops_weaker}
 

@@ -3,8 +3,8 @@ use Rattle.std.proofs.Common.{ℕ, ◌≡◌, ◌≤◌, [], ◌∷◌, refl, li
 use Rattle.cap_spec.specs.Tree.{Tree, null, struct, scalars, structs, none, more}
 use Rattle.cap_spec.specs.Denoting.{Denotes}
 use Rattle.cap_spec.specs.Canonical.{layout, offsets, trim}
-use Rattle.cap_spec.proofs.Measures.{Fits}
-use Rattle.cap_spec.proofs.Layouts.{layout_denotes, trimmed_layout_denotes}
+use Rattle.cap_spec.proofs.Canonical.TreeMeasures.{Fits}
+use Rattle.cap_spec.proofs.Canonical.Layouts.{layout_denotes, trimmed_layout_denotes}
 
 -- a struct with a zero word and a null pointer at its end, which leads to a list of three bits and to a list of two structs with a null pointer each
 abbrev untrimmed : Tree

@@ -9,11 +9,11 @@ use Rattle.cap_spec.specs.Words.{IsWord}
 use Rattle.cap_spec.specs.Frames.{IsTable, Frames, Stream, in_word, in_table, in_contents}
 use Rattle.cap_spec.specs.Endings.{EndsIn, message, none, too_many, too_large, partial}
 use Rattle.cap_spec.specs.Unpacking.{Unpacks, Cut, unpacked}
-use Rattle.cap_spec.proofs.Streams.{stream_none, stream_cons}
-use Rattle.cap_spec.proofs.OneUnpacking.{unpacks_unless_cut, cut_if_cut}
-use Rattle.cap_spec.proofs.FrameTexts.{frame_text_frames}
-use Rattle.cap_spec.proofs.Repacking.{pack_text_reads}
-use Rattle.cap_spec.proofs.Unpacking.{plain_reads}
+use Rattle.cap_spec.proofs.Frames.Streams.{stream_none, stream_cons}
+use Rattle.cap_spec.proofs.Packed.OneUnpacking.{unpacks_unless_cut, cut_if_cut}
+use Rattle.cap_spec.proofs.Frames.FrameTexts.{frame_text_frames}
+use Rattle.cap_spec.proofs.Packed.Repacking.{pack_text_reads}
+use Rattle.cap_spec.proofs.Packed.Unpacking.{plain_reads}
 
 -- the table of one segment of one word
 table-one : IsTable (0x100000000 ∷ []) (1 ∷ [])

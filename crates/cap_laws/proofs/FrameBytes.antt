@@ -8,13 +8,13 @@ use Rattle.byteorder.specs.Numbers.{little_number-reads_back}
 use Rattle.cap_spec.specs.Words.{IsWord}
 use Rattle.cap_spec.specs.Plain.{word_bytes, plain_text, plain_words}
 use Rattle.cap_spec.specs.Frames.{halves, joined, sizes_of, Frames}
-use Rattle.cap_spec.proofs.Lists.{all_append}
-use Rattle.cap_spec.proofs.WordBytes.{bytes_fit, bytes_back, bytes_below}
-use Rattle.cap_spec.proofs.Plain.{plain_split}
-use Rattle.cap_spec.proofs.Unpacking.{plain_reads}
-use Rattle.cap_spec.proofs.MakingGroups.{aligned_text}
-use Rattle.cap_spec.proofs.FrameTexts.{plain_halves}
-use Rattle.cap_spec.proofs.OneEnding.{halves_fit}
+use Rattle.cap_spec.proofs.Bytes.Lists.{all_append}
+use Rattle.cap_spec.proofs.Bytes.WordBytes.{bytes_fit, bytes_back, bytes_below}
+use Rattle.cap_spec.proofs.Bytes.Plain.{plain_split}
+use Rattle.cap_spec.proofs.Packed.Unpacking.{plain_reads}
+use Rattle.cap_spec.proofs.Packed.MakingGroups.{aligned_text}
+use Rattle.cap_spec.proofs.Frames.FrameTexts.{plain_halves}
+use Rattle.cap_spec.proofs.Frames.OneEnding.{halves_fit}
 use Rattle.cap_laws.specs.Framing.{four_bytes, FramesInBytes}
 
 -- four bytes a number

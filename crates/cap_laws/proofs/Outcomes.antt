@@ -1,8 +1,8 @@
 -- Exactly one thing comes of following a word.
 use Rattle.std.proofs.Common.{◌≡◌, ℕ, inl, inr, List, pos, ap}
 use Rattle.cap_spec.specs.Following.{to_null, to_cap, to_object}
-use Rattle.cap_spec.proofs.Following.{one_lead, one_wrong, null-not_wrong, cap-not_wrong, object-not_wrong}
-use Rattle.cap_spec.proofs.Fates.{fate}
+use Rattle.cap_spec.proofs.Pointers.Following.{one_lead, one_wrong, null-not_wrong, cap-not_wrong, object-not_wrong}
+use Rattle.cap_spec.proofs.Trees.Outcomes.{fate}
 use Rattle.cap_laws.specs.FollowingLaws.{Outcome, refused, null, cap, object, ComesOf, OneOutcome}
 
 -- two things that come of one word are one

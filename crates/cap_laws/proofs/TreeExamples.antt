@@ -14,15 +14,15 @@ use Rattle.cap_spec.specs.declared.Reason.TheVariants.{NoRoot, Reserved, WordLim
 use Rattle.cap_spec.specs.declared.Refusal.{Refusal}
 use Rattle.cap_spec.specs.declared.Step.{Step}
 use Rattle.cap_spec.specs.declared.Step.TheVariants.{Ptr}
-use Rattle.cap_spec.proofs.Finding.{SameObject, one_object}
-use Rattle.cap_spec.proofs.Following.{one_lead}
-use Rattle.cap_spec.proofs.Messages.{one_word}
-use Rattle.cap_spec.proofs.Walks.{one_reached}
-use Rattle.cap_spec.proofs.Shapes.{denoted_is_tree}
-use Rattle.cap_spec.proofs.PathCounts.{pointer_path_reached, first_cap}
-use Rattle.cap_spec.proofs.PathCosts.{charge_is_cost}
-use Rattle.cap_spec.proofs.OneVerdict.{paths_within_depth}
-use Rattle.cap_spec.proofs.Refusals.{refused_justified}
+use Rattle.cap_spec.proofs.Trees.Finding.{SameObject, one_object}
+use Rattle.cap_spec.proofs.Pointers.Following.{one_lead}
+use Rattle.cap_spec.proofs.Frames.Messages.{one_word}
+use Rattle.cap_spec.proofs.Paths.Walks.{one_reached}
+use Rattle.cap_spec.proofs.Trees.DenotedTrees.{denoted_is_tree}
+use Rattle.cap_spec.proofs.Paths.PathCounts.{pointer_path_reached, first_cap}
+use Rattle.cap_spec.proofs.Paths.PathCosts.{charge_is_cost}
+use Rattle.cap_spec.proofs.Verdicts.OneVerdict.{paths_within_depth}
+use Rattle.cap_spec.proofs.Verdicts.Refusals.{refused_justified}
 
 -- a struct of two pointers: to a struct of the word 7, and to capability 5
 abbrev two_pointers : List (List ℕ)

@@ -7,7 +7,7 @@ use Rattle.std.specs.Io.KnownBytes.{Consumes}
 use Rattle.std.specs.Option.{option_map}
 use Rattle.byteorder.specs.Endian.{little_number}
 use Rattle.cap_spec.specs.Plain.{capped, plain_text, plain_words}
-use Rattle.cap_spec.proofs.Plain.{length_plain, plain_split}
+use Rattle.cap_spec.proofs.Bytes.Plain.{length_plain, plain_split}
 use Rattle.cap_words.proofs.Filling.{plain_join}
 use Rattle.cap_words.specs.TakingMany.{TakesAll}
 use Rattle.cap_pack.specs.AtHand.{Gives, Leads, Unpacks}

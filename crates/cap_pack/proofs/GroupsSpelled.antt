@@ -6,7 +6,7 @@ use Rattle.std.proofs.lemmas.Bool.{cases_lt, eqb-true}
 use Rattle.std.proofs.lemmas.List.{drop_more, length-replicate, length-take-le, replicate-append-replicate, take_all, take_rest}
 use Rattle.cap_spec.specs.Plain.{word_bytes, plain_text}
 use Rattle.cap_spec.specs.Packing.{zero_bytes, zero_run, full_run, tag_of, group_size, pack_text}
-use Rattle.cap_spec.proofs.Packing.{front-append, front-le, nonzero_word, pack_text-marked, pack_text-plain, pack_text-zeros, plain_full, group_size-plain, group_size-zeros}
+use Rattle.cap_spec.proofs.Packed.Packing.{front-append, front-le, nonzero_word, pack_text-marked, pack_text-plain, pack_text-zeros, plain_full, group_size-plain, group_size-zeros}
 use Rattle.std.proofs.lemmas.Slice.{take-put_mid}
 use borrow.Rule.Slice.PartMut.{put_mid}
 use Rattle.cap_pack.specs.Holding.{IsRun, Spells, held, first_zeros}

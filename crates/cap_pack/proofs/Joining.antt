@@ -5,7 +5,7 @@ use Rattle.std.proofs.lemmas.Grind.{take-set_at}
 use Rattle.std.proofs.lemmas.List.{length-replicate, length-take, length-take-le}
 use Rattle.std.specs.Io.KnownBytes.{Appends, Keeps, append_known}
 use Rattle.cap_spec.specs.Packing.{zero_bytes, zero_run, full_run, group_size, pack_text}
-use Rattle.cap_spec.proofs.Packing.{full_run-push, group_size-plain, pack_text-plain, pack_text-zeros, plain_full}
+use Rattle.cap_spec.proofs.Packed.Packing.{full_run-push, group_size-plain, pack_text-plain, pack_text-zeros, plain_full}
 use Rattle.cap_words.specs.Sinks.{Begins}
 use Rattle.cap_words.proofs.PlainSpelling.{part_begins}
 use Rattle.cap_pack.specs.Holding.{held, first_zeros, group_bytes}

@@ -5,7 +5,7 @@ use Rattle.std.specs.Io.KnownBytes.{Keeps}
 use Rattle.std.proofs.KnownBytes.{Keeps-refl, Keeps-trans}
 use Rattle.byteorder.specs.Endian.{IsRead, little_number}
 use Rattle.cap_spec.specs.Plain.{plain_words}
-use Rattle.cap_spec.proofs.Plain.{plain_short}
+use Rattle.cap_spec.proofs.Bytes.Plain.{plain_short}
 use Rattle.cap_words.proofs.Filling.{plain_join}
 use Rattle.cap_words.specs.Sinks.{Begins, StoppedPutting, WasPut}
 use Rattle.cap_words.specs.Ends.{Failures}

@@ -11,8 +11,8 @@ use Rattle.std.proofs.lemmas.Simd.{bitmask_splat, length-chunk, take_more_put_ch
 use Rattle.byteorder.specs.Endian.{little_number, little_bytes}
 use Rattle.cap_spec.specs.Plain.{word_bytes}
 use Rattle.cap_spec.specs.Packing.{tag_of}
-use Rattle.cap_spec.proofs.WordBytes.{bytes_back}
-use Rattle.cap_spec.proofs.Plain.{length_plain}
+use Rattle.cap_spec.proofs.Bytes.WordBytes.{bytes_back}
+use Rattle.cap_spec.proofs.Bytes.Plain.{length_plain}
 
 -- the tag of a word
 abbrev pub word_tag : ℕ → ℕ

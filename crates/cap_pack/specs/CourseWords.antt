@@ -4,8 +4,8 @@ use Rattle.std.specs.List.{AllByRecursion}
 use Rattle.std.specs.Option.{option_map}
 use Rattle.std.proofs.Common.{lit<}
 use Rattle.byteorder.specs.Endian.{little_number}
-use Rattle.cap_spec.proofs.Lists.{all_drop}
-use Rattle.cap_spec.proofs.UnpackedWords.{eight_bytes_below, spread_below}
+use Rattle.cap_spec.proofs.Bytes.Lists.{all_drop}
+use Rattle.cap_spec.proofs.Packed.UnpackedWords.{eight_bytes_below, spread_below}
 use Rattle.cap_spec.specs.Unpacking.{spread}
 use Rattle.cap_spec.specs.Words.{IsWord}
 use Rattle.cap_pack.specs.Course.{Course, stops, gives, words_of, zeros_then, head_rest, first_word, zeros_of, plain_of, course, course_in}

@@ -3,8 +3,8 @@ use Rattle.std.proofs.Common.{◌≡◌, ℕ, List, pos, Result, Ok, Err, IfOk, 
 use Rattle.cap_spec.specs.Following.{to_null, to_cap, to_object, Leads, Wrong}
 use Rattle.cap_spec.specs.Denoting.{Finds}
 use Rattle.cap_spec.specs.declared.Reason.{Reason}
-use Rattle.cap_spec.proofs.Finding.{SameObject, one_object}
-use Rattle.cap_spec.proofs.Following.{one_lead, one_wrong, null-not_wrong, cap-not_wrong, object-not_wrong}
+use Rattle.cap_spec.proofs.Trees.Finding.{SameObject, one_object}
+use Rattle.cap_spec.proofs.Pointers.Following.{one_lead, one_wrong, null-not_wrong, cap-not_wrong, object-not_wrong}
 use Rattle.cap_ptr.specs.Shapes.{IsObject, IsFollowed, AnswersObject}
 use Rattle.cap_ptr.specs.declared.shapes.Shape.{Shape}
 use Rattle.cap_ptr.specs.declared.shapes.Target.{Target}

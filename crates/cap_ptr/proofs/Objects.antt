@@ -6,8 +6,8 @@ use Rattle.cap_spec.specs.Messages.{HasWord, segment_of}
 use Rattle.cap_spec.specs.Pointers.{middle, data_size, pointer_size, list_size, extent}
 use Rattle.cap_spec.specs.Following.{IsComposite, extra, Wrong}
 use Rattle.cap_spec.specs.declared.Reason.TheVariants.{OutOfSegment}
-use Rattle.cap_spec.proofs.Charges.{extent_structs}
-use Rattle.cap_spec.proofs.Following.{wrong-out}
+use Rattle.cap_spec.proofs.Trees.Charges.{extent_structs}
+use Rattle.cap_spec.proofs.Pointers.Following.{wrong-out}
 use Rattle.cap_ptr.specs.Reaching.{LeadsTo}
 use Rattle.cap_ptr.specs.Shapes.{IsShape, FindsObject}
 use Rattle.cap_ptr.specs.declared.shapes.Shape.{Shape}

@@ -5,7 +5,7 @@ use Rattle.cap_spec.specs.Messages.{HasWord}
 use Rattle.cap_spec.specs.Pointers.{kind, middle, pad, far_segment}
 use Rattle.cap_spec.specs.Following.{Lead, to_null, to_cap, to_object, Says, IsOnePad, Leads, near, one_pad, two_pads, Wrong}
 use Rattle.cap_spec.specs.declared.Reason.TheVariants.{PadNotFar, TagKind, TagOffset, OutOfSegment}
-use Rattle.cap_spec.proofs.Following.{wrong-reserved, wrong-pad_reserved, wrong-pad_far, wrong-pad_near, wrong-tag_kind, wrong-tag_offset, wrong-out}
+use Rattle.cap_spec.proofs.Pointers.Following.{wrong-reserved, wrong-pad_reserved, wrong-pad_far, wrong-pad_near, wrong-tag_kind, wrong-tag_offset, wrong-out}
 use Rattle.cap_ptr.specs.Reaching.{StandsFor, HasTwoPad, LeadsTo}
 
 -- a word that says something isn't far

@@ -12,9 +12,9 @@ use Rattle.cap_spec.specs.Showing.{Own, own_of}
 use Rattle.cap_spec.specs.Standing.{DenotesAt}
 use Rattle.cap_spec.specs.Tree.{Tree, node_at}
 use Rattle.cap_spec.specs.declared.Step.{Step}
-use Rattle.cap_spec.proofs.Following.{one_lead}
-use Rattle.cap_spec.proofs.OneTree.{one_tree}
-use Rattle.cap_spec.proofs.Walks.{one_coming}
+use Rattle.cap_spec.proofs.Pointers.Following.{one_lead}
+use Rattle.cap_spec.proofs.Trees.OneTree.{one_tree}
+use Rattle.cap_spec.proofs.Paths.Walks.{one_coming}
 use Rattle.cap_vet.specs.Handles.{bytes_of_place}
 use Rattle.cap_vet.specs.Reports.{IsReport}
 use Rattle.cap_vet.specs.declared.place.Place.{Place}

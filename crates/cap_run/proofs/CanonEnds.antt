@@ -5,14 +5,14 @@ use Rattle.std.specs.List.{AllByRecursion}
 use Rattle.std.proofs.lemmas.List.{length-map}
 use Rattle.cap_spec.specs.Copies.{HasCopy}
 use Rattle.cap_spec.specs.Frames.{Stream, frame_text, sizes_of}
-use Rattle.cap_spec.proofs.FrameTexts.{one_stream}
-use Rattle.cap_spec.proofs.Lists.{all_back}
-use Rattle.cap_spec.proofs.Refusals.{tree_not_refused}
+use Rattle.cap_spec.proofs.Frames.FrameTexts.{one_stream}
+use Rattle.cap_spec.proofs.Bytes.Lists.{all_back}
+use Rattle.cap_spec.proofs.Verdicts.Refusals.{tree_not_refused}
 use Rattle.cap_words.specs.declared.sinks.WordSink as sink
 use Rattle.cap_words.specs.declared.sources.WordSource as source
 use Rattle.cap_frame.proofs.Converse.{same_some}
 use Rattle.cap_canon.specs.declared.fault.CanonFault.TheVariants.{HasCapability, Memory}
-use Rattle.cap_spec.proofs.Copies.{one_copy}
+use Rattle.cap_spec.proofs.Canonical.Copies.{one_copy}
 use Rattle.cap_canon.proofs.Copies.{cap_no_copy}
 use Rattle.cap_run.specs.Canons.{AreCanonised, CanonStops, Canonised, IsCanonised, MakesCopies, canonised, copies_of}
 use Rattle.cap_run.specs.Copying.{Finishes}

@@ -3,7 +3,7 @@ use Rattle.std.proofs.Common.{◌≡◌, ◌∙◌, ℕ, ◌+◌, ◌*◌, ◌�
 use Rattle.std.specs.Io.KnownBytes.{Keeps}
 use Rattle.std.proofs.lemmas.List.{length-take-le}
 use Rattle.cap_spec.specs.Plain.{plain_text, plain_words}
-use Rattle.cap_spec.proofs.Plain.{length_plain}
+use Rattle.cap_spec.proofs.Bytes.Plain.{length_plain}
 use Rattle.cap_words.specs.Ends.{Fails, WasSpent}
 use Rattle.cap_words.specs.Sinks.{sink_fault_of}
 use Rattle.cap_words.specs.TakingMany.{TakesAll}

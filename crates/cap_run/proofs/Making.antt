@@ -6,7 +6,7 @@ use Rattle.std.proofs.lemmas.List.{map-append}
 use Rattle.std.proofs.lemmas.Grind.{flat_map-append}
 use Rattle.cap_spec.specs.Frames.{frame_text}
 use Rattle.cap_spec.specs.Paths.{IsFirstCap}
-use Rattle.cap_spec.proofs.Lists.{all_append}
+use Rattle.cap_spec.proofs.Bytes.Lists.{all_append}
 use Rattle.cap_words.specs.Ends.{DeviceFails, GrowthFails, WasSpent}
 use Rattle.cap_words.specs.Sinks.{Begins, StoppedPutting, sink_fault_of}
 use Rattle.cap_words.specs.declared.ends.OutFault.{OutFault}

@@ -7,7 +7,7 @@ use Rattle.std.proofs.lemmas.Grind.{flat_map-append}
 use Rattle.cap_spec.specs.PathTexts.{BeginsPath, IsStep, step_text, path_text}
 use Rattle.cap_spec.specs.declared.Step.{Step}
 use Rattle.cap_spec.specs.declared.Step.TheVariants.{Ptr, Item as item}
-use Rattle.cap_spec.proofs.Lists.{all_append}
+use Rattle.cap_spec.proofs.Bytes.Lists.{all_append}
 use Rattle.cap_run.specs.PathReading.{ended_by, is_digit, item_number, longer_number, next_of, pointer_number}
 use Rattle.cap_run.specs.declared.paths.Reading.{Reading}
 use Rattle.cap_run.specs.declared.paths.Reading.TheVariants.{Start, Slash, Pointer, Item, Number}

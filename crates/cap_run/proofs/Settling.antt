@@ -3,9 +3,9 @@ use Rattle.std.proofs.Common.{◌≡◌, ◌∙◌, ◌⊎◌, inl, inr, ℕ, �
 use Rattle.std.specs.List.{AllByRecursion}
 use Rattle.std.specs.Io.KnownBytes.{Consumes}
 use Rattle.cap_spec.specs.Frames.{Stream, sizes_of}
-use Rattle.cap_spec.proofs.FrameTexts.{one_stream}
-use Rattle.cap_spec.proofs.Lists.{all_back}
-use Rattle.cap_spec.proofs.Streams.{StreamNext, stream_front, stream_next}
+use Rattle.cap_spec.proofs.Frames.FrameTexts.{one_stream}
+use Rattle.cap_spec.proofs.Bytes.Lists.{all_back}
+use Rattle.cap_spec.proofs.Frames.Streams.{StreamNext, stream_front, stream_next}
 use Rattle.cap_words.specs.declared.ends.ByteOut as output
 use Rattle.cap_words.specs.declared.sources.WordSource as source
 use Rattle.cap_frame.specs.ReadingFaults.{Answered, Faults}

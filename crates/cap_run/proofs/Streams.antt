@@ -2,8 +2,8 @@
 use Rattle.std.proofs.Common.{◌≡◌, ◌∙◌, ℕ, ◌≤◌, ◌<◌, Result, Ok, Err, Bool, false, Option, Some, None, List, [], ◌∷◌, ◌++◌, sum, OnSome, refl, sym, ap, append-nil}
 use Rattle.std.specs.Io.KnownBytes.{Consumes}
 use Rattle.cap_spec.specs.Frames.{Frames, sizes_of}
-use Rattle.cap_spec.proofs.Lists.{all_append}
-use Rattle.cap_spec.proofs.Streams.{stream_append, stream_none, stream_one}
+use Rattle.cap_spec.proofs.Bytes.Lists.{all_append}
+use Rattle.cap_spec.proofs.Frames.Streams.{stream_append, stream_none, stream_one}
 use Rattle.cap_words.specs.declared.sources.WordSource as source
 use Rattle.cap_words.specs.Ends.{Works}
 use Rattle.cap_frame.specs.Taking.{Takes, Breaks, Refuses}

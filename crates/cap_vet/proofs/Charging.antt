@@ -11,8 +11,8 @@ use Rattle.cap_spec.specs.declared.Kind.{Kind}
 use Rattle.cap_spec.specs.declared.Reason.{Reason}
 use Rattle.cap_spec.specs.declared.Refusal.{Refusal}
 use Rattle.cap_spec.specs.declared.Step.{Step}
-use Rattle.cap_spec.proofs.OnPath.{begins_itself, begins_longer, cost_last, on_element, on_nowhere, on_root, on_word, shallow_last}
-use Rattle.cap_spec.proofs.Walks.{coming_last}
+use Rattle.cap_spec.proofs.Verdicts.OnPath.{begins_itself, begins_longer, cost_last, on_element, on_nowhere, on_root, on_word, shallow_last}
+use Rattle.cap_spec.proofs.Paths.Walks.{coming_last}
 use Rattle.cap_vet.specs.Charging.{Arrives}
 use Rattle.cap_vet.specs.Finding.{IsFound, element_of}
 use Rattle.cap_vet.specs.declared.charged.Arrival.{Arrival}

@@ -2,14 +2,14 @@
 use Rattle.std.proofs.Common.{◌≡◌, ℕ, zero, suc, ◌+◌, ◌<◌, inl, inr, List, [], ◌∷◌, ◌++◌, refl, sym, ap, subst, arith, append_assoc}
 use Rattle.cap_spec.specs.Pointers.{kind, code, data_size, pointer_size, list_size}
 use Rattle.cap_spec.specs.Denoting.{Finds}
-use Rattle.cap_spec.proofs.Finding.{SameObject, one_object}
+use Rattle.cap_spec.proofs.Trees.Finding.{SameObject, one_object}
 use Rattle.cap_spec.specs.Paths.{Goes, Reaches, Spot, Walks, number_of, word}
 use Rattle.cap_spec.specs.declared.Step.{Step}
 use Rattle.cap_spec.specs.declared.Step.TheVariants.{Ptr, Item}
 use Rattle.cap_vet.specs.Trails.{AreApart, AreReached, GoOnFrom, IsUnder, row}
 use Rattle.cap_vet.proofs.Apart.{Apart-steps}
 use Rattle.cap_vet.proofs.Trails.{AreChildren}
-use Rattle.cap_spec.proofs.Walks.{walk_parts, walk_on, one_walk}
+use Rattle.cap_spec.proofs.Paths.Walks.{walk_parts, walk_on, one_walk}
 
 -- what reaches a pointer word behind one that is reached goes on from it by steps of its own
 pub beyond : (m : List (List ℕ)) (base : List Step) (x : Step) (v : List Step) (level level' s w s' w' : ℕ)

@@ -6,8 +6,8 @@ use Rattle.cap_spec.specs.Denoting.{Finds, element_levels}
 use Rattle.cap_spec.specs.Paths.{Goes, Reaches, Spot, Walks, element, word}
 use Rattle.cap_spec.specs.declared.Step.{Step}
 use Rattle.cap_spec.specs.declared.Step.TheVariants.{Ptr, Item}
-use Rattle.cap_spec.proofs.Finding.{one_object}
-use Rattle.cap_spec.proofs.Messages.{one_word}
+use Rattle.cap_spec.proofs.Trees.Finding.{one_object}
+use Rattle.cap_spec.proofs.Frames.Messages.{one_word}
 use Rattle.cap_vet.specs.Trails.{Ahead, Apart, AreApart, AreReached, GoOnFrom, IsUnder, row, element_rows}
 use Rattle.cap_vet.proofs.Apart.{Apart-right, Apart-steps, Apart-left}
 use Rattle.cap_vet.proofs.Trails.{AreChildren, AreReached-append, IsUnder-left, IsUnder-right}

@@ -5,8 +5,8 @@ use Rattle.cap_spec.specs.Pointers.{code, data_size, kind, list_size, list_words
 use Rattle.cap_spec.specs.Following.{Leads, to_null, to_cap}
 use Rattle.cap_spec.specs.Paths.{word}
 use Rattle.cap_spec.specs.declared.Kind.TheVariants.{Cap, Null, Pointers, Scalars, Struct}
-use Rattle.cap_spec.proofs.Charges.{extent_struct}
-use Rattle.cap_spec.proofs.Measures.{extent_scalars}
+use Rattle.cap_spec.proofs.Trees.Charges.{extent_struct}
+use Rattle.cap_spec.proofs.Canonical.TreeMeasures.{extent_scalars}
 use Rattle.cap_ptr.specs.Shapes.{FindsObject, IsShape}
 use Rattle.cap_ptr.specs.declared.shapes.Shape.{Shape}
 use Rattle.cap_ptr.specs.declared.shapes.Shape.TheVariants as shape

@@ -5,10 +5,10 @@ use Rattle.std.proofs.Math.Logic.{∥∥₁_elim, ∥∥₁_map}
 use Rattle.cap_spec.specs.Denoting.{Denotes}
 use Rattle.cap_spec.specs.Paths.{IsFirstCap}
 use Rattle.cap_spec.specs.Tree.{Tree, pointer_count, cap_count, has_cap}
-use Rattle.cap_spec.proofs.Deciding.{TreeWithin, tree_within}
-use Rattle.cap_spec.proofs.OneTree.{Same, one_tree}
-use Rattle.cap_spec.proofs.PathCounts.{first_cap}
-use Rattle.cap_spec.proofs.Preorder.{one_first_cap}
+use Rattle.cap_spec.proofs.Verdicts.Deciding.{TreeWithin, tree_within}
+use Rattle.cap_spec.proofs.Trees.OneTree.{Same, one_tree}
+use Rattle.cap_spec.proofs.Paths.PathCounts.{first_cap}
+use Rattle.cap_spec.proofs.Paths.Preorder.{one_first_cap}
 use Rattle.cap_vet.specs.Reports.{IsFirstCapOf, IsReport, IsVetted}
 use Rattle.cap_vet.specs.declared.report.Report.{Report}
 

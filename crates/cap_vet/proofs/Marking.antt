@@ -3,9 +3,9 @@ use Rattle.std.proofs.Common.{ℕ, ◌+◌, ◌≡◌, ◌⊎◌, List, [], ◌�
 use Rattle.cap_spec.specs.Occupying.{Occupies, AreApart, IsPlaceOf, Uses, IsDisjoint, Overlaps, twice, on_root, on_earlier, IsFirstOverlap}
 use Rattle.cap_spec.specs.Paths.{Before, IsOneOf, Reaches}
 use Rattle.cap_spec.specs.declared.Step.{Step}
-use Rattle.cap_spec.proofs.Overlaps.{disjoint_of_none, one_used}
-use Rattle.cap_spec.proofs.Preorder.{Before-irreflexive}
-use Rattle.cap_spec.proofs.Walks.{one_reached}
+use Rattle.cap_spec.proofs.Disjoint.Overlaps.{disjoint_of_none, one_used}
+use Rattle.cap_spec.proofs.Paths.Preorder.{Before-irreflexive}
+use Rattle.cap_spec.proofs.Paths.Walks.{one_reached}
 use Rattle.cap_vet.specs.Marks.{IsMarked, MarksAll, Conflicts}
 use Rattle.cap_vet.specs.Trails.{Ahead, IsTrail}
 use Rattle.cap_vet.proofs.Tours.{Falls-before, length-in_order, in_order, tour_of, up_to_head}

@@ -6,7 +6,7 @@ use Rattle.cap_spec.specs.Words.{field, signed_offset_of}
 use Rattle.cap_spec.specs.Messages.{HasWord, segment_of}
 use Rattle.cap_spec.specs.Pointers.{code, data_size, kind, list_size, pointer_size}
 use Rattle.cap_spec.specs.Following.{extra}
-use Rattle.cap_spec.proofs.Charges.{extent_pointers, extent_struct}
+use Rattle.cap_spec.proofs.Trees.Charges.{extent_pointers, extent_struct}
 use Rattle.cap_ptr.specs.Reaching.{LeadsTo}
 use Rattle.cap_vet.specs.Rows.{HasRow, IsParts}
 use Rattle.cap_ptr.specs.Shapes.{FindsObject}

@@ -5,7 +5,7 @@ use Rattle.cap_spec.specs.Words.{field}
 use Rattle.cap_spec.specs.Messages.{HasWord, segment_of}
 use Rattle.cap_spec.specs.Pointers.{code, data_size, kind, list_size, middle, pointer_size}
 use Rattle.cap_spec.specs.Denoting.{Finds}
-use Rattle.cap_spec.proofs.Charges.{extent_structs}
+use Rattle.cap_spec.proofs.Trees.Charges.{extent_structs}
 use Rattle.cap_ptr.proofs.Pads.{object-lead, stands-near}
 use Rattle.cap_vet.specs.Marks.{UsesPlace}
 use Rattle.cap_vet.specs.Rows.{FindsRow}

@@ -5,8 +5,8 @@ use Rattle.cap_spec.specs.Denoting.{places, words_from}
 use Rattle.cap_spec.specs.Paths.{Spot, word, element}
 use Rattle.cap_spec.specs.Standing.{DenotesAt}
 use Rattle.cap_spec.specs.Tree.{Tree, struct}
-use Rattle.cap_spec.proofs.Deciding.{EachWithin, TreeWithin, each_within, tree_within}
-use Rattle.cap_spec.proofs.Depths.{denoted_depth, depth_of, each_depth, walk_depth}
+use Rattle.cap_spec.proofs.Verdicts.Deciding.{EachWithin, TreeWithin, each_within, tree_within}
+use Rattle.cap_spec.proofs.Paths.Depths.{denoted_depth, depth_of, each_depth, walk_depth}
 use Rattle.cap_vet.specs.Nodes.{IsNode}
 
 -- a tree of at most 256 levels stands there

@@ -10,11 +10,11 @@ use Rattle.cap_spec.specs.Standing.{DenotesAt}
 use Rattle.cap_spec.specs.Tree.{Tree, node_at, part_at}
 use Rattle.cap_spec.specs.declared.Reason.{Reason}
 use Rattle.cap_spec.specs.declared.Step.{Step}
-use Rattle.cap_spec.proofs.Arrivals.{lead_word, node_to_coming, part_to_step, step_to_part}
-use Rattle.cap_spec.proofs.Messages.{HasWord-at, HasWord-inside}
-use Rattle.cap_spec.proofs.OneTree.{formed}
-use Rattle.cap_spec.proofs.OneVerdict.{reached_not_wrong}
-use Rattle.cap_spec.proofs.Walks.{coming_last, one_walk, walk_parts}
+use Rattle.cap_spec.proofs.Paths.Arrivals.{lead_word, node_to_coming, part_to_step, step_to_part}
+use Rattle.cap_spec.proofs.Frames.Messages.{HasWord-at, HasWord-inside}
+use Rattle.cap_spec.proofs.Trees.OneTree.{formed}
+use Rattle.cap_spec.proofs.Verdicts.OneVerdict.{reached_not_wrong}
+use Rattle.cap_spec.proofs.Paths.Walks.{coming_last, one_walk, walk_parts}
 use Rattle.cap_vet.specs.Nodes.{IsNode}
 use Rattle.cap_vet.specs.Reports.{IsVetted}
 use Rattle.cap_vet.specs.declared.report.Report.{Report}

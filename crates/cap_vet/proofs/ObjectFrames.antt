@@ -4,7 +4,7 @@ use Rattle.cap_spec.specs.Messages.{IsMessage, segment_of}
 use Rattle.cap_spec.specs.Pointers.{middle, data_size, pointer_size, list_size}
 use Rattle.cap_spec.specs.Denoting.{element_levels}
 use Rattle.cap_spec.specs.Following.{TagFits}
-use Rattle.cap_spec.proofs.Charges.{extent_struct, extent_structs}
+use Rattle.cap_spec.proofs.Trees.Charges.{extent_struct, extent_structs}
 use Rattle.cap_ptr.specs.Shapes.{FindsObject}
 use Rattle.cap_ptr.specs.declared.shapes.Shape.TheVariants.{Struct, Structs}
 use Rattle.cap_vet.specs.WalkFrames.{FrameIn, Place, element_places, spots}

@@ -11,9 +11,9 @@ use Rattle.cap_spec.specs.Paths.{Goes, Reaches, Spot, Walks, word}
 use Rattle.cap_spec.specs.Verdicts.{levels_below}
 use Rattle.cap_spec.specs.declared.Step.{Step}
 use Rattle.cap_spec.specs.declared.Step.TheVariants.{Ptr, Item}
-use Rattle.cap_spec.proofs.Charges.{extent_struct, extent_pointers, extent_structs, extra_same, lead_kind}
-use Rattle.cap_spec.proofs.Finding.{one_object}
-use Rattle.cap_spec.proofs.Messages.{one_word}
+use Rattle.cap_spec.proofs.Trees.Charges.{extent_struct, extent_pointers, extent_structs, extra_same, lead_kind}
+use Rattle.cap_spec.proofs.Trees.Finding.{one_object}
+use Rattle.cap_spec.proofs.Frames.Messages.{one_word}
 use Rattle.cap_vet.specs.Trails.{Ahead, row, element_rows}
 use Rattle.cap_vet.specs.Owing.{AreNear}
 use Rattle.cap_vet.specs.WalkFrames.{place_of, row_places, element_places}

@@ -8,10 +8,10 @@ use Rattle.cap_spec.specs.Following.{to_null, to_cap, to_object, Lead, Leads, ne
 use Rattle.cap_spec.specs.Denoting.{Finds, places}
 use Rattle.cap_spec.specs.Occupying.{Occupies, pads_of}
 use Rattle.cap_spec.specs.declared.Reason.{Reason}
-use Rattle.cap_spec.proofs.Arrivals.{lead_word}
-use Rattle.cap_spec.proofs.Following.{cap-not_wrong, null-not_wrong, object-not_wrong}
-use Rattle.cap_spec.proofs.Messages.{one_word}
-use Rattle.cap_spec.proofs.Places.{no_pads, pads_in_a_row}
+use Rattle.cap_spec.proofs.Paths.Arrivals.{lead_word}
+use Rattle.cap_spec.proofs.Pointers.Following.{cap-not_wrong, null-not_wrong, object-not_wrong}
+use Rattle.cap_spec.proofs.Frames.Messages.{one_word}
+use Rattle.cap_spec.proofs.Disjoint.Places.{no_pads, pads_in_a_row}
 
 -- they are as many words in a row as the form of the pointer tells
 two_few : (p : ℕ) → two p < 2

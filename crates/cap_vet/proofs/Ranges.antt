@@ -6,7 +6,7 @@ use Rattle.std.proofs.Math.Seq.{get_or-append_seam}
 use Rattle.cap_spec.specs.Messages.{IsMessage, segment_of}
 use Rattle.cap_spec.specs.Denoting.{places}
 use Rattle.cap_spec.specs.Occupying.{IsPlaceOf}
-use Rattle.cap_spec.proofs.Places.{apart_places, at_place, in_places}
+use Rattle.cap_spec.proofs.Disjoint.Places.{apart_places, at_place, in_places}
 use Rattle.cap_vet.specs.Marks.{MarksAll}
 use Rattle.cap_vet.specs.Taken.{AreStarts, IsTaken, bit_of, start_of}
 

@@ -8,12 +8,12 @@ use Rattle.cap_spec.specs.Denoting.{places}
 use Rattle.cap_spec.specs.Occupying.{pads_of, Occupies, IsDisjoint, IsFirstOverlap}
 use Rattle.cap_spec.specs.Paths.{Costs}
 use Rattle.cap_spec.specs.declared.Step.{Step}
-use Rattle.cap_spec.proofs.Arrivals.{lead_word}
-use Rattle.cap_spec.proofs.Messages.{HasWord-inside}
-use Rattle.cap_spec.proofs.OneTree.{Formed, formed}
-use Rattle.cap_spec.proofs.Overlaps.{disjoint_of_none, none_of_disjoint, one_overlap}
-use Rattle.cap_spec.proofs.Refusals.{tree_not_refused}
-use Rattle.cap_spec.proofs.Walks.{one_reached}
+use Rattle.cap_spec.proofs.Paths.Arrivals.{lead_word}
+use Rattle.cap_spec.proofs.Frames.Messages.{HasWord-inside}
+use Rattle.cap_spec.proofs.Trees.OneTree.{Formed, formed}
+use Rattle.cap_spec.proofs.Disjoint.Overlaps.{disjoint_of_none, none_of_disjoint, one_overlap}
+use Rattle.cap_spec.proofs.Verdicts.Refusals.{tree_not_refused}
+use Rattle.cap_spec.proofs.Paths.Walks.{one_reached}
 use Rattle.cap_vet.specs.Marks.{IsMarked, MarksAll, Conflicts}
 use Rattle.cap_vet.specs.Exclusives.{IsStopped}
 use Rattle.cap_vet.specs.Reports.{IsAccepted}

@@ -9,13 +9,13 @@ use Rattle.cap_spec.specs.Paths.{Spot, word, element}
 use Rattle.cap_spec.specs.Standing.{DenotesAt}
 use Rattle.cap_spec.specs.declared.Kind.{Kind}
 use Rattle.cap_spec.specs.declared.Kind.TheVariants.{Null, Cap, Struct, Scalars, Pointers, Structs}
-use Rattle.cap_spec.proofs.Arrivals.{found_form}
-use Rattle.cap_spec.proofs.Charges.{each_charged, length-places}
-use Rattle.cap_spec.proofs.Depths.{elements_depth}
-use Rattle.cap_spec.proofs.Finding.{SameObject, one_object}
-use Rattle.cap_spec.proofs.Following.{one_lead}
-use Rattle.cap_spec.proofs.Messages.{one_word}
-use Rattle.cap_spec.proofs.OneTree.{HasForm, form_of, formed, number_list, number_struct}
+use Rattle.cap_spec.proofs.Paths.Arrivals.{found_form}
+use Rattle.cap_spec.proofs.Trees.Charges.{each_charged, length-places}
+use Rattle.cap_spec.proofs.Paths.Depths.{elements_depth}
+use Rattle.cap_spec.proofs.Trees.Finding.{SameObject, one_object}
+use Rattle.cap_spec.proofs.Pointers.Following.{one_lead}
+use Rattle.cap_spec.proofs.Frames.Messages.{one_word}
+use Rattle.cap_spec.proofs.Trees.OneTree.{HasForm, form_of, formed, number_list, number_struct}
 use Rattle.cap_spec.specs.Arriving.{StandsAs, StandsElement, own_at}
 use Rattle.cap_spec.specs.Showing.{own_of, own_null, own_cap, own_struct, own_scalars, own_pointers, own_structs}
 

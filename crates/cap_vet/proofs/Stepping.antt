@@ -7,9 +7,9 @@ use Rattle.cap_spec.specs.Paths.{Goes, Spot, word, element}
 use Rattle.cap_spec.specs.declared.Kind.{Kind}
 use Rattle.cap_spec.specs.declared.Kind.TheVariants.{Null, Cap, Struct, Scalars, Pointers, Structs}
 use Rattle.cap_spec.specs.declared.Step.TheVariants.{Ptr, Item}
-use Rattle.cap_spec.proofs.Charges.{extent_structs}
-use Rattle.cap_spec.proofs.Finding.{SameObject, one_object}
-use Rattle.cap_spec.proofs.Messages.{one_word}
+use Rattle.cap_spec.proofs.Trees.Charges.{extent_structs}
+use Rattle.cap_spec.proofs.Trees.Finding.{SameObject, one_object}
+use Rattle.cap_spec.proofs.Frames.Messages.{one_word}
 use Rattle.cap_spec.specs.Arriving.{StandsAs, StandsElement}
 use Rattle.cap_vet.specs.Finding.{IsFound}
 use Rattle.cap_vet.specs.declared.found.Found.{Found}

@@ -7,7 +7,7 @@ use Rattle.cap_spec.specs.Following.{Leads, to_null, to_cap, to_object, extra}
 use Rattle.cap_spec.specs.Denoting.{Finds, element_levels, values_of, words_from}
 use Rattle.cap_spec.specs.Tree.{null, cap, struct, scalars, pointers, structs}
 use Rattle.cap_spec.specs.declared.Step.TheVariants.{Ptr, Item}
-use Rattle.cap_spec.proofs.Following.{one_lead}
+use Rattle.cap_spec.proofs.Pointers.Following.{one_lead}
 use Rattle.cap_vet.specs.Trails.{Ahead, row, element_rows}
 use Rattle.cap_vet.proofs.Counting.{Counts}
 use Rattle.cap_vet.proofs.Owing.{owes-row, owes-elements}

@@ -4,7 +4,7 @@ use Rattle.std.proofs.lemmas.List.{append-nil}
 use Rattle.cap_spec.specs.Paths.{Before, IsOneOf, IsTour, Rises}
 use Rattle.cap_spec.specs.declared.Step.{Step}
 use Rattle.cap_vet.specs.Trails.{Ahead, Apart, AreApart, Falls, IsUnder, IsTrail}
-use Rattle.cap_spec.proofs.Preorder.{Before-trans}
+use Rattle.cap_spec.proofs.Paths.Preorder.{Before-trans}
 use Rattle.cap_vet.proofs.Apart.{Apart-right, Apart-trans, not_before-self, not_apart-self, not_before-apart, longer-differs}
 use Rattle.cap_vet.proofs.Trails.{falls-step, reached-step}
 

@@ -4,7 +4,7 @@ use Rattle.std.proofs.lemmas.List.{append-nil}
 use Rattle.cap_spec.specs.Paths.{Before, IsOneOf, Reaches}
 use Rattle.cap_spec.specs.declared.Step.{Step}
 use Rattle.cap_vet.specs.Trails.{Ahead, Apart, AreApart, Falls, Precedes, GoOnFrom, IsUnder, AreReached, IsTrail}
-use Rattle.cap_spec.proofs.Preorder.{Before-longer}
+use Rattle.cap_spec.proofs.Paths.Preorder.{Before-longer}
 use Rattle.cap_vet.proofs.Apart.{apart-before, Apart-left}
 
 -- what is under one of two lists is under both together

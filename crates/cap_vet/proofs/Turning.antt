@@ -11,17 +11,17 @@ use Rattle.cap_spec.specs.Paths.{Before, Costs, Goes, IsOneOf, Reaches, Spot, Wa
 use Rattle.cap_spec.specs.Verdicts.{CostOf, levels_below}
 use Rattle.cap_spec.specs.declared.Step.{Step}
 use Rattle.cap_spec.specs.declared.Step.TheVariants.{Ptr, Item}
-use Rattle.cap_spec.proofs.Walks.{one_reached}
+use Rattle.cap_spec.proofs.Paths.Walks.{one_reached}
 use Rattle.cap_vet.specs.Trails.{Ahead, Falls}
 use Rattle.cap_vet.specs.Owing.{IsCount}
 use Rattle.cap_vet.specs.WalkFrames.{Place, place_of}
 use Rattle.cap_vet.specs.Walking.{IsFirstOf, LeadsToCap, Progress}
 use Rattle.std.proofs.lemmas.List.{append-nil}
 use Rattle.std.proofs.lemmas.Bool.Decides.{eqb_tells}
-use Rattle.cap_spec.proofs.Charges.{lead_kind}
-use Rattle.cap_spec.proofs.Finding.{one_object}
-use Rattle.cap_spec.proofs.Messages.{one_word}
-use Rattle.cap_spec.proofs.Preorder.{Before-asymmetric}
+use Rattle.cap_spec.proofs.Trees.Charges.{lead_kind}
+use Rattle.cap_spec.proofs.Trees.Finding.{one_object}
+use Rattle.cap_spec.proofs.Frames.Messages.{one_word}
+use Rattle.cap_spec.proofs.Paths.Preorder.{Before-asymmetric}
 use Rattle.cap_vet.specs.Turning.{or_place}
 use Rattle.cap_vet.proofs.Apart.{not_before-self}
 use Rattle.cap_vet.proofs.Children.{no_children}

@@ -1,7 +1,7 @@
 -- How a walk ends: at the first fault, or with the whole tree.
 use Rattle.cap_vet.specs.Reports.{IsAccepted, IsFirstCapOf}
 use Rattle.cap_vet.specs.Owing.{IsCount}
-use Rattle.cap_spec.proofs.Messages.{HasWord-at}
+use Rattle.cap_spec.proofs.Frames.Messages.{HasWord-at}
 use Rattle.std.proofs.Common.{◌≡◌, ℕ, ◌+◌, ◌<◌, inl, inr, List, [], ◌∷◌, ◌++◌, length, map, refl, sym, subst, arith, Option, None, Some}
 use Rattle.std.proofs.lemmas.List.{length-append}
 use Rattle.cap_spec.specs.Messages.{segment_of}

@@ -12,8 +12,8 @@ use Rattle.cap_spec.specs.Arriving.{own_at}
 use Rattle.cap_spec.specs.Showing.{byte_of, count_of, kind_of, scalar_of, words_of_own}
 use Rattle.cap_spec.specs.declared.Kind.{Kind}
 use Rattle.cap_spec.specs.declared.Kind.TheVariants.{Null, Cap, Struct, Scalars, Pointers, Structs}
-use Rattle.cap_spec.proofs.Readings.{byte_past, byte_there, length-values, length-values_words, value_past, value_there, values_word_past, values_word_there, word_past, word_within}
-use Rattle.cap_spec.proofs.Shapes.{range_length}
+use Rattle.cap_spec.proofs.Trees.Readings.{byte_past, byte_there, length-values, length-values_words, value_past, value_there, values_word_past, values_word_there, word_past, word_within}
+use Rattle.cap_spec.proofs.Trees.DenotedTrees.{range_length}
 use Rattle.cap_vet.specs.Finding.{own_words}
 use Rattle.cap_vet.proofs.ObjectFrames.{short_segment}
 

@@ -6,7 +6,7 @@ use Rattle.std.specs.Io.KnownBytes.{Consumes}
 use Rattle.std.specs.Option.{option_map}
 use Rattle.cap_spec.specs.Words.{IsWord}
 use Rattle.cap_spec.specs.Plain.{capped, plain_ends, plain_is_cut, plain_text, plain_words}
-use Rattle.cap_spec.proofs.Plain.{length_plain, plain_back, plain_cut_back, plain_split}
+use Rattle.cap_spec.proofs.Bytes.Plain.{length_plain, plain_back, plain_cut_back, plain_split}
 use Rattle.cap_words.specs.PlainSource.{bytes_left}
 use Rattle.cap_words.specs.TakingMany.{TakesAll}
 use Rattle.cap_words.specs.declared.plain_words.Phase.{Phase}

@@ -6,7 +6,7 @@ use Rattle.std.proofs.lemmas.List.{length-take-le}
 use Rattle.std.specs.Io.KnownBytes.{Consumes}
 use Rattle.cap_spec.specs.Plain.{plain_text, plain_words, word_bytes}
 use Rattle.cap_spec.specs.Words.{IsWord}
-use Rattle.cap_spec.proofs.Plain.{length_plain, plain_back, plain_short}
+use Rattle.cap_spec.proofs.Bytes.Plain.{length_plain, plain_back, plain_short}
 use Rattle.cap_words.proofs.Pieces.{on_some}
 use Rattle.cap_words.proofs.Turns.{filled, filled_within}
 use Rattle.cap_words.specs.Ends.{Works}

@@ -6,7 +6,7 @@ use Rattle.std.specs.List.{AllByRecursion}
 use Rattle.std.specs.Io.KnownBytes.{Consumes, IsAtEnd}
 use Rattle.std.specs.Option.{option_map}
 use Rattle.cap_spec.specs.Plain.{capped, plain_ends, plain_is_cut, plain_text, plain_words}
-use Rattle.cap_spec.proofs.Plain.{length_plain, plain_back, plain_short, plain_split}
+use Rattle.cap_spec.proofs.Bytes.Plain.{length_plain, plain_back, plain_short, plain_split}
 use Rattle.cap_words.proofs.AtHand.{taken}
 use Rattle.cap_words.specs.PlainSource.{bytes_left}
 use Rattle.cap_words.specs.TakingMany.{EndsWithin, TakesAll}

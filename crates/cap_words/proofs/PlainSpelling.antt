@@ -5,7 +5,7 @@ use Rattle.std.proofs.lemmas.List.{length-take-le}
 use Rattle.std.specs.Io.KnownBytes.{Appends, Consumes, IsAtEnd, Keeps, append_known}
 use Rattle.std.specs.Option.{option_map}
 use Rattle.cap_spec.specs.Plain.{capped, plain_ends, plain_is_cut, plain_text, plain_words, word_bytes}
-use Rattle.cap_spec.proofs.PlainText.{part_of_word}
+use Rattle.cap_spec.proofs.Bytes.PlainText.{part_of_word}
 use Rattle.cap_words.specs.PlainSource.{bytes_left}
 use Rattle.cap_words.specs.Sinks.{Begins}
 use Rattle.cap_words.specs.declared.plain_words.Phase.{Phase}

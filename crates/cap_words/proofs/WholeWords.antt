@@ -6,7 +6,7 @@ use Rattle.std.proofs.lemmas.List.{take-append-le, take_all}
 use Rattle.std.specs.List.{AllByRecursion}
 use Rattle.std.specs.Io.KnownBytes.{Appends, Keeps, append_known}
 use Rattle.cap_spec.specs.Plain.{plain_text, plain_words, word_bytes}
-use Rattle.cap_spec.proofs.Plain.{length_plain, plain_split}
+use Rattle.cap_spec.proofs.Bytes.Plain.{length_plain, plain_split}
 use Rattle.cap_words.proofs.PlainSpelling.{part_begins}
 use Rattle.cap_words.specs.Sinks.{Begins}
 

@@ -3,7 +3,7 @@ use Rattle.std.specs.Prelude.{ℕ, ◌≡◌, ◌<◌, ◌&&◌, Bool, true, fal
 use Rattle.std.specs.List.{AllByRecursion}
 use Rattle.std.specs.Option.{option_map}
 use Rattle.std.proofs.lemmas.Bool.{false≢true, ltb-true}
-use Rattle.cap_spec.proofs.Plain.{plain_split}
+use Rattle.cap_spec.proofs.Bytes.Plain.{plain_split}
 use Rattle.cap_spec.specs.Plain.{plain_words}
 use Rattle.cap_spec.specs.Words.{IsWord}
 use Rattle.cap_words.specs.PlainSource.{bytes_left}

@@ -3,7 +3,7 @@ use Rattle.std.proofs.lemmas.Bool.{eqb-true}
 use Rattle.cap_spec.specs.Canonical.{pointer_to, struct_word}
 use Rattle.cap_spec.specs.Messages.{HasWord, segment_of}
 use Rattle.cap_spec.specs.Tree.{Tree}
-use Rattle.cap_spec.proofs.Messages.{one_word}
+use Rattle.cap_spec.proofs.Frames.Messages.{one_word}
 use Rattle.cap_canon.specs.InPlace.{StandsIn}
 use Rattle.cap_canon.specs.Laying.{OwnAt}
 use Rattle.cap_canon.specs.declared.objects.Object.{Object}

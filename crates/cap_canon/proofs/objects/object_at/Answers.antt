@@ -1,4 +1,4 @@
-use Rattle.cap_spec.proofs.OneVerdict.{denoted_not_wrong}
+use Rattle.cap_spec.proofs.Verdicts.OneVerdict.{denoted_not_wrong}
 use Rattle.cap_canon.proofs.objects.object_at.Goals as goal
 
 pub unreachable-requires : goal.unreachable-requires

@@ -2,7 +2,7 @@ use Rattle.std.proofs.Common.{◌≡◌, ◌∙◌, arith, length, ap, sym, subs
 use Rattle.cap_spec.specs.Canonical.{layout, trim}
 use Rattle.cap_spec.specs.Copies.{HasCopy}
 use Rattle.cap_spec.specs.Plain.{plain_text}
-use Rattle.cap_spec.proofs.Plain.{length_plain}
+use Rattle.cap_spec.proofs.Bytes.Plain.{length_plain}
 use Rattle.cap_vet.specs.Vettings.{message_of}
 use Rattle.cap_canon.specs.Spelled.{spelled_words}
 use Rattle.cap_canon.specs.declared.fault.CanonFault.TheVariants.{HasCapability}

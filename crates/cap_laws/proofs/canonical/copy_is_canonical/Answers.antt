@@ -1,4 +1,4 @@
-use Rattle.cap_spec.proofs.Copies.{copy_is_canonical}
+use Rattle.cap_spec.proofs.Canonical.Copies.{copy_is_canonical}
 use Rattle.cap_laws.proofs.canonical.copy_is_canonical.Goals as goal
 
 pub returns : goal.returns

@@ -1,4 +1,4 @@
-use Rattle.cap_spec.proofs.Copies.{equal_copies}
+use Rattle.cap_spec.proofs.Canonical.Copies.{equal_copies}
 use Rattle.cap_laws.proofs.canonical.equal_copies.Goals as goal
 
 pub returns : goal.returns

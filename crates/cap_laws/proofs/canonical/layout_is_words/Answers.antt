@@ -1,4 +1,4 @@
-use Rattle.cap_spec.proofs.LayoutWords.{layout_is_words}
+use Rattle.cap_spec.proofs.Canonical.LayoutWords.{layout_is_words}
 use Rattle.cap_laws.proofs.canonical.layout_is_words.Goals as goal
 
 pub returns : goal.returns

@@ -1,4 +1,4 @@
-use Rattle.cap_spec.proofs.Copies.{one_copy}
+use Rattle.cap_spec.proofs.Canonical.Copies.{one_copy}
 use Rattle.cap_laws.proofs.canonical.one_copy.Goals as goal
 
 pub returns : goal.returns

@@ -1,4 +1,4 @@
-use Rattle.cap_spec.proofs.Layouts.{one_layout}
+use Rattle.cap_spec.proofs.Canonical.Layouts.{one_layout}
 use Rattle.cap_laws.proofs.canonical.one_layout.Goals as goal
 
 pub returns : goal.returns

@@ -1,4 +1,4 @@
-use Rattle.cap_spec.proofs.Overlaps.{disjoint_of_none, none_of_disjoint}
+use Rattle.cap_spec.proofs.Disjoint.Overlaps.{disjoint_of_none, none_of_disjoint}
 use Rattle.cap_laws.proofs.disjoint.disjoint_where_none_overlaps.Goals as goal
 
 pub returns : goal.returns

@@ -1,4 +1,4 @@
-use Rattle.cap_spec.proofs.Following.{one_lead}
+use Rattle.cap_spec.proofs.Pointers.Following.{one_lead}
 use Rattle.cap_laws.proofs.following.one_lead.Goals as goal
 
 pub returns : goal.returns

@@ -1,5 +1,5 @@
-use Rattle.cap_spec.proofs.OneEnding.{partial_else, message_partial, too_many_partial, too_large_partial}
-use Rattle.cap_spec.proofs.Endings.{none_not_partial}
+use Rattle.cap_spec.proofs.Frames.OneEnding.{partial_else, message_partial, too_many_partial, too_large_partial}
+use Rattle.cap_spec.proofs.Frames.Endings.{none_not_partial}
 use Rattle.std.proofs.Common.{subst, []}
 use Rattle.cap_spec.specs.Frames.{IsPartial}
 use Rattle.cap_laws.proofs.framing.partial_else.Goals as goal

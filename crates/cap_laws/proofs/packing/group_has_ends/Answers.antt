@@ -1,4 +1,4 @@
-use Rattle.cap_spec.proofs.PackedEnds.{ends_each}
+use Rattle.cap_spec.proofs.Packed.PackedEnds.{ends_each}
 use Rattle.cap_laws.proofs.packing.group_has_ends.Goals as goal
 
 pub returns : goal.returns

@@ -1,4 +1,4 @@
-use Rattle.cap_spec.proofs.Repacking.{pack_text_reads}
+use Rattle.cap_spec.proofs.Packed.Repacking.{pack_text_reads}
 use Rattle.cap_laws.proofs.packing.pack_text_reads_back.Goals as goal
 
 pub returns : goal.returns

@@ -1,4 +1,4 @@
-use Rattle.cap_spec.proofs.UnpackedWords.{unpacks_are_bytes}
+use Rattle.cap_spec.proofs.Packed.UnpackedWords.{unpacks_are_bytes}
 use Rattle.cap_laws.proofs.packing.unpacks_are_bytes.Goals as goal
 
 pub returns : goal.returns

@@ -1,4 +1,4 @@
-use Rattle.cap_spec.proofs.PathTexts.{one_bad_place, one_path_text, path_not_bad}
+use Rattle.cap_spec.proofs.Paths.PathTexts.{one_bad_place, one_path_text, path_not_bad}
 use Rattle.cap_laws.proofs.paths.one_path_text.Goals as goal
 
 pub returns-clause-path : goal.returns-clause-path

@@ -1,4 +1,4 @@
-use Rattle.cap_spec.proofs.Arrivals.{coming_to_node, node_to_coming}
+use Rattle.cap_spec.proofs.Paths.Arrivals.{coming_to_node, node_to_coming}
 use Rattle.cap_laws.proofs.paths.path_arrives_at_node.Goals as goal
 
 pub returns-clause-node : goal.returns-clause-node

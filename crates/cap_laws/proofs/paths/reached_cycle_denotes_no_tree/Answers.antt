@@ -1,4 +1,4 @@
-use Rattle.cap_spec.proofs.Cycles.{no_tree_above_cycle, no_tree_at_cycle}
+use Rattle.cap_spec.proofs.Paths.Cycles.{no_tree_above_cycle, no_tree_at_cycle}
 use Rattle.cap_laws.proofs.paths.reached_cycle_denotes_no_tree.Goals as goal
 
 pub returns-clause-root : goal.returns-clause-root

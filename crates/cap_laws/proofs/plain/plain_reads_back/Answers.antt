@@ -1,4 +1,4 @@
-use Rattle.cap_spec.proofs.Unpacking.{plain_reads}
+use Rattle.cap_spec.proofs.Packed.Unpacking.{plain_reads}
 use Rattle.cap_laws.proofs.plain.plain_reads_back.Goals as goal
 
 pub returns : goal.returns

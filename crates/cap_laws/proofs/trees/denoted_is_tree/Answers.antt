@@ -1,4 +1,4 @@
-use Rattle.cap_spec.proofs.Shapes.{denoted_is_tree}
+use Rattle.cap_spec.proofs.Trees.DenotedTrees.{denoted_is_tree}
 use Rattle.cap_laws.proofs.trees.denoted_is_tree.Goals as goal
 
 pub returns : goal.returns

@@ -1,4 +1,4 @@
-use Rattle.cap_spec.proofs.Charges.{pointers_charged}
+use Rattle.cap_spec.proofs.Trees.Charges.{pointers_charged}
 use Rattle.cap_laws.proofs.trees.pointers_are_charged.Goals as goal
 
 pub returns : goal.returns

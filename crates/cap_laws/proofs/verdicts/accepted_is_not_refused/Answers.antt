@@ -1,4 +1,4 @@
-use Rattle.cap_spec.proofs.Refusals.{tree_not_refused}
+use Rattle.cap_spec.proofs.Verdicts.Refusals.{tree_not_refused}
 use Rattle.cap_laws.proofs.verdicts.accepted_is_not_refused.Goals as goal
 
 pub returns : goal.returns

@@ -1,4 +1,4 @@
-use Rattle.cap_spec.proofs.Refusals.{refused_justified}
+use Rattle.cap_spec.proofs.Verdicts.Refusals.{refused_justified}
 use Rattle.cap_laws.proofs.verdicts.refused_is_justified.Goals as goal
 
 pub returns : goal.returns

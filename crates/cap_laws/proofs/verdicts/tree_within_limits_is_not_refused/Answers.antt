@@ -1,4 +1,4 @@
-use Rattle.cap_spec.proofs.OneVerdict.{no_refusal_of_tree}
+use Rattle.cap_spec.proofs.Verdicts.OneVerdict.{no_refusal_of_tree}
 use Rattle.cap_laws.proofs.verdicts.tree_within_limits_is_not_refused.Goals as goal
 
 pub returns : goal.returns

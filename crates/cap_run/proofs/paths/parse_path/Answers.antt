@@ -2,7 +2,7 @@ use Rattle.std.proofs.Common.{◌≡◌, ◌==◌, ◌∙◌, false, vec_len, in
 use Rattle.std.proofs.lemmas.List.{take_all, take_more}
 use Rattle.cap_spec.specs.PathTexts.{IsBadAt}
 use Rattle.cap_spec.specs.declared.Step.{Step}
-use Rattle.cap_spec.proofs.PathTexts.{one_bad_place, one_path_text}
+use Rattle.cap_spec.proofs.Paths.PathTexts.{one_bad_place, one_path_text}
 use Rattle.cap_run.specs.PathReading.{ended_by, next_of}
 use Rattle.cap_run.proofs.PathReading.{Unfinished, bad_end, bad_here, finished, unfinished_other, unfinished_slash}
 use Rattle.cap_run.proofs.Reading.{HasRead, is_other, read_next, with_step}

@@ -1,6 +1,6 @@
 use Rattle.std.proofs.Common.{ℕ, ◌<◌, length, arith, inr}
 use Rattle.cap_spec.specs.Messages.{HasWord, segment_of}
-use Rattle.cap_spec.proofs.Messages.{HasWord-at}
+use Rattle.cap_spec.proofs.Frames.Messages.{HasWord-at}
 use Rattle.cap_vet.proofs.Charging.{arrives_root, fault_root}
 use Rattle.cap_vet.proofs.charged.at_root.Goals as goal
 

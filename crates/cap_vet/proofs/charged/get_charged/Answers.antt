@@ -5,7 +5,7 @@ use Rattle.cap_spec.specs.Getting.{AreOnPath}
 use Rattle.cap_spec.specs.Paths.{Comes}
 use Rattle.cap_spec.specs.declared.Step.{Step}
 use Rattle.cap_spec.specs.declared.Step.TheVariants.{Ptr}
-use Rattle.cap_spec.proofs.OnPath.{one_path_refusal, path_not_refused}
+use Rattle.cap_spec.proofs.Verdicts.OnPath.{one_path_refusal, path_not_refused}
 use Rattle.cap_vet.specs.Charging.{Arrives}
 use Rattle.cap_vet.proofs.Charging.{arrives_nowhere, charges_nowhere, fault_longer}
 use Rattle.cap_vet.proofs.charged.get_charged.Goals as goal

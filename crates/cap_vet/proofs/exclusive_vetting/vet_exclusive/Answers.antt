@@ -1,8 +1,8 @@
 use Rattle.std.proofs.Common.{ap, inl, Err}
-use Rattle.cap_spec.proofs.Bounds.{charge_below_words}
-use Rattle.cap_spec.proofs.OneFault.{one_refusal}
-use Rattle.cap_spec.proofs.Overlaps.{none_of_disjoint}
-use Rattle.cap_spec.proofs.Refusals.{tree_not_refused}
+use Rattle.cap_spec.proofs.Disjoint.Bounds.{charge_below_words}
+use Rattle.cap_spec.proofs.Verdicts.OneFault.{one_refusal}
+use Rattle.cap_spec.proofs.Disjoint.Overlaps.{none_of_disjoint}
+use Rattle.cap_spec.proofs.Verdicts.Refusals.{tree_not_refused}
 use Rattle.cap_vet.specs.Limits.{depth_of, words_of}
 use Rattle.cap_vet.specs.declared.exclusive_vetting.ExclusiveRefusal.TheVariants.{Refused}
 use Rattle.cap_vet.proofs.SecondWalk.{not_stopped, root_there, stopped_there}

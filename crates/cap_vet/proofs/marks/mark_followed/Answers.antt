@@ -1,6 +1,6 @@
 use Rattle.std.proofs.Common.{ℕ, List, subst, inr}
 use Rattle.cap_spec.specs.Occupying.{pads_of}
-use Rattle.cap_spec.proofs.Overlaps.{one_used}
+use Rattle.cap_spec.proofs.Disjoint.Overlaps.{one_used}
 use Rattle.cap_vet.specs.Marks.{MarksAll}
 use Rattle.cap_vet.specs.Taken.{IsTaken}
 use Rattle.cap_vet.proofs.Pads.{cap_used, null_used, object_used, wrong_unused}

@@ -3,11 +3,11 @@ use Rattle.cap_spec.specs.Denoting.{places}
 use Rattle.cap_spec.specs.Messages.{segment_of}
 use Rattle.cap_spec.specs.Occupying.{IsPlaceOf, pads_of}
 use Rattle.cap_spec.specs.Pointers.{far_segment, kind, pad, two}
-use Rattle.cap_spec.proofs.Messages.{one_word}
+use Rattle.cap_spec.proofs.Frames.Messages.{one_word}
 use Rattle.cap_ptr.specs.declared.forms.Pointer.TheVariants.{Far}
 use Rattle.cap_vet.specs.Marks.{MarksAll}
 use Rattle.cap_vet.specs.Taken.{IsTaken}
-use Rattle.cap_spec.proofs.Places.{no_pads, pads_inside}
+use Rattle.cap_spec.proofs.Disjoint.Places.{no_pads, pads_inside}
 use Rattle.cap_vet.proofs.Pads.{many_pads, pad_places}
 use Rattle.cap_vet.proofs.Pointing.{marks_none}
 use Rattle.cap_vet.proofs.marks.mark_pads.Goals as goal

@@ -1,5 +1,5 @@
 use Rattle.std.proofs.Common.{ℕ, List, inr, subst}
-use Rattle.cap_spec.proofs.Overlaps.{one_used}
+use Rattle.cap_spec.proofs.Disjoint.Overlaps.{one_used}
 use Rattle.cap_vet.specs.Marks.{MarksAll}
 use Rattle.cap_vet.specs.Taken.{IsTaken}
 use Rattle.cap_vet.proofs.marks.mark_pointer.Goals as goal

@@ -1,8 +1,8 @@
 use Rattle.std.proofs.Common.{ap, ◌∙◌, Err}
 use Rattle.cap_spec.specs.Tree.{pointer_count}
-use Rattle.cap_spec.proofs.OneFault.{one_refusal}
-use Rattle.cap_spec.proofs.OneTree.{one_tree}
-use Rattle.cap_spec.proofs.Refusals.{refused_justified, tree_not_refused}
+use Rattle.cap_spec.proofs.Verdicts.OneFault.{one_refusal}
+use Rattle.cap_spec.proofs.Trees.OneTree.{one_tree}
+use Rattle.cap_spec.proofs.Verdicts.Refusals.{refused_justified, tree_not_refused}
 use Rattle.cap_vet.proofs.vetting.vet.Goals as goal
 
 pub returns-in-Err-clause-justified : goal.returns-in-Err-clause-justified

@@ -2,7 +2,7 @@ use Rattle.std.proofs.Common.{◌∙◌, ◌++◌, [], ◌∷◌, List, ℕ, ap,
 use Rattle.std.specs.List.{AllByRecursion}
 use Rattle.cap_spec.specs.Denoting.{words_from}
 use Rattle.cap_spec.specs.Words.{IsWord}
-use Rattle.cap_spec.proofs.Lists.{all_append}
+use Rattle.cap_spec.proofs.Bytes.Lists.{all_append}
 use Rattle.cap_canon.proofs.Ranges.{range_more}
 use Rattle.cap_canon.proofs.target.Target.append_from.Goals as goal
 

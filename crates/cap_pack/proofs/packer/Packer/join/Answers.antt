@@ -1,5 +1,5 @@
 use Rattle.std.proofs.Common.{◌∷◌, refl, ap, sym, ◌∙◌, arith}
-use Rattle.cap_spec.proofs.Packing.{zero_run-ends, full_run-ends}
+use Rattle.cap_spec.proofs.Packed.Packing.{zero_run-ends, full_run-ends}
 use Rattle.cap_pack.specs.Holding.{first_zeros}
 use Rattle.cap_pack.proofs.Joining.{zeros_end, plain_ends, one_group-push}
 use Rattle.cap_pack.proofs.packer.Packer.join.Goals as goal

@@ -3,7 +3,7 @@ use Rattle.std.proofs.KnownBytes.{append_known-moved}
 use Rattle.std.proofs.lemmas.Result.{on_ok_weaker, on_err_weaker}
 use Rattle.cap_spec.specs.Plain.{word_bytes}
 use Rattle.cap_spec.specs.Packing.{pack_text, tag_of}
-use Rattle.cap_spec.proofs.Packing.{group_size-plain, pack_text-marked}
+use Rattle.cap_spec.proofs.Packed.Packing.{group_size-plain, pack_text-marked}
 use Rattle.cap_words.proofs.PlainSpelling.{part_begins}
 use Rattle.cap_pack.specs.Holding.{held, group_bytes}
 use Rattle.cap_pack.proofs.Joining.{both_written, second_begins}

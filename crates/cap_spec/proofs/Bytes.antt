@@ -1,0 +1,5 @@
+-- Lists, and words in bytes.
+pub mod Lists
+pub mod WordBytes
+pub mod Plain
+pub mod PlainText

@@ -1,0 +1,223 @@
+-- The layout of a tree denotes that tree.
+use Rattle.std.proofs.Common.{ℕ, ◌+◌, ◌-◌, ◌*◌, ◌^◌, ◌<◌, ◌≤◌, List, [], ◌∷◌, ◌≡◌, ◌≢◌, sym, ap, ap₂, refl, subst, ◌∙◌, arith, length}
+use Rattle.std.specs.Prelude.{if◌then◌else◌, ◌==◌}
+use Rattle.std.specs.List.{AllByRecursion}
+use Rattle.std.proofs.lemmas.Bool.{ne_eqb}
+use Rattle.std.proofs.lemmas.Option.{slice_get_within}
+use Rattle.cap_spec.specs.Messages.{HasWord}
+use Rattle.cap_spec.specs.Pointers.{kind, middle, data_size, pointer_size, list_size, extent, element_bits, list_words}
+use Rattle.cap_spec.specs.Following.{near, IsComposite, TagFits, extra}
+use Rattle.cap_spec.specs.Tree.{struct, scalars, pointers, structs, Trees, none, more, tree_count}
+use Rattle.cap_spec.specs.Denoting.{Finds, Denotes, DenoteEach, AreElements, places, words_from, values_of, element_levels}
+use Rattle.cap_spec.specs.Canonical.{struct_word, pointer_to}
+use Rattle.cap_spec.specs.Scalars.{scalar_words}
+use Rattle.cap_spec.proofs.Trees.Charges.{extent_struct, extent_pointers, extent_structs}
+use Rattle.cap_spec.proofs.Trees.ReadingBack.{scalars_read, length-scalar_words}
+use Rattle.cap_spec.specs.Placing.{StandAt}
+use Rattle.cap_spec.proofs.Canonical.Placing.{stand_inside, stand_word, stand_read}
+use Rattle.cap_spec.proofs.Canonical.PointerFields.{StructFields, struct_fields, ListFields, start_after, start_before}
+use Rattle.cap_spec.proofs.Canonical.TreeMeasures.{idle, extent_scalars, extra_scalars, extra_structs}
+
+-- three and two
+pub not_far : (x : ℕ) → x ≡ 3 → x ≢ 2
+not_far x e f = absurd (omega arith)
+
+-- a place inside, of equal extents
+within : (b x y l : ℕ) → x ≡ y → b + y ≤ l → b + x ≤ l
+within b x y l e h = omega arith
+
+-- a struct's pointer that isn't zero leads to its object
+struct_finds : (seg : List ℕ) (a b offset q d p : ℕ) → HasWord (seg ∷ []) 0 a q → StructFields q offset d p → q ≢ 0 → b ≡ a + 1 + offset → offset < 2 ^ 29
+    → b + d + p ≤ length seg → Finds (seg ∷ []) 0 a 0 0 b q
+struct_finds seg a b offset q d p h f some e lt le =
+    let x : extent q ≡ d + p = extent_struct q f.kind ∙ ap₂ (λ i j. i + j) f.data_words f.pointers in
+    record {
+      leads = near q h (λ z. absurd (omega (arith, z, f.kind))) (omega (arith, f.kind), some, refl, start_after q a b offset f.middle lt e, refl) refl;
+      sits = record { exists = omega arith; inside = omega (arith, x, le); composite = λ z. absurd (omega (arith, z.0, f.kind)) };
+    }
+
+-- a list's pointer leads to its object
+list_finds : (seg : List ℕ) (a b offset q c n : ℕ) → HasWord (seg ∷ []) 0 a q → ListFields q offset c n → b ≡ a + 1 + offset → offset < 2 ^ 29
+    → b + extent q ≤ length seg → (IsComposite q → (tag : ℕ) × HasWord (seg ∷ []) 0 b tag × TagFits tag (list_size q)) → Finds (seg ∷ []) 0 a 0 0 b q
+list_finds seg a b offset q c n h f e lt le tagged =
+    record {
+      leads = near q h (λ z. absurd (omega (arith, z, f.kind))) (omega (arith, f.kind), (λ z. absurd (zero_kind q z f.kind)), refl, start_after q a b offset f.middle lt e, refl) refl;
+      sits = record { exists = omega arith; inside = le; composite = tagged };
+    }
+  where
+    zero_kind : (q : ℕ) → q ≡ 0 → kind q ≡ 1 → ⊥
+    zero_kind q e k = omega arith
+
+-- a struct with words
+struct_laid : (seg ws : List ℕ) (ts : Trees) (a b offset q inner deep : ℕ) → HasWord (seg ∷ []) 0 a q → StructFields q offset (length ws) (tree_count ts)
+    → 0 < length ws + tree_count ts → b ≡ a + 1 + offset → offset < 2 ^ 29 → b + length ws + tree_count ts ≤ length seg → StandAt seg b ws
+    → DenoteEach (seg ∷ []) (places 0 (b + length ws) (tree_count ts)) ts inner deep
+    → Denotes (seg ∷ []) 0 a (struct ws ts) (length ws + tree_count ts + inner) (1 + deep)
+struct_laid seg ws ts a b offset q inner deep h f some e lt le st each =
+    let x : extent q ≡ length ws + tree_count ts = extent_struct q f.kind ∙ ap₂ (λ i j. i + j) f.data_words f.pointers in
+    let y : ws ≡ words_from (seg ∷ []) 0 b (data_size q) = sym (stand_read seg b (data_size q) ws f.data_words st) in (
+      0,
+      0,
+      b,
+      q,
+      inner,
+      deep,
+      record {
+        finds = struct_finds seg a b offset q (length ws) (tree_count ts) h f (λ z. absurd (has_words q (length ws) (tree_count ts) f.data_words f.pointers z some)) e lt le;
+        kind = f.kind;
+        data_words = y;
+        charge = omega (arith, x);
+        depth = refl;
+      },
+      moved (data_size q) (length ws) (pointer_size q) (tree_count ts) f.data_words f.pointers each,
+    )
+  where
+    has_words : (q d p : ℕ) → data_size q ≡ d → pointer_size q ≡ p → q ≡ 0 → 0 < d + p → ⊥
+    has_words q d p e g z some = omega arith
+
+    moved : (d d' p p' : ℕ) → d ≡ d' → p ≡ p' → DenoteEach (seg ∷ []) (places 0 (b + d') p') ts inner deep → DenoteEach (seg ∷ []) (places 0 (b + d) p) ts inner deep
+    moved d d' p p' e g each = rw (e, g) each
+
+-- a struct without words
+empty_laid : (seg : List ℕ) (a : ℕ) → HasWord (seg ∷ []) 0 a (2 ^ 32 - 4) → Denotes (seg ∷ []) 0 a (struct [] none) 0 1
+empty_laid seg a h =
+    let l : a < length seg = slice_get_within seg a (2 ^ 32 - 4) h in (
+      0,
+      0,
+      a,
+      2 ^ 32 - 4,
+      0,
+      0,
+      record {
+        finds = record {
+          leads = near (2 ^ 32 - 4) h (λ z. absurd (omega (arith, z))) (omega arith, (λ z. absurd (omega (arith, z))), refl, start_before a, refl) refl;
+          sits = record { exists = omega arith; inside = omega (arith, l); composite = λ z. absurd (omega (arith, z.0)) };
+        };
+        kind = refl;
+        data_words = sym (stand_read seg a 0 [] refl (omega (arith, l)));
+        charge = refl;
+        depth = refl;
+      },
+      (refl, refl, refl),
+    )
+
+-- the pointer of a struct with words
+some_words : (seg : List ℕ) (a offset d p : ℕ) → 0 < d + p → HasWord (seg ∷ []) 0 a (if (d + p) == 0 then 2 ^ 32 - 4 else struct_word offset d p) → HasWord (seg ∷ []) 0 a (struct_word offset d p)
+some_words seg a offset d p some h =
+    subst (λ y. HasWord (seg ∷ []) 0 a (if y then 2 ^ 32 - 4 else struct_word offset d p)) (ne_eqb (d + p) 0 (λ z. absurd (omega (arith, z, some)))) h
+
+-- each struct
+pub any_struct_laid : (seg ws : List ℕ) (ts : Trees) (a b offset inner deep : ℕ) → HasWord (seg ∷ []) 0 a (pointer_to offset (struct ws ts))
+    → length ws < 2 ^ 16 → tree_count ts < 2 ^ 16 → b ≡ a + 1 + offset → offset < 2 ^ 29 → b + length ws + tree_count ts ≤ length seg → StandAt seg b ws
+    → DenoteEach (seg ∷ []) (places 0 (b + length ws) (tree_count ts)) ts inner deep
+    → Denotes (seg ∷ []) 0 a (struct ws ts) (length ws + tree_count ts + inner) (1 + deep)
+any_struct_laid seg [] none a b offset inner deep h hd hp e lt le st each =
+    let c : 0 ≡ inner = sym each.1 in
+    let d : 0 ≡ deep = sym each.2 in
+    moved inner deep c d (empty_laid seg a h)
+  where
+    moved : (x y : ℕ) → 0 ≡ x → 0 ≡ y → Denotes (seg ∷ []) 0 a (struct [] none) 0 1 → Denotes (seg ∷ []) 0 a (struct [] none) (0 + 0 + x) (1 + y)
+    moved x y e g h = rw (← e, ← g) h
+any_struct_laid seg (x ∷ xs) ts a b offset inner deep h hd hp e lt le st each =
+    let s : 0 < length (x ∷ xs) + tree_count ts = omega arith in
+    struct_laid seg (x ∷ xs) ts a b offset (struct_word offset (length (x ∷ xs)) (tree_count ts)) inner deep
+    (some_words seg a offset (length (x ∷ xs)) (tree_count ts) s h)
+    (struct_fields offset (length (x ∷ xs)) (tree_count ts) (omega (arith, lt)) hd hp) s e lt le st each
+any_struct_laid seg [] (more t ts) a b offset inner deep h hd hp e lt le st each =
+    let s : 0 < 0 + tree_count (more t ts) = omega arith in
+    struct_laid seg [] (more t ts) a b offset (struct_word offset 0 (tree_count (more t ts))) inner deep
+    (some_words seg a offset 0 (tree_count (more t ts)) s h)
+    (struct_fields offset 0 (tree_count (more t ts)) (omega (arith, lt)) hd hp) s e lt le st each
+
+-- a list of values
+pub scalars_laid : (seg : List ℕ) (e : ℕ) (vs : List ℕ) (a b offset q : ℕ) → HasWord (seg ∷ []) 0 a q → ListFields q offset e (length vs) → e < 6
+    → AllByRecursion (λ v. v < 2 ^ element_bits e) vs → b ≡ a + 1 + offset → offset < 2 ^ 29 → StandAt seg b (scalar_words e vs)
+    → Denotes (seg ∷ []) 0 a (scalars e vs) (list_words e (length vs) + idle e (length vs)) 1
+scalars_laid seg e vs a b offset q h f lt fit i lo st =
+    let x : extent q ≡ list_words e (length vs) = extent_scalars q e f.kind (sym f.code) lt ∙ ap (list_words e) f.size in
+    let y : extra q 0 ≡ idle e (length vs) = extra_scalars q e f.kind (sym f.code) lt ∙ ap (idle e) f.size in
+    let l : b + list_words e (length vs) ≤ length seg = (let r = stand_inside seg b (scalar_words e vs) st in omega (arith, r, length-scalar_words e vs)) in
+    let v : vs ≡ values_of (seg ∷ []) 0 b e (list_size q) = sym (ap (values_of (seg ∷ []) 0 b e) f.size ∙ scalars_read seg b e vs lt fit (stand_word seg b (scalar_words e vs) st)) in (
+      0,
+      0,
+      b,
+      q,
+      record {
+        finds = list_finds seg a b offset q e (length vs) h f i lo (within b (extent q) (list_words e (length vs)) (length seg) x l) (λ z. absurd (omega (arith, z.1, f.code, lt)));
+        kind = f.kind;
+        code = sym f.code;
+        scalar = lt;
+        elements = v;
+        charge = sums (extent q) (extra q 0) (list_words e (length vs)) (idle e (length vs)) x y;
+        depth = refl;
+      },
+    )
+  where
+    sums : (a b a' b' : ℕ) → a ≡ a' → b ≡ b' → a' + b' ≡ 0 + a + b
+    sums a b a' b' e g = omega arith
+
+-- a list of pointers
+pub pointers_laid : (seg : List ℕ) (ts : Trees) (a b offset q inner deep : ℕ) → HasWord (seg ∷ []) 0 a q → ListFields q offset 6 (tree_count ts)
+    → b ≡ a + 1 + offset → offset < 2 ^ 29 → b + tree_count ts ≤ length seg → DenoteEach (seg ∷ []) (places 0 b (tree_count ts)) ts inner deep
+    → Denotes (seg ∷ []) 0 a (pointers ts) (tree_count ts + inner) (1 + deep)
+pointers_laid seg ts a b offset q inner deep h f i lo le each =
+    let x : extent q ≡ tree_count ts = extent_pointers q f.kind f.code ∙ f.size in (
+      0,
+      0,
+      b,
+      q,
+      inner,
+      deep,
+      record {
+        finds = list_finds seg a b offset q 6 (tree_count ts) h f i lo (within b (extent q) (tree_count ts) (length seg) x le) (λ z. absurd (omega (arith, z.1, f.code)));
+        kind = f.kind;
+        code = f.code;
+        charge = omega (arith, x);
+        depth = refl;
+      },
+      moved (list_size q) (tree_count ts) f.size each,
+    )
+  where
+    moved : (n n' : ℕ) → n ≡ n' → DenoteEach (seg ∷ []) (places 0 b n') ts inner deep → DenoteEach (seg ∷ []) (places 0 b n) ts inner deep
+    moved n n' e each = rw e each
+
+-- a list of structs
+pub structs_laid : (seg : List ℕ) (d p n : ℕ) (es : Trees) (a b offset q tag inner deep : ℕ) → HasWord (seg ∷ []) 0 a q → ListFields q offset 7 (n * (d + p))
+    → HasWord (seg ∷ []) 0 b tag → StructFields tag n d p → b ≡ a + 1 + offset → offset < 2 ^ 29 → b + 1 + n * (d + p) ≤ length seg
+    → AreElements (seg ∷ []) 0 (b + 1) d p n es inner deep
+    → Denotes (seg ∷ []) 0 a (structs d p es) (1 + n * (d + p) + idle (d + p) n + inner) (1 + element_levels n + deep)
+structs_laid seg d p n es a b offset q tag inner deep h f ht g i lo le each =
+    let x : extent q ≡ 1 + n * (d + p) = extent_structs q f.kind f.code ∙ ap (λ z. 1 + z) f.size in
+    let y : extra q tag ≡ idle (d + p) n = extra_structs q tag f.kind f.code ∙ ap₂ idle (ap₂ (λ i j. i + j) g.data_words g.pointers) g.middle in
+    let fit : middle tag * (data_size tag + pointer_size tag) ≡ list_size q = ap₂ (λ i j. i * j) g.middle (ap₂ (λ i j. i + j) g.data_words g.pointers) ∙ sym f.size in (
+      0,
+      0,
+      b,
+      q,
+      tag,
+      inner,
+      deep,
+      record {
+        finds = list_finds seg a b offset q 7 (n * (d + p)) h f i lo (within b (extent q) (1 + n * (d + p)) (length seg) x (inside b (n * (d + p)) (length seg) le)) (λ z. (tag, ht, (g.kind, at_most (middle tag * (data_size tag + pointer_size tag)) (list_size q) fit)));
+        kind = f.kind;
+        code = f.code;
+        has_tag = ht;
+        data_sizes = sym g.data_words;
+        pointer_sizes = sym g.pointers;
+        charge = sums (extent q) (extra q tag) (n * (d + p)) (idle (d + p) n) inner x y;
+        depth = ap (λ z. 1 + element_levels z + deep) (sym g.middle);
+      },
+      moved (middle tag) n g.middle each,
+    )
+  where
+    inside : (b n l : ℕ) → b + 1 + n ≤ l → b + (1 + n) ≤ l
+    inside b n l h = omega arith
+
+    at_most : (a b : ℕ) → a ≡ b → a ≤ b
+    at_most a b e = omega arith
+
+    sums : (x y a b i : ℕ) → x ≡ 1 + a → y ≡ b → 1 + a + b + i ≡ 0 + x + y + i
+    sums x y a b i e g = omega arith
+
+    moved : (k k' : ℕ) → k ≡ k' → AreElements (seg ∷ []) 0 (b + 1) d p k' es inner deep → AreElements (seg ∷ []) 0 (b + 1) d p k es inner deep
+    moved k k' e each = rw e each

@@ -1,0 +1,73 @@
+-- Each offset of a layout is smaller than the size of the tree.
+use Rattle.std.proofs.Common.{ℕ, suc, ◌+◌, ◌*◌, ◌^◌, ◌<◌, ◌≤◌, List, ◌≡◌, arith}
+use Rattle.std.specs.List.{AllByRecursion}
+use Rattle.cap_spec.specs.Tree.{Tree, null, cap, struct, scalars, pointers, structs, Trees, none, more, tree_count}
+use Rattle.cap_spec.specs.Denoting.{Denotes}
+use Rattle.cap_spec.specs.Canonical.{size, sizes, element_sizes, pointer_offsets, element_offsets, offsets, offsets_below, element_offsets_below, trim}
+use Rattle.cap_spec.proofs.Bytes.Lists.{all_append}
+use Rattle.cap_spec.proofs.Canonical.TreeMeasures.{Fits, FitEach, FitElements, Measured, measured}
+use Rattle.cap_spec.proofs.Canonical.TrimmedMeasures.{Trimmed, trimmed}
+use Rattle.cap_spec.proofs.Canonical.Sizes.{trimmed_size_charged}
+
+-- those of pointers in a row
+row_offsets : (most after : ℕ) (ts : Trees) → after + tree_count ts + sizes ts < most → AllByRecursion (λ offset. offset < most) (pointer_offsets after ts)
+row_offsets most after none h = tt
+row_offsets most after (more t ts) h = (omega (arith, h), row_offsets most (after + size t) ts (omega (arith, h)))
+
+-- how far an element's pointers lead at most, and those of the others
+first_near : (after n d p k s r most : ℕ) → after + suc n * (d + p) + (s + r) < most → k ≡ p → n * (d + p) + after + k + s < most
+first_near after n d p k s r most h e = omega arith
+
+others_near : (after n each s r most : ℕ) → after + suc n * each + (s + r) < most → after + s + n * each + r < most
+others_near after n each s r most h = omega arith
+
+-- those of elements in a row
+elements_offsets : (most d p after : ℕ) (es : Trees) → FitElements d p es → after + tree_count es * (d + p) + element_sizes es < most
+    → AllByRecursion (λ offset. offset < most) (element_offsets (d + p) after es)
+elements_offsets most d p after none f h = tt
+elements_offsets most d p after (more (struct ws ts) es) f h =
+    all_append (λ offset. offset < most) (pointer_offsets (tree_count es * (d + p) + after) ts) (element_offsets (d + p) (after + sizes ts) es)
+    (row_offsets most (tree_count es * (d + p) + after) ts (first_near after (tree_count es) d p (tree_count ts) (sizes ts) (element_sizes es) most h f.1))
+    (elements_offsets most d p (after + sizes ts) es f.3 (others_near after (tree_count es) (d + p) (sizes ts) (element_sizes es) most h))
+elements_offsets most d p after (more t es) f h = absurd f
+
+-- the elements of a list, without its tag
+without_tag : (a b most : ℕ) → 1 + a + b < most → 0 + a + b < most
+without_tag a b most h = omega arith
+
+elements_only : (a b most : ℕ) → 1 + a + b < most → b < most
+elements_only a b most h = omega arith
+
+mutual
+  -- at all nodes
+  pub offsets_within : (most : ℕ) (t : Tree) → Fits t → size t < most → AllByRecursion (λ offset. offset < most) (offsets t)
+  offsets_within most null f h = tt
+  offsets_within most (cap i) f h = tt
+  offsets_within most (struct ws ts) f h =
+      all_append (λ offset. offset < most) (pointer_offsets 0 ts) (offsets_below ts) (row_offsets most 0 ts (omega (arith, h))) (offsets_below_within most ts f.2 (omega (arith, h)))
+  offsets_within most (scalars c vs) f h = tt
+  offsets_within most (pointers ts) f h =
+      all_append (λ offset. offset < most) (pointer_offsets 0 ts) (offsets_below ts) (row_offsets most 0 ts (omega (arith, h))) (offsets_below_within most ts f.1 (omega (arith, h)))
+  offsets_within most (structs d p es) f h =
+      all_append (λ offset. offset < most) (element_offsets (d + p) 0 es) (element_offsets_below es)
+      (elements_offsets most d p 0 es f.4 (without_tag (tree_count es * (d + p)) (element_sizes es) most h))
+      (element_offsets_within most d p es f.4 (elements_only (tree_count es * (d + p)) (element_sizes es) most h))
+
+  pub offsets_below_within : (most : ℕ) (ts : Trees) → FitEach ts → sizes ts < most → AllByRecursion (λ offset. offset < most) (offsets_below ts)
+  offsets_below_within most none f h = tt
+  offsets_below_within most (more t ts) f h =
+      all_append (λ offset. offset < most) (offsets t) (offsets_below ts) (offsets_within most t f.0 (omega (arith, h))) (offsets_below_within most ts f.1 (omega (arith, h)))
+
+  pub element_offsets_within : (most d p : ℕ) (es : Trees) → FitElements d p es → element_sizes es < most → AllByRecursion (λ offset. offset < most) (element_offsets_below es)
+  element_offsets_within most d p none f h = tt
+  element_offsets_within most d p (more (struct ws ts) es) f h =
+      all_append (λ offset. offset < most) (offsets_below ts) (element_offsets_below es) (offsets_below_within most ts f.2 (omega (arith, h))) (element_offsets_within most d p es f.3 (omega (arith, h)))
+  element_offsets_within most d p (more t es) f h = absurd f
+
+-- the offsets in the layout of what is denoted, trimmed, are below 2 ^ 29
+pub offsets_fit : (m : List (List ℕ)) (s w : ℕ) (t : Tree) (c d : ℕ) → Denotes m s w t c d → c < 2 ^ 29 → AllByRecursion (λ offset. offset < 2 ^ 29) (offsets (trim t))
+offsets_fit m s w t c d h l =
+    let a : Measured t c d = measured m s w t c d h in
+    let b : Trimmed t (trim t) = trimmed t a.fits in
+    let e : size (trim t) ≤ c = trimmed_size_charged m s w t c d h in
+    offsets_within (2 ^ 29) (trim t) b.fits (omega arith)

@@ -1,0 +1,218 @@
+-- A trimmed tree costs no more, is as deep, and fits where the tree fits.
+use Rattle.std.proofs.Common.{ℕ, zero, suc, ◌+◌, ◌*◌, ◌^◌, ◌<◌, ◌≤◌, List, [], ◌∷◌, ◌≡◌, max, sym, ap, ap₂, refl, ◌∙◌, arith, length}
+use Rattle.std.specs.Prelude.{if◌then◌else◌, ◌==◌}
+use Rattle.std.proofs.Math.Dec.{eqb-suc-zero}
+use Rattle.std.proofs.lemmas.List.{length-take, length-take-le}
+use Rattle.std.proofs.lemmas.Nat.{mul-le}
+use Rattle.cap_spec.specs.Tree.{Tree, null, cap, struct, scalars, pointers, structs, Trees, none, more, tree_count}
+use Rattle.cap_spec.specs.Denoting.{element_levels}
+use Rattle.cap_spec.specs.Canonical.{data_needed, is_null, children_needed, take_trees, data_of, children_of, cut_elements, trim_struct, trim_structs, trim, trim_all, trim_elements}
+use Rattle.cap_spec.proofs.Canonical.Trimming.{rest_below}
+use Rattle.cap_spec.proofs.Canonical.TreeMeasures.{idle, cost, costs, element_costs, height, heights, element_heights, Fits, FitEach, FitElements}
+
+-- none are needed where none are needed of the rest and the first isn't
+pub none_left : (n x : ℕ) → (if n == 0 then x else suc n) ≤ 0 → (n ≤ 0) × (x ≤ 0)
+none_left zero x h = (omega arith, h)
+none_left (suc n) x h = let g : suc (suc n) ≤ 0 = rw (eqb-suc-zero n) at h in absurd (omega arith)
+
+-- no more words are needed than there are
+pub data_needed_le : (ws : List ℕ) → data_needed ws ≤ length ws
+data_needed_le [] = omega arith
+data_needed_le (x ∷ xs) = go (data_needed xs) (length xs) x (data_needed_le xs)
+  where
+    bit : (x : ℕ) → (if x == 0 then 0 else 1) ≤ 1
+    bit zero = omega arith
+    bit (suc x) = rw (eqb-suc-zero x) (omega arith)
+
+    go : (n l x : ℕ) → n ≤ l → (if n == 0 then (if x == 0 then 0 else 1) else suc n) ≤ suc l
+    go zero l x h = let b = bit x in omega (arith, b)
+    go (suc n) l x h = rw (eqb-suc-zero n) (omega arith)
+
+-- no more children are needed than there are
+pub children_needed_le : (ts : Trees) → children_needed ts ≤ tree_count ts
+children_needed_le none = omega arith
+children_needed_le (more t ts) = go (children_needed ts) (tree_count ts) t (children_needed_le ts)
+  where
+    bit : (t : Tree) → (if is_null t then 0 else 1) ≤ 1
+    bit null = omega arith
+    bit (cap i) = omega arith
+    bit (struct words ts) = omega arith
+    bit (scalars c vs) = omega arith
+    bit (pointers ts) = omega arith
+    bit (structs d p es) = omega arith
+
+    go : (n l : ℕ) (t : Tree) → n ≤ l → (if n == 0 then (if is_null t then 0 else 1) else suc n) ≤ suc l
+    go zero l t h = let b = bit t in omega (arith, b)
+    go (suc n) l t h = rw (eqb-suc-zero n) (omega arith)
+
+-- a front of trees: how many, what they cost, and that they fit
+tree_count-take : (n : ℕ) (ts : Trees) → tree_count (take_trees n ts) ≤ tree_count ts
+tree_count-take zero ts = omega arith
+tree_count-take (suc n) none = omega arith
+tree_count-take (suc n) (more t ts) = let r = tree_count-take n ts in omega (arith, r)
+
+pub tree_count-take_le : (n : ℕ) (ts : Trees) → n ≤ tree_count ts → tree_count (take_trees n ts) ≡ n
+tree_count-take_le zero ts h = refl
+tree_count-take_le (suc n) none h = absurd (omega (arith, h))
+tree_count-take_le (suc n) (more t ts) h = ap suc (tree_count-take_le n ts (omega (arith, h)))
+
+costs-take : (n : ℕ) (ts : Trees) → costs (take_trees n ts) ≤ costs ts
+costs-take zero ts = omega arith
+costs-take (suc n) none = omega arith
+costs-take (suc n) (more t ts) = let r = costs-take n ts in omega (arith, r)
+
+fits-take : (n : ℕ) (ts : Trees) → FitEach ts → FitEach (take_trees n ts)
+fits-take zero ts f = tt
+fits-take (suc n) none f = tt
+fits-take (suc n) (more t ts) f = (f.0, fits-take n ts f.1)
+
+-- trees of which none are needed are as flat as none
+flat : (ts : Trees) → children_needed ts ≤ 0 → heights ts ≡ 0
+flat none h = refl
+flat (more null ts) h = let n = none_left (children_needed ts) 0 h in let r : heights ts ≡ 0 = flat ts n.0 in omega arith
+flat (more (cap i) ts) h = let n = none_left (children_needed ts) 1 h in absurd (omega (arith, n.1))
+flat (more (struct words us) ts) h = let n = none_left (children_needed ts) 1 h in absurd (omega (arith, n.1))
+flat (more (scalars c vs) ts) h = let n = none_left (children_needed ts) 1 h in absurd (omega (arith, n.1))
+flat (more (pointers us) ts) h = let n = none_left (children_needed ts) 1 h in absurd (omega (arith, n.1))
+flat (more (structs d p es) ts) h = let n = none_left (children_needed ts) 1 h in absurd (omega (arith, n.1))
+
+-- where all that are needed are left, the rest are as deep as all
+heights-take : (n : ℕ) (ts : Trees) → children_needed ts ≤ n → heights (take_trees n ts) ≡ heights ts
+heights-take zero ts h = sym (flat ts h)
+heights-take (suc n) none h = refl
+heights-take (suc n) (more t ts) h =
+    ap (max (height t)) (heights-take n ts (rest_below (children_needed ts) (if is_null t then 0 else 1) n h))
+
+-- the same of the elements of a struct list
+tree_count-cut : (d p : ℕ) (es : Trees) → tree_count (cut_elements d p es) ≡ tree_count es
+tree_count-cut d p none = refl
+tree_count-cut d p (more null es) = ap suc (tree_count-cut d p es)
+tree_count-cut d p (more (cap i) es) = ap suc (tree_count-cut d p es)
+tree_count-cut d p (more (struct words ts) es) = ap suc (tree_count-cut d p es)
+tree_count-cut d p (more (scalars c vs) es) = ap suc (tree_count-cut d p es)
+tree_count-cut d p (more (pointers ts) es) = ap suc (tree_count-cut d p es)
+tree_count-cut d p (more (structs x y ts) es) = ap suc (tree_count-cut d p es)
+
+-- elements of one size, cut to a smaller one
+cut_costs : (d p x y : ℕ) (es : Trees) → FitElements x y es → element_costs (cut_elements d p es) ≤ element_costs es
+cut_costs d p x y none f = omega arith
+cut_costs d p x y (more (struct words ts) es) f =
+    let a = costs-take p ts in let r = cut_costs d p x y es f.3 in omega (arith, a, r)
+cut_costs d p x y (more t es) f = absurd f
+
+cut_fits : (d p x y : ℕ) (es : Trees) → d ≤ x → p ≤ y → FitElements x y es → FitElements d p (cut_elements d p es)
+cut_fits d p x y none hd hp f = tt
+cut_fits d p x y (more (struct words ts) es) hd hp f =
+    (length-take-le d words (omega (arith, f.0)), tree_count-take_le p ts (omega (arith, f.1)), fits-take p ts f.2, cut_fits d p x y es hd hp f.3)
+cut_fits d p x y (more t es) hd hp f = absurd f
+
+cut_heights : (d p x y : ℕ) (es : Trees) → children_of es ≤ p → FitElements x y es → element_heights (cut_elements d p es) ≡ element_heights es
+cut_heights d p x y none h f = refl
+cut_heights d p x y (more (struct words ts) es) h f =
+    ap₂ max (heights-take p ts (omega (arith, h))) (cut_heights d p x y es (omega (arith, h)) f.3)
+cut_heights d p x y (more t es) h f = absurd f
+
+-- no element needs more than its size
+data_of_le : (d p : ℕ) (es : Trees) → FitElements d p es → data_of es ≤ d
+data_of_le d p none f = omega arith
+data_of_le d p (more (struct words ts) es) f =
+    let a = data_needed_le words in let r = data_of_le d p es f.3 in omega (arith, a, r, f.0)
+data_of_le d p (more t es) f = absurd f
+
+children_of_le : (d p : ℕ) (es : Trees) → FitElements d p es → children_of es ≤ p
+children_of_le d p none f = omega arith
+children_of_le d p (more (struct words ts) es) f =
+    let a = children_needed_le ts in let r = children_of_le d p es f.3 in omega (arith, a, r, f.1)
+children_of_le d p (more t es) f = absurd f
+
+-- elements without words cost no more than they did with words
+smaller : (n a b : ℕ) → a ≤ b → n * a + idle a n ≤ n * b + idle b n
+smaller n zero zero h = omega arith
+smaller n (suc a) zero h = absurd (omega (arith, h))
+smaller n zero (suc b) h = rw (eqb-suc-zero b) (omega arith)
+smaller n (suc a) (suc b) h = rw (eqb-suc-zero a, eqb-suc-zero b) (let r = mul-le n (suc a) n (suc b) (omega arith) h in omega (arith, r))
+
+-- a trimmed tree, or trees, beside what it was
+pub record Trimmed (t u : Tree) : Type 0 where
+  pub fits : Fits u
+  pub charged : cost u ≤ cost t
+  pub deep : height u ≡ height t
+
+pub record AllTrimmed (ts us : Trees) : Type 0 where
+  pub count : tree_count us ≡ tree_count ts
+  pub fits : FitEach us
+  pub charged : costs us ≤ costs ts
+  pub deep : heights us ≡ heights ts
+
+pub record ElementsTrimmed (d p : ℕ) (es us : Trees) : Type 0 where
+  pub count : tree_count us ≡ tree_count es
+  pub fits : FitElements d p us
+  pub charged : element_costs us ≤ element_costs es
+  pub deep : element_heights us ≡ element_heights es
+
+-- a struct of trimmed children
+struct_trimmed : (words : List ℕ) (ts us : Trees) → Fits (struct words ts) → AllTrimmed ts us → Trimmed (struct words ts) (trim_struct words us)
+struct_trimmed words ts us f r =
+    let a = length-take (data_needed words) words in
+    let b = tree_count-take (children_needed us) us in
+    let e = costs-take (children_needed us) us in
+    record {
+      fits = (omega (arith, a, f.0), omega (arith, b, r.count, f.1), fits-take (children_needed us) us r.fits);
+      charged = omega (arith, a, b, e, r.count, r.charged);
+      deep = ap (λ n. 1 + n) (heights-take (children_needed us) us (omega arith) ∙ r.deep);
+    }
+
+-- a struct list of elements with trimmed children
+structs_trimmed : (d p : ℕ) (es us : Trees) → Fits (structs d p es) → ElementsTrimmed d p es us → Trimmed (structs d p es) (trim_structs us)
+structs_trimmed d p es us f r =
+    let x : data_of us ≤ d = data_of_le d p us r.fits in
+    let y : children_of us ≤ p = children_of_le d p us r.fits in
+    let n : tree_count (cut_elements (data_of us) (children_of us) us) ≡ tree_count es = tree_count-cut (data_of us) (children_of us) us ∙ r.count in
+    let c : element_costs (cut_elements (data_of us) (children_of us) us) ≤ element_costs es = (let g = cut_costs (data_of us) (children_of us) d p us r.fits in omega (arith, g, r.charged)) in
+    let h : element_heights (cut_elements (data_of us) (children_of us) us) ≡ element_heights es = cut_heights (data_of us) (children_of us) d p us (omega arith) r.fits ∙ r.deep in
+    structs_beside d p es (data_of us) (children_of us) (cut_elements (data_of us) (children_of us) us) x y n c h f
+    (cut_fits (data_of us) (children_of us) d p us x y r.fits)
+  where
+    below : (a b n : ℕ) → a ≤ b → b < n → a < n
+    below a b n h g = omega arith
+
+    sums : (a b e a' b' e' : ℕ) → a + b ≤ a' + b' → e ≤ e' → 1 + a + b + e ≤ 1 + a' + b' + e'
+    sums a b e a' b' e' h g = omega arith
+
+    structs_beside : (d p : ℕ) (es : Trees) (d' p' : ℕ) (us : Trees) → d' ≤ d → p' ≤ p → tree_count us ≡ tree_count es → element_costs us ≤ element_costs es
+        → element_heights us ≡ element_heights es → Fits (structs d p es) → FitElements d' p' us → Trimmed (structs d p es) (structs d' p' us)
+    structs_beside d p es d' p' us x y n c h f g =
+        let l = smaller (tree_count es) (d' + p') (d + p) (omega arith) in
+        let i = mul-le (tree_count es) (d' + p') (tree_count es) (d + p) (omega arith) (omega arith) in
+        record {
+          fits = (omega (arith, x, f.0), omega (arith, y, f.1), omega (arith, n, f.2), rw n (below (tree_count es * (d' + p')) (tree_count es * (d + p)) (2 ^ 29) i f.3), g);
+          charged = rw n (sums (tree_count es * (d' + p')) (idle (d' + p') (tree_count es)) (element_costs us) (tree_count es * (d + p)) (idle (d + p) (tree_count es)) (element_costs es) l c);
+          deep = ap₂ (λ k e. 1 + element_levels k + e) n h;
+        }
+
+mutual
+  -- a trimmed tree fits, costs no more and is as deep
+  pub trimmed : (t : Tree) → Fits t → Trimmed t (trim t)
+  trimmed null f = record { fits = tt; charged = omega arith; deep = refl }
+  trimmed (cap i) f = record { fits = f; charged = omega arith; deep = refl }
+  trimmed (struct words ts) f = struct_trimmed words ts (trim_all ts) f (all_trimmed ts f.2)
+  trimmed (scalars c vs) f = record { fits = f; charged = omega arith; deep = refl }
+  trimmed (pointers ts) f =
+      let r : AllTrimmed ts (trim_all ts) = all_trimmed ts f.1 in
+      record { fits = (rw r.count f.0, r.fits); charged = omega (arith, r.count, r.charged); deep = ap (λ n. 1 + n) r.deep }
+  trimmed (structs d p es) f = structs_trimmed d p es (trim_elements es) f (elements_trimmed d p es f.4)
+
+  pub all_trimmed : (ts : Trees) → FitEach ts → AllTrimmed ts (trim_all ts)
+  all_trimmed none f = record { count = refl; fits = tt; charged = omega arith; deep = refl }
+  all_trimmed (more t ts) f =
+      let a : Trimmed t (trim t) = trimmed t f.0 in
+      let r : AllTrimmed ts (trim_all ts) = all_trimmed ts f.1 in
+      record { count = ap suc r.count; fits = (a.fits, r.fits); charged = omega (arith, a.charged, r.charged); deep = ap₂ max a.deep r.deep }
+
+  pub elements_trimmed : (d p : ℕ) (es : Trees) → FitElements d p es → ElementsTrimmed d p es (trim_elements es)
+  elements_trimmed d p none f = record { count = refl; fits = tt; charged = omega arith; deep = refl }
+  elements_trimmed d p (more (struct words ts) es) f =
+      let a : AllTrimmed ts (trim_all ts) = all_trimmed ts f.2 in
+      let r : ElementsTrimmed d p es (trim_elements es) = elements_trimmed d p es f.3 in
+      record { count = ap suc r.count; fits = (f.0, a.count ∙ f.1, a.fits, r.fits); charged = omega (arith, a.charged, r.charged); deep = ap₂ max a.deep r.deep }
+  elements_trimmed d p (more t es) f = absurd f

@@ -1,0 +1,119 @@
+-- A trimmed tree is a tree, and has the capabilities that it had.
+use Rattle.std.proofs.Common.{ℕ, zero, suc, ◌+◌, ◌≤◌, ◌≡◌, sym, ap, ap₂, refl, ◌∙◌, arith}
+use Rattle.std.specs.Prelude.{if◌then◌else◌, ◌==◌, not}
+use Rattle.std.proofs.lemmas.List.{length-take-le}
+use Rattle.cap_spec.specs.Words.{IsWord}
+use Rattle.cap_spec.specs.Tree.{Tree, null, cap, struct, scalars, pointers, structs, Trees, none, more, tree_count, cap_count, cap_counts, has_cap, IsTree, AreTrees, AreElementTrees}
+use Rattle.cap_spec.specs.Canonical.{data_needed, is_null, children_needed, take_trees, data_of, children_of, cut_elements, trim, trim_all, trim_elements}
+use Rattle.cap_spec.proofs.Bytes.Lists.{all_take}
+use Rattle.cap_spec.proofs.Canonical.Trimming.{rest_below}
+use Rattle.cap_spec.proofs.Canonical.TrimmedMeasures.{none_left, data_needed_le, children_needed_le, tree_count-take_le}
+
+-- a front of trees
+trees-take : (n : ℕ) (ts : Trees) → AreTrees ts → AreTrees (take_trees n ts)
+trees-take zero ts f = tt
+trees-take (suc n) none f = tt
+trees-take (suc n) (more t ts) f = (f.0, trees-take n ts f.1)
+
+-- elements cut to sizes that each of them has
+cut_trees : (d p x y : ℕ) (es : Trees) → d ≤ x → p ≤ y → AreElementTrees x y es → AreElementTrees d p (cut_elements d p es)
+cut_trees d p x y none hd hp f = tt
+cut_trees d p x y (more (struct words ts) es) hd hp f =
+    (all_take IsWord d words f.0, length-take-le d words (omega (arith, f.1)), tree_count-take_le p ts (omega (arith, f.2)), trees-take p ts f.3, cut_trees d p x y es hd hp f.4)
+cut_trees d p x y (more t es) hd hp f = absurd f
+
+-- no element needs more than its size
+data_within : (d p : ℕ) (es : Trees) → AreElementTrees d p es → data_of es ≤ d
+data_within d p none f = omega arith
+data_within d p (more (struct words ts) es) f =
+    let a = data_needed_le words in let r = data_within d p es f.4 in omega (arith, a, r, f.1)
+data_within d p (more t es) f = absurd f
+
+children_within : (d p : ℕ) (es : Trees) → AreElementTrees d p es → children_of es ≤ p
+children_within d p none f = omega arith
+children_within d p (more (struct words ts) es) f =
+    let a = children_needed_le ts in let r = children_within d p es f.4 in omega (arith, a, r, f.2)
+children_within d p (more t es) f = absurd f
+
+-- as many children after each is trimmed
+tree_count-trim_all : (ts : Trees) → tree_count (trim_all ts) ≡ tree_count ts
+tree_count-trim_all none = refl
+tree_count-trim_all (more t ts) = ap suc (tree_count-trim_all ts)
+
+mutual
+  -- a trimmed tree is a tree
+  pub trimmed_is_tree : (t : Tree) → IsTree t → IsTree (trim t)
+  trimmed_is_tree null f = tt
+  trimmed_is_tree (cap i) f = f
+  trimmed_is_tree (struct words ts) f =
+      (all_take IsWord (data_needed words) words f.0, trees-take (children_needed (trim_all ts)) (trim_all ts) (trimmed_are_trees ts f.1))
+  trimmed_is_tree (scalars c vs) f = f
+  trimmed_is_tree (pointers ts) f = trimmed_are_trees ts f
+  trimmed_is_tree (structs d p es) f =
+      let r : AreElementTrees d p (trim_elements es) = trimmed_are_elements d p es f in
+      cut_trees (data_of (trim_elements es)) (children_of (trim_elements es)) d p (trim_elements es)
+      (data_within d p (trim_elements es) r) (children_within d p (trim_elements es) r) r
+
+  pub trimmed_are_trees : (ts : Trees) → AreTrees ts → AreTrees (trim_all ts)
+  trimmed_are_trees none f = tt
+  trimmed_are_trees (more t ts) f = (trimmed_is_tree t f.0, trimmed_are_trees ts f.1)
+
+  pub trimmed_are_elements : (d p : ℕ) (es : Trees) → AreElementTrees d p es → AreElementTrees d p (trim_elements es)
+  trimmed_are_elements d p none f = tt
+  trimmed_are_elements d p (more (struct words ts) es) f =
+      (f.0, f.1, tree_count-trim_all ts ∙ f.2, trimmed_are_trees ts f.3, trimmed_are_elements d p es f.4)
+  trimmed_are_elements d p (more t es) f = absurd f
+
+-- trees of which none are needed have no capabilities
+no_caps : (ts : Trees) → children_needed ts ≤ 0 → cap_counts ts ≡ 0
+no_caps none h = refl
+no_caps (more null ts) h = let n = none_left (children_needed ts) 0 h in let r : cap_counts ts ≡ 0 = no_caps ts n.0 in omega arith
+no_caps (more (cap i) ts) h = let n = none_left (children_needed ts) 1 h in absurd (omega (arith, n.1))
+no_caps (more (struct words us) ts) h = let n = none_left (children_needed ts) 1 h in absurd (omega (arith, n.1))
+no_caps (more (scalars c vs) ts) h = let n = none_left (children_needed ts) 1 h in absurd (omega (arith, n.1))
+no_caps (more (pointers us) ts) h = let n = none_left (children_needed ts) 1 h in absurd (omega (arith, n.1))
+no_caps (more (structs d p es) ts) h = let n = none_left (children_needed ts) 1 h in absurd (omega (arith, n.1))
+
+-- where all that are needed are left, the rest have all capabilities
+caps-take : (n : ℕ) (ts : Trees) → children_needed ts ≤ n → cap_counts (take_trees n ts) ≡ cap_counts ts
+caps-take zero ts h = sym (no_caps ts h)
+caps-take (suc n) none h = refl
+caps-take (suc n) (more t ts) h =
+    ap (λ x. cap_count t + x) (caps-take n ts (rest_below (children_needed ts) (if is_null t then 0 else 1) n h))
+
+caps-cut : (d p : ℕ) (es : Trees) → children_of es ≤ p → cap_counts (cut_elements d p es) ≡ cap_counts es
+caps-cut d p none h = refl
+caps-cut d p (more (struct words ts) es) h = ap₂ (λ x y. x + y) (caps-take p ts (omega (arith, h))) (caps-cut d p es (omega (arith, h)))
+caps-cut d p (more null es) h = ap (λ x. 0 + x) (caps-cut d p es h)
+caps-cut d p (more (cap i) es) h = ap (λ x. 1 + x) (caps-cut d p es h)
+caps-cut d p (more (scalars c vs) es) h = ap (λ x. 0 + x) (caps-cut d p es h)
+caps-cut d p (more (pointers ts) es) h = ap (λ x. cap_counts ts + x) (caps-cut d p es h)
+caps-cut d p (more (structs x y ts) es) h = ap (λ z. cap_counts ts + z) (caps-cut d p es h)
+
+mutual
+  -- a trimmed tree has as many capabilities
+  pub cap_count-trim : (t : Tree) → cap_count (trim t) ≡ cap_count t
+  cap_count-trim null = refl
+  cap_count-trim (cap i) = refl
+  cap_count-trim (struct words ts) = caps-take (children_needed (trim_all ts)) (trim_all ts) (omega arith) ∙ cap_counts-trim_all ts
+  cap_count-trim (scalars c vs) = refl
+  cap_count-trim (pointers ts) = cap_counts-trim_all ts
+  cap_count-trim (structs d p es) =
+      caps-cut (data_of (trim_elements es)) (children_of (trim_elements es)) (trim_elements es) (omega arith) ∙ cap_counts-trim_elements es
+
+  pub cap_counts-trim_all : (ts : Trees) → cap_counts (trim_all ts) ≡ cap_counts ts
+  cap_counts-trim_all none = refl
+  cap_counts-trim_all (more t ts) = ap₂ (λ x y. x + y) (cap_count-trim t) (cap_counts-trim_all ts)
+
+  pub cap_counts-trim_elements : (es : Trees) → cap_counts (trim_elements es) ≡ cap_counts es
+  cap_counts-trim_elements none = refl
+  cap_counts-trim_elements (more (struct words ts) es) = ap₂ (λ x y. x + y) (cap_counts-trim_all ts) (cap_counts-trim_elements es)
+  cap_counts-trim_elements (more null es) = ap (λ x. 0 + x) (cap_counts-trim_elements es)
+  cap_counts-trim_elements (more (cap i) es) = ap (λ x. 1 + x) (cap_counts-trim_elements es)
+  cap_counts-trim_elements (more (scalars c vs) es) = ap (λ x. 0 + x) (cap_counts-trim_elements es)
+  cap_counts-trim_elements (more (pointers ts) es) = ap (λ x. cap_counts ts + x) (cap_counts-trim_elements es)
+  cap_counts-trim_elements (more (structs x y ts) es) = ap (λ z. cap_counts ts + z) (cap_counts-trim_elements es)
+
+-- it has one where it had one
+pub has_cap-trim : (t : Tree) → has_cap (trim t) ≡ has_cap t
+has_cap-trim t = ap (λ n. not (n == 0)) (cap_count-trim t)

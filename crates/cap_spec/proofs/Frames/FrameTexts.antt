@@ -1,0 +1,100 @@
+-- The frame with zero padding is one, and a list of frames splits in one way.
+use Rattle.std.proofs.Common.{◌≡◌, ℕ, zero, suc, ◌+◌, ◌-◌, ◌*◌, ◌/◌, ◌%◌, ◌^◌, ◌<◌, List, [], ◌∷◌, ◌++◌, length, map, replicate, flat_map, refl, sym, ap, ◌∙◌, arith, length-append}
+use Rattle.std.specs.List.{AllByRecursion}
+use Rattle.std.proofs.lemmas.List.{length-replicate, length-map}
+use Rattle.std.proofs.lemmas.List.Elements.{recursion_from_All}
+use Rattle.std.proofs.lemmas.List.Concat.{flat_map-append}
+use Rattle.cap_spec.specs.Messages.{IsMessage}
+use Rattle.cap_spec.specs.Plain.{plain_text}
+use Rattle.cap_spec.specs.Frames.{halves, sizes_of, Frames, paired, frame_text, Stream}
+use Rattle.cap_spec.proofs.Bytes.WordBytes.{four_bytes, word_halves}
+use Rattle.cap_spec.proofs.Frames.Framing.{one_frame}
+use Rattle.cap_spec.proofs.Frames.Endings.{frame_some}
+
+-- the bytes of words are those of their halves
+pub plain_halves : (words : List ℕ) → plain_text words ≡ flat_map four_bytes (flat_map halves words)
+plain_halves [] = refl
+plain_halves (x ∷ words) =
+    let h = word_halves x in
+    let t = plain_halves words in
+    ap (λ k. k ++ plain_text words) h ∙ (ap (λ k. flat_map four_bytes (halves x) ++ k) t ∙ sym (flat_map-append four_bytes (halves x) (flat_map halves words)))
+
+-- two numbers as halves of a word
+pair_halves : (a b : ℕ) → a < 2 ^ 32 → b < 2 ^ 32 → halves (a + 2 ^ 32 * b) ≡ a ∷ b ∷ []
+pair_halves a b h i =
+    let low : (a + 2 ^ 32 * b) % 2 ^ 32 ≡ a = omega arith in
+    let high : (a + 2 ^ 32 * b) / 2 ^ 32 ≡ b = omega arith in
+    ap (λ k. k ∷ (a + 2 ^ 32 * b) / 2 ^ 32 ∷ []) low ∙ ap (λ k. a ∷ k ∷ []) high
+
+-- numbers in pairs have these numbers as halves, and zero behind an odd one
+pub paired_halves : (xs : List ℕ) → AllByRecursion (λ n. n < 2 ^ 32) xs → flat_map halves (paired xs) ≡ xs ++ replicate (length xs % 2) 0
+paired_halves [] all = refl
+paired_halves (a ∷ []) all =
+    let h : a < 2 ^ 32 = all.0 in
+    let low : a % 2 ^ 32 ≡ a = omega arith in
+    let high : a / 2 ^ 32 ≡ 0 = omega arith in
+    cc
+paired_halves (a ∷ b ∷ rest) all =
+    let t : flat_map halves (paired rest) ≡ rest ++ replicate (length rest % 2) 0 = paired_halves rest all.1.1 in
+    let p : length rest % 2 ≡ suc (suc (length rest)) % 2 = omega arith in
+    ap (λ k. k ++ flat_map halves (paired rest)) (pair_halves a b all.0 all.1.0)
+    ∙ (ap (λ k. a ∷ b ∷ k) t ∙ ap (λ n. a ∷ b ∷ (rest ++ replicate n 0)) p)
+
+-- the sizes of a message fit
+sizes_fit : (m : List (List ℕ)) → AllByRecursion (λ segment. length segment < 2 ^ 32) m → AllByRecursion (λ n. n < 2 ^ 32) (sizes_of m)
+sizes_fit [] all = tt
+sizes_fit (s ∷ m) all = (all.0, sizes_fit m all.1)
+
+-- zeros are below 2 ^ 32
+zeros_fit : (n : ℕ) → AllByRecursion (λ k. k < 2 ^ 32) (replicate n 0)
+zeros_fit zero = tt
+zeros_fit (suc n) = ((omega arith), zeros_fit n)
+
+-- the words with zero padding frame the message
+pub frame_text_frames : (m : List (List ℕ)) → IsMessage m → Frames (frame_text m) m
+frame_text_frames m is =
+    let l : length (sizes_of m) ≡ length m = length-map m length in
+    let some = is.some in
+    let few = is.few in
+    let fit = sizes_fit m (recursion_from_All (λ segment. length segment < 2 ^ 32) m is.lengths) in
+    let first : length m - 1 < 2 ^ 32 = omega arith in
+    let h = paired_halves ((length m - 1) ∷ sizes_of m) (first, fit) in
+    let r : length (replicate {A = ℕ} (suc (length (sizes_of m)) % 2) 0) ≡ suc (length (sizes_of m)) % 2 = length-replicate {A = ℕ} (suc (length (sizes_of m)) % 2) 0 in
+    let q : suc (length (sizes_of m)) % 2 ≡ (1 + length (sizes_of m)) % 2 = omega arith in
+    let n : length m - 1 ≡ length (sizes_of m) - 1 = omega arith in
+    record {
+      table = paired ((length m - 1) ∷ sizes_of m);
+      is_table = record {
+        some = omega arith;
+        few = omega arith;
+        fit = fit;
+        padding = replicate (suc (length (sizes_of m)) % 2) 0;
+        padding_fits = zeros_fit (suc (length (sizes_of m)) % 2);
+        width = r ∙ q;
+        numbers = h ∙ ap (λ k. k ∷ (sizes_of m ++ replicate (suc (length (sizes_of m)) % 2) 0)) n;
+      };
+      whole = refl;
+    }
+
+-- frames one after the other that make the same words frame the same messages
+pub same_stream : (fs gs : List (List ℕ × List (List ℕ))) → AllByRecursion (λ f. Frames f.0 f.1) fs → AllByRecursion (λ f. Frames f.0 f.1) gs →
+    flat_map (λ f. f.0) fs ≡ flat_map (λ f. f.0) gs → map (λ f. f.1) fs ≡ map (λ f. f.1) gs
+same_stream [] [] a b e = refl
+same_stream [] (g ∷ gs) a b e =
+    let s = frame_some g.0 g.1 b.0 in
+    let l = ap length e in
+    let n = length-append g.0 (flat_map (λ f. f.0) gs) in
+    absurd (omega arith)
+same_stream (f ∷ fs) [] a b e =
+    let s = frame_some f.0 f.1 a.0 in
+    let l = ap length e in
+    let n = length-append f.0 (flat_map (λ f. f.0) fs) in
+    absurd (omega arith)
+same_stream (f ∷ fs) (g ∷ gs) a b e =
+    let o = one_frame f.0 g.0 (flat_map (λ f. f.0) fs) (flat_map (λ f. f.0) gs) f.1 g.1 a.0 b.0 e in
+    let t = same_stream fs gs a.1 b.1 o.2 in
+    ap (λ k. k ∷ map (λ f. f.1) fs) o.1 ∙ ap (λ k. g.1 ∷ k) t
+
+-- words are frames of one list of messages at most
+pub one_stream : (words : List ℕ) (ms ns : List (List (List ℕ))) → Stream words ms → Stream words ns → ms ≡ ns
+one_stream words ms ns s t = s.messages ∙ (same_stream s.frames t.frames s.each t.each (sym s.whole ∙ t.whole) ∙ sym t.messages)

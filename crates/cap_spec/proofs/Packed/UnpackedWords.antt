@@ -1,0 +1,118 @@
+-- What bytes give are words: numbers below 2 ^ 64.
+use Rattle.std.proofs.Common.{◌≡◌, ℕ, zero, suc, ◌+◌, ◌/◌, ◌%◌, ◌^◌, ◌<◌, Bool, true, false, if◌then◌else◌, ◌==◌, nat_lt, List, [], ◌∷◌, ◌++◌, length, take, drop, replicate, slice_index, sym, subst, inl, inr, arith}
+use Rattle.std.specs.List.{AllByRecursion}
+use Rattle.std.proofs.Math.Nat.{pow-succ'}
+use Rattle.std.proofs.lemmas.Bool.{cases_eq}
+use Rattle.byteorder.specs.Endian.{little_from, little_number}
+use Rattle.cap_spec.specs.Words.{IsWord}
+use Rattle.cap_spec.specs.Plain.{word_bytes, plain_text, plain_words}
+use Rattle.cap_spec.proofs.Bytes.WordBytes.{bytes_fit}
+use Rattle.cap_spec.specs.Unpacking.{spread, IsGroup, zeros, plain, marked, Groups, text_of, words_of, Unpacks, given_of, unpacked}
+use Rattle.cap_spec.proofs.Bytes.Lists.{all_take, all_drop, all_append, all_back}
+use Rattle.cap_spec.proofs.Bytes.Plain.{plain_split}
+use Rattle.cap_spec.proofs.Packed.Unpacking.{spread_clear, spread_set}
+use Rattle.cap_spec.proofs.Packed.OneUnpacking.{Becomes, whole, part, becomes}
+
+-- bytes by a tag make a number of so many bytes
+pub spread_below : (n tag : ℕ) (present : List ℕ) → AllByRecursion (λ b. b < 256) present → spread n tag present < 256 ^ n
+spread_below zero tag present all = omega arith
+spread_below (suc n) tag [] all = let p = pow-succ' 256 n in let q = spread_below n tag [] tt in omega (arith, p, q)
+spread_below (suc n) tag (b ∷ present) all = elim (cases_eq (tag % 2) 0) [
+  | inl clear ↦
+      let c = spread_clear n tag b present clear in
+      let t = spread_below n (tag / 2) (b ∷ present) all in
+      let p = pow-succ' 256 n in
+      omega (arith, c, t, p)
+  | inr odd ↦
+      let one : tag % 2 ≡ 1 = (let no : tag % 2 ≡ 0 → ⊥ = odd in omega arith) in
+      let h : b < 256 = all.0 in
+      let c = spread_set n tag b present one in
+      let t = spread_below n (tag / 2) present all.1 in
+      let p = pow-succ' 256 n in
+      omega (arith, c, t, p, h)
+]
+
+-- so do so many bytes as they are, of which those past the end are zeros
+little_below : (n i : ℕ) (bytes : List ℕ) → ((k : ℕ) → slice_index bytes k < 256) → little_from i n bytes < 256 ^ n
+little_below zero i bytes each = omega arith
+little_below (suc n) i bytes each =
+    let b = each i in
+    let rest = little_below n (suc i) bytes each in
+    let p = pow-succ' 256 n in
+    omega (arith, b, rest, p)
+
+byte_at : (bytes : List ℕ) → AllByRecursion (λ b. b < 256) bytes → (i : ℕ) → slice_index bytes i < 256
+byte_at [] all i = omega arith
+byte_at (b ∷ bytes) all zero = all.0
+byte_at (b ∷ bytes) all (suc i) = byte_at bytes all.1 i
+
+pub eight_bytes_below : (bytes : List ℕ) → AllByRecursion (λ b. b < 256) bytes → IsWord (little_number 8 bytes)
+eight_bytes_below bytes all = let h = little_below 8 0 bytes (byte_at bytes all) in omega (arith, h)
+
+-- zeros are words
+zeros_are_words : (n : ℕ) → AllByRecursion IsWord (replicate n 0)
+zeros_are_words zero = tt
+zeros_are_words (suc n) = ((omega arith), zeros_are_words n)
+
+-- a group stands for words
+pub group_are_words : (bytes words : List ℕ) → IsGroup bytes words → AllByRecursion IsWord words
+group_are_words bytes words (zeros n h e w) = subst (AllByRecursion IsWord) (sym w) (zeros_are_words (1 + n))
+group_are_words bytes words (plain x more h all l e w) = subst (AllByRecursion IsWord) (sym w) (h, all)
+group_are_words bytes words (marked tag present p q all l e w) =
+    let t : spread 8 tag present < 2 ^ 64 = (let s = spread_below 8 tag present all in omega (arith, s)) in
+    subst (AllByRecursion IsWord) (sym w) (t, tt)
+
+-- so do groups
+groups_are_words : (groups : Groups) → AllByRecursion (λ g. IsGroup g.0 g.1) groups → AllByRecursion IsWord (words_of groups)
+groups_are_words [] all = tt
+groups_are_words (g ∷ groups) all = all_append IsWord g.1 (words_of groups) (group_are_words g.0 g.1 all.0) (groups_are_words groups all.1)
+
+-- bytes unpack to words
+pub unpacks_are_words : (bytes words : List ℕ) → Unpacks bytes words → AllByRecursion IsWord words
+unpacks_are_words bytes words u = subst (AllByRecursion IsWord) (sym u.spelled) (groups_are_words u.groups u.each)
+
+-- what is given of the beginning of a group are words
+given_are_words : (bytes : List ℕ) → AllByRecursion (λ b. b < 256) bytes → AllByRecursion IsWord (given_of bytes)
+given_are_words [] all = tt
+given_are_words (tag ∷ bytes) all =
+    chosen (tag == 255) (if nat_lt (length bytes) 9 then [] else plain_words (take 8 bytes ++ drop 9 bytes)) []
+    (chosen (nat_lt (length bytes) 9) [] (plain_words (take 8 bytes ++ drop 9 bytes)) tt
+    (plain_split (take 8 bytes ++ drop 9 bytes) (all_append (λ b. b < 256) (take 8 bytes) (drop 9 bytes) (all_take (λ b. b < 256) 8 bytes all.1) (all_drop (λ b. b < 256) 9 bytes all.1))).are_words)
+    tt
+  where
+    chosen : (c : Bool) (a b : List ℕ) → AllByRecursion IsWord a → AllByRecursion IsWord b → AllByRecursion IsWord (if c then a else b)
+    chosen true a b p q = p
+    chosen false a b p q = q
+
+-- of bytes that become something
+unpacked_by : (bytes : List ℕ) → AllByRecursion (λ b. b < 256) bytes → Becomes bytes → AllByRecursion IsWord (unpacked bytes)
+unpacked_by bytes all (whole k u) = unpacks_are_words bytes (unpacked bytes) u
+unpacked_by bytes all (part k c) =
+    let behind = all_back (λ b. b < 256) c.whole c.part (subst (AllByRecursion (λ b. b < 256)) c.text all) in
+    subst (AllByRecursion IsWord) (sym c.given) (all_append IsWord c.before (given_of c.part) (unpacks_are_words c.whole c.before c.unpacks) (given_are_words c.part behind))
+
+-- packed bytes give words
+pub unpacked_are_words : (bytes : List ℕ) → AllByRecursion (λ b. b < 256) bytes → AllByRecursion IsWord (unpacked bytes)
+unpacked_are_words bytes all = unpacked_by bytes all (becomes bytes all)
+
+-- the plain text of words is bytes
+pub plain_are_bytes : (words : List ℕ) → AllByRecursion (λ b. b < 256) (plain_text words)
+plain_are_bytes [] = tt
+plain_are_bytes (x ∷ words) = all_append (λ b. b < 256) (word_bytes x) (plain_text words) (bytes_fit 0 8 x) (plain_are_bytes words)
+
+-- a group is bytes
+pub group_are_bytes : (bytes words : List ℕ) → IsGroup bytes words → AllByRecursion (λ b. b < 256) bytes
+group_are_bytes bytes words (zeros n h e w) = subst (AllByRecursion (λ b. b < 256)) (sym e) ((omega arith), (h, tt))
+group_are_bytes bytes words (plain x more h all l e w) =
+    subst (AllByRecursion (λ b. b < 256)) (sym e)
+    ((omega arith), all_append (λ b. b < 256) (word_bytes x) (length more ∷ plain_text more) (bytes_fit 0 8 x) (l, plain_are_bytes more))
+group_are_bytes bytes words (marked tag present p q all l e w) = subst (AllByRecursion (λ b. b < 256)) (sym e) ((omega (arith, q)), all)
+
+-- so are groups
+groups_are_bytes : (groups : Groups) → AllByRecursion (λ g. IsGroup g.0 g.1) groups → AllByRecursion (λ b. b < 256) (text_of groups)
+groups_are_bytes [] all = tt
+groups_are_bytes (g ∷ groups) all = all_append (λ b. b < 256) g.0 (text_of groups) (group_are_bytes g.0 g.1 all.0) (groups_are_bytes groups all.1)
+
+-- what unpacks to words is bytes
+pub unpacks_are_bytes : (bytes words : List ℕ) → Unpacks bytes words → AllByRecursion (λ b. b < 256) bytes
+unpacks_are_bytes bytes words u = subst (AllByRecursion (λ b. b < 256)) (sym u.text) (groups_are_bytes u.groups u.each)

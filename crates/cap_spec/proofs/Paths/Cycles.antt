@@ -1,0 +1,73 @@
+-- A pointer word that a longer path reaches again denotes no tree.
+use Rattle.std.proofs.Common.{ℕ, zero, suc, ◌+◌, ◌<◌, ◌≤◌, List, [], ◌∷◌, ◌++◌, ◌≡◌, ap, subst, arith, Some}
+use Rattle.cap_spec.specs.Tree.{Tree, null, cap, struct, scalars, pointers, structs, Trees, none, more, tree_at, part_at, node_at}
+use Rattle.cap_spec.specs.Denoting.{Denotes}
+use Rattle.cap_spec.specs.Paths.{Spot, word, Walks, Reaches}
+use Rattle.cap_spec.specs.declared.Step.{Step}
+use Rattle.cap_spec.specs.declared.Step.TheVariants.{Ptr, Item}
+use Rattle.cap_spec.proofs.Trees.OneTree.{Same, one_tree}
+use Rattle.cap_spec.proofs.Paths.Walks.{one_walk, walk_parts}
+use Rattle.cap_spec.proofs.Paths.Arrivals.{path_to_node, coming_to_node, node_parts}
+
+-- how many nodes a tree has
+abbrev mutual
+  pub weight : Tree → ℕ
+  weight null = 1
+  weight (cap i) = 1
+  weight (struct words ts) = 1 + weights ts
+  weight (scalars e values) = 1
+  weight (pointers ts) = 1 + weights ts
+  weight (structs d p es) = 1 + weights es
+
+  pub weights : Trees → ℕ
+  weights none = 0
+  weights (more t ts) = weight t + weights ts
+
+-- a tree of a list has at most the nodes of the list
+tree_below : (ts : Trees) (i : ℕ) (u : Tree) → tree_at ts i ≡ Some u → weight u ≤ weights ts
+tree_below none i u e = absurd (cc e)
+tree_below (more t ts) zero u e = let f : t ≡ u = cc e in omega (arith, ap weight f)
+tree_below (more t ts) (suc i) u e = omega (arith, tree_below ts i u e)
+
+-- a part has fewer nodes
+part_below : (t : Tree) (step : Step) (u : Tree) → part_at t step ≡ Some u → weight u < weight t
+part_below (struct words ts) (Ptr i) u e = omega (arith, tree_below ts i u e)
+part_below (pointers ts) (Item i) u e = omega (arith, tree_below ts i u e)
+part_below (structs d p es) (Item i) u e = omega (arith, tree_below es i u e)
+part_below t step u e = absurd (cc e)
+
+-- a node has at most the nodes of the tree
+node_below : (t : Tree) (path : List Step) (u : Tree) → node_at t path ≡ Some u → weight u ≤ weight t
+node_below t [] u e = let f : t ≡ u = cc e in omega (arith, ap weight f)
+node_below t (step ∷ path) u e =
+    let r = node_parts t u step path e in
+    omega (arith, part_below t step r.0 r.1, node_below r.0 path u r.2)
+
+-- and fewer where it is another
+pub proper_node_below : (t : Tree) (step : Step) (path : List Step) (u : Tree) → node_at t (step ∷ path) ≡ Some u → weight u < weight t
+proper_node_below t step path u e =
+    let r = node_parts t u step path e in
+    omega (arith, part_below t step r.0 r.1, node_below r.0 path u r.2)
+
+-- A pointer word from which some steps lead back to it denotes no tree.
+pub no_tree_in_cycle : (m : List (List ℕ)) (s w : ℕ) (step : Step) (path : List Step) (n : ℕ) → Walks m (word s w) (step ∷ path) n (word s w)
+    → (t : Tree) (c d : ℕ) → Denotes m s w t c d → ⊥
+no_tree_in_cycle m s w step path n g t c d h =
+    let r = path_to_node m (word s w) (step ∷ path) n (word s w) t (c, d, h) g in
+    let e : Same t r.0 c r.2.0 d r.2.1 = one_tree m s w t r.0 c d r.2.0 r.2.1 h r.2.2 in
+    omega (arith, proper_node_below t step path r.0 r.1, ap weight e.part)
+
+-- Where a path reaches a pointer word, and a longer path through it the same word again, that word denotes no tree,
+pub no_tree_at_cycle : (m : List (List ℕ)) (path : List Step) (step : Step) (on : List Step) (l l' s w : ℕ)
+    → Reaches m path l s w → Reaches m (path ++ step ∷ on) l' s w → (t : Tree) (c d : ℕ) → Denotes m s w t c d → ⊥
+no_tree_at_cycle m path step on l l' s w g h =
+    let p = walk_parts m (word 0 0) (word s w) path (step ∷ on) h.1 h.3 in
+    let e : p.0 ≡ word s w = (one_walk m (word 0 0) path p.1 g.1 p.0 (word s w) p.3 g.3).1 in
+    no_tree_in_cycle m s w step on p.2 (subst (λ (y : Spot). Walks m y (step ∷ on) p.2 (word s w)) e p.4)
+
+-- and the root denotes none.
+pub no_tree_above_cycle : (m : List (List ℕ)) (path : List Step) (step : Step) (on : List Step) (l l' s w : ℕ)
+    → Reaches m path l s w → Reaches m (path ++ step ∷ on) l' s w → (t : Tree) (c d : ℕ) → Denotes m 0 0 t c d → ⊥
+no_tree_above_cycle m path step on l l' s w g h t c d x =
+    let r = coming_to_node m t c d x path l (word s w) g in
+    no_tree_at_cycle m path step on l l' s w g h r.0 r.2.0 r.2.1 r.2.2

@@ -1,0 +1,163 @@
+-- No path leads deeper than the depth of the root's tree.
+use Rattle.std.proofs.Common.{ℕ, zero, suc, ◌+◌, ◌<◌, ◌≤◌, List, [], ◌∷◌, ◌≡◌, max, sym, ap, refl, subst, ◌∙◌, arith, Bool, true, false, Some, eqb, ne_eqb}
+use Rattle.std.specs.Prelude.{pos}
+use Rattle.cap_spec.specs.Messages.{HasWord}
+use Rattle.cap_spec.specs.Pointers.{kind, code, middle, data_size, pointer_size, list_size}
+use Rattle.cap_spec.specs.Following.{to_null, to_cap, to_object, IsComposite}
+use Rattle.cap_spec.specs.Tree.{Tree, null, cap, struct, scalars, pointers, structs, Trees, none, more, tree_count, tree_at, part_at}
+use Rattle.cap_spec.specs.Denoting.{Finds, Denotes, DenoteEach, AreElements, places, element_levels}
+use Rattle.cap_spec.specs.Paths.{Spot, word, element, Walks, level_of}
+use Rattle.cap_spec.specs.Verdicts.{levels_below}
+use Rattle.cap_spec.specs.Standing.{DenotesAt}
+use Rattle.cap_spec.specs.declared.Step.{Step}
+use Rattle.cap_spec.specs.declared.Step.TheVariants.{Ptr, Item}
+use Rattle.cap_spec.proofs.Trees.Finding.{SameObject, one_object}
+use Rattle.cap_spec.proofs.Frames.Messages.{one_word}
+use Rattle.cap_spec.proofs.Pointers.Following.{one_lead}
+use Rattle.cap_spec.proofs.Paths.Arrivals.{step_to_part}
+use Rattle.cap_spec.proofs.Paths.PathLists.{is_structs}
+use Rattle.cap_spec.proofs.Paths.PathCounts.{is_element, step_kind}
+
+-- the depth of a tree
+abbrev mutual
+  pub depth_of : Tree → ℕ
+  depth_of null = 0
+  depth_of (cap i) = 0
+  depth_of (struct words ts) = 1 + depth_each ts
+  depth_of (scalars c vs) = 1
+  depth_of (pointers ts) = 1 + depth_each ts
+  depth_of (structs d p es) = 1 + element_levels (tree_count es) + depth_elements es
+
+  -- the greatest depth of some trees
+  pub depth_each : Trees → ℕ
+  depth_each none = 0
+  depth_each (more t ts) = max (depth_of t) (depth_each ts)
+
+  -- and of what stands in elements
+  pub depth_elements : Trees → ℕ
+  depth_elements none = 0
+  depth_elements (more (struct words ts) es) = max (depth_each ts) (depth_elements es)
+  depth_elements (more x es) = depth_elements es
+
+mutual
+  -- what a word denotes has the depth of its tree
+  pub denoted_depth : (m : List (List ℕ)) (s w : ℕ) (t : Tree) (c d : ℕ) → Denotes m s w t c d → d ≡ depth_of t
+  denoted_depth m s w null c d h = h.1
+  denoted_depth m s w (cap i) c d h = h.1
+  denoted_depth m s w (struct ws ts) c d h =
+      h.6.depth ∙ ap (λ x. 1 + x) (each_depth m (places h.1 (h.2 + data_size h.3) (pointer_size h.3)) ts h.4 h.5 h.7)
+  denoted_depth m s w (scalars e vs) c d h = h.4.depth
+  denoted_depth m s w (pointers ts) c d h = h.6.depth ∙ ap (λ x. 1 + x) (each_depth m (places h.1 h.2 (list_size h.3)) ts h.4 h.5 h.7)
+  denoted_depth m s w (structs ds ps es) c d h =
+      let r = elements_depth m h.1 (h.2 + 1) ds ps (middle h.4) es h.5 h.6 h.8 in
+      h.7.depth ∙ ap (λ x. 1 + element_levels x + h.6) r.0 ∙ ap (λ x. 1 + element_levels (tree_count es) + x) r.1
+
+  pub each_depth : (m : List (List ℕ)) (ps : List (ℕ × ℕ)) (ts : Trees) (c d : ℕ) → DenoteEach m ps ts c d → d ≡ depth_each ts
+  each_depth m ps none c d h = h.2
+  each_depth m ps (more t ts) c d h =
+      let a = denoted_depth m h.0 h.1 t h.3 h.4 h.8 in
+      let b = each_depth m h.2 ts h.5 h.6 h.9 in
+      h.11 ∙ ap (λ x. max x h.6) a ∙ ap (λ x. max (depth_of t) x) b
+
+  pub elements_depth : (m : List (List ℕ)) (t b ds ps n : ℕ) (es : Trees) (c d : ℕ) → AreElements m t b ds ps n es c d → (n ≡ tree_count es) × (d ≡ depth_elements es)
+  elements_depth m t b ds ps n none c d h = (h.0, h.2)
+  elements_depth m t b ds ps n (more (struct ws ts) es) c d h =
+      let a = each_depth m (places t (b + ds) ps) ts h.1 h.2 h.7 in
+      let r = elements_depth m t (b + ds + ps) ds ps h.0 es h.3 h.4 h.8 in
+      (h.5 ∙ ap suc r.0, h.10 ∙ ap (λ x. max x h.4) a ∙ ap (λ x. max (depth_each ts) x) r.1)
+  elements_depth m t b ds ps n (more x es) c d h = absurd h
+
+-- the levels of a step to a part
+abbrev level_if : Bool → ℕ
+level_if true = element_levels 1
+level_if false = 1
+
+-- some elements take the levels of one
+pub levels_of_some : (n : ℕ) → 0 < n → element_levels n ≡ element_levels 1
+levels_of_some zero lt = absurd (omega arith)
+levels_of_some (suc n) lt = refl
+
+-- each of some trees is at most as deep as all
+tree_depth : (ts : Trees) (i : ℕ) (u : Tree) → tree_at ts i ≡ Some u → depth_of u ≤ depth_each ts
+tree_depth none i u e = absurd (cc e)
+tree_depth (more t ts) zero u e = let f : t ≡ u = cc e in omega (arith, ap depth_of f)
+tree_depth (more t ts) (suc i) u e = omega (arith, tree_depth ts i u e)
+
+-- and so each of the elements of a struct list, which are structs
+abbrev AreStructs : Trees → Type 0
+AreStructs none = Unit {0}
+AreStructs (more (struct words ts) es) = AreStructs es
+AreStructs (more x es) = ⊥
+
+element_depth : (es : Trees) (i : ℕ) (u : Tree) → AreStructs es → tree_at es i ≡ Some u → (depth_of u ≤ 1 + depth_elements es) × (0 < tree_count es)
+element_depth none i u a e = absurd (cc e)
+element_depth (more (struct ws ts) es) zero u a e = let f : struct ws ts ≡ u = cc e in (omega (arith, ap depth_of f), omega arith)
+element_depth (more (struct ws ts) es) (suc i) u a e = (omega (arith, element_depth es i u a e), omega arith)
+element_depth (more x es) i u a e = absurd a
+
+elements_are_structs : (m : List (List ℕ)) (t b ds ps n : ℕ) (es : Trees) (c d : ℕ) → AreElements m t b ds ps n es c d → AreStructs es
+elements_are_structs m t b ds ps n none c d h = tt
+elements_are_structs m t b ds ps n (more (struct ws ts) es) c d h = elements_are_structs m t (b + ds + ps) ds ps h.0 es h.3 h.4 h.8
+elements_are_structs m t b ds ps n (more x es) c d h = absurd h
+
+-- a part is less deep than its tree by the levels of the step
+part_depth : (m : List (List ℕ)) (a : Spot) (t : Tree) (step : Step) (u : Tree) → DenotesAt m a t → part_at t step ≡ Some u → level_if (is_structs t) + depth_of u ≤ depth_of t
+part_depth m a (struct ws ts) (Ptr i) u h e = omega (arith, tree_depth ts i u e)
+part_depth m a (pointers ts) (Item i) u h e = omega (arith, tree_depth ts i u e)
+part_depth m (word s w) (structs d p es) (Item i) u h e =
+    let f = h.2 in
+    let r = element_depth es i u (elements_are_structs m f.1 (f.2 + 1) d p (middle f.4) es f.5 f.6 f.8) e in
+    omega (arith, r.0, levels_of_some (tree_count es) r.1)
+part_depth m (element x b ds ps) (structs d p es) (Item i) u h e = absurd h
+part_depth m a t step u h e = absurd (cc e)
+
+-- the levels of a spot
+spot_level : (b : Spot) → level_of b ≡ level_if (is_element b)
+spot_level (word s w) = refl
+spot_level (element t b ds ps) = refl
+
+-- What stands where a path leads is less deep than the tree of its first spot by the levels on the way.
+pub walk_depth : (m : List (List ℕ)) (a : Spot) (path : List Step) (n : ℕ) (b : Spot) (t : Tree) → DenotesAt m a t → Walks m a path n b
+    → (u : Tree) × DenotesAt m b u × (n + depth_of u ≤ depth_of t)
+walk_depth m a [] n b t h g = (t, subst (λ (y : Spot). DenotesAt m y t) (sym g.1) h, omega (arith, g.0))
+walk_depth m a (step ∷ path) n b t h g =
+    let r = step_to_part m a step g.0 t h g.2 in
+    let k = step_kind m a step g.0 t h g.2 in
+    let x : level_if (is_structs t) + depth_of r.0 ≤ depth_of t = part_depth m a t step r.0 h r.1 in
+    let l : level_of g.0 ≡ level_if (is_structs t) = spot_level g.0 ∙ ap level_if k in
+    let z = walk_depth m g.0 path g.1 b r.0 r.2 g.3 in
+    (z.0, z.1, omega (arith, z.2, x, l, g.4))
+
+-- the levels of what stands in an object, by its form
+pub below_struct : (q tag : ℕ) → kind q ≡ 0 → levels_below q tag ≡ 0
+below_struct q tag e = rw e refl
+
+pub below_pointers : (q tag : ℕ) → kind q ≡ 1 → code q ≡ 6 → levels_below q tag ≡ 0
+below_pointers q tag e f = rw (e, f) refl
+
+pub below_structs : (q tag : ℕ) → kind q ≡ 1 → code q ≡ 7 → levels_below q tag ≡ element_levels (middle tag)
+below_structs q tag e f = rw (e, f) refl
+
+pub below_scalars : (q tag : ℕ) → kind q ≡ 1 → code q < 6 → levels_below q tag ≡ 0
+below_scalars q tag e f = let g : eqb (code q) 7 ≡ false = ne_eqb (code q) 7 (omega arith) in rw (e, g) refl
+
+-- an object and the levels of what stands in it are within the depth of what its pointer denotes
+pub object_depth : (m : List (List ℕ)) (s w : ℕ) (x : Tree) (c d k t b q tag : ℕ) → Denotes m s w x c d → Finds m s w k t b q → (IsComposite q → HasWord m t b tag)
+    → 1 + levels_below q tag ≤ d
+object_depth m s w null c d k t b q tag h f has = absurd (cc (one_lead m s w c k to_null (to_object t (pos b) q) h.0 f.leads).1)
+object_depth m s w (cap i) c d k t b q tag h f has = absurd (cc (one_lead m s w c k (to_cap i) (to_object t (pos b) q) h.0 f.leads).1)
+object_depth m s w (struct ws ts) c d k t b q tag h f has =
+    let o : SameObject k t b q h.0 h.1 h.2 h.3 = one_object m s w k t b q h.0 h.1 h.2 h.3 f h.6.finds in
+    omega (arith, below_struct q tag (ap kind o.shape ∙ h.6.kind), h.6.depth)
+object_depth m s w (scalars e vs) c d k t b q tag h f has =
+    let o : SameObject k t b q h.0 h.1 h.2 h.3 = one_object m s w k t b q h.0 h.1 h.2 h.3 f h.4.finds in
+    omega (arith, below_scalars q tag (ap kind o.shape ∙ h.4.kind) (omega (arith, ap code o.shape, h.4.code, h.4.scalar)), h.4.depth)
+object_depth m s w (pointers ts) c d k t b q tag h f has =
+    let o : SameObject k t b q h.0 h.1 h.2 h.3 = one_object m s w k t b q h.0 h.1 h.2 h.3 f h.6.finds in
+    omega (arith, below_pointers q tag (ap kind o.shape ∙ h.6.kind) (ap code o.shape ∙ h.6.code), h.6.depth)
+object_depth m s w (structs ds ps es) c d k t b q tag h f has =
+    let o : SameObject k t b q h.0 h.1 h.2 h.3 = one_object m s w k t b q h.0 h.1 h.2 h.3 f h.7.finds in
+    let y : kind q ≡ 1 = ap kind o.shape ∙ h.7.kind in
+    let z : code q ≡ 7 = ap code o.shape ∙ h.7.code in
+    let e : tag ≡ h.4 = one_word m t b tag h.4 (has (y, z)) (rw (o.segment, o.start) h.7.has_tag) in
+    omega (arith, below_structs q tag y z, ap (λ v. element_levels (middle v)) e, h.7.depth)

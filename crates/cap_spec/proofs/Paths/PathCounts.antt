@@ -1,0 +1,210 @@
+-- The pointers and the capabilities of the tree that the root denotes are as many as the paths that reach them.
+use Rattle.std.proofs.Common.{ℕ, zero, suc, ◌+◌, ◌*◌, ◌<◌, List, [], ◌∷◌, ◌≡◌, ◌↔◌, sym, ap, refl, subst, ◌∙◌, arith, inl, inr, Bool, true, false, not, length, eqb, ne_eqb}
+use Rattle.cap_spec.specs.Pointers.{kind, code}
+use Rattle.cap_spec.specs.Following.{Lead, Leads, to_cap}
+use Rattle.cap_spec.specs.Tree.{Tree, null, cap, struct, scalars, pointers, structs, pointer_count, cap_count, has_cap}
+use Rattle.cap_spec.specs.Denoting.{Denotes}
+use Rattle.cap_spec.specs.Paths.{Spot, word, element, Goes, Walks, Reaches, Before, Rises, IsOneOf, IsFirstCap, level_of}
+use Rattle.cap_spec.specs.Standing.{DenotesAt}
+use Rattle.cap_spec.specs.declared.Step.{Step}
+use Rattle.cap_spec.specs.declared.Step.TheVariants.{Ptr, Item}
+use Rattle.cap_spec.proofs.Pointers.Following.{one_lead}
+use Rattle.cap_spec.proofs.Trees.OneTree.{Formed, HasForm, form_of, formed, number_struct, number_list}
+use Rattle.cap_spec.proofs.Paths.Arrivals.{found_form, lead_word, step_to_part, part_to_step}
+use Rattle.cap_spec.proofs.Paths.Preorder.{Before-irreflexive, Before-asymmetric, Rises-first}
+use Rattle.cap_spec.proofs.Paths.PathLists.{with_own, paths_below, Wants, is_structs, is_pointer, is_cap, wants_cap, listed_wanted, wanted_listed, listed_rise, pointers_listed, caps_listed}
+
+abbrev pub is_element : Spot → Bool
+is_element (word s w) = false
+is_element (element t b ds ps) = true
+
+-- the parts of a tree of another form than a struct list aren't elements
+no_structs : (t : Tree) (n : ℕ) → HasForm t n → n < 10 → is_structs t ≡ false
+no_structs (structs d p es) n f lt = absurd (omega arith)
+no_structs t n f lt = refl
+
+-- and those of a struct list are
+all_structs : (t : Tree) → HasForm t 10 → is_structs t ≡ true
+all_structs null f = absurd (omega arith)
+all_structs (cap i) f = absurd (omega arith)
+all_structs (struct words ts) f = absurd (omega arith)
+all_structs (scalars c vs) f = absurd (omega arith)
+all_structs (pointers ts) f = absurd (omega arith)
+all_structs (structs d p es) f = refl
+
+-- a step leads to an element where the tree of the spot is a struct list
+pub step_kind : (m : List (List ℕ)) (a : Spot) (step : Step) (b : Spot) (t : Tree) → DenotesAt m a t → Goes m a step b → is_element b ≡ is_structs t
+step_kind m (word s w) (Ptr i) b t h g =
+    let f = found_form m s w t h.0 h.1 g.0 g.1 g.2 g.3 h.2 g.4 in
+    ap is_element g.7 ∙ sym (no_structs t (2 + kind g.3 * (1 + code g.3)) f (omega (arith, number_struct (kind g.3) (code g.3) g.5)))
+step_kind m (word s w) (Item i) b t h (inl g) =
+    let f = found_form m s w t h.0 h.1 g.0 g.1 g.2 g.3 h.2 g.4 in
+    ap is_element g.8 ∙ sym (no_structs t (2 + kind g.3 * (1 + code g.3)) f (omega (arith, number_list (kind g.3) (code g.3) g.5, g.6)))
+step_kind m (word s w) (Item i) b t h (inr g) =
+    let f = found_form m s w t h.0 h.1 g.0 g.1 g.2 g.3 h.2 g.5 in
+    let e : 2 + kind g.3 * (1 + code g.3) ≡ 10 = omega (arith, number_list (kind g.3) (code g.3) g.6, g.7) in
+    ap is_element g.10 ∙ sym (all_structs t (subst (λ (n : ℕ). HasForm t n) e f))
+step_kind m (element x y ds ps) (Ptr i) b (struct words ts) h g = ap is_element g.1
+step_kind m (element x y ds ps) (Ptr i) b t h g = absurd h
+step_kind m (element x y ds ps) (Item i) b t h g = absurd g
+
+-- The nodes that a test wants are where walks end, of which the spot's own test tells the same of each spot and its tree.
+pub wanted_walk : (m : List (List ℕ)) (test : Bool → Tree → Bool) (P : Spot → Type 0)
+    → ((a : Spot) (t : Tree) → DenotesAt m a t → test (is_element a) t ≡ true → P a)
+    → (a : Spot) (t : Tree) (q : List Step) → DenotesAt m a t → Wants test (is_element a) t q → (n : ℕ) × (b : Spot) × Walks m a q n b × P b
+wanted_walk m test P own a t [] h g = (0, a, (refl, refl), own a t h g)
+wanted_walk m test P own a t (step ∷ path) h g =
+    let r = part_to_step m a step t g.0 h g.1 in
+    let k = step_kind m a step r.0 t h r.1 in
+    let z = wanted_walk m test P own r.0 g.0 path r.2 (subst (λ (e : Bool). Wants test e g.0 path) (sym k) g.2) in
+    (level_of r.0 + z.0, z.1, (r.0, z.0, r.1, z.2, refl), z.3)
+
+pub walk_wanted : (m : List (List ℕ)) (test : Bool → Tree → Bool) (P : Spot → Type 0)
+    → ((a : Spot) (t : Tree) → DenotesAt m a t → P a → test (is_element a) t ≡ true)
+    → (a : Spot) (t : Tree) (q : List Step) → DenotesAt m a t → (n : ℕ) (b : Spot) → Walks m a q n b → P b → Wants test (is_element a) t q
+walk_wanted m test P own a t [] h n b g p = own a t h (subst P g.1 p)
+walk_wanted m test P own a t (step ∷ path) h n b g p =
+    let r = step_to_part m a step g.0 t h g.2 in
+    let k = step_kind m a step g.0 t h g.2 in
+    (r.0, r.1, subst (λ (e : Bool). Wants test e r.0 path) k (walk_wanted m test P own g.0 r.0 path r.2 g.1 b g.3 p))
+
+-- a spot that is a pointer word
+abbrev pub IsWordSpot : Spot → Type 0
+IsWordSpot a = (s w : ℕ) × (a ≡ word s w)
+
+-- a pointer word that leads to a capability
+abbrev pub IsCapSpot : List (List ℕ) → Spot → Type 0
+IsCapSpot m a = (s w k i : ℕ) × (a ≡ word s w) × Leads m s w k (to_cap i)
+
+wanted_word : (m : List (List ℕ)) (a : Spot) (t : Tree) → DenotesAt m a t → is_pointer (is_element a) t ≡ true → IsWordSpot a
+wanted_word m (word s w) t h e = (s, w, refl)
+wanted_word m (element x b ds ps) t h e = absurd (cc e)
+
+word_wanted : (m : List (List ℕ)) (a : Spot) (t : Tree) → DenotesAt m a t → IsWordSpot a → is_pointer (is_element a) t ≡ true
+word_wanted m a t h p = rw p.2 refl
+
+wanted_cap : (m : List (List ℕ)) (a : Spot) (t : Tree) → DenotesAt m a t → wants_cap (is_element a) t ≡ true → IsCapSpot m a
+wanted_cap m (word s w) (cap i) h e = (s, w, h.0, i, refl, h.2.0)
+wanted_cap m (element x b ds ps) (struct words ts) h e = absurd (cc e)
+wanted_cap m (word s w) t h e = absurd (cc e)
+wanted_cap m (element x b ds ps) t h e = absurd h
+
+-- a tree of the form of a capability is one
+cap_form : (t : Tree) → HasForm t 1 → is_cap t ≡ true
+cap_form (cap i) f = refl
+cap_form null f = absurd (omega arith)
+cap_form (struct words ts) f = absurd (omega arith)
+cap_form (scalars c vs) f = absurd (omega arith)
+cap_form (pointers ts) f = absurd (omega arith)
+cap_form (structs d p es) f = absurd (omega arith)
+
+-- what the word at a spot leads to
+abbrev LeadsAt : List (List ℕ) → Spot → ℕ → Lead → Type 0
+LeadsAt m (word s w) k r = Leads m s w k r
+LeadsAt m (element t b ds ps) k r = ⊥
+
+cap_wanted : (m : List (List ℕ)) (a : Spot) (t : Tree) → DenotesAt m a t → IsCapSpot m a → wants_cap (is_element a) t ≡ true
+cap_wanted m (word s w) t h p =
+    let f : Formed m s w t = formed m s w t h.0 h.1 h.2 in
+    let e : word s w ≡ word p.0 p.1 = p.4 in
+    let l : Leads m s w p.2 (to_cap p.3) = subst (λ (z : Spot). LeadsAt m z p.2 (to_cap p.3)) (sym e) p.5 in
+    let r = one_lead m s w f.k p.2 f.r (to_cap p.3) f.leads l in
+    cap_form t (subst (λ (z : Lead). HasForm t (form_of z)) r.1 f.form)
+cap_wanted m (element x b ds ps) t h p = absurd (cc p.4)
+
+-- the paths to pointer words, and to capabilities
+abbrev pub pointer_paths : Tree → List (List Step)
+pointer_paths t = with_own true (paths_below is_pointer t)
+
+abbrev pub cap_paths : Tree → List (List Step)
+cap_paths t = with_own (is_cap t) (paths_below wants_cap t)
+
+-- The paths that reach a pointer word are exactly the listed ones, where the root denotes the tree.
+pub pointer_path_reached : (m : List (List ℕ)) (t : Tree) (c d : ℕ) → Denotes m 0 0 t c d → (q : List Step)
+    → IsOneOf q (pointer_paths t) ↔ ((level s w : ℕ) × Reaches m q level s w)
+pointer_path_reached m t c d h q = (to, from)
+  where
+    to : IsOneOf q (pointer_paths t) → (level s w : ℕ) × Reaches m q level s w
+    to g =
+        let f : Formed m 0 0 t = formed m 0 0 t c d h in
+        let p = lead_word m 0 0 f.k f.r f.leads in
+        let r = wanted_walk m is_pointer IsWordSpot (wanted_word m) (word 0 0) t q (c, d, h) (listed_wanted is_pointer false t q g) in
+        (1 + r.0, r.3.0, r.3.1, (p.0, r.0, p.1, subst (λ (z : Spot). Walks m (word 0 0) q r.0 z) r.3.2 r.2, refl))
+
+    from : (level s w : ℕ) × Reaches m q level s w → IsOneOf q (pointer_paths t)
+    from g = wanted_listed is_pointer false t q (walk_wanted m is_pointer IsWordSpot (word_wanted m) (word 0 0) t q (c, d, h) g.3.1 (word g.1 g.2) g.3.3 (g.1, g.2, refl))
+
+-- The paths that reach a capability are exactly the listed ones.
+pub cap_path_reached : (m : List (List ℕ)) (t : Tree) (c d : ℕ) → Denotes m 0 0 t c d → (q : List Step)
+    → IsOneOf q (cap_paths t) ↔ ((level s w k i : ℕ) × Reaches m q level s w × Leads m s w k (to_cap i))
+cap_path_reached m t c d h q = (to, from)
+  where
+    to : IsOneOf q (cap_paths t) → (level s w k i : ℕ) × Reaches m q level s w × Leads m s w k (to_cap i)
+    to g =
+        let f : Formed m 0 0 t = formed m 0 0 t c d h in
+        let p = lead_word m 0 0 f.k f.r f.leads in
+        let r = wanted_walk m wants_cap (IsCapSpot m) (wanted_cap m) (word 0 0) t q (c, d, h) (listed_wanted wants_cap false t q g) in
+        (1 + r.0, r.3.0, r.3.1, r.3.2, r.3.3, (p.0, r.0, p.1, subst (λ (z : Spot). Walks m (word 0 0) q r.0 z) r.3.4 r.2, refl), r.3.5)
+
+    from : (level s w k i : ℕ) × Reaches m q level s w × Leads m s w k (to_cap i) → IsOneOf q (cap_paths t)
+    from g = wanted_listed wants_cap false t q (walk_wanted m wants_cap (IsCapSpot m) (cap_wanted m) (word 0 0) t q (c, d, h) g.5.1 (word g.1 g.2) g.5.3 (g.1, g.2, g.3, g.4, refl, g.6))
+
+-- There is a rising list of exactly the paths that reach a pointer word, of as many as the tree's pointers,
+pub pointers_counted : (m : List (List ℕ)) (t : Tree) (c d : ℕ) → Denotes m 0 0 t c d
+    → (paths : List (List Step)) × Rises paths × (length paths ≡ pointer_count t) × ((q : List Step) → IsOneOf q paths ↔ ((level s w : ℕ) × Reaches m q level s w))
+pointers_counted m t c d h = (pointer_paths t, listed_rise is_pointer false t, pointers_listed t, pointer_path_reached m t c d h)
+
+-- and one of exactly those that reach a capability, of as many as its capabilities.
+pub caps_counted : (m : List (List ℕ)) (t : Tree) (c d : ℕ) → Denotes m 0 0 t c d
+    → (paths : List (List Step)) × Rises paths × (length paths ≡ cap_count t) × ((q : List Step) → IsOneOf q paths ↔ ((level s w k i : ℕ) × Reaches m q level s w × Leads m s w k (to_cap i)))
+caps_counted m t c d h = (cap_paths t, listed_rise wants_cap false t, caps_listed false t, cap_path_reached m t c d h)
+
+-- The first of the paths to capabilities is the first in preorder.
+first_of : (m : List (List ℕ)) (t : Tree) (c d : ℕ) → Denotes m 0 0 t c d → (paths : List (List Step)) → Rises paths
+    → ((q : List Step) → IsOneOf q paths ↔ ((level s w k i : ℕ) × Reaches m q level s w × Leads m s w k (to_cap i))) → 0 < length paths
+    → (s w : ℕ) × IsFirstCap m s w
+first_of m t c d h [] rises exact some = absurd (omega arith)
+first_of m t c d h (p ∷ ps) rises exact some =
+    let r = (exact p).0 (inl refl) in (
+      r.1,
+      r.2,
+      record {
+        path = p;
+        level = r.0;
+        k = r.3;
+        index = r.4;
+        reached = r.5;
+        leads = r.6;
+        first = λ q level s w k i before reached leads. late q before ((exact q).1 (level, s, w, k, i, reached, leads));
+      },
+    )
+  where
+    late : (q : List Step) → Before q p → IsOneOf q (p ∷ ps) → ⊥
+    late q b (inl e) = Before-irreflexive p (subst (λ (z : List Step). Before z p) e b)
+    late q b (inr e) = Before-asymmetric p q (Rises-first p ps q rises e) b
+
+-- a number isn't 0
+more_than_none : (n : ℕ) → not (eqb n 0) ≡ true → 0 < n
+more_than_none zero e = absurd (cc e)
+more_than_none (suc n) e = omega arith
+
+not_none : (n : ℕ) → 0 < n → not (eqb n 0) ≡ true
+not_none n lt = let e : eqb n 0 ≡ false = ne_eqb n 0 (omega arith) in rw e refl
+
+-- a list with a member isn't empty
+member_some : (q : List Step) (ps : List (List Step)) → IsOneOf q ps → 0 < length ps
+member_some q [] i = absurd i
+member_some q (p ∷ ps) i = omega arith
+
+-- A tree has a capability where some word is the first in preorder that leads to one, and nowhere else.
+pub first_cap : (m : List (List ℕ)) (t : Tree) (c d : ℕ) → Denotes m 0 0 t c d → (has_cap t ≡ true) ↔ ((s w : ℕ) × IsFirstCap m s w)
+first_cap m t c d h = (to, from)
+  where
+    to : has_cap t ≡ true → (s w : ℕ) × IsFirstCap m s w
+    to e = first_of m t c d h (cap_paths t) (listed_rise wants_cap false t) (cap_path_reached m t c d h) (omega (arith, caps_listed false t, more_than_none (cap_count t) e))
+
+    from : (s w : ℕ) × IsFirstCap m s w → has_cap t ≡ true
+    from g =
+        let f = g.2 in
+        let i = (cap_path_reached m t c d h f.path).1 (f.level, g.0, g.1, f.k, f.index, f.reached, f.leads) in
+        not_none (cap_count t) (omega (arith, caps_listed false t, member_some f.path (cap_paths t) i))

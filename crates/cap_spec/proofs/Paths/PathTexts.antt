@@ -1,0 +1,93 @@
+-- The steps of a path are read back from its text.
+use Rattle.std.proofs.Common.{◌≡◌, ℕ, ◌+◌, ◌<◌, ◌≤◌, ◌^◌, ◌%◌, List, [], ◌∷◌, ◌++◌, decimal, get_or, refl, ap, arith}
+use Rattle.std.specs.List.{flat_map, AllByRecursion}
+use Rattle.std.proofs.lemmas.Fmt.{decimal_by_steps, decimal_injective}
+use Rattle.cap_spec.specs.PathTexts.{IsBadAt, IsPath, IsStep, step_text, path_text}
+use Rattle.cap_spec.specs.declared.Step.{Step}
+use Rattle.cap_spec.specs.declared.Step.TheVariants.{Ptr, Item}
+use Rattle.cap_spec.proofs.Bytes.Lists.{all_append}
+
+abbrev IsDigit : ℕ → Type 0
+IsDigit b = (48 ≤ b) × (b < 58)
+
+-- the digits of a number are digits
+all_digits : (n : ℕ) → n < 2 ^ 64 → AllByRecursion IsDigit (decimal n)
+all_digits n h =
+    decimal_by_steps (λ _ ds. AllByRecursion IsDigit ds) (λ k less. ((omega arith, omega arith), tt))
+    (λ k ds more before. all_append IsDigit ds ((48 + k % 10) ∷ []) before ((omega arith, omega arith), tt)) n h
+
+-- a number ends where this text begins
+abbrev EndsNumber : List ℕ → Type 0
+EndsNumber [] = Unit {0}
+EndsNumber (b ∷ bs) = b ≡ 47
+
+-- digits and what stands behind them, told apart
+one_number : (xs ys r s : List ℕ) → AllByRecursion IsDigit xs → AllByRecursion IsDigit ys → EndsNumber r → EndsNumber s → xs ++ r ≡ ys ++ s → (xs ≡ ys) × (r ≡ s)
+one_number [] [] r s a b p q e = (refl, e)
+one_number [] (y ∷ ys) [] s a b p q e = absurd (cc)
+one_number [] (y ∷ ys) (c ∷ r) s a b p q e = let f : c ≡ y = cc in absurd (omega (arith, f, p, b.0.0))
+one_number (x ∷ xs) [] r [] a b p q e = absurd (cc)
+one_number (x ∷ xs) [] r (c ∷ s) a b p q e = let f : x ≡ c = cc in absurd (omega (arith, f, q, a.0.0))
+one_number (x ∷ xs) (y ∷ ys) r s a b p q e =
+    let f : x ≡ y = cc in
+    let g : xs ++ r ≡ ys ++ s = cc in
+    let rest = one_number xs ys r s a.1 b.1 p q g in
+    let same = rest.0 in
+    (cc, rest.1)
+
+ends_number : (steps : List Step) → EndsNumber (flat_map step_text steps)
+ends_number [] = tt
+ends_number (Ptr i ∷ steps) = refl
+ends_number (Item i ∷ steps) = refl
+
+-- two texts of steps, one after the other
+one_numbered : (i j : ℕ) (xs ys : List Step) → i < 2 ^ 64 → j < 2 ^ 64 → decimal i ++ flat_map step_text xs ≡ decimal j ++ flat_map step_text ys
+    → (i ≡ j) × (flat_map step_text xs ≡ flat_map step_text ys)
+one_numbered i j xs ys hi hj e =
+    let both = one_number (decimal i) (decimal j) (flat_map step_text xs) (flat_map step_text ys) (all_digits i hi) (all_digits j hj) (ends_number xs) (ends_number ys) e in
+    (decimal_injective i j hi hj both.0, both.1)
+
+-- the number of the step at the front, and the texts behind it
+ptr_front : (i j : ℕ) (xs ys : List Step) → flat_map step_text (Ptr i ∷ xs) ≡ flat_map step_text (Ptr j ∷ ys) → decimal i ++ flat_map step_text xs ≡ decimal j ++ flat_map step_text ys
+ptr_front i j xs ys e = cc
+
+item_front : (i j : ℕ) (xs ys : List Step) → flat_map step_text (Item i ∷ xs) ≡ flat_map step_text (Item j ∷ ys) → decimal i ++ flat_map step_text xs ≡ decimal j ++ flat_map step_text ys
+item_front i j xs ys e = cc
+
+-- steps are read back from their texts
+pub one_steps : (xs ys : List Step) → AllByRecursion IsStep xs → AllByRecursion IsStep ys → flat_map step_text xs ≡ flat_map step_text ys → xs ≡ ys
+one_steps [] [] a b e = refl
+one_steps [] (Ptr j ∷ ys) a b e = absurd (cc)
+one_steps [] (Item j ∷ ys) a b e = absurd (cc)
+one_steps (Ptr i ∷ xs) [] a b e = absurd (cc)
+one_steps (Item i ∷ xs) [] a b e = absurd (cc)
+one_steps (Ptr i ∷ xs) (Item j ∷ ys) a b e = let f : 112 ≡ 105 = ap (λ l. get_or l 1 0) e in absurd (omega (arith, f))
+one_steps (Item i ∷ xs) (Ptr j ∷ ys) a b e = let f : 105 ≡ 112 = ap (λ l. get_or l 1 0) e in absurd (omega (arith, f))
+one_steps (Ptr i ∷ xs) (Ptr j ∷ ys) a b e =
+    let both = one_numbered i j xs ys (omega (arith, a.0)) (omega (arith, b.0)) (ptr_front i j xs ys e) in
+    let first = both.0 in
+    let rest = one_steps xs ys a.1 b.1 both.1 in cc
+one_steps (Item i ∷ xs) (Item j ∷ ys) a b e =
+    let both = one_numbered i j xs ys (omega (arith, a.0)) (omega (arith, b.0)) (item_front i j xs ys e) in
+    let first = both.0 in
+    let rest = one_steps xs ys a.1 b.1 both.1 in cc
+
+-- a path is read back from its text
+pub one_path_text : (xs ys : List Step) → AllByRecursion IsStep xs → AllByRecursion IsStep ys → path_text xs ≡ path_text ys → xs ≡ ys
+one_path_text [] [] a b e = refl
+one_path_text [] (Ptr j ∷ ys) a b e = absurd (cc)
+one_path_text [] (Item j ∷ ys) a b e = absurd (cc)
+one_path_text (Ptr i ∷ xs) [] a b e = absurd (cc)
+one_path_text (Item i ∷ xs) [] a b e = absurd (cc)
+one_path_text (x ∷ xs) (y ∷ ys) a b e = one_steps (x ∷ xs) (y ∷ ys) a b e
+
+-- a text that is of no path is bad at one place
+pub one_bad_place : (text : List ℕ) (at at' : ℕ) → IsBadAt text at → IsBadAt text at' → at ≡ at'
+one_bad_place text at at' p q =
+    let le = q.longest at p.within p.begins in
+    let ge = p.longest at' q.within q.begins in
+    omega (arith, le, ge)
+
+-- a text of a path is bad nowhere
+pub path_not_bad : (text : List ℕ) (at : ℕ) → IsPath text → IsBadAt text at → ⊥
+path_not_bad text at p q = q.none p
