@@ -43,7 +43,8 @@ typedef char capvet_needs_64_bits[sizeof(size_t) == 8 ? 1 : -1];
 /* What a call answers. 1 to 15 tell of the frame or of the call, 16 to 31 of an accepted message, from
  * 32 on why it is refused. Numbers never change; new ones may come, so treat any but CAPVET_OK as a
  * no. Where several hold, the order is: CAPVET_BAD_LIMITS, the frame (empty, fewer than 8 bytes, too
- * many segments, the table cut, too large, the contents cut), the refusal, CAPVET_NOT_CANONICAL. */
+ * many segments, the table cut, too large, the contents cut), the refusal, CAPVET_NOT_CANONICAL. Of
+ * unpacking: see there. */
 enum {
   CAPVET_OK = 0,
   CAPVET_NO_MESSAGE = 1, /* the buffer is empty: where a stream ends; `number` is 8 */
@@ -56,6 +57,7 @@ enum {
 
   /* The call can't be served as it was made. */
   CAPVET_BAD_LIMITS = 8, /* a limit is above its most; told by each call that takes limits */
+  CAPVET_NO_ROOM = 9,    /* the room given is too small: the needed length was told */
 
   /* The message is not what was asked for, though it is accepted. */
   CAPVET_NOT_CANONICAL = 16,
@@ -128,6 +130,15 @@ uint32_t capvet_vet(const uint8_t *bytes, size_t length, const capvet_limits *li
 CAPVET_CHECKED
 uint32_t capvet_is_canonical(const uint8_t *bytes, size_t length, const capvet_limits *limits,
                              capvet_report *report);
+
+/* Unpacks the whole of `bytes` into the first *written bytes of `out`, which has `room` bytes: the bytes
+ * of words, which need be no message. CAPVET_NO_ROOM: *written is how many bytes it takes; so with `room`
+ * 0 it tells that. The words may have 1024 times the length of the text: compare *written with a limit
+ * of your own before you make room. CAPVET_TRUNCATED, before CAPVET_NO_ROOM, where the text ends inside
+ * a group. CAPVET_TOO_LARGE: `length` is above 2^53. After both *written is 0. After any answer but
+ * CAPVET_OK `out` is as it was; bytes of `out` behind the words are as they were after that too. */
+CAPVET_CHECKED
+uint32_t capvet_unpack(const uint8_t *bytes, size_t length, uint8_t *out, size_t room, size_t *written);
 
 /* CAPVET_VERSION_MAJOR * 65536 + CAPVET_VERSION_MINOR of the archive. It fits this header where the
  * major is the same and the minor not less. */

@@ -5,7 +5,8 @@
 
 The header alone is compiled in each standard of C and C++ that it is promised for. `calls` looks at known
 buffers; `lines` writes what the program writes of a stream, and both outputs are compared, for the samples, for
-each front of one of them, and for 100,000 messages of a fixed seed, most of which are samples with changed bytes. Both
+each front of one of them, and for 100,000 messages of a fixed seed, most of which are samples with changed bytes. So
+are the words of packed texts: of the samples, of each front of one, and of 1,000 that are made up. Both
 run with the compiler's checks of memory, and `calls` under valgrind, where these are there. The last line is
 'N passed, M failed', and the status is 1 where something failed.
 """
@@ -61,7 +62,7 @@ def wanted_symbols(archive):
     undefined = {line.split()[-1] for line in lines if " U " in line}
     own = {line.split()[-1] for line in lines if " T " in line}
     told("what the archive wants", undefined - own <= {"memcpy", "memmove", "memset"}, str(undefined - own))
-    for name in ("capvet_version", "capvet_frame", "capvet_vet", "capvet_is_canonical"):
+    for name in ("capvet_version", "capvet_frame", "capvet_vet", "capvet_is_canonical", "capvet_unpack"):
         told(f"the archive has {name}", name in own)
 
 
@@ -144,6 +145,35 @@ def compare(lines, program):
     print(f"calls: {count} lines compared with the program's")
 
 
+def packed_texts(program, chance):
+    """The packed samples, the fronts of one of them, and texts of bytes that are often tags of runs."""
+    texts = [subprocess.run([program, "pack"], input=message, stdout=subprocess.PIPE).stdout for message in samples()]
+    yield from texts
+    small = min(texts, key=len)
+    for end in range(len(small)):
+        yield small[:end]
+    for _ in range(1000):
+        yield bytes(chance.choice((0, 0xFF, 0x11, 1, 2, chance.randrange(256))) for _ in range(chance.randrange(64)))
+
+
+def compare_words(lines, program):
+    """Both programs over packed texts. Of a text that is cut the program also writes the words before that."""
+    whole = cut = 0
+    with tempfile.TemporaryDirectory() as folder:
+        path = Path(folder) / "text"
+        for text in packed_texts(program, random.Random(SEED)):
+            path.write_bytes(text)
+            got, wanted = (subprocess.run([tool, "unpack", path], capture_output=True) for tool in (lines, program))
+            is_whole = wanted.returncode == 0
+            whole, cut = whole + is_whole, cut + (not is_whole)
+            told(f"unpack of {text.hex()}",
+                 (got.stdout, got.stderr, got.returncode) == (wanted.stdout if is_whole else b"", wanted.stderr,
+                                                              wanted.returncode),
+                 f"  {got.returncode} {got.stderr[:300]!r}\n  {wanted.returncode} {wanted.stderr[:300]!r}")
+    told("packed texts of both kinds", whole >= 50 and cut >= 50, f"{whole} whole, {cut} cut")
+    print(f"calls: the words of {whole} packed texts compared with the program's, and {cut} that are cut")
+
+
 def main():
     archive, program = (Path(word).resolve() for word in sys.argv[1:3])
     compilers = [name for name in ("gcc", "clang") if shutil.which(name)] or ["cc"]
@@ -168,6 +198,7 @@ def main():
         lines = compiled(folder, "lines", compilers[0], "c99", archive, "-O1", *CHECKS)
         if lines is not None:
             compare(lines, program)
+            compare_words(lines, program)
     print(f"{passed} passed, {failed} failed")
     return 1 if failed else 0
 

@@ -179,6 +179,55 @@ static void refusals(void) {
   }
 }
 
+/* A packed text of a run of 3 zero words, a word by its tag, and two words as they are. */
+static const uint8_t PACKED[] = {0,    2, 0x51, 8, 3, 2, 255, 1, 2, 3, 4, 5, 6, 7, 8, 1,
+                                 0x11, 0, 0x33, 0, 0, 0, 0,   0};
+static const uint8_t UNPACKED[48] = {0, 0, 0, 0, 0, 0, 0, 0, 0, 0, 0, 0, 0, 0, 0, 0, 0,    0, 0,    0, 0, 0, 0, 0,
+                                     8, 0, 0, 0, 3, 0, 2, 0, 1, 2, 3, 4, 5, 6, 7, 8, 0x11, 0, 0x33, 0, 0, 0, 0, 0};
+
+/* What is answered for a front of PACKED with so much room, between bytes that stay as they are. */
+static uint32_t unpacked(size_t length, size_t room, size_t *written, uint8_t *behind) {
+  uint8_t *from = block(PACKED, length, 1);
+  uint8_t *out = malloc(room + 1);
+  uint32_t answer;
+  if (out == NULL) exit(3);
+  memset(out, 0xee, room + 1);
+  *written = 77;
+  answer = capvet_unpack(from + 1, length, out, room, written);
+  EXPECT(out[room] == 0xee, "a byte behind the room", room);
+  memset(behind, 0, 64);
+  memcpy(behind, out, room < 64 ? room : 64);
+  free(out);
+  free(from);
+  return answer;
+}
+
+/* Each front, and each room. */
+static void unpacking(void) {
+  /* how many words the fronts that end between groups stand for */
+  static const struct {
+    size_t length, words;
+  } whole[] = {{0, 0}, {2, 3}, {6, 4}, {24, 6}};
+  uint8_t got[64];
+  size_t length, room, written, next = 0, k;
+  for (length = 0; length <= sizeof PACKED; length++) {
+    int ends = next < 4 && whole[next].length == length;
+    size_t words = ends ? whole[next].words : 0;
+    uint32_t answer = unpacked(length, 48, &written, got);
+    EXPECT(answer == (ends ? (uint32_t)CAPVET_OK : (uint32_t)CAPVET_TRUNCATED), "a front of packed bytes", length);
+    EXPECT(written == 8 * words, "written of a front", written);
+    EXPECT(memcmp(got, UNPACKED, 8 * words) == 0, "the words of a front", length);
+    for (k = 8 * words; k < 48; k++) EXPECT(got[k] == 0xee, "what stands behind the words", k);
+    if (ends) next++;
+  }
+  for (room = 0; room <= 48; room++) {
+    uint32_t answer = unpacked(sizeof PACKED, room, &written, got);
+    EXPECT(answer == (room < 48 ? (uint32_t)CAPVET_NO_ROOM : (uint32_t)CAPVET_OK), "too little room", room);
+    EXPECT(written == 48, "the room that it takes", written);
+    for (k = 0; room < 48 && k < room; k++) EXPECT(got[k] == 0xee, "the room stays", k);
+  }
+}
+
 int main(void) {
   EXPECT(capvet_version() == 65536ul * CAPVET_VERSION_MAJOR + CAPVET_VERSION_MINOR, "version", capvet_version());
   layout();
@@ -186,6 +235,7 @@ int main(void) {
   arriving();
   faults();
   refusals();
+  unpacking();
   if (failures == 0) printf("calls: all as promised\n");
   return failures != 0;
 }

@@ -1,7 +1,10 @@
 /* lines vet FILE, lines check FILE: what the program writes of a stream of messages, and its fault, from
  * a buffer that holds the stream, by the calls of capvet.h. Each message is vetted in a block of its own
  * of exactly the bytes that are left, up to a limit, so that a tool that watches memory sees a read
- * behind them. */
+ * behind them.
+ *
+ * lines unpack FILE: the words of a packed text, or the program's line where it is cut. They are written
+ * into a block of exactly their bytes. */
 #include <capvet.h>
 
 #include <stdio.h>
@@ -53,6 +56,29 @@ static uint8_t *contents(const char *name, size_t *length) {
   return bytes;
 }
 
+/* The words of a packed text, once their length was asked for. */
+static int unpack(const uint8_t *bytes, size_t length) {
+  uint8_t *block = malloc(length + 1), *out, none;
+  size_t needed = 77, written = 77;
+  uint32_t answer;
+  if (block == NULL) return 3;
+  memcpy(block + 1, bytes, length);
+  answer = capvet_unpack(block + 1, length, &none, 0, &needed);
+  if (answer == CAPVET_TRUNCATED && needed == 0) {
+    free(block);
+    fprintf(stderr, "capvet: Truncated at byte %lu\n", (unsigned long)length);
+    return 1;
+  }
+  if (answer != (needed == 0 ? (uint32_t)CAPVET_OK : (uint32_t)CAPVET_NO_ROOM)) return 4;
+  out = malloc(needed + 1);
+  if (out == NULL) return 3;
+  if (capvet_unpack(block + 1, length, out + 1, needed, &written) != CAPVET_OK || written != needed) return 4;
+  if (fwrite(out + 1, 1, written, stdout) != written) return 3;
+  free(out);
+  free(block);
+  return 0;
+}
+
 int main(int count, char **words) {
   const capvet_limits limits = CAPVET_LIMITS_INIT;
   size_t length = 0, at = 0;
@@ -62,6 +88,11 @@ int main(int count, char **words) {
   if (count != 3) return 2;
   check = strcmp(words[1], "check") == 0;
   bytes = contents(words[2], &length);
+  if (strcmp(words[1], "unpack") == 0) {
+    status = unpack(bytes, length);
+    free(bytes);
+    return status;
+  }
   for (n = 0;; n++) {
     capvet_report framed, report;
     size_t size;

@@ -10,6 +10,7 @@ use Rattle.cap_calls.specs.declared.answer.Answer.TheVariants.{
   TooLarge,
   Truncated,
   BadLimits,
+  NoRoom,
   NotCanonical,
   NoRoot,
   Reserved,
@@ -34,6 +35,7 @@ number_of TooManySegments = 2
 number_of TooLarge = 3
 number_of Truncated = 4
 number_of BadLimits = 8
+number_of NoRoom = 9
 number_of NotCanonical = 16
 number_of NoRoot = 32
 number_of Reserved = 33

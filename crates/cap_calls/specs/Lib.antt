@@ -2,3 +2,4 @@ pub mod AnswerNumbers
 pub mod CallVerdicts
 pub mod CallReports
 pub mod Calls
+pub mod Spellings

@@ -13,12 +13,14 @@ pub enum Answer {
     NoMessage = 1,
     /// The table tells of more than 512 segments.
     TooManySegments = 2,
-    /// The table's sizes sum to more words than the limit.
+    /// The table's sizes sum to more words than the limit, or there are too many packed bytes.
     TooLarge = 3,
-    /// The bytes end inside the message.
+    /// The bytes end inside the message, or packed ones inside a group.
     Truncated = 4,
     /// A limit is above its most.
     BadLimits = 8,
+    /// The room given is too small.
+    NoRoom = 9,
     /// The message is accepted, and isn't its own canonical copy.
     NotCanonical = 16,
     /// The message is refused for [`Reason::NoRoot`], as those behind it for the reasons of their names.

@@ -7,6 +7,7 @@ pub mod checking;
 mod front;
 pub mod limits;
 pub mod report;
+pub mod unpacking;
 pub mod verdict;
 
 pub use answer::Answer;
@@ -14,6 +15,7 @@ pub use calls::{frame, version, vet};
 pub use checking::is_canonical;
 pub use limits::CallLimits;
 pub use report::CallReport;
+pub use unpacking::unpack;
 pub use verdict::{NoFrame, Verdict};
 
 #[cfg(test)]

@@ -1,6 +1,6 @@
 //! What the calls answer and tell of known bytes.
 
-use crate::{Answer, CallLimits, CallReport, frame, is_canonical, version, vet};
+use crate::{Answer, CallLimits, CallReport, frame, is_canonical, unpack, version, vet};
 use std::process::Abort;
 use std::test::Fail;
 
@@ -96,5 +96,29 @@ fn canonical(rt: HostRuntime) -> Result<(), Fail> {
         Answer::NotCanonical
     );
     assert_eq!(rt; (report.frame, report.charge, report.segments), (56, 4, 2));
+    Ok(())
+}
+
+// The example of the section on packing in the encoding's specification, and a byte behind the room.
+#[test]
+fn unpacked(rt: HostRuntime) -> Result<(), Fail> {
+    let packed = [0x51, 8, 3, 2, 0x31, 0x19, 0xaa, 1];
+    let mut out = [0xee; 17];
+    let mut written = 77;
+    assert_eq!(rt;
+        unpack(&packed[..7], &mut out, &mut written),
+        Answer::Truncated
+    );
+    assert_eq!(rt; written, 0);
+    assert_eq!(rt;
+        unpack(&packed, &mut out[..15], &mut written),
+        Answer::NoRoom
+    );
+    assert_eq!(rt; written, 16);
+    assert_eq!(rt; out, [0xee; 17]);
+    assert_eq!(rt; unpack(&packed, &mut out, &mut written), Answer::Good);
+    assert_eq!(rt; written, 16);
+    let words = [8, 0, 0, 0, 3, 0, 2, 0, 0x19, 0, 0, 0, 0xaa, 1, 0, 0, 0xee];
+    assert_eq!(rt; out, words);
     Ok(())
 }
