@@ -1,5 +1,5 @@
 # What capvet does on a sample, every proof and test, and how fast it is.
-.PHONY: try run build lib sample install uninstall test test-c growths bench
+.PHONY: try run build lib sample install uninstall test growths bench
 
 PROGRAM = crates/capvet/out/capvet
 ARCHIVE = crates/capvet_c/out/libcapvet_c.a
@@ -76,24 +76,17 @@ sample:
 	$(PROGRAM) segments examples/stream-of-four.bin
 	$(PROGRAM) vet examples/stream-of-four.bin
 
-# All proofs, must-fail edits and tests, then the built program as its users run it and install it, and what pages show.
+# All proofs, must-fail edits and tests, then the built program as its users run it and install it, what pages show,
+# the header's numbers, and the calls from C where there is a compiler for it.
 test:
 	rt ci
-	@$(MAKE) --no-print-directory lib
+	python3 tests/archive.py $(ARCHIVE)
 	python3 tests/program.py $(PROGRAM)
 	python3 tests/install.py $(PROGRAM) $(ARCHIVE)
 	python3 tests/library.py $(PROGRAM) $(ARCHIVE)
 	python3 tests/pages.py $(PROGRAM)
-	@$(MAKE) --no-print-directory test-c
-
-# The header's numbers, and the calls from C where there is a compiler for it.
-test-c:
 	python3 tests/header.py
-	@if command -v cc > /dev/null; then \
-	  $(MAKE) --no-print-directory lib && python3 tests/calls.py $(ARCHIVE) $(PROGRAM); \
-	else \
-	  echo "The calls from C weren't tested: no cc is on the path."; \
-	fi
+	python3 tests/calls.py $(ARCHIVE) $(PROGRAM)
 
 # Refuses each growth in turn of the calls that take memory, and each allocation of the built program.
 growths:
