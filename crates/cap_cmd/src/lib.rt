@@ -6,8 +6,6 @@ pub mod command_line;
 pub mod job;
 pub mod running;
 mod status;
-#[cfg(test)]
-mod tests;
 
 pub use cap_run::{
     Cause, CopyFault, Limits, Outcome, PathFault, RunFault, Settings, Step, dump, parse_path,

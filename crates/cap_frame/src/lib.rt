@@ -33,6 +33,3 @@ pub use segment_tables::SegmentTables;
 pub use segments::Segments;
 pub use view::ByteView;
 pub use writer::write_message;
-
-#[cfg(test)]
-mod tests;

@@ -3,8 +3,8 @@
 mod canons;
 mod checking;
 mod copying;
-mod ends;
 mod held;
 mod length;
 mod pointers;
 mod reading;
+mod vetting;

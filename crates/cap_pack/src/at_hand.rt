@@ -151,6 +151,3 @@ pub(crate) fn unpack(from: &[u8], out: &mut [u8], zeros: u8, plain: u8) -> Unpac
     }
     done
 }
-
-#[cfg(test)]
-mod tests;

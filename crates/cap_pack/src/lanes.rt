@@ -233,6 +233,3 @@ pub fn scatter(tag: u8, bytes: &[u8; 8]) -> u64
 {
     word_of(&low_bytes(spread_lanes(tag, lanes_of(*bytes, 0))))
 }
-
-#[cfg(test)]
-mod tests;

@@ -316,6 +316,3 @@ impl<O: ByteOut> WordSink for Packer<O> {
 
     ghost begins = { λ s ws. begins_appended (O.written s.output) (pack_text (held s.group s.words ++ ws)) };
 }
-
-#[cfg(test)]
-mod tests;

@@ -166,6 +166,3 @@ impl<I: ByteIn> WordSource for Unpacker<I> {
 
     ghost are_words = { λ s. known_are_words s.phase s.zeros s.plain s.bytes.read (I.to_come s.bytes.input) (I.are_bytes s.bytes.input) };
 }
-
-#[cfg(test)]
-mod tests;

@@ -4,6 +4,8 @@
 #[cfg(test)]
 mod canons;
 #[cfg(test)]
+mod command_lines;
+#[cfg(test)]
 mod copies;
 #[cfg(test)]
 mod devices;

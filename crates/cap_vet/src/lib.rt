@@ -35,6 +35,3 @@ pub use report::Report;
 pub use vetted::Vetted;
 pub use vetting::vet;
 pub use view::View;
-
-#[cfg(test)]
-mod tests;

@@ -44,129 +44,134 @@ fn copy(alloc: Global, segment: &[u64]) -> Result<Vec<u64>, Fail> {
     }
 }
 
-// Each message, and its copy where that isn't the message itself. A copy is its own copy.
+// A struct of one word.
+const ONE_WORD: &[u64] = &[0x0000000001000000, 0x2a00000000000000];
+
+// Messages of one segment, and their copies.
+static COPIES: [(&[u64], &[u64]); 15] = [
+    (&[0x0000000000000000], &[0x0000000000000000]),
+    (&[0xfcffffff00000000], &[0xfcffffff00000000]),
+    (ONE_WORD, ONE_WORD),
+    (&[0x0000000002000000, 0x2a00000000000000, 0], ONE_WORD),
+    // A word behind the tree, and a far pointer into its own segment.
+    (&[0x0000000001000000, 0x2a00000000000000, 0], ONE_WORD),
+    (
+        &[0x0a00000000000000, 0x0000000001000000, 0x2a00000000000000],
+        ONE_WORD,
+    ),
+    // Two pointers to one struct.
+    (
+        &[
+            0x0000000000000200,
+            0x0400000001000000,
+            0x0000000001000000,
+            0x0700000000000000,
+        ],
+        &[
+            0x0000000000000200,
+            0x0400000001000000,
+            0x0400000001000000,
+            0x0700000000000000,
+            0x0700000000000000,
+        ],
+    ),
+    (&[0x0100000018000000], &[0x0100000018000000]),
+    // Two structs of one word in three words.
+    (
+        &[
+            0x010000001f000000,
+            0x0800000001000000,
+            0x0500000000000000,
+            0x0000000000000000,
+            0xff00000000000000,
+        ],
+        &[
+            0x0100000017000000,
+            0x0800000001000000,
+            0x0500000000000000,
+            0x0000000000000000,
+        ],
+    ),
+    // Three bits, and those behind them.
+    (
+        &[0x0100000019000000, 0xffffffffffffffff],
+        &[0x0100000019000000, 0x0700000000000000],
+    ),
+    (
+        &[
+            0x0100000016000000,
+            0x0000000000000000,
+            0x0000000001000000,
+            0x0900000000000000,
+        ],
+        &[
+            0x0100000016000000,
+            0x0000000000000000,
+            0x0000000001000000,
+            0x0900000000000000,
+        ],
+    ),
+    // Two structs of a word and a pointer, of which no pointer is left.
+    (
+        &[
+            0x0100000027000000,
+            0x0800000001000100,
+            0x0100000000000000,
+            0,
+            0,
+            0,
+        ],
+        &[
+            0x0100000017000000,
+            0x0800000001000000,
+            0x0100000000000000,
+            0x0000000000000000,
+        ],
+    ),
+    // A struct with a zero word, below the only struct of a list.
+    (
+        &[
+            0x010000000f000000,
+            0x0400000000000100,
+            0x0000000002000000,
+            0x2a00000000000000,
+            0x0000000000000000,
+        ],
+        &[
+            0x010000000f000000,
+            0x0400000000000100,
+            0x0000000001000000,
+            0x2a00000000000000,
+        ],
+    ),
+    // Children in the wrong order.
+    (
+        &[
+            0x0000000000000200,
+            0x0800000001000000,
+            0x0000000001000000,
+            0x0700000000000000,
+            0x0900000000000000,
+        ],
+        &[
+            0x0000000000000200,
+            0x0400000001000000,
+            0x0400000001000000,
+            0x0900000000000000,
+            0x0700000000000000,
+        ],
+    ),
+    // A struct without words whose pointer leads elsewhere.
+    (
+        &[0x0000000001000100, 0x2a00000000000000, 0xf8ffffff00000000],
+        &[0x0000000001000100, 0x2a00000000000000, 0xfcffffff00000000],
+    ),
+];
+
+// A copy is its own copy.
 #[test]
 fn copies_of_one_segment(rt: HostRuntime) -> Result<(), Fail> {
-    let one_word = &[0x0000000001000000, 0x2a00000000000000][..];
-    for (spelled, copied) in [
-        (&[0x0000000000000000][..], &[0x0000000000000000][..]),
-        (&[0xfcffffff00000000], &[0xfcffffff00000000]),
-        (one_word, one_word),
-        (&[0x0000000002000000, 0x2a00000000000000, 0], one_word),
-        // A word behind the tree, and a far pointer into its own segment.
-        (&[0x0000000001000000, 0x2a00000000000000, 0], one_word),
-        (
-            &[0x0a00000000000000, 0x0000000001000000, 0x2a00000000000000],
-            one_word,
-        ),
-        // Two pointers to one struct.
-        (
-            &[
-                0x0000000000000200,
-                0x0400000001000000,
-                0x0000000001000000,
-                0x0700000000000000,
-            ],
-            &[
-                0x0000000000000200,
-                0x0400000001000000,
-                0x0400000001000000,
-                0x0700000000000000,
-                0x0700000000000000,
-            ],
-        ),
-        (&[0x0100000018000000], &[0x0100000018000000]),
-        // Two structs of one word in three words.
-        (
-            &[
-                0x010000001f000000,
-                0x0800000001000000,
-                0x0500000000000000,
-                0x0000000000000000,
-                0xff00000000000000,
-            ],
-            &[
-                0x0100000017000000,
-                0x0800000001000000,
-                0x0500000000000000,
-                0x0000000000000000,
-            ],
-        ),
-        // Three bits, and those behind them.
-        (
-            &[0x0100000019000000, 0xffffffffffffffff],
-            &[0x0100000019000000, 0x0700000000000000],
-        ),
-        (
-            &[
-                0x0100000016000000,
-                0x0000000000000000,
-                0x0000000001000000,
-                0x0900000000000000,
-            ],
-            &[
-                0x0100000016000000,
-                0x0000000000000000,
-                0x0000000001000000,
-                0x0900000000000000,
-            ],
-        ),
-        // Two structs of a word and a pointer, of which no pointer is left.
-        (
-            &[
-                0x0100000027000000,
-                0x0800000001000100,
-                0x0100000000000000,
-                0,
-                0,
-                0,
-            ],
-            &[
-                0x0100000017000000,
-                0x0800000001000000,
-                0x0100000000000000,
-                0x0000000000000000,
-            ],
-        ),
-        // A struct with a zero word, below the only struct of a list.
-        (
-            &[
-                0x010000000f000000,
-                0x0400000000000100,
-                0x0000000002000000,
-                0x2a00000000000000,
-                0x0000000000000000,
-            ],
-            &[
-                0x010000000f000000,
-                0x0400000000000100,
-                0x0000000001000000,
-                0x2a00000000000000,
-            ],
-        ),
-        // Children in the wrong order.
-        (
-            &[
-                0x0000000000000200,
-                0x0800000001000000,
-                0x0000000001000000,
-                0x0700000000000000,
-                0x0900000000000000,
-            ],
-            &[
-                0x0000000000000200,
-                0x0400000001000000,
-                0x0400000001000000,
-                0x0900000000000000,
-                0x0700000000000000,
-            ],
-        ),
-        // A struct without words whose pointer leads elsewhere.
-        (
-            &[0x0000000001000100, 0x2a00000000000000, 0xf8ffffff00000000],
-            &[0x0000000001000100, 0x2a00000000000000, 0xfcffffff00000000],
-        ),
-    ] {
+    for (spelled, copied) in &COPIES {
         let segment = words(rt.alloc(), spelled)?;
         let expected = words(rt.alloc(), copied)?;
         let made = copy(rt.alloc(), &segment)?;
@@ -177,27 +182,29 @@ fn copies_of_one_segment(rt: HostRuntime) -> Result<(), Fail> {
     Ok(())
 }
 
+// A root word, the words of two further segments, and the copy.
+static COPIES_OF_SEVERAL: [(u64, &[u64], &[u64], &[u64]); 4] = [
+    (0x0200000001000000, ONE_WORD, &[], ONE_WORD),
+    (0x0200000001000000, &[0], &[], &[0]),
+    (
+        0x0600000001000000,
+        &[0x0200000002000000, 0],
+        &[],
+        &[0xfcffffff00000000],
+    ),
+    (
+        0x0600000001000000,
+        &[0x0200000002000000, 0x0000000001000000],
+        &[0x2a00000000000000],
+        ONE_WORD,
+    ),
+];
+
 #[test]
 fn copies_of_several_segments(rt: HostRuntime) -> Result<(), Fail> {
-    let one_word = &[0x0000000001000000, 0x2a00000000000000][..];
-    for (root, second, third, copied) in [
-        (0x0200000001000000, one_word, &[][..], one_word),
-        (0x0200000001000000, &[0], &[], &[0]),
-        (
-            0x0600000001000000,
-            &[0x0200000002000000, 0],
-            &[],
-            &[0xfcffffff00000000],
-        ),
-        (
-            0x0600000001000000,
-            &[0x0200000002000000, 0x0000000001000000],
-            &[0x2a00000000000000],
-            one_word,
-        ),
-    ] {
+    for (root, second, third, copied) in &COPIES_OF_SEVERAL {
         let mut segments = Vec::new(rt.alloc());
-        segments.push(words(rt.alloc(), &[root])?)?;
+        segments.push(words(rt.alloc(), &[*root])?)?;
         segments.push(words(rt.alloc(), second)?)?;
         segments.push(words(rt.alloc(), third)?)?;
         let message = WordMessage::new(segments).ok_or("no message")?;

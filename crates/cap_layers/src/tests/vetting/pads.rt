@@ -1,8 +1,9 @@
 //! Verdicts of messages whose pointers lead through landing pads.
 
-use super::{DEPTH, WORDS, accepted, refused, verdict, words};
-use crate::{Limits, Reason};
+use super::{DEPTH, WORDS, accepted, refused, verdict};
+use crate::tests::held::words;
 use cap_frame::WordMessage;
+use cap_vet::{Limits, Reason};
 use std::test::Fail;
 
 // A pad of one word to a list of two pointers, a struct, and a pad back to the struct above.

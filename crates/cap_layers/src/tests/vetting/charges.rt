@@ -1,9 +1,9 @@
 //! What paths arrive at, what views show there, and what it is charged, of messages that are known
 //! from outside.
 
-use super::{in_one_buffer, words};
-use crate::{Budget, Kind, Place, Reason, Refusal, Step, View, get_charged};
+use crate::tests::held::{in_one_buffer, words};
 use cap_frame::{OneSegment, Segments, WordMessage};
+use cap_vet::{Budget, Kind, Place, Reason, Refusal, Step, View, get_charged};
 use std::alloc::Global;
 use std::process::Abort;
 use std::test::Fail;

@@ -1,8 +1,8 @@
 //! The bytes of places, of messages that are known from outside.
 
-use super::{in_one_buffer, words};
-use crate::{Limits, Step, vet};
+use crate::tests::held::{in_one_buffer, words};
 use cap_frame::{OneSegment, Segments, WordMessage};
+use cap_vet::{Limits, Step, vet};
 use std::alloc::Global;
 use std::process::Abort;
 use std::test::Fail;

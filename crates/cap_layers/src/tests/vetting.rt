@@ -4,40 +4,15 @@ mod bytes;
 mod charges;
 mod nodes;
 
-use crate::{Limits, Reason, Refusal, Report, vet};
-use cap_frame::{
-    ByteMessage, OneSegment, Segments, SizeLimit, WordMessage, read_byte_message, write_message,
-};
-use cap_words::{PlainSink, PlainWords, SliceIn, VecOut};
+use super::held::{in_one_buffer, words};
+use cap_frame::{OneSegment, Segments, WordMessage};
+use cap_vet::{Limits, Reason, Refusal, Report, vet};
 use std::alloc::Global;
 use std::process::Abort;
 use std::test::Fail;
 
 mod exclusives;
 mod pads;
-mod rows;
-
-// The words of a stream, each read from its first byte on.
-fn words(alloc: Global, spelled: &[u64]) -> Result<Vec<u64>, Fail> {
-    let mut words = Vec::new(alloc);
-    for word in spelled {
-        words.push(word.swap_bytes())?;
-    }
-    Ok(words)
-}
-
-// The same message in one buffer.
-fn in_one_buffer<M: Segments>(alloc: Global, message: &M) -> Result<ByteMessage, Fail> {
-    let mut sink = PlainSink::new(VecOut::new(alloc));
-    write_message(&mut sink, message)?;
-    let output = sink.into_inner();
-    let mut source = PlainWords::new(SliceIn::new(output.bytes()));
-    let limit = SizeLimit::new(268435456).ok_or("no limit")?;
-    match read_byte_message(alloc, &mut source, limit)? {
-        Some(held) => Ok(held),
-        None => Err("no message".into()),
-    }
-}
 
 // The verdict of a message of any kind, and of the same in one buffer.
 fn verdict<M: Segments>(

@@ -2,7 +2,7 @@
 
 use super::views::is_same;
 use super::{is_message, plain};
-use crate::{
+use cap_frame::{
     ByteView, FrameFault, Framed, FrontFault, SegmentTables, SizeLimit, front_of, read_message,
 };
 use cap_words::{PlainWords, SliceIn, WordSource};

@@ -1,6 +1,6 @@
 //! Words that are given many at once, against a plain unpacker that reads a byte at a time.
 
-use crate::{Packer, Unpacker};
+use cap_pack::{Packer, Unpacker};
 use cap_words::{BufferedIn, FromRead, SliceIn, SourceFault, VecOut, WordSink, WordSource};
 use std::alloc::{AllocError, Global};
 use std::io::{self, Read};

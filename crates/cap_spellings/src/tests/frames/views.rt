@@ -1,7 +1,10 @@
 //! Views of bytes that are known from outside.
 
 use super::{is_message, plain};
-use crate::{ByteMessage, ByteView, Segments, WordMessage};
+use cap_frame::{
+    ByteMessage, ByteView, SegmentTables, Segments, SizeLimit, WordMessage, front_of, write_message,
+};
+use cap_words::{PlainSink, VecOut};
 use std::alloc::Global;
 use std::process::Abort;
 use std::test::Fail;
@@ -40,6 +43,17 @@ fn has_parts(alloc: Global, view: &ByteView<'_>, s: u32, words: &[u64]) -> Resul
     Ok(true)
 }
 
+// The message of these segments, in vectors.
+fn held_of(alloc: Global, segments: &[&[u64]]) -> Result<WordMessage, Fail> {
+    let mut held = Vec::new(alloc);
+    for words in segments {
+        let mut segment = Vec::new(alloc);
+        segment.extend_from_slice(words)?;
+        held.push(segment)?;
+    }
+    Ok(WordMessage::new(held).ok_or("a message")?)
+}
+
 // The view shows these segments, as the same message in vectors does, and the bytes of each part of
 // them.
 fn shows(
@@ -49,13 +63,7 @@ fn shows(
     segments: &[&[u64]],
 ) -> Result<(), Fail> {
     assert!(rt; is_message(view, segments), "the segments");
-    let mut held = Vec::new(alloc);
-    for words in segments {
-        let mut segment = Vec::new(alloc);
-        segment.extend_from_slice(words)?;
-        held.push(segment)?;
-    }
-    let message = WordMessage::new(held).ok_or("a message")?;
+    let message = held_of(alloc, segments)?;
     assert!(rt; is_same(view, &message), "in vectors");
     assert!(rt; is_same(&message, view), "in one buffer");
     let mut s = 0u32;
@@ -69,28 +77,43 @@ fn shows(
     Ok(())
 }
 
-// Bytes that an earlier message left.
+// Bytes that are none of a message.
 const LEFT: [u8; 9] = [0xee; 9];
+
+// The view of these segments, framed, in front of bytes that are none of theirs, shows them.
+fn shows_in_front(
+    rt: &impl Abort,
+    alloc: Global,
+    segments: &[&[u64]],
+    left: &[u8],
+) -> Result<(), Fail> {
+    let mut sink = PlainSink::new(VecOut::new(alloc));
+    write_message(&mut sink, &held_of(alloc, segments)?)?;
+    let output = sink.into_inner();
+    let mut bytes = Vec::new(alloc);
+    bytes.extend_from_slice(output.bytes())?;
+    bytes.extend_from_slice(left)?;
+    let limit = SizeLimit::new(5).ok_or("a limit")?;
+    let Ok(Some(framed)) = front_of(&bytes, limit) else {
+        return Err("no message in front".into());
+    };
+    let mut tables = SegmentTables::new();
+    shows(rt, alloc, &framed.view(&mut tables), segments)
+}
 
 #[test]
 fn one_segment_in_a_buffer(rt: HostRuntime) -> Result<(), Fail> {
     let alloc = rt.alloc();
     let words = [0x0807060504030201, 0, 0xffffffffffffffff];
     for left in [0, 1, 8, 9] {
-        let mut bytes = plain(alloc, &words)?;
-        bytes.extend_from_slice(&LEFT[..left])?;
-        if bytes.len() < 24 {
-            return Err("too few bytes".into());
+        for count in [0, 2, 3] {
+            shows_in_front(&rt, alloc, &[&words[..count]], &LEFT[..left])?;
         }
-        shows(&rt, alloc, &ByteView::over(&bytes, &[0], &[3]), &[&words])?;
-        shows(
-            &rt,
-            alloc,
-            &ByteView::over(&bytes, &[0], &[2]),
-            &[&words[..2]],
-        )?;
-        shows(&rt, alloc, &ByteView::over(&bytes, &[0], &[0]), &[&[]])?;
     }
+    let bytes = plain(alloc, &words)?;
+    let mut size = [0];
+    let view = ByteView::of_words(&bytes, &mut size).ok_or("a view")?;
+    shows(&rt, alloc, &view, &[&words])?;
     shows(&rt, alloc, &ByteMessage::blank(alloc).view(), &[&[]])
 }
 
@@ -98,23 +121,11 @@ fn one_segment_in_a_buffer(rt: HostRuntime) -> Result<(), Fail> {
 fn segments_in_a_buffer(rt: HostRuntime) -> Result<(), Fail> {
     let alloc = rt.alloc();
     for left in [0, 1, 8, 9] {
-        let mut bytes = plain(alloc, &[1, 2, 3, 4, 5])?;
-        bytes.extend_from_slice(&LEFT[..left])?;
-        if bytes.len() < 40 {
-            return Err("too few bytes".into());
-        }
+        let left = &LEFT[..left];
         // Segments of no words in front, between others and at the end.
-        let view = ByteView::over(&bytes, &[0, 0, 2, 2, 2, 5], &[0, 2, 0, 0, 3, 0]);
-        shows(
-            &rt,
-            alloc,
-            &view,
-            &[&[], &[1, 2], &[], &[], &[3, 4, 5], &[]],
-        )?;
-        let view = ByteView::over(&bytes, &[0, 1, 1], &[1, 0, 2]);
-        shows(&rt, alloc, &view, &[&[1], &[], &[2, 3]])?;
-        let view = ByteView::over(&bytes, &[0, 0], &[0, 0]);
-        shows(&rt, alloc, &view, &[&[], &[]])?;
+        shows_in_front(&rt, alloc, &[&[], &[1, 2], &[], &[], &[3, 4, 5], &[]], left)?;
+        shows_in_front(&rt, alloc, &[&[1], &[], &[2, 3]], left)?;
+        shows_in_front(&rt, alloc, &[&[], &[]], left)?;
     }
     Ok(())
 }

@@ -1,8 +1,9 @@
 //! Messages of which some word is used twice, and messages of which none is.
 
-use super::{DEPTH, WORDS, in_one_buffer, words};
-use crate::{ExclusiveRefusal, Limits, Reason, Refusal, vet, vet_exclusive};
+use super::{DEPTH, WORDS};
+use crate::tests::held::{in_one_buffer, words};
 use cap_frame::{OneSegment, Segments, WordMessage};
+use cap_vet::{ExclusiveRefusal, Limits, Reason, Refusal, vet, vet_exclusive};
 use std::alloc::Global;
 use std::process::Abort;
 use std::test::Fail;

@@ -1,8 +1,7 @@
 //! The command line, which no clause speaks of, and a run of each public call.
 
-use crate::status::words_status;
-use crate::{Cause, CopyFault, Job, JobFault, Limits, RunFault, Task, read_job, run_job};
 use cap_canon::CanonFault;
+use cap_cmd::{Cause, CopyFault, Job, JobFault, Limits, RunFault, Task, read_job, run_job};
 use cap_frame::FrameFault;
 use cap_run::{write_copy_fault, write_fault};
 use cap_vet::{Reason, Refusal};
@@ -312,36 +311,27 @@ fn tells_the_faults(rt: HostRuntime) -> Result<(), Fail> {
 
 #[test]
 fn tells_the_faults_of_copies(rt: HostRuntime) -> Result<(), Fail> {
-    let faults: [(CopyFault, &str, u8); 6] = [
-        (CopyFault::TooManyWords, "capvet: TooManyWords\n", 1),
+    let faults: [(CopyFault, &str); 6] = [
+        (CopyFault::TooManyWords, "capvet: TooManyWords\n"),
         (
             CopyFault::Source(SourceFault::Truncated { byte: 22 }),
             "capvet: Truncated at byte 22\n",
-            1,
         ),
-        (
-            CopyFault::Source(SourceFault::Device),
-            "capvet: Device\n",
-            3,
-        ),
-        (CopyFault::Source(SourceFault::Spent), "capvet: Spent\n", 3),
+        (CopyFault::Source(SourceFault::Device), "capvet: Device\n"),
+        (CopyFault::Source(SourceFault::Spent), "capvet: Spent\n"),
         (
             CopyFault::Output(OutFault::Device),
             "capvet: output failed\n",
-            3,
         ),
         (
             CopyFault::Output(OutFault::Memory),
             "capvet: output failed\n",
-            3,
         ),
     ];
-    for (fault, text, status) in &faults {
+    for (fault, text) in &faults {
         let mut err = VecOut::new(rt.alloc());
         assert!(rt; write_copy_fault(&mut err, fault).is_ok());
         assert!(rt; err.bytes() == text.as_bytes());
-        assert_eq!(rt; words_status(&Err(*fault)), *status);
     }
-    assert_eq!(rt; words_status(&Ok(7)), 0);
     Ok(())
 }

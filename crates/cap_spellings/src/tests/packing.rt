@@ -1,8 +1,9 @@
 ghost use Rattle.std.specs.Prelude.{None};
 
-use super::*;
-use crate::Unpacker;
-use cap_words::{FromWrite, SliceIn, VecOut, WordSource, bytes_of};
+use cap_pack::{Packer, Unpacker};
+use cap_words::{
+    ByteOut, FromWrite, OutFault, SinkFault, SliceIn, VecOut, WordSink, WordSource, bytes_of,
+};
 use std::alloc::{AllocError, Global};
 use std::cmp::Ordering;
 use std::io::{self, ErrorKind, Write};

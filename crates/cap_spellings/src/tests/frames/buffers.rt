@@ -3,7 +3,7 @@
 use super::fronts::expect_same_front;
 use super::views::is_same;
 use super::{pair, plain};
-use crate::{
+use cap_frame::{
     ByteMessage, FrameFault, Segments, SizeLimit, read_byte_message, read_into, read_message,
 };
 use cap_words::{BufferedIn, ByteIn, FromRead, PlainWords, SliceIn, WordSource};

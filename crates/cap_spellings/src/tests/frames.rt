@@ -1,6 +1,6 @@
 //! What no contract can say: that calls succeed, and values from outside.
 
-use super::{
+use cap_frame::{
     ByteMessage, FrameFault, OneSegment, Outline, Segments, SizeLimit, WordMessage, read_message,
     read_outline, write_message,
 };

@@ -1,6 +1,6 @@
 //! Words of packed texts: worked samples, however few bytes a read gives.
 
-use super::Unpacker;
+use cap_pack::Unpacker;
 use cap_words::{ByteIn, FromRead, SliceIn, SourceFault, WordSource};
 use std::alloc::{AllocError, Global};
 use std::io::{self, ErrorKind, Read};

@@ -1,0 +1,8 @@
+//! A file for each end, each spelling of words and each way to read a frame.
+
+mod ends;
+mod frames;
+mod lanes;
+mod packing;
+mod unpacking;
+mod unpacking_at_hand;
