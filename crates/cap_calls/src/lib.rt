@@ -1,14 +1,14 @@
 //! The calls that C makes, over borrowed bytes. None takes memory or keeps anything.
 #![tactic(auto)]
 
-pub mod answer;
-pub mod calls;
-pub mod checking;
+mod answer;
+mod calls;
+mod checking;
 mod front;
-pub mod limits;
-pub mod report;
-pub mod unpacking;
-pub mod verdict;
+mod limits;
+mod report;
+mod unpacking;
+mod verdict;
 
 pub use answer::Answer;
 pub use calls::{frame, version, vet};

@@ -2,13 +2,13 @@
 #![tactic(auto)]
 
 mod appending;
-pub mod checking;
-pub mod copying;
-pub mod fault;
+mod checking;
+mod copying;
+mod fault;
 mod frame;
-pub mod length;
+mod length;
 mod objects;
-pub mod spelled;
+mod spelled;
 mod target;
 mod trimming;
 mod walk;

@@ -2,9 +2,9 @@
 //! input, an output and an output for faults (`run_job`).
 #![tactic(auto)]
 
-pub mod command_line;
-pub mod job;
-pub mod running;
+mod command_line;
+mod job;
+mod running;
 mod status;
 
 pub use cap_run::{

@@ -2,22 +2,22 @@
 #![tactic(auto)]
 
 mod byte_contents;
-pub mod byte_message;
-pub mod byte_reader;
-pub mod fault;
-pub mod framed;
-pub mod front;
-pub mod limit;
-pub mod message;
-pub mod outline;
-pub mod outline_reader;
-pub mod reader;
-pub mod segment_tables;
-pub mod segments;
+mod byte_message;
+mod byte_reader;
+mod fault;
+mod framed;
+mod front;
+mod limit;
+mod message;
+mod outline;
+mod outline_reader;
+mod reader;
+mod segment_tables;
+mod segments;
 mod table;
-pub mod view;
+mod view;
 mod words;
-pub mod writer;
+mod writer;
 
 pub use byte_message::ByteMessage;
 pub use byte_reader::{read_byte_message, read_into};

@@ -7,10 +7,10 @@ mod counted;
 mod group;
 mod head;
 pub mod lanes;
-pub mod packer;
+mod packer;
 mod pieces;
 mod spelling;
-pub mod unpacker;
+mod unpacker;
 
 pub use packer::Packer;
 pub use unpacker::Unpacker;

@@ -1,10 +1,10 @@
 //! Pointer words: their six forms, and what following one leads to.
 #![tactic(auto)]
 
-pub mod following;
-pub mod forms;
+mod following;
+mod forms;
 mod placing;
-pub mod shapes;
+mod shapes;
 
 pub use cap_spec::Reason;
 pub use following::follow;

@@ -1,8 +1,8 @@
 //! What the calls of a reader promise together, on any message.
 #![tactic(auto)]
 
-pub mod place_bytes;
-pub mod reading;
+mod place_bytes;
+mod reading;
 
 pub use place_bytes::read_bytes;
 pub use reading::{Reading, read};

@@ -4,11 +4,11 @@
 //! Their lines are put together on a page of a fixed size, so that no text takes memory.
 #![tactic(auto)]
 
-pub mod engines;
-pub mod fault;
-pub mod paths;
-pub mod settings;
-pub mod texts;
+mod engines;
+mod fault;
+mod paths;
+mod settings;
+mod texts;
 
 pub use cap_spec::Step;
 pub use cap_vet::Limits;

@@ -1,25 +1,25 @@
 //! The walk through a message: whether its root denotes a tree within limits.
 #![tactic(auto)]
 
-pub mod budget;
-pub mod charged;
-pub mod exclusive;
-pub mod exclusive_vetting;
+mod budget;
+mod charged;
+mod exclusive;
+mod exclusive_vetting;
 mod found;
 mod frame;
-pub mod limits;
+mod limits;
 mod looking;
 mod marks;
-pub mod node;
-pub mod place;
-pub mod report;
+mod node;
+mod place;
+mod report;
 mod rows;
 mod spot;
 mod targets;
 mod uses;
-pub mod vetted;
-pub mod vetting;
-pub mod view;
+mod vetted;
+mod vetting;
+mod view;
 mod walking;
 
 pub use budget::Budget;

@@ -2,18 +2,18 @@
 //! sources and sinks of words that stand on them.
 #![tactic(auto)]
 
-pub mod buffered_in;
-pub mod ends;
-pub mod from_read;
-pub mod from_write;
-pub mod plain_sink;
-pub mod plain_words;
-pub mod sinks;
-pub mod slice_in;
-pub mod sources;
-pub mod transfer;
-pub mod vec_out;
-pub mod word;
+mod buffered_in;
+mod ends;
+mod from_read;
+mod from_write;
+mod plain_sink;
+mod plain_words;
+mod sinks;
+mod slice_in;
+mod sources;
+mod transfer;
+mod vec_out;
+mod word;
 
 pub use buffered_in::BufferedIn;
 pub use ends::{ByteIn, ByteOut, InFault, OutFault};
