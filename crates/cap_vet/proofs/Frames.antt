@@ -1,5 +1,5 @@
 -- The pointer words of a frame, word by word.
-use Rattle.std.proofs.Common.{◌≡◌, ℕ, zero, suc, ◌+◌, ◌-◌, ◌*◌, ◌<◌, ◌≤◌, List, [], ◌∷◌, ◌++◌, length, map, refl, ap, ◌∙◌, arith, Some}
+use Rattle.std.proofs.Common.{◌≡◌, ℕ, zero, suc, ◌+◌, ◌-◌, ◌*◌, ◌<◌, ◌≤◌, List, [], ◌∷◌, ◌++◌, length, map, refl, ap, ◌∙◌, arith, None, Some}
 use Rattle.std.proofs.lemmas.List.{map-append}
 use Rattle.cap_spec.specs.Messages.{segment_of}
 use Rattle.cap_spec.specs.declared.Step.{Step}
@@ -37,6 +37,10 @@ rest_of_elements s b n (suc more) ds ps level e h =
       };
       level = refl;
     }
+
+-- behind the last of them all, nothing
+pub rest_of_last : (s b n more ds ps level : ℕ) → n ≡ 1 → more ≡ 0 → IsRest record { segment = s; at = b; left = n; more = more; data_words = ds; pointers = ps; level = level } None
+rest_of_last s b n more ds ps level e h = record { words = rw (e, h) refl; inside = λ m i. tt; level = tt }
 
 -- where a row of words stands
 pub places-row : (base : List Step) (level : ℕ) (step : ℕ → Step) (t b i n : ℕ) → map place_of (row base level step t b i n) ≡ row_places level t b n

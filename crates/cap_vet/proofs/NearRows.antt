@@ -1,10 +1,10 @@
 -- Why the word alone tells an object near by.
-use Rattle.std.proofs.Common.{◌≡◌, ◌≢◌, ℕ, ◌+◌, ◌^◌, ◌<◌, ◌≤◌, ◌⊎◌, inl, inr, List, length, pos, refl, sym, ap, arith, true, false, ◌==◌}
-use Rattle.std.proofs.lemmas.Bool.{lt-ltb}
+use Rattle.std.proofs.Common.{◌≡◌, ◌≢◌, ℕ, ◌+◌, ◌*◌, ◌/◌, ◌^◌, ◌<◌, ◌≤◌, ◌⊎◌, inl, inr, List, length, pos, refl, sym, ap, arith, true, false, ◌==◌}
+use Rattle.std.proofs.lemmas.Bool.{lt-ltb, ne_eqb}
 use Rattle.std.proofs.lemmas.Bool.Decides.{eqb_tells}
 use Rattle.cap_spec.specs.Words.{field, signed_offset_of}
 use Rattle.cap_spec.specs.Messages.{HasWord, segment_of}
-use Rattle.cap_spec.specs.Pointers.{code, data_size, kind, list_size, pointer_size}
+use Rattle.cap_spec.specs.Pointers.{code, data_size, element_bits, kind, list_size, pointer_size}
 use Rattle.cap_spec.specs.Following.{extra}
 use Rattle.cap_spec.proofs.Trees.Charges.{extent_pointers, extent_struct}
 use Rattle.cap_ptr.specs.Reaching.{LeadsTo}
@@ -28,6 +28,13 @@ no_extra q k some few = by_code (eqb_tells (code q) 0) (eqb_tells (code q) 7)
     by_code (inl e) j = absurd (omega (arith, e.1))
     by_code (inr e) (inl j) = absurd (omega (arith, j.1))
     by_code (inr e) (inr j) = rw (k, e.0, j.0) refl
+
+-- the words of a list of such values
+pub values_parts : (q size count : ℕ) → kind q ≡ 1 → 0 < code q → code q < 6 → size ≡ element_bits (code q) → count ≡ list_size q → IsParts q ((size * count + 63) / 64, 0)
+values_parts q size count k some few e f =
+    let six : (code q == 6) ≡ false = ne_eqb (code q) 6 (λ h. omega (arith, h, few)) in
+    let seven : (code q == 7) ≡ false = ne_eqb (code q) 7 (λ h. omega (arith, h, few)) in
+    inr (inr (k, some, few, rw (e, f, k, six, seven) refl, refl))
 
 module _ (m : List (List ℕ)) (s w q start own left : ℕ) (has : HasWord m s w q) (there : s < length m) (some : q ≢ 0) (behind : field q 2 30 < 2 ^ 29) (start_is : start ≡ w + 1 + field q 2 30)
     (few : own + left ≤ 2 ^ 29) (inside : start + own + left ≤ length (segment_of m s)) where

@@ -70,6 +70,12 @@ entry_past m (word s w) f n i b h e past (inr g) =
 entry_past m (element t' b' ds ps) f n i b h e past g = absurd g
 
 -- the elements of a list of structs
+pub element_goes : (m : List (List ℕ)) (a : Spot) (f : Found) (n d p i : ℕ) → IsFound m a f → f.kind ≡ Structs n d p → i < n → Goes m a (Item i) (element f.place.segment (f.place.start + 1 + i * (d + p)) d p)
+element_goes m (word s w) f n d p i h e lt =
+    let y = as_kind m (word s w) f (Structs n d p) h e in
+    inr (y.0, f.place.segment, f.place.start, y.1, y.2, y.3.finds, y.3.kind, y.3.code, y.3.has_tag, omega (arith, lt, y.3.count), rw (← y.3.data_words, ← y.3.pointers) refl)
+element_goes m (element t' b' ds ps) f n d p i h e lt = absurd (as_kind m (element t' b' ds ps) f (Structs n d p) h e)
+
 pub element_past : (m : List (List ℕ)) (a : Spot) (f : Found) (n d p i : ℕ) (b : Spot) → IsFound m a f → f.kind ≡ Structs n d p → n ≤ i → Goes m a (Item i) b → ⊥
 element_past m (word s w) f n d p i b h e past (inl g) =
     let y = as_kind m (word s w) f (Structs n d p) h e in

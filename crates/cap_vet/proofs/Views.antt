@@ -1,6 +1,7 @@
 -- What a view shows, by its kind.
 use Rattle.std.proofs.Common.{ℕ, ◌+◌, ◌*◌, ◌/◌, ◌%◌, ◌^◌, ◌<◌, ◌≤◌, ◌⊎◌, inl, inr, ◌-◌, min, List, length, get_or, ◌≡◌, sym, ap, refl, ◌∙◌, subst, arith, Option, Some, None}
-use Rattle.std.specs.Prelude.{slice_get}
+use Rattle.std.specs.Prelude.{slice_get, ◌==◌}
+use Rattle.std.specs.Option.{option_map}
 use Rattle.std.proofs.lemmas.Option.{slice_get-get_or}
 use Rattle.cap_spec.specs.Words.{field}
 use Rattle.cap_spec.specs.Messages.{HasWord, IsMessage, segment_of}
@@ -9,7 +10,7 @@ use Rattle.cap_spec.specs.Pointers.{element_bits, list_words}
 use Rattle.cap_spec.specs.Denoting.{value_at, values_of, words_from}
 use Rattle.cap_spec.specs.Scalars.{scalar_words}
 use Rattle.cap_spec.specs.Arriving.{own_at}
-use Rattle.cap_spec.specs.Showing.{byte_of, count_of, kind_of, scalar_of, words_of_own}
+use Rattle.cap_spec.specs.Showing.{bit_of, byte_of, count_of, kind_of, scalar_of, words_of_own}
 use Rattle.cap_spec.specs.declared.Kind.{Kind}
 use Rattle.cap_spec.specs.declared.Kind.TheVariants.{Null, Cap, Struct, Scalars, Pointers, Structs}
 use Rattle.cap_spec.proofs.Trees.Readings.{byte_past, byte_there, length-values, length-values_words, value_past, value_there, values_word_past, values_word_there, word_past, word_within}
@@ -58,6 +59,13 @@ pub shown_no_byte : (m : List (List ℕ)) (k : Kind) (t b d p i : ℕ) (r : Opti
 shown_no_byte m k t b d p i r e f g =
     let h : i / 8 * 8 + i % 8 ≡ i = omega arith in
     rw e (sym (byte_past (words_from m t b d) (i / 8) (i % 8) (sym f ∙ g)) ∙ ap (λ (y : ℕ). byte_of (own_at m (Struct d p) t b) y) h)
+
+-- bit i of a struct
+pub shown_bit : (m : List (List ℕ)) (k : Kind) (t b d p i w : ℕ) (r : Option ℕ) → k ≡ Struct d p → r ≡ slice_get (words_from m t b d) (i / 64) → r ≡ Some w → Some (field w (i % 64) 1 == 1) ≡ bit_of (own_at m k t b) i
+shown_bit m k t b d p i w r e f g = rw e (ap (option_map (λ (x : ℕ). field x (i % 64) 1 == 1)) (sym g ∙ f))
+
+pub shown_no_bit : (m : List (List ℕ)) (k : Kind) (t b d p i : ℕ) (r : Option ℕ) → k ≡ Struct d p → r ≡ slice_get (words_from m t b d) (i / 64) → r ≡ None → None ≡ bit_of (own_at m k t b) i
+shown_no_bit m k t b d p i r e f g = rw e (ap (option_map (λ (x : ℕ). field x (i % 64) 1 == 1)) (sym g ∙ f))
 
 -- a word of a list of values, where `size` is the bits of a value, of which there are `count`
 pub shown_no_word : (m : List (List ℕ)) (t b c n i size count at : ℕ) → size ≡ element_bits c → count ≡ n → at ≡ i → size * count ≤ at * 64 → None ≡ slice_get (scalar_words c (values_of m t b c n)) i

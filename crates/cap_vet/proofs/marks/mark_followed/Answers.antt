@@ -1,4 +1,5 @@
-use Rattle.std.proofs.Common.{ℕ, List, subst, inr}
+use Rattle.std.proofs.Common.{ℕ, List, ◌++◌, subst, inr}
+use Rattle.cap_spec.specs.Denoting.{places}
 use Rattle.cap_spec.specs.Occupying.{pads_of}
 use Rattle.cap_spec.proofs.Disjoint.Overlaps.{one_used}
 use Rattle.cap_vet.specs.Marks.{MarksAll}
@@ -48,18 +49,21 @@ returns-then-not-mark_pads-clause-conflict g c = λ e.
     let h = rw c.in-Ok-Target.field-0-is at c.in-Ok-Target.ensures.ok in
     let r = object_used _ _ _ _ _ _ _ _ h.2.finds h.2.object.words in
     let d = c.mark_pads-in-Ok-Target.ensures.conflict (c.if-not-mark_pads.true) r.0 r.1 in
-    (_, r.2, conflict_left _ (pads_of r.0) _ d.0 d.1 d.2 d.3)
+    let own = places c.in-Ok-Target.target.segment c.in-Ok-Target.target.start c.in-Ok-Target.target.words in
+    (pads_of r.0 ++ own, r.2, conflict_left _ (pads_of r.0) own d.0 d.1 d.2 d.3)
 
 pub returns-else-not-mark_pads-clause-taken : goal.returns-else-not-mark_pads-clause-taken
 returns-else-not-mark_pads-clause-taken g c = λ e used o.
     let h = rw c.in-Ok-Target.field-0-is at c.in-Ok-Target.ensures.ok in
     let r = object_used _ _ _ _ _ _ _ _ h.2.finds h.2.object.words in
-    subst (λ (u : List (ℕ × ℕ)). MarksAll (IsTaken (g.M.Segments.segments c.args.message.now) c.args.marks.now) (IsTaken (g.M.Segments.segments c.args.message.now) c.mark_words.new.marks) u) (one_used _ _ _ _ used r.2 o)
-    (marks_append _ (IsTaken (g.M.Segments.segments c.args.message.now) c.mark_pads-in-Ok-Target.new.marks) _ (pads_of r.0) _ (c.mark_pads-in-Ok-Target.ensures.taken (c.if-not-mark_pads.false) r.0 r.1) (c.mark_words.ensures.taken e))
+    let own = places c.in-Ok-Target.target.segment c.in-Ok-Target.target.start c.in-Ok-Target.target.words in
+    subst (λ (u : List (ℕ × ℕ)). MarksAll (IsTaken (g.M.Segments.segments c.args.message.now) c.args.marks.now) (IsTaken (g.M.Segments.segments c.args.message.now) c.mark_words.new.marks) u) (one_used _ _ _ (pads_of r.0 ++ own) used r.2 o)
+    (marks_append _ (IsTaken (g.M.Segments.segments c.args.message.now) c.mark_pads-in-Ok-Target.new.marks) _ (pads_of r.0) own (c.mark_pads-in-Ok-Target.ensures.taken (c.if-not-mark_pads.false) r.0 r.1) (c.mark_words.ensures.taken e))
 
 pub returns-else-not-mark_pads-clause-conflict : goal.returns-else-not-mark_pads-clause-conflict
 returns-else-not-mark_pads-clause-conflict g c = λ e.
     let h = rw c.in-Ok-Target.field-0-is at c.in-Ok-Target.ensures.ok in
     let r = object_used _ _ _ _ _ _ _ _ h.2.finds h.2.object.words in
     let d = c.mark_words.ensures.conflict e in
-    (_, r.2, conflict_right _ (IsTaken (g.M.Segments.segments c.args.message.now) c.mark_pads-in-Ok-Target.new.marks) (pads_of r.0) _ _ d.0 (c.mark_pads-in-Ok-Target.ensures.taken (c.if-not-mark_pads.false) r.0 r.1) d.1 d.2)
+    let own = places c.in-Ok-Target.target.segment c.in-Ok-Target.target.start c.in-Ok-Target.target.words in
+    (pads_of r.0 ++ own, r.2, conflict_right _ (IsTaken (g.M.Segments.segments c.args.message.now) c.mark_pads-in-Ok-Target.new.marks) (pads_of r.0) own _ d.0 (c.mark_pads-in-Ok-Target.ensures.taken (c.if-not-mark_pads.false) r.0 r.1) d.1 d.2)
