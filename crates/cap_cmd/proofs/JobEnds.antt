@@ -13,7 +13,7 @@ use Rattle.cap_spec.specs.Packing.{pack_text}
 use Rattle.cap_spec.specs.Plain.{plain_text}
 use Rattle.cap_run.specs.Canons.{MakesCopies, copies_of}
 use Rattle.cap_run.specs.Copying.{Copied, CopiesAll}
-use Rattle.cap_run.specs.Engines.{CopiesWords, TellsStream, most_words}
+use Rattle.cap_run.specs.Engines.{CopiesWords, TellsStream, most_packed_at_once, most_unpacked_at_once, most_words}
 use Rattle.cap_cmd.specs.Statuses.{cause_status, copy_status, frame_status, outcome_status, run_status}
 use Rattle.cap_cmd.specs.Jobs.{BeginsOutput, CopiesInput, DoesTask, CanonsInput, GivesOutput, TellsCopy, TellsInput, TellsRun}
 use Rattle.cap_run.specs.Telling.{Tells, outcome_of}
@@ -34,9 +34,9 @@ kept_appends None b text k = tt
 kept_appends (Some xs) None text k = absurd k
 kept_appends (Some xs) (Some ys) text k = k
 
-module _ {S K : Type 0} (gs : source.Ghosts S) (gk : sink.Ghosts K) (most : ℕ) (old new : S) (before after : K) where
+module _ {S K : Type 0} (gs : source.Ghosts S) (gk : sink.Ghosts K) (at_once most : ℕ) (old new : S) (before after : K) where
   -- a copy with the status of success put all words
-  pub copied_all : (r : Result ℕ CopyFault) → copy_status r ≡ 0 → Copied gs gk most old new before after r → (put : List ℕ) × CopiesAll gs gk most old new before after put
+  pub copied_all : (r : Result ℕ CopyFault) → copy_status r ≡ 0 → Copied gs gk at_once most old new before after r → (put : List ℕ) × CopiesAll gs gk most old new before after put
   copied_all (Ok n) e c = (c.0, c.2)
   copied_all (Err TooManyWords) e c = absurd (cc)
   copied_all (Err (Source (source_truncated byte))) e c = absurd (cc)
@@ -93,11 +93,11 @@ module _ {S O : Type 0} (gs : source.Ghosts S) (go : output.Ghosts O) where
 
 module _ {S O K : Type 0} (gs : source.Ghosts S) (go : output.Ghosts O) (gk : sink.Ghosts K) where
   -- all words were copied
-  pub all_copied : (text : List ℕ → List ℕ) (most : ℕ) (old new : S) (before after : O) (begun ended : K) (r : Result ℕ CopyFault) → copy_status r ≡ 0
-      → BeginsOutput go gk text before begun → CopiesWords gs gk most old new begun ended r → GivesOutput go gk ended after
+  pub all_copied : (text : List ℕ → List ℕ) (at_once most : ℕ) (old new : S) (before after : O) (begun ended : K) (r : Result ℕ CopyFault) → copy_status r ≡ 0
+      → BeginsOutput go gk text before begun → CopiesWords gs gk at_once most old new begun ended r → GivesOutput go gk ended after
       → CopiesInput (gs.words old) (gs.is_cut old) (go.written before) (go.written after) text most
-  all_copied text most old new before after begun ended r e b c g =
-      let k = copied_all gs gk most old new begun ended r e c.copied in
+  all_copied text at_once most old new before after begun ended r e b c g =
+      let k = copied_all gs gk at_once most old new begun ended r e c.copied in
       let kept = subst (λ (o : Option (List ℕ)). Keeps o (gk.taken ended)) (b.empty k.0) k.1.finishes.finished in
       record {
         own = k.0;
@@ -135,14 +135,14 @@ module _ {S O E P U : Type 0} (gs : source.Ghosts S) (go : output.Ghosts O) (ge 
 
   -- words were packed
   pub does_pack : (task : Task) (s : Settings) (first last : S) (before after : O) (old new : E) (status : ℕ) (begun ended : P) (answer : Result ℕ CopyFault) → task ≡ Pack
-      → BeginsOutput go gp pack_text before begun → CopiesWords gs gp most_words first last begun ended answer → GivesOutput go gp ended after → TellsCopy ge answer old new status
+      → BeginsOutput go gp pack_text before begun → CopiesWords gs gp most_packed_at_once most_words first last begun ended answer → GivesOutput go gp ended after → TellsCopy ge answer old new status
       → DoesTask gs go ge gp gu task s first before after old new status
   does_pack task s first last before after old new status begun ended answer e b c g t =
       subst (λ (x : Task). DoesTask gs go ge gp gu x s first before after old new status) (sym e) (answer, last, begun, ended, b, c, g, t)
 
   -- words were unpacked
   pub does_unpack : (task : Task) (s : Settings) (first last : S) (before after : O) (old new : E) (status : ℕ) (begun ended : U) (answer : Result ℕ CopyFault) → task ≡ Unpack
-      → BeginsOutput go gu plain_text before begun → CopiesWords gs gu most_words first last begun ended answer → GivesOutput go gu ended after → TellsCopy ge answer old new status
+      → BeginsOutput go gu plain_text before begun → CopiesWords gs gu most_unpacked_at_once most_words first last begun ended answer → GivesOutput go gu ended after → TellsCopy ge answer old new status
       → DoesTask gs go ge gp gu task s first before after old new status
   does_unpack task s first last before after old new status begun ended answer e b c g t =
       subst (λ (x : Task). DoesTask gs go ge gp gu x s first before after old new status) (sym e) (answer, last, begun, ended, b, c, g, t)

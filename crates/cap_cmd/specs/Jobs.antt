@@ -19,7 +19,7 @@ use Rattle.cap_frame.specs.Limit.{limit_of}
 use Rattle.cap_vet.specs.Limits.{depth_of, words_of}
 use Rattle.cap_run.specs.Canons.{AreCanonised, Canonised, MakesCopies, canonised, copies_of}
 use Rattle.cap_run.specs.Checking.{TellsCheck}
-use Rattle.cap_run.specs.Engines.{CopiesWords, ShowsStream, TellsStream, most_words}
+use Rattle.cap_run.specs.Engines.{CopiesWords, ShowsStream, TellsStream, most_packed_at_once, most_unpacked_at_once, most_words}
 use Rattle.cap_run.specs.FaultLines.{copy_fault_line, run_fault_line}
 use Rattle.cap_cmd.specs.Statuses.{copy_status, run_status}
 use Rattle.cap_run.specs.Telling.{Tells, TellsEach, TellsSegments, Told, WantsNone, messages_of, noncanonical_in, refused_in, texts_of}
@@ -123,11 +123,11 @@ module _ {S O E P U : Type 0} (gs : source.Ghosts S) (go : output.Ghosts O) (ge 
       × MakesCopies gs gu (words_of s.limits) (depth_of s.limits) (limit_of s.size) s.messages first last begun ended answer
       × GivesOutput go gu ended after × TellsRun ge answer old new status
   DoesTask Pack s first before after old new status = (answer : Result ℕ CopyFault) × (last : S) × (begun : P) × (ended : P)
-      × BeginsOutput go gp pack_text before begun × CopiesWords gs gp most_words first last begun ended answer × GivesOutput go gp ended after
-      × TellsCopy ge answer old new status
+      × BeginsOutput go gp pack_text before begun × CopiesWords gs gp most_packed_at_once most_words first last begun ended answer
+      × GivesOutput go gp ended after × TellsCopy ge answer old new status
   DoesTask Unpack s first before after old new status = (answer : Result ℕ CopyFault) × (last : S) × (begun : U) × (ended : U)
-      × BeginsOutput go gu plain_text before begun × CopiesWords gs gu most_words first last begun ended answer × GivesOutput go gu ended after
-      × TellsCopy ge answer old new status
+      × BeginsOutput go gu plain_text before begun × CopiesWords gs gu most_unpacked_at_once most_words first last begun ended answer
+      × GivesOutput go gu ended after × TellsCopy ge answer old new status
 
 module _ {I S O E P U : Type 0} (gi : input.Ghosts I) (gs : source.Ghosts S) (go : output.Ghosts O) (ge : output.Ghosts E)
     (gp : sink.Ghosts P) (gu : sink.Ghosts U) where

@@ -156,24 +156,50 @@ fn ends_at_a_word_too_many(rt: HostRuntime) -> Result<(), Fail> {
     Ok(())
 }
 
-// 130 zero words, and three others.
-const MANY: &str = "00810f010203040f010203040f01020304";
+// In pieces of 64, of which the last one ends where the most words do. The words are zeros, which are
+// one group.
+#[test]
+fn packs_no_word_past_the_most(rt: HostRuntime) -> Result<(), Fail> {
+    let alloc = rt.alloc();
+    let zeros = [0; 1040];
+    for more in [0u8, 62, 63, 64, 126, 127, 128, 129, 130] {
+        let words = more as u64 + 1;
+        let mut source = PlainWords::new(SliceIn::new(zeros.as_slice()));
+        let mut sink = Packer::new(VecOut::new(alloc));
+        let answer = if words < 130 {
+            Err(CopyFault::TooManyWords)
+        } else {
+            Ok(130)
+        };
+        assert!(rt; run_pack(&mut source, &mut sink, words) == answer);
+        assert!(rt; sink.into_inner().bytes() == [0, more.min(129)].as_slice());
+    }
+    Ok(())
+}
 
-// In pieces, of which the last one ends where the most words do.
+// 1154 zero words, and three others: more than one piece of 1024 takes.
+const MANY: &str = "00ff00ff00ff00ff00810f010203040f010203040f01020304";
+
+const MANY_WORDS: u64 = 1157;
+
+// The last piece ends where the most words do.
 #[test]
 fn unpacks_no_word_past_the_most(rt: HostRuntime) -> Result<(), Fail> {
     let alloc = rt.alloc();
     let text = hex::decode(alloc, MANY)?;
-    for words in [0, 1, 64, 65, 129, 132, 133, 134] {
+    for words in [0, 1, 1023, 1024, 1025, 1153, 1156, 1157, 1158] {
         let mut source = Unpacker::new(SliceIn::new(text.as_slice()));
         let mut sink = PlainSink::new(VecOut::new(alloc));
-        let answer = if words < 133 {
+        let answer = if words < MANY_WORDS {
             Err(CopyFault::TooManyWords)
         } else {
-            Ok(133)
+            Ok(MANY_WORDS)
         };
         assert!(rt; run_unpack(&mut source, &mut sink, words) == answer);
-        assert_eq!(rt; sink.into_inner().bytes().len() as u64, 8 * words.min(133));
+        assert_eq!(rt;
+            sink.into_inner().bytes().len() as u64,
+            8 * words.min(MANY_WORDS)
+        );
     }
     Ok(())
 }
@@ -182,7 +208,7 @@ fn unpacks_no_word_past_the_most(rt: HostRuntime) -> Result<(), Fail> {
 fn unpacks_no_word_past_a_full_output(rt: HostRuntime) -> Result<(), Fail> {
     let alloc = rt.alloc();
     let text = hex::decode(alloc, MANY)?;
-    for room in [0, 1, 511, 512, 513, 1063] {
+    for room in [0, 1, 8191, 8192, 8193, 9255] {
         let mut source = Unpacker::new(SliceIn::new(text.as_slice()));
         let mut sink = PlainSink::new(FromWrite::new(Full {
             taken: Vec::new(alloc),

@@ -13,7 +13,7 @@ use Rattle.cap_run.specs.declared.fault.CopyFault.{CopyFault}
 use Rattle.cap_run.specs.declared.fault.CopyFault.TheVariants.{TooManyWords, Source, Output}
 use Rattle.cap_run.proofs.Settling.{on_known}
 
-module _ {S K : Type 0} (gs : source.Ghosts S) (gk : sink.Ghosts K) (most : ℕ) (old new : S) (before after : K) (own : List ℕ) where
+module _ {S K : Type 0} (gs : source.Ghosts S) (gk : sink.Ghosts K) (at_once most : ℕ) (old new : S) (before after : K) (own : List ℕ) where
   -- known words that were all put
   pub all_put : (put : List ℕ) → gs.words old ≡ Some own → (c : CopiesAll gs gk most old new before after put) → (put ≡ own) × (gs.is_cut old ≡ false) × (length own ≤ most)
   all_put put w c =
@@ -48,7 +48,7 @@ module _ {S K : Type 0} (gs : source.Ghosts S) (gk : sink.Ghosts K) (most : ℕ)
       )
 
   -- all words, where there aren't too many and the input isn't cut
-  pub copy_whole : (r : Result ℕ CopyFault) → gs.words old ≡ Some own → gs.is_cut old ≡ false → length own ≤ most → Copied gs gk most old new before after r
+  pub copy_whole : (r : Result ℕ CopyFault) → gs.words old ≡ Some own → gs.is_cut old ≡ false → length own ≤ most → Copied gs gk at_once most old new before after r
       → CopySettled r ((r ≡ Ok (length own)) × Finishes gk before after own)
   copy_whole (Ok n) w i l c =
       let t = all_put c.0 w c.2 in
@@ -60,7 +60,7 @@ module _ {S K : Type 0} (gs : source.Ghosts S) (gk : sink.Ghosts K) (most : ℕ)
   copy_whole (Err (Output fault)) w i l c = tt
 
   -- and where it is cut, that fault behind them
-  pub copy_cut : (r : Result ℕ CopyFault) → gs.words old ≡ Some own → gs.is_cut old ≡ true → length own ≤ most → Copied gs gk most old new before after r
+  pub copy_cut : (r : Result ℕ CopyFault) → gs.words old ≡ Some own → gs.is_cut old ≡ true → length own ≤ most → Copied gs gk at_once most old new before after r
       → CopySettled r ((byte : ℕ) × (r ≡ Err (Source (Truncated byte))) × (drop (length own) (gs.places old) ≡ byte ∷ []) × Finishes gk before after own)
   copy_cut (Ok n) w i l c = absurd (let t = all_put c.0 w c.2 in let e = t.1 in cc)
   copy_cut (Err TooManyWords) w i l c = absurd (let t = most_put w c in omega (arith, t.0, l))
@@ -70,7 +70,7 @@ module _ {S K : Type 0} (gs : source.Ghosts S) (gk : sink.Ghosts K) (most : ℕ)
   copy_cut (Err (Output fault)) w i l c = tt
 
   -- and where there are too many, the first of them and that fault
-  pub copy_many : (r : Result ℕ CopyFault) → gs.words old ≡ Some own → most < length own → Copied gs gk most old new before after r
+  pub copy_many : (r : Result ℕ CopyFault) → gs.words old ≡ Some own → most < length own → Copied gs gk at_once most old new before after r
       → CopySettled r ((r ≡ Err TooManyWords) × Finishes gk before after (take most own))
   copy_many (Ok n) w l c = absurd (let t = all_put c.0 w c.2 in omega (arith, t.2, l))
   copy_many (Err TooManyWords) w l c = let t = most_put w c in (refl, subst (Finishes gk before after) t.1 c.finishes)
@@ -81,10 +81,10 @@ module _ {S K : Type 0} (gs : source.Ghosts S) (gk : sink.Ghosts K) (most : ℕ)
 
 module _ {S K : Type 0} (gs : source.Ghosts S) (gk : sink.Ghosts K) where
   -- how a copy ends says what it answers where the words are known
-  pub copies_words : (most : ℕ) (old new : S) (before after : K) (r : Result ℕ CopyFault) → Copied gs gk most old new before after r → CopiesWords gs gk most old new before after r
-  copies_words most old new before after r c = record {
+  pub copies_words : (at_once most : ℕ) (old new : S) (before after : K) (r : Result ℕ CopyFault) → Copied gs gk at_once most old new before after r → CopiesWords gs gk at_once most old new before after r
+  copies_words at_once most old new before after r c = record {
     copied = c;
-    whole = λ own w i l. copy_whole gs gk most old new before after own r w i l c;
-    cut_short = λ own w i l. copy_cut gs gk most old new before after own r w i l c;
-    many = λ own w l. copy_many gs gk most old new before after own r w l c;
+    whole = λ own w i l. copy_whole gs gk at_once most old new before after own r w i l c;
+    cut_short = λ own w i l. copy_cut gs gk at_once most old new before after own r w i l c;
+    many = λ own w l. copy_many gs gk at_once most old new before after own r w l c;
   }

@@ -124,10 +124,10 @@ module _ {S K : Type 0} (gs : source.Ghosts S) (gk : sink.Ghosts K) where
   }
 
   -- the sink was finished behind the words that were put
-  pub copied_finished : (most : ℕ) (old new : S) (before between after : K) (r : Result ℕ CopyFault) → StopsPutting gs gk most old new before between r
+  pub copied_finished : (at_once most : ℕ) (old new : S) (before between after : K) (r : Result ℕ CopyFault) → StopsPutting gs gk most old new before between r
       → Keeps (gk.text between []) (gk.taken after) → (gk.closed between ≡ false) × (gk.closed after ≡ true) × (gk.failures after ≡ gk.failures between)
-      → Copied gs gk most old new before after r
-  copied_finished most old new before between after (Ok n) s k o =
+      → Copied gs gk at_once most old new before after r
+  copied_finished at_once most old new before between after (Ok n) s k o =
       let c = s.2 in (
         c.own,
         sym c.many,
@@ -139,7 +139,7 @@ module _ {S K : Type 0} (gs : source.Ghosts S) (gk : sink.Ghosts K) where
           finishes = finishes_behind gk before between after c.own c.fills k o;
         },
       )
-  copied_finished most old new before between after (Err TooManyWords) s k o =
+  copied_finished at_once most old new before between after (Err TooManyWords) s k o =
       let c = s.2 in
       record {
         own = c.own;
@@ -148,10 +148,10 @@ module _ {S K : Type 0} (gs : source.Ghosts S) (gk : sink.Ghosts K) where
         gives = gives_both gs old s.0 new c.own (s.1 ∷ []) c.gives s.3;
         finishes = finishes_behind gk before between after c.own c.fills k o;
       }
-  copied_finished most old new before between after (Err (Source fault)) s k o =
+  copied_finished at_once most old new before between after (Err (Source fault)) s k o =
       let c = s.3 in
       record { own = c.own; mid = s.0; few = omega (arith, s.2, c.many); gives = c.gives; none = s.4; finishes = finishes_behind gk before between after c.own c.fills k o }
-  copied_finished most old new before between after (Err (Output fault)) s k o = absurd s
+  copied_finished at_once most old new before between after (Err (Output fault)) s k o = absurd s
 
   -- the output failed as the sink was finished
   pub copied_spoiled : (most : ℕ) (old new : S) (before between after : K) (r : Result ℕ CopyFault) (out : OutFault) → StopsPutting gs gk most old new before between r
@@ -169,16 +169,16 @@ module _ {S K : Type 0} (gs : source.Ghosts S) (gk : sink.Ghosts K) where
   copied_spoiled most old new before between after (Err (Output fault)) out s e b = absurd s
 
   -- the output failed at a word
-  pub copied_stopped : (most : ℕ) (old new : S) (before after : K) (out : OutFault) → StopsAt gs gk most old new before after out
-      → StopsMidway gs gk most old new before after out
-  copied_stopped most old new before after out s = record {
+  pub copied_stopped : (at_once most : ℕ) (old new : S) (before after : K) (out : OutFault) → 0 < at_once → StopsAt gs gk most old new before after out
+      → StopsMidway gs gk at_once most old new before after out
+  copied_stopped at_once most old new before after out some s = record {
     done = s.done;
     piece = s.word ∷ [];
     mid = new;
     between = s.between;
     few = omega (arith, s.few, length-append s.done (s.word ∷ []));
     some = omega arith;
-    at_once = omega arith;
+    in_pieces = omega (arith, some);
     gives = s.gives;
     behind = inl refl;
     fills = s.fills;

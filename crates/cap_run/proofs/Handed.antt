@@ -73,16 +73,16 @@ module _ {S K : Type 0} (gs : source.Ghosts S) (gk : sink.Ghosts K) where
   }
 
   -- the output failed behind words that were put
-  pub stops_midway : (most n rest : ℕ) (old now new : S) (before between after : K) (out : OutFault) → Copies gs gk old now before between n → HandsOver gs gk rest now new between after out → rest ≤ 64 → n + rest ≤ most
-      → StopsMidway gs gk most old new before after out
-  stops_midway most n rest old now new before between after out c h once room = record {
+  pub stops_midway : (at_once most n rest : ℕ) (old now new : S) (before between after : K) (out : OutFault) → Copies gs gk old now before between n → HandsOver gs gk rest now new between after out → rest ≤ at_once → n + rest ≤ most
+      → StopsMidway gs gk at_once most old new before after out
+  stops_midway at_once most n rest old now new before between after out c h once room = record {
     done = c.own;
     piece = h.piece;
     mid = new;
     between = between;
     few = let a = c.many in let b = h.few in omega (arith, length-append c.own h.piece);
     some = h.some;
-    at_once = let b = h.few in omega arith;
+    in_pieces = let b = h.few in omega arith;
     gives = gives_both gs old now new c.own h.piece c.gives h.gives;
     behind = inl refl;
     fills = c.fills;

@@ -13,10 +13,6 @@ use Rattle.cap_run.specs.Streams.{EndsStream}
 use Rattle.cap_run.specs.declared.fault.CopyFault.{CopyFault}
 use Rattle.cap_run.specs.declared.fault.CopyFault.TheVariants.{TooManyWords, Source, Output}
 
--- the most words that are handed to a sink at once
-abbrev pub most_at_once : ℕ
-most_at_once = 64
-
 module _ {S : Type 0} (gs : source.Ghosts S) where
   -- These words were read, and no fault came: where there were any, the source wasn't spent before.
   pub record Gives (old new : S) (own : List ℕ) : Type 0 where
@@ -94,14 +90,14 @@ module _ {S K : Type 0} (gs : source.Ghosts S) (gk : sink.Ghosts K) where
 
   -- All words that were read were handed to the sink, in pieces of at most so many at once. It took those in front,
   -- and its output failed at the last piece, behind which no further word was read.
-  pub record StopsMidway (most : ℕ) (old new : S) (before after : K) (fault : OutFault) : Type 0 where
+  pub record StopsMidway (at_once most : ℕ) (old new : S) (before after : K) (fault : OutFault) : Type 0 where
     pub done : List ℕ
     pub piece : List ℕ
     pub mid : S
     pub between : K
     pub few : length (done ++ piece) ≤ most
     pub some : 0 < length piece
-    pub at_once : length piece ≤ most_at_once
+    pub in_pieces : length piece ≤ at_once
     pub gives : Gives gs old mid (done ++ piece)
     pub behind : (new ≡ mid) ⊎ StopsGiving gs most (done ++ piece) mid new
     pub fills : Fills gk before between done
@@ -117,12 +113,13 @@ module _ {S K : Type 0} (gs : source.Ghosts S) (gk : sink.Ghosts K) where
     pub none : StopsGiving gs most own mid new
     pub spoils : Spoils gk before after own fault
 
-  -- what each answer of a copy of at most so many words says
-  abbrev pub Copied : ℕ → S → S → K → K → Result ℕ CopyFault → Type 0
-  Copied most old new before after (Ok n) = (own : List ℕ) × (n ≡ length own) × CopiesAll most old new before after own
-  Copied most old new before after (Err TooManyWords) = CopiesMost most old new before after
-  Copied most old new before after (Err (Source fault)) = CopiesUntil most old new before after fault
-  Copied most old new before after (Err (Output fault)) = StopsMidway most old new before after fault ⊎ StopsFinishing most old new before after fault
+  -- what each answer says of a copy of at most so many words, of which at most so many are handed to the sink at once
+  abbrev pub Copied : ℕ → ℕ → S → S → K → K → Result ℕ CopyFault → Type 0
+  Copied at_once most old new before after (Ok n) = (own : List ℕ) × (n ≡ length own) × CopiesAll most old new before after own
+  Copied at_once most old new before after (Err TooManyWords) = CopiesMost most old new before after
+  Copied at_once most old new before after (Err (Source fault)) = CopiesUntil most old new before after fault
+  Copied at_once most old new before after (Err (Output fault)) = StopsMidway at_once most old new before after fault
+      ⊎ StopsFinishing most old new before after fault
 
 -- P, unless the answer is a fault of a device or of the output, or that an end was spent before
 abbrev pub CopySettled : Result ℕ CopyFault → Type 0 → Type 0

@@ -22,6 +22,14 @@ use Rattle.cap_run.specs.declared.settings.Outcome.{Outcome}
 abbrev pub most_words : ℕ
 most_words = 2 ^ 40
 
+-- the most words that a packer is handed at once
+abbrev pub most_packed_at_once : ℕ
+most_packed_at_once = 64
+
+-- the most words that a sink is handed at once as words are unpacked
+abbrev pub most_unpacked_at_once : ℕ
+most_unpacked_at_once = 1024
+
 -- the most messages of a stream that the program reads
 abbrev pub most_messages : ℕ
 most_messages = 2 ^ 32 - 1
@@ -51,9 +59,9 @@ module _ {S O : Type 0} (gs : source.Ghosts S) (go : output.Ghosts O) where
     pub no_memory : (n : ℕ) → IsErrOf answer (record { message = n; cause = Frame Memory }) → ⊥
 
 module _ {S K : Type 0} (gs : source.Ghosts S) (gk : sink.Ghosts K) where
-  -- What an engine does that copies words, at most so many.
-  pub record CopiesWords (most : ℕ) (old new : S) (before after : K) (answer : Result ℕ CopyFault) : Type 0 where
-    pub copied : Copied gs gk most old new before after answer
+  -- What an engine does that copies words, at most so many, and hands at most so many at once to the sink.
+  pub record CopiesWords (at_once most : ℕ) (old new : S) (before after : K) (answer : Result ℕ CopyFault) : Type 0 where
+    pub copied : Copied gs gk at_once most old new before after answer
     -- And the other way round, where the words are known. There aren't too many, and the input isn't cut.
     pub whole : (own : List ℕ) → gs.words old ≡ Some own → gs.is_cut old ≡ false → length own ≤ most →
         CopySettled answer ((answer ≡ Ok (length own)) × Finishes gk before after own)

@@ -1,7 +1,7 @@
 //! The engines that copy words from one spelling to another. They don't look at framing.
 
 ghost use Rattle.cap_run.specs.Copying.{Copied, StopsMidway};
-ghost use Rattle.cap_run.specs.Engines.{CopiesWords};
+ghost use Rattle.cap_run.specs.Engines.{CopiesWords, most_packed_at_once, most_unpacked_at_once};
 ghost use Rattle.cap_run.specs.Handed.{HandsOver};
 ghost use Rattle.cap_run.specs.PuttingEnds.{Copies, StopsPutting};
 ghost use Rattle.cap_words.specs.Sinks.{sink_fault_of};
@@ -22,8 +22,11 @@ pub(crate) fn output_fault(fault: SinkFault) -> OutFault
     }
 }
 
-// The most words that are handed to the sink at once.
-const MOST_AT_ONCE: u64 = 64;
+// The bytes of the most words that a packer is handed at once, which are 64.
+const ROOM_TO_PACK: usize = 512;
+
+// The bytes of the most words that a sink is handed at once as words are unpacked, which are 1024.
+const ROOM_TO_UNPACK: usize = 8192;
 
 /// Puts the words at hand, as many as there is room for, and answers how many. 0 doesn't say that no
 /// words are to come.
@@ -47,20 +50,21 @@ fn put_ready<S: WordSource, K: WordSink>(
     }
 }
 
-/// Puts the words of a source, at most so many, in pieces of those at hand, and answers what is to be
-/// answered once the sink is finished, or the fault of its output.
+/// Puts the words of a source, at most so many, in pieces of those at hand, as many as there is room
+/// for, and answers what is to be answered once the sink is finished, or the fault of its output.
 fn put_words<S: WordSource, K: WordSink>(
     source: &mut S,
     sink: &mut K,
     words: u64,
+    room: &mut [u8],
 ) -> Result<Result<u64, CopyFault>, OutFault>
+    requires { 8 ≤ length room.old }
     ensures ok { IfOk result (StopsPutting S.WordSource K.WordSink words source.old source.new sink.old sink.new) }
-    ensures err { IfErr result (StopsMidway S.WordSource K.WordSink words source.old source.new sink.old sink.new) }
+    ensures err { IfErr result (StopsMidway S.WordSource K.WordSink (length room.old / 8) words source.old source.new sink.old sink.new) }
 {
-    let mut room = [0; 512];
     let mut copied = 0;
     while copied < words {
-        let most = (words - copied).min(MOST_AT_ONCE) as usize;
+        let most = (words - copied).min(room.len() as u64 / 8) as usize;
         let count = match put_ready(source, sink, &mut room[..8 * most]) {
             Ok(count) => count,
             Err(fault) => return Err(fault),
@@ -85,15 +89,18 @@ fn put_words<S: WordSource, K: WordSink>(
     }
 }
 
-/// Copies the words of a source, at most so many, and finishes the sink.
+/// Copies the words of a source, at most so many, in pieces of as many as there is room for, and
+/// finishes the sink.
 fn copy_words<S: WordSource, K: WordSink>(
     source: &mut S,
     sink: &mut K,
     words: u64,
+    room: &mut [u8],
 ) -> Result<u64, CopyFault>
-    ensures { Copied S.WordSource K.WordSink words source.old source.new sink.old sink.new result }
+    requires { 8 ≤ length room.old }
+    ensures { Copied S.WordSource K.WordSink (length room.old / 8) words source.old source.new sink.old sink.new result }
 {
-    match put_words(source, sink, words) {
+    match put_words(source, sink, words, room) {
         Ok(answer) => match sink.finish() {
             Ok(()) => answer,
             Err(fault) => Err(CopyFault::Output(output_fault(fault))),
@@ -112,19 +119,19 @@ pub fn run_pack<S: WordSource, O: ByteOut>(
     sink: &mut Packer<O>,
     words: u64,
 ) -> Result<u64, CopyFault>
-    ensures { CopiesWords S.WordSource ⟦<Packer<O> as WordSink>⟧ words source.old source.new sink.old sink.new result }
+    ensures { CopiesWords S.WordSource ⟦<Packer<O> as WordSink>⟧ most_packed_at_once words source.old source.new sink.old sink.new result }
 {
-    copy_words(source, sink, words)
+    copy_words(source, sink, words, &mut [0; ROOM_TO_PACK])
 }
 
 /// Puts the words of a source, at most so many, to a sink, finishes that, and answers how many
-/// words there were. Faults are as in [`run_pack`].
+/// words there were. Faults are as in [`run_pack`], but that a piece has at most 1024 words.
 pub fn run_unpack<S: WordSource, K: WordSink>(
     source: &mut S,
     sink: &mut K,
     words: u64,
 ) -> Result<u64, CopyFault>
-    ensures { CopiesWords S.WordSource K.WordSink words source.old source.new sink.old sink.new result }
+    ensures { CopiesWords S.WordSource K.WordSink most_unpacked_at_once words source.old source.new sink.old sink.new result }
 {
-    copy_words(source, sink, words)
+    copy_words(source, sink, words, &mut [0; ROOM_TO_UNPACK])
 }

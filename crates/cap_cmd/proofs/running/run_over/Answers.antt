@@ -4,7 +4,7 @@ use Rattle.cap_spec.specs.Packing.{pack_text}
 use Rattle.cap_spec.specs.Plain.{plain_text}
 use Rattle.cap_frame.specs.Limit.{limit_of}
 use Rattle.cap_run.specs.Checking.{TellsCheck}
-use Rattle.cap_run.specs.Engines.{most_words}
+use Rattle.cap_run.specs.Engines.{most_packed_at_once, most_words}
 use Rattle.cap_run.specs.Telling.{TellsSegments, WantsNone}
 use Rattle.cap_run.specs.Vetting.{TellsDump}
 use Rattle.cap_vet.specs.Limits.{depth_of, words_of}
@@ -89,7 +89,7 @@ returns-in-Pack-clause-success g c = λ h.
     subst
     (λ task. WritesAll task c.args.job.now.settings (g.S.WordSource.words c.args.source) (g.S.WordSource.is_cut c.args.source) (g.O.ByteOut.written c.args.out) (g.O.ByteOut.written out))
     (sym c.in-Pack.is)
-    (all_copied g.S.WordSource g.O.ByteOut _ pack_text most_words c.args.source c.run_pack-answer.new.source c.args.out out c.new-sink-in-Pack.result last
+    (all_copied g.S.WordSource g.O.ByteOut _ pack_text most_packed_at_once most_words c.args.source c.run_pack-answer.new.source c.args.out out c.new-sink-in-Pack.result last
     c.run_pack-answer.result (sym c.report_copy.ensures.status_is ∙ h)
     (record { empty = new.empty; taken = new.starts; closed = new.open; spent = new.spent; failures = new.failures c.new-sink-in-Pack.result ∙ ap (λ o. g.O.ByteOut.failures o) new.output })
     c.run_pack-answer.ensures

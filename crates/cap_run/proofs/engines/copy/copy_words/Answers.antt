@@ -5,7 +5,7 @@ use Rattle.cap_run.proofs.engines.copy.copy_words.Goals as goal
 
 pub returns-in-Ok-finish : goal.returns-in-Ok-finish
 returns-in-Ok-finish g c =
-    copied_finished g.S.WordSource g.K.WordSink c.args.words c.args.source.now c.put_words.new.source c.args.sink.now c.put_words.new.sink c.finish.new.self c.in-Ok.answer
+    copied_finished g.S.WordSource g.K.WordSink _ c.args.words c.args.source.now c.put_words.new.source c.args.sink.now c.put_words.new.sink c.finish.new.self c.in-Ok.answer
     c.in-Ok.ensures.ok c.in-Ok-finish.ensures.finished c.in-Ok-finish.ensures.ok
 
 pub returns-in-Err-finish : goal.returns-in-Err-finish

@@ -1,4 +1,4 @@
-use Rattle.std.proofs.Common.{◌*◌, ◌+◌, arith, subst, sym}
+use Rattle.std.proofs.Common.{◌*◌, ◌+◌, arith, refl, subst, sym}
 use Rattle.std.proofs.lemmas.List.{length-take-le}
 use Rattle.cap_frame.specs.Putting.{Halts}
 use Rattle.cap_frame.proofs.Putting.{halts_one}
@@ -7,12 +7,12 @@ use Rattle.cap_run.proofs.Handed.{copies_both, copies_start, gives_no_next, stop
 use Rattle.cap_run.proofs.engines.copy.put_words.Goals as goal
 
 pub loop-copied-init : goal.loop-copied-init
-loop-copied-init g c = record { few = omega arith; copies = copies_start g.S.WordSource g.K.WordSink c.args.source.now c.args.sink.now }
+loop-copied-init g c = record { few = omega arith; room = refl; copies = copies_start g.S.WordSource g.K.WordSink c.args.source.now c.args.sink.now }
 
 pub returns-in-Err-clause-err : goal.returns-in-Err-clause-err
 returns-in-Err-clause-err g c =
     let long = length-take-le (8 * c.min-most.result) c.loop-copied.room (omega arith) in
-    stops_midway g.S.WordSource g.K.WordSink c.args.words c.loop-copied.copied _ c.args.source.now c.loop-copied.source c.put_ready.new.source c.args.sink.now c.loop-copied.sink c.put_ready.new.sink
+    stops_midway g.S.WordSource g.K.WordSink _ c.args.words c.loop-copied.copied _ c.args.source.now c.loop-copied.source c.put_ready.new.source c.args.sink.now c.loop-copied.sink c.put_ready.new.sink
     c.in-Err.fault c.loop-copied.invariant.copies c.in-Err.ensures.err (omega (arith, long)) (omega (arith, long))
 
 pub loop-copied-preserved-then-count-gt0 : goal.loop-copied-preserved-then-count-gt0
@@ -21,6 +21,7 @@ loop-copied-preserved-then-count-gt0 g c =
     let long = length-take-le (8 * c.min-most.result) c.loop-copied.room (omega arith) in
     record {
       few = omega (arith, few, long);
+      room = omega arith;
       copies = copies_both g.S.WordSource g.K.WordSink c.args.source.now c.loop-copied.source c.put_ready.new.source c.args.sink.now c.loop-copied.sink c.put_ready.new.sink c.loop-copied.copied c.in-Ok.count
           c.loop-copied.invariant.copies c.in-Ok.ensures.ok;
     }
@@ -32,7 +33,7 @@ returns-in-Err-put-clause-err g c =
     let gives = gives_one g.S.WordSource c.put_ready.new.source c.next.new.self c.in-Ok-Some.word
     (rw c.in-Ok-Some.field-0-is at c.in-Ok-Some.ensures.words) (rw c.in-Ok-Some.field-0-is at c.in-Ok-Some.ensures.word) c.in-Ok-Some.ensures.ok in
     let halts = halts_one g.K.WordSink c.put_ready.new.sink c.put.new.self c.in-Ok-Some.word c.put.result c.in-Err-put.fault c.in-Err-put.is c.in-Err-put.ensures.err c.put.ensures.device c.put.ensures.memory c.put.ensures.was_spent in
-    copied_stopped g.S.WordSource g.K.WordSink c.args.words c.args.source.now c.next.new.self c.args.sink.now c.put.new.self c.output_fault.result
+    copied_stopped g.S.WordSource g.K.WordSink _ c.args.words c.args.source.now c.next.new.self c.args.sink.now c.put.new.self c.output_fault.result (omega arith)
     (copies_stops g.S.WordSource g.K.WordSink c.args.words c.args.source.now c.put_ready.new.source c.next.new.self c.args.sink.now c.put_ready.new.sink c.put.new.self (c.loop-copied.copied + c.in-Ok.count) c.in-Ok-Some.word c.output_fault.result
     (omega arith) now gives (subst (Halts g.K.WordSink c.put_ready.new.sink c.put.new.self _) (sym c.output_fault.ensures) halts))
 
@@ -62,6 +63,7 @@ loop-copied-preserved g c =
     (rw c.in-Ok-Some.field-0-is at c.in-Ok-Some.ensures.words) (rw c.in-Ok-Some.field-0-is at c.in-Ok-Some.ensures.word) c.in-Ok-Some.ensures.ok in
     record {
       few = omega arith;
+      room = omega arith;
       copies = copies_more g.S.WordSource g.K.WordSink c.args.source.now c.put_ready.new.source c.next.new.self c.args.sink.now c.put_ready.new.sink c.put.new.self (c.loop-copied.copied + c.in-Ok.count) c.in-Ok-Some.word
           now gives (fills_one g.K.WordSink c.put_ready.new.sink c.put.new.self c.in-Ok-Some.word c.in_default.ensures.put c.in_default.ensures.ok);
     }
