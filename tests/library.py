@@ -128,7 +128,7 @@ def from_rust(folder, environment, files):
     # (cargo writes a lock file beside a crate, so each is taken from a copy of the repository's files)
     for part in ("bindings", "examples", "include"):
         shutil.copytree(TOP / part, folder / "copy" / part, ignore=shutil.ignore_patterns("target", "Cargo.lock"))
-    for words in (["test"], ["build", "--no-default-features"]):
+    for words in (["test"], ["build", "--no-default-features"], ["build", "--no-default-features", "--features", "alloc"]):
         text, status = run(["cargo", *words, "--offline", "--quiet"], cwd=folder / "copy/bindings/rust", env=environment)
         compare(f"cargo {words}", 0, status)
         if status:

@@ -34,7 +34,8 @@
 //! # Linking
 //!
 //! The archive is looked for in `CAPVET_LIB_DIR`, and else where `pkg-config` says that `capvet` is installed. With the
-//! feature `std`, which is on by default, the faults are [`std::error::Error`]s; without it the crate is `no_std`.
+//! feature `std`, which is on by default, the faults are [`std::error::Error`]s; without it the crate is `no_std`. The
+//! feature `alloc`, which is part of `std`, has the calls that return a `Vec`. No other call takes memory.
 
 #![cfg_attr(not(any(feature = "std", test)), no_std)]
 #![deny(unsafe_code, missing_docs, missing_debug_implementations)]
@@ -42,8 +43,12 @@
 #[cfg(not(target_pointer_width = "64"))]
 compile_error!("libcapvet.a is built for 64-bit machines alone");
 
+#[cfg(feature = "alloc")]
+extern crate alloc;
+
 mod limits;
 mod messages;
+mod packed;
 mod refusal;
 mod report;
 #[allow(unsafe_code)]
@@ -53,6 +58,9 @@ mod tests;
 
 pub use limits::Limits;
 pub use messages::{messages, Message, Messages};
+#[cfg(feature = "alloc")]
+pub use packed::unpack;
+pub use packed::{unpack_into, UnpackError};
 pub use refusal::{Reason, Refusal};
 pub use report::Report;
 

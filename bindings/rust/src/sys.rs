@@ -13,6 +13,7 @@ impl Answer {
     pub(crate) const TOO_MANY_SEGMENTS: Self = Self(2);
     pub(crate) const TOO_LARGE: Self = Self(3);
     pub(crate) const TRUNCATED: Self = Self(4);
+    pub(crate) const NO_ROOM: Self = Self(9);
     pub(crate) const NOT_CANONICAL: Self = Self(16);
 
     /// The number of the first reason of a refusal; the others follow in order.
@@ -78,6 +79,13 @@ extern "C" {
         limits: *const RawLimits,
         report: *mut Told,
     ) -> Answer;
+    fn capvet_unpack(
+        bytes: *const u8,
+        length: usize,
+        out: *mut u8,
+        room: usize,
+        written: *mut usize,
+    ) -> Answer;
     fn capvet_version() -> u32;
 }
 
@@ -114,6 +122,21 @@ pub(crate) fn is_canonical(bytes: &[u8], limits: &Limits) -> (Answer, Told) {
     // SAFETY: as in `frame`, whose arguments these are.
     let answer = unsafe { capvet_is_canonical(address(bytes), bytes.len(), &limits, &mut told) };
     (answer, told)
+}
+
+/// Unpacks the whole of a packed text into the front of `out`, and tells the bytes that its words take.
+pub(crate) fn unpack(packed: &[u8], out: &mut [u8]) -> (Answer, usize) {
+    let (mut none, mut written) = (0, 0);
+    let room = out.len();
+    let out = if out.is_empty() {
+        &mut none
+    } else {
+        out.as_mut_ptr()
+    };
+    // SAFETY: the declaration is the header's; the text is passed as in `frame`; `out` and its length are those of a slice
+    // that is borrowed for the call and by nobody else, or 0 bytes at one of ours, and the number is this frame's alone.
+    let answer = unsafe { capvet_unpack(address(packed), packed.len(), out, room, &mut written) };
+    (answer, written)
 }
 
 /// The archive's version, as one number.

@@ -64,6 +64,7 @@ fn answers_are_those_of_the_header() {
         ("TOO_MANY_SEGMENTS", Answer::TOO_MANY_SEGMENTS),
         ("TOO_LARGE", Answer::TOO_LARGE),
         ("TRUNCATED", Answer::TRUNCATED),
+        ("NO_ROOM", Answer::NO_ROOM),
         ("NOT_CANONICAL", Answer::NOT_CANONICAL),
     ] {
         assert!(of_header.contains(&(name.to_owned(), answer.0)), "{name}");

@@ -1,0 +1,183 @@
+//! Packed texts, between buffers.
+
+use crate::sys::{self, Answer};
+#[cfg(feature = "alloc")]
+use alloc::{vec, vec::Vec};
+use core::fmt;
+
+/// Why a packed text isn't unpacked.
+#[derive(Clone, Copy, Debug, PartialEq, Eq, Hash)]
+#[non_exhaustive]
+pub enum UnpackError {
+    /// The text ends inside a group.
+    Truncated,
+    /// The words take more bytes than the caller allows.
+    NoRoom {
+        /// How many they take.
+        needed: usize,
+    },
+    /// The text has more than 2^53 bytes.
+    TooLarge,
+    /// An answer of a later archive that this crate doesn't know. Nothing is unpacked.
+    Other(
+        /// The number.
+        u32,
+    ),
+}
+
+impl UnpackError {
+    // What an answer other than that of unpacked words says.
+    fn of(answer: Answer, written: usize) -> Self {
+        match answer {
+            Answer::TRUNCATED => Self::Truncated,
+            Answer::NO_ROOM => Self::NoRoom { needed: written },
+            Answer::TOO_LARGE => Self::TooLarge,
+            other => Self::Other(other.0),
+        }
+    }
+}
+
+impl fmt::Display for UnpackError {
+    fn fmt(&self, f: &mut fmt::Formatter<'_>) -> fmt::Result {
+        match self {
+            Self::Truncated => f.write_str("Truncated"),
+            Self::NoRoom { needed } => write!(f, "NoRoom, {needed} bytes are wanted"),
+            Self::TooLarge => f.write_str("TooLarge"),
+            Self::Other(answer) => write!(f, "unknown answer {answer}"),
+        }
+    }
+}
+
+#[cfg(feature = "std")]
+impl std::error::Error for UnpackError {}
+
+/// Unpacks the whole of a packed text (encoding: Packing): the bytes of the words that it stands for, which need be no
+/// message.
+///
+/// Two bytes of a text may stand for 2 KiB. So the length of the words is asked for first, and where it is above `most`
+/// no memory is taken.
+///
+/// # Errors
+///
+/// An [`UnpackError`], where the text isn't whole, or its words take more than `most` bytes.
+///
+/// # Examples
+///
+/// ```
+/// use capvet::{Limits, UnpackError};
+///
+/// let received = [0x10, 1, 0, 0];
+/// // So many bytes has a message at most that is within the limits, with its table.
+/// let most = 8 * Limits::DEFAULT.size() as usize + 2056;
+/// let message = capvet::unpack(&received, most)?;
+/// assert_eq!(message, [0, 0, 0, 0, 1, 0, 0, 0, 0, 0, 0, 0, 0, 0, 0, 0]);
+/// assert!(capvet::vet(&message, Limits::DEFAULT).is_ok());
+///
+/// assert_eq!(capvet::unpack(&[0, 255], 1024), Err(UnpackError::NoRoom { needed: 2048 }));
+/// # Ok::<(), UnpackError>(())
+/// ```
+#[cfg(feature = "alloc")]
+pub fn unpack(packed: &[u8], most: usize) -> Result<Vec<u8>, UnpackError> {
+    let needed = match unpack_into(packed, &mut []) {
+        Ok(_) => return Ok(Vec::new()),
+        Err(UnpackError::NoRoom { needed }) if needed <= most => needed,
+        Err(fault) => return Err(fault),
+    };
+    let mut words = vec![0; needed];
+    unpack_into(packed, &mut words)?;
+    Ok(words)
+}
+
+/// Unpacks the whole of a packed text into the front of `out`, and tells how many bytes that has. It takes no memory.
+///
+/// # Errors
+///
+/// An [`UnpackError`], where the text isn't whole, or `out` is too short for its words: then `out` is as it was.
+///
+/// # Examples
+///
+/// ```
+/// use capvet::UnpackError;
+///
+/// let mut out = [7; 24];
+/// assert_eq!(capvet::unpack_into(&[0x10, 1, 0, 0], &mut out), Ok(16));
+/// assert_eq!(out[..16], [0, 0, 0, 0, 1, 0, 0, 0, 0, 0, 0, 0, 0, 0, 0, 0]);
+/// assert_eq!(out[16..], [7; 8]);
+/// // No room at all asks for the length.
+/// assert_eq!(capvet::unpack_into(&[0, 255], &mut []), Err(UnpackError::NoRoom { needed: 2048 }));
+/// ```
+pub fn unpack_into(packed: &[u8], out: &mut [u8]) -> Result<usize, UnpackError> {
+    let (answer, written) = sys::unpack(packed, out);
+    match answer {
+        Answer::OK => Ok(written),
+        fault => Err(UnpackError::of(fault, written)),
+    }
+}
+
+#[cfg(all(test, feature = "alloc"))]
+mod tests {
+    use super::*;
+
+    const CONTACTS: &[u8] = include_bytes!("../../../examples/contacts.bin");
+    const PACKED: &[u8] = include_bytes!("../../../examples/contacts.packed");
+
+    #[test]
+    fn the_packed_sample_is_its_words() {
+        assert_eq!(unpack(PACKED, CONTACTS.len()).as_deref(), Ok(CONTACTS));
+        assert_eq!(unpack(&[], 0), Ok(Vec::new()));
+        let needed = CONTACTS.len();
+        assert_eq!(
+            unpack(PACKED, needed - 1),
+            Err(UnpackError::NoRoom { needed })
+        );
+    }
+
+    #[test]
+    fn every_front_is_a_front_of_the_words_or_is_cut() {
+        let (mut whole, mut cut) = (0, 0);
+        for length in 0..=PACKED.len() {
+            match unpack(&PACKED[..length], CONTACTS.len()) {
+                Ok(words) => {
+                    assert_eq!(words, CONTACTS[..words.len()]);
+                    whole += 1;
+                }
+                fault => {
+                    assert_eq!(fault, Err(UnpackError::Truncated));
+                    // (which is told whatever the room)
+                    assert_eq!(unpack(&PACKED[..length], 0), fault);
+                    cut += 1;
+                }
+            }
+        }
+        assert!(whole > 100 && cut > 100, "{whole} whole, {cut} cut");
+    }
+
+    #[test]
+    fn a_room_that_is_too_small_stays_as_it_was() {
+        for room in 0..CONTACTS.len() {
+            let mut out = vec![0xee; room];
+            let needed = CONTACTS.len();
+            assert_eq!(
+                unpack_into(PACKED, &mut out),
+                Err(UnpackError::NoRoom { needed })
+            );
+            assert!(out.iter().all(|byte| *byte == 0xee), "room {room}");
+        }
+        let mut out = vec![0xee; CONTACTS.len() + 9];
+        assert_eq!(unpack_into(PACKED, &mut out), Ok(CONTACTS.len()));
+        assert_eq!(out[..CONTACTS.len()], *CONTACTS);
+        assert_eq!(out[CONTACTS.len()..], [0xee; 9]);
+    }
+
+    #[test]
+    fn faults_say_what_they_are() {
+        for (answer, told) in [
+            (Answer::TRUNCATED, "Truncated"),
+            (Answer::NO_ROOM, "NoRoom, 77 bytes are wanted"),
+            (Answer::TOO_LARGE, "TooLarge"),
+            (Answer(99), "unknown answer 99"),
+        ] {
+            assert_eq!(UnpackError::of(answer, 77).to_string(), told);
+        }
+    }
+}
