@@ -6,9 +6,9 @@
 The header alone is compiled in each standard of C and C++ that it is promised for. `calls` looks at known
 buffers; `lines` writes what the program writes of a stream, and both outputs are compared, for the samples, for
 each front of one of them, and for 100,000 messages of a fixed seed, most of which are samples with changed bytes. So
-are the words of packed texts: of the samples, of each front of one, and of 1,000 that are made up. Both
-run with the compiler's checks of memory, and `calls` under valgrind, where these are there. The last line is
-'N passed, M failed', and the status is 1 where something failed.
+are the words of packed texts: of the samples, of each front of one, and of 1,000 that are made up; and by `texts`, of
+100,000, many with changed bytes. All three run with the compiler's checks of memory, and `calls` and `texts` under
+valgrind, where these are there. The last line is 'N passed, M failed', and the status is 1 where something failed.
 """
 import random
 import shutil
@@ -174,6 +174,80 @@ def compare_words(lines, program):
     print(f"calls: the words of {whole} packed texts compared with the program's, and {cut} that are cut")
 
 
+def made_text(chance):
+    """A packed text of a few groups, whose last one is whole."""
+    text = b""
+    for _ in range(chance.randrange(12)):
+        tag = chance.choice((0, 0, 0xFF, chance.randrange(256), chance.randrange(256)))
+        more = chance.choice((0, 0, 1, 2, chance.randrange(8), 255 if chance.randrange(40) == 0 else 3))
+        if tag == 0:
+            text += bytes((0, more))
+        elif tag == 0xFF:
+            text += b"\xff" + chance.randbytes(8) + bytes((more,)) + chance.randbytes(8 * more)
+        else:
+            text += bytes((tag,)) + chance.randbytes(bin(tag).count("1"))
+    return text
+
+
+def changed_text(text, chance):
+    """The text with some bytes changed, left out or put between."""
+    text = bytearray(text)
+    for _ in range(chance.choice((1, 1, 2, 3))):
+        at, more = chance.randrange(len(text) + 1), chance.randrange(1, 9)
+        text[at:at + chance.choice((0, 1, 1, more))] = chance.randbytes(chance.choice((0, 1, 1, more)))
+    return bytes(text)
+
+
+def many_texts(program, chance):
+    """100,000 packed texts: made of groups, the small samples, both of them changed, and bytes as they come."""
+    packed = [subprocess.run([program, "pack"], input=message, stdout=subprocess.PIPE).stdout for message in samples()]
+    small = [text for text in packed if len(text) < 500]
+    for _ in range(MANY):
+        kind = chance.randrange(20)
+        text = chance.choice(small) if kind < 4 else made_text(chance)
+        yield chance.randbytes(chance.randrange(64)) if kind == 19 else changed_text(text, chance) if kind % 8 == 0 else text
+
+
+def words_of(output):
+    """What `texts` writes: the words of each text, or nothing of one that is cut."""
+    at = 0
+    while at < len(output):
+        size = struct.unpack_from("<I", output, at)[0]
+        at += 4
+        yield None if size == 0xFFFFFFFF else output[at:at + size]
+        at += 0 if size == 0xFFFFFFFF else size
+
+
+def compare_texts(texts, watched, program):
+    """Both programs over many packed texts. Whole ones and then a cut one are together one text, which the program
+    takes in one run: it has to write the words of the whole ones, and to end where the cut one does."""
+    many = list(many_texts(program, random.Random(SEED)))
+    with tempfile.TemporaryDirectory() as folder:
+        path = Path(folder) / "texts"
+        path.write_bytes(b"".join(struct.pack("<I", len(text)) + text for text in many))
+        got = subprocess.run([texts, path], capture_output=True)
+        told("texts, with its checks", (got.returncode, got.stderr) == (0, b""), got.stderr)
+        if watched is not None and shutil.which("valgrind"):
+            ran = subprocess.run(["valgrind", "-q", "--error-exitcode=9", "--leak-check=full", watched, path], capture_output=True)
+            told("texts, under valgrind", (ran.returncode, ran.stdout) == (0, got.stdout), ran.stderr)
+    found = list(words_of(got.stdout))
+    told("a result for each text", len(found) == len(many), f"{len(found)}")
+    text = words = b""
+    for at, (last, its) in enumerate(zip(many, found), 1):
+        text, words = text + last, words + (its or b"")
+        if its is None or at == len(many):
+            ran = subprocess.run([program, "unpack"], input=text, capture_output=True)
+            fault = f"capvet: Truncated at byte {len(text)}\n" if its is None else ""
+            # (of a text that is cut the program also writes the words before that)
+            holds = ran.stdout.startswith(words) if its is None else ran.stdout == words
+            told(f"unpack of {text.hex()}", holds and (ran.stderr.decode(), ran.returncode) == (fault, int(its is None)),
+                 f"  wanted {words.hex()} {fault!r}\n  got {ran.stdout.hex()} {ran.returncode} {ran.stderr!r}")
+            text = words = b""
+    cut = found.count(None)
+    told("texts of both kinds", 1000 <= cut <= len(many) // 2, f"{cut} cut")
+    print(f"calls: {len(many) - cut} packed texts unpacked as the program does, and {cut} that are cut")
+
+
 def main():
     archive, program = (Path(word).resolve() for word in sys.argv[1:3])
     compilers = [name for name in ("gcc", "clang") if shutil.which(name)] or [name for name in ("cc",) if shutil.which(name)]
@@ -202,6 +276,10 @@ def main():
         if lines is not None:
             compare(lines, program)
             compare_words(lines, program)
+        watched = compiled(folder, "texts", compilers[0], "c99", archive)
+        texts = compiled(folder, "texts", compilers[0], "c11", archive, "-O1", *CHECKS)
+        if texts is not None:
+            compare_texts(texts, watched, program)
     print(f"{passed} passed, {failed} failed")
     return 1 if failed else 0
 

@@ -1,0 +1,57 @@
+/* texts FILE: unpacks each packed text of a file, in which four bytes in front of each say how many it
+ * has, the lowest first. For each it writes how many bytes its words have, in the same way, and these
+ * bytes; of a text that is cut, that it has 0xffffffff, and nothing. Each text stands in a block of its
+ * own of exactly its bytes, and so do its words, so that a tool that watches memory sees a read or a
+ * write outside. */
+#include <capvet.h>
+
+#include <stdio.h>
+#include <stdlib.h>
+#include <string.h>
+
+#define CUT 0xfffffffful
+
+/* A block of so many bytes behind a first one, at an odd address. */
+static uint8_t *block(size_t length) {
+  uint8_t *whole = malloc(length + 1);
+  if (whole == NULL) exit(3);
+  return whole;
+}
+
+static void put(unsigned long number) {
+  int at;
+  for (at = 0; at < 4; at++) putchar((int)(number >> (8 * at) & 0xff));
+}
+
+/* One text, whose block is given. */
+static void text(const uint8_t *bytes, size_t length) {
+  uint8_t none;
+  size_t needed = 77, written = 77;
+  uint32_t answer = capvet_unpack(bytes, length, &none, 0, &needed);
+  uint8_t *out;
+  if (answer == CAPVET_TRUNCATED && needed == 0) {
+    put(CUT);
+    return;
+  }
+  if (answer != (needed == 0 ? (uint32_t)CAPVET_OK : (uint32_t)CAPVET_NO_ROOM)) exit(4);
+  out = block(needed);
+  if (capvet_unpack(bytes, length, out + 1, needed, &written) != CAPVET_OK || written != needed) exit(4);
+  put((unsigned long)needed);
+  if (fwrite(out + 1, 1, needed, stdout) != needed) exit(3);
+  free(out);
+}
+
+int main(int count, char **words) {
+  FILE *file = count == 2 ? fopen(words[1], "rb") : NULL;
+  uint8_t size[4];
+  if (file == NULL) return 2;
+  while (fread(size, 1, 4, file) == 4) {
+    size_t length = size[0] | (size_t)size[1] << 8 | (size_t)size[2] << 16 | (size_t)size[3] << 24;
+    uint8_t *bytes = block(length);
+    if (fread(bytes + 1, 1, length, file) != length) return 3;
+    text(bytes + 1, length);
+    free(bytes);
+  }
+  fclose(file);
+  return 0;
+}
