@@ -4,11 +4,12 @@
     calls.py ARCHIVE PROGRAM
 
 The header alone is compiled in each standard of C and C++ that it is promised for. `calls` looks at known
-buffers; `lines` writes what the program writes of a stream, and both outputs are compared, for the samples, for
-each front of one of them, and for 100,000 messages of a fixed seed, most of which are samples with changed bytes. So
-are the words of packed texts: of the samples, of each front of one, and of 1,000 that are made up; and by `texts`, of
-100,000, many with changed bytes. All three run with the compiler's checks of memory, and `calls` and `texts` under
-valgrind, where these are there. The last line is 'N passed, M failed', and the status is 1 where something failed.
+buffers, and `allocations` counts how often memory is taken; `lines` writes what the program writes of a stream, and
+both outputs are compared, for the samples, for each front of one of them, and for 100,000 messages of a fixed seed,
+most of which are samples with changed bytes. So are the words of packed texts: of the samples, of each front of one,
+and of 1,000 that are made up; and by `texts`, of 100,000, many with changed bytes. All but `allocations` run with the
+compiler's checks of memory, and `calls` and `texts` under valgrind, where these are there. The last line is 'N passed,
+M failed', and the status is 1 where something failed.
 """
 import random
 import shutil
@@ -64,6 +65,14 @@ def wanted_symbols(archive):
     told("what the archive wants", undefined - own <= {"memcpy", "memmove", "memset"}, str(undefined - own))
     for name in ("capvet_version", "capvet_frame", "capvet_vet", "capvet_is_canonical", "capvet_unpack"):
         told(f"the archive has {name}", name in own)
+
+
+def takes_no_memory(folder, compiler, archive):
+    """No call takes memory of the C library, over each front of each sample."""
+    built = compiled(folder, "allocations", compiler, "c11", archive)
+    if built is not None:
+        ran = run([built, *sorted((TOP / "examples").glob("*.bin")), TOP / "examples/contacts.packed"])
+        told(f"allocations, by {compiler}", ran.returncode == 0, ran.stderr)
 
 
 def samples():
@@ -268,6 +277,7 @@ def main():
                 if shutil.which("valgrind"):
                     ran = run(["valgrind", "-q", "--error-exitcode=9", "--leak-check=full", built])
                     told(f"calls, by {compiler}, under valgrind", ran.returncode == 0, ran.stderr)
+            takes_no_memory(folder, compiler, archive)
             checked = compiled(folder, "calls", compiler, "c11", archive, *CHECKS)
             if checked is not None:
                 ran = run([checked])

@@ -1,0 +1,166 @@
+/* allocations FILE..: counts how often the calls of capvet.h take memory of the C library, over parts of each
+ * file and by several limits. They may never do so. The functions that give memory are this program's own
+ * here: they count, and ask those of the C library by their other names. */
+#include <capvet.h>
+
+#include <stdio.h>
+#include <stdlib.h>
+
+void *__libc_malloc(size_t);
+void *__libc_calloc(size_t, size_t);
+void *__libc_realloc(void *, size_t);
+void *__libc_memalign(size_t, size_t);
+
+static unsigned long taken;
+static unsigned long failures;
+
+void *malloc(size_t size) {
+  taken++;
+  return __libc_malloc(size);
+}
+
+void *calloc(size_t count, size_t size) {
+  taken++;
+  return __libc_calloc(count, size);
+}
+
+void *realloc(void *old, size_t size) {
+  taken++;
+  return __libc_realloc(old, size);
+}
+
+void *memalign(size_t alignment, size_t size) {
+  taken++;
+  return __libc_memalign(alignment, size);
+}
+
+void *aligned_alloc(size_t alignment, size_t size) { return memalign(alignment, size); }
+
+int posix_memalign(void **place, size_t alignment, size_t size) {
+  *place = memalign(alignment, size);
+  return *place == NULL ? 12 : 0;
+}
+
+static void expect(int holds, const char *what, unsigned long got) {
+  if (!holds) {
+    failures++;
+    fprintf(stderr, "allocations: %s (got %lu)\n", what, got);
+  }
+}
+
+/* What is taken is counted, what the C library takes for itself too. */
+static void counted(const char *name) {
+  /* (volatile, so that no compiler leaves one out) */
+  void *volatile some[5];
+  void *place = NULL;
+  unsigned long before = taken;
+  size_t i;
+  FILE *file;
+  some[0] = malloc(8);
+  some[1] = calloc(1, 8);
+  some[2] = realloc(NULL, 8);
+  some[3] = aligned_alloc(64, 64);
+  some[4] = posix_memalign(&place, 64, 64) == 0 ? place : NULL;
+  expect(taken == before + 5, "each that is made is counted", taken - before);
+  for (i = 0; i < 5; i++) free(some[i]);
+  before = taken;
+  file = fopen(name, "rb");
+  expect(file != NULL && taken > before, "those of an open file are counted", taken - before);
+  if (file != NULL) fclose(file);
+}
+
+typedef uint32_t (*reporting)(const uint8_t *, size_t, const capvet_limits *, capvet_report *);
+
+static const struct {
+  const char *name;
+  reporting call;
+} CALLS[] = {{"capvet_frame", capvet_frame}, {"capvet_vet", capvet_vet}, {"capvet_is_canonical", capvet_is_canonical}};
+
+enum { FRAME, VET, IS_CANONICAL, UNPACK, COUNT };
+
+/* How often each call gave each answer. */
+static unsigned long seen[COUNT][64];
+
+static void answered(int call, unsigned long before, uint32_t answer) {
+  expect(taken == before, call == UNPACK ? "capvet_unpack" : CALLS[call].name, taken - before);
+  if (answer < 64) seen[call][answer]++;
+}
+
+static const capvet_limits LIMITS[] = {
+    CAPVET_LIMITS_INIT, {8388608, 100, 64}, {8388608, 8388608, 3}, {100, 100, 64}, {8388608, 8388608, 257}};
+
+/* Each call that reports. */
+static void reports(const uint8_t *bytes, size_t length) {
+  size_t limits;
+  int call;
+  for (limits = 0; limits < sizeof LIMITS / sizeof *LIMITS; limits++)
+    for (call = 0; call < UNPACK; call++) {
+      capvet_report report;
+      unsigned long before = taken;
+      uint32_t answer = CALLS[call].call(bytes, length, &LIMITS[limits], &report);
+      answered(call, before, answer);
+    }
+}
+
+/* Without room, and with as much as is needed. */
+static void unpacks(const uint8_t *bytes, size_t length) {
+  static uint8_t out[1 << 16];
+  size_t written, needed;
+  unsigned long before = taken;
+  uint32_t answer = capvet_unpack(bytes, length, out, 0, &needed);
+  answered(UNPACK, before, answer);
+  if (needed <= sizeof out) {
+    before = taken;
+    answer = capvet_unpack(bytes, length, out, needed, &written);
+    answered(UNPACK, before, answer);
+  }
+}
+
+/* Each front of the bytes, and what stands behind each of their words. */
+static void parts(const uint8_t *bytes, size_t length) {
+  size_t at;
+  for (at = 0; at <= length; at++) {
+    reports(bytes, at);
+    unpacks(bytes, at);
+  }
+  for (at = 0; at <= length; at += 8) reports(bytes + at, length - at);
+}
+
+/* The answers that have to come, so that more is gone through than the first lines of a call. */
+static const struct {
+  int call;
+  uint32_t answer;
+} WANTED[] = {{FRAME, CAPVET_OK},
+              {FRAME, CAPVET_TOO_LARGE},
+              {FRAME, CAPVET_TRUNCATED},
+              {VET, CAPVET_OK},
+              {VET, CAPVET_NO_MESSAGE},
+              {VET, CAPVET_BAD_LIMITS},
+              {VET, CAPVET_DEPTH_LIMIT},
+              {VET, CAPVET_WORD_LIMIT},
+              {IS_CANONICAL, CAPVET_OK},
+              {IS_CANONICAL, CAPVET_NOT_CANONICAL},
+              {UNPACK, CAPVET_OK},
+              {UNPACK, CAPVET_NO_ROOM},
+              {UNPACK, CAPVET_TRUNCATED}};
+
+int main(int count, char **names) {
+  static uint8_t bytes[1 << 16];
+  unsigned long before = taken;
+  uint32_t version = capvet_version();
+  size_t i, length;
+  int at;
+  expect(taken == before, "capvet_version", version);
+  for (at = 1; at < count; at++) {
+    FILE *file;
+    counted(names[at]);
+    file = fopen(names[at], "rb");
+    if (file == NULL) return 3;
+    length = fread(bytes, 1, sizeof bytes, file);
+    fclose(file);
+    parts(bytes, length);
+  }
+  for (i = 0; i < sizeof WANTED / sizeof *WANTED; i++)
+    expect(seen[WANTED[i].call][WANTED[i].answer] > 0, "an answer never came, of a call by this number", (unsigned long)i);
+  return failures != 0;
+}
