@@ -94,6 +94,7 @@ growths:
 	python3 tests/refusals.py $(PROGRAM)
 
 # Times the built program beside plain copying of the same bytes, and beside Cap'n Proto's own C++ library and
-# Rust crate where they are installed.
+# Rust crate where they are installed; then the calls of the library beside the C++ library, in one process.
 bench:
 	python3 bench/bench.py
+	python3 bench/in_process.py

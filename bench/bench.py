@@ -266,9 +266,8 @@ def apart(job, *arguments):
         sys.exit(f"{job.__name__} failed")
 
 
-def why_not_built(peer, folder):
-    """Builds a peer in a folder, and gives None; or why it can't be built, in a few words."""
-    words = peer.build.split()
+def why_not_built(words, folder):
+    """Builds a program by a command in a folder, and gives None; or why it can't be built, in a few words."""
     if shutil.which(words[0]) is None:
         return f"{words[0]} isn't there"
     done = subprocess.run(words, cwd=folder, stdout=subprocess.DEVNULL, stderr=subprocess.PIPE, text=True)
@@ -285,7 +284,7 @@ def build_peers(names, folder):
     for name in names:
         peer = PEERS[name]
         there = shutil.copytree(sources / peer.folder, Path(folder) / "peers" / peer.folder)
-        reason = why_not_built(peer, there)
+        reason = why_not_built(peer.build.split(), there)
         if reason is None:
             built[name] = str(there / peer.program)
         else:
