@@ -5,3 +5,6 @@ use Rattle.capvet_c.proofs.capvet_unpack.Goals as goal
 
 pub returns-clause-only : goal.returns-clause-only
 returns-clause-only c = λ a n new h. let same = c.unpack.ensures.only a n new h in (c.number.ensures ∙ ap number_of same.0, same.1, same.2)
+
+pub returns-clause-tells : goal.returns-clause-tells
+returns-clause-tells c = (c.unpack.result, c.unpack.ensures.tells, c.number.ensures)

@@ -5,3 +5,6 @@ use Rattle.capvet_c.proofs.capvet_vet.Goals as goal
 
 pub returns-clause-only : goal.returns-clause-only
 returns-clause-only c = λ a r h. let same = c.vet.ensures.only a r h in (c.number.ensures ∙ ap number_of same.0, same.1)
+
+pub returns-clause-tells : goal.returns-clause-tells
+returns-clause-tells c = (c.vet.result, c.vet.ensures.tells, c.number.ensures)

@@ -38,3 +38,6 @@ returns-in-Err-put_copy-clause-err g c =
     c.args.sink.now c.put_copy.new.sink c.in-Err-put_copy.cause
     (reads_one g.S.WordSource (limit_of c.args.settings.now.size) c.args.source.now c.read_into.new.source r.0 _ r.1 r.2 r.3 c.in-Ok-true.ensures.works)
     (rw c.view.ensures at c.in-Err-put_copy.ensures.err)
+
+pub returns-in-Err-put_copy-clause-some : goal.returns-in-Err-put_copy-clause-some
+returns-in-Err-put_copy-clause-some g c = λ e. absurd (cc)

@@ -1,4 +1,4 @@
-use Rattle.std.proofs.Common.{refl}
+use Rattle.std.proofs.Common.{refl, rules}
 use Rattle.cap_frame.specs.Limit.{limit_of}
 use Rattle.cap_frame.specs.Outlines.{root_in, sizes_in}
 use Rattle.cap_spec.specs.Texts.{outline_text}
@@ -27,3 +27,9 @@ returns-in-Err-write_segments_text-clause-err g c =
       reads_one g.S.WordSource (limit_of c.args.limit) c.args.source.now c.read_outline.new.source r.0 r.1 r.2 r.3 r.4 c.in-Ok-true.ensures.works,
       c.in-Err-write_segments_text.ensures,
     )
+
+pub returns-in-Err-clause-err : goal.returns-in-Err-clause-err
+returns-in-Err-clause-err g c = search rules
+
+pub returns-in-Err-clause-memory : goal.returns-in-Err-clause-memory
+returns-in-Err-clause-memory g c = search rules

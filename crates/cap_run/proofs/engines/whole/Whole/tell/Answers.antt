@@ -1,4 +1,4 @@
-use Rattle.std.proofs.Common.{List, ℕ, ap, inl, subst}
+use Rattle.std.proofs.Common.{◌∙◌, List, ℕ, ap, inl, inr, refl, subst}
 use Rattle.std.proofs.lemmas.Result.{IfErr-weaker, IfOk-weaker}
 use Rattle.std.specs.Prelude.{IfErr, IfOk}
 use Rattle.cap_spec.specs.Tree.{Tree}
@@ -7,6 +7,7 @@ use Rattle.cap_vet.specs.Reports.{IsReport}
 use Rattle.cap_vet.specs.Vettings.{report_of}
 use Rattle.cap_run.specs.Writing.{Stopped, Wrote}
 use Rattle.cap_run.specs.declared.engines.stream.Mark.{Mark}
+use Rattle.cap_run.specs.declared.engines.stream.Mark.TheVariants.{Refused}
 use Rattle.cap_run.proofs.engines.whole.Whole.tell.Goals as goal
 
 pub returns-in-Ok-clause-ok : goal.returns-in-Ok-clause-ok
@@ -24,3 +25,18 @@ returns-in-Ok-clause-err g c =
     (ap g.M.Segments.segments c.in-Ok.ensures.message) c.tell.ensures.err in
     IfErr-weaker c.tell.result _ _ (λ fault e. (e.0, e.1, inl e.2, e.3))
     (told (words_of c.args.self.now.limits) (depth_of c.args.self.now.limits) c.in-Ok.ensures.ok.0 c.in-Ok.ensures.ok.1)
+
+pub returns-in-Ok-write_bytes-clause-ok : goal.returns-in-Ok-write_bytes-clause-ok
+returns-in-Ok-write_bytes-clause-ok g c = (
+  c.text.result.now,
+  inr (record { refusal = c.in-Err.refusal; is_refused = c.in-Err.ensures.err; line = c.text.ensures ∙ c.refused_line.ensures; counted = refl }),
+  c.in-Ok-write_bytes.ensures,
+)
+
+pub returns-in-Err-write_bytes-clause-err : goal.returns-in-Err-write_bytes-clause-err
+returns-in-Err-write_bytes-clause-err g c = (
+  c.text.result.now,
+  Refused,
+  inr (record { refusal = c.in-Err.refusal; is_refused = c.in-Err.ensures.err; line = c.text.ensures ∙ c.refused_line.ensures; counted = refl }),
+  c.in-Err-write_bytes.ensures,
+)

@@ -23,3 +23,9 @@ returns-in-Err-tell-clause-err g c =
       reads_one g.S.WordSource (limit_of c.args.limit) c.args.source.now c.read_into.new.source r.0 _ r.1 r.2 r.3 c.in-Ok-true.ensures.works,
       told.3,
     )
+
+pub returns-in-Ok-clause-none : goal.returns-in-Ok-clause-none
+returns-in-Ok-clause-none g c = λ e. absurd (cc)
+
+pub returns-in-Ok-false-clause-err : goal.returns-in-Ok-false-clause-err
+returns-in-Ok-false-clause-err g c = tt
