@@ -86,6 +86,19 @@ def of_pages(language, folder, front="", behind=""):
         yield file
 
 
+def as_shown(folder):
+    """The commands of the README, which install under the home folder and build the example there."""
+    if missing("the README's commands for C", "cc"):
+        return
+    first, *others = re.search(r"^```sh\n(.*?)^```$", (TOP / "README.md").read_text(), re.M | re.S)[1].splitlines()
+    # (it is installed already, by `make` without a toolchain)
+    compare("the README's first command", "make install PREFIX=$HOME/x", first)
+    shutil.copytree(TOP / "examples", folder / "shown/examples")
+    environment = {**os.environ, "HOME": str(folder)}
+    shown = run(["sh", "-ec", "\n".join(others)], cwd=folder / "shown", env=environment)
+    compare("the README's commands for C", run([PROGRAM, "vet", TOP / "examples/stream-of-four.bin"]), shown)
+
+
 def from_c(folder, environment, files):
     """The example in C and what the pages show, by each compiler that is there."""
     for compiler in ("cc", "clang"):
@@ -144,7 +157,7 @@ def from_rust(folder, environment, files):
 def main():
     with tempfile.TemporaryDirectory() as scratch:
         folder = Path(scratch)
-        prefix, stage = folder / "prefix", folder / "stage"
+        prefix, stage = folder / "x", folder / "stage"
         compare("make install", ("", 0), make("install", scratch, f"PREFIX={prefix}"))
         compare("make install, staged", ("", 0), make("install", scratch, "PREFIX=/opt/capvet", f"DESTDIR={stage}"))
         if missing("the library, by pkg-config", "pkg-config"):
@@ -152,6 +165,7 @@ def main():
         files = inputs(folder)
         environment = {**os.environ, "PKG_CONFIG_PATH": str(prefix / "lib/pkgconfig")}
         described(prefix, environment)
+        as_shown(folder)
         from_c(folder, environment, files)
         from_cplusplus(folder, environment, files)
         from_rust(folder, environment, files)

@@ -1,6 +1,7 @@
 // A server that hands to libcapnp only what was accepted, over a socket pair whose other end is a peer that isn't to be
 // trusted.
 //
+//     export PKG_CONFIG_PATH=PREFIX/lib/pkgconfig
 //     c++ -std=c++17 serve.cpp $(pkg-config --cflags --libs capvet capnp) -o serve
 //     ./serve FILE..
 //

@@ -1,5 +1,6 @@
 /* Vets the messages of a file in process, and writes of each the line that `capvet vet` writes.
  *
+ *     export PKG_CONFIG_PATH=PREFIX/lib/pkgconfig
  *     cc vet.c $(pkg-config --cflags --libs capvet) -o vet
  *     ./vet FILE
  *
