@@ -18,3 +18,6 @@ returns-clause-spent g c = search rules
 
 pub returns-clause-shows_failures : goal.returns-clause-shows_failures
 returns-clause-shows_failures g c = search rules
+
+pub returns-clause-failed : goal.returns-clause-failed
+returns-clause-failed g c = search rules
