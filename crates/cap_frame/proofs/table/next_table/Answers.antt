@@ -1,3 +1,4 @@
+use Rattle.std.proofs.Common.{rules}
 -- A fault behind the first word, seen from before it.
 use Rattle.cap_frame.specs.Limit.{limit_of}
 use Rattle.cap_frame.proofs.Taking.{reads_both, reads_one, takes_one}
@@ -17,3 +18,9 @@ returns-in-Ok-clause-reads g c =
 pub returns-in-Err-read_table-clause-reads : goal.returns-in-Err-read_table-clause-reads
 returns-in-Err-read_table-clause-reads g c =
     reads_both g.S.WordSource c.args.source.now c.next.new.self c.read_table.new.source (reads_one g.S.WordSource c.args.source.now c.next.new.self c.next.ensures.reads) c.read_table.ensures.reads
+
+pub returns-in-Ok-None-clause-err : goal.returns-in-Ok-None-clause-err
+returns-in-Ok-None-clause-err g c = search rules
+
+pub returns-in-Ok-None-clause-stays : goal.returns-in-Ok-None-clause-stays
+returns-in-Ok-None-clause-stays g c = search rules
