@@ -5,7 +5,7 @@ use Rattle.cap_spec.specs.Messages.{HasWord}
 use Rattle.cap_spec.specs.Pointers.{code}
 use Rattle.cap_spec.specs.Following.{Leads, IsComposite, to_cap, to_null}
 use Rattle.cap_spec.specs.Denoting.{element_levels}
-use Rattle.cap_spec.specs.Faults.{IsFirstReason, is_deep, is_past}
+use Rattle.cap_spec.specs.Faults.{IsDeepAt, IsFirstReason, is_deep, is_past}
 use Rattle.cap_spec.specs.Verdicts.{levels_below}
 use Rattle.cap_spec.specs.declared.Reason.TheVariants.{DepthLimit, WordLimit}
 use Rattle.cap_ptr.specs.Shapes.{FindsObject, IsShape}
@@ -47,6 +47,11 @@ tagged_of m s w k t b q tag n c x f h = (f.object.tagged h).0
 pub deep_object : (m : List (List ℕ)) (words depth spent s w level k t b q tag n c below : ℕ) (x : Shape) → FindsObject m s w k t b q tag n c x → below ≡ levels_of x → depth < level + below → IsFirstReason m words depth spent s w level DepthLimit
 deep_object m words depth spent s w level k t b q tag n c below x f e past =
     is_deep refl (k, t, b, q, tag, f.finds, tagged_of m s w k t b q tag n c x f, omega (arith, e, levels_shape q tag x f.object.shape))
+
+-- an object within the depth limit
+pub shallow_object : (m : List (List ℕ)) (depth s w level k t b q tag n c below : ℕ) (x : Shape) → FindsObject m s w k t b q tag n c x → below ≡ levels_of x → level + below ≤ depth → ¬ IsDeepAt m depth s w level
+shallow_object m depth s w level k t b q tag n c below x f e shallow =
+    deep_once m depth s w level k t b q tag f.finds (tagged_of m s w k t b q tag n c x f) (omega (arith, e, levels_shape q tag x f.object.shape))
 
 -- an object past the word limit
 pub past_object : (m : List (List ℕ)) (words depth spent s w level k t b q tag n c below : ℕ) (x : Shape) → FindsObject m s w k t b q tag n c x → below ≡ levels_of x → level + below ≤ depth

@@ -7,12 +7,19 @@ use Rattle.cap_spec.specs.Following.{TagFits}
 use Rattle.cap_spec.proofs.Trees.Charges.{extent_struct, extent_structs}
 use Rattle.cap_ptr.specs.Shapes.{FindsObject}
 use Rattle.cap_ptr.specs.declared.shapes.Shape.TheVariants.{Struct, Structs}
-use Rattle.cap_vet.specs.WalkFrames.{FrameIn, Place, element_places, spots}
+use Rattle.cap_vet.specs.WalkFrames.{FrameIn, Place, element_places, row_places, spots}
 use Rattle.cap_vet.specs.Looking.{object_places}
 
 -- a struct's words lie inside its segment
 pub struct_room : (m : List (List ℕ)) (s w k t b q tag n c d p : ℕ) → FindsObject m s w k t b q tag n c (Struct d p) → b + d + p ≤ length (segment_of m t)
 struct_room m s w k t b q tag n c d p f = omega (arith, f.finds.sits.inside, extent_struct q f.object.shape.kind, f.object.shape.data_words, f.object.shape.pointers)
+
+-- its pointer words are those behind its data
+pub struct_places : (m : List (List ℕ)) (s w k t b q tag n c d p at left level : ℕ) → FindsObject m s w k t b q tag n c (Struct d p) → at ≡ b + d → left ≡ p → row_places (level + 1) t at left ≡ object_places q tag t b level
+struct_places m s w k t b q tag n c d p at left level f e g =
+    let start : at ≡ b + data_size q = omega (arith, e, f.object.shape.data_words) in
+    let many : left ≡ pointer_size q = g ∙ f.object.shape.pointers in
+    rw (f.object.shape.kind, start, many) refl
 
 -- elements that have no pointers, or aren't there, have no pointer words
 no_pointers : (level t b ds n : ℕ) → element_places level t b ds 0 n ≡ []

@@ -6,10 +6,11 @@ use Rattle.std.proofs.Common.{◌≡◌, ℕ, ◌+◌, ◌<◌, inl, inr, List, 
 use Rattle.std.proofs.lemmas.List.{length-append}
 use Rattle.cap_spec.specs.Messages.{segment_of}
 use Rattle.cap_spec.specs.Denoting.{Denotes}
-use Rattle.cap_spec.specs.Faults.{IsFirstFault, IsFirstReason}
+use Rattle.cap_spec.specs.Faults.{HasNoRoot, IsFirstFault, IsFirstReason}
 use Rattle.cap_spec.specs.Paths.{IsOneOf, IsTour, Reaches}
 use Rattle.cap_spec.specs.Verdicts.{CostOf}
 use Rattle.cap_spec.specs.declared.Reason.{Reason}
+use Rattle.cap_spec.specs.declared.Reason.TheVariants.{NoRoot}
 use Rattle.cap_spec.specs.declared.Step.{Step}
 use Rattle.cap_vet.specs.Trails.{Ahead, IsTrail}
 use Rattle.cap_vet.specs.WalkFrames.{place_of}
@@ -31,6 +32,12 @@ CostOf-onto m (p ∷ seen) later c d (level, s, w, one, rest, r, cost, others, e
 
 CostOf-in_order : (m : List (List ℕ)) (seen : List (List Step)) (c : ℕ) → CostOf m seen c → CostOf m (in_order seen) c
 CostOf-in_order m seen c h = subst (CostOf m (in_order seen)) (omega arith) (CostOf-onto m seen [] c 0 h refl)
+
+-- A first segment without words has no root.
+pub no_root_at : (m : List (List ℕ)) → 0 < length m → length (segment_of m 0) ≡ 0 → HasNoRoot m record { segment = 0; word = 0; reason = NoRoot; pointers = 0 }
+no_root_at [] some e = absurd (omega arith)
+no_root_at ([] ∷ m) some e = record { empty = refl; segment = refl; word = refl; reason = refl; pointers = refl }
+no_root_at ((x ∷ xs) ∷ m) some e = let f : length (x ∷ xs) ≡ 0 = e in absurd (omega (arith, f))
 
 -- The first reason that applies at the next word makes it the first fault.
 pub first_fault : (m : List (List ℕ)) (words depth s w level : ℕ) (frames : List Frame) (report : Report) (v : Reason) → IsNext m words depth s w level frames report

@@ -1,8 +1,15 @@
-use Rattle.std.proofs.Common.{ℕ, ◌<◌, length, arith, inr}
+use Rattle.std.proofs.Common.{ℕ, ◌<◌, length, arith, inl, inr, rules}
 use Rattle.cap_spec.specs.Messages.{HasWord, segment_of}
 use Rattle.cap_spec.proofs.Frames.Messages.{HasWord-at}
 use Rattle.cap_vet.proofs.Charging.{arrives_root, fault_root}
+use Rattle.cap_vet.proofs.Verdicts.{no_root_at}
 use Rattle.cap_vet.proofs.charged.at_root.Goals as goal
+
+pub returns-then-len-eq0-clause-err : goal.returns-then-len-eq0-clause-err
+returns-then-len-eq0-clause-err g c = λ path.
+    let m = g.M.Segments.segments c.args.message.now in
+    let some : 0 < length m = search rules in
+    inl (no_root_at m some (omega (arith, c.len.ensures, c.if-len-eq0.true)))
 
 pub returns-in-Ok-clause-ok : goal.returns-in-Ok-clause-ok
 returns-in-Ok-clause-ok g c =

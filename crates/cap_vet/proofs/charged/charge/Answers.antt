@@ -1,6 +1,6 @@
 use Rattle.std.proofs.Common.{arith, rules, inl, inr, ◌≤◌}
 use Rattle.cap_spec.specs.Messages.{IsMessage}
-use Rattle.cap_vet.proofs.Looks.{deep_object, past_cap, past_null, past_object}
+use Rattle.cap_vet.proofs.Looks.{deep_object, past_cap, past_null, past_object, shallow_object}
 use Rattle.cap_vet.proofs.charged.charge.Goals as goal
 
 pub returns-then-from-left-clause-err : goal.returns-then-from-left-clause-err
@@ -17,6 +17,11 @@ pub returns-then-level-from-clause-err : goal.returns-then-level-from-clause-err
 returns-then-level-from-clause-err g c = λ words before e le.
     let h = rw c.in-Ok-Target.field-0-is at c.in-Ok-Target.ensures.ok in
     deep_object _ _ _ _ _ _ _ _ _ _ h.0 h.1 _ _ _ _ h.2 c.levels_taken.ensures.value (omega (arith, c.if-level-from.true, c.from-in-Ok-Target.ensures, c.from-in-Ok-Target-2.ensures))
+
+pub returns-else-target-left-clause-shallow : goal.returns-else-target-left-clause-shallow
+returns-else-target-left-clause-shallow g c =
+    let h = rw c.in-Ok-Target.field-0-is at c.in-Ok-Target.ensures.ok in
+    shallow_object _ _ _ _ _ _ _ _ h.0 h.1 _ _ _ _ h.2 c.levels_taken.ensures.value (omega (arith, c.if-level-from.false, c.from-in-Ok-Target.ensures, c.from-in-Ok-Target-2.ensures))
 
 pub returns-then-target-left-clause-err : goal.returns-then-target-left-clause-err
 returns-then-target-left-clause-err g c = λ words before e le.

@@ -57,7 +57,7 @@ returns-else-not-mark_pads-clause-taken g c = λ e used o.
     let h = rw c.in-Ok-Target.field-0-is at c.in-Ok-Target.ensures.ok in
     let r = object_used _ _ _ _ _ _ _ _ h.2.finds h.2.object.words in
     let own = places c.in-Ok-Target.target.segment c.in-Ok-Target.target.start c.in-Ok-Target.target.words in
-    subst (λ (u : List (ℕ × ℕ)). MarksAll (IsTaken (g.M.Segments.segments c.args.message.now) c.args.marks.now) (IsTaken (g.M.Segments.segments c.args.message.now) c.mark_words.new.marks) u) (one_used _ _ _ (pads_of r.0 ++ own) used r.2 o)
+    subst (λ (u : List (ℕ × ℕ)). MarksAll (IsTaken (g.M.Segments.segments c.args.message.now) c.args.marks.now) (IsTaken (g.M.Segments.segments c.args.message.now) c.mark_words.new.marks) u) {x = pads_of r.0 ++ own} (one_used _ _ _ (pads_of r.0 ++ own) used r.2 o)
     (marks_append _ (IsTaken (g.M.Segments.segments c.args.message.now) c.mark_pads-in-Ok-Target.new.marks) _ (pads_of r.0) own (c.mark_pads-in-Ok-Target.ensures.taken (c.if-not-mark_pads.false) r.0 r.1) (c.mark_words.ensures.taken e))
 
 pub returns-else-not-mark_pads-clause-conflict : goal.returns-else-not-mark_pads-clause-conflict

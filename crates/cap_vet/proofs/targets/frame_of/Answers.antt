@@ -1,5 +1,5 @@
-use Rattle.std.proofs.Common.{◌≡◌, ◌+◌, ◌<◌, arith, inl, inr}
-use Rattle.cap_vet.proofs.ObjectFrames.{start_fits, struct_room, structs_empty, structs_inside, structs_places}
+use Rattle.std.proofs.Common.{◌≡◌, ◌+◌, ◌<◌, ◌∙◌, arith, inl, inr}
+use Rattle.cap_vet.proofs.ObjectFrames.{start_fits, struct_places, struct_room, structs_empty, structs_inside, structs_places}
 use Rattle.cap_vet.proofs.targets.frame_of.Goals as goal
 
 pub returns-then-count-eq0-clause-places : goal.returns-then-count-eq0-clause-places
@@ -11,6 +11,11 @@ pub overflow_add-result-in-Structs : goal.overflow_add-result-in-Structs
 overflow_add-result-in-Structs c =
     let g = rw c.in-Structs.is at c.requires.found.6 in
     start_fits c.requires.found.0 c.requires.found.1 c.requires.found.2 _ _ _ c.requires.found.3 c.requires.found.4 _ _ _ _ _ _ c.from-in-Structs.result c.requires.found.5 g c.from-in-Structs.ensures c.if-count-eq0.false
+
+pub returns-in-Struct-clause-places : goal.returns-in-Struct-clause-places
+returns-in-Struct-clause-places c = λ m s w q tag f.
+    let g = rw c.in-Struct.is at f in
+    c.row_frame.ensures.places ∙ struct_places m s w _ _ _ q tag _ _ _ _ _ _ c.args.level g (omega (arith, c.from.ensures)) c.from-in-Struct.ensures
 
 pub returns-in-Struct-clause-inside : goal.returns-in-Struct-clause-inside
 returns-in-Struct-clause-inside c = λ m s w q tag f.

@@ -1,10 +1,16 @@
-use Rattle.std.proofs.Common.{◌<◌, [], length, arith, rules, subst}
+use Rattle.std.proofs.Common.{◌<◌, [], inl, length, arith, rules, subst}
 use Rattle.std.specs.Option.{option_to_list}
 use Rattle.cap_spec.specs.Messages.{segment_of}
 use Rattle.cap_vet.specs.Limits.{depth_of, words_of}
 use Rattle.cap_vet.specs.Walking.{IsWalking}
-use Rattle.cap_vet.proofs.Verdicts.{accepted_at_end, starts}
+use Rattle.cap_vet.proofs.Verdicts.{accepted_at_end, no_root_at, starts}
 use Rattle.cap_vet.proofs.vetting.walk.Goals as goal
+
+pub returns-then-len-eq0-clause-err : goal.returns-then-len-eq0-clause-err
+returns-then-len-eq0-clause-err g c =
+    let m = g.M.Segments.segments c.args.message.now in
+    let some : 0 < length m = search rules in
+    inl (no_root_at m some (omega (arith, c.len.ensures, c.if-len-eq0.true)))
 
 pub visit-requires : goal.visit-requires
 visit-requires g c =
