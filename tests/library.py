@@ -77,10 +77,10 @@ def described(prefix, environment):
 
 
 def of_pages(language, folder, front="", behind=""):
-    """What the pages show in a language, each block as a file of its own."""
+    """What the pages show in a language, the blocks of each page as one file."""
     for page in ("README.md", "docs/guide.md"):
         blocks = re.findall(rf"^```{language}\n(.*?)^```$", (TOP / page).read_text(), re.M | re.S)
-        compare(f"{page} has a block of {language}", 1, len(blocks))
+        compare(f"{page} has blocks of {language}", True, len(blocks) > 0)
         file = folder / f"{Path(page).stem.lower()}.{language}"
         file.write_text(front + "".join(blocks) + behind)
         yield file
