@@ -1,9 +1,10 @@
-use Rattle.std.proofs.Common.{◌*◌, ◌+◌, arith, refl, subst, sym}
+use Rattle.std.proofs.Common.{◌*◌, ◌+◌, ◌≡◌, arith, refl, subst, sym}
 use Rattle.std.proofs.lemmas.List.{length-take-le}
 use Rattle.cap_frame.specs.Putting.{Halts}
 use Rattle.cap_frame.proofs.Putting.{halts_one}
 use Rattle.cap_run.proofs.Copying.{copied_stopped, copies_more, copies_stops, fills_one, gives_one}
 use Rattle.cap_run.proofs.Handed.{copies_both, copies_start, gives_no_next, stops_midway}
+use Rattle.cap_run.specs.PuttingEnds.{Copies}
 use Rattle.cap_run.proofs.engines.copy.put_words.Goals as goal
 
 pub loop-copied-init : goal.loop-copied-init
@@ -67,3 +68,30 @@ loop-copied-preserved g c =
       copies = copies_more g.S.WordSource g.K.WordSink c.args.source.now c.put_ready.new.source c.next.new.self c.args.sink.now c.put_ready.new.sink c.put.new.self (c.loop-copied.copied + c.in-Ok.count) c.in-Ok-Some.word
           now gives (fills_one g.K.WordSink c.put_ready.new.sink c.put.new.self c.in-Ok-Some.word c.in_default.ensures.put c.in_default.ensures.ok);
     }
+
+pub returns-in-Ok-Some-next-clause-ok : goal.returns-in-Ok-Some-next-clause-ok
+returns-in-Ok-Some-next-clause-ok g c =
+    let all : c.loop-copied.copied ≡ c.args.words = omega arith in
+    let gives = gives_one g.S.WordSource c.loop-copied.source c.next-2.new.self c.in-Ok-Some-next.field-0-0
+    (rw c.in-Ok-Some-next.field-0-is at c.in-Ok-Some-next.ensures.words) (rw c.in-Ok-Some-next.field-0-is at c.in-Ok-Some-next.ensures.word) c.in-Ok-Some-next.ensures.ok in (
+      c.loop-copied.source,
+      c.in-Ok-Some-next.field-0-0,
+      subst (Copies g.S.WordSource g.K.WordSink c.args.source.now c.loop-copied.source c.args.sink.now c.loop-copied.sink) all c.loop-copied.invariant.copies,
+      gives,
+    )
+
+pub returns-in-Ok-None-next-clause-ok : goal.returns-in-Ok-None-next-clause-ok
+returns-in-Ok-None-next-clause-ok g c =
+    let e = c.in-Ok-None-next.ensures in
+    (c.loop-copied.source, omega arith, c.loop-copied.invariant.copies, record { none = e.none (cc); ended = e.ended (cc); works = e.ok })
+
+pub returns-in-Err-next-2-clause-ok : goal.returns-in-Err-next-2-clause-ok
+returns-in-Err-next-2-clause-ok g c =
+    let e = c.in-Err-next-2.ensures in (
+      c.loop-copied.source,
+      c.loop-copied.copied,
+      omega arith,
+      c.loop-copied.invariant.copies,
+      gives_no_next g.S.WordSource c.loop-copied.source c.next-2.new.self c.in-Err-next-2.fault e.err (λ byte i. e.truncated byte (cc)) (λ byte i. e.at byte (cc))
+          (λ i. e.device (cc)) (λ i. e.was_spent (cc)),
+    )
