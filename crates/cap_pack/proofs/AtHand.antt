@@ -183,3 +183,16 @@ words_at_hand phase a b held out z p at now d is_open u small low value lost =
             l.places ∙ ap (λ xs. drop (length (plain_words (take d.written out))) (at ∷ places_of (ahead Open z p at xs))) (sym lost),
           );
         }
+
+-- words as they are, appended by a source that is open and holds no zero words
+pub words_appended : (phase : Phase) (a b : Option (List ℕ)) (held : List ℕ) (z p q n at now : ℕ) → phase ≡ Open → z ≡ 0 → p ≡ n + q → 8 * n ≤ length held → AllByRecursion (λ b. b < 256) (take (8 * n) held)
+    → at < 2 ^ 64 → now ≡ capped (at + 8 * n) → Consumes a b (take (8 * n) held)
+    → (take (8 * n) held ≡ plain_text (plain_words (take (8 * n) held)))
+    × TakesAll (option_map (λ bs. words_of (ahead phase z p at bs)) a) (option_map (λ bs. words_of (ahead phase z q now bs)) b)
+    (is_cut_of (ahead phase z p at (unwrap_or a []))) (is_cut_of (ahead phase z q now (unwrap_or b []))) at now
+    (places_of (ahead phase z p at (unwrap_or a []))) (places_of (ahead phase z q now (unwrap_or b []))) (plain_words (take (8 * n) held))
+words_appended phase a b held z p q n at now is_open none run within small low value lost =
+    let long : length (take (8 * n) held) ≡ 8 * n = length-take-le (8 * n) held within in
+    let done : Unpacked = record { read = 8 * n; written = 8 * n; zeros = 0; plain = q } in
+    let all : Unpacks 0 p held held done = record { within = within; fits = within; whole = omega arith; gives = gives_plain p n q (take (8 * n) held) run long } in
+    rw none (words_at_hand phase a b held held 0 p at now done is_open all small low value lost)

@@ -1,7 +1,9 @@
 //! Unpacking bytes that are at hand, many words at once (encoding: Packing).
 
 ghost use Rattle.cap_pack.specs.AtHand.{Unpacks};
-ghost use Rattle.std.specs.Prelude.{◌*◌, ◌<◌, ◌≡◌, ◌≤◌, length, replicate, take};
+ghost use Rattle.std.specs.List.{AllByRecursion};
+ghost use Rattle.std.specs.Prelude.{◌*◌, ◌+◌, ◌++◌, ◌<◌, ◌≡◌, ◌≤◌, length, replicate, take};
+ghost use Rattle.std.specs.Vec.{vec_capacity, vec_len};
 
 use super::head::{head_len, head_of};
 use cap_words::bytes_of;
@@ -56,6 +58,24 @@ fn plain_words(count: u8, from: &[u8], out: &mut [u8]) -> u8
         return words as u8;
     }
     out[..8 * words].copy_from_slice(&from[..8 * words]);
+    words as u8
+}
+
+/// Appends words as they are, so many or as many as there are and as there is room for, in no more than
+/// `most` bytes, and tells how many.
+pub(crate) fn append_words(count: u8, from: &[u8], out: &mut Vec<u8>, most: usize) -> u8
+    ensures within { result ≤ count }
+    ensures held { 8 * result ≤ length from.now }
+    ensures most { 8 * result ≤ most }
+    ensures room { vec_len out.old + 8 * result ≤ vec_capacity out.old }
+    ensures appended { out.new.items ≡ out.old.items ++ take (8 * result) from.now }
+    ensures capacity { vec_capacity out.old ≤ vec_capacity out.new }
+    ensures bytes { AllByRecursion (λ b. b < 256) (take (8 * result) from.now) }
+{
+    let room = most.min(out.capacity() - out.len());
+    let words = (count as usize).min(from.len() / 8).min(room / 8);
+    // there is room, so no growth is asked for
+    out.extend_from_slice(&from[..8 * words]).unwrap();
     words as u8
 }
 

@@ -8,7 +8,7 @@ ghost use Rattle.cap_spec.specs.Unpacking.{packed_is_cut, unpacked};
 ghost use Rattle.std.specs.Option.{option_map};
 ghost use Rattle.std.specs.Prelude.{◌<◌, ◌≡◌, ◌||◌, [], OnSome, false, if◌then◌else◌, unwrap_or, ℕ};
 
-use super::at_hand::unpack;
+use super::at_hand::{append_words, unpack};
 use super::counted::Counted;
 use cap_words::{ByteIn, SourceFault, WordSource};
 
@@ -149,6 +149,28 @@ impl<I: ByteIn> WordSource for Unpacker<I> {
         self.zeros = done.zeros;
         self.plain = done.plain;
         done.written
+    }
+
+    // What is left of a run of words as they are.
+    fn append(&mut self, out: &mut Vec<u8>, most: usize) -> usize {
+        let _read = self.bytes.read;
+        match self.phase {
+            Phase::Open => {}
+            _ => return 0,
+        }
+        if self.zeros > 0 {
+            return 0;
+        }
+        let words = append_words(self.plain, self.bytes.input.held(), out, most);
+        if words == 0 {
+            return 0;
+        }
+        let count = 8 * words as usize;
+        let input = &mut self.bytes.input;
+        input.skip(count);
+        self.bytes.read = self.bytes.read.saturating_add(count as u64);
+        self.plain -= words;
+        count
     }
 
     // Zero words of a run that are still to be given are no bytes: they don't keep anyone from being

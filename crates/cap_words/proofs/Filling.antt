@@ -94,6 +94,12 @@ word_within at k l room before given h long =
     let within : at + 0 ≤ length (put_mid at k room before) = filled_within at k 0 room before h (omega arith) in
     filled_within at l 8 (put_mid at k room before) given (omega arith) long
 
+-- no bytes were appended
+pub none_appended : (items : List ℕ) (words : Option (List ℕ)) (cut : Bool) (place : ℕ) (places : List ℕ)
+    → (given : List ℕ) × (items ≡ items ++ given) × (length given ≡ 0) × (given ≡ plain_text (plain_words given)) × TakesAll words words cut cut place place places places (plain_words given)
+none_appended items words cut place places =
+    ([], sym (append-nil items), refl, refl, record { consumed = Consumes-nil words; goes_on = on_some words _ (refl, refl) })
+
 module _ {X : Type 0} (g : source.Ghosts X) where
   -- The words of so many bytes at the front of a room were taken.
   pub record FilledSoFar (old now : X) (done : ℕ) (out : List ℕ) : Type 0 where

@@ -7,7 +7,8 @@ ghost use Rattle.cap_words.specs.TakingMany.{EndsWithin, ReadsBytes, TakesAll};
 ghost use Rattle.std.specs.Io.KnownBytes.{Consumes, Keeps};
 ghost use Rattle.std.specs.List.{AllByRecursion};
 ghost use Rattle.std.specs.Option.{option_to_list};
-ghost use Rattle.std.specs.Prelude.{◌*◌, ◌+◌, ◌-◌, ◌/◌, ◌<◌, ◌^◌, ◌≡◌, ◌≤◌, ◌⊎◌, [], ◌∷◌, Bool, IfOk, IfSome, IsErrOf, List, OnErr, OnOk, OnSome, Option, false, length, min, take, true, ℕ};
+ghost use Rattle.std.specs.Prelude.{◌*◌, ◌+◌, ◌++◌, ◌-◌, ◌/◌, ◌<◌, ◌^◌, ◌≡◌, ◌≤◌, ◌⊎◌, [], ◌∷◌, Bool, IfOk, IfSome, IsErrOf, List, OnErr, OnOk, OnSome, Option, false, length, min, take, true, ℕ};
+ghost use Rattle.std.specs.Vec.{vec_capacity, vec_len};
 
 use super::word::bytes_of;
 
@@ -90,6 +91,28 @@ pub trait WordSource {
         ensures reads { ReadsBytes (unread self.old) (unread self.new) (place self.old) (place self.new) }
     {
         let _room = out.len();
+        0
+    }
+
+    /// Appends bytes at hand that are the next words as they stand, whole words of no more than `most`
+    /// bytes and within the room of `out`, and answers how many bytes these are. The device isn't called.
+    /// 0 doesn't say that no words are to come or at hand: `next` and `ready` tell that.
+    fn append(&mut self, out: &mut Vec<u8>, most: usize) -> usize
+        ensures most { result ≤ most }
+        ensures room { vec_len out.old + result ≤ vec_capacity out.old }
+        ensures words { (given : List ℕ) × (out.new.items ≡ out.old.items ++ given) × (length given ≡ result) × (given ≡ plain_text (plain_words given))
+            × TakesAll (words self.old) (words self.new) (is_cut self.old) (is_cut self.new) (place self.old) (place self.new)
+            (places self.old) (places self.new) (plain_words given) }
+        ensures capacity { vec_capacity out.old ≤ vec_capacity out.new }
+        ensures usable { (result ≡ 0) ⊎ (spent self.old ≡ false) }
+        ensures stays { ended self.old ≡ true → result ≡ 0 }
+        ensures for_good { failed self.old ≡ true → result ≡ 0 }
+        ensures spent { spent self.new ≡ spent self.old }
+        ensures failures { failures self.new ≡ failures self.old }
+        ensures none { result ≡ 0 → self.new ≡ self.old }
+        ensures reads { ReadsBytes (unread self.old) (unread self.new) (place self.old) (place self.new) }
+    {
+        let _room = out.len().min(most);
         0
     }
 

@@ -1,7 +1,9 @@
 //! Words that are given many at once, against a plain unpacker that reads a byte at a time.
 
 use cap_pack::{Packer, Unpacker};
-use cap_words::{BufferedIn, FromRead, SliceIn, SourceFault, VecOut, WordSink, WordSource};
+use cap_words::{
+    BufferedIn, FromRead, SliceIn, SourceFault, VecOut, WordSink, WordSource, bytes_of,
+};
 use std::alloc::{AllocError, Global};
 use std::io::{self, Read};
 use std::process::Abort;
@@ -289,5 +291,64 @@ fn gives_all_words_that_fit(rt: HostRuntime) -> Result<(), Fail> {
     assert_eq!(rt; source.ready(&mut room), 0);
     assert_eq!(rt; source.next(), Ok(Some(0)));
     assert_eq!(rt; source.ready(&mut room), 8 * 40);
+    Ok(())
+}
+
+// What is left of a run of words as they are is appended, no more than is asked for and than there is
+// room for. At a head, and where zero words are held, nothing is.
+#[test]
+fn appends_the_rest_of_a_run(rt: HostRuntime) -> Result<(), Fail> {
+    let mut words = list(rt.alloc(), 1, 41)?;
+    words.extend_from_slice(&[0, 0, 0])?;
+    let text = packed(rt.alloc(), &words)?;
+    let (bytes, _) = plain(rt.alloc(), text.bytes())?;
+    for room in [0, 8, 100, 8 * 40, 8 * 50] {
+        let mut out = Vec::with_capacity(rt.alloc(), room)?;
+        let most_of_all = out.capacity();
+        let mut source = Unpacker::new(SliceIn::new(text.bytes()));
+        assert_eq!(rt; source.append(&mut out, 400), 0);
+        assert_eq!(rt; source.next(), Ok(Some(FULL)));
+        for most in [0, 7, 8, 23, 64, 400, 400] {
+            let left = most_of_all.min(8 * 40).saturating_sub(out.len());
+            assert_eq!(rt; source.append(&mut out, most), most.min(left) / 8 * 8);
+            assert_eq!(rt; source.position(), out.len() as u64 + 10);
+        }
+        assert_eq!(rt; out.capacity(), most_of_all);
+        assert!(rt; bytes.get(8..8 + out.len()) == Some(out.as_slice()));
+        if room >= 8 * 40 {
+            assert_eq!(rt; source.next(), Ok(Some(0)));
+            assert_eq!(rt; source.append(&mut out, 400), 0);
+            assert_eq!(rt; source.next(), Ok(Some(0)));
+        }
+    }
+    Ok(())
+}
+
+// Words that are appended where they stand as they are, and else come one by one. They are appended
+// where a whole word is left of what was read at once.
+#[test]
+fn appends_by_reads_of_many_sizes(rt: HostRuntime) -> Result<(), Fail> {
+    let mut words = groups(rt.alloc())?;
+    words.extend_from_slice(&list(rt.alloc(), 1, 300)?)?;
+    words.extend_from_slice(&groups(rt.alloc())?)?;
+    let text = packed(rt.alloc(), &words)?;
+    let (bytes, _) = plain(rt.alloc(), text.bytes())?;
+    for most in [1, 3, 7, 8, 9, 65536] {
+        let rest = text.bytes();
+        let mut source = Unpacker::new(BufferedIn::new(rt.alloc(), Sips { rest, most })?);
+        let mut out = Vec::with_capacity(rt.alloc(), bytes.len())?;
+        let mut appended: usize = 0;
+        for _ in 0..words.len() {
+            let Ok(Some(word)) = source.next() else {
+                break;
+            };
+            out.extend_from_slice(&bytes_of(word))?;
+            appended = appended.saturating_add(source.append(&mut out, bytes.len()));
+        }
+        assert_eq!(rt; source.next(), Ok(None));
+        assert!(rt; out.as_slice() == bytes.as_slice());
+        assert_eq!(rt; source.position(), text.bytes().len() as u64);
+        assert_eq!(rt; appended > 0, most > 8);
+    }
     Ok(())
 }
