@@ -1,7 +1,7 @@
 -- Words that are read into one buffer, piece by piece.
-use Rattle.std.proofs.Common.{◌≡◌, ◌∙◌, Bool, true, Result, Ok, ℕ, ◌+◌, ◌-◌, ◌*◌, ◌/◌, ◌%◌, ◌≤◌, false, List, [], ◌∷◌, ◌++◌, length, take, drop, sum, refl, sym, ap, subst, arith, append_assoc, length-append, length-drop}
+use Rattle.std.proofs.Common.{◌≡◌, ◌∙◌, Bool, true, Result, Ok, ℕ, ◌+◌, ◌-◌, ◌*◌, ◌/◌, ◌%◌, ◌≤◌, false, List, [], ◌∷◌, ◌++◌, length, take, drop, sum, refl, sym, ap, subst, arith, append-nil, append_assoc, length-append, length-drop}
 use Rattle.std.proofs.Math.Seq.{take-add, take-append_seam}
-use Rattle.std.proofs.lemmas.List.{length-take-le, take-append-le, take-take}
+use Rattle.std.proofs.lemmas.List.{length-take-le, take-append-le, take-take, take_all}
 use Rattle.std.proofs.lemmas.List.Sums.{sum_by-cons}
 use Rattle.cap_words.specs.declared.sources.WordSource as source
 use Rattle.cap_words.specs.declared.sources.SourceFault.{SourceFault}
@@ -29,6 +29,17 @@ piece_in start end many before held more items piece post rest h e l k b i =
     let shown : take end ((take start before ++ piece) ++ (post ++ rest)) ≡ take start before ++ piece =
     ap (λ (n : ℕ). take n ((take start before ++ piece) ++ (post ++ rest))) (sym long) ∙ take-append_seam (take start before ++ piece) (post ++ rest) in
     ap (take end) i ∙ (take-take end many _ e ∙ (ap (take end) parts ∙ shown))
+
+-- what was appended stands behind what was read, where that was all
+pub appended_in : (done n : ℕ) (before given items : List ℕ) → length before ≤ done → length given ≡ n → items ≡ before ++ given → take (done + n) items ≡ take done before ++ given
+appended_in done n before given items h l e =
+    ap (take (done + n)) e ∙ take_all (done + n) (before ++ given) (omega (arith, length-append before given)) ∙ ap (λ (xs : List ℕ). xs ++ given) (sym (take_all done before h))
+
+-- and nothing else
+pub nothing_in : (done : ℕ) (items : List ℕ) → take (done + 0) items ≡ take done items ++ []
+nothing_in done items =
+    let same : done + 0 ≡ done = omega arith in
+    ap (λ (n : ℕ). take n items) same ∙ sym (append-nil (take done items))
 
 -- as many words as there are bytes for
 pub words_taken : (n : ℕ) (bytes : List ℕ) → 8 * n ≤ length bytes → length (plain_words (take (8 * n) bytes)) ≡ n

@@ -22,6 +22,10 @@ const PIECE: usize = 131_072;
 // string instruction, which was seen to be slow over pages that the system gives only as they are touched.
 const STEP: usize = 1024;
 
+// How much is made ready behind a run of words that was longer than this and appended as it is, in bytes:
+// the head of a further run, mostly, which is appended next.
+const FEW: usize = 64;
+
 /// Where segments of these sizes start, one behind the other.
 pub(crate) fn fill_starts(sizes: &[u32], starts: &mut Starts)
     requires few { length sizes.now ≤ 512 }
@@ -95,8 +99,40 @@ fn read_piece<S: WordSource>(
     }
 }
 
+// How much of a fresh buffer is made ready behind a run of words that was appended as it is.
+#[inline(always)]
+fn piece_behind(run: usize) -> usize
+    ensures { (result % 8 ≡ 0) × (0 < result) }
+{
+    if run > FEW { FEW } else { PIECE }
+}
+
+// Appends words as they are, where the bytes that were read so far are all that a buffer holds. Answers
+// how many bytes they are.
+#[inline(always)]
+fn append_run<S: WordSource>(source: &mut S, bytes: &mut Vec<u8>, done: usize, need: usize) -> usize
+    requires whole { done % 8 ≡ 0 }
+    requires begun { done ≤ vec_len bytes.old }
+    requires within { done ≤ need }
+    requires usable { S.spent source.old ≡ false }
+    ensures ok { (piece : List ℕ) × (take (done + result) bytes.new.items ≡ take done bytes.old.items ++ piece)
+        × (length piece ≡ result) × Takes S.WordSource source.old source.new (plain_words piece) }
+    ensures whole { result % 8 ≡ 0 }
+    ensures within { done + result ≤ need }
+    ensures long { done + result ≤ vec_len bytes.new }
+    ensures capacity { vec_capacity bytes.old ≤ vec_capacity bytes.new }
+    ensures works { IsUsable S.WordSource source.old source.new }
+    ensures reads { Reads S.WordSource source.old source.new }
+{
+    if bytes.len() > done {
+        return 0;
+    }
+    source.append(bytes, need - done)
+}
+
 /// Reads so many words into a buffer with room for their bytes. What it holds already is read over in
-/// one piece, and the rest in pieces of no more than `PIECE`.
+/// one piece, and the rest in pieces of no more than `PIECE`, behind each of which the source may append
+/// words as they are.
 pub(crate) fn read_bytes<S: WordSource>(
     source: &mut S,
     words: usize,
@@ -113,14 +149,17 @@ pub(crate) fn read_bytes<S: WordSource>(
 {
     let need = 8 * words;
     let mut done = 0;
+    let mut run = 0;
     'pieces: while done < need {
         // whole words, since an earlier message may have left any number of bytes
         let held = need.min(bytes.len() / 8 * 8);
-        let end = held.max(done + PIECE.min(need - done));
+        let end = held.max(done + piece_behind(run).min(need - done));
         match read_piece(source, bytes, done, end) {
-            Ok(()) => done = end,
+            Ok(()) => {}
             Err(fault) => return Err(fault),
         }
+        run = append_run(source, bytes, end, need);
+        done = end + run;
     }
     Ok(())
 }

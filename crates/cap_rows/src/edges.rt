@@ -37,7 +37,7 @@ fn expect_message<R: AllocGlobal + Abort>(
     most: usize,
     frame: &[u8],
 ) -> Result<(), Fail> {
-    let limit = SizeLimit::new(4096).ok_or("no limit")?;
+    let limit = SizeLimit::new(40_000).ok_or("no limit")?;
     let mut source = Unpacker::new(BufferedIn::new(rt.alloc(), Sips { bytes, most })?);
     let Ok(Some(message)) = read_byte_message(rt.alloc(), &mut source, limit) else {
         return Err("no message in one buffer".into());
@@ -67,6 +67,22 @@ fn runs_that_end_about_a_segments_edge(rt: HostRuntime) -> Result<(), Fail> {
                     expect_message(&rt, text.bytes(), most, frame.bytes())?;
                 }
             }
+        }
+    }
+    Ok(())
+}
+
+// Runs that go on behind the piece of a fresh buffer that is made ready first, and end behind it.
+#[test]
+fn runs_behind_a_piece(rt: HostRuntime) -> Result<(), Fail> {
+    for kind in KINDS {
+        let mut packer = Packer::new(VecOut::new(rt.alloc()));
+        put_message(&mut packer, 17_300, kind, 17_100)?;
+        let mut plain = PlainSink::new(VecOut::new(rt.alloc()));
+        put_message(&mut plain, 17_300, kind, 17_100)?;
+        let (text, frame) = (packer.into_inner(), plain.into_inner());
+        for most in [1, 3, 7, 8, 9, 65536] {
+            expect_message(&rt, text.bytes(), most, frame.bytes())?;
         }
     }
     Ok(())
