@@ -16,6 +16,7 @@ mod Lengths
 mod Needed
 mod Owing
 mod Ranges
+mod Rooms
 pub mod SpelledWords
 mod Standing
 mod Structs

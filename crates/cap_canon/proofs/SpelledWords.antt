@@ -81,18 +81,24 @@ whole_words bytes small h =
     let all : take (length bytes / 8 * 8) bytes ≡ bytes = take_all (length bytes / 8 * 8) bytes (omega (arith, h)) in
     sym all ∙ whole_text bytes small
 
--- word n was written behind the first n, into the slice of a vector
+-- word n was written behind the first n
+pub word_appended : (n w : ℕ) (given items : List ℕ) → 8 * n + 8 ≤ length items → plain_words given ≡ set (plain_words items) n w
+    → spelled_words (n + 1) given ≡ spelled_words n items ++ w ∷ []
+word_appended n w given items h e = ap (take (n + 1)) e ∙ take-set_at (plain_words items) n (n + 1) w refl (omega (arith, word_count items, h))
+
+-- the same into the slice of a vector
 pub word_pushed : (len n w : ℕ) (given slice items : List ℕ) → slice ≡ items → length given ≡ len → 8 * n + 8 ≤ length items → plain_words given ≡ set (plain_words slice) n w
     → spelled_words (n + 1) (take len (given ++ drop (length given) items)) ≡ spelled_words n items ++ w ∷ []
 word_pushed len n w given slice items same long h e =
-    ap (spelled_words (n + 1)) (written_back len given items long)
-    ∙ ap (take (n + 1)) (e ∙ ap (λ l. set (plain_words l) n w) same)
-    ∙ take-set_at (plain_words items) n (n + 1) w refl (omega (arith, word_count items, h))
+    ap (spelled_words (n + 1)) (written_back len given items long) ∙ word_appended n w given items h (e ∙ ap (λ l. set (plain_words l) n w) same)
 
 -- word p was written in place of one of the first n
+pub word_replaced : (n p w : ℕ) (given items : List ℕ) → p < n → plain_words given ≡ set (plain_words items) p w
+    → spelled_words n given ≡ set (spelled_words n items) p w
+word_replaced n p w given items h e = ap (take n) e ∙ take-set-lt n (plain_words items) p w h
+
+-- the same into the slice of a vector
 pub word_set : (len n p w : ℕ) (given slice items : List ℕ) → slice ≡ items → length given ≡ len → p < n → plain_words given ≡ set (plain_words slice) p w
     → spelled_words n (take len (given ++ drop (length given) items)) ≡ set (spelled_words n items) p w
 word_set len n p w given slice items same long h e =
-    ap (spelled_words n) (written_back len given items long)
-    ∙ ap (take n) (e ∙ ap (λ l. set (plain_words l) p w) same)
-    ∙ take-set-lt n (plain_words items) p w h
+    ap (spelled_words n) (written_back len given items long) ∙ word_replaced n p w given items h (e ∙ ap (λ l. set (plain_words l) p w) same)

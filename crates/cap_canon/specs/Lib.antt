@@ -1,5 +1,6 @@
 pub mod CanonicalCopies
 pub mod CopyFrames
+pub mod CopyRooms
 pub mod Filling
 pub mod Found
 pub mod InPlace

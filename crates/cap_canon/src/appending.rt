@@ -33,6 +33,7 @@ pub(crate) fn append_own<M: Segments, T: Target>(message: &M, object: &Object, c
         × (length (T.words copy.old) + own_size tree ≤ T.room copy.old) }
     ensures own { (d s w : ℕ) (tree : Tree) → IsObject (M.segments message.now) d s w tree object.now → OwnAppended (T.words copy.old) (T.words copy.new) tree }
     ensures room { T.room copy.old ≤ T.room copy.new }
+    ensures lent { T.lent copy.new ≡ T.lent copy.old }
 {
     match *object {
         Object::Null | Object::Cap { .. } => {}
@@ -77,6 +78,7 @@ fn append_tagged<M: Segments, T: Target>(message: &M, object: &Object, copy: &mu
         × (length (T.words copy.old) + own_size tree ≤ T.room copy.old) }
     ensures own { (d s w : ℕ) (tree : Tree) → IsObject (M.segments message.now) d s w tree object.now → OwnAppended (T.words copy.old) (T.words copy.new) tree }
     ensures room { T.room copy.old ≤ T.room copy.new }
+    ensures lent { T.lent copy.new ≡ T.lent copy.old }
 {
     match *object {
         Object::Structs {
@@ -113,6 +115,7 @@ fn append_struct<M: Segments, T: Target>(message: &M, element: &Elements, copy: 
     ensures words { T.words copy.new ≡ T.words copy.old ++ (words_from (M.segments message.now) element.now.segment element.now.start element.now.data_left
         ++ words_from (M.segments message.now) element.now.segment (element.now.start + element.now.data_words) element.now.pointers_left) }
     ensures room { T.room copy.old ≤ T.room copy.new }
+    ensures lent { T.lent copy.new ≡ T.lent copy.old }
 {
     if element.data_left == element.data_words {
         let count = element.data_left + element.pointers_left;
@@ -141,6 +144,7 @@ fn append_structs<M: Segments, T: Target>(
     ensures words { T.words copy.new ≡ T.words copy.old ++ elements_from (M.segments message.now) elements.now.segment elements.now.start
         elements.now.data_words elements.now.pointers elements.now.data_left elements.now.pointers_left count }
     ensures room { T.room copy.old ≤ T.room copy.new }
+    ensures lent { T.lent copy.new ≡ T.lent copy.old }
 {
     let left = elements.data_left + elements.pointers_left;
     if left == elements.data_words + elements.pointers {
@@ -171,6 +175,7 @@ fn append_values<M: Segments, T: Target>(
     requires room { length (T.words copy.old) + words ≤ T.room copy.old }
     ensures words { T.words copy.new ≡ T.words copy.old ++ scalar_words code (values_of (M.segments message.now) segment start code count) }
     ensures room { T.room copy.old ≤ T.room copy.new }
+    ensures lent { T.lent copy.new ≡ T.lent copy.old }
 {
     if words == 0 {
         return;

@@ -70,7 +70,8 @@ pub(crate) fn copy_into<M: Segments, T: Target>(message: &M, depth: u32, copy: &
     requires denotes { (t : Tree) × (c : ℕ) × Denotes (M.segments message.now) 0 0 t c depth × (c ≤ 268435456) × (depth ≤ 256)
         × (length (layout (trim t)) ≤ T.room copy.old) }
     requires empty { T.words copy.old ≡ [] }
-    ensures { (t : Tree) (c d : ℕ) → Denotes (M.segments message.now) 0 0 t c d → T.words copy.new ≡ layout (trim t) }
+    ensures words { (t : Tree) (c d : ℕ) → Denotes (M.segments message.now) 0 0 t c d → T.words copy.new ≡ layout (trim t) }
+    ensures lent { T.lent copy.new ≡ T.lent copy.old }
 {
     if depth <= 8 {
         return copy_within::<M, T, 8>(message, depth, copy);
@@ -86,7 +87,8 @@ fn copy_within<M: Segments, T: Target, const N: usize>(message: &M, depth: u32, 
     requires denotes { (t : Tree) × (c : ℕ) × Denotes (M.segments message.now) 0 0 t c depth × (c ≤ 268435456) × (length (layout (trim t)) ≤ T.room copy.old) }
     requires room { (depth ≤ N) × (N ≤ 256) }
     requires empty { T.words copy.old ≡ [] }
-    ensures { (t : Tree) (c d : ℕ) → Denotes (M.segments message.now) 0 0 t c d → T.words copy.new ≡ layout (trim t) }
+    ensures words { (t : Tree) (c d : ℕ) → Denotes (M.segments message.now) 0 0 t c d → T.words copy.new ≡ layout (trim t) }
+    ensures lent { T.lent copy.new ≡ T.lent copy.old }
 {
     let mut stack: Stack<N> = Stack::new();
     copy.push(0);
@@ -111,6 +113,7 @@ fn lay<M: Segments, T: Target>(message: &M, object: &Object, slot: u32, end: u32
         → Agrees (T.words copy.new) whole (below end tree ++ due) }
     ensures ends { (d s w : ℕ) (tree : Tree) → IsObject (M.segments message.now) d s w tree object.now → length (T.words copy.new) ≡ end + own_size tree }
     ensures room { T.room copy.old ≤ T.room copy.new }
+    ensures lent { T.lent copy.new ≡ T.lent copy.old }
 {
     copy.set(slot, pointer_word(end - slot - 1, object));
     append_own(message, object, copy);

@@ -8,6 +8,7 @@ mod fault;
 mod frame;
 mod length;
 mod objects;
+mod room;
 mod spelled;
 mod target;
 mod trimming;
@@ -16,6 +17,7 @@ mod words;
 
 pub use checking::is_canonical;
 pub use copying::canonical;
-pub use fault::CanonFault;
+pub use fault::{CanonFault, RoomFault};
 pub use length::canonical_len;
+pub use room::canonical_into;
 pub use spelled::canonical_bytes;

@@ -81,6 +81,8 @@ impl Target for Spelled {
 
     ghost room = { λ s. vec_len s.bytes / 8 };
 
+    ghost lent = { λ s. 0 };
+
     fn push(&mut self, word: u64) {
         write_word(self.bytes.as_mut_slice(), self.count, word);
         self.count += 1;
@@ -91,9 +93,9 @@ impl Target for Spelled {
     }
 }
 
-// Writes a word in place of the one with this number.
+/// Writes a word in place of the one with this number.
 #[inline(always)]
-fn write_word(bytes: &mut [u8], number: usize, word: u64)
+pub(crate) fn write_word(bytes: &mut [u8], number: usize, word: u64)
     requires { 8 * number + 8 ≤ length bytes.old }
     ensures len { length bytes.new ≡ length bytes.old }
     ensures words { plain_words bytes.new ≡ slice_set (plain_words bytes.old) number word }
@@ -101,9 +103,9 @@ fn write_word(bytes: &mut [u8], number: usize, word: u64)
     bytes[8 * number..8 * number + 8].copy_from_slice(&bytes_of(word));
 }
 
-// Whole words are what they spell: known here, of a parameter, and not of a vector.
+/// Whole words are what they spell: known here, of a parameter, and not of a vector.
 #[inline(always)]
-fn tells_words(bytes: &[u8])
+pub(crate) fn tells_words(bytes: &[u8])
     requires { length bytes.now ≡ 8 * (length bytes.now / 8) }
     ensures { bytes.now ≡ plain_text (plain_words bytes.now) }
 {

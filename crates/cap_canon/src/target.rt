@@ -17,17 +17,22 @@ pub(crate) trait Target {
     // How many words there is room for, with these.
     ghost room: { Self → ℕ };
 
+    // The name of the borrow that is written through, where there is one.
+    ghost lent: { Self → ℕ };
+
     /// Appends a word.
     fn push(&mut self, word: u64)
         requires { length (words self.old) < room self.old }
         ensures words { words self.new ≡ words self.old ++ word ∷ [] }
-        ensures room { room self.old ≤ room self.new };
+        ensures room { room self.old ≤ room self.new }
+        ensures lent { lent self.new ≡ lent self.old };
 
     /// Writes a word in place of one of them.
     fn set(&mut self, place: u32, word: u64)
         requires { place < length (words self.old) }
         ensures words { words self.new ≡ slice_set (words self.old) place word }
-        ensures room { room self.old ≤ room self.new };
+        ensures room { room self.old ≤ room self.new }
+        ensures lent { lent self.new ≡ lent self.old };
 
     /// Appends words of a segment.
     fn append_from<M: Segments>(&mut self, message: &M, segment: u32, start: u32, count: u32)
@@ -36,6 +41,7 @@ pub(crate) trait Target {
         requires room { length (words self.old) + count ≤ room self.old }
         ensures words { words self.new ≡ words self.old ++ words_from (M.segments message.now) segment start count }
         ensures room { room self.old ≤ room self.new }
+        ensures lent { lent self.new ≡ lent self.old }
         ensures are_words { AllByRecursion IsWord (words_from (M.segments message.now) segment start count) }
     {
         'words: for k in 0..count {
@@ -48,6 +54,8 @@ impl Target for Vec<u64> {
     ghost words = { λ v. v.items };
 
     ghost room = { λ v. vec_capacity v };
+
+    ghost lent = { λ v. 0 };
 
     fn push(&mut self, word: u64) {
         self.push_reserved(word);

@@ -29,4 +29,5 @@ elements-preserved g c =
           (g.T.Target.words c.args.copy.now) (g.T.Target.words c.elements.copy) (g.T.Target.words c.append_struct.new.copy) (g.T.Target.room c.elements.copy) (g.T.Target.room c.append_struct.new.copy)
           c.elements-test.true c.requires.fewer.0 c.requires.fewer.1 inside c.append_struct.ensures.words c.append_struct.ensures.room k.far;
       room = omega (arith, k.room, c.append_struct.ensures.room);
+      lent = c.append_struct.ensures.lent ∙ k.lent;
     }

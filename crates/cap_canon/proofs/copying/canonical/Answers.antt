@@ -20,7 +20,7 @@ returns-clause-accepted g c =
     let m = g.M.Segments.segments (message_of c.args.v.now) in
     let h = c.in-Ok.ensures.ok in
     let k = c.report.ensures.accepted in
-    let made = copy_of m h.0 c.copy_into.new.copy.items h.1 (rw c.message.ensures.value at c.copy_into.ensures) in
+    let made = copy_of m h.0 c.copy_into.new.copy.items h.1 (rw c.message.ensures.value at c.copy_into.ensures.words) in
     λ t x d f. copy_denotes m c.copy_into.new.copy.items t x d made f (few_charged m c.report.result k.0 t x d k.1 f)
 
 pub returns-clause-own : goal.returns-clause-own
@@ -28,7 +28,7 @@ returns-clause-own g c =
     let m = g.M.Segments.segments (message_of c.args.v.now) in
     let h = c.in-Ok.ensures.ok in
     let k = c.report.ensures.accepted in
-    let made = copy_of m h.0 c.copy_into.new.copy.items h.1 (rw c.message.ensures.value at c.copy_into.ensures) in
+    let made = copy_of m h.0 c.copy_into.new.copy.items h.1 (rw c.message.ensures.value at c.copy_into.ensures.words) in
     copy_own m c.copy_into.new.copy.items made (few_charged m c.report.result k.0 made.tree made.charge made.depth k.1 made.denotes)
 
 pub returns-clause-near : goal.returns-clause-near
@@ -42,7 +42,7 @@ returns-clause-only g c =
     let m = g.M.Segments.segments (message_of c.args.v.now) in
     let h = c.in-Ok.ensures.ok in
     let k = c.report.ensures.accepted in
-    let made = copy_of m h.0 c.copy_into.new.copy.items h.1 (rw c.message.ensures.value at c.copy_into.ensures) in
+    let made = copy_of m h.0 c.copy_into.new.copy.items h.1 (rw c.message.ensures.value at c.copy_into.ensures.words) in
     λ t u x d x' d' other f f' few. copy_only m c.copy_into.new.copy.items t u x d x' d' other made f (few_charged m c.report.result k.0 t x d k.1 f) f' few
 
 pub returns-clause-first_cap : goal.returns-clause-first_cap

@@ -28,7 +28,7 @@ returns-clause-ok g c =
     let m = g.M.Segments.segments (message_of c.args.v.now) in
     let h = c.in-Ok.ensures.ok in
     let ws = spelled_words c.copy_into.new.copy.count c.copy_into.new.copy.bytes.items in
-    let made = copy_of m h.0 ws h.1 (rw c.message.ensures.value at c.copy_into.ensures) in
+    let made = copy_of m h.0 ws h.1 (rw c.message.ensures.value at c.copy_into.ensures.words) in
     (subst (HasCopy m) (sym c.into_bytes.ensures.words) made, c.into_bytes.ensures.text ∙ ap plain_text (sym c.into_bytes.ensures.words))
 
 pub returns-clause-few : goal.returns-clause-few
@@ -37,7 +37,7 @@ returns-clause-few g c =
     let h = c.in-Ok.ensures.ok in
     let k = c.report-report.ensures.accepted in
     let ws = spelled_words c.copy_into.new.copy.count c.copy_into.new.copy.bytes.items in
-    let made = copy_of m h.0 ws h.1 (rw c.message.ensures.value at c.copy_into.ensures) in
+    let made = copy_of m h.0 ws h.1 (rw c.message.ensures.value at c.copy_into.ensures.words) in
     let some = copy_charged m k.0 c.report-report.result.charge c.report-report.result.depth ws k.1.denotes made in
     let long = ap length c.into_bytes.ensures.text ∙ length_plain ws in
     let same = ap (λ r. r.charge) c.report-report.ensures.value in
@@ -45,7 +45,7 @@ returns-clause-few g c =
 
 pub returns-clause-copy : goal.returns-clause-copy
 returns-clause-copy g c = λ words h.
-    let made = rw c.message.ensures.value at c.copy_into.ensures in
+    let made = rw c.message.ensures.value at c.copy_into.ensures.words in
     (refl, c.into_bytes.ensures.text ∙ ap plain_text (made h.tree h.charge h.depth h.denotes ∙ sym h.laid))
 
 pub returns-clause-first_cap : goal.returns-clause-first_cap

@@ -16,5 +16,6 @@ words-preserved g c =
       words = c.push.ensures.words ∙ (ap (λ xs. xs ++ c.word.result ∷ []) c.words.invariant.words
           ∙ (append_assoc old front (c.word.result ∷ []) ∙ ap (λ xs. old ++ xs) (sym more)));
       room = omega (arith, c.push.ensures.room, c.words.invariant.room);
+      lent = c.push.ensures.lent ∙ c.words.invariant.lent;
       are_words = subst (λ (xs : List ℕ). AllByRecursion IsWord xs) (sym more) (all_append IsWord front (c.word.result ∷ []) c.words.invariant.are_words (small, tt));
     }
