@@ -22,14 +22,16 @@ cause_number (Fault (fault.TooManySegments count)) = count
 cause_number (Fault (fault.TooLarge words)) = words
 cause_number (Fault (fault.Truncated wanted)) = wanted
 
+-- of bytes without a frame
 abbrev pub no_frame_report : NoFrame → CallReport
 no_frame_report cause = record (extent_report 0 0) { number = cause_number cause }
 
--- the place of the first capability, where there is one
+-- the segment of the first capability, where there is one
 abbrev pub cap_segment : Option (ℕ × ℕ) → ℕ
 cap_segment None = 0
 cap_segment (Some place) = place.0
 
+-- its word there
 abbrev pub cap_word : Option (ℕ × ℕ) → ℕ
 cap_word None = 0
 cap_word (Some place) = place.1
