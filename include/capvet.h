@@ -43,8 +43,8 @@ typedef char capvet_needs_64_bits[sizeof(size_t) == 8 ? 1 : -1];
 /* What a call answers. 1 to 15 tell of the frame or of the call, 16 to 31 of an accepted message, from
  * 32 on why it is refused. Numbers never change; new ones may come, so treat any but CAPVET_OK as a
  * no. Where several hold, the order is: CAPVET_BAD_LIMITS, the frame (empty, fewer than 8 bytes, too
- * many segments, the table cut, too large, the contents cut), the refusal, CAPVET_NOT_CANONICAL. Of
- * unpacking: see there. */
+ * many segments, the table cut, too large, the contents cut), the refusal, CAPVET_HAS_CAPABILITY,
+ * CAPVET_NO_ROOM or CAPVET_NOT_CANONICAL. Of unpacking: see there. */
 enum {
   CAPVET_OK = 0,
   CAPVET_NO_MESSAGE = 1, /* the buffer is empty: where a stream ends; `number` is 8 */
@@ -61,6 +61,7 @@ enum {
 
   /* The message is not what was asked for, though it is accepted. */
   CAPVET_NOT_CANONICAL = 16,
+  CAPVET_HAS_CAPABILITY = 17, /* `segment`, `word`: the first, so there is no canonical copy */
 
   /* The message is refused: why, at the first pointer in preorder where anything is wrong
      (`segment`, `word`, `pointers`). */
@@ -94,7 +95,8 @@ typedef struct capvet_limits {
 #define CAPVET_LIMITS_INIT { 8388608, 8388608, 64 }
 
 /* Written whole by each call that takes one, whatever it answers: what doesn't apply is 0. `Accepted`
- * means CAPVET_OK of any call but capvet_frame, and CAPVET_NOT_CANONICAL. */
+ * means CAPVET_OK of any call but capvet_frame, CAPVET_NOT_CANONICAL, CAPVET_HAS_CAPABILITY and
+ * CAPVET_NO_ROOM. */
 typedef struct capvet_report {
   uint64_t length;   /* bytes of the frame with its table, also of a refused message; 0: no frame */
   uint64_t number;   /* of a fault of the frame: see there */
@@ -124,6 +126,16 @@ uint32_t capvet_frame(const uint8_t *bytes, size_t length, const capvet_limits *
 CAPVET_CHECKED
 uint32_t capvet_vet(const uint8_t *bytes, size_t length, const capvet_limits *limits,
                     capvet_report *report);
+
+/* The canonical copy of the message, as the bytes of its words alone, without a table, into the first
+ * *written bytes of `out`, which has `room` bytes. CAPVET_NO_ROOM: *written is how many bytes it takes;
+ * so with `room` 0 it tells that. 8 * (report->charge + 1) bytes always serve. CAPVET_HAS_CAPABILITY,
+ * before CAPVET_NO_ROOM, where a capability is reached. After that, and where the message isn't accepted,
+ * *written is 0. After any answer but CAPVET_OK `out` is as it was; bytes of `out` behind the copy are
+ * as they were after that too. */
+CAPVET_CHECKED
+uint32_t capvet_canonical(const uint8_t *bytes, size_t length, const capvet_limits *limits, uint8_t *out,
+                          size_t room, size_t *written, capvet_report *report);
 
 /* Whether the message has one segment and is its own canonical copy: CAPVET_OK, or
  * CAPVET_NOT_CANONICAL, also where it has a capability; or why it isn't accepted. */

@@ -6,10 +6,11 @@
 The header alone is compiled in each standard of C and C++ that it is promised for. `calls` looks at known
 buffers, and `allocations` counts how often memory is taken; `lines` writes what the program writes of a stream, and
 both outputs are compared, for the samples, for each front of one of them, and for 100,000 messages of a fixed seed,
-most of which are samples with changed bytes. So are the words of packed texts: of the samples, of each front of one,
-and of 1,000 that are made up; and by `texts`, of 100,000, many with changed bytes. All but `allocations` run with the
-compiler's checks of memory, and `calls` and `texts` under valgrind, where these are there. The last line is 'N passed,
-M failed', and the status is 1 where something failed.
+most of which are samples with changed bytes. So are the canonical copies of as many messages, with the line of some
+that have none, and the words of packed texts: of the samples, of each front of one, and of 1,000 that are made up; and
+by `texts`, of 100,000, many with changed bytes. All but `allocations` run with the compiler's checks of memory, and
+`calls` and `texts` under valgrind, where these are there. The last line is 'N passed, M failed', and the status is 1
+where something failed.
 """
 import random
 import shutil
@@ -63,7 +64,8 @@ def wanted_symbols(archive):
     undefined = {line.split()[-1] for line in lines if " U " in line}
     own = {line.split()[-1] for line in lines if " T " in line}
     told("what the archive wants", undefined - own <= {"memcpy", "memmove", "memset"}, str(undefined - own))
-    for name in ("capvet_version", "capvet_frame", "capvet_vet", "capvet_is_canonical", "capvet_unpack"):
+    for name in ("capvet_version", "capvet_frame", "capvet_vet", "capvet_is_canonical", "capvet_canonical",
+                 "capvet_unpack"):
         told(f"the archive has {name}", name in own)
 
 
@@ -152,6 +154,45 @@ def compare(lines, program):
                      (got.stdout, got.stderr, got.returncode) == (wanted.stdout, wanted.stderr, wanted.returncode),
                      f"  {got.returncode} {got.stderr[:300]!r}\n  {wanted.returncode} {wanted.stderr[:300]!r}")
     print(f"calls: {count} lines compared with the program's")
+
+
+def with_copies(program, chance):
+    """Streams of messages that have a canonical copy, and such with one behind the first message that has none."""
+    whole = samples()
+    yield b"".join(whole), True
+    small = [message for message in whole if len(message) < 1000]
+    with tempfile.TemporaryDirectory() as folder:
+        path = Path(folder) / "stream"
+        for _ in range(20):
+            messages = [made_up(chance) if chance.randrange(3) == 0 else changed(chance.choice(small), chance)
+                        for _ in range(MANY // 20)]
+            path.write_bytes(b"".join(messages))
+            lines = run([program, "vet", path]).stdout.splitlines()
+            have = [" accepted " in line and line.endswith(" caps 0") for line in lines]
+            yield b"".join(message for message, has in zip(messages, have) if has), True
+            none = [(message, line) for message, line, has in zip(messages, lines, have) if not has]
+            caps = [message for message, line in none if " accepted " in line]
+            for message in [message for message, _ in none[:10]] + caps[:10]:
+                yield whole[0] + message + whole[1], False
+
+
+def compare_copies(lines, program):
+    """Both programs' canonical copies."""
+    copied = without = with_caps = 0
+    with tempfile.TemporaryDirectory() as folder:
+        path = Path(folder) / "stream"
+        for stream, whole in with_copies(program, random.Random(SEED)):
+            path.write_bytes(stream)
+            got, wanted = (subprocess.run([tool, "canon", path], capture_output=True) for tool in (lines, program))
+            copied, without = copied + len(wanted.stdout), without + (wanted.returncode == 1)
+            with_caps += b"HasCapability" in wanted.stderr
+            told(f"canon of a stream of {len(stream)} bytes",
+                 (got.stdout, got.stderr, got.returncode) == (wanted.stdout, wanted.stderr, wanted.returncode)
+                 and whole == (wanted.returncode == 0),
+                 f"  {got.returncode} {got.stderr[:300]!r}\n  {wanted.returncode} {wanted.stderr[:300]!r}")
+    told("copies, and messages without one", copied > 1_000_000 and with_caps >= 50 and without - with_caps >= 50,
+         f"{copied} bytes, {without} without, {with_caps} with a capability")
+    print(f"calls: {copied} bytes of canonical copies compared with the program's, and {without} messages without one")
 
 
 def packed_texts(program, chance):
@@ -286,6 +327,7 @@ def main():
         if lines is not None:
             compare(lines, program)
             compare_words(lines, program)
+            compare_copies(lines, program)
         watched = compiled(folder, "texts", compilers[0], "c99", archive)
         texts = compiled(folder, "texts", compilers[0], "c11", archive, "-O1", *CHECKS)
         if texts is not None:

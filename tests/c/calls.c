@@ -228,6 +228,64 @@ static void unpacking(void) {
   }
 }
 
+/* A message of two segments with 8 bytes behind, and its canonical copy: a struct of two words, the second
+ * of them zeros, and a pointer to a list of three bytes, behind which a byte of the word isn't zero. */
+static const uint8_t LOOSE[72] = {1, 0, 0, 0, 1, 0, 0, 0, 5, 0, 0, 0, 0, 0, 0, 0, 2, 0, 0, 0, 1, 0, 0, 0,
+                                  0, 0, 0, 0, 2, 0, 1, 0, 7, 0, 0, 0, 0, 0, 0, 0, 0, 0, 0, 0, 0, 0, 0, 0,
+                                  1, 0, 0, 0, 26, 0, 0, 0, 1, 2, 3, 4, 0, 0, 0, 0, 9, 9, 9, 9, 9, 9, 9, 9};
+static const uint8_t COPIED[32] = {0, 0, 0, 0, 1, 0, 1, 0, 7, 0, 0, 0, 0, 0, 0, 0,
+                                   1, 0, 0, 0, 26, 0, 0, 0, 1, 2, 3, 0, 0, 0, 0, 0};
+
+/* What is answered for a message with so much room, between bytes that stay as they are. */
+static uint32_t copied(const uint8_t *bytes, size_t length, size_t room, size_t *written, uint8_t *got,
+                       capvet_report *report) {
+  uint8_t *from = block(bytes, length, 1);
+  uint8_t *out = malloc(room + 1);
+  uint32_t answer;
+  if (out == NULL) exit(3);
+  memset(out, 0xee, room + 1);
+  *written = 77;
+  *report = unwritten();
+  answer = capvet_canonical(from + 1, length, &LIMITS, out, room, written, report);
+  EXPECT(out[room] == 0xee, "a byte behind the room of a copy", room);
+  EXPECT(length == 0 || memcmp(from + 1, bytes, length) == 0, "the bytes of a message stay", length);
+  memcpy(got, out, room);
+  free(out);
+  free(from);
+  return answer;
+}
+
+/* Each room, each front, and a capability. */
+static void copying(void) {
+  uint8_t got[40];
+  capvet_report r;
+  size_t length, room, written, k;
+  for (room = 0; room <= sizeof got; room++) {
+    uint32_t answer = copied(LOOSE, sizeof LOOSE, room, &written, got, &r);
+    size_t from = room < sizeof COPIED ? 0 : sizeof COPIED;
+    EXPECT(answer == (from == 0 ? (uint32_t)CAPVET_NO_ROOM : (uint32_t)CAPVET_OK), "the room of a copy", room);
+    EXPECT(written == sizeof COPIED, "the room that a copy takes", written);
+    EXPECT(memcmp(got, COPIED, from) == 0, "the words of a copy", room);
+    for (k = from; k < room; k++) EXPECT(got[k] == 0xee, "what stands behind a copy", k);
+    EXPECT(r.length == 64 && r.segments == 2 && r.number == 0, "the frame of a copied message", r.length);
+    EXPECT(r.charge == 5 && r.pointers == 2 && r.depth == 2, "the tree of a copied message", r.charge);
+    EXPECT(r.caps == 0 && r.segment == 0 && r.word == 0, "no capability", r.caps);
+  }
+  for (length = 0; length < 64; length++) {
+    uint32_t answer = copied(LOOSE, length, sizeof got, &written, got, &r);
+    EXPECT(answer == (length == 0 ? (uint32_t)CAPVET_NO_MESSAGE : (uint32_t)CAPVET_TRUNCATED), "a copy of a front",
+           length);
+    EXPECT(written == 0 && r.length == 0, "nothing of a front", written);
+    for (k = 0; k < sizeof got; k++) EXPECT(got[k] == 0xee, "the room stays of a front", k);
+  }
+  for (room = 0; room <= sizeof got; room++) {
+    uint32_t answer = copied(TWO, sizeof TWO, room, &written, got, &r);
+    EXPECT(answer == CAPVET_HAS_CAPABILITY, "a copy of a capability", answer);
+    EXPECT(written == 0 && r.caps == 1 && r.segment == 1 && r.word == 3, "the first capability", r.word);
+    for (k = 0; k < room; k++) EXPECT(got[k] == 0xee, "the room stays of a capability", k);
+  }
+}
+
 int main(void) {
   EXPECT(capvet_version() == 65536ul * CAPVET_VERSION_MAJOR + CAPVET_VERSION_MINOR, "version", capvet_version());
   layout();
@@ -236,6 +294,7 @@ int main(void) {
   faults();
   refusals();
   unpacking();
+  copying();
   if (failures == 0) printf("calls: all as promised\n");
   return failures != 0;
 }

@@ -3,6 +3,9 @@
  * of exactly the bytes that are left, up to a limit, so that a tool that watches memory sees a read
  * behind them.
  *
+ * lines canon FILE: the canonical copies of the messages, each behind its table, up to the first message that
+ * is refused or has a capability. Each is written into a block of exactly its bytes.
+ *
  * lines unpack FILE: the words of a packed text, or the program's line where it is cut. They are written
  * into a block of exactly their bytes. */
 #include <capvet.h>
@@ -79,14 +82,45 @@ static int unpack(const uint8_t *bytes, size_t length) {
   return 0;
 }
 
+/* Writes the canonical copy of a message, by its number in the stream, once its length was asked for. 1 where
+ * it has none. */
+static int copy(unsigned long n, const uint8_t *bytes, size_t length, const capvet_limits *limits,
+                capvet_report *report) {
+  uint8_t table[8] = {0}, *out, none;
+  size_t needed = 77, written = 77, k;
+  capvet_report again;
+  uint32_t answer = capvet_canonical(bytes, length, limits, &none, 0, &needed, report);
+  if (answer != CAPVET_NO_ROOM) {
+    if (needed != 0) return 4;
+    if (report->length == 0) return 1;
+    if (answer == CAPVET_HAS_CAPABILITY)
+      fprintf(stderr, "capvet: message %lu: HasCapability at %lu:%lu\n", n, (unsigned long)report->segment,
+              (unsigned long)report->word);
+    else
+      fprintf(stderr, "capvet: message %lu: refused %s at %lu:%lu\n", n, reason(answer),
+              (unsigned long)report->segment, (unsigned long)report->word);
+    return 1;
+  }
+  if (needed > 8 * (report->charge + 1)) return 4;
+  out = malloc(needed + 1);
+  if (out == NULL) return 3;
+  if (capvet_canonical(bytes, length, limits, out + 1, needed, &written, &again) != CAPVET_OK) return 4;
+  if (written != needed || memcmp(report, &again, sizeof again) != 0) return 4;
+  for (k = 0; k < 4; k++) table[4 + k] = (uint8_t)(written / 8 >> (8 * k));
+  if (fwrite(table, 1, 8, stdout) != 8 || fwrite(out + 1, 1, written, stdout) != written) return 3;
+  free(out);
+  return 0;
+}
+
 int main(int count, char **words) {
   const capvet_limits limits = CAPVET_LIMITS_INIT;
   size_t length = 0, at = 0;
   unsigned long n;
-  int status = 0, check;
+  int status = 0, check, canon;
   uint8_t *bytes;
   if (count != 3) return 2;
   check = strcmp(words[1], "check") == 0;
+  canon = strcmp(words[1], "canon") == 0;
   bytes = contents(words[2], &length);
   if (strcmp(words[1], "unpack") == 0) {
     status = unpack(bytes, length);
@@ -105,9 +139,15 @@ int main(int count, char **words) {
     if (block == NULL) return 3;
     memcpy(block + 1, bytes + at, size);
     memset(&report, 0xa5, sizeof report);
-    answer = check ? capvet_is_canonical(block + 1, size, &limits, &report)
-                   : capvet_vet(block + 1, size, &limits, &report);
+    if (canon) {
+      status = copy(n, block + 1, size, &limits, &report);
+      answer = framed.length == 0 ? answer : CAPVET_OK;
+    } else {
+      answer = check ? capvet_is_canonical(block + 1, size, &limits, &report)
+                     : capvet_vet(block + 1, size, &limits, &report);
+    }
     free(block);
+    if (status > 1) return status;
     if (report.length != framed.length || report.number != framed.number || report.segments != framed.segments)
       return 4;
     if (report.length == 0) {
@@ -115,7 +155,8 @@ int main(int count, char **words) {
       status = 1;
       break;
     }
-    line(check, n, answer, &report);
+    if (canon && status != 0) break;
+    if (!canon) line(check, n, answer, &report);
     if (answer != CAPVET_OK) status = 1;
     at += (size_t)report.length;
   }

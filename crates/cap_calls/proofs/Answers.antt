@@ -77,7 +77,7 @@ module _ (l : CallLimits) (bs : List ℕ) where
   no_cause (Fault a) frame segments m h f = whole_answer l.size bs (Without-fault a) m frame f.front h.1
 
   -- there is one frame
-  one_extent : (a b x y : ℕ) (m n : List (List ℕ)) → HasFrame l bs a x m → HasFrame l bs b y n → (a ≡ b) × (x ≡ y) × (m ≡ n)
+  pub one_extent : (a b x y : ℕ) (m n : List (List ℕ)) → HasFrame l bs a x m → HasFrame l bs b y n → (a ≡ b) × (x ≡ y) × (m ≡ n)
   one_extent a b x y m n f g =
       let same = one_frame f.front.own g.front.own f.front.rest g.front.rest m n f.front.frames g.front.frames (sym f.front.words ∙ g.front.words) in
       (f.front.long ∙ (ap (λ (ws : List ℕ). 8 * length ws) same.0 ∙ sym g.front.long), f.count ∙ (ap length same.1 ∙ sym g.count), same.1)

@@ -1,3 +1,4 @@
 pub mod Answers
+pub mod Copied
 pub mod Unpacked
 pub mod Texts

@@ -12,6 +12,7 @@ use Rattle.cap_calls.specs.declared.answer.Answer.TheVariants.{
   BadLimits,
   NoRoom,
   NotCanonical,
+  HasCapability,
   NoRoot,
   Reserved,
   SegmentMissing,
@@ -37,6 +38,7 @@ number_of Truncated = 4
 number_of BadLimits = 8
 number_of NoRoom = 9
 number_of NotCanonical = 16
+number_of HasCapability = 17
 number_of NoRoot = 32
 number_of Reserved = 33
 number_of SegmentMissing = 34

@@ -1,4 +1,5 @@
 pub mod AnswerNumbers
+pub mod CanonicalCalls
 pub mod CallVerdicts
 pub mod CallReports
 pub mod Calls

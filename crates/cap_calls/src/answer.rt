@@ -23,6 +23,8 @@ pub enum Answer {
     NoRoom = 9,
     /// The message is accepted, and isn't its own canonical copy.
     NotCanonical = 16,
+    /// The message is accepted, and has a capability, so that it has no canonical copy.
+    HasCapability = 17,
     /// The message is refused for [`Reason::NoRoot`], as those behind it for the reasons of their names.
     NoRoot = 32,
     Reserved = 33,

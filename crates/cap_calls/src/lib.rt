@@ -4,6 +4,7 @@
 mod answer;
 mod calls;
 mod checking;
+mod copying;
 mod front;
 mod limits;
 mod report;
@@ -13,6 +14,7 @@ mod verdict;
 pub use answer::Answer;
 pub use calls::{frame, version, vet};
 pub use checking::is_canonical;
+pub use copying::canonical;
 pub use limits::CallLimits;
 pub use report::CallReport;
 pub use unpacking::unpack;

@@ -4,6 +4,8 @@ use crate::{Answer, CallLimits, CallReport, frame, is_canonical, unpack, version
 use std::process::Abort;
 use std::test::Fail;
 
+mod copying;
+
 // The limits of the program.
 const LIMITS: CallLimits = CallLimits {
     size: 8388608,

@@ -3,12 +3,13 @@
 
 ghost use Rattle.cap_calls.specs.Calls.{TellsCheck, TellsFrame, TellsVet};
 ghost use Rattle.cap_calls.specs.AnswerNumbers.{number_of};
+ghost use Rattle.cap_calls.specs.CanonicalCalls.{TellsCopy};
 ghost use Rattle.cap_calls.specs.Spellings.{TellsUnpack};
 ghost use Rattle.cap_calls.specs.declared.answer.Answer.{Answer};
 ghost use Rattle.cap_calls.specs.declared.report.CallReport.{CallReport};
-ghost use Rattle.std.specs.Prelude.{◌≡◌, List, ℕ};
+ghost use Rattle.std.specs.Prelude.{◌*◌, ◌+◌, ◌≡◌, ◌≤◌, List, ℕ};
 
-use cap_calls::{CallLimits, CallReport, frame, is_canonical, unpack, version, vet};
+use cap_calls::{CallLimits, CallReport, canonical, frame, is_canonical, unpack, version, vet};
 
 /// The version of the library: 65536 times its major number, and its minor number.
 #[unsafe(no_mangle)]
@@ -36,6 +37,25 @@ pub extern "C" fn capvet_vet(bytes: &[u8], limits: &CallLimits, report: &mut Cal
     ensures only { (a : Answer) (r : CallReport) → TellsVet limits.now bytes.now a r → (result ≡ number_of a) × (report.new ≡ r) }
 {
     vet(bytes, limits, report).number()
+}
+
+/// [`canonical`], with the number of its answer.
+#[unsafe(no_mangle)]
+pub extern "C" fn capvet_canonical(
+    bytes: &[u8],
+    limits: &CallLimits,
+    out: &mut [u8],
+    written: &mut usize,
+    report: &mut CallReport,
+) -> u32
+    ensures tells { (a : Answer) × TellsCopy limits.now bytes.now out.old a written.new out.new report.new × (result ≡ number_of a) }
+    // Nothing else is to be told of the bytes and the room.
+    ensures only { (a : Answer) (n : ℕ) (new : List ℕ) (r : CallReport) → TellsCopy limits.now bytes.now out.old a n new r
+        → (result ≡ number_of a) × (written.new ≡ n) × (out.new ≡ new) × (report.new ≡ r) }
+    // So much room always serves.
+    ensures few { written.new ≤ 8 * (report.new.charge + 1) }
+{
+    canonical(bytes, limits, out, written, report).number()
 }
 
 /// [`is_canonical`], with the number of its answer.
