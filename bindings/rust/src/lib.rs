@@ -46,6 +46,7 @@ compile_error!("libcapvet.a is built for 64-bit machines alone");
 #[cfg(feature = "alloc")]
 extern crate alloc;
 
+mod canonical;
 mod limits;
 mod messages;
 mod packed;
@@ -56,6 +57,9 @@ mod sys;
 #[cfg(test)]
 mod tests;
 
+#[cfg(feature = "alloc")]
+pub use canonical::canonical;
+pub use canonical::{canonical_into, NoCopy};
 pub use limits::Limits;
 pub use messages::{messages, Message, Messages};
 #[cfg(feature = "alloc")]

@@ -15,6 +15,7 @@ impl Answer {
     pub(crate) const TRUNCATED: Self = Self(4);
     pub(crate) const NO_ROOM: Self = Self(9);
     pub(crate) const NOT_CANONICAL: Self = Self(16);
+    pub(crate) const HAS_CAPABILITY: Self = Self(17);
 
     /// The number of the first reason of a refusal; the others follow in order.
     pub(crate) const FIRST_REASON: u32 = 32;
@@ -86,6 +87,15 @@ extern "C" {
         room: usize,
         written: *mut usize,
     ) -> Answer;
+    fn capvet_canonical(
+        bytes: *const u8,
+        length: usize,
+        limits: *const RawLimits,
+        out: *mut u8,
+        room: usize,
+        written: *mut usize,
+        report: *mut Told,
+    ) -> Answer;
     fn capvet_version() -> u32;
 }
 
@@ -137,6 +147,31 @@ pub(crate) fn unpack(packed: &[u8], out: &mut [u8]) -> (Answer, usize) {
     // that is borrowed for the call and by nobody else, or 0 bytes at one of ours, and the number is this frame's alone.
     let answer = unsafe { capvet_unpack(address(packed), packed.len(), out, room, &mut written) };
     (answer, written)
+}
+
+/// The canonical copy of the message that the bytes begin with, into the front of `out`, and how many bytes it has.
+pub(crate) fn canonical(bytes: &[u8], limits: &Limits, out: &mut [u8]) -> (Answer, usize, Told) {
+    let (limits, mut told) = (RawLimits::of(limits), Told::default());
+    let (room, mut written, mut none) = (out.len(), 0, 0);
+    let front: *mut u8 = if room == 0 {
+        &mut none
+    } else {
+        out.as_mut_ptr()
+    };
+    // SAFETY: as in `frame`; and `out` is borrowed for the call and for nobody else, or is 0 bytes at one of this frame's,
+    // whose own the length is too.
+    let answer = unsafe {
+        capvet_canonical(
+            address(bytes),
+            bytes.len(),
+            &limits,
+            front,
+            room,
+            &mut written,
+            &mut told,
+        )
+    };
+    (answer, written, told)
 }
 
 /// The archive's version, as one number.

@@ -1,7 +1,9 @@
 //! The declarations against the header, and what the archive answers against what is known of the samples.
 
 use crate::sys::{Answer, Told};
-use crate::{frame_len, is_canonical, messages, vet, Limits, Reason, Refusal};
+use crate::{
+    canonical_into, frame_len, is_canonical, messages, vet, Limits, NoCopy, Reason, Refusal,
+};
 use core::mem::size_of;
 
 const HEADER: &str = include_str!("../../../include/capvet.h");
@@ -9,6 +11,8 @@ const CONTACTS: &[u8] = include_bytes!("../../../examples/contacts.bin");
 const MANY_SEGMENTS: &[u8] = include_bytes!("../../../examples/contacts-many-segments.bin");
 const TELEMETRY: &[u8] = include_bytes!("../../../examples/telemetry.bin");
 const STREAM: &[u8] = include_bytes!("../../../examples/stream-of-four.bin");
+const CONTACTS_COPY: &[u8] = include_bytes!("../../../examples/canonical/contacts.bin");
+const TELEMETRY_COPY: &[u8] = include_bytes!("../../../examples/canonical/telemetry.bin");
 const NULL: [u8; 16] = [0, 0, 0, 0, 1, 0, 0, 0, 0, 0, 0, 0, 0, 0, 0, 0];
 const CYCLE: [u8; 16] = [0, 0, 0, 0, 1, 0, 0, 0, 0xfc, 0xff, 0xff, 0xff, 0, 0, 1, 0];
 
@@ -66,6 +70,7 @@ fn answers_are_those_of_the_header() {
         ("TRUNCATED", Answer::TRUNCATED),
         ("NO_ROOM", Answer::NO_ROOM),
         ("NOT_CANONICAL", Answer::NOT_CANONICAL),
+        ("HAS_CAPABILITY", Answer::HAS_CAPABILITY),
     ] {
         assert!(of_header.contains(&(name.to_owned(), answer.0)), "{name}");
     }
@@ -165,6 +170,38 @@ fn samples_are_accepted() {
     }
 }
 
+#[cfg(feature = "std")]
+#[test]
+fn copies_are_those_of_the_samples() {
+    for (bytes, copy) in [
+        (CONTACTS, CONTACTS_COPY),
+        (MANY_SEGMENTS, CONTACTS_COPY),
+        (TELEMETRY, TELEMETRY_COPY),
+    ] {
+        assert_eq!(
+            crate::canonical(bytes, Limits::DEFAULT).as_deref(),
+            Ok(copy)
+        );
+        let mut room = vec![0xee; copy.len() + 1];
+        for length in 0..copy.len() {
+            assert_eq!(
+                canonical_into(bytes, Limits::DEFAULT, &mut room[..length]),
+                Err(NoCopy::NoRoom { needed: copy.len() })
+            );
+        }
+        assert!(room.iter().all(|it| *it == 0xee));
+        let written = canonical_into(bytes, Limits::DEFAULT, &mut room);
+        assert_eq!(written, Ok(copy.len()));
+        assert_eq!(room, [copy, &[0xee]].concat());
+    }
+    assert_eq!(
+        crate::canonical(&CYCLE, Limits::DEFAULT),
+        Err(NoCopy::Refused(
+            vet(&CYCLE, Limits::DEFAULT).expect_err("it is refused")
+        ))
+    );
+}
+
 #[test]
 fn the_first_capability_is_told() {
     // A struct of two pointers, the second of them a capability.
@@ -178,6 +215,8 @@ fn the_first_capability_is_told() {
         (1, 3, Some((0, 2)))
     );
     assert_eq!(is_canonical(&message, Limits::DEFAULT), Ok(false));
+    let none = canonical_into(&message, Limits::DEFAULT, &mut []).expect_err("no copy");
+    assert_eq!(none.to_string(), "HasCapability at 0:2");
 }
 
 #[test]
