@@ -44,7 +44,8 @@ typedef char capvet_needs_64_bits[sizeof(size_t) == 8 ? 1 : -1];
  * 32 on why it is refused. Numbers never change; new ones may come, so treat any but CAPVET_OK as a
  * no. Where several hold, the order is: CAPVET_BAD_LIMITS, the frame (empty, fewer than 8 bytes, too
  * many segments, the table cut, too large, the contents cut), the refusal, CAPVET_HAS_CAPABILITY,
- * CAPVET_NO_ROOM or CAPVET_NOT_CANONICAL. Of unpacking: see there. */
+ * CAPVET_NO_ROOM or CAPVET_NOT_CANONICAL. Of packing and
+ * unpacking: see there. */
 enum {
   CAPVET_OK = 0,
   CAPVET_NO_MESSAGE = 1, /* the buffer is empty: where a stream ends; `number` is 8 */
@@ -142,6 +143,14 @@ uint32_t capvet_canonical(const uint8_t *bytes, size_t length, const capvet_limi
 CAPVET_CHECKED
 uint32_t capvet_is_canonical(const uint8_t *bytes, size_t length, const capvet_limits *limits,
                              capvet_report *report);
+
+/* Packs the words that the whole of `bytes` are into the first *written bytes of `out`, which has `room`
+ * bytes; they need be no message. CAPVET_NO_ROOM: *written is how many bytes it takes; so with `room` 0
+ * it tells that, and it is never more than length / 8 * 10. CAPVET_TRUNCATED, before CAPVET_NO_ROOM, where
+ * `length` is no multiple of 8; *written is 0 then. After any answer but CAPVET_OK `out` is as it was;
+ * bytes of `out` behind the packed text are as they were after that too. */
+CAPVET_CHECKED
+uint32_t capvet_pack(const uint8_t *bytes, size_t length, uint8_t *out, size_t room, size_t *written);
 
 /* Unpacks the whole of `bytes` into the first *written bytes of `out`, which has `room` bytes: the bytes
  * of words, which need be no message. CAPVET_NO_ROOM: *written is how many bytes it takes; so with `room`

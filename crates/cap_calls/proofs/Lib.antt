@@ -2,3 +2,4 @@ pub mod Answers
 pub mod Copied
 pub mod Unpacked
 pub mod Texts
+pub mod Packed

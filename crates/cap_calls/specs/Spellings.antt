@@ -1,6 +1,7 @@
 -- What the calls between the spellings of words answer and write, of the bytes alone (standard: Packing; the order of the answers is the profile's).
 use Rattle.std.specs.Prelude.{ℕ, ◌^◌, ◌<◌, ◌≡◌, ◌≤◌, List, ◌++◌, length, drop, true, false}
-use Rattle.cap_spec.specs.Plain.{plain_text}
+use Rattle.cap_spec.specs.Packing.{pack_text}
+use Rattle.cap_spec.specs.Plain.{plain_is_cut, plain_text, plain_words}
 use Rattle.cap_spec.specs.Unpacking.{packed_is_cut, unpacked}
 use Rattle.cap_calls.specs.declared.answer.Answer.{Answer}
 use Rattle.cap_calls.specs.declared.answer.Answer.TheVariants.{Good, TooLarge, Truncated, NoRoom}
@@ -15,3 +16,8 @@ pub data TellsUnpack (bytes old : List ℕ) (a : Answer) (n : ℕ) (new : List �
   too_large : 2 ^ 53 < length bytes → a ≡ TooLarge → n ≡ 0 → new ≡ old → TellsUnpack bytes old a n new
   cut : length bytes ≤ 2 ^ 53 → packed_is_cut bytes ≡ true → a ≡ Truncated → n ≡ 0 → new ≡ old → TellsUnpack bytes old a n new
   whole : length bytes ≤ 2 ^ 53 → packed_is_cut bytes ≡ false → TellsText (plain_text (unpacked bytes)) old a n new → TellsUnpack bytes old a n new
+
+-- of the one packed text of the words that the bytes are
+pub data TellsPack (bytes old : List ℕ) (a : Answer) (n : ℕ) (new : List ℕ) : Type 0 where
+  cut : plain_is_cut bytes ≡ true → a ≡ Truncated → n ≡ 0 → new ≡ old → TellsPack bytes old a n new
+  whole : plain_is_cut bytes ≡ false → TellsText (pack_text (plain_words bytes)) old a n new → TellsPack bytes old a n new

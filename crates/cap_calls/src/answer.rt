@@ -15,7 +15,7 @@ pub enum Answer {
     TooManySegments = 2,
     /// The table's sizes sum to more words than the limit, or there are too many packed bytes.
     TooLarge = 3,
-    /// The bytes end inside the message, or packed ones inside a group.
+    /// The bytes end inside the message, packed ones inside a group, or those of words inside a word.
     Truncated = 4,
     /// A limit is above its most.
     BadLimits = 8,

@@ -13,3 +13,4 @@ pub mod Tags
 pub mod Runs
 pub mod Shuffles
 pub mod GroupsSpelled
+pub mod GroupTexts

@@ -18,7 +18,7 @@ begins_kept (Some x) (Some y) None k h = absurd h
 begins_kept (Some x) (Some y) (Some p) k h = (h.0, sym k ∙ h.1)
 
 -- the first word of bytes, and the words behind it
-word_first : (bytes : List ℕ) → 8 ≤ length bytes → plain_words bytes ≡ little_number 8 bytes ∷ plain_words (drop 8 bytes)
+pub word_first : (bytes : List ℕ) → 8 ≤ length bytes → plain_words bytes ≡ little_number 8 bytes ∷ plain_words (drop 8 bytes)
 word_first [] h = absurd (omega arith)
 word_first (a ∷ []) h = absurd (omega arith)
 word_first (a ∷ b ∷ []) h = absurd (omega arith)

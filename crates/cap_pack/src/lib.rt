@@ -3,6 +3,7 @@
 #![tactic(auto)]
 
 mod at_hand;
+mod buffers;
 mod counted;
 mod group;
 mod head;
@@ -12,5 +13,6 @@ mod pieces;
 mod spelling;
 mod unpacker;
 
+pub use buffers::pack_into;
 pub use packer::Packer;
 pub use unpacker::Unpacker;

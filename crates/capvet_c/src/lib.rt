@@ -4,12 +4,14 @@
 ghost use Rattle.cap_calls.specs.Calls.{TellsCheck, TellsFrame, TellsVet};
 ghost use Rattle.cap_calls.specs.AnswerNumbers.{number_of};
 ghost use Rattle.cap_calls.specs.CanonicalCalls.{TellsCopy};
-ghost use Rattle.cap_calls.specs.Spellings.{TellsUnpack};
+ghost use Rattle.cap_calls.specs.Spellings.{TellsPack, TellsUnpack};
 ghost use Rattle.cap_calls.specs.declared.answer.Answer.{Answer};
 ghost use Rattle.cap_calls.specs.declared.report.CallReport.{CallReport};
 ghost use Rattle.std.specs.Prelude.{◌*◌, ◌+◌, ◌≡◌, ◌≤◌, List, ℕ};
 
-use cap_calls::{CallLimits, CallReport, canonical, frame, is_canonical, unpack, version, vet};
+use cap_calls::{
+    CallLimits, CallReport, canonical, frame, is_canonical, pack, unpack, version, vet,
+};
 
 /// The version of the library: 65536 times its major number, and its minor number.
 #[unsafe(no_mangle)]
@@ -70,6 +72,16 @@ pub extern "C" fn capvet_is_canonical(
     ensures only { (a : Answer) (r : CallReport) → TellsCheck limits.now bytes.now a r → (result ≡ number_of a) × (report.new ≡ r) }
 {
     is_canonical(bytes, limits, report).number()
+}
+
+/// [`pack`], with the number of its answer.
+#[unsafe(no_mangle)]
+pub extern "C" fn capvet_pack(bytes: &[u8], out: &mut [u8], written: &mut usize) -> u32
+    ensures tells { (a : Answer) × TellsPack bytes.now out.old a written.new out.new × (result ≡ number_of a) }
+    // Nothing else is to be told of the bytes.
+    ensures only { (a : Answer) (n : ℕ) (new : List ℕ) → TellsPack bytes.now out.old a n new → (result ≡ number_of a) × (written.new ≡ n) × (out.new ≡ new) }
+{
+    pack(bytes, out, written).number()
 }
 
 /// [`unpack`], with the number of its answer.

@@ -1,0 +1,292 @@
+-- The group in front of words that stand in bytes, and what is written of it.
+use Rattle.std.proofs.Common.{◌≡◌, ◌≢◌, ◌≤◌, ◌<◌, ◌+◌, ◌-◌, ◌*◌, ◌/◌, ◌%◌, ◌∙◌, ℕ, zero, suc, List, [], ◌∷◌, ◌++◌, length, take, drop, set, get_or, min, refl, sym, ap, arith, append-nil, append_assoc, drop-drop, length-append, length-drop, length-set, take-append-drop}
+use Rattle.std.specs.Prelude.{◌==◌, filter, nat_le, not}
+use Rattle.std.proofs.lemmas.Bool.{ne_eqb}
+use Rattle.std.proofs.lemmas.List.{drop_all, length-take-le, take_all, take_at, take_rest}
+use Rattle.std.proofs.lemmas.Slice.{drop-put_mid, take-put_mid}
+use Rattle.std.specs.List.{AllByRecursion}
+use Rattle.byteorder.specs.Endian.{little_number}
+use borrow.Rule.Slice.PartMut.{put_mid}
+use lib.Count.{ones}
+use Rattle.cap_spec.specs.Packing.{full_run, group_size, group_text, pack_text, tag_of, zero_bytes, zero_run}
+use Rattle.cap_spec.specs.Plain.{plain_text, plain_words, word_bytes}
+use Rattle.cap_spec.proofs.Bytes.Lists.{all_drop}
+use Rattle.cap_spec.proofs.Bytes.Plain.{length_plain}
+use Rattle.cap_spec.proofs.Packed.Packing.{front-le, group_size-marked, nonzero_word, pack_text-group, zero_run-append}
+use Rattle.cap_words.proofs.Filling.{plain_join}
+use Rattle.cap_words.proofs.WholeWords.{whole_text}
+use Rattle.cap_pack.specs.GroupTexts.{front_text}
+use Rattle.cap_pack.proofs.FullWords.{full_word, word_tag, zero_word}
+use Rattle.cap_pack.proofs.PuttingEach.{word_first}
+use Rattle.cap_pack.proofs.Shuffles.{ones_of_tag}
+use Rattle.cap_pack.proofs.Written.{take-first, take-pushed}
+
+-- as many words as there are whole ones
+pub words_exact : (bs : List ℕ) → length (plain_words bs) ≡ length bs / 8
+words_exact [] = omega arith
+words_exact (a ∷ []) = omega arith
+words_exact (a ∷ b ∷ []) = omega arith
+words_exact (a ∷ b ∷ c ∷ []) = omega arith
+words_exact (a ∷ b ∷ c ∷ d ∷ []) = omega arith
+words_exact (a ∷ b ∷ c ∷ d ∷ e ∷ []) = omega arith
+words_exact (a ∷ b ∷ c ∷ d ∷ e ∷ f ∷ []) = omega arith
+words_exact (a ∷ b ∷ c ∷ d ∷ e ∷ f ∷ g ∷ []) = omega arith
+words_exact (a ∷ b ∷ c ∷ d ∷ e ∷ f ∷ g ∷ h ∷ rest) = let t = words_exact rest in omega arith
+
+-- the word at a place
+pub word_placed : (bs : List ℕ) (k : ℕ) → 8 * k + 8 ≤ length bs → little_number 8 (drop (8 * k) bs) ≡ get_or (plain_words bs) k 0
+word_placed bs zero l = sym (ap (λ ws. get_or ws 0 0) (word_first bs (omega (arith, l))))
+word_placed bs (suc k) l =
+    let same : 8 + 8 * k ≡ 8 * suc k = omega arith in
+    let moved : drop (8 * suc k) bs ≡ drop (8 * k) (drop 8 bs) = sym (drop-drop (8 * k) 8 bs ∙ ap (λ n. drop n bs) same) in
+    ap (little_number 8) moved ∙ word_placed (drop 8 bs) k (omega (arith, l, length-drop 8 bs))
+    ∙ sym (ap (λ ws. get_or ws (suc k) 0) (word_first bs (omega (arith, l))))
+
+-- the first word, and those behind it
+pub words_first : (bs : List ℕ) → 8 ≤ length bs → plain_words bs ≡ get_or (plain_words bs) 0 0 ∷ plain_words (drop 8 bs)
+words_first bs l =
+    let first : get_or (plain_words bs) 0 0 ≡ little_number 8 bs = ap (λ ws. get_or ws 0 0) (word_first bs l) in
+    word_first bs l ∙ ap (λ (w : ℕ). w ∷ plain_words (drop 8 bs)) (sym first)
+
+-- words in front, and those behind them
+pub words_parted : (bs : List ℕ) (n : ℕ) → n % 8 ≡ 0 → n ≤ length bs → plain_words bs ≡ plain_words (take n bs) ++ plain_words (drop n bs)
+words_parted bs n e l =
+    ap plain_words (sym (take-append-drop n bs)) ∙ plain_join (take n bs) (drop n bs) (omega (arith, e, length-take-le n bs l))
+
+-- a word and k others in front begin with the same word
+pub front_first : (bs : List ℕ) (k : ℕ) → 8 + 8 * k ≤ length bs → plain_words (take (8 + 8 * k) bs) ≡ get_or (plain_words bs) 0 0 ∷ plain_words (drop 8 (take (8 + 8 * k) bs))
+front_first bs k l =
+    let part = take (8 + 8 * k) bs in
+    let own = words_first part (omega (arith, length-take-le (8 + 8 * k) bs l)) in
+    let parted = words_parted bs (8 + 8 * k) (omega arith) l in
+    let same : get_or (plain_words bs) 0 0 ≡ get_or (plain_words part) 0 0 =
+    ap (λ ws. get_or ws 0 0) (parted ∙ ap (λ (ws : List ℕ). ws ++ plain_words (drop (8 + 8 * k) bs)) own) in
+    own ∙ ap (λ (w : ℕ). w ∷ plain_words (drop 8 part)) (sym same)
+
+pub front_behind : (bs : List ℕ) (k : ℕ) → 8 + 8 * k ≤ length bs → length (plain_words (drop 8 (take (8 + 8 * k) bs))) ≡ k
+front_behind bs k l =
+    let part = take (8 + 8 * k) bs in
+    omega (arith, words_exact (drop 8 part), length-drop 8 part, length-take-le (8 + 8 * k) bs l)
+
+-- the text of whole words is their bytes
+pub text_whole : (bs : List ℕ) → AllByRecursion (λ b. b < 256) bs → length bs % 8 ≡ 0 → bs ≡ plain_text (plain_words bs)
+text_whole bs small e = sym (take_all (length bs / 8 * 8) bs (omega (arith, e))) ∙ whole_text bs small
+
+-- how many words the group in front takes, by its first word
+pub size_zero : (w : ℕ) (ws : List ℕ) → w ≡ 0 → group_size (w ∷ ws) ≡ 1 + min 255 (zero_run ws)
+size_zero w ws e =
+    let run : zero_run (0 ∷ ws) ≡ 1 + zero_run ws = zero_run-append 1 ws in
+    let size : group_size (0 ∷ ws) ≡ min 256 (zero_run (0 ∷ ws)) = refl in
+    ap (λ (v : ℕ). group_size (v ∷ ws)) e ∙ omega (arith, run, size)
+
+pub size_full : (w : ℕ) (ws : List ℕ) → zero_bytes w ≡ 0 → group_size (w ∷ ws) ≡ 1 + min 255 (full_run ws)
+size_full w ws z = rw (ne_eqb w 0 (nonzero_word w (omega (arith, z))), z) refl
+
+-- its text, where it takes all of them
+pub text_zero : (w : ℕ) (ws : List ℕ) → w ≡ 0 → front_text (w ∷ ws) ≡ 0 ∷ length ws ∷ []
+text_zero w ws e = ap (λ (v : ℕ). front_text (v ∷ ws)) e
+
+pub text_full : (w : ℕ) (ws : List ℕ) → zero_bytes w ≡ 0 → front_text (w ∷ ws) ≡ 255 ∷ (word_bytes w ++ length ws ∷ plain_text ws)
+text_full w ws z = full w (length ws) ws z
+  where
+    full : (w n : ℕ) (ws : List ℕ) → zero_bytes w ≡ 0 → group_text w n ws ≡ 255 ∷ (word_bytes w ++ n ∷ plain_text ws)
+    full w n ws z = rw (ne_eqb w 0 (nonzero_word w (omega (arith, z))), z) refl
+
+pub text_marked : (w : ℕ) (ws : List ℕ) → w ≢ 0 → zero_bytes w ≢ 0 → front_text (w ∷ ws) ≡ tag_of (word_bytes w) ∷ filter (λ b. not (b == 0)) (word_bytes w)
+text_marked w ws h z = marked w (length ws) ws h z
+  where
+    marked : (w n : ℕ) (ws : List ℕ) → w ≢ 0 → zero_bytes w ≢ 0 → group_text w n ws ≡ tag_of (word_bytes w) ∷ filter (λ b. not (b == 0)) (word_bytes w)
+    marked w n ws h z = rw (ne_eqb w 0 h, ne_eqb (zero_bytes w) 0 z) refl
+
+-- the group in front: a word and k others, and the length of the text
+pub record IsFront (bs : List ℕ) (k spelled : ℕ) : Type 0 where
+  pub size : 8 + 8 * k ≡ 8 * group_size (plain_words bs)
+  pub most : k ≤ 255
+  pub within : 8 + 8 * k ≤ length bs
+  pub text : spelled ≡ length (front_text (plain_words (take (8 + 8 * k) bs)))
+
+-- so many words behind the first are there
+run_within : (bs rest : List ℕ) (k n : ℕ) → 8 ≤ length bs → rest ≡ drop 8 bs → k ≡ min 255 n → n ≤ length (plain_words rest) → 8 + 8 * k ≤ length bs
+run_within bs rest k n l e m f = omega (arith, l, ap length e, length-drop 8 bs, words_exact rest, m, f)
+
+pub zeros_front : (bs rest : List ℕ) (k : ℕ) → 8 ≤ length bs → rest ≡ drop 8 bs → get_or (plain_words bs) 0 0 ≡ 0 → k ≡ min 255 (zero_run (plain_words rest)) → IsFront bs k 2
+zeros_front bs rest k l e z m =
+    let run = zero_run (plain_words rest) in
+    let within : 8 + 8 * k ≤ length bs = run_within bs rest k run l e m (front-le (λ x. x == 0) (plain_words rest)) in
+    let first : group_size (plain_words bs) ≡ 1 + min 255 (zero_run (plain_words (drop 8 bs))) = ap group_size (words_first bs l) ∙ size_zero _ (plain_words (drop 8 bs)) z in
+    let same : zero_run (plain_words rest) ≡ zero_run (plain_words (drop 8 bs)) = ap (λ xs. zero_run (plain_words xs)) e in
+    let text = ap front_text (front_first bs k within) ∙ text_zero _ (plain_words (drop 8 (take (8 + 8 * k) bs))) z in
+    record {
+      size = omega (arith, m, first, same);
+      most = omega (arith, m);
+      within = within;
+      text = sym (ap length text);
+    }
+
+pub full_front : (bs rest : List ℕ) (k : ℕ) → 8 ≤ length bs → rest ≡ drop 8 bs → zero_bytes (get_or (plain_words bs) 0 0) ≡ 0 → k ≡ min 255 (full_run (plain_words rest)) → IsFront bs k (10 + 8 * k)
+full_front bs rest k l e z m =
+    let run = full_run (plain_words rest) in
+    let within : 8 + 8 * k ≤ length bs = run_within bs rest k run l e m (front-le (λ x. nat_le (zero_bytes x) 1) (plain_words rest)) in
+    let first : group_size (plain_words bs) ≡ 1 + min 255 (full_run (plain_words (drop 8 bs))) = ap group_size (words_first bs l) ∙ size_full _ (plain_words (drop 8 bs)) z in
+    let same : full_run (plain_words rest) ≡ full_run (plain_words (drop 8 bs)) = ap (λ xs. full_run (plain_words xs)) e in
+    let more = plain_words (drop 8 (take (8 + 8 * k) bs)) in
+    let text = ap front_text (front_first bs k within) ∙ text_full _ more z in
+    let long : length (front_text (plain_words (take (8 + 8 * k) bs))) ≡ 10 + length (plain_text more) = ap length text ∙ omega arith in
+    record {
+      size = omega (arith, m, first, same);
+      most = omega (arith, m);
+      within = within;
+      text = omega (arith, long, length_plain more, front_behind bs k within);
+    }
+
+pub marked_front : (bs : List ℕ) (n : ℕ) → 8 ≤ length bs → get_or (plain_words bs) 0 0 ≢ 0 → zero_bytes (get_or (plain_words bs) 0 0) ≢ 0 →
+    n ≡ length (filter (λ b. not (b == 0)) (word_bytes (get_or (plain_words bs) 0 0))) → IsFront bs 0 (1 + n)
+marked_front bs n l h z e =
+    let w = get_or (plain_words bs) 0 0 in
+    let first : group_size (plain_words bs) ≡ 1 = ap group_size (words_first bs l) ∙ group_size-marked w (plain_words (drop 8 bs)) h z in
+    let text = ap front_text (front_first bs 0 (omega (arith, l))) ∙ text_marked w (plain_words (drop 8 (take 8 bs))) h z in
+    let long : length (front_text (plain_words (take 8 bs))) ≡ 1 + length (filter (λ b. not (b == 0)) (word_bytes w)) = ap length text ∙ omega arith in
+    record {
+      size = omega (arith, first);
+      most = omega arith;
+      within = omega (arith, l);
+      text = omega (arith, long, e);
+    }
+
+-- the text of words is that of the group in front, and then that of the words behind it
+apart : (ws front rest : List ℕ) → ws ≡ front ++ rest → length front ≡ group_size ws → 0 < length front → pack_text ws ≡ front_text front ++ pack_text rest
+apart ws [] rest e l p = absurd (omega (arith, p))
+apart ws (w ∷ more) rest e l p =
+    let size : group_size ws ≡ group_size (w ∷ (more ++ rest)) = ap group_size e in
+    ap pack_text e ∙ pack_text-group w more rest (omega (arith, l, size))
+
+pub pack_step : (bs front : List ℕ) (at n : ℕ) → front ≡ drop at bs → n ≡ 8 * group_size (plain_words front) → 0 < n → n ≤ length front →
+    pack_text (plain_words (drop at bs)) ≡ front_text (plain_words (take n front)) ++ pack_text (plain_words (drop (at + n) bs))
+pack_step bs front at n e size some within =
+    let parted = words_parted front n (omega (arith, size)) within in
+    let count : length (plain_words (take n front)) ≡ group_size (plain_words front) = omega (arith, words_exact (take n front), length-take-le n front within, size) in
+    let behind : drop n front ≡ drop (at + n) bs = ap (drop n) e ∙ drop-drop n at bs in
+    ap (λ xs. pack_text (plain_words xs)) (sym e)
+    ∙ apart (plain_words front) (plain_words (take n front)) (plain_words (drop n front)) parted count (omega (arith, count, size, some))
+    ∙ ap (λ xs. front_text (plain_words (take n front)) ++ pack_text (plain_words xs)) behind
+
+-- a part of a list that is written over
+pub put_is : (a k : ℕ) (xs ys : List ℕ) → a + k ≤ length xs → length ys ≡ k → put_mid a k xs ys ≡ (take a xs ++ ys) ++ drop (a + k) xs
+put_is a k xs ys h l =
+    let all = put_mid a k xs ys in
+    sym (take-append-drop (a + k) all) ∙ ap (λ t. t ++ drop (a + k) all) (take-put_mid a k xs ys (a + k) (omega (arith, l)) (omega (arith, h)))
+    ∙ ap (λ t. (take a xs ++ ys) ++ t) (drop-put_mid a k xs ys (a + k) (omega arith) (omega (arith, h)) l)
+
+pub put_length : (a k : ℕ) (xs ys : List ℕ) → a + k ≤ length xs → length ys ≡ k → length (put_mid a k xs ys) ≡ length xs
+put_length a k xs ys h l =
+    omega (arith, h, l, ap length (put_is a k xs ys h l), length-append (take a xs ++ ys) (drop (a + k) xs), length-append (take a xs) ys, length-take-le a xs (omega (arith, h)), length-drop (a + k) xs)
+
+-- one that ends where the list ends
+pub put_end : (a k : ℕ) (xs ys : List ℕ) → a + k ≡ length xs → length ys ≡ k → put_mid a k xs ys ≡ take a xs ++ ys
+put_end a k xs ys h l =
+    put_is a k xs ys (omega (arith, h)) l ∙ ap (λ t. (take a xs ++ ys) ++ t) (drop_all (a + k) xs (omega (arith, h))) ∙ append-nil (take a xs ++ ys)
+
+-- the text of a run of zero words is written
+two_set : (text : List ℕ) (a b : ℕ) → length text ≡ 2 → set (set text 0 a) 1 b ≡ a ∷ b ∷ []
+two_set [] a b l = absurd (omega (arith, l))
+two_set (x ∷ []) a b l = absurd (omega (arith, l))
+two_set (x ∷ y ∷ []) a b l = refl
+two_set (x ∷ y ∷ z ∷ rest) a b l = absurd (omega (arith, l))
+
+pub zeros_written : (bs text : List ℕ) (tag n : ℕ) → 8 ≤ length bs → get_or (plain_words bs) 0 0 ≡ 0 → length text ≡ length (front_text (plain_words bs)) → tag ≡ 0 → n ≡ length bs / 8 - 1 →
+    set (set text 0 tag) 1 n ≡ front_text (plain_words bs)
+zeros_written bs text tag n l z room t e =
+    let more = plain_words (drop 8 bs) in
+    let is : front_text (plain_words bs) ≡ 0 ∷ length more ∷ [] = ap front_text (words_first bs l) ∙ text_zero _ more z in
+    let count : n ≡ length more = omega (arith, e, words_exact (drop 8 bs), length-drop 8 bs) in
+    two_set text tag n (room ∙ ap length is) ∙ ap (λ (a : ℕ). a ∷ n ∷ []) t ∙ ap (λ (b : ℕ). 0 ∷ b ∷ []) count ∙ sym is
+
+-- the text of a run of words as they are
+pub full_long : (bs text : List ℕ) → 8 ≤ length bs → length bs % 8 ≡ 0 → zero_bytes (get_or (plain_words bs) 0 0) ≡ 0 → length text ≡ length (front_text (plain_words bs)) → length text ≡ 2 + length bs
+full_long bs text l w z room =
+    let more = plain_words (drop 8 bs) in
+    let is = ap front_text (words_first bs l) ∙ text_full _ more z in
+    let long : length (front_text (plain_words bs)) ≡ 10 + length (plain_text more) = ap length is ∙ omega arith in
+    omega (arith, room, long, length_plain more, words_exact (drop 8 bs), length-drop 8 bs, w)
+
+pub full_room : (bs text head : List ℕ) (tag n : ℕ) → 8 ≤ length bs → length bs % 8 ≡ 0 → zero_bytes (get_or (plain_words bs) 0 0) ≡ 0 → length text ≡ length (front_text (plain_words bs)) → length head ≡ 8 →
+    (length (set (put_mid 1 8 (set text 0 tag) head) 9 n) ≡ length text) × (length (take (length (set (put_mid 1 8 (set text 0 tag) head) 9 n) - 10) (drop 10 (set (put_mid 1 8 (set text 0 tag) head) 9 n))) ≡ length (take (length bs - 8) (drop 8 bs)))
+full_room bs text head tag n l w z room h =
+    let long = full_long bs text l w z room in
+    let tagged = set text 0 tag in
+    let headed = put_mid 1 8 tagged head in
+    let all = set headed 9 n in
+    let a : length tagged ≡ length text = length-set text 0 tag in
+    let b : length headed ≡ length tagged = put_length 1 8 tagged head (omega (arith, a, long, l)) h in
+    let c : length all ≡ length headed = length-set headed 9 n in
+    (c ∙ b ∙ a, omega (arith, ap length (take_rest all 10), length-drop 10 all, ap length (take_rest bs 8), length-drop 8 bs, a, b, c, long))
+
+pub full_written : (bs text head rest : List ℕ) (tag n m word : ℕ) → AllByRecursion (λ b. b < 256) bs → 8 ≤ length bs → length bs % 8 ≡ 0 → word ≡ get_or (plain_words bs) 0 0 → zero_bytes word ≡ 0 →
+    length text ≡ length (front_text (plain_words bs)) → tag ≡ 255 → head ≡ word_bytes word → n ≡ length bs / 8 - 1 → rest ≡ take (length bs - 8) (drop 8 bs) →
+    m ≡ length (set (put_mid 1 8 (set text 0 tag) head) 9 n) - 10 → put_mid 10 m (set (put_mid 1 8 (set text 0 tag) head) 9 n) rest ≡ front_text (plain_words bs)
+full_written bs text head rest tag n m word small l w v z room t h e r k =
+    let zero : zero_bytes (get_or (plain_words bs) 0 0) ≡ 0 = ap zero_bytes (sym v) ∙ z in
+    let long = full_long bs text l w zero room in
+    let eight : length head ≡ 8 = ap length h in
+    let tagged = set text 0 tag in
+    let headed = put_mid 1 8 tagged head in
+    let all = set headed 9 n in
+    let more = plain_words (drop 8 bs) in
+    let same : length all ≡ length text = (full_room bs text head tag n l w zero room eight).0 in
+    let a : length tagged ≡ length text = length-set text 0 tag in
+    let b : length headed ≡ length tagged = put_length 1 8 tagged head (omega (arith, a, long, l)) eight in
+    let left : rest ≡ drop 8 bs = r ∙ take_rest bs 8 in
+    let text_left : rest ≡ plain_text more = left ∙ text_whole (drop 8 bs) (all_drop (λ b. b < 256) 8 bs small) (omega (arith, length-drop 8 bs, w, l)) in
+    let count : n ≡ length more = omega (arith, e, words_exact (drop 8 bs), length-drop 8 bs) in
+    let is : front_text (plain_words bs) ≡ 255 ∷ (word_bytes word ++ length more ∷ plain_text more) =
+    ap front_text (words_first bs l) ∙ text_full _ more zero ∙ ap (λ (x : ℕ). 255 ∷ (word_bytes x ++ length more ∷ plain_text more)) (sym v) in
+    put_end 10 m all rest (omega (arith, k, same, long, l)) (omega (arith, ap length left, length-drop 8 bs, k, same, long))
+    ∙ ap (λ (xs : List ℕ). xs ++ rest) (take-pushed headed 9 10 n (omega arith) (omega (arith, a, b, long, l))
+    ∙ ap (λ (xs : List ℕ). xs ++ n ∷ []) (take-put_mid 1 8 tagged head 9 (omega (arith, eight)) (omega (arith, a, long, l))
+    ∙ ap (λ (xs : List ℕ). xs ++ head) (take-first text tag (omega (arith, long, l)))))
+    ∙ append_assoc ((tag ∷ []) ++ head) (n ∷ []) rest
+    ∙ ap (λ (x : ℕ). x ∷ (head ++ n ∷ rest)) t
+    ∙ ap (λ (xs : List ℕ). 255 ∷ (xs ++ n ∷ rest)) h
+    ∙ ap (λ (x : ℕ). 255 ∷ (word_bytes word ++ x ∷ rest)) count
+    ∙ ap (λ (xs : List ℕ). 255 ∷ (word_bytes word ++ length more ∷ xs)) text_left
+    ∙ sym is
+
+-- the text of a word by its tag
+marked_is : (bs : List ℕ) (word : ℕ) → 8 ≤ length bs → word ≡ get_or (plain_words bs) 0 0 → word ≢ 0 → zero_bytes word ≢ 0 →
+    front_text (plain_words bs) ≡ tag_of (word_bytes word) ∷ filter (λ b. not (b == 0)) (word_bytes word)
+marked_is bs word l v h z =
+    ap front_text (words_first bs l) ∙ ap (λ (x : ℕ). front_text (x ∷ plain_words (drop 8 bs))) (sym v) ∙ text_marked word (plain_words (drop 8 bs)) h z
+
+pub marked_room : (bs text bytes : List ℕ) (tag word : ℕ) → 8 ≤ length bs → word ≡ get_or (plain_words bs) 0 0 → word ≢ 0 → zero_bytes word ≢ 0 → length text ≡ length (front_text (plain_words bs)) →
+    bytes ≡ filter (λ b. not (b == 0)) (word_bytes word) → length (take (length (set text 0 tag) - 1) (drop 1 (set text 0 tag))) ≡ length bytes
+marked_room bs text bytes tag word l v h z room b =
+    let marked = filter (λ b. not (b == 0)) (word_bytes word) in
+    let long : length text ≡ 1 + length marked = room ∙ ap length (marked_is bs word l v h z) ∙ omega arith in
+    omega (arith, ap length (take_rest (set text 0 tag) 1), length-drop 1 (set text 0 tag), length-set text 0 tag, long, ap length b)
+
+pub marked_written : (bs text bytes : List ℕ) (tag m word : ℕ) → 8 ≤ length bs → word ≡ get_or (plain_words bs) 0 0 → word ≢ 0 → zero_bytes word ≢ 0 → length text ≡ length (front_text (plain_words bs)) →
+    tag ≡ tag_of (word_bytes word) → bytes ≡ filter (λ b. not (b == 0)) (word_bytes word) → m ≡ length (set text 0 tag) - 1 → put_mid 1 m (set text 0 tag) bytes ≡ front_text (plain_words bs)
+marked_written bs text bytes tag m word l v h z room t b k =
+    let is = marked_is bs word l v h z in
+    let marked = filter (λ b. not (b == 0)) (word_bytes word) in
+    let long : length text ≡ 1 + length marked = room ∙ ap length is ∙ omega arith in
+    let a : length (set text 0 tag) ≡ length text = length-set text 0 tag in
+    put_end 1 m (set text 0 tag) bytes (omega (arith, a, k, long)) (omega (arith, ap length b, a, k, long))
+    ∙ ap (λ (xs : List ℕ). xs ++ bytes) (take-first text tag (omega (arith, long)))
+    ∙ ap (λ (xs : List ℕ). tag ∷ xs) b ∙ ap (λ (x : ℕ). x ∷ marked) t ∙ sym is
+
+-- the bytes that its tag marks, of those that were squeezed together
+pub marked_bytes : (word tag : ℕ) (bytes lanes zeros : List ℕ) → tag ≡ tag_of (word_bytes word) → lanes ≡ filter (λ b. not (b == 0)) (word_bytes word) ++ zeros → bytes ≡ take (ones tag) lanes →
+    bytes ≡ filter (λ b. not (b == 0)) (word_bytes word)
+marked_bytes word tag bytes lanes zeros t e b =
+    b ∙ ap (take (ones tag)) e ∙ take_at (filter (λ b. not (b == 0)) (word_bytes word)) zeros (ones tag) (sym (ones_of_tag word tag t))
+
+-- which word has which tag
+pub tag_zero : (bs : List ℕ) (word tag : ℕ) → word ≡ get_or (plain_words bs) 0 0 → word < 18446744073709551616 → tag ≡ tag_of (word_bytes word) → tag ≡ 0 → get_or (plain_words bs) 0 0 ≡ 0
+tag_zero bs word tag v f t z = sym v ∙ zero_word word f (sym t ∙ z)
+
+pub tag_full : (bs : List ℕ) (word tag : ℕ) → word ≡ get_or (plain_words bs) 0 0 → tag ≡ tag_of (word_bytes word) → tag ≡ 255 → zero_bytes (get_or (plain_words bs) 0 0) ≡ 0
+tag_full bs word tag v t z = ap zero_bytes (sym v) ∙ full_word word (sym t ∙ z)
+
+pub tag_other : (word tag : ℕ) → tag ≡ tag_of (word_bytes word) → tag ≢ 0 → tag ≢ 255 → (word ≢ 0) × (zero_bytes word ≢ 0)
+tag_other word tag t h n = (λ e. h (t ∙ ap (λ v. tag_of (word_bytes v)) e), λ z. n (t ∙ word_tag word z))

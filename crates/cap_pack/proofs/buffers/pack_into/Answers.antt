@@ -1,0 +1,12 @@
+-- The text is written where there is room, and only there.
+use Rattle.std.proofs.Common.{List, ℕ, ap, arith, drop, ◌++◌}
+use Rattle.cap_pack.proofs.buffers.pack_into.Goals as goal
+
+pub returns-then-out-len-clause-written : goal.returns-then-out-len-clause-written
+returns-then-out-len-clause-written c = λ h. absurd (omega (arith, h, c.if-out-len.true))
+
+pub returns-clause-written : goal.returns-clause-written
+returns-clause-written c = λ _. ap (λ (t : List ℕ). t ++ drop c.packed_len-len.result c.args.out.now) c.write_text.ensures
+
+pub returns-clause-no_room : goal.returns-clause-no_room
+returns-clause-no_room c = λ h. absurd (omega (arith, h, c.if-out-len.false))

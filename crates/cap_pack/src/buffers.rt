@@ -1,0 +1,136 @@
+//! Packing the words of one buffer into another: the length of the text first, and then its bytes. No
+//! memory is taken.
+
+ghost use Rattle.cap_pack.specs.GroupTexts.{front_text};
+ghost use Rattle.cap_spec.specs.Packing.{full_run, group_size, pack_text, zero_run};
+ghost use Rattle.cap_spec.specs.Plain.{plain_words};
+ghost use Rattle.std.specs.Prelude.{◌%◌, ◌*◌, ◌+◌, ◌++◌, ◌<◌, ◌≡◌, ◌≤◌, drop, get_or, length, min, take};
+
+use super::lanes::{squeezed, tag_of_word};
+use super::spelling::count_zeros;
+use byteorder::{ByteOrder, LittleEndian};
+use cap_words::bytes_of;
+
+/// Writes the packed text of the words that these bytes begin with, eight bytes a word, the lowest first,
+/// into the front of `out` (encoding: Packing). Tells how many bytes that text has, at most ten for each
+/// word. Where there is less room `out` is as it was, and what stands behind the text is as it was in any
+/// case. Bytes behind the last whole word change nothing.
+pub fn pack_into(bytes: &[u8], out: &mut [u8]) -> usize
+    ensures len { result ≡ length (pack_text (plain_words bytes.now)) }
+    ensures few { 4 * result ≤ 5 * length bytes.now }
+    ensures written { result ≤ length out.old → out.new ≡ pack_text (plain_words bytes.now) ++ drop result out.old }
+    ensures no_room { length out.old < result → out.new ≡ out.old }
+{
+    let len = packed_len(bytes);
+    if out.len() < len {
+        return len;
+    }
+    write_text(bytes, &mut out[..len]);
+    len
+}
+
+// How many bytes the packed text has.
+fn packed_len(bytes: &[u8]) -> usize
+    ensures text { result ≡ length (pack_text (plain_words bytes.now)) }
+    ensures few { 4 * result ≤ 5 * length bytes.now }
+{
+    let mut at = 0;
+    let mut len = 0;
+    'counting: while bytes.len() - at >= 8 {
+        let (taken, spelled) = front_group(&bytes[at..]);
+        at += taken;
+        len += spelled;
+    }
+    len
+}
+
+// Writes the packed text into just its room.
+fn write_text(bytes: &[u8], text: &mut [u8])
+    requires { length text.old ≡ length (pack_text (plain_words bytes.now)) }
+    ensures { text.new ≡ pack_text (plain_words bytes.now) }
+{
+    let mut at = 0;
+    let mut len = 0;
+    'writing: while bytes.len() - at >= 8 {
+        let rest = &bytes[at..];
+        let (taken, spelled) = front_group(rest);
+        write_group(&rest[..taken], &mut text[len..len + spelled]);
+        at += taken;
+        len += spelled;
+    }
+}
+
+// How many bytes the words of the group in front have, and how many bytes spell them.
+fn front_group(bytes: &[u8]) -> (usize, usize)
+    requires { 8 ≤ length bytes.now }
+    ensures size { result.0 ≡ 8 * group_size (plain_words bytes.now) }
+    ensures within { (0 < result.0) × (result.0 ≤ 2048) × (result.0 ≤ length bytes.now) }
+    ensures spelled { result.1 ≡ length (front_text (plain_words (take result.0 bytes.now))) }
+    ensures few { 4 * result.1 ≤ 5 * result.0 }
+{
+    let tag = tag_of_word(word_at(bytes, 0));
+    match tag {
+        0 => (8 + 8 * zero_words(&bytes[8..]), 2),
+        255 => {
+            let more = full_words(&bytes[8..]);
+            (8 + 8 * more, 10 + 8 * more)
+        }
+        _ => (8, 1 + tag.count_ones() as usize),
+    }
+}
+
+// The word at a place.
+#[inline(always)]
+fn word_at(bytes: &[u8], place: usize) -> u64
+    requires { 8 * place + 8 ≤ length bytes.now }
+    ensures { result ≡ get_or (plain_words bytes.now) place 0 }
+{
+    LittleEndian::read_u64(&bytes[8 * place..])
+}
+
+// How many words in front are zero, as far as a group goes on with them.
+fn zero_words(bytes: &[u8]) -> usize
+    ensures { result ≡ min 255 (zero_run (plain_words bytes.now)) }
+{
+    let most = (bytes.len() / 8).min(255);
+    let mut count = 0;
+    while count < most && word_at(bytes, count) == 0 {
+        count += 1;
+    }
+    count
+}
+
+// How many words in front have at most one zero byte, as far as a group goes on with them.
+fn full_words(bytes: &[u8]) -> usize
+    ensures { result ≡ min 255 (full_run (plain_words bytes.now)) }
+{
+    let most = (bytes.len() / 8).min(255);
+    let mut count = 0;
+    while count < most && count_zeros(word_at(bytes, count)) <= 1 {
+        count += 1;
+    }
+    count
+}
+
+// Writes the group that spells just these words.
+fn write_group(bytes: &[u8], text: &mut [u8])
+    requires words { (8 ≤ length bytes.now) × (length bytes.now ≤ 2048) × (length bytes.now % 8 ≡ 0) }
+    requires room { length text.old ≡ length (front_text (plain_words bytes.now)) }
+    ensures { text.new ≡ front_text (plain_words bytes.now) }
+{
+    let word = word_at(bytes, 0);
+    let tag = tag_of_word(word);
+    text[0] = tag;
+    match tag {
+        0 => text[1] = (bytes.len() / 8 - 1) as u8,
+        255 => {
+            text[1..9].copy_from_slice(&bytes_of(word));
+            text[9] = (bytes.len() / 8 - 1) as u8;
+            text[10..].copy_from_slice(&bytes[8..]);
+        }
+        _ => {
+            let count = tag.count_ones() as usize;
+            text[1..].copy_from_slice(&squeezed(tag, word)[..count]);
+        }
+    }
+}
