@@ -44,8 +44,7 @@ typedef char capvet_needs_64_bits[sizeof(size_t) == 8 ? 1 : -1];
  * 32 on why it is refused. Numbers never change; new ones may come, so treat any but CAPVET_OK as a
  * no. Where several hold, the order is: CAPVET_BAD_LIMITS, the frame (empty, fewer than 8 bytes, too
  * many segments, the table cut, too large, the contents cut), the refusal, CAPVET_HAS_CAPABILITY,
- * CAPVET_NO_ROOM or CAPVET_NOT_CANONICAL. Of packing and
- * unpacking: see there. */
+ * CAPVET_NO_ROOM or CAPVET_NOT_CANONICAL. Of packing and unpacking: see there. */
 enum {
   CAPVET_OK = 0,
   CAPVET_NO_MESSAGE = 1, /* the buffer is empty: where a stream ends; `number` is 8 */

@@ -8,9 +8,10 @@ buffers, and `allocations` counts how often memory is taken; `lines` writes what
 both outputs are compared, for the samples, for each front of one of them, and for 100,000 messages of a fixed seed,
 most of which are samples with changed bytes. So are the canonical copies of as many messages, with the line of some
 that have none, and the words of packed texts: of the samples, of each front of one, and of 1,000 that are made up; and
-by `texts`, of 100,000, many with changed bytes. All but `allocations` run with the compiler's checks of memory, and
-`calls` and `texts` under valgrind, where these are there. The last line is 'N passed, M failed', and the status is 1
-where something failed.
+by `texts`, of 100,000, many with changed bytes. `packing` looks at known words, and packs 100,000 lists of words, as the
+program does: the samples, each front of one, changed ones, runs about as long as a group's longest, and words of few
+kinds. All but `allocations` run with the compiler's checks of memory, and `calls`, `texts` and `packing` under
+valgrind, where these are there. The last line is 'N passed, M failed', and the status is 1 where something failed.
 """
 import random
 import shutil
@@ -64,7 +65,7 @@ def wanted_symbols(archive):
     undefined = {line.split()[-1] for line in lines if " U " in line}
     own = {line.split()[-1] for line in lines if " T " in line}
     told("what the archive wants", undefined - own <= {"memcpy", "memmove", "memset"}, str(undefined - own))
-    for name in ("capvet_version", "capvet_frame", "capvet_vet", "capvet_is_canonical", "capvet_canonical",
+    for name in ("capvet_version", "capvet_frame", "capvet_vet", "capvet_is_canonical", "capvet_canonical", "capvet_pack",
                  "capvet_unpack"):
         told(f"the archive has {name}", name in own)
 
@@ -195,6 +196,63 @@ def compare_copies(lines, program):
     print(f"calls: {copied} bytes of canonical copies compared with the program's, and {without} messages without one")
 
 
+def plain_texts(chance):
+    """100,000 lists of bytes to be packed, some of which end inside a word."""
+    messages = samples()
+    small = min(messages, key=len)
+    kinds = (bytes(8), b"\x8a" * 8, b"\x8a" * 7 + b"\0", b"\0" + b"\x8a" * 6 + b"\0", b"\0\x8a" * 4, b"\0" * 7 + b"\x8a")
+    texts = messages + [small[:end] for end in range(len(small))]
+    for first in kinds:
+        for second in kinds:
+            texts += [first * count + second * 2 for count in (254, 255, 256, 257, 511, 512, 513)]
+    few = [message for message in messages if len(message) < 500]
+    while len(texts) < MANY:
+        if chance.randrange(4) == 0:
+            texts.append(changed(chance.choice(few), chance))
+        else:
+            runs = (chance.choice(kinds) * chance.choice((1, 1, 2, 9)) for _ in range(chance.randrange(6)))
+            texts.append(b"".join(runs) + chance.randbytes(chance.choice((0, 0, 8, 8 * chance.randrange(4), 5))))
+    return texts
+
+
+def compare_packed(packing, watched, program):
+    """Packed texts, beside the program's. It takes all in one run: behind each stands a word that is a group by itself,
+    with which no run goes on."""
+    texts, end, end_text = plain_texts(random.Random(SEED)), b"\1\0\2\0\3\0\4\0", b"\x55\1\2\3\4"
+    whole = [text for text in texts if len(text) % 8 == 0]
+    cut = [text for text in texts if len(text) % 8 != 0]
+    given = subprocess.run([program, "pack"], input=b"".join(text + end for text in whole), capture_output=True).stdout
+    with tempfile.TemporaryDirectory() as folder:
+        path = Path(folder) / "texts"
+        path.write_bytes(b"".join(struct.pack("<I", len(text)) + text for text in whole + cut))
+        got = subprocess.run([packing, path], capture_output=True)
+        told("packing, with its checks", (got.returncode, got.stderr) == (0, b""), got.stderr)
+        if watched is not None and shutil.which("valgrind"):
+            ran = subprocess.run(["valgrind", "-q", "--error-exitcode=9", watched, path], capture_output=True)
+            told("packing, under valgrind", (ran.returncode, ran.stdout) == (0, got.stdout), ran.stderr)
+    at = place = 0
+    for text in whole:
+        size = struct.unpack_from("<I", got.stdout, at)[0]
+        packed = got.stdout[at + 4:at + 4 + size]
+        told(f"pack of {text.hex()}", given[place:place + size + 5] == packed + end_text, f"  {packed.hex()}")
+        at, place = at + 4 + size, place + size + 5
+    told("no other text was packed", place == len(given) and got.stdout[at:] == b"\xff" * 4 * len(cut))
+    for text in cut[:50]:
+        ran = subprocess.run([program, "pack"], input=text, capture_output=True)
+        told(f"pack of {text.hex()}", ran.stderr.decode() == f"capvet: Truncated at byte {len(text)}\n", ran.stderr)
+    told("texts of both kinds", len(cut) >= 1000, f"{len(cut)} cut")
+    print(f"calls: {len(whole)} lists of words packed as the program does, and {len(cut)} that are cut")
+
+
+def test_packing(folder, compiler, archive, program):
+    watched = compiled(folder, "packing", compiler, "c99", archive)
+    packing = compiled(folder, "packing", compiler, "c11", archive, "-O1", *CHECKS)
+    if packing is not None:
+        ran = run([packing])
+        told("packing of known words", ran.returncode == 0, ran.stderr)
+        compare_packed(packing, watched, program)
+
+
 def packed_texts(program, chance):
     """The packed samples, the fronts of one of them, and texts of bytes that are often tags of runs."""
     texts = [subprocess.run([program, "pack"], input=message, stdout=subprocess.PIPE).stdout for message in samples()]
@@ -323,6 +381,7 @@ def main():
             if checked is not None:
                 ran = run([checked])
                 told(f"calls, by {compiler}, with its checks", ran.returncode == 0, ran.stderr)
+        test_packing(folder, compilers[0], archive, program)
         lines = compiled(folder, "lines", compilers[0], "c99", archive, "-O1", *CHECKS)
         if lines is not None:
             compare(lines, program)

@@ -76,13 +76,14 @@ static const struct {
   reporting call;
 } CALLS[] = {{"capvet_frame", capvet_frame}, {"capvet_vet", capvet_vet}, {"capvet_is_canonical", capvet_is_canonical}};
 
-enum { FRAME, VET, IS_CANONICAL, UNPACK, COUNT };
+enum { FRAME, VET, IS_CANONICAL, UNPACK, PACK, COUNT };
 
 /* How often each call gave each answer. */
 static unsigned long seen[COUNT][64];
 
 static void answered(int call, unsigned long before, uint32_t answer) {
-  expect(taken == before, call == UNPACK ? "capvet_unpack" : CALLS[call].name, taken - before);
+  const char *name = call == UNPACK ? "capvet_unpack" : call == PACK ? "capvet_pack" : CALLS[call].name;
+  expect(taken == before, name, taken - before);
   if (answer < 64) seen[call][answer]++;
 }
 
@@ -102,17 +103,19 @@ static void reports(const uint8_t *bytes, size_t length) {
     }
 }
 
+typedef uint32_t (*spelling)(const uint8_t *, size_t, uint8_t *, size_t, size_t *);
+
 /* Without room, and with as much as is needed. */
-static void unpacks(const uint8_t *bytes, size_t length) {
+static void spells(int number, spelling call, const uint8_t *bytes, size_t length) {
   static uint8_t out[1 << 16];
   size_t written, needed;
   unsigned long before = taken;
-  uint32_t answer = capvet_unpack(bytes, length, out, 0, &needed);
-  answered(UNPACK, before, answer);
+  uint32_t answer = call(bytes, length, out, 0, &needed);
+  answered(number, before, answer);
   if (needed <= sizeof out) {
     before = taken;
-    answer = capvet_unpack(bytes, length, out, needed, &written);
-    answered(UNPACK, before, answer);
+    answer = call(bytes, length, out, needed, &written);
+    answered(number, before, answer);
   }
 }
 
@@ -121,7 +124,8 @@ static void parts(const uint8_t *bytes, size_t length) {
   size_t at;
   for (at = 0; at <= length; at++) {
     reports(bytes, at);
-    unpacks(bytes, at);
+    spells(UNPACK, capvet_unpack, bytes, at);
+    spells(PACK, capvet_pack, bytes, at);
   }
   for (at = 0; at <= length; at += 8) reports(bytes + at, length - at);
 }
@@ -142,7 +146,10 @@ static const struct {
               {IS_CANONICAL, CAPVET_NOT_CANONICAL},
               {UNPACK, CAPVET_OK},
               {UNPACK, CAPVET_NO_ROOM},
-              {UNPACK, CAPVET_TRUNCATED}};
+              {UNPACK, CAPVET_TRUNCATED},
+              {PACK, CAPVET_OK},
+              {PACK, CAPVET_NO_ROOM},
+              {PACK, CAPVET_TRUNCATED}};
 
 int main(int count, char **names) {
   static uint8_t bytes[1 << 16];

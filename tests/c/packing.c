@@ -1,0 +1,122 @@
+/* packing: what capvet_pack answers of known words, with each room.
+ *
+ * packing FILE: packs each list of bytes of a file, in which four bytes in front of each say how many it has, the
+ * lowest first. For each it writes how many bytes its packed text has, in the same way, and that text; of one
+ * that ends inside a word, that it has 0xffffffff, and nothing.
+ *
+ * All bytes stand in a block of their own of exactly that length, so that a tool that watches memory sees a read
+ * or a write outside. */
+#include <capvet.h>
+
+#include <stdio.h>
+#include <stdlib.h>
+#include <string.h>
+
+#define CUT 0xfffffffful
+
+static int failures = 0;
+
+static void expect(int holds, const char *what, size_t got) {
+  if (!holds) {
+    failures++;
+    fprintf(stderr, "packing: %s (got %lu)\n", what, (unsigned long)got);
+  }
+}
+
+/* A block of so many bytes behind a first one, at an odd address. */
+static uint8_t *block(size_t length) {
+  uint8_t *whole = malloc(length + 1);
+  if (whole == NULL) exit(3);
+  return whole;
+}
+
+/* Three zero words, a word by its tag, a word as it is and one that doesn't go on with it, and their text. */
+static const uint8_t WORDS[48] = {0, 0, 0, 0, 0, 0, 0, 0, 0, 0, 0, 0, 0, 0, 0, 0, 0,    0, 0,    0, 0, 0, 0, 0,
+                                  8, 0, 0, 0, 3, 0, 2, 0, 1, 2, 3, 4, 5, 6, 7, 8, 0x11, 0, 0x33, 0, 0, 0, 0, 0};
+static const uint8_t TEXT[19] = {0, 2, 0x51, 8, 3, 2, 255, 1, 2, 3, 4, 5, 6, 7, 8, 0, 5, 0x11, 0x33};
+
+/* What is answered for a front of WORDS with so much room, of which `got` has what it holds then. */
+static uint32_t packed(size_t length, size_t room, size_t *written, uint8_t *got) {
+  uint8_t *from = block(length), *out = block(room);
+  uint32_t answer;
+  memcpy(from + 1, WORDS, length);
+  memset(out, 0xee, room + 1);
+  *written = 77;
+  answer = capvet_pack(from + 1, length, out + 1, room, written);
+  expect(memcmp(from + 1, WORDS, length) == 0, "the words stay", length);
+  memcpy(got, out + 1, room);
+  free(out);
+  free(from);
+  return answer;
+}
+
+/* Each front, and each room. */
+static void known(void) {
+  /* how many bytes the texts of the first words have */
+  static const size_t texts[] = {0, 2, 2, 2, 6, 16, 19};
+  uint8_t got[24];
+  size_t length, room, written, k;
+  for (length = 0; length <= sizeof WORDS; length++) {
+    int whole = length % 8 == 0;
+    size_t text = whole ? texts[length / 8] : 0;
+    uint32_t answer = packed(length, sizeof got, &written, got);
+    expect(answer == (whole ? (uint32_t)CAPVET_OK : (uint32_t)CAPVET_TRUNCATED), "the answer of a front", answer);
+    expect(written == text, "the length of a front's text", written);
+    if (text == 2)
+      expect(got[0] == 0 && got[1] == length / 8 - 1, "a run of zero words", got[1]);
+    else
+      expect(memcmp(got, TEXT, text) == 0, "the text of a front", length);
+    for (k = text; k < sizeof got; k++) expect(got[k] == 0xee, "what stands behind the text", k);
+    expect(packed(length, 0, &written, got) == (text > 0 ? (uint32_t)CAPVET_NO_ROOM : answer), "no room", length);
+    expect(written == text, "the length that is told without room", written);
+  }
+  for (room = 0; room <= sizeof TEXT; room++) {
+    int fits = room == sizeof TEXT;
+    uint32_t answer = packed(sizeof WORDS, room, &written, got);
+    expect(answer == (fits ? (uint32_t)CAPVET_OK : (uint32_t)CAPVET_NO_ROOM), "the answer of a room", answer);
+    expect(written == sizeof TEXT, "the length that it takes", written);
+    for (k = 0; !fits && k < room; k++) expect(got[k] == 0xee, "the room stays where it is too small", k);
+  }
+}
+
+static void put(unsigned long number) {
+  int at;
+  for (at = 0; at < 4; at++) putchar((int)(number >> (8 * at) & 0xff));
+}
+
+/* The text of a list of bytes, whose block is given. */
+static void text(const uint8_t *bytes, size_t length) {
+  uint8_t none, *out;
+  size_t needed = 77, written = 77;
+  uint32_t answer = capvet_pack(bytes, length, &none, 0, &needed);
+  if (answer == CAPVET_TRUNCATED && needed == 0) {
+    put(CUT);
+    return;
+  }
+  if (answer != (needed == 0 ? (uint32_t)CAPVET_OK : (uint32_t)CAPVET_NO_ROOM) || needed > length / 8 * 10) exit(4);
+  out = block(needed);
+  if (capvet_pack(bytes, length, out + 1, needed, &written) != CAPVET_OK || written != needed) exit(4);
+  put((unsigned long)needed);
+  if (fwrite(out + 1, 1, needed, stdout) != needed) exit(3);
+  free(out);
+}
+
+int main(int count, char **words) {
+  FILE *file;
+  uint8_t size[4];
+  if (count == 1) {
+    known();
+    return failures != 0;
+  }
+  file = count == 2 ? fopen(words[1], "rb") : NULL;
+  if (file == NULL) return 2;
+  while (fread(size, 1, 4, file) == 4) {
+    size_t length = size[0] | (size_t)size[1] << 8 | (size_t)size[2] << 16 | (size_t)size[3] << 24;
+    uint8_t *bytes = block(length);
+    if (fread(bytes + 1, 1, length, file) != length) return 3;
+    text(bytes + 1, length);
+    free(bytes);
+  }
+  fclose(file);
+  return 0;
+}
