@@ -50,6 +50,7 @@ mod canonical;
 mod limits;
 mod messages;
 mod packed;
+mod packing;
 mod refusal;
 mod report;
 #[allow(unsafe_code)]
@@ -65,6 +66,9 @@ pub use messages::{messages, Message, Messages};
 #[cfg(feature = "alloc")]
 pub use packed::unpack;
 pub use packed::{unpack_into, UnpackError};
+#[cfg(feature = "alloc")]
+pub use packing::pack;
+pub use packing::{pack_into, PackError};
 pub use refusal::{Reason, Refusal};
 pub use report::Report;
 

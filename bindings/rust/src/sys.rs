@@ -80,6 +80,13 @@ extern "C" {
         limits: *const RawLimits,
         report: *mut Told,
     ) -> Answer;
+    fn capvet_pack(
+        bytes: *const u8,
+        length: usize,
+        out: *mut u8,
+        room: usize,
+        written: *mut usize,
+    ) -> Answer;
     fn capvet_unpack(
         bytes: *const u8,
         length: usize,
@@ -132,6 +139,20 @@ pub(crate) fn is_canonical(bytes: &[u8], limits: &Limits) -> (Answer, Told) {
     // SAFETY: as in `frame`, whose arguments these are.
     let answer = unsafe { capvet_is_canonical(address(bytes), bytes.len(), &limits, &mut told) };
     (answer, told)
+}
+
+/// Packs the words into the front of `out`, and tells the bytes that their packed text takes.
+pub(crate) fn pack(words: &[u8], out: &mut [u8]) -> (Answer, usize) {
+    let (mut none, mut written) = (0, 0);
+    let room = out.len();
+    let out = if out.is_empty() {
+        &mut none
+    } else {
+        out.as_mut_ptr()
+    };
+    // SAFETY: as in `unpack`, whose arguments these are but for the words, which are passed as in `frame`.
+    let answer = unsafe { capvet_pack(address(words), words.len(), out, room, &mut written) };
+    (answer, written)
 }
 
 /// Unpacks the whole of a packed text into the front of `out`, and tells the bytes that its words take.

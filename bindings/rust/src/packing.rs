@@ -1,0 +1,159 @@
+//! Words that are packed, between buffers.
+
+use crate::sys::{self, Answer};
+#[cfg(feature = "alloc")]
+use alloc::{vec, vec::Vec};
+use core::fmt;
+
+/// Why words aren't packed.
+#[derive(Clone, Copy, Debug, PartialEq, Eq, Hash)]
+#[non_exhaustive]
+pub enum PackError {
+    /// The bytes end inside a word.
+    Truncated,
+    /// The packed text is longer than the room.
+    NoRoom {
+        /// How many bytes it takes.
+        needed: usize,
+    },
+    /// An answer of a later archive that this crate doesn't know. Nothing is packed.
+    Other(
+        /// The number.
+        u32,
+    ),
+}
+
+impl PackError {
+    // What an answer other than that of packed words says.
+    fn of(answer: Answer, written: usize) -> Self {
+        match answer {
+            Answer::TRUNCATED => Self::Truncated,
+            Answer::NO_ROOM => Self::NoRoom { needed: written },
+            other => Self::Other(other.0),
+        }
+    }
+}
+
+impl fmt::Display for PackError {
+    fn fmt(&self, f: &mut fmt::Formatter<'_>) -> fmt::Result {
+        match self {
+            Self::Truncated => f.write_str("Truncated"),
+            Self::NoRoom { needed } => write!(f, "no room, {needed} bytes are needed"),
+            Self::Other(answer) => write!(f, "unknown answer {answer}"),
+        }
+    }
+}
+
+#[cfg(feature = "std")]
+impl std::error::Error for PackError {}
+
+/// Packs the words that the bytes are, eight bytes a word, which need be no message (encoding: Packing).
+///
+/// A packed text has at most ten bytes for each word.
+///
+/// # Errors
+///
+/// A [`PackError`], where the bytes end inside a word.
+///
+/// # Examples
+///
+/// ```
+/// let message = [0, 0, 0, 0, 1, 0, 0, 0, 0, 0, 0, 0, 0, 0, 0, 0];
+/// assert_eq!(capvet::pack(&message)?, [0x10, 1, 0, 0]);
+///
+/// assert_eq!(capvet::pack(&message[..15]), Err(capvet::PackError::Truncated));
+/// # Ok::<(), capvet::PackError>(())
+/// ```
+#[cfg(feature = "alloc")]
+pub fn pack(words: &[u8]) -> Result<Vec<u8>, PackError> {
+    let needed = match pack_into(words, &mut []) {
+        Ok(_) => return Ok(Vec::new()),
+        Err(PackError::NoRoom { needed }) => needed,
+        Err(fault) => return Err(fault),
+    };
+    let mut packed = vec![0; needed];
+    pack_into(words, &mut packed)?;
+    Ok(packed)
+}
+
+/// Packs the words that the bytes are into the front of `out`, and tells how many bytes the text has. It takes no memory.
+///
+/// # Errors
+///
+/// A [`PackError`], where the bytes end inside a word, or `out` is too short for the text: then `out` is as it was.
+///
+/// # Examples
+///
+/// ```
+/// use capvet::PackError;
+///
+/// let mut out = [7; 6];
+/// assert_eq!(capvet::pack_into(&[0; 2048], &mut out), Ok(2));
+/// assert_eq!(out, [0, 255, 7, 7, 7, 7]);
+/// // No room at all asks for the length.
+/// assert_eq!(capvet::pack_into(&[1; 8], &mut []), Err(PackError::NoRoom { needed: 10 }));
+/// ```
+pub fn pack_into(words: &[u8], out: &mut [u8]) -> Result<usize, PackError> {
+    let (answer, written) = sys::pack(words, out);
+    match answer {
+        Answer::OK => Ok(written),
+        fault => Err(PackError::of(fault, written)),
+    }
+}
+
+#[cfg(all(test, feature = "alloc"))]
+mod tests {
+    use super::*;
+    use crate::unpack;
+
+    const CONTACTS: &[u8] = include_bytes!("../../../examples/contacts.bin");
+    const PACKED: &[u8] = include_bytes!("../../../examples/contacts.packed");
+
+    #[test]
+    fn every_front_is_packed_and_back_or_is_cut() {
+        for length in 0..=CONTACTS.len() {
+            let words = &CONTACTS[..length];
+            match pack(words) {
+                Ok(packed) => assert_eq!(unpack(&packed, length).as_deref(), Ok(words)),
+                fault => {
+                    assert!(length % 8 != 0);
+                    assert_eq!(fault, Err(PackError::Truncated));
+                }
+            }
+        }
+        assert_eq!(pack(&[]), Ok(Vec::new()));
+    }
+
+    #[test]
+    fn the_sample_has_the_packed_sample() {
+        assert_eq!(pack(CONTACTS).as_deref(), Ok(PACKED));
+    }
+
+    #[test]
+    fn a_room_that_is_too_small_stays_as_it_was() {
+        let needed = PACKED.len();
+        for room in 0..needed {
+            let mut out = vec![0xee; room];
+            assert_eq!(
+                pack_into(CONTACTS, &mut out),
+                Err(PackError::NoRoom { needed })
+            );
+            assert!(out.iter().all(|byte| *byte == 0xee), "room {room}");
+        }
+        let mut out = vec![0xee; needed + 9];
+        assert_eq!(pack_into(CONTACTS, &mut out), Ok(needed));
+        assert_eq!(out[..needed], *PACKED);
+        assert_eq!(out[needed..], [0xee; 9]);
+    }
+
+    #[test]
+    fn faults_say_what_they_are() {
+        for (answer, told) in [
+            (Answer::TRUNCATED, "Truncated"),
+            (Answer::NO_ROOM, "no room, 77 bytes are needed"),
+            (Answer(99), "unknown answer 99"),
+        ] {
+            assert_eq!(PackError::of(answer, 77).to_string(), told);
+        }
+    }
+}
