@@ -4,7 +4,7 @@ use Rattle.cap_spec.specs.Packing.{pack_text}
 use Rattle.cap_spec.specs.Plain.{plain_text}
 use Rattle.cap_frame.specs.Limit.{limit_of}
 use Rattle.cap_run.specs.Checking.{TellsCheck}
-use Rattle.cap_run.specs.Engines.{most_packed_at_once, most_words}
+use Rattle.cap_run.specs.Engines.{most_packed_at_once, most_unpacked_at_once, most_words}
 use Rattle.cap_run.specs.Telling.{TellsSegments, WantsNone}
 use Rattle.cap_run.specs.Vetting.{TellsDump, TellsGet}
 use Rattle.cap_vet.specs.Limits.{depth_of, words_of}
@@ -152,7 +152,7 @@ returns-clause-success g c = λ h.
     subst
     (λ task. WritesAll task c.args.job.now.settings (g.S.WordSource.words c.args.source) (g.S.WordSource.is_cut c.args.source) (g.O.ByteOut.written c.args.out) (g.O.ByteOut.written out))
     (sym c.in-Unpack.is)
-    (all_copied g.S.WordSource g.O.ByteOut _ plain_text most_words c.args.source c.run_unpack-answer.new.source c.args.out out first last
+    (all_copied g.S.WordSource g.O.ByteOut _ plain_text most_unpacked_at_once most_words c.args.source c.run_unpack-answer.new.source c.args.out out first last
     c.run_unpack-answer.result (sym c.report_copy-in-Unpack.ensures.status_is ∙ h)
     (record { empty = λ ws. new.holds_nothing first ws ∙ ap (λ o. append_known o (plain_text ws)) new.taken; taken = new.taken; closed = new.closed; spent = new.spent; failures = new.failures })
     c.run_unpack-answer.ensures
