@@ -6,6 +6,7 @@
 Each example is built against an installed tree, and has to write what PROGRAM writes of the same bytes. What a machine has
 no compiler for is said in a line of its own. The last line is 'N passed, M failed', and the status is 1 where a case failed.
 """
+import hashlib
 import os
 import random
 import re
@@ -21,6 +22,8 @@ from install import PROGRAM, TOP, compare, make, missing, run
 SAMPLES = ("contacts.bin", "contacts-many-segments.bin", "telemetry.bin", "stream-of-four.bin")
 CYCLE = bytes.fromhex("0000000001000000fcffffff00000100")
 STRICT = ("-Wall", "-Wextra", "-pedantic", "-Werror")
+# Messages, each with the canonical words of its content, as Cap'n Proto's own tools write them.
+COPIES = (("contacts.bin", "contacts.bin"), ("contacts-many-segments.bin", "contacts.bin"), ("telemetry.bin", "telemetry.bin"))
 SERVED = """\
 accepted, 391 words in libcapnp
 refused, answer 43 at 0:0
@@ -114,6 +117,40 @@ def from_c(folder, environment, files):
             compare(f"{compiler} {file.name}", ("", 0), built)
 
 
+def signs_from_c(folder, environment):
+    """What the example signs verifies with the canonical words of the message, and with no others."""
+    if any(missing("the example in C that signs", tool) for tool in ("cc", "openssl")):
+        return
+    if run(["pkg-config", "libcrypto"], env=environment)[1]:
+        print("not tested, without libcrypto for pkg-config: the example in C that signs")
+        return
+    program, key, public, signature = (folder / name for name in ("sign", "key.pem", "public.pem", "signature"))
+    built = run(["cc", "-std=c99", *STRICT, TOP / "examples/c/sign.c", *flags(environment, "capvet", "libcrypto"), "-o", program])
+    compare("cc sign.c", ("", 0), built)
+    run(["openssl", "genpkey", "-algorithm", "EC", "-pkeyopt", "ec_paramgen_curve:P-256", "-out", key])
+    run(["openssl", "pkey", "-in", key, "-pubout", "-out", public])
+    for name, copy in COPIES:
+        text, status = verdicts([program, key, TOP / "examples" / name])
+        signature.write_bytes(text)
+        compare(f"sign.c of {name}", 0, status)
+        for words in ("contacts.bin", "telemetry.bin"):
+            verified = run(["openssl", "dgst", "-sha256", "-verify", public, "-signature", signature,
+                            TOP / "examples/canonical" / words])
+            compare(f"sign.c of {name}, against the words of {words}", words == copy, verified == ("Verified OK\n", 0))
+    compare("sign.c of a stream", ("sign: more than one message\n", 1), run([program, key, TOP / "examples/stream-of-four.bin"]))
+
+
+def signs_from_rust(program):
+    """What the example hands to a command is the canonical words of the message, and its status is that of the command."""
+    for name, copy in COPIES:
+        digest = hashlib.sha256((TOP / "examples/canonical" / copy).read_bytes()).hexdigest()
+        compare(f"sign of {name}, in Rust", (f"{digest}  -\n", 0), run([program, TOP / "examples" / name, "sha256sum"]))
+    command = ["sh", "-c", "cat > /dev/null; exit 7"]
+    compare("sign by a command that fails", ("", 7), run([program, TOP / "examples/contacts.bin", *command]))
+    refused = ("sign: more than one message\n", 1)
+    compare("sign of a stream, in Rust", refused, run([program, TOP / "examples/stream-of-four.bin", "sha256sum"]))
+
+
 def from_cplusplus(folder, environment, files):
     """The server in front of libcapnp."""
     if missing("the server in front of libcapnp", "c++"):
@@ -146,12 +183,12 @@ def from_rust(folder, environment, files):
         compare(f"cargo {words}", 0, status)
         if status:
             print(text)
-    (folder / "copy/examples/rust/src/bin").mkdir()
     for file in of_pages("rust", folder, "#![allow(dead_code)]\n", "fn main() {}\n"):
         file.rename(folder / f"copy/examples/rust/src/bin/{file.stem}.rs")
     built = run(["cargo", "build", "--offline", "--quiet"], cwd=folder / "copy/examples/rust", env=environment)
     compare("cargo build of the example", ("", 0), built)
     same("the example in Rust", [folder / "target/debug/vet"], files)
+    signs_from_rust(folder / "target/debug/sign")
 
 
 def main():
@@ -167,6 +204,7 @@ def main():
         described(prefix, environment)
         as_shown(folder)
         from_c(folder, environment, files)
+        signs_from_c(folder, environment)
         from_cplusplus(folder, environment, files)
         from_rust(folder, environment, files)
         environment["PKG_CONFIG_PATH"] = str(stage / "opt/capvet/lib/pkgconfig")

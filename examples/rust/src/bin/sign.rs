@@ -1,0 +1,72 @@
+//! Hands the canonical copy of a message to a command that hashes or signs it, so that what comes out is the same however
+//! the message is spelled.
+//!
+//!     PKG_CONFIG_PATH=PREFIX/lib/pkgconfig cargo run --bin sign -- FILE COMMAND..
+//!
+//! as `sign FILE sha256sum`, or `sign FILE openssl dgst -sha256 -sign key.pem`. FILE is one message and nothing else.
+//!
+//! The words don't say of which schema they are: where one key signs messages of several, sign its name in front of them.
+//!
+//! The status is that of the command, 1 where the message has no canonical copy, 2 for a wrong command line, and 3 where
+//! the file can't be read or the command doesn't run.
+
+use capvet::Limits;
+use std::ffi::OsString;
+use std::io::Write;
+use std::process::{Command, ExitCode, Stdio};
+use std::{env, fs, io};
+
+fn main() -> ExitCode {
+    let words: Vec<OsString> = env::args_os().skip(1).collect();
+    let (name, command) = match &words[..] {
+        [name, command @ ..] if !command.is_empty() => (name, command),
+        _ => {
+            eprintln!("usage: sign FILE COMMAND..");
+            return ExitCode::from(2);
+        }
+    };
+    let bytes = match fs::read(name) {
+        Ok(bytes) => bytes,
+        Err(error) => {
+            eprintln!("sign: {}: {error}", name.to_string_lossy());
+            return ExitCode::from(3);
+        }
+    };
+    let copy = match copy_of(&bytes) {
+        Ok(copy) => copy,
+        Err(why) => {
+            eprintln!("sign: {why}");
+            return ExitCode::from(1);
+        }
+    };
+    match handed(&copy, command) {
+        Ok(status) => ExitCode::from(status),
+        Err(error) => {
+            eprintln!("sign: {}: {error}", command[0].to_string_lossy());
+            ExitCode::from(3)
+        }
+    }
+}
+
+// The canonical copy of bytes that are one message and nothing else, or why there is none.
+fn copy_of(bytes: &[u8]) -> Result<Vec<u8>, String> {
+    let copy = capvet::canonical(bytes, Limits::DEFAULT).map_err(|why| why.to_string())?;
+    match capvet::frame_len(bytes, Limits::DEFAULT) {
+        Ok(length) if length == bytes.len() => Ok(copy),
+        _ => Err("more than one message".to_owned()),
+    }
+}
+
+// The status of a command whose input these bytes are; 3 where a signal ended it.
+fn handed(bytes: &[u8], command: &[OsString]) -> io::Result<u8> {
+    let mut child = Command::new(&command[0])
+        .args(&command[1..])
+        .stdin(Stdio::piped())
+        .spawn()?;
+    // (its input ends where the handle to it is dropped)
+    let written = child.stdin.take().map(|mut input| input.write_all(bytes));
+    let status = child.wait()?;
+    written.unwrap_or(Ok(()))?;
+    let code = status.code().and_then(|code| u8::try_from(code).ok());
+    Ok(code.unwrap_or(3))
+}
