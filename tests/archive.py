@@ -16,13 +16,15 @@ LIBRARIES = sorted(TOP.glob("crates/*/out/rlib"))
 
 
 def main(archive):
+    archive = Path(archive).resolve()
+    archive.parent.mkdir(exist_ok=True)
     words = ["--crate-name", "capvet_c", "src/lib.rt", "--crate-type", "staticlib", "--links", "capvet_c="]
     words += ["--extern", f"std={KIT}/rlibs/std.rlib"]
     words += ["--extern", f"cap_calls={TOP}/crates/cap_calls/out/rlib/cap_calls.rlib"]
     for folder in [KIT / "rlibs", *LIBRARIES]:
         words += ["-L", f"dependency={folder}"]
     words += ["--antt-project", f"{KIT}/rattle/logic/antt-project.json", "--logic-built", f"{KIT}/logic_built"]
-    words += ["--toolchain", f"{KIT}/toolchain", "--jobs", "1", "-o", str(Path(archive).resolve())]
+    words += ["--toolchain", f"{KIT}/toolchain", "--jobs", "1", "-o", str(archive)]
     return subprocess.run([KIT / "bin/rattle", "build", *words], cwd=TOP / "crates/capvet_c").returncode
 
 
