@@ -30,5 +30,7 @@ mod Marking
 mod Pointing
 mod Ranges
 mod SecondWalk
+pub mod OneReport
+pub mod ExclusiveFaults
 mod Pads
 mod NearUses

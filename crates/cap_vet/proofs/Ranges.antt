@@ -1,8 +1,10 @@
 -- What marking a range of bits does to the places of a message.
-use Rattle.std.proofs.Common.{ℕ, zero, suc, ◌+◌, ◌<◌, ◌≤◌, ◌≡◌, ◌-◌, ◌^◌, List, [], ◌∷◌, ◌++◌, length, inl, inr, refl, sym, ap, subst, ◌∙◌, arith, slice_index, slice_index_or}
+use Rattle.std.proofs.Common.{ℕ, zero, suc, ◌+◌, ◌<◌, ◌≤◌, ◌≡◌, ◌-◌, ◌^◌, List, [], ◌∷◌, ◌++◌, length, sum, inl, inr, refl, sym, ap, subst, ◌∙◌, arith, slice_index, slice_index_or}
 use Rattle.std.proofs.lemmas.Bool.{cases_eq, cases_lt}
 use Rattle.std.proofs.lemmas.List.{get_or_append_left}
 use Rattle.std.proofs.Math.Seq.{get_or-append_seam}
+use Rattle.std.proofs.lemmas.List.Sums.{sum_by-cons}
+use Rattle.cap_spec.specs.Frames.{sizes_of}
 use Rattle.cap_spec.specs.Messages.{IsMessage, segment_of}
 use Rattle.cap_spec.specs.Denoting.{places}
 use Rattle.cap_spec.specs.Occupying.{IsPlaceOf}
@@ -100,3 +102,8 @@ one_start m h one =
     let all : start_of m (length m) ≡ start_of m (0 + 1) = ap (start_of m) one in
     let next = start_next m 0 (omega (arith, one)) in
     record { many = sym one; each = λ s less. only_start m s (omega (arith, one)); few = omega (arith, all, next, short, only_start m 0 (omega arith)) }
+
+-- all segments together have as many words as their sizes sum to
+pub all_words : (m : List (List ℕ)) → start_of m (length m) ≡ sum (sizes_of m)
+all_words [] = refl
+all_words (x ∷ m) = (let rest = all_words m in omega (arith, rest, sum_by-cons (λ x. x) (length x) (sizes_of m)))

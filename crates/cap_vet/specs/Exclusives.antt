@@ -1,11 +1,16 @@
 -- What an exclusive message is, and why a message isn't one (profile).
-use Rattle.std.specs.Prelude.{ℕ, List}
+use Rattle.std.specs.Prelude.{ℕ, ◌<◌, ◌≡◌, ◌≤◌, List, ⊤}
 use Rattle.cap_frame.specs.declared.segments.Segments as segments
 use Rattle.cap_spec.specs.Faults.{IsRefused}
 use Rattle.cap_spec.specs.Occupying.{IsFirstOverlap}
+use Rattle.cap_vet.specs.Reports.{IsAccepted}
+use Rattle.cap_vet.specs.Taken.{marks_of}
 use Rattle.cap_vet.specs.declared.exclusive.Exclusive.{Exclusive}
+use Rattle.cap_vet.specs.declared.exclusive_room.ExclusiveFault.{ExclusiveFault}
+use Rattle.cap_vet.specs.declared.exclusive_room.ExclusiveFault.TheVariants as fault
 use Rattle.cap_vet.specs.declared.exclusive_vetting.ExclusiveRefusal.{ExclusiveRefusal}
 use Rattle.cap_vet.specs.declared.exclusive_vetting.ExclusiveRefusal.TheVariants.{Refused, Overlap, Memory}
+use Rattle.cap_vet.specs.declared.report.Report.{Report}
 use Rattle.cap_vet.specs.declared.vetted.Vetted.{Vetted}
 
 -- the accepted message
@@ -17,3 +22,15 @@ abbrev pub IsStopped : List (List ℕ) → ℕ → ℕ → ExclusiveRefusal → 
 IsStopped m words depth (Refused r) = IsRefused m words depth r
 IsStopped m words depth (Overlap s w n) = IsFirstOverlap m s w n
 IsStopped m words depth Memory = ⊥
+
+-- why a message isn't found exclusive over room of so many numbers; each message that isn't has one of these faults
+abbrev pub IsExclusiveFault : List (List ℕ) → ℕ → ℕ → ℕ → ExclusiveFault → Type 0
+IsExclusiveFault m words depth room (fault.Refused r) = IsRefused m words depth r
+IsExclusiveFault m words depth room (fault.NoRoom needed report) = IsAccepted m words depth report × (room < needed) × (needed ≡ marks_of m)
+IsExclusiveFault m words depth room (fault.Overlap s w n) = (report : Report) × IsAccepted m words depth report × (marks_of m ≤ room) × IsFirstOverlap m s w n
+
+-- room that isn't used stays as it was
+abbrev pub KeepsRoom : ExclusiveFault → List ℕ → List ℕ → Type 0
+KeepsRoom (fault.Refused r) old new = new ≡ old
+KeepsRoom (fault.NoRoom needed report) old new = new ≡ old
+KeepsRoom (fault.Overlap s w n) old new = ⊤

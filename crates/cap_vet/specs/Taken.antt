@@ -1,6 +1,7 @@
 -- Which words of a message are marked in a flat map of bits (profile).
-use Rattle.std.specs.Prelude.{ℕ, zero, suc, ◌+◌, ◌*◌, ◌/◌, ◌%◌, ◌^◌, ◌<◌, ◌≤◌, ◌≡◌, List, [], ◌∷◌, length, slice_index}
+use Rattle.std.specs.Prelude.{ℕ, zero, suc, ◌+◌, ◌*◌, ◌/◌, ◌%◌, ◌^◌, ◌<◌, ◌≤◌, ◌≡◌, List, [], ◌∷◌, length, slice_index, sum}
 use Rattle.std.specs.Int.{bit_at}
+use Rattle.cap_spec.specs.Frames.{sizes_of}
 use Rattle.cap_spec.specs.Messages.{segment_of}
 use Rattle.cap_spec.specs.declared.Step.{Step}
 use Rattle.cap_vet.specs.Marks.{IsMarked}
@@ -18,6 +19,10 @@ abbrev pub start_of : List (List ℕ) → ℕ → ℕ
 start_of m zero = 0
 start_of [] (suc s) = 0
 start_of (segment ∷ m) (suc s) = length segment + start_of m s
+
+-- how many numbers of 64 bits are taken for a bit for each of a message's words
+abbrev pub marks_of : List (List ℕ) → ℕ
+marks_of m = sum (sizes_of m) / 64 + 1
 
 -- the word exists, and its bit is set
 abbrev pub IsTaken : List (List ℕ) → List ℕ → ℕ → ℕ → Type 0

@@ -96,9 +96,9 @@ pub fn vet_exclusive<'m, M: Segments>(
     }
 }
 
-// Walks a message that is accepted once more. A table of where the bits of its segments start is made ready
-// for each message of several alone.
-fn mark_message<M: Segments>(
+/// Walks a message that is accepted once more. A table of where the bits of its segments start is made
+/// ready for each message of several alone.
+pub(crate) fn mark_message<M: Segments>(
     message: &M,
     limits: &Limits,
     marks: &mut [u64],

@@ -4,6 +4,7 @@
 mod budget;
 mod charged;
 mod exclusive;
+mod exclusive_room;
 mod exclusive_vetting;
 mod found;
 mod frame;
@@ -27,8 +28,10 @@ pub use cap_ptr::Reason;
 pub use cap_spec::{Kind, Refusal, Step};
 pub use charged::get_charged;
 pub use exclusive::Exclusive;
+pub use exclusive_room::{ExclusiveFault, vet_exclusive_in};
 pub use exclusive_vetting::{ExclusiveRefusal, vet_exclusive};
 pub use limits::Limits;
+pub use marks::marks_for;
 pub use node::Node;
 pub use place::Place;
 pub use report::Report;

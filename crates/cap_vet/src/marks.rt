@@ -5,8 +5,8 @@ ghost use Rattle.cap_spec.specs.Following.{Lead, Leads};
 ghost use Rattle.cap_spec.specs.Messages.{HasWord, segment_of};
 ghost use Rattle.cap_spec.specs.Occupying.{IsPlaceOf, Occupies, pads_of};
 ghost use Rattle.cap_vet.specs.Marks.{Conflicts, MarksAll, UsesPlace};
-ghost use Rattle.cap_vet.specs.Taken.{AreStarts, HasRoom, IsTaken, bit_of, start_of};
-ghost use Rattle.std.specs.Prelude.{◌+◌, ◌-◌, ◌*◌, ◌<◌, ◌^◌, ◌≡◌, ◌≤◌, List, ℕ, IfSome, false, length, true};
+ghost use Rattle.cap_vet.specs.Taken.{AreStarts, HasRoom, IsTaken, bit_of, marks_of, start_of};
+ghost use Rattle.std.specs.Prelude.{◌+◌, ◌-◌, ◌*◌, ◌/◌, ◌<◌, ◌^◌, ◌≡◌, ◌≤◌, List, ℕ, IfSome, false, length, true};
 
 use crate::place::Place;
 use crate::uses::structs_use;
@@ -14,15 +14,24 @@ use arrayvec::ArrayVec;
 use cap_frame::Segments;
 use cap_ptr::{Followed, Pointer, follow};
 
+/// How many numbers of 64 bits are taken for the marks of a message of so many words, a bit for each, all
+/// segments together.
+pub fn marks_for(words: u64) -> usize
+    ensures { result ≡ words / 64 + 1 }
+{
+    (words / 64 + 1) as usize
+}
+
 /// How many numbers of 64 bits hold a bit for each word of a message.
 pub(crate) fn numbers_for<M: Segments>(message: &M) -> usize
-    ensures { start_of (M.segments message.now) (length (M.segments message.now)) ≤ 64 * result }
+    ensures exact { result ≡ marks_of (M.segments message.now) }
+    ensures enough { start_of (M.segments message.now) (length (M.segments message.now)) ≤ 64 * result }
 {
     let mut words = 0u64;
     for s in 0..message.count() {
         words += u64::from(message.len(s));
     }
-    (words / 64 + 1) as usize
+    marks_for(words)
 }
 
 /// Where the bits of each segment's words start, one segment's behind the other's.

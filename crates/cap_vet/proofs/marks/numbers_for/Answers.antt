@@ -1,5 +1,6 @@
-use Rattle.std.proofs.Common.{◌<◌, arith, length}
-use Rattle.cap_vet.proofs.Ranges.{start_next}
+use Rattle.std.proofs.Common.{◌<◌, ◌≡◌, ◌∙◌, ◌/◌, ◌+◌, ap, arith, length}
+use Rattle.cap_vet.specs.Taken.{start_of}
+use Rattle.cap_vet.proofs.Ranges.{all_words, start_next}
 use Rattle.cap_vet.proofs.marks.numbers_for.Goals as goal
 
 pub loop-s-preserved : goal.loop-s-preserved
@@ -9,3 +10,16 @@ loop-s-preserved g c =
       words = omega (arith, next, c.loop-s.invariant.words, c.len.ensures, c.from-words.ensures);
       few = omega (arith, c.loop-s.invariant.few, c.from-words.ensures, c.len.type_inv);
     }
+
+pub returns-clause-exact : goal.returns-clause-exact
+returns-clause-exact g c =
+    let m = g.M.Segments.segments c.args.message.now in
+    let all : c.loop-s.s ≡ length m = omega (arith, c.loop-s-test.false, c.loop-s.auto.s-end, c.count-s-end.ensures) in
+    c.marks_for.ensures ∙ ap (λ n. n / 64 + 1) (c.loop-s.invariant.words ∙ (ap (start_of m) all ∙ all_words m))
+
+pub returns-clause-enough : goal.returns-clause-enough
+returns-clause-enough g c =
+    let m = g.M.Segments.segments c.args.message.now in
+    let all : c.loop-s.s ≡ length m = omega (arith, c.loop-s-test.false, c.loop-s.auto.s-end, c.count-s-end.ensures) in
+    let words : c.loop-s.words ≡ start_of m (length m) = c.loop-s.invariant.words ∙ ap (start_of m) all in
+    omega (arith, c.marks_for.ensures, words)

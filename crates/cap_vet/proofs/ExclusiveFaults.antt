@@ -1,0 +1,31 @@
+-- A message has one fault for which it isn't exclusive over room, or none.
+use Rattle.std.proofs.Common.{ℕ, ◌≤◌, ◌≡◌, ◌∙◌, List, sym, ap, ap₂, arith}
+use Rattle.cap_spec.specs.Occupying.{IsDisjoint}
+use Rattle.cap_spec.proofs.Disjoint.Overlaps.{none_of_disjoint, one_overlap}
+use Rattle.cap_spec.proofs.Verdicts.OneFault.{one_refusal}
+use Rattle.cap_vet.specs.Exclusives.{IsExclusiveFault}
+use Rattle.cap_vet.specs.Reports.{IsAccepted}
+use Rattle.cap_vet.specs.Taken.{marks_of}
+use Rattle.cap_vet.specs.declared.exclusive_room.ExclusiveFault.{ExclusiveFault}
+use Rattle.cap_vet.specs.declared.exclusive_room.ExclusiveFault.TheVariants.{Refused, NoRoom, Overlap}
+use Rattle.cap_vet.specs.declared.report.Report.{Report}
+use Rattle.cap_vet.proofs.OneReport.{not_both, one_report}
+
+-- there is one fault,
+pub one_exclusive_fault : (m : List (List ℕ)) (words depth room : ℕ) (a b : ExclusiveFault) → IsExclusiveFault m words depth room a → IsExclusiveFault m words depth room b → a ≡ b
+one_exclusive_fault m words depth room (Refused r) (Refused q) h k = ap Refused (one_refusal m words depth r q h k)
+one_exclusive_fault m words depth room (Refused r) (NoRoom n b) h k = absurd (not_both m words depth b r k.0 h)
+one_exclusive_fault m words depth room (Refused r) (Overlap s w n) h k = absurd (not_both m words depth k.0 r k.1 h)
+one_exclusive_fault m words depth room (NoRoom n a) (Refused q) h k = absurd (not_both m words depth a q h.0 k)
+one_exclusive_fault m words depth room (NoRoom n a) (NoRoom n' b) h k = ap₂ NoRoom (h.2 ∙ sym k.2) (one_report m words depth a b h.0 k.0)
+one_exclusive_fault m words depth room (NoRoom n a) (Overlap s w n') h k = absurd (omega (arith, h.1, h.2, k.2))
+one_exclusive_fault m words depth room (Overlap s w n) (Refused q) h k = absurd (not_both m words depth h.0 q h.1 k)
+one_exclusive_fault m words depth room (Overlap s w n) (NoRoom n' b) h k = absurd (omega (arith, h.2, k.1, k.2))
+one_exclusive_fault m words depth room (Overlap s w n) (Overlap s' w' n') h k = (let same = one_overlap m s w n s' w' n' h.3 k.3 in cc)
+
+-- and none where it is accepted and disjoint and there is room
+pub no_exclusive_fault : (m : List (List ℕ)) (words depth room : ℕ) (report : Report) (x : ExclusiveFault) → IsAccepted m words depth report → IsDisjoint m → marks_of m ≤ room
+    → IsExclusiveFault m words depth room x → ⊥
+no_exclusive_fault m words depth room report (Refused r) a d l h = not_both m words depth report r a h
+no_exclusive_fault m words depth room report (NoRoom n b) a d l h = omega (arith, l, h.1, h.2)
+no_exclusive_fault m words depth room report (Overlap s w n) a d l h = none_of_disjoint m d h.3.path h.3.overlaps

@@ -1,0 +1,121 @@
+//! The verdict of a message of which no word may be used twice, over room that is lent for the marks.
+
+ghost use Rattle.cap_spec.specs.Occupying.{IsDisjoint, empty_count};
+ghost use Rattle.cap_spec.specs.Frames.{sizes_of};
+ghost use Rattle.cap_spec.specs.Messages.{segment_of};
+ghost use Rattle.cap_spec.specs.Tree.{Tree};
+ghost use Rattle.cap_vet.specs.Exclusives.{IsExclusiveFault, IsStopped, KeepsRoom, vetted_of};
+ghost use Rattle.cap_vet.specs.Limits.{depth_of, words_of};
+ghost use Rattle.cap_vet.specs.Reports.{IsAccepted, IsReport};
+ghost use Rattle.cap_vet.specs.Taken.{marks_of, start_of};
+ghost use Rattle.cap_vet.specs.Vettings.{message_of, report_of};
+ghost use Rattle.cap_vet.specs.declared.exclusive_room.ExclusiveFault.{ExclusiveFault};
+ghost use Rattle.cap_vet.specs.declared.report.Report.{Report};
+ghost use Rattle.std.specs.Prelude.{Err, ◌+◌, ◌*◌, ◌<◌, ◌≡◌, ◌≤◌, IfErr, IfOk, IsErrOf, IsOk, drop, length, sum, ℕ};
+
+use crate::exclusive::Exclusive;
+use crate::exclusive_vetting::{ExclusiveRefusal, mark_message};
+use crate::limits::Limits;
+use crate::marks::numbers_for;
+use crate::report::Report;
+use crate::vetting::vet;
+use cap_frame::Segments;
+use cap_spec::Refusal;
+
+/// Why a message isn't found exclusive over room that is lent.
+#[derive(Clone, Copy, Debug, PartialEq, Eq, Drop)]
+pub enum ExclusiveFault {
+    /// It isn't accepted at all.
+    Refused(Refusal),
+    /// It is accepted, and the room is too small.
+    NoRoom {
+        /// How many numbers the marks take.
+        needed: usize,
+        /// The report of `vet`.
+        report: Report,
+    },
+    /// It is accepted, and a pointer uses a word twice, the root word, or a word that an earlier pointer
+    /// uses.
+    Overlap {
+        /// The segment of the first such pointer in preorder.
+        segment: u32,
+        /// Its word in that segment.
+        word: u32,
+        /// How many pointer words were looked at, that one included.
+        pointers: u64,
+    },
+}
+
+/// Vets a message as `vet_exclusive` does, with the marks in room that is lent for them, and takes no
+/// memory. The room may hold anything; its first [`crate::marks_for`] of the message's words are cleared
+/// and used, and what stands behind them stays as it is.
+///
+/// The refusal of `vet` is handed on. Then `NoRoom` is answered where the room has fewer numbers. After
+/// both the room is as it was. Then the message is walked once more, and `Overlap` names the first
+/// pointer in preorder that uses a word which is used already.
+pub fn vet_exclusive_in<'m, M: Segments>(
+    message: &'m M,
+    limits: Limits,
+    marks: &mut [u64],
+) -> Result<Exclusive<'m, M>, ExclusiveFault>
+    ensures ok { IfOk result (λ e. IsAccepted (M.segments message.now) (words_of limits) (depth_of limits) (report_of (vetted_of e))
+        × IsDisjoint (M.segments message.now) × (marks_of (M.segments message.now) ≤ length marks.old)) }
+    ensures message { IfOk result (λ e. message_of (vetted_of e) ≡ message.now) }
+
+    // Without that of elements which take no bits or no words, the charge is less than the words of all segments.
+    ensures bound { IfOk result (λ e. (t : Tree) × IsReport (M.segments message.now) (words_of limits) (depth_of limits) (report_of (vetted_of e)) t
+        × ((report_of (vetted_of e)).charge < sum (sizes_of (M.segments message.now)) + empty_count t)) }
+    ensures err { IfErr result (IsExclusiveFault (M.segments message.now) (words_of limits) (depth_of limits) (length marks.old)) }
+
+    // The other direction.
+    ensures accepts { (report : Report) → IsAccepted (M.segments message.now) (words_of limits) (depth_of limits) report →
+        IsDisjoint (M.segments message.now) → marks_of (M.segments message.now) ≤ length marks.old → IsOk result }
+    ensures refuses { (fault : ExclusiveFault) →
+        IsExclusiveFault (M.segments message.now) (words_of limits) (depth_of limits) (length marks.old) fault → result ≡ Err fault }
+
+    // What is left in the room.
+    ensures rest { drop (marks_of (M.segments message.now)) marks.new ≡ drop (marks_of (M.segments message.now)) marks.old }
+    ensures kept { IfErr result (λ fault. KeepsRoom fault marks.old marks.new) }
+{
+    let vetted = match vet(message, limits) {
+        Ok(vetted) => vetted,
+        Err(refusal) => return Err(ExclusiveFault::Refused(refusal)),
+    };
+    let needed = numbers_for(message);
+    if marks.len() < needed {
+        return Err(ExclusiveFault::NoRoom {
+            needed,
+            report: vetted.report(),
+        });
+    }
+    match mark_cleared(message, &limits, &mut marks[..needed]) {
+        Ok(()) => Ok(Exclusive { vetted }),
+        Err(
+            ExclusiveRefusal::Overlap {
+                segment,
+                word,
+                pointers,
+            },
+        ) => Err(ExclusiveFault::Overlap {
+            segment,
+            word,
+            pointers,
+        }),
+        Err(_) => unreachable!(),
+    }
+}
+
+// Clears the marks, whatever they are, and walks a message that is accepted once more.
+fn mark_cleared<M: Segments>(
+    message: &M,
+    limits: &Limits,
+    marks: &mut [u64],
+) -> Result<(), ExclusiveRefusal>
+    requires enough { start_of (M.segments message.now) (length (M.segments message.now)) ≤ 64 * length marks.old }
+    requires root { 0 < length (segment_of (M.segments message.now) 0) }
+    ensures ok { IfOk result (λ _. IsDisjoint (M.segments message.now)) }
+    ensures err { IfErr result (IsStopped (M.segments message.now) (words_of limits.now) (depth_of limits.now)) }
+{
+    marks.fill(0);
+    mark_message(message, limits, marks)
+}
