@@ -1,15 +1,9 @@
 -- The bytes decide what each call answers and tells.
-use Rattle.std.proofs.Common.{ℕ, ap₂, List, [], ◌≡◌, ◌∙◌, ◌<◌, ◌≤◌, ◌+◌, ◌*◌, ap, sym, subst, refl, length, Option, Some, None, Result, Ok, Err, inl, inr}
+use Rattle.std.proofs.Common.{ℕ, ap₂, List, [], ◌≡◌, ◌∙◌, ◌<◌, ◌≤◌, ◌+◌, ◌*◌, ap, sym, subst, refl, length, Option, None, Result, Ok, Err, inl, inr}
 use Rattle.std.specs.Prelude.{◌⊎◌}
 use Rattle.cap_spec.specs.Copies.{IsCanonical}
-use Rattle.cap_spec.specs.Faults.{IsRefused}
-use Rattle.cap_spec.specs.Tree.{cap_count, pointer_count}
-use Rattle.cap_spec.specs.declared.Refusal.{Refusal}
 use Rattle.cap_spec.proofs.Frames.Framing.{one_frame}
 use Rattle.cap_spec.proofs.Verdicts.OneFault.{one_refusal}
-use Rattle.cap_spec.proofs.Trees.OneTree.{one_tree}
-use Rattle.cap_spec.proofs.Paths.Preorder.{one_first_cap}
-use Rattle.cap_spec.proofs.Verdicts.Refusals.{tree_not_refused}
 use Rattle.cap_frame.specs.Framed.{TellsFront}
 use Rattle.cap_frame.specs.Fronts.{TellsLarge, TellsMany, Wants}
 use Rattle.cap_spec.specs.Frames.{IsPartial}
@@ -18,8 +12,7 @@ use Rattle.cap_frame.specs.declared.fault.FrontFault.{FrontFault}
 use Rattle.cap_frame.specs.declared.fault.FrontFault.TheVariants.{TooManySegments, TooLarge, Truncated}
 use Rattle.cap_frame.specs.declared.framed.Framed.{Framed}
 use Rattle.cap_frame.proofs.FrontAnswers.{empty_answer, large_answer, many_answer, short_answer, whole_answer}
-use Rattle.cap_vet.specs.Reports.{IsAccepted, IsFirstCapOf}
-use Rattle.cap_vet.specs.declared.report.Report.{Report}
+use Rattle.cap_vet.proofs.OneReport.{not_both, one_report}
 use Rattle.cap_calls.specs.Calls.{TellsFrame, without, whole, TellsVet, TellsCheck}
 use Rattle.cap_calls.specs.Calls.{refused, canonical, not_canonical}
 use Rattle.cap_calls.specs.AnswerNumbers.{reason_answer}
@@ -59,7 +52,7 @@ no_fault limit bs a e h = (let f = empty_answer limit bs (Without-fault a) e h i
 
 module _ (l : CallLimits) (bs : List ℕ) where
   -- there is no frame for one cause
-  one_cause : (a b : NoFrame) → HasNoFrame l bs a → HasNoFrame l bs b → a ≡ b
+  pub one_cause : (a b : NoFrame) → HasNoFrame l bs a → HasNoFrame l bs b → a ≡ b
   one_cause BadLimits BadLimits h k = refl
   one_cause BadLimits NoMessage h k = absurd (h k.0)
   one_cause BadLimits (Fault b) h k = absurd (h k.0)
@@ -71,7 +64,7 @@ module _ (l : CallLimits) (bs : List ℕ) where
   one_cause (Fault a) (Fault b) h k = ap Fault (one_fault l.size bs a b h.1 k.1)
 
   -- where there is a frame, there is no cause for none
-  no_cause : (a : NoFrame) (frame segments : ℕ) (m : List (List ℕ)) → HasNoFrame l bs a → HasFrame l bs frame segments m → ⊥
+  pub no_cause : (a : NoFrame) (frame segments : ℕ) (m : List (List ℕ)) → HasNoFrame l bs a → HasFrame l bs frame segments m → ⊥
   no_cause BadLimits frame segments m h f = h f.are_limits
   no_cause NoMessage frame segments m h f = whole_answer l.size bs (Ok None) m frame f.front h.1
   no_cause (Fault a) frame segments m h f = whole_answer l.size bs (Without-fault a) m frame f.front h.1
@@ -81,31 +74,6 @@ module _ (l : CallLimits) (bs : List ℕ) where
   one_extent a b x y m n f g =
       let same = one_frame f.front.own g.front.own f.front.rest g.front.rest m n f.front.frames g.front.frames (sym f.front.words ∙ g.front.words) in
       (f.front.long ∙ (ap (λ (ws : List ℕ). 8 * length ws) same.0 ∙ sym g.front.long), f.count ∙ (ap length same.1 ∙ sym g.count), same.1)
-
--- there is one first capability, or none
-one_cap : (m : List (List ℕ)) (a b : Option (ℕ × ℕ)) → IsFirstCapOf m a → IsFirstCapOf m b → a ≡ b
-one_cap m None None h k = refl
-one_cap m None (Some (s, w)) h k = absurd (h k.path k.level s w k.k k.index k.reached k.leads)
-one_cap m (Some (s, w)) None h k = absurd (k h.path h.level s w h.k h.index h.reached h.leads)
-one_cap m (Some (s, w)) (Some (t, x)) h k = (let same = one_first_cap m s w t x h k in ap₂ (λ (a b : ℕ). Some (a, b)) same.0 same.1)
-
-same_report : (a b : Report) → a.charge ≡ b.charge → a.depth ≡ b.depth → a.pointers ≡ b.pointers → a.caps ≡ b.caps → a.first_cap ≡ b.first_cap → a ≡ b
-same_report a b e1 e2 e3 e4 e5 =
-    let make : ℕ → ℕ → ℕ → ℕ → Option (ℕ × ℕ) → Report = λ c d p n f. record { charge = c; depth = d; pointers = p; caps = n; first_cap = f } in
-    ap (λ c. make c a.depth a.pointers a.caps a.first_cap) e1 ∙ (ap (λ d. make b.charge d a.pointers a.caps a.first_cap) e2
-    ∙ (ap (λ p. make b.charge b.depth p a.caps a.first_cap) e3 ∙ (ap (λ n. make b.charge b.depth b.pointers n a.first_cap) e4
-    ∙ ap (λ f. make b.charge b.depth b.pointers b.caps f) e5)))
-
--- An accepted message has one report.
-one_report : (m : List (List ℕ)) (words depth : ℕ) (a b : Report) → IsAccepted m words depth a → IsAccepted m words depth b → a ≡ b
-one_report m words depth a b (t, h) (u, k) =
-    let same = one_tree m 0 0 t u a.charge a.depth b.charge b.depth h.denotes k.denotes in
-    same_report a b same.charge same.depth (h.pointers ∙ (ap pointer_count same.part ∙ sym k.pointers))
-    (h.caps ∙ (ap cap_count same.part ∙ sym k.caps)) (one_cap m a.first_cap b.first_cap h.first_cap k.first_cap)
-
--- A message isn't both accepted and refused.
-not_both : (m : List (List ℕ)) (words depth : ℕ) (a : Report) (r : Refusal) → IsAccepted m words depth a → IsRefused m words depth r → ⊥
-not_both m words depth a r (t, h) k = tree_not_refused m t a.charge a.depth words depth r h.denotes h.within h.shallow k
 
 -- There is one verdict.
 pub one_verdict : (l : CallLimits) (bs : List ℕ) (v w : Verdict) → IsVerdict l bs v → IsVerdict l bs w → v ≡ w

@@ -13,6 +13,7 @@ use Rattle.cap_calls.specs.declared.answer.Answer.TheVariants.{
   NoRoom,
   NotCanonical,
   HasCapability,
+  Overlap,
   NoRoot,
   Reserved,
   SegmentMissing,
@@ -39,6 +40,7 @@ number_of BadLimits = 8
 number_of NoRoom = 9
 number_of NotCanonical = 16
 number_of HasCapability = 17
+number_of Overlap = 18
 number_of NoRoot = 32
 number_of Reserved = 33
 number_of SegmentMissing = 34

@@ -25,6 +25,8 @@ pub enum Answer {
     NotCanonical = 16,
     /// The message is accepted, and has a capability, so that it has no canonical copy.
     HasCapability = 17,
+    /// The message is accepted, and a word of it is used twice.
+    Overlap = 18,
     /// The message is refused for [`Reason::NoRoot`], as those behind it for the reasons of their names.
     NoRoot = 32,
     Reserved = 33,
