@@ -44,7 +44,7 @@ typedef char capvet_needs_64_bits[sizeof(size_t) == 8 ? 1 : -1];
  * 32 on why it is refused. Numbers never change; new ones may come, so treat any but CAPVET_OK as a
  * no. Where several hold, the order is: CAPVET_BAD_LIMITS, the frame (empty, fewer than 8 bytes, too
  * many segments, the table cut, too large, the contents cut), the refusal, CAPVET_HAS_CAPABILITY,
- * CAPVET_NO_ROOM or CAPVET_NOT_CANONICAL. Of packing and unpacking: see there. */
+ * CAPVET_NO_ROOM, CAPVET_NOT_CANONICAL or CAPVET_OVERLAP. Of packing and unpacking: see there. */
 enum {
   CAPVET_OK = 0,
   CAPVET_NO_MESSAGE = 1, /* the buffer is empty: where a stream ends; `number` is 8 */
@@ -57,11 +57,13 @@ enum {
 
   /* The call can't be served as it was made. */
   CAPVET_BAD_LIMITS = 8, /* a limit is above its most; told by each call that takes limits */
-  CAPVET_NO_ROOM = 9,    /* the room given is too small: the needed length was told */
+  CAPVET_NO_ROOM = 9,    /* the room given is too small: how much is needed was told */
 
   /* The message is not what was asked for, though it is accepted. */
   CAPVET_NOT_CANONICAL = 16,
   CAPVET_HAS_CAPABILITY = 17, /* `segment`, `word`: the first, so there is no canonical copy */
+  CAPVET_OVERLAP = 18,        /* a word is used twice; `segment`, `word`, `pointers`: the first pointer
+                                 in preorder that uses one which is used already */
 
   /* The message is refused: why, at the first pointer in preorder where anything is wrong
      (`segment`, `word`, `pointers`). */
@@ -101,7 +103,8 @@ typedef struct capvet_report {
   uint64_t length;   /* bytes of the frame with its table, also of a refused message; 0: no frame */
   uint64_t number;   /* of a fault of the frame: see there */
   uint64_t charge;   /* accepted: words of all followings, a shared target once for each */
-  uint64_t pointers; /* accepted: pointer words, null ones too; refused: those looked at */
+  uint64_t pointers; /* accepted: pointer words, null ones too; refused or CAPVET_OVERLAP: those
+                        looked at, the one that is named included */
   uint64_t caps;     /* accepted: capabilities */
   uint32_t depth;    /* accepted: the deepest level of an object */
   uint32_t segment;  /* the pointer that is named; accepted with caps > 0: the first capability */
@@ -126,6 +129,25 @@ uint32_t capvet_frame(const uint8_t *bytes, size_t length, const capvet_limits *
 CAPVET_CHECKED
 uint32_t capvet_vet(const uint8_t *bytes, size_t length, const capvet_limits *limits,
                     capvet_report *report);
+
+/* Vets the message as capvet_vet does, and accepts it where also no word of it is used twice: the root
+ * word, the landing pads of each pointer that a path reaches and the words of each object are all
+ * distinct. (An object without words uses none.) Its charge is then less than the words of all its
+ * segments, but for elements of lists that take no bits or no words.
+ *
+ * A bit for each word is marked in `marks`, which has `room` numbers (not bytes) and may hold anything
+ * before. *needed is how many of them the marks take: the words of all segments / 64 + 1, of each message
+ * that is accepted, whatever `room` is; else it is 0. report->length / 512 + 1 always serve, so ask
+ * capvet_frame for the length, or pass `room` 0 first.
+ *
+ * CAPVET_NO_ROOM where `room` is less than *needed, of an accepted message alone, with the report of
+ * capvet_vet; whether a word is used twice isn't known then. CAPVET_OVERLAP where one is: the report
+ * names the pointer, tells `length` and `segments` too, and `charge`, `caps` and `depth` are 0. CAPVET_OK
+ * with the report of capvet_vet. After these two the first *needed numbers hold marks, and those behind
+ * are as they were; after any other answer all are. */
+CAPVET_CHECKED
+uint32_t capvet_vet_exclusive(const uint8_t *bytes, size_t length, const capvet_limits *limits,
+                              uint64_t *marks, size_t room, size_t *needed, capvet_report *report);
 
 /* The canonical copy of the message, as the bytes of its words alone, without a table, into the first
  * *written bytes of `out`, which has `room` bytes. CAPVET_NO_ROOM: *written is how many bytes it takes;

@@ -65,8 +65,8 @@ def wanted_symbols(archive):
     undefined = {line.split()[-1] for line in lines if " U " in line}
     own = {line.split()[-1] for line in lines if " T " in line}
     told("what the archive wants", undefined - own <= {"memcpy", "memmove", "memset"}, str(undefined - own))
-    for name in ("capvet_version", "capvet_frame", "capvet_vet", "capvet_is_canonical", "capvet_canonical", "capvet_pack",
-                 "capvet_unpack"):
+    for name in ("capvet_version", "capvet_frame", "capvet_vet", "capvet_vet_exclusive", "capvet_is_canonical",
+                 "capvet_canonical", "capvet_pack", "capvet_unpack"):
         told(f"the archive has {name}", name in own)
 
 
@@ -143,18 +143,20 @@ def streams(chance):
 
 def compare(lines, program):
     """Both programs over each stream."""
-    count = 0
+    count = overlaps = 0
     with tempfile.TemporaryDirectory() as folder:
         path = Path(folder) / "stream"
         for stream in streams(random.Random(SEED)):
             path.write_bytes(stream)
-            for command in ("vet", "check"):
-                got, wanted = run([lines, command, path]), run([program, command, path])
+            for command, words in (("vet", ["vet"]), ("exclusive", ["vet", "--exclusive"]), ("check", ["check"])):
+                got, wanted = run([lines, command, path]), run([program, *words, path])
                 count += wanted.stdout.count("\n")
+                overlaps += wanted.stdout.count("Overlap")
                 told(f"{command} of stream {path} of {len(stream)} bytes",
                      (got.stdout, got.stderr, got.returncode) == (wanted.stdout, wanted.stderr, wanted.returncode),
                      f"  {got.returncode} {got.stderr[:300]!r}\n  {wanted.returncode} {wanted.stderr[:300]!r}")
-    print(f"calls: {count} lines compared with the program's")
+    told("messages with a word that is used twice", overlaps >= 1000, f"{overlaps}")
+    print(f"calls: {count} lines compared with the program's, {overlaps} of a word that is used twice")
 
 
 def with_copies(program, chance):

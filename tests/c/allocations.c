@@ -76,13 +76,14 @@ static const struct {
   reporting call;
 } CALLS[] = {{"capvet_frame", capvet_frame}, {"capvet_vet", capvet_vet}, {"capvet_is_canonical", capvet_is_canonical}};
 
-enum { FRAME, VET, IS_CANONICAL, UNPACK, PACK, COUNT };
+enum { FRAME, VET, IS_CANONICAL, UNPACK, PACK, EXCLUSIVE, COUNT };
 
 /* How often each call gave each answer. */
 static unsigned long seen[COUNT][64];
 
 static void answered(int call, unsigned long before, uint32_t answer) {
-  const char *name = call == UNPACK ? "capvet_unpack" : call == PACK ? "capvet_pack" : CALLS[call].name;
+  static const char *const others[] = {"capvet_unpack", "capvet_pack", "capvet_vet_exclusive"};
+  const char *name = call >= UNPACK ? others[call - UNPACK] : CALLS[call].name;
   expect(taken == before, name, taken - before);
   if (answer < 64) seen[call][answer]++;
 }
@@ -101,6 +102,25 @@ static void reports(const uint8_t *bytes, size_t length) {
       uint32_t answer = CALLS[call].call(bytes, length, &LIMITS[limits], &report);
       answered(call, before, answer);
     }
+}
+
+/* A struct of two pointers to one struct: words of it are used twice. */
+static const uint8_t SHARED[40] = {0, 0, 0, 0, 4, 0, 0, 0, 0, 0, 0, 0, 0, 0, 2, 0, 4, 0, 0, 0,
+                                   1, 0, 0, 0, 0, 0, 0, 0, 1, 0, 0, 0, 7, 0, 0, 0, 0, 0, 0, 0};
+
+/* Without room, and with as much as is needed. */
+static void marks(const uint8_t *bytes, size_t length) {
+  static uint64_t room[1 << 12];
+  capvet_report report;
+  size_t needed, again;
+  unsigned long before = taken;
+  uint32_t answer = capvet_vet_exclusive(bytes, length, &LIMITS[0], room, 0, &needed, &report);
+  answered(EXCLUSIVE, before, answer);
+  if (needed <= sizeof room / sizeof *room) {
+    before = taken;
+    answer = capvet_vet_exclusive(bytes, length, &LIMITS[0], room, needed, &again, &report);
+    answered(EXCLUSIVE, before, answer);
+  }
 }
 
 typedef uint32_t (*spelling)(const uint8_t *, size_t, uint8_t *, size_t, size_t *);
@@ -124,10 +144,14 @@ static void parts(const uint8_t *bytes, size_t length) {
   size_t at;
   for (at = 0; at <= length; at++) {
     reports(bytes, at);
+    marks(bytes, at);
     spells(UNPACK, capvet_unpack, bytes, at);
     spells(PACK, capvet_pack, bytes, at);
   }
-  for (at = 0; at <= length; at += 8) reports(bytes + at, length - at);
+  for (at = 0; at <= length; at += 8) {
+    reports(bytes + at, length - at);
+    marks(bytes + at, length - at);
+  }
 }
 
 /* The answers that have to come, so that more is gone through than the first lines of a call. */
@@ -144,6 +168,10 @@ static const struct {
               {VET, CAPVET_WORD_LIMIT},
               {IS_CANONICAL, CAPVET_OK},
               {IS_CANONICAL, CAPVET_NOT_CANONICAL},
+              {EXCLUSIVE, CAPVET_OK},
+              {EXCLUSIVE, CAPVET_NO_ROOM},
+              {EXCLUSIVE, CAPVET_OVERLAP},
+              {EXCLUSIVE, CAPVET_TRUNCATED},
               {UNPACK, CAPVET_OK},
               {UNPACK, CAPVET_NO_ROOM},
               {UNPACK, CAPVET_TRUNCATED},
@@ -158,6 +186,7 @@ int main(int count, char **names) {
   size_t i, length;
   int at;
   expect(taken == before, "capvet_version", version);
+  marks(SHARED, sizeof SHARED);
   for (at = 1; at < count; at++) {
     FILE *file;
     counted(names[at]);

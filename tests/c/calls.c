@@ -286,6 +286,75 @@ static void copying(void) {
   }
 }
 
+/* A struct whose pointer leads back to itself: a message that is refused. */
+static const uint8_t REFUSING[16] = {0, 0, 0, 0, 1, 0, 0, 0, 0xfc, 0xff, 0xff, 0xff, 0, 0, 1, 0};
+
+/* A struct of two pointers to one struct: a message that is accepted, and of which words are used twice. */
+static const uint8_t SHARED[40] = {0, 0, 0, 0, 4, 0, 0, 0, 0, 0, 0, 0, 0, 0, 2, 0, 4, 0, 0, 0,
+                                   1, 0, 0, 0, 0, 0, 0, 0, 1, 0, 0, 0, 7, 0, 0, 0, 0, 0, 0, 0};
+
+/* What is answered for a message with so many numbers of room, each of which is all ones before, and how
+ * many of them and of the one behind them are so still, from the last. */
+static uint32_t marked(const uint8_t *bytes, size_t length, size_t room, size_t *needed, size_t *kept,
+                       capvet_report *report) {
+  uint8_t *from = block(bytes, length, 1);
+  uint64_t *marks = malloc(8 * (room + 1));
+  uint32_t answer;
+  if (marks == NULL) exit(3);
+  memset(marks, 0xff, 8 * (room + 1));
+  *needed = 77;
+  *report = unwritten();
+  answer = capvet_vet_exclusive(from + 1, length, &LIMITS, marks, room, needed, report);
+  EXPECT(length == 0 || memcmp(from + 1, bytes, length) == 0, "the bytes of a marked message stay", length);
+  for (*kept = 0; *kept <= room && marks[room - *kept] == UINT64_MAX; ++*kept) continue;
+  free(marks);
+  free(from);
+  return answer;
+}
+
+/* Each room, for a message of which no word is used twice, one of which some are, and one that is refused;
+ * each front; and messages of so many words as fill a number, and one less. */
+static void marking(void) {
+  static uint8_t wide[8 + 8 * 64];
+  capvet_report r;
+  size_t room, needed, kept, length, words;
+  for (room = 0; room <= 3; room++) {
+    uint32_t enough = room == 0 ? CAPVET_NO_ROOM : CAPVET_OK;
+    size_t used = room == 0 ? 0 : 1;
+    EXPECT(marked(TWO, sizeof TWO, room, &needed, &kept, &r) == enough, "an exclusive message", room);
+    EXPECT(needed == 1 && kept == room + 1 - used, "the numbers that it takes", needed);
+    EXPECT(r.length == 56 && r.segments == 2 && r.number == 0, "its frame", r.length);
+    EXPECT(r.charge == 4 && r.pointers == 3 && r.depth == 1, "its tree", r.charge);
+    EXPECT(r.caps == 1 && r.segment == 1 && r.word == 3, "its capability", r.word);
+    enough = room == 0 ? CAPVET_NO_ROOM : CAPVET_OVERLAP;
+    EXPECT(marked(SHARED, sizeof SHARED, room, &needed, &kept, &r) == enough, "words that are used twice", room);
+    EXPECT(needed == 1 && kept == room + 1 - used, "the numbers that their marks take", needed);
+    EXPECT(r.length == 40 && r.segments == 1 && r.number == 0, "the frame of an overlap", r.length);
+    EXPECT(r.charge == (room == 0 ? 4u : 0u) && r.caps == 0, "the charge of an overlap", r.charge);
+    EXPECT(r.depth == (room == 0 ? 2u : 0u), "the depth of an overlap", r.depth);
+    EXPECT(r.pointers == 3 && r.segment == 0 && r.word == (room == 0 ? 0u : 2u), "the pointer that overlaps", r.word);
+    EXPECT(marked(SHARED, 32, room, &needed, &kept, &r) == CAPVET_TRUNCATED, "marks of a cut message", room);
+    EXPECT(needed == 0 && kept == room + 1 && r.number == 40, "no marks of a cut message", needed);
+    enough = marked(REFUSING, sizeof REFUSING, room, &needed, &kept, &r);
+    EXPECT(enough == CAPVET_DEPTH_LIMIT, "marks of a refused message", enough);
+    EXPECT(needed == 0 && kept == room + 1 && r.length == 16, "no marks of a refused message", needed);
+  }
+  for (length = 0; length < 56; length++) {
+    uint32_t answer = length == 0 ? CAPVET_NO_MESSAGE : CAPVET_TRUNCATED;
+    EXPECT(marked(TWO, length, 2, &needed, &kept, &r) == answer, "marks of a front", length);
+    EXPECT(needed == 0 && kept == 3 && r.length == 0, "no marks of a front", needed);
+  }
+  for (words = 63; words <= 64; words++) {
+    wide[4] = (uint8_t)words;
+    for (room = 0; room <= 3; room++) {
+      size_t takes = words == 63 ? 1 : 2;
+      uint32_t answer = room < takes ? CAPVET_NO_ROOM : CAPVET_OK;
+      EXPECT(marked(wide, 8 + 8 * words, room, &needed, &kept, &r) == answer, "a number that is full", room);
+      EXPECT(needed == takes && kept == room + 1 - (room < takes ? 0 : takes), "the numbers that are told", needed);
+    }
+  }
+}
+
 int main(void) {
   EXPECT(capvet_version() == 65536ul * CAPVET_VERSION_MAJOR + CAPVET_VERSION_MINOR, "version", capvet_version());
   layout();
@@ -295,6 +364,7 @@ int main(void) {
   refusals();
   unpacking();
   copying();
+  marking();
   if (failures == 0) printf("calls: all as promised\n");
   return failures != 0;
 }

@@ -1,7 +1,7 @@
-/* lines vet FILE, lines check FILE: what the program writes of a stream of messages, and its fault, from
- * a buffer that holds the stream, by the calls of capvet.h. Each message is vetted in a block of its own
- * of exactly the bytes that are left, up to a limit, so that a tool that watches memory sees a read
- * behind them.
+/* lines vet FILE, lines exclusive FILE, lines check FILE: what the program writes of a stream of messages,
+ * and its fault, from a buffer that holds the stream, by the calls of capvet.h; for `exclusive` by
+ * vet --exclusive. Each message is vetted in a block of its own of exactly the bytes that are left, up to a
+ * limit, so that a tool that watches memory sees a read behind them.
  *
  * lines canon FILE: the canonical copies of the messages, each behind its table, up to the first message that
  * is refused or has a capability. Each is written into a block of exactly its bytes.
@@ -18,12 +18,13 @@ static const char *reason(uint32_t answer) {
   static const char *const names[] = {
       "NoRoot",   "Reserved",  "SegmentMissing", "PadOutside",   "PadIsFar",         "PadNotFar", "TagKind",
       "TagOffset", "OutOfSegment", "CompositeTag",   "CompositeOverrun", "DepthLimit", "WordLimit"};
+  if (answer == CAPVET_OVERLAP) return "Overlap";
   return answer >= CAPVET_NO_ROOT && answer <= CAPVET_WORD_LIMIT ? names[answer - CAPVET_NO_ROOT] : "?";
 }
 
 /* The line of a message, by its number in the stream. */
 static void line(int check, unsigned long n, uint32_t answer, const capvet_report *r) {
-  if (answer >= CAPVET_NO_ROOT)
+  if (answer >= CAPVET_NO_ROOT || answer == CAPVET_OVERLAP)
     printf("message %lu: refused %s at %lu:%lu pointers %llu\n", n, reason(answer), (unsigned long)r->segment,
            (unsigned long)r->word, (unsigned long long)r->pointers);
   else if (check)
@@ -112,15 +113,58 @@ static int copy(unsigned long n, const uint8_t *bytes, size_t length, const capv
   return 0;
 }
 
+/* The answer with so many numbers of room, each of which is all ones before; behind those that are needed,
+ * and behind the room, they stay so. */
+static uint32_t marked(const uint8_t *bytes, size_t length, const capvet_limits *limits, size_t room, size_t *needed,
+                       capvet_report *report) {
+  uint64_t *marks = malloc(8 * room + 8);
+  uint32_t answer;
+  size_t k, from;
+  if (marks == NULL) exit(3);
+  memset(marks, 0xff, 8 * room + 8);
+  *needed = 77;
+  memset(report, 0xa5, sizeof *report);
+  answer = capvet_vet_exclusive(bytes, length, limits, marks, room, needed, report);
+  from = answer == CAPVET_OK || answer == CAPVET_OVERLAP ? *needed : 0;
+  if (from > room) exit(4);
+  for (k = from; k <= room; k++)
+    if (marks[k] != UINT64_MAX) exit(4);
+  free(marks);
+  return answer;
+}
+
+/* Vets a message exclusively without room, with a number less than is needed, with as many, and with more:
+ * the last two tell the same. */
+static uint32_t exclusive(const uint8_t *bytes, size_t length, const capvet_limits *limits, capvet_report *report) {
+  capvet_report vetted, less, more;
+  size_t none, needed, short_of, again;
+  uint32_t answer, other = capvet_vet(bytes, length, limits, &vetted);
+  answer = marked(bytes, length, limits, 0, &none, report);
+  if (answer != CAPVET_NO_ROOM) {
+    if (other == CAPVET_OK || answer != other || none != 0 || memcmp(report, &vetted, sizeof vetted) != 0) exit(4);
+    return answer;
+  }
+  if (other != CAPVET_OK || none == 0 || none > report->length / 512 + 1) exit(4);
+  if (memcmp(report, &vetted, sizeof vetted) != 0) exit(4);
+  if (marked(bytes, length, limits, none - 1, &short_of, &less) != CAPVET_NO_ROOM) exit(4);
+  answer = marked(bytes, length, limits, none, &needed, report);
+  if (marked(bytes, length, limits, none + 2, &again, &more) != answer) exit(4);
+  if (short_of != none || needed != none || again != none) exit(4);
+  if (memcmp(&less, &vetted, sizeof less) != 0 || memcmp(report, &more, sizeof more) != 0) exit(4);
+  if (answer == CAPVET_OK && memcmp(report, &vetted, sizeof vetted) != 0) exit(4);
+  return answer;
+}
+
 int main(int count, char **words) {
   const capvet_limits limits = CAPVET_LIMITS_INIT;
   size_t length = 0, at = 0;
   unsigned long n;
-  int status = 0, check, canon;
+  int status = 0, check, canon, twice;
   uint8_t *bytes;
   if (count != 3) return 2;
   check = strcmp(words[1], "check") == 0;
   canon = strcmp(words[1], "canon") == 0;
+  twice = strcmp(words[1], "exclusive") == 0;
   bytes = contents(words[2], &length);
   if (strcmp(words[1], "unpack") == 0) {
     status = unpack(bytes, length);
@@ -144,6 +188,7 @@ int main(int count, char **words) {
       answer = framed.length == 0 ? answer : CAPVET_OK;
     } else {
       answer = check ? capvet_is_canonical(block + 1, size, &limits, &report)
+               : twice ? exclusive(block + 1, size, &limits, &report)
                      : capvet_vet(block + 1, size, &limits, &report);
     }
     free(block);

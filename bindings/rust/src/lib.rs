@@ -35,7 +35,8 @@
 //!
 //! The archive is looked for in `CAPVET_LIB_DIR`, and else where `pkg-config` says that `capvet` is installed. With the
 //! feature `std`, which is on by default, the faults are [`std::error::Error`]s; without it the crate is `no_std`. The
-//! feature `alloc`, which is part of `std`, has the calls that return a `Vec`. No other call takes memory.
+//! feature `alloc`, which is part of `std`, has the calls that return a `Vec`, or that make one for marks. No other call
+//! takes memory.
 
 #![cfg_attr(not(any(feature = "std", test)), no_std)]
 #![deny(unsafe_code, missing_docs, missing_debug_implementations)]
@@ -47,6 +48,7 @@ compile_error!("libcapvet.a is built for 64-bit machines alone");
 extern crate alloc;
 
 mod canonical;
+mod exclusive;
 mod limits;
 mod messages;
 mod packed;
@@ -61,6 +63,9 @@ mod tests;
 #[cfg(feature = "alloc")]
 pub use canonical::canonical;
 pub use canonical::{canonical_into, NoCopy};
+#[cfg(feature = "alloc")]
+pub use exclusive::vet_exclusive_alloc;
+pub use exclusive::{vet_exclusive, ExclusiveError};
 pub use limits::Limits;
 pub use messages::{messages, Message, Messages};
 #[cfg(feature = "alloc")]

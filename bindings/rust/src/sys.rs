@@ -16,6 +16,7 @@ impl Answer {
     pub(crate) const NO_ROOM: Self = Self(9);
     pub(crate) const NOT_CANONICAL: Self = Self(16);
     pub(crate) const HAS_CAPABILITY: Self = Self(17);
+    pub(crate) const OVERLAP: Self = Self(18);
 
     /// The number of the first reason of a refusal; the others follow in order.
     pub(crate) const FIRST_REASON: u32 = 32;
@@ -72,6 +73,15 @@ extern "C" {
         bytes: *const u8,
         length: usize,
         limits: *const RawLimits,
+        report: *mut Told,
+    ) -> Answer;
+    fn capvet_vet_exclusive(
+        bytes: *const u8,
+        length: usize,
+        limits: *const RawLimits,
+        marks: *mut u64,
+        room: usize,
+        needed: *mut usize,
         report: *mut Told,
     ) -> Answer;
     fn capvet_is_canonical(
@@ -131,6 +141,36 @@ pub(crate) fn vet(bytes: &[u8], limits: &Limits) -> (Answer, Told) {
     // SAFETY: as in `frame`, whose arguments these are.
     let answer = unsafe { capvet_vet(address(bytes), bytes.len(), &limits, &mut told) };
     (answer, told)
+}
+
+/// The verdict of the message that the bytes begin with, of which no word may be used twice, and how many numbers the marks
+/// take.
+pub(crate) fn vet_exclusive(
+    bytes: &[u8],
+    limits: &Limits,
+    marks: &mut [u64],
+) -> (Answer, usize, Told) {
+    let (limits, mut told) = (RawLimits::of(limits), Told::default());
+    let (room, mut needed, mut none) = (marks.len(), 0, 0);
+    let front: *mut u64 = if room == 0 {
+        &mut none
+    } else {
+        marks.as_mut_ptr()
+    };
+    // SAFETY: as in `frame`; and `marks` is borrowed for the call and for nobody else, or is 0 numbers at one of this
+    // frame's, whose own that of those that are needed is too.
+    let answer = unsafe {
+        capvet_vet_exclusive(
+            address(bytes),
+            bytes.len(),
+            &limits,
+            front,
+            room,
+            &mut needed,
+            &mut told,
+        )
+    };
+    (answer, needed, told)
 }
 
 /// Whether the message that the bytes begin with is its own canonical copy.

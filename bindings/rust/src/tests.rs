@@ -2,7 +2,8 @@
 
 use crate::sys::{Answer, Told};
 use crate::{
-    canonical_into, frame_len, is_canonical, messages, vet, Limits, NoCopy, Reason, Refusal,
+    canonical_into, frame_len, is_canonical, messages, vet, vet_exclusive, ExclusiveError, Limits,
+    NoCopy, Reason, Refusal,
 };
 use core::mem::size_of;
 
@@ -71,6 +72,7 @@ fn answers_are_those_of_the_header() {
         ("NO_ROOM", Answer::NO_ROOM),
         ("NOT_CANONICAL", Answer::NOT_CANONICAL),
         ("HAS_CAPABILITY", Answer::HAS_CAPABILITY),
+        ("OVERLAP", Answer::OVERLAP),
     ] {
         assert!(of_header.contains(&(name.to_owned(), answer.0)), "{name}");
     }
@@ -167,6 +169,41 @@ fn samples_are_accepted() {
         assert_eq!((report.frame, report.first_cap), (bytes.len(), None));
         assert_eq!(frame_len(bytes, Limits::DEFAULT), Ok(bytes.len()));
         assert_eq!(is_canonical(bytes, Limits::DEFAULT), Ok(false));
+    }
+}
+
+#[cfg(feature = "std")]
+#[test]
+fn samples_use_no_word_twice() {
+    for bytes in [CONTACTS, MANY_SEGMENTS, TELEMETRY] {
+        let report = vet(bytes, Limits::DEFAULT).expect("the sample is accepted");
+        let Err(ExclusiveError::NoRoom { needed }) = vet_exclusive(bytes, Limits::DEFAULT, &mut [])
+        else {
+            panic!("marks take room");
+        };
+        assert!(needed <= report.frame / 512 + 1);
+        let mut marks = vec![u64::MAX; needed + 1];
+        let short = vet_exclusive(bytes, Limits::DEFAULT, &mut marks[..needed - 1]);
+        assert_eq!(short, Err(ExclusiveError::NoRoom { needed }));
+        assert!(marks.iter().all(|it| *it == u64::MAX));
+        assert_eq!(
+            vet_exclusive(bytes, Limits::DEFAULT, &mut marks),
+            Ok(report)
+        );
+        assert_eq!(marks[needed], u64::MAX);
+        assert_eq!(
+            crate::vet_exclusive_alloc(bytes, Limits::DEFAULT),
+            Ok(report)
+        );
+    }
+    for bytes in [&CYCLE[..], &NULL[..9], &[]] {
+        let refusal = vet(bytes, Limits::DEFAULT).expect_err("it is refused");
+        let told = [
+            vet_exclusive(bytes, Limits::DEFAULT, &mut []),
+            vet_exclusive(bytes, Limits::DEFAULT, &mut [u64::MAX]),
+            crate::vet_exclusive_alloc(bytes, Limits::DEFAULT),
+        ];
+        assert_eq!(told, [Err(ExclusiveError::Refused(refusal)); 3]);
     }
 }
 

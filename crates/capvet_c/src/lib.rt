@@ -4,13 +4,16 @@
 ghost use Rattle.cap_calls.specs.Calls.{TellsCheck, TellsFrame, TellsVet};
 ghost use Rattle.cap_calls.specs.AnswerNumbers.{number_of};
 ghost use Rattle.cap_calls.specs.CanonicalCalls.{TellsCopy};
+ghost use Rattle.cap_calls.specs.ExclusiveCalls.{TellsExclusive};
 ghost use Rattle.cap_calls.specs.Spellings.{TellsPack, TellsUnpack};
 ghost use Rattle.cap_calls.specs.declared.answer.Answer.{Answer};
+ghost use Rattle.cap_calls.specs.declared.answer.Answer.TheVariants.{Good, Overlap};
 ghost use Rattle.cap_calls.specs.declared.report.CallReport.{CallReport};
-ghost use Rattle.std.specs.Prelude.{◌*◌, ◌+◌, ◌≡◌, ◌≤◌, List, ℕ};
+ghost use Rattle.std.specs.Prelude.{◌*◌, ◌+◌, ◌/◌, ◌≡◌, ◌≤◌, ◌⊎◌, List, drop, length, ℕ};
 
 use cap_calls::{
     CallLimits, CallReport, canonical, frame, is_canonical, pack, unpack, version, vet,
+    vet_exclusive,
 };
 
 /// The version of the library: 65536 times its major number, and its minor number.
@@ -39,6 +42,27 @@ pub extern "C" fn capvet_vet(bytes: &[u8], limits: &CallLimits, report: &mut Cal
     ensures only { (a : Answer) (r : CallReport) → TellsVet limits.now bytes.now a r → (result ≡ number_of a) × (report.new ≡ r) }
 {
     vet(bytes, limits, report).number()
+}
+
+/// [`vet_exclusive`], with the number of its answer.
+#[unsafe(no_mangle)]
+pub extern "C" fn capvet_vet_exclusive(
+    bytes: &[u8],
+    limits: &CallLimits,
+    marks: &mut [u64],
+    needed: &mut usize,
+    report: &mut CallReport,
+) -> u32
+    ensures tells { (a : Answer) × TellsExclusive limits.now bytes.now (length marks.old) a needed.new report.new × (result ≡ number_of a) }
+    // Nothing else is to be told of the bytes and the room.
+    ensures only { (a : Answer) (n : ℕ) (r : CallReport) → TellsExclusive limits.now bytes.now (length marks.old) a n r
+        → (result ≡ number_of a) × (needed.new ≡ n) × (report.new ≡ r) }
+    // So much room always serves.
+    ensures few { needed.new ≤ report.new.frame / 512 + 1 }
+    ensures rest { drop needed.new marks.new ≡ drop needed.new marks.old }
+    ensures kept { (result ≡ number_of Good) ⊎ ((result ≡ number_of Overlap) ⊎ (marks.new ≡ marks.old)) }
+{
+    vet_exclusive(bytes, limits, marks, needed, report).number()
 }
 
 /// [`canonical`], with the number of its answer.
