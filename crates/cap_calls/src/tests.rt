@@ -5,6 +5,7 @@ use std::process::Abort;
 use std::test::Fail;
 
 mod copying;
+mod marking;
 
 // The limits of the program.
 const LIMITS: CallLimits = CallLimits {

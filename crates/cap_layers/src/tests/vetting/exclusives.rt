@@ -3,7 +3,10 @@
 use super::{DEPTH, WORDS};
 use crate::tests::held::{in_one_buffer, words};
 use cap_frame::{OneSegment, Segments, WordMessage};
-use cap_vet::{ExclusiveRefusal, Limits, Reason, Refusal, vet, vet_exclusive};
+use cap_vet::{
+    ExclusiveFault, ExclusiveRefusal, Limits, Reason, Refusal, Report, marks_for, vet,
+    vet_exclusive, vet_exclusive_in,
+};
 use std::alloc::Global;
 use std::process::Abort;
 use std::test::Fail;
@@ -36,15 +39,81 @@ fn overlap_as_held<M: Segments>(
     }
 }
 
-// The same of a message of any kind, and of that message in one buffer.
+// The same of an accepted message over room that is lent, which is all ones before: of just the numbers that
+// the marks take, and of more. A number less is too little, and what isn't used stays as it is.
+fn overlap_in_room<M: Segments>(
+    rt: &impl Abort,
+    alloc: Global,
+    message: &M,
+) -> Result<Option<(u32, u32, u64)>, Fail> {
+    let limits = Limits::new(WORDS, DEPTH).ok_or("no limits")?;
+    let Ok(vetted) = vet(message, limits) else {
+        return Err("refused".into());
+    };
+    let mut words = 0;
+    for s in 0..message.count() {
+        words += u64::from(message.len(s));
+    }
+    let needed = marks_for(words);
+    let mut marks = Vec::from_elem(alloc, u64::MAX, needed + 2)?;
+    let Err(fault) = vet_exclusive_in(message, limits, &mut marks[..needed - 1]) else {
+        return Err("accepted without room".into());
+    };
+    let report = vetted.report();
+    assert_eq!(rt; fault, ExclusiveFault::NoRoom { needed, report });
+    for number in &marks {
+        assert_eq!(rt; *number, u64::MAX);
+    }
+    let found = marked(rt, vetted.report(), message, &mut marks[..needed])?;
+    for number in &marks[needed..] {
+        assert_eq!(rt; *number, u64::MAX);
+    }
+    marks.as_mut_slice().fill(u64::MAX);
+    assert_eq!(rt;
+        marked(rt, vetted.report(), message, marks.as_mut_slice())?,
+        found
+    );
+    for number in &marks[needed..] {
+        assert_eq!(rt; *number, u64::MAX);
+    }
+    Ok(found)
+}
+
+// The answer of an accepted message with this report, over room that is large enough.
+fn marked<M: Segments>(
+    rt: &impl Abort,
+    report: Report,
+    message: &M,
+    marks: &mut [u64],
+) -> Result<Option<(u32, u32, u64)>, Fail> {
+    let limits = Limits::new(WORDS, DEPTH).ok_or("no limits")?;
+    match vet_exclusive_in(message, limits, marks) {
+        Ok(exclusive) => {
+            assert_eq!(rt; exclusive.into_vetted().report(), report);
+            Ok(None)
+        }
+        Err(
+            ExclusiveFault::Overlap {
+                segment,
+                word,
+                pointers,
+            },
+        ) => Ok(Some((segment, word, pointers))),
+        Err(_) => Err("no verdict".into()),
+    }
+}
+
+// The same of a message of any kind, over memory and over room, and of that message in one buffer.
 fn overlap<M: Segments>(
     rt: &impl Abort,
     alloc: Global,
     message: &M,
 ) -> Result<Option<(u32, u32, u64)>, Fail> {
     let found = overlap_as_held(rt, alloc, message)?;
+    assert_eq!(rt; overlap_in_room(rt, alloc, message)?, found);
     let held = in_one_buffer(alloc, message)?;
     assert_eq!(rt; overlap_as_held(rt, alloc, &held.view())?, found);
+    assert_eq!(rt; overlap_in_room(rt, alloc, &held.view())?, found);
     Ok(found)
 }
 
@@ -266,6 +335,17 @@ fn refusal(alloc: Global, spelled: &[u64]) -> Result<ExclusiveRefusal, Fail> {
     }
 }
 
+// The fault of the same, without room.
+fn fault_without_room(alloc: Global, spelled: &[u64]) -> Result<ExclusiveFault, Fail> {
+    let segment = words(alloc, spelled)?;
+    let message = OneSegment::new(&segment).ok_or("no message")?;
+    let limits = Limits::new(WORDS, DEPTH).ok_or("no limits")?;
+    match vet_exclusive_in(&message, limits, &mut []) {
+        Ok(_) => Err("accepted".into()),
+        Err(fault) => Ok(fault),
+    }
+}
+
 #[test]
 fn refusals_are_handed_on(rt: HostRuntime) -> Result<(), Fail> {
     for (segment, reason, pointers) in [
@@ -281,6 +361,8 @@ fn refusals_are_handed_on(rt: HostRuntime) -> Result<(), Fail> {
         };
         let found = refusal(rt.alloc(), segment)?;
         assert_eq!(rt; found, ExclusiveRefusal::Refused(refused), "of {segment:?}");
+        let fault = fault_without_room(rt.alloc(), segment)?;
+        assert_eq!(rt; fault, ExclusiveFault::Refused(refused), "of {segment:?}");
     }
     Ok(())
 }
