@@ -2,10 +2,13 @@
 //
 //     in_process ROUNDS FILE..
 //
-// Each round does each job once over all messages of a file, in turn, so that a busy machine slows them alike. Of each
-// job the least processor time of the rounds counts, in nanoseconds a message; each ratio is capvet's over that of the
-// library. `walk` is a FlatArrayMessageReader and a full walk. `isCanonical` stops at the first difference, and what
-// stands behind it is never looked at. Both jobs of a pair have to say yes to as many messages, or the status is 1.
+// Each round does each job once over all messages of a file, in turn, so that a busy machine slows them alike; the jobs
+// that copy have rounds of their own, since copies of large messages leave cold memory behind. Of each job the least
+// processor time of the rounds counts, in nanoseconds a message; each ratio is capvet's over that of the library. `walk`
+// is a FlatArrayMessageReader and a full walk. `isCanonical` stops at the first difference, and what stands behind it is
+// never looked at. `canonicalize` takes room for each copy anew, and `capvet_canonical` writes all copies into the same
+// room; where the root of the first message is no struct, which `canonicalize` asks for, that pair is left out. Both jobs
+// of a pair have to say yes to as many messages, or the status is 1.
 #include <capnp/any.h>
 #include <capnp/message.h>
 #include <capnp/serialize.h>
@@ -28,7 +31,6 @@
 namespace {
 
 using Message = kj::ArrayPtr<const capnp::word>;
-using Report = uint32_t (*)(const uint8_t *, size_t, const capvet_limits *, capvet_report *);
 
 const capvet_limits LIMITS = {CAPVET_MOST_WORDS, CAPVET_MOST_WORDS, 64};
 
@@ -84,8 +86,18 @@ bool isWalked(capnp::MessageReader &reader) {
 
 bool isCanonical(capnp::MessageReader &reader) { return reader.isCanonical(); }
 
+bool isCopied(capnp::MessageReader &reader) {
+  walked = reader.getRoot<capnp::AnyStruct>().canonicalize().size();
+  return true;
+}
+
+bool isStruct(capnp::MessageReader &reader) {
+  return reader.getRoot<capnp::AnyPointer>().getPointerType() == capnp::PointerType::STRUCT;
+}
+
 // How many of them a call of capvet.h says yes to.
-size_t byCall(const std::vector<Message> &messages, Report call) {
+template <typename Call>
+size_t byCall(const std::vector<Message> &messages, Call call) {
   size_t good = 0;
   for (auto message : messages) {
     capvet_report report;
@@ -108,26 +120,48 @@ struct Timed {
   }
 };
 
+// The library's job, and the call that does the same.
+struct Pair {
+  Timed theirs, ours;
+
+  // Writes its columns. False where the answers differ.
+  bool print(double count) const {
+    printf(" %13.1f %13.1f %6.2f", theirs.least / count, ours.least / count, ours.least / theirs.least);
+    return theirs.good == ours.good;
+  }
+};
+
 // Times a file, and writes its line. False where it has no messages, or the answers differ.
 bool time(const char *name, int rounds) {
   auto messages = messagesOf(name);
   if (messages.empty()) return fprintf(stderr, "in_process: no messages in %s\n", name), false;
-  Timed walks, vets, theirs, ours;
+  size_t most = 0;
+  for (auto message : messages) most = std::max(most, message.asBytes().size());
+  std::vector<uint8_t> room(most);
+  auto copy = [&](const uint8_t *bytes, size_t length, const capvet_limits *limits, capvet_report *report) {
+    size_t written;
+    return capvet_canonical(bytes, length, limits, room.data(), room.size(), &written, report);
+  };
+  bool copies = byLibrary({messages[0]}, isStruct) == 1;
+  Pair walks, checks, canons;
   for (int round = 0; round < rounds; round++) {
-    walks.run([&] { return byLibrary(messages, isWalked); });
-    vets.run([&] { return byCall(messages, capvet_vet); });
-    theirs.run([&] { return byLibrary(messages, isCanonical); });
-    ours.run([&] { return byCall(messages, capvet_is_canonical); });
+    walks.theirs.run([&] { return byLibrary(messages, isWalked); });
+    walks.ours.run([&] { return byCall(messages, capvet_vet); });
+    checks.theirs.run([&] { return byLibrary(messages, isCanonical); });
+    checks.ours.run([&] { return byCall(messages, capvet_is_canonical); });
+  }
+  for (int round = 0; copies && round < rounds; round++) {
+    canons.theirs.run([&] { return byLibrary(messages, isCopied); });
+    canons.ours.run([&] { return byCall(messages, copy); });
   }
   const char *slash = strrchr(name, '/');
-  double count = messages.size();
-  printf("%-10s %8zu %13.1f %13.1f %6.2f %13.1f %13.1f %6.2f\n", slash ? slash + 1 : name, messages.size(),
-         walks.least / count, vets.least / count, vets.least / walks.least, theirs.least / count, ours.least / count,
-         ours.least / theirs.least);
-  if (walks.good == vets.good && theirs.good == ours.good) return true;
-  fprintf(stderr, "in_process: of %s %zu are walked and %zu accepted, %zu and %zu canonical\n", name, walks.good, vets.good,
-          theirs.good, ours.good);
-  return false;
+  printf("%-10s %8zu", slash ? slash + 1 : name, messages.size());
+  bool good = walks.print(messages.size());
+  good &= checks.print(messages.size());
+  if (copies) good &= canons.print(messages.size());
+  putchar('\n');
+  if (!good) fprintf(stderr, "in_process: the answers to %s differ\n", name);
+  return good;
 }
 
 }  // namespace
@@ -135,8 +169,8 @@ bool time(const char *name, int rounds) {
 int main(int count, char **words) {
   int rounds = count > 2 ? atoi(words[1]) : 0;
   if (rounds < 1) return fputs("usage: in_process ROUNDS FILE..\n", stderr), 2;
-  printf("%-10s %8s %13s %13s %6s %13s %13s %6s\n", "input", "messages", "C++ walk", "capvet_vet", "ratio", "isCanonical",
-         "is_canonical", "ratio");
+  printf("%-10s %8s %13s %13s %6s %13s %13s %6s %13s %13s %6s\n", "input", "messages", "C++ walk", "capvet_vet", "ratio",
+         "isCanonical", "is_canonical", "ratio", "canonicalize", "canonical", "ratio");
   bool good = true;
   for (int at = 2; at < count; at++) good &= time(words[at], rounds);
   return good ? 0 : 1;
