@@ -13,6 +13,7 @@ mod Kept
 mod LaidSteps
 mod Laying
 mod Lengths
+mod Plain
 mod Needed
 mod Owing
 mod Ranges

@@ -7,6 +7,7 @@ mod copying;
 mod fault;
 mod frame;
 mod length;
+mod near;
 mod objects;
 mod room;
 mod spelled;

@@ -10,6 +10,7 @@ ghost use Rattle.cap_spec.specs.Tree.{Tree};
 ghost use Rattle.cap_spec.specs.Words.{IsWord};
 ghost use Rattle.std.specs.Prelude.{◌+◌, ◌<◌, ◌≤◌, length, ℕ};
 
+use crate::near::near_at;
 use crate::trimming::{data_left, list_data_left, list_pointers_left, pointers_left};
 use cap_frame::Segments;
 use cap_ptr::{Followed, Shape, Target, follow};
@@ -60,7 +61,24 @@ pub(crate) enum Object {
 }
 
 /// What the pointer word at a place denotes, trimmed. Asks that it denotes a tree.
+// Most words tell it alone, and what they lead to then stays in registers.
+#[inline(always)]
 pub(crate) fn object_at<M: Segments>(message: &M, s: u32, w: u32) -> Object
+    requires { (t : Tree) × (c d : ℕ) × Denotes (M.segments message.now) s w t c d }
+    ensures { (t : Tree) (c d : ℕ) → Denotes (M.segments message.now) s w t c d → IsObject (M.segments message.now) d s w (trim t) result }
+{
+    if message.word(s, w) == 0 {
+        return Object::Null;
+    }
+    match near_at(message, s, w) {
+        Some(target) => left_of(message, &target),
+        None => followed_at(message, s, w),
+    }
+}
+
+// The same of a word that has to be followed.
+#[inline(never)]
+fn followed_at<M: Segments>(message: &M, s: u32, w: u32) -> Object
     requires { (t : Tree) × (c d : ℕ) × Denotes (M.segments message.now) s w t c d }
     ensures { (t : Tree) (c d : ℕ) → Denotes (M.segments message.now) s w t c d → IsObject (M.segments message.now) d s w (trim t) result }
 {
