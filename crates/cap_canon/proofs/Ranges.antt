@@ -85,7 +85,7 @@ used_all (suc (suc (suc (suc zero)))) n k lt h = omega (arith, h)
 used_all (suc (suc (suc (suc (suc zero))))) n k lt h = omega (arith, h)
 used_all (suc (suc (suc (suc (suc (suc c)))))) n k lt h = absurd (omega (arith, lt))
 
-whole_field : (x : ℕ) → IsWord x → field x 0 64 ≡ x
+pub whole_field : (x : ℕ) → IsWord x → field x 0 64 ≡ x
 whole_field x h = omega (arith, h)
 
 -- the words of a list of values: those that it is read from, the last one without the bits behind the last value

@@ -16,7 +16,7 @@ ghost use Rattle.std.specs.Prelude.{◌+◌, ◌<◌, ◌^◌, ◌↔◌, ◌≡
 
 use crate::objects::{Object, object_at, read_range};
 use crate::walk::{Stack, enter, take_next};
-use crate::words::{last_word, pointer_word, tag_word};
+use crate::words::{last_bits, last_word, pointer_word, tag_word};
 use cap_frame::Segments;
 use cap_vet::Vetted;
 
@@ -76,6 +76,7 @@ fn is_laid_within<M: Segments, const N: usize>(message: &M, depth: u32) -> bool
 
 // Whether the pointer word at `slot` is the one that a copy has there, and the own words of what is
 // left of its object are those that a copy has from `end` on.
+#[inline(always)]
 fn stands_at<M: Segments>(message: &M, object: &Object, slot: u32, end: u32) -> bool
     requires end { (slot < end) × (end ≤ length (segment_of (M.segments message.now) 0)) × (end < 2 ^ 29) }
     requires is { (d : ℕ) × (tree : Tree) × IsObject (M.segments message.now) d 0 slot tree object.now }
@@ -110,7 +111,9 @@ fn stands_at<M: Segments>(message: &M, object: &Object, slot: u32, end: u32) -> 
     }
 }
 
-// Whether the words of a list of values have no bits behind the last value.
+// Whether the words of a list of values have no bits behind the last value. Where it ends with its last word,
+// none of them has to be fetched.
+#[inline(always)]
 fn ends_with_values<M: Segments>(message: &M, start: u32, code: u8, count: u32, words: u32) -> bool
     requires exists { 0 < length (M.segments message.now) }
     requires inside { start + words ≤ length (segment_of (M.segments message.now) 0) }
@@ -122,8 +125,10 @@ fn ends_with_values<M: Segments>(message: &M, start: u32, code: u8, count: u32, 
     if words == 0 {
         return true;
     }
-    let before = words - 1;
-    read_range(message, 0, start, before);
-    let last = message.word(0, start + before);
+    read_range(message, 0, start, words);
+    if last_bits(code, count, words) == 64 {
+        return true;
+    }
+    let last = message.word(0, start + (words - 1));
     last == last_word(code, count, words, last)
 }

@@ -79,8 +79,19 @@ pub(crate) fn last_word(code: u8, count: u32, words: u32, word: u64) -> u64
     requires some { 0 < words }
     ensures { result ≡ field word 0 (used_bits code count (words - 1)) }
 {
+    bits(word, 0, last_bits(code, count, words))
+}
+
+/// How many bits of the last word of such a list its values take.
+pub(crate) fn last_bits(code: u8, count: u32, words: u32) -> u32
+    requires code { code < 6 }
+    requires words { words ≡ list_words code count }
+    requires some { 0 < words }
+    ensures value { result ≡ used_bits code count (words - 1) }
+    ensures few { result ≤ 64 }
+{
     let (each, per) = value_sizes(code);
-    bits(word, 0, (count - (words - 1) * per) * each)
+    (count - (words - 1) * per) * each
 }
 
 // How many bits a value of a code has, and how many of them a word has.
