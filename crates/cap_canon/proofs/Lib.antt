@@ -13,7 +13,7 @@ mod Kept
 mod LaidSteps
 mod Laying
 mod Lengths
-mod Plain
+mod NearWords
 mod Needed
 mod Owing
 mod Ranges

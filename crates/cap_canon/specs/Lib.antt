@@ -5,7 +5,7 @@ pub mod Filling
 pub mod Found
 pub mod InPlace
 pub mod Laying
-pub mod Plain
+pub mod NearWords
 pub mod Objects
 pub mod Spelled
 pub mod StillToLay

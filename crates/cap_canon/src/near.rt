@@ -1,6 +1,6 @@
 //! Objects near by: those behind their pointer word, in its segment.
 
-ghost use Rattle.cap_canon.specs.Plain.{IsPlain};
+ghost use Rattle.cap_canon.specs.NearWords.{IsPlain};
 ghost use Rattle.cap_ptr.specs.Shapes.{FindsTarget};
 ghost use Rattle.cap_spec.specs.Messages.{segment_of};
 ghost use Rattle.cap_spec.specs.Pointers.{element_bits};

@@ -1,6 +1,6 @@
 use Rattle.std.proofs.Common.{◌+◌, ◌≤◌, length, arith}
 use Rattle.cap_spec.specs.Messages.{segment_of}
-use Rattle.cap_canon.proofs.Plain.{near_found}
+use Rattle.cap_canon.proofs.NearWords.{near_found}
 use Rattle.cap_canon.proofs.near.near_at.Goals as goal
 
 pub returns : goal.returns

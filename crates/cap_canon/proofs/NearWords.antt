@@ -8,7 +8,7 @@ use Rattle.cap_ptr.specs.Shapes.{FindsObject}
 use Rattle.cap_ptr.specs.declared.shapes.Shape.{Shape}
 use Rattle.cap_ptr.proofs.Objects.{found-plain}
 use Rattle.cap_ptr.proofs.Pads.{object-lead, stands-near}
-use Rattle.cap_canon.specs.Plain.{IsPlain}
+use Rattle.cap_canon.specs.NearWords.{IsPlain}
 
 -- an offset that isn't negative
 offset_behind : (q : ℕ) → field q 2 30 < 2 ^ 29 → signed_offset_of q ≡ pos (field q 2 30)
