@@ -50,16 +50,17 @@ fn overlap_in_room<M: Segments>(
     let Ok(vetted) = vet(message, limits) else {
         return Err("refused".into());
     };
-    let mut words = 0;
-    for s in 0..message.count() {
-        words += u64::from(message.len(s));
-    }
-    let needed = marks_for(words);
-    let mut marks = Vec::from_elem(alloc, u64::MAX, needed + 2)?;
+    let Err(ExclusiveFault::NoRoom { needed, report }) = vet_exclusive_in(message, limits, &mut [])
+    else {
+        return Err("accepted without room".into());
+    };
+    assert_eq!(rt; report, vetted.report());
+    let mut marks = Vec::from_elem(alloc, u64::MAX, needed)?;
+    marks.push(u64::MAX)?;
+    marks.push(u64::MAX)?;
     let Err(fault) = vet_exclusive_in(message, limits, &mut marks[..needed - 1]) else {
         return Err("accepted without room".into());
     };
-    let report = vetted.report();
     assert_eq!(rt; fault, ExclusiveFault::NoRoom { needed, report });
     for number in &marks {
         assert_eq!(rt; *number, u64::MAX);
@@ -283,6 +284,14 @@ fn words_used_twice_over_landing_pads(rt: HostRuntime) -> Result<(), Fail> {
             answer,
             "of {segments:?}"
         );
+    }
+    Ok(())
+}
+
+#[test]
+fn numbers_that_marks_take(rt: HostRuntime) -> Result<(), Fail> {
+    for (words, numbers) in [(0, 1), (63, 1), (64, 2), (127, 2), (268435456, 4194305)] {
+        assert_eq!(rt; marks_for(words), numbers, "of {words} words");
     }
     Ok(())
 }
