@@ -23,6 +23,3 @@ pub use packing::pack;
 pub use report::CallReport;
 pub use unpacking::unpack;
 pub use verdict::{NoFrame, Verdict};
-
-#[cfg(test)]
-mod tests;

@@ -38,6 +38,3 @@ fn pack_all(bytes: &[u8], out: &mut [u8], written: &mut usize) -> Answer
     }
     Answer::Good
 }
-
-#[cfg(test)]
-mod tests;

@@ -1,6 +1,7 @@
 //! Canonical copies, paths, and the marks of exclusive messages.
 
 use crate::reading::{another_answer, refused};
+use crate::same::same;
 use cap_canon::{CanonFault, canonical, canonical_bytes};
 use cap_frame::OneSegment;
 use cap_run::{PathFault, Step, parse_path};
@@ -24,7 +25,7 @@ fn a_copy_in_words(rt: HostRuntime) -> Result<(), Fail> {
     };
     match canonical(rt.alloc(), &vetted) {
         Ok(copy) => {
-            assert_eq!(rt; copy.as_slice(), COPY.as_slice());
+            same(&rt, copy.as_slice(), COPY.as_slice());
             Ok(())
         }
         Err(CanonFault::Memory) => refused(),
@@ -41,7 +42,7 @@ fn a_copy_in_bytes(rt: HostRuntime) -> Result<(), Fail> {
     };
     match canonical_bytes(rt.alloc(), &vetted) {
         Ok(copy) => {
-            assert_eq!(rt; copy.as_slice(), COPY_BYTES);
+            same(&rt, copy.as_slice(), COPY_BYTES);
             Ok(())
         }
         Err(CanonFault::Memory) => refused(),
@@ -55,7 +56,7 @@ fn marks_of_an_exclusive_message(rt: HostRuntime) -> Result<(), Fail> {
     let message = OneSegment::new(&WORDS).ok_or("a message")?;
     match vet_exclusive(rt.alloc(), &message, limits) {
         Ok(exclusive) => {
-            assert_eq!(rt; exclusive.into_vetted().report().charge, 4);
+            same(&rt, exclusive.into_vetted().report().charge, 4);
             Ok(())
         }
         Err(ExclusiveRefusal::Memory) => refused(),

@@ -1,6 +1,7 @@
 //! The engines, over streams of two messages.
 
 use crate::reading::{another_answer, refused};
+use crate::same::{same, same_of};
 use cap_canon::CanonFault;
 use cap_frame::{FrameFault, SizeLimit};
 use cap_pack::{Packer, Unpacker};
@@ -47,7 +48,7 @@ fn settle(
     match answer {
         Ok(outcome) => {
             assert!(rt; outcome == BOTH);
-            assert_eq!(rt; written, text);
+            same(rt, written, text);
             Ok(())
         }
         Err(RunFault { message, cause }) => {
@@ -57,7 +58,7 @@ fn settle(
                 Cause::Frame(FrameFault::Memory)
                 | Cause::Canon(CanonFault::Memory)
                 | Cause::Memory => {
-                    assert_eq!(rt; written.len(), before, "at message {message}");
+                    same_of(rt, &message, written.len(), before);
                 }
                 Cause::Output(OutFault::Memory) => {
                     let after = if message == 0 { first } else { text.len() };
@@ -168,8 +169,8 @@ fn settle_words(
 ) -> Result<(), Fail> {
     match answer {
         Ok(words) => {
-            assert_eq!(rt; words, 5);
-            assert_eq!(rt; out.bytes(), text);
+            same(rt, words, 5);
+            same(rt, out.bytes(), text);
             Ok(())
         }
         Err(CopyFault::Output(OutFault::Memory)) => {

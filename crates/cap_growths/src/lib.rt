@@ -15,3 +15,5 @@ mod engines;
 mod outputs;
 #[cfg(test)]
 mod reading;
+#[cfg(test)]
+mod same;

@@ -1,6 +1,7 @@
 //! Outputs, and the sinks and texts that go to them.
 
 use crate::reading::{another_answer, refused};
+use crate::same::same;
 use cap_frame::{OneSegment, write_message};
 use cap_pack::Packer;
 use cap_run::dump;
@@ -25,12 +26,12 @@ fn two_writes(rt: HostRuntime) -> Result<(), Fail> {
         let first = out.write(bytes);
         if first == Err(OutFault::Memory) {
             was_refused = true;
-            assert_eq!(rt; out.bytes(), before);
-            assert_eq!(rt; out.write(bytes), Ok(bytes.len()));
+            same(&rt, out.bytes(), before);
+            same(&rt, out.write(bytes), Ok(bytes.len()));
         } else {
-            assert_eq!(rt; first, Ok(bytes.len()));
+            same(&rt, first, Ok(bytes.len()));
         }
-        assert_eq!(rt; out.bytes(), after);
+        same(&rt, out.bytes(), after);
     }
     if was_refused { refused() } else { Ok(()) }
 }
@@ -52,9 +53,9 @@ fn put_all<K: WordSink>(sink: &mut K) -> Result<(), SinkFault> {
 
 // Nothing more is taken behind a fault, or where the sink is finished.
 fn expect_closed<K: WordSink>(rt: &impl Abort, sink: &mut K) {
-    assert_eq!(rt; sink.put(WORD), Err(SinkFault::Spent));
-    assert_eq!(rt; sink.put_bytes(NEXT), Err(SinkFault::Spent));
-    assert_eq!(rt; sink.finish(), Err(SinkFault::Spent));
+    same(rt, sink.put(WORD), Err(SinkFault::Spent));
+    same(rt, sink.put_bytes(NEXT), Err(SinkFault::Spent));
+    same(rt, sink.finish(), Err(SinkFault::Spent));
 }
 
 // A sink was put all of a text, or a beginning of it where it wanted memory.
@@ -66,7 +67,7 @@ fn settle(
 ) -> Result<(), Fail> {
     match answer {
         Ok(()) => {
-            assert_eq!(rt; out.bytes(), text);
+            same(rt, out.bytes(), text);
             Ok(())
         }
         Err(SinkFault::Memory) => {
@@ -97,7 +98,7 @@ fn words_to_a_packer(rt: HostRuntime) -> Result<(), Fail> {
 #[test]
 fn a_group_that_is_written_at_the_end(rt: HostRuntime) -> Result<(), Fail> {
     let mut sink = Packer::new(VecOut::new(rt.alloc()));
-    assert_eq!(rt; sink.put_bytes(&[0; 24]), Ok(()));
+    same(&rt, sink.put_bytes(&[0; 24]), Ok(()));
     let answer = sink.finish();
     expect_closed(&rt, &mut sink);
     settle(&rt, answer, &sink.into_inner(), b"\0\x02")

@@ -1,5 +1,6 @@
 //! Reading messages.
 
+use crate::same::same;
 use cap_frame::{
     ByteMessage, FrameFault, Segments, SizeLimit, read_byte_message, read_into, read_message,
 };
@@ -42,11 +43,11 @@ fn is_message<M: Segments>(message: &M, want: &[&[u64]]) -> bool {
 
 // The source stands behind the table, and can be used on.
 fn expect_contents<S: WordSource>(rt: &impl Abort, source: &mut S) {
-    assert_eq!(rt; source.position(), 16);
+    same(rt, source.position(), 16);
     for word in [0x1_0000_0002, 0x1_0000_0000, 42] {
-        assert_eq!(rt; source.next(), Ok(Some(word)));
+        same(rt, source.next(), Ok(Some(word)));
     }
-    assert_eq!(rt; source.next(), Ok(None));
+    same(rt, source.next(), Ok(None));
 }
 
 #[test]
@@ -98,9 +99,10 @@ fn a_message_read_into_a_blank_one(rt: HostRuntime) -> Result<(), Fail> {
             expect_contents(&rt, &mut source);
             // the next call succeeds
             let mut again = PlainWords::new(SliceIn::new(MESSAGE));
-            assert_eq!(rt;
+            same(
+                &rt,
                 read_into(rt.alloc(), &mut again, limit, &mut message),
-                Ok(true)
+                Ok(true),
             );
             assert!(rt; is_message(&message.view(), &SEGMENTS));
             refused()
@@ -123,13 +125,18 @@ fn a_table_that_tells_of_too_many_words(rt: HostRuntime) -> Result<(), Fail> {
     ] {
         let large = Some(FrameFault::TooLarge { words });
         let mut source = PlainWords::new(SliceIn::new(table));
-        assert_eq!(rt;
+        same(
+            &rt,
             read_byte_message(rt.alloc(), &mut source, limit).err(),
-            large
+            large,
         );
         let mut source = PlainWords::new(SliceIn::new(table));
-        assert_eq!(rt; read_message(rt.alloc(), &mut source, limit).err(), large);
-        assert_eq!(rt; source.position(), table.len() as u64);
+        same(
+            &rt,
+            read_message(rt.alloc(), &mut source, limit).err(),
+            large,
+        );
+        same(&rt, source.position(), table.len() as u64);
     }
     Ok(())
 }

@@ -1,5 +1,6 @@
-//! Tests of framing, of following, of what `read` tells together and of canonical copies.
+//! Tests of following, of vetting, of what `read` tells together, of canonical copies and of the calls from C.
 
+mod calls;
 mod canons;
 mod checking;
 mod copying;
@@ -7,4 +8,5 @@ mod held;
 mod length;
 mod pointers;
 mod reading;
+mod same;
 mod vetting;

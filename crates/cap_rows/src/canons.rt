@@ -2,6 +2,7 @@
 
 use crate::devices::Full;
 use crate::engines::{Sips, settings};
+use crate::same::same_of;
 use crate::whole::run;
 use cap_cmd::{Cause, Outcome, RunFault, run_canon, run_check};
 use cap_frame::FrameFault;
@@ -298,7 +299,7 @@ fn end_of_copies<R: AllocGlobal + Abort>(
     let mut sink = Packer::new(VecOut::new(rt.alloc()));
     let answer = run_canon(rt.alloc(), &mut source, &mut sink, &settings);
     let packed = b"\x10\x02\x10\x01\x01\x2a".as_slice();
-    assert_eq!(rt; sink.into_inner().bytes(), packed, "{next}");
+    same_of(rt, &next, sink.into_inner().bytes(), packed);
     Ok(answer)
 }
 

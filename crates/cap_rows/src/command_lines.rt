@@ -1,5 +1,6 @@
 //! The command line, which no clause speaks of, and a run of each public call.
 
+use crate::same::same;
 use cap_canon::CanonFault;
 use cap_cmd::{Cause, CopyFault, Job, JobFault, Limits, RunFault, Task, read_job, run_job};
 use cap_frame::FrameFault;
@@ -36,7 +37,7 @@ fn reads_the_command_line(rt: HostRuntime) -> Result<(), Fail> {
         };
         assert!(rt; job.task == Task::Segments && !job.packed);
         assert!(rt; job.settings.size.words() == *size);
-        assert_eq!(rt; job.settings.messages, 4294967295);
+        same(&rt, job.settings.messages, 4294967295);
         assert!(rt; Limits::new(8388608, 64) == Some(job.settings.limits));
         assert!(rt; job.file.as_ref().map(|name| name.as_str()) == *file);
     }
@@ -254,7 +255,7 @@ fn does_a_job(rt: HostRuntime) -> Result<(), Fail> {
             VecOut::new(alloc),
             &mut err,
         );
-        assert_eq!(rt; answer, *status);
+        same(&rt, answer, *status);
         assert!(rt; out.bytes() == output.as_bytes());
         assert!(rt; err.bytes() == errors.as_bytes());
     }

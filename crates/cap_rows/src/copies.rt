@@ -2,6 +2,7 @@
 
 use crate::devices::Full;
 use crate::engines::{Sips, settings};
+use crate::same::same;
 use crate::whole::run;
 use cap_cmd::{Cause, CopyFault, Outcome, RunFault, run_pack, run_unpack, run_vet};
 use cap_frame::FrameFault;
@@ -107,11 +108,12 @@ const CUT: &str = "ff8a8a8a8a8a8a8a8a028a8a8a8a8a8a8a8a8a8a8a8a";
 fn ends_at_a_cut_group(rt: HostRuntime) -> Result<(), Fail> {
     let alloc = rt.alloc();
     let left = run(alloc, "unpack", &[], CUT)?;
-    assert_eq!(rt; left.status, 1);
+    same(&rt, left.status, 1);
     assert!(rt; left.out.bytes() == [0x8a; 16].as_slice());
-    assert_eq!(rt;
+    same(
+        &rt,
         left.err.bytes(),
-        b"capvet: Truncated at byte 22\n".as_slice()
+        b"capvet: Truncated at byte 22\n".as_slice(),
     );
     let bytes = hex::decode(alloc, CUT)?;
     for most in [1, 22] {
@@ -144,14 +146,14 @@ fn ends_at_a_word_too_many(rt: HostRuntime) -> Result<(), Fail> {
         let mut source = PlainWords::new(SliceIn::new(null.as_slice()));
         let mut sink = Packer::new(VecOut::new(alloc));
         assert!(rt; run_pack(&mut source, &mut sink, words) == answer);
-        assert_eq!(rt; sink.into_inner().bytes(), text);
+        same(&rt, sink.into_inner().bytes(), text);
         let mut sips = PlainWords::new(FromRead::new(Sips {
             bytes: null.as_slice(),
             most: 1,
         }));
         let mut sink = Packer::new(VecOut::new(alloc));
         assert!(rt; run_pack(&mut sips, &mut sink, words) == answer);
-        assert_eq!(rt; sink.into_inner().bytes(), text);
+        same(&rt, sink.into_inner().bytes(), text);
     }
     Ok(())
 }
@@ -196,9 +198,10 @@ fn unpacks_no_word_past_the_most(rt: HostRuntime) -> Result<(), Fail> {
             Ok(MANY_WORDS)
         };
         assert!(rt; run_unpack(&mut source, &mut sink, words) == answer);
-        assert_eq!(rt;
+        same(
+            &rt,
             sink.into_inner().bytes().len() as u64,
-            8 * words.min(MANY_WORDS)
+            8 * words.min(MANY_WORDS),
         );
     }
     Ok(())
@@ -217,7 +220,7 @@ fn unpacks_no_word_past_a_full_output(rt: HostRuntime) -> Result<(), Fail> {
         }));
         let answer = run_unpack(&mut source, &mut sink, MOST);
         assert!(rt; answer == Err(CopyFault::Output(OutFault::Device)));
-        assert_eq!(rt; sink.into_inner().into_inner().taken.len(), room);
+        same(&rt, sink.into_inner().into_inner().taken.len(), room);
     }
     Ok(())
 }
@@ -244,7 +247,7 @@ fn leaves_a_beginning_where_the_output_fails(rt: HostRuntime) -> Result<(), Fail
             assert!(rt; answer == Ok(5));
         }
         let taken = sink.into_inner().into_inner().taken;
-        assert_eq!(rt; taken.len(), room.min(11));
+        same(&rt, taken.len(), room.min(11));
         assert!(rt; whole.starts_with(taken.as_slice()));
     }
     Ok(())
@@ -356,7 +359,7 @@ fn vets_packed_streams_a_byte_at_a_time(rt: HostRuntime) -> Result<(), Fail> {
             "{}",
             row.stream
         );
-        assert_eq!(rt; text.bytes(), row.out.as_bytes());
+        same(&rt, text.bytes(), row.out.as_bytes());
     }
     Ok(())
 }
@@ -365,10 +368,11 @@ fn vets_packed_streams_a_byte_at_a_time(rt: HostRuntime) -> Result<(), Fail> {
 fn shows_packed_streams(rt: HostRuntime) -> Result<(), Fail> {
     let alloc = rt.alloc();
     let left = run(alloc, "segments", &["--packed"], "10010001")?;
-    assert_eq!(rt; left.status, 0);
-    assert_eq!(rt;
+    same(&rt, left.status, 0);
+    same(
+        &rt,
         left.out.bytes(),
-        b"message 0: segments 1 words 1\nsegment 0: 1\nroot 0000000000000000\nmessage 1: segments 1 words 0\nsegment 0: 0\nroot none\n".as_slice()
+        b"message 0: segments 1 words 1\nsegment 0: 1\nroot 0000000000000000\nmessage 1: segments 1 words 0\nsegment 0: 0\nroot none\n".as_slice(),
     );
     Ok(())
 }

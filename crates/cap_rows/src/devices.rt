@@ -1,5 +1,6 @@
 //! Whole runs over devices that fail.
 
+use crate::same::{same, same_of};
 use crate::whole::{Left, job};
 use cap_cmd::{Job, run_job};
 use cap_words::{ByteIn, ByteOut, FromRead, FromWrite, InFault, OutFault, SliceIn, VecOut};
@@ -234,7 +235,7 @@ fn expect_front<R: AllocGlobal + Abort>(
     assert!(rt; out.has_failed());
     let taken = out.into_inner().taken;
     let wanted = (front, b"capvet: output failed\n".as_slice(), 3);
-    assert_eq!(rt; (taken.as_slice(), err.bytes(), status), wanted);
+    same(rt, (taken.as_slice(), err.bytes(), status), wanted);
 }
 
 #[test]
@@ -262,7 +263,7 @@ fn an_input_that_was_spent_ends_the_run_with_status_3(rt: HostRuntime) -> Result
     ] {
         let job = job(alloc, command, &[])?;
         let mut input = FromRead::new(Broken { bytes: &[] });
-        assert_eq!(rt; input.read(&mut [0]), Err(InFault::Device));
+        same(&rt, input.read(&mut [0]), Err(InFault::Device));
         let mut err = VecOut::new(alloc);
         let (status, out) = run_job(alloc, &job, input, VecOut::new(alloc), &mut err);
         let left = Left { status, out, err };
@@ -281,13 +282,13 @@ fn an_output_that_was_spent_ends_the_run_with_status_3(rt: HostRuntime) -> Resul
             room: 0,
             tells: true,
         });
-        assert_eq!(rt; out.write(&[0]), Err(OutFault::Device));
+        same(&rt, out.write(&[0]), Err(OutFault::Device));
         let bytes = hex::decode(alloc, stream)?;
         let mut err = VecOut::new(alloc);
         let (status, out) = run_job(alloc, &job, SliceIn::new(bytes.as_slice()), out, &mut err);
         assert!(rt; out.into_inner().taken.is_empty());
-        assert_eq!(rt; err.bytes(), b"capvet: output failed\n".as_slice());
-        assert_eq!(rt; status, 3, "{command}");
+        same(&rt, err.bytes(), b"capvet: output failed\n".as_slice());
+        same_of(&rt, &command, status, 3);
     }
     Ok(())
 }
@@ -306,9 +307,9 @@ fn a_line_that_cannot_be_written_changes_no_status(rt: HostRuntime) -> Result<()
         });
         let input = SliceIn::new(cut.as_slice());
         let (status, out) = run_job(alloc, &job, input, VecOut::new(alloc), &mut err);
-        assert_eq!(rt; out.bytes(), NULL_VET.as_bytes());
-        assert_eq!(rt; err.into_inner().taken.as_slice(), &line[..room]);
-        assert_eq!(rt; status, 1, "with room for {room}");
+        same(&rt, out.bytes(), NULL_VET.as_bytes());
+        same(&rt, err.into_inner().taken.as_slice(), &line[..room]);
+        same_of(&rt, &room, status, 1);
     }
     Ok(())
 }
@@ -329,7 +330,7 @@ fn where_no_line_can_be_written_a_fault_has_its_status(rt: HostRuntime) -> Resul
         });
         let (status, _) = run_job(alloc, &job, input, VecOut::new(alloc), &mut err);
         assert!(rt; err.has_failed());
-        assert_eq!(rt; status, 3, "{stream}");
+        same_of(&rt, &stream, status, 3);
     }
     Ok(())
 }

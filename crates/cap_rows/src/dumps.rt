@@ -1,6 +1,7 @@
 //! The dump of messages that are held in memory.
 
 use crate::devices::Full;
+use crate::same::{same, same_of};
 use cap_frame::{OneSegment, Segments};
 use cap_run::{Limits, dump};
 use cap_vet::vet;
@@ -38,7 +39,7 @@ fn text_of(rt: &impl Abort, alloc: Global, segment: &[u64]) -> Result<VecOut, Fa
     let message = OneSegment::new(segment).ok_or("no message")?;
     let mut out = VecOut::new(alloc);
     let answer = dump_to(&message, &mut out)?;
-    assert_eq!(rt; answer, Ok(()));
+    same(rt, answer, Ok(()));
     Ok(out)
 }
 
@@ -104,7 +105,7 @@ fn a_dump_shows_each_node_with_its_own_words(rt: HostRuntime) -> Result<(), Fail
     for (digits, text) in &TEXTS {
         let segment = words(alloc, digits)?;
         let out = text_of(&rt, alloc, segment.as_slice())?;
-        assert_eq!(rt; out.bytes(), text.as_bytes(), "{digits}");
+        same_of(&rt, &digits, out.bytes(), text.as_bytes());
     }
     Ok(())
 }
@@ -122,12 +123,12 @@ fn expect_beginning<R: AllocGlobal + Abort>(
         room,
         tells,
     });
-    assert_eq!(rt; dump_to(&message, &mut out)?, Err(OutFault::Device));
+    same(rt, dump_to(&message, &mut out)?, Err(OutFault::Device));
     assert!(rt; out.has_failed());
-    assert_eq!(rt; dump_to(&message, &mut out)?, Err(OutFault::Spent));
+    same(rt, dump_to(&message, &mut out)?, Err(OutFault::Spent));
     let taken = out.into_inner().taken;
     let text = NESTED_TEXT.as_bytes();
-    assert_eq!(rt; taken.as_slice(), &text[..room.min(text.len())]);
+    same(rt, taken.as_slice(), &text[..room.min(text.len())]);
     Ok(())
 }
 
@@ -187,6 +188,6 @@ fn the_deepest_dump_has_256_levels_below_its_root(rt: HostRuntime) -> Result<(),
     let text = ladder_text(rt.alloc())?;
     let segment = ladder(rt.alloc(), 128)?;
     let out = text_of(&rt, rt.alloc(), segment.as_slice())?;
-    assert_eq!(rt; out.bytes(), text.as_bytes());
+    same(&rt, out.bytes(), text.as_bytes());
     Ok(())
 }

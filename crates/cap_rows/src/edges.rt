@@ -1,6 +1,7 @@
 //! Messages whose packed words are runs that end at a segment's edge, or a word before or behind it.
 
 use crate::engines::Sips;
+use crate::same::same;
 use cap_frame::{Segments, SizeLimit, read_byte_message, read_message, write_message};
 use cap_pack::{Packer, Unpacker};
 use cap_words::{BufferedIn, PlainSink, VecOut, WordSink, WordSource};
@@ -43,13 +44,13 @@ fn expect_message<R: AllocGlobal + Abort>(
         return Err("no message in one buffer".into());
     };
     assert!(rt; frame_of(rt.alloc(), &message.view())?.bytes() == frame);
-    assert_eq!(rt; source.next(), Ok(None));
+    same(rt, source.next(), Ok(None));
     let mut source = Unpacker::new(BufferedIn::new(rt.alloc(), Sips { bytes, most })?);
     let Ok(Some(message)) = read_message(rt.alloc(), &mut source, limit) else {
         return Err("no message of vectors".into());
     };
     assert!(rt; frame_of(rt.alloc(), &message)?.bytes() == frame);
-    assert_eq!(rt; source.next(), Ok(None));
+    same(rt, source.next(), Ok(None));
     Ok(())
 }
 

@@ -1,5 +1,6 @@
 //! The engines over devices that give little, over many messages, and under a limit of messages.
 
+use crate::same::{same, same_of};
 use cap_cmd::{Cause, Limits, Outcome, RunFault, Settings, run_segments, run_vet};
 use cap_frame::SizeLimit;
 use cap_words::{FromRead, PlainWords, SliceIn, VecOut};
@@ -65,7 +66,7 @@ fn reads_no_more_messages_than_it_may(rt: HostRuntime) -> Result<(), Fail> {
             })
         };
         assert!(rt; run_segments(&mut source, &mut out, &settings) == wanted);
-        assert_eq!(rt; out.bytes(), text.as_bytes());
+        same(&rt, out.bytes(), text.as_bytes());
     }
     Ok(())
 }
@@ -97,7 +98,7 @@ fn vets_no_more_messages_than_it_may(rt: HostRuntime) -> Result<(), Fail> {
         let mut source = PlainWords::new(SliceIn::new(bytes.as_slice()));
         let mut out = VecOut::new(alloc);
         assert!(rt; run_vet(alloc, &mut source, &mut out, &settings) == wanted);
-        assert_eq!(rt; out.bytes(), text.as_bytes());
+        same(&rt, out.bytes(), text.as_bytes());
     }
     Ok(())
 }
@@ -131,7 +132,7 @@ fn goes_through_300_messages_in_sips(rt: HostRuntime) -> Result<(), Fail> {
         let mut source = PlainWords::new(FromRead::new(reader));
         let mut out = VecOut::new(alloc);
         assert!(rt; run_vet(alloc, &mut source, &mut out, &settings) == wanted);
-        assert_eq!(rt; out.bytes(), whole.bytes(), "{most} bytes a call");
+        same_of(&rt, &most, out.bytes(), whole.bytes());
     }
     Ok(())
 }

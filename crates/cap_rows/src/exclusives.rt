@@ -1,6 +1,7 @@
 //! `capvet vet --exclusive`.
 
 use crate::engines::settings;
+use crate::same::same;
 use crate::whole::{Left, job, run};
 use cap_cmd::{Cause, Outcome, RunFault, run_job, run_vet_exclusive};
 use cap_words::{PlainWords, SliceIn, VecOut};
@@ -166,7 +167,7 @@ fn an_overlap_does_not_end_the_run(rt: HostRuntime) -> Result<(), Fail> {
         let mut source = PlainWords::new(SliceIn::new(bytes.as_slice()));
         let mut out = VecOut::new(alloc);
         assert!(rt; run_vet_exclusive(alloc, &mut source, &mut out, &settings) == wanted);
-        assert_eq!(rt; out.bytes(), text.as_bytes());
+        same(&rt, out.bytes(), text.as_bytes());
     }
     Ok(())
 }

@@ -1,5 +1,6 @@
 //! Streams that break off at each byte, and tables that tell of more words than there are.
 
+use crate::same::{same, same_of};
 use crate::whole::{job, run_over};
 use cap_frame::{FrameFault, SizeLimit, read_byte_message, read_message};
 use cap_pack::Unpacker;
@@ -145,13 +146,13 @@ fn expect_cut<R: AllocGlobal + Abort, S: WordSource + Drop>(
 ) -> Result<(), Fail> {
     let (first, then) = faults_of(rt.alloc(), &mut source, is_held_as_words)?;
     let cut = FrameFault::Truncated { byte: len as u64 };
-    assert_eq!(rt; first, Some(cut));
+    same(rt, first, Some(cut));
     let spent = if between {
         None
     } else {
         Some(FrameFault::Spent)
     };
-    assert_eq!(rt; then, spent, "behind {len} bytes");
+    same_of(rt, &len, then, spent);
     Ok(())
 }
 

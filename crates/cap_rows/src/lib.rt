@@ -26,6 +26,8 @@ mod paths;
 #[cfg(test)]
 mod pieces;
 #[cfg(test)]
+mod same;
+#[cfg(test)]
 mod segments;
 #[cfg(test)]
 mod trees;

@@ -1,5 +1,6 @@
 //! Paths as texts.
 
+use crate::same::same;
 use cap_cmd::{PathFault, Step, parse_path};
 use std::alloc::Global;
 use std::test::Fail;
@@ -58,7 +59,7 @@ fn tells_where_a_text_stops_being_a_path(rt: HostRuntime) -> Result<(), Fail> {
         ("/i4294967296", 11),
     ];
     for (text, at) in &texts {
-        assert_eq!(rt; bad_at(alloc, text)?, Some(*at));
+        same(&rt, bad_at(alloc, text)?, Some(*at));
     }
     Ok(())
 }

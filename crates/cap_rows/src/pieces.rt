@@ -1,6 +1,7 @@
 //! Runs over devices that give and take few bytes a call, each of their calls failing in turn.
 
 use crate::engines::settings;
+use crate::same::{same, same_of};
 use crate::whole::{job, run_over};
 use cap_cmd::{Cause, Job, Outcome, RunFault, run_job, run_vet};
 use cap_frame::FrameFault;
@@ -137,7 +138,7 @@ impl Ran {
     // That a run ended with this line and this status, and its output took this.
     fn expect(&self, rt: &impl Abort, name: &str, taken: &[u8], line: &[u8], status: u8) {
         let left = (self.taken.as_slice(), self.err.bytes(), self.status);
-        assert_eq!(rt; left, (taken, line, status), "{name}");
+        same_of(rt, &name, left, (taken, line, status));
     }
 }
 
@@ -320,7 +321,7 @@ fn expect_read_faults<R: AllocGlobal + Abort>(
             kind: Some(kind),
         };
         let ran = run_in_pieces(rt.alloc(), job, bytes, most, reading, HONEST);
-        assert_eq!(rt; ran.reads, at, "{}", row.command);
+        same_of(rt, &row.command, ran.reads, at);
         let before = run_over(rt.alloc(), job, &bytes[..ran.given.min(bytes.len())]);
         let line = line_of(row, ran.given).as_bytes();
         ran.expect(rt, row.command, before.out.bytes(), line, 3);
@@ -353,7 +354,7 @@ fn expect_write_faults<R: AllocGlobal + Abort>(
     for at in 1..=honest.writes {
         let writing = Fault { at, kind };
         let ran = run_in_pieces(rt.alloc(), job, bytes, most, HONEST, writing);
-        assert_eq!(rt; ran.writes, at, "{}", row.command);
+        same_of(rt, &row.command, ran.writes, at);
         let len = ran.taken.len();
         assert!(rt;
             least <= len && len <= honest.taken.len(),
@@ -445,13 +446,13 @@ fn a_line_of_55_bytes_breaks_off_at_each(rt: HostRuntime) -> Result<(), Fail> {
         noncanonical: 0,
     });
     assert!(rt; answer == accepted);
-    assert_eq!(rt; taken.as_slice(), SHARED_VET);
+    same(&rt, taken.as_slice(), SHARED_VET);
     for done in 0..55u32 {
         for kind in WRITE_FAULTS {
             let writing = Fault { at: done + 1, kind };
             let (answer, taken) = vet_by_bytes(alloc, bytes.as_slice(), HONEST, writing)?;
             assert!(rt; answer == fault_at(0, Cause::Output(OutFault::Device)));
-            assert_eq!(rt; taken.len(), done as usize);
+            same(&rt, taken.len(), done as usize);
             assert!(rt; SHARED_VET.starts_with(taken.as_slice()));
         }
     }
@@ -477,7 +478,7 @@ fn a_message_of_40_bytes_breaks_off_at_each(rt: HostRuntime) -> Result<(), Fail>
                 (1, SHARED_VET)
             };
             assert!(rt; answer == fault_at(message, failed), "behind {done} bytes");
-            assert_eq!(rt; taken.as_slice(), text, "behind {done} bytes");
+            same_of(&rt, &done, taken.as_slice(), text);
         }
     }
     Ok(())

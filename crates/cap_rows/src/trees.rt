@@ -2,6 +2,7 @@
 
 use crate::devices::Full;
 use crate::engines::{Sips, settings};
+use crate::same::same;
 use crate::whole::{Left, run};
 use cap_cmd::{Cause, Outcome, RunFault, Step, run_dump, run_get, run_pack};
 use cap_pack::Packer;
@@ -328,7 +329,7 @@ fn goes_on_behind_a_refusal(rt: HostRuntime) -> Result<(), Fail> {
             most,
         }));
         assert!(rt; run_dump(alloc, &mut source, &mut out, &settings) == Ok(THREE));
-        assert_eq!(rt; out.bytes(), THREE_DUMP.as_bytes());
+        same(&rt, out.bytes(), THREE_DUMP.as_bytes());
         let mut out = VecOut::new(alloc);
         let mut source = PlainWords::new(FromRead::new(Sips {
             bytes: stream.as_slice(),
@@ -336,9 +337,10 @@ fn goes_on_behind_a_refusal(rt: HostRuntime) -> Result<(), Fail> {
         }));
         let path = [Step::Ptr(1)];
         assert!(rt; run_get(alloc, &mut source, &mut out, &settings, &path) == Ok(THREE));
-        assert_eq!(rt;
+        same(
+            &rt,
             out.bytes(),
-            b"message 0: none\nmessage 1: refused DepthLimit at 0:0 pointers 65\nmessage 2: found\nnode struct 1 0\n  d0 0700000000000000\n".as_slice()
+            b"message 0: none\nmessage 1: refused DepthLimit at 0:0 pointers 65\nmessage 2: found\nnode struct 1 0\n  d0 0700000000000000\n".as_slice(),
         );
     }
     Ok(())
@@ -361,9 +363,10 @@ fn leaves_a_beginning_of_a_tree_where_the_output_fails(rt: HostRuntime) -> Resul
             cause: Cause::Output(OutFault::Device),
         });
         assert!(rt; run_dump(alloc, &mut source, &mut out, &settings) == wanted);
-        assert_eq!(rt;
+        same(
+            &rt,
             out.into_inner().taken.as_slice(),
-            &STRUCTS_DUMP.as_bytes()[..room]
+            &STRUCTS_DUMP.as_bytes()[..room],
         );
     }
     Ok(())

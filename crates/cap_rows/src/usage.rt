@@ -1,5 +1,6 @@
 //! Command lines that name no job, and those that name one.
 
+use crate::same::same_of;
 use crate::whole::{job, words};
 use cap_cmd::{JobFault, Limits, Step, Task, read_job};
 use std::alloc::Global;
@@ -60,7 +61,7 @@ fn answer_to(alloc: Global, line: &[&str]) -> Result<Answer, Fail> {
 #[test]
 fn tells_jobs_help_and_mistakes_apart(rt: HostRuntime) -> Result<(), Fail> {
     for (line, wanted) in &LINES {
-        assert_eq!(rt; answer_to(rt.alloc(), line)?, *wanted, "{line:?}");
+        same_of(&rt, &line, answer_to(rt.alloc(), line)?, *wanted);
     }
     Ok(())
 }
@@ -147,7 +148,7 @@ fn refuses_what_a_command_does_not_take(rt: HostRuntime) -> Result<(), Fail> {
         let Err(JobFault::Usage { text }) = read_job(rt.alloc(), words(rt.alloc(), line)?) else {
             return Err(Fail::from("no mistake"));
         };
-        assert_eq!(rt; text.as_str(), *wanted, "{line:?}");
+        same_of(&rt, &line, text.as_str(), *wanted);
     }
     Ok(())
 }
@@ -205,7 +206,7 @@ fn tells_where_a_path_goes_wrong(rt: HostRuntime) -> Result<(), Fail> {
         let Err(JobFault::Path { at }) = read_job(rt.alloc(), words(rt.alloc(), line)?) else {
             return Err(Fail::from("no bad path"));
         };
-        assert_eq!(rt; at, *wanted, "{line:?}");
+        same_of(&rt, &line, at, *wanted);
     }
     Ok(())
 }
@@ -476,7 +477,7 @@ fn helps_with_each_command(rt: HostRuntime) -> Result<(), Fail> {
             let Err(JobFault::Help { text }) = read_job(rt.alloc(), words(rt.alloc(), line)?) else {
                 return Err(Fail::from("no help"));
             };
-            assert_eq!(rt; text.as_str(), help.text, "{line:?}");
+            same_of(&rt, &line, text.as_str(), help.text);
         }
     }
     Ok(())

@@ -1,5 +1,6 @@
 //! A run of the program over memory: the words of a command line and the bytes that come in.
 
+use crate::same::same_of;
 use cap_cmd::{Job, read_job, run_job};
 use cap_words::{SliceIn, VecOut};
 use std::alloc::Global;
@@ -18,7 +19,7 @@ impl Left {
     /// That a run wrote this output and these lines of faults, and ended with this status.
     pub(crate) fn expect(&self, rt: &impl Abort, name: &str, out: &[u8], err: &[u8], status: u8) {
         let left = (self.out.bytes(), self.err.bytes(), self.status);
-        assert_eq!(rt; left, (out, err, status), "{name}");
+        same_of(rt, &name, left, (out, err, status));
     }
 }
 

@@ -1,6 +1,7 @@
 //! Sources and sinks by themselves, over devices each of whose calls fails in turn.
 
 use crate::pieces::{Fault, PIECES, READ_FAULTS, Reader, WRITE_FAULTS, Writer};
+use crate::same::{same, same_of};
 use cap_pack::{Packer, Unpacker};
 use cap_words::{
     BufferedIn, ByteIn, ByteOut, FromRead, FromWrite, InFault, OutFault, PlainSink, PlainWords,
@@ -55,7 +56,7 @@ fn words_before_fault<R: AllocGlobal + Abort, S: WordSource>(
     if fault.is_none() {
         return Ok(None);
     }
-    assert_eq!(rt; fault, Some(SourceFault::Device));
+    same(rt, fault, Some(SourceFault::Device));
     let position = source.position();
     assert!(rt; is_spent(source) && source.position() == position);
     Ok(Some((words, position)))
@@ -96,9 +97,9 @@ fn read_to_fault<R: AllocGlobal + Abort, I: ByteIn + Drop>(
         return Ok(None);
     };
     let mut input = input;
-    assert_eq!(rt; input.read(&mut [0]), Err(InFault::Spent));
+    same(rt, input.read(&mut [0]), Err(InFault::Spent));
     let before = words_of_front(rt.alloc(), packed, bytes, position)?;
-    assert_eq!(rt; words.as_slice(), before.as_slice(), "to byte {position}");
+    same_of(rt, &position, words.as_slice(), before.as_slice());
     Ok(Some(position))
 }
 
@@ -131,9 +132,9 @@ fn expect_reads<R: AllocGlobal + Abort>(
             assert!(rt; reader.rest.is_empty(), "a fault where no device failed");
             return Ok(());
         };
-        assert_eq!(rt; reader.calls, at, "{most} bytes a call");
+        same_of(rt, &most, reader.calls, at);
         let given = bytes.len().saturating_sub(reader.rest.len());
-        assert_eq!(rt; position, given as u64, "{most} bytes a call");
+        same_of(rt, &most, position, given as u64);
     }
     Err(Fail::from("no end"))
 }
@@ -201,13 +202,13 @@ fn expect_writes<R: AllocGlobal + Abort>(
         if answer.is_ok() {
             let writer = output.into_inner();
             assert!(rt; writer.calls < at, "a failure that wasn't told");
-            assert_eq!(rt; writer.taken.as_slice(), text);
+            same(rt, writer.taken.as_slice(), text);
             return Ok(());
         }
-        assert_eq!(rt; answer, Err(SinkFault::Device));
+        same(rt, answer, Err(SinkFault::Device));
         assert!(rt; output.write(&[0]) == Err(OutFault::Spent));
         let writer = output.into_inner();
-        assert_eq!(rt; writer.calls, at, "{most} bytes a call");
+        same_of(rt, &most, writer.calls, at);
         assert!(rt; text.starts_with(writer.taken.as_slice()));
     }
     Err(Fail::from("no end"))

@@ -4,5 +4,6 @@ mod ends;
 mod frames;
 mod lanes;
 mod packing;
+mod same;
 mod unpacking;
 mod unpacking_at_hand;

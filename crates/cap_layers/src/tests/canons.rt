@@ -1,6 +1,7 @@
 //! What the four calls say together of messages whose copies are known from outside.
 
 use super::held::{in_one_buffer, words};
+use crate::tests::same::{same, same_of};
 use cap_canon::{CanonFault, canonical, canonical_bytes, canonical_len, is_canonical};
 use cap_frame::{OneSegment, Segments};
 use cap_vet::{Limits, Vetted, vet};
@@ -36,15 +37,16 @@ fn makes_copy<M: Segments>(
 ) -> Result<(), Fail> {
     let vetted = accepted(message, 268435456, 256)?;
     let report = vetted.report();
-    assert_eq!(rt;
+    same_of(
+        rt,
+        &segment,
         canonical_len(&vetted),
         Ok(copied.len() as u64),
-        "of {segment:?}"
     );
     let Ok(made) = canonical(alloc, &vetted) else {
         return Err("no copy".into());
     };
-    assert_eq!(rt; made.as_slice(), copied, "of {segment:?}");
+    same_of(rt, &segment, made.as_slice(), copied);
     let Ok(bytes) = canonical_bytes(alloc, &vetted) else {
         return Err("no bytes".into());
     };
@@ -52,11 +54,11 @@ fn makes_copy<M: Segments>(
     for word in copied {
         spelled.extend_from_slice(&bytes_of(*word))?;
     }
-    assert_eq!(rt; bytes.as_slice(), spelled.as_slice(), "of {segment:?}");
-    assert_eq!(rt; is_canonical(&vetted), segment == copied, "of {segment:?}");
+    same_of(rt, &segment, bytes.as_slice(), spelled.as_slice());
+    same_of(rt, &segment, is_canonical(&vetted), segment == copied);
     let copy = OneSegment::new(&made).ok_or("no message")?;
     let again = accepted(&copy, report.charge, report.depth)?;
-    assert_eq!(rt; again.report().depth, report.depth, "of {segment:?}");
+    same_of(rt, &segment, again.report().depth, report.depth);
     assert!(rt; is_canonical(&again), "of {segment:?}");
     Ok(())
 }
@@ -340,15 +342,16 @@ fn a_copy_or_no_memory(rt: HostRuntime) -> Result<(), Fail> {
     let message = OneSegment::new(&segment).ok_or("no message")?;
     let vetted = accepted(&message, 268435456, 256)?;
     match canonical(rt.alloc(), &vetted) {
-        Ok(made) => assert_eq!(rt; made.as_slice(), [0x0000000100000000, 42].as_slice()),
-        Err(fault) => assert_eq!(rt; fault, CanonFault::Memory),
+        Ok(made) => same(&rt, made.as_slice(), [0x0000000100000000, 42].as_slice()),
+        Err(fault) => same(&rt, fault, CanonFault::Memory),
     }
     match canonical_bytes(rt.alloc(), &vetted) {
-        Ok(made) => assert_eq!(rt;
+        Ok(made) => same(
+            &rt,
             made.as_slice(),
-            [0, 0, 0, 0, 1, 0, 0, 0, 42, 0, 0, 0, 0, 0, 0, 0].as_slice()
+            [0, 0, 0, 0, 1, 0, 0, 0, 42, 0, 0, 0, 0, 0, 0, 0].as_slice(),
         ),
-        Err(fault) => assert_eq!(rt; fault, CanonFault::Memory),
+        Err(fault) => same(&rt, fault, CanonFault::Memory),
     }
     let with_capability = [3];
     let message = OneSegment::new(&with_capability).ok_or("no message")?;

@@ -1,6 +1,7 @@
 //! Messages of which it is known from outside whether they are canonical.
 
 use super::held::{in_one_buffer, words};
+use crate::tests::same::{same, same_of};
 use cap_canon::is_canonical;
 use cap_frame::{OneSegment, Segments, WordMessage};
 use cap_vet::{Limits, vet};
@@ -84,9 +85,9 @@ fn messages_of_one_segment(rt: HostRuntime) -> Result<(), Fail> {
     ] {
         let segment = words(rt.alloc(), spelled)?;
         let message = OneSegment::new(&segment).ok_or("no message")?;
-        assert_eq!(rt; check(&message)?, canonical, "of {segment:?}");
+        same_of(&rt, &segment, check(&message)?, canonical);
         let held = in_one_buffer(rt.alloc(), &message)?;
-        assert_eq!(rt; check(&held.view())?, canonical, "of {segment:?}");
+        same_of(&rt, &segment, check(&held.view())?, canonical);
     }
     Ok(())
 }
@@ -97,8 +98,8 @@ fn a_second_segment(rt: HostRuntime) -> Result<(), Fail> {
     segments.push(words(rt.alloc(), &[0x0000000001000000, 0x2a00000000000000])?)?;
     segments.push(words(rt.alloc(), &[])?)?;
     let message = WordMessage::new(segments).ok_or("no message")?;
-    assert_eq!(rt; check(&message)?, false);
+    same(&rt, check(&message)?, false);
     let held = in_one_buffer(rt.alloc(), &message)?;
-    assert_eq!(rt; check(&held.view())?, false);
+    same(&rt, check(&held.view())?, false);
     Ok(())
 }

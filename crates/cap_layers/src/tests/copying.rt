@@ -1,6 +1,7 @@
 //! The canonical copies of messages that are known from outside.
 
 use super::held::{in_one_buffer, words};
+use crate::tests::same::{same, same_of};
 use cap_canon::{CanonFault, canonical};
 use cap_frame::{OneSegment, Segments, WordMessage};
 use cap_vet::{Limits, vet};
@@ -175,9 +176,9 @@ fn copies_of_one_segment(rt: HostRuntime) -> Result<(), Fail> {
         let segment = words(rt.alloc(), spelled)?;
         let expected = words(rt.alloc(), copied)?;
         let made = copy(rt.alloc(), &segment)?;
-        assert_eq!(rt; made.as_slice(), expected.as_slice(), "of {segment:?}");
+        same_of(&rt, &segment, made.as_slice(), expected.as_slice());
         let again = copy(rt.alloc(), &made)?;
-        assert_eq!(rt; again.as_slice(), expected.as_slice(), "of {made:?}");
+        same_of(&rt, &made, again.as_slice(), expected.as_slice());
     }
     Ok(())
 }
@@ -210,7 +211,7 @@ fn copies_of_several_segments(rt: HostRuntime) -> Result<(), Fail> {
         let message = WordMessage::new(segments).ok_or("no message")?;
         let expected = words(rt.alloc(), copied)?;
         match copy_of(rt.alloc(), &message)? {
-            Ok(made) => assert_eq!(rt; made.as_slice(), expected.as_slice(), "at {root:016x}"),
+            Ok(made) => same_of(&rt, &root, made.as_slice(), expected.as_slice()),
             Err(_) => return Err("no copy".into()),
         }
     }
@@ -224,12 +225,13 @@ fn no_copy_with_a_capability(rt: HostRuntime) -> Result<(), Fail> {
     match copy_of(rt.alloc(), &message)? {
         Ok(_) => Err("a copy".into()),
         Err(fault) => {
-            assert_eq!(rt;
+            same(
+                &rt,
                 fault,
                 CanonFault::HasCapability {
                     segment: 0,
-                    word: 0
-                }
+                    word: 0,
+                },
             );
             Ok(())
         }

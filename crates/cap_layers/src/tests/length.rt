@@ -1,6 +1,7 @@
 //! How long the canonical copies of messages are that are known from outside.
 
 use super::held::{in_one_buffer, words};
+use crate::tests::same::same_of;
 use cap_canon::{CanonFault, canonical_len};
 use cap_frame::{OneSegment, Segments, WordMessage};
 use cap_vet::{Limits, vet};
@@ -95,9 +96,9 @@ fn messages_of_one_segment(rt: HostRuntime) -> Result<(), Fail> {
     ] {
         let segment = words(rt.alloc(), segment)?;
         let message = OneSegment::new(&segment).ok_or("no message")?;
-        assert_eq!(rt; length_of(&message)?, answer, "of {segment:?}");
+        same_of(&rt, &segment, length_of(&message)?, answer);
         let held = in_one_buffer(rt.alloc(), &message)?;
-        assert_eq!(rt; length_of(&held.view())?, answer, "of {segment:?}");
+        same_of(&rt, &segment, length_of(&held.view())?, answer);
     }
     Ok(())
 }
@@ -127,9 +128,9 @@ fn messages_of_several_segments(rt: HostRuntime) -> Result<(), Fail> {
         segments.push(words(rt.alloc(), second)?)?;
         segments.push(words(rt.alloc(), third)?)?;
         let message = WordMessage::new(segments).ok_or("no message")?;
-        assert_eq!(rt; length_of(&message)?, Ok(answer), "at {root:016x}");
+        same_of(&rt, &root, length_of(&message)?, Ok(answer));
         let held = in_one_buffer(rt.alloc(), &message)?;
-        assert_eq!(rt; length_of(&held.view())?, Ok(answer), "at {root:016x}");
+        same_of(&rt, &root, length_of(&held.view())?, Ok(answer));
     }
     Ok(())
 }
@@ -145,9 +146,9 @@ fn messages_of_many_levels(rt: HostRuntime) -> Result<(), Fail> {
         spelled.push(0)?;
         let segment = words(rt.alloc(), &spelled)?;
         let message = OneSegment::new(&segment).ok_or("no message")?;
-        assert_eq!(rt; length_of(&message)?, Ok(levels), "of {levels} levels");
+        same_of(&rt, &levels, length_of(&message)?, Ok(levels));
         let held = in_one_buffer(rt.alloc(), &message)?;
-        assert_eq!(rt; length_of(&held.view())?, Ok(levels), "of {levels} levels");
+        same_of(&rt, &levels, length_of(&held.view())?, Ok(levels));
     }
     Ok(())
 }

@@ -1,6 +1,7 @@
 //! Pointer words that are known from outside, and what they lead to.
 
 use super::held::{in_one_buffer, words};
+use crate::tests::same::{same, same_of};
 use cap_frame::{OneSegment, Segments, WordMessage};
 use cap_ptr::{Followed, Pointer, Reason, Shape, Target, follow};
 use std::process::Abort;
@@ -99,8 +100,8 @@ fn forms_of_words(rt: HostRuntime) {
     ] {
         let word = spelled.swap_bytes();
         let form = Pointer::of(word);
-        assert_eq!(rt; form, pointer);
-        assert_eq!(rt; form.word(), word);
+        same(&rt, form, pointer);
+        same(&rt, form.word(), word);
     }
 }
 
@@ -202,9 +203,9 @@ fn near_words(rt: HostRuntime) -> Result<(), Fail> {
         let mut segment = words(rt.alloc(), &[root])?;
         segment.extend_from_slice(&words(rt.alloc(), rest)?)?;
         let message = OneSegment::new(&segment).ok_or("no message")?;
-        assert_eq!(rt; at_root(&rt, &message), answer, "at {root:016x}");
+        same_of(&rt, &root, at_root(&rt, &message), answer);
         let held = in_one_buffer(rt.alloc(), &message)?;
-        assert_eq!(rt; at_root(&rt, &held.view()), answer, "at {root:016x}");
+        same_of(&rt, &root, at_root(&rt, &held.view()), answer);
     }
     Ok(())
 }
@@ -420,9 +421,9 @@ fn words_of_landing_pads(rt: HostRuntime) -> Result<(), Fail> {
         segments.push(words(rt.alloc(), pads)?)?;
         segments.push(words(rt.alloc(), content)?)?;
         let message = WordMessage::new(segments).ok_or("no message")?;
-        assert_eq!(rt; at_root(&rt, &message), answer, "at {root:016x}");
+        same_of(&rt, &root, at_root(&rt, &message), answer);
         let held = in_one_buffer(rt.alloc(), &message)?;
-        assert_eq!(rt; at_root(&rt, &held.view()), answer, "at {root:016x}");
+        same_of(&rt, &root, at_root(&rt, &held.view()), answer);
     }
     Ok(())
 }

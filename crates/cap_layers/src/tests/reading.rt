@@ -1,6 +1,7 @@
 //! A message that is read at a path.
 
 use super::held::in_one_buffer;
+use crate::tests::same::same;
 use cap_frame::{OneSegment, Segments, WordMessage};
 use cap_read::{read, read_bytes};
 use cap_vet::{Kind, Limits, Place, Reason, Step};
@@ -24,24 +25,24 @@ fn reads_struct<M: Segments>(rt: &impl Abort, message: &M) -> Result<(), Fail> {
     let Ok(reading) = read(message, limits, &[]) else {
         return Err("refused".into());
     };
-    assert_eq!(rt; (reading.report.charge, reading.report.depth), (2, 1));
+    same(rt, (reading.report.charge, reading.report.depth), (2, 1));
     let view = reading.view.ok_or("no node")?;
     let kind = Kind::Struct {
         data_words: 1,
         pointers: 0,
     };
-    assert_eq!(rt; view.kind(), kind);
+    same(rt, view.kind(), kind);
     let place = Place {
         segment: 1,
         start: 1,
         words: 1,
     };
-    assert_eq!(rt; reading.place, Some(place));
+    same(rt, reading.place, Some(place));
     let Ok(nothing) = read(message, limits, &[Step::Ptr(0)]) else {
         return Err("refused".into());
     };
     assert!(rt; nothing.view.is_none());
-    assert_eq!(rt; nothing.place, None);
+    same(rt, nothing.place, None);
     Ok(())
 }
 
@@ -58,8 +59,8 @@ fn is_past_its_limit<M: Segments>(rt: &impl Abort, message: &M) -> Result<(), Fa
     let Err(refusal) = read(message, limits, &[]) else {
         return Err("accepted".into());
     };
-    assert_eq!(rt; (refusal.segment, refusal.word), (0, 0));
-    assert_eq!(rt; refusal.reason, Reason::WordLimit);
+    same(rt, (refusal.segment, refusal.word), (0, 0));
+    same(rt, refusal.reason, Reason::WordLimit);
     Ok(())
 }
 
@@ -81,19 +82,19 @@ fn the_bytes_at_paths(rt: HostRuntime) -> Result<(), Fail> {
     let Ok(bytes) = read_bytes(&held.view(), limits, &[]) else {
         return Err("refused".into());
     };
-    assert_eq!(rt; bytes, root.as_slice());
+    same(&rt, bytes, root.as_slice());
     let Ok(bytes) = read_bytes(&held.view(), limits, below) else {
         return Err("refused".into());
     };
-    assert_eq!(rt; bytes, [42, 0, 0, 0, 0, 0, 0, 0].as_slice());
+    same(&rt, bytes, [42, 0, 0, 0, 0, 0, 0, 0].as_slice());
     let Ok(bytes) = read_bytes(&held.view(), limits, &[Step::Ptr(1)]) else {
         return Err("refused".into());
     };
-    assert_eq!(rt; bytes.len(), 0);
+    same(&rt, bytes.len(), 0);
     let low = Limits::new(2, 2).ok_or("no limits")?;
     let Err(refusal) = read_bytes(&held.view(), low, below) else {
         return Err("accepted".into());
     };
-    assert_eq!(rt; (refusal.word, refusal.reason), (2, Reason::WordLimit));
+    same(&rt, (refusal.word, refusal.reason), (2, Reason::WordLimit));
     Ok(())
 }

@@ -5,6 +5,7 @@ mod charges;
 mod nodes;
 
 use super::held::{in_one_buffer, words};
+use crate::tests::same::{same, same_of};
 use cap_frame::{OneSegment, Segments, WordMessage};
 use cap_vet::{Limits, Reason, Refusal, Report, vet};
 use std::alloc::Global;
@@ -23,7 +24,7 @@ fn verdict<M: Segments>(
 ) -> Result<Result<Report, Refusal>, Fail> {
     let answer = verdict_of(rt, message, limits);
     let held = in_one_buffer(alloc, message)?;
-    assert_eq!(rt; verdict_of(rt, &held.view(), limits), answer);
+    same(rt, verdict_of(rt, &held.view(), limits), answer);
     Ok(answer)
 }
 
@@ -35,7 +36,7 @@ fn verdict_of<M: Segments>(
 ) -> Result<Report, Refusal> {
     match vet(message, limits) {
         Ok(vetted) => {
-            assert_eq!(rt; vetted.message().count(), message.count());
+            same(rt, vetted.message().count(), message.count());
             Ok(vetted.report())
         }
         Err(refusal) => Err(refusal),
@@ -54,7 +55,7 @@ fn one_segment(
     let mut segments = Vec::new(alloc);
     segments.push(segment)?;
     let message = WordMessage::new(segments).ok_or("no message")?;
-    assert_eq!(rt; verdict_of(rt, &message, limits), answer);
+    same(rt, verdict_of(rt, &message, limits), answer);
     Ok(answer)
 }
 
@@ -375,7 +376,7 @@ fn messages_of_one_segment(rt: HostRuntime) -> Result<(), Fail> {
     ] {
         let limits = Limits::new(most_words, most_depth).ok_or("no limits")?;
         let found = one_segment(&rt, rt.alloc(), words(rt.alloc(), segment)?, limits)?;
-        assert_eq!(rt; found, answer, "of {segment:?} within {limits:?}");
+        same_of(&rt, &(&segment, &limits), found, answer);
     }
     Ok(())
 }
@@ -512,10 +513,11 @@ fn messages_of_several_segments(rt: HostRuntime) -> Result<(), Fail> {
         segments.push(words(rt.alloc(), third)?)?;
         let message = WordMessage::new(segments).ok_or("no message")?;
         let limits = Limits::new(most_words, DEPTH).ok_or("no limits")?;
-        assert_eq!(rt;
+        same_of(
+            &rt,
+            &(&root, &limits),
             verdict(&rt, rt.alloc(), &message, limits)?,
             answer,
-            "at {root:016x} within {limits:?}"
         );
     }
     Ok(())
@@ -578,7 +580,7 @@ fn the_bounds_of_limits(rt: HostRuntime) -> Result<(), Fail> {
         } else {
             None
         };
-        assert_eq!(rt; limits, wanted);
+        same(&rt, limits, wanted);
     }
     for (segment, most_words, most_depth, answer) in [
         // As deep as may be, with a pointer left at each level, and deeper by one.
@@ -634,7 +636,7 @@ fn the_bounds_of_limits(rt: HostRuntime) -> Result<(), Fail> {
     ] {
         let limits = Limits::new(most_words, most_depth).ok_or("no limits")?;
         let found = one_segment(&rt, rt.alloc(), segment, limits)?;
-        assert_eq!(rt; found, answer, "within {limits:?}");
+        same_of(&rt, &limits, found, answer);
     }
     Ok(())
 }
@@ -650,7 +652,7 @@ fn a_chain_that_doubles(rt: HostRuntime) -> Result<(), Fail> {
     ] {
         let limits = Limits::new(most_words, 22).ok_or("no limits")?;
         let found = verdict(&rt, rt.alloc(), &message, limits)?;
-        assert_eq!(rt; found, answer, "within {limits:?}");
+        same_of(&rt, &limits, found, answer);
     }
     Ok(())
 }
@@ -669,7 +671,7 @@ fn an_accepted_message_is_copied(rt: HostRuntime) -> Result<(), Fail> {
         return Err("refused".into());
     };
     let copied = vetted;
-    assert_eq!(rt; cloned(&vetted)?.report(), vetted.report());
-    assert_eq!(rt; Ok(copied.report()), accepted(0, 0, 1));
+    same(&rt, cloned(&vetted)?.report(), vetted.report());
+    same(&rt, Ok(copied.report()), accepted(0, 0, 1));
     Ok(())
 }

@@ -1,5 +1,6 @@
 //! What no contract can say: that calls succeed, and how often a device is called.
 
+use crate::tests::same::{same, same_of};
 use cap_words::{
     BufferedIn, ByteIn, ByteOut, FromRead, FromWrite, InFault, OutFault, PlainSink, PlainWords,
     SinkFault, SliceIn, SourceFault, VecOut, WordSink, WordSource, bits, bytes_of, fill,
@@ -83,13 +84,13 @@ fn expect_words<S: WordSource>(
     then: Result<Option<u64>, SourceFault>,
 ) {
     for word in words {
-        assert_eq!(rt; source.next(), Ok(Some(*word)));
+        same(rt, source.next(), Ok(Some(*word)));
     }
-    assert_eq!(rt; source.next(), end);
+    same(rt, source.next(), end);
     let position = source.position();
-    assert_eq!(rt; source.next(), then);
-    assert_eq!(rt; source.next(), then);
-    assert_eq!(rt; source.position(), position);
+    same(rt, source.next(), then);
+    same(rt, source.next(), then);
+    same(rt, source.position(), position);
 }
 
 // The sink takes the words up to one where it answers a fault, if any, and after it, or after it
@@ -99,31 +100,31 @@ fn put_words<K: WordSink>(rt: &impl Abort, sink: &mut K, words: &[u64], fault_at
     for (i, word) in words.iter().enumerate() {
         let answer = sink.put(*word);
         if fault.is_some() {
-            assert_eq!(rt; answer, Err(SinkFault::Spent));
+            same(rt, answer, Err(SinkFault::Spent));
         } else if i == fault_at {
-            assert_eq!(rt; answer, Err(SinkFault::Device));
+            same(rt, answer, Err(SinkFault::Device));
             fault = Some(i);
         } else {
-            assert_eq!(rt; answer, Ok(()));
+            same(rt, answer, Ok(()));
         }
     }
     if fault.is_none() {
-        assert_eq!(rt; sink.finish(), Ok(()));
+        same(rt, sink.finish(), Ok(()));
     }
-    assert_eq!(rt; sink.put(0), Err(SinkFault::Spent));
-    assert_eq!(rt; sink.finish(), Err(SinkFault::Spent));
+    same(rt, sink.put(0), Err(SinkFault::Spent));
+    same(rt, sink.finish(), Err(SinkFault::Spent));
 }
 
 #[test]
 fn fields_and_bytes_of_words(rt: HostRuntime) {
     let word = 0x8123_4567_89ab_cdef;
-    assert_eq!(rt; bits(word, 0, 64), 0x8123_4567_89ab_cdef);
-    assert_eq!(rt; bits(word, 64, 0), 0);
-    assert_eq!(rt; bits(word, 0, 0), 0);
-    assert_eq!(rt; bits(word, 4, 8), 0xde);
-    assert_eq!(rt; bits(word, 60, 4), 8);
-    assert_eq!(rt; bits(word, 63, 1), 1);
-    assert_eq!(rt; bits(word, 1, 63), 0x4091_a2b3_c4d5_e6f7);
+    same(&rt, bits(word, 0, 64), 0x8123_4567_89ab_cdef);
+    same(&rt, bits(word, 64, 0), 0);
+    same(&rt, bits(word, 0, 0), 0);
+    same(&rt, bits(word, 4, 8), 0xde);
+    same(&rt, bits(word, 60, 4), 8);
+    same(&rt, bits(word, 63, 1), 1);
+    same(&rt, bits(word, 1, 63), 0x4091_a2b3_c4d5_e6f7);
     for (word, want) in [
         (0x0001_0002_0000_0000, 0),
         (0xffff_ffff_ffff_fffc, -1),
@@ -131,17 +132,17 @@ fn fields_and_bytes_of_words(rt: HostRuntime) {
         (0x0000_0000_8000_0003, -536_870_912),
         (0x0000_0000_0000_0004, 1),
     ] {
-        assert_eq!(rt; signed_offset(word), want, "{word}");
+        same_of(&rt, &word, signed_offset(word), want);
     }
-    assert_eq!(rt; word_of(&[8, 7, 6, 5, 4, 3, 2, 1]), WORDS[1]);
-    assert_eq!(rt; bytes_of(WORDS[1]), [8, 7, 6, 5, 4, 3, 2, 1]);
+    same(&rt, word_of(&[8, 7, 6, 5, 4, 3, 2, 1]), WORDS[1]);
+    same(&rt, bytes_of(WORDS[1]), [8, 7, 6, 5, 4, 3, 2, 1]);
 }
 
 #[test]
 fn words_of_a_slice(rt: HostRuntime) {
     let mut whole = PlainWords::new(SliceIn::new(&TEXT[..16]));
     expect_words(&rt, &mut whole, &WORDS, Ok(None), Ok(None));
-    assert_eq!(rt; whole.position(), 16);
+    same(&rt, whole.position(), 16);
 
     let cut = Err(SourceFault::Truncated { byte: 20 });
     let mut cut_short = PlainWords::new(SliceIn::new(&TEXT));
@@ -150,10 +151,10 @@ fn words_of_a_slice(rt: HostRuntime) {
     let mut input = PlainWords::new(SliceIn::new(&TEXT)).into_inner();
     let mut buf = [9; 24];
     let filled = fill(&mut input, &mut buf);
-    assert_eq!(rt; filled.len, 20);
-    assert_eq!(rt; filled.fault, None);
-    assert_eq!(rt; &buf[..20], TEXT.as_slice());
-    assert_eq!(rt; input.read(&mut buf), Ok(0));
+    same(&rt, filled.len, 20);
+    same(&rt, filled.fault, None);
+    same(&rt, &buf[..20], TEXT.as_slice());
+    same(&rt, input.read(&mut buf), Ok(0));
 }
 
 #[test]
@@ -177,13 +178,13 @@ fn a_reader_that_fails_is_not_called_again(rt: HostRuntime) {
             };
             let mut source = PlainWords::new(FromRead::new(reader));
             expect_words(&rt, &mut source, words, Err(SourceFault::Device), spent);
-            assert_eq!(rt; source.position(), position, "{most} a call, to {fails_at}");
+            same_of(&rt, &(&most, &fails_at), source.position(), position);
 
             let mut input = source.into_inner();
-            assert_eq!(rt; input.read(&mut []), Ok(0));
-            assert_eq!(rt; input.read(&mut [0]), Err(InFault::Spent));
+            same(&rt, input.read(&mut []), Ok(0));
+            same(&rt, input.read(&mut [0]), Err(InFault::Spent));
             let reader = input.into_inner();
-            assert_eq!(rt; reader.calls, fails_at, "{most} a call");
+            same_of(&rt, &most, reader.calls, fails_at);
         }
     }
     for (most, calls) in [(1, 21), (3, 9), (7, 6)] {
@@ -197,11 +198,7 @@ fn a_reader_that_fails_is_not_called_again(rt: HostRuntime) {
         let mut source = PlainWords::new(FromRead::new(reader));
         let cut = Err(SourceFault::Truncated { byte: 20 });
         expect_words(&rt, &mut source, &WORDS, cut, spent);
-        assert_eq!(rt;
-            source.into_inner().into_inner().calls,
-            calls,
-            "{most} a call"
-        );
+        same_of(&rt, &most, source.into_inner().into_inner().calls, calls);
     }
 }
 
@@ -224,13 +221,13 @@ fn a_buffer_gives_all_that_came_before_a_fault(rt: HostRuntime) -> Result<(), Fa
         };
         let mut source = PlainWords::new(BufferedIn::new(rt.alloc(), &mut reader)?);
         expect_words(&rt, &mut source, words, Err(SourceFault::Device), spent);
-        assert_eq!(rt; source.position(), position, "{most} a call, to {fails_at}");
+        same_of(&rt, &(&most, &fails_at), source.position(), position);
 
         let mut input = source.into_inner();
-        assert_eq!(rt; input.read(&mut []), Ok(0));
-        assert_eq!(rt; input.read(&mut [0]), Err(InFault::Spent));
+        same(&rt, input.read(&mut []), Ok(0));
+        same(&rt, input.read(&mut [0]), Err(InFault::Spent));
         drop(input);
-        assert_eq!(rt; reader.calls, fails_at, "{most} a call");
+        same_of(&rt, &most, reader.calls, fails_at);
     }
     Ok(())
 }
@@ -241,48 +238,48 @@ fn a_buffer_gives_bytes_from_both_sides_of_a_refill(rt: HostRuntime) -> Result<(
     bytes.extend_from_slice(&TEXT)?;
     let mut input = BufferedIn::new(rt.alloc(), bytes.as_slice())?;
     let mut front = [9; 65529];
-    assert_eq!(rt; fill(&mut input, &mut front).len, 65529);
-    assert_eq!(rt; front[65528], 0);
+    same(&rt, fill(&mut input, &mut front).len, 65529);
+    same(&rt, front[65528], 0);
     let mut buf = [9; 24];
     let filled = fill(&mut input, &mut buf);
-    assert_eq!(rt; filled.len, 21);
-    assert_eq!(rt; filled.fault, None);
-    assert_eq!(rt; &buf[1..21], TEXT.as_slice());
-    assert_eq!(rt; input.read(&mut buf), Ok(0));
+    same(&rt, filled.len, 21);
+    same(&rt, filled.fault, None);
+    same(&rt, &buf[1..21], TEXT.as_slice());
+    same(&rt, input.read(&mut buf), Ok(0));
     Ok(())
 }
 
 // The input holds these bytes, and gives just them up.
 fn expect_held<I: ByteIn>(rt: &impl Abort, input: &mut I, bytes: &[u8]) {
-    assert_eq!(rt; input.held(), bytes);
+    same(rt, input.held(), bytes);
     input.skip(0);
-    assert_eq!(rt; input.held(), bytes);
+    same(rt, input.held(), bytes);
     input.skip(2);
-    assert_eq!(rt; input.held(), &bytes[bytes.len().min(2)..]);
+    same(rt, input.held(), &bytes[bytes.len().min(2)..]);
     input.skip(usize::MAX);
-    assert_eq!(rt; input.held(), [].as_slice());
+    same(rt, input.held(), [].as_slice());
 }
 
 #[test]
 fn bytes_at_hand(rt: HostRuntime) -> Result<(), Fail> {
     let mut slice = SliceIn::new(&TEXT);
     expect_held(&rt, &mut slice, &TEXT);
-    assert_eq!(rt; slice.read(&mut [0]), Ok(0));
+    same(&rt, slice.read(&mut [0]), Ok(0));
 
     let mut input = BufferedIn::new(rt.alloc(), TEXT.as_slice())?;
     expect_held(&rt, &mut input, &[]);
     let mut first = [0; 3];
-    assert_eq!(rt; input.read(&mut first), Ok(3));
-    assert_eq!(rt; input.held(), &TEXT[3..]);
+    same(&rt, input.read(&mut first), Ok(3));
+    same(&rt, input.held(), &TEXT[3..]);
     input.skip(9);
-    assert_eq!(rt; input.read(&mut first), Ok(3));
-    assert_eq!(rt; first, [4, 3, 2]);
+    same(&rt, input.read(&mut first), Ok(3));
+    same(&rt, first, [4, 3, 2]);
     expect_held(&rt, &mut input, &TEXT[15..]);
-    assert_eq!(rt; input.read(&mut first), Ok(0));
+    same(&rt, input.read(&mut first), Ok(0));
 
     let mut reader = FromRead::new(TEXT.as_slice());
     expect_held(&rt, &mut reader, &[]);
-    assert_eq!(rt; reader.read(&mut first), Ok(3));
+    same(&rt, reader.read(&mut first), Ok(3));
     expect_held(&rt, &mut reader, &[]);
     Ok(())
 }
@@ -314,20 +311,20 @@ fn big_reads_go_past_the_buffer(rt: HostRuntime) -> Result<(), Fail> {
     let buf = room.as_mut_slice();
     let mut input = BufferedIn::new(rt.alloc(), &mut reader)?;
     // more than the buffer holds, in one call
-    assert_eq!(rt; input.read(front(buf, 65537)), Ok(65537));
-    assert_eq!(rt; input.held(), [].as_slice());
+    same(&rt, input.read(front(buf, 65537)), Ok(65537));
+    same(&rt, input.held(), [].as_slice());
     // one byte less than it holds: that byte stays, and is all that the next read gives
-    assert_eq!(rt; input.read(front(buf, 65535)), Ok(65535));
-    assert_eq!(rt; input.held(), [7].as_slice());
-    assert_eq!(rt; input.read(buf), Ok(1));
-    assert_eq!(rt; input.read(front(buf, 65536)), Ok(65536));
-    assert_eq!(rt; input.read(front(buf, 65536)), Ok(3411));
-    assert_eq!(rt; part(buf, 3391, 20), TEXT.as_slice());
-    assert_eq!(rt; input.read(front(buf, 65536)), Err(InFault::Device));
-    assert_eq!(rt; input.read(front(buf, 65536)), Err(InFault::Spent));
-    assert_eq!(rt; input.read(front(buf, 1)), Err(InFault::Spent));
+    same(&rt, input.read(front(buf, 65535)), Ok(65535));
+    same(&rt, input.held(), [7].as_slice());
+    same(&rt, input.read(buf), Ok(1));
+    same(&rt, input.read(front(buf, 65536)), Ok(65536));
+    same(&rt, input.read(front(buf, 65536)), Ok(3411));
+    same(&rt, part(buf, 3391, 20), TEXT.as_slice());
+    same(&rt, input.read(front(buf, 65536)), Err(InFault::Device));
+    same(&rt, input.read(front(buf, 65536)), Err(InFault::Spent));
+    same(&rt, input.read(front(buf, 1)), Err(InFault::Spent));
     drop(input);
-    assert_eq!(rt; reader.calls, 5);
+    same(&rt, reader.calls, 5);
     Ok(())
 }
 
@@ -336,12 +333,8 @@ fn expect_ready<S: WordSource>(rt: &impl Abort, source: &mut S, rooms: &[(usize,
     let mut given: usize = 0;
     for (room, count) in rooms {
         let mut out = [9; 32];
-        assert_eq!(rt;
-            source.ready(front(&mut out, *room)),
-            *count,
-            "room for {room}"
-        );
-        assert_eq!(rt; part(&out, 0, *count), part(&TEXT, given, *count));
+        same_of(rt, &room, source.ready(front(&mut out, *room)), *count);
+        same(rt, part(&out, 0, *count), part(&TEXT, given, *count));
         given = given.saturating_add(*count);
     }
 }
@@ -350,13 +343,13 @@ fn expect_ready<S: WordSource>(rt: &impl Abort, source: &mut S, rooms: &[(usize,
 fn words_at_hand(rt: HostRuntime) -> Result<(), Fail> {
     let mut all = PlainWords::new(SliceIn::new(&TEXT));
     expect_ready(&rt, &mut all, &[(0, 0), (7, 0), (32, 16), (32, 0)]);
-    assert_eq!(rt; all.position(), 16);
-    assert_eq!(rt; all.next(), Err(SourceFault::Truncated { byte: 20 }));
+    same(&rt, all.position(), 16);
+    same(&rt, all.next(), Err(SourceFault::Truncated { byte: 20 }));
     expect_ready(&rt, &mut all, &[(32, 0)]);
 
     let mut each = PlainWords::new(SliceIn::new(&TEXT[..16]));
     expect_ready(&rt, &mut each, &[(15, 8), (8, 8), (32, 0)]);
-    assert_eq!(rt; each.next(), Ok(None));
+    same(&rt, each.next(), Ok(None));
     expect_ready(&rt, &mut each, &[(32, 0)]);
 
     let mut reader = SlowReader {
@@ -369,14 +362,14 @@ fn words_at_hand(rt: HostRuntime) -> Result<(), Fail> {
     let mut source = PlainWords::new(BufferedIn::new(rt.alloc(), &mut reader)?);
     // nothing was read ahead yet, and no device is called for it
     expect_ready(&rt, &mut source, &[(32, 0)]);
-    assert_eq!(rt; source.next(), Ok(Some(WORDS[0])));
+    same(&rt, source.next(), Ok(Some(WORDS[0])));
     let mut out = [9; 24];
-    assert_eq!(rt; source.ready(&mut out), 8);
-    assert_eq!(rt; &out[..8], &TEXT[8..16]);
-    assert_eq!(rt; source.ready(&mut out), 0);
-    assert_eq!(rt; source.position(), 16);
+    same(&rt, source.ready(&mut out), 8);
+    same(&rt, &out[..8], &TEXT[8..16]);
+    same(&rt, source.ready(&mut out), 0);
+    same(&rt, source.position(), 16);
     drop(source);
-    assert_eq!(rt; reader.calls, 1);
+    same(&rt, reader.calls, 1);
     Ok(())
 }
 
@@ -390,11 +383,11 @@ fn whether_bytes_are_at_hand(rt: HostRuntime) -> Result<(), Fail> {
     let mut cut = PlainWords::new(SliceIn::new(&TEXT));
     for word in WORDS {
         assert!(rt; has_more_at_hand(&cut));
-        assert_eq!(rt; cut.next(), Ok(Some(word)));
+        same(&rt, cut.next(), Ok(Some(word)));
     }
     // the bytes of a part of a word
     assert!(rt; has_more_at_hand(&cut));
-    assert_eq!(rt; cut.next(), Err(SourceFault::Truncated { byte: 20 }));
+    same(&rt, cut.next(), Err(SourceFault::Truncated { byte: 20 }));
     assert!(rt; !has_more_at_hand(&cut));
     assert!(rt; !has_more_at_hand(&PlainWords::new(SliceIn::new(&[]))));
     assert!(rt; !has_more_at_hand(&PlainWords::new(FromRead::new(TEXT.as_slice()))));
@@ -408,14 +401,14 @@ fn whether_bytes_are_at_hand(rt: HostRuntime) -> Result<(), Fail> {
     };
     let mut source = PlainWords::new(BufferedIn::new(rt.alloc(), &mut reader)?);
     assert!(rt; !has_more_at_hand(&source));
-    assert_eq!(rt; source.next(), Ok(Some(WORDS[0])));
+    same(&rt, source.next(), Ok(Some(WORDS[0])));
     assert!(rt; has_more_at_hand(&source));
-    assert_eq!(rt; source.next(), Ok(Some(WORDS[1])));
+    same(&rt, source.next(), Ok(Some(WORDS[1])));
     assert!(rt; !has_more_at_hand(&source));
-    assert_eq!(rt; source.next(), Err(SourceFault::Device));
+    same(&rt, source.next(), Err(SourceFault::Device));
     assert!(rt; !has_more_at_hand(&source));
     drop(source);
-    assert_eq!(rt; reader.calls, 2);
+    same(&rt, reader.calls, 2);
     Ok(())
 }
 
@@ -430,16 +423,16 @@ fn expect_filled<S: WordSource>(
 ) {
     let mut done: usize = 0;
     for (size, whole) in [(7, 0), (8, 8), (65536, 65536), (65536, 65536)] {
-        assert_eq!(rt; source.fill(front(room, size)), Ok(true));
-        assert_eq!(rt; part(room, 0, whole), part(bytes, done, whole));
+        same(rt, source.fill(front(room, size)), Ok(true));
+        same(rt, part(room, 0, whole), part(bytes, done, whole));
         done = done.saturating_add(whole);
-        assert_eq!(rt; source.position(), done as u64);
+        same(rt, source.position(), done as u64);
     }
-    assert_eq!(rt; source.fill(room), end);
+    same(rt, source.fill(room), end);
     let then = end.map_err(|_| SourceFault::Spent);
-    assert_eq!(rt; source.fill(room), then);
-    assert_eq!(rt; source.next(), then.map(|_| None));
-    assert_eq!(rt; source.fill(front(room, 0)), Ok(true));
+    same(rt, source.fill(room), then);
+    same(rt, source.next(), then.map(|_| None));
+    same(rt, source.fill(front(room, 0)), Ok(true));
 }
 
 #[test]
@@ -482,12 +475,12 @@ fn a_fault_inside_a_piece_is_counted(rt: HostRuntime) {
         };
         let mut source = PlainWords::new(FromRead::new(&mut reader));
         let mut room = [9; 27];
-        assert_eq!(rt; source.fill(&mut room), Err(SourceFault::Device));
-        assert_eq!(rt; source.position(), position, "{most} a call, to {fails_at}");
-        assert_eq!(rt; source.fill(&mut room), Err(SourceFault::Spent));
-        assert_eq!(rt; source.next(), Err(SourceFault::Spent));
+        same(&rt, source.fill(&mut room), Err(SourceFault::Device));
+        same_of(&rt, &(&most, &fails_at), source.position(), position);
+        same(&rt, source.fill(&mut room), Err(SourceFault::Spent));
+        same(&rt, source.next(), Err(SourceFault::Spent));
         drop(source);
-        assert_eq!(rt; reader.calls, fails_at);
+        same(&rt, reader.calls, fails_at);
     }
 }
 
@@ -512,14 +505,14 @@ fn a_writer_that_fails_is_not_called_again(rt: HostRuntime) {
             put_words(&rt, &mut sink, &WORDS, fault_at);
 
             let mut output = sink.into_inner();
-            assert_eq!(rt; output.write(&[]), Ok(0));
+            same(&rt, output.write(&[]), Ok(0));
             if fails_at > 0 {
-                assert_eq!(rt; output.write(&[0]), Err(OutFault::Spent));
+                same(&rt, output.write(&[0]), Err(OutFault::Spent));
             }
             let writer = output.into_inner();
             let calls = if fails_at > 0 { fails_at } else { 4 };
-            assert_eq!(rt; writer.calls, calls, "{most} a call");
-            assert_eq!(rt; writer.taken.as_slice(), taken, "{most} a call");
+            same_of(&rt, &most, writer.calls, calls);
+            same_of(&rt, &most, writer.taken.as_slice(), taken);
         }
     }
 }
@@ -534,21 +527,21 @@ fn a_flush_is_one_call_of_the_writer(rt: HostRuntime) -> Result<(), Fail> {
             kind: Some(kind),
             calls: 0,
         });
-        assert_eq!(rt; output.write(&TEXT), Ok(20));
-        assert_eq!(rt; output.flush(), Ok(()));
+        same(&rt, output.write(&TEXT), Ok(20));
+        same(&rt, output.flush(), Ok(()));
         assert!(rt; !output.has_failed());
-        assert_eq!(rt; output.flush(), Err(OutFault::Device));
+        same(&rt, output.flush(), Err(OutFault::Device));
         assert!(rt; output.has_failed());
-        assert_eq!(rt; output.flush(), Err(OutFault::Spent));
-        assert_eq!(rt; output.write(&TEXT), Err(OutFault::Spent));
+        same(&rt, output.flush(), Err(OutFault::Spent));
+        same(&rt, output.write(&TEXT), Err(OutFault::Spent));
         let writer = output.into_inner();
-        assert_eq!(rt; writer.calls, 3);
-        assert_eq!(rt; writer.taken.as_slice(), TEXT.as_slice());
+        same(&rt, writer.calls, 3);
+        same(&rt, writer.taken.as_slice(), TEXT.as_slice());
     }
     let mut memory = VecOut::new(rt.alloc());
-    assert_eq!(rt; memory.write(&TEXT), Ok(20));
-    assert_eq!(rt; flushed(&mut memory), Ok(()));
-    assert_eq!(rt; memory.bytes(), TEXT.as_slice());
+    same(&rt, memory.write(&TEXT), Ok(20));
+    same(&rt, flushed(&mut memory), Ok(()));
+    same(&rt, memory.bytes(), TEXT.as_slice());
     Ok(())
 }
 
@@ -573,13 +566,13 @@ fn pieces_into_memory(rt: HostRuntime) -> Result<(), Fail> {
     put_piece(&mut sink, &TEXT[..8])?;
     sink.finish()?;
     for bytes in [TEXT.as_slice(), &TEXT[..8], &TEXT[..7], &[]] {
-        assert_eq!(rt; sink.put_bytes(bytes), Err(SinkFault::Spent));
+        same(&rt, sink.put_bytes(bytes), Err(SinkFault::Spent));
     }
     let output = sink.into_inner();
-    assert_eq!(rt; output.bytes().len(), 32);
-    assert_eq!(rt; part(output.bytes(), 0, 16), &TEXT[..16]);
-    assert_eq!(rt; part(output.bytes(), 16, 8), &TEXT[..8]);
-    assert_eq!(rt; part(output.bytes(), 24, 8), &TEXT[..8]);
+    same(&rt, output.bytes().len(), 32);
+    same(&rt, part(output.bytes(), 0, 16), &TEXT[..16]);
+    same(&rt, part(output.bytes(), 16, 8), &TEXT[..8]);
+    same(&rt, part(output.bytes(), 24, 8), &TEXT[..8]);
     Ok(())
 }
 
@@ -605,15 +598,15 @@ fn a_writer_that_fails_in_a_piece(rt: HostRuntime) {
             let mut sink = PlainSink::new(FromWrite::new(writer));
             let fault = Err(SinkFault::Device);
             let answer = if fails_at > 0 { fault } else { Ok(()) };
-            assert_eq!(rt; sink.put_bytes(&TEXT), answer);
+            same(&rt, sink.put_bytes(&TEXT), answer);
             if fails_at > 0 {
-                assert_eq!(rt; sink.put_bytes(&TEXT), Err(SinkFault::Spent));
-                assert_eq!(rt; sink.put_bytes(&[]), Err(SinkFault::Spent));
-                assert_eq!(rt; sink.put(0), Err(SinkFault::Spent));
+                same(&rt, sink.put_bytes(&TEXT), Err(SinkFault::Spent));
+                same(&rt, sink.put_bytes(&[]), Err(SinkFault::Spent));
+                same(&rt, sink.put(0), Err(SinkFault::Spent));
             }
             let writer = sink.into_inner().into_inner();
-            assert_eq!(rt; writer.calls, calls, "{most} a call");
-            assert_eq!(rt; writer.taken.as_slice(), taken, "{most} a call");
+            same_of(&rt, &most, writer.calls, calls);
+            same_of(&rt, &most, writer.taken.as_slice(), taken);
         }
     }
 }
@@ -623,17 +616,17 @@ fn words_into_memory(rt: HostRuntime) -> Result<(), Fail> {
     let mut sink = PlainSink::new(VecOut::new(rt.alloc()));
     put_words(&rt, &mut sink, &WORDS, 2);
     let mut output = sink.into_inner();
-    assert_eq!(rt; output.bytes(), &TEXT[..16]);
+    same(&rt, output.bytes(), &TEXT[..16]);
 
-    assert_eq!(rt; output.write(&TEXT[16..]), Ok(4));
-    assert_eq!(rt; output.write(&[]), Ok(0));
+    same(&rt, output.write(&TEXT[16..]), Ok(4));
+    same(&rt, output.write(&[]), Ok(0));
     write_all(&mut output, &[5])?;
-    assert_eq!(rt; output.bytes().len(), 21);
-    assert_eq!(rt; &output.bytes()[16..], [0, 0, 0, 0xff, 5].as_slice());
+    same(&rt, output.bytes().len(), 21);
+    same(&rt, &output.bytes()[16..], [0, 0, 0, 0xff, 5].as_slice());
 
     let many = Vec::from_elem(rt.alloc(), 7, 300000)?;
-    assert_eq!(rt; output.write(&many), Ok(300000));
-    assert_eq!(rt; output.bytes().len(), 300021);
-    assert_eq!(rt; &output.bytes()[20..22], [5, 7].as_slice());
+    same(&rt, output.write(&many), Ok(300000));
+    same(&rt, output.bytes().len(), 300021);
+    same(&rt, &output.bytes()[20..22], [5, 7].as_slice());
     Ok(())
 }

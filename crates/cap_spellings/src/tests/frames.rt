@@ -1,5 +1,6 @@
 //! What no contract can say: that calls succeed, and values from outside.
 
+use crate::tests::same::{same, same_of};
 use cap_frame::{
     ByteMessage, FrameFault, OneSegment, Outline, Segments, SizeLimit, WordMessage, read_message,
     read_outline, write_message,
@@ -81,10 +82,10 @@ fn expect_message(
             assert!(rt; is_message(&message, segments), "the segments");
         }
         (Ok(None), Ok(None)) => {}
-        (Err(fault), Err(wanted)) => assert_eq!(rt; fault, wanted),
+        (Err(fault), Err(wanted)) => same(rt, fault, wanted),
         _ => assert!(rt; false, "another answer"),
     }
-    assert_eq!(rt; source.next(), then);
+    same(rt, source.next(), then);
     let mut source = PlainWords::new(SliceIn::new(&bytes[..cut.min(bytes.len())]));
     let mut outline = Outline::new();
     match (read_outline(&mut source, limit, &mut outline), want) {
@@ -92,10 +93,10 @@ fn expect_message(
             assert!(rt; is_outline(&outline, segments), "the outline");
         }
         (Ok(false), Ok(None)) => {}
-        (Err(fault), Err(wanted)) => assert_eq!(rt; fault, wanted),
+        (Err(fault), Err(wanted)) => same(rt, fault, wanted),
         _ => assert!(rt; false, "another answer to the outline"),
     }
-    assert_eq!(rt; source.next(), then);
+    same(rt, source.next(), then);
     let mut held = ByteMessage::blank(alloc);
     buffers::expect_same_answers(rt, alloc, &bytes[..cut.min(bytes.len())], limit, &mut held)
 }
@@ -157,14 +158,14 @@ fn many_segments_are_read_and_written(rt: HostRuntime) -> Result<(), Fail> {
     let mut source = PlainWords::new(SliceIn::new(&bytes));
     let limit = SizeLimit::new(512).ok_or("a limit")?;
     let message = read_message(alloc, &mut source, limit)?.ok_or("a message")?;
-    assert_eq!(rt; message.count(), 512);
+    same(&rt, message.count(), 512);
     for s in 0..message.count() {
-        assert_eq!(rt; message.len(s), 1);
-        assert_eq!(rt; message.word(s, 0), u64::from(s));
+        same(&rt, message.len(s), 1);
+        same(&rt, message.word(s, 0), u64::from(s));
     }
     let mut sink = PlainSink::new(VecOut::new(alloc));
     write_message(&mut sink, &message)?;
-    assert_eq!(rt; sink.into_inner().bytes(), bytes.as_slice());
+    same(&rt, sink.into_inner().bytes(), bytes.as_slice());
     Ok(())
 }
 
@@ -184,14 +185,18 @@ fn a_long_message_is_read_through_a_buffer(rt: HostRuntime) -> Result<(), Fail> 
     let limit = SizeLimit::new(40_000).ok_or("a limit")?;
     let message = read_message(alloc, &mut source, limit)?.ok_or("a message")?;
     assert!(rt; is_message(&message, &[&[7], &second]), "the segments");
-    assert_eq!(rt; source.next(), Ok(None));
-    assert_eq!(rt; source.position(), 320_016);
+    same(&rt, source.next(), Ok(None));
+    same(&rt, source.position(), 320_016);
     let mut source = PlainWords::new(BufferedIn::new(alloc, bytes.as_slice())?);
     let mut outline = Outline::new();
-    assert_eq!(rt; read_outline(&mut source, limit, &mut outline), Ok(true));
+    same(
+        &rt,
+        read_outline(&mut source, limit, &mut outline),
+        Ok(true),
+    );
     assert!(rt; is_outline(&outline, &[&[7], &second]), "the outline");
-    assert_eq!(rt; source.next(), Ok(None));
-    assert_eq!(rt; source.position(), 320_016);
+    same(&rt, source.next(), Ok(None));
+    same(&rt, source.position(), 320_016);
     Ok(())
 }
 
@@ -230,19 +235,31 @@ fn an_outline_is_filled_anew(rt: HostRuntime) -> Result<(), Fail> {
     let mut source = PlainWords::new(SliceIn::new(&bytes));
     let limit = SizeLimit::new(3).ok_or("a limit")?;
     let mut outline = Outline::new();
-    assert_eq!(rt; outline.count(), 0);
+    same(&rt, outline.count(), 0);
     for want in [first, &[&[6]], &[&[]]] {
-        assert_eq!(rt; read_outline(&mut source, limit, &mut outline), Ok(true));
+        same(
+            &rt,
+            read_outline(&mut source, limit, &mut outline),
+            Ok(true),
+        );
         assert!(rt; is_outline(&outline, want), "the outline");
     }
-    assert_eq!(rt; read_outline(&mut source, limit, &mut outline), Ok(false));
+    same(
+        &rt,
+        read_outline(&mut source, limit, &mut outline),
+        Ok(false),
+    );
     assert!(rt; is_outline(&outline, &[]), "after the end of the stream");
     // A message that is cut short leaves nothing of it, nor of the one before.
     let behind = plain(alloc, &words[5..])?;
     let mut source = PlainWords::new(SliceIn::new(&behind[..20.min(behind.len())]));
-    assert_eq!(rt; read_outline(&mut source, limit, &mut outline), Ok(true));
+    same(
+        &rt,
+        read_outline(&mut source, limit, &mut outline),
+        Ok(true),
+    );
     let cut = Err(FrameFault::Truncated { byte: 20 });
-    assert_eq!(rt; read_outline(&mut source, limit, &mut outline), cut);
+    same(&rt, read_outline(&mut source, limit, &mut outline), cut);
     assert!(rt; is_outline(&outline, &[]), "after a fault");
     Ok(())
 }
@@ -280,27 +297,27 @@ fn messages_are_written(rt: HostRuntime) -> Result<(), Fail> {
         pair(0, 1),
         4,
     ];
-    assert_eq!(rt; sink.into_inner().bytes(), plain(alloc, &want)?.as_slice());
+    same(
+        &rt,
+        sink.into_inner().bytes(),
+        plain(alloc, &want)?.as_slice(),
+    );
     Ok(())
 }
 
 #[test]
 fn sizes_are_bounded(rt: HostRuntime) -> Result<(), Fail> {
     let alloc = rt.alloc();
-    assert_eq!(rt; SizeLimit::new(268_435_457), None);
+    same(&rt, SizeLimit::new(268_435_457), None);
     let most = SizeLimit::new(268_435_456).ok_or("a limit")?;
-    assert_eq!(rt; most.words(), 268_435_456);
+    same(&rt, most.words(), 268_435_456);
     assert!(rt; WordMessage::new(Vec::new(alloc)).is_none(), "no segment");
     for (count, is_some) in [(1u32, true), (512, true), (513, false)] {
         let mut segments = Vec::new(alloc);
         for _ in 0..count {
             segments.push(Vec::new(alloc))?;
         }
-        assert_eq!(rt;
-            WordMessage::new(segments).is_some(),
-            is_some,
-            "{count} segments"
-        );
+        same_of(&rt, &count, WordMessage::new(segments).is_some(), is_some);
     }
     assert!(rt;
         is_message(&OneSegment::new(&[1, 2]).ok_or("a message")?, &[&[1, 2]]),

@@ -1,5 +1,6 @@
 //! Lanes against plain computations: samples, every length up to 40, and every tag.
 
+use crate::tests::same::{same, same_of};
 use cap_pack::lanes::*;
 
 const FULL: u64 = 0x8a8a_8a8a_8a8a_8a8a;
@@ -75,13 +76,14 @@ fn run_of(kinds: &[u64; 3], run: usize, end: u64) -> [u64; LENGTHS] {
 fn samples(rt: HostRuntime) {
     let mut out = [9; 4];
     tags(&[0, 7, 0x0101_0101_0101_0101, 0x2a00], &mut out);
-    assert_eq!(rt; out, [0, 1, 0xff, 2]);
+    same(&rt, out, [0, 1, 0xff, 2]);
     let mut bytes = [9; 8];
-    assert_eq!(rt; gather(0x0000_0100_0100_0000, &mut bytes), 2);
-    assert_eq!(rt; bytes, [1, 1, 0, 0, 0, 0, 0, 0]);
-    assert_eq!(rt;
+    same(&rt, gather(0x0000_0100_0100_0000, &mut bytes), 2);
+    same(&rt, bytes, [1, 1, 0, 0, 0, 0, 0, 0]);
+    same(
+        &rt,
         scatter(0x28, &[1, 1, 9, 9, 9, 9, 9, 9]),
-        0x0000_0100_0100_0000
+        0x0000_0100_0100_0000,
     );
 }
 
@@ -97,7 +99,7 @@ fn tags_of_every_length(rt: HostRuntime) {
             tags(&words[..length], &mut out[..length]);
             for (i, (word, tag)) in words.iter().zip(out).enumerate() {
                 let expected = if i < length { plain_tag(*word) } else { 9 };
-                assert_eq!(rt; tag, expected, "{i} of {length}, from {from}");
+                same_of(&rt, &(&i, &length, &from), tag, expected);
             }
         }
     }
@@ -127,10 +129,10 @@ fn runs_of_every_length(rt: HostRuntime) {
                 let expected = run.min(length);
                 let words = &words[..length];
                 if zeros {
-                    assert_eq!(rt; zero_run(words), expected, "{run} of {length}");
+                    same_of(&rt, &(&run, &length), zero_run(words), expected);
                 }
                 if fulls {
-                    assert_eq!(rt; full_run(words), expected, "{run} of {length}");
+                    same_of(&rt, &(&run, &length), full_run(words), expected);
                 }
             }
         }
@@ -142,11 +144,11 @@ fn bytes_of_every_tag(rt: HostRuntime) {
     let bytes = [0x81, 2, 0x83, 4, 0x85, 6, 0x87, 8];
     for tag in 0..=u8::MAX {
         let word = scatter(tag, &bytes);
-        assert_eq!(rt; word, plain_scatter(tag, &bytes), "tag {tag}");
+        same_of(&rt, &tag, word, plain_scatter(tag, &bytes));
         let mut out = [9; 8];
         let count = gather(word, &mut out);
-        assert_eq!(rt; (out, count), plain_gather(word), "tag {tag}");
-        assert_eq!(rt; count, tag.count_ones() as usize);
-        assert_eq!(rt; scatter(tag, &out), word);
+        same_of(&rt, &tag, (out, count), plain_gather(word));
+        same(&rt, count, tag.count_ones() as usize);
+        same(&rt, scatter(tag, &out), word);
     }
 }

@@ -1,5 +1,6 @@
 ghost use Rattle.std.specs.Prelude.{None};
 
+use crate::tests::same::same;
 use cap_pack::{Packer, Unpacker};
 use cap_words::{
     ByteOut, FromWrite, OutFault, SinkFault, SliceIn, VecOut, WordSink, WordSource, bytes_of,
@@ -68,8 +69,8 @@ fn pack_pieces<R: AllocGlobal + Abort>(
         sink.put_all(piece)?;
     }
     sink.finish()?;
-    assert_eq!(rt; sink.put_all(&[]), Err(SinkFault::Spent));
-    assert_eq!(rt; sink.into_inner().bytes(), packed);
+    same(rt, sink.put_all(&[]), Err(SinkFault::Spent));
+    same(rt, sink.into_inner().bytes(), packed);
     Ok(())
 }
 
@@ -80,23 +81,23 @@ fn check<R: AllocGlobal + Abort>(rt: &R, words: &[u64], packed: &[u8]) -> Result
     let mut pieces = Packer::new(VecOut::new(rt.alloc()));
     put_pieces(&mut pieces, &bytes_from(rt.alloc(), words)?)?;
     pieces.finish()?;
-    assert_eq!(rt; pieces.put_bytes(&[]), Err(SinkFault::Spent));
-    assert_eq!(rt; pieces.into_inner().bytes(), packed);
+    same(rt, pieces.put_bytes(&[]), Err(SinkFault::Spent));
+    same(rt, pieces.into_inner().bytes(), packed);
     let mut sink = Packer::new(VecOut::new(rt.alloc()));
     put_all(&mut sink, words)?;
-    assert_eq!(rt; sink.put(0), Err(SinkFault::Spent));
-    assert_eq!(rt; sink.into_inner().bytes(), packed);
+    same(rt, sink.put(0), Err(SinkFault::Spent));
+    same(rt, sink.into_inner().bytes(), packed);
     let mut slow = Packer::new(OneByte {
         taken: VecOut::new(rt.alloc()),
     });
     put_all(&mut slow, words)?;
-    assert_eq!(rt; slow.into_inner().taken.bytes(), packed);
+    same(rt, slow.into_inner().taken.bytes(), packed);
     let mut source = Unpacker::new(SliceIn::new(packed));
     for word in words {
-        assert_eq!(rt; source.next(), Ok(Some(*word)));
+        same(rt, source.next(), Ok(Some(*word)));
     }
-    assert_eq!(rt; source.next(), Ok(None));
-    assert_eq!(rt; source.position(), packed.len() as u64);
+    same(rt, source.next(), Ok(None));
+    same(rt, source.position(), packed.len() as u64);
     Ok(())
 }
 
@@ -337,18 +338,20 @@ fn check_piece_fault<R: AllocGlobal + Abort>(
 ) -> Result<(), Fail> {
     let mut sink = Packer::new(failing(rt.alloc(), most, fails_at));
     let fault = Err(SinkFault::Device);
-    assert_eq!(rt;
+    same(
+        rt,
         sink.put_bytes(&bytes_from(rt.alloc(), &WORDS)?),
-        if is_put { Ok(()) } else { fault }
+        if is_put { Ok(()) } else { fault },
     );
-    assert_eq!(rt;
+    same(
+        rt,
         sink.finish(),
-        if is_put { fault } else { Err(SinkFault::Spent) }
+        if is_put { fault } else { Err(SinkFault::Spent) },
     );
-    assert_eq!(rt; sink.put_all(&[]), Err(SinkFault::Spent));
+    same(rt, sink.put_all(&[]), Err(SinkFault::Spent));
     let writer = sink.into_inner().into_inner();
-    assert_eq!(rt; writer.calls, fails_at);
-    assert_eq!(rt; writer.taken.as_slice(), taken);
+    same(rt, writer.calls, fails_at);
+    same(rt, writer.taken.as_slice(), taken);
     Ok(())
 }
 
@@ -383,16 +386,16 @@ fn check_fault<R: AllocGlobal + Abort>(
 ) -> Result<(), Fail> {
     let mut sink = Packer::new(failing(rt.alloc(), most, fails_at));
     for (i, word) in WORDS.iter().enumerate() {
-        assert_eq!(rt; sink.put(*word), answer(i, call));
+        same(rt, sink.put(*word), answer(i, call));
     }
-    assert_eq!(rt; sink.finish(), answer(WORDS.len(), call));
-    assert_eq!(rt; sink.put(0), Err(SinkFault::Spent));
-    assert_eq!(rt; sink.finish(), Err(SinkFault::Spent));
+    same(rt, sink.finish(), answer(WORDS.len(), call));
+    same(rt, sink.put(0), Err(SinkFault::Spent));
+    same(rt, sink.finish(), Err(SinkFault::Spent));
     let writer = sink.into_inner().into_inner();
     if fails_at > 0 {
-        assert_eq!(rt; writer.calls, fails_at);
+        same(rt, writer.calls, fails_at);
     }
-    assert_eq!(rt; writer.taken.as_slice(), taken);
+    same(rt, writer.taken.as_slice(), taken);
     Ok(())
 }
 

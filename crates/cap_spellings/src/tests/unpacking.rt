@@ -1,5 +1,6 @@
 //! Words of packed texts: worked samples, however few bytes a read gives.
 
+use crate::tests::same::same;
 use cap_pack::Unpacker;
 use cap_words::{ByteIn, FromRead, SliceIn, SourceFault, WordSource};
 use std::alloc::{AllocError, Global};
@@ -50,7 +51,7 @@ impl Read for ByteReader<'_> {
 // The source gives these words and then ends, inside a group where a position is given.
 fn expect<S: WordSource>(rt: &impl Abort, source: &mut S, words: &[u64], cut: Option<u64>) {
     for word in words {
-        assert_eq!(rt; source.next(), Ok(Some(*word)));
+        same(rt, source.next(), Ok(Some(*word)));
     }
     let (end, then) = match cut {
         Some(byte) => (
@@ -59,9 +60,9 @@ fn expect<S: WordSource>(rt: &impl Abort, source: &mut S, words: &[u64], cut: Op
         ),
         None => (Ok(None), Ok(None)),
     };
-    assert_eq!(rt; source.next(), end);
-    assert_eq!(rt; source.next(), then);
-    assert_eq!(rt; source.next(), then);
+    same(rt, source.next(), end);
+    same(rt, source.next(), then);
+    same(rt, source.next(), then);
 }
 
 // The same whether a read gives all that there is room for or one byte.
@@ -152,7 +153,7 @@ fn samples(rt: HostRuntime) {
 #[test]
 fn long_runs_of_words_as_they_are(rt: HostRuntime) -> Result<(), Fail> {
     let (mut text, mut words) = plain_run(rt.alloc(), 255)?;
-    assert_eq!(rt; words.len(), 256);
+    same(&rt, words.len(), 256);
     expect_each_way(&rt, &text, &words, None);
     let (more_text, more_words) = plain_run(rt.alloc(), 0)?;
     text.extend_from_slice(&more_text)?;
@@ -186,19 +187,19 @@ fn cut_at_every_byte(rt: HostRuntime) -> Result<(), Fail> {
 fn positions_and_the_input_after_a_word(rt: HostRuntime) {
     let mut source = Unpacker::new(SliceIn::new(&GROUPS));
     for (word, position) in GIVEN {
-        assert_eq!(rt; source.next(), Ok(Some(word)));
-        assert_eq!(rt; source.position(), position);
+        same(&rt, source.next(), Ok(Some(word)));
+        same(&rt, source.position(), position);
     }
-    assert_eq!(rt; source.next(), Ok(None));
-    assert_eq!(rt; source.position(), 24);
+    same(&rt, source.next(), Ok(None));
+    same(&rt, source.position(), 24);
 
     let mut source = Unpacker::new(SliceIn::new(&GROUPS));
-    assert_eq!(rt; source.next(), Ok(Some(0x1_0000_0000)));
-    assert_eq!(rt; source.next(), Ok(Some(0)));
+    same(&rt, source.next(), Ok(Some(0x1_0000_0000)));
+    same(&rt, source.next(), Ok(Some(0)));
     let mut input = source.into_inner();
     let mut rest = [0; 32];
-    assert_eq!(rt; input.read(&mut rest), Ok(20));
-    assert_eq!(rt; &rest[..20], &GROUPS[4..]);
+    same(&rt, input.read(&mut rest), Ok(20));
+    same(&rt, &rest[..20], &GROUPS[4..]);
 }
 
 #[test]
@@ -217,12 +218,12 @@ fn a_device_that_fails(rt: HostRuntime) {
         };
         let mut source = Unpacker::new(FromRead::new(reader));
         for (word, _) in &GIVEN[..given] {
-            assert_eq!(rt; source.next(), Ok(Some(*word)));
+            same(&rt, source.next(), Ok(Some(*word)));
         }
-        assert_eq!(rt; source.next(), Err(SourceFault::Device));
-        assert_eq!(rt; source.position(), position);
-        assert_eq!(rt; source.next(), Err(SourceFault::Spent));
-        assert_eq!(rt; source.position(), position);
+        same(&rt, source.next(), Err(SourceFault::Device));
+        same(&rt, source.position(), position);
+        same(&rt, source.next(), Err(SourceFault::Spent));
+        same(&rt, source.position(), position);
     }
 }
 
@@ -231,16 +232,16 @@ fn a_device_that_fails(rt: HostRuntime) {
 fn whether_bytes_are_at_hand(rt: HostRuntime) {
     let mut source = Unpacker::new(SliceIn::new(&[0x10, 1, 0, 1, 0x10]));
     for (word, more) in [(1 << 32, true), (0, true), (0, true)] {
-        assert_eq!(rt; source.next(), Ok(Some(word)));
-        assert_eq!(rt; source.is_at_hand(), more);
+        same(&rt, source.next(), Ok(Some(word)));
+        same(&rt, source.is_at_hand(), more);
     }
-    assert_eq!(rt; source.next(), Err(SourceFault::Truncated { byte: 5 }));
+    same(&rt, source.next(), Err(SourceFault::Truncated { byte: 5 }));
     assert!(rt; !source.is_at_hand());
     let mut run = Unpacker::new(SliceIn::new(&[0, 1]));
     assert!(rt; run.is_at_hand());
-    assert_eq!(rt; run.next(), Ok(Some(0)));
+    same(&rt, run.next(), Ok(Some(0)));
     assert!(rt; !run.is_at_hand());
-    assert_eq!(rt; run.next(), Ok(Some(0)));
-    assert_eq!(rt; run.next(), Ok(None));
+    same(&rt, run.next(), Ok(Some(0)));
+    same(&rt, run.next(), Ok(None));
     assert!(rt; !run.is_at_hand());
 }

@@ -1,5 +1,6 @@
 //! Words that are given many at once, against a plain unpacker that reads a byte at a time.
 
+use crate::tests::same::same;
 use cap_pack::{Packer, Unpacker};
 use cap_words::{
     BufferedIn, FromRead, SliceIn, SourceFault, VecOut, WordSink, WordSource, bytes_of,
@@ -122,10 +123,10 @@ fn expect<S: WordSource>(
     let mut room = [0; 4800];
     for piece in bytes.chunks(words.clamp(1, 600) * 8) {
         let room = front(&mut room, piece.len());
-        assert_eq!(rt; source.fill(room), Ok(true));
+        same(rt, source.fill(room), Ok(true));
         assert!(rt; &*room == piece);
     }
-    assert_eq!(rt; source.fill(front(&mut room, 8)), end);
+    same(rt, source.fill(front(&mut room, 8)), end);
 }
 
 #[test]
@@ -271,26 +272,26 @@ fn gives_all_words_that_fit(rt: HostRuntime) -> Result<(), Fail> {
     text.extend_from_slice(packed(rt.alloc(), &list(rt.alloc(), 3, 40)?)?.bytes())?;
     text.extend_from_slice(&TAIL)?;
     let (bytes, _) = plain(rt.alloc(), &text)?;
-    assert_eq!(rt; bytes.len(), 8 * 42);
+    same(&rt, bytes.len(), 8 * 42);
     let mut room = [0; 360];
     for len in 0..=360 {
         let mut source = Unpacker::new(SliceIn::new(&text));
         let count = source.ready(front(&mut room, len));
-        assert_eq!(rt; count, len.min(8 * 41) / 8 * 8);
+        same(&rt, count, len.min(8 * 41) / 8 * 8);
         assert!(rt; room.get(..count) == bytes.get(..count));
         if len == 360 {
-            assert_eq!(rt; source.position(), text.len() as u64 - 5);
-            assert_eq!(rt; source.next(), Ok(Some(0x0807_0605_0000_0000)));
-            assert_eq!(rt; source.ready(&mut room), 0);
+            same(&rt, source.position(), text.len() as u64 - 5);
+            same(&rt, source.next(), Ok(Some(0x0807_0605_0000_0000)));
+            same(&rt, source.ready(&mut room), 0);
         }
     }
     // a reader is never called
     let mut source = Unpacker::new(FromRead::new(text.as_slice()));
-    assert_eq!(rt; source.ready(&mut room), 0);
+    same(&rt, source.ready(&mut room), 0);
     let mut source = Unpacker::new(BufferedIn::new(rt.alloc(), text.as_slice())?);
-    assert_eq!(rt; source.ready(&mut room), 0);
-    assert_eq!(rt; source.next(), Ok(Some(0)));
-    assert_eq!(rt; source.ready(&mut room), 8 * 40);
+    same(&rt, source.ready(&mut room), 0);
+    same(&rt, source.next(), Ok(Some(0)));
+    same(&rt, source.ready(&mut room), 8 * 40);
     Ok(())
 }
 
@@ -306,19 +307,19 @@ fn appends_the_rest_of_a_run(rt: HostRuntime) -> Result<(), Fail> {
         let mut out = Vec::with_capacity(rt.alloc(), room)?;
         let most_of_all = out.capacity();
         let mut source = Unpacker::new(SliceIn::new(text.bytes()));
-        assert_eq!(rt; source.append(&mut out, 400), 0);
-        assert_eq!(rt; source.next(), Ok(Some(FULL)));
+        same(&rt, source.append(&mut out, 400), 0);
+        same(&rt, source.next(), Ok(Some(FULL)));
         for most in [0, 7, 8, 23, 64, 400, 400] {
             let left = most_of_all.min(8 * 40).saturating_sub(out.len());
-            assert_eq!(rt; source.append(&mut out, most), most.min(left) / 8 * 8);
-            assert_eq!(rt; source.position(), out.len() as u64 + 10);
+            same(&rt, source.append(&mut out, most), most.min(left) / 8 * 8);
+            same(&rt, source.position(), out.len() as u64 + 10);
         }
-        assert_eq!(rt; out.capacity(), most_of_all);
+        same(&rt, out.capacity(), most_of_all);
         assert!(rt; bytes.get(8..8 + out.len()) == Some(out.as_slice()));
         if room >= 8 * 40 {
-            assert_eq!(rt; source.next(), Ok(Some(0)));
-            assert_eq!(rt; source.append(&mut out, 400), 0);
-            assert_eq!(rt; source.next(), Ok(Some(0)));
+            same(&rt, source.next(), Ok(Some(0)));
+            same(&rt, source.append(&mut out, 400), 0);
+            same(&rt, source.next(), Ok(Some(0)));
         }
     }
     Ok(())
@@ -345,10 +346,10 @@ fn appends_by_reads_of_many_sizes(rt: HostRuntime) -> Result<(), Fail> {
             out.extend_from_slice(&bytes_of(word))?;
             appended = appended.saturating_add(source.append(&mut out, bytes.len()));
         }
-        assert_eq!(rt; source.next(), Ok(None));
+        same(&rt, source.next(), Ok(None));
         assert!(rt; out.as_slice() == bytes.as_slice());
-        assert_eq!(rt; source.position(), text.bytes().len() as u64);
-        assert_eq!(rt; appended > 0, most > 8);
+        same(&rt, source.position(), text.bytes().len() as u64);
+        same(&rt, appended > 0, most > 8);
     }
     Ok(())
 }

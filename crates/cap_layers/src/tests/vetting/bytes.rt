@@ -1,6 +1,7 @@
 //! The bytes of places, of messages that are known from outside.
 
 use crate::tests::held::{in_one_buffer, words};
+use crate::tests::same::same_of;
 use cap_frame::{OneSegment, Segments, WordMessage};
 use cap_vet::{Limits, Step, vet};
 use std::alloc::Global;
@@ -26,7 +27,7 @@ fn has_bytes<M: Segments>(
             wanted.extend_from_slice(&word.to_be_bytes())?;
         }
         let node = vetted.get(path).ok_or("no node")?;
-        assert_eq!(rt; node.view().bytes(), wanted.as_slice(), "at {path:?}");
+        same_of(rt, &path, node.view().bytes(), wanted.as_slice());
     }
     Ok(())
 }

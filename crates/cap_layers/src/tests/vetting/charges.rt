@@ -2,6 +2,7 @@
 //! from outside.
 
 use crate::tests::held::{in_one_buffer, words};
+use crate::tests::same::{same, same_of};
 use cap_frame::{OneSegment, Segments, WordMessage};
 use cap_vet::{Budget, Kind, Place, Reason, Refusal, Step, View, get_charged};
 use std::alloc::Global;
@@ -63,28 +64,32 @@ fn a_cycle_is_charged_step_by_step(rt: HostRuntime) -> Result<(), Fail> {
 fn steps_of_a_cycle<M: Segments>(rt: &impl Abort, alloc: Global, itself: &M) -> Result<(), Fail> {
     let p0 = Step::Ptr(0);
     let path = &[p0, p0, p0];
-    assert_eq!(rt; charged(itself, 10, 64, path), (a_struct(0, 1, 0), 6));
-    assert_eq!(rt; charged(itself, 4, 4, path), (a_struct(0, 1, 0), 0));
-    assert_eq!(rt;
+    same(rt, charged(itself, 10, 64, path), (a_struct(0, 1, 0), 6));
+    same(rt, charged(itself, 4, 4, path), (a_struct(0, 1, 0), 0));
+    same(
+        rt,
         charged(itself, 3, 64, path),
-        (refused(Reason::WordLimit, 4), 3)
+        (refused(Reason::WordLimit, 4), 3),
     );
-    assert_eq!(rt;
+    same(
+        rt,
         charged(itself, 10, 3, path),
-        (refused(Reason::DepthLimit, 4), 10)
+        (refused(Reason::DepthLimit, 4), 10),
     );
     // Both limits are passed at the fourth pointer.
-    assert_eq!(rt;
+    same(
+        rt,
         charged(itself, 3, 3, path),
-        (refused(Reason::DepthLimit, 4), 3)
+        (refused(Reason::DepthLimit, 4), 3),
     );
     let mut long: Vec<Step> = Vec::new(alloc);
     for _ in 0..1000 {
         long.push(p0)?;
     }
-    assert_eq!(rt;
+    same(
+        rt,
         charged(itself, u64::MAX, u32::MAX, &long),
-        (a_struct(0, 1, 0), u64::MAX - 1001)
+        (a_struct(0, 1, 0), u64::MAX - 1001),
     );
     Ok(())
 }
@@ -119,18 +124,23 @@ fn pointers_up_to_a_step_that_leads_nowhere_are_charged(rt: HostRuntime) -> Resu
 }
 
 fn past_the_pointers<M: Segments>(rt: &impl Abort, shared: &M) {
-    assert_eq!(rt; charged(shared, 4, 64, &[Step::Ptr(5)]), (Ok(None), 2));
+    same(rt, charged(shared, 4, 64, &[Step::Ptr(5)]), (Ok(None), 2));
 }
 
 fn past_the_elements<M: Segments>(rt: &impl Abort, elements: &M) -> Result<(), Fail> {
-    assert_eq!(rt;
+    same(
+        rt,
         charged(elements, 4, 64, &[Step::Item(1)]),
-        (a_struct(1, 0, 3), 0)
+        (a_struct(1, 0, 3), 0),
     );
-    assert_eq!(rt; charged(elements, 4, 64, &[Step::Item(2)]), (Ok(None), 0));
+    same(
+        rt,
+        charged(elements, 4, 64, &[Step::Item(2)]),
+        (Ok(None), 0),
+    );
     let mut budget = Budget::new(4);
     match get_charged(elements, &mut budget, 64, &[Step::Item(1)]) {
-        Ok(Some(view)) => assert_eq!(rt; view.data_word(0), Some(0)),
+        Ok(Some(view)) => same(rt, view.data_word(0), Some(0)),
         _ => return Err("no element".into()),
     }
     Ok(())
@@ -160,33 +170,36 @@ fn structs_of_a_list_stand_a_level_below_it(rt: HostRuntime) -> Result<(), Fail>
 
 fn levels_below_a_list<M: Segments>(rt: &impl Abort, below: &M) {
     let path = &[Step::Item(0), Step::Ptr(0)];
-    assert_eq!(rt; charged(below, 9, 3, path), (a_struct(1, 0, 3), 6));
+    same(rt, charged(below, 9, 3, path), (a_struct(1, 0, 3), 6));
     let past = Refusal {
         segment: 0,
         word: 2,
         reason: Reason::DepthLimit,
         pointers: 2,
     };
-    assert_eq!(rt; charged(below, 9, 2, path), (Err(past), 9));
-    assert_eq!(rt;
+    same(rt, charged(below, 9, 2, path), (Err(past), 9));
+    same(
+        rt,
         charged(below, 9, 2, &[Step::Item(0)]),
-        (a_struct(0, 1, 2), 7)
+        (a_struct(0, 1, 2), 7),
     );
     // The list alone is past the limit, since its struct is, whether or not a step leads to it.
     for path in [&[][..], &[Step::Item(0)][..], &[Step::Item(1)][..]] {
-        assert_eq!(rt;
+        same(
+            rt,
             charged(below, 9, 1, path),
-            (refused(Reason::DepthLimit, 1), 9)
+            (refused(Reason::DepthLimit, 1), 9),
         );
     }
 }
 
 // A list without structs takes no level below its own.
 fn level_without_structs<M: Segments>(rt: &impl Abort, none: &M) {
-    assert_eq!(rt; charged(none, 9, 1, &[Step::Item(0)]), (Ok(None), 8));
-    assert_eq!(rt;
+    same(rt, charged(none, 9, 1, &[Step::Item(0)]), (Ok(None), 8));
+    same(
+        rt,
         charged(none, 9, 0, &[Step::Item(0)]),
-        (refused(Reason::DepthLimit, 1), 9)
+        (refused(Reason::DepthLimit, 1), 9),
     );
 }
 
@@ -199,8 +212,8 @@ fn a_message_without_a_root_is_refused_on_each_path(rt: HostRuntime) -> Result<(
     let held = in_one_buffer(rt.alloc(), &rootless)?;
     let answer = (refused(Reason::NoRoot, 0), 9);
     for path in [&[][..], &[Step::Ptr(0)]] {
-        assert_eq!(rt; charged(&rootless, 9, 64, path), answer);
-        assert_eq!(rt; charged(&held.view(), 9, 64, path), answer);
+        same(&rt, charged(&rootless, 9, 64, path), answer);
+        same(&rt, charged(&held.view(), 9, 64, path), answer);
     }
     Ok(())
 }
@@ -238,23 +251,19 @@ fn shows_values<M: Segments>(
 ) {
     let mut i: u32 = 0;
     for element in elements {
-        assert_eq!(rt;
-            view.scalar(i),
-            Some(*element),
-            "element {i} of {spelled:?}"
-        );
+        same_of(rt, &(&i, &spelled), view.scalar(i), Some(*element));
         i = i.saturating_add(1);
     }
-    assert_eq!(rt; view.scalar(i), None, "past the elements of {spelled:?}");
-    assert_eq!(rt; view.count(), Some(i));
+    same_of(rt, &spelled, view.scalar(i), None);
+    same(rt, view.count(), Some(i));
     let mut i: u32 = 0;
     for word in list_words {
-        assert_eq!(rt; view.data_word(i), Some(*word), "word {i} of {spelled:?}");
+        same_of(rt, &(&i, &spelled), view.data_word(i), Some(*word));
         i = i.saturating_add(1);
     }
-    assert_eq!(rt; view.data_word(i), None, "past the words of {spelled:?}");
-    assert_eq!(rt; view.byte(0), None);
-    assert_eq!(rt; view.bit(0), None);
+    same_of(rt, &spelled, view.data_word(i), None);
+    same(rt, view.byte(0), None);
+    same(rt, view.bit(0), None);
 }
 
 #[test]
@@ -310,20 +319,23 @@ fn the_data_of_a_struct(rt: HostRuntime) -> Result<(), Fail> {
 }
 
 fn shows_data<M: Segments>(rt: &impl Abort, view: View<'_, M>) {
-    assert_eq!(rt; view.data_word(0), Some(0x0807060504030201));
-    assert_eq!(rt; view.data_word(1), Some(0x8000000000000000));
-    assert_eq!(rt; view.data_word(2), None);
-    assert_eq!(rt;
+    same(rt, view.data_word(0), Some(0x0807060504030201));
+    same(rt, view.data_word(1), Some(0x8000000000000000));
+    same(rt, view.data_word(2), None);
+    same(
+        rt,
         (view.byte(0), view.byte(7), view.byte(15), view.byte(16)),
-        (Some(1), Some(8), Some(128), None)
+        (Some(1), Some(8), Some(128), None),
     );
-    assert_eq!(rt;
+    same(
+        rt,
         (view.bit(0), view.bit(1), view.bit(8), view.bit(9)),
-        (Some(true), Some(false), Some(false), Some(true))
+        (Some(true), Some(false), Some(false), Some(true)),
     );
-    assert_eq!(rt;
+    same(
+        rt,
         (view.bit(126), view.bit(127), view.bit(128)),
-        (Some(false), Some(true), None)
+        (Some(false), Some(true), None),
     );
-    assert_eq!(rt; (view.scalar(0), view.count()), (None, None));
+    same(rt, (view.scalar(0), view.count()), (None, None));
 }

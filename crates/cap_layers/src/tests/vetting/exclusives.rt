@@ -2,6 +2,7 @@
 
 use super::{DEPTH, WORDS};
 use crate::tests::held::{in_one_buffer, words};
+use crate::tests::same::{same, same_of};
 use cap_frame::{OneSegment, Segments, WordMessage};
 use cap_vet::{
     ExclusiveFault, ExclusiveRefusal, Limits, Reason, Refusal, Report, marks_for, vet,
@@ -24,8 +25,12 @@ fn overlap_as_held<M: Segments>(
     };
     match vet_exclusive(alloc, message, limits) {
         Ok(exclusive) => {
-            assert_eq!(rt; exclusive.into_vetted().report(), vetted.report());
-            assert_eq!(rt; exclusive.into_vetted().message().count(), message.count());
+            same(rt, exclusive.into_vetted().report(), vetted.report());
+            same(
+                rt,
+                exclusive.into_vetted().message().count(),
+                message.count(),
+            );
             Ok(None)
         }
         Err(
@@ -54,28 +59,29 @@ fn overlap_in_room<M: Segments>(
     else {
         return Err("accepted without room".into());
     };
-    assert_eq!(rt; report, vetted.report());
+    same(rt, report, vetted.report());
     let mut marks = Vec::from_elem(alloc, u64::MAX, needed)?;
     marks.push(u64::MAX)?;
     marks.push(u64::MAX)?;
     let Err(fault) = vet_exclusive_in(message, limits, &mut marks[..needed - 1]) else {
         return Err("accepted without room".into());
     };
-    assert_eq!(rt; fault, ExclusiveFault::NoRoom { needed, report });
+    same(rt, fault, ExclusiveFault::NoRoom { needed, report });
     for number in &marks {
-        assert_eq!(rt; *number, u64::MAX);
+        same(rt, *number, u64::MAX);
     }
     let found = marked(rt, vetted.report(), message, &mut marks[..needed])?;
     for number in &marks[needed..] {
-        assert_eq!(rt; *number, u64::MAX);
+        same(rt, *number, u64::MAX);
     }
     marks.as_mut_slice().fill(u64::MAX);
-    assert_eq!(rt;
+    same(
+        rt,
         marked(rt, vetted.report(), message, marks.as_mut_slice())?,
-        found
+        found,
     );
     for number in &marks[needed..] {
-        assert_eq!(rt; *number, u64::MAX);
+        same(rt, *number, u64::MAX);
     }
     Ok(found)
 }
@@ -90,7 +96,7 @@ fn marked<M: Segments>(
     let limits = Limits::new(WORDS, DEPTH).ok_or("no limits")?;
     match vet_exclusive_in(message, limits, marks) {
         Ok(exclusive) => {
-            assert_eq!(rt; exclusive.into_vetted().report(), report);
+            same(rt, exclusive.into_vetted().report(), report);
             Ok(None)
         }
         Err(
@@ -111,10 +117,10 @@ fn overlap<M: Segments>(
     message: &M,
 ) -> Result<Option<(u32, u32, u64)>, Fail> {
     let found = overlap_as_held(rt, alloc, message)?;
-    assert_eq!(rt; overlap_in_room(rt, alloc, message)?, found);
+    same(rt, overlap_in_room(rt, alloc, message)?, found);
     let held = in_one_buffer(alloc, message)?;
-    assert_eq!(rt; overlap_as_held(rt, alloc, &held.view())?, found);
-    assert_eq!(rt; overlap_in_room(rt, alloc, &held.view())?, found);
+    same(rt, overlap_as_held(rt, alloc, &held.view())?, found);
+    same(rt, overlap_in_room(rt, alloc, &held.view())?, found);
     Ok(found)
 }
 
@@ -129,7 +135,7 @@ fn overlap_of(
     let mut segments = Vec::new(alloc);
     segments.push(segment)?;
     let message = WordMessage::new(segments).ok_or("no message")?;
-    assert_eq!(rt; overlap(rt, alloc, &message)?, found);
+    same(rt, overlap(rt, alloc, &message)?, found);
     Ok(found)
 }
 
@@ -212,7 +218,7 @@ fn words_used_twice_in_one_segment(rt: HostRuntime) -> Result<(), Fail> {
         (&[0x0000000001000000, 42, 43, 44], None),
     ] {
         let found = overlap_of(&rt, rt.alloc(), words(rt.alloc(), segment)?)?;
-        assert_eq!(rt; found, answer, "of {segment:?}");
+        same_of(&rt, &segment, found, answer);
     }
     Ok(())
 }
@@ -279,11 +285,7 @@ fn words_used_twice_over_landing_pads(rt: HostRuntime) -> Result<(), Fail> {
             lists.push(words(rt.alloc(), segment)?)?;
         }
         let message = WordMessage::new(lists).ok_or("no message")?;
-        assert_eq!(rt;
-            overlap(&rt, rt.alloc(), &message)?,
-            answer,
-            "of {segments:?}"
-        );
+        same_of(&rt, &segments, overlap(&rt, rt.alloc(), &message)?, answer);
     }
     Ok(())
 }
@@ -291,7 +293,7 @@ fn words_used_twice_over_landing_pads(rt: HostRuntime) -> Result<(), Fail> {
 #[test]
 fn numbers_that_marks_take(rt: HostRuntime) -> Result<(), Fail> {
     for (words, numbers) in [(0, 1), (63, 1), (64, 2), (127, 2), (268435456, 4194305)] {
-        assert_eq!(rt; marks_for(words), numbers, "of {words} words");
+        same_of(&rt, &words, marks_for(words), numbers);
     }
     Ok(())
 }
@@ -328,7 +330,7 @@ fn lists_that_end_where_a_number_of_marks_does(rt: HostRuntime) -> Result<(), Fa
         (0x000005f500000005, 0x00000015000002f5, 191, Some((0, 2, 3))),
     ] {
         let found = overlap_of(&rt, rt.alloc(), two_lists(rt.alloc(), first, second, more)?)?;
-        assert_eq!(rt; found, answer, "of a list of {first}");
+        same_of(&rt, &first, found, answer);
     }
     Ok(())
 }
@@ -369,9 +371,9 @@ fn refusals_are_handed_on(rt: HostRuntime) -> Result<(), Fail> {
             pointers,
         };
         let found = refusal(rt.alloc(), segment)?;
-        assert_eq!(rt; found, ExclusiveRefusal::Refused(refused), "of {segment:?}");
+        same_of(&rt, &segment, found, ExclusiveRefusal::Refused(refused));
         let fault = fault_without_room(rt.alloc(), segment)?;
-        assert_eq!(rt; fault, ExclusiveFault::Refused(refused), "of {segment:?}");
+        same_of(&rt, &segment, fault, ExclusiveFault::Refused(refused));
     }
     Ok(())
 }
@@ -390,9 +392,10 @@ fn an_exclusive_message_is_copied(rt: HostRuntime) -> Result<(), Fail> {
         return Err("refused".into());
     };
     let copied = exclusive;
-    assert_eq!(rt;
+    same(
+        &rt,
         cloned(&exclusive)?.into_vetted().report(),
-        copied.into_vetted().report()
+        copied.into_vetted().report(),
     );
     Ok(())
 }

@@ -1,6 +1,7 @@
 //! Nodes and places of messages that are known from outside.
 
 use crate::tests::held::{in_one_buffer, words};
+use crate::tests::same::{same, same_of};
 use cap_frame::{OneSegment, Segments, WordMessage};
 use cap_vet::{Kind, Limits, Node, Place, Step, Vetted, vet};
 use std::alloc::Global;
@@ -45,7 +46,7 @@ fn at<M: Segments>(rt: &impl Abort, vetted: &Vetted<'_, M>, path: &[Step]) -> Se
         };
     }
     let answer = seen(vetted.get(path));
-    assert_eq!(rt; seen(node), answer, "child and get at {path:?}");
+    same_of(rt, &path, seen(node), answer);
     answer
 }
 
@@ -60,7 +61,7 @@ fn look_at<M: Segments>(
         return Err("refused".into());
     };
     for (path, answer) in rows {
-        assert_eq!(rt; at(rt, &vetted, path), *answer, "at {path:?}");
+        same_of(rt, &path, at(rt, &vetted, path), *answer);
     }
     Ok(())
 }
@@ -268,10 +269,10 @@ fn nodes_and_views_are_copied(rt: HostRuntime) -> Result<(), Fail> {
     };
     let node = vetted.root();
     let copied = node;
-    assert_eq!(rt; seen(Some(cloned(&node)?)), a_struct(1, 0, 1));
-    assert_eq!(rt; seen(Some(copied)), a_struct(1, 0, 1));
+    same(&rt, seen(Some(cloned(&node)?)), a_struct(1, 0, 1));
+    same(&rt, seen(Some(copied)), a_struct(1, 0, 1));
     let view = node.view();
     let copied = view;
-    assert_eq!(rt; cloned(&view)?.kind(), copied.kind());
+    same(&rt, cloned(&view)?.kind(), copied.kind());
     Ok(())
 }

@@ -2,6 +2,7 @@
 
 use super::{DEPTH, WORDS, accepted, refused, verdict};
 use crate::tests::held::words;
+use crate::tests::same::same_of;
 use cap_frame::WordMessage;
 use cap_vet::{Limits, Reason};
 use std::test::Fail;
@@ -230,10 +231,11 @@ fn messages_over_landing_pads(rt: HostRuntime) -> Result<(), Fail> {
         }
         let message = WordMessage::new(held).ok_or("no message")?;
         let limits = Limits::new(most_words, DEPTH).ok_or("no limits")?;
-        assert_eq!(rt;
+        same_of(
+            &rt,
+            &(&segments, &limits),
             verdict(&rt, rt.alloc(), &message, limits)?,
             answer,
-            "of {segments:?} within {limits:?}"
         );
     }
     Ok(())

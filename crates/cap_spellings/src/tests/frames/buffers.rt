@@ -3,6 +3,7 @@
 use super::fronts::expect_same_front;
 use super::views::is_same;
 use super::{pair, plain};
+use crate::tests::same::same;
 use cap_frame::{
     ByteMessage, FrameFault, Segments, SizeLimit, read_byte_message, read_into, read_message,
 };
@@ -57,8 +58,8 @@ pub(super) fn expect_same_answers(
         let wanted = read_message(alloc, &mut apart, limit);
         let given = read_byte_message(alloc, &mut fresh, limit);
         let answer = read_into(alloc, &mut again, limit, held);
-        assert_eq!(rt; fresh.position(), apart.position());
-        assert_eq!(rt; again.position(), apart.position());
+        same(rt, fresh.position(), apart.position());
+        same(rt, again.position(), apart.position());
         match (wanted, given, answer) {
             (Ok(Some(message)), Ok(Some(given)), Ok(true)) => {
                 assert!(rt; is_same(&message, &given.view()), "the segments");
@@ -66,8 +67,8 @@ pub(super) fn expect_same_answers(
             }
             (Ok(None), Ok(None), Ok(false)) => goes_on = false,
             (Err(wanted), Err(given), Err(fault)) => {
-                assert_eq!(rt; given, wanted);
-                assert_eq!(rt; fault, wanted);
+                same(rt, given, wanted);
+                same(rt, fault, wanted);
                 goes_on = false;
             }
             _ => assert!(rt; false, "another answer"),
@@ -75,8 +76,8 @@ pub(super) fn expect_same_answers(
     }
     assert!(rt; is_blank(held), "behind the messages");
     let then = apart.next();
-    assert_eq!(rt; fresh.next(), then);
-    assert_eq!(rt; again.next(), then);
+    same(rt, fresh.next(), then);
+    same(rt, again.next(), then);
     Ok(())
 }
 
@@ -142,7 +143,11 @@ fn one_buffer_is_read_into_again(rt: HostRuntime) -> Result<(), Fail> {
         (0, 0, 3_000_000),
         (59_999, 1, 4_000_000),
     ] {
-        assert_eq!(rt; read_into(alloc, &mut source, limit, &mut held), Ok(true));
+        same(
+            &rt,
+            read_into(alloc, &mut source, limit, &mut held),
+            Ok(true),
+        );
         assert!(rt;
             counts_from(&held.view(), &[first, 0, last], from),
             "the segments"
@@ -165,12 +170,12 @@ fn expect_two<I: ByteIn + Drop>(
         counts_from(&given.view(), &[100, 0, 17_000], 1_000_000),
         "the first"
     );
-    assert_eq!(rt; read_into(alloc, &mut source, limit, held), Ok(true));
+    same(rt, read_into(alloc, &mut source, limit, held), Ok(true));
     assert!(rt;
         counts_from(&held.view(), &[19_999, 0, 1], 2_000_000),
         "the second"
     );
-    assert_eq!(rt; read_into(alloc, &mut source, limit, held), Ok(false));
+    same(rt, read_into(alloc, &mut source, limit, held), Ok(false));
     assert!(rt; is_blank(held), "behind them");
     Ok(())
 }

@@ -2,6 +2,7 @@
 
 use super::views::is_same;
 use super::{is_message, plain};
+use crate::tests::same::{same, same_of};
 use cap_frame::{
     ByteView, FrameFault, Framed, FrontFault, SegmentTables, SizeLimit, front_of, read_message,
 };
@@ -35,7 +36,7 @@ pub(super) fn expect_same_front(
                 is_same(&message, &framed.view(&mut tables)),
                 "the segments"
             );
-            assert_eq!(rt; framed.length() as u64, source.position());
+            same(rt, framed.length() as u64, source.position());
             let mut size = [0];
             match framed.one_segment(&mut size) {
                 Some(view) => assert!(rt; is_same(&message, &view), "the segment"),
@@ -43,7 +44,7 @@ pub(super) fn expect_same_front(
             }
         }
         (Ok(None), Ok(None)) => {}
-        (Err(wanted), Err(fault)) => assert_eq!(rt; fault_of(fault, bytes.len()), wanted),
+        (Err(wanted), Err(fault)) => same(rt, fault_of(fault, bytes.len()), wanted),
         _ => assert!(rt; false, "another answer"),
     }
     Ok(())
@@ -80,8 +81,8 @@ fn what_stands_in_front(rt: HostRuntime) -> Result<(), Fail> {
     ] {
         let front = bytes.get(..len).ok_or("too few bytes")?;
         match front_of(front, limit) {
-            Ok(found) => assert_eq!(rt; Ok(measures(found)), want, "{len} bytes"),
-            Err(fault) => assert_eq!(rt; Err(fault), want, "{len} bytes"),
+            Ok(found) => same_of(&rt, &len, Ok(measures(found)), want),
+            Err(fault) => same_of(&rt, &len, Err(fault), want),
         }
         expect_same_front(&rt, alloc, front, limit)?;
     }
@@ -97,7 +98,7 @@ fn what_stands_in_front(rt: HostRuntime) -> Result<(), Fail> {
         ),
     ] {
         let found = front_of(&plain(alloc, &[first])?, limit).err();
-        assert_eq!(rt; found, Some(want), "{first:x}");
+        same_of(&rt, &first, found, Some(want));
     }
     Ok(())
 }
@@ -110,12 +111,12 @@ fn segments_in_front(rt: HostRuntime) -> Result<(), Fail> {
     let mut size = [0];
     let bytes = plain(alloc, &[0x1_0000_0001, 0xeeee_eeee_0000_0002, 7, 8, 9])?;
     let two = front_of(&bytes, limit).ok().flatten().ok_or("a message")?;
-    assert_eq!(rt; two.contents(), plain(alloc, &[7, 8, 9])?.as_slice());
+    same(&rt, two.contents(), plain(alloc, &[7, 8, 9])?.as_slice());
     assert!(rt; is_message(&two.view(&mut tables), &[&[7], &[8, 9]]), "two");
     assert!(rt; two.one_segment(&mut size).is_none(), "two as one");
     let bytes = plain(alloc, &[0x2_0000_0000, 7, 8, 9])?;
     let one = front_of(&bytes, limit).ok().flatten().ok_or("a message")?;
-    assert_eq!(rt; one.contents(), plain(alloc, &[7, 8])?.as_slice());
+    same(&rt, one.contents(), plain(alloc, &[7, 8])?.as_slice());
     // in the place of the other's
     let mut tables = SegmentTables::new();
     assert!(rt; is_message(&one.view(&mut tables), &[&[7, 8]]), "one");
@@ -137,7 +138,7 @@ fn words_without_a_table(rt: HostRuntime) -> Result<(), Fail> {
         let mut size = [9];
         match (ByteView::of_words(front, &mut size), want) {
             (Some(view), Some(words)) => assert!(rt; is_message(&view, &[words]), "{len} bytes"),
-            (view, want) => assert_eq!(rt; view.is_some(), want.is_some(), "{len} bytes"),
+            (view, want) => same_of(&rt, &len, view.is_some(), want.is_some()),
         }
     }
     Ok(())

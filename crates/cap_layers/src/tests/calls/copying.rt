@@ -1,7 +1,8 @@
 //! What the call for a canonical copy answers and writes of known bytes.
 
 use super::{LIMITS, TWO_SEGMENTS, unwritten};
-use crate::{Answer, canonical};
+use crate::tests::same::same;
+use cap_calls::{Answer, canonical};
 use std::process::Abort;
 use std::test::Fail;
 
@@ -31,21 +32,31 @@ fn copied(rt: HostRuntime) -> Result<(), Fail> {
     let mut out = [0xee; 40];
     let mut written = 77;
     let mut report = unwritten();
-    assert_eq!(rt;
+    same(
+        &rt,
         canonical(&LOOSE, &LIMITS, &mut out[..31], &mut written, &mut report),
-        Answer::NoRoom
+        Answer::NoRoom,
     );
-    assert_eq!(rt; written, 32);
-    assert_eq!(rt; out, [0xee; 40]);
-    assert_eq!(rt; (report.frame, report.charge, report.segments), (64, 5, 2));
+    same(&rt, written, 32);
+    same(&rt, out, [0xee; 40]);
+    same(
+        &rt,
+        (report.frame, report.charge, report.segments),
+        (64, 5, 2),
+    );
     let mut report = unwritten();
-    assert_eq!(rt;
+    same(
+        &rt,
         canonical(&LOOSE, &LIMITS, &mut out, &mut written, &mut report),
-        Answer::Good
+        Answer::Good,
     );
-    assert_eq!(rt; written, 32);
-    assert_eq!(rt; out, IN_ROOM);
-    assert_eq!(rt; (report.frame, report.charge, report.segments), (64, 5, 2));
+    same(&rt, written, 32);
+    same(&rt, out, IN_ROOM);
+    same(
+        &rt,
+        (report.frame, report.charge, report.segments),
+        (64, 5, 2),
+    );
     Ok(())
 }
 
@@ -54,27 +65,30 @@ fn without_a_copy(rt: HostRuntime) -> Result<(), Fail> {
     let mut out = [0xee; 40];
     let mut written = 77;
     let mut report = unwritten();
-    assert_eq!(rt;
+    same(
+        &rt,
         canonical(&TWO_SEGMENTS, &LIMITS, &mut out, &mut written, &mut report),
-        Answer::HasCapability
+        Answer::HasCapability,
     );
-    assert_eq!(rt; written, 0);
-    assert_eq!(rt; (report.caps, report.segment, report.word), (1, 1, 3));
+    same(&rt, written, 0);
+    same(&rt, (report.caps, report.segment, report.word), (1, 1, 3));
     let mut written = 77;
-    assert_eq!(rt;
+    same(
+        &rt,
         canonical(&LOOSE[..63], &LIMITS, &mut out, &mut written, &mut report),
-        Answer::Truncated
+        Answer::Truncated,
     );
-    assert_eq!(rt; written, 0);
-    assert_eq!(rt; (report.frame, report.number), (0, 64));
+    same(&rt, written, 0);
+    same(&rt, (report.frame, report.number), (0, 64));
     let outside = [0, 0, 0, 0, 1, 0, 0, 0, 0, 0, 0, 0, 1, 0, 0, 0];
     let mut written = 77;
-    assert_eq!(rt;
+    same(
+        &rt,
         canonical(&outside, &LIMITS, &mut out, &mut written, &mut report),
-        Answer::OutOfSegment
+        Answer::OutOfSegment,
     );
-    assert_eq!(rt; written, 0);
-    assert_eq!(rt; (report.frame, report.pointers), (16, 1));
-    assert_eq!(rt; out, [0xee; 40]);
+    same(&rt, written, 0);
+    same(&rt, (report.frame, report.pointers), (16, 1));
+    same(&rt, out, [0xee; 40]);
     Ok(())
 }

@@ -1,11 +1,13 @@
 //! What the calls answer and tell of known bytes.
 
-use crate::{Answer, CallLimits, CallReport, frame, is_canonical, unpack, version, vet};
+use crate::tests::same::same;
+use cap_calls::{Answer, CallLimits, CallReport, frame, is_canonical, unpack, version, vet};
 use std::process::Abort;
 use std::test::Fail;
 
 mod copying;
 mod marking;
+mod packing;
 
 // The limits of the program.
 const LIMITS: CallLimits = CallLimits {
@@ -44,7 +46,7 @@ const TWO_SEGMENTS: [u8; 64] = [
 #[test]
 fn accepted(rt: HostRuntime) -> Result<(), Fail> {
     let mut report = unwritten();
-    assert_eq!(rt; vet(&TWO_SEGMENTS, &LIMITS, &mut report), Answer::Good);
+    same(&rt, vet(&TWO_SEGMENTS, &LIMITS, &mut report), Answer::Good);
     let whole = CallReport {
         frame: 56,
         number: 0,
@@ -56,9 +58,13 @@ fn accepted(rt: HostRuntime) -> Result<(), Fail> {
         word: 3,
         segments: 2,
     };
-    assert_eq!(rt; report, whole);
+    same(&rt, report, whole);
     let mut report = unwritten();
-    assert_eq!(rt; frame(&TWO_SEGMENTS, &LIMITS, &mut report), Answer::Good);
+    same(
+        &rt,
+        frame(&TWO_SEGMENTS, &LIMITS, &mut report),
+        Answer::Good,
+    );
     let outline = CallReport {
         frame: 56,
         number: 0,
@@ -70,8 +76,8 @@ fn accepted(rt: HostRuntime) -> Result<(), Fail> {
         word: 0,
         segments: 2,
     };
-    assert_eq!(rt; report, outline);
-    assert_eq!(rt; version(), 65536);
+    same(&rt, report, outline);
+    same(&rt, version(), 65536);
     Ok(())
 }
 
@@ -87,18 +93,36 @@ const ZERO_WORD: [u8; 24] = [
 #[test]
 fn canonical(rt: HostRuntime) -> Result<(), Fail> {
     let mut report = unwritten();
-    assert_eq!(rt; is_canonical(&OWN_COPY, &LIMITS, &mut report), Answer::Good);
-    assert_eq!(rt; (report.frame, report.charge, report.segments), (24, 1, 1));
-    assert_eq!(rt;
+    same(
+        &rt,
+        is_canonical(&OWN_COPY, &LIMITS, &mut report),
+        Answer::Good,
+    );
+    same(
+        &rt,
+        (report.frame, report.charge, report.segments),
+        (24, 1, 1),
+    );
+    same(
+        &rt,
         is_canonical(&ZERO_WORD, &LIMITS, &mut report),
-        Answer::NotCanonical
+        Answer::NotCanonical,
     );
-    assert_eq!(rt; (report.frame, report.charge, report.segments), (24, 1, 1));
-    assert_eq!(rt;
+    same(
+        &rt,
+        (report.frame, report.charge, report.segments),
+        (24, 1, 1),
+    );
+    same(
+        &rt,
         is_canonical(&TWO_SEGMENTS, &LIMITS, &mut report),
-        Answer::NotCanonical
+        Answer::NotCanonical,
     );
-    assert_eq!(rt; (report.frame, report.charge, report.segments), (56, 4, 2));
+    same(
+        &rt,
+        (report.frame, report.charge, report.segments),
+        (56, 4, 2),
+    );
     Ok(())
 }
 
@@ -108,20 +132,22 @@ fn unpacked(rt: HostRuntime) -> Result<(), Fail> {
     let packed = [0x51, 8, 3, 2, 0x31, 0x19, 0xaa, 1];
     let mut out = [0xee; 17];
     let mut written = 77;
-    assert_eq!(rt;
+    same(
+        &rt,
         unpack(&packed[..7], &mut out, &mut written),
-        Answer::Truncated
+        Answer::Truncated,
     );
-    assert_eq!(rt; written, 0);
-    assert_eq!(rt;
+    same(&rt, written, 0);
+    same(
+        &rt,
         unpack(&packed, &mut out[..15], &mut written),
-        Answer::NoRoom
+        Answer::NoRoom,
     );
-    assert_eq!(rt; written, 16);
-    assert_eq!(rt; out, [0xee; 17]);
-    assert_eq!(rt; unpack(&packed, &mut out, &mut written), Answer::Good);
-    assert_eq!(rt; written, 16);
+    same(&rt, written, 16);
+    same(&rt, out, [0xee; 17]);
+    same(&rt, unpack(&packed, &mut out, &mut written), Answer::Good);
+    same(&rt, written, 16);
     let words = [8, 0, 0, 0, 3, 0, 2, 0, 0x19, 0, 0, 0, 0xaa, 1, 0, 0, 0xee];
-    assert_eq!(rt; out, words);
+    same(&rt, out, words);
     Ok(())
 }

@@ -1,7 +1,8 @@
 //! What the call that vets exclusively answers and leaves of known bytes.
 
 use super::{LIMITS, TWO_SEGMENTS, unwritten};
-use crate::{Answer, vet_exclusive};
+use crate::tests::same::same;
+use cap_calls::{Answer, vet_exclusive};
 use std::process::Abort;
 use std::test::Fail;
 
@@ -19,22 +20,32 @@ fn exclusive(rt: HostRuntime) -> Result<(), Fail> {
     let mut marks = [u64::MAX; 2];
     let mut needed = 77;
     let mut report = unwritten();
-    assert_eq!(rt;
+    same(
+        &rt,
         vet_exclusive(&TWO_SEGMENTS, &LIMITS, &mut [], &mut needed, &mut report),
-        Answer::NoRoom
+        Answer::NoRoom,
     );
-    assert_eq!(rt; needed, 1);
-    assert_eq!(rt; (report.frame, report.charge, report.pointers), (56, 4, 3));
+    same(&rt, needed, 1);
+    same(
+        &rt,
+        (report.frame, report.charge, report.pointers),
+        (56, 4, 3),
+    );
     let mut needed = 77;
     let mut report = unwritten();
-    assert_eq!(rt;
+    same(
+        &rt,
         vet_exclusive(&TWO_SEGMENTS, &LIMITS, &mut marks, &mut needed, &mut report),
-        Answer::Good
+        Answer::Good,
     );
-    assert_eq!(rt; needed, 1);
-    assert_eq!(rt; marks[1], u64::MAX);
-    assert_eq!(rt; (report.frame, report.charge, report.pointers), (56, 4, 3));
-    assert_eq!(rt; (report.caps, report.segment, report.word), (1, 1, 3));
+    same(&rt, needed, 1);
+    same(&rt, marks[1], u64::MAX);
+    same(
+        &rt,
+        (report.frame, report.charge, report.pointers),
+        (56, 4, 3),
+    );
+    same(&rt, (report.caps, report.segment, report.word), (1, 1, 3));
     Ok(())
 }
 
@@ -43,15 +54,24 @@ fn used_twice(rt: HostRuntime) -> Result<(), Fail> {
     let mut marks = [u64::MAX; 2];
     let mut needed = 77;
     let mut report = unwritten();
-    assert_eq!(rt;
+    same(
+        &rt,
         vet_exclusive(&SHARED, &LIMITS, &mut marks, &mut needed, &mut report),
-        Answer::Overlap
+        Answer::Overlap,
     );
-    assert_eq!(rt; needed, 1);
-    assert_eq!(rt; marks[1], u64::MAX);
-    assert_eq!(rt; (report.frame, report.segments, report.number), (40, 1, 0));
-    assert_eq!(rt; (report.segment, report.word, report.pointers), (0, 2, 3));
-    assert_eq!(rt; (report.charge, report.depth, report.caps), (0, 0, 0));
+    same(&rt, needed, 1);
+    same(&rt, marks[1], u64::MAX);
+    same(
+        &rt,
+        (report.frame, report.segments, report.number),
+        (40, 1, 0),
+    );
+    same(
+        &rt,
+        (report.segment, report.word, report.pointers),
+        (0, 2, 3),
+    );
+    same(&rt, (report.charge, report.depth, report.caps), (0, 0, 0));
     Ok(())
 }
 
@@ -60,18 +80,20 @@ fn not_accepted(rt: HostRuntime) -> Result<(), Fail> {
     let mut marks = [u64::MAX; 2];
     let mut needed = 77;
     let mut report = unwritten();
-    assert_eq!(rt;
+    same(
+        &rt,
         vet_exclusive(&SHARED[..39], &LIMITS, &mut marks, &mut needed, &mut report),
-        Answer::Truncated
+        Answer::Truncated,
     );
-    assert_eq!(rt; (needed, report.number), (0, 40));
+    same(&rt, (needed, report.number), (0, 40));
     let outside = [0, 0, 0, 0, 1, 0, 0, 0, 0, 0, 0, 0, 1, 0, 0, 0];
     let mut needed = 77;
-    assert_eq!(rt;
+    same(
+        &rt,
         vet_exclusive(&outside, &LIMITS, &mut marks, &mut needed, &mut report),
-        Answer::OutOfSegment
+        Answer::OutOfSegment,
     );
-    assert_eq!(rt; (needed, report.frame, report.pointers), (0, 16, 1));
-    assert_eq!(rt; marks, [u64::MAX; 2]);
+    same(&rt, (needed, report.frame, report.pointers), (0, 16, 1));
+    same(&rt, marks, [u64::MAX; 2]);
     Ok(())
 }

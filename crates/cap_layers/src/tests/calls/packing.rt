@@ -1,7 +1,7 @@
 //! What packing answers and writes of known bytes, and of the words that the packer is put.
 
-use super::pack;
-use crate::Answer;
+use crate::tests::same::same;
+use cap_calls::{Answer, pack};
 use cap_pack::Packer;
 use cap_words::{VecOut, WordSink, bytes_of};
 use std::process::Abort;
@@ -24,23 +24,29 @@ const PACKED: [u8; 28] = [
 fn packed(rt: HostRuntime) -> Result<(), Fail> {
     let mut out = [0xee; 30];
     let mut written = 77;
-    assert_eq!(rt;
+    same(
+        &rt,
         pack(&WORDS[..55], &mut out, &mut written),
-        Answer::Truncated
+        Answer::Truncated,
     );
-    assert_eq!(rt; written, 0);
-    assert_eq!(rt; pack(&WORDS, &mut out[..27], &mut written), Answer::NoRoom);
-    assert_eq!(rt; written, 28);
-    assert_eq!(rt; out, [0xee; 30]);
-    assert_eq!(rt; pack(&WORDS, &mut out, &mut written), Answer::Good);
-    assert_eq!(rt; written, 28);
-    assert_eq!(rt; &out[..28], &PACKED[..]);
-    assert_eq!(rt; &out[28..], &[0xee; 2][..]);
-    assert_eq!(rt;
+    same(&rt, written, 0);
+    same(
+        &rt,
+        pack(&WORDS, &mut out[..27], &mut written),
+        Answer::NoRoom,
+    );
+    same(&rt, written, 28);
+    same(&rt, out, [0xee; 30]);
+    same(&rt, pack(&WORDS, &mut out, &mut written), Answer::Good);
+    same(&rt, written, 28);
+    same(&rt, &out[..28], &PACKED[..]);
+    same(&rt, &out[28..], &[0xee; 2][..]);
+    same(
+        &rt,
         pack(&WORDS[..0], &mut out[..0], &mut written),
-        Answer::Good
+        Answer::Good,
     );
-    assert_eq!(rt; written, 0);
+    same(&rt, written, 0);
     Ok(())
 }
 
@@ -65,9 +71,9 @@ fn check<R: AllocGlobal + Abort>(rt: &R, words: &[u64]) -> Result<(), Fail> {
     let mut out = Vec::new(rt.alloc());
     out.resize(output.bytes().len(), 0xee)?;
     let mut written = 77;
-    assert_eq!(rt; pack(&bytes, &mut out, &mut written), Answer::Good);
-    assert_eq!(rt; written, out.len());
-    assert_eq!(rt; out.as_slice(), output.bytes());
+    same(rt, pack(&bytes, &mut out, &mut written), Answer::Good);
+    same(rt, written, out.len());
+    same(rt, out.as_slice(), output.bytes());
     Ok(())
 }
 
