@@ -5,7 +5,8 @@
 
 A case is one call of `case`. Failures are printed as they come. The last line is 'N passed, M failed', and
 the status is 1 where a case failed. The texts that are wanted were written from docs/format.md, and the
-numbers of the samples counted by another program. Those of a wrong command line are the library clap's.
+numbers of the samples counted by another program. Those of a wrong command line are the library clap's. Streams
+and command lines, with what comes of them, stand in tables.py, and the texts of help in helps.py.
 """
 import fcntl
 import os
@@ -22,6 +23,8 @@ import threading
 import time
 from pathlib import Path
 
+import tables
+from helps import HELPS
 from trees import dump_text, get_text
 
 TOP = Path(__file__).resolve().parent.parent
@@ -60,6 +63,8 @@ def case(words, out="", err="", status=0, stdin=b"", stdout=subprocess.PIPE):
     told, isn't seen."""
     words = words.split() if isinstance(words, str) else words
     name = "capvet " + " ".join(it if isinstance(it, str) else repr(it) for it in words)
+    if stdin:
+        name += f", of {stdin[:80].hex()}"
     if stdout != subprocess.PIPE:
         name += ", with an output that fails"
     compare(name, (encoded(out), encoded(err), status), run([PROGRAM, *words], input=stdin, stdout=stdout))
@@ -77,6 +82,12 @@ def mistake(words, text):
     case(words, err=f"error: {text}\nFor more information, try '--help'.\n", status=2, stdin=NULL)
 
 
+def mistake_beginning(words, beginning):
+    """A command line that is wrong, and how what is said of it begins."""
+    out, err, status = run([PROGRAM, *words.split()], input=NULL, stdout=subprocess.PIPE)
+    compare(f"capvet {words}", (b"", beginning.encode(), 2), (out, err[:len(beginning)], status))
+
+
 def closed_pipe():
     """The writing end of a pipe that nobody reads any more."""
     reader, writer = os.pipe()
@@ -91,6 +102,34 @@ def word(text):
 def framed(*words):
     """One message of one segment, of words in hexadecimal digits."""
     return struct.pack("<II", 0, len(words)) + b"".join(map(word, words))
+
+
+def packed(stream):
+    """The packed spelling of a stream of words, as the encoding specification and Cap'n Proto's own packer have it."""
+    words = [stream[at:at + 8] for at in range(0, len(stream), 8)]
+    text, at = b"", 0
+    while at < len(words):
+        first = words[at]
+        tag = sum((byte != 0) << place for place, byte in enumerate(first))
+        text += bytes([tag]) + first.replace(b"\0", b"")
+        at += 1
+        if tag in (0x00, 0xff):
+            # (zero words, or words with one zero byte at most)
+            start, zeros = at, range(8, 9) if tag == 0 else range(2)
+            while at < len(words) and at - start < 255 and words[at].count(0) in zeros:
+                at += 1
+            text += bytes([at - start]) + (b"".join(words[start:at]) if tag else b"")
+    return text
+
+
+def rows(table, also_packed=False):
+    """Each row of a table, and where that is told the same over the packed spelling of its input."""
+    for words, digits, out, err, status in table:
+        stream = word(digits)
+        case(words, out, err, status, stream)
+        if also_packed:
+            case("pack", packed(stream), stdin=stream)
+            case(f"{words} --packed", out, err, status, packed(stream))
 
 
 def segments_text(stream):
@@ -146,8 +185,9 @@ COPIES = {
     "stream-of-four.bin": "stream-of-four.bin",
 }
 COMMANDS = ("segments", "vet", "dump", "get", "check", "canon", "pack", "unpack")
-# The same with what each of them needs besides its input.
-RUNS = ("segments", "vet", "dump", "get /", "check", "canon", "pack", "unpack")
+# Those that read messages, with what each of them needs besides its input; and all of them.
+READERS = ("segments", "vet", "dump", "get /", "check", "canon")
+RUNS = (*READERS, "pack", "unpack")
 PATHS = ("/", "/p0", "/p1/p0", "/p0/i0", "/p0/i1/p4", "/i0", "/p65535")
 
 
@@ -300,8 +340,7 @@ case("get /", NULL_FOUND, "capvet: message 1: Truncated at byte 23\n", 1, NULL +
 case("segments", segments_text(NULL), "capvet: message 1: TooManySegments 513\n", 1, NULL + word("0002000000000000"))
 case("pack", word("0101"), "capvet: Truncated at byte 15\n", 1, word("0100000000000000") + bytes(7))
 case("unpack", bytes(8), "capvet: Truncated at byte 3\n", 1, word("000001"))
-PACKED = ("segments --packed", "vet --packed", "dump --packed", "get / --packed", "check --packed", "canon --packed")
-for command in (*RUNS, *PACKED):
+for command in (*RUNS, *(f"{it} --packed" for it in READERS), "vet --exclusive", "vet --exclusive --packed"):
     case(command)
 
 
@@ -323,10 +362,34 @@ def deepest_dump():
 
 deepest_dump()
 
+# ------------------------------------------------------------------ the streams of the tables
+for table in (tables.VERDICTS, tables.ENDS, tables.MESSAGES, tables.SEGMENTS, tables.DOUBLED, tables.PACKED_STREAMS,
+              tables.WORDS):
+    rows(table)
+for table in (tables.LEVELS, tables.NESTED, tables.OVERLAPS, tables.DUMPS, tables.GETS, tables.LADDER,
+              tables.BEHIND_A_REFUSAL, tables.COPY_ENDS):
+    rows(table, also_packed=True)
+for stream, exclusive, plain in tables.EXCLUSIVES:
+    for command, verdict in ("vet", plain), ("vet --exclusive", exclusive):
+        row = (command, stream, f"message 0: {verdict}\n", "", 1 if verdict.startswith("refused") else 0)
+        rows([row], also_packed=True)
+for stream, copy, is_canonical in tables.COPIES:
+    said = "message 0: canonical\n" if is_canonical else "message 0: not canonical\n"
+    rows([
+        ("canon", stream, word(copy), "", 0),
+        ("canon", copy, word(copy), "", 0),
+        ("check", stream, said, "", 0 if is_canonical else 1),
+        ("check", copy, "message 0: canonical\n", "", 0),
+    ], also_packed=True)
+for plain, text in tables.SPELLINGS:
+    rows([("pack", plain, word(text), "", 0), ("unpack", text, word(plain), "", 0)])
+for stream, line in tables.TOO_LARGE:
+    rows([(command, stream, "", line, 1) for command in (*READERS, "vet --exclusive")], also_packed=True)
+
 # ------------------------------------------------------------------ paths, which are read before any input is opened
-for path, at in {"p0": 0, "//": 1, "/p": 2, "/p01": 3, "/p1/": 4, "/p65536": 6, "/i4294967296": 11}.items():
-    case(f"get {path} examples/missing.bin", err=f"capvet: bad path at {at}\n", status=2, stdin=NULL)
-case(["get", ""], err="capvet: bad path at 0\n", status=2, stdin=NULL)
+for path, at in tables.BAD_PATHS:
+    for words in (["get", path], ["get", "--packed", path, "examples/missing.bin"]):
+        case(words, err=f"capvet: bad path at {at}\n", status=2, stdin=NULL)
 case("get /p0", "message 0: none\n", stdin=NULL)
 
 # ------------------------------------------------------------------ files and devices
@@ -479,131 +542,15 @@ wants()
 
 # ------------------------------------------------------------------ command lines
 case([b"vet", b"\xff"], err="capvet: an argument is not UTF-8\n", status=2, stdin=NULL)
-mistake("", """'capvet' requires a subcommand but one was not provided
-  [subcommands: segments, vet, dump, get, check, canon, pack, unpack, help]
-
-Usage: capvet <COMMAND>
-""")
-mistake("vat", """unrecognized subcommand 'vat'
-
-  tip: a similar subcommand exists: 'vet'
-
-Usage: capvet <COMMAND>
-""")
-mistake("pack --packed", """unexpected argument '--packed' found
-
-  tip: to pass '--packed' as a value, use '-- --packed'
-
-Usage: capvet pack [FILE]
-""")
-mistake("get", """the following required arguments were not provided:
-  <PATH>
-
-Usage: capvet get <PATH> [FILE]
-""")
-mistake("segments --size x", "invalid value 'x' for '--size <N>': invalid digit found in string\n")
-mistake("segments --size 268435457", "invalid value '268435457' for '--size <N>': 268435457 is not in 0..=268435456\n")
-mistake("vet --words 268435457", "invalid value '268435457' for '--words <N>': 268435457 is not in 0..=268435456\n")
-mistake("vet --depth 257", "invalid value '257' for '--depth <N>': 257 is not in 0..=256\n")
-
-VERSION = "capvet 0.1.0\n"
-HELP = """\
-Checks Cap'n Proto messages that nobody vouches for, without their schema
-
-Usage: capvet <COMMAND>
-
-Commands:
-  segments  Shows each message's segments, their sizes in words, and its root pointer
-  vet       Checks that each message is safe to traverse
-  dump      Writes the tree of each message that is safe to traverse
-  get       Shows the node at a path in each message that is safe to traverse
-  check     Checks that each message is canonical
-  canon     Writes the canonical copy of each message
-  pack      Packs a stream of words
-  unpack    Unpacks a stream of words
-  help      Print this message or the help of the given subcommand(s)
-
-Options:
-  -h, --help     Print help
-  -V, --version  Print version
-
-A stream is framed messages, one after the other: of each a table with the sizes of its segments,
-and then the segments, in words of 8 bytes. Without FILE a command reads standard input.
-
-Exit status:
-  0  every message was accepted, and canonical for 'check', or every word was copied
-  1  a message was refused, isn't canonical or has no copy, or the input is cut short or isn't
-     messages within the limits
-  2  the command line is wrong
-  3  a file doesn't open, a device failed, or memory ran out
-
-Example:
-  $ capvet vet examples/contacts.bin
-  message 0: accepted charge 391 depth 11 pointers 125 caps 0
-"""
-HELP_VET = """\
-Checks that each message is safe to traverse
-
-Usage: capvet vet [OPTIONS] [FILE]
-
-Arguments:
-  [FILE]  File to read, instead of standard input
-
-Options:
-      --packed     The messages are packed
-      --size <N>   Most words of a message, all its segments together, 0 to 268435456 [default: 8388608]
-      --words <N>  Traversal limit in words, 0 to 268435456; a target reached twice counts twice [default: 8388608]
-      --depth <N>  Deepest level of an object, 0 to 256; the root's object has level 1 [default: 64]
-      --exclusive  No word may be used by two pointers
-  -h, --help       Print help
-
-An accepted message is told with its charge in words, which bounds what a traversal reads; with
-the deepest level of an object, where a list's structs stand one below the list; and with how many
-pointers, null ones too, and capabilities it has. A refused one is told with the reason, and the
-SEGMENT:WORD of the first pointer at fault.
-
-With --exclusive a message is also refused, as Overlap, where a pointer leads to a word that is in
-use already: the root word, or a word that it or an earlier pointer leads to. Then a traversal reads
-no more words than the message has.
-
-Example:
-  $ capvet vet --depth 3 examples/contacts.bin
-  message 0: refused DepthLimit at 0:7 pointers 3
-"""
-HELP_GET = """\
-Shows the node at a path in each message that is safe to traverse
-
-Usage: capvet get [OPTIONS] <PATH> [FILE]
-
-Arguments:
-  <PATH>  Path of the node, as /p0/i3
-  [FILE]  File to read, instead of standard input
-
-Options:
-      --packed     The messages are packed
-      --size <N>   Most words of a message, all its segments together, 0 to 268435456 [default: 8388608]
-      --words <N>  Traversal limit in words, 0 to 268435456; a target reached twice counts twice [default: 8388608]
-      --depth <N>  Deepest level of an object, 0 to 256; the root's object has level 1 [default: 64]
-  -h, --help       Print help
-
-PATH is '/' alone for the root, or one step after the other: '/pN' for pointer N of a struct, and
-'/iN' for element N of a list of pointers or of structs, each counted from 0. The node is shown
-without what its pointers lead to. That there is none at the PATH refuses no message.
-
-Example:
-  $ capvet get /p0/i1 examples/contacts.bin
-  message 0: found
-  node struct 1 6
-    d0 0a6e000001000000
-"""
-for words in ("--version", "-V"):
-    case(words, VERSION)
-for words in ("help", "--help", "-h"):
-    case(words, HELP)
-for words in ("help vet", "vet --help", "vet -h"):
-    case(words, HELP_VET)
-for words in ("help get", "get --help", "get -h"):
-    case(words, HELP_GET)
+for words, text in tables.MISTAKES:
+    mistake(words, text)
+for words, beginning in tables.MISTAKE_BEGINNINGS:
+    mistake_beginning(words, beginning)
+for words, name in tables.NAMES:
+    case(words, err=f"capvet: cannot open {name}\n", status=3, stdin=NULL)
+for lines, text in HELPS:
+    for words in lines:
+        case(words, text)
 
 
 def help_example(command, status):

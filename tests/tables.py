@@ -1,0 +1,680 @@
+"""The tables of tests/program.py: command lines, what goes in, and what the built program has to write of it.
+
+Streams stand in hexadecimal digits, in words as far as they have such, and texts as they are written. What is wanted
+was written from docs/format.md, and what is said of a wrong command line is the library clap's. Nothing here was
+computed by the program.
+"""
+from typing import NamedTuple
+
+word = bytes.fromhex
+
+
+class Row(NamedTuple):
+    """A command with its options, its input, both outputs and the exit status."""
+    words: str
+    stream: str
+    out: str | bytes
+    err: str = ""
+    status: int = 0
+
+
+# ------------------------------------------------------------------ streams
+
+# one null pointer, a struct without words, and one of a word
+NULL = "0000000001000000 0000000000000000"
+EMPTY = "0000000001000000 fcffffff00000000"
+STRUCT = "0000000002000000 0000000001000000 2a00000000000000"
+
+# a struct that points at itself
+CYCLE = "0000000001000000 fcffffff00000100"
+
+# two pointers to one struct
+SHARED = "0000000004000000 0000000000000200 0400000001000000 0000000001000000 0700000000000000"
+
+# two structs of a word in three words
+SURPLUS = "0000000005000000 010000001f000000 0800000001000000 0500000000000000 0000000000000000 ff00000000000000"
+
+# two structs of a word and a null pointer
+STRUCTS = (
+    "0000000006000000 0100000027000000 0800000001000100 0100000000000000 0000000000000000 0000000000000000 "
+    "0000000000000000"
+)
+
+# a list of one struct, which points at a struct of a word
+BELOW_A_LIST = "0000000004000000 010000000f000000 0400000000000100 0000000001000000 2a00000000000000"
+
+# structs of two pointers, each pair of which leads to the next struct
+DOUBLING = (
+    "0000000008000000 0000000000000200 0400000000000200 0000000000000200 0400000000000200 0000000000000200 "
+    "0400000001000000 0000000001000000 0700000000000000"
+)
+
+# a list without structs, one of three without words, and one of five
+NO_STRUCTS = "0000000002000000 0100000007000000 0000000000000000"
+THREE_EMPTIES = "0000000002000000 0100000007000000 0c00000000000000"
+FIVE_EMPTIES = "0000000002000000 0100000007000000 1400000000000000"
+
+# so many structs without words that no word limit allows them
+EMPTY_STRUCTS = "0000000002000000 0100000007000000 fcffffff00000000"
+
+# three elements without bits, and 268435455 of them
+BITLESS = "0000000001000000 0100000018000000"
+EMPTY_ELEMENTS = "0000000001000000 01000000f8ffff7f"
+
+# three bits, the others of their word set too
+BITS = "0000000002000000 0100000019000000 ffffffffffffffff"
+
+# two pointers, the first of them null
+POINTERS = "0000000004000000 0100000016000000 0000000000000000 0000000001000000 0900000000000000"
+
+# a capability
+CAPABILITY = "0000000001000000 0300000005000000"
+
+# ------------------------------------------------------------------ vet, segments and check
+
+# What `vet` says within its limits.
+VERDICTS = (
+    Row("vet", "0000000001000000 0000000000000000", "message 0: accepted charge 0 depth 0 pointers 1 caps 0\n"),
+    Row("vet", "0000000001000000 fcffffff00000000", "message 0: accepted charge 0 depth 1 pointers 1 caps 0\n"),
+    Row("vet --words 1", STRUCT, "message 0: accepted charge 1 depth 1 pointers 1 caps 0\n"),
+    Row("vet --words 0", STRUCT, "message 0: refused WordLimit at 0:0 pointers 1\n", status=1),
+    Row("vet --depth 0", STRUCT, "message 0: refused DepthLimit at 0:0 pointers 1\n", status=1),
+    Row("vet", CYCLE, "message 0: refused DepthLimit at 0:0 pointers 65\n", status=1),
+    Row("vet --words 10", CYCLE, "message 0: refused WordLimit at 0:0 pointers 11\n", status=1),
+    Row("vet", "0000000001000000 0300000005000000", "message 0: accepted charge 0 depth 0 pointers 1 caps 1\n"),
+    Row("vet", "0000000001000000 0700000005000000", "message 0: refused Reserved at 0:0 pointers 1\n", status=1),
+    # a shared target is charged at each pointer
+    Row("vet", SHARED, "message 0: accepted charge 4 depth 2 pointers 3 caps 0\n"),
+    Row("vet --words 3", SHARED, "message 0: refused WordLimit at 0:2 pointers 3\n", status=1),
+    Row("vet", BELOW_A_LIST, "message 0: accepted charge 3 depth 3 pointers 2 caps 0\n"),
+    Row("vet --depth 2", BELOW_A_LIST, "message 0: refused DepthLimit at 0:2 pointers 2\n", status=1),
+    Row("vet --words 2", BELOW_A_LIST, "message 0: refused WordLimit at 0:2 pointers 2\n", status=1),
+    Row("vet", DOUBLING, "message 0: accepted charge 22 depth 4 pointers 15 caps 0\n"),
+    Row("vet --words 22", DOUBLING, "message 0: accepted charge 22 depth 4 pointers 15 caps 0\n"),
+    Row("vet --words 10", DOUBLING, "message 0: refused WordLimit at 0:5 pointers 7\n", status=1),
+    # elements without words or bits are charged one by one
+    Row("vet", EMPTY_STRUCTS, "message 0: refused WordLimit at 0:0 pointers 1\n", status=1),
+    Row("vet --words 268435456", EMPTY_STRUCTS, "message 0: refused WordLimit at 0:0 pointers 1\n", status=1),
+    Row("vet --words 268435455", EMPTY_ELEMENTS, "message 0: accepted charge 268435455 depth 1 pointers 1 caps 0\n"),
+    Row("vet --words 268435454", EMPTY_ELEMENTS, "message 0: refused WordLimit at 0:0 pointers 1\n", status=1),
+    # two faults, of which the first is named
+    Row("vet", "0000000003000000 0000000000000200 0800000001000000 0700000005000000",
+        "message 0: refused OutOfSegment at 0:1 pointers 2\n", status=1),
+    # a capability behind a landing pad
+    Row("vet", "0100000001000000 0100000000000000 0200000001000000 0300000005000000",
+        "message 0: accepted charge 1 depth 0 pointers 1 caps 1\n"),
+    # both limits are passed, and the depth limit is named
+    Row("vet --words 0 --depth 0", STRUCT, "message 0: refused DepthLimit at 0:0 pointers 1\n", status=1),
+    # two segments, with padding that isn't zero
+    Row("vet", "0100000001000000 02000000deadbeef 0200000001000000 0000000001000000 2a00000000000000",
+        "message 0: accepted charge 2 depth 1 pointers 1 caps 0\n"),
+    # a refused message doesn't end the run
+    Row("vet", "0000000000000000 0000000002000000 0000000001000000 2a00000000000000",
+        "message 0: refused NoRoot at 0:0 pointers 0\n"
+        "message 1: accepted charge 1 depth 1 pointers 1 caps 0\n", status=1),
+)
+
+# Streams that end, or that aren't one of framed messages within the limits.
+ENDS = (
+    # no message
+    Row("vet", "", ""),
+    # more segments than there may be, and more than there can be
+    Row("vet", "ffffffff00000000", "", "capvet: message 0: TooManySegments 4294967296\n", 1),
+    Row("vet", "0002000000000000", "", "capvet: message 0: TooManySegments 513\n", 1),
+    # cut in the first word, in the table, and in the contents
+    Row("vet", "ffffffff", "", "capvet: message 0: Truncated at byte 4\n", 1),
+    Row("vet", "ff01000000000000", "", "capvet: message 0: Truncated at byte 8\n", 1),
+    Row("vet", "0000000002000000 0000000001000000", "", "capvet: message 0: Truncated at byte 16\n", 1),
+    # cut in a table whose sizes are past the limit so far
+    Row("vet", "02000000ffffffff", "", "capvet: message 0: Truncated at byte 8\n", 1),
+    # larger than the limit, whether the contents are there or not
+    Row("vet", "00000000ffffffff", "", "capvet: message 0: TooLarge 4294967295\n", 1),
+    Row("vet --size 1", STRUCT, "", "capvet: message 0: TooLarge 2\n", 1),
+)
+
+# Streams of one message, and what is said of it.
+MESSAGES = (
+    # a struct of two words
+    Row("vet", "0000000003000000 0000000002000000 2a00000000000000 0000000000000000",
+        "message 0: accepted charge 2 depth 1 pointers 1 caps 0\n"),
+    # elements without bits are charged one by one
+    Row("vet", "0000000001000000 01000000f8ffffff", "message 0: refused WordLimit at 0:0 pointers 1\n", status=1),
+    Row("vet", "0000000001000000 0100000018000000", "message 0: accepted charge 3 depth 1 pointers 1 caps 0\n"),
+    # three bits
+    Row("vet", "0000000002000000 0100000019000000 ffffffffffffffff",
+        "message 0: accepted charge 1 depth 1 pointers 1 caps 0\n"),
+    # two structs in three words, in one word, and behind a tag that is no struct
+    Row("vet", "0000000005000000 010000001f000000 0800000001000000 0500000000000000 0000000000000000 ff00000000000000",
+        "message 0: accepted charge 4 depth 2 pointers 1 caps 0\n"),
+    Row("vet", "0000000005000000 010000000f000000 0800000001000000 0500000000000000 0000000000000000 ff00000000000000",
+        "message 0: refused CompositeOverrun at 0:0 pointers 1\n", status=1),
+    Row("vet", "0000000005000000 010000001f000000 0900000001000000 0500000000000000 0000000000000000 ff00000000000000",
+        "message 0: refused CompositeTag at 0:0 pointers 1\n", status=1),
+    # two structs with a null pointer each
+    Row("vet", "0000000006000000 0100000027000000 0800000001000100 0100000000000000 0000000000000000 0000000000000000 "
+        "0000000000000000",
+        "message 0: accepted charge 5 depth 2 pointers 3 caps 0\n"),
+    # two pointers, one of them null
+    Row("vet", "0000000004000000 0100000016000000 0000000000000000 0000000001000000 0900000000000000",
+        "message 0: accepted charge 3 depth 2 pointers 3 caps 0\n"),
+    # a landing pad in the pointer's own segment, and a pad that is null
+    Row("vet", "0000000003000000 0a00000000000000 0000000001000000 2a00000000000000",
+        "message 0: accepted charge 2 depth 1 pointers 1 caps 0\n"),
+    Row("vet", "0100000001000000 0100000000000000 0200000001000000 0000000000000000",
+        "message 0: accepted charge 1 depth 0 pointers 1 caps 0\n"),
+    # landing pads of two words
+    Row("vet", "0200000001000000 0200000000000000 0600000001000000 0200000002000000 0000000000000000",
+        "message 0: accepted charge 2 depth 1 pointers 1 caps 0\n"),
+    Row("vet", "0200000001000000 0200000001000000 0600000001000000 0200000002000000 0000000001000000 2a00000000000000",
+        "message 0: accepted charge 3 depth 1 pointers 1 caps 0\n"),
+    Row("vet", "0200000001000000 0200000001000000 0600000001000000 0200000002000000 0400000001000000 2a00000000000000",
+        "message 0: refused TagOffset at 0:0 pointers 1\n", status=1),
+    Row("vet", "0200000001000000 0200000001000000 0600000001000000 0200000002000000 0300000000000000 2a00000000000000",
+        "message 0: refused TagKind at 0:0 pointers 1\n", status=1),
+    Row("vet", "0200000001000000 0200000001000000 0600000001000000 0000000000000000 0000000001000000 2a00000000000000",
+        "message 0: refused PadNotFar at 0:0 pointers 1\n", status=1),
+    # far pointers that lead nowhere
+    Row("vet", "0100000001000000 0100000000000000 0200000001000000 0200000000000000",
+        "message 0: refused PadIsFar at 0:0 pointers 1\n", status=1),
+    Row("vet", "0100000001000000 0100000000000000 0200000007000000 0000000000000000",
+        "message 0: refused SegmentMissing at 0:0 pointers 1\n", status=1),
+    Row("vet", "0100000001000000 0100000000000000 0600000001000000 0000000000000000",
+        "message 0: refused PadOutside at 0:0 pointers 1\n", status=1),
+    Row("vet", "0100000001000000 0100000000000000 0200000001000000 0000000001000000",
+        "message 0: refused OutOfSegment at 0:0 pointers 1\n", status=1),
+)
+
+# What `segments` writes.
+SEGMENTS = (
+    # one null root
+    Row("segments", "0000000001000000 0000000000000000",
+        "message 0: segments 1 words 1\nsegment 0: 1\nroot 0000000000000000\n"),
+    # two segments, with padding that isn't zero
+    Row("segments", "0100000001000000 02000000deadbeef 0200000001000000 0000000001000000 2a00000000000000",
+        "message 0: segments 2 words 3\nsegment 0: 1\nsegment 1: 2\nroot 0200000001000000\n"),
+    # a segment without words, which has no root
+    Row("segments", "0000000000000000", "message 0: segments 1 words 0\nsegment 0: 0\nroot none\n"),
+    # no message
+    Row("segments", "", ""),
+    # more segments than there may be, and more than there can be
+    Row("segments", "ffffffff00000000", "", "capvet: message 0: TooManySegments 4294967296\n", 1),
+    Row("segments", "0002000000000000", "", "capvet: message 0: TooManySegments 513\n", 1),
+    # cut in the first word, behind it, and in the contents
+    Row("segments", "ffffffff", "", "capvet: message 0: Truncated at byte 4\n", 1),
+    Row("segments", "ff01000000000000", "", "capvet: message 0: Truncated at byte 8\n", 1),
+    Row("segments", "0000000002000000 0000000001000000", "", "capvet: message 0: Truncated at byte 16\n", 1),
+    # larger than the limit that no option changes
+    Row("segments", "00000000ffffffff", "", "capvet: message 0: TooLarge 4294967295\n", 1),
+    # a segment without words between others
+    Row("segments", "0200000001000000 0000000001000000 0000000000000000 fcffffff00000000",
+        "message 0: segments 3 words 2\nsegment 0: 1\nsegment 1: 0\nsegment 2: 1\nroot 0000000000000000\n"),
+    # two messages, and then two and the beginning of a third
+    Row("segments", "0000000000000000 0000000002000000 0000000001000000 2a00000000000000",
+        "message 0: segments 1 words 0\n"
+        "segment 0: 0\n"
+        "root none\n"
+        "message 1: segments 1 words 2\n"
+        "segment 0: 2\n"
+        "root 0000000001000000\n"),
+    Row("segments", "0000000000000000 0000000002000000 0000000001000000 2a00000000000000 00000000",
+        "message 0: segments 1 words 0\n"
+        "segment 0: 0\n"
+        "root none\n"
+        "message 1: segments 1 words 2\n"
+        "segment 0: 2\n"
+        "root 0000000001000000\n", "capvet: message 2: Truncated at byte 36\n", 1),
+    # a size limit below that of the message, and at it
+    Row("segments --size 1", STRUCT, "", "capvet: message 0: TooLarge 2\n", 1),
+    Row("segments --size 2", STRUCT, "message 0: segments 1 words 2\nsegment 0: 2\nroot 0000000001000000\n"),
+)
+
+# How deep the structs of a list stand: a level below their list, where it has any.
+LEVELS = (
+    Row("vet --depth 64", SURPLUS, "message 0: accepted charge 4 depth 2 pointers 1 caps 0\n"),
+    Row("vet --depth 1", SURPLUS, "message 0: refused DepthLimit at 0:0 pointers 1\n", status=1),
+    Row("vet --depth 64", STRUCTS, "message 0: accepted charge 5 depth 2 pointers 3 caps 0\n"),
+    Row("vet --depth 3", BELOW_A_LIST, "message 0: accepted charge 3 depth 3 pointers 2 caps 0\n"),
+    Row("vet --depth 2", BELOW_A_LIST, "message 0: refused DepthLimit at 0:2 pointers 2\n", status=1),
+    Row("vet --depth 1", BELOW_A_LIST, "message 0: refused DepthLimit at 0:0 pointers 1\n", status=1),
+    Row("vet --depth 1", NO_STRUCTS, "message 0: accepted charge 1 depth 1 pointers 1 caps 0\n"),
+    Row("vet --depth 0", NO_STRUCTS, "message 0: refused DepthLimit at 0:0 pointers 1\n", status=1),
+    Row("vet --depth 2", FIVE_EMPTIES, "message 0: accepted charge 6 depth 2 pointers 1 caps 0\n"),
+    Row("vet --depth 1", FIVE_EMPTIES, "message 0: refused DepthLimit at 0:0 pointers 1\n", status=1),
+    Row("vet --depth 1", EMPTY, "message 0: accepted charge 0 depth 1 pointers 1 caps 0\n"),
+    Row("vet --depth 1", BITLESS, "message 0: accepted charge 3 depth 1 pointers 1 caps 0\n"),
+    Row("vet --depth 2", POINTERS, "message 0: accepted charge 3 depth 2 pointers 3 caps 0\n"),
+    Row("check --depth 1", NO_STRUCTS, "message 0: canonical\n"),
+    Row("check --depth 2", FIVE_EMPTIES, "message 0: canonical\n"),
+    Row("check --depth 1", FIVE_EMPTIES, "message 0: refused DepthLimit at 0:0 pointers 1\n", status=1),
+    Row("check --depth 3", BELOW_A_LIST, "message 0: canonical\n"),
+)
+
+# Streams of one message, what `vet --exclusive` says of it, and what is said without the option.
+EXCLUSIVES = (
+    # two pointers to one struct, of which the second overlaps
+    ("0000000004000000 0000000000000200 0400000001000000 0000000001000000 0700000000000000",
+     "refused Overlap at 0:2 pointers 3", "accepted charge 4 depth 2 pointers 3 caps 0"),
+    # a struct on the root word, and one on its own landing pad
+    ("0000000001000000 fcffffff01000000",
+     "refused Overlap at 0:0 pointers 1", "accepted charge 1 depth 1 pointers 1 caps 0"),
+    ("0000000002000000 0a00000000000000 fcffffff01000000",
+     "refused Overlap at 0:0 pointers 1", "accepted charge 2 depth 1 pointers 1 caps 0"),
+    # an empty struct that starts inside another
+    ("0000000003000000 0000000001000100 2a00000000000000 f8ffffff00000000",
+     "accepted charge 2 depth 2 pointers 2 caps 0", "accepted charge 2 depth 2 pointers 2 caps 0"),
+    # a null root, a struct without words, and one of a word
+    ("0000000001000000 0000000000000000",
+     "accepted charge 0 depth 0 pointers 1 caps 0", "accepted charge 0 depth 0 pointers 1 caps 0"),
+    ("0000000001000000 fcffffff00000000",
+     "accepted charge 0 depth 1 pointers 1 caps 0", "accepted charge 0 depth 1 pointers 1 caps 0"),
+    ("0000000002000000 0000000001000000 2a00000000000000",
+     "accepted charge 1 depth 1 pointers 1 caps 0", "accepted charge 1 depth 1 pointers 1 caps 0"),
+    # two structs in three words
+    ("0000000005000000 010000001f000000 0800000001000000 0500000000000000 0000000000000000 ff00000000000000",
+     "accepted charge 4 depth 2 pointers 1 caps 0", "accepted charge 4 depth 2 pointers 1 caps 0"),
+    # landing pads of one word and of two
+    ("0100000001000000 02000000deadbeef 0200000001000000 0000000001000000 2a00000000000000",
+     "accepted charge 2 depth 1 pointers 1 caps 0", "accepted charge 2 depth 1 pointers 1 caps 0"),
+    ("0200000001000000 0200000000000000 0600000001000000 0200000002000000 0000000000000000",
+     "accepted charge 2 depth 1 pointers 1 caps 0", "accepted charge 2 depth 1 pointers 1 caps 0"),
+    ("0200000001000000 0200000001000000 0600000001000000 0200000002000000 0000000001000000 2a00000000000000",
+     "accepted charge 3 depth 1 pointers 1 caps 0", "accepted charge 3 depth 1 pointers 1 caps 0"),
+    ("0000000003000000 0a00000000000000 0000000001000000 2a00000000000000",
+     "accepted charge 2 depth 1 pointers 1 caps 0", "accepted charge 2 depth 1 pointers 1 caps 0"),
+    # a list of two pointers
+    ("0000000004000000 0100000016000000 0000000000000000 0000000001000000 0900000000000000",
+     "accepted charge 3 depth 2 pointers 3 caps 0", "accepted charge 3 depth 2 pointers 3 caps 0"),
+    # a cycle, and a message without a root
+    ("0000000001000000 fcffffff00000100",
+     "refused DepthLimit at 0:0 pointers 65", "refused DepthLimit at 0:0 pointers 65"),
+    ("0000000000000000", "refused NoRoot at 0:0 pointers 0", "refused NoRoot at 0:0 pointers 0"),
+)
+
+# Messages of a struct on the root word, of none, and of a null root.
+OVERLAPS = (
+    Row("vet --exclusive", "0000000001000000 fcffffff01000000 0000000000000000 0000000001000000 0000000000000000",
+        "message 0: refused Overlap at 0:0 pointers 1\n"
+        "message 1: refused NoRoot at 0:0 pointers 0\n"
+        "message 2: accepted charge 0 depth 0 pointers 1 caps 0\n", status=1),
+)
+
+# Tables that tell of too many words: of one segment, and of 512, each of the most that a table can tell of. Each
+# command that reads messages refuses them.
+TOO_LARGE = (
+    ("00000000ffffffff", "capvet: message 0: TooLarge 4294967295\n"),
+    ("ff010000" + 512 * "ffffffff" + "00000000", "capvet: message 0: TooLarge 2199023255040\n"),
+)
+
+# 44 words that are reached by more than four million ways.
+DOUBLED = (
+    Row("vet",
+        "000000002c000000 0000000000000200" + 20 * " 0400000000000200 0000000000000200"
+        + " 0400000001000000 0000000001000000 0700000000000000",
+        "message 0: accepted charge 6291454 depth 22 pointers 4194303 caps 0\n"),
+)
+
+# 128 lists of one struct of one pointer, each below the struct of the one before it.
+NESTED_LISTS = "0000000001010000" + 128 * " 010000000f000000 0400000000000100" + " 0000000000000000"
+NESTED = (
+    Row("vet --depth 256", NESTED_LISTS, "message 0: accepted charge 256 depth 256 pointers 129 caps 0\n"),
+    Row("vet --depth 255", NESTED_LISTS, "message 0: refused DepthLimit at 0:254 pointers 128\n", status=1),
+    Row("check --depth 255", NESTED_LISTS, "message 0: refused DepthLimit at 0:254 pointers 128\n", status=1),
+)
+
+# ------------------------------------------------------------------ dump and get
+
+STRUCTS_DUMP = """\
+message 0: accepted charge 5 depth 2 pointers 3 caps 0
+root structs 2 1 1
+  i0 struct 1 1
+    d0 0100000000000000
+    p0 null
+  i1 struct 1 1
+    d0 0000000000000000
+    p0 null
+"""
+
+# What `dump` writes.
+DUMPS = (
+    Row("dump", NULL, "message 0: accepted charge 0 depth 0 pointers 1 caps 0\nroot null\n"),
+    Row("dump", EMPTY, "message 0: accepted charge 0 depth 1 pointers 1 caps 0\nroot struct 0 0\n"),
+    # two pointers to one struct
+    Row("dump", SHARED,
+        "message 0: accepted charge 4 depth 2 pointers 3 caps 0\n"
+        "root struct 0 2\n"
+        "  p0 struct 1 0\n"
+        "    d0 0700000000000000\n"
+        "  p1 struct 1 0\n"
+        "    d0 0700000000000000\n"),
+    # two elements in three words
+    Row("dump", SURPLUS,
+        "message 0: accepted charge 4 depth 2 pointers 1 caps 0\n"
+        "root structs 2 1 0\n"
+        "  i0 struct 1 0\n"
+        "    d0 0500000000000000\n"
+        "  i1 struct 1 0\n"
+        "    d0 0000000000000000\n"),
+    # the unused bits of three are zeros
+    Row("dump", BITS,
+        "message 0: accepted charge 1 depth 1 pointers 1 caps 0\nroot list 1 3\n  w0 0700000000000000\n"),
+    # structs of one word and one pointer
+    Row("dump", STRUCTS, STRUCTS_DUMP),
+    # messages that are refused
+    Row("dump", CYCLE, "message 0: refused DepthLimit at 0:0 pointers 65\n", status=1),
+    Row("dump --words 3", SHARED, "message 0: refused WordLimit at 0:2 pointers 3\n", status=1),
+    # other nodes
+    Row("dump", CAPABILITY, "message 0: accepted charge 0 depth 0 pointers 1 caps 1\nroot cap 5\n"),
+    Row("dump", STRUCT,
+        "message 0: accepted charge 1 depth 1 pointers 1 caps 0\nroot struct 1 0\n  d0 2a00000000000000\n"),
+    # elements without bits have no words
+    Row("dump", BITLESS, "message 0: accepted charge 3 depth 1 pointers 1 caps 0\nroot list 0 3\n"),
+    # nine bytes
+    Row("dump", "0000000003000000 010000004a000000 0102030405060708 ffffffffffffffff",
+        "message 0: accepted charge 2 depth 1 pointers 1 caps 0\n"
+        "root list 2 9\n"
+        "  w0 0102030405060708\n"
+        "  w1 ff00000000000000\n"),
+    # a list of pointers
+    Row("dump", POINTERS,
+        "message 0: accepted charge 3 depth 2 pointers 3 caps 0\n"
+        "root pointers 2\n"
+        "  i0 null\n"
+        "  i1 struct 1 0\n"
+        "    d0 0900000000000000\n"),
+    # structs without words aren't shown
+    Row("dump", THREE_EMPTIES, "message 0: accepted charge 4 depth 2 pointers 1 caps 0\nroot structs 3 0 0\n"),
+    # no structs have sizes
+    Row("dump", "0000000002000000 0100000007000000 0000000001000200",
+        "message 0: accepted charge 1 depth 1 pointers 1 caps 0\nroot structs 0 1 2\n"),
+    # a far pointer into its own segment
+    Row("dump", "0000000003000000 0a00000000000000 0000000001000000 2a00000000000000",
+        "message 0: accepted charge 2 depth 1 pointers 1 caps 0\nroot struct 1 0\n  d0 2a00000000000000\n"),
+)
+
+# The deepest of all dumps: 128 lists of one struct of one word and one pointer, each below the struct before it.
+LADDER = (
+    Row("dump --depth 256",
+        "0000000081010000 "
+        + " ".join(f"0100000017000000 0400000001000100 {step:02x}00000000000000" for step in range(128))
+        + " 0000000000000000",
+        "message 0: accepted charge 384 depth 256 pointers 129 caps 0\nroot structs 1 1 1\n"
+        + "".join(
+            "  " * (2 * step + 1) + "i0 struct 1 1\n"
+            + "  " * (2 * step + 2) + f"d0 {step:02x}00000000000000\n"
+            + "  " * (2 * step + 2) + ("p0 structs 1 1 1\n" if step < 127 else "p0 null\n")
+            for step in range(128))),
+)
+
+# What `get` writes.
+GETS = (
+    Row("get /p1", SHARED, "message 0: found\nnode struct 1 0\n  d0 0700000000000000\n"),
+    Row("get /p2", SHARED, "message 0: none\n"),
+    Row("get /i0", SHARED, "message 0: none\n"),
+    Row("get /p0/p0", SHARED, "message 0: none\n"),
+    # a node without what its pointers lead to
+    Row("get /", SHARED, "message 0: found\nnode struct 0 2\n"),
+    Row("get /", NULL, "message 0: found\nnode null\n"),
+    Row("get /", BITS, "message 0: found\nnode list 1 3\n  w0 0700000000000000\n"),
+    Row("get /", CAPABILITY, "message 0: found\nnode cap 5\n"),
+    Row("get /", POINTERS, "message 0: found\nnode pointers 2\n"),
+    Row("get /i1", STRUCTS, "message 0: found\nnode struct 1 1\n  d0 0000000000000000\n"),
+    Row("get /i1/p0", STRUCTS, "message 0: found\nnode null\n"),
+    # an element that a dump doesn't show
+    Row("get /i2", THREE_EMPTIES, "message 0: found\nnode struct 0 0\n"),
+    Row("get /i3", THREE_EMPTIES, "message 0: none\n"),
+    Row("get /p0", CYCLE, "message 0: refused DepthLimit at 0:0 pointers 65\n", status=1),
+    Row("get /p0 --words 3", SHARED, "message 0: refused WordLimit at 0:2 pointers 3\n", status=1),
+)
+
+# A null pointer, a message that is refused, and two pointers.
+BEHIND_A_REFUSAL = (
+    Row("dump", f"{NULL} {CYCLE} {SHARED}",
+        "message 0: accepted charge 0 depth 0 pointers 1 caps 0\n"
+        "root null\n"
+        "message 1: refused DepthLimit at 0:0 pointers 65\n"
+        "message 2: accepted charge 4 depth 2 pointers 3 caps 0\n"
+        "root struct 0 2\n"
+        "  p0 struct 1 0\n"
+        "    d0 0700000000000000\n"
+        "  p1 struct 1 0\n"
+        "    d0 0700000000000000\n", status=1),
+    Row("get /p1", f"{NULL} {CYCLE} {SHARED}",
+        "message 0: none\n"
+        "message 1: refused DepthLimit at 0:0 pointers 65\n"
+        "message 2: found\n"
+        "node struct 1 0\n"
+        "  d0 0700000000000000\n", status=1),
+)
+
+# ------------------------------------------------------------------ canon, pack and unpack
+
+# A message, its canonical copy, and whether it is that itself.
+COPIES = (
+    # a null root
+    ("0000000001000000 0000000000000000",
+     "0000000001000000 0000000000000000", True),
+    # a struct without words
+    ("0000000001000000 fcffffff00000000",
+     "0000000001000000 fcffffff00000000", True),
+    # a struct of one word
+    ("0000000002000000 0000000001000000 2a00000000000000",
+     "0000000002000000 0000000001000000 2a00000000000000", True),
+    # a zero word at the end of a struct
+    ("0000000003000000 0000000002000000 2a00000000000000 0000000000000000",
+     "0000000002000000 0000000001000000 2a00000000000000", False),
+    # two pointers to one struct
+    ("0000000004000000 0000000000000200 0400000001000000 0000000001000000 0700000000000000",
+     "0000000005000000 0000000000000200 0400000001000000 0400000001000000 0700000000000000 0700000000000000", False),
+    # elements without bits
+    ("0000000001000000 0100000018000000",
+     "0000000001000000 0100000018000000", True),
+    # surplus words
+    ("0000000005000000 010000001f000000 0800000001000000 0500000000000000 0000000000000000 ff00000000000000",
+     "0000000004000000 0100000017000000 0800000001000000 0500000000000000 0000000000000000", False),
+    # two segments
+    ("0100000001000000 02000000deadbeef 0200000001000000 0000000001000000 2a00000000000000",
+     "0000000002000000 0000000001000000 2a00000000000000", False),
+    # a pad of zeros
+    ("0100000001000000 0100000000000000 0200000001000000 0000000000000000",
+     "0000000001000000 0000000000000000", False),
+    # a struct without words in an empty segment
+    ("0200000001000000 0200000000000000 0600000001000000 0200000002000000 0000000000000000",
+     "0000000001000000 fcffffff00000000", False),
+    # bits behind the last value
+    ("0000000002000000 0100000019000000 ffffffffffffffff",
+     "0000000002000000 0100000019000000 0700000000000000", False),
+    # a pad of two words
+    ("0200000001000000 0200000001000000 0600000001000000 0200000002000000 0000000001000000 2a00000000000000",
+     "0000000002000000 0000000001000000 2a00000000000000", False),
+    # a list of pointers
+    ("0000000004000000 0100000016000000 0000000000000000 0000000001000000 0900000000000000",
+     "0000000004000000 0100000016000000 0000000000000000 0000000001000000 0900000000000000", True),
+    # words and pointers that no element needs
+    ("0000000006000000 0100000027000000 0800000001000100 0100000000000000 0000000000000000 0000000000000000 "
+     "0000000000000000",
+     "0000000004000000 0100000017000000 0800000001000000 0100000000000000 0000000000000000", False),
+    # a far pointer into its own segment
+    ("0000000003000000 0a00000000000000 0000000001000000 2a00000000000000",
+     "0000000002000000 0000000001000000 2a00000000000000", False),
+    # a zero word of what an element leads to
+    ("0000000005000000 010000000f000000 0400000000000100 0000000002000000 2a00000000000000 0000000000000000",
+     "0000000004000000 010000000f000000 0400000000000100 0000000001000000 2a00000000000000", False),
+    # an element's pointer
+    ("0000000004000000 010000000f000000 0400000000000100 0000000001000000 2a00000000000000",
+     "0000000004000000 010000000f000000 0400000000000100 0000000001000000 2a00000000000000", True),
+    # a word behind the tree
+    ("0000000003000000 0000000001000000 2a00000000000000 0000000000000000",
+     "0000000002000000 0000000001000000 2a00000000000000", False),
+    # a second segment without words
+    ("0100000002000000 0000000000000000 0000000001000000 2a00000000000000",
+     "0000000002000000 0000000001000000 2a00000000000000", False),
+    # children in the wrong order
+    ("0000000005000000 0000000000000200 0800000001000000 0000000001000000 0700000000000000 0900000000000000",
+     "0000000005000000 0000000000000200 0400000001000000 0400000001000000 0900000000000000 0700000000000000", False),
+    # a struct without words of another offset
+    ("0000000003000000 0000000001000100 2a00000000000000 f8ffffff00000000",
+     "0000000003000000 0000000001000100 2a00000000000000 fcffffff00000000", False),
+)
+
+# A struct with a zero word at its end, its copy, and a message without a root.
+LONG = "0000000003000000 0000000002000000 2a00000000000000 0000000000000000"
+SHORT = "0000000002000000 0000000001000000 2a00000000000000"
+ROOTLESS = "0000000000000000"
+
+# The first message without a copy ends the copies, and none ends the check.
+COPY_ENDS = (
+    Row("canon", f"{LONG} {CAPABILITY} {LONG}", word(SHORT), "capvet: message 1: HasCapability at 0:0\n", 1),
+    Row("canon", f"{LONG} {CYCLE} {LONG}", word(SHORT), "capvet: message 1: refused DepthLimit at 0:0\n", 1),
+    Row("canon", f"{LONG} {ROOTLESS} {LONG}", word(SHORT), "capvet: message 1: refused NoRoot at 0:0\n", 1),
+    Row("check", f"{SHORT} {CYCLE} {LONG} {CAPABILITY} {ROOTLESS}",
+        "message 0: canonical\n"
+        "message 1: refused DepthLimit at 0:0 pointers 65\n"
+        "message 2: not canonical\n"
+        "message 3: not canonical\n"
+        "message 4: refused NoRoot at 0:0 pointers 0\n", status=1),
+)
+
+# Words, and their packed spelling.
+SPELLINGS = (
+    ("0800000003000200 19000000aa010000", "51080302 3119aa01"),
+    ("", ""),
+    ("0000000000000000", "0000"),
+    ("0000000000000000 0000000000000000 0000000000000000 0000000000000000", "0003"),
+    ("8a8a8a8a8a8a8a8a 8a8a8a8a8a8a8a8a 8a8a8a8a8a8a8a8a 8a8a8a8a8a8a8a8a",
+     "ff 8a8a8a8a8a8a8a8a 03 8a8a8a8a8a8a8a8a 8a8a8a8a8a8a8a8a 8a8a8a8a8a8a8a8a"),
+    ("0101010101010101 0100010101010101 0000010101010101", "ff 0101010101010101 01 0100010101010101 fc010101010101"),
+    ("0000000002000000 0000000001000000 2a00000000000000", "1002 1001 012a"),
+    ("0000000004000000 0000000000000200 0400000001000000 0000000001000000 0700000000000000",
+     "1004 4002 110401 1001 0107"),
+    # a run of zero words has at most 256 of them
+    (257 * "0000000000000000", "00ff 0000"),
+)
+
+# Packed streams of messages.
+PACKED_STREAMS = (
+    Row("vet --packed", "10010000", "message 0: accepted charge 0 depth 0 pointers 1 caps 0\n"),
+    # the run of zero words goes on into a second message
+    Row("vet --packed", "10010001",
+        "message 0: accepted charge 0 depth 0 pointers 1 caps 0\n"
+        "message 1: refused NoRoot at 0:0 pointers 0\n", status=1),
+    # and the same with further messages behind it
+    Row("vet --packed", "10010001100440021104011001010710044002110401100101071004400211040110010107",
+        "message 0: accepted charge 0 depth 0 pointers 1 caps 0\n"
+        "message 1: refused NoRoot at 0:0 pointers 0\n"
+        "message 2: accepted charge 4 depth 2 pointers 3 caps 0\n"
+        "message 3: accepted charge 4 depth 2 pointers 3 caps 0\n"
+        "message 4: accepted charge 4 depth 2 pointers 3 caps 0\n", status=1),
+    Row("vet --packed", "100100", "", "capvet: message 0: Truncated at byte 3\n", 1),
+    Row("vet --packed", "1004400211040110010107", "message 0: accepted charge 4 depth 2 pointers 3 caps 0\n"),
+)
+
+# Inputs of words, and packed streams, through other commands.
+WORDS = (
+    # a byte that is marked may be zero
+    Row("unpack", "0100", bytes(8)),
+    # two words as they are, and then half a word
+    Row("unpack", "ff8a8a8a8a8a8a8a8a028a8a8a8a8a8a8a8a8a8a8a8a", 16 * b"\x8a", "capvet: Truncated at byte 22\n", 1),
+    # a message of a struct of one word without its last two bytes
+    Row("pack", "0000000002000000 0000000001000000 2a0000000000", word("1002 1001"),
+        "capvet: Truncated at byte 22\n", 1),
+    Row("vet --packed", "1002 1001 012a", "message 0: accepted charge 1 depth 1 pointers 1 caps 0\n"),
+    Row("canon --packed", "1002 1001 012a", word(STRUCT)),
+    Row("segments --packed", "10010001",
+        "message 0: segments 1 words 1\n"
+        "segment 0: 1\n"
+        "root 0000000000000000\n"
+        "message 1: segments 1 words 0\n"
+        "segment 0: 0\n"
+        "root none\n"),
+)
+
+# ------------------------------------------------------------------ command lines
+
+# Command lines that are wrong, and what is said of them.
+MISTAKES = (
+    ("vet --size 268435457", "invalid value '268435457' for '--size <N>': 268435457 is not in 0..=268435456\n"),
+    ("vet --words 268435457", "invalid value '268435457' for '--words <N>': 268435457 is not in 0..=268435456\n"),
+    ("vet --depth 257", "invalid value '257' for '--depth <N>': 257 is not in 0..=256\n"),
+    ("vet --depth deep", "invalid value 'deep' for '--depth <N>': invalid digit found in string\n"),
+    ("vet --words", "a value is required for '--words <N>' but none was supplied\n"),
+    ("get", "the following required arguments were not provided:\n  <PATH>\n\nUsage: capvet get <PATH> [FILE]\n"),
+    ("dump --depth 257", "invalid value '257' for '--depth <N>': 257 is not in 0..=256\n"),
+    ("vet one two", "unexpected argument 'two' found\n\nUsage: capvet vet [OPTIONS] [FILE]\n"),
+    ("vet --deep 1",
+     "unexpected argument '--deep' found\n"
+     "\n"
+     "  tip: a similar argument exists: '--depth'\n"
+     "\n"
+     "Usage: capvet vet --depth <N> [FILE]\n"),
+    ("",
+     "'capvet' requires a subcommand but one was not provided\n"
+     "  [subcommands: segments, vet, dump, get, check, canon, pack, unpack, help]\n"
+     "\n"
+     "Usage: capvet <COMMAND>\n"),
+    ("vat",
+     "unrecognized subcommand 'vat'\n"
+     "\n"
+     "  tip: a similar subcommand exists: 'vet'\n"
+     "\n"
+     "Usage: capvet <COMMAND>\n"),
+    ("pack --packed",
+     "unexpected argument '--packed' found\n"
+     "\n"
+     "  tip: to pass '--packed' as a value, use '-- --packed'\n"
+     "\n"
+     "Usage: capvet pack [FILE]\n"),
+    ("segments --size x", "invalid value 'x' for '--size <N>': invalid digit found in string\n"),
+    ("segments --size 268435457", "invalid value '268435457' for '--size <N>': 268435457 is not in 0..=268435456\n"),
+)
+
+# Others, and how what is said of them begins.
+MISTAKE_BEGINNINGS = (
+    ("segment", "error: unrecognized subcommand 'segment'"),
+    ("segments --nothing 1", "error: unexpected argument '--nothing' found"),
+    ("segments --size many", "error: invalid value 'many' for '--size <N>'"),
+    ("segments --words 1", "error: unexpected argument '--words' found"),
+    ("segments a b", "error: unexpected argument 'b' found"),
+    ("segments one two", "error: unexpected argument 'two' found"),
+    ("dump --exclusive", "error: unexpected argument '--exclusive' found"),
+    ("vet --exclusive=1", "error: unexpected value '1' for '--exclusive' found"),
+    ("unpack --size 1", "error: unexpected argument '--size' found"),
+)
+
+# Paths that are none, and where they go wrong.
+BAD_PATHS = (
+    ("", 0),
+    ("p0", 0),
+    ("p1", 0),
+    ("é", 0),
+    ("//", 1),
+    ("/é", 1),
+    ("/x0", 1),
+    ("/p", 2),
+    ("/pé", 2),
+    ("/i", 2),
+    ("/p01", 3),
+    ("/p0p", 3),
+    ("/p1/", 4),
+    ("/p1//", 4),
+    ("/p65536", 6),
+    ("/p100000", 7),
+    ("/i4294967296", 11),
+)
+
+# Command lines that are taken, each of a file that isn't there, and its name.
+NAMES = (
+    ("segments some.bin", "some.bin"),
+    ("segments a.bin", "a.bin"),
+    ("segments --size 0 -", "-"),
+    ("segments --size 268435456 -", "-"),
+    ("segments f --size 1", "f"),
+    ("vet some.bin", "some.bin"),
+    ("vet -", "-"),
+    ("vet --depth=3 --size=1 some.bin --words=2", "some.bin"),
+    ("vet a --packed", "a"),
+    ("vet --exclusive a", "a"),
+    ("get /p65535 some.bin --packed", "some.bin"),
+    ("get --size=1 --words=2 --depth=3 /i4294967295 -", "-"),
+    ("pack a", "a"),
+    ("unpack a", "a"),
+)
