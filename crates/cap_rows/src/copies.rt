@@ -1,9 +1,9 @@
-//! Packing and unpacking, of whole inputs and of packed streams of messages.
+//! Packing and unpacking: where they end, and over devices that give little.
 
-use crate::devices::Full;
-use crate::engines::{Sips, settings};
-use crate::same::same;
-use crate::whole::run;
+use crate::devices::{Reader, Writer};
+use crate::engines::settings;
+use crate::same::{same, same_of};
+use crate::whole::bytes_of;
 use cap_cmd::{Cause, CopyFault, Outcome, RunFault, run_pack, run_unpack, run_vet};
 use cap_frame::FrameFault;
 use cap_pack::{Packer, Unpacker};
@@ -17,25 +17,11 @@ use std::test::Fail;
 const MOST: u64 = 1099511627776;
 
 // Words, and their packed spelling.
-static SPELLINGS: [(&str, &str); 8] = [
+static SPELLINGS: [(&str, &str); 3] = [
     ("0800000003000200 19000000aa010000", "51080302 3119aa01"),
-    ("", ""),
-    ("0000000000000000", "0000"),
-    (
-        "0000000000000000 0000000000000000 0000000000000000 0000000000000000",
-        "0003",
-    ),
     (
         "8a8a8a8a8a8a8a8a 8a8a8a8a8a8a8a8a 8a8a8a8a8a8a8a8a 8a8a8a8a8a8a8a8a",
         "ff 8a8a8a8a8a8a8a8a 03 8a8a8a8a8a8a8a8a 8a8a8a8a8a8a8a8a 8a8a8a8a8a8a8a8a",
-    ),
-    (
-        "0101010101010101 0100010101010101 0000010101010101",
-        "ff 0101010101010101 01 0100010101010101 fc010101010101",
-    ),
-    (
-        "0000000002000000 0000000001000000 2a00000000000000",
-        "1002 1001 012a",
     ),
     (
         "0000000004000000 0000000000000200 0400000001000000 0000000001000000 0700000000000000",
@@ -45,7 +31,7 @@ static SPELLINGS: [(&str, &str); 8] = [
 
 // What these bytes are packed to, read a byte at a time.
 fn packed(alloc: Global, bytes: &[u8]) -> Result<VecOut, Fail> {
-    let mut source = PlainWords::new(FromRead::new(Sips { bytes, most: 1 }));
+    let mut source = PlainWords::new(FromRead::new(Reader::honest(bytes, 1)));
     let mut sink = Packer::new(VecOut::new(alloc));
     match run_pack(&mut source, &mut sink, MOST) {
         Ok(words) if words == bytes.len() as u64 / 8 => Ok(sink.into_inner()),
@@ -55,7 +41,7 @@ fn packed(alloc: Global, bytes: &[u8]) -> Result<VecOut, Fail> {
 
 // What these bytes are unpacked to, read a byte at a time.
 fn unpacked(alloc: Global, bytes: &[u8]) -> Result<VecOut, Fail> {
-    let mut source = Unpacker::new(FromRead::new(Sips { bytes, most: 1 }));
+    let mut source = Unpacker::new(FromRead::new(Reader::honest(bytes, 1)));
     let mut sink = PlainSink::new(VecOut::new(alloc));
     match run_unpack(&mut source, &mut sink, MOST) {
         Ok(_) => Ok(sink.into_inner()),
@@ -63,41 +49,25 @@ fn unpacked(alloc: Global, bytes: &[u8]) -> Result<VecOut, Fail> {
     }
 }
 
-// That these words and this text are each other's spelling, through the program and a byte at a time.
-fn spells(alloc: Global, plain: &str, text: &str) -> Result<bool, Fail> {
-    let plain = plain.replace(alloc, " ", "")?;
-    let text = text.replace(alloc, " ", "")?;
-    let there = run(alloc, "pack", &[], plain.as_str())?;
-    let back = run(alloc, "unpack", &[], text.as_str())?;
-    let plain = hex::decode(alloc, plain.as_str())?;
-    let text = hex::decode(alloc, text.as_str())?;
-    Ok(
-        there.status == 0
-            && back.status == 0
-            && there.err.bytes().is_empty()
-            && back.err.bytes().is_empty()
-            && there.out.bytes() == text.as_slice()
-            && back.out.bytes() == plain.as_slice()
-            && packed(alloc, plain.as_slice())?.bytes() == text.as_slice()
-            && unpacked(alloc, text.as_slice())?.bytes() == plain.as_slice(),
-    )
-}
-
 #[test]
-fn packs_and_unpacks(rt: HostRuntime) -> Result<(), Fail> {
+fn packs_and_unpacks_a_byte_at_a_time(rt: HostRuntime) -> Result<(), Fail> {
     let alloc = rt.alloc();
     for (plain, text) in &SPELLINGS {
-        assert!(rt; spells(alloc, plain, text)?, "{plain}");
+        let words = bytes_of(alloc, plain)?;
+        let spelling = bytes_of(alloc, text)?;
+        same_of(
+            &rt,
+            plain,
+            packed(alloc, words.as_slice())?.bytes(),
+            spelling.as_slice(),
+        );
+        same_of(
+            &rt,
+            plain,
+            unpacked(alloc, spelling.as_slice())?.bytes(),
+            words.as_slice(),
+        );
     }
-    // a run of zero words has at most 256 of them
-    let mut zeros = String::new(alloc);
-    for _ in 0..257u32 {
-        zeros.push_str("0000000000000000")?;
-    }
-    assert!(rt; spells(alloc, zeros.as_str(), "00ff 0000")?);
-    // a byte that is marked may be zero
-    let lenient = hex::decode(alloc, "0100")?;
-    assert!(rt; unpacked(alloc, lenient.as_slice())?.bytes() == [0; 8].as_slice());
     Ok(())
 }
 
@@ -107,20 +77,9 @@ const CUT: &str = "ff8a8a8a8a8a8a8a8a028a8a8a8a8a8a8a8a8a8a8a8a";
 #[test]
 fn ends_at_a_cut_group(rt: HostRuntime) -> Result<(), Fail> {
     let alloc = rt.alloc();
-    let left = run(alloc, "unpack", &[], CUT)?;
-    same(&rt, left.status, 1);
-    assert!(rt; left.out.bytes() == [0x8a; 16].as_slice());
-    same(
-        &rt,
-        left.err.bytes(),
-        b"capvet: Truncated at byte 22\n".as_slice(),
-    );
     let bytes = hex::decode(alloc, CUT)?;
     for most in [1, 22] {
-        let mut source = Unpacker::new(FromRead::new(Sips {
-            bytes: bytes.as_slice(),
-            most,
-        }));
+        let mut source = Unpacker::new(FromRead::new(Reader::honest(bytes.as_slice(), most)));
         let mut sink = PlainSink::new(VecOut::new(alloc));
         let cut = Err(CopyFault::Source(SourceFault::Truncated { byte: 22 }));
         assert!(rt; run_unpack(&mut source, &mut sink, MOST) == cut);
@@ -134,26 +93,27 @@ fn ends_at_a_cut_group(rt: HostRuntime) -> Result<(), Fail> {
     Ok(())
 }
 
+// How many words may be copied of a null pointer's message, what is answered, and the text that is
+// written.
+static MOSTS: [(u64, Result<u64, CopyFault>, &[u8]); 3] = [
+    (0, Err(CopyFault::TooManyWords), b""),
+    (1, Err(CopyFault::TooManyWords), b"\x10\x01"),
+    (2, Ok(2), b"\x10\x01\0\0"),
+];
+
 #[test]
 fn ends_at_a_word_too_many(rt: HostRuntime) -> Result<(), Fail> {
     let alloc = rt.alloc();
     let null = hex::decode(alloc, "00000000010000000000000000000000")?;
-    for (words, answer, text) in [
-        (0, Err(CopyFault::TooManyWords), &b""[..]),
-        (1, Err(CopyFault::TooManyWords), &b"\x10\x01"[..]),
-        (2, Ok(2), &b"\x10\x01\0\0"[..]),
-    ] {
+    for (words, answer, text) in &MOSTS {
         let mut source = PlainWords::new(SliceIn::new(null.as_slice()));
         let mut sink = Packer::new(VecOut::new(alloc));
-        assert!(rt; run_pack(&mut source, &mut sink, words) == answer);
-        same(&rt, sink.into_inner().bytes(), text);
-        let mut sips = PlainWords::new(FromRead::new(Sips {
-            bytes: null.as_slice(),
-            most: 1,
-        }));
+        assert!(rt; run_pack(&mut source, &mut sink, *words) == *answer);
+        same(&rt, sink.into_inner().bytes(), *text);
+        let mut sips = PlainWords::new(FromRead::new(Reader::honest(null.as_slice(), 1)));
         let mut sink = Packer::new(VecOut::new(alloc));
-        assert!(rt; run_pack(&mut sips, &mut sink, words) == answer);
-        same(&rt, sink.into_inner().bytes(), text);
+        assert!(rt; run_pack(&mut sips, &mut sink, *words) == *answer);
+        same(&rt, sink.into_inner().bytes(), *text);
     }
     Ok(())
 }
@@ -213,11 +173,7 @@ fn unpacks_no_word_past_a_full_output(rt: HostRuntime) -> Result<(), Fail> {
     let text = hex::decode(alloc, MANY)?;
     for room in [0, 1, 8191, 8192, 8193, 9255] {
         let mut source = Unpacker::new(SliceIn::new(text.as_slice()));
-        let mut sink = PlainSink::new(FromWrite::new(Full {
-            taken: Vec::new(alloc),
-            room,
-            tells: true,
-        }));
+        let mut sink = PlainSink::new(FromWrite::new(Writer::full(alloc, room, true)));
         let answer = run_unpack(&mut source, &mut sink, MOST);
         assert!(rt; answer == Err(CopyFault::Output(OutFault::Device)));
         same(&rt, sink.into_inner().into_inner().taken.len(), room);
@@ -235,11 +191,7 @@ fn leaves_a_beginning_where_the_output_fails(rt: HostRuntime) -> Result<(), Fail
     let whole = hex::decode(alloc, "1004400211040110010107")?;
     for room in 0..12usize {
         let mut source = PlainWords::new(SliceIn::new(bytes.as_slice()));
-        let mut sink = Packer::new(FromWrite::new(Full {
-            taken: Vec::new(alloc),
-            room,
-            tells: room % 2 == 0,
-        }));
+        let mut sink = Packer::new(FromWrite::new(Writer::full(alloc, room, room % 2 == 0)));
         let answer = run_pack(&mut source, &mut sink, MOST);
         if room < 11 {
             assert!(rt; answer == Err(CopyFault::Output(OutFault::Device)));
@@ -253,126 +205,47 @@ fn leaves_a_beginning_where_the_output_fails(rt: HostRuntime) -> Result<(), Fail
     Ok(())
 }
 
-// A packed stream of messages, and what vetting it leaves and answers.
-struct Row {
-    stream: &'static str,
-    status: u8,
-    out: &'static str,
-    err: &'static str,
-    answer: Result<Outcome, RunFault>,
-}
-
-static ROWS: [Row; 5] = [
-    Row {
-        stream: "10010000",
-        status: 0,
-        out: "message 0: accepted charge 0 depth 0 pointers 1 caps 0\n",
-        err: "",
-        answer: Ok(Outcome {
-            messages: 1,
-            refused: 0,
-            noncanonical: 0,
-        }),
-    },
-    // the run of zero words goes on into a second message
-    Row {
-        stream: "10010001",
-        status: 1,
-        out: "message 0: accepted charge 0 depth 0 pointers 1 caps 0\nmessage 1: refused NoRoot at 0:0 pointers 0\n",
-        err: "",
-        answer: Ok(Outcome {
-            messages: 2,
+// Packed streams of messages, what vetting them answers, and the text that is written.
+static PACKED: [(&str, Result<Outcome, RunFault>, &str); 2] = [
+    // a run of zero words goes on into a second message, with further messages behind it
+    (
+        "10010001100440021104011001010710044002110401100101071004400211040110010107",
+        Ok(Outcome {
+            messages: 5,
             refused: 1,
             noncanonical: 0,
         }),
-    },
-    // and the same with further messages behind it
-    Row {
-        stream: "10010001100440021104011001010710044002110401100101071004400211040110010107",
-        status: 1,
-        out: "\
+        "\
 message 0: accepted charge 0 depth 0 pointers 1 caps 0
 message 1: refused NoRoot at 0:0 pointers 0
 message 2: accepted charge 4 depth 2 pointers 3 caps 0
 message 3: accepted charge 4 depth 2 pointers 3 caps 0
 message 4: accepted charge 4 depth 2 pointers 3 caps 0
 ",
-        err: "",
-        answer: Ok(Outcome {
-            messages: 5,
-            refused: 1,
-            noncanonical: 0,
-        }),
-    },
-    Row {
-        stream: "100100",
-        status: 1,
-        out: "",
-        err: "capvet: message 0: Truncated at byte 3\n",
-        answer: Err(RunFault {
+    ),
+    (
+        "100100",
+        Err(RunFault {
             message: 0,
             cause: Cause::Frame(FrameFault::Truncated { byte: 3 }),
         }),
-    },
-    Row {
-        stream: "1004400211040110010107",
-        status: 0,
-        out: "message 0: accepted charge 4 depth 2 pointers 3 caps 0\n",
-        err: "",
-        answer: Ok(Outcome {
-            messages: 1,
-            refused: 0,
-            noncanonical: 0,
-        }),
-    },
+        "",
+    ),
 ];
-
-#[test]
-fn vets_packed_streams(rt: HostRuntime) -> Result<(), Fail> {
-    let alloc = rt.alloc();
-    for row in &ROWS {
-        let left = run(alloc, "vet", &["--packed"], row.stream)?;
-        left.expect(
-            &rt,
-            row.stream,
-            row.out.as_bytes(),
-            row.err.as_bytes(),
-            row.status,
-        );
-    }
-    Ok(())
-}
 
 #[test]
 fn vets_packed_streams_a_byte_at_a_time(rt: HostRuntime) -> Result<(), Fail> {
     let alloc = rt.alloc();
     let settings = settings(u32::MAX).ok_or("settings")?;
-    for row in &ROWS {
-        let bytes = hex::decode(alloc, row.stream)?;
-        let mut source = Unpacker::new(FromRead::new(Sips {
-            bytes: bytes.as_slice(),
-            most: 1,
-        }));
-        let mut text = VecOut::new(alloc);
+    for (stream, wanted, text) in &PACKED {
+        let bytes = hex::decode(alloc, stream)?;
+        let mut source = Unpacker::new(FromRead::new(Reader::honest(bytes.as_slice(), 1)));
+        let mut out = VecOut::new(alloc);
         assert!(rt;
-            run_vet(alloc, &mut source, &mut text, &settings) == row.answer,
-            "{}",
-            row.stream
+            run_vet(alloc, &mut source, &mut out, &settings) == *wanted,
+            "{stream}"
         );
-        same(&rt, text.bytes(), row.out.as_bytes());
+        same(&rt, out.bytes(), text.as_bytes());
     }
-    Ok(())
-}
-
-#[test]
-fn shows_packed_streams(rt: HostRuntime) -> Result<(), Fail> {
-    let alloc = rt.alloc();
-    let left = run(alloc, "segments", &["--packed"], "10010001")?;
-    same(&rt, left.status, 0);
-    same(
-        &rt,
-        left.out.bytes(),
-        b"message 0: segments 1 words 1\nsegment 0: 1\nroot 0000000000000000\nmessage 1: segments 1 words 0\nsegment 0: 0\nroot none\n".as_slice(),
-    );
     Ok(())
 }

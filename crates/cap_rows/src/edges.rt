@@ -1,6 +1,6 @@
 //! Messages whose packed words are runs that end at a segment's edge, or a word before or behind it.
 
-use crate::engines::Sips;
+use crate::devices::Reader;
 use crate::same::same;
 use cap_frame::{Segments, SizeLimit, read_byte_message, read_message, write_message};
 use cap_pack::{Packer, Unpacker};
@@ -39,13 +39,13 @@ fn expect_message<R: AllocGlobal + Abort>(
     frame: &[u8],
 ) -> Result<(), Fail> {
     let limit = SizeLimit::new(40_000).ok_or("no limit")?;
-    let mut source = Unpacker::new(BufferedIn::new(rt.alloc(), Sips { bytes, most })?);
+    let mut source = Unpacker::new(BufferedIn::new(rt.alloc(), Reader::honest(bytes, most))?);
     let Ok(Some(message)) = read_byte_message(rt.alloc(), &mut source, limit) else {
         return Err("no message in one buffer".into());
     };
     assert!(rt; frame_of(rt.alloc(), &message.view())?.bytes() == frame);
     same(rt, source.next(), Ok(None));
-    let mut source = Unpacker::new(BufferedIn::new(rt.alloc(), Sips { bytes, most })?);
+    let mut source = Unpacker::new(BufferedIn::new(rt.alloc(), Reader::honest(bytes, most))?);
     let Ok(Some(message)) = read_message(rt.alloc(), &mut source, limit) else {
         return Err("no message of vectors".into());
     };

@@ -1,10 +1,9 @@
-//! Tests that cross crates: whole command lines, on whole streams.
+//! Tests that cross crates: what runs and engines do, and command lines are read as, that the built
+//! program doesn't show.
 #![tactic(auto)]
 
 #[cfg(test)]
 mod canons;
-#[cfg(test)]
-mod command_lines;
 #[cfg(test)]
 mod copies;
 #[cfg(test)]
@@ -16,25 +15,17 @@ mod edges;
 #[cfg(test)]
 mod engines;
 #[cfg(test)]
-mod exclusives;
+mod faults;
 #[cfg(test)]
 mod fronts;
 #[cfg(test)]
-mod levels;
-#[cfg(test)]
-mod paths;
+mod jobs;
 #[cfg(test)]
 mod pieces;
 #[cfg(test)]
+mod runs;
+#[cfg(test)]
 mod same;
-#[cfg(test)]
-mod segments;
-#[cfg(test)]
-mod trees;
-#[cfg(test)]
-mod usage;
-#[cfg(test)]
-mod verdicts;
 #[cfg(test)]
 mod whole;
 #[cfg(test)]

@@ -1,5 +1,6 @@
 //! Runs over devices that give and take few bytes a call, each of their calls failing in turn.
 
+use crate::devices::{Fault, HONEST, Reader, Writer};
 use crate::engines::settings;
 use crate::same::{same, same_of};
 use crate::whole::{job, run_over};
@@ -7,21 +8,11 @@ use cap_cmd::{Cause, Job, Outcome, RunFault, run_job, run_vet};
 use cap_frame::FrameFault;
 use cap_words::{FromRead, FromWrite, OutFault, PlainWords, VecOut};
 use std::alloc::Global;
-use std::io::{self, ErrorKind, Read, Write};
+use std::io::ErrorKind;
 use std::process::Abort;
 use std::test::Fail;
 
-// In which of its calls a device fails, counted from 1, and how. A writer without an error to answer
-// takes no bytes.
-#[derive(Clone, Copy)]
-pub(crate) struct Fault {
-    pub(crate) at: u32,
-    pub(crate) kind: Option<ErrorKind>,
-}
-
-// A device that never fails.
-pub(crate) const HONEST: Fault = Fault { at: 0, kind: None };
-
+// How many bytes a device gives or takes a call.
 pub(crate) const PIECES: [usize; 4] = [1, 2, 3, 7];
 
 // An interruption is an error as any other.
@@ -32,63 +23,6 @@ pub(crate) const WRITE_FAULTS: [Option<ErrorKind>; 3] = [
     Some(ErrorKind::Other),
     None,
 ];
-
-// A reader that gives few bytes a call, and counts its calls.
-#[derive(Drop)]
-pub(crate) struct Reader<'a> {
-    pub(crate) rest: &'a [u8],
-    pub(crate) most: usize,
-    pub(crate) fault: Fault,
-    pub(crate) calls: u32,
-}
-
-impl Read for Reader<'_> {
-    fn read(&mut self, buf: &mut [u8]) -> io::Result<usize> {
-        self.calls = self.calls.saturating_add(1);
-        if self.calls == self.fault.at {
-            let kind = self.fault.kind.unwrap_or(ErrorKind::Other);
-            return Err(io::Error::from(kind));
-        }
-        let count = buf.len().min(self.rest.len()).min(self.most);
-        let (given, rest) = self.rest.split_at(count);
-        buf[..count].copy_from_slice(given);
-        self.rest = rest;
-        Ok(count)
-    }
-}
-
-// A writer that takes few bytes a call, and counts its calls, flushes among them.
-#[derive(Drop)]
-pub(crate) struct Writer {
-    pub(crate) taken: Vec<u8>,
-    pub(crate) most: usize,
-    pub(crate) fault: Fault,
-    pub(crate) calls: u32,
-}
-
-impl Write for Writer {
-    fn write(&mut self, buf: &[u8]) -> io::Result<usize> {
-        self.calls = self.calls.saturating_add(1);
-        if self.calls == self.fault.at {
-            return match self.fault.kind {
-                Some(kind) => Err(io::Error::from(kind)),
-                None => Ok(0),
-            };
-        }
-        let count = buf.len().min(self.most);
-        self.taken.extend_from_slice(&buf[..count])?;
-        Ok(count)
-    }
-
-    fn flush(&mut self) -> io::Result<()> {
-        self.calls = self.calls.saturating_add(1);
-        if self.calls == self.fault.at {
-            let kind = self.fault.kind.unwrap_or(ErrorKind::Other);
-            return Err(io::Error::from(kind));
-        }
-        Ok(())
-    }
-}
 
 // A run over two such devices: what they gave and took, and how often they were called.
 #[derive(Drop)]
@@ -109,18 +43,8 @@ fn run_in_pieces(
     reading: Fault,
     writing: Fault,
 ) -> Ran {
-    let mut reader = Reader {
-        rest: bytes,
-        most,
-        fault: reading,
-        calls: 0,
-    };
-    let out = FromWrite::new(Writer {
-        taken: Vec::new(alloc),
-        most,
-        fault: writing,
-        calls: 0,
-    });
+    let mut reader = Reader::new(bytes, most, reading);
+    let out = FromWrite::new(Writer::new(alloc, most, writing));
     let mut err = VecOut::new(alloc);
     let (status, out) = run_job(alloc, job, FromRead::new(&mut reader), out, &mut err);
     let writer = out.into_inner();
@@ -414,18 +338,8 @@ fn vet_by_bytes(
     writing: Fault,
 ) -> Result<(Result<Outcome, RunFault>, Vec<u8>), Fail> {
     let settings = settings(u32::MAX).ok_or("settings")?;
-    let mut source = PlainWords::new(FromRead::new(Reader {
-        rest: bytes,
-        most: 1,
-        fault: reading,
-        calls: 0,
-    }));
-    let mut out = FromWrite::new(Writer {
-        taken: Vec::new(alloc),
-        most: 1,
-        fault: writing,
-        calls: 0,
-    });
+    let mut source = PlainWords::new(FromRead::new(Reader::new(bytes, 1, reading)));
+    let mut out = FromWrite::new(Writer::new(alloc, 1, writing));
     let answer = run_vet(alloc, &mut source, &mut out, &settings);
     Ok((answer, out.into_inner().taken))
 }

@@ -45,16 +45,9 @@ pub(crate) fn job(alloc: Global, command: &str, options: &[&str]) -> Result<Job,
     }
 }
 
-/// Runs a command with these options on the bytes that these hexadecimal digits tell.
-pub(crate) fn run(
-    alloc: Global,
-    command: &str,
-    options: &[&str],
-    stream: &str,
-) -> Result<Left, Fail> {
-    let bytes = hex::decode(alloc, stream)?;
-    let job = job(alloc, command, options)?;
-    Ok(run_over(alloc, &job, bytes.as_slice()))
+/// The bytes that these hexadecimal digits tell, spaces aside.
+pub(crate) fn bytes_of(alloc: Global, digits: &str) -> Result<Vec<u8>, Fail> {
+    Ok(hex::decode(alloc, digits.replace(alloc, " ", "")?.as_str())?)
 }
 
 /// Runs a job on these bytes.

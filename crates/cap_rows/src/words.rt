@@ -1,6 +1,7 @@
 //! Sources and sinks by themselves, over devices each of whose calls fails in turn.
 
-use crate::pieces::{Fault, PIECES, READ_FAULTS, Reader, WRITE_FAULTS, Writer};
+use crate::devices::{Fault, Reader, Writer};
+use crate::pieces::{PIECES, READ_FAULTS, WRITE_FAULTS};
 use crate::same::{same, same_of};
 use cap_pack::{Packer, Unpacker};
 use cap_words::{
@@ -113,15 +114,11 @@ fn expect_reads<R: AllocGlobal + Abort>(
     kind: ErrorKind,
 ) -> Result<(), Fail> {
     for at in 1..MANY {
-        let mut reader = Reader {
-            rest: bytes,
-            most,
-            fault: Fault {
-                at,
-                kind: Some(kind),
-            },
-            calls: 0,
+        let fault = Fault {
+            at,
+            kind: Some(kind),
         };
+        let mut reader = Reader::new(bytes, most, fault);
         let end = if buffered {
             let input = BufferedIn::new(rt.alloc(), &mut reader)?;
             read_to_fault(rt, input, packed, bytes)?
@@ -185,12 +182,7 @@ fn expect_writes<R: AllocGlobal + Abort>(
     kind: Option<ErrorKind>,
 ) -> Result<(), Fail> {
     for at in 1..MANY {
-        let output = FromWrite::new(Writer {
-            taken: Vec::new(rt.alloc()),
-            most,
-            fault: Fault { at, kind },
-            calls: 0,
-        });
+        let output = FromWrite::new(Writer::new(rt.alloc(), most, Fault { at, kind }));
         let (answer, output) = if packed {
             let mut sink = Packer::new(output);
             (put_to_fault(rt, &mut sink, rest), sink.into_inner())
