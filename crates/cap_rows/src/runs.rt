@@ -148,38 +148,40 @@ fn an_input_that_fails_ends_the_run_with_status_3(rt: HostRuntime) -> Result<(),
     Ok(())
 }
 
-// A command, its input, and what it writes.
-static TEXTS: [(&str, &str, &str); 8] = [
-    ("vet", NULL, NULL_VET),
-    ("vet", RESERVED, RESERVED_VET),
-    ("segments", NULL, NULL_SEGMENTS),
+// A command, its input, what it writes, and the status.
+static TEXTS: [(&str, &str, &str, u8); 8] = [
+    ("vet", NULL, NULL_VET, 0),
+    ("vet", RESERVED, RESERVED_VET, 1),
+    ("segments", NULL, NULL_SEGMENTS, 0),
     (
         "vet",
         "0000000001000000070000000500000000000000010000000000000000000000",
         "message 0: refused Reserved at 0:0 pointers 1\nmessage 1: accepted charge 0 depth 0 pointers 1 caps 0\n",
+        1,
     ),
-    ("pack", NULL, "\x10\x01\0\0"),
+    ("pack", NULL, "\x10\x01\0\0", 0),
     (
         "pack",
         "616161616161610061626364656667000800000003000200",
         "\x7faaaaaaa\x7fabcdefg\x51\x08\x03\x02",
+        0,
     ),
-    ("unpack", "0001", "\0\0\0\0\0\0\0\0\0\0\0\0\0\0\0\0"),
+    ("unpack", "0001", "\0\0\0\0\0\0\0\0\0\0\0\0\0\0\0\0", 0),
     (
         "unpack",
         "51080302ff6161616161616161016162636465666768",
         "\x08\0\0\0\x03\0\x02\0aaaaaaaaabcdefgh",
+        0,
     ),
 ];
 
 #[test]
 fn a_run_writes_its_text(rt: HostRuntime) -> Result<(), Fail> {
-    for (command, stream, text) in &TEXTS {
+    for (command, stream, text, status) in &TEXTS {
         let bytes = hex::decode(rt.alloc(), stream)?;
         let job = job(rt.alloc(), command, &[])?;
-        let status = if text.contains("refused") { 1 } else { 0 };
         let left = run_over(rt.alloc(), &job, bytes.as_slice());
-        left.expect(&rt, stream, text.as_bytes(), &[], status);
+        left.expect(&rt, stream, text.as_bytes(), &[], *status);
     }
     Ok(())
 }
@@ -203,7 +205,7 @@ fn expect_front<R: AllocGlobal + Abort>(
 
 #[test]
 fn an_output_that_fails_ends_the_run_with_status_3(rt: HostRuntime) -> Result<(), Fail> {
-    for (command, stream, text) in &TEXTS {
+    for (command, stream, text, _) in &TEXTS {
         let bytes = hex::decode(rt.alloc(), stream)?;
         let job = job(rt.alloc(), command, &[])?;
         for room in 0..text.len() {
@@ -215,15 +217,18 @@ fn an_output_that_fails_ends_the_run_with_status_3(rt: HostRuntime) -> Result<()
     Ok(())
 }
 
+// A command, and the line of an input that was spent.
+static SPENT: [(&str, &str); 4] = [
+    ("vet", "capvet: message 0: Spent\n"),
+    ("segments", "capvet: message 0: Spent\n"),
+    ("pack", "capvet: Spent\n"),
+    ("unpack", "capvet: Spent\n"),
+];
+
 #[test]
 fn an_input_that_was_spent_ends_the_run_with_status_3(rt: HostRuntime) -> Result<(), Fail> {
     let alloc = rt.alloc();
-    for (command, line) in [
-        ("vet", "capvet: message 0: Spent\n"),
-        ("segments", "capvet: message 0: Spent\n"),
-        ("pack", "capvet: Spent\n"),
-        ("unpack", "capvet: Spent\n"),
-    ] {
+    for (command, line) in &SPENT {
         let job = job(alloc, command, &[])?;
         let mut input = FromRead::new(Reader::broken(&[]));
         same(&rt, input.read(&mut [0]), Err(InFault::Device));
@@ -238,7 +243,7 @@ fn an_input_that_was_spent_ends_the_run_with_status_3(rt: HostRuntime) -> Result
 #[test]
 fn an_output_that_was_spent_ends_the_run_with_status_3(rt: HostRuntime) -> Result<(), Fail> {
     let alloc = rt.alloc();
-    for (command, stream, _) in &TEXTS {
+    for (command, stream, _, _) in &TEXTS {
         let job = job(alloc, command, &[])?;
         let mut out = FromWrite::new(Writer::full(alloc, 0, true));
         same(&rt, out.write(&[0]), Err(OutFault::Device));
