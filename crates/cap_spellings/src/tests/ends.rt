@@ -1,12 +1,17 @@
 //! What no contract can say: that calls succeed, and how often a device is called.
 
+use crate::tests::devices::{SlowReader, failing, slow, slow_writer};
 use crate::tests::same::{same, same_of};
+use crate::tests::steps::{
+    Puts, Reads, Takes, Writes, front, part, put_by, read_by, take_by, write_by,
+};
 use cap_words::{
     BufferedIn, ByteIn, ByteOut, FromRead, FromWrite, InFault, OutFault, PlainSink, PlainWords,
-    SinkFault, SliceIn, SourceFault, VecOut, WordSink, WordSource, bits, bytes_of, fill,
-    signed_offset, word_of, write_all,
+    SinkFault, SliceIn, SourceFault, VecOut, WordSource, bits, bytes_of, signed_offset, word_of,
+    write_all,
 };
-use std::io::{self, ErrorKind, Read, Write};
+use std::alloc::Global;
+use std::io::ErrorKind;
 use std::process::Abort;
 use std::test::Fail;
 
@@ -15,401 +20,379 @@ const TEXT: [u8; 20] = [
     1, 0, 0, 0, 0, 0, 0, 0, 8, 7, 6, 5, 4, 3, 2, 1, 0, 0, 0, 0xff,
 ];
 
-const WORDS: [u64; 2] = [1, 0x0102_0304_0506_0708];
+const FIRST: u64 = 1;
 
-// A reader that gives few bytes a call, fails in one of its calls and counts them.
-#[derive(Drop)]
-struct SlowReader<'a> {
-    rest: &'a [u8],
-    most: usize,
-    fails_at: u32,
-    kind: ErrorKind,
-    calls: u32,
-}
+const SECOND: u64 = 0x0102_0304_0506_0708;
 
-impl Read for SlowReader<'_> {
-    fn read(&mut self, buf: &mut [u8]) -> io::Result<usize> {
-        self.calls = self.calls.saturating_add(1);
-        if self.calls == self.fails_at {
-            return Err(io::Error::from(self.kind));
-        }
-        let count = buf.len().min(self.rest.len()).min(self.most);
-        let (given, rest) = self.rest.split_at(count);
-        buf[..count].copy_from_slice(given);
-        self.rest = rest;
-        Ok(count)
-    }
-}
-
-// A writer that takes few bytes a call, fails in one of its calls, by taking none where it has no
-// error to answer, and counts them.
-#[derive(Drop)]
-struct SlowWriter {
-    taken: Vec<u8>,
-    most: usize,
-    fails_at: u32,
-    kind: Option<ErrorKind>,
-    calls: u32,
-}
-
-impl Write for SlowWriter {
-    fn write(&mut self, buf: &[u8]) -> io::Result<usize> {
-        self.calls = self.calls.saturating_add(1);
-        if self.calls == self.fails_at {
-            return match self.kind {
-                Some(kind) => Err(io::Error::from(kind)),
-                None => Ok(0),
-            };
-        }
-        let count = buf.len().min(self.most);
-        self.taken.extend_from_slice(&buf[..count])?;
-        Ok(count)
-    }
-
-    fn flush(&mut self) -> io::Result<()> {
-        self.calls = self.calls.saturating_add(1);
-        match self.kind {
-            Some(kind) if self.calls == self.fails_at => Err(io::Error::from(kind)),
-            _ => Ok(()),
-        }
-    }
-}
-
-// The source gives these words, then this answer, and from then on the other one.
-fn expect_words<S: WordSource>(
-    rt: &impl Abort,
-    source: &mut S,
-    words: &[u64],
-    end: Result<Option<u64>, SourceFault>,
-    then: Result<Option<u64>, SourceFault>,
-) {
-    for word in words {
-        same(rt, source.next(), Ok(Some(*word)));
-    }
-    same(rt, source.next(), end);
-    let position = source.position();
-    same(rt, source.next(), then);
-    same(rt, source.next(), then);
-    same(rt, source.position(), position);
-}
-
-// The sink takes the words up to one where it answers a fault, if any, and after it, or after it
-// is finished, nothing.
-fn put_words<K: WordSink>(rt: &impl Abort, sink: &mut K, words: &[u64], fault_at: usize) {
-    let mut fault = None;
-    for (i, word) in words.iter().enumerate() {
-        let answer = sink.put(*word);
-        if fault.is_some() {
-            same(rt, answer, Err(SinkFault::Spent));
-        } else if i == fault_at {
-            same(rt, answer, Err(SinkFault::Device));
-            fault = Some(i);
-        } else {
-            same(rt, answer, Ok(()));
-        }
-    }
-    if fault.is_none() {
-        same(rt, sink.finish(), Ok(()));
-    }
-    same(rt, sink.put(0), Err(SinkFault::Spent));
-    same(rt, sink.finish(), Err(SinkFault::Spent));
-}
+// Words, and the offsets that they spell.
+static OFFSETS: [(u64, i64); 5] = [
+    (0x0001_0002_0000_0000, 0),
+    (0xffff_ffff_ffff_fffc, -1),
+    (0x0000_0000_7fff_ffff, 536_870_911),
+    (0x0000_0000_8000_0003, -536_870_912),
+    (0x0000_0000_0000_0004, 1),
+];
 
 #[test]
 fn fields_and_bytes_of_words(rt: HostRuntime) {
     let word = 0x8123_4567_89ab_cdef;
-    same(&rt, bits(word, 0, 64), 0x8123_4567_89ab_cdef);
-    same(&rt, bits(word, 64, 0), 0);
-    same(&rt, bits(word, 0, 0), 0);
-    same(&rt, bits(word, 4, 8), 0xde);
-    same(&rt, bits(word, 60, 4), 8);
-    same(&rt, bits(word, 63, 1), 1);
-    same(&rt, bits(word, 1, 63), 0x4091_a2b3_c4d5_e6f7);
-    for (word, want) in [
-        (0x0001_0002_0000_0000, 0),
-        (0xffff_ffff_ffff_fffc, -1),
-        (0x0000_0000_7fff_ffff, 536_870_911),
-        (0x0000_0000_8000_0003, -536_870_912),
-        (0x0000_0000_0000_0004, 1),
-    ] {
-        same_of(&rt, &word, signed_offset(word), want);
+    let fields = [
+        bits(word, 0, 64),
+        bits(word, 64, 0),
+        bits(word, 0, 0),
+        bits(word, 4, 8),
+        bits(word, 60, 4),
+        bits(word, 63, 1),
+        bits(word, 1, 63),
+    ];
+    let wanted = [
+        0x8123_4567_89ab_cdef,
+        0,
+        0,
+        0xde,
+        8,
+        1,
+        0x4091_a2b3_c4d5_e6f7,
+    ];
+    same(&rt, fields, wanted);
+    for (word, want) in &OFFSETS {
+        same_of(&rt, word, signed_offset(*word), *want);
     }
-    same(&rt, word_of(&[8, 7, 6, 5, 4, 3, 2, 1]), WORDS[1]);
-    same(&rt, bytes_of(WORDS[1]), [8, 7, 6, 5, 4, 3, 2, 1]);
+    same(&rt, word_of(&[8, 7, 6, 5, 4, 3, 2, 1]), SECOND);
+    same(&rt, bytes_of(SECOND), [8, 7, 6, 5, 4, 3, 2, 1]);
 }
+
+// So many bytes of the text in a slice, and calls of a source of their words.
+static SLICES: [(usize, &[Takes]); 6] = [
+    (
+        16,
+        &[
+            Takes::Next(Ok(Some(FIRST))),
+            Takes::Next(Ok(Some(SECOND))),
+            Takes::Next(Ok(None)),
+            Takes::Position(16),
+            Takes::Next(Ok(None)),
+            Takes::Next(Ok(None)),
+            Takes::Position(16),
+        ],
+    ),
+    (
+        20,
+        &[
+            Takes::Next(Ok(Some(FIRST))),
+            Takes::Next(Ok(Some(SECOND))),
+            Takes::Next(Err(SourceFault::Truncated { byte: 20 })),
+            Takes::Position(20),
+            Takes::Next(Err(SourceFault::Spent)),
+            Takes::Next(Err(SourceFault::Spent)),
+            Takes::Position(20),
+        ],
+    ),
+    // Words at hand are given as far as there is room, and counted.
+    (
+        20,
+        &[
+            Takes::Ready(0, 0, 0),
+            Takes::Ready(7, 0, 0),
+            Takes::Ready(32, 0, 16),
+            Takes::Ready(32, 0, 0),
+            Takes::Position(16),
+            Takes::Next(Err(SourceFault::Truncated { byte: 20 })),
+            Takes::Ready(32, 0, 0),
+        ],
+    ),
+    (
+        16,
+        &[
+            Takes::Ready(15, 0, 8),
+            Takes::Ready(8, 8, 8),
+            Takes::Ready(32, 0, 0),
+            Takes::Next(Ok(None)),
+            Takes::Ready(32, 0, 0),
+        ],
+    ),
+    // Bytes are at hand, last those of a part of a word.
+    (
+        20,
+        &[
+            Takes::AtHand(true),
+            Takes::Next(Ok(Some(FIRST))),
+            Takes::AtHand(true),
+            Takes::Next(Ok(Some(SECOND))),
+            Takes::AtHand(true),
+            Takes::Next(Err(SourceFault::Truncated { byte: 20 })),
+            Takes::AtHand(false),
+        ],
+    ),
+    (0, &[Takes::AtHand(false)]),
+];
 
 #[test]
 fn words_of_a_slice(rt: HostRuntime) {
-    let mut whole = PlainWords::new(SliceIn::new(&TEXT[..16]));
-    expect_words(&rt, &mut whole, &WORDS, Ok(None), Ok(None));
-    same(&rt, whole.position(), 16);
+    let mut room = [9; 32];
+    for (len, steps) in &SLICES {
+        let mut source = PlainWords::new(SliceIn::new(part(&TEXT, 0, *len)));
+        take_by(&rt, &mut source, &TEXT, &mut room, *steps);
+    }
+}
 
-    let cut = Err(SourceFault::Truncated { byte: 20 });
-    let mut cut_short = PlainWords::new(SliceIn::new(&TEXT));
-    expect_words(&rt, &mut cut_short, &WORDS, cut, Err(SourceFault::Spent));
+// How many bytes a call of the reader gives at most, which call fails, how many there are, and calls of
+// a source that reads through a buffer.
+static BUFFERED: [(usize, u32, u32, &[Takes]); 2] = [
+    (
+        17,
+        0,
+        1,
+        &[
+            // nothing was read ahead yet, and no device is called for it
+            Takes::Ready(32, 0, 0),
+            Takes::Next(Ok(Some(FIRST))),
+            Takes::Ready(24, 8, 8),
+            Takes::Ready(24, 0, 0),
+            Takes::Position(16),
+        ],
+    ),
+    (
+        16,
+        2,
+        2,
+        &[
+            Takes::AtHand(false),
+            Takes::Next(Ok(Some(FIRST))),
+            Takes::AtHand(true),
+            Takes::Next(Ok(Some(SECOND))),
+            Takes::AtHand(false),
+            Takes::Next(Err(SourceFault::Device)),
+            Takes::AtHand(false),
+        ],
+    ),
+];
 
-    let mut input = PlainWords::new(SliceIn::new(&TEXT)).into_inner();
-    let mut buf = [9; 24];
-    let filled = fill(&mut input, &mut buf);
-    same(&rt, filled.len, 20);
-    same(&rt, filled.fault, None);
-    same(&rt, &buf[..20], TEXT.as_slice());
-    same(&rt, input.read(&mut buf), Ok(0));
+#[test]
+fn words_at_hand_of_a_buffer(rt: HostRuntime) -> Result<(), Fail> {
+    let mut room = [9; 32];
+    for (most, fails_at, calls, steps) in &BUFFERED {
+        let mut reader = failing(&TEXT, *most, *fails_at, ErrorKind::Other);
+        let mut source = PlainWords::new(BufferedIn::new(rt.alloc(), &mut reader)?);
+        take_by(&rt, &mut source, &TEXT, &mut room, *steps);
+        drop(source);
+        same_of(&rt, most, reader.calls, *calls);
+    }
+    Ok(())
+}
+
+#[test]
+fn no_bytes_of_a_reader_are_at_hand(rt: HostRuntime) {
+    let mut source = PlainWords::new(FromRead::new(TEXT.as_slice()));
+    take_by(&rt, &mut source, &TEXT, &mut [], &[Takes::AtHand(false)]);
+}
+
+// The source gives so many words, then this fault, and is spent then; it stays at this position.
+fn expect_words<S: WordSource>(
+    rt: &impl Abort,
+    source: &mut S,
+    words: usize,
+    end: Result<Option<u64>, SourceFault>,
+    position: u64,
+) {
+    for word in [FIRST, SECOND].iter().take(words) {
+        same_of(rt, &position, source.next(), Ok(Some(*word)));
+    }
+    same_of(rt, &position, source.next(), end);
+    same(rt, source.position(), position);
+    same_of(rt, &position, source.next(), Err(SourceFault::Spent));
+    same_of(rt, &position, source.next(), Err(SourceFault::Spent));
+    same(rt, source.position(), position);
+}
+
+// How many bytes a call of the reader gives at most, which call fails, and the whole words and the
+// bytes before that.
+static FAILING_READERS: [(usize, u32, usize, u64); 6] = [
+    (1, 1, 0, 0),
+    (1, 10, 1, 9),
+    (3, 4, 1, 8),
+    (3, 5, 1, 11),
+    (7, 4, 1, 15),
+    (7, 5, 2, 16),
+];
+
+// The same through a buffer, which gives all that came before the fault.
+static FAILING_BUFFERED: [(usize, u32, usize, u64); 5] = [
+    (1, 1, 0, 0),
+    (1, 10, 1, 9),
+    (3, 4, 1, 9),
+    (7, 4, 2, 20),
+    (20, 2, 2, 20),
+];
+
+static KINDS: [ErrorKind; 2] = [ErrorKind::Interrupted, ErrorKind::BrokenPipe];
+
+// A spent input still answers a read without room.
+static SPENT: [Reads; 2] = [Reads::Read(0, Ok(0)), Reads::Read(1, Err(InFault::Spent))];
+
+// The input fails behind these words, at this position, and is spent then.
+fn fails_behind<I: ByteIn>(rt: &impl Abort, input: I, words: usize, position: u64) -> I {
+    let mut source = PlainWords::new(input);
+    let fault = Err(SourceFault::Device);
+    expect_words(rt, &mut source, words, fault, position);
+    let mut input = source.into_inner();
+    read_by(rt, &mut input, &TEXT, &mut [9], &SPENT);
+    input
 }
 
 #[test]
 fn a_reader_that_fails_is_not_called_again(rt: HostRuntime) {
-    let spent = Err(SourceFault::Spent);
-    for (most, fails_at, words, position) in [
-        (1, 1, &WORDS[..0], 0),
-        (1, 10, &WORDS[..1], 9),
-        (3, 4, &WORDS[..1], 8),
-        (3, 5, &WORDS[..1], 11),
-        (7, 4, &WORDS[..1], 15),
-        (7, 5, &WORDS[..2], 16),
-    ] {
-        for kind in [ErrorKind::Interrupted, ErrorKind::BrokenPipe] {
-            let reader = SlowReader {
-                rest: &TEXT,
-                most,
-                fails_at,
-                kind,
-                calls: 0,
-            };
-            let mut source = PlainWords::new(FromRead::new(reader));
-            expect_words(&rt, &mut source, words, Err(SourceFault::Device), spent);
-            same_of(&rt, &(&most, &fails_at), source.position(), position);
-
-            let mut input = source.into_inner();
-            same(&rt, input.read(&mut []), Ok(0));
-            same(&rt, input.read(&mut [0]), Err(InFault::Spent));
-            let reader = input.into_inner();
-            same_of(&rt, &most, reader.calls, fails_at);
+    for (most, fails_at, words, position) in &FAILING_READERS {
+        for kind in &KINDS {
+            let input = FromRead::new(failing(&TEXT, *most, *fails_at, *kind));
+            let reader = fails_behind(&rt, input, *words, *position).into_inner();
+            same_of(&rt, most, reader.calls, *fails_at);
         }
-    }
-    for (most, calls) in [(1, 21), (3, 9), (7, 6)] {
-        let reader = SlowReader {
-            rest: &TEXT,
-            most,
-            fails_at: 0,
-            kind: ErrorKind::Other,
-            calls: 0,
-        };
-        let mut source = PlainWords::new(FromRead::new(reader));
-        let cut = Err(SourceFault::Truncated { byte: 20 });
-        expect_words(&rt, &mut source, &WORDS, cut, spent);
-        same_of(&rt, &most, source.into_inner().into_inner().calls, calls);
     }
 }
 
 #[test]
 fn a_buffer_gives_all_that_came_before_a_fault(rt: HostRuntime) -> Result<(), Fail> {
-    let spent = Err(SourceFault::Spent);
-    for (most, fails_at, words, position) in [
-        (1, 1, &WORDS[..0], 0),
-        (1, 10, &WORDS[..1], 9),
-        (3, 4, &WORDS[..1], 9),
-        (7, 4, &WORDS[..2], 20),
-        (20, 2, &WORDS[..2], 20),
-    ] {
-        let mut reader = SlowReader {
-            rest: &TEXT,
-            most,
-            fails_at,
-            kind: ErrorKind::Interrupted,
-            calls: 0,
-        };
-        let mut source = PlainWords::new(BufferedIn::new(rt.alloc(), &mut reader)?);
-        expect_words(&rt, &mut source, words, Err(SourceFault::Device), spent);
-        same_of(&rt, &(&most, &fails_at), source.position(), position);
-
-        let mut input = source.into_inner();
-        same(&rt, input.read(&mut []), Ok(0));
-        same(&rt, input.read(&mut [0]), Err(InFault::Spent));
-        drop(input);
-        same_of(&rt, &most, reader.calls, fails_at);
+    for (most, fails_at, words, position) in &FAILING_BUFFERED {
+        let mut reader = failing(&TEXT, *most, *fails_at, ErrorKind::Interrupted);
+        let input = BufferedIn::new(rt.alloc(), &mut reader)?;
+        drop(fails_behind(&rt, input, *words, *position));
+        same_of(&rt, most, reader.calls, *fails_at);
     }
     Ok(())
 }
 
+// How many bytes a call of the reader gives at most, and how many calls reach its end.
+static CALLS: [(usize, u32); 3] = [(1, 21), (3, 9), (7, 6)];
+
 #[test]
-fn a_buffer_gives_bytes_from_both_sides_of_a_refill(rt: HostRuntime) -> Result<(), Fail> {
-    let mut bytes = Vec::from_elem(rt.alloc(), 0, 65530)?;
-    bytes.extend_from_slice(&TEXT)?;
-    let mut input = BufferedIn::new(rt.alloc(), bytes.as_slice())?;
-    let mut front = [9; 65529];
-    same(&rt, fill(&mut input, &mut front).len, 65529);
-    same(&rt, front[65528], 0);
-    let mut buf = [9; 24];
-    let filled = fill(&mut input, &mut buf);
-    same(&rt, filled.len, 21);
-    same(&rt, filled.fault, None);
-    same(&rt, &buf[1..21], TEXT.as_slice());
-    same(&rt, input.read(&mut buf), Ok(0));
-    Ok(())
+fn a_reader_is_called_up_to_its_end(rt: HostRuntime) {
+    for (most, calls) in &CALLS {
+        let mut source = PlainWords::new(FromRead::new(slow(&TEXT, *most)));
+        let cut = Err(SourceFault::Truncated { byte: 20 });
+        expect_words(&rt, &mut source, 2, cut, 20);
+        same_of(&rt, most, source.into_inner().into_inner().calls, *calls);
+    }
 }
 
-// The input holds these bytes, and gives just them up.
-fn expect_held<I: ByteIn>(rt: &impl Abort, input: &mut I, bytes: &[u8]) {
-    same(rt, input.held(), bytes);
-    input.skip(0);
-    same(rt, input.held(), bytes);
-    input.skip(2);
-    same(rt, input.held(), &bytes[bytes.len().min(2)..]);
-    input.skip(usize::MAX);
-    same(rt, input.held(), [].as_slice());
-}
+// Bytes that are at hand, up to the end.
+static HELD: [Reads; 8] = [
+    Reads::Held(0, 20),
+    Reads::Skip(0),
+    Reads::Held(0, 20),
+    Reads::Skip(2),
+    Reads::Held(2, 18),
+    Reads::Skip(usize::MAX),
+    Reads::Held(0, 0),
+    Reads::Read(1, Ok(0)),
+];
+
+static ALL: [Reads; 3] = [
+    Reads::Fill(24, 20, None),
+    Reads::Gave(0, 0, 20),
+    Reads::Read(24, Ok(0)),
+];
+
+// None are, before the first read: there is nothing to skip.
+static NONE_HELD: [Reads; 7] = [
+    Reads::Held(0, 0),
+    Reads::Skip(0),
+    Reads::Held(0, 0),
+    Reads::Skip(2),
+    Reads::Held(0, 0),
+    Reads::Skip(usize::MAX),
+    Reads::Held(0, 0),
+];
+
+static HELD_BY_A_BUFFER: [Reads; 13] = [
+    Reads::Read(3, Ok(3)),
+    Reads::Held(3, 17),
+    Reads::Skip(9),
+    Reads::Read(3, Ok(3)),
+    Reads::Gave(0, 12, 3),
+    Reads::Held(15, 5),
+    Reads::Skip(0),
+    Reads::Held(15, 5),
+    Reads::Skip(2),
+    Reads::Held(17, 3),
+    Reads::Skip(usize::MAX),
+    Reads::Held(0, 0),
+    Reads::Read(3, Ok(0)),
+];
 
 #[test]
 fn bytes_at_hand(rt: HostRuntime) -> Result<(), Fail> {
+    let mut room = [9; 24];
     let mut slice = SliceIn::new(&TEXT);
-    expect_held(&rt, &mut slice, &TEXT);
-    same(&rt, slice.read(&mut [0]), Ok(0));
-
+    read_by(&rt, &mut slice, &TEXT, &mut room, &HELD);
+    let mut whole = PlainWords::new(SliceIn::new(&TEXT)).into_inner();
+    read_by(&rt, &mut whole, &TEXT, &mut room, &ALL);
     let mut input = BufferedIn::new(rt.alloc(), TEXT.as_slice())?;
-    expect_held(&rt, &mut input, &[]);
-    let mut first = [0; 3];
-    same(&rt, input.read(&mut first), Ok(3));
-    same(&rt, input.held(), &TEXT[3..]);
-    input.skip(9);
-    same(&rt, input.read(&mut first), Ok(3));
-    same(&rt, first, [4, 3, 2]);
-    expect_held(&rt, &mut input, &TEXT[15..]);
-    same(&rt, input.read(&mut first), Ok(0));
-
-    let mut reader = FromRead::new(TEXT.as_slice());
-    expect_held(&rt, &mut reader, &[]);
-    same(&rt, reader.read(&mut first), Ok(3));
-    expect_held(&rt, &mut reader, &[]);
+    read_by(&rt, &mut input, &TEXT, &mut room, &NONE_HELD);
+    read_by(&rt, &mut input, &TEXT, &mut room, &HELD_BY_A_BUFFER);
     Ok(())
 }
 
-// The first bytes of a room, or all of it.
-fn front(room: &mut [u8], most: usize) -> &mut [u8] {
-    let len = most.min(room.len());
-    &mut room[..len]
+#[test]
+fn a_reader_holds_nothing_back(rt: HostRuntime) {
+    let mut room = [9; 24];
+    let mut reader = FromRead::new(TEXT.as_slice());
+    read_by(&rt, &mut reader, &TEXT, &mut room, &NONE_HELD);
+    read_by(&rt, &mut reader, &TEXT, &mut room, &[Reads::Read(3, Ok(3))]);
+    read_by(&rt, &mut reader, &TEXT, &mut room, &NONE_HELD);
 }
 
-// So many bytes from this one on, or all that there are.
-fn part(bytes: &[u8], from: usize, most: usize) -> &[u8] {
-    let rest = &bytes[from.min(bytes.len())..];
-    &rest[..most.min(rest.len())]
+// Behind 65,530 bytes: from both sides of a refill.
+static REFILLS: [Reads; 5] = [
+    Reads::Fill(65529, 65529, None),
+    Reads::Gave(0, 0, 65529),
+    Reads::Fill(24, 21, None),
+    Reads::Gave(0, 65529, 21),
+    Reads::Read(24, Ok(0)),
+];
+
+// Behind 200,000 bytes.
+static BIG_READS: [Reads; 11] = [
+    // more than the buffer holds, in one call
+    Reads::Read(65537, Ok(65537)),
+    Reads::Held(0, 0),
+    // one byte less than it holds: that byte stays, and is all that the next read gives
+    Reads::Read(65535, Ok(65535)),
+    Reads::Held(0, 1),
+    Reads::Read(100_000, Ok(1)),
+    Reads::Read(65536, Ok(65536)),
+    Reads::Read(65536, Ok(3411)),
+    Reads::Gave(3391, 200_000, 20),
+    Reads::Read(65536, Err(InFault::Device)),
+    Reads::Read(65536, Err(InFault::Spent)),
+    Reads::Read(1, Err(InFault::Spent)),
+];
+
+// So many bytes and the text are read through a buffer; the call of this number fails, where it isn't
+// 0, and is the last.
+fn expect_reads<R: AllocGlobal + Abort>(
+    rt: &R,
+    len: usize,
+    fails_at: u32,
+    steps: &[Reads],
+) -> Result<(), Fail> {
+    let mut bytes = Vec::from_elem(rt.alloc(), 7, len)?;
+    bytes.extend_from_slice(&TEXT)?;
+    let mut room = Vec::from_elem(rt.alloc(), 0, 100_000)?;
+    let mut reader = failing(&bytes, usize::MAX, fails_at, ErrorKind::Interrupted);
+    let mut input = BufferedIn::new(rt.alloc(), &mut reader)?;
+    read_by(rt, &mut input, &bytes, &mut room, steps);
+    drop(input);
+    if fails_at > 0 {
+        same(rt, reader.calls, fails_at);
+    }
+    Ok(())
 }
 
 #[test]
 fn big_reads_go_past_the_buffer(rt: HostRuntime) -> Result<(), Fail> {
-    let mut bytes = Vec::from_elem(rt.alloc(), 7, 200_000)?;
-    bytes.extend_from_slice(&TEXT)?;
-    let mut reader = SlowReader {
-        rest: bytes.as_slice(),
-        most: usize::MAX,
-        fails_at: 5,
-        kind: ErrorKind::Interrupted,
-        calls: 0,
-    };
-    let mut room = Vec::from_elem(rt.alloc(), 0, 100_000)?;
-    let buf = room.as_mut_slice();
-    let mut input = BufferedIn::new(rt.alloc(), &mut reader)?;
-    // more than the buffer holds, in one call
-    same(&rt, input.read(front(buf, 65537)), Ok(65537));
-    same(&rt, input.held(), [].as_slice());
-    // one byte less than it holds: that byte stays, and is all that the next read gives
-    same(&rt, input.read(front(buf, 65535)), Ok(65535));
-    same(&rt, input.held(), [7].as_slice());
-    same(&rt, input.read(buf), Ok(1));
-    same(&rt, input.read(front(buf, 65536)), Ok(65536));
-    same(&rt, input.read(front(buf, 65536)), Ok(3411));
-    same(&rt, part(buf, 3391, 20), TEXT.as_slice());
-    same(&rt, input.read(front(buf, 65536)), Err(InFault::Device));
-    same(&rt, input.read(front(buf, 65536)), Err(InFault::Spent));
-    same(&rt, input.read(front(buf, 1)), Err(InFault::Spent));
-    drop(input);
-    same(&rt, reader.calls, 5);
-    Ok(())
-}
-
-// Words that are at hand are given as far as there is room, and counted.
-fn expect_ready<S: WordSource>(rt: &impl Abort, source: &mut S, rooms: &[(usize, usize)]) {
-    let mut given: usize = 0;
-    for (room, count) in rooms {
-        let mut out = [9; 32];
-        same_of(rt, &room, source.ready(front(&mut out, *room)), *count);
-        same(rt, part(&out, 0, *count), part(&TEXT, given, *count));
-        given = given.saturating_add(*count);
-    }
-}
-
-#[test]
-fn words_at_hand(rt: HostRuntime) -> Result<(), Fail> {
-    let mut all = PlainWords::new(SliceIn::new(&TEXT));
-    expect_ready(&rt, &mut all, &[(0, 0), (7, 0), (32, 16), (32, 0)]);
-    same(&rt, all.position(), 16);
-    same(&rt, all.next(), Err(SourceFault::Truncated { byte: 20 }));
-    expect_ready(&rt, &mut all, &[(32, 0)]);
-
-    let mut each = PlainWords::new(SliceIn::new(&TEXT[..16]));
-    expect_ready(&rt, &mut each, &[(15, 8), (8, 8), (32, 0)]);
-    same(&rt, each.next(), Ok(None));
-    expect_ready(&rt, &mut each, &[(32, 0)]);
-
-    let mut reader = SlowReader {
-        rest: &TEXT,
-        most: 17,
-        fails_at: 0,
-        kind: ErrorKind::Other,
-        calls: 0,
-    };
-    let mut source = PlainWords::new(BufferedIn::new(rt.alloc(), &mut reader)?);
-    // nothing was read ahead yet, and no device is called for it
-    expect_ready(&rt, &mut source, &[(32, 0)]);
-    same(&rt, source.next(), Ok(Some(WORDS[0])));
-    let mut out = [9; 24];
-    same(&rt, source.ready(&mut out), 8);
-    same(&rt, &out[..8], &TEXT[8..16]);
-    same(&rt, source.ready(&mut out), 0);
-    same(&rt, source.position(), 16);
-    drop(source);
-    same(&rt, reader.calls, 1);
-    Ok(())
-}
-
-// By the source's bound.
-fn has_more_at_hand<S: WordSource>(source: &S) -> bool {
-    source.is_at_hand()
-}
-
-#[test]
-fn whether_bytes_are_at_hand(rt: HostRuntime) -> Result<(), Fail> {
-    let mut cut = PlainWords::new(SliceIn::new(&TEXT));
-    for word in WORDS {
-        assert!(rt; has_more_at_hand(&cut));
-        same(&rt, cut.next(), Ok(Some(word)));
-    }
-    // the bytes of a part of a word
-    assert!(rt; has_more_at_hand(&cut));
-    same(&rt, cut.next(), Err(SourceFault::Truncated { byte: 20 }));
-    assert!(rt; !has_more_at_hand(&cut));
-    assert!(rt; !has_more_at_hand(&PlainWords::new(SliceIn::new(&[]))));
-    assert!(rt; !has_more_at_hand(&PlainWords::new(FromRead::new(TEXT.as_slice()))));
-
-    let mut reader = SlowReader {
-        rest: &TEXT,
-        most: 16,
-        fails_at: 2,
-        kind: ErrorKind::Other,
-        calls: 0,
-    };
-    let mut source = PlainWords::new(BufferedIn::new(rt.alloc(), &mut reader)?);
-    assert!(rt; !has_more_at_hand(&source));
-    same(&rt, source.next(), Ok(Some(WORDS[0])));
-    assert!(rt; has_more_at_hand(&source));
-    same(&rt, source.next(), Ok(Some(WORDS[1])));
-    assert!(rt; !has_more_at_hand(&source));
-    same(&rt, source.next(), Err(SourceFault::Device));
-    assert!(rt; !has_more_at_hand(&source));
-    drop(source);
-    same(&rt, reader.calls, 2);
-    Ok(())
+    expect_reads(&rt, 65530, 0, &REFILLS)?;
+    expect_reads(&rt, 200_000, 5, &BIG_READS)
 }
 
 // The source fills 131,080 bytes in pieces, is then told of the rest, which is cut or not, and answers
@@ -435,198 +418,215 @@ fn expect_filled<S: WordSource>(
     same(rt, source.fill(front(room, 0)), Ok(true));
 }
 
+// How many bytes a call of the reader gives at most.
+static SIZES: [usize; 8] = [1, 3, 7, 8, 9, 65535, 65536, 65537];
+
+// So many bytes are filled by reads of each size, with a buffer and without.
+fn expect_pieces<R: AllocGlobal + Abort>(
+    rt: &R,
+    bytes: &[u8],
+    end: Result<bool, SourceFault>,
+) -> Result<(), Fail> {
+    let mut room = Vec::from_elem(rt.alloc(), 0, 70_000)?;
+    for most in &SIZES {
+        let mut source = PlainWords::new(FromRead::new(slow(bytes, *most)));
+        expect_filled(rt, &mut source, bytes, &mut room, end);
+        let mut source = PlainWords::new(BufferedIn::new(rt.alloc(), slow(bytes, *most))?);
+        expect_filled(rt, &mut source, bytes, &mut room, end);
+    }
+    Ok(())
+}
+
 #[test]
 fn pieces_by_reads_of_many_sizes(rt: HostRuntime) -> Result<(), Fail> {
     let mut bytes = Vec::new(rt.alloc());
     for i in 0..140_005_u32 {
         bytes.push((i % 251) as u8)?;
     }
-    let mut room = Vec::from_elem(rt.alloc(), 0, 70_000)?;
     let cut = Err(SourceFault::Truncated { byte: 140_005 });
-    for most in [1, 3, 7, 8, 9, 65535, 65536, 65537] {
-        for (len, end) in [(140_005, cut), (140_000, Ok(false))] {
-            let mut reader = SlowReader {
-                rest: &bytes.as_slice()[..bytes.len().min(len)],
-                most,
-                fails_at: 0,
-                kind: ErrorKind::Other,
-                calls: 0,
-            };
-            let mut source = PlainWords::new(FromRead::new(&mut reader));
-            expect_filled(&rt, &mut source, bytes.as_slice(), room.as_mut_slice(), end);
-            reader.rest = &bytes.as_slice()[..bytes.len().min(len)];
-            let input = BufferedIn::new(rt.alloc(), &mut reader)?;
-            let mut source = PlainWords::new(input);
-            expect_filled(&rt, &mut source, bytes.as_slice(), room.as_mut_slice(), end);
-        }
-    }
-    Ok(())
+    expect_pieces(&rt, &bytes, cut)?;
+    expect_pieces(&rt, part(&bytes, 0, 140_000), Ok(false))
 }
+
+// How many bytes a call of the reader gives at most, which call fails, and the bytes before that.
+static FAILING_PIECES: [(usize, u32, u64); 4] = [(3, 1, 0), (3, 3, 6), (8, 3, 16), (20, 2, 20)];
+
+static PIECE_FAILS: [Takes; 1] = [Takes::Fill(27, Err(SourceFault::Device), 0, 0)];
+
+static PIECE_SPENT: [Takes; 2] = [
+    Takes::Fill(27, Err(SourceFault::Spent), 0, 0),
+    Takes::Next(Err(SourceFault::Spent)),
+];
 
 #[test]
 fn a_fault_inside_a_piece_is_counted(rt: HostRuntime) {
-    for (most, fails_at, position) in [(3, 1, 0), (3, 3, 6), (8, 3, 16), (20, 2, 20)] {
-        let mut reader = SlowReader {
-            rest: &TEXT,
-            most,
-            fails_at,
-            kind: ErrorKind::Interrupted,
-            calls: 0,
-        };
-        let mut source = PlainWords::new(FromRead::new(&mut reader));
-        let mut room = [9; 27];
-        same(&rt, source.fill(&mut room), Err(SourceFault::Device));
-        same_of(&rt, &(&most, &fails_at), source.position(), position);
-        same(&rt, source.fill(&mut room), Err(SourceFault::Spent));
-        same(&rt, source.next(), Err(SourceFault::Spent));
-        drop(source);
-        same(&rt, reader.calls, fails_at);
+    let mut room = [9; 27];
+    for (most, fails_at, position) in &FAILING_PIECES {
+        let reader = failing(&TEXT, *most, *fails_at, ErrorKind::Interrupted);
+        let mut source = PlainWords::new(FromRead::new(reader));
+        take_by(&rt, &mut source, &TEXT, &mut room, &PIECE_FAILS);
+        same_of(&rt, &(most, fails_at), source.position(), *position);
+        take_by(&rt, &mut source, &TEXT, &mut room, &PIECE_SPENT);
+        same_of(&rt, most, source.into_inner().into_inner().calls, *fails_at);
     }
 }
 
+const DEVICE: Result<(), SinkFault> = Err(SinkFault::Device);
+
+const CLOSED: Result<(), SinkFault> = Err(SinkFault::Spent);
+
+const BOTH_PUT: &[Puts] = &[
+    Puts::Word(FIRST, Ok(())),
+    Puts::Word(SECOND, Ok(())),
+    Puts::Finish(Ok(())),
+    Puts::Word(0, CLOSED),
+    Puts::Finish(CLOSED),
+];
+
+const SECOND_FAILS: &[Puts] = &[
+    Puts::Word(FIRST, Ok(())),
+    Puts::Word(SECOND, DEVICE),
+    Puts::Word(0, CLOSED),
+    Puts::Finish(CLOSED),
+];
+
+const FIRST_FAILS: &[Puts] = &[
+    Puts::Word(FIRST, DEVICE),
+    Puts::Word(SECOND, CLOSED),
+    Puts::Word(0, CLOSED),
+    Puts::Finish(CLOSED),
+];
+
+const BYTES_FAIL: &[Puts] = &[
+    Puts::Bytes(0, 20, DEVICE),
+    Puts::Bytes(0, 20, CLOSED),
+    Puts::Bytes(0, 0, CLOSED),
+    Puts::Word(0, CLOSED),
+];
+
+const BYTES_PUT: &[Puts] = &[Puts::Bytes(0, 20, Ok(()))];
+
+// How many bytes a call of the writer takes at most, which call fails, how many bytes were taken by how
+// many calls, and the calls of the sink: words, and pieces of several.
+static SINKS: [(usize, u32, usize, u32, &[Puts]); 11] = [
+    (1, 1, 0, 1, FIRST_FAILS),
+    (3, 5, 11, 5, SECOND_FAILS),
+    (7, 4, 15, 4, SECOND_FAILS),
+    (8, 2, 8, 2, SECOND_FAILS),
+    (7, 0, 16, 4, BOTH_PUT),
+    (1, 1, 0, 1, BYTES_FAIL),
+    (3, 5, 12, 5, BYTES_FAIL),
+    (7, 3, 14, 3, BYTES_FAIL),
+    (8, 2, 8, 2, BYTES_FAIL),
+    (7, 0, 16, 3, BYTES_PUT),
+    // all words in one call
+    (20, 0, 16, 1, BYTES_PUT),
+];
+
+// The last of them takes no byte.
+static WRITER_KINDS: [Option<ErrorKind>; 3] = [
+    Some(ErrorKind::Interrupted),
+    Some(ErrorKind::Other),
+    None,
+];
+
+static NOTHING: [Writes; 1] = [Writes::Write(0, 0, Ok(0))];
+
+static OUTPUT_SPENT: [Writes; 1] = [Writes::Write(0, 1, Err(OutFault::Spent))];
+
 #[test]
 fn a_writer_that_fails_is_not_called_again(rt: HostRuntime) {
-    for (most, fails_at, fault_at, taken) in [
-        (1, 1, 0, &TEXT[..0]),
-        (3, 5, 1, &TEXT[..11]),
-        (7, 4, 1, &TEXT[..15]),
-        (8, 2, 1, &TEXT[..8]),
-        (7, 0, 2, &TEXT[..16]),
-    ] {
-        for kind in [Some(ErrorKind::Interrupted), Some(ErrorKind::Other), None] {
-            let writer = SlowWriter {
-                taken: Vec::new(rt.alloc()),
-                most,
-                fails_at,
-                kind,
-                calls: 0,
-            };
+    for (most, fails_at, taken, calls, steps) in &SINKS {
+        for kind in &WRITER_KINDS {
+            let writer = slow_writer(rt.alloc(), *most, *fails_at, *kind);
             let mut sink = PlainSink::new(FromWrite::new(writer));
-            put_words(&rt, &mut sink, &WORDS, fault_at);
-
+            put_by(&rt, &mut sink, &TEXT, *steps);
             let mut output = sink.into_inner();
-            same(&rt, output.write(&[]), Ok(0));
-            if fails_at > 0 {
-                same(&rt, output.write(&[0]), Err(OutFault::Spent));
+            write_by(&rt, &mut output, &TEXT, &NOTHING);
+            if *fails_at > 0 {
+                write_by(&rt, &mut output, &TEXT, &OUTPUT_SPENT);
             }
             let writer = output.into_inner();
-            let calls = if fails_at > 0 { fails_at } else { 4 };
-            same_of(&rt, &most, writer.calls, calls);
-            same_of(&rt, &most, writer.taken.as_slice(), taken);
+            same_of(&rt, most, writer.calls, *calls);
+            same_of(&rt, most, writer.taken.as_slice(), part(&TEXT, 0, *taken));
         }
     }
 }
 
+static FLUSHED: [Writes; 2] = [Writes::Write(0, 20, Ok(20)), Writes::Flush(Ok(()))];
+
+static FLUSH_FAILS: [Writes; 1] = [Writes::Flush(Err(OutFault::Device))];
+
+static FLUSH_SPENT: [Writes; 2] = [
+    Writes::Flush(Err(OutFault::Spent)),
+    Writes::Write(0, 20, Err(OutFault::Spent)),
+];
+
 #[test]
-fn a_flush_is_one_call_of_the_writer(rt: HostRuntime) -> Result<(), Fail> {
+fn a_flush_is_one_call_of_the_writer(rt: HostRuntime) {
     for kind in [ErrorKind::Interrupted, ErrorKind::Other] {
-        let mut output = FromWrite::new(SlowWriter {
-            taken: Vec::new(rt.alloc()),
-            most: 20,
-            fails_at: 3,
-            kind: Some(kind),
-            calls: 0,
-        });
-        same(&rt, output.write(&TEXT), Ok(20));
-        same(&rt, output.flush(), Ok(()));
+        let mut output = FromWrite::new(slow_writer(rt.alloc(), 20, 3, Some(kind)));
+        write_by(&rt, &mut output, &TEXT, &FLUSHED);
         assert!(rt; !output.has_failed());
-        same(&rt, output.flush(), Err(OutFault::Device));
+        write_by(&rt, &mut output, &TEXT, &FLUSH_FAILS);
         assert!(rt; output.has_failed());
-        same(&rt, output.flush(), Err(OutFault::Spent));
-        same(&rt, output.write(&TEXT), Err(OutFault::Spent));
+        write_by(&rt, &mut output, &TEXT, &FLUSH_SPENT);
         let writer = output.into_inner();
         same(&rt, writer.calls, 3);
         same(&rt, writer.taken.as_slice(), TEXT.as_slice());
     }
-    let mut memory = VecOut::new(rt.alloc());
-    same(&rt, memory.write(&TEXT), Ok(20));
-    same(&rt, flushed(&mut memory), Ok(()));
-    same(&rt, memory.bytes(), TEXT.as_slice());
-    Ok(())
 }
 
-// By the output's bound.
-fn flushed<O: ByteOut>(output: &mut O) -> Result<(), OutFault> {
-    output.flush()
-}
+// Less than a word at the end of a piece is left out.
+static PIECES: [Puts; 12] = [
+    Puts::Bytes(0, 20, Ok(())),
+    Puts::Bytes(0, 7, Ok(())),
+    Puts::Bytes(0, 0, Ok(())),
+    Puts::Word(FIRST, Ok(())),
+    Puts::Bytes(0, 8, Ok(())),
+    Puts::Bytes(0, 7, Ok(())),
+    Puts::Bytes(0, 0, Ok(())),
+    Puts::Finish(Ok(())),
+    Puts::Bytes(0, 20, CLOSED),
+    Puts::Bytes(0, 8, CLOSED),
+    Puts::Bytes(0, 7, CLOSED),
+    Puts::Bytes(0, 0, CLOSED),
+];
 
-// By the sink's bound: the words of the bytes, and then none.
-fn put_piece<K: WordSink>(sink: &mut K, bytes: &[u8]) -> Result<(), SinkFault> {
-    sink.put_bytes(bytes)?;
-    sink.put_bytes(part(bytes, 0, 7))?;
-    sink.put_bytes(&[])
-}
+// What they leave.
+static PIECES_TAKEN: [u8; 32] = [
+    1, 0, 0, 0, 0, 0, 0, 0, 8, 7, 6, 5, 4, 3, 2, 1, 1, 0, 0, 0, 0, 0, 0, 0, 1, 0, 0, 0, 0, 0, 0, 0,
+];
 
-#[test]
-fn pieces_into_memory(rt: HostRuntime) -> Result<(), Fail> {
-    let mut sink = PlainSink::new(VecOut::new(rt.alloc()));
-    // less than a word at the end is left out
-    put_piece(&mut sink, &TEXT)?;
-    sink.put(WORDS[0])?;
-    put_piece(&mut sink, &TEXT[..8])?;
-    sink.finish()?;
-    for bytes in [TEXT.as_slice(), &TEXT[..8], &TEXT[..7], &[]] {
-        same(&rt, sink.put_bytes(bytes), Err(SinkFault::Spent));
-    }
+// The calls of a sink into memory leave these bytes; the output takes more.
+fn memory_of(rt: &impl Abort, alloc: Global, steps: &[Puts], taken: &[u8]) -> VecOut {
+    let mut sink = PlainSink::new(VecOut::new(alloc));
+    put_by(rt, &mut sink, &TEXT, steps);
     let output = sink.into_inner();
-    same(&rt, output.bytes().len(), 32);
-    same(&rt, part(output.bytes(), 0, 16), &TEXT[..16]);
-    same(&rt, part(output.bytes(), 16, 8), &TEXT[..8]);
-    same(&rt, part(output.bytes(), 24, 8), &TEXT[..8]);
-    Ok(())
+    same(rt, output.bytes(), taken);
+    output
 }
 
-#[test]
-fn a_writer_that_fails_in_a_piece(rt: HostRuntime) {
-    for (most, fails_at, taken, calls) in [
-        (1, 1, &TEXT[..0], 1),
-        (3, 5, &TEXT[..12], 5),
-        (7, 3, &TEXT[..14], 3),
-        (8, 2, &TEXT[..8], 2),
-        (7, 0, &TEXT[..16], 3),
-        // all words in one call
-        (20, 0, &TEXT[..16], 1),
-    ] {
-        for kind in [Some(ErrorKind::Interrupted), None] {
-            let writer = SlowWriter {
-                taken: Vec::new(rt.alloc()),
-                most,
-                fails_at,
-                kind,
-                calls: 0,
-            };
-            let mut sink = PlainSink::new(FromWrite::new(writer));
-            let fault = Err(SinkFault::Device);
-            let answer = if fails_at > 0 { fault } else { Ok(()) };
-            same(&rt, sink.put_bytes(&TEXT), answer);
-            if fails_at > 0 {
-                same(&rt, sink.put_bytes(&TEXT), Err(SinkFault::Spent));
-                same(&rt, sink.put_bytes(&[]), Err(SinkFault::Spent));
-                same(&rt, sink.put(0), Err(SinkFault::Spent));
-            }
-            let writer = sink.into_inner().into_inner();
-            same_of(&rt, &most, writer.calls, calls);
-            same_of(&rt, &most, writer.taken.as_slice(), taken);
-        }
-    }
-}
+static LAST_FOUR: [Writes; 2] = [Writes::Write(16, 4, Ok(4)), Writes::Write(0, 0, Ok(0))];
 
 #[test]
-fn words_into_memory(rt: HostRuntime) -> Result<(), Fail> {
-    let mut sink = PlainSink::new(VecOut::new(rt.alloc()));
-    put_words(&rt, &mut sink, &WORDS, 2);
-    let mut output = sink.into_inner();
-    same(&rt, output.bytes(), &TEXT[..16]);
-
-    same(&rt, output.write(&TEXT[16..]), Ok(4));
-    same(&rt, output.write(&[]), Ok(0));
+fn words_and_pieces_into_memory(rt: HostRuntime) -> Result<(), Fail> {
+    drop(memory_of(&rt, rt.alloc(), &PIECES, &PIECES_TAKEN));
+    let mut output = memory_of(&rt, rt.alloc(), BOTH_PUT, part(&TEXT, 0, 16));
+    write_by(&rt, &mut output, &TEXT, &LAST_FOUR);
     write_all(&mut output, &[5])?;
-    assert!(rt; output.bytes().len() == 21);
-    same(&rt, &output.bytes()[16..], [0, 0, 0, 0xff, 5].as_slice());
-
+    same(&rt, part(output.bytes(), 0, 20), &TEXT);
+    same(&rt, part(output.bytes(), 20, 99), &[5]);
     let many = Vec::from_elem(rt.alloc(), 7, 300000)?;
     same(&rt, output.write(&many), Ok(300000));
-    assert!(rt; output.bytes().len() == 300021);
-    same(&rt, &output.bytes()[20..22], [5, 7].as_slice());
+    same(&rt, output.bytes().len(), 300021);
+    same(&rt, part(output.bytes(), 20, 2), &[5, 7]);
     Ok(())
+}
+
+#[test]
+fn bytes_into_memory(rt: HostRuntime) {
+    let mut memory = VecOut::new(rt.alloc());
+    write_by(&rt, &mut memory, &TEXT, &FLUSHED);
+    same(&rt, memory.bytes(), &TEXT);
 }

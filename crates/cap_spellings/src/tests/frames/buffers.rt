@@ -3,32 +3,17 @@
 use super::fronts::expect_same_front;
 use super::views::is_same;
 use super::{pair, plain};
+use crate::tests::devices::slow;
 use crate::tests::same::same;
+use crate::tests::steps::part;
 use cap_frame::{
-    ByteMessage, FrameFault, Segments, SizeLimit, read_byte_message, read_into, read_message,
+    ByteMessage, FrameFault, Segments, SizeLimit, WordMessage, read_byte_message, read_into,
+    read_message,
 };
 use cap_words::{BufferedIn, ByteIn, FromRead, PlainWords, SliceIn, WordSource};
 use std::alloc::{AllocError, Global};
-use std::io::{self, Read};
 use std::process::Abort;
 use std::test::Fail;
-
-// A reader that gives few bytes a call.
-#[derive(Drop)]
-struct SlowReader<'a> {
-    rest: &'a [u8],
-    most: usize,
-}
-
-impl Read for SlowReader<'_> {
-    fn read(&mut self, buf: &mut [u8]) -> io::Result<usize> {
-        let count = buf.len().min(self.rest.len()).min(self.most);
-        let (given, rest) = self.rest.split_at(count);
-        buf[..count].copy_from_slice(given);
-        self.rest = rest;
-        Ok(count)
-    }
-}
 
 // It has one segment without words.
 fn is_blank(message: &ByteMessage) -> bool {
@@ -36,8 +21,56 @@ fn is_blank(message: &ByteMessage) -> bool {
     view.count() == 1 && view.len(0) == 0
 }
 
-// The messages of these bytes are the same into one buffer, into one that is used again, and into a
-// vector for each segment, and so is the answer behind them.
+type Apart = Result<Option<WordMessage>, FrameFault>;
+
+// What is read into one buffer is what is read into a vector for each segment.
+fn expect_fresh(rt: &impl Abort, wanted: &Apart, given: Result<Option<ByteMessage>, FrameFault>) {
+    match (wanted, given) {
+        (Ok(Some(message)), Ok(Some(given))) => {
+            assert!(rt; is_same(message, &given.view()), "the segments");
+        }
+        (Ok(None), Ok(None)) => {}
+        (Err(wanted), Err(fault)) => same(rt, fault, *wanted),
+        _ => assert!(rt; false, "another answer"),
+    }
+}
+
+// So is what is read into one that is used again.
+fn expect_held(
+    rt: &impl Abort,
+    wanted: &Apart,
+    answer: Result<bool, FrameFault>,
+    held: &ByteMessage,
+) {
+    match (wanted, answer) {
+        (Ok(Some(message)), Ok(true)) => {
+            assert!(rt; is_same(message, &held.view()), "the segments again");
+        }
+        (Ok(None), Ok(false)) => {}
+        (Err(wanted), Err(fault)) => same(rt, fault, *wanted),
+        _ => assert!(rt; false, "another answer again"),
+    }
+}
+
+// The next message of three sources over the same bytes is the same in each way; answers whether there
+// was one.
+fn expect_same_next<S: WordSource>(
+    rt: &impl Abort,
+    alloc: Global,
+    (apart, fresh, again): (&mut S, &mut S, &mut S),
+    limit: SizeLimit,
+    held: &mut ByteMessage,
+) -> bool {
+    let wanted = read_message(alloc, apart, limit);
+    expect_fresh(rt, &wanted, read_byte_message(alloc, fresh, limit));
+    let answer = read_into(alloc, again, limit, held);
+    expect_held(rt, &wanted, answer, held);
+    same(rt, fresh.position(), apart.position());
+    same(rt, again.position(), apart.position());
+    answer == Ok(true)
+}
+
+// The messages of these bytes are the same in each way, and so is the answer behind them.
 pub(super) fn expect_same_answers(
     rt: &impl Abort,
     alloc: Global,
@@ -48,30 +81,12 @@ pub(super) fn expect_same_answers(
     let mut apart = PlainWords::new(SliceIn::new(bytes));
     let mut fresh = PlainWords::new(SliceIn::new(bytes));
     let mut again = PlainWords::new(SliceIn::new(bytes));
-    let mut goes_on = true;
     for _ in 0..=bytes.len() {
-        if !goes_on {
+        let place = apart.position() as usize;
+        expect_same_front(rt, alloc, part(bytes, place, usize::MAX), limit)?;
+        let sources = (&mut apart, &mut fresh, &mut again);
+        if !expect_same_next(rt, alloc, sources, limit, held) {
             break;
-        }
-        let rest = bytes.get(apart.position() as usize..).unwrap_or(&[]);
-        expect_same_front(rt, alloc, rest, limit)?;
-        let wanted = read_message(alloc, &mut apart, limit);
-        let given = read_byte_message(alloc, &mut fresh, limit);
-        let answer = read_into(alloc, &mut again, limit, held);
-        same(rt, fresh.position(), apart.position());
-        same(rt, again.position(), apart.position());
-        match (wanted, given, answer) {
-            (Ok(Some(message)), Ok(Some(given)), Ok(true)) => {
-                assert!(rt; is_same(&message, &given.view()), "the segments");
-                assert!(rt; is_same(&message, &held.view()), "the segments again");
-            }
-            (Ok(None), Ok(None), Ok(false)) => goes_on = false,
-            (Err(wanted), Err(given), Err(fault)) => {
-                same(rt, given, wanted);
-                same(rt, fault, wanted);
-                goes_on = false;
-            }
-            _ => assert!(rt; false, "another answer"),
         }
     }
     assert!(rt; is_blank(held), "behind the messages");
@@ -112,47 +127,50 @@ fn add_message(words: &mut Vec<u64>, first: u32, last: u32, from: u64) -> Result
     Ok(())
 }
 
+// Messages of 320,000 bytes, of 24, of none, and of 480,000.
+static WHOLE: [(u32, u32, u64); 4] = [
+    (15_000, 25_000, 1_000_000),
+    (1, 2, 2_000_000),
+    (0, 0, 3_000_000),
+    (59_999, 1, 4_000_000),
+];
+
+// What is held is the message that was read last, and no word of the one before it.
+fn expect_whole<S: WordSource>(
+    rt: &impl Abort,
+    alloc: Global,
+    source: &mut S,
+    limit: SizeLimit,
+    held: &mut ByteMessage,
+) {
+    for (first, last, from) in &WHOLE {
+        same(rt, read_into(alloc, source, limit, held), Ok(true));
+        assert!(rt;
+            counts_from(&held.view(), &[*first, 0, *last], *from),
+            "the segments"
+        );
+    }
+}
+
 #[test]
 fn one_buffer_is_read_into_again(rt: HostRuntime) -> Result<(), Fail> {
     let alloc = rt.alloc();
     let limit = SizeLimit::new(80_000).ok_or("a limit")?;
     let mut held = ByteMessage::blank(alloc);
     assert!(rt; is_blank(&held), "a blank one");
-    // Messages of 320,000 bytes, of 24, of none, and of 480,000, and one that is cut in its second word.
     let mut words = Vec::new(alloc);
-    add_message(&mut words, 15_000, 25_000, 1_000_000)?;
-    add_message(&mut words, 1, 2, 2_000_000)?;
-    add_message(&mut words, 0, 0, 3_000_000)?;
-    add_message(&mut words, 59_999, 1, 4_000_000)?;
+    for (first, last, from) in &WHOLE {
+        add_message(&mut words, *first, *last, *from)?;
+    }
+    let whole = words.len().saturating_mul(8);
+    // One more, which is cut in its second word, and behind its table.
     add_message(&mut words, 9, 9, 5_000_000)?;
     let bytes = plain(alloc, &words)?;
-    let whole = bytes.len().saturating_sub(18 * 8);
-    expect_same_answers(
-        &rt,
-        alloc,
-        &bytes[..(whole + 12).min(bytes.len())],
-        limit,
-        &mut held,
-    )?;
-    expect_same_answers(&rt, alloc, &bytes[..whole], limit, &mut held)?;
-    // What is held is the message that was read last, and no word of the one before it.
-    let mut source = PlainWords::new(SliceIn::new(&bytes));
-    for (first, last, from) in [
-        (15_000, 25_000, 1_000_000),
-        (1, 2, 2_000_000),
-        (0, 0, 3_000_000),
-        (59_999, 1, 4_000_000),
-    ] {
-        same(
-            &rt,
-            read_into(alloc, &mut source, limit, &mut held),
-            Ok(true),
-        );
-        assert!(rt;
-            counts_from(&held.view(), &[first, 0, last], from),
-            "the segments"
-        );
+    for len in [whole.saturating_add(28), whole.saturating_add(16)] {
+        expect_same_answers(&rt, alloc, part(&bytes, 0, len), limit, &mut held)?;
     }
+    let mut source = PlainWords::new(SliceIn::new(&bytes));
+    expect_whole(&rt, alloc, &mut source, limit, &mut held);
     Ok(())
 }
 
@@ -180,6 +198,9 @@ fn expect_two<I: ByteIn + Drop>(
     Ok(())
 }
 
+// How many bytes a call of the reader gives at most.
+static SIZES: [usize; 8] = [1, 3, 7, 8, 9, 65_535, 65_536, 65_537];
+
 #[test]
 fn messages_by_reads_of_many_sizes(rt: HostRuntime) -> Result<(), Fail> {
     let alloc = rt.alloc();
@@ -188,31 +209,37 @@ fn messages_by_reads_of_many_sizes(rt: HostRuntime) -> Result<(), Fail> {
     add_message(&mut words, 19_999, 1, 2_000_000)?;
     let bytes = plain(alloc, &words)?;
     let mut held = ByteMessage::blank(alloc);
-    for most in [1, 3, 7, 8, 9, 65_535, 65_536, 65_537] {
-        let rest = bytes.as_slice();
-        let input = FromRead::new(SlowReader { rest, most });
+    for most in &SIZES {
+        let input = FromRead::new(slow(&bytes, *most));
         expect_two(&rt, alloc, input, &mut held)?;
-        let input = BufferedIn::new(alloc, SlowReader { rest, most })?;
+        let input = BufferedIn::new(alloc, slow(&bytes, *most))?;
         expect_two(&rt, alloc, input, &mut ByteMessage::blank(alloc))?;
     }
     Ok(())
 }
 
+// The words that it tells of aren't there. It is read behind a message that is.
+const LYING: &[u64] = &[0x1_0000_0000, 7, 0x0080_0000_0000_0000];
+
+// More than is allowed is told before memory is asked for.
+static CLAIMS: [(&[u64], u64); 3] = [
+    (LYING, 8_388_608),
+    (&[0xffff_ffff_0000_0000, 7], 268_435_456),
+    (&[0x1000_0000_0000_0001, 1], 268_435_456),
+];
+
 #[test]
 fn a_table_that_claims_much(rt: HostRuntime) -> Result<(), Fail> {
     let alloc = rt.alloc();
-    let most = SizeLimit::new(268_435_456).ok_or("a limit")?;
-    let usual = SizeLimit::new(8_388_608).ok_or("a limit")?;
     let mut held = ByteMessage::blank(alloc);
-    // The words that it tells of aren't there. It is read behind a message that is.
-    let lying = plain(alloc, &[pair(0, 1), 7, pair(0, 8_388_608)])?;
-    expect_same_answers(&rt, alloc, &lying, usual, &mut held)?;
-    // More than is allowed is told before memory is asked for.
-    for sizes in [[pair(0, 0xffff_ffff), 7], [pair(1, 0x1000_0000), 1]] {
-        let bytes = plain(alloc, &sizes)?;
-        expect_same_answers(&rt, alloc, &bytes, most, &mut held)?;
+    for (words, limit) in &CLAIMS {
+        let bytes = plain(alloc, *words)?;
+        let limit = SizeLimit::new(*limit).ok_or("a limit")?;
+        expect_same_answers(&rt, alloc, &bytes, limit, &mut held)?;
     }
-    let mut source = PlainWords::new(SliceIn::new(&lying[16.min(lying.len())..]));
+    let lying = plain(alloc, LYING)?;
+    let usual = SizeLimit::new(8_388_608).ok_or("a limit")?;
+    let mut source = PlainWords::new(SliceIn::new(part(&lying, 16, 8)));
     let given = read_byte_message(alloc, &mut source, usual);
     assert!(rt;
         matches!(given, Err(FrameFault::Truncated { byte: 8 })),

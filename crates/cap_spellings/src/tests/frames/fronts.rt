@@ -3,6 +3,7 @@
 use super::views::is_same;
 use super::{is_message, plain};
 use crate::tests::same::{same, same_of};
+use crate::tests::steps::part;
 use cap_frame::{
     ByteView, FrameFault, Framed, FrontFault, SegmentTables, SizeLimit, front_of, read_message,
 };
@@ -56,49 +57,96 @@ fn measures(found: Option<Framed<'_>>) -> Option<(u32, u64, usize)> {
     Some((framed.count(), framed.words(), framed.length()))
 }
 
+// One segment of three words, and one more word behind it.
+const ONE: &[u64] = &[0x3_0000_0000, 7, 8, 9, 10];
+
+// Segments of one word and of two, with padding.
+const TWO: &[u64] = &[0x1_0000_0001, 0xeeee_eeee_0000_0002, 7, 8, 9];
+
+// Words, how many bytes of them there are, and what stands there.
+type Front<'a> = (
+    &'a [u64],
+    usize,
+    Result<Option<(u32, u64, usize)>, FrontFault>,
+);
+
+static FRONTS: [Front<'static>; 12] = [
+    (ONE, 0, Ok(None)),
+    (ONE, 1, Err(FrontFault::Truncated { wanted: 8 })),
+    (ONE, 7, Err(FrontFault::Truncated { wanted: 8 })),
+    (ONE, 8, Err(FrontFault::Truncated { wanted: 32 })),
+    (ONE, 31, Err(FrontFault::Truncated { wanted: 32 })),
+    (ONE, 32, Ok(Some((1, 3, 32)))),
+    (ONE, 40, Ok(Some((1, 3, 32)))),
+    (TWO, 8, Err(FrontFault::Truncated { wanted: 16 })),
+    (TWO, 15, Err(FrontFault::Truncated { wanted: 16 })),
+    (TWO, 16, Err(FrontFault::Truncated { wanted: 40 })),
+    (TWO, 39, Err(FrontFault::Truncated { wanted: 40 })),
+    (TWO, 40, Ok(Some((2, 3, 40)))),
+];
+
+// First words whose messages aren't compared with those of a source.
+static FIRSTS: [Front<'static>; 4] = [
+    (&[511], 8, Err(FrontFault::Truncated { wanted: 2056 })),
+    (&[512], 8, Err(FrontFault::TooManySegments { count: 513 })),
+    (&[0x4_0000_0000], 8, Err(FrontFault::TooLarge { words: 4 })),
+    (
+        &[u64::MAX],
+        8,
+        Err(FrontFault::TooManySegments {
+            count: 0x1_0000_0000,
+        }),
+    ),
+];
+
+// What stands in front of so many bytes is this.
+fn expect_front(
+    rt: &impl Abort,
+    alloc: Global,
+    (words, len, want): &Front<'_>,
+    limit: SizeLimit,
+) -> Result<Vec<u8>, Fail> {
+    let bytes = plain(alloc, *words)?;
+    let found = front_of(part(&bytes, 0, *len), limit).map(measures);
+    same_of(rt, len, found, *want);
+    Ok(bytes)
+}
+
 #[test]
 fn what_stands_in_front(rt: HostRuntime) -> Result<(), Fail> {
-    let alloc = rt.alloc();
     let limit = SizeLimit::new(3).ok_or("a limit")?;
-    // One segment of three words, and one more word behind it.
-    let one = plain(alloc, &[0x3_0000_0000, 7, 8, 9, 10])?;
-    // Segments of one word and of two, with padding.
-    let two = plain(alloc, &[0x1_0000_0001, 0xeeee_eeee_0000_0002, 7, 8, 9])?;
-    let none = Err(FrontFault::Truncated { wanted: 8 });
-    for (bytes, len, want) in [
-        (&one, 0, Ok(None)),
-        (&one, 1, none),
-        (&one, 7, none),
-        (&one, 8, Err(FrontFault::Truncated { wanted: 32 })),
-        (&one, 31, Err(FrontFault::Truncated { wanted: 32 })),
-        (&one, 32, Ok(Some((1, 3, 32)))),
-        (&one, 40, Ok(Some((1, 3, 32)))),
-        (&two, 8, Err(FrontFault::Truncated { wanted: 16 })),
-        (&two, 15, Err(FrontFault::Truncated { wanted: 16 })),
-        (&two, 16, Err(FrontFault::Truncated { wanted: 40 })),
-        (&two, 39, Err(FrontFault::Truncated { wanted: 40 })),
-        (&two, 40, Ok(Some((2, 3, 40)))),
-    ] {
-        let front = bytes.get(..len).ok_or("too few bytes")?;
-        match front_of(front, limit) {
-            Ok(found) => same_of(&rt, &len, Ok(measures(found)), want),
-            Err(fault) => same_of(&rt, &len, Err(fault), want),
-        }
-        expect_same_front(&rt, alloc, front, limit)?;
+    for row in &FRONTS {
+        let bytes = expect_front(&rt, rt.alloc(), row, limit)?;
+        expect_same_front(&rt, rt.alloc(), part(&bytes, 0, row.1), limit)?;
     }
-    for (first, want) in [
-        (511, FrontFault::Truncated { wanted: 2056 }),
-        (512, FrontFault::TooManySegments { count: 513 }),
-        (0x4_0000_0000, FrontFault::TooLarge { words: 4 }),
-        (
-            u64::MAX,
-            FrontFault::TooManySegments {
-                count: 0x1_0000_0000,
-            },
-        ),
-    ] {
-        let found = front_of(&plain(alloc, &[first])?, limit).err();
-        same_of(&rt, &first, found, Some(want));
+    for row in &FIRSTS {
+        expect_front(&rt, rt.alloc(), row, limit)?;
+    }
+    Ok(())
+}
+
+// The framed message has these contents and segments, and is one of one segment or not, where the
+// tables are lent anew and the size was another's.
+fn expect_framed(
+    rt: &impl Abort,
+    alloc: Global,
+    words: &[u64],
+    contents: &[u64],
+    segments: &[&[u64]],
+    size: &mut [u32; 1],
+) -> Result<(), Fail> {
+    let limit = SizeLimit::new(3).ok_or("a limit")?;
+    let bytes = plain(alloc, words)?;
+    let framed = front_of(&bytes, limit).ok().flatten().ok_or("a message")?;
+    same(rt, framed.contents(), plain(alloc, contents)?.as_slice());
+    let mut tables = SegmentTables::new();
+    assert!(rt;
+        is_message(&framed.view(&mut tables), segments),
+        "the segments"
+    );
+    match framed.one_segment(size) {
+        Some(view) => assert!(rt; is_message(&view, segments), "one without tables"),
+        None => assert!(rt; segments.len() > 1, "several as one"),
     }
     Ok(())
 }
@@ -106,39 +154,30 @@ fn what_stands_in_front(rt: HostRuntime) -> Result<(), Fail> {
 #[test]
 fn segments_in_front(rt: HostRuntime) -> Result<(), Fail> {
     let alloc = rt.alloc();
-    let limit = SizeLimit::new(3).ok_or("a limit")?;
-    let mut tables = SegmentTables::new();
     let mut size = [0];
-    let bytes = plain(alloc, &[0x1_0000_0001, 0xeeee_eeee_0000_0002, 7, 8, 9])?;
-    let two = front_of(&bytes, limit).ok().flatten().ok_or("a message")?;
-    same(&rt, two.contents(), plain(alloc, &[7, 8, 9])?.as_slice());
-    assert!(rt; is_message(&two.view(&mut tables), &[&[7], &[8, 9]]), "two");
-    assert!(rt; two.one_segment(&mut size).is_none(), "two as one");
-    let bytes = plain(alloc, &[0x2_0000_0000, 7, 8, 9])?;
-    let one = front_of(&bytes, limit).ok().flatten().ok_or("a message")?;
-    same(&rt, one.contents(), plain(alloc, &[7, 8])?.as_slice());
-    // in the place of the other's
-    let mut tables = SegmentTables::new();
-    assert!(rt; is_message(&one.view(&mut tables), &[&[7, 8]]), "one");
-    let view = one.one_segment(&mut size).ok_or("one segment")?;
-    assert!(rt; is_message(&view, &[&[7, 8]]), "one without tables");
-    Ok(())
+    let two: &[&[u64]] = &[&[7], &[8, 9]];
+    expect_framed(&rt, alloc, TWO, &[7, 8, 9], two, &mut size)?;
+    let one: &[u64] = &[0x2_0000_0000, 7, 8, 9];
+    expect_framed(&rt, alloc, one, &[7, 8], &[&[7, 8]], &mut size)
 }
+
+// How many bytes there are, and the words of a message without a table.
+static UNFRAMED: [(usize, Option<&[u64]>); 4] = [
+    (0, Some(&[])),
+    (8, Some(&[7])),
+    (15, None),
+    (16, Some(&[7, 8])),
+];
 
 #[test]
 fn words_without_a_table(rt: HostRuntime) -> Result<(), Fail> {
     let bytes = plain(rt.alloc(), &[7, 8])?;
-    for (len, want) in [
-        (0, Some(&[][..])),
-        (8, Some(&[7][..])),
-        (15, None),
-        (16, Some(&[7, 8][..])),
-    ] {
-        let front = bytes.get(..len).ok_or("too few bytes")?;
+    for (len, want) in &UNFRAMED {
+        let front = part(&bytes, 0, *len);
         let mut size = [9];
-        match (ByteView::of_words(front, &mut size), want) {
+        match (ByteView::of_words(front, &mut size), *want) {
             (Some(view), Some(words)) => assert!(rt; is_message(&view, &[words]), "{len} bytes"),
-            (view, want) => same_of(&rt, &len, view.is_some(), want.is_some()),
+            (view, want) => same_of(&rt, len, view.is_some(), want.is_some()),
         }
     }
     Ok(())

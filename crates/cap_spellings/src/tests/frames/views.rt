@@ -1,6 +1,7 @@
 //! Views of bytes that are known from outside.
 
 use super::{is_message, plain};
+use crate::tests::steps::part;
 use cap_frame::{
     ByteMessage, ByteView, SegmentTables, Segments, SizeLimit, WordMessage, front_of, write_message,
 };
@@ -44,7 +45,7 @@ fn has_parts(alloc: Global, view: &ByteView<'_>, s: u32, words: &[u64]) -> Resul
 }
 
 // The message of these segments, in vectors.
-fn held_of(alloc: Global, segments: &[&[u64]]) -> Result<WordMessage, Fail> {
+pub(super) fn held_of(alloc: Global, segments: &[&[u64]]) -> Result<WordMessage, Fail> {
     let mut held = Vec::new(alloc);
     for words in segments {
         let mut segment = Vec::new(alloc);
@@ -101,31 +102,34 @@ fn shows_in_front(
     shows(rt, alloc, &framed.view(&mut tables), segments)
 }
 
-#[test]
-fn one_segment_in_a_buffer(rt: HostRuntime) -> Result<(), Fail> {
-    let alloc = rt.alloc();
-    let words = [0x0807060504030201, 0, 0xffffffffffffffff];
-    for left in [0, 1, 8, 9] {
-        for count in [0, 2, 3] {
-            shows_in_front(&rt, alloc, &[&words[..count]], &LEFT[..left])?;
-        }
-    }
-    let bytes = plain(alloc, &words)?;
-    let mut size = [0];
-    let view = ByteView::of_words(&bytes, &mut size).ok_or("a view")?;
-    shows(&rt, alloc, &view, &[&words])?;
-    shows(&rt, alloc, &ByteMessage::blank(alloc).view(), &[&[]])
-}
+const WORDS: &[u64] = &[0x0807060504030201, 0, 0xffffffffffffffff];
+
+// Segments: one of some words, and several, of no words in front, between others and at the end.
+static SHOWN: [&[&[u64]]; 6] = [
+    &[&[]],
+    &[&[0x0807060504030201, 0]],
+    &[WORDS],
+    &[&[], &[1, 2], &[], &[], &[3, 4, 5], &[]],
+    &[&[1], &[], &[2, 3]],
+    &[&[], &[]],
+];
 
 #[test]
 fn segments_in_a_buffer(rt: HostRuntime) -> Result<(), Fail> {
-    let alloc = rt.alloc();
-    for left in [0, 1, 8, 9] {
-        let left = &LEFT[..left];
-        // Segments of no words in front, between others and at the end.
-        shows_in_front(&rt, alloc, &[&[], &[1, 2], &[], &[], &[3, 4, 5], &[]], left)?;
-        shows_in_front(&rt, alloc, &[&[1], &[], &[2, 3]], left)?;
-        shows_in_front(&rt, alloc, &[&[], &[]], left)?;
+    for segments in &SHOWN {
+        for left in [0, 1, 8, 9] {
+            shows_in_front(&rt, rt.alloc(), *segments, part(&LEFT, 0, left))?;
+        }
     }
     Ok(())
+}
+
+#[test]
+fn one_segment_without_a_frame(rt: HostRuntime) -> Result<(), Fail> {
+    let alloc = rt.alloc();
+    let bytes = plain(alloc, WORDS)?;
+    let mut size = [0];
+    let view = ByteView::of_words(&bytes, &mut size).ok_or("a view")?;
+    shows(&rt, alloc, &view, &[WORDS])?;
+    shows(&rt, alloc, &ByteMessage::blank(alloc).view(), &[&[]])
 }

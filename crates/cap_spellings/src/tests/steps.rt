@@ -1,0 +1,132 @@
+//! Calls of ends, sources and sinks, each with the answer that is wanted.
+//!
+//! A test is a table of them: one function makes all calls of a trait, and is proved once. Bytes are
+//! told as so many of a text from one on.
+
+use crate::tests::same::same_of;
+use cap_words::{
+    ByteIn, ByteOut, InFault, OutFault, SinkFault, SourceFault, WordSink, WordSource, fill,
+};
+use std::process::Abort;
+
+// A call of an input of bytes.
+pub(crate) enum Reads {
+    // It holds these bytes.
+    Held(usize, usize),
+    Skip(usize),
+    // A read with so much room.
+    Read(usize, Result<usize, InFault>),
+    // So many bytes, and a fault or none, where there is room for so many.
+    Fill(usize, usize, Option<InFault>),
+    // From this place of the room on stand these bytes.
+    Gave(usize, usize, usize),
+}
+
+// A call of a source of words.
+pub(crate) enum Takes {
+    Next(Result<Option<u64>, SourceFault>),
+    Position(u64),
+    AtHand(bool),
+    // The room, and the bytes that are given.
+    Ready(usize, usize, usize),
+    // The room, whether it is filled, and the bytes at its front.
+    Fill(usize, Result<bool, SourceFault>, usize, usize),
+}
+
+// A call of a sink of words.
+pub(crate) enum Puts {
+    Word(u64, Result<(), SinkFault>),
+    Bytes(usize, usize, Result<(), SinkFault>),
+    Finish(Result<(), SinkFault>),
+}
+
+// A call of an output of bytes.
+pub(crate) enum Writes {
+    Write(usize, usize, Result<usize, OutFault>),
+    Flush(Result<(), OutFault>),
+}
+
+// The first bytes of a room, or all of it.
+pub(crate) fn front(room: &mut [u8], most: usize) -> &mut [u8] {
+    let len = most.min(room.len());
+    &mut room[..len]
+}
+
+// So many bytes from this one on, or all that there are.
+pub(crate) fn part(bytes: &[u8], from: usize, most: usize) -> &[u8] {
+    let rest = &bytes[from.min(bytes.len())..];
+    &rest[..most.min(rest.len())]
+}
+
+pub(crate) fn read_by<I: ByteIn>(
+    rt: &impl Abort,
+    input: &mut I,
+    text: &[u8],
+    room: &mut [u8],
+    steps: &[Reads],
+) {
+    for (at, step) in steps.iter().enumerate() {
+        match step {
+            Reads::Held(from, len) => same_of(rt, &at, input.held(), part(text, *from, *len)),
+            Reads::Skip(count) => input.skip(*count),
+            Reads::Read(size, wanted) => {
+                same_of(rt, &at, input.read(front(room, *size)), *wanted);
+            }
+            Reads::Fill(size, len, fault) => {
+                let filled = fill(input, front(room, *size));
+                same_of(rt, &at, filled.len, *len);
+                same_of(rt, &at, filled.fault, *fault);
+            }
+            Reads::Gave(place, from, len) => {
+                same_of(rt, &at, part(room, *place, *len), part(text, *from, *len));
+            }
+        }
+    }
+}
+
+pub(crate) fn take_by<S: WordSource>(
+    rt: &impl Abort,
+    source: &mut S,
+    text: &[u8],
+    room: &mut [u8],
+    steps: &[Takes],
+) {
+    for (at, step) in steps.iter().enumerate() {
+        match step {
+            Takes::Next(wanted) => same_of(rt, &at, source.next(), *wanted),
+            Takes::Position(wanted) => same_of(rt, &at, source.position(), *wanted),
+            Takes::AtHand(wanted) => same_of(rt, &at, source.is_at_hand(), *wanted),
+            Takes::Ready(size, from, len) => {
+                same_of(rt, &at, source.ready(front(room, *size)), *len);
+                same_of(rt, &at, part(room, 0, *len), part(text, *from, *len));
+            }
+            Takes::Fill(size, wanted, from, len) => {
+                same_of(rt, &at, source.fill(front(room, *size)), *wanted);
+                same_of(rt, &at, part(room, 0, *len), part(text, *from, *len));
+            }
+        }
+    }
+}
+
+pub(crate) fn put_by<K: WordSink>(rt: &impl Abort, sink: &mut K, text: &[u8], steps: &[Puts]) {
+    for (at, step) in steps.iter().enumerate() {
+        match step {
+            Puts::Word(word, wanted) => same_of(rt, &at, sink.put(*word), *wanted),
+            Puts::Bytes(from, len, wanted) => {
+                same_of(rt, &at, sink.put_bytes(part(text, *from, *len)), *wanted);
+            }
+            Puts::Finish(wanted) => same_of(rt, &at, sink.finish(), *wanted),
+        }
+    }
+}
+
+pub(crate) fn write_by<O: ByteOut>(rt: &impl Abort, output: &mut O, text: &[u8], steps: &[Writes]) {
+    for (at, step) in steps.iter().enumerate() {
+        match step {
+            Writes::Write(from, len, wanted) => {
+                same_of(rt, &at, output.write(part(text, *from, *len)), *wanted);
+            }
+            Writes::Flush(wanted) => same_of(rt, &at, output.flush(), *wanted),
+        }
+    }
+}
