@@ -1,10 +1,12 @@
 //! Words of packed texts: worked samples, however few bytes a read gives.
 
-use crate::tests::same::same;
+use crate::tests::devices::{failing, slow};
+use crate::tests::same::{same, same_of};
+use crate::tests::steps::{Reads, Takes, part, read_by, take_by};
 use cap_pack::Unpacker;
-use cap_words::{ByteIn, FromRead, SliceIn, SourceFault, WordSource};
+use cap_words::{FromRead, SliceIn, SourceFault, WordSource};
 use std::alloc::{AllocError, Global};
-use std::io::{self, ErrorKind, Read};
+use std::io::ErrorKind;
 use std::process::Abort;
 use std::test::Fail;
 
@@ -27,27 +29,6 @@ const GIVEN: [(u64, u64); 7] = [
     (0, 24),
 ];
 
-// A reader that gives one byte a call, and fails at one of its calls.
-#[derive(Drop)]
-struct ByteReader<'a> {
-    rest: &'a [u8],
-    left: u32,
-}
-
-impl Read for ByteReader<'_> {
-    fn read(&mut self, buf: &mut [u8]) -> io::Result<usize> {
-        if self.left == 0 {
-            return Err(io::Error::from(ErrorKind::Other));
-        }
-        self.left -= 1;
-        let count = buf.len().min(self.rest.len()).min(1);
-        let (given, rest) = self.rest.split_at(count);
-        buf[..count].copy_from_slice(given);
-        self.rest = rest;
-        Ok(count)
-    }
-}
-
 // The source gives these words and then ends, inside a group where a position is given.
 fn expect<S: WordSource>(rt: &impl Abort, source: &mut S, words: &[u64], cut: Option<u64>) {
     for word in words {
@@ -68,11 +49,8 @@ fn expect<S: WordSource>(rt: &impl Abort, source: &mut S, words: &[u64], cut: Op
 // The same whether a read gives all that there is room for or one byte.
 fn expect_each_way(rt: &impl Abort, text: &[u8], words: &[u64], cut: Option<u64>) {
     expect(rt, &mut Unpacker::new(SliceIn::new(text)), words, cut);
-    let reader = ByteReader {
-        rest: text,
-        left: u32::MAX,
-    };
-    expect(rt, &mut Unpacker::new(FromRead::new(reader)), words, cut);
+    let reader = FromRead::new(slow(text, 1));
+    expect(rt, &mut Unpacker::new(reader), words, cut);
 }
 
 // A text that begins with an `ff` group of so many words behind its head, and its words.
@@ -90,63 +68,77 @@ fn plain_run(alloc: Global, more: u8) -> Result<(Vec<u8>, Vec<u64>), AllocError>
     Ok((text, words))
 }
 
+// Texts, their words, and where they end inside a group.
+static SAMPLES: [(&[u8], &[u64], Option<u64>); 16] = [
+    (&[], &[], None),
+    (
+        &[0x51, 8, 3, 2, 0x31, 0x19, 0xaa, 1],
+        &[0x0002_0003_0000_0008, 0x0000_01aa_0000_0019],
+        None,
+    ),
+    (&[0, 3], &[0; 4], None),
+    (&[0, 0xfe], &[0; 255], None),
+    (&[0, 0xff], &[0; 256], None),
+    (&[0, 0xff, 0, 0], &[0; 257], None),
+    (&[1, 0], &[0], None),
+    (
+        &[
+            0xff, 0x8a, 0x8a, 0x8a, 0x8a, 0x8a, 0x8a, 0x8a, 0x8a, 3, 0x8a, 0x8a, 0x8a, 0x8a, 0x8a,
+            0x8a, 0x8a, 0x8a, 0x8a, 0x8a, 0x8a, 0x8a, 0x8a, 0x8a, 0x8a, 0x8a, 0x8a, 0x8a, 0x8a,
+            0x8a, 0x8a, 0x8a, 0x8a, 0x8a,
+        ],
+        &[FULL; 4],
+        None,
+    ),
+    (
+        &[
+            0xff, 1, 1, 1, 1, 1, 1, 1, 1, 1, 1, 0, 1, 1, 1, 1, 1, 1, 0xfc, 1, 1, 1, 1, 1, 1,
+        ],
+        &[
+            0x0101_0101_0101_0101,
+            0x0101_0101_0101_0001,
+            0x0101_0101_0101_0000,
+        ],
+        None,
+    ),
+    (
+        &[0x10, 2, 0x10, 1, 1, 0x2a],
+        &[0x2_0000_0000, 0x1_0000_0000, 0x2a],
+        None,
+    ),
+    (
+        &[0x10, 4, 0x40, 2, 0x11, 4, 1, 0x10, 1, 1, 7],
+        &[
+            0x4_0000_0000,
+            0x0002_0000_0000_0000,
+            0x1_0000_0004,
+            0x1_0000_0000,
+            7,
+        ],
+        None,
+    ),
+    (&[0x10, 1, 0, 0], &[0x1_0000_0000, 0], None),
+    (&[0x10, 1, 0, 1], &[0x1_0000_0000, 0, 0], None),
+    (&[0x10, 1, 0], &[0x1_0000_0000], Some(3)),
+    (
+        &[0xff, 0x8a, 0x8a, 0x8a, 0x8a, 0x8a, 0x8a, 0x8a, 0x8a],
+        &[],
+        Some(9),
+    ),
+    (
+        &[
+            0xff, 0x8a, 0x8a, 0x8a, 0x8a, 0x8a, 0x8a, 0x8a, 0x8a, 2, 0x8a, 0x8a, 0x8a, 0x8a, 0x8a,
+            0x8a, 0x8a, 0x8a, 0x8a, 0x8a, 0x8a, 0x8a,
+        ],
+        &[FULL; 2],
+        Some(22),
+    ),
+];
+
 #[test]
 fn samples(rt: HostRuntime) {
-    let zeros = [0; 257];
-    let full = [0xff, 0x8a, 0x8a, 0x8a, 0x8a, 0x8a, 0x8a, 0x8a, 0x8a];
-    let mut four = [0x8a; 34];
-    four[0] = 0xff;
-    four[9] = 3;
-    let mut short = [0x8a; 22];
-    short[0] = 0xff;
-    short[9] = 2;
-    for (text, words, cut) in [
-        (&[][..], &[][..], None),
-        (
-            &[0x51, 8, 3, 2, 0x31, 0x19, 0xaa, 1],
-            &[0x0002_0003_0000_0008, 0x0000_01aa_0000_0019],
-            None,
-        ),
-        (&[0, 3], &zeros[..4], None),
-        (&[0, 0xfe], &zeros[..255], None),
-        (&[0, 0xff], &zeros[..256], None),
-        (&[0, 0xff, 0, 0], &zeros[..257], None),
-        (&[1, 0], &zeros[..1], None),
-        (&four, &[FULL; 4], None),
-        (
-            &[
-                0xff, 1, 1, 1, 1, 1, 1, 1, 1, 1, 1, 0, 1, 1, 1, 1, 1, 1, 0xfc, 1, 1, 1, 1, 1, 1,
-            ],
-            &[
-                0x0101_0101_0101_0101,
-                0x0101_0101_0101_0001,
-                0x0101_0101_0101_0000,
-            ],
-            None,
-        ),
-        (
-            &[0x10, 2, 0x10, 1, 1, 0x2a],
-            &[0x2_0000_0000, 0x1_0000_0000, 0x2a],
-            None,
-        ),
-        (
-            &[0x10, 4, 0x40, 2, 0x11, 4, 1, 0x10, 1, 1, 7],
-            &[
-                0x4_0000_0000,
-                0x0002_0000_0000_0000,
-                0x1_0000_0004,
-                0x1_0000_0000,
-                7,
-            ],
-            None,
-        ),
-        (&[0x10, 1, 0, 0], &[0x1_0000_0000, 0], None),
-        (&[0x10, 1, 0, 1], &[0x1_0000_0000, 0, 0], None),
-        (&[0x10, 1, 0], &[0x1_0000_0000], Some(3)),
-        (&full, &[], Some(9)),
-        (&short, &[FULL; 2], Some(22)),
-    ] {
-        expect_each_way(&rt, text, words, cut);
+    for (text, words, cut) in &SAMPLES {
+        expect_each_way(&rt, *text, *words, *cut);
     }
 }
 
@@ -162,26 +154,33 @@ fn long_runs_of_words_as_they_are(rt: HostRuntime) -> Result<(), Fail> {
     Ok(())
 }
 
+// How many words each beginning of the groups gives.
+static COUNTS: [usize; 25] = [
+    0, 0, 1, 1, 4, 4, 4, 4, 4, 4, 4, 4, 4, 4, 5, 5, 5, 5, 5, 5, 5, 5, 6, 6, 7,
+];
+
 #[test]
 fn cut_at_every_byte(rt: HostRuntime) -> Result<(), Fail> {
     let mut words = Vec::new(rt.alloc());
     for (word, _) in GIVEN {
         words.push(word)?;
     }
-    let given = [
-        0, 0, 1, 1, 4, 4, 4, 4, 4, 4, 4, 4, 4, 4, 5, 5, 5, 5, 5, 5, 5, 5, 6, 6, 7,
-    ];
-    for (len, count) in given.iter().enumerate() {
+    for (len, count) in COUNTS.iter().enumerate() {
         let between = matches!(len, 0 | 2 | 4 | 22 | 24);
         let cut = if between { None } else { Some(len as u64) };
-        let (Some(text), Some(words)) = (GROUPS.get(..len), words.get(..*count)) else {
-            assert!(rt; false, "{len}");
-            return Ok(());
-        };
-        expect_each_way(&rt, text, words, cut);
+        let given = words.as_slice().get(..*count).ok_or("too few words")?;
+        expect_each_way(&rt, part(&GROUPS, 0, len), given, cut);
     }
     Ok(())
 }
+
+static FIRST_TWO: [Takes; 2] = [
+    Takes::Next(Ok(Some(0x1_0000_0000))),
+    Takes::Next(Ok(Some(0))),
+];
+
+// What is left of the groups then.
+static LEFT: [Reads; 2] = [Reads::Read(32, Ok(20)), Reads::Gave(0, 4, 20)];
 
 #[test]
 fn positions_and_the_input_after_a_word(rt: HostRuntime) {
@@ -194,54 +193,74 @@ fn positions_and_the_input_after_a_word(rt: HostRuntime) {
     same(&rt, source.position(), 24);
 
     let mut source = Unpacker::new(SliceIn::new(&GROUPS));
-    same(&rt, source.next(), Ok(Some(0x1_0000_0000)));
-    same(&rt, source.next(), Ok(Some(0)));
+    take_by(&rt, &mut source, &GROUPS, &mut [], &FIRST_TWO);
     let mut input = source.into_inner();
-    let mut rest = [0; 32];
-    same(&rt, input.read(&mut rest), Ok(20));
-    same(&rt, &rest[..20], &GROUPS[4..]);
+    read_by(&rt, &mut input, &GROUPS, &mut [0; 32], &LEFT);
 }
+
+// The call of the device that fails, and the words and the bytes before it.
+static FAILING: [(u32, usize, u64); 6] = [
+    (1, 0, 0),
+    (2, 0, 1),
+    (4, 1, 3),
+    (5, 4, 4),
+    (14, 4, 13),
+    (18, 5, 17),
+];
 
 #[test]
 fn a_device_that_fails(rt: HostRuntime) {
-    for (left, given, position) in [
-        (0, 0, 0),
-        (1, 0, 1),
-        (3, 1, 3),
-        (4, 4, 4),
-        (13, 4, 13),
-        (17, 5, 17),
-    ] {
-        let reader = ByteReader {
-            rest: &GROUPS,
-            left,
-        };
+    for (fails_at, given, position) in &FAILING {
+        let reader = failing(&GROUPS, 1, *fails_at, ErrorKind::Other);
         let mut source = Unpacker::new(FromRead::new(reader));
-        for (word, _) in &GIVEN[..given] {
-            same(&rt, source.next(), Ok(Some(*word)));
+        for (word, _) in GIVEN.iter().take(*given) {
+            same_of(&rt, fails_at, source.next(), Ok(Some(*word)));
         }
-        same(&rt, source.next(), Err(SourceFault::Device));
-        same(&rt, source.position(), position);
-        same(&rt, source.next(), Err(SourceFault::Spent));
-        same(&rt, source.position(), position);
+        for fault in [SourceFault::Device, SourceFault::Spent] {
+            same_of(&rt, fails_at, source.next(), Err(fault));
+            same_of(&rt, fails_at, source.position(), *position);
+        }
+        same_of(
+            &rt,
+            fails_at,
+            source.into_inner().into_inner().calls,
+            *fails_at,
+        );
     }
 }
 
 // Zero words that are still to be given are no bytes at hand.
+static AT_HAND: [(&[u8], &[Takes]); 2] = [
+    (
+        &[0x10, 1, 0, 1, 0x10],
+        &[
+            Takes::Next(Ok(Some(0x1_0000_0000))),
+            Takes::AtHand(true),
+            Takes::Next(Ok(Some(0))),
+            Takes::AtHand(true),
+            Takes::Next(Ok(Some(0))),
+            Takes::AtHand(true),
+            Takes::Next(Err(SourceFault::Truncated { byte: 5 })),
+            Takes::AtHand(false),
+        ],
+    ),
+    (
+        &[0, 1],
+        &[
+            Takes::AtHand(true),
+            Takes::Next(Ok(Some(0))),
+            Takes::AtHand(false),
+            Takes::Next(Ok(Some(0))),
+            Takes::Next(Ok(None)),
+            Takes::AtHand(false),
+        ],
+    ),
+];
+
 #[test]
 fn whether_bytes_are_at_hand(rt: HostRuntime) {
-    let mut source = Unpacker::new(SliceIn::new(&[0x10, 1, 0, 1, 0x10]));
-    for (word, more) in [(1 << 32, true), (0, true), (0, true)] {
-        same(&rt, source.next(), Ok(Some(word)));
-        same(&rt, source.is_at_hand(), more);
+    for (text, steps) in &AT_HAND {
+        let mut source = Unpacker::new(SliceIn::new(*text));
+        take_by(&rt, &mut source, *text, &mut [], *steps);
     }
-    same(&rt, source.next(), Err(SourceFault::Truncated { byte: 5 }));
-    assert!(rt; !source.is_at_hand());
-    let mut run = Unpacker::new(SliceIn::new(&[0, 1]));
-    assert!(rt; run.is_at_hand());
-    same(&rt, run.next(), Ok(Some(0)));
-    assert!(rt; !run.is_at_hand());
-    same(&rt, run.next(), Ok(Some(0)));
-    same(&rt, run.next(), Ok(None));
-    assert!(rt; !run.is_at_hand());
 }
