@@ -2,10 +2,7 @@
 
 mod calls;
 mod canons;
-mod checking;
-mod copying;
 mod held;
-mod length;
 mod pointers;
 mod reading;
 mod same;

@@ -1,6 +1,9 @@
-//! What the four calls say together of messages whose copies are known from outside.
+//! What the four calls tell together of messages whose copies are known from outside, and of those
+//! that have none.
 
-use super::held::{in_one_buffer, words};
+mod values;
+
+use super::held::{Forms, repeated, words};
 use crate::tests::same::{same, same_of};
 use cap_canon::{CanonFault, canonical, canonical_bytes, canonical_len, is_canonical};
 use cap_frame::{OneSegment, Segments};
@@ -18,91 +21,419 @@ fn accepted<M: Segments>(message: &M, words: u64, depth: u32) -> Result<Vetted<'
     }
 }
 
-// A message of these words has this copy. It is canonical where they are the copy, and the copy is
-// accepted under limits as low as the message's own numbers, and is canonical.
-fn has_copy(rt: &impl Abort, alloc: Global, segment: &[u64], copied: &[u64]) -> Result<(), Fail> {
-    let message = OneSegment::new(segment).ok_or("no message")?;
-    makes_copy(rt, alloc, &message, segment, copied)?;
-    let held = in_one_buffer(alloc, &message)?;
-    makes_copy(rt, alloc, &held.view(), segment, copied)
+// The copy of a message, or the word of its first segment that is the first capability.
+type Copied<'a> = Result<&'a [u64], u32>;
+
+// The words of each segment of a message, and its copy.
+type Row = (&'static [&'static [u64]], Copied<'static>);
+
+fn have_copies(rt: &impl Abort, alloc: Global, rows: &[Row]) -> Result<(), Fail> {
+    for (spelled, copied) in rows {
+        has_copy(rt, alloc, spelled, *copied)?;
+    }
+    Ok(())
 }
 
-// As above, of a message as it is held.
-fn makes_copy<M: Segments>(
+// A message of these segments, held in each way, has this copy, and the copy is its own copy.
+fn has_copy(
+    rt: &impl Abort,
+    alloc: Global,
+    spelled: &[&[u64]],
+    wanted: Copied<'_>,
+) -> Result<(), Fail> {
+    in_each_way(rt, alloc, spelled, wanted)?;
+    match wanted {
+        Ok(copied) => in_each_way(rt, alloc, &[copied], wanted),
+        Err(_) => Ok(()),
+    }
+}
+
+fn in_each_way(
+    rt: &impl Abort,
+    alloc: Global,
+    spelled: &[&[u64]],
+    wanted: Copied<'_>,
+) -> Result<(), Fail> {
+    let forms = Forms::of(alloc, spelled)?;
+    answers(rt, alloc, &forms.several, spelled, wanted)?;
+    answers(rt, alloc, &forms.buffer.view(), spelled, wanted)?;
+    match forms.lent() {
+        Some(message) => answers(rt, alloc, &message, spelled, wanted),
+        None => Ok(()),
+    }
+}
+
+// The four calls on a message as it is held. It is canonical where its only segment is the copy.
+fn answers<M: Segments>(
     rt: &impl Abort,
     alloc: Global,
     message: &M,
-    segment: &[u64],
-    copied: &[u64],
+    spelled: &[&[u64]],
+    wanted: Copied<'_>,
 ) -> Result<(), Fail> {
     let vetted = accepted(message, 268435456, 256)?;
-    let report = vetted.report();
-    same_of(
-        rt,
-        &segment,
-        canonical_len(&vetted),
-        Ok(copied.len() as u64),
-    );
-    let Ok(made) = canonical(alloc, &vetted) else {
+    match wanted {
+        Ok(copied) => {
+            let is_own = match spelled {
+                [segment] => *segment == copied,
+                _ => false,
+            };
+            same_of(rt, &spelled, is_canonical(&vetted), is_own);
+            copies(rt, alloc, &vetted, copied)
+        }
+        Err(word) => {
+            same_of(rt, &spelled, is_canonical(&vetted), false);
+            has_none(rt, alloc, &vetted, word)
+        }
+    }
+}
+
+// The copy has these words, is accepted under limits as low as the message's own numbers, and is
+// canonical.
+fn copies<M: Segments>(
+    rt: &impl Abort,
+    alloc: Global,
+    vetted: &Vetted<'_, M>,
+    spelled: &[u64],
+) -> Result<(), Fail> {
+    let copied = words(alloc, spelled)?;
+    same_of(rt, &spelled, canonical_len(vetted), Ok(copied.len() as u64));
+    let Ok(made) = canonical(alloc, vetted) else {
         return Err("no copy".into());
     };
-    same_of(rt, &segment, made.as_slice(), copied);
-    let Ok(bytes) = canonical_bytes(alloc, &vetted) else {
+    same(rt, made.as_slice(), copied.as_slice());
+    let Ok(bytes) = canonical_bytes(alloc, vetted) else {
         return Err("no bytes".into());
     };
-    let mut spelled = Vec::new(alloc);
-    for word in copied {
-        spelled.extend_from_slice(&bytes_of(*word))?;
+    let mut text = Vec::new(alloc);
+    for word in &copied {
+        text.extend_from_slice(&bytes_of(*word))?;
     }
-    same_of(rt, &segment, bytes.as_slice(), spelled.as_slice());
-    same_of(rt, &segment, is_canonical(&vetted), segment == copied);
+    same_of(rt, &spelled, bytes.as_slice(), text.as_slice());
+    let report = vetted.report();
     let copy = OneSegment::new(&made).ok_or("no message")?;
     let again = accepted(&copy, report.charge, report.depth)?;
-    same_of(rt, &segment, again.report().depth, report.depth);
-    assert!(rt; is_canonical(&again), "of {segment:?}");
+    same_of(rt, &spelled, again.report().depth, report.depth);
+    assert!(rt; is_canonical(&again), "of {spelled:?}");
     Ok(())
 }
 
-// Lists of values of each code, with unused bits that are set, and with a word behind them.
+fn has_none<M: Segments>(
+    rt: &impl Abort,
+    alloc: Global,
+    vetted: &Vetted<'_, M>,
+    word: u32,
+) -> Result<(), Fail> {
+    let fault = CanonFault::HasCapability { segment: 0, word };
+    same(rt, canonical_len(vetted), Err(fault));
+    let Err(found) = canonical(alloc, vetted) else {
+        return Err("a copy".into());
+    };
+    same(rt, found, fault);
+    let Err(found) = canonical_bytes(alloc, vetted) else {
+        return Err("bytes".into());
+    };
+    same(rt, found, fault);
+    Ok(())
+}
+
+// Messages of few objects.
+static STRUCTS: [Row; 18] = [
+    // Null, an empty struct, and a struct of one word, with what may be cut.
+    (&[&[0]], Ok(&[0])),
+    (&[&[0xfcffffff00000000]], Ok(&[0xfcffffff00000000])),
+    (
+        &[&[0x0000000001000000, 0x2a00000000000000]],
+        Ok(&[0x0000000001000000, 0x2a00000000000000]),
+    ),
+    (
+        &[&[0x0000000002000000, 0x2a00000000000000, 0]],
+        Ok(&[0x0000000001000000, 0x2a00000000000000]),
+    ),
+    (&[&[0x0000000001000000, 42]], Ok(&[0x0000000001000000, 42])),
+    (
+        &[&[0x0000000002000000, 42, 0]],
+        Ok(&[0x0000000001000000, 42]),
+    ),
+    (&[&[0x0000000001000000, 0]], Ok(&[0xfcffffff00000000])),
+    // A word behind the tree, and a far pointer into its own segment.
+    (
+        &[&[0x0000000001000000, 0x2a00000000000000, 0]],
+        Ok(&[0x0000000001000000, 0x2a00000000000000]),
+    ),
+    (
+        &[&[0x0a00000000000000, 0x0000000001000000, 0x2a00000000000000]],
+        Ok(&[0x0000000001000000, 0x2a00000000000000]),
+    ),
+    (
+        &[&[0x0000000001000000, 42, 0]],
+        Ok(&[0x0000000001000000, 42]),
+    ),
+    (
+        &[&[0x0a00000000000000, 0x0000000001000000, 42]],
+        Ok(&[0x0000000001000000, 42]),
+    ),
+    // Two pointers to one struct.
+    (
+        &[&[
+            0x0000000000000200,
+            0x0400000001000000,
+            0x0000000001000000,
+            0x0700000000000000,
+        ]],
+        Ok(&[
+            0x0000000000000200,
+            0x0400000001000000,
+            0x0400000001000000,
+            0x0700000000000000,
+            0x0700000000000000,
+        ]),
+    ),
+    (
+        &[&[
+            0x0000000000000200,
+            0x0400000001000000,
+            0x0000000001000000,
+            7,
+        ]],
+        Ok(&[
+            0x0000000000000200,
+            0x0400000001000000,
+            0x0400000001000000,
+            7,
+            7,
+        ]),
+    ),
+    // Children in the wrong order.
+    (
+        &[&[
+            0x0000000000000200,
+            0x0800000001000000,
+            0x0000000001000000,
+            0x0700000000000000,
+            0x0900000000000000,
+        ]],
+        Ok(&[
+            0x0000000000000200,
+            0x0400000001000000,
+            0x0400000001000000,
+            0x0900000000000000,
+            0x0700000000000000,
+        ]),
+    ),
+    (
+        &[&[
+            0x0000000000000200,
+            0x0800000001000000,
+            0x0000000001000000,
+            7,
+            9,
+        ]],
+        Ok(&[
+            0x0000000000000200,
+            0x0400000001000000,
+            0x0400000001000000,
+            9,
+            7,
+        ]),
+    ),
+    // A struct without words whose pointer leads elsewhere.
+    (
+        &[&[0x0000000001000100, 0x2a00000000000000, 0xf8ffffff00000000]],
+        Ok(&[0x0000000001000100, 0x2a00000000000000, 0xfcffffff00000000]),
+    ),
+    (
+        &[&[0x0000000001000100, 42, 0xf8ffffff00000000]],
+        Ok(&[0x0000000001000100, 42, 0xfcffffff00000000]),
+    ),
+    // The zero word in the middle of the data is kept.
+    (
+        &[&[0x0000000003000000, 1, 0, 1]],
+        Ok(&[0x0000000003000000, 1, 0, 1]),
+    ),
+];
+
 #[test]
-fn values_of_each_code(rt: HostRuntime) -> Result<(), Fail> {
-    let ones = 0xffffffffffffffff;
-    for (root, count, last) in [
-        // The code, how many words the values take, and what is left of the last one.
-        (0x0100000018000000, 0, 0),
-        (0x0100000001000000, 0, 0),
-        (0x0100000009020000, 2, 0x0100000000000000),
-        (0x0100000001020000, 1, ones),
-        (0x010000004a000000, 2, 0xff00000000000000),
-        (0x0100000042000000, 1, ones),
-        (0x010000002b000000, 2, 0xffff000000000000),
-        (0x0100000023000000, 1, ones),
-        (0x010000001c000000, 2, 0xffffffff00000000),
-        (0x0100000014000000, 1, ones),
-        (0x0100000015000000, 2, ones),
-        (0x0100000005000000, 0, 0),
-    ] {
-        let mut spelled = Vec::new(rt.alloc());
-        let mut copied = Vec::new(rt.alloc());
-        spelled.push(root)?;
-        copied.push(root)?;
-        for k in 0..count {
-            spelled.push(ones)?;
-            copied.push(if k + 1 == count { last } else { ones })?;
-        }
-        let copied = words(rt.alloc(), &copied)?;
-        has_copy(&rt, rt.alloc(), &words(rt.alloc(), &spelled)?, &copied)?;
-        spelled.push(ones)?;
-        has_copy(&rt, rt.alloc(), &words(rt.alloc(), &spelled)?, &copied)?;
-    }
-    Ok(())
+fn structs(rt: HostRuntime) -> Result<(), Fail> {
+    have_copies(&rt, rt.alloc(), &STRUCTS)
 }
 
-// Messages of objects below others, and their copies.
-static COPIES_OF_OBJECTS: [(&[u64], &[u64]); 7] = [
-    // Words between objects and behind them.
+// Messages of a list.
+static LISTS: [Row; 12] = [
+    // Two structs of one word in three words.
+    (
+        &[&[
+            0x010000001f000000,
+            0x0800000001000000,
+            0x0500000000000000,
+            0,
+            0xff00000000000000,
+        ]],
+        Ok(&[
+            0x0100000017000000,
+            0x0800000001000000,
+            0x0500000000000000,
+            0,
+        ]),
+    ),
+    (
+        &[&[0x010000001f000000, 0x0800000001000000, 5, 0, 255]],
+        Ok(&[0x0100000017000000, 0x0800000001000000, 5, 0]),
+    ),
+    // Elements without bits, and three bits with those behind them.
+    (&[&[0x0100000018000000]], Ok(&[0x0100000018000000])),
+    (
+        &[&[0x0100000019000000, 0xffffffffffffffff]],
+        Ok(&[0x0100000019000000, 0x0700000000000000]),
+    ),
+    (&[&[0x0100000019000000, 255]], Ok(&[0x0100000019000000, 0])),
+    // A list of pointers, and a null pad in it that is another null of the tree.
+    (
+        &[&[
+            0x0100000016000000,
+            0,
+            0x0000000001000000,
+            0x0900000000000000,
+        ]],
+        Ok(&[
+            0x0100000016000000,
+            0,
+            0x0000000001000000,
+            0x0900000000000000,
+        ]),
+    ),
+    (
+        &[&[0x0100000016000000, 0, 0x0000000001000000, 9]],
+        Ok(&[0x0100000016000000, 0, 0x0000000001000000, 9]),
+    ),
+    (
+        &[&[0x0100000016000000, 0x1200000000000000, 0]],
+        Ok(&[0x0100000016000000, 0, 0]),
+    ),
+    // Two structs of a word and a pointer, of which no pointer is left.
+    (
+        &[&[
+            0x0100000027000000,
+            0x0800000001000100,
+            0x0100000000000000,
+            0,
+            0,
+            0,
+        ]],
+        Ok(&[
+            0x0100000017000000,
+            0x0800000001000000,
+            0x0100000000000000,
+            0,
+        ]),
+    ),
+    (
+        &[&[0x0100000027000000, 0x0800000001000100, 1, 0, 0, 0]],
+        Ok(&[0x0100000017000000, 0x0800000001000000, 1, 0]),
+    ),
+    // A struct with a zero word, below the only struct of a list.
+    (
+        &[&[
+            0x010000000f000000,
+            0x0400000000000100,
+            0x0000000002000000,
+            0x2a00000000000000,
+            0,
+        ]],
+        Ok(&[
+            0x010000000f000000,
+            0x0400000000000100,
+            0x0000000001000000,
+            0x2a00000000000000,
+        ]),
+    ),
+    (
+        &[&[
+            0x010000000f000000,
+            0x0400000000000100,
+            0x0000000002000000,
+            42,
+            0,
+        ]],
+        Ok(&[
+            0x010000000f000000,
+            0x0400000000000100,
+            0x0000000001000000,
+            42,
+        ]),
+    ),
+];
+
+#[test]
+fn lists(rt: HostRuntime) -> Result<(), Fail> {
+    have_copies(&rt, rt.alloc(), &LISTS)
+}
+
+// Messages of several segments, and with capabilities.
+static IN_SEGMENTS: [Row; 9] = [
+    // A second segment without words.
+    (
+        &[&[0x0000000001000000, 0x2a00000000000000], &[]],
+        Ok(&[0x0000000001000000, 0x2a00000000000000]),
+    ),
+    // Landing pads of one word, of a struct and of null, and a segment without words.
     (
         &[
+            &[0x0200000001000000],
+            &[0x0000000001000000, 0x2a00000000000000],
+            &[],
+        ],
+        Ok(&[0x0000000001000000, 0x2a00000000000000]),
+    ),
+    (
+        &[&[0x0200000001000000], &[0x0000000001000000, 42], &[]],
+        Ok(&[0x0000000001000000, 42]),
+    ),
+    (&[&[0x0200000001000000], &[0], &[]], Ok(&[0])),
+    // Landing pads of two words, of a struct without words and of one with a word.
+    (
+        &[&[0x0600000001000000], &[0x0200000002000000, 0], &[]],
+        Ok(&[0xfcffffff00000000]),
+    ),
+    (
+        &[
+            &[0x0600000001000000],
+            &[0x0200000002000000, 0x0000000001000000],
+            &[0x2a00000000000000],
+        ],
+        Ok(&[0x0000000001000000, 0x2a00000000000000]),
+    ),
+    (
+        &[
+            &[0x0600000001000000],
+            &[0x0200000002000000, 0x0000000001000000],
+            &[42],
+        ],
+        Ok(&[0x0000000001000000, 42]),
+    ),
+    // Capabilities: the root, and the deeper one before the later one.
+    (&[&[0x0300000005000000]], Err(0)),
+    (
+        &[&[
+            0x0000000000000200,
+            0x0400000000000100,
+            0x0300000007000000,
+            0x0300000005000000,
+        ]],
+        Err(3),
+    ),
+];
+
+#[test]
+fn several_segments_and_capabilities(rt: HostRuntime) -> Result<(), Fail> {
+    have_copies(&rt, rt.alloc(), &IN_SEGMENTS)
+}
+
+// Messages of objects below others.
+static OBJECTS: [Row; 7] = [
+    // Words between objects and behind them.
+    (
+        &[&[
             0x0000000000000200,
             0x0800000001000000,
             0x0c00000001000000,
@@ -111,18 +442,18 @@ static COPIES_OF_OBJECTS: [(&[u64], &[u64]); 7] = [
             0xffffffffffffffff,
             0x0900000000000000,
             0xffffffffffffffff,
-        ],
-        &[
+        ]],
+        Ok(&[
             0x0000000000000200,
             0x0400000001000000,
             0x0400000001000000,
             0x0700000000000000,
             0x0900000000000000,
-        ],
+        ]),
     ),
     // The children of both children, level by level, which stand child by child in the copy.
     (
-        &[
+        &[&[
             0x0000000000000200,
             0x0400000000000100,
             0x0400000000000100,
@@ -130,8 +461,8 @@ static COPIES_OF_OBJECTS: [(&[u64], &[u64]); 7] = [
             0x0400000001000000,
             0x0700000000000000,
             0x0900000000000000,
-        ],
-        &[
+        ]],
+        Ok(&[
             0x0000000000000200,
             0x0400000000000100,
             0x0800000000000100,
@@ -139,18 +470,18 @@ static COPIES_OF_OBJECTS: [(&[u64], &[u64]); 7] = [
             0x0700000000000000,
             0x0000000001000000,
             0x0900000000000000,
-        ],
+        ]),
     ),
     // A struct of a pointer, shared by two pointers: what stands below it is copied twice too.
     (
-        &[
+        &[&[
             0x0000000000000200,
             0x0400000000000100,
             0x0000000000000100,
             0x0000000001000000,
             0x0700000000000000,
-        ],
-        &[
+        ]],
+        Ok(&[
             0x0000000000000200,
             0x0400000000000100,
             0x0800000000000100,
@@ -158,36 +489,36 @@ static COPIES_OF_OBJECTS: [(&[u64], &[u64]); 7] = [
             0x0700000000000000,
             0x0000000001000000,
             0x0700000000000000,
-        ],
+        ]),
     ),
     // Two pointers to one empty list, and to one empty struct.
     (
-        &[0x0000000000000200, 0x0500000002000000, 0x0100000002000000],
-        &[0x0000000000000200, 0x0500000002000000, 0x0100000002000000],
+        &[&[0x0000000000000200, 0x0500000002000000, 0x0100000002000000]],
+        Ok(&[0x0000000000000200, 0x0500000002000000, 0x0100000002000000]),
     ),
     (
-        &[0x0000000000000200, 0x0400000000000000, 0x0000000000000000],
-        &[0x0000000000000100, 0xfcffffff00000000],
+        &[&[0x0000000000000200, 0x0400000000000000, 0x0000000000000000]],
+        Ok(&[0x0000000000000100, 0xfcffffff00000000]),
     ),
     // A list of pointers keeps the null at its end.
     (
-        &[
+        &[&[
             0x0100000016000000,
             0x0800000001000000,
             0x0000000000000000,
             0xffffffffffffffff,
             0x0900000000000000,
-        ],
-        &[
+        ]],
+        Ok(&[
             0x0100000016000000,
             0x0400000001000000,
             0x0000000000000000,
             0x0900000000000000,
-        ],
+        ]),
     ),
     // A struct keeps the zero inside its data, and the null before its last pointer.
     (
-        &[
+        &[&[
             0x0000000004000300,
             0x0100000000000000,
             0x0000000000000000,
@@ -196,38 +527,33 @@ static COPIES_OF_OBJECTS: [(&[u64], &[u64]); 7] = [
             0x0000000000000000,
             0xfcffffff00000000,
             0x0000000000000000,
-        ],
-        &[
+        ]],
+        Ok(&[
             0x0000000003000200,
             0x0100000000000000,
             0x0000000000000000,
             0x0200000000000000,
             0x0000000000000000,
             0xfcffffff00000000,
-        ],
+        ]),
     ),
 ];
 
 #[test]
 fn objects_below_others(rt: HostRuntime) -> Result<(), Fail> {
-    for (spelled, copied) in &COPIES_OF_OBJECTS {
-        let segment = words(rt.alloc(), spelled)?;
-        let copied = words(rt.alloc(), copied)?;
-        has_copy(&rt, rt.alloc(), &segment, &copied)?;
-    }
-    Ok(())
+    have_copies(&rt, rt.alloc(), &OBJECTS)
 }
 
-// Messages of lists of structs, and their copies.
-static COPIES_OF_LISTS: [(&[u64], &[u64]); 4] = [
+// Messages of lists of structs.
+static OF_STRUCTS: [Row; 6] = [
     // No elements, with sizes in the tag and a surplus word.
     (
-        &[0x010000000f000000, 0x0000000001000100, 0xffffffffffffffff],
-        &[0x0100000007000000, 0x0000000000000000],
+        &[&[0x010000000f000000, 0x0000000001000100, 0xffffffffffffffff]],
+        Ok(&[0x0100000007000000, 0x0000000000000000]),
     ),
     // The last pointers are a null pad in one element, and zero in the other.
     (
-        &[
+        &[&[
             0x0100000027000000,
             0x0800000000000200,
             0x1000000001000000,
@@ -236,18 +562,18 @@ static COPIES_OF_LISTS: [(&[u64], &[u64]); 4] = [
             0x0000000000000000,
             0x0000000000000000,
             0x2a00000000000000,
-        ],
-        &[
+        ]],
+        Ok(&[
             0x0100000017000000,
             0x0800000000000100,
             0x0400000001000000,
             0x0000000000000000,
             0x2a00000000000000,
-        ],
+        ]),
     ),
     // One element needs two data words, and the other one two pointers.
     (
-        &[
+        &[&[
             0x0100000057000000,
             0x0800000003000200,
             0x0000000000000000,
@@ -260,8 +586,8 @@ static COPIES_OF_LISTS: [(&[u64], &[u64]); 4] = [
             0x0000000000000000,
             0x0000000000000000,
             0xfcffffff00000000,
-        ],
-        &[
+        ]],
+        Ok(&[
             0x0100000047000000,
             0x0800000002000200,
             0x0000000000000000,
@@ -272,11 +598,11 @@ static COPIES_OF_LISTS: [(&[u64], &[u64]); 4] = [
             0x0000000000000000,
             0x0000000000000000,
             0xfcffffff00000000,
-        ],
+        ]),
     ),
     // What the elements' pointers lead to is cut, each by itself, and stands element by element.
     (
-        &[
+        &[&[
             0x0100000017000000,
             0x0800000000000100,
             0x0c00000002000000,
@@ -285,8 +611,8 @@ static COPIES_OF_LISTS: [(&[u64], &[u64]); 4] = [
             0x0000000000000000,
             0x0800000000000000,
             0x0900000000000000,
-        ],
-        &[
+        ]],
+        Ok(&[
             0x0100000017000000,
             0x0800000000000100,
             0x0400000002000000,
@@ -294,43 +620,64 @@ static COPIES_OF_LISTS: [(&[u64], &[u64]); 4] = [
             0x0800000000000000,
             0x0900000000000000,
             0x0700000000000000,
-        ],
+        ]),
+    ),
+    // The same with another value, and no elements without a surplus word.
+    (
+        &[&[
+            0x0100000027000000,
+            0x0800000000000200,
+            0x1000000001000000,
+            0x3200000000000000,
+            0,
+            0,
+            0,
+            42,
+        ]],
+        Ok(&[
+            0x0100000017000000,
+            0x0800000000000100,
+            0x0400000001000000,
+            0,
+            42,
+        ]),
+    ),
+    (
+        &[&[0x0100000007000000, 0x0000000001000100]],
+        Ok(&[0x0100000007000000, 0]),
     ),
 ];
 
 #[test]
 fn lists_of_structs(rt: HostRuntime) -> Result<(), Fail> {
-    for (spelled, copied) in &COPIES_OF_LISTS {
-        let segment = words(rt.alloc(), spelled)?;
-        let copied = words(rt.alloc(), copied)?;
-        has_copy(&rt, rt.alloc(), &segment, &copied)?;
+    have_copies(&rt, rt.alloc(), &OF_STRUCTS)
+}
+
+const EMPTY: u64 = 0xfcffffff00000000;
+
+// Structs of two pointers, each below the first pointer of the one before it, so that each level
+// of the walk has a pointer left. Their second pointers lead to empty structs, and the last one's
+// first pointer is null.
+#[test]
+fn levels_with_a_pointer_left(rt: HostRuntime) -> Result<(), Fail> {
+    let alloc = rt.alloc();
+    let each = &[0x0400000000000200, EMPTY];
+    for between in [0, 6, 7, 62, 63, 254] {
+        let spelled = repeated(alloc, &[0x0000000000000200], each, between, &[0, EMPTY])?;
+        has_copy(&rt, alloc, &[spelled.as_slice()], Ok(spelled.as_slice()))?;
     }
     Ok(())
 }
 
-// Structs of two pointers, each below the first pointer of the one before it, so that each level of
-// the walk has a pointer left. Their second pointers lead to empty structs, and the last one's first
-// pointer is null.
+// Structs of one pointer, each below the one before it. The last one's pointer is null, and is cut.
 #[test]
-fn messages_of_many_levels(rt: HostRuntime) -> Result<(), Fail> {
-    let empty = 0xfcffffff00000000;
-    for depth in [1, 2, 8, 9, 64, 65, 256] {
-        let mut spelled = Vec::new(rt.alloc());
-        spelled.push(if depth == 1 {
-            empty
-        } else {
-            0x0000000000000200
-        })?;
-        for level in 1..depth {
-            spelled.push(if level + 1 == depth {
-                0
-            } else {
-                0x0400000000000200
-            })?;
-            spelled.push(empty)?;
-        }
-        let segment = words(rt.alloc(), &spelled)?;
-        has_copy(&rt, rt.alloc(), &segment, &segment)?;
+fn levels_of_which_the_last_is_cut(rt: HostRuntime) -> Result<(), Fail> {
+    let alloc = rt.alloc();
+    let each = &[0x0000000000000100];
+    for above in [0, 7, 8, 63, 64, 255] {
+        let spelled = repeated(alloc, each, each, above, &[0])?;
+        let copied = repeated(alloc, &[], each, above, &[EMPTY])?;
+        has_copy(&rt, alloc, &[spelled.as_slice()], Ok(copied.as_slice()))?;
     }
     Ok(())
 }

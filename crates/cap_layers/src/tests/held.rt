@@ -1,6 +1,8 @@
 //! Words and messages for tests.
 
-use cap_frame::{ByteMessage, Segments, SizeLimit, read_byte_message, write_message};
+use cap_frame::{
+    ByteMessage, OneSegment, Segments, SizeLimit, WordMessage, read_byte_message, write_message,
+};
 use cap_words::{PlainSink, PlainWords, SliceIn, VecOut};
 use std::alloc::Global;
 use std::test::Fail;
@@ -14,6 +16,28 @@ pub(crate) fn words(alloc: Global, spelled: &[u64]) -> Result<Vec<u64>, Fail> {
     Ok(words)
 }
 
+/// A clone, by its bound alone.
+pub(crate) fn cloned<T: Clone>(x: &T) -> Result<T, Fail> {
+    Ok(x.clone()?)
+}
+
+/// Some words, others so many times, and the last ones.
+pub(crate) fn repeated(
+    alloc: Global,
+    first: &[u64],
+    each: &[u64],
+    times: u32,
+    last: &[u64],
+) -> Result<Vec<u64>, Fail> {
+    let mut spelled = Vec::new(alloc);
+    spelled.extend_from_slice(first)?;
+    for _ in 0..times {
+        spelled.extend_from_slice(each)?;
+    }
+    spelled.extend_from_slice(last)?;
+    Ok(spelled)
+}
+
 /// The same message in one buffer.
 pub(crate) fn in_one_buffer<M: Segments>(alloc: Global, message: &M) -> Result<ByteMessage, Fail> {
     let mut sink = PlainSink::new(VecOut::new(alloc));
@@ -24,5 +48,43 @@ pub(crate) fn in_one_buffer<M: Segments>(alloc: Global, message: &M) -> Result<B
     match read_byte_message(alloc, &mut source, limit)? {
         Some(held) => Ok(held),
         None => Err("no message".into()),
+    }
+}
+
+/// One message, held in each way.
+#[derive(Drop)]
+pub(crate) struct Forms {
+    pub(crate) several: WordMessage,
+    pub(crate) buffer: ByteMessage,
+    // The words of the one segment, where there is one.
+    alone: Option<Vec<u64>>,
+}
+
+impl Forms {
+    /// The message whose segments have these words, each spelled from its first byte on.
+    pub(crate) fn of(alloc: Global, spelled: &[&[u64]]) -> Result<Forms, Fail> {
+        let mut segments = Vec::new(alloc);
+        for segment in spelled {
+            segments.push(words(alloc, segment)?)?;
+        }
+        let several = WordMessage::new(segments).ok_or("no message")?;
+        let buffer = in_one_buffer(alloc, &several)?;
+        let alone = match spelled {
+            [segment] => Some(words(alloc, segment)?),
+            _ => None,
+        };
+        Ok(Forms {
+            several,
+            buffer,
+            alone,
+        })
+    }
+
+    /// The message of one segment over words that are lent, where it has one segment.
+    pub(crate) fn lent(&self) -> Option<OneSegment<'_>> {
+        match &self.alone {
+            Some(words) => OneSegment::new(words),
+            None => None,
+        }
     }
 }
