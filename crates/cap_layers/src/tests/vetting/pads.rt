@@ -1,14 +1,12 @@
 //! Verdicts of messages whose pointers lead through landing pads.
 
-use super::{DEPTH, WORDS, accepted, refused, verdict};
-use crate::tests::held::words;
-use crate::tests::same::same_of;
-use cap_frame::WordMessage;
-use cap_vet::{Limits, Reason};
+use super::Verdict::{Accepted, Refused};
+use super::{DEPTH, Row, WORDS, have_verdicts};
+use cap_vet::Reason;
 use std::test::Fail;
 
 // A pad of one word to a list of two pointers, a struct, and a pad back to the struct above.
-const THROUGH_POINTERS: [&[u64]; 3] = [
+const THROUGH_POINTERS: &[&[u64]] = &[
     &[0x0000000000000100, 0x0200000001000000, 0xf8ffffff00000100],
     &[
         0x0100000016000000,
@@ -20,7 +18,7 @@ const THROUGH_POINTERS: [&[u64]; 3] = [
 ];
 
 // The same with a list of two structs in place of that of pointers.
-const THROUGH_STRUCTS: [&[u64]; 3] = [
+const THROUGH_STRUCTS: &[&[u64]] = &[
     &[0x0000000000000100, 0x0200000001000000, 0xf8ffffff00000100],
     &[
         0x0100000017000000,
@@ -33,7 +31,7 @@ const THROUGH_STRUCTS: [&[u64]; 3] = [
 ];
 
 // Three structs, each behind a pad of one word.
-const THROUGH_ONE_WORD: [&[u64]; 3] = [
+const THROUGH_ONE_WORD: &[&[u64]] = &[
     &[0x0200000001000000],
     &[
         0x0000000000000100,
@@ -45,198 +43,229 @@ const THROUGH_ONE_WORD: [&[u64]; 3] = [
 ];
 
 // Three structs, the second of them behind a pad of two words and the first behind one of one word.
-const THROUGH_TWO_WORDS: [&[u64]; 3] = [
+const THROUGH_TWO_WORDS: &[&[u64]] = &[
     &[0x0000000000000100, 0x0600000001000000, 0xf8ffffff00000100],
     &[0x0200000002000000, 0x0000000000000100],
     &[0x0000000000000100, 0x1200000000000000],
 ];
 
+static OVER_LANDING_PADS: [Row; 27] = [
+    // A pad of one word: reserved, of no segment, outside its segment, or leading outside.
+    (
+        &[&[0x0200000001000000], &[0x0700000005000000], &[]],
+        WORDS,
+        DEPTH,
+        Refused(0, 0, Reason::Reserved, 1),
+    ),
+    (
+        &[&[0x0200000003000000], &[0], &[]],
+        WORDS,
+        DEPTH,
+        Refused(0, 0, Reason::SegmentMissing, 1),
+    ),
+    (
+        &[&[0x0a00000001000000], &[0], &[]],
+        WORDS,
+        DEPTH,
+        Refused(0, 0, Reason::PadOutside, 1),
+    ),
+    (
+        &[&[0x0200000001000000], &[0xf8ffffff01000000, 42], &[]],
+        WORDS,
+        DEPTH,
+        Refused(0, 0, Reason::OutOfSegment, 1),
+    ),
+    // Two structs of one word in a list of one word, and a list's tag that is no struct's.
+    (
+        &[
+            &[0x0200000001000000],
+            &[0x010000000f000000, 0x0800000001000000, 0],
+            &[],
+        ],
+        WORDS,
+        DEPTH,
+        Refused(0, 0, Reason::CompositeOverrun, 1),
+    ),
+    (
+        &[
+            &[0x0200000001000000],
+            &[0x010000000f000000, 0x0900000001000000, 0],
+            &[],
+        ],
+        WORDS,
+        DEPTH,
+        Refused(0, 0, Reason::CompositeTag, 1),
+    ),
+    // A pad of two words: of no segment, to no segment, and outside its segment.
+    (
+        &[&[0x0600000003000000], &[0, 0], &[]],
+        WORDS,
+        DEPTH,
+        Refused(0, 0, Reason::SegmentMissing, 1),
+    ),
+    (
+        &[
+            &[0x0600000001000000],
+            &[0x0200000003000000, 0x0000000001000000],
+            &[42],
+        ],
+        WORDS,
+        DEPTH,
+        Refused(0, 0, Reason::SegmentMissing, 1),
+    ),
+    (
+        &[&[0x0e00000001000000], &[0x0200000002000000, 0], &[]],
+        WORDS,
+        DEPTH,
+        Refused(0, 0, Reason::PadOutside, 1),
+    ),
+    // Its first word tells of a pad of two words, and its second one is a far pointer.
+    (
+        &[
+            &[0x0600000001000000],
+            &[0x0600000002000000, 0x0000000001000000],
+            &[42, 42],
+        ],
+        WORDS,
+        DEPTH,
+        Refused(0, 0, Reason::PadNotFar, 1),
+    ),
+    (
+        &[
+            &[0x0600000001000000],
+            &[0x0200000002000000, 0x0200000000000000],
+            &[42],
+        ],
+        WORDS,
+        DEPTH,
+        Refused(0, 0, Reason::TagKind, 1),
+    ),
+    // It leads past the end, by the struct's size and by its start.
+    (
+        &[
+            &[0x0600000001000000],
+            &[0x0200000002000000, 0x0000000002000000],
+            &[42],
+        ],
+        WORDS,
+        DEPTH,
+        Refused(0, 0, Reason::OutOfSegment, 1),
+    ),
+    (
+        &[
+            &[0x0600000001000000],
+            &[0x0a00000002000000, 0x0000000001000000],
+            &[42],
+        ],
+        WORDS,
+        DEPTH,
+        Refused(0, 0, Reason::OutOfSegment, 1),
+    ),
+    (
+        &[
+            &[0x0600000001000000],
+            &[0x0200000002000000, 0x010000000f000000],
+            &[0x0800000001000000, 0],
+        ],
+        WORDS,
+        DEPTH,
+        Refused(0, 0, Reason::CompositeOverrun, 1),
+    ),
+    (
+        &[
+            &[0x0600000001000000],
+            &[0x0200000002000000, 0x010000000f000000],
+            &[0x0900000001000000, 0],
+        ],
+        WORDS,
+        DEPTH,
+        Refused(0, 0, Reason::CompositeTag, 1),
+    ),
+    // Five structs without words, near and behind pads of one word and of two.
+    (
+        &[&[0x0100000007000000, 0x1400000000000000], &[], &[]],
+        6,
+        DEPTH,
+        Accepted(6, 2, 1),
+    ),
+    (
+        &[&[0x0100000007000000, 0x1400000000000000], &[], &[]],
+        5,
+        DEPTH,
+        Refused(0, 0, Reason::WordLimit, 1),
+    ),
+    (
+        &[
+            &[0x0200000001000000],
+            &[0x0100000007000000, 0x1400000000000000],
+            &[],
+        ],
+        7,
+        DEPTH,
+        Accepted(7, 2, 1),
+    ),
+    (
+        &[
+            &[0x0600000001000000],
+            &[0x0200000002000000, 0x0100000007000000],
+            &[0x1400000000000000],
+        ],
+        8,
+        DEPTH,
+        Accepted(8, 2, 1),
+    ),
+    // Cycles of three objects.
+    (
+        THROUGH_ONE_WORD,
+        WORDS,
+        DEPTH,
+        Refused(1, 1, Reason::DepthLimit, 65),
+    ),
+    (
+        THROUGH_ONE_WORD,
+        10,
+        DEPTH,
+        Refused(2, 1, Reason::WordLimit, 6),
+    ),
+    (
+        THROUGH_TWO_WORDS,
+        WORDS,
+        DEPTH,
+        Refused(0, 1, Reason::DepthLimit, 65),
+    ),
+    (
+        THROUGH_TWO_WORDS,
+        9,
+        DEPTH,
+        Refused(0, 1, Reason::WordLimit, 5),
+    ),
+    (
+        THROUGH_POINTERS,
+        WORDS,
+        DEPTH,
+        Refused(0, 1, Reason::DepthLimit, 86),
+    ),
+    (
+        THROUGH_POINTERS,
+        10,
+        DEPTH,
+        Refused(1, 2, Reason::WordLimit, 8),
+    ),
+    (
+        THROUGH_STRUCTS,
+        WORDS,
+        DEPTH,
+        Refused(1, 4, Reason::DepthLimit, 65),
+    ),
+    (
+        THROUGH_STRUCTS,
+        10,
+        DEPTH,
+        Refused(0, 1, Reason::WordLimit, 6),
+    ),
+];
+
 #[test]
 fn messages_over_landing_pads(rt: HostRuntime) -> Result<(), Fail> {
-    for (segments, most_words, answer) in [
-        // A pad of one word: reserved, of no segment, outside its segment, or leading outside.
-        (
-            [&[0x0200000001000000u64][..], &[0x0700000005000000], &[]],
-            WORDS,
-            refused(0, 0, Reason::Reserved, 1),
-        ),
-        (
-            [&[0x0200000003000000], &[0], &[]],
-            WORDS,
-            refused(0, 0, Reason::SegmentMissing, 1),
-        ),
-        (
-            [&[0x0a00000001000000], &[0], &[]],
-            WORDS,
-            refused(0, 0, Reason::PadOutside, 1),
-        ),
-        (
-            [&[0x0200000001000000], &[0xf8ffffff01000000, 42], &[]],
-            WORDS,
-            refused(0, 0, Reason::OutOfSegment, 1),
-        ),
-        // Two structs of one word in a list of one word, and a list's tag that is no struct's.
-        (
-            [
-                &[0x0200000001000000],
-                &[0x010000000f000000, 0x0800000001000000, 0],
-                &[],
-            ],
-            WORDS,
-            refused(0, 0, Reason::CompositeOverrun, 1),
-        ),
-        (
-            [
-                &[0x0200000001000000],
-                &[0x010000000f000000, 0x0900000001000000, 0],
-                &[],
-            ],
-            WORDS,
-            refused(0, 0, Reason::CompositeTag, 1),
-        ),
-        // A pad of two words: of no segment, to no segment, and outside its segment.
-        (
-            [&[0x0600000003000000], &[0, 0], &[]],
-            WORDS,
-            refused(0, 0, Reason::SegmentMissing, 1),
-        ),
-        (
-            [
-                &[0x0600000001000000],
-                &[0x0200000003000000, 0x0000000001000000],
-                &[42],
-            ],
-            WORDS,
-            refused(0, 0, Reason::SegmentMissing, 1),
-        ),
-        (
-            [&[0x0e00000001000000], &[0x0200000002000000, 0], &[]],
-            WORDS,
-            refused(0, 0, Reason::PadOutside, 1),
-        ),
-        // Its first word tells of a pad of two words, and its second one is a far pointer.
-        (
-            [
-                &[0x0600000001000000],
-                &[0x0600000002000000, 0x0000000001000000],
-                &[42, 42],
-            ],
-            WORDS,
-            refused(0, 0, Reason::PadNotFar, 1),
-        ),
-        (
-            [
-                &[0x0600000001000000],
-                &[0x0200000002000000, 0x0200000000000000],
-                &[42],
-            ],
-            WORDS,
-            refused(0, 0, Reason::TagKind, 1),
-        ),
-        // It leads past the end, by the struct's size and by its start.
-        (
-            [
-                &[0x0600000001000000],
-                &[0x0200000002000000, 0x0000000002000000],
-                &[42],
-            ],
-            WORDS,
-            refused(0, 0, Reason::OutOfSegment, 1),
-        ),
-        (
-            [
-                &[0x0600000001000000],
-                &[0x0a00000002000000, 0x0000000001000000],
-                &[42],
-            ],
-            WORDS,
-            refused(0, 0, Reason::OutOfSegment, 1),
-        ),
-        (
-            [
-                &[0x0600000001000000],
-                &[0x0200000002000000, 0x010000000f000000],
-                &[0x0800000001000000, 0],
-            ],
-            WORDS,
-            refused(0, 0, Reason::CompositeOverrun, 1),
-        ),
-        (
-            [
-                &[0x0600000001000000],
-                &[0x0200000002000000, 0x010000000f000000],
-                &[0x0900000001000000, 0],
-            ],
-            WORDS,
-            refused(0, 0, Reason::CompositeTag, 1),
-        ),
-        // Five structs without words, near and behind pads of one word and of two.
-        (
-            [&[0x0100000007000000, 0x1400000000000000], &[], &[]],
-            6,
-            accepted(6, 2, 1),
-        ),
-        (
-            [&[0x0100000007000000, 0x1400000000000000], &[], &[]],
-            5,
-            refused(0, 0, Reason::WordLimit, 1),
-        ),
-        (
-            [
-                &[0x0200000001000000],
-                &[0x0100000007000000, 0x1400000000000000],
-                &[],
-            ],
-            7,
-            accepted(7, 2, 1),
-        ),
-        (
-            [
-                &[0x0600000001000000],
-                &[0x0200000002000000, 0x0100000007000000],
-                &[0x1400000000000000],
-            ],
-            8,
-            accepted(8, 2, 1),
-        ),
-        // Cycles of three objects.
-        (
-            THROUGH_ONE_WORD,
-            WORDS,
-            refused(1, 1, Reason::DepthLimit, 65),
-        ),
-        (THROUGH_ONE_WORD, 10, refused(2, 1, Reason::WordLimit, 6)),
-        (
-            THROUGH_TWO_WORDS,
-            WORDS,
-            refused(0, 1, Reason::DepthLimit, 65),
-        ),
-        (THROUGH_TWO_WORDS, 9, refused(0, 1, Reason::WordLimit, 5)),
-        (
-            THROUGH_POINTERS,
-            WORDS,
-            refused(0, 1, Reason::DepthLimit, 86),
-        ),
-        (THROUGH_POINTERS, 10, refused(1, 2, Reason::WordLimit, 8)),
-        (
-            THROUGH_STRUCTS,
-            WORDS,
-            refused(1, 4, Reason::DepthLimit, 65),
-        ),
-        (THROUGH_STRUCTS, 10, refused(0, 1, Reason::WordLimit, 6)),
-    ] {
-        let mut held = Vec::new(rt.alloc());
-        for segment in segments {
-            held.push(words(rt.alloc(), segment)?)?;
-        }
-        let message = WordMessage::new(held).ok_or("no message")?;
-        let limits = Limits::new(most_words, DEPTH).ok_or("no limits")?;
-        same_of(
-            &rt,
-            &(&segments, &limits),
-            verdict(&rt, rt.alloc(), &message, limits)?,
-            answer,
-        );
-    }
-    Ok(())
+    have_verdicts(&rt, rt.alloc(), &OVER_LANDING_PADS)
 }
