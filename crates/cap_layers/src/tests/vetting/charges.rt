@@ -1,9 +1,10 @@
 //! What paths arrive at, what views show there, and what it is charged, of messages that are known
 //! from outside.
 
-use crate::tests::held::{in_one_buffer, words};
+use self::Wanted::{Nothing, Refused, Struct};
+use crate::tests::held::Forms;
 use crate::tests::same::{same, same_of};
-use cap_frame::{OneSegment, Segments, WordMessage};
+use cap_frame::Segments;
 use cap_vet::{Budget, Kind, Place, Reason, Refusal, Step, View, get_charged};
 use std::alloc::Global;
 use std::process::Abort;
@@ -28,217 +29,251 @@ fn charged<M: Segments>(
     (answer, budget.left())
 }
 
-// A struct of segment 0.
-fn a_struct(data_words: u16, pointers: u16, start: u32) -> Result<Seen, Refusal> {
-    let kind = Kind::Struct {
-        data_words,
-        pointers,
-    };
-    let place = Place {
-        segment: 0,
-        start,
-        words: u32::from(data_words) + u32::from(pointers),
-    };
-    Ok(Some((kind, Some(place))))
+// What is wanted at a path.
+#[derive(Clone, Copy)]
+enum Wanted {
+    Nothing,
+    // The data words, the pointers and the start of a struct of segment 0.
+    Struct(u16, u16, u32),
+    // The word of segment 0, why, and after how many pointers.
+    Refused(u32, Reason, u64),
 }
 
-// Refused at the first word of segment 0.
-fn refused(reason: Reason, pointers: u64) -> Result<Seen, Refusal> {
-    Err(Refusal {
-        segment: 0,
-        word: 0,
-        reason,
-        pointers,
-    })
+impl Wanted {
+    fn answer(self) -> Result<Seen, Refusal> {
+        match self {
+            Nothing => Ok(None),
+            Struct(data_words, pointers, start) => {
+                let kind = Kind::Struct {
+                    data_words,
+                    pointers,
+                };
+                let place = Place {
+                    segment: 0,
+                    start,
+                    words: u32::from(data_words) + u32::from(pointers),
+                };
+                Ok(Some((kind, Some(place))))
+            }
+            Refused(word, reason, pointers) => Err(Refusal {
+                segment: 0,
+                word,
+                reason,
+                pointers,
+            }),
+        }
+    }
 }
+
+// The words of each segment of a message, the words of the budget and the depth, a path, what is
+// wanted, and what is left.
+type Row = (
+    &'static [&'static [u64]],
+    u64,
+    u32,
+    &'static [Step],
+    Wanted,
+    u64,
+);
+
+// Each message, held in each way, is charged as is wanted.
+fn are_charged(rt: &impl Abort, alloc: Global, rows: &[Row]) -> Result<(), Fail> {
+    for (spelled, words, depth, path, wanted, left) in rows {
+        let forms = Forms::of(alloc, spelled)?;
+        is_charged(rt, &forms, *words, *depth, path, (wanted.answer(), *left));
+    }
+    Ok(())
+}
+
+fn is_charged(
+    rt: &impl Abort,
+    forms: &Forms,
+    words: u64,
+    depth: u32,
+    path: &[Step],
+    wanted: (Result<Seen, Refusal>, u64),
+) {
+    same_of(
+        rt,
+        &path,
+        charged(&forms.several, words, depth, path),
+        wanted,
+    );
+    same_of(
+        rt,
+        &path,
+        charged(&forms.buffer.view(), words, depth, path),
+        wanted,
+    );
+    if let Some(message) = forms.lent() {
+        same_of(rt, &path, charged(&message, words, depth, path), wanted);
+    }
+}
+
+const P0: Step = Step::Ptr(0);
+
+const ITSELF: &[&[u64]] = &[&[0xfcffffff00000100]];
+
+static CYCLE: [Row; 5] = [
+    (ITSELF, 10, 64, &[P0, P0, P0], Struct(0, 1, 0), 6),
+    (ITSELF, 4, 4, &[P0, P0, P0], Struct(0, 1, 0), 0),
+    (
+        ITSELF,
+        3,
+        64,
+        &[P0, P0, P0],
+        Refused(0, Reason::WordLimit, 4),
+        3,
+    ),
+    (
+        ITSELF,
+        10,
+        3,
+        &[P0, P0, P0],
+        Refused(0, Reason::DepthLimit, 4),
+        10,
+    ),
+    // Both limits are passed at the fourth pointer.
+    (
+        ITSELF,
+        3,
+        3,
+        &[P0, P0, P0],
+        Refused(0, Reason::DepthLimit, 4),
+        3,
+    ),
+];
 
 #[test]
 fn a_cycle_is_charged_step_by_step(rt: HostRuntime) -> Result<(), Fail> {
-    let segment = words(rt.alloc(), &[0xfcffffff00000100])?;
-    let itself = OneSegment::new(&segment).ok_or("no message")?;
-    steps_of_a_cycle(&rt, rt.alloc(), &itself)?;
-    let held = in_one_buffer(rt.alloc(), &itself)?;
-    steps_of_a_cycle(&rt, rt.alloc(), &held.view())
-}
-
-fn steps_of_a_cycle<M: Segments>(rt: &impl Abort, alloc: Global, itself: &M) -> Result<(), Fail> {
-    let p0 = Step::Ptr(0);
-    let path = &[p0, p0, p0];
-    same(rt, charged(itself, 10, 64, path), (a_struct(0, 1, 0), 6));
-    same(rt, charged(itself, 4, 4, path), (a_struct(0, 1, 0), 0));
-    same(
-        rt,
-        charged(itself, 3, 64, path),
-        (refused(Reason::WordLimit, 4), 3),
-    );
-    same(
-        rt,
-        charged(itself, 10, 3, path),
-        (refused(Reason::DepthLimit, 4), 10),
-    );
-    // Both limits are passed at the fourth pointer.
-    same(
-        rt,
-        charged(itself, 3, 3, path),
-        (refused(Reason::DepthLimit, 4), 3),
-    );
-    let mut long: Vec<Step> = Vec::new(alloc);
-    for _ in 0..1000 {
-        long.push(p0)?;
-    }
-    same(
-        rt,
-        charged(itself, u64::MAX, u32::MAX, &long),
-        (a_struct(0, 1, 0), u64::MAX - 1001),
-    );
+    are_charged(&rt, rt.alloc(), &CYCLE)?;
+    let forms = Forms::of(rt.alloc(), ITSELF)?;
+    let path = Vec::from_elem(rt.alloc(), P0, 1000)?;
+    let wanted = (Struct(0, 1, 0).answer(), u64::MAX - 1001);
+    is_charged(&rt, &forms, u64::MAX, u32::MAX, &path, wanted);
     Ok(())
 }
 
-#[test]
-fn pointers_up_to_a_step_that_leads_nowhere_are_charged(rt: HostRuntime) -> Result<(), Fail> {
-    let shared = words(
-        rt.alloc(),
-        &[
-            0x0000000000000200,
-            0x0400000001000000,
-            0x0000000001000000,
-            0x0700000000000000,
-        ],
-    )?;
-    let shared = OneSegment::new(&shared).ok_or("no message")?;
-    past_the_pointers(&rt, &shared);
-    past_the_pointers(&rt, &in_one_buffer(rt.alloc(), &shared)?.view());
-    let elements = words(
-        rt.alloc(),
-        &[
-            0x010000001f000000,
-            0x0800000001000000,
-            0x0500000000000000,
-            0,
-            0xff00000000000000,
-        ],
-    )?;
-    let elements = OneSegment::new(&elements).ok_or("no message")?;
-    past_the_elements(&rt, &elements)?;
-    past_the_elements(&rt, &in_one_buffer(rt.alloc(), &elements)?.view())
-}
+const SHARED: &[&[u64]] = &[&[
+    0x0000000000000200,
+    0x0400000001000000,
+    0x0000000001000000,
+    0x0700000000000000,
+]];
 
-fn past_the_pointers<M: Segments>(rt: &impl Abort, shared: &M) {
-    same(rt, charged(shared, 4, 64, &[Step::Ptr(5)]), (Ok(None), 2));
-}
+const ELEMENTS: &[&[u64]] = &[&[
+    0x010000001f000000,
+    0x0800000001000000,
+    0x0500000000000000,
+    0,
+    0xff00000000000000,
+]];
 
-fn past_the_elements<M: Segments>(rt: &impl Abort, elements: &M) -> Result<(), Fail> {
-    same(
-        rt,
-        charged(elements, 4, 64, &[Step::Item(1)]),
-        (a_struct(1, 0, 3), 0),
-    );
-    same(
-        rt,
-        charged(elements, 4, 64, &[Step::Item(2)]),
-        (Ok(None), 0),
-    );
-    let mut budget = Budget::new(4);
-    match get_charged(elements, &mut budget, 64, &[Step::Item(1)]) {
-        Ok(Some(view)) => same(rt, view.data_word(0), Some(0)),
-        _ => return Err("no element".into()),
-    }
-    Ok(())
-}
+// Pointers up to a step that leads nowhere are charged.
+static NOWHERE: [Row; 5] = [
+    (SHARED, 4, 64, &[Step::Ptr(5)], Nothing, 2),
+    (ELEMENTS, 4, 64, &[Step::Item(1)], Struct(1, 0, 3), 0),
+    (ELEMENTS, 4, 64, &[Step::Item(2)], Nothing, 0),
+    // A message without a root is refused on each path.
+    (
+        &[&[], &[0x0000000001000000, 42]],
+        9,
+        64,
+        &[],
+        Refused(0, Reason::NoRoot, 0),
+        9,
+    ),
+    (
+        &[&[], &[0x0000000001000000, 42]],
+        9,
+        64,
+        &[P0],
+        Refused(0, Reason::NoRoot, 0),
+        9,
+    ),
+];
 
-#[test]
-fn structs_of_a_list_stand_a_level_below_it(rt: HostRuntime) -> Result<(), Fail> {
-    // A list of one struct, whose pointer leads to a struct of one word.
-    let below = words(
-        rt.alloc(),
-        &[
-            0x010000000f000000,
-            0x0400000000000100,
-            0x0000000001000000,
-            0x2a00000000000000,
-        ],
-    )?;
-    let below = OneSegment::new(&below).ok_or("no message")?;
-    levels_below_a_list(&rt, &below);
-    levels_below_a_list(&rt, &in_one_buffer(rt.alloc(), &below)?.view());
-    let none = words(rt.alloc(), &[0x0100000007000000, 0])?;
-    let none = OneSegment::new(&none).ok_or("no message")?;
-    level_without_structs(&rt, &none);
-    level_without_structs(&rt, &in_one_buffer(rt.alloc(), &none)?.view());
-    Ok(())
-}
+// A list of one struct, whose pointer leads to a struct of one word.
+const BELOW: &[&[u64]] = &[&[
+    0x010000000f000000,
+    0x0400000000000100,
+    0x0000000001000000,
+    0x2a00000000000000,
+]];
 
-fn levels_below_a_list<M: Segments>(rt: &impl Abort, below: &M) {
-    let path = &[Step::Item(0), Step::Ptr(0)];
-    same(rt, charged(below, 9, 3, path), (a_struct(1, 0, 3), 6));
-    let past = Refusal {
-        segment: 0,
-        word: 2,
-        reason: Reason::DepthLimit,
-        pointers: 2,
-    };
-    same(rt, charged(below, 9, 2, path), (Err(past), 9));
-    same(
-        rt,
-        charged(below, 9, 2, &[Step::Item(0)]),
-        (a_struct(0, 1, 2), 7),
-    );
+const NONE: &[&[u64]] = &[&[0x0100000007000000, 0]];
+
+// Structs of a list stand a level below it.
+static LEVELS: [Row; 8] = [
+    (BELOW, 9, 3, &[Step::Item(0), P0], Struct(1, 0, 3), 6),
+    (
+        BELOW,
+        9,
+        2,
+        &[Step::Item(0), P0],
+        Refused(2, Reason::DepthLimit, 2),
+        9,
+    ),
+    (BELOW, 9, 2, &[Step::Item(0)], Struct(0, 1, 2), 7),
     // The list alone is past the limit, since its struct is, whether or not a step leads to it.
-    for path in [&[][..], &[Step::Item(0)][..], &[Step::Item(1)][..]] {
-        same(
-            rt,
-            charged(below, 9, 1, path),
-            (refused(Reason::DepthLimit, 1), 9),
-        );
-    }
+    (BELOW, 9, 1, &[], Refused(0, Reason::DepthLimit, 1), 9),
+    (
+        BELOW,
+        9,
+        1,
+        &[Step::Item(0)],
+        Refused(0, Reason::DepthLimit, 1),
+        9,
+    ),
+    (
+        BELOW,
+        9,
+        1,
+        &[Step::Item(1)],
+        Refused(0, Reason::DepthLimit, 1),
+        9,
+    ),
+    // A list without structs takes no level below its own.
+    (NONE, 9, 1, &[Step::Item(0)], Nothing, 8),
+    (
+        NONE,
+        9,
+        0,
+        &[Step::Item(0)],
+        Refused(0, Reason::DepthLimit, 1),
+        9,
+    ),
+];
+
+#[test]
+fn pointers_are_charged_and_levels_counted(rt: HostRuntime) -> Result<(), Fail> {
+    are_charged(&rt, rt.alloc(), &NOWHERE)?;
+    are_charged(&rt, rt.alloc(), &LEVELS)
 }
 
-// A list without structs takes no level below its own.
-fn level_without_structs<M: Segments>(rt: &impl Abort, none: &M) {
-    same(rt, charged(none, 9, 1, &[Step::Item(0)]), (Ok(None), 8));
-    same(
-        rt,
-        charged(none, 9, 0, &[Step::Item(0)]),
-        (refused(Reason::DepthLimit, 1), 9),
-    );
+// What a path of a message arrives at.
+fn view_at<'a, M: Segments>(
+    message: &'a M,
+    words: u64,
+    path: &[Step],
+) -> Result<View<'a, M>, Fail> {
+    match get_charged(message, &mut Budget::new(words), 64, path) {
+        Ok(Some(view)) => Ok(view),
+        _ => Err("no view".into()),
+    }
 }
 
 #[test]
-fn a_message_without_a_root_is_refused_on_each_path(rt: HostRuntime) -> Result<(), Fail> {
-    let mut segments: Vec<Vec<u64>> = Vec::new(rt.alloc());
-    segments.push(Vec::new(rt.alloc()))?;
-    segments.push(words(rt.alloc(), &[0x0000000001000000, 42])?)?;
-    let rootless = WordMessage::new(segments).ok_or("no message")?;
-    let held = in_one_buffer(rt.alloc(), &rootless)?;
-    let answer = (refused(Reason::NoRoot, 0), 9);
-    for path in [&[][..], &[Step::Ptr(0)]] {
-        same(&rt, charged(&rootless, 9, 64, path), answer);
-        same(&rt, charged(&held.view(), 9, 64, path), answer);
-    }
-    Ok(())
-}
-
-// The root of a message.
-fn root<M: Segments>(message: &M) -> Result<View<'_, M>, Fail> {
-    match get_charged(message, &mut Budget::new(u64::MAX), 64, &[]) {
-        Ok(Some(view)) => Ok(view),
-        _ => Err("no root".into()),
-    }
-}
-
-// The elements of a list and its words, each up to the first that there isn't.
-fn values(
-    rt: &impl Abort,
-    alloc: Global,
-    spelled: &[u64],
-    elements: &[u64],
-    list_words: &[u64],
-) -> Result<(), Fail> {
-    let segment = words(alloc, spelled)?;
-    let message = OneSegment::new(&segment).ok_or("no message")?;
-    shows_values(rt, root(&message)?, spelled, elements, list_words);
-    let held = in_one_buffer(alloc, &message)?;
-    shows_values(rt, root(&held.view())?, spelled, elements, list_words);
+fn the_data_of_an_element(rt: HostRuntime) -> Result<(), Fail> {
+    let forms = Forms::of(rt.alloc(), ELEMENTS)?;
+    let path = &[Step::Item(1)];
+    same(
+        &rt,
+        view_at(&forms.buffer.view(), 4, path)?.data_word(0),
+        Some(0),
+    );
+    let message = forms.lent().ok_or("no message")?;
+    same(&rt, view_at(&message, 4, path)?.data_word(0), Some(0));
     Ok(())
 }
 
@@ -266,55 +301,65 @@ fn shows_values<M: Segments>(
     same(rt, view.bit(0), None);
 }
 
-#[test]
-fn values_of_each_size(rt: HostRuntime) -> Result<(), Fail> {
-    let alloc = rt.alloc();
+// The words of lists, their elements and the words of their data, each up to the first that there
+// isn't.
+static VALUES: [(&[u64], &[u64], &[u64]); 6] = [
     // Elements without bits.
-    values(&rt, alloc, &[0x0100000018000000], &[0, 0, 0], &[])?;
-    values(
-        &rt,
-        alloc,
-        &[0x0100000019000000, 0xffffffffffffffff],
-        &[1, 1, 1],
-        &[7],
-    )?;
-    values(
-        &rt,
-        alloc,
+    (&[0x0100000018000000], &[0, 0, 0], &[]),
+    (&[0x0100000019000000, 0xffffffffffffffff], &[1, 1, 1], &[7]),
+    (
         &[0x010000004a000000, 0x0102030405060708, 0x090a0b0c0d0e0f10],
         &[1, 2, 3, 4, 5, 6, 7, 8, 9],
         &[0x0807060504030201, 9],
-    )?;
-    values(
-        &rt,
-        alloc,
+    ),
+    (
         &[0x010000001b000000, 0x0102030405060708],
         &[0x0201, 0x0403, 0x0605],
         &[0x060504030201],
-    )?;
-    values(
-        &rt,
-        alloc,
+    ),
+    (
         &[0x010000001c000000, 0x0102030405060708, 0x090a0b0c0d0e0f10],
         &[0x04030201, 0x08070605, 0x0c0b0a09],
         &[0x0807060504030201, 0x0c0b0a09],
-    )?;
-    values(
-        &rt,
-        alloc,
+    ),
+    (
         &[0x010000000d000000, 0xffffffffffffffff],
         &[u64::MAX],
         &[u64::MAX],
-    )
+    ),
+];
+
+#[test]
+fn values_of_each_size(rt: HostRuntime) -> Result<(), Fail> {
+    for (spelled, elements, list_words) in &VALUES {
+        let forms = Forms::of(rt.alloc(), &[*spelled])?;
+        let buffer = forms.buffer.view();
+        shows_values(
+            &rt,
+            view_at(&buffer, u64::MAX, &[])?,
+            spelled,
+            elements,
+            list_words,
+        );
+        let message = forms.lent().ok_or("no message")?;
+        shows_values(
+            &rt,
+            view_at(&message, u64::MAX, &[])?,
+            spelled,
+            elements,
+            list_words,
+        );
+    }
+    Ok(())
 }
 
 #[test]
 fn the_data_of_a_struct(rt: HostRuntime) -> Result<(), Fail> {
-    let segment = words(rt.alloc(), &[0x0000000002000000, 0x0102030405060708, 0x80])?;
-    let message = OneSegment::new(&segment).ok_or("no message")?;
-    shows_data(&rt, root(&message)?);
-    let held = in_one_buffer(rt.alloc(), &message)?;
-    shows_data(&rt, root(&held.view())?);
+    let spelled = &[0x0000000002000000, 0x0102030405060708, 0x80];
+    let forms = Forms::of(rt.alloc(), &[spelled])?;
+    shows_data(&rt, view_at(&forms.buffer.view(), u64::MAX, &[])?);
+    let message = forms.lent().ok_or("no message")?;
+    shows_data(&rt, view_at(&message, u64::MAX, &[])?);
     Ok(())
 }
 
