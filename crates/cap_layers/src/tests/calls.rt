@@ -1,9 +1,9 @@
 //! What the calls answer and tell of known bytes.
 
-use crate::tests::same::same;
-use cap_calls::{Answer, CallLimits, CallReport, frame, is_canonical, unpack, version, vet};
+use self::Field::{Caps, Charge, Depth, Frame, Number, Pointers, Segment, Segments, Word};
+use crate::tests::same::{same, same_of};
+use cap_calls::{Answer, CallLimits, CallReport, frame, is_canonical, version, vet};
 use std::process::Abort;
-use std::test::Fail;
 
 mod copying;
 mod marking;
@@ -31,6 +31,38 @@ fn unwritten() -> CallReport {
     }
 }
 
+// A field of a report, and what is wanted there.
+#[derive(Clone, Copy, Debug)]
+enum Field {
+    Frame(u64),
+    Number(u64),
+    Charge(u64),
+    Pointers(u64),
+    Caps(u64),
+    Depth(u32),
+    Segment(u32),
+    Word(u32),
+    Segments(u32),
+}
+
+// What a report tells in these fields.
+fn are_told(rt: &impl Abort, report: &CallReport, fields: &[Field]) {
+    for field in fields {
+        let (given, wanted) = match *field {
+            Frame(wanted) => (report.frame, wanted),
+            Number(wanted) => (report.number, wanted),
+            Charge(wanted) => (report.charge, wanted),
+            Pointers(wanted) => (report.pointers, wanted),
+            Caps(wanted) => (report.caps, wanted),
+            Depth(wanted) => (u64::from(report.depth), u64::from(wanted)),
+            Segment(wanted) => (u64::from(report.segment), u64::from(wanted)),
+            Word(wanted) => (u64::from(report.word), u64::from(wanted)),
+            Segments(wanted) => (u64::from(report.segments), u64::from(wanted)),
+        };
+        same_of(rt, field, given, wanted);
+    }
+}
+
 // A message of two segments: a far pointer to a struct of one word and two pointers, a null one and a
 // capability. Eight bytes stand behind it.
 const TWO_SEGMENTS: [u8; 64] = [
@@ -43,44 +75,6 @@ const TWO_SEGMENTS: [u8; 64] = [
     9, 9, 9, 9, 9, 9, 9, 9, // behind the message
 ];
 
-#[test]
-fn accepted(rt: HostRuntime) -> Result<(), Fail> {
-    let mut report = unwritten();
-    same(&rt, vet(&TWO_SEGMENTS, &LIMITS, &mut report), Answer::Good);
-    let whole = CallReport {
-        frame: 56,
-        number: 0,
-        charge: 4,
-        pointers: 3,
-        caps: 1,
-        depth: 1,
-        segment: 1,
-        word: 3,
-        segments: 2,
-    };
-    same(&rt, report, whole);
-    let mut report = unwritten();
-    same(
-        &rt,
-        frame(&TWO_SEGMENTS, &LIMITS, &mut report),
-        Answer::Good,
-    );
-    let outline = CallReport {
-        frame: 56,
-        number: 0,
-        charge: 0,
-        pointers: 0,
-        caps: 0,
-        depth: 0,
-        segment: 0,
-        word: 0,
-        segments: 2,
-    };
-    same(&rt, report, outline);
-    same(&rt, version(), 65536);
-    Ok(())
-}
-
 // A message of one struct of one word, which is its own copy, and the same with a word of zeros.
 const OWN_COPY: [u8; 24] = [
     0, 0, 0, 0, 2, 0, 0, 0, 0, 0, 0, 0, 1, 0, 0, 0, 7, 0, 0, 0, 0, 0, 0, 0,
@@ -90,64 +84,86 @@ const ZERO_WORD: [u8; 24] = [
     0, 0, 0, 0, 2, 0, 0, 0, 0, 0, 0, 0, 1, 0, 0, 0, 0, 0, 0, 0, 0, 0, 0, 0,
 ];
 
-#[test]
-fn canonical(rt: HostRuntime) -> Result<(), Fail> {
-    let mut report = unwritten();
-    same(
-        &rt,
-        is_canonical(&OWN_COPY, &LIMITS, &mut report),
-        Answer::Good,
-    );
-    same(
-        &rt,
-        (report.frame, report.charge, report.segments),
-        (24, 1, 1),
-    );
-    same(
-        &rt,
-        is_canonical(&ZERO_WORD, &LIMITS, &mut report),
-        Answer::NotCanonical,
-    );
-    same(
-        &rt,
-        (report.frame, report.charge, report.segments),
-        (24, 1, 1),
-    );
-    same(
-        &rt,
-        is_canonical(&TWO_SEGMENTS, &LIMITS, &mut report),
-        Answer::NotCanonical,
-    );
-    same(
-        &rt,
-        (report.frame, report.charge, report.segments),
-        (56, 4, 2),
-    );
-    Ok(())
+// A message whose root leads outside.
+const OUTSIDE: [u8; 16] = [0, 0, 0, 0, 1, 0, 0, 0, 0, 0, 0, 0, 1, 0, 0, 0];
+
+// The calls that write a report alone.
+#[derive(Clone, Copy, Debug)]
+enum Call {
+    Vet,
+    Frame,
+    IsCanonical,
 }
 
-// The example of the section on packing in the encoding's specification, and a byte behind the room.
+impl Call {
+    fn of(self, bytes: &[u8], report: &mut CallReport) -> Answer {
+        match self {
+            Call::Vet => vet(bytes, &LIMITS, report),
+            Call::Frame => frame(bytes, &LIMITS, report),
+            Call::IsCanonical => is_canonical(bytes, &LIMITS, report),
+        }
+    }
+}
+
+static REPORTS: [(Call, &[u8], Answer, &[Field]); 5] = [
+    (
+        Call::Vet,
+        &TWO_SEGMENTS,
+        Answer::Good,
+        &[
+            Frame(56),
+            Number(0),
+            Charge(4),
+            Pointers(3),
+            Caps(1),
+            Depth(1),
+            Segment(1),
+            Word(3),
+            Segments(2),
+        ],
+    ),
+    (
+        Call::Frame,
+        &TWO_SEGMENTS,
+        Answer::Good,
+        &[
+            Frame(56),
+            Number(0),
+            Charge(0),
+            Pointers(0),
+            Caps(0),
+            Depth(0),
+            Segment(0),
+            Word(0),
+            Segments(2),
+        ],
+    ),
+    (
+        Call::IsCanonical,
+        &OWN_COPY,
+        Answer::Good,
+        &[Frame(24), Charge(1), Segments(1)],
+    ),
+    (
+        Call::IsCanonical,
+        &ZERO_WORD,
+        Answer::NotCanonical,
+        &[Frame(24), Charge(1), Segments(1)],
+    ),
+    (
+        Call::IsCanonical,
+        &TWO_SEGMENTS,
+        Answer::NotCanonical,
+        &[Frame(56), Charge(4), Segments(2)],
+    ),
+];
+
 #[test]
-fn unpacked(rt: HostRuntime) -> Result<(), Fail> {
-    let packed = [0x51, 8, 3, 2, 0x31, 0x19, 0xaa, 1];
-    let mut out = [0xee; 17];
-    let mut written = 77;
-    same(
-        &rt,
-        unpack(&packed[..7], &mut out, &mut written),
-        Answer::Truncated,
-    );
-    same(&rt, written, 0);
-    same(
-        &rt,
-        unpack(&packed, &mut out[..15], &mut written),
-        Answer::NoRoom,
-    );
-    same(&rt, written, 16);
-    same(&rt, out, [0xee; 17]);
-    same(&rt, unpack(&packed, &mut out, &mut written), Answer::Good);
-    same(&rt, written, 16);
-    let words = [8, 0, 0, 0, 3, 0, 2, 0, 0x19, 0, 0, 0, 0xaa, 1, 0, 0, 0xee];
-    same(&rt, out, words);
-    Ok(())
+fn answers_and_reports(rt: HostRuntime) {
+    for (call, bytes, answer, fields) in &REPORTS {
+        let mut report = unwritten();
+        same_of(&rt, call, call.of(bytes, &mut report), *answer);
+        are_told(&rt, &report, fields);
+    }
+    same(&rt, version(), 65536);
 }

@@ -1,10 +1,9 @@
 //! What the call for a canonical copy answers and writes of known bytes.
 
-use super::{LIMITS, TWO_SEGMENTS, unwritten};
+use super::Field::{Caps, Charge, Frame, Number, Pointers, Segment, Segments, Word};
+use super::{Field, LIMITS, OUTSIDE, TWO_SEGMENTS, are_told, unwritten};
 use crate::tests::same::same;
 use cap_calls::{Answer, canonical};
-use std::process::Abort;
-use std::test::Fail;
 
 // A message of two segments: a far pointer to a struct of two words, the second of them zeros, and a
 // pointer to a list of three bytes, behind which a byte of the word isn't zero.
@@ -27,68 +26,86 @@ const IN_ROOM: [u8; 40] = [
     0xee, 0xee, 0xee, 0xee, 0xee, 0xee, 0xee, 0xee, // behind the copy
 ];
 
-#[test]
-fn copied(rt: HostRuntime) -> Result<(), Fail> {
-    let mut out = [0xee; 40];
-    let mut written = 77;
-    let mut report = unwritten();
-    same(
-        &rt,
-        canonical(&LOOSE, &LIMITS, &mut out[..31], &mut written, &mut report),
+const UNTOUCHED: [u8; 40] = [0xee; 40];
+
+// Bytes and how many of them are given, the bytes of the room, the answer, how many bytes are written,
+// the room and what is behind it, and what is told.
+type Row = (
+    &'static [u8],
+    usize,
+    usize,
+    Answer,
+    usize,
+    [u8; 40],
+    &'static [Field],
+);
+
+static COPIES: [Row; 5] = [
+    (
+        &LOOSE,
+        64,
+        31,
         Answer::NoRoom,
-    );
-    same(&rt, written, 32);
-    same(&rt, out, [0xee; 40]);
-    same(
-        &rt,
-        (report.frame, report.charge, report.segments),
-        (64, 5, 2),
-    );
-    let mut report = unwritten();
-    same(
-        &rt,
-        canonical(&LOOSE, &LIMITS, &mut out, &mut written, &mut report),
+        32,
+        UNTOUCHED,
+        &[Frame(64), Charge(5), Segments(2)],
+    ),
+    (
+        &LOOSE,
+        64,
+        40,
         Answer::Good,
-    );
-    same(&rt, written, 32);
-    same(&rt, out, IN_ROOM);
-    same(
-        &rt,
-        (report.frame, report.charge, report.segments),
-        (64, 5, 2),
-    );
-    Ok(())
-}
+        32,
+        IN_ROOM,
+        &[Frame(64), Charge(5), Segments(2)],
+    ),
+    // A message without a copy, one that is cut off, and one that leads outside.
+    (
+        &TWO_SEGMENTS,
+        64,
+        40,
+        Answer::HasCapability,
+        0,
+        UNTOUCHED,
+        &[Caps(1), Segment(1), Word(3)],
+    ),
+    (
+        &LOOSE,
+        63,
+        40,
+        Answer::Truncated,
+        0,
+        UNTOUCHED,
+        &[Frame(0), Number(64)],
+    ),
+    (
+        &OUTSIDE,
+        16,
+        40,
+        Answer::OutOfSegment,
+        0,
+        UNTOUCHED,
+        &[Frame(16), Pointers(1)],
+    ),
+];
 
 #[test]
-fn without_a_copy(rt: HostRuntime) -> Result<(), Fail> {
-    let mut out = [0xee; 40];
-    let mut written = 77;
-    let mut report = unwritten();
-    same(
-        &rt,
-        canonical(&TWO_SEGMENTS, &LIMITS, &mut out, &mut written, &mut report),
-        Answer::HasCapability,
-    );
-    same(&rt, written, 0);
-    same(&rt, (report.caps, report.segment, report.word), (1, 1, 3));
-    let mut written = 77;
-    same(
-        &rt,
-        canonical(&LOOSE[..63], &LIMITS, &mut out, &mut written, &mut report),
-        Answer::Truncated,
-    );
-    same(&rt, written, 0);
-    same(&rt, (report.frame, report.number), (0, 64));
-    let outside = [0, 0, 0, 0, 1, 0, 0, 0, 0, 0, 0, 0, 1, 0, 0, 0];
-    let mut written = 77;
-    same(
-        &rt,
-        canonical(&outside, &LIMITS, &mut out, &mut written, &mut report),
-        Answer::OutOfSegment,
-    );
-    same(&rt, written, 0);
-    same(&rt, (report.frame, report.pointers), (16, 1));
-    same(&rt, out, [0xee; 40]);
-    Ok(())
+fn copied(rt: HostRuntime) {
+    for (bytes, count, room, answer, length, wanted, fields) in &COPIES {
+        let mut out = UNTOUCHED;
+        let mut written = 77;
+        let mut report = unwritten();
+        assert!(rt; *count <= bytes.len());
+        assert!(rt; *room <= out.len());
+        let bytes = &bytes[..*count];
+        let room = &mut out[..*room];
+        same(
+            &rt,
+            canonical(bytes, &LIMITS, room, &mut written, &mut report),
+            *answer,
+        );
+        same(&rt, written, *length);
+        same(&rt, out, *wanted);
+        are_told(&rt, &report, fields);
+    }
 }
