@@ -1,5 +1,5 @@
 #!/usr/bin/env python3
-"""Has each growth refused in turn that a test of crates/cap_growths makes, and reads how the test ended.
+"""Has each growth refused in turn that a test of crates/test_memory makes, and reads how the test ended.
 
 A run over all tests, which `rt try` builds anew and proves nothing of, makes the allocation of one number fail in
 each test's own process. A test ends well where it made fewer of them. Else it has to end with the error `refused`:
@@ -12,7 +12,7 @@ import subprocess
 import sys
 from pathlib import Path
 
-CRATE = Path(__file__).resolve().parent.parent / "crates/cap_growths"
+CRATE = Path(__file__).resolve().parent.parent / "crates/test_memory"
 # The tests of calls that take no memory: nothing is ever refused in them.
 WITHOUT_GROWTHS = {"reading::a_table_that_tells_of_too_many_words"}
 # More growths than any test makes.
