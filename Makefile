@@ -1,8 +1,5 @@
-# What capvet does on a sample, every proof and test, and how fast it is.
-.PHONY: try run build lib sample install uninstall test growths bench
-
-PROGRAM = crates/capvet/out/capvet
-ARCHIVE = crates/capvet_c/out/libcapvet_c.a
+# What capvet does with a sample, all proofs and tests, what is installed, and how fast it is.
+.PHONY: run build install uninstall test gate growths bench
 
 # Where things are installed. DESTDIR stands in front of all of it, and in nothing that is installed.
 PREFIX ?= /usr/local
@@ -14,7 +11,7 @@ mandir ?= $(PREFIX)/share/man
 completionsdir ?= $(PREFIX)/share/bash-completion/completions
 INSTALL ?= install
 
-# What a build is made from, and what is installed of it: a file of its own, so that whoever installs builds nothing.
+# What is proved and built, and the files that it is made from. Where build/ is newer, `rt` isn't needed to install.
 SOURCES = crates.txt $(shell find crates -name out -prune -o \( -name '*.rt' -o -name '*.antt' \) -print)
 BUILT_PROGRAM = build/capvet
 BUILT_ARCHIVE = build/libcapvet.a
@@ -22,34 +19,18 @@ BUILT_ARCHIVE = build/libcapvet.a
 # The version of the calls, as their header has it.
 VERSION = $(shell sed -n 's/^.define CAPVET_VERSION_M[AIJNOR]* \([0-9]*\)$$/\1/p' include/capvet.h | paste -sd.)
 
-# What the program writes of a stream of sample messages, from a build that nothing has proved yet.
-try:
+# Shows what the program writes for a stream of four sample messages, from a build that is not proved.
+run:
 	@folder=$$(mktemp -d) && trap 'rm -r "$$folder"' EXIT && \
-	for command in segments vet; do \
-	  cp examples/stream-of-four.bin "$$folder/$$command" && echo "$$command" > "$$folder/$$command.args" || exit; \
-	done && \
+	cp examples/stream-of-four.bin "$$folder/vet" && echo vet > "$$folder/vet.args" && \
 	cd crates/capvet && rt try --cases "$$folder" && \
-	echo "Nothing of this build is proved: 'make run' proves it first."
+	echo "This build is not proved yet: 'make test' proves it."
 
-# Proves and builds the program, and shows the same from it.
-run: build
-	@$(MAKE) --no-print-directory sample
+# Proves the program and the library for C and Rust, and builds both into build/.
+build: build/capvet build/libcapvet.a
 
-# Proves and builds the program.
-build:
-	cd crates/capvet && rt run -- --version
-
-# Proves and builds the library that C calls by include/capvet.h.
-lib:
-	cd crates/capvet_c && rt lib
-
-build/capvet: $(SOURCES)
-	@$(MAKE) --no-print-directory build
-	@mkdir -p build && cp $(PROGRAM) $@
-
-build/libcapvet.a: $(SOURCES)
-	@$(MAKE) --no-print-directory lib
-	@mkdir -p build && cp $(ARCHIVE) $@
+build/capvet build/libcapvet.a &: $(SOURCES)
+	python3 tests/prove.py --code
 
 # Puts the program, its manual page and its completions under PREFIX, and the library with its header and what
 # pkg-config wants to know; builds first what has a newer source.
@@ -71,27 +52,19 @@ uninstall:
 	rm -f '$(DESTDIR)$(bindir)/capvet' '$(DESTDIR)$(mandir)/man1/capvet.1' '$(DESTDIR)$(completionsdir)/capvet'
 	rm -f '$(DESTDIR)$(includedir)/capvet.h' '$(DESTDIR)$(libdir)/libcapvet.a' '$(DESTDIR)$(pkgconfigdir)/capvet.pc'
 
-# How each message of a stream of samples is cut into segments, and its verdict.
-sample:
-	$(PROGRAM) segments examples/stream-of-four.bin
-	$(PROGRAM) vet examples/stream-of-four.bin
-
-# All proofs, must-fail edits and tests, then the built program as its users run it and install it, what pages show,
-# the header's numbers, and the calls from C where there is a compiler for it.
+# Proves all crates and their tests, and then tests the built program and library as their users run them.
 test:
-	rt ci
-	python3 tests/archive.py $(ARCHIVE)
-	python3 tests/program.py $(PROGRAM)
-	python3 tests/install.py $(PROGRAM) $(ARCHIVE)
-	python3 tests/library.py $(PROGRAM) $(ARCHIVE)
-	python3 tests/pages.py $(PROGRAM)
-	python3 tests/header.py
-	python3 tests/calls.py $(ARCHIVE) $(PROGRAM)
+	python3 tests/all.py
 
-# Refuses each growth in turn of the calls that take memory, and each allocation of the built program.
+# The same, and the prover has to refuse each must-fail edit; then each allocation fails in turn.
+gate:
+	python3 tests/all.py --edits
+	@$(MAKE) --no-print-directory growths
+
+# Out-of-memory tests: each allocation fails in turn, first of the calls that allocate, then of the built program.
 growths:
 	python3 tests/growths.py
-	python3 tests/refusals.py $(PROGRAM)
+	python3 tests/refusals.py build/capvet
 
 # Times the built program beside plain copying of the same bytes, and beside Cap'n Proto's own C++ library and
 # Rust crate where they are installed; then the calls of the library beside the C++ library, in one process.

@@ -312,7 +312,7 @@ def options():
     parser = argparse.ArgumentParser()
     parser.add_argument("--rounds", type=int, default=5)
     parser.add_argument("--only", default="", help="run the rows whose name or input has this word")
-    parser.add_argument("--program", default=str(TOP / "crates/capvet/out/capvet"))
+    parser.add_argument("--program", default=str(TOP / "build/capvet"))
     args = parser.parse_args()
     if not Path(args.program).is_file():
         sys.exit(f"{args.program} isn't there: build it by `make run`")

@@ -36,7 +36,7 @@ INPUTS = bench.MESSAGES | {"lists": write_lists}
 def options():
     parser = argparse.ArgumentParser()
     parser.add_argument("--rounds", type=int, default=11)
-    parser.add_argument("--archive", default=str(TOP / "crates/capvet_c/out/libcapvet_c.a"))
+    parser.add_argument("--archive", default=str(TOP / "build/libcapvet.a"))
     parser.add_argument("files", nargs="*", metavar="FILE")
     return parser.parse_args()
 
@@ -44,7 +44,7 @@ def options():
 def why_not_built(archive, program, folder):
     """Builds the program, and gives None; or why it can't be built, in a few words."""
     if not Path(archive).is_file():
-        return f"{archive} isn't there: build it by `make lib`"
+        return f"{archive} isn't there: build it by `make build`"
     words = [*os.environ.get("CXX", "g++").split(), "-O2", "-DNDEBUG", f"-I{TOP / 'include'}", TOP / "bench/peers/cpp/in_process.cpp",
              Path(archive).resolve(), "-o", program, "-lcapnp", "-lkj", "-lpthread"]
     return bench.why_not_built(words, folder)

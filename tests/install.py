@@ -16,8 +16,8 @@ import tempfile
 from pathlib import Path
 
 TOP = Path(__file__).resolve().parent.parent
-PROGRAM = Path(sys.argv[1] if len(sys.argv) > 1 else TOP / "crates/capvet/out/capvet").resolve()
-ARCHIVE = Path(sys.argv[2] if len(sys.argv) > 2 else TOP / "crates/capvet_c/out/libcapvet_c.a").resolve()
+PROGRAM = Path(sys.argv[1] if len(sys.argv) > 1 else TOP / "build/capvet").resolve()
+ARCHIVE = Path(sys.argv[2] if len(sys.argv) > 2 else TOP / "build/libcapvet.a").resolve()
 COMPLETIONS = "share/bash-completion/completions/capvet"
 PAGE = "share/man/man1/capvet.1"
 DESCRIPTION = "lib/pkgconfig/capvet.pc"

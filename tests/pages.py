@@ -16,7 +16,7 @@ import tempfile
 from pathlib import Path
 
 TOP = Path(__file__).resolve().parent.parent
-PROGRAM = Path(sys.argv[1] if len(sys.argv) > 1 else TOP / "crates/capvet/out/capvet").resolve()
+PROGRAM = Path(sys.argv[1] if len(sys.argv) > 1 else TOP / "build/capvet").resolve()
 PAGES = ("README.md", "docs/guide.md")
 BLOCK = re.compile(r"^```(\w*)\n(.*?)^```$", re.M | re.S)
 passed = failed = 0
