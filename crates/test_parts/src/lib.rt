@@ -1,5 +1,22 @@
-//! Tests of bytes, frames and packed texts that need public calls alone.
+//! Tests of ends, words, packed texts and frames, by public calls alone: a file for each end, each spelling
+//! of words and each way to read a frame.
 #![tactic(auto)]
 
 #[cfg(test)]
-mod tests;
+mod devices;
+#[cfg(test)]
+mod ends;
+#[cfg(test)]
+mod frames;
+#[cfg(test)]
+mod lanes;
+#[cfg(test)]
+mod packing;
+#[cfg(test)]
+mod same;
+#[cfg(test)]
+mod steps;
+#[cfg(test)]
+mod unpacking;
+#[cfg(test)]
+mod unpacking_at_hand;

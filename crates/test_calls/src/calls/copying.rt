@@ -2,7 +2,7 @@
 
 use super::Field::{Caps, Charge, Frame, Number, Pointers, Segment, Segments, Word};
 use super::{Field, LIMITS, OUTSIDE, TWO_SEGMENTS, are_told, unwritten};
-use crate::tests::same::same;
+use crate::same::same;
 use cap_calls::{Answer, canonical};
 
 // A message of two segments: a far pointer to a struct of two words, the second of them zeros, and a

@@ -1,8 +1,8 @@
 //! Words of packed texts: worked samples, however few bytes a read gives.
 
-use crate::tests::devices::{failing, slow};
-use crate::tests::same::{same, same_of};
-use crate::tests::steps::{Reads, Takes, part, read_by, take_by};
+use crate::devices::{failing, slow};
+use crate::same::{same, same_of};
+use crate::steps::{Reads, Takes, part, read_by, take_by};
 use cap_pack::Unpacker;
 use cap_words::{FromRead, SliceIn, SourceFault, WordSource};
 use std::alloc::{AllocError, Global};

@@ -2,7 +2,7 @@
 
 use super::Field::{Caps, Charge, Depth, Frame, Number, Pointers, Segment, Segments, Word};
 use super::{Field, LIMITS, OUTSIDE, TWO_SEGMENTS, are_told, unwritten};
-use crate::tests::same::same;
+use crate::same::same;
 use cap_calls::{Answer, vet_exclusive};
 
 // A message of one segment: a struct of two pointers to one struct of one word.

@@ -1,7 +1,7 @@
 //! Views of bytes that are known from outside.
 
 use super::{is_message, plain};
-use crate::tests::steps::part;
+use crate::steps::part;
 use cap_frame::{
     ByteMessage, ByteView, SegmentTables, Segments, SizeLimit, WordMessage, front_of, write_message,
 };

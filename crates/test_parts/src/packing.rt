@@ -1,7 +1,7 @@
 //! Packed texts: of each kind of group, and with an output that fails in any of its calls.
 
-use crate::tests::devices::{SlowWriter, slow_writer};
-use crate::tests::same::{same, same_of};
+use crate::devices::{SlowWriter, slow_writer};
+use crate::same::{same, same_of};
 use cap_pack::{Packer, Unpacker};
 use cap_words::{ByteOut, FromWrite, SinkFault, SliceIn, VecOut, WordSink, WordSource, bytes_of};
 use std::alloc::{AllocError, Global};

@@ -8,7 +8,7 @@ mod pads;
 
 use self::Verdict::{Accepted, Refused, WithCaps};
 use super::held::{Forms, cloned, repeated};
-use crate::tests::same::{same, same_of};
+use crate::same::{same, same_of};
 use cap_frame::{OneSegment, Segments};
 use cap_vet::{Limits, Reason, Refusal, Report, vet};
 use std::alloc::Global;

@@ -2,7 +2,7 @@
 
 use self::Found::{Cap, Not, Null, To};
 use super::held::Forms;
-use crate::tests::same::{same, same_of};
+use crate::same::{same, same_of};
 use cap_frame::Segments;
 use cap_ptr::{Followed, Pointer, Reason, Shape, Target, follow};
 use std::alloc::Global;

@@ -1,7 +1,7 @@
 //! What the calls answer and tell of known bytes.
 
 use self::Field::{Caps, Charge, Depth, Frame, Number, Pointers, Segment, Segments, Word};
-use crate::tests::same::{same, same_of};
+use crate::same::{same, same_of};
 use cap_calls::{Answer, CallLimits, CallReport, frame, is_canonical, version, vet};
 use std::process::Abort;
 

@@ -1,8 +1,8 @@
 //! Messages of which some word is used twice, and messages of which none is.
 
 use super::{DEPTH, WORDS};
-use crate::tests::held::{Forms, cloned, repeated, words};
-use crate::tests::same::{same, same_of};
+use crate::held::{Forms, cloned, repeated, words};
+use crate::same::{same, same_of};
 use cap_frame::{OneSegment, Segments};
 use cap_vet::{
     ExclusiveFault, ExclusiveRefusal, Limits, Reason, Refusal, Report, marks_for, vet,

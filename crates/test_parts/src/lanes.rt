@@ -1,6 +1,6 @@
 //! Lanes against plain computations: samples, every length up to 40, and every tag.
 
-use crate::tests::same::{same, same_of};
+use crate::same::{same, same_of};
 use cap_pack::lanes::*;
 
 const FULL: u64 = 0x8a8a_8a8a_8a8a_8a8a;

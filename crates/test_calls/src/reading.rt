@@ -1,7 +1,7 @@
 //! A message that is read at a path.
 
 use super::held::in_one_buffer;
-use crate::tests::same::same;
+use crate::same::same;
 use cap_frame::{OneSegment, Segments, WordMessage};
 use cap_read::{read, read_bytes};
 use cap_vet::{Kind, Limits, Place, Reason, Step};

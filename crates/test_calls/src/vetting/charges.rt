@@ -2,8 +2,8 @@
 //! from outside.
 
 use self::Wanted::{Nothing, Refused, Struct};
-use crate::tests::held::Forms;
-use crate::tests::same::{same, same_of};
+use crate::held::Forms;
+use crate::same::{same, same_of};
 use cap_frame::Segments;
 use cap_vet::{Budget, Kind, Place, Reason, Refusal, Step, View, get_charged};
 use std::alloc::Global;

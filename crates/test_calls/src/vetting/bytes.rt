@@ -1,7 +1,7 @@
 //! The bytes of places, of messages that are known from outside.
 
-use crate::tests::held::Forms;
-use crate::tests::same::same_of;
+use crate::held::Forms;
+use crate::same::same_of;
 use cap_vet::{Limits, Step, vet};
 use std::alloc::Global;
 use std::process::Abort;

@@ -1,8 +1,8 @@
 //! Words that are given many at once, against a plain unpacker that reads a byte at a time.
 
-use crate::tests::devices::{SlowReader, slow};
-use crate::tests::same::{same, same_of};
-use crate::tests::steps::{Takes, front, part, take_by};
+use crate::devices::{SlowReader, slow};
+use crate::same::{same, same_of};
+use crate::steps::{Takes, front, part, take_by};
 use cap_pack::{Packer, Unpacker};
 use cap_words::{
     BufferedIn, FromRead, SliceIn, SourceFault, VecOut, WordSink, WordSource, bytes_of,

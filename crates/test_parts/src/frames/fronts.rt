@@ -2,8 +2,8 @@
 
 use super::views::is_same;
 use super::{is_message, plain};
-use crate::tests::same::{same, same_of};
-use crate::tests::steps::part;
+use crate::same::{same, same_of};
+use crate::steps::part;
 use cap_frame::{
     ByteView, FrameFault, Framed, FrontFault, SegmentTables, SizeLimit, front_of, read_message,
 };

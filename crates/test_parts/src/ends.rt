@@ -1,10 +1,8 @@
 //! What no contract can say: that calls succeed, and how often a device is called.
 
-use crate::tests::devices::{SlowReader, failing, slow, slow_writer};
-use crate::tests::same::{same, same_of};
-use crate::tests::steps::{
-    Puts, Reads, Takes, Writes, front, part, put_by, read_by, take_by, write_by,
-};
+use crate::devices::{SlowReader, failing, slow, slow_writer};
+use crate::same::{same, same_of};
+use crate::steps::{Puts, Reads, Takes, Writes, front, part, put_by, read_by, take_by, write_by};
 use cap_words::{
     BufferedIn, ByteIn, ByteOut, FromRead, FromWrite, InFault, OutFault, PlainSink, PlainWords,
     SinkFault, SliceIn, SourceFault, VecOut, WordSource, bits, bytes_of, signed_offset, word_of,

@@ -1,7 +1,7 @@
 //! What no contract can say: that calls succeed, and values from outside.
 
-use crate::tests::same::{same, same_of};
-use crate::tests::steps::part;
+use crate::same::{same, same_of};
+use crate::steps::part;
 use cap_frame::{
     ByteMessage, FrameFault, OneSegment, Outline, Segments, SizeLimit, WordMessage, read_message,
     read_outline, write_message,

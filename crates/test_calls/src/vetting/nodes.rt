@@ -1,8 +1,8 @@
 //! Nodes and places of messages that are known from outside.
 
 use self::Wanted::{Bare, Nothing, Object};
-use crate::tests::held::{Forms, cloned, words};
-use crate::tests::same::{same, same_of};
+use crate::held::{Forms, cloned, words};
+use crate::same::{same, same_of};
 use cap_frame::{OneSegment, Segments};
 use cap_vet::{Kind, Limits, Node, Place, Step, Vetted, vet};
 use std::alloc::Global;

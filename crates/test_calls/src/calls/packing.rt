@@ -1,6 +1,6 @@
 //! What packing and unpacking answer and write of known bytes, and of the words that the packer is put.
 
-use crate::tests::same::same;
+use crate::same::same;
 use cap_calls::{Answer, pack, unpack};
 use cap_pack::Packer;
 use cap_words::{VecOut, WordSink, bytes_of};

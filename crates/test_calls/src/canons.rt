@@ -4,7 +4,7 @@
 mod values;
 
 use super::held::{Forms, repeated, words};
-use crate::tests::same::{same, same_of};
+use crate::same::{same, same_of};
 use cap_canon::{CanonFault, canonical, canonical_bytes, canonical_len, is_canonical};
 use cap_frame::{OneSegment, Segments};
 use cap_vet::{Limits, Vetted, vet};

@@ -3,7 +3,7 @@
 //! A test is a table of them: one function makes all calls of a trait, and is proved once. Bytes are
 //! told as so many of a text from one on.
 
-use crate::tests::same::same_of;
+use crate::same::same_of;
 use cap_words::{
     ByteIn, ByteOut, InFault, OutFault, SinkFault, SourceFault, WordSink, WordSource, fill,
 };

@@ -3,9 +3,9 @@
 use super::fronts::expect_same_front;
 use super::views::is_same;
 use super::{pair, plain};
-use crate::tests::devices::slow;
-use crate::tests::same::same;
-use crate::tests::steps::part;
+use crate::devices::slow;
+use crate::same::same;
+use crate::steps::part;
 use cap_frame::{
     ByteMessage, FrameFault, Segments, SizeLimit, WordMessage, read_byte_message, read_into,
     read_message,
