@@ -20,7 +20,6 @@ TOP = Path(__file__).resolve().parent.parent
 KIT = Path(shutil.which("rt") or "/").resolve().parent.parent
 BUILT = TOP / "build"
 PROGRAM, ARCHIVE = "capvet", "capvet_c"
-LEFT_OUT = shutil.ignore_patterns(".git", "build", "out", "target", "must-fail")
 
 
 def listed(root):
@@ -38,6 +37,14 @@ def below(names, lines):
             found.add(name)
             left += lines[name].partition(":")[2].split()
     return found
+
+
+def copy(root):
+    """Copies all that `rt ci` reads, but the must-fail edits."""
+    left_out = lambda folder, names: ("out", "must-fail") if Path(folder).parent == TOP / "crates" else ()
+    shutil.copytree(TOP / "crates", root / "crates", ignore=left_out)
+    for name in ("crates.txt", "HANDLES"):
+        shutil.copy(TOP / name, root / name)
 
 
 def keep_only(root, names):
@@ -73,7 +80,7 @@ def take(file, name):
 def prove_and_build(is_code_alone):
     with tempfile.TemporaryDirectory(prefix="capvet-") as folder:
         root = Path(folder) / "capvet"
-        shutil.copytree(TOP, root, ignore=LEFT_OUT, symlinks=True)
+        copy(root)
         if is_code_alone:
             keep_only(root, below((PROGRAM, ARCHIVE), listed(root)))
         if subprocess.run(["rt", "ci"], cwd=root).returncode:
