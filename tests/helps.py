@@ -3,15 +3,15 @@
 # Lines that ask for a text, and the text.
 HELPS = (
     (("--help", "-h", "help"), """\
-Checks Cap'n Proto messages that nobody vouches for, without their schema
+Checks untrusted Cap'n Proto messages without a schema
 
 Usage: capvet <COMMAND>
 
 Commands:
-  segments  Shows each message's segments, their sizes in words, and its root pointer
+  segments  Prints the segments of each message, their sizes in words, and the root pointer
   vet       Checks that each message is safe to traverse
-  dump      Writes the tree of each message that is safe to traverse
-  get       Shows the node at a path in each message that is safe to traverse
+  dump      Prints the tree of each accepted message
+  get       Prints the node at a path in each accepted message
   check     Checks that each message is canonical
   canon     Writes the canonical copy of each message
   pack      Packs a stream of words
@@ -22,15 +22,16 @@ Options:
   -h, --help     Print help
   -V, --version  Print version
 
-A stream is framed messages, one after the other: of each a table with the sizes of its segments,
-and then the segments, in words of 8 bytes. Without FILE a command reads standard input.
+The input is a stream of framed messages. A framed message is a table with the sizes of its
+segments, followed by the segments in words of 8 bytes. Without FILE a command reads standard input.
 
 Exit status:
-  0  every message was accepted, and canonical for 'check', or every word was copied
-  1  a message was refused, isn't canonical or has no copy, or the input is cut short or isn't
-     messages within the limits
+  0  every message was accepted, and is canonical for 'check'; or every word was copied;
+     or the input is empty
+  1  a message was refused, is not canonical for 'check' or has a capability for 'canon';
+     or the input is cut short, or is not a stream of messages within the limits
   2  the command line is wrong
-  3  a file doesn't open, a device failed, or memory ran out
+  3  a file does not open, reading or writing failed, or memory ran out
 
 Example:
   $ capvet vet examples/contacts.bin
@@ -38,16 +39,16 @@ Example:
 """),
     (("--version", "-V", "--version vet"), "capvet 0.1.0\n"),
     (("segments --help", "segments -h", "help segments"), """\
-Shows each message's segments, their sizes in words, and its root pointer
+Prints the segments of each message, their sizes in words, and the root pointer
 
 Usage: capvet segments [OPTIONS] [FILE]
 
 Arguments:
-  [FILE]  File to read, instead of standard input
+  [FILE]  File to read instead of standard input
 
 Options:
-      --packed    The messages are packed
-      --size <N>  Most words of a message, all its segments together, 0 to 268435456 [default: 8388608]
+      --packed    The input is packed
+      --size <N>  Maximum words of a message, without its table: 0 to 268435456 [default: 8388608]
   -h, --help      Print help
 
 Example:
@@ -62,47 +63,48 @@ Checks that each message is safe to traverse
 Usage: capvet vet [OPTIONS] [FILE]
 
 Arguments:
-  [FILE]  File to read, instead of standard input
+  [FILE]  File to read instead of standard input
 
 Options:
-      --packed     The messages are packed
-      --size <N>   Most words of a message, all its segments together, 0 to 268435456 [default: 8388608]
-      --words <N>  Traversal limit in words, 0 to 268435456; a target reached twice counts twice [default: 8388608]
-      --depth <N>  Deepest level of an object, 0 to 256; the root's object has level 1 [default: 64]
-      --exclusive  No word may be used by two pointers
+      --packed     The input is packed
+      --size <N>   Maximum words of a message, without its table: 0 to 268435456 [default: 8388608]
+      --words <N>  Maximum charge of a message in words: 0 to 268435456 [default: 8388608]
+      --depth <N>  Maximum level of an object: 0 to 256; the root object has level 1 [default: 64]
+      --exclusive  Refuse a message that uses a word twice
   -h, --help       Print help
 
-An accepted message is told with its charge in words, which bounds what a traversal reads; with
-the deepest level of an object, where a list's structs stand one below the list; and with how many
-pointers, null ones too, and capabilities it has. A refused one is told with the reason, and the
-SEGMENT:WORD of the first pointer at fault.
+For an accepted message it prints four numbers. The charge is the number of words that a full
+traversal reads; a target that is reached twice counts twice. The depth is the deepest level of an
+object; the structs of a list are one level below the list. Then come the numbers of pointers, null
+pointers too, and of capabilities. For a refused message it prints the reason, and the SEGMENT:WORD
+of the first pointer that is wrong.
 
-With --exclusive a message is also refused, as Overlap, where a pointer leads to a word that is in
-use already: the root word, or a word that it or an earlier pointer leads to. Then a traversal reads
-no more words than the message has.
+With --exclusive a message is also refused, as Overlap, if a pointer leads to a word that is already
+in use: the root word, a word of the same pointer, or a word of an earlier pointer. The charge is
+then less than the words of the message, apart from list elements that have no bits or no words.
 
 Example:
   $ capvet vet --depth 3 examples/contacts.bin
   message 0: refused DepthLimit at 0:7 pointers 3
 """),
     (("dump --help", "dump -h", "help dump"), """\
-Writes the tree of each message that is safe to traverse
+Prints the tree of each accepted message
 
 Usage: capvet dump [OPTIONS] [FILE]
 
 Arguments:
-  [FILE]  File to read, instead of standard input
+  [FILE]  File to read instead of standard input
 
 Options:
-      --packed     The messages are packed
-      --size <N>   Most words of a message, all its segments together, 0 to 268435456 [default: 8388608]
-      --words <N>  Traversal limit in words, 0 to 268435456; a target reached twice counts twice [default: 8388608]
-      --depth <N>  Deepest level of an object, 0 to 256; the root's object has level 1 [default: 64]
+      --packed     The input is packed
+      --size <N>   Maximum words of a message, without its table: 0 to 268435456 [default: 8388608]
+      --words <N>  Maximum charge of a message in words: 0 to 268435456 [default: 8388608]
+      --depth <N>  Maximum level of an object: 0 to 256; the root object has level 1 [default: 64]
   -h, --help       Print help
 
-Behind the line that 'vet' writes of an accepted message comes its tree: of each node a line, then
-the words of its own and its children, two spaces deeper. The children pN and iN of a node are those
-to which the steps /pN and /iN of a PATH lead, as 'get' takes it.
+After the line of 'vet', an accepted message has the lines of its tree. A node has one line, then
+its own words and its children, two spaces deeper. The steps /pN and /iN of a PATH lead to the
+children pN and iN (see 'capvet help get').
 
 Example:
   $ capvet dump examples/contacts.bin | head -n 6
@@ -114,24 +116,25 @@ Example:
         d0 0000000000000000
 """),
     (("get --help", "get -h", "help get"), """\
-Shows the node at a path in each message that is safe to traverse
+Prints the node at a path in each accepted message
 
 Usage: capvet get [OPTIONS] <PATH> [FILE]
 
 Arguments:
-  <PATH>  Path of the node, as /p0/i3
-  [FILE]  File to read, instead of standard input
+  <PATH>  Path of the node, such as /p0/i3
+  [FILE]  File to read instead of standard input
 
 Options:
-      --packed     The messages are packed
-      --size <N>   Most words of a message, all its segments together, 0 to 268435456 [default: 8388608]
-      --words <N>  Traversal limit in words, 0 to 268435456; a target reached twice counts twice [default: 8388608]
-      --depth <N>  Deepest level of an object, 0 to 256; the root's object has level 1 [default: 64]
+      --packed     The input is packed
+      --size <N>   Maximum words of a message, without its table: 0 to 268435456 [default: 8388608]
+      --words <N>  Maximum charge of a message in words: 0 to 268435456 [default: 8388608]
+      --depth <N>  Maximum level of an object: 0 to 256; the root object has level 1 [default: 64]
   -h, --help       Print help
 
-PATH is '/' alone for the root, or one step after the other: '/pN' for pointer N of a struct, and
-'/iN' for element N of a list of pointers or of structs, each counted from 0. The node is shown
-without what its pointers lead to. That there is none at the PATH refuses no message.
+PATH is '/' for the root, or a list of steps. The step '/pN' leads to pointer N of a struct, and
+'/iN' to element N of a list of pointers or structs, both counted from 0. The node is printed
+without the nodes below it. A message that has no node at PATH is accepted all the same: 'get'
+prints 'none', and the exit status stays as it is.
 
 Example:
   $ capvet get /p0/i1 examples/contacts.bin
@@ -145,17 +148,17 @@ Checks that each message is canonical
 Usage: capvet check [OPTIONS] [FILE]
 
 Arguments:
-  [FILE]  File to read, instead of standard input
+  [FILE]  File to read instead of standard input
 
 Options:
-      --packed     The messages are packed
-      --size <N>   Most words of a message, all its segments together, 0 to 268435456 [default: 8388608]
-      --words <N>  Traversal limit in words, 0 to 268435456; a target reached twice counts twice [default: 8388608]
-      --depth <N>  Deepest level of an object, 0 to 256; the root's object has level 1 [default: 64]
+      --packed     The input is packed
+      --size <N>   Maximum words of a message, without its table: 0 to 268435456 [default: 8388608]
+      --words <N>  Maximum charge of a message in words: 0 to 268435456 [default: 8388608]
+      --depth <N>  Maximum level of an object: 0 to 256; the root object has level 1 [default: 64]
   -h, --help       Print help
 
-A message is canonical where it has one segment, of just the words that 'canon' writes behind the
-table of its copy. A message that isn't within the limits is told as 'vet' tells it.
+A message is canonical if it has one segment, with exactly the words that 'canon' writes after the
+table of its copy. For a refused message it prints the line of 'vet'.
 
 Example:
   $ capvet canon examples/contacts.bin | capvet check
@@ -167,18 +170,18 @@ Writes the canonical copy of each message
 Usage: capvet canon [OPTIONS] [FILE]
 
 Arguments:
-  [FILE]  File to read, instead of standard input
+  [FILE]  File to read instead of standard input
 
 Options:
-      --packed     The messages are packed
-      --size <N>   Most words of a message, all its segments together, 0 to 268435456 [default: 8388608]
-      --words <N>  Traversal limit in words, 0 to 268435456; a target reached twice counts twice [default: 8388608]
-      --depth <N>  Deepest level of an object, 0 to 256; the root's object has level 1 [default: 64]
+      --packed     The input is packed
+      --size <N>   Maximum words of a message, without its table: 0 to 268435456 [default: 8388608]
+      --words <N>  Maximum charge of a message in words: 0 to 268435456 [default: 8388608]
+      --depth <N>  Maximum level of an object: 0 to 256; the root object has level 1 [default: 64]
   -h, --help       Print help
 
-A copy is a message of one segment, whose table is its first 8 bytes. Messages have equal copies
-exactly where they hold the same, zeros and null pointers at the end of structs aside. The command
-ends at the first message that isn't within the limits or that has a capability.
+A copy is a message of one segment; its table is the first 8 bytes. Two messages have equal copies
+exactly if they have the same content, apart from zeros and null pointers at the end of structs. The
+command ends at the first message that is refused or has a capability.
 
 Example:
   $ capvet canon examples/contacts.bin | tail -c +9 | sha256sum
@@ -190,7 +193,7 @@ Packs a stream of words
 Usage: capvet pack [FILE]
 
 Arguments:
-  [FILE]  File to read, instead of standard input
+  [FILE]  File to read instead of standard input
 
 Options:
   -h, --help  Print help
@@ -205,7 +208,7 @@ Unpacks a stream of words
 Usage: capvet unpack [FILE]
 
 Arguments:
-  [FILE]  File to read, instead of standard input
+  [FILE]  File to read instead of standard input
 
 Options:
   -h, --help  Print help

@@ -1,4 +1,4 @@
-//! The command line: what the program's words ask for.
+//! The command line: the job that the arguments ask for.
 
 ghost use Rattle.cap_run.specs.Engines.{most_messages};
 ghost use Rattle.std.specs.Prelude.{◌≡◌, IfOk};
@@ -11,20 +11,21 @@ use clap::error::ErrorKind;
 use clap::{Arg, ArgAction, ArgMatches, Command, Error, value_parser};
 use std::alloc::{AllocError, Global};
 
-/// The version that `--version` tells.
+/// The version that `--version` prints.
 const VERSION: &str = "0.1.0";
 
-/// What the program's help says behind its commands.
+/// The help of the program, after the list of its commands.
 const PROGRAM_NOTES: &str = "\
-A stream is framed messages, one after the other: of each a table with the sizes of its segments,
-and then the segments, in words of 8 bytes. Without FILE a command reads standard input.
+The input is a stream of framed messages. A framed message is a table with the sizes of its
+segments, followed by the segments in words of 8 bytes. Without FILE a command reads standard input.
 
 Exit status:
-  0  every message was accepted, and canonical for 'check', or every word was copied
-  1  a message was refused, isn't canonical or has no copy, or the input is cut short or isn't
-     messages within the limits
+  0  every message was accepted, and is canonical for 'check'; or every word was copied;
+     or the input is empty
+  1  a message was refused, is not canonical for 'check' or has a capability for 'canon';
+     or the input is cut short, or is not a stream of messages within the limits
   2  the command line is wrong
-  3  a file doesn't open, a device failed, or memory ran out
+  3  a file does not open, reading or writing failed, or memory ran out
 
 Example:
   $ capvet vet examples/contacts.bin
@@ -38,23 +39,24 @@ Example:
   root 0000000001000300";
 
 const VET_NOTES: &str = "\
-An accepted message is told with its charge in words, which bounds what a traversal reads; with
-the deepest level of an object, where a list's structs stand one below the list; and with how many
-pointers, null ones too, and capabilities it has. A refused one is told with the reason, and the
-SEGMENT:WORD of the first pointer at fault.
+For an accepted message it prints four numbers. The charge is the number of words that a full
+traversal reads; a target that is reached twice counts twice. The depth is the deepest level of an
+object; the structs of a list are one level below the list. Then come the numbers of pointers, null
+pointers too, and of capabilities. For a refused message it prints the reason, and the SEGMENT:WORD
+of the first pointer that is wrong.
 
-With --exclusive a message is also refused, as Overlap, where a pointer leads to a word that is in
-use already: the root word, or a word that it or an earlier pointer leads to. Then a traversal reads
-no more words than the message has.
+With --exclusive a message is also refused, as Overlap, if a pointer leads to a word that is already
+in use: the root word, a word of the same pointer, or a word of an earlier pointer. The charge is
+then less than the words of the message, apart from list elements that have no bits or no words.
 
 Example:
   $ capvet vet --depth 3 examples/contacts.bin
   message 0: refused DepthLimit at 0:7 pointers 3";
 
 const DUMP_NOTES: &str = "\
-Behind the line that 'vet' writes of an accepted message comes its tree: of each node a line, then
-the words of its own and its children, two spaces deeper. The children pN and iN of a node are those
-to which the steps /pN and /iN of a PATH lead, as 'get' takes it.
+After the line of 'vet', an accepted message has the lines of its tree. A node has one line, then
+its own words and its children, two spaces deeper. The steps /pN and /iN of a PATH lead to the
+children pN and iN (see 'capvet help get').
 
 Example:
   $ capvet dump examples/contacts.bin | head -n 6
@@ -66,9 +68,10 @@ Example:
         d0 0000000000000000";
 
 const GET_NOTES: &str = "\
-PATH is '/' alone for the root, or one step after the other: '/pN' for pointer N of a struct, and
-'/iN' for element N of a list of pointers or of structs, each counted from 0. The node is shown
-without what its pointers lead to. That there is none at the PATH refuses no message.
+PATH is '/' for the root, or a list of steps. The step '/pN' leads to pointer N of a struct, and
+'/iN' to element N of a list of pointers or structs, both counted from 0. The node is printed
+without the nodes below it. A message that has no node at PATH is accepted all the same: 'get'
+prints 'none', and the exit status stays as it is.
 
 Example:
   $ capvet get /p0/i1 examples/contacts.bin
@@ -77,17 +80,17 @@ Example:
     d0 0a6e000001000000";
 
 const CHECK_NOTES: &str = "\
-A message is canonical where it has one segment, of just the words that 'canon' writes behind the
-table of its copy. A message that isn't within the limits is told as 'vet' tells it.
+A message is canonical if it has one segment, with exactly the words that 'canon' writes after the
+table of its copy. For a refused message it prints the line of 'vet'.
 
 Example:
   $ capvet canon examples/contacts.bin | capvet check
   message 0: canonical";
 
 const CANON_NOTES: &str = "\
-A copy is a message of one segment, whose table is its first 8 bytes. Messages have equal copies
-exactly where they hold the same, zeros and null pointers at the end of structs aside. The command
-ends at the first message that isn't within the limits or that has a capability.
+A copy is a message of one segment; its table is the first 8 bytes. Two messages have equal copies
+exactly if they have the same content, apart from zeros and null pointers at the end of structs. The
+command ends at the first message that is refused or has a capability.
 
 Example:
   $ capvet canon examples/contacts.bin | tail -c +9 | sha256sum
@@ -103,20 +106,20 @@ Example:
   $ capvet unpack examples/contacts.packed | capvet vet
   message 0: accepted charge 391 depth 11 pointers 125 caps 0";
 
-/// The most words of a message, where no option says it.
+/// The default of `--size`, in words.
 const DEFAULT_SIZE: u64 = 8388608;
 
-/// The most words that a walk may be charged, where no option says it.
+/// The default of `--words`, in words.
 const DEFAULT_WORDS: u64 = 8388608;
 
-/// The deepest level of an object, where no option says it.
+/// The default of `--depth`, in levels.
 const DEFAULT_DEPTH: u32 = 64;
 
-// The option that tells of packed input.
+// The option for packed input.
 fn packed_option<'a>(alloc: Global) -> Arg<'a> {
     Arg::new(alloc, "packed")
         .long("packed")
-        .help("The messages are packed")
+        .help("The input is packed")
         .action(ArgAction::SetTrue)
 }
 
@@ -125,7 +128,7 @@ fn size_option<'a>(alloc: Global) -> Arg<'a> {
     Arg::new(alloc, "size")
         .long("size")
         .value_name("N")
-        .help("Most words of a message, all its segments together, 0 to 268435456")
+        .help("Maximum words of a message, without its table: 0 to 268435456")
         .value_parser(value_parser!(u64).range(0..=268435456))
         .default_value("8388608")
 }
@@ -135,7 +138,7 @@ fn words_option<'a>(alloc: Global) -> Arg<'a> {
     Arg::new(alloc, "words")
         .long("words")
         .value_name("N")
-        .help("Traversal limit in words, 0 to 268435456; a target reached twice counts twice")
+        .help("Maximum charge of a message in words: 0 to 268435456")
         .value_parser(value_parser!(u64).range(0..=268435456))
         .default_value("8388608")
 }
@@ -145,7 +148,7 @@ fn depth_option<'a>(alloc: Global) -> Arg<'a> {
     Arg::new(alloc, "depth")
         .long("depth")
         .value_name("N")
-        .help("Deepest level of an object, 0 to 256; the root's object has level 1")
+        .help("Maximum level of an object: 0 to 256; the root object has level 1")
         .value_parser(value_parser!(u32).range(0..=256))
         .default_value("64")
 }
@@ -154,7 +157,7 @@ fn depth_option<'a>(alloc: Global) -> Arg<'a> {
 fn exclusive_option<'a>(alloc: Global) -> Arg<'a> {
     Arg::new(alloc, "exclusive")
         .long("exclusive")
-        .help("No word may be used by two pointers")
+        .help("Refuse a message that uses a word twice")
         .action(ArgAction::SetTrue)
 }
 
@@ -162,7 +165,7 @@ fn exclusive_option<'a>(alloc: Global) -> Arg<'a> {
 fn path_argument<'a>(alloc: Global) -> Arg<'a> {
     Arg::new(alloc, "path")
         .value_name("PATH")
-        .help("Path of the node, as /p0/i3")
+        .help("Path of the node, such as /p0/i3")
         .required(true)
 }
 
@@ -170,13 +173,13 @@ fn path_argument<'a>(alloc: Global) -> Arg<'a> {
 fn file_argument<'a>(alloc: Global) -> Arg<'a> {
     Arg::new(alloc, "file")
         .value_name("FILE")
-        .help("File to read, instead of standard input")
+        .help("File to read instead of standard input")
 }
 
 // The command that shows segments.
 fn segments_command<'a>(alloc: Global) -> Result<Command<'a>, AllocError> {
     Command::new(alloc, "segments")
-        .about("Shows each message's segments, their sizes in words, and its root pointer")
+        .about("Prints the segments of each message, their sizes in words, and the root pointer")
         .after_help(SEGMENTS_NOTES)
         .arg(packed_option(alloc))?
         .arg(size_option(alloc))?
@@ -199,7 +202,7 @@ fn vet_command<'a>(alloc: Global) -> Result<Command<'a>, AllocError> {
 // The command that writes trees.
 fn dump_command<'a>(alloc: Global) -> Result<Command<'a>, AllocError> {
     Command::new(alloc, "dump")
-        .about("Writes the tree of each message that is safe to traverse")
+        .about("Prints the tree of each accepted message")
         .after_help(DUMP_NOTES)
         .arg(packed_option(alloc))?
         .arg(size_option(alloc))?
@@ -211,7 +214,7 @@ fn dump_command<'a>(alloc: Global) -> Result<Command<'a>, AllocError> {
 // The command that shows the node at a path.
 fn get_command<'a>(alloc: Global) -> Result<Command<'a>, AllocError> {
     Command::new(alloc, "get")
-        .about("Shows the node at a path in each message that is safe to traverse")
+        .about("Prints the node at a path in each accepted message")
         .after_help(GET_NOTES)
         .arg(packed_option(alloc))?
         .arg(size_option(alloc))?
@@ -264,7 +267,7 @@ fn unpack_command<'a>(alloc: Global) -> Result<Command<'a>, AllocError> {
 // The program's command, with its subcommands.
 fn capvet_command<'a>(alloc: Global) -> Result<Command<'a>, AllocError> {
     Command::new(alloc, "capvet")
-        .about("Checks Cap'n Proto messages that nobody vouches for, without their schema")
+        .about("Checks untrusted Cap'n Proto messages without a schema")
         .version(VERSION)
         .after_help(PROGRAM_NOTES)
         .subcommand_required(true)
@@ -286,7 +289,7 @@ fn usage_fault(alloc: Global, text: &str) -> JobFault {
     }
 }
 
-// What a parse that gave no matches says to the user.
+// The text for the user of a parse that gave no matches.
 fn parse_fault(alloc: Global, error: &Error) -> JobFault {
     let kind = error.kind();
     if kind == ErrorKind::OutOfMemory {
@@ -301,7 +304,7 @@ fn parse_fault(alloc: Global, error: &Error) -> JobFault {
     }
 }
 
-// The limits that the options tell, or that there are without them.
+// The limits of the options, or the default ones.
 fn limits_of(options: &ArgMatches<'_>) -> Option<Limits> {
     let words = options.get_one::<u64>("words").unwrap_or(DEFAULT_WORDS);
     let depth = options.get_one::<u32>("depth").unwrap_or(DEFAULT_DEPTH);
@@ -365,12 +368,12 @@ fn job_of(alloc: Global, task: Task, options: &ArgMatches<'_>) -> Result<Job, Jo
     })
 }
 
-/// Reads the program's words, its name first.
+/// Reads the arguments of the program, its name first.
 ///
 /// A request for help or for the version is a `Help`, and a mistake a `Usage`, each with the text
 /// for the user. A path that is none is a `Path`, with the place where it goes wrong: it is read
 /// here, before any input is opened.
-/// `Memory` comes only where a growth was refused.
+/// `Memory` comes only if an allocation failed.
 pub fn read_job(alloc: Global, words: Vec<String>) -> Result<Job, JobFault>
     ensures messages { IfOk result (λ job. job.settings.messages ≡ most_messages) }
 {
