@@ -1,5 +1,4 @@
-// A server that hands to libcapnp only what was accepted, over a socket pair whose other end is a peer that isn't to be
-// trusted.
+// A server that passes only accepted messages to libcapnp. It reads from a socket pair; the other end is an untrusted peer.
 //
 //     export PKG_CONFIG_PATH=PREFIX/lib/pkgconfig
 //     c++ -std=c++17 serve.cpp $(pkg-config --cflags --libs capvet capnp) -o serve
@@ -24,7 +23,7 @@ namespace {
 
 const capvet_limits limits = {1 << 16, 1 << 16, 64};
 
-// What has come of a message, in words, as libcapnp wants them.
+// The bytes of a message that have come, in words, as libcapnp needs them.
 class Buffer {
  public:
   const uint8_t *bytes() const { return reinterpret_cast<const uint8_t *>(words_.data()); }
@@ -33,7 +32,7 @@ class Buffer {
     return {reinterpret_cast<const capnp::word *>(words_.data()), length_ / sizeof(capnp::word)};
   }
 
-  // Reads until there are so many bytes. False where the peer ends before.
+  // Reads until there are `wanted` bytes. False if the peer ends before.
   bool fill(int socket, size_t wanted) {
     if (words_.size() * 8 < wanted) words_.resize((wanted + 7) / 8);
     while (length_ < wanted) {
@@ -51,7 +50,7 @@ class Buffer {
   size_t length_ = 0;
 };
 
-// Reads just the next message. How many bytes it needs is the peer's claim, which `limits.size` bounds.
+// Reads only the next message. Its length is a claim of the peer, and `limits.size` bounds it.
 uint32_t receive(int socket, Buffer &buffer) {
   buffer.clear();
   for (;;) {
@@ -62,12 +61,12 @@ uint32_t receive(int socket, Buffer &buffer) {
   }
 }
 
-// What the program does with a message. libcapnp sees accepted ones alone; it has limits and rules of its own, so that
-// it may still throw.
+// The work of the program on a message. libcapnp gets accepted messages only. It has limits and rules of its own, so it
+// may still throw. It charges the root and far pointers in another way, so its limits here are higher.
 void handle(const Buffer &buffer) try {
   capnp::ReaderOptions options;
-  options.traversalLimitInWords = limits.words;
-  options.nestingLimit = static_cast<int>(limits.depth);
+  options.traversalLimitInWords = 2 * limits.words + 2;
+  options.nestingLimit = static_cast<int>(limits.depth) + 1;
   capnp::FlatArrayMessageReader reader(buffer.words(), options);
   auto size = reader.getRoot<capnp::AnyPointer>().targetSize();
   std::printf("accepted, %llu words in libcapnp\n", static_cast<unsigned long long>(size.wordCount));
@@ -75,7 +74,7 @@ void handle(const Buffer &buffer) try {
   std::printf("accepted, but not by libcapnp: %s\n", fault.getDescription().cStr());
 }
 
-// Writes all, and raises no signal where the other end is closed.
+// Writes all of it, and raises no signal if the other end is closed.
 bool send_all(int socket, const char *bytes, size_t length) {
   while (length > 0) {
     ssize_t some = send(socket, bytes, length, MSG_NOSIGNAL);
