@@ -1,12 +1,12 @@
 # Completions of capvet for bash: its commands, the options of each, and files.
 
-# What may stand at the word at hand, into COMPREPLY.
+# Puts the completions of the current argument into COMPREPLY.
 _capvet() {
   local commands="segments vet dump get check canon pack unpack help"
   local current=${COMP_WORDS[COMP_CWORD]} previous=${COMP_WORDS[COMP_CWORD - 1]}
   local command="" options="" places=0 file_at=0 ended="" word at
   COMPREPLY=()
-  # The command, and how many words that aren't options stand behind it, up to the word at hand.
+  # The command, and the number of arguments after it that aren't options, up to the current one.
   for ((at = 1; at < COMP_CWORD; at++)); do
     word=${COMP_WORDS[at]}
     if [[ -z $command ]]; then
@@ -20,7 +20,7 @@ _capvet() {
       ((places++))
     fi
   done
-  # A number is the user's to say.
+  # Numbers have no completions.
   if [[ -z $ended && ($previous == --@(size|words|depth) || $previous == "=" || $current == "=") ]]; then
     return
   fi
@@ -36,14 +36,14 @@ _capvet() {
       ;;
     *) return ;;
   esac
-  # `get` has its path in front of the file.
+  # `get` has its path before the file.
   [[ $command != get ]] || file_at=1
   if [[ -z $ended && $current == -* ]]; then
     mapfile -t COMPREPLY < <(compgen -W "$options" -- "$current")
   elif [[ -z $command ]]; then
     mapfile -t COMPREPLY < <(compgen -W "$commands" -- "$current")
   elif ((places == file_at)); then
-    # (outside of a completion there is nothing to set)
+    # (it fails outside of a completion)
     compopt -o filenames 2> /dev/null
     mapfile -t COMPREPLY < <(compgen -f -- "$current")
   fi

@@ -101,7 +101,7 @@ def works(prefix):
         environment = {**os.environ, "LC_ALL": "C.UTF-8", "MANPATH": str(prefix / "share/man")}
         environment["PATH"] = f"{program.parent}:{os.environ['PATH']}"
         text, status = run(["man", "--warnings", "capvet"], env={**environment, "MANWIDTH": "200"})
-        compare("man capvet", (True, 0), ("check Cap'n Proto messages that nobody vouches for" in text, status))
+        compare("man capvet", (True, 0), ("check untrusted Cap'n Proto messages without a schema" in text, status))
         page = prefix / PAGE
         text = run(["man", "--warnings", "-l", "-Tutf8", "-Z", page], env={**environment, "MANWIDTH": "80"})
         compare("warnings of the manual page", [], [line for line in text[0].splitlines() if "warning" in line])

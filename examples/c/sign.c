@@ -1,19 +1,19 @@
-/* Signs what a message says, however it is spelled: the bytes of its canonical copy, by their SHA-256.
+/* Signs the content of a message, however it is encoded: the bytes of its canonical copy, by their SHA-256.
  *
  *     export PKG_CONFIG_PATH=PREFIX/lib/pkgconfig
  *     cc sign.c $(pkg-config --cflags --libs capvet libcrypto) -o sign
  *     openssl genpkey -algorithm EC -pkeyopt ec_paramgen_curve:P-256 -out key.pem
  *     ./sign key.pem FILE > signature
  *
- * FILE is one message and nothing else. Whoever has the public key makes the same copy, and verifies that:
+ * FILE is one message and nothing else. The owner of the public key makes the same copy, and verifies it:
  *
  *     openssl pkey -in key.pem -pubout -out public.pem
  *     capvet canon FILE | tail -c +9 | openssl dgst -sha256 -verify public.pem -signature signature
  *
- * The words don't say of which schema they are: where one key signs messages of several, sign its name in front of them.
+ * The words don't name their schema. If one key signs messages of several schemas, sign the schema's name before them.
  *
- * The status is 0 where it is signed, 1 where the message has no canonical copy, 2 for a wrong command line, and 3 where a
- * file can't be read, the key doesn't sign, or memory or the output fails. */
+ * The status is 0 if it is signed, 1 if the message has no canonical copy, and 2 for a wrong command line. It is 3 if a
+ * file can't be read, the key doesn't sign, memory runs out or the output fails. */
 #include <capvet.h>
 #include <inttypes.h>
 #include <openssl/evp.h>
@@ -47,7 +47,7 @@ static EVP_PKEY *key_of(const char *name) {
   return key;
 }
 
-/* Writes the signature of these bytes; whether that went well. */
+/* Writes the signature of these bytes, and returns whether it worked. */
 static int sign(EVP_PKEY *key, const uint8_t *bytes, size_t length) {
   EVP_MD_CTX *context = EVP_MD_CTX_new();
   unsigned char *signature = NULL;
@@ -61,14 +61,14 @@ static int sign(EVP_PKEY *key, const uint8_t *bytes, size_t length) {
   return good;
 }
 
-/* Signs the canonical copy of these bytes, and gives the status. */
+/* Signs the canonical copy of these bytes, and returns the exit status. */
 static int sign_copy(EVP_PKEY *key, const uint8_t *bytes, size_t length) {
   const capvet_limits limits = CAPVET_LIMITS_INIT;
   capvet_report report;
   size_t size;
   uint8_t none, *copy;
   int good;
-  /* Without room it tells how much the copy takes, which is never nothing. */
+  /* With capacity 0 it returns the length of the copy, which is never 0. */
   uint32_t answer = capvet_canonical(bytes, length, &limits, &none, 0, &size, &report);
   if (answer != CAPVET_NO_ROOM) {
     fprintf(stderr, "sign: no canonical copy, answer %" PRIu32 " at %" PRIu32 ":%" PRIu32 "\n", answer, report.segment,

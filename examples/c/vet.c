@@ -1,11 +1,10 @@
-/* Vets the messages of a file in process, and writes of each the line that `capvet vet` writes.
+/* Vets the messages of a file in process, and prints for each the line that `capvet vet` prints.
  *
  *     export PKG_CONFIG_PATH=PREFIX/lib/pkgconfig
  *     cc vet.c $(pkg-config --cflags --libs capvet) -o vet
  *     ./vet FILE
  *
- * The status is 0 where all are accepted, 1 where one isn't, 2 for a wrong command line, and 3 where the file can't be
- * read. */
+ * The status is 0 if all are accepted, 1 if one isn't, 2 for a wrong command line, and 3 if the file can't be read. */
 #include <capvet.h>
 #include <inttypes.h>
 #include <stdio.h>
@@ -40,7 +39,7 @@ static uint8_t *contents(const char *name, size_t *length) {
   return bytes;
 }
 
-/* Writes the line of a message that was vetted; whether it is accepted. */
+/* Prints the line of a message, and returns whether the message is accepted. */
 static int told(unsigned number, uint32_t answer, const capvet_report *report) {
   if (answer == CAPVET_OK) {
     printf("message %u: accepted charge %" PRIu64 " depth %" PRIu32 " pointers %" PRIu64 " caps %" PRIu64 "\n", number,
@@ -65,7 +64,7 @@ int main(int count, char **words) {
     capvet_report report;
     uint32_t answer = capvet_vet(bytes + at, length - at, &limits, &report);
     if (report.length == 0) {
-      /* Nothing says where a next message would begin. */
+      /* The start of the next message is unknown. */
       fprintf(stderr, "vet: message %u: no frame, answer %" PRIu32 " number %" PRIu64 "\n", number, answer, report.number);
       status = 1;
       break;

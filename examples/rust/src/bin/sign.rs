@@ -1,13 +1,13 @@
-//! Hands the canonical copy of a message to a command that hashes or signs it, so that what comes out is the same however
-//! the message is spelled.
+//! Passes the canonical copy of a message to a command that hashes or signs it. The result is the same however the message
+//! is encoded.
 //!
 //!     PKG_CONFIG_PATH=PREFIX/lib/pkgconfig cargo run --bin sign -- FILE COMMAND..
 //!
-//! as `sign FILE sha256sum`, or `sign FILE openssl dgst -sha256 -sign key.pem`. FILE is one message and nothing else.
+//! for example `sign FILE sha256sum`, or `sign FILE openssl dgst -sha256 -sign key.pem`. FILE is one message and nothing else.
 //!
-//! The words don't say of which schema they are: where one key signs messages of several, sign its name in front of them.
+//! The words don't name their schema. If one key signs messages of several schemas, sign the schema's name before them.
 //!
-//! The status is that of the command, 1 where the message has no canonical copy, 2 for a wrong command line, and 3 where
+//! The status is that of the command. It is 1 if the message has no canonical copy, 2 for a wrong command line, and 3 if
 //! the file can't be read or the command doesn't run.
 
 use capvet::Limits;
@@ -48,7 +48,7 @@ fn main() -> ExitCode {
     }
 }
 
-// The canonical copy of bytes that are one message and nothing else, or why there is none.
+// The canonical copy of bytes that are one message and nothing else, or the reason why there is none.
 fn copy_of(bytes: &[u8]) -> Result<Vec<u8>, String> {
     let copy = capvet::canonical(bytes, Limits::DEFAULT).map_err(|why| why.to_string())?;
     match capvet::frame_len(bytes, Limits::DEFAULT) {
@@ -57,13 +57,13 @@ fn copy_of(bytes: &[u8]) -> Result<Vec<u8>, String> {
     }
 }
 
-// The status of a command whose input these bytes are; 3 where a signal ended it.
+// Runs a command with these bytes as its input, and returns its status, or 3 if a signal ended it.
 fn handed(bytes: &[u8], command: &[OsString]) -> io::Result<u8> {
     let mut child = Command::new(&command[0])
         .args(&command[1..])
         .stdin(Stdio::piped())
         .spawn()?;
-    // (its input ends where the handle to it is dropped)
+    // (its input ends when the handle to it is dropped)
     let written = child.stdin.take().map(|mut input| input.write_all(bytes));
     let status = child.wait()?;
     written.unwrap_or(Ok(()))?;
