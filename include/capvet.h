@@ -47,9 +47,9 @@ extern "C" {
 /* The library is built for 64-bit machines only. */
 typedef char capvet_needs_64_bits[sizeof(size_t) == 8 ? 1 : -1];
 
-/* The result of a call. 1 to 15 are about the frame or the call, 16 to 31 about an accepted message, and
- * the numbers from 32 on are the reasons of a refusal. Numbers never change. New ones may come, so treat
- * any result except CAPVET_OK as a no.
+/* The result of a call. Numbers from 1 to 15 are about the frame or the call, and those from 16 to 31
+ * about an accepted message. Those from 32 on are the reasons of a refusal. Numbers never change. New
+ * ones may come, so treat any result except CAPVET_OK as a no.
  *
  * If more than one applies, the first in this order is returned. First CAPVET_BAD_LIMITS. Then the
  * frame: empty, fewer than 8 bytes, too many segments, the table cut, too large, the contents cut. Then

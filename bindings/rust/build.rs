@@ -36,7 +36,7 @@ fn main() {
     println!("cargo:rustc-link-lib=static=capvet");
 }
 
-// The folder that `pkg-config` tells, of a version that fits.
+// The folder that `pkg-config` names, if the version fits.
 fn installed() -> Result<PathBuf, String> {
     let program = env::var_os("PKG_CONFIG").unwrap_or_else(|| "pkg-config".into());
     let asked = |option: &str| {

@@ -6,13 +6,13 @@ use crate::{Limits, Refusal};
 use alloc::{vec, vec::Vec};
 use core::fmt;
 
-/// Why no canonical copy was made.
+/// The error of a canonical copy.
 #[derive(Clone, Copy, Debug, PartialEq, Eq, Hash)]
 #[non_exhaustive]
 pub enum NoCopy {
     /// The message isn't accepted.
     Refused(
-        /// Why.
+        /// The reason.
         Refusal,
     ),
     /// A capability is reached.
@@ -22,14 +22,14 @@ pub enum NoCopy {
         /// Its word in that segment.
         word: u32,
     },
-    /// There is less room than the copy takes.
+    /// The buffer is smaller than the copy.
     NoRoom {
-        /// How many bytes it takes.
+        /// The bytes of the copy.
         needed: usize,
     },
 }
 
-/// In the words of the program's lines, where it has one.
+/// As in the lines of the program, where it has one.
 impl fmt::Display for NoCopy {
     fn fmt(&self, f: &mut fmt::Formatter<'_>) -> fmt::Result {
         match self {
@@ -52,15 +52,21 @@ impl std::error::Error for NoCopy {
     }
 }
 
-/// Writes the canonical copy of the message that `bytes` begin with into the front of `out`, and answers how many bytes
-/// the copy has: the bytes of its words alone, without a table (encoding: Canonicalization). The same content has the same
-/// copy, so this is what to hash or sign. What stands behind it stays as it was.
+/// Writes the canonical copy of the message that `bytes` begin with to the start of `out`, and returns its length in
+/// bytes. The copy is the bytes of its words, without a table (encoding: Canonicalization). The same content has the same
+/// copy, so you can hash or sign it. The bytes of `out` after the copy are unchanged.
+///
+/// The bytes after the message are ignored: compare [`frame_len`](crate::frame_len) with their length. A copy is longer
+/// than the message only if the message shares words.
 ///
 /// # Errors
 ///
-/// [`NoCopy::Refused`] as [`vet`](crate::vet), where the message isn't accepted; else [`NoCopy::HasCapability`] where a
-/// capability is reached; else [`NoCopy::NoRoom`] where `out` is too small. That is never so with `8 * (charge + 1)` bytes,
-/// by the message's [`Report`](crate::Report). `out` is then as it was.
+/// The first of these that applies. `out` is then unchanged.
+///
+/// - [`NoCopy::Refused`]: the message isn't accepted, as by [`vet`](crate::vet).
+/// - [`NoCopy::HasCapability`]: a capability is reached.
+/// - [`NoCopy::NoRoom`]: `out` is too small. It never is with `8 * (charge + 1)` bytes, by the message's
+///   [`Report`](crate::Report).
 ///
 /// # Examples
 ///
@@ -92,11 +98,11 @@ pub fn canonical_into(bytes: &[u8], limits: Limits, out: &mut [u8]) -> Result<us
     }
 }
 
-/// The canonical copy of the message that `bytes` begin with, as [`canonical_into`] writes it.
+/// Returns the canonical copy of the message that `bytes` begin with, as [`canonical_into`] writes it.
 ///
 /// # Errors
 ///
-/// As [`canonical_into`], but for [`NoCopy::NoRoom`].
+/// The errors of [`canonical_into`], except [`NoCopy::NoRoom`].
 ///
 /// # Examples
 ///

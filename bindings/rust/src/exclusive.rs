@@ -1,4 +1,4 @@
-//! Messages of which no word is used twice.
+//! Messages that use no word twice.
 
 use crate::sys::{self, Answer};
 use crate::{Limits, Refusal, Report};
@@ -6,28 +6,28 @@ use crate::{Limits, Refusal, Report};
 use alloc::vec;
 use core::fmt;
 
-/// Why a message isn't accepted as one of which no word is used twice.
+/// The error of a message that isn't accepted as one that uses no word twice.
 #[derive(Clone, Copy, Debug, PartialEq, Eq, Hash)]
 #[non_exhaustive]
 pub enum ExclusiveError {
     /// The message isn't accepted at all.
     Refused(
-        /// Why.
+        /// The reason.
         Refusal,
     ),
-    /// The message is accepted, and a word of it is used twice.
+    /// The message is accepted, and it uses a word twice.
     Overlap {
-        /// The segment of the first pointer in preorder that uses a word which is used already: by itself, by an earlier
-        /// pointer, or by the root.
+        /// The segment of the first pointer in preorder that uses a word which is already in use: the root word, a word of
+        /// the same pointer, or a word of an earlier one.
         segment: u32,
         /// Its word in that segment.
         word: u32,
-        /// How many pointers were looked at, that one included.
+        /// The number of pointers that were looked at, this one included.
         pointers: u64,
     },
-    /// The message is accepted, and there is less room than the marks take, so that no more is known.
+    /// The message is accepted, and the buffer for the marks is too small, so no more is known.
     NoRoom {
-        /// How many numbers they take.
+        /// The count of numbers that the marks need.
         needed: usize,
     },
 }
@@ -38,7 +38,7 @@ impl From<Refusal> for ExclusiveError {
     }
 }
 
-/// In the words of the program's lines, where it has one.
+/// As in the lines of the program, where it has one.
 impl fmt::Display for ExclusiveError {
     fn fmt(&self, f: &mut fmt::Formatter<'_>) -> fmt::Result {
         match self {
@@ -65,18 +65,22 @@ impl std::error::Error for ExclusiveError {
     }
 }
 
-/// Vets the message that `bytes` begin with, as [`vet`](crate::vet) does, and accepts it where also no word of it is used
-/// twice: the root word, the landing pads of each pointer that a path reaches and the words of each object are all
-/// distinct. An object without words uses none. The charge is then less than the words of all segments, but for elements of
-/// lists that take no bits or no words.
+/// Vets the message that `bytes` begin with, as [`vet`](crate::vet) does, and also refuses one that uses a word twice.
+/// Otherwise the root word, the landing pads of each pointer that a path reaches, and the words of each object are all
+/// distinct. An object without words uses none. The charge is then less than the words of all segments, apart from elements
+/// of lists that have no bits or no words.
 ///
-/// A bit for each word is marked in `marks`, which may hold anything before. The marks take the words of all segments / 64
-/// + 1 numbers; `frame / 512 + 1` always serve, by [`frame_len`](crate::frame_len). What stands behind them stays as it was.
+/// `marks` holds one bit for each word, and may hold anything before. The call needs the words of all segments / 64 + 1
+/// numbers. `frame / 512 + 1` are always enough, with the frame's length of [`frame_len`](crate::frame_len). The numbers
+/// after those that it needs are unchanged.
 ///
 /// # Errors
 ///
-/// [`ExclusiveError::Refused`] as [`vet`](crate::vet), where the message isn't accepted; else [`ExclusiveError::NoRoom`]
-/// where `marks` is too small; `marks` is as it was after both. Else [`ExclusiveError::Overlap`] where a word is used twice.
+/// The first of these that applies.
+///
+/// - [`ExclusiveError::Refused`]: the message isn't accepted, as by [`vet`](crate::vet). `marks` is unchanged.
+/// - [`ExclusiveError::NoRoom`]: `marks` is too small. It is unchanged.
+/// - [`ExclusiveError::Overlap`]: a word is used twice.
 ///
 /// # Examples
 ///
@@ -118,12 +122,12 @@ pub fn vet_exclusive(
     }
 }
 
-/// Vets the message that `bytes` begin with, as [`vet_exclusive`] does, with the marks in a vector of its own: at most a bit
-/// for each word of the frame, and 64 more.
+/// Vets the message that `bytes` begin with, as [`vet_exclusive`] does. It allocates the marks: at most one bit for each
+/// word of the frame, and 64 more.
 ///
 /// # Errors
 ///
-/// As [`vet_exclusive`], but for [`ExclusiveError::NoRoom`].
+/// The errors of [`vet_exclusive`], except [`ExclusiveError::NoRoom`].
 ///
 /// # Examples
 ///

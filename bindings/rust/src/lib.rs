@@ -1,10 +1,8 @@
-//! Vets Cap'n Proto messages that come from elsewhere: tells of bytes that nobody vouches for whether the message in
-//! them is safe to traverse, without its schema, before a reader of the message touches it.
+//! Checks untrusted Cap'n Proto messages without a schema, before a reader touches them.
 //!
-//! This is safe Rust over `libcapvet.a`, a library that is proved: a message is accepted exactly where its root denotes
-//! a finite tree that lies inside the message's segments and keeps to the limits. It takes no memory, keeps nothing
-//! between calls, and may be called from any thread. What is proved is the library; the few lines of this crate that
-//! call it are not.
+//! This is safe Rust over `libcapvet.a`. The library is proved: it accepts a message exactly if its root denotes a finite
+//! tree that lies inside the message's segments and is within the limits. It allocates nothing, keeps no state between
+//! calls, and may be called from any thread. The few lines of this crate that call it are not proved.
 //!
 //! # A message from a peer
 //!
@@ -14,7 +12,7 @@
 //! // One segment of one word, which is the null pointer.
 //! let received = [0, 0, 0, 0, 1, 0, 0, 0, 0, 0, 0, 0, 0, 0, 0, 0];
 //! let report = capvet::vet(&received, Limits::DEFAULT)?;
-//! // The message is in front of the bytes; here it has to be all of them.
+//! // The message is at the start of the bytes. Here it has to be all of them.
 //! assert_eq!(report.frame, received.len());
 //! assert_eq!(report.pointers, 1);
 //! # Ok::<(), capvet::Refusal>(())
@@ -22,21 +20,23 @@
 //!
 //! # Bytes that change
 //!
-//! A verdict is about the bytes as they were during the call. A `&[u8]` promises that nobody writes them meanwhile, but
-//! not that nobody writes them afterwards: of memory or a file that a peer can write too, take a copy, vet the copy and
+//! A verdict is about the bytes as they were during the call. A `&[u8]` promises that nobody writes them during the call,
+//! but not that nobody writes them afterwards. If a peer can write the memory or the file, take a copy, vet the copy and
 //! read the copy.
 //!
 //! # Words and places
 //!
-//! A word is eight bytes. A place is a segment's number and a word in it, both from 0. The format is that of Cap'n
-//! Proto's public encoding specification, where a message is framed as for a stream.
+//! A word is eight bytes. A place is the number of a segment and a word in it, both from 0. The format is that of Cap'n
+//! Proto's public encoding specification; a message is framed as in a stream.
 //!
 //! # Linking
 //!
-//! The archive is looked for in `CAPVET_LIB_DIR`, and else where `pkg-config` says that `capvet` is installed. With the
-//! feature `std`, which is on by default, the faults are [`std::error::Error`]s; without it the crate is `no_std`. The
-//! feature `alloc`, which is part of `std`, has the calls that return a `Vec`, or that make one for marks. No other call
-//! takes memory.
+//! The library is taken from the folder `CAPVET_LIB_DIR`, and otherwise from the place that `pkg-config` names. It needs
+//! an x86-64 processor with SSE4.1, SSSE3 and POPCNT (x86-64-v2).
+//!
+//! With the feature `std`, which is on by default, the errors are [`std::error::Error`]s; without it the crate is `no_std`.
+//! The feature `alloc`, which is part of `std`, has the calls that return a `Vec`, and `vet_exclusive_alloc`. No other
+//! call allocates.
 
 #![cfg_attr(not(any(feature = "std", test)), no_std)]
 #![deny(unsafe_code, missing_docs, missing_debug_implementations)]
@@ -81,14 +81,15 @@ use sys::Answer;
 
 /// Vets the message that `bytes` begin with.
 ///
-/// Accepted is exactly a message whose root denotes a finite tree that lies inside its segments and keeps to the limits
-/// (encoding: Security Considerations). What stands behind the message isn't looked at: where the bytes have to be one
-/// message and nothing else, compare [`Report::frame`] with their length.
+/// It accepts a message exactly if the root denotes a finite tree that lies inside the segments and is within the limits
+/// (encoding: Security Considerations). The bytes after the message are ignored. If the bytes should be one message and
+/// nothing else, compare [`Report::frame`] with their length.
 ///
 /// # Errors
 ///
-/// [`Refusal::Pointer`] where the message is refused, with the first pointer in preorder at which anything is wrong or a
-/// limit is passed. Any other [`Refusal`] where no front of the bytes frames a message within the limits.
+/// - [`Refusal::Pointer`]: the message is refused. It names the first pointer in preorder at which anything is wrong or a
+///   limit is exceeded.
+/// - Any other [`Refusal`]: the bytes don't begin with a frame within the limits.
 ///
 /// # Examples
 ///
@@ -109,12 +110,13 @@ pub fn vet(bytes: &[u8], limits: Limits) -> Result<Report, Refusal> {
     }
 }
 
-/// Whether the message that `bytes` begin with is its own canonical copy: whether it has one segment, of just the words
-/// of its canonical form (encoding: Canonicalization). A message with a capability isn't.
+/// Checks that the message that `bytes` begin with is canonical: it has one segment, and this segment is its canonical
+/// form (encoding: Canonicalization). A message with a capability is not. The bytes after the message are ignored: compare
+/// [`frame_len`] with their length.
 ///
 /// # Errors
 ///
-/// As [`vet`], where the message isn't accepted.
+/// The errors of [`vet`], if the message isn't accepted.
 ///
 /// # Examples
 ///
@@ -136,13 +138,13 @@ pub fn is_canonical(bytes: &[u8], limits: Limits) -> Result<bool, Refusal> {
     }
 }
 
-/// How many bytes the frame takes that `bytes` begin with, its table with it. Only the table is read, and nothing is
-/// vetted; of the limits only [`Limits::size`] matters.
+/// Returns the length in bytes of the frame that `bytes` begin with, its table included. It reads only the table, and
+/// vets nothing. Only the limit [`Limits::size`] matters.
 ///
 /// # Errors
 ///
-/// A [`Refusal`] other than [`Refusal::Pointer`], where no front of the bytes frames a message within the limits. Who
-/// reads a message from a connection calls this again with more bytes, as long as it answers [`Refusal::Empty`] or
+/// A [`Refusal`] other than [`Refusal::Pointer`], if the bytes don't begin with a frame within the limits. To read a
+/// message from a connection, call it again with more bytes while the error is [`Refusal::Empty`] or
 /// [`Refusal::Truncated`].
 ///
 /// # Examples
@@ -163,7 +165,7 @@ pub fn frame_len(bytes: &[u8], limits: Limits) -> Result<usize, Refusal> {
     }
 }
 
-/// The version of the archive that is linked, major and minor. Within a major one nothing is taken away or changed.
+/// Returns the version of the linked library, major and minor. Within a major version nothing is removed or changed.
 ///
 /// # Examples
 ///

@@ -1,6 +1,6 @@
 //! The limits of a call.
 
-/// What a message may be at most. A value is always within [`MOST_WORDS`](Limits::MOST_WORDS) and
+/// Limits on a message. A value is always within [`MOST_WORDS`](Limits::MOST_WORDS) and
 /// [`MOST_DEPTH`](Limits::MOST_DEPTH).
 ///
 /// # Examples
@@ -20,7 +20,7 @@ pub struct Limits {
 }
 
 impl Limits {
-    /// The greatest limit on words, of a message and of its charge.
+    /// The greatest limit on the words of a message, and on its charge.
     pub const MOST_WORDS: u64 = 268_435_456;
 
     /// The greatest limit on levels.
@@ -33,9 +33,11 @@ impl Limits {
         depth: 64,
     };
 
-    /// Limits on the words of a message without its table, on the words that a traversal of it is charged, where a
-    /// target that is reached twice counts twice, and on the levels of its objects, the root's being 1. `None` where one
-    /// is past the greatest.
+    /// Returns limits, or `None` if one is above the greatest.
+    ///
+    /// - `size`: the words of a message, without its table.
+    /// - `words`: the charge, that is the words that a full traversal reads; a target that is reached twice counts twice.
+    /// - `depth`: the level of an object; the root object has level 1.
     #[must_use]
     pub const fn new(size: u64, words: u64, depth: u32) -> Option<Self> {
         if size > Self::MOST_WORDS || words > Self::MOST_WORDS || depth > Self::MOST_DEPTH {
@@ -45,37 +47,37 @@ impl Limits {
         }
     }
 
-    /// The same with another limit on the words of a message, or `None` where that is past the greatest.
+    /// Returns the same limits with another `size`, or `None` if it is above the greatest.
     #[must_use]
     pub const fn with_size(self, size: u64) -> Option<Self> {
         Self::new(size, self.words, self.depth)
     }
 
-    /// The same with another limit on the charge, or `None` where that is past the greatest.
+    /// Returns the same limits with another `words`, or `None` if it is above the greatest.
     #[must_use]
     pub const fn with_words(self, words: u64) -> Option<Self> {
         Self::new(self.size, words, self.depth)
     }
 
-    /// The same with another limit on the levels, or `None` where that is past the greatest.
+    /// Returns the same limits with another `depth`, or `None` if it is above the greatest.
     #[must_use]
     pub const fn with_depth(self, depth: u32) -> Option<Self> {
         Self::new(self.size, self.words, depth)
     }
 
-    /// Most words of a message, its table not counted.
+    /// The maximum words of a message, without its table.
     #[must_use]
     pub const fn size(&self) -> u64 {
         self.size
     }
 
-    /// Most words that a traversal is charged.
+    /// The maximum charge of a message, in words.
     #[must_use]
     pub const fn words(&self) -> u64 {
         self.words
     }
 
-    /// Most levels of objects.
+    /// The maximum level of an object.
     #[must_use]
     pub const fn depth(&self) -> u32 {
         self.depth

@@ -1,4 +1,4 @@
-//! The messages of a stream that is in one buffer.
+//! The messages of a stream in one buffer.
 
 use crate::sys::{self, Answer};
 use crate::{Limits, Refusal, Report};
@@ -12,20 +12,20 @@ pub struct Message<'b> {
 }
 
 impl<'b> Message<'b> {
-    /// Exactly the bytes of its frame.
+    /// The bytes of its frame.
     #[must_use]
     pub const fn bytes(&self) -> &'b [u8] {
         self.bytes
     }
 
-    /// What it is.
+    /// The numbers of its tree.
     #[must_use]
     pub const fn report(&self) -> &Report {
         &self.report
     }
 }
 
-/// Goes over the messages of a stream, as [`messages`] says.
+/// An iterator over the messages of a stream; see [`messages`].
 #[derive(Clone, Debug)]
 #[must_use = "an iterator vets nothing before it is asked"]
 pub struct Messages<'b> {
@@ -34,11 +34,11 @@ pub struct Messages<'b> {
     is_over: bool,
 }
 
-/// The messages that stand one behind the other in `bytes`, each vetted as it is reached.
+/// Returns an iterator over the messages in `bytes`, one after the other. It vets each message as it reaches it.
 ///
-/// A message that is refused is told as a [`Refusal::Pointer`], and the next one follows. Any other [`Refusal`] says that
-/// the bytes behind the messages so far frame none within the limits, and is the last item. Where the bytes end between
-/// two messages there are no more items, and no fault: so of no bytes there is none.
+/// A refused message gives a [`Refusal::Pointer`], and the iterator goes on. With any other [`Refusal`] the rest of the
+/// bytes doesn't begin with a frame within the limits, and this is the last item. If the bytes end between two messages,
+/// the iterator ends without an error. So for no bytes there is no item.
 ///
 /// # Examples
 ///
@@ -53,7 +53,7 @@ pub struct Messages<'b> {
 /// assert_eq!(messages.next().unwrap()?.bytes(), null);
 /// assert!(matches!(messages.next(), Some(Err(Refusal::Pointer { .. }))));
 /// assert_eq!(messages.next().unwrap()?.report().pointers, 1);
-/// // What has come of a fourth message; a reader of a connection keeps it, and goes on with more bytes.
+/// // A part of a fourth message: keep it, and go on with more bytes from the connection.
 /// assert_eq!(messages.next(), Some(Err(Refusal::Truncated { wanted: 16 })));
 /// assert_eq!(messages.rest(), &null[..10]);
 /// assert_eq!(messages.next(), None);
@@ -68,7 +68,7 @@ pub const fn messages(bytes: &[u8], limits: Limits) -> Messages<'_> {
 }
 
 impl<'b> Messages<'b> {
-    /// The bytes behind the messages so far, refused ones too.
+    /// The bytes after the messages so far, refused ones included.
     #[must_use]
     pub const fn rest(&self) -> &'b [u8] {
         self.rest
@@ -84,7 +84,7 @@ impl<'b> Iterator for Messages<'b> {
         }
         let (answer, told) = sys::vet(self.rest, &self.limits);
         let frame = told.frame();
-        // (without a frame there is nothing to go on behind)
+        // (without a frame the start of the next message is unknown)
         self.is_over = frame == 0;
         let (bytes, rest) = self.rest.split_at(frame);
         self.rest = rest;

@@ -1,24 +1,24 @@
-//! Packed texts, between buffers.
+//! Unpacks packed bytes, from one buffer into another.
 
 use crate::sys::{self, Answer};
 #[cfg(feature = "alloc")]
 use alloc::{vec, vec::Vec};
 use core::fmt;
 
-/// Why a packed text isn't unpacked.
+/// The error of unpacking.
 #[derive(Clone, Copy, Debug, PartialEq, Eq, Hash)]
 #[non_exhaustive]
 pub enum UnpackError {
-    /// The text ends inside a group.
+    /// The packed bytes end inside a group.
     Truncated,
-    /// The words take more bytes than the caller allows.
+    /// The words have more bytes than the caller allows.
     NoRoom {
-        /// How many they take.
+        /// Their number.
         needed: usize,
     },
-    /// The text has more than 2^53 bytes.
+    /// There are more than 2^53 packed bytes.
     TooLarge,
-    /// An answer of a later archive that this crate doesn't know. Nothing is unpacked.
+    /// A result of a later library that this crate doesn't know. Nothing is unpacked.
     Other(
         /// The number.
         u32,
@@ -26,7 +26,7 @@ pub enum UnpackError {
 }
 
 impl UnpackError {
-    // What an answer other than that of unpacked words says.
+    // The error of an answer other than that of unpacked words.
     fn of(answer: Answer, written: usize) -> Self {
         match answer {
             Answer::TRUNCATED => Self::Truncated,
@@ -51,15 +51,16 @@ impl fmt::Display for UnpackError {
 #[cfg(feature = "std")]
 impl std::error::Error for UnpackError {}
 
-/// Unpacks the whole of a packed text (encoding: Packing): the bytes of the words that it stands for, which need be no
-/// message.
+/// Unpacks all of `packed` (encoding: Packing), and returns the bytes of its words, which need be no message.
 ///
-/// Two bytes of a text may stand for 2 KiB. So the length of the words is asked for first, and where it is above `most`
-/// no memory is taken.
+/// Two packed bytes may encode 2 KiB. So the call computes the length of the words first, and allocates nothing if it is
+/// above `most` bytes.
 ///
 /// # Errors
 ///
-/// An [`UnpackError`], where the text isn't whole, or its words take more than `most` bytes.
+/// - [`UnpackError::TooLarge`]: there are more than 2^53 packed bytes.
+/// - [`UnpackError::Truncated`]: they end inside a group.
+/// - [`UnpackError::NoRoom`]: the words have more than `most` bytes.
 ///
 /// # Examples
 ///
@@ -67,7 +68,7 @@ impl std::error::Error for UnpackError {}
 /// use capvet::{Limits, UnpackError};
 ///
 /// let received = [0x10, 1, 0, 0];
-/// // So many bytes has a message at most that is within the limits, with its table.
+/// // The greatest length in bytes of a message within the limits, table included.
 /// let most = 8 * Limits::DEFAULT.size() as usize + 2056;
 /// let message = capvet::unpack(&received, most)?;
 /// assert_eq!(message, [0, 0, 0, 0, 1, 0, 0, 0, 0, 0, 0, 0, 0, 0, 0, 0]);
@@ -88,11 +89,11 @@ pub fn unpack(packed: &[u8], most: usize) -> Result<Vec<u8>, UnpackError> {
     Ok(words)
 }
 
-/// Unpacks the whole of a packed text into the front of `out`, and tells how many bytes that has. It takes no memory.
+/// Unpacks all of `packed` to the start of `out`, and returns the length of the words in bytes. It allocates nothing.
 ///
 /// # Errors
 ///
-/// An [`UnpackError`], where the text isn't whole, or `out` is too short for its words: then `out` is as it was.
+/// The errors of `unpack`, with [`UnpackError::NoRoom`] if `out` is too short. `out` is then unchanged.
 ///
 /// # Examples
 ///
@@ -103,7 +104,7 @@ pub fn unpack(packed: &[u8], most: usize) -> Result<Vec<u8>, UnpackError> {
 /// assert_eq!(capvet::unpack_into(&[0x10, 1, 0, 0], &mut out), Ok(16));
 /// assert_eq!(out[..16], [0, 0, 0, 0, 1, 0, 0, 0, 0, 0, 0, 0, 0, 0, 0, 0]);
 /// assert_eq!(out[16..], [7; 8]);
-/// // No room at all asks for the length.
+/// // An empty buffer returns the length.
 /// assert_eq!(capvet::unpack_into(&[0, 255], &mut []), Err(UnpackError::NoRoom { needed: 2048 }));
 /// ```
 pub fn unpack_into(packed: &[u8], out: &mut [u8]) -> Result<usize, UnpackError> {
@@ -143,7 +144,7 @@ mod tests {
                 }
                 fault => {
                     assert_eq!(fault, Err(UnpackError::Truncated));
-                    // (which is told whatever the room)
+                    // (whatever the capacity)
                     assert_eq!(unpack(&PACKED[..length], 0), fault);
                     cut += 1;
                 }

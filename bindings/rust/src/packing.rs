@@ -1,22 +1,22 @@
-//! Words that are packed, between buffers.
+//! Packs words, from one buffer into another.
 
 use crate::sys::{self, Answer};
 #[cfg(feature = "alloc")]
 use alloc::{vec, vec::Vec};
 use core::fmt;
 
-/// Why words aren't packed.
+/// The error of packing.
 #[derive(Clone, Copy, Debug, PartialEq, Eq, Hash)]
 #[non_exhaustive]
 pub enum PackError {
     /// The bytes end inside a word.
     Truncated,
-    /// The packed text is longer than the room.
+    /// The packed bytes are longer than the buffer.
     NoRoom {
-        /// How many bytes it takes.
+        /// Their number.
         needed: usize,
     },
-    /// An answer of a later archive that this crate doesn't know. Nothing is packed.
+    /// A result of a later library that this crate doesn't know. Nothing is packed.
     Other(
         /// The number.
         u32,
@@ -24,7 +24,7 @@ pub enum PackError {
 }
 
 impl PackError {
-    // What an answer other than that of packed words says.
+    // The error of an answer other than that of packed words.
     fn of(answer: Answer, written: usize) -> Self {
         match answer {
             Answer::TRUNCATED => Self::Truncated,
@@ -47,13 +47,13 @@ impl fmt::Display for PackError {
 #[cfg(feature = "std")]
 impl std::error::Error for PackError {}
 
-/// Packs the words that the bytes are, eight bytes a word, which need be no message (encoding: Packing).
+/// Packs words of eight bytes, which need be no message (encoding: Packing), and returns the packed bytes.
 ///
-/// A packed text has at most ten bytes for each word.
+/// They are at most ten for each word.
 ///
 /// # Errors
 ///
-/// A [`PackError`], where the bytes end inside a word.
+/// [`PackError::Truncated`]: the bytes end inside a word.
 ///
 /// # Examples
 ///
@@ -76,11 +76,14 @@ pub fn pack(words: &[u8]) -> Result<Vec<u8>, PackError> {
     Ok(packed)
 }
 
-/// Packs the words that the bytes are into the front of `out`, and tells how many bytes the text has. It takes no memory.
+/// Packs words to the start of `out`, and returns the length of the packed bytes. It allocates nothing.
 ///
 /// # Errors
 ///
-/// A [`PackError`], where the bytes end inside a word, or `out` is too short for the text: then `out` is as it was.
+/// `out` is then unchanged.
+///
+/// - [`PackError::Truncated`]: the bytes end inside a word.
+/// - [`PackError::NoRoom`]: `out` is too short.
 ///
 /// # Examples
 ///
@@ -90,7 +93,7 @@ pub fn pack(words: &[u8]) -> Result<Vec<u8>, PackError> {
 /// let mut out = [7; 6];
 /// assert_eq!(capvet::pack_into(&[0; 2048], &mut out), Ok(2));
 /// assert_eq!(out, [0, 255, 7, 7, 7, 7]);
-/// // No room at all asks for the length.
+/// // An empty buffer returns the length.
 /// assert_eq!(capvet::pack_into(&[1; 8], &mut []), Err(PackError::NoRoom { needed: 10 }));
 /// ```
 pub fn pack_into(words: &[u8], out: &mut [u8]) -> Result<usize, PackError> {

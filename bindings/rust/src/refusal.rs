@@ -1,37 +1,37 @@
-//! Why a message isn't accepted.
+//! The reasons why a message isn't accepted.
 
 use crate::sys::{Answer, Told};
 use core::fmt;
 
-/// What is wrong at a pointer, by the names of the program's lines.
+/// The reason of a refusal, by its name in the lines of the program.
 #[derive(Clone, Copy, Debug, PartialEq, Eq, Hash)]
 #[non_exhaustive]
 pub enum Reason {
     /// The first segment has no words.
     NoRoot,
-    /// The pointer, or its landing pad, is of a kind that the format leaves for later.
+    /// The pointer, or its landing pad, has a kind that the format reserves.
     Reserved,
     /// A far pointer names a segment that the message doesn't have.
     SegmentMissing,
-    /// The landing pad isn't all inside its segment.
+    /// The landing pad is not all inside its segment.
     PadOutside,
     /// A landing pad of one word is a far pointer.
     PadIsFar,
     /// A landing pad of two words doesn't begin with a far pointer to one word.
     PadNotFar,
-    /// The tag of a landing pad of two words is neither a struct's nor a list's.
+    /// The tag of a two-word landing pad is neither a struct pointer nor a list pointer.
     TagKind,
-    /// That tag has an offset.
+    /// This tag has an offset.
     TagOffset,
-    /// The target isn't all inside its segment.
+    /// The target is not all inside its segment.
     OutOfSegment,
-    /// The tag of a list of structs isn't a struct's.
+    /// The tag of a list of structs is not a struct pointer.
     CompositeTag,
     /// The elements of a list of structs take more words than the list has.
     CompositeOverrun,
     /// The pointer leads deeper than the limit. Pointers that lead in a circle are refused so, or as `WordLimit`.
     DepthLimit,
-    /// The charge up to the pointer is higher than the limit.
+    /// The charge up to this pointer is more than the limit.
     WordLimit,
 }
 
@@ -53,13 +53,13 @@ impl Reason {
         Self::WordLimit,
     ];
 
-    // The reason that an answer tells, if it is one of a refused message.
+    // The reason of an answer, if it is that of a refused message.
     fn of(answer: Answer) -> Option<Self> {
         let at = answer.0.checked_sub(Answer::FIRST_REASON)?;
         Self::ALL.get(at as usize).copied()
     }
 
-    /// The name, as the program writes it: that of the variant.
+    /// The name that the program prints, which is that of the variant.
     #[must_use]
     pub const fn name(self) -> &'static str {
         match self {
@@ -86,40 +86,41 @@ impl fmt::Display for Reason {
     }
 }
 
-/// Why a message isn't accepted: no front of the bytes frames one within the limits, or it is refused at a pointer.
+/// The error of a message that isn't accepted: the bytes don't begin with a frame within the limits, or the message is
+/// refused at a pointer.
 #[derive(Clone, Copy, Debug, PartialEq, Eq, Hash)]
 #[non_exhaustive]
 pub enum Refusal {
-    /// There are no bytes: where a stream ends.
+    /// There are no bytes, as at the end of a stream.
     Empty,
-    /// The table tells more than 512 segments.
+    /// The segment table says more than 512 segments.
     TooManySegments {
-        /// How many.
+        /// Their number.
         count: u64,
     },
-    /// The segments have together more words than [`Limits::size`](crate::Limits::size).
+    /// The segments together have more words than [`Limits::size`](crate::Limits::size).
     TooLarge {
-        /// How many.
+        /// Their number.
         words: u64,
     },
     /// The bytes end inside the frame.
     Truncated {
-        /// How many bytes there must be at least for a call to tell more: 8, then those of the table, then those of the
-        /// whole frame. This is the sender's claim, at most `8 * size + 2056`.
+        /// The number of bytes that the next call needs at least: 8, then those of the table, then those of the whole
+        /// frame. It is a claim of the sender, at most `8 * size + 2056`.
         wanted: usize,
     },
     /// The message is refused.
     Pointer {
         /// The first reason that applies at the pointer.
         reason: Reason,
-        /// The segment of the first pointer in preorder at which anything is wrong, or a limit is passed.
+        /// The segment of the first pointer in preorder at which anything is wrong, or a limit is exceeded.
         segment: u32,
         /// Its word in that segment.
         word: u32,
-        /// How many pointers were looked at, that one included.
+        /// The number of pointers that were looked at, this one included.
         pointers: u64,
     },
-    /// An answer of a later archive that this crate doesn't know. It is never an acceptance.
+    /// A result of a later library that this crate doesn't know. It is never an acceptance.
     Other(
         /// The number.
         u32,
@@ -127,7 +128,7 @@ pub enum Refusal {
 }
 
 impl Refusal {
-    // What an answer other than that of an accepted message says.
+    // The refusal of an answer other than that of an accepted message.
     pub(crate) fn of(answer: Answer, told: &Told) -> Self {
         match answer {
             Answer::NO_MESSAGE => Self::Empty,
@@ -149,7 +150,7 @@ impl Refusal {
     }
 }
 
-/// In the words of the program's lines, where it has one.
+/// As in the lines of the program, where it has one.
 impl fmt::Display for Refusal {
     fn fmt(&self, f: &mut fmt::Formatter<'_>) -> fmt::Result {
         match self {

@@ -1,31 +1,31 @@
-//! What is told of an accepted message.
+//! The report of an accepted message.
 
 use crate::sys::Told;
 use core::fmt;
 
-/// What an accepted message is.
+/// The numbers of an accepted message.
 #[derive(Clone, Copy, Debug, PartialEq, Eq, Hash)]
 #[non_exhaustive]
 pub struct Report {
-    /// How many bytes its frame takes, the table with it.
+    /// The bytes of its frame, table included.
     pub frame: usize,
-    /// How many segments it has.
+    /// The number of its segments.
     pub segments: u32,
-    /// How many words a traversal reads, those of landing pads included; a target that two pointers share is read twice,
-    /// and a list's element of no size counts as one.
+    /// The words that a full traversal reads. A target that two pointers share counts twice, landing pads count, and a list
+    /// element without bits or words counts as one.
     pub charge: u64,
-    /// The deepest level of an object, the root's being 1; 0 where there is none.
+    /// The deepest level of an object. The root object has level 1; a null root gives 0.
     pub depth: u32,
-    /// How many pointers it has, null ones too.
+    /// The number of pointers, null ones included.
     pub pointers: u64,
-    /// How many capabilities.
+    /// The number of capabilities.
     pub caps: u64,
-    /// Segment and word of the first capability in preorder, where there is one.
+    /// The segment and word of the first capability in preorder, if there is one.
     pub first_cap: Option<(u32, u32)>,
 }
 
 impl Report {
-    // What a call told of an accepted message.
+    // The report of a call on an accepted message.
     pub(crate) fn of(told: &Told) -> Self {
         Self {
             frame: told.frame(),
@@ -43,7 +43,7 @@ impl Report {
     }
 }
 
-/// The line of `capvet vet`, from its verdict on.
+/// The line of `capvet vet` after `message N: `.
 impl fmt::Display for Report {
     fn fmt(&self, f: &mut fmt::Formatter<'_>) -> fmt::Result {
         let Self {

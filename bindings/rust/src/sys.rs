@@ -1,8 +1,8 @@
-//! The calls of the archive, as `include/capvet.h` declares them. The only file with `unsafe`.
+//! The calls of the library, as `include/capvet.h` declares them. This is the only file with `unsafe`.
 
 use crate::Limits;
 
-/// What a call answers, by the numbers of the header.
+/// The result of a call, by the numbers of the header.
 #[derive(Clone, Copy, Debug, PartialEq, Eq)]
 #[repr(transparent)]
 pub(crate) struct Answer(pub(crate) u32);
@@ -56,7 +56,7 @@ pub(crate) struct Told {
 }
 
 impl Told {
-    /// How many bytes the frame takes. (The archive is built for 64-bit machines alone.)
+    /// The length of the frame in bytes. (The library is built for 64-bit machines only.)
     pub(crate) const fn frame(&self) -> usize {
         self.length as usize
     }
@@ -116,7 +116,7 @@ extern "C" {
     fn capvet_version() -> u32;
 }
 
-// The address of a slice's first byte, or of some byte for an empty one: the header asks for that of a byte of ours.
+// The address of a slice's first byte, or of a byte of ours for an empty slice, as the header asks.
 fn address(bytes: &[u8]) -> *const u8 {
     if bytes.is_empty() {
         static NONE: u8 = 0;
@@ -129,8 +129,8 @@ fn address(bytes: &[u8]) -> *const u8 {
 /// The length of the frame that the bytes begin with.
 pub(crate) fn frame(bytes: &[u8], limits: &Limits) -> (Answer, Told) {
     let (limits, mut told) = (RawLimits::of(limits), Told::default());
-    // SAFETY: the declaration is the header's; the address and length are those of a slice that is borrowed for the call,
-    // or 0 bytes at one of ours; the limits are borrowed too, and the report is this frame's alone and nobody else's.
+    // SAFETY: the declaration is the header's. The address and length are those of a slice that is borrowed for the call,
+    // or 0 bytes at a byte of ours. The limits are borrowed too, and the report is a local of this function.
     let answer = unsafe { capvet_frame(address(bytes), bytes.len(), &limits, &mut told) };
     (answer, told)
 }
@@ -143,8 +143,8 @@ pub(crate) fn vet(bytes: &[u8], limits: &Limits) -> (Answer, Told) {
     (answer, told)
 }
 
-/// The verdict of the message that the bytes begin with, of which no word may be used twice, and how many numbers the marks
-/// take.
+/// The verdict of the message that the bytes begin with, which may use no word twice, and the count of numbers that the
+/// marks need.
 pub(crate) fn vet_exclusive(
     bytes: &[u8],
     limits: &Limits,
@@ -157,8 +157,7 @@ pub(crate) fn vet_exclusive(
     } else {
         marks.as_mut_ptr()
     };
-    // SAFETY: as in `frame`; and `marks` is borrowed for the call and for nobody else, or is 0 numbers at one of this
-    // frame's, whose own that of those that are needed is too.
+    // SAFETY: as in `frame`. `marks` is borrowed mutably for the call, or is 0 numbers at a local. `needed` is a local.
     let answer = unsafe {
         capvet_vet_exclusive(
             address(bytes),
@@ -181,7 +180,7 @@ pub(crate) fn is_canonical(bytes: &[u8], limits: &Limits) -> (Answer, Told) {
     (answer, told)
 }
 
-/// Packs the words into the front of `out`, and tells the bytes that their packed text takes.
+/// Packs the words to the start of `out`, and returns the length of the packed bytes.
 pub(crate) fn pack(words: &[u8], out: &mut [u8]) -> (Answer, usize) {
     let (mut none, mut written) = (0, 0);
     let room = out.len();
@@ -190,12 +189,13 @@ pub(crate) fn pack(words: &[u8], out: &mut [u8]) -> (Answer, usize) {
     } else {
         out.as_mut_ptr()
     };
-    // SAFETY: as in `unpack`, whose arguments these are but for the words, which are passed as in `frame`.
+    // SAFETY: the declaration is the header's. The words are passed as in `frame`. `out` is borrowed mutably for the call,
+    // or is 0 bytes at a local. `written` is a local.
     let answer = unsafe { capvet_pack(address(words), words.len(), out, room, &mut written) };
     (answer, written)
 }
 
-/// Unpacks the whole of a packed text into the front of `out`, and tells the bytes that its words take.
+/// Unpacks all the packed bytes to the start of `out`, and returns the length of the words in bytes.
 pub(crate) fn unpack(packed: &[u8], out: &mut [u8]) -> (Answer, usize) {
     let (mut none, mut written) = (0, 0);
     let room = out.len();
@@ -204,13 +204,13 @@ pub(crate) fn unpack(packed: &[u8], out: &mut [u8]) -> (Answer, usize) {
     } else {
         out.as_mut_ptr()
     };
-    // SAFETY: the declaration is the header's; the text is passed as in `frame`; `out` and its length are those of a slice
-    // that is borrowed for the call and by nobody else, or 0 bytes at one of ours, and the number is this frame's alone.
+    // SAFETY: the declaration is the header's. The packed bytes are passed as in `frame`. `out` is borrowed mutably for the
+    // call, or is 0 bytes at a local. `written` is a local.
     let answer = unsafe { capvet_unpack(address(packed), packed.len(), out, room, &mut written) };
     (answer, written)
 }
 
-/// The canonical copy of the message that the bytes begin with, into the front of `out`, and how many bytes it has.
+/// Writes the canonical copy of the message that the bytes begin with to the start of `out`, and returns its length.
 pub(crate) fn canonical(bytes: &[u8], limits: &Limits, out: &mut [u8]) -> (Answer, usize, Told) {
     let (limits, mut told) = (RawLimits::of(limits), Told::default());
     let (room, mut written, mut none) = (out.len(), 0, 0);
@@ -219,8 +219,7 @@ pub(crate) fn canonical(bytes: &[u8], limits: &Limits, out: &mut [u8]) -> (Answe
     } else {
         out.as_mut_ptr()
     };
-    // SAFETY: as in `frame`; and `out` is borrowed for the call and for nobody else, or is 0 bytes at one of this frame's,
-    // whose own the length is too.
+    // SAFETY: as in `frame`. `out` is borrowed mutably for the call, or is 0 bytes at a local. `written` is a local.
     let answer = unsafe {
         capvet_canonical(
             address(bytes),
@@ -235,8 +234,8 @@ pub(crate) fn canonical(bytes: &[u8], limits: &Limits, out: &mut [u8]) -> (Answe
     (answer, written, told)
 }
 
-/// The archive's version, as one number.
+/// The version of the library, as one number.
 pub(crate) fn version() -> u32 {
-    // SAFETY: the declaration is the header's, and the call takes nothing.
+    // SAFETY: the declaration is the header's, and the call has no arguments.
     unsafe { capvet_version() }
 }
