@@ -1,11 +1,13 @@
 #!/usr/bin/env python3
-"""Runs the commands that the pages show with the built program, and looks up what they quote.
+"""Runs the commands that the pages show with the built program, looks up what they quote, and checks their words.
 
     pages.py [PROGRAM]
 
-A block of a page that has lines '$ COMMAND' is run line by line in a folder with the samples, and each line has to write
-just what the page shows behind it. A block of docs/proofs.md without such lines has to stand in a file that the page
-names. The last line is 'N passed, M failed', and the status is 1 where a case failed.
+A block of a page that has lines '$ COMMAND' is run line by line in a folder with the samples. Each command has to print
+exactly what the page shows after it. A block of docs/proofs.md has to be in a file that the page names; a block of shell
+there has to run at the top of the repository. Links lead to a file and to a heading that exist. The pages, the manual
+page, the header and help have no word of docs/words.md, no sentence of more than 40 words, and one tagline. The last line
+is 'N passed, M failed', and the status is 1 if a case failed.
 """
 import os
 import re
@@ -15,9 +17,16 @@ import sys
 import tempfile
 from pathlib import Path
 
+from helps import HELPS
+
 TOP = Path(__file__).resolve().parent.parent
 PROGRAM = Path(sys.argv[1] if len(sys.argv) > 1 else TOP / "build/capvet").resolve()
-PAGES = ("README.md", "docs/guide.md")
+PAGES = ("README.md", "docs/guide.md", "docs/output.md")
+MARKDOWN = ("README.md", *(f"docs/{path.name}" for path in sorted((TOP / "docs").glob("*.md"))))
+TAGLINE = "untrusted Cap'n Proto messages without a schema"
+TAGGED = ("README.md", "docs/capvet.1", "include/capvet.h", "capvet.pc.in", "crates/cap_cmd/src/command_line.rt",
+          "bindings/rust/Cargo.toml", "bindings/rust/src/lib.rs")
+LONGEST = 40
 BLOCK = re.compile(r"^```(\w*)\n(.*?)^```$", re.M | re.S)
 passed = failed = 0
 
@@ -53,14 +62,20 @@ def shown(page):
 
 
 def quoted(page):
-    """What a page quotes of the repository stands in a file that it names, word for word."""
+    """A page's quotations are in files that it names, word for word, and its shell commands run."""
     text = (TOP / page).read_text()
     named = {name: (TOP / name).read_text() for name in re.findall(r"`(crates/[\w/.]+\.\w+)`", text)}
-    count = 0
-    for _, block in BLOCK.findall(text):
-        compare(f"{page} quotes {block!r}", True, any(block in file for file in named.values()))
-        count += 1
-    compare(f"{page} quotes", True, count > 0)
+    blocks = BLOCK.findall(text)
+    for language, block in blocks:
+        if language == "sh":
+            ran = subprocess.run(["sh", "-ec", block], cwd=TOP, timeout=60, text=True, stdin=subprocess.DEVNULL,
+                                 stdout=subprocess.PIPE, stderr=subprocess.STDOUT)
+            lines = ran.stdout.splitlines()
+            compare(f"{page} runs {block!r}", 0, ran.returncode)
+            compare(f"{page} finds by {block!r}", True, bool(lines) and all("requires" in line for line in lines))
+        else:
+            compare(f"{page} quotes {block!r}", True, any(block in file for file in named.values()))
+    compare(f"{page} quotes", True, len(blocks) > 1)
 
 
 def links(page):
@@ -78,10 +93,55 @@ def links(page):
             compare(f"{page} links to {target}", True, heading in slugs)
 
 
+def paragraphs(name, text):
+    """The prose of a page, of the manual page, of a header or of help: paragraphs, items and cells, without code."""
+    if name.endswith(".1"):
+        text = re.sub(r"^\.(SH|TP|PP|RS).*$|^\.\w+.*$", lambda line: "" if line[1] else "x", text, flags=re.M)
+        text = re.sub(r"^\$ .*\n(?:[^.$].*\n)*", "", text.replace("\\-", "-"), flags=re.M)
+    elif name.endswith(".h"):
+        text = "\n\n".join(re.findall(r"/\*(.*?)\*/", text, re.S))
+        text = re.sub(r"^ +\* ?", "", text, flags=re.M)
+    elif name.endswith(".md"):
+        text = re.sub(r"^    .*$", "", text, flags=re.M)
+    else:
+        text = re.sub(r"\n(?=  \S|      -)", "\n\n", text.partition("\nExample:\n")[0])
+    # (a sentence may begin with a name of code)
+    text = re.sub(r"`[^`\n]*`", "X", BLOCK.sub("", text))
+    text = re.sub(r"\[([^\]]*)\]\([^)]*\)", r"\1", text).replace("*", "")
+    text = re.sub(r"^\s*(?:[-+>#]+|\d+\.) ", "\n", text, flags=re.M)
+    for part in re.split(r"\n\s*\n|\|", text):
+        yield " ".join(part.split())
+
+
+def plain(name, text, banned):
+    """A page has no word of the list, and no sentence that is too long."""
+    found, long = [], []
+    for part in paragraphs(name, text):
+        found += [match[0] for match in banned.finditer(part)]
+        long += [said for said in re.split(r"(?<=[.!?:;]) (?=[A-Z\"(])", part) if len(said.split()) > LONGEST]
+    compare(f"{name}: words of docs/words.md", [], found)
+    compare(f"{name}: sentences of more than {LONGEST} words", [], long)
+
+
+def list_of_words():
+    """The words that the list refuses, as one pattern."""
+    rows = re.findall(r"^\| (`.*?) \|", (TOP / "docs/words.md").read_text(), re.M)
+    words = [word for row in rows for word in re.findall(r"`([^`]+)`", row)]
+    compare("the list has words", True, len(words) > 20)
+    return re.compile(r"\b(?:" + "|".join(map(re.escape, sorted(words, key=len, reverse=True))) + r")\b", re.I)
+
+
 for name in PAGES:
     shown(name)
 quoted("docs/proofs.md")
-for name in ("README.md", *(f"docs/{path.name}" for path in sorted((TOP / "docs").glob("*.md")))):
+for name in MARKDOWN:
     links(name)
+BANNED = list_of_words()
+for name in (*MARKDOWN, "docs/capvet.1", "include/capvet.h"):
+    plain(name, (TOP / name).read_text(), BANNED)
+for asked, text in HELPS:
+    plain(f"capvet {asked[0]}", text, BANNED)
+for name in TAGGED:
+    compare(f"{name} has the tagline", True, TAGLINE in (TOP / name).read_text())
 print(f"{passed} passed, {failed} failed")
 sys.exit(failed > 0)
