@@ -72,7 +72,9 @@ def quoted(page):
                                  stdout=subprocess.PIPE, stderr=subprocess.STDOUT)
             lines = ran.stdout.splitlines()
             compare(f"{page} runs {block!r}", 0, ran.returncode)
-            compare(f"{page} finds by {block!r}", True, bool(lines) and all("requires" in line for line in lines))
+            # (one of a public function, one of a member of a trait, and nothing else)
+            compare(f"{page} finds by {block!r}", True, all("requires" in line for line in lines)
+                    and all(f"/{name}.rt:" in ran.stdout for name in ("following", "segments")))
         else:
             compare(f"{page} quotes {block!r}", True, any(block in file for file in named.values()))
     compare(f"{page} quotes", True, len(blocks) > 1)
