@@ -21,7 +21,7 @@ from helps import HELPS
 
 TOP = Path(__file__).resolve().parent.parent
 PROGRAM = Path(sys.argv[1] if len(sys.argv) > 1 else TOP / "build/capvet").resolve()
-PAGES = ("README.md", "docs/guide.md", "docs/output.md")
+PAGES = ("README.md", "docs/guide.md", "docs/output.md", "docs/format.md")
 MARKDOWN = ("README.md", *(f"docs/{path.name}" for path in sorted((TOP / "docs").glob("*.md"))))
 TAGLINE = "untrusted Cap'n Proto messages without a schema"
 TAGGED = ("README.md", "docs/capvet.1", "include/capvet.h", "capvet.pc.in", "crates/cap_cmd/src/command_line.rt",
