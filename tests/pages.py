@@ -32,7 +32,7 @@ passed = failed = 0
 
 
 def compare(name, wanted, got):
-    """Counts a case as passed where what is wanted is what came, and else shows both."""
+    """Counts a case as passed if `got` is what is wanted, and otherwise shows both."""
     global passed, failed
     if wanted == got:
         passed += 1
@@ -42,7 +42,7 @@ def compare(name, wanted, got):
 
 
 def commands(block):
-    """The commands of a block, each with the text behind it."""
+    """The commands of a block, each with its output."""
     return re.findall(r"^\$ (.*)\n((?:(?!\$ ).*\n)*)", block, re.M)
 
 
@@ -81,7 +81,7 @@ def quoted(page):
 
 
 def links(page):
-    """Each file and each heading that a page links to is there."""
+    """Each file and each heading that a page links to exists."""
     text = (TOP / page).read_text()
     for target in re.findall(r"\]\(([^)]+)\)", BLOCK.sub("", text)):
         if target.startswith("https://"):
