@@ -5,8 +5,11 @@ ghost use Rattle.cap_spec.specs.Faults.{IsRefused};
 ghost use Rattle.cap_spec.specs.Paths.{IsPlace};
 ghost use Rattle.cap_spec.specs.Plain.{plain_text};
 ghost use Rattle.cap_spec.specs.Tree.{Tree};
+ghost use Rattle.cap_spec.specs.declared.Refusal.{Refusal};
 ghost use Rattle.cap_vet.specs.Limits.{depth_of, words_of};
-ghost use Rattle.std.specs.Prelude.{◌≡◌, ◌≤◌, [], IfErr, IfOk, IsOk, ℕ};
+ghost use Rattle.cap_vet.specs.Reports.{IsAccepted};
+ghost use Rattle.cap_vet.specs.declared.report.Report.{Report};
+ghost use Rattle.std.specs.Prelude.{◌≡◌, ◌≤◌, [], Err, IfErr, IfOk, IsOk, ℕ};
 
 use cap_frame::{ByteView, Segments};
 use cap_vet::{Limits, Refusal, Step, vet};
@@ -16,12 +19,15 @@ use cap_vet::{Limits, Refusal, Step, vet};
 ///
 /// The words are those of the object that stands at the path, with tag and surplus words, or of the
 /// element of a list of structs that the path ends at. Empty where nothing stands there, and for null
-/// and a capability. Refused as [`vet`] refuses it (encoding: Security Considerations).
+/// and a capability. The whole message is vetted, whatever the path is: it is accepted or refused as
+/// [`vet`] does it (encoding: Security Considerations).
 pub fn read_bytes<'b>(
     message: &ByteView<'b>,
     limits: Limits,
     path: &[Step],
 ) -> Result<&'b [u8], Refusal>
+    ensures ok { let m = ⟦<ByteView<'b> as Segments>⟧.segments message.now in
+        IfOk result (λ _. (r : Report) × IsAccepted m (words_of limits) (depth_of limits) r) }
     ensures bytes { let m = ⟦<ByteView<'b> as Segments>⟧.segments message.now in
         IfOk result (λ bytes. (t b n : ℕ) → IsPlace m path.now t b n → bytes.now ≡ plain_text (words_from m t b n)) }
     ensures empty { let m = ⟦<ByteView<'b> as Segments>⟧.segments message.now in
@@ -29,6 +35,8 @@ pub fn read_bytes<'b>(
     ensures err { let m = ⟦<ByteView<'b> as Segments>⟧.segments message.now in IfErr result (IsRefused m (words_of limits) (depth_of limits)) }
     ensures accepts { let m = ⟦<ByteView<'b> as Segments>⟧.segments message.now in
         (t : Tree) (c d : ℕ) → Denotes m 0 0 t c d → c ≤ words_of limits → d ≤ depth_of limits → IsOk result }
+    ensures refuses { let m = ⟦<ByteView<'b> as Segments>⟧.segments message.now in
+        (r : Refusal) → IsRefused m (words_of limits) (depth_of limits) r → result ≡ Err r }
 {
     let vetted = match vet(message, limits) {
         Ok(vetted) => vetted,

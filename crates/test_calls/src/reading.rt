@@ -98,3 +98,31 @@ fn the_bytes_at_paths(rt: HostRuntime) -> Result<(), Fail> {
     same(&rt, (refusal.word, refusal.reason), (2, Reason::WordLimit));
     Ok(())
 }
+
+#[test]
+fn a_fault_beside_the_path(rt: HostRuntime) -> Result<(), Fail> {
+    // A struct of one data word and two pointers: one to a struct of one word, and one that leads
+    // past the end of the segment.
+    let segment = [
+        0x0002000100000000,
+        7,
+        0x0000000100000004,
+        0x0000000100000004,
+        42,
+    ];
+    let message = OneSegment::new(&segment).ok_or("no message")?;
+    let held = in_one_buffer(rt.alloc(), &message)?;
+    let limits = Limits::new(100, 10).ok_or("no limits")?;
+    for path in [[].as_slice(), &[Step::Ptr(0)], &[Step::Ptr(1)]] {
+        let Err(refusal) = read_bytes(&held.view(), limits, path) else {
+            return Err("accepted".into());
+        };
+        same(
+            &rt,
+            (refusal.word, refusal.reason),
+            (3, Reason::OutOfSegment),
+        );
+        same(&rt, refusal.pointers, 3);
+    }
+    Ok(())
+}

@@ -1,5 +1,5 @@
 -- The bytes of a view's place are those of the place of its path.
-use Rattle.std.proofs.Common.{◌≡◌, ℕ, ◌∙◌, List, subst}
+use Rattle.std.proofs.Common.{◌≡◌, ap, Err, ℕ, ◌∙◌, List, subst}
 use Rattle.std.specs.Prelude.{MatchOption}
 use Rattle.cap_frame.specs.Bytes.{cut}
 use Rattle.cap_frame.specs.declared.view.ByteView.{ByteView}
@@ -43,3 +43,14 @@ returns-in-Some-clause-empty c = λ none.
     (λ (p : Place). Stands (seg u) spot p.segment p.start p.words)) of_node c.view-view.ensures.place in
     let bytes = subst (λ u. c.bytes.result.now ≡ bytes_of_place (seg u) (view_place view)) of_view c.bytes.ensures in
     bytes ∙ no_bytes_there (seg c.args.message.now) c.args.path.now comes.0 spot (view_place view) comes.1 stands none
+
+pub returns-in-Err-clause-refuses : goal.returns-in-Err-clause-refuses
+returns-in-Err-clause-refuses c = λ r h.
+    let e = c.in-Err.ensures.refuses r h in
+    let same : c.in-Err.refusal ≡ r = cc in ap Err same
+
+pub returns-in-None-clause-refuses : goal.returns-in-None-clause-refuses
+returns-in-None-clause-refuses c = λ r h. absurd (cc (c.in-Ok.ensures.refuses r h))
+
+pub returns-in-Some-clause-refuses : goal.returns-in-Some-clause-refuses
+returns-in-Some-clause-refuses c = λ r h. absurd (cc (c.in-Ok.ensures.refuses r h))
