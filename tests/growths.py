@@ -4,8 +4,9 @@
 A run over all tests, which `rt try` builds anew and proves nothing of, makes the allocation of one number fail in
 each test's own process. A test ends well where it made fewer of them. Else it has to end with the error `refused`:
 the call that it tests has answered its want of memory, and what it left is as promised. The numbers go up from 1
-until each test ends well. How a test ended in a run is a case. Failures are printed as they come. The last line is
-'N passed, M failed', and the status is 1 where a case failed.
+until each test ends well. A test with a number in GROWTHS has to end well from the next number on. How a test ended
+in a run is a case. Failures are printed as they come. The last line is 'N passed, M failed', and the status is 1 where
+a case failed.
 """
 import re
 import subprocess
@@ -13,8 +14,13 @@ import sys
 from pathlib import Path
 
 CRATE = Path(__file__).resolve().parent.parent / "crates/test_memory"
-# The tests of calls that take no memory: nothing is ever refused in them.
-WITHOUT_GROWTHS = {"reading::a_table_that_tells_of_too_many_words"}
+# How many growths the calls of these tests make, no more and no fewer: none before a message that is too large is
+# refused, and one for a canonical copy.
+GROWTHS = {
+    "reading::a_table_that_tells_of_too_many_words": 0,
+    "copies::a_copy_in_words": 1,
+    "copies::a_copy_in_bytes": 1,
+}
 # More growths than any test makes.
 MOST = 20
 
@@ -37,7 +43,10 @@ passed = failed = 0
 for number in range(1, MOST + 1):
     found = ends(number)
     for name, end in found.items():
-        wanted = {"ok"} if name in WITHOUT_GROWTHS else {"refused"} if number == 1 else {"ok", "refused"}
+        if name in GROWTHS:
+            wanted = {"refused"} if number <= GROWTHS[name] else {"ok"}
+        else:
+            wanted = {"refused"} if number == 1 else {"ok", "refused"}
         if end in wanted:
             passed += 1
         else:

@@ -32,7 +32,7 @@ pub(crate) fn append_own<M: Segments, T: Target>(message: &M, object: &Object, c
     requires { (d s w : ℕ) × (tree : Tree) × IsObject (M.segments message.now) d s w tree object.now
         × (length (T.words copy.old) + own_size tree ≤ T.room copy.old) }
     ensures own { (d s w : ℕ) (tree : Tree) → IsObject (M.segments message.now) d s w tree object.now → OwnAppended (T.words copy.old) (T.words copy.new) tree }
-    ensures room { T.room copy.old ≤ T.room copy.new }
+    ensures room { T.room copy.new ≡ T.room copy.old }
     ensures lent { T.lent copy.new ≡ T.lent copy.old }
 {
     match *object {
@@ -77,7 +77,7 @@ fn append_tagged<M: Segments, T: Target>(message: &M, object: &Object, copy: &mu
     requires is { (d s w : ℕ) × (tree : Tree) × IsObject (M.segments message.now) d s w tree object.now
         × (length (T.words copy.old) + own_size tree ≤ T.room copy.old) }
     ensures own { (d s w : ℕ) (tree : Tree) → IsObject (M.segments message.now) d s w tree object.now → OwnAppended (T.words copy.old) (T.words copy.new) tree }
-    ensures room { T.room copy.old ≤ T.room copy.new }
+    ensures room { T.room copy.new ≡ T.room copy.old }
     ensures lent { T.lent copy.new ≡ T.lent copy.old }
 {
     match *object {
@@ -114,7 +114,7 @@ fn append_struct<M: Segments, T: Target>(message: &M, element: &Elements, copy: 
     requires room { length (T.words copy.old) + (element.now.data_left + element.now.pointers_left) ≤ T.room copy.old }
     ensures words { T.words copy.new ≡ T.words copy.old ++ (words_from (M.segments message.now) element.now.segment element.now.start element.now.data_left
         ++ words_from (M.segments message.now) element.now.segment (element.now.start + element.now.data_words) element.now.pointers_left) }
-    ensures room { T.room copy.old ≤ T.room copy.new }
+    ensures room { T.room copy.new ≡ T.room copy.old }
     ensures lent { T.lent copy.new ≡ T.lent copy.old }
 {
     if element.data_left == element.data_words {
@@ -143,7 +143,7 @@ fn append_structs<M: Segments, T: Target>(
     requires room { length (T.words copy.old) + count * (elements.now.data_left + elements.now.pointers_left) ≤ T.room copy.old }
     ensures words { T.words copy.new ≡ T.words copy.old ++ elements_from (M.segments message.now) elements.now.segment elements.now.start
         elements.now.data_words elements.now.pointers elements.now.data_left elements.now.pointers_left count }
-    ensures room { T.room copy.old ≤ T.room copy.new }
+    ensures room { T.room copy.new ≡ T.room copy.old }
     ensures lent { T.lent copy.new ≡ T.lent copy.old }
 {
     let left = elements.data_left + elements.pointers_left;
@@ -174,7 +174,7 @@ fn append_values<M: Segments, T: Target>(
     requires words { words ≡ list_words code count }
     requires room { length (T.words copy.old) + words ≤ T.room copy.old }
     ensures words { T.words copy.new ≡ T.words copy.old ++ scalar_words code (values_of (M.segments message.now) segment start code count) }
-    ensures room { T.room copy.old ≤ T.room copy.new }
+    ensures room { T.room copy.new ≡ T.room copy.old }
     ensures lent { T.lent copy.new ≡ T.lent copy.old }
 {
     if words == 0 {

@@ -11,7 +11,7 @@ ghost use Rattle.cap_spec.specs.Paths.{IsFirstCap};
 ghost use Rattle.cap_spec.specs.Tree.{Tree, has_cap};
 ghost use Rattle.cap_vet.specs.Vettings.{message_of, report_of};
 ghost use Rattle.std.specs.List.{AllByRecursion};
-ghost use Rattle.std.specs.Prelude.{◌+◌, ◌++◌, ◌≡◌, ◌≤◌, ◌<◌, ◌^◌, ◌↔◌, [], ◌∷◌, IfErr, IfOk, IsErrOf, IsOk, List, OnErr, false, length, ℕ};
+ghost use Rattle.std.specs.Prelude.{◌+◌, ◌++◌, ◌≡◌, ◌≤◌, ◌<◌, ◌^◌, ◌↔◌, [], ◌∷◌, IfErr, IfOk, IsErrOf, IsOk, List, OnErr, false, length, vec_capacity, ℕ};
 
 use crate::appending::append_own;
 use crate::fault::CanonFault;
@@ -25,13 +25,14 @@ use cap_vet::Vetted;
 use std::alloc::Global;
 
 /// The canonical copy of a message: the words of its one segment (encoding: Canonicalization). Its
-/// length is computed first, one reservation is made, and nothing grows afterwards.
+/// length is computed first, one reservation of just that many words is made, and nothing grows afterwards.
 ///
 /// A message in which a capability is reached has no copy, and the fault names the first of them in
 /// preorder. Else the fault is that the reservation was refused.
 pub fn canonical<M: Segments>(alloc: Global, v: &Vetted<'_, M>) -> Result<Vec<u64>, CanonFault>
     ensures ok { IfOk result (λ words. HasCopy (M.segments (message_of v.now)) words.items) }
     ensures few { IfOk result (λ words. length words.items ≤ (report_of v.now).charge + 1) }
+    ensures capacity { IfOk result (λ words. vec_capacity words ≡ length words.items) }
     ensures cap { (s w : ℕ) → IsErrOf result (CanonFault.HasCapability s w) → IsFirstCap (M.segments (message_of v.now)) s w }
     ensures memory { IsErrOf result CanonFault.Memory → (s w : ℕ) → ¬ IsFirstCap (M.segments (message_of v.now)) s w }
 
@@ -71,6 +72,7 @@ pub(crate) fn copy_into<M: Segments, T: Target>(message: &M, depth: u32, copy: &
         × (length (layout (trim t)) ≤ T.room copy.old) }
     requires empty { T.words copy.old ≡ [] }
     ensures words { (t : Tree) (c d : ℕ) → Denotes (M.segments message.now) 0 0 t c d → T.words copy.new ≡ layout (trim t) }
+    ensures room { T.room copy.new ≡ T.room copy.old }
     ensures lent { T.lent copy.new ≡ T.lent copy.old }
 {
     if depth <= 8 {
@@ -88,6 +90,7 @@ fn copy_within<M: Segments, T: Target, const N: usize>(message: &M, depth: u32, 
     requires room { (depth ≤ N) × (N ≤ 256) }
     requires empty { T.words copy.old ≡ [] }
     ensures words { (t : Tree) (c d : ℕ) → Denotes (M.segments message.now) 0 0 t c d → T.words copy.new ≡ layout (trim t) }
+    ensures room { T.room copy.new ≡ T.room copy.old }
     ensures lent { T.lent copy.new ≡ T.lent copy.old }
 {
     let mut stack: Stack<N> = Stack::new();
@@ -112,7 +115,7 @@ fn lay<M: Segments, T: Target>(message: &M, object: &Object, slot: u32, end: u32
         → IsPointed whole end slot tree → OwnAt whole end tree → Agrees (T.words copy.old) whole (record { slot = slot; tree = tree } ∷ due)
         → Agrees (T.words copy.new) whole (below end tree ++ due) }
     ensures ends { (d s w : ℕ) (tree : Tree) → IsObject (M.segments message.now) d s w tree object.now → length (T.words copy.new) ≡ end + own_size tree }
-    ensures room { T.room copy.old ≤ T.room copy.new }
+    ensures room { T.room copy.new ≡ T.room copy.old }
     ensures lent { T.lent copy.new ≡ T.lent copy.old }
 {
     copy.set(slot, pointer_word(end - slot - 1, object));

@@ -14,6 +14,7 @@ mod spelled;
 mod target;
 mod trimming;
 mod walk;
+mod word_bytes;
 mod words;
 
 pub use checking::is_canonical;

@@ -1,20 +1,13 @@
 //! The canonical copy of a message, in room that is lent for it.
 
 ghost use Rattle.cap_canon.specs.CopyRooms.{TellsRoom};
-ghost use Rattle.cap_canon.specs.Spelled.{spelled_words};
 ghost use Rattle.cap_canon.specs.declared.fault.RoomFault.{RoomFault};
-ghost use Rattle.cap_spec.specs.Canonical.{layout, trim};
-ghost use Rattle.cap_spec.specs.Denoting.{Denotes};
-ghost use Rattle.cap_spec.specs.Plain.{plain_text};
-ghost use Rattle.cap_spec.specs.Tree.{Tree};
 ghost use Rattle.cap_vet.specs.Vettings.{message_of};
-ghost use Rattle.std.specs.Prelude.{◌*◌, ◌/◌, ◌≡◌, ◌≤◌, [], List, Result, length, ℕ};
+ghost use Rattle.std.specs.Prelude.{◌≡◌, List, Result, ℕ};
 
-use crate::copying::copy_into;
 use crate::fault::{CanonFault, RoomFault};
 use crate::length::canonical_len;
-use crate::spelled::{tells_words, write_word};
-use crate::target::Target;
+use crate::word_bytes::fill;
 use cap_frame::Segments;
 use cap_vet::Vetted;
 
@@ -51,62 +44,4 @@ fn fill_front<M: Segments>(v: &Vetted<'_, M>, out: &mut [u8]) -> Result<usize, R
     }
     fill(v.message(), report.depth, &mut out[..count]);
     Ok(count)
-}
-
-// Writes the layout of a message of this depth, trimmed, into room of just its length.
-fn fill<M: Segments>(message: &M, depth: u32, room: &mut [u8])
-    requires { (t : Tree) × (c : ℕ) × Denotes (M.segments message.now) 0 0 t c depth × (c ≤ 268435456) × (depth ≤ 256)
-        × (length room.old ≡ 8 * length (layout (trim t))) }
-    ensures { (t : Tree) (c d : ℕ) → Denotes (M.segments message.now) 0 0 t c d → room.new ≡ plain_text (layout (trim t)) }
-{
-    write_words(message, depth, room);
-    tells_words(room);
-}
-
-// The same, as the words in front.
-fn write_words<M: Segments>(message: &M, depth: u32, room: &mut [u8])
-    requires { (t : Tree) × (c : ℕ) × Denotes (M.segments message.now) 0 0 t c depth × (c ≤ 268435456) × (depth ≤ 256)
-        × (length room.old ≡ 8 * length (layout (trim t))) }
-    ensures { (t : Tree) (c d : ℕ) → Denotes (M.segments message.now) 0 0 t c d
-        → spelled_words (length (layout (trim t))) room.new ≡ layout (trim t) }
-{
-    let mut copy = LentRoom::over(room);
-    copy_into(message, depth, &mut copy);
-}
-
-/// Words as their bytes, in room that is lent for them.
-#[derive(Drop)]
-struct LentRoom<'b> {
-    bytes: &'b mut [u8],
-    // how many words stand there
-    count: usize,
-    ghost inside: { 8 * count ≤ length bytes.now },
-}
-
-impl<'b> LentRoom<'b> {
-    // None is written yet.
-    fn over(bytes: &'b mut [u8]) -> LentRoom<'b>
-        ensures words { ⟦<LentRoom<'b> as Target>⟧.words result ≡ [] }
-        ensures room { ⟦<LentRoom<'b> as Target>⟧.room result ≡ length bytes.old / 8 }
-        ensures lent { ⟦<LentRoom<'b> as Target>⟧.lent result ≡ bytes.entry.ghost_name }
-    {
-        LentRoom { bytes, count: 0 }
-    }
-}
-
-impl Target for LentRoom<'_> {
-    ghost words = { λ s. spelled_words s.count s.bytes.now };
-
-    ghost room = { λ s. length s.bytes.now / 8 };
-
-    ghost lent = { λ s. s.bytes.ghost_name };
-
-    fn push(&mut self, word: u64) {
-        write_word(self.bytes, self.count, word);
-        self.count += 1;
-    }
-
-    fn set(&mut self, place: u32, word: u64) {
-        write_word(self.bytes, place as usize, word);
-    }
 }

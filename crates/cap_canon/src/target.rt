@@ -24,14 +24,14 @@ pub(crate) trait Target {
     fn push(&mut self, word: u64)
         requires { length (words self.old) < room self.old }
         ensures words { words self.new ≡ words self.old ++ word ∷ [] }
-        ensures room { room self.old ≤ room self.new }
+        ensures room { room self.new ≡ room self.old }
         ensures lent { lent self.new ≡ lent self.old };
 
     /// Writes a word in place of one of them.
     fn set(&mut self, place: u32, word: u64)
         requires { place < length (words self.old) }
         ensures words { words self.new ≡ slice_set (words self.old) place word }
-        ensures room { room self.old ≤ room self.new }
+        ensures room { room self.new ≡ room self.old }
         ensures lent { lent self.new ≡ lent self.old };
 
     /// Appends words of a segment.
@@ -40,7 +40,7 @@ pub(crate) trait Target {
         requires inside { start + count ≤ length (segment_of (M.segments message.now) segment) }
         requires room { length (words self.old) + count ≤ room self.old }
         ensures words { words self.new ≡ words self.old ++ words_from (M.segments message.now) segment start count }
-        ensures room { room self.old ≤ room self.new }
+        ensures room { room self.new ≡ room self.old }
         ensures lent { lent self.new ≡ lent self.old }
         ensures are_words { AllByRecursion IsWord (words_from (M.segments message.now) segment start count) }
     {

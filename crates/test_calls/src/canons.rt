@@ -110,6 +110,9 @@ fn copies<M: Segments>(
         text.extend_from_slice(&bytes_of(*word))?;
     }
     same_of(rt, &spelled, bytes.as_slice(), text.as_slice());
+    // Neither has capacity for more.
+    let capacities = (made.capacity(), bytes.capacity());
+    same_of(rt, &spelled, capacities, (copied.len(), text.len()));
     let report = vetted.report();
     let copy = OneSegment::new(&made).ok_or("no message")?;
     let again = accepted(&copy, report.charge, report.depth)?;
@@ -259,7 +262,9 @@ fn structs(rt: HostRuntime) -> Result<(), Fail> {
 }
 
 // Messages of a list.
-static LISTS: [Row; 12] = [
+static LISTS: [Row; 13] = [
+    // Elements without bits, each charged a word, and a copy of one word.
+    (&[&[0x01000000f8ffff7f]], Ok(&[0x01000000f8ffff7f])),
     // Two structs of one word in three words.
     (
         &[&[

@@ -27,7 +27,7 @@ elements-preserved g c =
     (g.T.Target.words c.args.copy.now) (g.T.Target.words c.elements.copy) (g.T.Target.room c.elements.copy) c.elements-test.true c.requires.inside k.far in record {
       far = structs_more m c.args.elements.now.segment c.args.elements.now.start c.elements.start c.args.elements.now.data_words c.args.elements.now.pointers c.args.elements.now.data_left c.args.elements.now.pointers_left c.args.count c.elements.counter
           (g.T.Target.words c.args.copy.now) (g.T.Target.words c.elements.copy) (g.T.Target.words c.append_struct.new.copy) (g.T.Target.room c.elements.copy) (g.T.Target.room c.append_struct.new.copy)
-          c.elements-test.true c.requires.fewer.0 c.requires.fewer.1 inside c.append_struct.ensures.words c.append_struct.ensures.room k.far;
-      room = omega (arith, k.room, c.append_struct.ensures.room);
+          c.elements-test.true c.requires.fewer.0 c.requires.fewer.1 inside c.append_struct.ensures.words (omega (arith, c.append_struct.ensures.room)) k.far;
+      room = c.append_struct.ensures.room ∙ k.room;
       lent = c.append_struct.ensures.lent ∙ k.lent;
     }

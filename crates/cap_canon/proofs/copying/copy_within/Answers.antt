@@ -44,7 +44,7 @@ loop-stack-init g c =
     let agrees = c.lay.ensures.agrees o.0 0 0 (trim r.0) (layout (trim r.0)) [] o.1 turn.pointed turn.own start in
     let walk = copy_on m c.args.depth 1 c.enter-end.result r.0 (trim r.0) r.1 [] c.enter-end.new.stack.items (g.T.Target.words c.lay.new.copy) (g.T.Target.room c.args.copy.now) (g.T.Target.room c.lay.new.copy)
     r.2 r.4 (omega (arith, c.push.ensures.room, c.lay.ensures.room)) e.0 e.1 (c.lay.ensures.ends o.0 0 0 (trim r.0) o.1) turn.laid agrees in
-    record { walk = walk; lent = refl }
+    record { walk = walk; room = refl; lent = refl }
 
 pub lay-requires-in-loop-stack-clause-is : goal.lay-requires-in-loop-stack-clause-is
 lay-requires-in-loop-stack-clause-is g c =
@@ -87,9 +87,9 @@ loop-stack-preserved g c =
     let a = k.agrees in
     let agrees = c.lay-in-loop-stack.ensures.agrees o.0 c.take_next-s.result.0 c.take_next-s.result.1 n.0 (layout (trim k.tree)) n.1 o.1 turn.pointed turn.own (rw n.2 at a) in
     let walk = copy_on m c.args.depth c.loop-stack.end c.enter-end-in-loop-stack.result k.tree n.0 k.charge n.1 c.enter-end-in-loop-stack.new.stack.items (g.T.Target.words c.lay-in-loop-stack.new.copy)
-    (g.T.Target.room c.loop-stack.copy) (g.T.Target.room c.lay-in-loop-stack.new.copy) k.denotes k.space c.lay-in-loop-stack.ensures.room r.0 r.1
+    (g.T.Target.room c.loop-stack.copy) (g.T.Target.room c.lay-in-loop-stack.new.copy) k.denotes k.space (omega (arith, c.lay-in-loop-stack.ensures.room)) r.0 r.1
     (c.lay-in-loop-stack.ensures.ends o.0 c.take_next-s.result.0 c.take_next-s.result.1 n.0 o.1) turn.laid agrees in
-    record { walk = walk; lent = c.lay-in-loop-stack.ensures.lent ∙ c.loop-stack.invariant.lent }
+    record { walk = walk; room = c.lay-in-loop-stack.ensures.room ∙ c.loop-stack.invariant.room; lent = c.lay-in-loop-stack.ensures.lent ∙ c.loop-stack.invariant.lent }
 
 pub returns-clause-words : goal.returns-clause-words
 returns-clause-words g c =
@@ -100,3 +100,6 @@ returns-clause-words g c =
 
 pub returns-clause-lent : goal.returns-clause-lent
 returns-clause-lent g c = c.loop-stack.invariant.lent ∙ (c.lay.ensures.lent ∙ c.push.ensures.lent)
+
+pub returns-clause-room : goal.returns-clause-room
+returns-clause-room g c = c.loop-stack.invariant.room ∙ (c.lay.ensures.room ∙ c.push.ensures.room)

@@ -41,7 +41,7 @@ pub returns : goal.returns
 returns g c =
     let h = c.in-Ok.ensures.ok in
     let long : length (plain_text h.0) ≡ 8 * c.in-Ok.words = length_plain h.0 ∙ ap (λ (k : ℕ). 8 * k) (sym h.2) in
-    let made = rw c.message.ensures.value at c.fill.ensures in
-    let text : c.fill.new.room ≡ plain_text h.0 = made h.1.tree h.1.charge h.1.depth h.1.denotes ∙ ap plain_text (sym h.1.laid) in
+    let made = rw c.message.ensures.value at c.fill.ensures.text in
+    let text : c.fill.new.out ≡ plain_text h.0 = made h.1.tree h.1.charge h.1.depth h.1.denotes ∙ ap plain_text (sym h.1.laid) in
     written h.0 h.1 (omega (arith, long, c.if-out-count.false)) (ap Ok (sym long))
     (ap₂ (λ (xs : List ℕ) (k : ℕ). xs ++ drop k c.args.out.now) text (sym long))

@@ -1,52 +1,56 @@
-use Rattle.std.proofs.Common.{◌≡◌, ◌∙◌, arith, length, ap, sym, subst, Err, refl}
+use Rattle.std.proofs.Common.{◌≡◌, ◌≤◌, ◌+◌, ◌*◌, ◌∙◌, arith, length, ap, sym, subst, Err, refl}
 use Rattle.cap_spec.specs.Canonical.{layout, trim}
 use Rattle.cap_spec.specs.Copies.{HasCopy}
-use Rattle.cap_spec.specs.Plain.{plain_text}
+use Rattle.cap_spec.specs.Plain.{plain_text, plain_words}
 use Rattle.cap_spec.proofs.Bytes.Plain.{length_plain}
-use Rattle.cap_vet.specs.Vettings.{message_of}
-use Rattle.cap_canon.specs.Spelled.{spelled_words}
+use Rattle.cap_vet.specs.Vettings.{message_of, report_of}
 use Rattle.cap_canon.specs.declared.fault.CanonFault.TheVariants.{HasCapability}
 use Rattle.cap_canon.proofs.Copies.{cap_no_copy, copy_charged, copy_length, copy_of, err_parts}
+use Rattle.cap_canon.proofs.SpelledWords.{written_back}
 use Rattle.cap_canon.proofs.spelled.canonical_bytes.Goals as goal
 
-pub new-requires : goal.new-requires
-new-requires g c =
-    let k = c.report-report.ensures.accepted in
-    let same = ap (λ r. r.charge) c.report-report.ensures.value in
-    omega (arith, k.1.within, c.in-Ok.ensures.few, same)
-
-pub copy_into-requires-clause-denotes : goal.copy_into-requires-clause-denotes
-copy_into-requires-clause-denotes g c =
+pub fill-requires : goal.fill-requires
+fill-requires g c =
     let m = g.M.Segments.segments (message_of c.args.v.now) in
     let h = c.in-Ok.ensures.ok in
     let k = c.report-report.ensures.accepted in
     let e : length h.0 ≡ length (layout (trim k.0)) = copy_length m h.0 k.0 c.report-report.result.charge c.report-report.result.depth h.1 k.1.denotes in
-    rw c.message.ensures.value (k.0, c.report-report.result.charge, k.1.denotes, k.1.within, k.1.shallow, omega (arith, e, h.2, c.in-Ok-new.ensures.1))
+    let grown = rw c.unwrap.ensures at c.resize.ensures.len in
+    let long : length c.as_mut_slice.result.now ≡ 8 * length (layout (trim k.0)) = omega (arith, e, h.2, c.as_mut_slice.ensures.len, grown) in
+    rw c.message.ensures.value (k.0, c.report-report.result.charge, k.1.denotes, k.1.within, k.1.shallow, long)
 
 pub returns-clause-ok : goal.returns-clause-ok
 returns-clause-ok g c =
     let m = g.M.Segments.segments (message_of c.args.v.now) in
     let h = c.in-Ok.ensures.ok in
-    let ws = spelled_words c.copy_into.new.copy.count c.copy_into.new.copy.bytes.items in
-    let made = copy_of m h.0 ws h.1 (rw c.message.ensures.value at c.copy_into.ensures.words) in
-    (subst (HasCopy m) (sym c.into_bytes.ensures.words) made, c.into_bytes.ensures.text ∙ ap plain_text (sym c.into_bytes.ensures.words))
+    let given = c.fill.new.out in
+    let back = written_back _ given _ (c.fill.auto.out ∙ c.as_mut_slice.ensures.len) in
+    let words = rw c.message.ensures.value at c.fill.ensures.words in
+    let spells = rw c.message.ensures.value at c.fill.ensures.text in
+    let made = copy_of m h.0 (plain_words given) h.1 words in
+    let text : given ≡ plain_text (plain_words given) = spells h.1.tree h.1.charge h.1.depth h.1.denotes ∙ ap plain_text (sym (words h.1.tree h.1.charge h.1.depth h.1.denotes)) in
+    subst (λ bytes. HasCopy m (plain_words bytes) × (bytes ≡ plain_text (plain_words bytes))) (sym back) (made, text)
 
 pub returns-clause-few : goal.returns-clause-few
 returns-clause-few g c =
     let m = g.M.Segments.segments (message_of c.args.v.now) in
     let h = c.in-Ok.ensures.ok in
     let k = c.report-report.ensures.accepted in
-    let ws = spelled_words c.copy_into.new.copy.count c.copy_into.new.copy.bytes.items in
-    let made = copy_of m h.0 ws h.1 (rw c.message.ensures.value at c.copy_into.ensures.words) in
-    let some = copy_charged m k.0 c.report-report.result.charge c.report-report.result.depth ws k.1.denotes made in
-    let long = ap length c.into_bytes.ensures.text ∙ length_plain ws in
+    let given = c.fill.new.out in
+    let back = written_back _ given _ (c.fill.auto.out ∙ c.as_mut_slice.ensures.len) in
+    let words = rw c.message.ensures.value at c.fill.ensures.words in
+    let made = copy_of m h.0 (plain_words given) h.1 words in
+    let some = copy_charged m k.0 c.report-report.result.charge c.report-report.result.depth (plain_words given) k.1.denotes made in
+    let spells = rw c.message.ensures.value at c.fill.ensures.text in
+    let long = ap length (spells h.1.tree h.1.charge h.1.depth h.1.denotes ∙ ap plain_text (sym (words h.1.tree h.1.charge h.1.depth h.1.denotes))) ∙ length_plain (plain_words given) in
     let same = ap (λ r. r.charge) c.report-report.ensures.value in
-    omega (arith, some, long, same)
+    subst (λ bytes. length bytes ≤ 8 * ((report_of c.args.v.now).charge + 1)) (sym back) (omega (arith, some, long, same))
 
 pub returns-clause-copy : goal.returns-clause-copy
 returns-clause-copy g c = λ words h.
-    let made = rw c.message.ensures.value at c.copy_into.ensures.words in
-    (refl, c.into_bytes.ensures.text ∙ ap plain_text (made h.tree h.charge h.depth h.denotes ∙ sym h.laid))
+    let back = written_back _ c.fill.new.out _ (c.fill.auto.out ∙ c.as_mut_slice.ensures.len) in
+    let spells = rw c.message.ensures.value at c.fill.ensures.text in
+    (refl, back ∙ (spells h.tree h.charge h.depth h.denotes ∙ ap plain_text (sym h.laid)))
 
 pub returns-clause-first_cap : goal.returns-clause-first_cap
 returns-clause-first_cap g c =

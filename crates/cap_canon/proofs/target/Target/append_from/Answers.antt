@@ -1,4 +1,4 @@
-use Rattle.std.proofs.Common.{◌∙◌, ◌++◌, [], ◌∷◌, List, ℕ, ap, sym, subst, arith, rules, append_assoc}
+use Rattle.std.proofs.Common.{◌∙◌, ◌++◌, [], ◌∷◌, List, ℕ, ap, sym, subst, rules, append_assoc}
 use Rattle.std.specs.List.{AllByRecursion}
 use Rattle.cap_spec.specs.Denoting.{words_from}
 use Rattle.cap_spec.specs.Words.{IsWord}
@@ -15,7 +15,7 @@ words-preserved g c =
     let small : IsWord c.word.result = search rules in record {
       words = c.push.ensures.words ∙ (ap (λ xs. xs ++ c.word.result ∷ []) c.words.invariant.words
           ∙ (append_assoc old front (c.word.result ∷ []) ∙ ap (λ xs. old ++ xs) (sym more)));
-      room = omega (arith, c.push.ensures.room, c.words.invariant.room);
+      room = c.push.ensures.room ∙ c.words.invariant.room;
       lent = c.push.ensures.lent ∙ c.words.invariant.lent;
       are_words = subst (λ (xs : List ℕ). AllByRecursion IsWord xs) (sym more) (all_append IsWord front (c.word.result ∷ []) c.words.invariant.are_words (small, tt));
     }

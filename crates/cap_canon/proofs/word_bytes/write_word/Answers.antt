@@ -1,6 +1,6 @@
 use Rattle.std.proofs.Common.{◌∙◌, arith, rules}
 use Rattle.cap_canon.proofs.SpelledWords.{words_put}
-use Rattle.cap_canon.proofs.spelled.write_word.Goals as goal
+use Rattle.cap_canon.proofs.word_bytes.write_word.Goals as goal
 
 pub returns-clause-words : goal.returns-clause-words
 returns-clause-words c =

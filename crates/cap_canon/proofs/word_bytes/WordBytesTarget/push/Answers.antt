@@ -1,6 +1,6 @@
 use Rattle.std.proofs.Common.{◌*◌, ◌+◌, ◌≤◌, arith, length}
 use Rattle.cap_canon.proofs.SpelledWords.{spelled_count, word_appended, word_count}
-use Rattle.cap_canon.proofs.room.LentRoomTarget.push.Goals as goal
+use Rattle.cap_canon.proofs.word_bytes.WordBytesTarget.push.Goals as goal
 
 pub write_word-requires : goal.write_word-requires
 write_word-requires c =

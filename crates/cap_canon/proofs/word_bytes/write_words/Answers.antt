@@ -3,7 +3,7 @@ use Rattle.std.proofs.Common.{rules, ◌≡◌, length}
 use Rattle.cap_spec.specs.Canonical.{layout, trim}
 use Rattle.cap_canon.specs.Spelled.{spelled_words}
 use Rattle.cap_canon.proofs.Rooms.{counted}
-use Rattle.cap_canon.proofs.room.write_words.Goals as goal
+use Rattle.cap_canon.proofs.word_bytes.write_words.Goals as goal
 
 pub returns : goal.returns
 returns g c = λ t x d h.

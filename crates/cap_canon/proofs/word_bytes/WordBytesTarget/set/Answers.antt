@@ -1,6 +1,6 @@
 use Rattle.std.proofs.Common.{◌<◌, arith}
 use Rattle.cap_canon.proofs.SpelledWords.{spelled_count, word_replaced}
-use Rattle.cap_canon.proofs.room.LentRoomTarget.set.Goals as goal
+use Rattle.cap_canon.proofs.word_bytes.WordBytesTarget.set.Goals as goal
 
 pub write_word-requires : goal.write_word-requires
 write_word-requires c =
