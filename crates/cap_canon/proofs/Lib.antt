@@ -16,6 +16,7 @@ mod Lengths
 mod NearWords
 mod Needed
 mod Owing
+mod PointerForms
 mod Ranges
 mod Rooms
 pub mod SpelledWords

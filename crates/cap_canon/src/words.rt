@@ -10,10 +10,8 @@ ghost use Rattle.cap_canon.specs.Values.{used_bits};
 ghost use Rattle.std.specs.Prelude.{◌+◌, ◌-◌, ◌*◌, ◌<◌, ◌≤◌, ◌^◌, ◌≡◌, ◌==◌, if◌then◌else◌, List, ℕ};
 
 use crate::objects::Object;
+use cap_ptr::Pointer;
 use cap_words::bits;
-
-// The pointer to a struct without words, whose offset is -1.
-const EMPTY_STRUCT: u64 = 0xffff_fffc;
 
 /// The word that leads from a pointer word to what is left of an object, which starts `offset`
 /// words behind it (encoding: Structs, Lists, Capabilities). Asks that the offset fits its 30 bits,
@@ -26,7 +24,7 @@ pub(crate) fn pointer_word(offset: u32, object: &Object) -> u64
 {
     match *object {
         Object::Null => 0,
-        Object::Cap { index } => 3 + (u64::from(index) << 32),
+        Object::Cap { index } => cap_pointer(index),
         Object::Struct {
             data_left,
             pointers_left,
@@ -43,16 +41,26 @@ pub(crate) fn pointer_word(offset: u32, object: &Object) -> u64
     }
 }
 
-// The pointer to a struct.
+// The pointer to a struct. That to one without words has the offset -1.
+#[inline(always)]
 fn struct_pointer(offset: u32, data_words: u32, pointers: u32) -> u64
-    requires { (offset < 2 ^ 30) × (data_words < 2 ^ 16) × (pointers < 2 ^ 16) }
+    requires { (offset < 2 ^ 29) × (data_words < 2 ^ 16) × (pointers < 2 ^ 16) }
     ensures { result ≡ (if (data_words + pointers) == 0 then 2 ^ 32 - 4 else struct_word offset data_words pointers) }
 {
     if data_words + pointers == 0 {
-        EMPTY_STRUCT
-    } else {
-        tag_word(offset, data_words, pointers)
+        let empty = Pointer::Struct {
+            offset: -1,
+            data_words: 0,
+            pointers: 0,
+        };
+        return empty.word();
     }
+    let pointer = Pointer::Struct {
+        offset: offset as i32,
+        data_words: data_words as u16,
+        pointers: pointers as u16,
+    };
+    pointer.word()
 }
 
 /// The tag of a list of so many structs (encoding: Lists): a struct pointer with their number in
@@ -65,11 +73,26 @@ pub(crate) fn tag_word(count: u32, data_words: u32, pointers: u32) -> u64
 }
 
 // The pointer to a list.
+#[inline(always)]
 fn list_pointer(offset: u32, code: u8, size: u32) -> u64
-    requires { (offset < 2 ^ 30) × (code < 8) × (size < 2 ^ 29) }
+    requires { (offset < 2 ^ 29) × (code < 8) × (size < 2 ^ 29) }
     ensures { result ≡ list_word offset code size }
 {
-    1 + (u64::from(offset) << 2) + (u64::from(code) << 32) + (u64::from(size) << 35)
+    let pointer = Pointer::List {
+        offset: offset as i32,
+        code,
+        size,
+    };
+    pointer.word()
+}
+
+// The pointer to a capability.
+#[inline(always)]
+fn cap_pointer(index: u32) -> u64
+    ensures { result ≡ 3 + 2 ^ 32 * index }
+{
+    let pointer = Pointer::Cap { index };
+    pointer.word()
 }
 
 /// The last word of a list of values that has `words` words, without the bits behind the last value.

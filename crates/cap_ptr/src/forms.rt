@@ -94,6 +94,7 @@ impl Pointer {
 
     /// The word of this form. Asks that the fields are in the ranges told of them, that a struct
     /// isn't all zeros, which is the form of null, and that a reserved word is one.
+    #[inline(always)]
     pub fn word(&self) -> u64
         requires { IsPointer self.now }
         ensures value { pointer_of result ≡ self.now }
@@ -122,6 +123,7 @@ impl Pointer {
 }
 
 // The 30 bits of an offset, in their place.
+#[inline(always)]
 fn offset_field(offset: i32) -> u64
     requires { IsOffset offset }
     ensures low { result % 4 ≡ 0 }
