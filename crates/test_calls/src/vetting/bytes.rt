@@ -30,7 +30,7 @@ fn has_bytes(rt: &impl Abort, alloc: Global, spelled: &[&[u64]], rows: Rows) -> 
 }
 
 // The words of each segment of a message, and its bytes.
-static PLACES: [(&[&[u64]], Rows); 6] = [
+static PLACES: [(&[&[u64]], Rows); 8] = [
     // Null, a capability, and a struct without words at its own place.
     (&[&[0]], &[(&[], &[])]),
     (&[&[0x0300000005000000]], &[(&[], &[])]),
@@ -77,6 +77,32 @@ static PLACES: [(&[&[u64]], Rows); 6] = [
             (&[Step::Item(0)], &[0x0500000000000000]),
             (&[Step::Item(1)], &[0x0600000000000000]),
         ],
+    ),
+    // The same with zeros in the second, and a list of three bits, whose other bits are shown.
+    (
+        &[&[
+            0x010000001f000000,
+            0x0800000001000000,
+            0x0500000000000000,
+            0,
+            0xff00000000000000,
+        ]],
+        &[
+            (
+                &[],
+                &[
+                    0x0800000001000000,
+                    0x0500000000000000,
+                    0,
+                    0xff00000000000000,
+                ],
+            ),
+            (&[Step::Item(1)], &[0]),
+        ],
+    ),
+    (
+        &[&[0x0100000019000000, 0xffffffffffffffff]],
+        &[(&[], &[0xffffffffffffffff])],
     ),
     // A struct in the last of four segments, behind a landing pad of two words in the second.
     (

@@ -303,7 +303,7 @@ fn shows_values<M: Segments>(
 
 // The words of lists, their elements and the words of their data, each up to the first that there
 // isn't.
-static VALUES: [(&[u64], &[u64], &[u64]); 6] = [
+static VALUES: [(&[u64], &[u64], &[u64]); 9] = [
     // Elements without bits.
     (&[0x0100000018000000], &[0, 0, 0], &[]),
     (&[0x0100000019000000, 0xffffffffffffffff], &[1, 1, 1], &[7]),
@@ -326,6 +326,22 @@ static VALUES: [(&[u64], &[u64], &[u64]); 6] = [
         &[0x010000000d000000, 0xffffffffffffffff],
         &[u64::MAX],
         &[u64::MAX],
+    ),
+    // Elements whose highest bit is set: they have no sign.
+    (
+        &[0x010000001a000000, 0xff807f0000000000],
+        &[0xff, 0x80, 0x7f],
+        &[0x7f80ff],
+    ),
+    (
+        &[0x010000001b000000, 0xffff0080ff7f0000],
+        &[0xffff, 0x8000, 0x7fff],
+        &[0x7fff8000ffff],
+    ),
+    (
+        &[0x0100000014000000, 0xffffffff00000080],
+        &[0xffffffff, 0x80000000],
+        &[0x80000000ffffffff],
     ),
 ];
 

@@ -158,7 +158,7 @@ fn marked<M: Segments>(
 }
 
 // The words of each segment of a message, and its overlap.
-static OVERLAPS: [(&[&[u64]], Overlap); 24] = [
+static OVERLAPS: [(&[&[u64]], Overlap); 28] = [
     // Two pointers to one struct.
     (
         &[&[
@@ -197,6 +197,49 @@ static OVERLAPS: [(&[&[u64]], Overlap); 24] = [
             3,
         ]],
         None,
+    ),
+    // A list of one struct, and a struct on its element, on its tag, and behind it.
+    (
+        &[&[
+            0x0000000000000200,
+            0x050000000f000000,
+            0x0400000001000000,
+            0x0400000001000000,
+            7,
+        ]],
+        Some((0, 2, 3)),
+    ),
+    (
+        &[&[
+            0x0000000000000200,
+            0x050000000f000000,
+            0x0000000001000000,
+            0x0400000001000000,
+            7,
+        ]],
+        Some((0, 2, 3)),
+    ),
+    (
+        &[&[
+            0x0000000000000200,
+            0x050000000f000000,
+            0x0800000001000000,
+            0x0400000001000000,
+            7,
+            8,
+        ]],
+        None,
+    ),
+    // A struct, and a list of one struct whose element lies on it.
+    (
+        &[&[
+            0x0000000000000200,
+            0x0800000001000000,
+            0x010000000f000000,
+            0x0400000001000000,
+            7,
+        ]],
+        Some((0, 2, 3)),
     ),
     // Two pointers to one pad of null, and of a capability.
     (
