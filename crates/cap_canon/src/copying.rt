@@ -46,9 +46,9 @@ pub fn canonical<M: Segments>(alloc: Global, v: &Vetted<'_, M>) -> Result<Vec<u6
         × Denotes (words.items ∷ []) 0 0 (trim t) c' d × (c' ≤ c)) }
     ensures own { IfOk result (λ words. HasCopy (words.items ∷ []) words.items) }
 
-    // Each offset in it fits its 30 bits, one of which is the sign.
+    // Its words are a layout, and each offset that the pointer words of this are made from fits 30 bits, one of which is the sign.
     ensures near { IfOk result (λ words. (t : Tree) (c d : ℕ) → Denotes (M.segments (message_of v.now)) 0 0 t c d
-        → AllByRecursion (λ offset. offset < 2 ^ 29) (offsets (trim t))) }
+        → (words.items ≡ layout (trim t)) × AllByRecursion (λ offset. offset < 2 ^ 29) (offsets (trim t))) }
 
     // Other messages have these words for their copy exactly where the trimmed trees are equal.
     ensures only { IfOk result (λ words. (t u : Tree) (c d c' d' : ℕ) (other : List (List ℕ)) → Denotes (M.segments (message_of v.now)) 0 0 t c d

@@ -5,7 +5,8 @@ ghost use Rattle.std.specs.List.{AllByRecursion};
 ghost use Rattle.cap_spec.specs.Words.{IsWord};
 ghost use Rattle.cap_spec.specs.Tree.{Tree, IsTree, has_cap};
 ghost use Rattle.cap_spec.specs.Denoting.{Denotes};
-ghost use Rattle.cap_spec.specs.Canonical.{layout, offsets, trim};
+ghost use Rattle.cap_spec.specs.Canonical.{layout, list_word, offsets, struct_word, trim};
+ghost use Rattle.cap_spec.specs.Pointers.{code, data_size, kind, list_size, middle, pointer_size};
 ghost use Rattle.cap_spec.specs.Copies.{HasCopy, IsCanonical};
 
 /// A trimmed tree has nothing left to trim, so that a canonical copy is its own canonical copy.
@@ -36,23 +37,34 @@ pub fn layout_denotes_trimmed_tree()
         (c' : ℕ) × Denotes (layout (trim t) ∷ []) 0 0 (trim t) c' d × (c' ≤ c) }
 {}
 
-/// Two layouts of what words denote, trimmed, are equal exactly where the trimmed trees are.
+/// Two layouts of what words denote, trimmed, at charges below 2^29, are equal exactly where the
+/// trimmed trees are.
 pub fn one_layout()
     ensures { (m n : List (List ℕ)) (s w s' w' : ℕ) (t u : Tree) (c d c' d' : ℕ) →
         Denotes m s w t c d → Denotes n s' w' u c' d' → c < 2 ^ 29 → c' < 2 ^ 29 →
         (layout (trim t) ≡ layout (trim u)) ↔ (trim t ≡ trim u) }
 {}
 
-/// The layout of what a word of a message of words denotes, trimmed, has words alone: no field of
-/// it runs into another.
+/// The layout of what a word of a message of words denotes, trimmed, at a charge below 2^29, has
+/// words alone: each number in it is below 2^64.
 pub fn layout_is_words()
     ensures { (m : List (List ℕ)) (s w : ℕ) (t : Tree) (c d : ℕ) →
         AllByRecursion (AllByRecursion IsWord) m → Denotes m s w t c d → c < 2 ^ 29 →
         AllByRecursion IsWord (layout (trim t)) }
 {}
 
-/// Each pointer of that layout leads so few words ahead that its offset fits 30 bits, one of which
-/// is the sign.
+/// A pointer word of a layout keeps the fields that it is made from, where each fits its bits. The word
+/// of a struct has its offset and its two sizes, and that of a list its offset, its code and its size.
+/// So no field runs into another.
+pub fn pointer_fields_are_kept()
+    ensures of_struct { (offset d p : ℕ) → offset < 2 ^ 30 → d < 2 ^ 16 → p < 2 ^ 16 → let q = struct_word offset d p in
+        (kind q ≡ 0) × (middle q ≡ offset) × (data_size q ≡ d) × (pointer_size q ≡ p) }
+    ensures of_list { (offset c n : ℕ) → offset < 2 ^ 30 → c < 8 → n < 2 ^ 29 → let q = list_word offset c n in
+        (kind q ≡ 1) × (middle q ≡ offset) × (code q ≡ c) × (list_size q ≡ n) }
+{}
+
+/// Each pointer of the layout of what a word denotes, trimmed, at a charge below 2^29, is made from an
+/// offset that fits 30 bits, one of which is the sign.
 pub fn offsets_fit()
     ensures { (m : List (List ℕ)) (s w : ℕ) (t : Tree) (c d : ℕ) →
         Denotes m s w t c d → c < 2 ^ 29 → AllByRecursion (λ offset. offset < 2 ^ 29) (offsets (trim t)) }
@@ -63,12 +75,14 @@ pub fn one_copy()
     ensures { (m : List (List ℕ)) (xs ys : List ℕ) → HasCopy m xs → HasCopy m ys → xs ≡ ys }
 {}
 
-/// The canonical copy of a message is a message of one segment that is canonical.
+/// The canonical copy of a message, of a charge below 2^29, is a message of one segment that is
+/// canonical.
 pub fn copy_is_canonical()
     ensures { (m : List (List ℕ)) (words : List ℕ) (copy : HasCopy m words) → copy.charge < 2 ^ 29 → IsCanonical (words ∷ []) }
 {}
 
-/// Two messages have equal canonical copies exactly where their trees, trimmed, are equal.
+/// Two messages of charges below 2^29 have equal canonical copies exactly where their trees, trimmed,
+/// are equal.
 pub fn equal_copies()
     ensures { (m n : List (List ℕ)) (xs ys : List ℕ) (x : HasCopy m xs) (y : HasCopy n ys) →
         x.charge < 2 ^ 29 → y.charge < 2 ^ 29 → (xs ≡ ys) ↔ (trim x.tree ≡ trim y.tree) }

@@ -1,6 +1,11 @@
--- The trimmed tree and the words of its one layout (standard: Canonicalization; offsets of empty structs, unused
--- bits, empty lists and list roots are the profile's).
+-- The trimmed tree and the words of its one layout (standard: Canonicalization). These rules are the profile's.
+-- A null root is the word 0, and a root may be a list. A pointer over landing pads to null counts as null.
+-- Nulls at the end of a list of pointers stay. Surplus words of a list of structs are left out. A list of structs
+-- without elements has sizes 0 in its tag. The pointer to a struct without words has the offset -1. The pointer to
+-- a list without words leads to where its first word would be. The bits after a list's last value are zero.
+-- A tree with a capability has no canonical form.
 use Rattle.std.specs.Prelude.{ℕ, zero, suc, ◌+◌, ◌-◌, ◌*◌, ◌^◌, max, List, [], ◌∷◌, ◌++◌, length, take, Bool, true, false, ◌==◌, if◌then◌else◌}
+use Rattle.std.specs.List.{flat_map}
 use Rattle.cap_spec.specs.Tree.{Tree, null, cap, struct, scalars, pointers, structs, Trees, none, more, tree_count}
 use Rattle.cap_spec.specs.Pointers.{list_words}
 use Rattle.cap_spec.specs.Scalars.{scalar_words}
@@ -103,17 +108,37 @@ pointer_to offset (scalars c vs) = list_word offset c (length vs)
 pointer_to offset (pointers ts) = list_word offset 6 (tree_count ts)
 pointer_to offset (structs d p es) = list_word offset 7 (tree_count es * (d + p))
 
--- pointers in a row, with so many words between the last and the first child's content
-abbrev pub pointer_words : ℕ → Trees → List ℕ
-pointer_words after none = []
-pointer_words after (more t ts) = pointer_to (tree_count ts + after) t ∷ pointer_words (after + size t) ts
+-- how far pointers in a row lead, with so many words between the last and the first child's content
+abbrev pub pointer_offsets : ℕ → Trees → List ℕ
+pointer_offsets after none = []
+pointer_offsets after (more t ts) = (tree_count ts + after) ∷ pointer_offsets (after + size t) ts
 
--- elements in a row, with so many words between the last and the first child's content
+-- and those of each element in a row, with so many words between the last and the first child's content
+abbrev pub element_offsets : ℕ → ℕ → Trees → List (List ℕ)
+element_offsets each after none = []
+element_offsets each after (more (struct words ts) es) =
+    pointer_offsets (tree_count es * each + after) ts ∷ element_offsets each (after + sizes ts) es
+element_offsets each after (more t es) = element_offsets each after es
+
+-- the pointers to trees, of these offsets
+abbrev pub pointers_by : Trees → List ℕ → List ℕ
+pointers_by none offsets = []
+pointers_by (more t ts) [] = []
+pointers_by (more t ts) (offset ∷ offsets) = pointer_to offset t ∷ pointers_by ts offsets
+
+-- elements, the pointers of each of these offsets
+abbrev pub elements_by : Trees → List (List ℕ) → List ℕ
+elements_by none rows = []
+elements_by (more (struct words ts) es) [] = []
+elements_by (more (struct words ts) es) (row ∷ rows) = words ++ pointers_by ts row ++ elements_by es rows
+elements_by (more t es) rows = elements_by es rows
+
+-- pointers in a row, and elements in a row
+abbrev pub pointer_words : ℕ → Trees → List ℕ
+pointer_words after ts = pointers_by ts (pointer_offsets after ts)
+
 abbrev pub element_words : ℕ → ℕ → Trees → List ℕ
-element_words each after none = []
-element_words each after (more (struct words ts) es) =
-    words ++ pointer_words (tree_count es * each + after) ts ++ element_words each (after + sizes ts) es
-element_words each after (more t es) = element_words each after es
+element_words each after es = elements_by es (element_offsets each after es)
 
 abbrev mutual
   -- a tree's own words, and then its children's contents
@@ -137,27 +162,15 @@ abbrev mutual
 abbrev pub layout : Tree → List ℕ
 layout t = pointer_to 0 t ∷ content t
 
--- the offsets of pointers in a row, as pointer_words has them
-abbrev pub pointer_offsets : ℕ → Trees → List ℕ
-pointer_offsets after none = []
-pointer_offsets after (more t ts) = (tree_count ts + after) ∷ pointer_offsets (after + size t) ts
-
--- and of those of elements in a row, as element_words has them
-abbrev pub element_offsets : ℕ → ℕ → Trees → List ℕ
-element_offsets each after none = []
-element_offsets each after (more (struct words ts) es) =
-    pointer_offsets (tree_count es * each + after) ts ++ element_offsets each (after + sizes ts) es
-element_offsets each after (more t es) = element_offsets each after es
-
 abbrev mutual
-  -- how far each pointer of a layout leads, but the root word (which leads to the word behind it)
+  -- the offsets that the pointer words of a layout are made from, but that of the root word, which is 0
   pub offsets : Tree → List ℕ
   offsets null = []
   offsets (cap i) = []
   offsets (struct words ts) = pointer_offsets 0 ts ++ offsets_below ts
   offsets (scalars c vs) = []
   offsets (pointers ts) = pointer_offsets 0 ts ++ offsets_below ts
-  offsets (structs d p es) = element_offsets (d + p) 0 es ++ element_offsets_below es
+  offsets (structs d p es) = flat_map (λ row. row) (element_offsets (d + p) 0 es) ++ element_offsets_below es
 
   pub offsets_below : Trees → List ℕ
   offsets_below none = []

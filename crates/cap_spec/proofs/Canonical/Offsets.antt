@@ -1,6 +1,6 @@
 -- Each offset of a layout is smaller than the size of the tree.
 use Rattle.std.proofs.Common.{ℕ, suc, ◌+◌, ◌*◌, ◌^◌, ◌<◌, ◌≤◌, List, ◌≡◌, arith}
-use Rattle.std.specs.List.{AllByRecursion}
+use Rattle.std.specs.List.{AllByRecursion, flat_map}
 use Rattle.cap_spec.specs.Tree.{Tree, null, cap, struct, scalars, pointers, structs, Trees, none, more, tree_count}
 use Rattle.cap_spec.specs.Denoting.{Denotes}
 use Rattle.cap_spec.specs.Canonical.{size, sizes, element_sizes, pointer_offsets, element_offsets, offsets, offsets_below, element_offsets_below, trim}
@@ -23,10 +23,10 @@ others_near after n each s r most h = omega arith
 
 -- those of elements in a row
 elements_offsets : (most d p after : ℕ) (es : Trees) → FitElements d p es → after + tree_count es * (d + p) + element_sizes es < most
-    → AllByRecursion (λ offset. offset < most) (element_offsets (d + p) after es)
+    → AllByRecursion (λ offset. offset < most) (flat_map (λ row. row) (element_offsets (d + p) after es))
 elements_offsets most d p after none f h = tt
 elements_offsets most d p after (more (struct ws ts) es) f h =
-    all_append (λ offset. offset < most) (pointer_offsets (tree_count es * (d + p) + after) ts) (element_offsets (d + p) (after + sizes ts) es)
+    all_append (λ offset. offset < most) (pointer_offsets (tree_count es * (d + p) + after) ts) (flat_map (λ row. row) (element_offsets (d + p) (after + sizes ts) es))
     (row_offsets most (tree_count es * (d + p) + after) ts (first_near after (tree_count es) d p (tree_count ts) (sizes ts) (element_sizes es) most h f.1))
     (elements_offsets most d p (after + sizes ts) es f.3 (others_near after (tree_count es) (d + p) (sizes ts) (element_sizes es) most h))
 elements_offsets most d p after (more t es) f h = absurd f
@@ -49,7 +49,7 @@ mutual
   offsets_within most (pointers ts) f h =
       all_append (λ offset. offset < most) (pointer_offsets 0 ts) (offsets_below ts) (row_offsets most 0 ts (omega (arith, h))) (offsets_below_within most ts f.1 (omega (arith, h)))
   offsets_within most (structs d p es) f h =
-      all_append (λ offset. offset < most) (element_offsets (d + p) 0 es) (element_offsets_below es)
+      all_append (λ offset. offset < most) (flat_map (λ row. row) (element_offsets (d + p) 0 es)) (element_offsets_below es)
       (elements_offsets most d p 0 es f.4 (without_tag (tree_count es * (d + p)) (element_sizes es) most h))
       (element_offsets_within most d p es f.4 (elements_only (tree_count es * (d + p)) (element_sizes es) most h))
 

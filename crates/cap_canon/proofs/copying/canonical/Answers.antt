@@ -43,7 +43,8 @@ pub returns-clause-near : goal.returns-clause-near
 returns-clause-near g c =
     let m = g.M.Segments.segments (message_of c.args.v.now) in
     let k = c.report.ensures.accepted in
-    λ t x d f. offsets_fit m 0 0 t x d f (few_charged m c.report.result k.0 t x d k.1 f)
+    let words = rw c.message.ensures.value at c.copy_into.ensures.words in
+    λ t x d f. (words t x d f, offsets_fit m 0 0 t x d f (few_charged m c.report.result k.0 t x d k.1 f))
 
 pub returns-clause-only : goal.returns-clause-only
 returns-clause-only g c =
