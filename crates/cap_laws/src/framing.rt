@@ -1,11 +1,11 @@
 //! What words frame, and how reading a message from words ends.
 
 ghost use Rattle.cap_laws.specs.Framing.{FramesByBytes, OneEnding, PartialElse, four_bytes};
-ghost use Rattle.cap_spec.specs.Frames.{Frames, IsTable, Stream, frame_text, halves};
+ghost use Rattle.cap_spec.specs.Frames.{Frames, FramesZero, IsTable, Stream, frame_text, halves};
 ghost use Rattle.cap_spec.specs.Messages.{IsMessage};
 ghost use Rattle.cap_spec.specs.Plain.{plain_text};
 ghost use Rattle.std.specs.List.{flat_map};
-ghost use Rattle.std.specs.Prelude.{List, ℕ, ◌++◌, ◌≡◌};
+ghost use Rattle.std.specs.Prelude.{List, ℕ, ◌++◌, ◌≡◌, ◌↔◌};
 
 /// Words begin with at most one table of segments: of two, both are the same words, tell the same
 /// sizes and have the same words behind them.
@@ -39,9 +39,11 @@ pub fn partial_else()
     ensures { PartialElse }
 {}
 
-/// The frame with zero padding is one.
+/// The frame with zero padding is one, its padding is zero, and it is the only frame of the message
+/// with zero padding.
 pub fn frame_text_frames()
-    ensures { (m : List (List ℕ)) → IsMessage m → Frames (frame_text m) m }
+    ensures frames { (m : List (List ℕ)) → IsMessage m → Frames (frame_text m) m }
+    ensures zero_padding { (m : List (List ℕ)) (words : List ℕ) → IsMessage m → FramesZero words m ↔ (words ≡ frame_text m) }
 {}
 
 /// A half of a word is a number of four bytes, the lowest first: the plain spelling of words is

@@ -94,9 +94,11 @@ pub fn counts_are_numbers_of_paths()
         (has_cap t ≡ true) ↔ ((s w : ℕ) × IsFirstCap m s w) }
 {}
 
-/// A text is of at most one path, and a text that is of none is bad at one place.
+/// A text is of at most one path. A text that is of none is bad at one place: at no two, and not at
+/// none. A text of a path is bad nowhere.
 pub fn one_path_text()
     ensures path { (xs ys : List Step) → AllByRecursion IsStep xs → AllByRecursion IsStep ys → path_text xs ≡ path_text ys → xs ≡ ys }
     ensures bad { (text : List ℕ) (at at' : ℕ) → IsBadAt text at → IsBadAt text at' → at ≡ at' }
+    ensures somewhere { (text : List ℕ) → ¬ IsPath text → ¬ ((at : ℕ) → ¬ IsBadAt text at) }
     ensures apart { (text : List ℕ) (at : ℕ) → IsPath text → ¬ IsBadAt text at }
 {}

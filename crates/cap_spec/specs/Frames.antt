@@ -42,6 +42,11 @@ paired (a ∷ b ∷ rest) = (a + 2 ^ 32 * b) ∷ paired rest
 abbrev pub frame_text : List (List ℕ) → List ℕ
 frame_text m = paired ((length m - 1) ∷ sizes_of m) ++ joined m
 
+-- These words frame the message, and the padding of their table is zero.
+pub record FramesZero (words : List ℕ) (m : List (List ℕ)) : Type 0 where
+  pub frames : Frames words m
+  pub zero_padding : AllByRecursion (λ (n : ℕ). n ≡ 0) frames.is_table.padding
+
 -- These words are frames of these messages, one after the other.
 pub record Stream (words : List ℕ) (ms : List (List (List ℕ))) : Type 0 where
   pub frames : List (List ℕ × List (List ℕ))

@@ -1,12 +1,12 @@
 -- The frame with zero padding is one, and a list of frames splits in one way.
-use Rattle.std.proofs.Common.{◌≡◌, ℕ, zero, suc, ◌+◌, ◌-◌, ◌*◌, ◌/◌, ◌%◌, ◌^◌, ◌<◌, List, [], ◌∷◌, ◌++◌, length, map, replicate, flat_map, refl, sym, ap, ◌∙◌, arith, length-append}
+use Rattle.std.proofs.Common.{◌≡◌, ℕ, zero, suc, ◌+◌, ◌-◌, ◌*◌, ◌/◌, ◌%◌, ◌^◌, ◌<◌, List, [], ◌∷◌, ◌++◌, length, map, replicate, flat_map, drop, get_or, refl, sym, ap, ◌∙◌, arith, length-append}
 use Rattle.std.specs.List.{AllByRecursion}
 use Rattle.std.proofs.lemmas.List.{length-replicate, length-map}
 use Rattle.std.proofs.lemmas.List.Elements.{recursion_from_All}
 use Rattle.std.proofs.lemmas.List.Concat.{flat_map-append}
 use Rattle.cap_spec.specs.Messages.{IsMessage}
 use Rattle.cap_spec.specs.Plain.{plain_text}
-use Rattle.cap_spec.specs.Frames.{halves, sizes_of, Frames, paired, frame_text, Stream}
+use Rattle.cap_spec.specs.Frames.{halves, joined, sizes_of, Frames, FramesZero, paired, frame_text, Stream}
 use Rattle.cap_spec.proofs.Bytes.WordBytes.{four_bytes, word_halves}
 use Rattle.cap_spec.proofs.Frames.Framing.{one_frame}
 use Rattle.cap_spec.proofs.Frames.Endings.{frame_some}
@@ -75,6 +75,50 @@ frame_text_frames m is =
       };
       whole = refl;
     }
+
+-- zeros are zero, and numbers that are zero are zeros
+zeros_zero : (n : ℕ) → AllByRecursion (λ (k : ℕ). k ≡ 0) (replicate n 0)
+zeros_zero zero = tt
+zeros_zero (suc n) = (refl, zeros_zero n)
+
+are_zeros : (xs : List ℕ) → AllByRecursion (λ (k : ℕ). k ≡ 0) xs → xs ≡ replicate (length xs) 0
+are_zeros [] all = refl
+are_zeros (x ∷ xs) all = ap (λ k. k ∷ xs) all.0 ∙ ap (λ l. 0 ∷ l) (are_zeros xs all.1)
+
+-- words are told by their halves
+word_back : (x : ℕ) → x ≡ x % 2 ^ 32 + 2 ^ 32 * (x / 2 ^ 32)
+word_back x = omega arith
+
+halves_back : (a b : List ℕ) → flat_map halves a ≡ flat_map halves b → a ≡ b
+halves_back [] [] e = refl
+halves_back [] (y ∷ b) e = let l = ap length e in absurd (omega (arith, l))
+halves_back (x ∷ a) [] e = let l = ap length e in absurd (omega (arith, l))
+halves_back (x ∷ a) (y ∷ b) e =
+    let low : x % 2 ^ 32 ≡ y % 2 ^ 32 = ap (λ l. get_or l 0 0) e in
+    let high : x / 2 ^ 32 ≡ y / 2 ^ 32 = ap (λ l. get_or l 1 0) e in
+    let same : x ≡ y = omega (arith, word_back x, word_back y, low, high) in
+    ap (λ k. k ∷ a) same ∙ ap (λ l. y ∷ l) (halves_back a b (ap (λ l. drop 2 l) e))
+
+-- The words with zero padding are the only ones that frame the message with zero padding.
+pub frame_text_zero : (m : List (List ℕ)) → IsMessage m → FramesZero (frame_text m) m
+unfolding frame_text_frames
+frame_text_zero m is = record { frames = frame_text_frames m is; zero_padding = zeros_zero (suc (length (sizes_of m)) % 2) }
+
+-- so many zeros
+zeros : (xs : List ℕ) (n : ℕ) → AllByRecursion (λ (k : ℕ). k ≡ 0) xs → length xs ≡ n → xs ≡ replicate n 0
+zeros xs n all e = are_zeros xs all ∙ ap (λ k. replicate k 0) e
+
+one_zero_frame : (a b : List ℕ) (m : List (List ℕ)) → FramesZero a m → FramesZero b m → a ≡ b
+one_zero_frame a b m h g =
+    let t = h.frames.is_table in
+    let u = g.frames.is_table in
+    let n = (1 + length (sizes_of m)) % 2 in
+    let same : t.padding ≡ u.padding = zeros t.padding n h.zero_padding t.width ∙ sym (zeros u.padding n g.zero_padding u.width) in
+    let numbers = t.numbers ∙ ap (λ l. (length (sizes_of m) - 1) ∷ (sizes_of m ++ l)) same ∙ sym u.numbers in
+    h.frames.whole ∙ ap (λ l. l ++ joined m) (halves_back h.frames.table g.frames.table numbers) ∙ sym g.frames.whole
+
+pub zero_frame_is_text : (words : List ℕ) (m : List (List ℕ)) → IsMessage m → FramesZero words m → words ≡ frame_text m
+zero_frame_is_text words m is h = one_zero_frame words (frame_text m) m h (frame_text_zero m is)
 
 -- frames one after the other that make the same words frame the same messages
 pub same_stream : (fs gs : List (List ℕ × List (List ℕ))) → AllByRecursion (λ f. Frames f.0 f.1) fs → AllByRecursion (λ f. Frames f.0 f.1) gs →

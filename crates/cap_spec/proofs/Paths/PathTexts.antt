@@ -1,8 +1,9 @@
 -- The steps of a path are read back from its text.
-use Rattle.std.proofs.Common.{◌≡◌, ℕ, ◌+◌, ◌<◌, ◌≤◌, ◌^◌, ◌%◌, List, [], ◌∷◌, ◌++◌, decimal, get_or, refl, ap, arith}
+use Rattle.std.proofs.Common.{◌≡◌, inl, inr, ℕ, zero, suc, ◌+◌, ◌<◌, ◌≤◌, ◌^◌, ◌%◌, List, [], ◌∷◌, ◌++◌, codes, decimal, get_or, length, take, refl, ap, arith}
 use Rattle.std.specs.List.{flat_map, AllByRecursion}
+use Rattle.std.proofs.lemmas.Bool.Decides.{leb_tells}
 use Rattle.std.proofs.lemmas.Fmt.{decimal_by_steps, decimal_injective}
-use Rattle.cap_spec.specs.PathTexts.{IsBadAt, IsPath, IsStep, step_text, path_text}
+use Rattle.cap_spec.specs.PathTexts.{BeginsPath, IsBadAt, IsPath, IsStep, step_text, path_text}
 use Rattle.cap_spec.specs.declared.Step.{Step}
 use Rattle.cap_spec.specs.declared.Step.TheVariants.{Ptr, Item}
 use Rattle.cap_spec.proofs.Bytes.Lists.{all_append}
@@ -87,6 +88,22 @@ one_bad_place text at at' p q =
     let le = q.longest at p.within p.begins in
     let ge = p.longest at' q.within q.begins in
     omega (arith, le, ge)
+
+-- where it is bad at no place, none of its beginnings that are so long begins a path
+none_from : (text : List ℕ) → (IsPath text → ⊥) → ((at : ℕ) → IsBadAt text at → ⊥) → (k n : ℕ) → n ≤ length text → length text ≤ n + k → BeginsPath (take n text) → ⊥
+none_from text none nowhere zero n few long p =
+    nowhere n (record { none = none; within = few; begins = p; longest = λ n' less q. omega (arith, less, long) })
+none_from text none nowhere (suc k) n few long p =
+    let longest : (n' : ℕ) → n' ≤ length text → BeginsPath (take n' text) → n' ≤ n = λ n' less q. elim (leb_tells n' n) [
+      | inl le ↦ le.1
+      | inr over ↦ let more = over.1 in absurd (none_from text none nowhere k n' less (omega (arith, more, long)) q)
+    ] in
+    nowhere n (record { none = none; within = few; begins = p; longest = longest })
+
+-- so it is bad somewhere
+pub bad_somewhere : (text : List ℕ) → (IsPath text → ⊥) → ((at : ℕ) → IsBadAt text at → ⊥) → ⊥
+bad_somewhere text none nowhere =
+    none_from text none nowhere (length text) 0 (omega arith) (omega arith) (record { steps = []; are = tt; rest = codes "/"; whole = refl })
 
 -- a text of a path is bad nowhere
 pub path_not_bad : (text : List ℕ) (at : ℕ) → IsPath text → IsBadAt text at → ⊥
