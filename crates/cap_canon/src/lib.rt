@@ -1,4 +1,5 @@
-//! The canonical copy of an accepted message, and its length.
+//! The canonical copy of an accepted message, as words, as bytes or into a buffer, its length, and
+//! whether a message is its own copy.
 #![tactic(auto)]
 
 mod appending;

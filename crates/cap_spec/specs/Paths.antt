@@ -28,7 +28,7 @@ abbrev pub level_of : Spot → ℕ
 level_of (word s w) = 1
 level_of (element t b ds ps) = element_levels 1
 
--- The path leads from the first spot to the second, and arrives at n pointer words on its way.
+-- The path leads from the first spot to the second, n levels below it: each spot that it arrives at counts level_of.
 abbrev pub Walks : List (List ℕ) → Spot → List Step → ℕ → Spot → Type 0
 Walks m a [] n b = (n ≡ 0) × (b ≡ a)
 Walks m a (step ∷ path) n b =
