@@ -1,4 +1,4 @@
--- Words written as bytes into room for more of them.
+-- Words written as bytes over bytes that are there already.
 use Rattle.std.proofs.Common.{◌≡◌, ◌+◌, ◌*◌, ◌/◌, ◌<◌, ◌≤◌, ◌∙◌, ℕ, zero, suc, List, [], ◌∷◌, ◌++◌, length, take, drop, get_or, set, drop-drop, refl, ap, sym, arith}
 use Rattle.std.specs.List.{AllByRecursion}
 use Rattle.cap_spec.specs.Plain.{plain_text, plain_words, word_bytes}
@@ -51,22 +51,6 @@ words_put p k bytes given w is eight h e =
     ∙ ap (λ l. plain_words (take (8 * p) bytes ++ (given ++ l))) (drop-drop 8 (8 * p) bytes)
     ∙ ap (λ l. plain_words (take (8 * p) bytes ++ (l ++ drop (8 * p + 8) bytes))) e ∙ words_set p bytes w is h
 
--- the front of bytes begins with the first words
-pub words_front : (n : ℕ) (bytes : List ℕ) → 8 * n ≤ length bytes → plain_words (take (8 * n) bytes) ≡ take n (plain_words bytes)
-words_front zero bytes h = refl
-words_front (suc n) [] h = absurd (omega (arith, h))
-words_front (suc n) (a ∷ []) h = absurd (omega (arith, h))
-words_front (suc n) (a ∷ b ∷ []) h = absurd (omega (arith, h))
-words_front (suc n) (a ∷ b ∷ c ∷ []) h = absurd (omega (arith, h))
-words_front (suc n) (a ∷ b ∷ c ∷ d ∷ []) h = absurd (omega (arith, h))
-words_front (suc n) (a ∷ b ∷ c ∷ d ∷ e ∷ []) h = absurd (omega (arith, h))
-words_front (suc n) (a ∷ b ∷ c ∷ d ∷ e ∷ f ∷ []) h = absurd (omega (arith, h))
-words_front (suc n) (a ∷ b ∷ c ∷ d ∷ e ∷ f ∷ g ∷ []) h = absurd (omega (arith, h))
-words_front (suc n) (a ∷ b ∷ c ∷ d ∷ e ∷ f ∷ g ∷ x ∷ rest) h =
-    let front : 8 * suc n ≡ suc (suc (suc (suc (suc (suc (suc (suc (8 * n)))))))) = omega arith in
-    ap (λ k. plain_words (take k (a ∷ b ∷ c ∷ d ∷ e ∷ f ∷ g ∷ x ∷ rest))) front
-    ∙ ap (λ ws. get_or (plain_words (a ∷ b ∷ c ∷ d ∷ e ∷ f ∷ g ∷ x ∷ rest)) 0 0 ∷ ws) (words_front n rest (omega (arith, h)))
-
 -- a vector whose slice was written over holds what the slice then held
 pub written_back : (n : ℕ) (given items : List ℕ) → length given ≡ n → take n (given ++ drop (length given) items) ≡ given
 written_back n given items e = take-append-le n given (drop (length given) items) (omega (arith, e)) ∙ take_all n given (omega (arith, e))
@@ -86,19 +70,7 @@ pub word_appended : (n w : ℕ) (given items : List ℕ) → 8 * n + 8 ≤ lengt
     → spelled_words (n + 1) given ≡ spelled_words n items ++ w ∷ []
 word_appended n w given items h e = ap (take (n + 1)) e ∙ take-set_at (plain_words items) n (n + 1) w refl (omega (arith, word_count items, h))
 
--- the same into the slice of a vector
-pub word_pushed : (len n w : ℕ) (given slice items : List ℕ) → slice ≡ items → length given ≡ len → 8 * n + 8 ≤ length items → plain_words given ≡ set (plain_words slice) n w
-    → spelled_words (n + 1) (take len (given ++ drop (length given) items)) ≡ spelled_words n items ++ w ∷ []
-word_pushed len n w given slice items same long h e =
-    ap (spelled_words (n + 1)) (written_back len given items long) ∙ word_appended n w given items h (e ∙ ap (λ l. set (plain_words l) n w) same)
-
 -- word p was written in place of one of the first n
 pub word_replaced : (n p w : ℕ) (given items : List ℕ) → p < n → plain_words given ≡ set (plain_words items) p w
     → spelled_words n given ≡ set (spelled_words n items) p w
 word_replaced n p w given items h e = ap (take n) e ∙ take-set-lt n (plain_words items) p w h
-
--- the same into the slice of a vector
-pub word_set : (len n p w : ℕ) (given slice items : List ℕ) → slice ≡ items → length given ≡ len → p < n → plain_words given ≡ set (plain_words slice) p w
-    → spelled_words n (take len (given ++ drop (length given) items)) ≡ set (spelled_words n items) p w
-word_set len n p w given slice items same long h e =
-    ap (spelled_words n) (written_back len given items long) ∙ word_replaced n p w given items h (e ∙ ap (λ l. set (plain_words l) p w) same)

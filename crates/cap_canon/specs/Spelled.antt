@@ -1,4 +1,4 @@
--- Words that are written as bytes into room for more of them (profile).
+-- Words that are written as bytes over bytes that are there already (profile).
 use Rattle.std.specs.Prelude.{ℕ, List, take}
 use Rattle.cap_spec.specs.Plain.{plain_words}
 

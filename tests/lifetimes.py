@@ -1,0 +1,88 @@
+#!/usr/bin/env python3
+"""Compiles a test that uses a node after its message was dropped, which has to be refused.
+
+The crates that nodes come from are copied into a folder of their own, with a crate of one test beside them, which
+`rt try` compiles and proves nothing of. Where the test keeps its message, it has to pass. Where it drops the message
+first, the one error has to be that the message doesn't live long enough. Failures are printed as they come. The last
+line is 'N passed, M failed', and the status is 1 where a case failed.
+"""
+import shutil
+import subprocess
+import sys
+import tempfile
+from pathlib import Path
+
+TOP = Path(__file__).resolve().parent.parent
+BELOW = ("cap_spec", "cap_words", "cap_frame", "cap_ptr", "cap_vet")
+LEFT_OUT = shutil.ignore_patterns("out", "must-fail")
+ROOT = """//! A node and its message.
+#![tactic(auto)]
+
+#[cfg(test)]
+mod tests;
+"""
+TEST = """//! A node of a message, used after the block that it was made in.
+
+use cap_frame::WordMessage;
+use cap_vet::{{Kind, Limits, vet}};
+use std::test::Fail;
+
+#[test]
+fn the_root_is_null(rt: HostRuntime) -> Result<(), Fail> {{
+    let alloc = rt.alloc();
+    let mut segments = Vec::new(alloc);
+    segments.push(vec![in alloc; 0]?)?;
+    let message = WordMessage::new(segments).ok_or("no message")?;
+    let limits = Limits::new(0, 0).ok_or("no limits")?;
+    let node = {{
+        {first}
+        match vet(&message, limits) {{
+            Ok(vetted) => vetted.root(),
+            Err(_) => return Err("refused".into()),
+        }}
+    }};
+    assert!(rt; node.view().kind() == Kind::Null);
+    Ok(())
+}}
+"""
+# What the inner block does first, and the error that is expected.
+CASES = (
+    ("a node of a message that is kept", "let limits = limits;", None),
+    ("a node of a message that is dropped", "let message = message;", "error[borrow-e0597]: `message` does not live long enough"),
+)
+
+
+def errors(folder, first):
+    """The lines of errors that compiling and running the test gives."""
+    (folder / "src/tests.rt").write_text(TEST.format(first=first))
+    ran = subprocess.run(["rt", "try", "--test"], cwd=folder, stdin=subprocess.DEVNULL, stdout=subprocess.PIPE,
+                         stderr=subprocess.STDOUT, text=True)
+    found = [line for line in ran.stdout.splitlines() if "error" in line]
+    return found or (["no error, and the status " + str(ran.returncode)] if ran.returncode else [])
+
+
+def main():
+    passed = failed = 0
+    with tempfile.TemporaryDirectory(prefix="capvet-") as root:
+        root = Path(root)
+        for name in BELOW:
+            shutil.copytree(TOP / "crates" / name, root / "crates" / name, ignore=LEFT_OUT)
+        lines = [line for line in (TOP / "crates.txt").read_text().splitlines() if line.split(":")[0] in BELOW]
+        (root / "crates.txt").write_text("\n".join(lines + ["lifetimes: cap_frame cap_vet", ""]))
+        shutil.copy(TOP / "HANDLES", root)
+        folder = root / "crates/lifetimes"
+        (folder / "src").mkdir(parents=True)
+        (folder / "src/lib.rt").write_text(ROOT)
+        for name, first, expected in CASES:
+            found = errors(folder, first)
+            if not found if expected is None else len(found) == 1 and expected in found[0]:
+                passed += 1
+            else:
+                failed += 1
+                print(f"FAILED: {name}: expected {expected}, got {found}")
+    print(f"{passed} passed, {failed} failed")
+    return failed > 0
+
+
+if __name__ == "__main__":
+    sys.exit(main())
