@@ -56,10 +56,12 @@ uninstall:
 test:
 	python3 tests/all.py
 
-# The same, and the prover has to refuse each must-fail edit; then each allocation fails in turn.
+# The same, and the prover has to refuse each must-fail edit. Then each allocation fails in turn, and a node that
+# outlives its message is refused.
 gate:
 	python3 tests/all.py --edits
 	@$(MAKE) --no-print-directory growths
+	python3 tests/lifetimes.py
 
 # Out-of-memory tests: each allocation fails in turn, first of the calls that allocate, then of the built program.
 growths:
