@@ -120,7 +120,10 @@ impl<R: Read> ByteIn for BufferedIn<R> {
 
     #[inline(always)]
     fn skip(&mut self, count: usize) {
-        self.start += count.min(self.end - self.start);
+        let count = count.min(self.end - self.start);
+        if count > 0 {
+            self.start += count;
+        }
     }
 
     #[inline(always)]

@@ -47,8 +47,9 @@ pub trait ByteIn {
         ensures usable { 0 < length result.now → spent self.now ≡ false };
 
     /// Takes the first `count` of the bytes at hand, or all of them where there are fewer. Nothing
-    /// else happens.
+    /// else happens: where there are none to take, the input stays as it is.
     fn skip(&mut self, count: usize)
+        ensures idle { take count (at_hand self.old) ≡ [] → self.new ≡ self.old }
         ensures bytes { Consumes (to_come self.old) (to_come self.new) (take count (at_hand self.old)) }
         ensures left { at_hand self.new ≡ drop count (at_hand self.old) }
         ensures spent { spent self.new ≡ spent self.old }

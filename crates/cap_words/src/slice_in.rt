@@ -43,7 +43,10 @@ impl ByteIn for SliceIn<'_> {
 
     #[inline(always)]
     fn skip(&mut self, count: usize) {
-        self.rest = &self.rest[count.min(self.rest.len())..];
+        let count = count.min(self.rest.len());
+        if count > 0 {
+            self.rest = &self.rest[count..];
+        }
     }
 
     fn read(&mut self, buf: &mut [u8]) -> Result<usize, InFault> {
