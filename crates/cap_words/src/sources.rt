@@ -7,7 +7,7 @@ ghost use Rattle.cap_words.specs.TakingMany.{EndsWithin, ReadsBytes, TakesAll};
 ghost use Rattle.std.specs.Io.KnownBytes.{Consumes, Keeps};
 ghost use Rattle.std.specs.List.{AllByRecursion};
 ghost use Rattle.std.specs.Option.{option_to_list};
-ghost use Rattle.std.specs.Prelude.{◌*◌, ◌+◌, ◌++◌, ◌-◌, ◌/◌, ◌<◌, ◌^◌, ◌≡◌, ◌≤◌, ◌⊎◌, [], ◌∷◌, Bool, IfOk, IfSome, IsErrOf, List, OnErr, OnOk, OnSome, Option, false, length, min, take, true, ℕ};
+ghost use Rattle.std.specs.Prelude.{◌*◌, ◌+◌, ◌++◌, ◌-◌, ◌/◌, ◌<◌, ◌^◌, ◌≡◌, ◌≤◌, ◌⊎◌, [], ◌∷◌, Bool, IfOk, IfSome, IsErrOf, List, OnErr, OnOk, OnSome, Option, drop, false, length, min, take, true, ℕ};
 ghost use Rattle.std.specs.Vec.{vec_capacity, vec_len};
 
 use super::word::bytes_of;
@@ -76,7 +76,7 @@ pub trait WordSource {
 
     /// Gives the bytes of words that are at hand, as far as there is room for whole ones, and how many
     /// bytes these are. The device isn't called. 0 doesn't say that no words are to come: `next` tells
-    /// that.
+    /// that. The bytes of `out` after those given may be overwritten, even where the answer is 0.
     fn ready(&mut self, out: &mut [u8]) -> usize
         ensures room { result ≤ length out.new }
         ensures words { let ws = plain_words (take result out.new) in (take result out.new ≡ plain_text ws)
@@ -118,12 +118,14 @@ pub trait WordSource {
 
     /// Fills the whole words of `out` with the bytes of the next words, and answers whether there were
     /// so many: `false` where the input ends between words before that, and from then on. With room
-    /// for no whole word nothing happens. What `out` holds after any other answer than `true` is not
-    /// said, nor how many words came. After a fault every call answers `Spent`.
+    /// for no whole word nothing happens. What the whole words of `out` hold after any other answer than
+    /// `true` is not said, nor how many words came. Less than a word at the end of `out` stays as it is.
+    /// After a fault every call answers `Spent`.
     fn fill(&mut self, out: &mut [u8]) -> Result<bool, SourceFault>
         ensures full { result ≡ Ok true → let ws = plain_words out.new in (length ws ≡ length out.old / 8) × (take (8 * length ws) out.new ≡ plain_text ws)
             × TakesAll (words self.old) (words self.new) (is_cut self.old) (is_cut self.new) (place self.old) (place self.new)
             (places self.old) (places self.new) ws }
+        ensures rest { let whole = length out.old / 8 * 8 in drop whole out.new ≡ drop whole out.old }
         ensures none { length out.old < 8 → (result ≡ Ok true) × (self.new ≡ self.old) }
         ensures works { 8 ≤ length out.old → OnOk result (Works (spent self.old) (spent self.new) (failures self.old) (failures self.new)) }
         ensures reads { ReadsBytes (unread self.old) (unread self.new) (place self.old) (place self.new) }

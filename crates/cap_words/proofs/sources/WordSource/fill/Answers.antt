@@ -1,4 +1,5 @@
 use Rattle.std.proofs.Common.{◌≡◌, ◌<◌, ◌/◌, ◌∙◌, refl, ap, length, take, arith, rules}
+use Rattle.std.proofs.lemmas.Slice.{overwrites}
 use Rattle.cap_spec.specs.Plain.{plain_words, word_bytes}
 use Rattle.cap_words.proofs.Filling.{ends_both, filled_all, filled_more, filled_still, filled_words, next_gives, reads_both, reads_one, ready_works, word_filled, word_within}
 use Rattle.cap_words.proofs.Turns.{filled, filled_within}
@@ -7,47 +8,55 @@ use Rattle.cap_words.proofs.sources.WordSource.fill.Goals as goal
 pub loop-done-preserved-then-count-gt0 : goal.loop-done-preserved-then-count-gt0
 loop-done-preserved-then-count-gt0 g c =
     let s = g.Self.WordSource in
-    let far = c.loop-done.invariant in
+    let far = c.loop-done.invariant.filled in
     let e = c.ready-count.ensures in
-    filled_more s _ _ _ c.loop-done.done c.ready-count.result c.loop-done.out _ c.ready-count.new.out far
     record {
-      some = c.if-count-gt0.true;
-      within = e.room;
-      text = e.words.0;
-      takes = e.words.1;
-      reads = e.reads;
-      works = ready_works c.ready-count.result _ _ _ _ c.if-count-gt0.true e.usable e.spent e.failures;
-      not_ended = e.stays;
-      not_failed = e.for_good;
+      filled =
+          filled_more s _ _ _ c.loop-done.done c.ready-count.result c.loop-done.out _ c.ready-count.new.out far
+          record {
+            some = c.if-count-gt0.true;
+            within = e.room;
+            text = e.words.0;
+            takes = e.words.1;
+            reads = e.reads;
+            works = ready_works c.ready-count.result _ _ _ _ c.if-count-gt0.true e.usable e.spent e.failures;
+            not_ended = e.stays;
+            not_failed = e.for_good;
+          }
+          (filled _ _ _ _ _ far.within e.room) (filled_within _ _ _ _ _ far.within e.room);
+      rest = search (rules, overwrites);
     }
-    (filled _ _ _ _ _ far.within e.room) (filled_within _ _ _ _ _ far.within e.room)
 
 pub loop-done-preserved : goal.loop-done-preserved
 loop-done-preserved g c =
     let s = g.Self.WordSource in
-    let far = c.loop-done.invariant in
+    let far = c.loop-done.invariant.filled in
     let e = rw c.in-Ok-Some.field-0-is at c.in-Ok-Some.ensures in
     let still = filled_still s _ _ _ _ _ (c.ready-count.ensures.none (omega arith)) far in
     let given = c.copy_from_slice.new.self in
     let bytes : given ≡ word_bytes c.in-Ok-Some.word = c.copy_from_slice.ensures.after ∙ c.bytes_of.ensures.value in
     let long : length given ≡ 8 = ap length bytes in
-    filled_more s _ _ _ c.loop-done.done 8 c.loop-done.out _ given still
-    (next_gives s _ _ given c.in-Ok-Some.word bytes (search rules) e.words e.word (reads_one _ _ _ _ c.next.ensures.reads) e.ok (λ is. let h = (e.stays is).0 in cc) (λ is. let h = (e.for_good is).0 in cc))
-    (word_filled _ _ _ _ _ given far.within (omega arith)) (word_within _ _ _ _ _ given far.within (omega arith))
+    record {
+      filled =
+          filled_more s _ _ _ c.loop-done.done 8 c.loop-done.out _ given still
+          (next_gives s _ _ given c.in-Ok-Some.word bytes (search rules) e.words e.word (reads_one _ _ _ _ c.next.ensures.reads) e.ok (λ is. let h = (e.stays is).0 in cc) (λ is. let h = (e.for_good is).0 in cc))
+          (word_filled _ _ _ _ _ given far.within (omega arith)) (word_within _ _ _ _ _ given far.within (omega arith));
+      rest = search (rules, overwrites);
+    }
 
 pub returns-in-Ok-None-clause-reads : goal.returns-in-Ok-None-clause-reads
 returns-in-Ok-None-clause-reads g c =
-    let still = filled_still g.Self.WordSource _ _ _ _ _ (c.ready-count.ensures.none (omega arith)) c.loop-done.invariant in
+    let still = filled_still g.Self.WordSource _ _ _ _ _ (c.ready-count.ensures.none (omega arith)) c.loop-done.invariant.filled in
     reads_both _ _ _ _ _ _ still.reads (reads_one _ _ _ _ c.next.ensures.reads)
 
 pub returns-in-Err-clause-reads : goal.returns-in-Err-clause-reads
 returns-in-Err-clause-reads g c =
-    let still = filled_still g.Self.WordSource _ _ _ _ _ (c.ready-count.ensures.none (omega arith)) c.loop-done.invariant in
+    let still = filled_still g.Self.WordSource _ _ _ _ _ (c.ready-count.ensures.none (omega arith)) c.loop-done.invariant.filled in
     reads_both _ _ _ _ _ _ still.reads (reads_one _ _ _ _ c.next.ensures.reads)
 
 pub returns-in-Ok-None-clause-ended : goal.returns-in-Ok-None-clause-ended
 returns-in-Ok-None-clause-ended g c = λ is.
-    let far = c.loop-done.invariant in
+    let far = c.loop-done.invariant.filled in
     let still = filled_still g.Self.WordSource _ _ _ _ _ (c.ready-count.ensures.none (omega arith)) far in
     let few : length (plain_words (take c.loop-done.done c.loop-done.out)) < length c.args.out.now / 8 = omega (arith, filled_words g.Self.WordSource _ _ _ _ far) in
     let e = rw c.in-Ok-None.field-0-is at c.in-Ok-None.ensures in
@@ -55,12 +64,18 @@ returns-in-Ok-None-clause-ended g c = λ is.
 
 pub returns-in-Err-clause-truncated : goal.returns-in-Err-clause-truncated
 returns-in-Err-clause-truncated g c = λ byte is.
-    let far = c.loop-done.invariant in
+    let far = c.loop-done.invariant.filled in
     let still = filled_still g.Self.WordSource _ _ _ _ _ (c.ready-count.ensures.none (omega arith)) far in
     let few : length (plain_words (take c.loop-done.done c.loop-done.out)) < length c.args.out.now / 8 = omega (arith, filled_words g.Self.WordSource _ _ _ _ far) in
     ends_both _ _ _ _ _ _ _ _ _ _ _ _ few still.takes (c.in-Err.ensures.truncated byte (cc))
 
 pub returns-clause-full : goal.returns-clause-full
 returns-clause-full g c = λ is.
-    let far = c.loop-done.invariant in
+    let far = c.loop-done.invariant.filled in
     filled_all g.Self.WordSource _ _ c.loop-done.done c.loop-done.out (length c.args.out.now / 8) far (omega arith) (omega arith)
+
+pub returns-in-Ok-None-clause-rest : goal.returns-in-Ok-None-clause-rest
+returns-in-Ok-None-clause-rest g c = search (rules, overwrites)
+
+pub returns-in-Err-clause-rest : goal.returns-in-Err-clause-rest
+returns-in-Err-clause-rest g c = search (rules, overwrites)
