@@ -39,4 +39,4 @@ known_are_words Open (Some bytes) all = (plain_split bytes all).are_words
 known_are_words Ended None all = tt
 known_are_words Ended (Some bytes) all = tt
 known_are_words Failed None all = tt
-known_are_words Failed (Some bytes) all = (plain_split bytes all).are_words
+known_are_words Failed (Some bytes) all = tt

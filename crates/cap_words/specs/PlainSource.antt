@@ -22,8 +22,8 @@ source_spent Open input = input
 source_spent Ended input = false
 source_spent Failed input = true
 
--- what it will still read of the bytes to come
+-- what it will still read of the bytes to come: nothing once it has ended or failed
 abbrev pub bytes_left : Phase → Option (List ℕ) → Option (List ℕ)
 bytes_left Open known = known
 bytes_left Ended known = option_map (λ _. []) known
-bytes_left Failed known = known
+bytes_left Failed known = option_map (λ _. []) known
