@@ -7,7 +7,6 @@ pub mod Ties
 pub mod Turns
 pub mod Steps
 pub mod FullWords
-pub mod Telling
 pub mod PuttingEach
 pub mod Tags
 pub mod Runs

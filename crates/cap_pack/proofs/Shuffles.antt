@@ -1,6 +1,6 @@
 -- Shuffles of bytes, by places that stand for the bits of a tag.
 use Rattle.std.proofs.Common.{◌≡◌, ℕ, zero, suc, ◌+◌, ◌-◌, ◌*◌, ◌/◌, ◌%◌, ◌<◌, ◌≤◌, eqb, leb, cond, not, Bool, true, false, ◌&&◌, List, [], ◌∷◌, ◌++◌, length, get_or, map, take, drop, replicate, refl, sym, ap, subst, ◌∙◌, arith, w8, T, ltb, ◌||◌, get_or-drop, add-zero, add-one, zero-add}
-use Rattle.std.specs.Prelude.{◌==◌, filter}
+use Rattle.std.specs.Prelude.{◌==◌, filter, if◌then◌else◌}
 use Rattle.std.specs.Simd.Lanes.{Each1, number_l}
 use Rattle.std.proofs.lemmas.Bool.{false≢true, and_parts, eqb-true, lt-leb, lt-ltb}
 use Rattle.std.proofs.lemmas.List.{length-map, map-append, length-append, length-replicate}
@@ -10,7 +10,7 @@ use Rattle.std.proofs.lemmas.List.Sums.{length-filter}
 use lib.Count.{ones}
 use Rattle.cap_spec.specs.Plain.{word_bytes}
 use Rattle.byteorder.specs.Endian.{little_number}
-use Rattle.cap_spec.specs.Packing.{tag_of}
+use Rattle.cap_spec.specs.Packing.{tag_of, zero_bytes, zeros_in}
 use Rattle.cap_spec.specs.Unpacking.{marks, spread}
 use Rattle.cap_pack.specs.Places.{spread_from, marked_from, spread_row, squeeze_row}
 use Rattle.cap_pack.proofs.Tags.{eight_number, word_tag, mask_is_tag}
@@ -266,6 +266,19 @@ squeeze_by_places word xs row lanes tag l e t r f =
 pub ones_of_tag : (w tag : ℕ) → tag ≡ word_tag w → ones tag ≡ length (present (word_bytes w))
 ones_of_tag w tag e =
     ap ones (e ∙ sym (mask_is_tag (word_bytes w))) ∙ ones-mask_l (λ b. not (eqb b 0)) (word_bytes w) ∙ sym (length-filter (λ b. not (b == 0)) (word_bytes w))
+
+-- each byte is one that is present, or a zero one
+present_or_zero : (bs : List ℕ) → length (present bs) + zeros_in bs ≡ length bs
+present_or_zero [] = refl
+present_or_zero (b ∷ bs) = one_of (b == 0) b bs (present_or_zero bs)
+  where
+    one_of : (z : Bool) (b : ℕ) (bs : List ℕ) → length (present bs) + zeros_in bs ≡ length bs → length (if not z then b ∷ present bs else present bs) + ((if z then 1 else 0) + zeros_in bs) ≡ suc (length bs)
+    one_of true b bs e = omega (arith, e)
+    one_of false b bs e = omega (arith, e)
+
+-- the others are zero
+pub ones_and_zeros : (w tag : ℕ) → tag ≡ word_tag w → ones tag + zero_bytes w ≡ 8
+ones_and_zeros w tag e = ap (λ n. n + zero_bytes w) (ones_of_tag w tag e) ∙ present_or_zero (word_bytes w)
 
 pub gathered : (w tag : ℕ) (out : List ℕ) → tag ≡ word_tag w → out ≡ present (word_bytes w) ++ replicate (8 - marks 8 tag) 0 → out ≡ present (word_bytes w) ++ replicate (8 - ones tag) 0
 gathered w tag out t e =

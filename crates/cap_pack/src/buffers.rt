@@ -6,8 +6,7 @@ ghost use Rattle.cap_spec.specs.Packing.{full_run, group_size, pack_text, zero_r
 ghost use Rattle.cap_spec.specs.Plain.{plain_words};
 ghost use Rattle.std.specs.Prelude.{◌%◌, ◌*◌, ◌+◌, ◌++◌, ◌<◌, ◌≡◌, ◌≤◌, drop, get_or, length, min, take};
 
-use super::lanes::{squeezed, tag_of_word};
-use super::spelling::count_zeros;
+use super::lanes::{count_zeros, squeezed, tag_of_word};
 use byteorder::{ByteOrder, LittleEndian};
 use cap_words::bytes_of;
 

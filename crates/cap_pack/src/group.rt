@@ -1,14 +1,12 @@
 //! The group that a packer holds open, and how it is written.
 
 ghost use Rattle.cap_pack.specs.Holding.{group_bytes};
-ghost use Rattle.cap_spec.specs.Packing.{tag_of};
-ghost use Rattle.cap_spec.specs.Plain.{word_bytes};
 ghost use Rattle.cap_words.specs.Ends.{DeviceFails, GrowthFails};
 ghost use Rattle.std.specs.Io.KnownBytes.{Appends};
-ghost use Rattle.std.specs.Prelude.{◌==◌, ◌≡◌, ◌≤◌, ◌∷◌, IsErrOf, OnErr, OnOk, filter, not, take, true, ℕ};
+ghost use Rattle.std.specs.Prelude.{◌≡◌, ◌≤◌, IsErrOf, OnErr, OnOk, take, true, ℕ};
 
-use super::spelling::{ROOM_BYTES, spell_marked, spell_plain, spell_zeros};
-use cap_words::{ByteOut, OutFault, bytes_of, write_all};
+use super::spelling::{ROOM_BYTES, spell_plain, spell_zeros};
+use cap_words::{ByteOut, OutFault, write_all};
 
 /// The most words that stand behind the first one of a group.
 pub(crate) const MORE_WORDS: usize = 255;
@@ -60,20 +58,4 @@ pub(crate) fn write_group<O: ByteOut>(
 {
     let len = spell_group(group, words, room);
     write_all(output, &room[..len])
-}
-
-/// Writes a word by its tag and its bytes that aren't zero.
-pub(crate) fn write_marked<O: ByteOut>(output: &mut O, word: u64) -> Result<(), OutFault>
-    ensures ok { OnOk result (Appends (O.written output.old) (O.written output.new) (tag_of (word_bytes word) ∷ filter (λ b. not (b == 0)) (word_bytes word))) }
-    ensures err { OnErr result ((n : ℕ) × Appends (O.written output.old) (O.written output.new)
-        (take n (tag_of (word_bytes word) ∷ filter (λ b. not (b == 0)) (word_bytes word)))) }
-    ensures works { OnOk result ((O.spent output.new ≡ O.spent output.old) × (O.failures output.new ≡ O.failures output.old)) }
-    ensures device { IsErrOf result OutFault.Device → DeviceFails (O.spent output.old) (O.failures output.old) (O.failures output.new)
-        × (O.spent output.new ≡ true) }
-    ensures memory { IsErrOf result OutFault.Memory → GrowthFails (O.spent output.old) (O.failures output.old) (O.failures output.new) }
-    ensures was_spent { IsErrOf result OutFault.Spent → (O.spent output.old ≡ true) × (output.new ≡ output.old) }
-{
-    let mut text = [0; 9];
-    let len = spell_marked(&bytes_of(word), &mut text);
-    write_all(output, &text[..len])
 }

@@ -2,7 +2,7 @@
 //! (encoding: Packing).
 
 ghost use Rattle.byteorder.specs.Endian.{little_number};
-ghost use Rattle.cap_spec.specs.Packing.{full_run, tag_of, zero_run};
+ghost use Rattle.cap_spec.specs.Packing.{full_run, tag_of, zero_bytes, zero_run};
 ghost use Rattle.cap_spec.specs.Plain.{word_bytes};
 ghost use Rattle.cap_spec.specs.Unpacking.{marks, spread};
 ghost use Rattle.std.specs.Int.Count.{count_trailing_zeros};
@@ -12,7 +12,6 @@ ghost use Rattle.std.specs.Simd.Lanes.{chunk};
 mod spread;
 mod squeeze;
 
-use crate::spelling::count_zeros;
 use cap_words::{bytes_of, word_of};
 use spread::spread_places;
 use squeeze::squeeze_places;
@@ -59,6 +58,14 @@ pub(crate) fn tag_of_word(word: u64) -> u8
 {
     let present = lanes_of_word(word).simd_ne(u8x16::splat(0));
     present.to_bitmask() as u8
+}
+
+/// How many of a word's bytes are zero.
+#[inline(always)]
+pub(crate) fn count_zeros(word: u64) -> u32
+    ensures { result ≡ zero_bytes word }
+{
+    8 - tag_of_word(word).count_ones()
 }
 
 /// The tag of each word, as it stands before the bytes of a group: bit `i` of `out[k]` is set exactly

@@ -7,10 +7,10 @@ ghost use Rattle.cap_words.specs.Sinks.{Begins, StoppedPutting, WasPut, begins_a
 ghost use Rattle.std.specs.Io.KnownBytes.{Keeps, append_known};
 ghost use Rattle.std.specs.Prelude.{◌++◌, ◌<◌, ◌≡◌, ◌≤◌, ◌||◌, [], ◌∷◌, IsErrOf, List, OnErr, OnOk, drop, false, length, take, true, ℕ};
 
-use super::group::{Group, MORE_WORDS, spell_group, write_group, write_marked};
+use super::group::{Group, MORE_WORDS, spell_group, write_group};
 use super::lanes::{full_run, zero_run};
 use super::pieces::{PIECE_WORDS, read_words, spell_groups};
-use super::spelling::{ROOM_BYTES, count_zeros, is_full};
+use super::spelling::ROOM_BYTES;
 use cap_words::{ByteOut, OutFault, SinkFault, WordSink, write_all};
 
 /// Writes words in one packed spelling (encoding: Packing). At a zero word that is the longest run
@@ -177,71 +177,6 @@ impl<O: ByteOut> Packer<O> {
         self.open(&words[joined + spelled.words..]);
         Ok(())
     }
-
-    // Takes the word into the open group, where it goes on with it.
-    fn join(&mut self, word: u64) -> bool
-        ensures output { (self.new.output ≡ self.old.output) × (self.new.closed ≡ self.old.closed) }
-        ensures joined { result ≡ true → held self.new.group self.new.words ≡ held self.old.group self.old.words ++ word ∷ [] }
-        ensures apart { result ≡ false → (self.new ≡ self.old)
-            × ((ws : List ℕ) → pack_text (held self.old.group self.old.words ++ word ∷ ws) ≡ group_bytes self.old.group self.old.words
-            ++ pack_text (word ∷ ws)) }
-    {
-        match self.group {
-            Group::Empty => false,
-            Group::Zeros { more } => {
-                if word != 0 || more == 255 {
-                    return false;
-                }
-                self.group = Group::Zeros { more: more + 1 };
-                true
-            }
-            Group::Plain { first, more } => {
-                let zeros = count_zeros(word);
-                if zeros > 1 || more == 255 {
-                    return false;
-                }
-                self.words[more as usize] = word;
-                self.group = Group::Plain {
-                    first,
-                    more: more + 1,
-                };
-                true
-            }
-        }
-    }
-
-    // Writes the open group, which the word doesn't go on with, and begins the next one with it.
-    fn start(&mut self, word: u64) -> Result<(), OutFault>
-        requires { (ws : List ℕ) → pack_text (held self.old.group self.old.words ++ word ∷ ws) ≡ group_bytes self.old.group self.old.words
-            ++ pack_text (word ∷ ws) }
-        ensures ok { OnOk result ((ws : List ℕ) → Keeps (append_known (O.written self.old.output) (pack_text (held self.old.group self.old.words
-            ++ word ∷ ws))) (append_known (O.written self.new.output) (pack_text (held self.new.group self.new.words ++ ws)))) }
-        ensures err { OnErr result ((ws : List ℕ) → Begins (append_known (O.written self.old.output) (pack_text (held self.old.group self.old.words
-            ++ word ∷ ws))) (O.written self.new.output)) }
-        ensures works { OnOk result ((O.spent self.new.output ≡ O.spent self.old.output) × (O.failures self.new.output ≡ O.failures self.old.output)) }
-        ensures device { IsErrOf result OutFault.Device → DeviceFails (O.spent self.old.output) (O.failures self.old.output) (O.failures self.new.output) }
-        ensures memory { IsErrOf result OutFault.Memory → GrowthFails (O.spent self.old.output) (O.failures self.old.output) (O.failures self.new.output) }
-        ensures was_spent { IsErrOf result OutFault.Spent → (O.spent self.old.output ≡ true) × (self.new.output ≡ self.old.output) }
-        ensures closed { self.new.closed ≡ self.old.closed }
-    {
-        match write_group(&mut self.output, self.group, &self.words, &mut self.room) {
-            Ok(()) => {}
-            Err(fault) => return Err(fault),
-        }
-        self.group = Group::Empty;
-        if word == 0 {
-            self.group = Group::Zeros { more: 0 };
-            return Ok(());
-        }
-        if is_full(word) {
-            self.group = Group::Plain {
-                first: word,
-                more: 0,
-            };
-            return Ok(());
-        }
-        write_marked(&mut self.output, word)
-    }
 }
 
 impl<O: ByteOut> WordSink for Packer<O> {
@@ -256,19 +191,7 @@ impl<O: ByteOut> WordSink for Packer<O> {
     ghost spent = { λ s. s.closed || O.spent s.output };
 
     fn put(&mut self, word: u64) -> Result<(), SinkFault> {
-        if self.closed {
-            return Err(SinkFault::Spent);
-        }
-        if self.join(word) {
-            return Ok(());
-        }
-        match self.start(word) {
-            Ok(()) => Ok(()),
-            Err(fault) => {
-                self.closed = true;
-                Err(SinkFault::from(fault))
-            }
-        }
+        self.put_all(&[word])
     }
 
     fn put_bytes(&mut self, bytes: &[u8]) -> Result<(), SinkFault> {
@@ -279,8 +202,9 @@ impl<O: ByteOut> WordSink for Packer<O> {
         let mut done = 0;
         while bytes.len() - done >= 8 {
             let count = read_words(&bytes[done..], &mut words);
-            if let Err(fault) = self.put_all(&words[..count]) {
-                return Err(fault);
+            if let Err(fault) = self.put_piece(&words[..count]) {
+                self.closed = true;
+                return Err(SinkFault::from(fault));
             }
             done += 8 * count;
         }
@@ -306,10 +230,7 @@ impl<O: ByteOut> WordSink for Packer<O> {
         }
         self.closed = true;
         match write_group(&mut self.output, self.group, &self.words, &mut self.room) {
-            Ok(()) => {
-                self.group = Group::Empty;
-                Ok(())
-            }
+            Ok(()) => Ok(()),
             Err(fault) => Err(SinkFault::from(fault)),
         }
     }

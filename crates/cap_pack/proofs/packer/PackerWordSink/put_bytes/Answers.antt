@@ -1,4 +1,4 @@
-use Rattle.std.proofs.Common.{◌+◌, ◌*◌, arith, drop, take}
+use Rattle.std.proofs.Common.{◌+◌, ◌*◌, ◌∙◌, ◌||◌, ap, sym, refl, arith, drop, take}
 use Rattle.cap_spec.specs.Plain.{plain_words}
 use Rattle.cap_pack.proofs.PuttingEach.{no_word, put_all, put_more, put_stops, words_next}
 use Rattle.cap_pack.proofs.packer.PackerWordSink.put_bytes.Goals as goal
@@ -9,8 +9,8 @@ returns-in-Err-clause-err g c =
     let count = c.read_words-count.result in
     let xs = take count c.read_words-count.new.words in
     let next = words_next bytes xs c.loop-done.done count c.loop-done.invariant.within (omega (arith, c.read_words-count.ensures.within)) c.read_words-count.ensures.words in (
-      c.in-Err.ensures.err.0,
-      put_stops _ _ _ _ _ c.args.self.now c.loop-done.self c.put_all.new.self _ _ (plain_words (drop (c.loop-done.done + 8 * count) bytes)) xs next c.loop-done.invariant.put c.in-Err.ensures.err.1,
+      refl,
+      put_stops _ _ _ _ _ c.args.self.now c.loop-done.self c.put_piece.new.self _ _ (plain_words (drop (c.loop-done.done + 8 * count) bytes)) xs next c.loop-done.invariant.put c.in-Err.ensures.err,
     )
 
 pub loop-done-preserved : goal.loop-done-preserved
@@ -19,11 +19,18 @@ loop-done-preserved g c =
     let count = c.read_words-count.result in
     let xs = take count c.read_words-count.new.words in
     let next = words_next bytes xs c.loop-done.done count c.loop-done.invariant.within (omega (arith, c.read_words-count.ensures.within)) c.read_words-count.ensures.words in
+    let is_open = c.loop-done.invariant.put.is_open in
     record {
       within = omega (arith, c.read_words-count.ensures.within);
       put =
-          put_more _ _ _ _ _ c.args.self.now c.loop-done.self c.put_all.new.self _ _ (plain_words (drop (c.loop-done.done + 8 * count) bytes)) xs next c.loop-done.invariant.put
-          c.in_default.ensures.put c.in_default.ensures.ok;
+          put_more _ _ _ _ _ c.args.self.now c.loop-done.self c.put_piece.new.self _ _ (plain_words (drop (c.loop-done.done + 8 * count) bytes)) xs next c.loop-done.invariant.put
+          c.in_default.ensures.ok (
+            is_open,
+            c.put_piece.ensures.closed ∙ is_open,
+            ap (λ t. t || g.O.ByteOut.spent c.put_piece.new.self.output) c.put_piece.ensures.closed ∙ ap (λ t. c.loop-done.self.closed || t) c.in_default.ensures.works.0,
+            c.in_default.ensures.works.1,
+          );
+      idle = λ h. c.in_default.ensures.idle h ∙ c.loop-done.invariant.idle (sym c.in_default.ensures.works.0 ∙ h);
     }
 
 pub returns-clause-put : goal.returns-clause-put

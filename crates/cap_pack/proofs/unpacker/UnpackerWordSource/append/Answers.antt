@@ -1,6 +1,5 @@
 use Rattle.std.proofs.Common.{◌≡◌, ◌*◌, inr, length, take, arith}
 use Rattle.std.proofs.lemmas.List.{length-take-le}
-use Rattle.cap_words.proofs.Filling.{none_appended}
 use Rattle.cap_pack.proofs.AtHand.{words_appended}
 use Rattle.cap_pack.proofs.unpacker.UnpackerWordSource.append.Goals as goal
 
