@@ -167,11 +167,11 @@ def from_cplusplus(folder, environment, files):
 
 def from_rust(folder, environment, files):
     """The tests of the crate, those of its pages too, and the example over it."""
-    if missing("the crate and the example in Rust", "cargo"):
+    if any(missing("the crate and the example in Rust", tool) for tool in ("cargo", "rustc")):
         return
-    version = re.match(r"cargo 1\.(\d+)", run(["cargo", "--version"])[0])
+    version = re.match(r"rustc 1\.(\d+)", run(["rustc", "--version"])[0])
     if not version or int(version[1]) < 63:
-        print("not tested, with a cargo before 1.63: the crate and the example in Rust")
+        print("not tested, with a rustc before 1.63: the crate and the example in Rust")
         return
     environment = {**environment, "CARGO_TARGET_DIR": str(folder / "target")}
     environment.pop("CAPVET_LIB_DIR", None)

@@ -177,9 +177,9 @@ fn samples_are_accepted() {
 fn samples_use_no_word_twice() {
     for bytes in [CONTACTS, MANY_SEGMENTS, TELEMETRY] {
         let report = vet(bytes, Limits::DEFAULT).expect("the sample is accepted");
-        let Err(ExclusiveError::NoRoom { needed }) = vet_exclusive(bytes, Limits::DEFAULT, &mut [])
-        else {
-            panic!("marks take room");
+        let needed = match vet_exclusive(bytes, Limits::DEFAULT, &mut []) {
+            Err(ExclusiveError::NoRoom { needed }) => needed,
+            answer => panic!("marks take room: {answer:?}"),
         };
         assert!(needed <= report.frame / 512 + 1);
         let mut marks = vec![u64::MAX; needed + 1];
