@@ -28,6 +28,7 @@ from trees import dump_text, get_text
 
 TOP = Path(__file__).resolve().parent.parent
 PROGRAM = Path(sys.argv[1] if len(sys.argv) > 1 else TOP / "build/capvet").resolve()
+MIB = 1 << 20
 passed = failed = 0
 
 
@@ -240,10 +241,13 @@ def samples():
 
 def text_of(process, length):
     """What a running process writes, up to so many bytes, or until nothing came for a minute."""
-    text, output = b"", process.stdout.fileno()
-    while len(text) < length and select.select([output], [], [], 60)[0] and (part := os.read(output, 65536)):
+    text, output = bytearray(), process.stdout.fileno()
+    while len(text) < length and select.select([output], [], [], 60)[0]:
+        part = os.read(output, min(length - len(text), MIB))
+        if not part:
+            break
         text += part
-    return text
+    return bytes(text)
 
 
 def live_pipe(command, wanted, status=0):
@@ -254,6 +258,7 @@ def live_pipe(command, wanted, status=0):
         ran.stdin.flush()
         text = text_of(ran, len(wanted))
         ran.stdin.close()
+        text += ran.stdout.read()
         compare(f"capvet {command}, with an input that stays open", (wanted, b"", status),
                 (text, ran.stderr.read(), ran.wait(60)))
 
@@ -274,20 +279,22 @@ def waits_for_input(process):
         time.sleep(0.01)
 
 
-def resident(name, parts, wanted, most, *options):
-    """What `vet` with these options wrote of these parts of a stream while its input is still open, and whether the
-    most memory that it ever had resident is within so many KiB."""
+def resident(command, name, parts, wanted, most):
+    """A command that gets these parts of a stream, and whose input stays open behind them: it has to write these parts
+    of a text and no more, with at most so many KiB resident."""
     pipes = {"stdin": subprocess.PIPE, "stdout": subprocess.PIPE}
-    with subprocess.Popen([PROGRAM, "vet", *options], cwd=TOP, **pipes) as ran:
+    with subprocess.Popen([PROGRAM, *command.split()], cwd=TOP, **pipes) as ran:
         writer = threading.Thread(target=lambda: [ran.stdin.write(part) for part in parts] + [ran.stdin.flush()])
         writer.start()
-        text = text_of(ran, len(wanted))
-        writer.join()
-        waits_for_input(ran)
+        differs = next(((part, text) for part in wanted if (text := text_of(ran, len(part))) != part), None)
+        if differs is None:
+            writer.join()
+            waits_for_input(ran)
+        more = select.select([ran.stdout], [], [], 0)[0]
         memory = most_memory(ran)
         ran.kill()
-    command = " ".join(("capvet vet", *options))
-    compare(f"{command} of {name}, and its memory: {memory} KiB", (wanted.encode(), b"", True), (text, b"", memory <= most))
+        writer.join()
+    compare(f"capvet {command} of {name}, and its memory: {memory} KiB", (None, [], True), (differs, more, memory <= most))
 
 
 samples()
@@ -303,16 +310,49 @@ for command, text in {
 live_pipe("check", CHECKS["contacts.bin"].encode(), status=1)
 copy = sample("canonical/contacts.bin")
 live_pipe("canon", struct.pack("<II", 0, len(copy) // 8) + copy)
-resident("a table that claims 64 MiB and has nothing behind it", [word("0000000000008000")], "", 4 << 10)
+resident("vet", "a table that claims 64 MiB and has nothing behind it", [word("0000000000008000")], [], 4 << 10)
 COPIES = (64 << 20) // len(contacts)
-resident("64 MiB of small messages", [contacts] * COPIES,
-         "".join(CONTACTS.replace("0", str(number), 1) for number in range(COPIES)), 4 << 10)
-# The message itself, and 2 MiB; and with its marks a 64th of it.
-LIST = (8 << 20) - 1
-LARGE = [struct.pack("<IIII", 0, 1 + LIST, 1, 8 * LIST << 3 | 2), bytes(8 * LIST)]
-LARGE_ACCEPTED = f"message 0: accepted charge {LIST} depth 1 pointers 1 caps 0\n"
-resident("a message of 64 MiB", LARGE, LARGE_ACCEPTED, (64 + 2) << 10)
-resident("a message of 64 MiB", LARGE, LARGE_ACCEPTED, (64 + 1 + 2) << 10, "--exclusive")
+resident("vet", "64 MiB of small messages", [contacts] * COPIES,
+         ["".join(CONTACTS.replace("0", str(number), 1) for number in range(COPIES)).encode()], 4 << 10)
+
+
+def zero_parts(size):
+    """So many zero bytes, in parts of a MiB."""
+    return size // MIB * [bytes(MIB)] + [bytes(size % MIB)]
+
+
+def large_message(words):
+    """A message of one segment, in parts: a list of bytes, all of them zero. And what is said of it."""
+    count = words - 1
+    stream = [struct.pack("<IIII", 0, words, 1, 8 * count << 3 | 2), *zero_parts(8 * count)]
+    return stream, [f"message 0: accepted charge {count} depth 1 pointers 1 caps 0\n".encode()]
+
+
+def large_segments(words):
+    """A message of 512 segments, in parts: the first has a far pointer to such a list in the last. And what is said."""
+    sizes = [1, *510 * [1 << 14]]
+    sizes.append(words - sum(sizes))
+    count = sizes[-1] - 1
+    stream = [struct.pack("<I512I4xQ", 511, *sizes, 511 << 32 | 2), *zero_parts(8 * sum(sizes[1:-1])),
+              struct.pack("<II", 1, 8 * count << 3 | 2), *zero_parts(8 * count)]
+    return stream, [f"message 0: accepted charge {count + 1} depth 1 pointers 1 caps 0\n".encode()]
+
+
+def large_messages():
+    """Messages of 64 MiB, which the default limits allow, and of 96 MiB. The memory is the message and 2 MiB. With
+    `--exclusive` the marks come to it, a 64th of the message, and in `canon` the copy, which equals the message."""
+    stream, accepted = large_message(64 << 17)
+    resident("vet", "a message of 64 MiB", stream, accepted, (64 + 2) << 10)
+    resident("vet --exclusive", "a message of 64 MiB", stream, accepted, (64 + 1 + 2) << 10)
+    resident("canon", "a message of 64 MiB", stream, stream, (64 + 64 + 2) << 10)
+    words = 96 << 17
+    limits = f"--size {words} --words {words}"
+    for name, (stream, accepted) in {"a message": large_message(words), "512 segments": large_segments(words)}.items():
+        resident(f"vet {limits}", f"{name} of 96 MiB", stream, accepted, (96 + 2) << 10)
+        resident(f"vet --exclusive {limits}", f"{name} of 96 MiB", stream, accepted, (96 + 2 + 2) << 10)
+
+
+large_messages()
 case("unpack examples/contacts.packed", sample("contacts.bin"))
 case("vet --packed examples/contacts.packed", CONTACTS)
 # The two texts of the encoding specification's section on packing.
@@ -385,11 +425,46 @@ for plain, text in tables.SPELLINGS:
 for stream, line in tables.TOO_LARGE:
     rows([(command, stream, "", line, 1) for command in (*READERS, "vet --exclusive")], also_packed=True)
 
+
+
+def limits():
+    """Each command with each limit: at what a message takes, and at one less. And the default limits in the same way.
+    `canon` ends at a message that is refused. The other commands write the refusal, and go on."""
+    for command, text in tables.WITHIN_LIMITS.items():
+        for allows, forbids, said in tables.LIMITS:
+            refused = said.startswith("refused") and command != "canon"
+            out, err = (f"message 0: {said} pointers 2\n", "") if refused else ("", f"capvet: message 0: {said}\n")
+            rows([(f"{command} {allows}", tables.LIMITED, text, "", 0),
+                  (f"{command} {forbids}", tables.LIMITED, out, err, 1)], also_packed=True)
+    for stream, said in tables.SIZE_DEFAULTS:
+        rows([(command, stream, "", f"capvet: message 0: {said}\n", 1) for command in (*READERS, "vet --exclusive")])
+    for stream, verdict, head, below in tables.WITHIN_DEFAULTS:
+        verdict = f"message 0: {verdict}\n"
+        rows([("vet", stream, verdict, "", 0),
+              ("vet --exclusive", stream, verdict, "", 0),
+              ("dump", stream, f"{verdict}root {head}\n{below}", "", 0),
+              ("get /", stream, f"message 0: found\nnode {head}\n", "", 0),
+              ("check", stream, "message 0: canonical\n", "", 0),
+              ("canon", stream, word(stream), "", 0)], also_packed=True)
+    for stream, said, pointers in tables.PAST_DEFAULTS:
+        text = f"message 0: {said} pointers {pointers}\n"
+        rows([(command, stream, text, "", 1) for command in ("vet", "vet --exclusive", "dump", "get /", "check")],
+             also_packed=True)
+        rows([("canon", stream, "", f"capvet: message 0: {said}\n", 1)], also_packed=True)
+
+
+limits()
+
 # ------------------------------------------------------------------ paths, which are read before any input is opened
 for path, at in tables.BAD_PATHS:
     for words in (["get", path], ["get", "--packed", path, "examples/missing.bin"]):
         case(words, err=f"capvet: bad path at {at}\n", status=2, stdin=NULL)
 case("get /p0", "message 0: none\n", stdin=NULL)
+# Paths to the deepest node of a message of 64 levels, and of 10,000 steps.
+CHAIN = word(tables.MOST_LEVELS)
+case(["get", 63 * "/p0"], "message 0: found\nnode struct 0 0\n", stdin=CHAIN)
+case(["get", 10000 * "/p0"], "message 0: none\n", stdin=CHAIN)
+case(["get", 9999 * "/p0" + "/p65536"], err="capvet: bad path at 30003\n", status=2, stdin=CHAIN)
 
 # ------------------------------------------------------------------ files and devices
 MISSING = "capvet: cannot open examples/missing.bin\n"

@@ -305,6 +305,62 @@ TOO_LARGE = (
     ("ff010000" + 512 * "ffffffff" + "00000000", "capvet: message 0: TooLarge 2199023255040\n"),
 )
 
+# A struct of one pointer, to a struct of three words: five words, a charge of four, and two levels.
+LIMITED = (
+    "0000000005000000 0000000000000100 0000000003000000 2a00000000000000 0000000000000000 0700000000000000"
+)
+
+# What each command writes of it within its limits.
+WITHIN_LIMITS = {
+    "vet": "message 0: accepted charge 4 depth 2 pointers 2 caps 0\n",
+    "vet --exclusive": "message 0: accepted charge 4 depth 2 pointers 2 caps 0\n",
+    "dump": "message 0: accepted charge 4 depth 2 pointers 2 caps 0\n"
+            "root struct 0 1\n"
+            "  p0 struct 3 0\n"
+            "    d0 2a00000000000000\n"
+            "    d1 0000000000000000\n"
+            "    d2 0700000000000000\n",
+    "get /p0": "message 0: found\n"
+               "node struct 3 0\n"
+               "  d0 2a00000000000000\n"
+               "  d1 0000000000000000\n"
+               "  d2 0700000000000000\n",
+    "check": "message 0: canonical\n",
+    "canon": word(LIMITED),
+}
+
+# Each limit at what that message takes, the limit that is one less, and what is then said.
+LIMITS = (
+    ("--size 5", "--size 4", "TooLarge 5"),
+    ("--words 4", "--words 3", "refused WordLimit at 0:1"),
+    ("--depth 2", "--depth 1", "refused DepthLimit at 0:1"),
+)
+
+# Lists of elements without bits: as many as the default limit of words, and one more. Structs in one another: as many
+# as the default limit of levels, and one more.
+MOST_ELEMENTS = "0000000001000000 0100000000000004"
+TOO_MANY_ELEMENTS = "0000000001000000 0100000008000004"
+MOST_LEVELS = "0000000040000000" + 63 * " 0000000000000100" + " fcffffff00000000"
+TOO_MANY_LEVELS = "0000000041000000" + 64 * " 0000000000000100" + " fcffffff00000000"
+
+# Messages at a default limit: what is said of each, its root, and what `dump` writes below the root. Messages past it:
+# what is said of each, and how many pointers were looked at.
+WITHIN_DEFAULTS = (
+    (MOST_ELEMENTS, "accepted charge 8388608 depth 1 pointers 1 caps 0", "list 0 8388608", ""),
+    (MOST_LEVELS, "accepted charge 63 depth 64 pointers 64 caps 0", "struct 0 1",
+     "".join(f"{'  ' * level}p0 struct 0 {int(level < 63)}\n" for level in range(1, 64))),
+)
+PAST_DEFAULTS = (
+    (TOO_MANY_ELEMENTS, "refused WordLimit at 0:0", 1),
+    (TOO_MANY_LEVELS, "refused DepthLimit at 0:64", 65),
+)
+
+# Tables that claim the default limit of words, and one word more. No word follows them.
+SIZE_DEFAULTS = (
+    ("0000000000008000", "Truncated at byte 8"),
+    ("0000000001008000", "TooLarge 8388609"),
+)
+
 # 44 words that are reached by more than four million ways.
 DOUBLED = (
     Row("vet",
