@@ -39,10 +39,11 @@ module _ {K : Type 0} (gk : sink.Ghosts K) where
   pub halts_of : (old new : K) (own : List ℕ) (r : Result (Unit {0}) SinkFault) (fault : SinkFault) → r ≡ Err fault → (gk.closed new ≡ true) × StoppedPutting gk.text gk.taken old new own
       → (IsErrOf r Device → DeviceFails (gk.spent old) (gk.failures old) (gk.failures new))
       → (IsErrOf r sink_memory → GrowthFails (gk.spent old) (gk.failures old) (gk.failures new))
-      → (IsErrOf r Spent → WasSpent (gk.spent old) (gk.spent new) (gk.failures old) (gk.failures new)) → Halts gk old new own fault
+      → (IsErrOf r Spent → WasSpent (gk.spent old) (gk.spent new) (gk.failures old) (gk.failures new) × Keeps (gk.taken old) (gk.taken new))
+      → Halts gk old new own fault
   halts_of old new own r Device e h d m s = record { stopped = h.1; closed = h.0; blames = d e }
   halts_of old new own r sink_memory e h d m s = record { stopped = h.1; closed = h.0; blames = m e }
-  halts_of old new own r Spent e h d m s = record { stopped = h.1; closed = h.0; blames = s e }
+  halts_of old new own r Spent e h d m s = record { stopped = h.1; closed = h.0; blames = (s e).0 }
 
   -- a fault came behind other words
   pub halts_behind : (old mid new : K) (a b : List ℕ) (fault : SinkFault) → Fills gk old mid a → Halts gk mid new b fault → Halts gk old new (a ++ b) fault

@@ -72,7 +72,8 @@ pub trait WordSink {
         ensures stays { closed self.old ≡ true → (result ≡ Err SinkFault.Spent) × (self.new ≡ self.old) }
         ensures device { IsErrOf result SinkFault.Device → DeviceFails (spent self.old) (failures self.old) (failures self.new) }
         ensures memory { IsErrOf result SinkFault.Memory → GrowthFails (spent self.old) (failures self.old) (failures self.new) }
-        ensures was_spent { IsErrOf result SinkFault.Spent → WasSpent (spent self.old) (spent self.new) (failures self.old) (failures self.new) };
+        ensures was_spent { IsErrOf result SinkFault.Spent → WasSpent (spent self.old) (spent self.new) (failures self.old) (failures self.new)
+            × Keeps (taken self.old) (taken self.new) };
 
     /// Hands on what the output took, where that holds some of it back. A word that the sink holds back
     /// itself stays: `finish` writes it. After a fault every call answers `Spent`.
