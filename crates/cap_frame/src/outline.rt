@@ -1,7 +1,7 @@
 //! What is kept of a message whose other words are passed over.
 
 ghost use Rattle.arrayvec.specs.ArrayVec.{array_vec_len};
-ghost use Rattle.std.specs.Prelude.{◌<◌, ◌≡◌, [], None, get_or, length, sum};
+ghost use Rattle.std.specs.Prelude.{◌≡◌, [], None, length, sum};
 
 use crate::table::{Sizes, total};
 
@@ -43,12 +43,11 @@ impl Outline {
         self.sizes.len() as u32
     }
 
-    /// How many words segment `s` has.
-    pub fn len(&self, s: u32) -> u32
-        requires { s < length (sizes_in self.now) }
-        ensures { result ≡ get_or (sizes_in self.now) s 0 }
+    /// How many words each segment has.
+    pub fn sizes(&self) -> &[u32]
+        ensures { result.now ≡ sizes_in self.now }
     {
-        self.sizes[s as usize]
+        self.sizes.as_slice()
     }
 
     /// How many words all segments have together.

@@ -47,15 +47,15 @@ fn is_message<M: Segments>(message: &M, want: &[&[u64]]) -> bool {
 
 // It is the outline of these segments.
 fn is_outline(outline: &Outline, want: &[&[u64]]) -> bool {
-    if outline.count() as usize != want.len() {
+    if outline.count() as usize != want.len() || outline.sizes().len() != want.len() {
         return false;
     }
     let mut words: u64 = 0;
-    for s in 0..outline.count() {
-        if outline.len(s) as usize != want[s as usize].len() {
+    for (size, segment) in outline.sizes().iter().zip(want) {
+        if *size as usize != segment.len() {
             return false;
         }
-        words = words.saturating_add(u64::from(outline.len(s)));
+        words = words.saturating_add(u64::from(*size));
     }
     let root = match want.first() {
         Some(words) => words.first().copied(),

@@ -73,9 +73,10 @@ fn put_segment_lines<O: ByteOut>(
 ) -> Result<(), OutFault>
     ensures { Adds O.ByteOut (out.old, page.old) (out.new, page.new) result (segment_lines 0 (sizes_in outline.now)) }
 {
+    let sizes = outline.sizes();
     for s in 0..outline.count() {
         match make_room(page, out) {
-            Ok(()) => segment_line(page, s, outline.len(s)),
+            Ok(()) => segment_line(page, s, sizes[s as usize]),
             Err(fault) => return Err(fault),
         }
     }

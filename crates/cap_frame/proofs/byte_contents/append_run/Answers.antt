@@ -3,7 +3,7 @@ use Rattle.std.proofs.Common.{◌∙◌, [], refl, ap, arith, length, length-app
 use Rattle.cap_spec.specs.Plain.{plain_words}
 use Rattle.cap_spec.proofs.Bytes.Plain.{length_plain}
 use Rattle.cap_frame.proofs.InOneBuffer.{appended_in, nothing_in}
-use Rattle.cap_frame.proofs.Taking.{reads_none, takes_none}
+use Rattle.cap_frame.proofs.Taking.{takes_none}
 use Rattle.cap_frame.proofs.byte_contents.append_run.Goals as goal
 
 pub returns-then-len-done-clause-ok : goal.returns-then-len-done-clause-ok
