@@ -481,6 +481,15 @@ const BOTH_PUT: &[Puts] = &[
     Puts::Finish(CLOSED),
 ];
 
+const BOTH_FLUSHED: &[Puts] = &[
+    Puts::Word(FIRST, Ok(())),
+    Puts::Flush(Ok(())),
+    Puts::Word(SECOND, Ok(())),
+    Puts::Flush(Ok(())),
+    Puts::Finish(Ok(())),
+    Puts::Flush(CLOSED),
+];
+
 const SECOND_FAILS: &[Puts] = &[
     Puts::Word(FIRST, Ok(())),
     Puts::Word(SECOND, DEVICE),
@@ -506,12 +515,14 @@ const BYTES_PUT: &[Puts] = &[Puts::Bytes(0, 20, Ok(()))];
 
 // How many bytes a call of the writer takes at most, which call fails, how many bytes were taken by how
 // many calls, and the calls of the sink: words, and pieces of several.
-static SINKS: [(usize, u32, usize, u32, &[Puts]); 11] = [
+static SINKS: [(usize, u32, usize, u32, &[Puts]); 12] = [
     (1, 1, 0, 1, FIRST_FAILS),
     (3, 5, 11, 5, SECOND_FAILS),
     (7, 4, 15, 4, SECOND_FAILS),
     (8, 2, 8, 2, SECOND_FAILS),
     (7, 0, 16, 4, BOTH_PUT),
+    // each flush is a call
+    (8, 0, 16, 4, BOTH_FLUSHED),
     (1, 1, 0, 1, BYTES_FAIL),
     (3, 5, 12, 5, BYTES_FAIL),
     (7, 3, 14, 3, BYTES_FAIL),

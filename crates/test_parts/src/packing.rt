@@ -2,6 +2,7 @@
 
 use crate::devices::{SlowWriter, slow_writer};
 use crate::same::{same, same_of};
+use crate::steps::{Puts, put_by};
 use cap_pack::{Packer, Unpacker};
 use cap_words::{ByteOut, FromWrite, SinkFault, SliceIn, VecOut, WordSink, WordSource, bytes_of};
 use std::alloc::{AllocError, Global};
@@ -292,17 +293,17 @@ const WORDS: [u64; 8] = [
     0,
 ];
 
-// Their groups, each with the number of calls before the one that writes it.
-const GROUPS: [(&[u8], usize); 5] = [
+// The bytes of their groups that are written at once, each with the number of calls before that one.
+const GROUPS: [(&[u8], usize); 4] = [
     (&[0x10, 2], 0),
     (&[0, 2], 4),
     (
         &[
-            0xff, 0x8a, 0x8a, 0x8a, 0x8a, 0x8a, 0x8a, 0x8a, 0x8a, 1, 1, 1, 1, 1, 1, 1, 1, 0,
+            0xff, 0x8a, 0x8a, 0x8a, 0x8a, 0x8a, 0x8a, 0x8a, 0x8a, 1, 1, 1, 1, 1, 1, 1, 1, 0, 0x3f,
+            1, 1, 1, 1, 1, 1,
         ],
         6,
     ),
-    (&[0x3f, 1, 1, 1, 1, 1, 1], 6),
     (&[0, 0], 8),
 ];
 
@@ -330,6 +331,27 @@ fn expect_taken(rt: &impl Abort, sink: Packer<FromWrite<SlowWriter>>, fails_at: 
     same(rt, writer.taken.as_slice(), taken);
 }
 
+const DEVICE: Result<(), SinkFault> = Err(SinkFault::Device);
+
+const CLOSED: Result<(), SinkFault> = Err(SinkFault::Spent);
+
+// The word that is held open stays, and the second flush fails.
+static FLUSHED: [Puts; 6] = [
+    Puts::Word(0, Ok(())),
+    Puts::Flush(Ok(())),
+    Puts::Flush(DEVICE),
+    Puts::Flush(CLOSED),
+    Puts::Word(0, CLOSED),
+    Puts::Finish(CLOSED),
+];
+
+#[test]
+fn each_flush_is_a_call_of_the_output(rt: HostRuntime) {
+    let mut sink = failing(rt.alloc(), 64, 2);
+    put_by(&rt, &mut sink, &[], &FLUSHED);
+    expect_taken(&rt, sink, 2, &[]);
+}
+
 // Packs the bytes of the words into a writer that fails in one of its calls, as they are put or as the
 // packer is finished. The writer took these bytes.
 fn check_piece_fault(
@@ -354,7 +376,7 @@ fn check_piece_fault(
 #[test]
 fn an_output_that_fails_inside_a_piece(rt: HostRuntime) -> Result<(), Fail> {
     let mut text = Vec::new(rt.alloc());
-    for (group, _) in &GROUPS[..4] {
+    for (group, _) in &GROUPS[..3] {
         text.extend_from_slice(group)?;
     }
     for most in [1usize, 3, 9, 64] {
