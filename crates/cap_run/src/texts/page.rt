@@ -3,7 +3,8 @@
 ghost use Rattle.cap_spec.specs.Texts.{hex};
 ghost use Rattle.std.specs.Prelude.{◌+◌, ◌++◌, ◌≡◌, ◌≤◌, ◌==◌, [], decimal, length, take};
 
-use crate::texts::digits::{digit_count, hex_digits};
+use crate::texts::digits::digit_count;
+use cap_words::bytes_of;
 use itoa::write_digits;
 use std::marker::Model;
 
@@ -108,6 +109,10 @@ impl Page {
         ensures items { self.new ≡ self.old ++ hex word }
         ensures len { length self.new ≡ length self.old + 16 }
     {
-        self.push_text(&hex_digits(word));
+        let end = self.len + 16;
+        match hex::encode_to_slice(bytes_of(word), &mut self.bytes[self.len..end]) {
+            Ok(()) => self.len = end,
+            Err(_) => unreachable!(),
+        }
     }
 }
