@@ -402,7 +402,7 @@ def deepest_dump():
 deepest_dump()
 
 # ------------------------------------------------------------------ the streams of the tables
-for table in (tables.VERDICTS, tables.ENDS, tables.MESSAGES, tables.SEGMENTS, tables.DOUBLED, tables.PACKED_STREAMS,
+for table in (tables.VERDICTS, tables.OTHER_LIMITS, tables.ENDS, tables.MESSAGES, tables.SEGMENTS, tables.DOUBLED, tables.PACKED_STREAMS,
               tables.WORDS):
     rows(table)
 for table in (tables.LEVELS, tables.NESTED, tables.OVERLAPS, tables.DUMPS, tables.GETS, tables.LADDER,
@@ -454,6 +454,122 @@ def limits():
 
 
 limits()
+
+# ------------------------------------------------------------------ long runs, long messages and cut texts
+FULL, SPARSE, END = b"\x8a" * 8, b"\1" * 7 + b"\0", word("0100020003000400")
+
+
+def kind_at(kind, place):
+    """The word at a place of a list: zero, without a zero byte, these in turn, with one zero byte, or each kind in
+    turn, in runs of 31 words."""
+    turn = place // 31 % 5
+    return (bytes(8), FULL, (bytes(8), FULL)[place % 2], SPARSE,
+            (bytes(8), FULL, SPARSE, bytes(8), word("01002a0000000700"))[turn])[kind]
+
+
+def long_runs():
+    """Lists of up to 600 words of each kind, packed and unpacked, each with a word behind it that no run takes in."""
+    for kind in range(5):
+        words = b"".join(kind_at(kind, place) for place in range(600))
+        plain = b"".join(words[:8 * count] + END for count in range(601))
+        text = packed(plain)
+        case("pack", text, stdin=plain)
+        case("unpack", plain, stdin=text)
+    # after a word without a zero byte so many with one go on with it, and no more than 255
+    for count, further in (0, 0), (1, 0), (254, 0), (255, 0), (255, 1), (255, 2):
+        text = b"\xff" + FULL + bytes((count,)) + count * SPARSE + further * (b"\x7f" + SPARSE[:7])
+        plain = FULL + (count + further) * SPARSE
+        case("pack", text, stdin=plain)
+        case("unpack", plain, stdin=text)
+    # words of every tag
+    plain = b"".join(bytes((tag >> place & 1) * (0x81 + place) for place in range(8)) for tag in range(256))
+    case("pack", packed(plain), stdin=plain)
+    case("unpack", plain, stdin=packed(plain))
+    # texts longer than the buffer of the input, in which a group or a run begins at each place before the buffer's end
+    for length in range(8):
+        first = b"\1" * (7 - length) + bytes(1 + length)
+        for words in FULL * 9000, (bytes(8) + FULL + SPARSE) * 4000, word("0201000000000000") * 24000:
+            case("unpack", first + words, stdin=packed(first + words))
+
+
+def cut_texts():
+    """Each front of a packed text with groups of each kind: the words before the group that is cut, and those of a
+    run that are whole."""
+    text = word("1001 0002 ff8a8a8a8a8a8a8a8a02 8a8a8a8a008a8a8a 0909090909090909 0f01020304 f005060708")
+    plain = word("0000000001000000") + bytes(24) + FULL + word("8a8a8a8a008a8a8a 0909090909090909 0102030400000000 0000000005060708")
+    ends = {0: (0, True), 2: (1, True), 4: (4, True), 14: (5, False), 22: (6, False), 30: (7, True), 35: (8, True), 40: (9, True)}
+    given = 0
+    for size in range(len(text) + 1):
+        given, is_whole = ends.get(size, (given, False))
+        err = "" if is_whole else f"capvet: Truncated at byte {size}\n"
+        case("unpack", plain[:8 * given], err, 1 if err else 0, text[:size])
+
+
+def list_in_second(count, first):
+    """A message of two segments: a pad in the second and a list of so many words, which count up."""
+    pad = struct.pack("<II", 1, count << 3 | 5)
+    words = struct.pack(f"<{count}Q", *range(first, first + count))
+    return struct.pack("<IIII", 1, 1, 1 + count, 0) + word("0200000001000000") + pad + words
+
+
+def long_messages():
+    """Long messages and short ones in turn, which show no word of one before; and as many segments as there may be."""
+    stream = text = b""
+    for number, (count, first) in enumerate(((40_000, 1_000_000), (2, 2_000_000), (60_000, 3_000_000), (1, 4_000_000))):
+        message = list_in_second(count, first)
+        stream += message
+        verdict = f"message {number}: accepted charge {count + 1} depth 1 pointers 1 caps 0\n"
+        lines = "".join(f"  w{at} {struct.pack('<Q', first + at).hex()}\n" for at in range(count))
+        text += f"{verdict}root list 5 {count}\n{lines}".encode()
+    case("dump", text, stdin=stream)
+    case("dump --packed", text, stdin=packed(stream))
+    # a far pointer to a pad and a struct of a word, in the last of 512 segments of one word or two
+    sizes = [1] * 511 + [2]
+    many = struct.pack("<514I", 511, *sizes, 0) + word("02000000ff010000") + bytes(8 * 510) + word("0000000001000000 2a00000000000000")
+    case("segments", segments_text(many), stdin=many)
+    case("dump", "message 0: accepted charge 2 depth 1 pointers 1 caps 0\nroot struct 1 0\n  d0 2a00000000000000\n", stdin=many)
+    # messages about as long as the pieces in which words are passed over, whole and cut inside the last word
+    for size in 64, 65, 66, 129, 130:
+        stream = struct.pack("<II", 0, size) + struct.pack(f"<{size}Q", *range(size))
+        case("segments", segments_text(stream + NULL), stdin=stream + NULL)
+        case("segments", "", f"capvet: message 0: Truncated at byte {8 * size + 7}\n", 1, stream[:-1])
+
+
+def in_sips(command, stream, wanted, status, most):
+    """A stream that comes through a pipe so many bytes at a time."""
+    pipes = {"stdin": subprocess.PIPE, "stdout": subprocess.PIPE, "stderr": subprocess.PIPE}
+    with subprocess.Popen([PROGRAM, *command.split()], cwd=TOP, **pipes) as ran:
+        for at in range(0, len(stream), most):
+            ran.stdin.write(stream[at:at + most])
+            ran.stdin.flush()
+        out, err = ran.communicate(timeout=60)
+        compare(f"capvet {command}, in sips of {most} bytes", (encoded(wanted), b"", status), (out, err, ran.returncode))
+
+
+def many_messages():
+    """300 messages, of which each second one is refused, at once and in sips."""
+    stream = (word("0000000000000000") + framed("0000000001000000", "2a00000000000000")) * 150
+    text = "".join(f"message {2 * at}: refused NoRoot at 0:0 pointers 0\n"
+                   f"message {2 * at + 1}: accepted charge 1 depth 1 pointers 1 caps 0\n" for at in range(150))
+    case("vet", text, status=1, stdin=stream)
+    for most in 1, 3, 7:
+        in_sips("vet", stream, text, 1, most)
+    for row in tables.BEHIND_A_REFUSAL:
+        in_sips(row.words, word(row.stream), row.out, row.status, 1)
+
+
+def tagged_sips():
+    """The packed streams of the tables, a byte at a time."""
+    for row in tables.PACKED_STREAMS:
+        if not row.err:
+            in_sips(row.words, word(row.stream), row.out, row.status, 1)
+
+
+long_runs()
+cut_texts()
+long_messages()
+many_messages()
+tagged_sips()
 
 # ------------------------------------------------------------------ paths, which are read before any input is opened
 for path, at in tables.BAD_PATHS:
@@ -528,14 +644,34 @@ def short_outputs():
     """An output that takes so many bytes and no more, for each number of them up to the whole text."""
     runs = [(command, SHARED, encoded(text)) for command, text in SHARED_TEXTS.items()]
     runs += [("pack", SHARED, SHARED_PACKED), ("unpack", SHARED_PACKED, SHARED)]
+    # 1154 zero words and three others: more than one piece of words
+    many = word("00ff00ff00ff00ff00810f010203040f010203040f01020304")
+    runs += [("unpack", many, bytes(9232) + 3 * word("0102030400000000"))]
     for command, stream, text in runs:
-        for size in range(len(text)):
+        for size in (0, 1, 8191, 8192, 8193, 9255) if stream == many else range(len(text)):
             with tempfile.TemporaryFile() as out:
                 _, err, status = run([PROGRAM, *command.split()], input=stream, stdout=out,
                                      preexec_fn=lambda: limit_files(size))
                 out.seek(0)
                 compare(f"capvet {command}, to a file that takes {size} bytes", (text[:size], FAILED.encode(), 3),
                         (out.read(), err, status))
+
+
+def short_errors():
+    """Standard error that takes so many bytes of a line of a fault and no more: the texts before it and the status
+    are the same."""
+    line = b"capvet: message 1: Truncated at byte 20\n"
+    for size in range(len(line)):
+        with tempfile.TemporaryFile() as err:
+            ran = subprocess.run([PROGRAM, "vet"], input=NULL + bytes(4), stdout=subprocess.PIPE, stderr=err, timeout=60,
+                                 preexec_fn=lambda: limit_files(size))
+            err.seek(0)
+            compare(f"capvet vet, with standard error that takes {size} bytes", (encoded(NULL_ACCEPTED), line[:size], 1),
+                    (ran.stdout, err.read(), ran.returncode))
+    with open("/dev/full", "wb") as full:
+        # (a directory is a device that fails)
+        ran = subprocess.run([PROGRAM, "vet", "examples"], cwd=TOP, stdout=subprocess.PIPE, stderr=full, timeout=60)
+        compare("capvet vet examples, with standard error that takes nothing", (b"", b"", 3), (ran.stdout, b"", ran.returncode))
 
 
 def closing_pipe(command, text):
@@ -610,6 +746,7 @@ def wants():
 
 cut_inputs()
 short_outputs()
+short_errors()
 for command, text in SHARED_TEXTS.items():
     closing_pipe(command, encoded(text))
 wants()

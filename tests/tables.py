@@ -114,6 +114,30 @@ VERDICTS = (
         "message 1: accepted charge 1 depth 1 pointers 1 caps 0\n", status=1),
 )
 
+# The greatest and the least of each limit, and options together.
+OTHER_LIMITS = (
+    Row("segments --size=268435456", "0000000000000010", "", "capvet: message 0: Truncated at byte 8\n", 1),
+    Row("vet --size 268435456", "0000000000000010", "", "capvet: message 0: Truncated at byte 8\n", 1),
+    Row("vet --size 268435456", "0000000001000010", "", "capvet: message 0: TooLarge 268435457\n", 1),
+    Row("segments --size 0", NULL, "", "capvet: message 0: TooLarge 1\n", 1),
+    Row("vet --size 0", NULL, "", "capvet: message 0: TooLarge 1\n", 1),
+    Row("vet --size 0", "0000000000000000", "message 0: refused NoRoot at 0:0 pointers 0\n", status=1),
+    Row("vet --words 268435456", "0000000001000000 0100000000000080",
+        "message 0: accepted charge 268435456 depth 1 pointers 1 caps 0\n"),
+    Row("vet --words 0", BITLESS, "message 0: refused WordLimit at 0:0 pointers 1\n", status=1),
+    # each of the three options in one line
+    Row("vet --depth=3 --size=1 --words=2", STRUCT, "", "capvet: message 0: TooLarge 2\n", 1),
+    Row("vet --depth=3 --size=4 --words=2", BELOW_A_LIST, "message 0: refused WordLimit at 0:2 pointers 2\n", status=1),
+    Row("vet --depth=2 --size=4 --words=3", BELOW_A_LIST, "message 0: refused DepthLimit at 0:2 pointers 2\n", status=1),
+    Row("get --depth=3 --size=1 --words=2 /", STRUCT, "", "capvet: message 0: TooLarge 2\n", 1),
+    # a table that claims more words than are there, after a whole message
+    Row("segments", "0000000001000000 0700000000000000 0000000000008000",
+        "message 0: segments 1 words 1\nsegment 0: 1\nroot 0700000000000000\n",
+        "capvet: message 1: Truncated at byte 24\n", 1),
+    Row("get /", "0000000001000000 0000000000000000 0000000000008000", "message 0: found\nnode null\n",
+        "capvet: message 1: Truncated at byte 24\n", 1),
+)
+
 # Streams that end, or that aren't one of framed messages within the limits.
 ENDS = (
     # no message
@@ -604,6 +628,11 @@ SPELLINGS = (
      "1004 4002 110401 1001 0107"),
     # a run of zero words has at most 256 of them
     (257 * "0000000000000000", "00ff 0000"),
+    # words with one zero byte, of which the first follows no word without one
+    ("6161616161616100 6162636465666700 0800000003000200", "7f61616161616161 7f61626364656667 51080302"),
+    ("0800000003000200 6161616161616161 6162636465666768", "51080302 ff6161616161616161 01 6162636465666768"),
+    ("0000000001000000 0000000000000000", "1001 0000"),
+    ("0000000000000000 0000000000000000", "0001"),
 )
 
 # Packed streams of messages.
