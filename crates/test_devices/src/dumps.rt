@@ -1,16 +1,14 @@
-//! The dump of messages that are held in memory, and dumps to an output that fails.
+//! Dumps of a message in memory to an output that fails.
 
-use crate::devices::Writer;
-use crate::engines::settings;
 use crate::same::same;
-use cap_cmd::{Cause, RunFault, run_dump};
 use cap_frame::{OneSegment, Segments};
 use cap_run::{Limits, dump};
 use cap_vet::vet;
-use cap_words::{ByteOut, FromWrite, OutFault, PlainWords, SliceIn, VecOut};
+use cap_words::{ByteOut, FromWrite, OutFault};
 use std::alloc::Global;
 use std::process::Abort;
 use std::test::Fail;
+use test_support::Writer;
 
 // The words that these hexadecimal digits tell, each by its bytes in the order of the stream.
 fn words(alloc: Global, digits: &str) -> Result<Vec<u64>, Fail> {
@@ -43,16 +41,6 @@ const NESTED: &str =
 const NESTED_TEXT: &str =
     "root structs 2 1 1\n  i0 struct 1 1\n    d0 0100000000000000\n    p0 null\n  i1 struct 1 1\n    d0 0000000000000000\n    p0 null\n";
 
-#[test]
-fn a_dump_shows_each_node_with_its_own_words(rt: HostRuntime) -> Result<(), Fail> {
-    let segment = words(rt.alloc(), NESTED)?;
-    let message = OneSegment::new(segment.as_slice()).ok_or("no message")?;
-    let mut out = VecOut::new(rt.alloc());
-    same(&rt, dump_to(&message, &mut out)?, Ok(()));
-    same(&rt, out.bytes(), NESTED_TEXT.as_bytes());
-    Ok(())
-}
-
 // A dump to an output that fails behind so many bytes, and another to the same.
 fn expect_beginning<R: AllocGlobal + Abort>(
     rt: &R,
@@ -77,43 +65,6 @@ fn an_output_that_fails_has_a_beginning_of_the_dump(rt: HostRuntime) -> Result<(
     for room in 0..NESTED_TEXT.len() {
         expect_beginning(&rt, segment.as_slice(), room, false)?;
         expect_beginning(&rt, segment.as_slice(), room, true)?;
-    }
-    Ok(())
-}
-
-// The same two structs as a message of a stream, and what `dump` writes of it.
-const STRUCTS: &str =
-    "0000000006000000010000002700000008000000010001000100000000000000000000000000000000000000000000000000000000000000";
-
-const STRUCTS_DUMP: &str = "\
-message 0: accepted charge 5 depth 2 pointers 3 caps 0
-root structs 2 1 1
-  i0 struct 1 1
-    d0 0100000000000000
-    p0 null
-  i1 struct 1 1
-    d0 0000000000000000
-    p0 null
-";
-
-#[test]
-fn leaves_a_beginning_of_a_tree_where_the_output_fails(rt: HostRuntime) -> Result<(), Fail> {
-    let alloc = rt.alloc();
-    let bytes = hex::decode(alloc, STRUCTS)?;
-    let settings = settings(u32::MAX).ok_or("settings")?;
-    for room in 0..STRUCTS_DUMP.len() {
-        let mut source = PlainWords::new(SliceIn::new(bytes.as_slice()));
-        let mut out = FromWrite::new(Writer::full(alloc, room, room % 2 == 0));
-        let wanted = Err(RunFault {
-            message: 0,
-            cause: Cause::Output(OutFault::Device),
-        });
-        assert!(rt; run_dump(alloc, &mut source, &mut out, &settings) == wanted);
-        same(
-            &rt,
-            out.into_inner().taken.as_slice(),
-            &STRUCTS_DUMP.as_bytes()[..room],
-        );
     }
     Ok(())
 }

@@ -1,6 +1,5 @@
 //! Messages whose packed words are runs that end at a segment's edge, or a word before or behind it.
 
-use crate::devices::Reader;
 use crate::same::same;
 use cap_frame::{Segments, SizeLimit, read_byte_message, read_message, write_message};
 use cap_pack::{Packer, Unpacker};
@@ -8,6 +7,7 @@ use cap_words::{BufferedIn, PlainSink, VecOut, WordSink, WordSource};
 use std::alloc::Global;
 use std::process::Abort;
 use std::test::Fail;
+use test_support::Reader;
 
 // Zero, without a zero byte, and with one.
 const KINDS: [u64; 3] = [0, 0x8a8a_8a8a_8a8a_8a8a, 0x8a8a_8a00_8a8a_8a8a];
@@ -54,37 +54,36 @@ fn expect_message<R: AllocGlobal + Abort>(
     Ok(())
 }
 
-#[test]
-fn runs_that_end_about_a_segments_edge(rt: HostRuntime) -> Result<(), Fail> {
-    for kind in KINDS {
-        for first in [1u32, 2, 63, 64, 65, 255, 256, 257, 300] {
-            for run in first.saturating_sub(1)..=first.saturating_add(3) {
-                let mut packer = Packer::new(VecOut::new(rt.alloc()));
-                put_message(&mut packer, first, kind, run)?;
-                let mut plain = PlainSink::new(VecOut::new(rt.alloc()));
-                put_message(&mut plain, first, kind, run)?;
-                let (text, frame) = (packer.into_inner(), plain.into_inner());
-                for most in [1, 10, 65536] {
-                    expect_message(&rt, text.bytes(), most, frame.bytes())?;
-                }
-            }
-        }
+// A message whose run has so many words is read from its packed text, by reads of each size.
+fn expect_run<R: AllocGlobal + Abort>(
+    rt: &R,
+    kind: u64,
+    first: u32,
+    run: u32,
+    sizes: &[usize],
+) -> Result<(), Fail> {
+    let mut packer = Packer::new(VecOut::new(rt.alloc()));
+    put_message(&mut packer, first, kind, run)?;
+    let mut plain = PlainSink::new(VecOut::new(rt.alloc()));
+    put_message(&mut plain, first, kind, run)?;
+    let (text, frame) = (packer.into_inner(), plain.into_inner());
+    for most in sizes {
+        expect_message(rt, text.bytes(), *most, frame.bytes())?;
     }
     Ok(())
 }
 
-// Runs that go on behind the piece of a fresh buffer that is made ready first, and end behind it.
+// Runs that end about a segment's edge, and runs that go on after the piece of a fresh buffer that
+// is made ready first.
 #[test]
-fn runs_behind_a_piece(rt: HostRuntime) -> Result<(), Fail> {
+fn runs_about_edges(rt: HostRuntime) -> Result<(), Fail> {
     for kind in KINDS {
-        let mut packer = Packer::new(VecOut::new(rt.alloc()));
-        put_message(&mut packer, 17_300, kind, 17_100)?;
-        let mut plain = PlainSink::new(VecOut::new(rt.alloc()));
-        put_message(&mut plain, 17_300, kind, 17_100)?;
-        let (text, frame) = (packer.into_inner(), plain.into_inner());
-        for most in [1, 3, 7, 8, 9, 65536] {
-            expect_message(&rt, text.bytes(), most, frame.bytes())?;
+        for first in [1u32, 2, 63, 64, 65, 255, 256, 257, 300] {
+            for run in first.saturating_sub(1)..=first.saturating_add(3) {
+                expect_run(&rt, kind, first, run, &[1, 10, 65536])?;
+            }
         }
+        expect_run(&rt, kind, 17_300, 17_100, &[1, 3, 7, 8, 9, 65536])?;
     }
     Ok(())
 }

@@ -1,12 +1,12 @@
 //! What is said of each fault, those too that no run of the program meets.
 
+use crate::same::same;
 use cap_canon::CanonFault;
 use cap_cmd::{Cause, CopyFault, RunFault};
 use cap_frame::FrameFault;
 use cap_run::{write_copy_fault, write_fault};
 use cap_vet::{Reason, Refusal};
 use cap_words::{OutFault, SourceFault, VecOut};
-use std::test::Fail;
 
 const REFUSAL: Refusal = Refusal {
     segment: 511,
@@ -68,20 +68,6 @@ static FAULTS: [(Cause, &str); 12] = [
     (Cause::Memory, "capvet: message 7: Memory\n"),
 ];
 
-#[test]
-fn tells_the_faults(rt: HostRuntime) -> Result<(), Fail> {
-    for (cause, text) in &FAULTS {
-        let fault = RunFault {
-            message: 7,
-            cause: *cause,
-        };
-        let mut err = VecOut::new(rt.alloc());
-        assert!(rt; write_fault(&mut err, &fault).is_ok());
-        assert!(rt; err.bytes() == text.as_bytes());
-    }
-    Ok(())
-}
-
 // Why a copy of words ends, and what is said of it.
 static COPY_FAULTS: [(CopyFault, &str); 6] = [
     (CopyFault::TooManyWords, "capvet: TooManyWords\n"),
@@ -102,11 +88,19 @@ static COPY_FAULTS: [(CopyFault, &str); 6] = [
 ];
 
 #[test]
-fn tells_the_faults_of_copies(rt: HostRuntime) -> Result<(), Fail> {
+fn the_line_of_each_fault(rt: HostRuntime) {
+    for (cause, text) in &FAULTS {
+        let fault = RunFault {
+            message: 7,
+            cause: *cause,
+        };
+        let mut err = VecOut::new(rt.alloc());
+        same(&rt, write_fault(&mut err, &fault), Ok(()));
+        same(&rt, err.bytes(), text.as_bytes());
+    }
     for (fault, text) in &COPY_FAULTS {
         let mut err = VecOut::new(rt.alloc());
-        assert!(rt; write_copy_fault(&mut err, fault).is_ok());
-        assert!(rt; err.bytes() == text.as_bytes());
+        same(&rt, write_copy_fault(&mut err, fault), Ok(()));
+        same(&rt, err.bytes(), text.as_bytes());
     }
-    Ok(())
 }

@@ -7,8 +7,6 @@ mod canons;
 #[cfg(test)]
 mod copies;
 #[cfg(test)]
-mod devices;
-#[cfg(test)]
 mod dumps;
 #[cfg(test)]
 mod edges;

@@ -1,16 +1,14 @@
 //! Runs over devices that give and take few bytes a call, each of their calls failing in turn.
 
-use crate::devices::{Fault, HONEST, Reader, Writer};
-use crate::engines::settings;
-use crate::same::{same, same_of};
+use crate::same::same_of;
 use crate::whole::{job, run_over};
-use cap_cmd::{Cause, Job, Outcome, RunFault, run_job, run_vet};
-use cap_frame::FrameFault;
-use cap_words::{FromRead, FromWrite, OutFault, PlainWords, VecOut};
+use cap_cmd::{Job, run_job};
+use cap_words::{FromRead, FromWrite, VecOut};
 use std::alloc::Global;
 use std::io::ErrorKind;
 use std::process::Abort;
 use std::test::Fail;
+use test_support::{Fault, HONEST, Reader, Writer};
 
 // How many bytes a device gives or takes a call.
 pub(crate) const PIECES: [usize; 4] = [1, 2, 3, 7];
@@ -319,80 +317,6 @@ fn each_call_of_a_device_fails_in_turn(rt: HostRuntime) -> Result<(), Fail> {
     for row in &ROWS {
         for most in PIECES {
             expect_row(&rt, row, most)?;
-        }
-    }
-    Ok(())
-}
-
-// Two pointers to one struct, and the line of `vet`.
-const SHARED: &str =
-    "00000000040000000000000000000200040000000100000000000000010000000700000000000000";
-
-const SHARED_VET: &[u8] = b"message 0: accepted charge 4 depth 2 pointers 3 caps 0\n";
-
-// What vetting these bytes answers a byte a call, and what was written.
-fn vet_by_bytes(
-    alloc: Global,
-    bytes: &[u8],
-    reading: Fault,
-    writing: Fault,
-) -> Result<(Result<Outcome, RunFault>, Vec<u8>), Fail> {
-    let settings = settings(u32::MAX).ok_or("settings")?;
-    let mut source = PlainWords::new(FromRead::new(Reader::new(bytes, 1, reading)));
-    let mut out = FromWrite::new(Writer::new(alloc, 1, writing));
-    let answer = run_vet(alloc, &mut source, &mut out, &settings);
-    Ok((answer, out.into_inner().taken))
-}
-
-// A fault of a run behind so many messages.
-fn fault_at(message: u32, cause: Cause) -> Result<Outcome, RunFault> {
-    Err(RunFault { message, cause })
-}
-
-#[test]
-fn a_line_of_55_bytes_breaks_off_at_each(rt: HostRuntime) -> Result<(), Fail> {
-    let alloc = rt.alloc();
-    let bytes = hex::decode(alloc, SHARED)?;
-    let (answer, taken) = vet_by_bytes(alloc, bytes.as_slice(), HONEST, HONEST)?;
-    let accepted = Ok(Outcome {
-        messages: 1,
-        refused: 0,
-        noncanonical: 0,
-    });
-    assert!(rt; answer == accepted);
-    same(&rt, taken.as_slice(), SHARED_VET);
-    for done in 0..55u32 {
-        for kind in WRITE_FAULTS {
-            let writing = Fault { at: done + 1, kind };
-            let (answer, taken) = vet_by_bytes(alloc, bytes.as_slice(), HONEST, writing)?;
-            assert!(rt; answer == fault_at(0, Cause::Output(OutFault::Device)));
-            same(&rt, taken.len(), done as usize);
-            assert!(rt; SHARED_VET.starts_with(taken.as_slice()));
-        }
-    }
-    Ok(())
-}
-
-#[test]
-fn a_message_of_40_bytes_breaks_off_at_each(rt: HostRuntime) -> Result<(), Fail> {
-    let alloc = rt.alloc();
-    let bytes = hex::decode(alloc, SHARED)?;
-    let failed = Cause::Frame(FrameFault::Device);
-    for done in 0..41u32 {
-        for kind in READ_FAULTS {
-            let reading = Fault {
-                at: done + 1,
-                kind: Some(kind),
-            };
-            let (answer, taken) = vet_by_bytes(alloc, bytes.as_slice(), reading, HONEST)?;
-            // the last read is the one that looks behind the message
-            let (message, text) = if done < 40 {
-                (0, &b""[..])
-            } else {
-                (1, SHARED_VET)
-            };
-            assert!(rt; answer == fault_at(message, failed), "behind {done} bytes");
-            same_of(&rt, &done, taken.as_slice(), text);
         }
     }
     Ok(())

@@ -1,6 +1,6 @@
-//! Sources and sinks by themselves, over devices each of whose calls fails in turn.
+//! Sources, sinks and outputs by themselves, over devices each of whose calls fails in turn, and how often
+//! a device is called.
 
-use crate::devices::{Fault, Reader, Writer};
 use crate::pieces::{PIECES, READ_FAULTS, WRITE_FAULTS};
 use crate::same::{same, same_of};
 use cap_pack::{Packer, Unpacker};
@@ -9,9 +9,11 @@ use cap_words::{
     SinkFault, SliceIn, SourceFault, WordSink, WordSource,
 };
 use std::alloc::Global;
+use std::cmp::Ordering;
 use std::io::ErrorKind;
 use std::process::Abort;
 use std::test::Fail;
+use test_support::{Fault, Reader, Writer};
 
 // Words of each kind of group, and their packed spelling.
 const WORDS: &str =
@@ -98,6 +100,7 @@ fn read_to_fault<R: AllocGlobal + Abort, I: ByteIn + Drop>(
         return Ok(None);
     };
     let mut input = input;
+    same(rt, input.read(&mut []), Ok(0));
     same(rt, input.read(&mut [0]), Err(InFault::Spent));
     let before = words_of_front(rt.alloc(), packed, bytes, position)?;
     same_of(rt, &position, words.as_slice(), before.as_slice());
@@ -172,7 +175,7 @@ fn put_to_fault<K: WordSink>(rt: &impl Abort, sink: &mut K, rest: &[u8]) -> Resu
     answer
 }
 
-// Each write of these words fails in turn, until a run meets no fault.
+// Each write of these words fails in turn, until a run meets no fault. Answers how many calls that made.
 fn expect_writes<R: AllocGlobal + Abort>(
     rt: &R,
     packed: bool,
@@ -180,7 +183,7 @@ fn expect_writes<R: AllocGlobal + Abort>(
     text: &[u8],
     most: usize,
     kind: Option<ErrorKind>,
-) -> Result<(), Fail> {
+) -> Result<u32, Fail> {
     for at in 1..MANY {
         let output = FromWrite::new(Writer::new(rt.alloc(), most, Fault { at, kind }));
         let (answer, output) = if packed {
@@ -193,12 +196,13 @@ fn expect_writes<R: AllocGlobal + Abort>(
         let mut output = output;
         if answer.is_ok() {
             let writer = output.into_inner();
-            assert!(rt; writer.calls < at, "a failure that wasn't told");
+            same_of(rt, &most, writer.calls, at.saturating_sub(1));
             same(rt, writer.taken.as_slice(), text);
-            return Ok(());
+            return Ok(writer.calls);
         }
         same(rt, answer, Err(SinkFault::Device));
-        assert!(rt; output.write(&[0]) == Err(OutFault::Spent));
+        same(rt, output.write(&[]), Ok(0));
+        same(rt, output.write(&[0]), Err(OutFault::Spent));
         let writer = output.into_inner();
         same_of(rt, &most, writer.calls, at);
         assert!(rt; text.starts_with(writer.taken.as_slice()));
@@ -206,16 +210,121 @@ fn expect_writes<R: AllocGlobal + Abort>(
     Err(Fail::from("no end"))
 }
 
+// How many bytes a writer takes at most, and how many calls take 8 plain bytes and then 40.
+static WRITES: [(usize, u32); 5] = [(1, 48), (2, 24), (3, 17), (7, 8), (64, 2)];
+
 #[test]
 fn a_sink_leaves_a_beginning_before_each_fault(rt: HostRuntime) -> Result<(), Fail> {
     let plain = hex::decode(rt.alloc(), WORDS)?;
     let groups = hex::decode(rt.alloc(), GROUPS)?;
     let rest = &plain.as_slice()[plain.len().min(8)..];
-    for most in PIECES {
+    for (most, calls) in &WRITES {
         for kind in WRITE_FAULTS {
-            expect_writes(&rt, false, rest, plain.as_slice(), most, kind)?;
-            expect_writes(&rt, true, rest, groups.as_slice(), most, kind)?;
+            let made = expect_writes(&rt, false, rest, plain.as_slice(), *most, kind)?;
+            same_of(&rt, most, made, *calls);
+            let _ = expect_writes(&rt, true, rest, groups.as_slice(), *most, kind)?;
         }
     }
     Ok(())
+}
+
+// How many bytes a call of the reader gives at most, and how many calls reach the end of two words and
+// a half of one.
+static CALLS: [(usize, u32); 3] = [(1, 21), (3, 9), (7, 6)];
+
+#[test]
+fn a_reader_is_called_up_to_its_end(rt: HostRuntime) {
+    for (most, calls) in &CALLS {
+        let mut source = PlainWords::new(FromRead::new(Reader::honest(&[7; 20], *most)));
+        for _ in 0..2 {
+            assert!(rt; source.next().is_ok());
+        }
+        let cut = Err(SourceFault::Truncated { byte: 20 });
+        same_of(&rt, most, source.next(), cut);
+        assert!(rt; is_spent(&mut source));
+        same_of(&rt, most, source.into_inner().into_inner().calls, *calls);
+    }
+}
+
+// How many bytes a call of the reader gives at most, which call fails, and the bytes before that.
+static FAILING_PIECES: [(usize, u32, u64); 4] = [(3, 1, 0), (3, 3, 6), (8, 3, 16), (20, 2, 20)];
+
+#[test]
+fn a_fault_inside_a_piece_is_counted(rt: HostRuntime) {
+    let mut room = [9; 27];
+    for (most, at, position) in &FAILING_PIECES {
+        let fault = Fault {
+            at: *at,
+            kind: Some(ErrorKind::Interrupted),
+        };
+        let mut source = PlainWords::new(FromRead::new(Reader::new(&[7; 20], *most, fault)));
+        same_of(&rt, at, source.fill(&mut room), Err(SourceFault::Device));
+        same_of(&rt, at, source.position(), *position);
+        assert!(rt; is_spent(&mut source));
+        same_of(&rt, at, source.into_inner().into_inner().calls, *at);
+    }
+}
+
+#[test]
+fn a_flush_is_one_call_of_the_writer(rt: HostRuntime) {
+    for kind in READ_FAULTS {
+        let fault = Fault {
+            at: 3,
+            kind: Some(kind),
+        };
+        let mut output = FromWrite::new(Writer::new(rt.alloc(), 20, fault));
+        same(&rt, output.write(&[7; 20]), Ok(20));
+        same(&rt, output.flush(), Ok(()));
+        assert!(rt; !output.has_failed());
+        same(&rt, output.flush(), Err(OutFault::Device));
+        assert!(rt; output.has_failed());
+        same(&rt, output.flush(), Err(OutFault::Spent));
+        same(&rt, output.write(&[7; 20]), Err(OutFault::Spent));
+        let writer = output.into_inner();
+        same(&rt, (writer.calls, writer.taken.len()), (3, 20));
+    }
+}
+
+// Words that are spelled by groups of each kind.
+const KINDS: [u64; 8] = [
+    2 << 32,
+    0,
+    0,
+    0,
+    0x8a8a_8a8a_8a8a_8a8a,
+    0x0001_0101_0101_0101,
+    0x0000_0101_0101_0101,
+    0,
+];
+
+// How many bytes the groups have up to each that ends, and which call of the packer writes it.
+static ENDS: [(usize, usize); 5] = [(2, 0), (4, 4), (22, 6), (29, 6), (31, 8)];
+
+// The packer's answer to a call, where the call with this number fails.
+fn answer(call: usize, fails: usize) -> Result<(), SinkFault> {
+    match call.cmp(&fails) {
+        Ordering::Less => Ok(()),
+        Ordering::Equal => Err(SinkFault::Device),
+        Ordering::Greater => Err(SinkFault::Spent),
+    }
+}
+
+// A packer answers the fault in the call that wrote, and its output is called no more.
+#[test]
+fn a_packer_answers_a_fault_in_its_own_call(rt: HostRuntime) {
+    for at in 0..31usize {
+        let mut fails = 0;
+        for (end, call) in ENDS.iter().rev() {
+            if at < *end {
+                fails = *call;
+            }
+        }
+        let mut sink = Packer::new(FromWrite::new(Writer::full(rt.alloc(), at, true)));
+        for (i, word) in KINDS.iter().enumerate() {
+            same_of(&rt, &(at, i), sink.put(*word), answer(i, fails));
+        }
+        same_of(&rt, &at, sink.finish(), answer(KINDS.len(), fails));
+        same(&rt, sink.put(0), Err(SinkFault::Spent));
+        same(&rt, sink.into_inner().into_inner().taken.len(), at);
+    }
 }
