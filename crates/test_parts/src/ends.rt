@@ -1,17 +1,16 @@
-//! What no contract can say: that calls succeed, and how often a device is called.
+//! Ends of bytes and of words: that calls succeed, and answer what is known from outside.
 
-use crate::devices::{SlowReader, failing, slow, slow_writer};
 use crate::same::{same, same_of};
 use crate::steps::{Puts, Reads, Takes, Writes, front, part, put_by, read_by, take_by, write_by};
 use cap_words::{
-    BufferedIn, ByteIn, ByteOut, FromRead, FromWrite, InFault, OutFault, PlainSink, PlainWords,
-    SinkFault, SliceIn, SourceFault, VecOut, WordSource, bits, bytes_of, signed_offset, word_of,
-    write_all,
+    BufferedIn, ByteOut, FromRead, InFault, PlainSink, PlainWords, SinkFault, SliceIn, SourceFault,
+    VecOut, WordSource, bits, bytes_of, signed_offset, word_of, write_all,
 };
 use std::alloc::Global;
 use std::io::ErrorKind;
 use std::process::Abort;
 use std::test::Fail;
+use test_support::{Fault, Reader};
 
 // Two words, and half of one more.
 const TEXT: [u8; 20] = [
@@ -132,6 +131,9 @@ fn words_of_a_slice(rt: HostRuntime) {
         let mut source = PlainWords::new(SliceIn::new(part(&TEXT, 0, *len)));
         take_by(&rt, &mut source, &TEXT, &mut room, *steps);
     }
+    // no bytes of a reader are at hand
+    let mut source = PlainWords::new(FromRead::new(TEXT.as_slice()));
+    take_by(&rt, &mut source, &TEXT, &mut [], &[Takes::AtHand(false)]);
 }
 
 // How many bytes a call of the reader gives at most, which call fails, how many there are, and calls of
@@ -170,107 +172,17 @@ static BUFFERED: [(usize, u32, u32, &[Takes]); 2] = [
 fn words_at_hand_of_a_buffer(rt: HostRuntime) -> Result<(), Fail> {
     let mut room = [9; 32];
     for (most, fails_at, calls, steps) in &BUFFERED {
-        let mut reader = failing(&TEXT, *most, *fails_at, ErrorKind::Other);
+        let fault = Fault {
+            at: *fails_at,
+            kind: Some(ErrorKind::Other),
+        };
+        let mut reader = Reader::new(&TEXT, *most, fault);
         let mut source = PlainWords::new(BufferedIn::new(rt.alloc(), &mut reader)?);
         take_by(&rt, &mut source, &TEXT, &mut room, *steps);
         drop(source);
         same_of(&rt, most, reader.calls, *calls);
     }
     Ok(())
-}
-
-#[test]
-fn no_bytes_of_a_reader_are_at_hand(rt: HostRuntime) {
-    let mut source = PlainWords::new(FromRead::new(TEXT.as_slice()));
-    take_by(&rt, &mut source, &TEXT, &mut [], &[Takes::AtHand(false)]);
-}
-
-// The source gives so many words, then this fault, and is spent then; it stays at this position.
-fn expect_words<S: WordSource>(
-    rt: &impl Abort,
-    source: &mut S,
-    words: usize,
-    end: Result<Option<u64>, SourceFault>,
-    position: u64,
-) {
-    for word in [FIRST, SECOND].iter().take(words) {
-        same_of(rt, &position, source.next(), Ok(Some(*word)));
-    }
-    same_of(rt, &position, source.next(), end);
-    same(rt, source.position(), position);
-    same_of(rt, &position, source.next(), Err(SourceFault::Spent));
-    same_of(rt, &position, source.next(), Err(SourceFault::Spent));
-    same(rt, source.position(), position);
-}
-
-// How many bytes a call of the reader gives at most, which call fails, and the whole words and the
-// bytes before that.
-static FAILING_READERS: [(usize, u32, usize, u64); 6] = [
-    (1, 1, 0, 0),
-    (1, 10, 1, 9),
-    (3, 4, 1, 8),
-    (3, 5, 1, 11),
-    (7, 4, 1, 15),
-    (7, 5, 2, 16),
-];
-
-// The same through a buffer, which gives all that came before the fault.
-static FAILING_BUFFERED: [(usize, u32, usize, u64); 5] = [
-    (1, 1, 0, 0),
-    (1, 10, 1, 9),
-    (3, 4, 1, 9),
-    (7, 4, 2, 20),
-    (20, 2, 2, 20),
-];
-
-static KINDS: [ErrorKind; 2] = [ErrorKind::Interrupted, ErrorKind::BrokenPipe];
-
-// A spent input still answers a read without room.
-static SPENT: [Reads; 2] = [Reads::Read(0, Ok(0)), Reads::Read(1, Err(InFault::Spent))];
-
-// The input fails behind these words, at this position, and is spent then.
-fn fails_behind<I: ByteIn>(rt: &impl Abort, input: I, words: usize, position: u64) -> I {
-    let mut source = PlainWords::new(input);
-    let fault = Err(SourceFault::Device);
-    expect_words(rt, &mut source, words, fault, position);
-    let mut input = source.into_inner();
-    read_by(rt, &mut input, &TEXT, &mut [9], &SPENT);
-    input
-}
-
-#[test]
-fn a_reader_that_fails_is_not_called_again(rt: HostRuntime) {
-    for (most, fails_at, words, position) in &FAILING_READERS {
-        for kind in &KINDS {
-            let input = FromRead::new(failing(&TEXT, *most, *fails_at, *kind));
-            let reader = fails_behind(&rt, input, *words, *position).into_inner();
-            same_of(&rt, most, reader.calls, *fails_at);
-        }
-    }
-}
-
-#[test]
-fn a_buffer_gives_all_that_came_before_a_fault(rt: HostRuntime) -> Result<(), Fail> {
-    for (most, fails_at, words, position) in &FAILING_BUFFERED {
-        let mut reader = failing(&TEXT, *most, *fails_at, ErrorKind::Interrupted);
-        let input = BufferedIn::new(rt.alloc(), &mut reader)?;
-        drop(fails_behind(&rt, input, *words, *position));
-        same_of(&rt, most, reader.calls, *fails_at);
-    }
-    Ok(())
-}
-
-// How many bytes a call of the reader gives at most, and how many calls reach its end.
-static CALLS: [(usize, u32); 3] = [(1, 21), (3, 9), (7, 6)];
-
-#[test]
-fn a_reader_is_called_up_to_its_end(rt: HostRuntime) {
-    for (most, calls) in &CALLS {
-        let mut source = PlainWords::new(FromRead::new(slow(&TEXT, *most)));
-        let cut = Err(SourceFault::Truncated { byte: 20 });
-        expect_words(&rt, &mut source, 2, cut, 20);
-        same_of(&rt, most, source.into_inner().into_inner().calls, *calls);
-    }
 }
 
 // Bytes that are at hand, up to the end.
@@ -328,16 +240,11 @@ fn bytes_at_hand(rt: HostRuntime) -> Result<(), Fail> {
     let mut input = BufferedIn::new(rt.alloc(), TEXT.as_slice())?;
     read_by(&rt, &mut input, &TEXT, &mut room, &NONE_HELD);
     read_by(&rt, &mut input, &TEXT, &mut room, &HELD_BY_A_BUFFER);
-    Ok(())
-}
-
-#[test]
-fn a_reader_holds_nothing_back(rt: HostRuntime) {
-    let mut room = [9; 24];
     let mut reader = FromRead::new(TEXT.as_slice());
     read_by(&rt, &mut reader, &TEXT, &mut room, &NONE_HELD);
     read_by(&rt, &mut reader, &TEXT, &mut room, &[Reads::Read(3, Ok(3))]);
     read_by(&rt, &mut reader, &TEXT, &mut room, &NONE_HELD);
+    Ok(())
 }
 
 // Behind 65,530 bytes: from both sides of a refill.
@@ -377,7 +284,11 @@ fn expect_reads<R: AllocGlobal + Abort>(
     let mut bytes = Vec::from_elem(rt.alloc(), 7, len)?;
     bytes.extend_from_slice(&TEXT)?;
     let mut room = Vec::from_elem(rt.alloc(), 0, 100_000)?;
-    let mut reader = failing(&bytes, usize::MAX, fails_at, ErrorKind::Interrupted);
+    let fault = Fault {
+        at: fails_at,
+        kind: Some(ErrorKind::Interrupted),
+    };
+    let mut reader = Reader::new(&bytes, usize::MAX, fault);
     let mut input = BufferedIn::new(rt.alloc(), &mut reader)?;
     read_by(rt, &mut input, &bytes, &mut room, steps);
     drop(input);
@@ -427,9 +338,12 @@ fn expect_pieces<R: AllocGlobal + Abort>(
 ) -> Result<(), Fail> {
     let mut room = Vec::from_elem(rt.alloc(), 0, 70_000)?;
     for most in &SIZES {
-        let mut source = PlainWords::new(FromRead::new(slow(bytes, *most)));
+        let mut source = PlainWords::new(FromRead::new(Reader::honest(bytes, *most)));
         expect_filled(rt, &mut source, bytes, &mut room, end);
-        let mut source = PlainWords::new(BufferedIn::new(rt.alloc(), slow(bytes, *most))?);
+        let mut source = PlainWords::new(BufferedIn::new(
+            rt.alloc(),
+            Reader::honest(bytes, *most),
+        )?);
         expect_filled(rt, &mut source, bytes, &mut room, end);
     }
     Ok(())
@@ -446,31 +360,6 @@ fn pieces_by_reads_of_many_sizes(rt: HostRuntime) -> Result<(), Fail> {
     expect_pieces(&rt, part(&bytes, 0, 140_000), Ok(false))
 }
 
-// How many bytes a call of the reader gives at most, which call fails, and the bytes before that.
-static FAILING_PIECES: [(usize, u32, u64); 4] = [(3, 1, 0), (3, 3, 6), (8, 3, 16), (20, 2, 20)];
-
-static PIECE_FAILS: [Takes; 1] = [Takes::Fill(27, Err(SourceFault::Device), 0, 0)];
-
-static PIECE_SPENT: [Takes; 2] = [
-    Takes::Fill(27, Err(SourceFault::Spent), 0, 0),
-    Takes::Next(Err(SourceFault::Spent)),
-];
-
-#[test]
-fn a_fault_inside_a_piece_is_counted(rt: HostRuntime) {
-    let mut room = [9; 27];
-    for (most, fails_at, position) in &FAILING_PIECES {
-        let reader = failing(&TEXT, *most, *fails_at, ErrorKind::Interrupted);
-        let mut source = PlainWords::new(FromRead::new(reader));
-        take_by(&rt, &mut source, &TEXT, &mut room, &PIECE_FAILS);
-        same_of(&rt, &(most, fails_at), source.position(), *position);
-        take_by(&rt, &mut source, &TEXT, &mut room, &PIECE_SPENT);
-        same_of(&rt, most, source.into_inner().into_inner().calls, *fails_at);
-    }
-}
-
-const DEVICE: Result<(), SinkFault> = Err(SinkFault::Device);
-
 const CLOSED: Result<(), SinkFault> = Err(SinkFault::Spent);
 
 const BOTH_PUT: &[Puts] = &[
@@ -481,110 +370,7 @@ const BOTH_PUT: &[Puts] = &[
     Puts::Finish(CLOSED),
 ];
 
-const BOTH_FLUSHED: &[Puts] = &[
-    Puts::Word(FIRST, Ok(())),
-    Puts::Flush(Ok(())),
-    Puts::Word(SECOND, Ok(())),
-    Puts::Flush(Ok(())),
-    Puts::Finish(Ok(())),
-    Puts::Flush(CLOSED),
-];
-
-const SECOND_FAILS: &[Puts] = &[
-    Puts::Word(FIRST, Ok(())),
-    Puts::Word(SECOND, DEVICE),
-    Puts::Word(0, CLOSED),
-    Puts::Finish(CLOSED),
-];
-
-const FIRST_FAILS: &[Puts] = &[
-    Puts::Word(FIRST, DEVICE),
-    Puts::Word(SECOND, CLOSED),
-    Puts::Word(0, CLOSED),
-    Puts::Finish(CLOSED),
-];
-
-const BYTES_FAIL: &[Puts] = &[
-    Puts::Bytes(0, 20, DEVICE),
-    Puts::Bytes(0, 20, CLOSED),
-    Puts::Bytes(0, 0, CLOSED),
-    Puts::Word(0, CLOSED),
-];
-
-const BYTES_PUT: &[Puts] = &[Puts::Bytes(0, 20, Ok(()))];
-
-// How many bytes a call of the writer takes at most, which call fails, how many bytes were taken by how
-// many calls, and the calls of the sink: words, and pieces of several.
-static SINKS: [(usize, u32, usize, u32, &[Puts]); 12] = [
-    (1, 1, 0, 1, FIRST_FAILS),
-    (3, 5, 11, 5, SECOND_FAILS),
-    (7, 4, 15, 4, SECOND_FAILS),
-    (8, 2, 8, 2, SECOND_FAILS),
-    (7, 0, 16, 4, BOTH_PUT),
-    // each flush is a call
-    (8, 0, 16, 4, BOTH_FLUSHED),
-    (1, 1, 0, 1, BYTES_FAIL),
-    (3, 5, 12, 5, BYTES_FAIL),
-    (7, 3, 14, 3, BYTES_FAIL),
-    (8, 2, 8, 2, BYTES_FAIL),
-    (7, 0, 16, 3, BYTES_PUT),
-    // all words in one call
-    (20, 0, 16, 1, BYTES_PUT),
-];
-
-// The last of them takes no byte.
-static WRITER_KINDS: [Option<ErrorKind>; 3] = [
-    Some(ErrorKind::Interrupted),
-    Some(ErrorKind::Other),
-    None,
-];
-
-static NOTHING: [Writes; 1] = [Writes::Write(0, 0, Ok(0))];
-
-static OUTPUT_SPENT: [Writes; 1] = [Writes::Write(0, 1, Err(OutFault::Spent))];
-
-#[test]
-fn a_writer_that_fails_is_not_called_again(rt: HostRuntime) {
-    for (most, fails_at, taken, calls, steps) in &SINKS {
-        for kind in &WRITER_KINDS {
-            let writer = slow_writer(rt.alloc(), *most, *fails_at, *kind);
-            let mut sink = PlainSink::new(FromWrite::new(writer));
-            put_by(&rt, &mut sink, &TEXT, *steps);
-            let mut output = sink.into_inner();
-            write_by(&rt, &mut output, &TEXT, &NOTHING);
-            if *fails_at > 0 {
-                write_by(&rt, &mut output, &TEXT, &OUTPUT_SPENT);
-            }
-            let writer = output.into_inner();
-            same_of(&rt, most, writer.calls, *calls);
-            same_of(&rt, most, writer.taken.as_slice(), part(&TEXT, 0, *taken));
-        }
-    }
-}
-
 static FLUSHED: [Writes; 2] = [Writes::Write(0, 20, Ok(20)), Writes::Flush(Ok(()))];
-
-static FLUSH_FAILS: [Writes; 1] = [Writes::Flush(Err(OutFault::Device))];
-
-static FLUSH_SPENT: [Writes; 2] = [
-    Writes::Flush(Err(OutFault::Spent)),
-    Writes::Write(0, 20, Err(OutFault::Spent)),
-];
-
-#[test]
-fn a_flush_is_one_call_of_the_writer(rt: HostRuntime) {
-    for kind in [ErrorKind::Interrupted, ErrorKind::Other] {
-        let mut output = FromWrite::new(slow_writer(rt.alloc(), 20, 3, Some(kind)));
-        write_by(&rt, &mut output, &TEXT, &FLUSHED);
-        assert!(rt; !output.has_failed());
-        write_by(&rt, &mut output, &TEXT, &FLUSH_FAILS);
-        assert!(rt; output.has_failed());
-        write_by(&rt, &mut output, &TEXT, &FLUSH_SPENT);
-        let writer = output.into_inner();
-        same(&rt, writer.calls, 3);
-        same(&rt, writer.taken.as_slice(), TEXT.as_slice());
-    }
-}
 
 // Less than a word at the end of a piece is left out.
 static PIECES: [Puts; 12] = [
@@ -630,12 +416,8 @@ fn words_and_pieces_into_memory(rt: HostRuntime) -> Result<(), Fail> {
     same(&rt, output.write(&many), Ok(300000));
     same(&rt, output.bytes().len(), 300021);
     same(&rt, part(output.bytes(), 20, 2), &[5, 7]);
-    Ok(())
-}
-
-#[test]
-fn bytes_into_memory(rt: HostRuntime) {
     let mut memory = VecOut::new(rt.alloc());
     write_by(&rt, &mut memory, &TEXT, &FLUSHED);
     same(&rt, memory.bytes(), &TEXT);
+    Ok(())
 }

@@ -1,19 +1,18 @@
-//! What no contract can say: that calls succeed, and values from outside.
+//! Framed messages, read in each way and written, of bytes that are known from outside.
 
 use crate::same::{same, same_of};
 use crate::steps::part;
 use cap_frame::{
-    ByteMessage, FrameFault, OneSegment, Outline, Segments, SizeLimit, WordMessage, read_message,
-    read_outline, write_message,
+    ByteMessage, FrameFault, OneSegment, Outline, Segments, SizeLimit, WordMessage,
+    read_byte_message, read_into, read_message, read_outline, write_message,
 };
 use cap_words::{
-    BufferedIn, PlainSink, PlainWords, SliceIn, SourceFault, VecOut, WordSink, WordSource, bytes_of,
+    PlainSink, PlainWords, SliceIn, SourceFault, VecOut, WordSink, WordSource, bytes_of,
 };
 use std::alloc::{AllocError, Global};
 use std::process::Abort;
 use std::test::Fail;
 
-mod buffers;
 mod fronts;
 mod views;
 
@@ -67,8 +66,8 @@ fn is_outline(outline: &Outline, want: &[&[u64]]) -> bool {
 // The segments of a message, none, or a fault.
 type Wanted<'a> = Result<Option<&'a [&'a [u64]]>, FrameFault>;
 
-// The source gives this message, none, or this fault.
-fn expect_segments<S: WordSource>(
+// The source gives this message, none, or this fault, where each segment is a vector.
+fn expect_vectors<S: WordSource>(
     rt: &impl Abort,
     alloc: Global,
     source: &mut S,
@@ -77,15 +76,53 @@ fn expect_segments<S: WordSource>(
 ) {
     match (read_message(alloc, source, limit), want) {
         (Ok(Some(message)), Ok(Some(segments))) => {
-            assert!(rt; is_message(&message, segments), "the segments");
+            assert!(rt; is_message(&message, segments), "in vectors");
         }
         (Ok(None), Ok(None)) => {}
         (Err(fault), Err(wanted)) => same(rt, fault, wanted),
-        _ => assert!(rt; false, "another answer"),
+        _ => assert!(rt; false, "another answer in vectors"),
     }
 }
 
-// The same where the outline alone is kept. Where there is no message, nothing is left of one before.
+// The same where the message is in one buffer.
+fn expect_buffer<S: WordSource>(
+    rt: &impl Abort,
+    alloc: Global,
+    source: &mut S,
+    limit: SizeLimit,
+    want: Wanted<'_>,
+) {
+    match (read_byte_message(alloc, source, limit), want) {
+        (Ok(Some(message)), Ok(Some(segments))) => {
+            assert!(rt; is_message(&message.view(), segments), "in a buffer");
+        }
+        (Ok(None), Ok(None)) => {}
+        (Err(fault), Err(wanted)) => same(rt, fault, wanted),
+        _ => assert!(rt; false, "another answer in a buffer"),
+    }
+}
+
+// The same where a buffer is used again. Where there is no message, nothing is left of one before.
+fn expect_held<S: WordSource>(
+    rt: &impl Abort,
+    alloc: Global,
+    source: &mut S,
+    limit: SizeLimit,
+    held: &mut ByteMessage,
+    want: Wanted<'_>,
+) {
+    let answer = read_into(alloc, source, limit, held);
+    same(rt, answer, want.map(|segments| segments.is_some()));
+    match want {
+        Ok(Some(segments)) => assert!(rt; is_message(&held.view(), segments), "held"),
+        _ => assert!(rt;
+            is_message(&held.view(), &[&[]]),
+            "nothing is left in the buffer"
+        ),
+    }
+}
+
+// The same where the outline alone is kept.
 fn expect_outline<S: WordSource>(
     rt: &impl Abort,
     source: &mut S,
@@ -97,32 +134,8 @@ fn expect_outline<S: WordSource>(
     same(rt, answer, want.map(|segments| segments.is_some()));
     match want {
         Ok(Some(segments)) => assert!(rt; is_outline(outline, segments), "the outline"),
-        _ => assert!(rt; is_outline(outline, &[]), "nothing is left"),
+        _ => assert!(rt; is_outline(outline, &[]), "nothing is left of an outline"),
     }
-}
-
-// These bytes give this message, none, or this fault, and then this answer; and so do they where the
-// outline alone is kept, and where the message is in one buffer.
-fn expect_message(
-    rt: &impl Abort,
-    alloc: Global,
-    bytes: &[u8],
-    limit: SizeLimit,
-    want: Wanted<'_>,
-    then: Result<Option<u64>, SourceFault>,
-) -> Result<(), Fail> {
-    let mut source = PlainWords::new(SliceIn::new(bytes));
-    expect_segments(rt, alloc, &mut source, limit, want);
-    same(rt, source.next(), then);
-    let mut source = PlainWords::new(SliceIn::new(bytes));
-    expect_outline(rt, &mut source, limit, &mut Outline::new(), want);
-    same(rt, source.next(), then);
-    buffers::expect_same_answers(rt, alloc, bytes, limit, &mut ByteMessage::blank(alloc))
-}
-
-// The number in the low and in the high half of a word.
-fn pair(low: u32, high: u32) -> u64 {
-    u64::from(low) + u64::from(high) * 0x1_0000_0000
 }
 
 // A segment of no words between two others, and a word behind the message.
@@ -196,148 +209,40 @@ static CASES: [Case<'static>; 13] = [
     ),
 ];
 
-#[test]
-fn messages_are_read(rt: HostRuntime) -> Result<(), Fail> {
-    for (words, cut, limit, want, then) in &CASES {
-        let bytes = plain(rt.alloc(), *words)?;
-        let limit = SizeLimit::new(*limit).ok_or("a limit")?;
-        expect_message(&rt, rt.alloc(), part(&bytes, 0, *cut), limit, *want, *then)?;
-    }
-    Ok(())
-}
-
-// The frame of 512 segments of one word each.
-fn many_words(alloc: Global) -> Result<Vec<u64>, AllocError> {
-    let mut words = Vec::new(alloc);
-    words.push(pair(511, 1))?;
-    for _ in 0..255u32 {
-        words.push(pair(1, 1))?;
-    }
-    words.push(pair(1, 0))?;
-    for word in 0..512u64 {
-        words.push(word)?;
-    }
-    Ok(words)
-}
-
-// The message has 512 segments, of one word each that is its number.
-fn expect_one_each<M: Segments>(rt: &impl Abort, message: &M) {
-    same(rt, message.count(), 512);
-    for s in 0..message.count() {
-        assert!(rt; message.len(s) == 1, "segment {s}");
-        same(rt, message.word(s, 0), u64::from(s));
-    }
-}
-
-// The source gives that message, which is written with these bytes.
-fn expect_many<S: WordSource>(
+// Each way to read a message gives the same, and behind it the source goes on in the same way.
+fn expect_each_way(
     rt: &impl Abort,
     alloc: Global,
-    source: &mut S,
     bytes: &[u8],
+    held: &mut ByteMessage,
+    outline: &mut Outline,
+    (_, _, limit, want, then): &Case<'_>,
 ) -> Result<(), Fail> {
-    let limit = SizeLimit::new(512).ok_or("a limit")?;
-    let message = read_message(alloc, source, limit)?.ok_or("a message")?;
-    expect_one_each(rt, &message);
-    let mut sink = PlainSink::new(VecOut::new(alloc));
-    same(rt, write_message(&mut sink, &message), Ok(()));
-    same(rt, sink.into_inner().bytes(), bytes);
+    let limit = SizeLimit::new(*limit).ok_or("a limit")?;
+    let mut source = PlainWords::new(SliceIn::new(bytes));
+    expect_vectors(rt, alloc, &mut source, limit, *want);
+    same(rt, source.next(), *then);
+    let mut source = PlainWords::new(SliceIn::new(bytes));
+    expect_buffer(rt, alloc, &mut source, limit, *want);
+    same(rt, source.next(), *then);
+    let mut source = PlainWords::new(SliceIn::new(bytes));
+    expect_held(rt, alloc, &mut source, limit, held, *want);
+    same(rt, source.next(), *then);
+    let mut source = PlainWords::new(SliceIn::new(bytes));
+    expect_outline(rt, &mut source, limit, outline, *want);
+    same(rt, source.next(), *then);
+    fronts::expect_front_of(rt, bytes, limit, *want);
     Ok(())
 }
 
 #[test]
-fn many_segments_are_read_and_written(rt: HostRuntime) -> Result<(), Fail> {
-    let bytes = plain(rt.alloc(), &many_words(rt.alloc())?)?;
-    let mut source = PlainWords::new(SliceIn::new(&bytes));
-    expect_many(&rt, rt.alloc(), &mut source, &bytes)
-}
-
-// What is behind the message, after 320,016 bytes.
-fn ends_there<S: WordSource>(rt: &impl Abort, source: &mut S) {
-    same(rt, source.next(), Ok(None));
-    same(rt, source.position(), 320_016);
-}
-
-#[test]
-fn a_long_message_is_read_through_a_buffer(rt: HostRuntime) -> Result<(), Fail> {
-    let alloc = rt.alloc();
-    // 320 KB, nearly all of them in the second segment.
-    let mut words = Vec::new(alloc);
-    words.extend_from_slice(&[pair(1, 1), pair(39_999, 0), 7])?;
-    for word in 1..40_000u64 {
-        words.push(word)?;
-    }
-    let bytes = plain(alloc, &words)?;
-    let segments: &[&[u64]] = &[&[7], words.as_slice().get(3..).unwrap_or(&[])];
-    let limit = SizeLimit::new(40_000).ok_or("a limit")?;
-    let mut source = PlainWords::new(BufferedIn::new(alloc, bytes.as_slice())?);
-    expect_segments(&rt, alloc, &mut source, limit, Ok(Some(segments)));
-    ends_there(&rt, &mut source);
-    let mut source = PlainWords::new(BufferedIn::new(alloc, bytes.as_slice())?);
+fn messages_are_read(rt: HostRuntime) -> Result<(), Fail> {
+    let mut held = ByteMessage::blank(rt.alloc());
     let mut outline = Outline::new();
-    expect_outline(&rt, &mut source, limit, &mut outline, Ok(Some(segments)));
-    ends_there(&rt, &mut source);
-    Ok(())
-}
-
-// A message of one segment of so many words, whole with a word behind it, and cut inside its last word.
-fn expect_passed_over(rt: &impl Abort, alloc: Global, size: u32) -> Result<(), Fail> {
-    let mut words = Vec::new(alloc);
-    words.push(pair(0, size))?;
-    for word in 0..u64::from(size) {
-        words.push(word)?;
-    }
-    let bytes = plain(alloc, &words)?;
-    let limit = SizeLimit::new(u64::from(size)).ok_or("a limit")?;
-    let byte = (bytes.len() as u64).saturating_sub(1);
-    let cut = Err(FrameFault::Truncated { byte });
-    expect_message(rt, alloc, part(&bytes, 0, byte as usize), limit, cut, SPENT)?;
-    let segments: &[&[u64]] = &[words.as_slice().get(1..).unwrap_or(&[])];
-    let mut more = plain(alloc, &words)?;
-    more.extend_from_slice(&bytes_of(99))?;
-    expect_message(rt, alloc, &more, limit, Ok(Some(segments)), Ok(Some(99)))
-}
-
-// An outline passes over 64 words at once, behind the root word: messages about so long.
-static LENGTHS: [u32; 5] = [64, 65, 66, 129, 130];
-
-#[test]
-fn words_are_passed_over_in_pieces(rt: HostRuntime) -> Result<(), Fail> {
-    for size in &LENGTHS {
-        expect_passed_over(&rt, rt.alloc(), *size)?;
-    }
-    Ok(())
-}
-
-// Three segments, the first of them empty; one segment; and an empty one.
-static STREAM: [u64; 8] = [2, 0x2_0000_0001, 7, 8, 9, 0x1_0000_0000, 6, 0];
-
-static OUTLINES: [Wanted<'static>; 4] = [
-    Ok(Some(&[&[], &[7], &[8, 9]])),
-    Ok(Some(&[&[6]])),
-    Ok(Some(&[&[]])),
-    Ok(None),
-];
-
-// From the second message on, and cut short in the third.
-static OUTLINES_OF_A_PART: [Wanted<'static>; 2] = [
-    Ok(Some(&[&[6]])),
-    Err(FrameFault::Truncated { byte: 20 }),
-];
-
-#[test]
-fn an_outline_is_filled_anew(rt: HostRuntime) -> Result<(), Fail> {
-    let bytes = plain(rt.alloc(), &STREAM)?;
-    let limit = SizeLimit::new(3).ok_or("a limit")?;
-    let mut outline = Outline::new();
-    same(&rt, outline.count(), 0);
-    let mut source = PlainWords::new(SliceIn::new(&bytes));
-    for want in &OUTLINES {
-        expect_outline(&rt, &mut source, limit, &mut outline, *want);
-    }
-    let mut source = PlainWords::new(SliceIn::new(part(&bytes, 40, 20)));
-    for want in &OUTLINES_OF_A_PART {
-        expect_outline(&rt, &mut source, limit, &mut outline, *want);
+    for case in &CASES {
+        let bytes = plain(rt.alloc(), case.0)?;
+        let front = part(&bytes, 0, case.1);
+        expect_each_way(&rt, rt.alloc(), front, &mut held, &mut outline, case)?;
     }
     Ok(())
 }

@@ -1,14 +1,11 @@
 //! Words of packed texts: worked samples, however few bytes a read gives.
 
-use crate::devices::{failing, slow};
-use crate::same::{same, same_of};
-use crate::steps::{Reads, Takes, part, read_by, take_by};
+use crate::same::same;
+use crate::steps::{Reads, Takes, read_by, take_by};
 use cap_pack::Unpacker;
 use cap_words::{FromRead, SliceIn, SourceFault, WordSource};
-use std::alloc::{AllocError, Global};
-use std::io::ErrorKind;
 use std::process::Abort;
-use std::test::Fail;
+use test_support::Reader;
 
 const FULL: u64 = 0x8a8a_8a8a_8a8a_8a8a;
 
@@ -49,23 +46,8 @@ fn expect<S: WordSource>(rt: &impl Abort, source: &mut S, words: &[u64], cut: Op
 // The same whether a read gives all that there is room for or one byte.
 fn expect_each_way(rt: &impl Abort, text: &[u8], words: &[u64], cut: Option<u64>) {
     expect(rt, &mut Unpacker::new(SliceIn::new(text)), words, cut);
-    let reader = FromRead::new(slow(text, 1));
+    let reader = FromRead::new(Reader::honest(text, 1));
     expect(rt, &mut Unpacker::new(reader), words, cut);
-}
-
-// A text that begins with an `ff` group of so many words behind its head, and its words.
-fn plain_run(alloc: Global, more: u8) -> Result<(Vec<u8>, Vec<u64>), AllocError> {
-    let mut text = Vec::new(alloc);
-    let mut words = Vec::new(alloc);
-    text.push(0xff)?;
-    text.extend_from_slice(&[0x8a; 8])?;
-    text.push(more)?;
-    words.push(FULL)?;
-    for _ in 0..more {
-        text.extend_from_slice(&[0; 8])?;
-        words.push(0)?;
-    }
-    Ok((text, words))
 }
 
 // Texts, their words, and where they end inside a group.
@@ -142,38 +124,6 @@ fn samples(rt: HostRuntime) {
     }
 }
 
-#[test]
-fn long_runs_of_words_as_they_are(rt: HostRuntime) -> Result<(), Fail> {
-    let (mut text, mut words) = plain_run(rt.alloc(), 255)?;
-    same(&rt, words.len(), 256);
-    expect_each_way(&rt, &text, &words, None);
-    let (more_text, more_words) = plain_run(rt.alloc(), 0)?;
-    text.extend_from_slice(&more_text)?;
-    words.extend_from_slice(&more_words)?;
-    expect_each_way(&rt, &text, &words, None);
-    Ok(())
-}
-
-// How many words each beginning of the groups gives.
-static COUNTS: [usize; 25] = [
-    0, 0, 1, 1, 4, 4, 4, 4, 4, 4, 4, 4, 4, 4, 5, 5, 5, 5, 5, 5, 5, 5, 6, 6, 7,
-];
-
-#[test]
-fn cut_at_every_byte(rt: HostRuntime) -> Result<(), Fail> {
-    let mut words = Vec::new(rt.alloc());
-    for (word, _) in GIVEN {
-        words.push(word)?;
-    }
-    for (len, count) in COUNTS.iter().enumerate() {
-        let between = matches!(len, 0 | 2 | 4 | 22 | 24);
-        let cut = if between { None } else { Some(len as u64) };
-        let given = words.as_slice().get(..*count).ok_or("too few words")?;
-        expect_each_way(&rt, part(&GROUPS, 0, len), given, cut);
-    }
-    Ok(())
-}
-
 static FIRST_TWO: [Takes; 2] = [
     Takes::Next(Ok(Some(0x1_0000_0000))),
     Takes::Next(Ok(Some(0))),
@@ -196,37 +146,6 @@ fn positions_and_the_input_after_a_word(rt: HostRuntime) {
     take_by(&rt, &mut source, &GROUPS, &mut [], &FIRST_TWO);
     let mut input = source.into_inner();
     read_by(&rt, &mut input, &GROUPS, &mut [0; 32], &LEFT);
-}
-
-// The call of the device that fails, and the words and the bytes before it.
-static FAILING: [(u32, usize, u64); 6] = [
-    (1, 0, 0),
-    (2, 0, 1),
-    (4, 1, 3),
-    (5, 4, 4),
-    (14, 4, 13),
-    (18, 5, 17),
-];
-
-#[test]
-fn a_device_that_fails(rt: HostRuntime) {
-    for (fails_at, given, position) in &FAILING {
-        let reader = failing(&GROUPS, 1, *fails_at, ErrorKind::Other);
-        let mut source = Unpacker::new(FromRead::new(reader));
-        for (word, _) in GIVEN.iter().take(*given) {
-            same_of(&rt, fails_at, source.next(), Ok(Some(*word)));
-        }
-        for fault in [SourceFault::Device, SourceFault::Spent] {
-            same_of(&rt, fails_at, source.next(), Err(fault));
-            same_of(&rt, fails_at, source.position(), *position);
-        }
-        same_of(
-            &rt,
-            fails_at,
-            source.into_inner().into_inner().calls,
-            *fails_at,
-        );
-    }
 }
 
 // Zero words that are still to be given are no bytes at hand.

@@ -1,14 +1,9 @@
-//! Messages found in front of bytes, beside the same read from a source.
+//! Messages that are found in front of bytes.
 
-use super::views::is_same;
-use super::{is_message, plain};
+use super::{Wanted, is_message, plain};
 use crate::same::{same, same_of};
 use crate::steps::part;
-use cap_frame::{
-    ByteView, FrameFault, Framed, FrontFault, SegmentTables, SizeLimit, front_of, read_message,
-};
-use cap_words::{PlainWords, SliceIn, WordSource};
-use std::alloc::Global;
+use cap_frame::{ByteView, FrameFault, Framed, FrontFault, SegmentTables, SizeLimit, front_of};
 use std::process::Abort;
 use std::test::Fail;
 
@@ -21,34 +16,17 @@ fn fault_of(fault: FrontFault, end: usize) -> FrameFault {
     }
 }
 
-// What stands in front of these bytes is what is read from them.
-pub(super) fn expect_same_front(
-    rt: &impl Abort,
-    alloc: Global,
-    bytes: &[u8],
-    limit: SizeLimit,
-) -> Result<(), Fail> {
-    let mut source = PlainWords::new(SliceIn::new(bytes));
-    let wanted = read_message(alloc, &mut source, limit);
-    match (wanted, front_of(bytes, limit)) {
-        (Ok(Some(message)), Ok(Some(framed))) => {
+// In front of these bytes is this message, none, or what has this fault where it is read.
+pub(super) fn expect_front_of(rt: &impl Abort, bytes: &[u8], limit: SizeLimit, want: Wanted<'_>) {
+    match (front_of(bytes, limit), want) {
+        (Ok(Some(framed)), Ok(Some(segments))) => {
             let mut tables = SegmentTables::new();
-            assert!(rt;
-                is_same(&message, &framed.view(&mut tables)),
-                "the segments"
-            );
-            same(rt, framed.length() as u64, source.position());
-            let mut size = [0];
-            match framed.one_segment(&mut size) {
-                Some(view) => assert!(rt; is_same(&message, &view), "the segment"),
-                None => assert!(rt; framed.count() > 1, "one segment"),
-            }
+            assert!(rt; is_message(&framed.view(&mut tables), segments), "in front");
         }
         (Ok(None), Ok(None)) => {}
-        (Err(wanted), Err(fault)) => same(rt, fault_of(fault, bytes.len()), wanted),
-        _ => assert!(rt; false, "another answer"),
+        (Err(fault), Err(wanted)) => same(rt, fault_of(fault, bytes.len()), wanted),
+        _ => assert!(rt; false, "another answer in front"),
     }
-    Ok(())
 }
 
 // How many segments, words and bytes it has.
@@ -70,7 +48,7 @@ type Front<'a> = (
     Result<Option<(u32, u64, usize)>, FrontFault>,
 );
 
-static FRONTS: [Front<'static>; 12] = [
+static FRONTS: [Front<'static>; 16] = [
     (ONE, 0, Ok(None)),
     (ONE, 1, Err(FrontFault::Truncated { wanted: 8 })),
     (ONE, 7, Err(FrontFault::Truncated { wanted: 8 })),
@@ -83,10 +61,6 @@ static FRONTS: [Front<'static>; 12] = [
     (TWO, 16, Err(FrontFault::Truncated { wanted: 40 })),
     (TWO, 39, Err(FrontFault::Truncated { wanted: 40 })),
     (TWO, 40, Ok(Some((2, 3, 40)))),
-];
-
-// First words whose messages aren't compared with those of a source.
-static FIRSTS: [Front<'static>; 4] = [
     (&[511], 8, Err(FrontFault::Truncated { wanted: 2056 })),
     (&[512], 8, Err(FrontFault::TooManySegments { count: 513 })),
     (&[0x4_0000_0000], 8, Err(FrontFault::TooLarge { words: 4 })),
@@ -99,66 +73,15 @@ static FIRSTS: [Front<'static>; 4] = [
     ),
 ];
 
-// What stands in front of so many bytes is this.
-fn expect_front(
-    rt: &impl Abort,
-    alloc: Global,
-    (words, len, want): &Front<'_>,
-    limit: SizeLimit,
-) -> Result<Vec<u8>, Fail> {
-    let bytes = plain(alloc, *words)?;
-    let found = front_of(part(&bytes, 0, *len), limit).map(measures);
-    same_of(rt, len, found, *want);
-    Ok(bytes)
-}
-
 #[test]
-fn what_stands_in_front(rt: HostRuntime) -> Result<(), Fail> {
+fn what_is_in_front(rt: HostRuntime) -> Result<(), Fail> {
     let limit = SizeLimit::new(3).ok_or("a limit")?;
-    for row in &FRONTS {
-        let bytes = expect_front(&rt, rt.alloc(), row, limit)?;
-        expect_same_front(&rt, rt.alloc(), part(&bytes, 0, row.1), limit)?;
-    }
-    for row in &FIRSTS {
-        expect_front(&rt, rt.alloc(), row, limit)?;
+    for (words, len, want) in &FRONTS {
+        let bytes = plain(rt.alloc(), *words)?;
+        let found = front_of(part(&bytes, 0, *len), limit).map(measures);
+        same_of(&rt, len, found, *want);
     }
     Ok(())
-}
-
-// The framed message has these contents and segments, and is one of one segment or not, where the
-// tables are lent anew and the size was another's.
-fn expect_framed(
-    rt: &impl Abort,
-    alloc: Global,
-    words: &[u64],
-    contents: &[u64],
-    segments: &[&[u64]],
-    size: &mut [u32; 1],
-) -> Result<(), Fail> {
-    let limit = SizeLimit::new(3).ok_or("a limit")?;
-    let bytes = plain(alloc, words)?;
-    let framed = front_of(&bytes, limit).ok().flatten().ok_or("a message")?;
-    same(rt, framed.contents(), plain(alloc, contents)?.as_slice());
-    let mut tables = SegmentTables::new();
-    assert!(rt;
-        is_message(&framed.view(&mut tables), segments),
-        "the segments"
-    );
-    match framed.one_segment(size) {
-        Some(view) => assert!(rt; is_message(&view, segments), "one without tables"),
-        None => assert!(rt; segments.len() > 1, "several as one"),
-    }
-    Ok(())
-}
-
-#[test]
-fn segments_in_front(rt: HostRuntime) -> Result<(), Fail> {
-    let alloc = rt.alloc();
-    let mut size = [0];
-    let two: &[&[u64]] = &[&[7], &[8, 9]];
-    expect_framed(&rt, alloc, TWO, &[7, 8, 9], two, &mut size)?;
-    let one: &[u64] = &[0x2_0000_0000, 7, 8, 9];
-    expect_framed(&rt, alloc, one, &[7, 8], &[&[7, 8]], &mut size)
 }
 
 // How many bytes there are, and the words of a message without a table.

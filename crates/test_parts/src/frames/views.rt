@@ -1,6 +1,7 @@
 //! Views of bytes that are known from outside.
 
 use super::{is_message, plain};
+use crate::same::same;
 use crate::steps::part;
 use cap_frame::{
     ByteMessage, ByteView, SegmentTables, Segments, SizeLimit, WordMessage, front_of, write_message,
@@ -9,24 +10,6 @@ use cap_words::{PlainSink, VecOut};
 use std::alloc::Global;
 use std::process::Abort;
 use std::test::Fail;
-
-// As many segments, with the same words.
-pub(super) fn is_same<A: Segments, B: Segments>(one: &A, other: &B) -> bool {
-    if one.count() != other.count() {
-        return false;
-    }
-    for s in 0..one.count() {
-        if one.len(s) != other.len(s) {
-            return false;
-        }
-        for w in 0..one.len(s) {
-            if one.word(s, w) != other.word(s, w) {
-                return false;
-            }
-        }
-    }
-    true
-}
 
 // The bytes of each part of segment `s`, whose words these are.
 fn has_parts(alloc: Global, view: &ByteView<'_>, s: u32, words: &[u64]) -> Result<bool, Fail> {
@@ -65,8 +48,7 @@ fn shows(
 ) -> Result<(), Fail> {
     assert!(rt; is_message(view, segments), "the segments");
     let message = held_of(alloc, segments)?;
-    assert!(rt; is_same(view, &message), "in vectors");
-    assert!(rt; is_same(&message, view), "in one buffer");
+    assert!(rt; is_message(&message, segments), "in vectors");
     let mut s = 0u32;
     for words in segments {
         assert!(rt;
@@ -80,6 +62,11 @@ fn shows(
 
 // Bytes that are none of a message.
 const LEFT: [u8; 9] = [0xee; 9];
+
+// How many bytes the table of so many segments takes.
+fn table_len(segments: usize) -> usize {
+    (segments / 2).saturating_add(1).saturating_mul(8)
+}
 
 // The view of these segments, framed, in front of bytes that are none of theirs, shows them.
 fn shows_in_front(
@@ -99,7 +86,18 @@ fn shows_in_front(
         return Err("no message in front".into());
     };
     let mut tables = SegmentTables::new();
-    shows(rt, alloc, &framed.view(&mut tables), segments)
+    let view = framed.view(&mut tables);
+    shows(rt, alloc, &view, segments)?;
+    let contents = bytes
+        .get(table_len(segments.len())..framed.length())
+        .ok_or("contents")?;
+    same(rt, framed.contents(), contents);
+    let mut size = [0];
+    match framed.one_segment(&mut size) {
+        Some(one) => assert!(rt; is_message(&one, segments), "without tables"),
+        None => assert!(rt; segments.len() > 1, "several as one"),
+    }
+    Ok(())
 }
 
 const WORDS: &[u64] = &[0x0807060504030201, 0, 0xffffffffffffffff];
@@ -121,11 +119,6 @@ fn segments_in_a_buffer(rt: HostRuntime) -> Result<(), Fail> {
             shows_in_front(&rt, rt.alloc(), *segments, part(&LEFT, 0, left))?;
         }
     }
-    Ok(())
-}
-
-#[test]
-fn one_segment_without_a_frame(rt: HostRuntime) -> Result<(), Fail> {
     let alloc = rt.alloc();
     let bytes = plain(alloc, WORDS)?;
     let mut size = [0];
