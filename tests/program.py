@@ -405,7 +405,7 @@ deepest_dump()
 for table in (tables.VERDICTS, tables.OTHER_LIMITS, tables.ENDS, tables.MESSAGES, tables.SEGMENTS, tables.DOUBLED, tables.PACKED_STREAMS,
               tables.WORDS):
     rows(table)
-for table in (tables.LEVELS, tables.NESTED, tables.OVERLAPS, tables.DUMPS, tables.GETS, tables.LADDER,
+for table in (tables.LEVELS, tables.NESTED, tables.LEVELS_WITH_A_POINTER_LEFT, tables.OVERLAPS, tables.DUMPS, tables.GETS, tables.LADDER,
               tables.BEHIND_A_REFUSAL, tables.COPY_ENDS):
     rows(table, also_packed=True)
 for stream, exclusive, plain in tables.EXCLUSIVES:

@@ -286,6 +286,28 @@ static void copying(void) {
   }
 }
 
+/* A struct of one word, which is its own copy, and the same with a word of zeros, which is not. */
+static const uint8_t OWN_COPY[24] = {0, 0, 0, 0, 2, 0, 0, 0, 0, 0, 0, 0, 1, 0, 0, 0, 7, 0, 0, 0, 0, 0, 0, 0};
+static const uint8_t ZERO_WORD[24] = {0, 0, 0, 0, 2, 0, 0, 0, 0, 0, 0, 0, 1, 0, 0, 0, 0, 0, 0, 0, 0, 0, 0, 0};
+
+/* Whether a message is canonical: the answer, and the fields of its report. */
+static void checks(const uint8_t *bytes, size_t length, uint32_t answer, uint64_t whole, uint64_t charge,
+                   uint32_t segments) {
+  uint8_t *from = block(bytes, length, 1);
+  capvet_report r = unwritten();
+  uint32_t got = capvet_is_canonical(from + 1, length, &LIMITS, &r);
+  EXPECT(got == answer, "whether a message is canonical", got);
+  EXPECT(r.length == whole && r.number == 0, "the frame of a checked message", r.length);
+  EXPECT(r.charge == charge && r.segments == segments, "the tree of a checked message", r.charge);
+  free(from);
+}
+
+static void checking(void) {
+  checks(OWN_COPY, sizeof OWN_COPY, CAPVET_OK, 24, 1, 1);
+  checks(ZERO_WORD, sizeof ZERO_WORD, CAPVET_NOT_CANONICAL, 24, 1, 1);
+  checks(TWO, sizeof TWO, CAPVET_NOT_CANONICAL, 56, 4, 2);
+}
+
 /* A struct whose pointer leads back to itself: a message that is refused. */
 static const uint8_t REFUSING[16] = {0, 0, 0, 0, 1, 0, 0, 0, 0xfc, 0xff, 0xff, 0xff, 0, 0, 1, 0};
 
@@ -364,6 +386,7 @@ int main(void) {
   refusals();
   unpacking();
   copying();
+  checking();
   marking();
   if (failures == 0) printf("calls: all as promised\n");
   return failures != 0;

@@ -256,11 +256,6 @@ static STRUCTS: [Row; 18] = [
     ),
 ];
 
-#[test]
-fn structs(rt: HostRuntime) -> Result<(), Fail> {
-    have_copies(&rt, rt.alloc(), &STRUCTS)
-}
-
 // Messages of a list.
 static LISTS: [Row; 13] = [
     // Elements without bits, each charged a word, and a copy of one word.
@@ -369,11 +364,6 @@ static LISTS: [Row; 13] = [
     ),
 ];
 
-#[test]
-fn lists(rt: HostRuntime) -> Result<(), Fail> {
-    have_copies(&rt, rt.alloc(), &LISTS)
-}
-
 // Messages of several segments, and with capabilities.
 static IN_SEGMENTS: [Row; 9] = [
     // A second segment without words.
@@ -428,11 +418,6 @@ static IN_SEGMENTS: [Row; 9] = [
         Err(3),
     ),
 ];
-
-#[test]
-fn several_segments_and_capabilities(rt: HostRuntime) -> Result<(), Fail> {
-    have_copies(&rt, rt.alloc(), &IN_SEGMENTS)
-}
 
 // Messages of objects below others.
 static OBJECTS: [Row; 7] = [
@@ -544,11 +529,6 @@ static OBJECTS: [Row; 7] = [
     ),
 ];
 
-#[test]
-fn objects_below_others(rt: HostRuntime) -> Result<(), Fail> {
-    have_copies(&rt, rt.alloc(), &OBJECTS)
-}
-
 // Messages of lists of structs.
 static OF_STRUCTS: [Row; 6] = [
     // No elements, with sizes in the tag and a surplus word.
@@ -654,7 +634,11 @@ static OF_STRUCTS: [Row; 6] = [
 ];
 
 #[test]
-fn lists_of_structs(rt: HostRuntime) -> Result<(), Fail> {
+fn copies_of_known_messages(rt: HostRuntime) -> Result<(), Fail> {
+    have_copies(&rt, rt.alloc(), &STRUCTS)?;
+    have_copies(&rt, rt.alloc(), &LISTS)?;
+    have_copies(&rt, rt.alloc(), &IN_SEGMENTS)?;
+    have_copies(&rt, rt.alloc(), &OBJECTS)?;
     have_copies(&rt, rt.alloc(), &OF_STRUCTS)
 }
 

@@ -1,11 +1,9 @@
-//! Tests of following, of vetting, of what `read` answers, of canonical copies and of the calls from C, by
-//! public calls alone.
+//! Tests of following, of vetting, of what `read` answers and of canonical copies, by public calls alone.
+//! The calls from C are tested as they are built, by `tests/calls.py`.
 //!
 //! They are outside of the crates that they test, since the gate proves a crate with tests twice.
 #![tactic(auto)]
 
-#[cfg(test)]
-mod calls;
 #[cfg(test)]
 mod canons;
 #[cfg(test)]

@@ -218,11 +218,6 @@ static NEAR: [Row; 11] = [
     (&[&[0x0500000000000000]], Not(Reason::OutOfSegment)),
 ];
 
-#[test]
-fn near_words(rt: HostRuntime) -> Result<(), Fail> {
-    are_found(&rt, rt.alloc(), &NEAR)
-}
-
 static NEAR_LISTS: [Row; 17] = [
     // Elements without bits or words.
     (&[&[0x01000000f8ffffff]], To(0, 1, 0, 0, 536870911, MANY)),
@@ -262,11 +257,6 @@ static NEAR_LISTS: [Row; 17] = [
         To(0, 2, 1, 1, 2, ONE_WORD),
     ),
 ];
-
-#[test]
-fn near_lists(rt: HostRuntime) -> Result<(), Fail> {
-    are_found(&rt, rt.alloc(), &NEAR_LISTS)
-}
 
 static PADS_OF_ONE: [Row; 15] = [
     // None: at the pointer itself, and before the first word.
@@ -339,11 +329,6 @@ static PADS_OF_ONE: [Row; 15] = [
         Not(Reason::CompositeOverrun),
     ),
 ];
-
-#[test]
-fn pads_of_one_word(rt: HostRuntime) -> Result<(), Fail> {
-    are_found(&rt, rt.alloc(), &PADS_OF_ONE)
-}
 
 static PADS_OF_TWO: [Row; 16] = [
     // Two words.
@@ -455,6 +440,9 @@ static PADS_OF_TWO: [Row; 16] = [
 ];
 
 #[test]
-fn pads_of_two_words(rt: HostRuntime) -> Result<(), Fail> {
+fn first_words_of_messages(rt: HostRuntime) -> Result<(), Fail> {
+    are_found(&rt, rt.alloc(), &NEAR)?;
+    are_found(&rt, rt.alloc(), &NEAR_LISTS)?;
+    are_found(&rt, rt.alloc(), &PADS_OF_ONE)?;
     are_found(&rt, rt.alloc(), &PADS_OF_TWO)
 }

@@ -7,7 +7,7 @@ mod nodes;
 mod pads;
 
 use self::Verdict::{Accepted, Refused, WithCaps};
-use super::held::{Forms, cloned, repeated};
+use super::held::{Forms, cloned};
 use crate::same::{same, same_of};
 use cap_frame::{OneSegment, Segments};
 use cap_vet::{Limits, Reason, Refusal, Report, vet};
@@ -413,11 +413,6 @@ static OF_ONE_SEGMENT: [Row; 53] = [
     ),
 ];
 
-#[test]
-fn messages_of_one_segment(rt: HostRuntime) -> Result<(), Fail> {
-    have_verdicts(&rt, rt.alloc(), &OF_ONE_SEGMENT)
-}
-
 static OF_SEVERAL_SEGMENTS: [Row; 18] = [
     (
         &[&[0x0200000001000000], &[0x0000000001000000, 42], &[]],
@@ -552,8 +547,10 @@ static OF_SEVERAL_SEGMENTS: [Row; 18] = [
 ];
 
 #[test]
-fn messages_of_several_segments(rt: HostRuntime) -> Result<(), Fail> {
-    have_verdicts(&rt, rt.alloc(), &OF_SEVERAL_SEGMENTS)
+fn verdicts_of_known_messages(rt: HostRuntime) -> Result<(), Fail> {
+    have_verdicts(&rt, rt.alloc(), &OF_ONE_SEGMENT)?;
+    have_verdicts(&rt, rt.alloc(), &OF_SEVERAL_SEGMENTS)?;
+    have_verdicts(&rt, rt.alloc(), &pads::OVER_LANDING_PADS)
 }
 
 static BOUNDS: [(u64, u32, Option<(u64, u32)>); 6] = [
@@ -575,113 +572,6 @@ fn the_bounds_of_limits(rt: HostRuntime) {
             *wanted,
         );
     }
-}
-
-// Structs of two words, each below the one before it, with a capability behind each way down: the
-// first words, words that follow so many times, and the last ones.
-const ROOT_OF_TWO: &[u64] = &[0x0000000000000200];
-
-const RUNG: &[u64] = &[0x0400000000000200, 0x0300000000000000];
-
-const LAST_RUNG: &[u64] = &[0, 0x0300000000000000];
-
-// A list of one struct of one pointer, below which the next such list stands.
-const LIST: &[u64] = &[0x010000000f000000, 0x0400000000000100];
-
-// A struct of two pointers, which lead to the next such struct, and the last to one word.
-const TWICE: &[u64] = &[0x0400000000000200, 0x0000000000000200];
-
-const LAST_TWICE: &[u64] = &[0x0400000001000000, 0x0000000001000000, 0x0700000000000000];
-
-// The first words of a message, words that follow so many times, and the last ones.
-type Repeated = (&'static [u64], &'static [u64], u32, &'static [u64]);
-
-static DEEP: [(Repeated, u64, u32, Verdict); 8] = [
-    // As deep as may be, with a pointer left at each level, and deeper by one.
-    (
-        (ROOT_OF_TWO, RUNG, 255, LAST_RUNG),
-        268435456,
-        256,
-        WithCaps(512, 256, 513, 256, 512),
-    ),
-    (
-        (ROOT_OF_TWO, RUNG, 255, LAST_RUNG),
-        512,
-        256,
-        WithCaps(512, 256, 513, 256, 512),
-    ),
-    (
-        (ROOT_OF_TWO, RUNG, 255, LAST_RUNG),
-        511,
-        256,
-        Refused(0, 509, Reason::WordLimit, 256),
-    ),
-    (
-        (ROOT_OF_TWO, RUNG, 255, LAST_RUNG),
-        268435456,
-        255,
-        Refused(0, 509, Reason::DepthLimit, 256),
-    ),
-    (
-        (ROOT_OF_TWO, RUNG, 256, LAST_RUNG),
-        268435456,
-        256,
-        Refused(0, 511, Reason::DepthLimit, 257),
-    ),
-    // A list of structs takes two levels, so that half as many fit.
-    (
-        (&[], LIST, 128, &[0]),
-        268435456,
-        256,
-        Accepted(256, 256, 129),
-    ),
-    (
-        (&[], LIST, 128, &[0]),
-        268435456,
-        255,
-        Refused(0, 254, Reason::DepthLimit, 128),
-    ),
-    (
-        (&[], LIST, 129, &[0]),
-        268435456,
-        256,
-        Refused(0, 256, Reason::DepthLimit, 129),
-    ),
-];
-
-#[test]
-fn messages_of_many_levels(rt: HostRuntime) -> Result<(), Fail> {
-    for ((first, each, times, last), most_words, most_depth, wanted) in &DEEP {
-        let spelled = repeated(rt.alloc(), first, each, *times, last)?;
-        let limits = Limits::new(*most_words, *most_depth).ok_or("no limits")?;
-        has_verdict(&rt, rt.alloc(), &[spelled.as_slice()], limits, *wanted)?;
-    }
-    Ok(())
-}
-
-static DOUBLED: [(u64, Verdict); 2] = [
-    (6291454, Accepted(6291454, 22, 4194303)),
-    (6291453, Refused(0, 42, Reason::WordLimit, 4194303)),
-];
-
-// 44 words that are reached by more than four million ways.
-#[test]
-fn a_chain_that_doubles(rt: HostRuntime) -> Result<(), Fail> {
-    let spelled = repeated(rt.alloc(), ROOT_OF_TWO, TWICE, 20, LAST_TWICE)?;
-    let forms = Forms::of(rt.alloc(), &[spelled.as_slice()])?;
-    let message = forms.lent().ok_or("no message")?;
-    for (most_words, wanted) in &DOUBLED {
-        let limits = Limits::new(*most_words, 22).ok_or("no limits")?;
-        let answer = wanted.answer();
-        same_of(&rt, &limits, verdict_of(&rt, &message, limits), answer);
-        same_of(
-            &rt,
-            &limits,
-            verdict_of(&rt, &forms.buffer.view(), limits),
-            answer,
-        );
-    }
-    Ok(())
 }
 
 #[test]

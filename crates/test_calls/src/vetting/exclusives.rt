@@ -340,14 +340,6 @@ static OVERLAPS: [(&[&[u64]], Overlap); 28] = [
     ),
 ];
 
-#[test]
-fn words_used_twice(rt: HostRuntime) -> Result<(), Fail> {
-    for (spelled, wanted) in &OVERLAPS {
-        has_overlap(&rt, rt.alloc(), spelled, *wanted)?;
-    }
-    Ok(())
-}
-
 static NUMBERS: [(u64, usize); 5] = [(0, 1), (63, 1), (64, 2), (127, 2), (268435456, 4194305)];
 
 #[test]
@@ -377,7 +369,10 @@ static TWO_LISTS: [(u64, u64, u32, Overlap); 14] = [
 ];
 
 #[test]
-fn lists_that_end_where_a_number_of_marks_does(rt: HostRuntime) -> Result<(), Fail> {
+fn words_used_twice(rt: HostRuntime) -> Result<(), Fail> {
+    for (spelled, wanted) in &OVERLAPS {
+        has_overlap(&rt, rt.alloc(), spelled, *wanted)?;
+    }
     for (first, second, more, wanted) in &TWO_LISTS {
         let pointers = &[0x0000000000000200, first.swap_bytes(), second.swap_bytes()];
         let spelled = repeated(rt.alloc(), pointers, &[0], *more, &[])?;

@@ -243,12 +243,8 @@ fn look_through(rt: &impl Abort, alloc: Global, messages: &[Message]) -> Result<
 }
 
 #[test]
-fn nodes_of_structs(rt: HostRuntime) -> Result<(), Fail> {
-    look_through(&rt, rt.alloc(), &STRUCTS)
-}
-
-#[test]
-fn nodes_of_lists(rt: HostRuntime) -> Result<(), Fail> {
+fn nodes_of_known_messages(rt: HostRuntime) -> Result<(), Fail> {
+    look_through(&rt, rt.alloc(), &STRUCTS)?;
     look_through(&rt, rt.alloc(), &LISTS)
 }
 

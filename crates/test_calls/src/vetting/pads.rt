@@ -1,9 +1,8 @@
 //! Verdicts of messages whose pointers lead through landing pads.
 
 use super::Verdict::{Accepted, Refused};
-use super::{DEPTH, Row, WORDS, have_verdicts};
+use super::{DEPTH, Row, WORDS};
 use cap_vet::Reason;
-use std::test::Fail;
 
 // A pad of one word to a list of two pointers, a struct, and a pad back to the struct above.
 const THROUGH_POINTERS: &[&[u64]] = &[
@@ -49,7 +48,7 @@ const THROUGH_TWO_WORDS: &[&[u64]] = &[
     &[0x0000000000000100, 0x1200000000000000],
 ];
 
-static OVER_LANDING_PADS: [Row; 27] = [
+pub(super) static OVER_LANDING_PADS: [Row; 27] = [
     // A pad of one word: reserved, of no segment, outside its segment, or leading outside.
     (
         &[&[0x0200000001000000], &[0x0700000005000000], &[]],
@@ -264,8 +263,3 @@ static OVER_LANDING_PADS: [Row; 27] = [
         Refused(0, 1, Reason::WordLimit, 6),
     ),
 ];
-
-#[test]
-fn messages_over_landing_pads(rt: HostRuntime) -> Result<(), Fail> {
-    have_verdicts(&rt, rt.alloc(), &OVER_LANDING_PADS)
-}
