@@ -228,14 +228,16 @@ fn a_sink_leaves_a_beginning_before_each_fault(rt: HostRuntime) -> Result<(), Fa
     Ok(())
 }
 
-// How many bytes a call of the reader gives at most, and how many calls reach the end of two words and
-// a half of one.
+// Two words, and half of one more.
+static SEVENS: [u8; 20] = [7; 20];
+
+// How many bytes a call of the reader gives at most, and how many calls reach their end.
 static CALLS: [(usize, u32); 3] = [(1, 21), (3, 9), (7, 6)];
 
 #[test]
 fn a_reader_is_called_up_to_its_end(rt: HostRuntime) {
     for (most, calls) in &CALLS {
-        let mut source = PlainWords::new(FromRead::new(Reader::honest(&[7; 20], *most)));
+        let mut source = PlainWords::new(FromRead::new(Reader::honest(&SEVENS, *most)));
         for _ in 0..2 {
             assert!(rt; source.next().is_ok());
         }
@@ -257,7 +259,7 @@ fn a_fault_inside_a_piece_is_counted(rt: HostRuntime) {
             at: *at,
             kind: Some(ErrorKind::Interrupted),
         };
-        let mut source = PlainWords::new(FromRead::new(Reader::new(&[7; 20], *most, fault)));
+        let mut source = PlainWords::new(FromRead::new(Reader::new(&SEVENS, *most, fault)));
         same_of(&rt, at, source.fill(&mut room), Err(SourceFault::Device));
         same_of(&rt, at, source.position(), *position);
         assert!(rt; is_spent(&mut source));
@@ -273,13 +275,13 @@ fn a_flush_is_one_call_of_the_writer(rt: HostRuntime) {
             kind: Some(kind),
         };
         let mut output = FromWrite::new(Writer::new(rt.alloc(), 20, fault));
-        same(&rt, output.write(&[7; 20]), Ok(20));
+        same(&rt, output.write(&SEVENS), Ok(20));
         same(&rt, output.flush(), Ok(()));
         assert!(rt; !output.has_failed());
         same(&rt, output.flush(), Err(OutFault::Device));
         assert!(rt; output.has_failed());
         same(&rt, output.flush(), Err(OutFault::Spent));
-        same(&rt, output.write(&[7; 20]), Err(OutFault::Spent));
+        same(&rt, output.write(&SEVENS), Err(OutFault::Spent));
         let writer = output.into_inner();
         same(&rt, (writer.calls, writer.taken.len()), (3, 20));
     }

@@ -88,9 +88,8 @@ fn shows_in_front(
     let mut tables = SegmentTables::new();
     let view = framed.view(&mut tables);
     shows(rt, alloc, &view, segments)?;
-    let contents = bytes
-        .get(table_len(segments.len())..framed.length())
-        .ok_or("contents")?;
+    let whole = part(&bytes, 0, framed.length());
+    let contents = part(whole, table_len(segments.len()), whole.len());
     same(rt, framed.contents(), contents);
     let mut size = [0];
     match framed.one_segment(&mut size) {
