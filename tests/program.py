@@ -426,7 +426,6 @@ for stream, line in tables.TOO_LARGE:
     rows([(command, stream, "", line, 1) for command in (*READERS, "vet --exclusive")], also_packed=True)
 
 
-
 def limits():
     """Each command with each limit: at what a message takes, and at one less. And the default limits in the same way.
     `canon` ends at a message that is refused. The other commands write the refusal, and go on."""

@@ -210,19 +210,27 @@ fn expect_writes<R: AllocGlobal + Abort>(
     Err(Fail::from("no end"))
 }
 
-// How many bytes a writer takes at most, and how many calls take 8 plain bytes and then 40.
-static WRITES: [(usize, u32); 5] = [(1, 48), (2, 24), (3, 17), (7, 8), (64, 2)];
+// How many bytes a writer takes at most, how many calls take 8 plain bytes and then 40, and how many
+// take the groups of the first word and then those of the others.
+static WRITES: [(usize, u32, u32); 5] = [
+    (1, 48, 28),
+    (2, 24, 14),
+    (3, 17, 10),
+    (7, 8, 5),
+    (64, 2, 2),
+];
 
 #[test]
 fn a_sink_leaves_a_beginning_before_each_fault(rt: HostRuntime) -> Result<(), Fail> {
     let plain = hex::decode(rt.alloc(), WORDS)?;
     let groups = hex::decode(rt.alloc(), GROUPS)?;
     let rest = &plain.as_slice()[plain.len().min(8)..];
-    for (most, calls) in &WRITES {
+    for (most, calls, packed_calls) in &WRITES {
         for kind in WRITE_FAULTS {
             let made = expect_writes(&rt, false, rest, plain.as_slice(), *most, kind)?;
             same_of(&rt, most, made, *calls);
-            let _ = expect_writes(&rt, true, rest, groups.as_slice(), *most, kind)?;
+            let made = expect_writes(&rt, true, rest, groups.as_slice(), *most, kind)?;
+            same_of(&rt, most, made, *packed_calls);
         }
     }
     Ok(())
