@@ -22,10 +22,13 @@ fn answer(words: u64, most: u64) -> Result<u64, CopyFault> {
 fn expect_packed<S: WordSource>(rt: &impl Abort, alloc: Global, source: &mut S, most: u64) {
     let mut sink = Packer::new(VecOut::new(alloc));
     assert!(rt; run_pack(source, &mut sink, most) == answer(130, most));
-    let further = most.saturating_sub(1).min(129) as u8;
-    let text = [0, further];
-    let len = if most == 0 { 0 } else { 2 };
-    same_of(rt, &most, sink.into_inner().bytes(), &text[..len]);
+    let output = sink.into_inner();
+    if most == 0 {
+        same_of(rt, &most, output.bytes(), &[]);
+    } else {
+        let further = most.saturating_sub(1).min(129) as u8;
+        same_of(rt, &most, output.bytes(), [0, further].as_slice());
+    }
 }
 
 // Words at hand are packed in pieces of 64, of which the last one ends where the most words do, and

@@ -246,7 +246,7 @@ static CALLS: [(usize, u32); 3] = [(1, 21), (3, 9), (7, 6)];
 fn a_reader_is_called_up_to_its_end(rt: HostRuntime) {
     for (most, calls) in &CALLS {
         let mut source = PlainWords::new(FromRead::new(Reader::honest(&SEVENS, *most)));
-        for _ in 0..2 {
+        for _ in 0..2u32 {
             assert!(rt; source.next().is_ok());
         }
         let cut = Err(SourceFault::Truncated { byte: 20 });
