@@ -25,7 +25,7 @@ const CYCLE: &str = "0000000001000000 fcffffff00000100";
 // A message without a root.
 const ROOTLESS: &str = "0000000000000000";
 
-// What copies of a message and of this behind it, at most so many, end in. A packer holds its last words
+// What copies of a message and of this after it, at most so many, end in. A packer holds its last words
 // back, so that it shows whether it was finished.
 fn end_of_copies<R: AllocGlobal + Abort>(
     rt: &R,
@@ -43,7 +43,7 @@ fn end_of_copies<R: AllocGlobal + Abort>(
     Ok(answer)
 }
 
-// What comes behind a message, how many are copied at most, and the fault that ends the copies.
+// What comes after a message, how many are copied at most, and the fault that ends the copies.
 static ENDS: [(&str, u32, Cause); 4] = [
     ("00", 2, Cause::Frame(FrameFault::Truncated { byte: 33 })),
     (SHORT, 1, Cause::TooManyMessages),

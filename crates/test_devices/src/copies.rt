@@ -31,7 +31,7 @@ fn expect_packed<S: WordSource>(rt: &impl Abort, alloc: Global, source: &mut S, 
     }
 }
 
-// Words at hand are packed in pieces of 64, of which the last one ends where the most words do, and
+// Buffered words are packed in pieces of 64, of which the last one ends where the most words do, and
 // those of a reader one by one.
 #[test]
 fn packs_no_word_past_the_most(rt: HostRuntime) {

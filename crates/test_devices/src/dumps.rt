@@ -10,7 +10,7 @@ use std::process::Abort;
 use std::test::Fail;
 use test_support::Writer;
 
-// The words that these hexadecimal digits tell, each by its bytes in the order of the stream.
+// The words that these hexadecimal digits are, each by its bytes in the order of the stream.
 fn words(alloc: Global, digits: &str) -> Result<Vec<u64>, Fail> {
     let bytes = hex::decode(alloc, digits)?;
     let mut words = Vec::new(alloc);
@@ -34,14 +34,14 @@ fn dump_to<M: Segments, O: ByteOut>(
     }
 }
 
-// Two structs of one word and one null pointer, and words behind them.
+// Two structs of one word and one null pointer, and words after them.
 const NESTED: &str =
     "010000002700000008000000010001000100000000000000000000000000000000000000000000000000000000000000";
 
 const NESTED_TEXT: &str =
     "root structs 2 1 1\n  i0 struct 1 1\n    d0 0100000000000000\n    p0 null\n  i1 struct 1 1\n    d0 0000000000000000\n    p0 null\n";
 
-// A dump to an output that fails behind so many bytes, and another to the same.
+// A dump to an output that fails after so many bytes, and another to the same.
 fn expect_beginning<R: AllocGlobal + Abort>(
     rt: &R,
     segment: &[u64],

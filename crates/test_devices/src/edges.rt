@@ -1,4 +1,4 @@
-//! Messages whose packed words are runs that end at a segment's edge, or a word before or behind it.
+//! Messages whose packed words are runs that end at a segment's edge, or a word before or after it.
 
 use crate::same::same;
 use cap_frame::{Segments, SizeLimit, read_byte_message, read_message, write_message};
@@ -13,7 +13,7 @@ use test_support::Reader;
 const KINDS: [u64; 3] = [0, 0x8a8a_8a8a_8a8a_8a8a, 0x8a8a_8a00_8a8a_8a8a];
 
 // Puts a message of two segments: one of so many words, and one of three. The first words of both together
-// are a run, and those behind it aren't.
+// are a run, and those after it aren't.
 fn put_message<K: WordSink>(sink: &mut K, first: u32, kind: u64, run: u32) -> Result<(), Fail> {
     sink.put((first as u64) << 32 | 1)?;
     sink.put(3)?;

@@ -1,4 +1,4 @@
-//! What is read behind a message that breaks off, at each byte.
+//! What is read after a message that breaks off, at each byte.
 
 use crate::same::{same, same_of};
 use cap_frame::{FrameFault, SizeLimit, read_byte_message, read_message};
@@ -8,7 +8,7 @@ use std::alloc::Global;
 use std::process::Abort;
 use std::test::Fail;
 
-// A message of two pointers to one struct, its packed spelling, and where the groups of that end.
+// A message of two pointers to one struct, its packed text, and where the groups of that end.
 const SHARED: &str =
     "00000000040000000000000000000200040000000100000000000000010000000700000000000000";
 
@@ -32,7 +32,7 @@ fn faults_of<S: WordSource>(
     })
 }
 
-// A source that broke off inside a word or a group is spent behind a message that was cut, and one that
+// A source that broke off inside a word or a group is closed after a message that was cut, and one that
 // broke off between them has ended.
 fn expect_cut<R: AllocGlobal + Abort, S: WordSource + Drop>(
     rt: &R,

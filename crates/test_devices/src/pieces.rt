@@ -113,7 +113,7 @@ const LINES_COPIED_PACKED: &[(usize, &str)] = &[
     (26, "capvet: message 2: Device\n"),
 ];
 
-// Words of each kind of group, and their packed spelling.
+// Words of each kind of group, and their packed text.
 const WORDS: &str =
     "0800000003000200616161616161616161626364656667000000000000000000000000000000000019000000aa010000";
 
@@ -250,7 +250,7 @@ fn expect_read_faults<R: AllocGlobal + Abort>(
     }
 }
 
-// The line of a read that fails behind so many bytes.
+// The line of a read that fails after so many bytes.
 fn line_of(row: &Row, given: usize) -> &'static str {
     let mut line = "";
     for (from, text) in row.lines {

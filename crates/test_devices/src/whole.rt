@@ -1,4 +1,4 @@
-//! A run of the program over memory: the words of a command line and the bytes that come in.
+//! A run of the program over memory: the arguments of a command line and the bytes that come in.
 
 use crate::same::same_of;
 use cap_cmd::{Job, read_job, run_job};
@@ -23,7 +23,7 @@ impl Left {
     }
 }
 
-/// The words of a command line, the program's name in front.
+/// The arguments of a command line, the program's name in front.
 pub(crate) fn words(alloc: Global, line: &[&str]) -> Result<Vec<String>, Fail> {
     let mut all = Vec::new(alloc);
     all.push(String::from_str(alloc, "capvet")?)?;
@@ -45,7 +45,7 @@ pub(crate) fn job(alloc: Global, command: &str, options: &[&str]) -> Result<Job,
     }
 }
 
-/// The bytes that these hexadecimal digits tell, spaces aside.
+/// The bytes that these hexadecimal digits are, spaces aside.
 pub(crate) fn bytes_of(alloc: Global, digits: &str) -> Result<Vec<u8>, Fail> {
     Ok(hex::decode(alloc, digits.replace(alloc, " ", "")?.as_str())?)
 }

@@ -15,7 +15,7 @@ use std::process::Abort;
 use std::test::Fail;
 use test_support::{Fault, Reader, Writer};
 
-// Words of each kind of group, and their packed spelling.
+// Words of each kind of group, and their packed text.
 const WORDS: &str =
     "0800000003000200616161616161616161626364656667000000000000000000000000000000000019000000aa010000";
 
@@ -42,7 +42,7 @@ fn words_of<S: WordSource>(
     Err(Fail::from("no end"))
 }
 
-// Whether a source answers that it is spent, however it is asked.
+// Whether a source answers that it is closed, however it is asked.
 fn is_spent<S: WordSource>(source: &mut S) -> bool {
     source.next() == Err(SourceFault::Spent)
         && source.fill(&mut [0; 8]) == Err(SourceFault::Spent)
@@ -161,7 +161,7 @@ fn put_all<K: WordSink>(sink: &mut K, rest: &[u8]) -> Result<(), SinkFault> {
     sink.finish()
 }
 
-// Whether a sink answers that it is spent, whatever is asked of it.
+// Whether a sink answers that it is closed, whatever is asked of it.
 fn takes_nothing<K: WordSink>(sink: &mut K, rest: &[u8]) -> bool {
     sink.put(FIRST) == Err(SinkFault::Spent)
         && sink.put_bytes(rest) == Err(SinkFault::Spent)
@@ -295,7 +295,7 @@ fn a_flush_is_one_call_of_the_writer(rt: HostRuntime) {
     }
 }
 
-// Words that are spelled by groups of each kind.
+// Words that are packed by groups of each kind.
 const KINDS: [u64; 8] = [
     2 << 32,
     0,

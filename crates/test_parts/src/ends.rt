@@ -85,7 +85,7 @@ static SLICES: [(usize, &[Takes]); 6] = [
             Takes::Position(20),
         ],
     ),
-    // Words at hand are given as far as there is room, and counted.
+    // Buffered words are given as far as the buffer allows, and counted.
     (
         20,
         &[
@@ -108,7 +108,7 @@ static SLICES: [(usize, &[Takes]); 6] = [
             Takes::Ready(32, 0, 0),
         ],
     ),
-    // Bytes are at hand, last those of a part of a word.
+    // Bytes are buffered, last those of a part of a word.
     (
         20,
         &[
@@ -131,7 +131,7 @@ fn words_of_a_slice(rt: HostRuntime) {
         let mut source = PlainWords::new(SliceIn::new(part(&TEXT, 0, *len)));
         take_by(&rt, &mut source, &TEXT, &mut room, *steps);
     }
-    // no bytes of a reader are at hand
+    // no bytes of a reader are buffered
     let mut source = PlainWords::new(FromRead::new(TEXT.as_slice()));
     take_by(&rt, &mut source, &TEXT, &mut [], &[Takes::AtHand(false)]);
 }
@@ -185,7 +185,7 @@ fn words_at_hand_of_a_buffer(rt: HostRuntime) -> Result<(), Fail> {
     Ok(())
 }
 
-// Bytes that are at hand, up to the end.
+// Bytes that are buffered, up to the end.
 static HELD: [Reads; 8] = [
     Reads::Held(0, 20),
     Reads::Skip(0),
@@ -247,7 +247,7 @@ fn bytes_at_hand(rt: HostRuntime) -> Result<(), Fail> {
     Ok(())
 }
 
-// Behind 65,530 bytes: from both sides of a refill.
+// After 65,530 bytes: from both sides of a refill.
 static REFILLS: [Reads; 5] = [
     Reads::Fill(65529, 65529, None),
     Reads::Gave(0, 0, 65529),
@@ -256,7 +256,7 @@ static REFILLS: [Reads; 5] = [
     Reads::Read(24, Ok(0)),
 ];
 
-// Behind 200,000 bytes.
+// After 200,000 bytes.
 static BIG_READS: [Reads; 11] = [
     // more than the buffer holds, in one call
     Reads::Read(65537, Ok(65537)),
@@ -304,7 +304,7 @@ fn big_reads_go_past_the_buffer(rt: HostRuntime) -> Result<(), Fail> {
     expect_reads(&rt, 200_000, 5, &BIG_READS)
 }
 
-// The source fills 131,080 bytes in pieces, is then told of the rest, which is cut or not, and answers
+// The source fills 131,080 bytes in pieces. The rest is cut or not. The source answers
 // the same from then on.
 fn expect_filled<S: WordSource>(
     rt: &impl Abort,

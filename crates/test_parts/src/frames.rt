@@ -138,7 +138,7 @@ fn expect_outline<S: WordSource>(
     }
 }
 
-// A segment of no words between two others, and a word behind the message.
+// A segment of no words between two others, and a word after the message.
 const THREE: &[u64] = &[0x1_0000_0002, 0x2_0000_0000, 7, 8, 9, 10];
 
 // Padding that isn't zero.
@@ -209,7 +209,7 @@ static CASES: [Case<'static>; 13] = [
     ),
 ];
 
-// Each way to read a message gives the same, and behind it the source goes on in the same way.
+// Each way to read a message gives the same, and after it the source goes on in the same way.
 fn expect_each_way(
     rt: &impl Abort,
     alloc: Global,
@@ -273,7 +273,7 @@ static WRITTEN: [u64; 12] = [
     4,
 ];
 
-// Writes the message that the source gives, and the two behind it.
+// Writes the message that the source gives, and the two after it.
 fn write_three<S: WordSource, K: WordSink>(
     alloc: Global,
     source: &mut S,

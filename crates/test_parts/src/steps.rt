@@ -1,7 +1,7 @@
-//! Calls of ends, sources and sinks, each with the answer that is wanted.
+//! Calls of ends, sources and sinks, each with the expected answer.
 //!
 //! A test is a table of them: one function makes all calls of a trait, and is proved once. Bytes are
-//! told as so many of a text from one on.
+//! given as so many of a text from one on.
 
 use crate::same::same_of;
 use cap_words::{
@@ -14,11 +14,11 @@ pub(crate) enum Reads {
     // It holds these bytes.
     Held(usize, usize),
     Skip(usize),
-    // A read with so much room.
+    // A read into a buffer of this length.
     Read(usize, Result<usize, InFault>),
-    // So many bytes, and a fault or none, where there is room for so many.
+    // So many bytes, and a fault or none, into a buffer of this length.
     Fill(usize, usize, Option<InFault>),
-    // From this place of the room on stand these bytes.
+    // From this place of the buffer on are these bytes.
     Gave(usize, usize, usize),
 }
 
@@ -27,9 +27,9 @@ pub(crate) enum Takes {
     Next(Result<Option<u64>, SourceFault>),
     Position(u64),
     AtHand(bool),
-    // The room, and the bytes that are given.
+    // The buffer's length, and the bytes that are given.
     Ready(usize, usize, usize),
-    // The room, whether it is filled, and the bytes at its front.
+    // The buffer's length, whether it is filled, and its first bytes.
     Fill(usize, Result<bool, SourceFault>, usize, usize),
 }
 
@@ -47,7 +47,7 @@ pub(crate) enum Writes {
     Flush(Result<(), OutFault>),
 }
 
-// The first bytes of a room, or all of it.
+// The first bytes of a buffer, or all of it.
 pub(crate) fn front(room: &mut [u8], most: usize) -> &mut [u8] {
     let len = most.min(room.len());
     &mut room[..len]

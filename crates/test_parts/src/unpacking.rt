@@ -43,7 +43,7 @@ fn expect<S: WordSource>(rt: &impl Abort, source: &mut S, words: &[u64], cut: Op
     same(rt, source.next(), then);
 }
 
-// The same whether a read gives all that there is room for or one byte.
+// The same whether a read gives all that fits or one byte.
 fn expect_each_way(rt: &impl Abort, text: &[u8], words: &[u64], cut: Option<u64>) {
     expect(rt, &mut Unpacker::new(SliceIn::new(text)), words, cut);
     let reader = FromRead::new(Reader::honest(text, 1));
@@ -148,7 +148,7 @@ fn positions_and_the_input_after_a_word(rt: HostRuntime) {
     read_by(&rt, &mut input, &GROUPS, &mut [0; 32], &LEFT);
 }
 
-// Zero words that are still to be given are no bytes at hand.
+// Zero words that are still to be given are no buffered bytes.
 static AT_HAND: [(&[u8], &[Takes]); 2] = [
     (
         &[0x10, 1, 0, 1, 0x10],

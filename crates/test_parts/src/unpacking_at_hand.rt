@@ -35,7 +35,7 @@ static ENDS: [(usize, usize, bool); 8] = [
     (40, 72, true),
 ];
 
-// How many bytes of words a front of the text gives, and how it ends.
+// How many bytes of words a prefix of the text gives, and how it ends.
 fn end_of(len: usize) -> (usize, Result<bool, SourceFault>) {
     let mut given = 0;
     let mut end = Ok(false);
@@ -69,7 +69,7 @@ fn expect<S: WordSource>(
     same(rt, source.fill(front(&mut room, 8)), end);
 }
 
-// A front of the text in a slice, and read through a buffer, at most so many bytes a call.
+// A prefix of the text in a slice, and read through a buffer, at most so many bytes a call.
 fn expect_front(
     rt: &impl Abort,
     alloc: Global,
@@ -99,13 +99,13 @@ fn ends_of_texts_reads_and_pieces(rt: HostRuntime) -> Result<(), Fail> {
     Ok(())
 }
 
-// What comes where all words that are at hand were given.
+// What comes where all words that are buffered were given.
 static LAST: [Takes; 2] = [
     Takes::Next(Ok(Some(0x0807_0605_0000_0000))),
     Takes::Ready(72, 0, 0),
 ];
 
-// Over a slice all words are at hand but those of groups that begin less than ten bytes before its end.
+// Over a slice all words are buffered but those of groups that begin less than ten bytes before its end.
 #[test]
 fn gives_all_words_that_fit(rt: HostRuntime) {
     let mut room = [0; 72];
@@ -128,7 +128,7 @@ static READY_AFTER_ONE: [Takes; 2] = [
     Takes::Ready(72, 8, 56),
 ];
 
-// A reader is never called for words at hand.
+// A reader is never called for buffered words.
 #[test]
 fn gives_no_words_that_are_to_be_read(rt: HostRuntime) -> Result<(), Fail> {
     let mut room = [0; 72];
@@ -140,7 +140,7 @@ fn gives_no_words_that_are_to_be_read(rt: HostRuntime) -> Result<(), Fail> {
     Ok(())
 }
 
-// No more is appended than is asked for, and than there is room for.
+// No more is appended than is asked for, and than fits.
 fn append_each<S: WordSource>(rt: &impl Abort, source: &mut S, out: &mut Vec<u8>) {
     let most_of_all = out.capacity();
     same(rt, source.append(out, 400), 0);

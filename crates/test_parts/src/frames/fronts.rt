@@ -1,4 +1,4 @@
-//! Messages that are found in front of bytes.
+//! Messages that are found at the start of bytes.
 
 use super::{Wanted, is_message, plain};
 use crate::same::{same, same_of};
@@ -16,7 +16,7 @@ fn fault_of(fault: FrontFault, end: usize) -> FrameFault {
     }
 }
 
-// In front of these bytes is this message, none, or what has this fault where it is read.
+// At the start of these bytes is this message, none, or what has this fault where it is read.
 pub(super) fn expect_front_of(rt: &impl Abort, bytes: &[u8], limit: SizeLimit, want: Wanted<'_>) {
     match (front_of(bytes, limit), want) {
         (Ok(Some(framed)), Ok(Some(segments))) => {
@@ -35,13 +35,13 @@ fn measures(found: Option<Framed<'_>>) -> Option<(u32, u64, usize)> {
     Some((framed.count(), framed.words(), framed.length()))
 }
 
-// One segment of three words, and one more word behind it.
+// One segment of three words, and one more word after it.
 const ONE: &[u64] = &[0x3_0000_0000, 7, 8, 9, 10];
 
 // Segments of one word and of two, with padding.
 const TWO: &[u64] = &[0x1_0000_0001, 0xeeee_eeee_0000_0002, 7, 8, 9];
 
-// Words, how many bytes of them there are, and what stands there.
+// Words, how many bytes of them there are, and what is there.
 type Front<'a> = (
     &'a [u64],
     usize,

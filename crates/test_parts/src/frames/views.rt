@@ -68,7 +68,7 @@ fn table_len(segments: usize) -> usize {
     (segments / 2).saturating_add(1).saturating_mul(8)
 }
 
-// The view of these segments, framed, in front of bytes that are none of theirs, shows them.
+// The view of these segments, framed, at the start of bytes that are none of theirs, shows them.
 fn shows_in_front(
     rt: &impl Abort,
     alloc: Global,
