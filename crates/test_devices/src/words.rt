@@ -295,6 +295,30 @@ fn a_flush_is_one_call_of_the_writer(rt: HostRuntime) {
     }
 }
 
+// A word, and flushes up to one that fails.
+fn expect_flushes<K: WordSink>(rt: &impl Abort, sink: &mut K) {
+    same(rt, sink.put(0), Ok(()));
+    same(rt, sink.flush(), Ok(()));
+    same(rt, sink.flush(), Err(SinkFault::Device));
+    same(rt, sink.flush(), Err(SinkFault::Spent));
+}
+
+// The packer holds the word open, and a plain sink writes it by the first call of the writer.
+#[test]
+fn each_flush_of_a_sink_is_one_call_of_the_writer(rt: HostRuntime) {
+    let kind = Some(ErrorKind::Other);
+    let writer = Writer::new(rt.alloc(), 64, Fault { at: 2, kind });
+    let mut sink = Packer::new(FromWrite::new(writer));
+    expect_flushes(&rt, &mut sink);
+    let writer = sink.into_inner().into_inner();
+    same(&rt, (writer.calls, writer.taken.len()), (2, 0));
+    let writer = Writer::new(rt.alloc(), 64, Fault { at: 3, kind });
+    let mut sink = PlainSink::new(FromWrite::new(writer));
+    expect_flushes(&rt, &mut sink);
+    let writer = sink.into_inner().into_inner();
+    same(&rt, (writer.calls, writer.taken.len()), (3, 8));
+}
+
 // Words that are packed by groups of each kind.
 const KINDS: [u64; 8] = [
     2 << 32,

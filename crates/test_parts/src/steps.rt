@@ -37,7 +37,6 @@ pub(crate) enum Takes {
 pub(crate) enum Puts {
     Word(u64, Result<(), SinkFault>),
     Bytes(usize, usize, Result<(), SinkFault>),
-    Flush(Result<(), SinkFault>),
     Finish(Result<(), SinkFault>),
 }
 
@@ -116,7 +115,6 @@ pub(crate) fn put_by<K: WordSink>(rt: &impl Abort, sink: &mut K, text: &[u8], st
             Puts::Bytes(from, len, wanted) => {
                 same_of(rt, &at, sink.put_bytes(part(text, *from, *len)), *wanted);
             }
-            Puts::Flush(wanted) => same_of(rt, &at, sink.flush(), *wanted),
             Puts::Finish(wanted) => same_of(rt, &at, sink.finish(), *wanted),
         }
     }
