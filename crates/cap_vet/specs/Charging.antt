@@ -8,7 +8,8 @@ use Rattle.cap_spec.specs.declared.Step.{Step}
 use Rattle.cap_vet.specs.Finding.{IsFound}
 use Rattle.cap_vet.specs.declared.charged.Arrival.{Arrival}
 
--- The path comes to this spot, and following the pointers on it, which keep to the limits, cost what was spent.
+-- The path comes to this spot. Following the pointers on it keeps to the limits, and costs the
+-- words that were charged.
 pub record Arrives (m : List (List ℕ)) (words depth : ℕ) (path : List Step) (spot : Spot) (at : Arrival) : Type 0 where
   pub comes : Comes m path at.level spot
   pub found : IsFound m spot at.found

@@ -23,13 +23,14 @@ IsStopped m words depth (Refused r) = IsRefused m words depth r
 IsStopped m words depth (Overlap s w n) = IsFirstOverlap m s w n
 IsStopped m words depth Memory = ⊥
 
--- why a message isn't found exclusive over room of so many numbers; each message that isn't has one of these faults
+-- why a message isn't found exclusive with a buffer of `room` numbers; each message that isn't has
+-- one of these faults
 abbrev pub IsExclusiveFault : List (List ℕ) → ℕ → ℕ → ℕ → ExclusiveFault → Type 0
 IsExclusiveFault m words depth room (fault.Refused r) = IsRefused m words depth r
 IsExclusiveFault m words depth room (fault.NoRoom needed report) = IsAccepted m words depth report × (room < needed) × (needed ≡ marks_of m)
 IsExclusiveFault m words depth room (fault.Overlap s w n) = (report : Report) × IsAccepted m words depth report × (marks_of m ≤ room) × IsFirstOverlap m s w n
 
--- room that isn't used stays as it was
+-- numbers of the buffer that aren't used stay as they were
 abbrev pub KeepsRoom : ExclusiveFault → List ℕ → List ℕ → Type 0
 KeepsRoom (fault.Refused r) old new = new ≡ old
 KeepsRoom (fault.NoRoom needed report) old new = new ≡ old

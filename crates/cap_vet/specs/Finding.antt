@@ -27,7 +27,8 @@ own_words (Struct d p) = d + p
 own_words (Scalars c n) = list_words c n
 own_words _ = 0
 
--- its kind and its place are those of what stands there, and its words lie inside their segment
+-- its kind and its place are those of the object at the spot, and its words lie inside their
+-- segment
 pub record IsFound (m : List (List ℕ)) (a : Spot) (f : Found) : Type 0 where
   pub stands : StandsAs m a f.kind f.place.segment f.place.start f.place.words
   pub exists : f.place.segment < length m

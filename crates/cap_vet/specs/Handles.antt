@@ -17,7 +17,7 @@ use Rattle.cap_vet.specs.declared.view.View.{View}
 abbrev pub node_message : {M : Type 0} {g : segments.Ghosts M} → Node M g → M
 node_message n = n.message.now
 
--- where a node stands
+-- the spot of a node
 abbrev pub node_spot : {M : Type 0} {g : segments.Ghosts M} → Node M g → Spot
 node_spot n = spot_of n.spot
 

@@ -1,4 +1,4 @@
--- What the word alone tells of an object near by (standard: Structs, Lists).
+-- What the pointer word alone says about an object near by (standard: Structs, Lists).
 use Rattle.std.specs.Prelude.{ℕ, ◌+◌, ◌<◌, ◌≡◌, ◌≤◌, ◌⊎◌, List, length}
 use Rattle.cap_spec.specs.Messages.{HasWord, segment_of}
 use Rattle.cap_spec.specs.Pointers.{code, data_size, extent, kind, list_size, pointer_size}
@@ -7,7 +7,7 @@ use Rattle.cap_vet.specs.declared.rows.Row.{Row}
 use Rattle.cap_ptr.specs.declared.shapes.Shape.{Shape}
 use Rattle.cap_ptr.specs.declared.shapes.Shape.TheVariants.{Struct, Scalars, Pointers, Structs}
 
--- the pointer words of an object of this shape that starts at b are so many from this one on
+-- the object of this shape at b has `left` pointer words from `at` on
 abbrev pub HasRow : Shape → ℕ → ℕ → ℕ → Type 0
 HasRow (Struct d p) b at left = (at ≡ b + d) × (left ≡ p)
 HasRow (Scalars c n) b at left = left ≡ 0
@@ -23,7 +23,7 @@ pub record FindsRow (m : List (List ℕ)) (s w : ℕ) (r : Row) : Type 0 where
   pub finds : FindsObject m s w 0 s r.start word 0 r.charge r.charge shape
   pub row : HasRow shape r.start r.at r.left
 
--- the object of the word q has so many words without pointers, and then so many pointer words
+-- the object of the word q has parts.0 words without pointers, and then parts.1 pointer words
 abbrev pub IsParts : ℕ → ℕ × ℕ → Type 0
 IsParts q parts =
     ((kind q ≡ 0) × (parts.0 ≡ data_size q) × (parts.1 ≡ pointer_size q))

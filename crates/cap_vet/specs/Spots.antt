@@ -12,7 +12,7 @@ abbrev pub segment_at : Kept → ℕ
 segment_at (Word s w) = s
 segment_at (Element t b d p) = t
 
--- the word behind its words
+-- the word after its words
 abbrev pub end_at : Kept → ℕ
 end_at (Word s w) = w + 1
 end_at (Element t b d p) = b + d + p

@@ -23,7 +23,7 @@ AreApart [] = ⊤
 AreApart (a ∷ []) = ⊤
 AreApart (a ∷ b ∷ rest) = Apart a.path b.path × AreApart (b ∷ rest)
 
--- the paths that were looked at, the last one first, each behind the next in preorder
+-- the paths that were looked at, the last one first, each after the next in preorder
 abbrev pub Falls : List (List Step) → Type 0
 Falls [] = ⊤
 Falls (p ∷ []) = ⊤

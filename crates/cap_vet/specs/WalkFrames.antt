@@ -1,4 +1,4 @@
--- The pointer words of a frame, and what is left of it behind the first (profile).
+-- The pointer words of a frame, and what is left of it after the first (profile).
 use Rattle.std.specs.Prelude.{ℕ, zero, suc, ◌+◌, ◌*◌, ◌<◌, ◌≤◌, ◌≡◌, Bool, if◌then◌else◌, List, [], ◌∷◌, ◌++◌, length, Option, None, Some, ⊤}
 use Rattle.std.specs.List.{flat_map}
 use Rattle.cap_spec.specs.Messages.{segment_of}
@@ -9,7 +9,7 @@ use Rattle.cap_vet.specs.declared.frame.Frame.{Frame}
 abbrev pub Place : Type 0
 Place = ℕ × ℕ × ℕ
 
--- where a word ahead stands
+-- the place of a word ahead
 abbrev pub place_of : Ahead → Place
 place_of a = (a.segment, a.word, a.level)
 
@@ -54,7 +54,7 @@ abbrev pub LevelIs : ℕ → Option Frame → Type 0
 LevelIs level None = ⊤
 LevelIs level (Some f) = f.level ≡ level
 
--- what is left of a frame behind its first pointer word
+-- what is left of a frame after its first pointer word
 pub record IsRest (f : Frame) (rest : Option Frame) : Type 0 where
   pub words : spots f ≡ (f.segment, f.at, f.level) ∷ option_spots rest
   pub inside : (m : List (List ℕ)) → FrameIn m f → OptionIn m rest

@@ -28,7 +28,8 @@ IsFirstOf m seen None = (p : List Step) (s w : ℕ) → IsOneOf p seen → ¬ Le
 IsFirstOf m seen (Some place) =
     (p : List Step) × IsOneOf p seen × LeadsToCap m p place.0 place.1 × ((q : List Step) (s w : ℕ) → IsOneOf q seen → Before q p → ¬ LeadsToCap m q s w)
 
--- What was looked at and what is ahead make a trail, whose numbers are these and whose first capability stands at first.
+-- The paths looked at and the words ahead make a trail, with these numbers and with its first
+-- capability at `first`.
 pub record Progress (m : List (List ℕ)) (words depth : ℕ) (charge deepest pointers caps : ℕ) (first : Option (ℕ
     × ℕ)) (seen : List (List Step)) (ahead : List Ahead) : Type 0 where
   pub trail : IsTrail m seen ahead
@@ -54,7 +55,7 @@ pub record Walks (m : List (List ℕ)) (words depth : ℕ) (frames : List Frame)
 abbrev pub IsWalking : List (List ℕ) → ℕ → ℕ → List Frame → Report → Type 0
 IsWalking m words depth frames report = (seen : List (List Step)) × (ahead : List Ahead) × Walks m words depth frames report seen ahead
 
--- The next word to look at stands at s:w, and leads to this level; then come the words of the frames.
+-- The next word to look at is s:w, and leads to this level; then come the words of the frames.
 pub record IsNext (m : List (List ℕ)) (words depth s w level : ℕ) (frames : List Frame) (report : Report) : Type 0 where
   pub seen : List (List Step)
   pub a : Ahead

@@ -3,14 +3,14 @@
 ghost use Rattle.cap_vet.specs.Budgets.{left_of};
 ghost use Rattle.std.specs.Prelude.{◌≡◌};
 
-/// So many words that getters may still charge.
+/// A number of words that getters may still charge.
 #[derive(Clone, Copy, Debug, PartialEq, Eq, Drop)]
 pub struct Budget {
     pub(crate) words: u64,
 }
 
 impl Budget {
-    /// A budget of so many words.
+    /// A budget of `words` words.
     pub fn new(words: u64) -> Budget
         ensures { left_of result ≡ words }
     {

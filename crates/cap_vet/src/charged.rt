@@ -70,7 +70,7 @@ fn charge<M: Segments>(
 /// Where the steps of a path have arrived so far.
 #[derive(Clone, Copy)]
 pub(crate) struct Arrival {
-    // What stands there.
+    // What the path arrived at.
     pub(crate) found: Found,
     // The level of it, 1 for the root.
     pub(crate) level: u64,
@@ -112,8 +112,8 @@ fn at_root<M: Segments>(message: &M, words: u64, depth: u32) -> Result<Arrival, 
 }
 
 impl Arrival {
-    // One step on, to what the step's pointer leads to or to an element, or `None` where the step leads
-    // nowhere.
+    // Takes one step, to what the step's pointer leads to or to an element. `None` if the step
+    // leads to nothing.
     fn step<M: Segments>(
         &self,
         message: &M,
@@ -199,18 +199,23 @@ impl Arrival {
     }
 }
 
-/// What a path arrives at in a message that needn't be vetted. Each pointer on the path, the root's
-/// among them, is followed and charged to the budget, in words, a word that two steps lead to twice.
-/// Takes no memory.
+/// Follows a path in a message that needn't be vetted, and gives what it arrives at (encoding:
+/// Security Considerations). Each pointer on the path, the root's among them, is charged to the
+/// budget, in words. A word that two steps lead to is charged twice. Allocates nothing.
 ///
-/// `None` where the path arrives at nothing: the pointers up to there are charged all the same.
+/// `None` if the path arrives at nothing: the pointers up to there are charged all the same.
 ///
 /// # Errors
 ///
-/// The first pointer on the path at which anything is wrong, with the first reason that applies: it
-/// can't be followed, what it leads to stands past `depth` levels, or the structs of that list do, or
-/// the charges up to it are more words than the budget has. `NoRoot` where segment 0 has no words.
-/// `pointers` counts the pointers on the path up to the named one. The budget is then as it was.
+/// The error names the first pointer on the path at which anything is wrong, with the first reason
+/// that applies there. `pointers` counts the pointers on the path up to that one, itself included.
+/// After an error the budget is as it was.
+///
+/// - [`Reason::NoRoot`]: segment 0 has no words. `pointers` is 0 then.
+/// - `Reserved` to `CompositeOverrun`: the pointer can't be followed, see [`Reason`].
+/// - [`Reason::DepthLimit`]: its target is past `depth` levels, or the target's structs are.
+/// - [`Reason::WordLimit`]: the charges up to it, its own included, are more words than the budget
+///   has.
 pub fn get_charged<'m, M: Segments>(
     message: &'m M,
     budget: &mut Budget,

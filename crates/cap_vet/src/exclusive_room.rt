@@ -1,4 +1,5 @@
-//! The verdict of a message of which no word may be used twice, over room that is lent for the marks.
+//! The verdict of a message of which no word may be used twice, with the caller's buffer for the
+//! marks.
 
 ghost use Rattle.cap_spec.specs.Occupying.{IsDisjoint, empty_count};
 ghost use Rattle.cap_spec.specs.Frames.{sizes_of};
@@ -22,12 +23,12 @@ use crate::vetting::vet;
 use cap_frame::Segments;
 use cap_spec::Refusal;
 
-/// Why a message isn't found exclusive over room that is lent.
+/// Why a message isn't found exclusive with the caller's buffer.
 #[derive(Clone, Copy, Debug, PartialEq, Eq, Drop)]
 pub enum ExclusiveFault {
     /// It isn't accepted at all.
     Refused(Refusal),
-    /// It is accepted, and the room is too small.
+    /// It is accepted, and the buffer is too small.
     NoRoom {
         /// How many numbers the marks take.
         needed: usize,
@@ -46,13 +47,17 @@ pub enum ExclusiveFault {
     },
 }
 
-/// Vets a message as `vet_exclusive` does, with the marks in room that is lent for them, and takes no
-/// memory. The room may hold anything; its first [`crate::marks_for`] of the message's words are cleared
-/// and used, and what stands behind them stays as it is.
+/// Vets a message as `vet_exclusive` does, with the marks in the caller's buffer `room`. Allocates
+/// nothing. The buffer may hold anything. Its first [`crate::marks_for`] numbers, for the words of
+/// the message, are cleared and used. The numbers after these stay as they are.
 ///
-/// The refusal of `vet` is handed on. Then `NoRoom` is answered where the room has fewer numbers. After
-/// both the room is as it was. Then the message is walked once more, and `Overlap` names the first
-/// pointer in preorder that uses a word which is used already.
+/// # Errors
+///
+/// - [`ExclusiveFault::Refused`]: `vet` refuses the message. The buffer is as it was.
+/// - [`ExclusiveFault::NoRoom`]: the message is accepted, and the buffer has fewer numbers than the
+///   marks take. The buffer is as it was.
+/// - [`ExclusiveFault::Overlap`]: a second walk found a pointer that overlaps. It is the first in
+///   preorder that uses a word which is used already.
 pub fn vet_exclusive_in<'m, M: Segments>(
     message: &'m M,
     limits: Limits,
@@ -73,7 +78,7 @@ pub fn vet_exclusive_in<'m, M: Segments>(
     ensures refuses { (fault : ExclusiveFault) →
         IsExclusiveFault (M.segments message.now) (words_of limits) (depth_of limits) (length marks.old) fault → result ≡ Err fault }
 
-    // What is left in the room.
+    // The numbers of the buffer after the call.
     ensures rest { drop (marks_of (M.segments message.now)) marks.new ≡ drop (marks_of (M.segments message.now)) marks.old }
     ensures kept { IfErr result (λ fault. KeepsRoom fault marks.old marks.new) }
 {

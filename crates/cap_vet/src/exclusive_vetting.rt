@@ -42,18 +42,24 @@ pub enum ExclusiveRefusal {
         /// How many pointer words were looked at, that one included.
         pointers: u64,
     },
-    /// The room for the marks was refused.
+    /// Allocating the marks failed.
     Memory,
 }
 
-/// Vets a message, and accepts it where also no word is used twice: by two pointers that paths reach, by
-/// one pointer, or by the root (profile). A pointer uses its landing pads, those of null and of a
-/// capability too, and the words of its object, a tag among them. An object without words uses none,
-/// wherever it starts.
+/// Vets a message, and accepts it if also no word is used twice: by two pointers that paths reach,
+/// by one pointer, or by the root (profile). A pointer uses its landing pads, also if it is null or
+/// a capability. It uses the words of its object, the tag among them. An object without words uses
+/// none, wherever it starts.
 ///
-/// The refusal of `vet` is handed on. Then the one growth is made, of a bit for each word of the message
-/// and at most 64 more, and `Memory` is answered where it was refused. Then the message is walked once
-/// more, and `Overlap` names the first pointer in preorder that uses a word which is used already.
+/// Allocates once, after `vet` has accepted the message: one bit for each word of the message, and
+/// at most 64 bits more.
+///
+/// # Errors
+///
+/// - [`ExclusiveRefusal::Refused`]: `vet` refuses the message.
+/// - [`ExclusiveRefusal::Memory`]: the message is accepted, and the allocation failed.
+/// - [`ExclusiveRefusal::Overlap`]: a second walk found a pointer that overlaps. It is the first in
+///   preorder that uses a word which is used already.
 pub fn vet_exclusive<'m, M: Segments>(
     alloc: Global,
     message: &'m M,
@@ -76,7 +82,7 @@ pub fn vet_exclusive<'m, M: Segments>(
     ensures memory { IsErrOf result ExclusiveRefusal.Memory →
         (report : Report) × IsAccepted (M.segments message.now) (words_of limits) (depth_of limits) report }
 
-    // The other direction, want of memory aside.
+    // The other direction, unless the allocation fails.
     ensures refuses { (r : Refusal) → IsRefused (M.segments message.now) (words_of limits) (depth_of limits) r → result ≡ Err (ExclusiveRefusal.Refused r) }
     ensures accepts { (t : Tree) (c d : ℕ) → Denotes (M.segments message.now) 0 0 t c d → c ≤ words_of limits → d ≤ depth_of limits →
         IsDisjoint (M.segments message.now) → IsOk result ⊎ (result ≡ Err ExclusiveRefusal.Memory) }
@@ -168,7 +174,7 @@ fn mark_all<M: Segments>(
     }
 }
 
-// Goes on below the root. Frames are made ready anew for each message, so a walk begins with few of them.
+// Goes on below the root. Each message initializes its frames, so a walk begins with few of them.
 fn mark_below<M: Segments>(
     message: &M,
     limits: &Limits,
@@ -235,7 +241,7 @@ fn mark_deep<M: Segments>(
 }
 
 // Goes on with the words of this frame and those of the stack until no pointer word is left, or one
-// overlaps, or until the stack is full: the answer is then the frame to go on with.
+// overlaps, or the stack is full. If it is full, the result is the frame to go on with.
 fn mark_on<M: Segments, const N: usize>(
     message: &M,
     limits: &Limits,
@@ -257,8 +263,8 @@ fn mark_on<M: Segments, const N: usize>(
     'walk: loop {
         let (s, w, level) = (frame.segment, frame.at, frame.level);
         let more = frame.advance();
-        // What the word uses is looked at beside what it leads to, and marked behind that: where nothing is
-        // written in between, both take its fields from it once.
+        // The words that the pointer uses are looked up before the visit, and marked after it. If
+        // nothing is written in between, both take its fields from the word once.
         let near = near_use(message, s, w);
         let child = match visit(message, limits, report, s, w, level) {
             Ok(child) => child,

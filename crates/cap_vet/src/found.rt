@@ -1,4 +1,4 @@
-//! What stands at a spot, and where steps from there lead.
+//! What is at a spot, and where steps from there lead.
 
 ghost use Rattle.cap_ptr.specs.Shapes.{IsFollowed, IsShape};
 ghost use Rattle.cap_ptr.specs.declared.shapes.Shape.{Shape};
@@ -19,7 +19,7 @@ use cap_ptr::{Followed, Shape, follow};
 use cap_spec::{Kind, Step};
 use cap_words::bits;
 
-/// What stands at a spot: its kind and its words. Null and a capability have no words, at 0:0.
+/// What is at a spot: its kind and its words. Null and a capability have no words, at 0:0.
 #[derive(Clone, Copy)]
 pub(crate) struct Found {
     pub(crate) kind: Kind,
@@ -178,7 +178,7 @@ pub(crate) fn found_at<M: Segments>(message: &M, s: u32, w: u32) -> Found
     }
 }
 
-// The same, where the word alone tells it.
+// The same, if the word alone says it.
 #[inline(always)]
 fn found_near<M: Segments>(message: &M, s: u32, w: u32) -> Option<Found>
     requires exists { s < length (M.segments message.now) }
@@ -209,7 +209,7 @@ fn found_far<M: Segments>(message: &M, s: u32, w: u32) -> Found
     }
 }
 
-// The kind of the object that this pointer word tells, where no tag does.
+// The kind of the object that this pointer word describes, if there is no tag.
 #[inline(always)]
 fn near_kind(pointer: u64) -> Kind
     ensures { (x : Shape) (b at left : ℕ) → IsShape pointer 0 x → HasRow x b at left → result ≡ kind_of_shape x }

@@ -4,8 +4,8 @@ ghost use Rattle.cap_vet.specs.WalkFrames.{FrameIn, IsRest, kept};
 ghost use Rattle.cap_spec.specs.Messages.{IsMessage};
 ghost use Rattle.std.specs.Prelude.{List, ℕ};
 
-/// `left` pointer words from `at` on, and then those of `more` further elements, each of so many
-/// data words and then so many pointers.
+/// `left` pointer words from `at` on, and then those of `more` further elements. Each element has
+/// `data_words` data words and then `pointers` pointers.
 #[derive(Clone, Copy, Default)]
 pub(crate) struct Frame {
     pub(crate) segment: u32,
@@ -19,7 +19,7 @@ pub(crate) struct Frame {
 }
 
 impl Frame {
-    /// Goes on behind the first pointer word. `false` where nothing is left.
+    /// Goes on after the first pointer word. `false` if nothing is left.
     #[inline(always)]
     pub(crate) fn advance(&mut self) -> bool
         requires { (m : List (List ℕ)) × IsMessage m × FrameIn m self.old }

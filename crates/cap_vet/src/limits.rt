@@ -21,8 +21,8 @@ pub struct Limits {
 impl Limits {
     ghost use Rattle.cap_vet.specs.Limits.{depth_of, words_of};
 
-    /// Limits of so many words and levels, or `None` for more than 268435456 words or more than
-    /// 256 levels.
+    /// Limits of `words` words and `depth` levels, or `None` for more than 268435456 words or more
+    /// than 256 levels.
     pub fn new(words: u64, depth: u32) -> Option<Limits>
         ensures some { IsSome result ↔ ((words ≤ 268435456) × (depth ≤ 256)) }
         ensures holds { IfSome result (λ limits. (words_of limits ≡ words) × (depth_of limits ≡ depth)) }

@@ -73,8 +73,8 @@ pub(crate) fn look<M: Segments>(
     }
 }
 
-/// Looks at the same word, and answers alone where it is null or the word tells all of its object, and
-/// that is within the limits.
+/// Looks at the same word. Returns a result only if it is null, or if the word alone describes its
+/// object, and if that is within the limits.
 #[inline(always)]
 pub(crate) fn look_near<M: Segments>(
     message: &M,

@@ -14,8 +14,8 @@ use arrayvec::ArrayVec;
 use cap_frame::Segments;
 use cap_ptr::{Followed, Pointer, follow};
 
-/// How many numbers of 64 bits are taken for the marks of a message of so many words, a bit for each, all
-/// segments together.
+/// The number of `u64`s that the marks of a message of `words` words take: one bit for each word of
+/// all segments together.
 pub fn marks_for(words: u64) -> usize
     ensures { result ≡ words / 64 + 1 }
 {
@@ -34,7 +34,7 @@ pub(crate) fn numbers_for<M: Segments>(message: &M) -> usize
     marks_for(words)
 }
 
-/// Where the bits of each segment's words start, one segment's behind the other's.
+/// Where the bits of each segment's words start, those of one segment after those of the other.
 pub(crate) fn starts_in<M: Segments>(message: &M) -> ArrayVec<u64, 512>
     ensures { AreStarts (M.segments message.now) result.items }
 {
@@ -83,7 +83,7 @@ pub(crate) fn mark_pointer<M: Segments>(
     }
 }
 
-// The same of a word that alone doesn't tell it.
+// The same of a word that doesn't say it alone.
 #[inline(never)]
 fn mark_far<M: Segments>(message: &M, starts: &[u64], marks: &mut [u64], s: u32, w: u32) -> bool
     requires room { HasRoom (M.segments message.now) starts.now marks.old }

@@ -12,9 +12,9 @@ use cap_frame::Segments;
 use cap_spec::Step;
 use std::alloc::AllocError;
 
-/// A node of the tree that an accepted message's root denotes (encoding: Objects). It is the pointer
-/// word at which it stands, or the element of a list of structs, in a message that it borrows, and
-/// knows no path.
+/// A node of the tree that an accepted message's root denotes (encoding: Objects). It is the
+/// pointer word that leads to it, or the element of a list of structs, in a message that it
+/// borrows. It knows no path.
 pub struct Node<'m, M: Segments> {
     pub(crate) message: &'m M,
     pub(crate) spot: Spot,
@@ -45,8 +45,8 @@ impl<'m, M: Segments> Node<'m, M> {
     ghost use Rattle.cap_vet.specs.Handles.{kept_place, node_message, node_spot, shown, view_kind, view_message, view_place};
     ghost use Rattle.std.specs.Prelude.{IfNone, IfSome, MatchOption, Some, None, ℕ};
 
-    // What stands there. Following its pointer can't fail. It and what calls it are inlined, so that what
-    // was found stays in registers.
+    // What is at the node's spot. Following its pointer can't fail. It and its callers are inlined,
+    // so that the result stays in registers.
     #[inline(always)]
     fn found(&self) -> Found
         ensures { IsFound (M.segments (node_message self.now)) (node_spot self.now) result }
@@ -63,7 +63,7 @@ impl<'m, M: Segments> Node<'m, M> {
     }
 
     /// A view of the node: what it is without its children. A pointer that leads to it is followed
-    /// anew, and no memory is taken.
+    /// again. Allocates nothing.
     #[inline(always)]
     pub fn view(&self) -> View<'m, M>
         ensures message { view_message result ≡ node_message self.now }

@@ -1,4 +1,4 @@
-//! What is told of a message that was accepted.
+//! The numbers that are reported of an accepted message.
 
 /// The numbers of the tree that a message's root denotes.
 #[derive(Clone, Copy, Debug, Default, PartialEq, Eq)]

@@ -8,7 +8,7 @@ ghost use Rattle.std.specs.Prelude.{◌+◌, ◌<◌, ◌≡◌, ◌≤◌, ◌^
 use cap_frame::Segments;
 use cap_words::bits;
 
-/// The pointer words of an object, which stand in one row.
+/// The pointer words of an object, which are in one row.
 #[derive(Clone, Copy, Debug, PartialEq, Eq, Drop)]
 pub(crate) struct Row {
     /// The words of the object, at most 2^29.
@@ -21,10 +21,11 @@ pub(crate) struct Row {
     pub(crate) left: u32,
 }
 
-/// The pointer words of the object that word `w` of segment `s` leads to, where the word alone tells
-/// them: a struct or a list without a tag that lies behind the word, in the same segment and inside it
-/// (encoding: Structs, Lists). `follow` answers that object, and with this charge. Asks that the word
-/// exists. `None` says nothing: `follow` tells what the word is.
+/// The pointer words of the object that word `w` of segment `s` leads to, if the word alone gives
+/// them. It does for a struct or a list without a tag that lies after the word, in the same segment
+/// and inside it (encoding: Structs, Lists). `follow` returns that object, with this charge. The
+/// caller makes sure that the word exists. After `None` nothing is known: `follow` says what the
+/// word is.
 // A walk asks here first: most words are such, and what they lead to then stays in registers.
 #[inline(always)]
 pub(crate) fn row_at<M: Segments>(message: &M, s: u32, w: u32) -> Option<Row>
@@ -50,7 +51,7 @@ pub(crate) fn row_at<M: Segments>(message: &M, s: u32, w: u32) -> Option<Row>
     })
 }
 
-// The words of an object that have no pointers, and the pointer words behind them.
+// The words of an object that have no pointers, and the pointer words after them.
 #[inline(always)]
 fn parts_of(word: u64) -> Option<(u64, u64)>
     ensures parts { IfSome result (IsParts word) }

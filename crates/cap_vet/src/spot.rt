@@ -1,4 +1,4 @@
-//! Where a node stands in its message.
+//! Where a node is in its message.
 
 /// A pointer word, or an element of a list of structs.
 #[derive(Clone, Copy)]

@@ -11,7 +11,7 @@ ghost use Rattle.std.specs.Prelude.{◌+◌, ◌<◌, ◌^◌, ◌≡◌, ◌≤
 use crate::frame::Frame;
 use cap_ptr::{Shape, Target};
 
-// How many levels the structs of a list of so many take below their list.
+// How many levels the structs of a list of `count` elements take below their list.
 pub(crate) fn levels_of_elements(count: u32) -> u32
     ensures value { result ≡ element_levels count }
     ensures few { result ≤ 1 }
@@ -74,7 +74,7 @@ pub(crate) fn frame_of(target: &Target, level: u32) -> Option<Frame>
     }
 }
 
-// The pointer words of a struct or of a list of pointers, which stand in one row.
+// The pointer words of a struct or of a list of pointers, which are in one row.
 pub(crate) fn row_frame(segment: u32, at: u32, left: u32, level: u32) -> Option<Frame>
     ensures places { option_spots result ≡ row_places level segment at left }
     ensures inside { (m : List (List ℕ)) → segment < length m → at + left ≤ length (segment_of m segment) → OptionIn m result }

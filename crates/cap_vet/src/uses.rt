@@ -9,8 +9,8 @@ use crate::rows::row_at;
 use cap_frame::Segments;
 use cap_words::bits;
 
-/// The words that following word `w` of segment `s` uses, where the word alone tells them: none for null,
-/// and those of an object near by. `None` says nothing.
+/// The words that following word `w` of segment `s` uses, if the word alone gives them: none for
+/// null, and those of an object near by. After `None` nothing is known.
 #[inline(always)]
 pub(crate) fn near_use<M: Segments>(message: &M, s: u32, w: u32) -> Option<Place>
     requires exists { s < length (M.segments message.now) }
@@ -32,7 +32,7 @@ pub(crate) fn near_use<M: Segments>(message: &M, s: u32, w: u32) -> Option<Place
     })
 }
 
-/// The same of a list of structs near by, which its tag tells too.
+/// The same of a list of structs near by, from the word and the list's tag.
 pub(crate) fn structs_use<M: Segments>(message: &M, s: u32, w: u32) -> Option<Place>
     requires exists { s < length (M.segments message.now) }
     requires inside { w < length (segment_of (M.segments message.now) s) }

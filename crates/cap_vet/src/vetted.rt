@@ -70,10 +70,10 @@ impl<'m, M: Segments> Vetted<'m, M> {
         }
     }
 
-    /// The node at a path of steps from the root, or `None` where the tree has none there. A step goes
-    /// to a pointer of a struct, or to an element of a list of pointers or of structs, by its number
-    /// from 0; from an element of a list of structs it goes on as from a struct. Follows each pointer
-    /// on the path but the last, and takes no memory.
+    /// The node at a path of steps from the root, or `None` if the tree has none there. A step goes
+    /// to a pointer of a struct, or to an element of a list of pointers or of structs, by its
+    /// number from 0. From an element of a list of structs it goes on as from a struct. Follows
+    /// each pointer on the path but the last. Allocates nothing.
     pub fn get(&self, path: &[Step]) -> Option<Node<'m, M>>
         ensures message { IfSome result (λ n. node_message n ≡ message_of self.now) }
         ensures some { IfSome result (λ n. (level : ℕ) × Comes (M.segments (message_of self.now)) path.now level (node_spot n)) }

@@ -19,13 +19,20 @@ use crate::walking::{Stack, pass_nulls, push_kept, visit};
 use cap_frame::Segments;
 use cap_spec::{Reason, Refusal};
 
-/// Walks a message from its root in preorder, the pointers of each object in order, and accepts it
-/// where the root denotes a finite tree within the limits (encoding: Security Considerations). Takes
-/// no memory.
+/// Walks a message from its root in preorder, the pointers of each object in order. Accepts it if
+/// the root denotes a finite tree within the limits (encoding: Security Considerations). Allocates
+/// nothing.
+///
+/// # Errors
 ///
 /// A refusal names the first pointer word in preorder at which anything is wrong or a limit is
-/// passed, the first reason that applies there, and how many pointer words were looked at, that one
-/// included. A message without a root is refused `NoRoot` at 0:0, with none.
+/// passed, and the first reason that applies there. Its `pointers` counts the pointer words that
+/// were looked at, that one included.
+///
+/// - [`Reason::NoRoot`]: segment 0 has no words. It is refused at 0:0, and `pointers` is 0.
+/// - `Reserved` to `CompositeOverrun`: the pointer can't be followed, see [`Reason`].
+/// - [`Reason::DepthLimit`]: its target is past the depth limit, or the target's structs are.
+/// - [`Reason::WordLimit`]: the charges up to it, its own included, are more than the word limit.
 pub fn vet<'m, M: Segments>(message: &'m M, limits: Limits) -> Result<Vetted<'m, M>, Refusal>
     ensures ok { IfOk result (λ v. IsAccepted (M.segments message.now) (words_of limits) (depth_of limits) (report_of v)) }
     ensures message { IfOk result (λ v. message_of v ≡ message.now) }
@@ -65,7 +72,7 @@ fn walk<M: Segments>(message: &M, limits: &Limits) -> Result<Report, Refusal>
     }
 }
 
-// Goes on below the root. Frames are made ready anew for each message, so a walk begins with few of them.
+// Goes on below the root. Each message initializes its frames, so a walk begins with few of them.
 fn walk_below<M: Segments>(
     message: &M,
     limits: &Limits,
@@ -109,9 +116,9 @@ fn walk_deep<M: Segments>(
     }
 }
 
-// Goes on with the words of this frame and those of the stack until no pointer word is left, or until the
-// stack is full: the answer is then the frame to go on with. The frame in hand stands beside the stack, so
-// that a word with nothing below it costs no push and no pop.
+// Goes on with the words of this frame and those of the stack until no pointer word is left, or the
+// stack is full. If it is full, the result is the frame to go on with. The current frame is beside
+// the stack, so that a word with nothing below it costs no push and no pop.
 fn walk_on<M: Segments, const N: usize>(
     message: &M,
     limits: &Limits,

@@ -1,4 +1,4 @@
-//! A view of what stands somewhere in a message.
+//! A view of a value in a message.
 
 ghost use Rattle.cap_spec.specs.Messages.{segment_of};
 ghost use Rattle.cap_spec.specs.Pointers.{element_bits};
@@ -135,7 +135,7 @@ impl<'m, M: Segments> View<'m, M> {
             .word(self.found.place.segment, self.found.place.start + i)
     }
 
-    // One of its first words, of which there are so many.
+    // One of its first `data_words` words.
     fn struct_word(&self, i: u32, data_words: u16) -> Option<u64>
         requires { let place = kept_place self.now in data_words ≤ place.words }
         ensures { let place = kept_place self.now in
@@ -147,7 +147,7 @@ impl<'m, M: Segments> View<'m, M> {
         Some(self.word_at(i))
     }
 
-    // A word of so many values, which begin at its start.
+    // A word of its `count` values, which begin at its start.
     fn values_word(&self, i: u32, code: u8, count: u32) -> Option<u64>
         requires { let place = kept_place self.now in list_words code count ≤ place.words }
         ensures { let place = kept_place self.now in
@@ -162,7 +162,7 @@ impl<'m, M: Segments> View<'m, M> {
         Some(bits(self.word_at(i), 0, used))
     }
 
-    // One of so many values, which begin at its start.
+    // One of its `count` values, which begin at its start.
     fn value(&self, i: u32, code: u8, count: u32) -> u64
         requires within { i < count }
         requires inside { let place = kept_place self.now in list_words code count ≤ place.words }
@@ -182,8 +182,8 @@ impl<'m, M: Segments> View<'m, M> {
 impl<'m, 'b> View<'m, ByteView<'b>> {
     ghost use Rattle.cap_vet.specs.Handles.{bytes_of_place, view_message, view_place};
 
-    /// The bytes of the words of its [`place`](View::place) as they stand, a tag, surplus words and the
-    /// bits past the last value of a list included. Empty for null and a capability.
+    /// The bytes of the words of its [`place`](View::place), unchanged. A tag, surplus words and
+    /// the bits past the last value of a list are included. Empty for null and a capability.
     pub fn bytes(&self) -> &'b [u8]
         ensures { result.now ≡ bytes_of_place (⟦<ByteView<'b> as Segments>⟧.segments (view_message self.now)) (view_place self.now) }
     {

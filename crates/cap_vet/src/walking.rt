@@ -18,8 +18,9 @@ use arrayvec::ArrayVec;
 use cap_frame::Segments;
 use cap_spec::Refusal;
 
-/// The pointer words still to be looked at behind those of the frame in hand, the next ones last: one
-/// frame for each object on the way down that has some left. 256 are enough for the deepest walk.
+/// The pointer words still to be looked at after those of the current frame, the next ones last.
+/// Each object on the way down that has some left has one frame. 256 are enough for the deepest
+/// walk.
 pub(crate) type Stack<const N: usize> = ArrayVec<Frame, N>;
 
 /// Looks at the next pointer word, and gives the frame of its object's pointers. The error is the
@@ -59,7 +60,7 @@ pub(crate) fn visit<M: Segments>(
     }
 }
 
-/// Goes past the null words in front of the others of a row, as long as another word stands behind them.
+/// Skips null words at the start of the others of a row, while another word follows them.
 // Most words of a list may be null, and these cost no turn.
 #[inline(always)]
 pub(crate) fn pass_nulls<M: Segments>(message: &M, frame: &mut Frame, report: &mut Report)
