@@ -1,5 +1,5 @@
--- What stands at a spot of a message: its kind, and its n words from t:b on, the tag of a list of structs among them
--- (standard: Objects; paths are the profile's).
+-- What is at a spot of a message: its kind, and its n words from t:b on, the tag of a list of
+-- structs among them (standard: Objects; paths are the profile's).
 use Rattle.std.specs.Prelude.{ℕ, ◌+◌, ◌<◌, ◌≡◌, List}
 use Rattle.cap_spec.specs.Messages.{HasWord}
 use Rattle.cap_spec.specs.Pointers.{kind, middle, code, data_size, pointer_size, list_size, extent}
@@ -47,7 +47,7 @@ pub record StandStructs (m : List (List ℕ)) (s w x d p t b n k q tag : ℕ) : 
   pub pointers : p ≡ pointer_size tag
   pub words : n ≡ extent q
 
--- a struct that is an element has the words that its spot tells
+-- a struct that is an element has the words that its spot gives
 pub record StandsElement (t' b' ds ps d p t b n : ℕ) : Type 0 where
   pub segment : t ≡ t'
   pub start : b ≡ b'
@@ -55,7 +55,7 @@ pub record StandsElement (t' b' ds ps d p t b n : ℕ) : Type 0 where
   pub pointers : p ≡ ps
   pub words : n ≡ ds + ps
 
--- what of this kind stands at a spot; null and a capability have no words
+-- what of this kind is at a spot; null and a capability have no words
 abbrev pub StandsAs : List (List ℕ) → Spot → Kind → ℕ → ℕ → ℕ → Type 0
 StandsAs m (word s w) Null t b n = (k : ℕ) × Leads m s w k to_null
 StandsAs m (word s w) (Cap i) t b n = (k : ℕ) × Leads m s w k (to_cap i)

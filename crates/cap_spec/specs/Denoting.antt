@@ -28,7 +28,8 @@ value_at words b bits i = field (slice_index words (b + (i * bits) / 64)) ((i * 
 abbrev pub values_of : List (List ℕ) → ℕ → ℕ → ℕ → ℕ → List ℕ
 values_of m t b c n = map (value_at (segment_of m t) b (element_bits c)) (range_with_len 0 n)
 
--- how many levels the n elements of a struct list take below their list: one, where there are any. The number stands here alone.
+-- how many levels the n elements of a struct list take below their list: one, if there are any.
+-- Only this definition has the number.
 abbrev pub element_levels : ℕ → ℕ
 element_levels zero = 0
 element_levels (suc n) = 1

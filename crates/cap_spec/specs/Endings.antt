@@ -2,7 +2,7 @@
 use Rattle.std.specs.Prelude.{ℕ, ◌+◌, ◌%◌, ◌^◌, ◌<◌, ◌≤◌, ◌≡◌, Bool, false, List, [], ◌∷◌, ◌++◌, sum}
 use Rattle.cap_spec.specs.Frames.{sizes_of, IsTable, Frames, IsPartial}
 
--- A front of the words frames a message within the limit.
+-- A prefix of the words frames a message within the limit.
 pub record BeginsMessage (limit : ℕ) (words : List ℕ) : Type 0 where
   pub own : List ℕ
   pub rest : List ℕ
@@ -11,7 +11,7 @@ pub record BeginsMessage (limit : ℕ) (words : List ℕ) : Type 0 where
   pub frames : Frames own message
   pub within : sum (sizes_of message) ≤ limit
 
--- The first word tells of more than 512 segments.
+-- The first word gives more than 512 segments.
 pub record TellsTooMany (words : List ℕ) : Type 0 where
   pub first : ℕ
   pub rest : List ℕ

@@ -18,7 +18,8 @@ IsDeepAt m depth s w level = (k t b q tag : ℕ) × Finds m s w k t b q × (IsCo
 abbrev pub AreShallow : List (List ℕ) → ℕ → List (List Step) → Type 0
 AreShallow m depth paths = (p : List Step) (level s w : ℕ) → IsOneOf p paths → Reaches m p level s w → ¬ IsDeepAt m depth s w level
 
--- The first reason that applies at a pointer word, where so many words were charged before: it is wrong, else past the depth limit, else past the word limit.
+-- The first reason that applies at a pointer word, when `before` words were charged before it.
+-- First it is wrong, then past the depth limit, then past the word limit.
 pub data IsFirstReason (m : List (List ℕ)) (words depth before s w level : ℕ) (v : Reason) : Type 0 where
   is_wrong : Wrong m s w v → IsFirstReason m words depth before s w level v
   is_deep : v ≡ DepthLimit → IsDeepAt m depth s w level → IsFirstReason m words depth before s w level v

@@ -1,4 +1,5 @@
--- What a pointer word leads to (standard: Inter-Segment Pointers), and the first reason why it leads nowhere (profile).
+-- What a pointer word leads to (standard: Inter-Segment Pointers), and the first reason why it
+-- can't be followed (profile).
 use Rattle.std.specs.Prelude.{ℕ, ◌+◌, ◌*◌, ◌<◌, ◌≤◌, ◌≡◌, ◌≢◌, ◌⊎◌, List, length, ℤ, pos, ◌+ℤ◌, ◌<ℤ◌, if◌then◌else◌, ◌==◌}
 use Rattle.cap_spec.specs.Words.{signed_offset_of}
 use Rattle.cap_spec.specs.Messages.{HasWord, segment_of}
@@ -6,13 +7,13 @@ use Rattle.cap_spec.specs.Pointers.{kind, middle, code, two, pad, far_segment, c
 use Rattle.cap_spec.specs.declared.Reason.{Reason}
 use Rattle.cap_spec.specs.declared.Reason.TheVariants.{NoRoot, Reserved, SegmentMissing, PadOutside, PadIsFar, PadNotFar, TagKind, TagOffset, OutOfSegment, CompositeTag, CompositeOverrun, DepthLimit, WordLimit}
 
--- null, a capability, or an object: its segment, its start, and the word that tells its shape
+-- null, a capability, or an object: its segment, its start, and the word that gives its shape
 pub data Lead : Type 0 where
   to_null : Lead
   to_cap : ℕ → Lead
   to_object : ℕ → ℤ → ℕ → Lead
 
--- what the word q, standing at t:w, says by itself
+-- what the word q, at t:w, says by itself
 abbrev pub Says : ℕ → ℕ → ℕ → Lead → Type 0
 Says t w q to_null = q ≡ 0
 Says t w q (to_cap index) = IsCap q × (index ≡ cap_index q)
@@ -42,7 +43,7 @@ pub data Leads (m : List (List ℕ)) (s w k : ℕ) (r : Lead) : Type 0 where
 abbrev pub IsComposite : ℕ → Type 0
 IsComposite q = (kind q ≡ 1) × (code q ≡ 7)
 
--- the elements that a tag tells fit into the size
+-- the elements that a tag gives fit into the size
 abbrev pub TagFits : ℕ → ℕ → Type 0
 TagFits tag size = (kind tag ≡ 0) × (middle tag * (data_size tag + pointer_size tag) ≤ size)
 

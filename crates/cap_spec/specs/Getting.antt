@@ -1,4 +1,5 @@
--- Following the pointers on a path, the same word counted anew, up to the first fault (profile; standard: Security Considerations).
+-- Following the pointers on a path up to the first fault, where a word counts each time (profile;
+-- standard: Security Considerations).
 use Rattle.std.specs.Prelude.{ℕ, ◌+◌, ◌<◌, ◌≤◌, ◌≡◌, ◌⊎◌, List, [], ◌∷◌, ◌++◌, length}
 use Rattle.cap_spec.specs.Faults.{AreShallow, HasNoRoot, IsFirstReason}
 use Rattle.cap_spec.specs.Paths.{IsOneOf, Reaches, Rises}

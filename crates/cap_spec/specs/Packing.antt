@@ -1,4 +1,4 @@
--- The one packed spelling that is written (profile).
+-- The one packed encoding that is written (profile).
 use Rattle.std.specs.Prelude.{ℕ, zero, suc, ◌+◌, ◌-◌, ◌*◌, ◌==◌, min, not, nat_le, if◌then◌else◌, List, [], ◌∷◌, ◌++◌, length, take, drop, take_while, filter}
 use Rattle.cap_spec.specs.Plain.{word_bytes, plain_text}
 
@@ -35,7 +35,7 @@ group_text w n more =
     if w == 0 then 0 ∷ n ∷ [] else
     (if zero_bytes w == 0 then (255 ∷ (word_bytes w ++ n ∷ plain_text more)) else (tag_of (word_bytes w) ∷ filter (λ b. not (b == 0)) (word_bytes w)))
 
--- the text of at most so many groups
+-- the text of at most as many groups as the number
 abbrev pub pack_in : ℕ → List ℕ → List ℕ
 pack_in zero ws = []
 pack_in (suc n) [] = []

@@ -6,7 +6,7 @@ use Rattle.cap_spec.specs.Words.{field}
 abbrev pub kind : ℕ → ℕ
 kind p = field p 0 2
 
--- bits 2 to 31 as they stand
+-- bits 2 to 31, without a sign
 abbrev pub middle : ℕ → ℕ
 middle p = field p 2 30
 

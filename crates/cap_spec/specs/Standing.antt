@@ -1,4 +1,4 @@
--- Which tree stands at a spot of a message (profile).
+-- Which tree is at a spot of a message (profile).
 use Rattle.std.specs.Prelude.{ℕ, ◌+◌, ◌≡◌, List}
 use Rattle.cap_spec.specs.Tree.{Tree, struct}
 use Rattle.cap_spec.specs.Denoting.{Denotes, DenoteEach, places, words_from}

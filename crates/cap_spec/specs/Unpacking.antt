@@ -5,18 +5,18 @@ use Rattle.std.specs.List.{flat_map, AllByRecursion}
 use Rattle.cap_spec.specs.Words.{IsWord}
 use Rattle.cap_spec.specs.Plain.{word_bytes, plain_text, plain_words}
 
--- how many of so many bits are set
+-- how many of the lowest n bits are set
 abbrev pub marks : ℕ → ℕ → ℕ
 marks zero tag = 0
 marks (suc n) tag = tag % 2 + marks n (tag / 2)
 
--- the number of so many bytes, of which byte i is the next one present where bit i of the tag is set, else zero
+-- the number of n bytes; byte i is the next one present if bit i of the tag is set, else zero
 abbrev pub spread : ℕ → ℕ → List ℕ → ℕ
 spread zero tag present = 0
 spread (suc n) tag [] = 0
 spread (suc n) tag (b ∷ present) = if tag % 2 == 0 then 256 * spread n (tag / 2) (b ∷ present) else (b + 256 * spread n (tag / 2) present)
 
--- The bytes are one group, which stands for these words.
+-- The bytes are one group, which encodes these words.
 pub data IsGroup (bytes words : List ℕ) : Type 0 where
   -- a run of zero words
   zeros : (n : ℕ) → n < 256 → bytes ≡ 0 ∷ n ∷ [] → words ≡ replicate (1 + n) 0 → IsGroup bytes words
@@ -37,14 +37,15 @@ text_of groups = flat_map (λ g. g.0) groups
 abbrev pub words_of : Groups → List ℕ
 words_of groups = flat_map (λ g. g.1) groups
 
--- The bytes are groups one after the other, which stand for these words.
+-- The bytes are groups one after the other, which encode these words.
 pub record Unpacks (bytes words : List ℕ) : Type 0 where
   pub groups : Groups
   pub each : AllByRecursion (λ g. IsGroup g.0 g.1) groups
   pub text : bytes ≡ text_of groups
   pub spelled : words ≡ words_of groups
 
--- what is given of the beginning of a group: of one with the tag ff, behind a whole head, the whole words
+-- what is given of the beginning of a group: of one with the tag ff, after a whole head, the whole
+-- words
 abbrev pub given_of : List ℕ → List ℕ
 given_of [] = []
 given_of (tag ∷ bytes) = if tag == 255 then (if nat_lt (length bytes) 9 then [] else plain_words (take 8 bytes ++ drop 9 bytes)) else []
@@ -64,7 +65,7 @@ pub record Cut (bytes words : List ℕ) : Type 0 where
   pub text : bytes ≡ whole ++ part
   pub given : words ≡ before ++ given_of part
 
--- How long the group in front is, going by its head as far as it is there.
+-- How long the group at the start of the bytes is, by its head as far as it is there.
 abbrev pub group_length : List ℕ → ℕ
 group_length [] = 0
 group_length (tag ∷ bytes) = if tag == 0 then 2 else (if tag == 255 then (10 + 8 * slice_index bytes 8) else (1 + marks 8 tag))
@@ -76,7 +77,8 @@ group_words (tag ∷ bytes) =
     if tag == 0 then replicate (1 + slice_index bytes 0) 0 else
     (if tag == 255 then plain_words (take 8 bytes ++ take (8 * slice_index bytes 8) (drop 9 bytes)) else (spread 8 tag bytes ∷ []))
 
--- the words that bytes give, and whether they end inside a group, in at most so many groups
+-- the words that bytes give, and whether they end inside a group, in at most as many groups as the
+-- number
 abbrev pub given_in : ℕ → List ℕ → List ℕ
 given_in zero bytes = []
 given_in (suc n) bytes = if nat_lt (length bytes) (group_length bytes) then given_of bytes else (group_words bytes

@@ -41,7 +41,8 @@ pub record PastLimit (m : List (List ℕ)) (limit s w : ℕ) : Type 0 where
 abbrev pub IsReachedWrong : List (List ℕ) → ℕ → ℕ → Reason → Type 0
 IsReachedWrong m s w v = (path : List Step) × (level : ℕ) × Reaches m path level s w × Wrong m s w v
 
--- how many levels what stands in an object takes below it, before its pointers: those of the elements of a struct list
+-- how many levels an object takes below it, before its pointers: those of the elements of a struct
+-- list
 abbrev pub levels_below : ℕ → ℕ → ℕ
 levels_below q tag = if kind q == 0 then 0 else (if code q == 7 then element_levels (middle tag) else 0)
 
