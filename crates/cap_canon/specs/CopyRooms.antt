@@ -1,4 +1,5 @@
--- What is told of a canonical copy that goes into room as bytes, and what the room holds then (standard: Canonicalization, 64-bit Words).
+-- The result for a canonical copy that is written into a buffer as bytes, and what the buffer holds
+-- then (standard: Canonicalization, 64-bit Words).
 use Rattle.std.specs.Prelude.{ℕ, ◌<◌, ◌≡◌, ◌≤◌, ◌++◌, List, Result, Ok, Err, length, drop}
 use Rattle.cap_spec.specs.Copies.{HasCopy}
 use Rattle.cap_spec.specs.Paths.{IsFirstCap}
@@ -6,13 +7,13 @@ use Rattle.cap_spec.specs.Plain.{plain_text}
 use Rattle.cap_canon.specs.declared.fault.RoomFault.{RoomFault}
 use Rattle.cap_canon.specs.declared.fault.RoomFault.TheVariants.{HasCapability, NoRoom}
 
--- Of a message, for room that held these bytes. The order of the answers is the profile's.
+-- Of a message, for a buffer that held these bytes. The order of the results is the profile's.
 pub data TellsRoom (m : List (List ℕ)) (old : List ℕ) (told : Result ℕ RoomFault) (new : List ℕ) : Type 0 where
   -- it has no copy: a capability is reached, this one first
   has_capability : (s w : ℕ) → IsFirstCap m s w → told ≡ Err (HasCapability s w) → new ≡ old → TellsRoom m old told new
-  -- it has one, with more bytes than there is room for
+  -- it has one, with more bytes than the buffer
   no_room : (words : List ℕ) → HasCopy m words → length old < length (plain_text words) → told ≡ Err (NoRoom (length (plain_text words)))
       → new ≡ old → TellsRoom m old told new
-  -- it is there, in front of the bytes that it left as they were
+  -- the copy is at the start of the buffer, and the bytes after it are as they were
   written : (words : List ℕ) → HasCopy m words → length (plain_text words) ≤ length old → told ≡ Ok (length (plain_text words))
       → new ≡ plain_text words ++ drop (length (plain_text words)) old → TellsRoom m old told new

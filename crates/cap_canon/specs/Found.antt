@@ -23,7 +23,8 @@ pub record IsStructAt (m : List (List ℕ)) (s w t b ds ps : ℕ) (x : Tree) (d 
   pub below : DenoteEach m (places t (b + ds) ps) children inner deep
   pub levels : deep + 1 ≤ d
 
--- The word at s:w finds a list of n structs of ds data words and ps pointers each, whose tag stands at t:b.
+-- The word at s:w finds a list of n structs of ds data words and ps pointers each, whose tag is at
+-- t:b.
 pub record IsStructsAt (m : List (List ℕ)) (s w t b n ds ps : ℕ) (x : Tree) (d : ℕ) : Type 0 where
   pub k : ℕ
   pub q : ℕ

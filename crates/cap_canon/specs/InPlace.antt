@@ -1,4 +1,4 @@
--- What stands in segment 0 where a copy has it (profile).
+-- What is already in segment 0 at the place that a copy gives it (profile).
 use Rattle.std.specs.Prelude.{ℕ, ◌+◌, ◌<◌, ◌≡◌, List, ⊤}
 use Rattle.std.specs.List.{AllByRecursion}
 use Rattle.cap_canon.specs.CopyFrames.{Place, all_places}

@@ -11,7 +11,8 @@ pub record Due : Type 0 where
   pub slot : ℕ
   pub tree : Tree
 
--- Each pointer word leads to its tree's content, and the contents stand from end on, one after the other, up to the end of the words.
+-- Each pointer word leads to its tree's content. The contents start at end, one after the other, up
+-- to the end of the words.
 abbrev pub Laid : List ℕ → ℕ → List Due → Type 0
 Laid words end [] = end ≡ length words
 Laid words end (x ∷ due) =
@@ -52,18 +53,18 @@ abbrev pub size_due : List Due → ℕ
 size_due [] = 0
 size_due (x ∷ due) = size x.tree + size_due due
 
--- each pointer word stands before the end
+-- each pointer word is before the end
 abbrev pub AreBefore : ℕ → List Due → Type 0
 AreBefore end [] = ⊤
 AreBefore end (x ∷ due) = (x.slot < end) × AreBefore end due
 
--- the data words of elements stand in their places
+-- the data words of elements are in their places
 abbrev pub DataAt : List ℕ → ℕ → ℕ → ℕ → Trees → Type 0
 DataAt words b d p none = b ≤ length words
 DataAt words b d p (more (struct ws ts) es) = StandAt words b ws × DataAt words (b + d + p) d p es
 DataAt words b d p (more t es) = ⊥
 
--- a tree's own words that are no pointers stand from end on
+-- a tree's own words that aren't pointers are there from end on
 abbrev pub OwnAt : List ℕ → ℕ → Tree → Type 0
 OwnAt words end null = ⊤
 OwnAt words end (cap i) = ⊤

@@ -1,4 +1,5 @@
--- What is left of the object that a pointer word finds, when it is trimmed, and where its words stand (profile).
+-- What is left of the object that a pointer word finds, when it is trimmed, and where its words are
+-- (profile).
 use Rattle.std.specs.Prelude.{ℕ, ◌+◌, ◌*◌, ◌<◌, ◌≤◌, ◌≡◌, List, length, ⊤}
 use Rattle.cap_spec.specs.Messages.{HasWord, segment_of}
 use Rattle.cap_spec.specs.Pointers.{kind, middle, code, data_size, pointer_size, list_size, list_words}
@@ -13,7 +14,7 @@ abbrev pub IsStructs : Object → Type 0
 IsStructs (object.Structs t b n ds ps d p) = ⊤
 IsStructs x = ⊥
 
--- The word denotes a tree of at most so many levels, and this is what is left of it.
+-- The word denotes a tree of at most `deep` levels, and this is what is left of it.
 abbrev pub IsLeft : List (List ℕ) → ℕ → ℕ → ℕ → Tree → Type 0
 IsLeft m deep s w u = (t : Tree) × (c d : ℕ) × Denotes m s w t c d × (u ≡ trim t) × (d ≤ deep)
 
@@ -45,7 +46,7 @@ pub record IsStructObject (m : List (List ℕ)) (deep s w : ℕ) (u : Tree) (t b
   pub inside : b + ds + ps ≤ length (segment_of m t)
   pub below : AreLeft m deep t (b + ds) children
 
--- a list of n values of code c at t:b, of so many words
+-- a list of n values of code c at t:b, in `words` words
 pub record IsScalarsObject (m : List (List ℕ)) (s w : ℕ) (u : Tree) (t b c n words : ℕ) : Type 0 where
   pub k : ℕ
   pub q : ℕ
@@ -72,7 +73,8 @@ pub record IsPointersObject (m : List (List ℕ)) (deep s w : ℕ) (u : Tree) (t
   pub inside : b + n ≤ length (segment_of m t)
   pub below : AreLeft m deep t b children
 
--- a list of n structs of ds data words and ps pointers each, whose tag stands at t:b, and of which d and p are left
+-- a list of n structs of ds data words and ps pointers each, whose tag is at t:b, and of which d
+-- and p are left
 pub record IsStructsObject (m : List (List ℕ)) (deep s w : ℕ) (u : Tree) (t b n ds ps d p : ℕ) : Type 0 where
   pub k : ℕ
   pub q : ℕ
@@ -91,7 +93,8 @@ pub record IsStructsObject (m : List (List ℕ)) (deep s w : ℕ) (u : Tree) (t 
   pub inside : b + 1 + n * (ds + ps) ≤ length (segment_of m t)
   pub below : AreElementsLeft m deep t (b + 1) ds ps d p elements
 
--- The pointer word at s:w leads to this object, of a tree of so many levels at most, and u is what is left of it.
+-- The pointer word at s:w leads to this object, of a tree of at most `deep` levels, and u is what
+-- is left of it.
 abbrev pub IsObject : List (List ℕ) → ℕ → ℕ → ℕ → Tree → Object → Type 0
 IsObject m deep s w u object.Null = u ≡ null
 IsObject m deep s w u (object.Cap i) = u ≡ cap i

@@ -2,6 +2,6 @@
 use Rattle.std.specs.Prelude.{ℕ, List, take}
 use Rattle.cap_spec.specs.Plain.{plain_words}
 
--- the first so many words of the bytes
+-- the first `count` words of the bytes
 abbrev pub spelled_words : ℕ → List ℕ → List ℕ
 spelled_words count bytes = take count (plain_words bytes)

@@ -29,14 +29,14 @@ abbrev pub Stacked : List (List ℕ) → ℕ → List Frame → List Due → Typ
 Stacked m depth [] due = due ≡ []
 Stacked m depth (f ∷ frames) due = (own rest : List Due) × (due ≡ own ++ rest) × FrameOwes m depth (length frames + 1) f own × Stacked m depth frames rest
 
--- The frames of a walk whose own words so far end here.
+-- The frames of a walk that has laid the objects' own words up to end.
 pub record IsWalking (m : List (List ℕ)) (depth : ℕ) (frames : List Frame) (end : ℕ) (due : List Due) : Type 0 where
   pub message : IsMessage m
   pub stacked : Stacked m depth (reverse frames) due
   pub before : AreBefore end due
   pub small : end + size_due due ≤ 268435457
 
--- The next word to look at stands at s:w, and becomes the word at slot; then come those of the frames.
+-- The next word to look at is s:w, and becomes the word at slot; then come those of the frames.
 pub record IsNext (m : List (List ℕ)) (depth s w slot : ℕ) (frames : List Frame) (end : ℕ) (tree : Tree) (due : List Due) : Type 0 where
   pub owed : IsOwed m depth (length frames) s w tree
   pub inside : slot < end

@@ -36,8 +36,8 @@ pub fn is_canonical<M: Segments>(v: &Vetted<'_, M>) -> bool
     is_laid(message, report.depth)
 }
 
-// Whether the words of segment 0 are the layout of a message of this depth, trimmed. The frames are
-// made ready anew for each message, so a walk that can't be deep has few of them.
+// Whether the words of segment 0 are the layout of a message of this depth, trimmed. Each message
+// initializes its frames, so a walk that can't be deep has few of them.
 fn is_laid<M: Segments>(message: &M, depth: u32) -> bool
     requires { (t : Tree) × (c : ℕ) × Denotes (M.segments message.now) 0 0 t c depth × (c ≤ 268435456) × (depth ≤ 256) }
     ensures { (t : Tree) (c d : ℕ) → Denotes (M.segments message.now) 0 0 t c d → IsTrue result ↔ (segment_of (M.segments message.now) 0 ≡ layout (trim t)) }
@@ -51,7 +51,7 @@ fn is_laid<M: Segments>(message: &M, depth: u32) -> bool
     is_laid_within::<M, 256>(message, depth)
 }
 
-// The same with room for `N` frames.
+// The same with capacity for `N` frames.
 fn is_laid_within<M: Segments, const N: usize>(message: &M, depth: u32) -> bool
     requires denotes { (t : Tree) × (c : ℕ) × Denotes (M.segments message.now) 0 0 t c depth × (c ≤ 268435456) }
     requires room { (depth ≤ N) × (N ≤ 256) }
@@ -111,8 +111,8 @@ fn stands_at<M: Segments>(message: &M, object: &Object, slot: u32, end: u32) -> 
     }
 }
 
-// Whether the words of a list of values have no bits behind the last value. Where it ends with its last word,
-// none of them has to be fetched.
+// Whether the words of a list of values have no bits set after the last value. If the list ends
+// with its last word, none of them has to be fetched.
 #[inline(always)]
 fn ends_with_values<M: Segments>(message: &M, start: u32, code: u8, count: u32, words: u32) -> bool
     requires exists { 0 < length (M.segments message.now) }

@@ -15,16 +15,18 @@ use cap_frame::Segments;
 use cap_vet::Vetted;
 
 /// How many words the canonical copy of a message has, its root word included (encoding:
-/// Canonicalization): at most one more than its charge. Takes no memory.
+/// Canonicalization): at most one more than its charge. Allocates nothing.
 ///
-/// A message in which a capability is reached has no copy, and the fault names the first of them in
-/// preorder.
+/// # Errors
+///
+/// - [`CanonFault::HasCapability`]: a capability is reached, so there is no copy. The error names
+///   the first in preorder.
 pub fn canonical_len<M: Segments>(v: &Vetted<'_, M>) -> Result<u64, CanonFault>
     ensures ok { IfOk result (λ n. (words : List ℕ) × HasCopy (M.segments (message_of v.now)) words × (n ≡ length words)) }
     ensures few { IfOk result (λ n. n ≤ (report_of v.now).charge + 1) }
     ensures err { IfErr result (λ fault. (s w : ℕ) × (fault ≡ CanonFault.HasCapability s w) × IsFirstCap (M.segments (message_of v.now)) s w) }
 
-    // The other direction: the message tells the answer.
+    // The other direction: the message decides the result.
     ensures copy { (words : List ℕ) → HasCopy (M.segments (message_of v.now)) words → result ≡ Ok (length words) }
     ensures cap { (s w : ℕ) → IsFirstCap (M.segments (message_of v.now)) s w → result ≡ Err (CanonFault.HasCapability s w) }
 {
@@ -35,8 +37,8 @@ pub fn canonical_len<M: Segments>(v: &Vetted<'_, M>) -> Result<u64, CanonFault>
     Ok(u64::from(length_of(v.message(), report.depth)))
 }
 
-// How many words the layout of a message of this depth, trimmed, has. The frames are made ready anew
-// for each message, so a walk that can't be deep has few of them.
+// How many words the layout of a message of this depth, trimmed, has. Each message initializes its
+// frames, so a walk that can't be deep has few of them.
 fn length_of<M: Segments>(message: &M, depth: u32) -> u32
     requires { (t : Tree) × (c : ℕ) × Denotes (M.segments message.now) 0 0 t c depth × (c ≤ 268435456) × (depth ≤ 256) }
     ensures value { (t : Tree) (c d : ℕ) → Denotes (M.segments message.now) 0 0 t c d → result ≡ length (layout (trim t)) }
@@ -50,7 +52,7 @@ fn length_of<M: Segments>(message: &M, depth: u32) -> u32
     length_within::<M, 256>(message, depth)
 }
 
-// The same with room for `N` frames.
+// The same with capacity for `N` frames.
 fn length_within<M: Segments, const N: usize>(message: &M, depth: u32) -> u32
     requires denotes { (t : Tree) × (c : ℕ) × Denotes (M.segments message.now) 0 0 t c depth × (c ≤ 268435456) }
     requires room { (depth ≤ N) × (N ≤ 256) }

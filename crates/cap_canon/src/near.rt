@@ -1,4 +1,4 @@
-//! Objects near by: those behind their pointer word, in its segment.
+//! Objects near by: those after their pointer word, in its segment.
 
 ghost use Rattle.cap_canon.specs.NearWords.{IsPlain};
 ghost use Rattle.cap_ptr.specs.Shapes.{FindsTarget};
@@ -10,9 +10,9 @@ use cap_frame::Segments;
 use cap_ptr::{Shape, Target};
 use cap_words::bits;
 
-/// The object that word `w` of segment `s` leads to, where it lies behind the word, in the same segment
-/// and inside it, and the word alone tells it: a struct, or a list without a tag whose elements have bits
-/// (encoding: Structs, Lists). `None` says nothing.
+/// The object that word `w` of segment `s` leads to, if it lies after the word, in the same segment
+/// and inside it, and the word alone describes it. Such an object is a struct, or a list without a
+/// tag whose elements have bits (encoding: Structs, Lists). After `None` nothing is known.
 #[inline(always)]
 pub(crate) fn near_at<M: Segments>(message: &M, s: u32, w: u32) -> Option<Target>
     requires exists { s < length (M.segments message.now) }

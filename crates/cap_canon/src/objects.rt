@@ -15,8 +15,8 @@ use crate::trimming::{data_left, list_data_left, list_pointers_left, pointers_le
 use cap_frame::Segments;
 use cap_ptr::{Followed, Shape, Target, follow};
 
-/// What is left of an object when it is trimmed, and where it stands: its segment and the word that
-/// it starts at, its sizes as they stand, and those that are left.
+/// What is left of an object when it is trimmed, and where it is: its segment and the word that it
+/// starts at, its sizes in the message, and those that are left.
 #[derive(Clone, Copy)]
 pub(crate) enum Object {
     /// Nothing.
@@ -61,7 +61,7 @@ pub(crate) enum Object {
 }
 
 /// What the pointer word at a place denotes, trimmed. Asks that it denotes a tree.
-// Most words tell it alone, and what they lead to then stays in registers.
+// Most words describe it alone, and what they lead to then stays in registers.
 #[inline(always)]
 pub(crate) fn object_at<M: Segments>(message: &M, s: u32, w: u32) -> Object
     requires { (t : Tree) × (c d : ℕ) × Denotes (M.segments message.now) s w t c d }
@@ -163,7 +163,7 @@ fn struct_left<M: Segments>(
     }
 }
 
-// What is left of a list of so many structs of these sizes, whose tag stands at the start.
+// What is left of a list of `count` structs of these sizes, whose tag is at the start.
 fn structs_left<M: Segments>(
     message: &M,
     segment: u32,

@@ -15,8 +15,8 @@ use crate::frame::Frame;
 use crate::objects::Object;
 use arrayvec::ArrayVec;
 
-/// The pointer words still to be looked at, the next ones last: one frame for each object on the way
-/// down that has some left. A walk to a depth of at most `N` has room for all of them.
+/// The pointer words still to be looked at, the next ones last: one frame for each object on the
+/// way down that has some left. A walk to a depth of at most `N` has capacity for all of them.
 pub(crate) type Stack<const N: usize> = ArrayVec<Frame, N>;
 
 /// Takes the next pointer word: its segment, its word, and the word of the copy that it becomes.
@@ -39,8 +39,8 @@ pub(crate) fn take_next<const N: usize>(stack: &mut Stack<N>) -> (u32, u32, u32)
     }
 }
 
-/// Puts the pointer words of an object, whose own words are laid from `end` on, on the stack, and
-/// answers where those end.
+/// Pushes the pointer words of an object on the stack, and returns where its own words end. They
+/// are laid from `end` on.
 #[inline(always)]
 pub(crate) fn enter<const N: usize>(stack: &mut Stack<N>, object: &Object, end: u32) -> u32
     requires fits { (m : List (List ℕ)) × (depth s w slot d : ℕ) × (tree : Tree) × (due : List Due) × IsNext m depth s w slot stack.old.items end tree due
@@ -142,7 +142,7 @@ fn structs_frame(object: &Object, end: u32) -> Option<Frame>
     }
 }
 
-// Pointer words that stand in one row.
+// Pointer words that are in one row.
 #[inline(always)]
 fn row_frame(segment: u32, at: u32, slot: u32, left: u32) -> Option<Frame>
     ensures places { option_places result ≡ row_places segment at slot left }
