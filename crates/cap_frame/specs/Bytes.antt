@@ -1,8 +1,9 @@
--- The words of segments whose bytes stand one behind the other, as in a framed message behind its table (standard: Serialization Over a Stream).
+-- The words of segments whose bytes follow one another, as in a framed message after its table
+-- (standard: Serialization Over a Stream).
 use Rattle.std.specs.Prelude.{ℕ, ◌+◌, ◌*◌, List, [], ◌∷◌, take, drop}
 use Rattle.cap_spec.specs.Plain.{plain_words}
 
--- bytes cut into segments of so many words each. What stands behind the last of them belongs to none
+-- bytes cut into segments, by how many words each has; bytes after the last segment belong to none
 abbrev pub cut : List ℕ → List ℕ → List (List ℕ)
 cut [] bytes = []
 cut (n ∷ ns) bytes = plain_words (take (8 * n) bytes) ∷ cut ns (drop (8 * n) bytes)

@@ -1,4 +1,4 @@
--- What contracts see of a framed message in front of borrowed bytes (profile).
+-- What contracts see of a framed message at the start of borrowed bytes (profile).
 use Rattle.std.specs.Prelude.{ℕ, ◌+◌, ◌*◌, ◌≡◌, ◌<◌, ◌≤◌, List, [], drop, length, Option, Some, None, Result, Ok, Err}
 use Rattle.cap_spec.specs.Frames.{IsPartial}
 use Rattle.cap_spec.specs.Plain.{plain_words, plain_is_cut}
@@ -21,11 +21,11 @@ framed_segments f = cut (framed_sizes f) (drop (8 * table_words f.count) f.bytes
 abbrev pub frame_bytes : Framed → ℕ
 frame_bytes f = 8 * (table_words f.count + f.words)
 
--- the sizes that room for tables holds
+-- the sizes in the tables
 abbrev pub sizes_held : SegmentTables → List ℕ
 sizes_held tables = tables.sizes.items
 
--- what each answer tells of the bytes
+-- what each result says about the bytes
 abbrev pub TellsFront : ℕ → List ℕ → Result (Option Framed) FrontFault → Type 0
 TellsFront limit bytes (Ok None) = bytes ≡ []
 TellsFront limit bytes (Ok (Some f)) = IsFront limit bytes (framed_segments f) (frame_bytes f)

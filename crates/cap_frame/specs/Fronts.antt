@@ -1,4 +1,5 @@
--- A framed message in front of bytes (standard: Serialization Over a Stream; the limit is the profile's).
+-- A framed message at the start of bytes (standard: Serialization Over a Stream; the limit is the
+-- profile's).
 use Rattle.std.specs.Prelude.{ℕ, ◌+◌, ◌*◌, ◌/◌, ◌%◌, ◌^◌, ◌<◌, ◌≡◌, ◌≤◌, List, [], ◌∷◌, ◌++◌, length, sum, drop, take}
 use Rattle.std.specs.List.{flat_map}
 use Rattle.cap_spec.specs.Frames.{halves, Frames, IsTable, sizes_of}
@@ -13,7 +14,7 @@ pub record IsFront (limit : ℕ) (bytes : List ℕ) (m : List (List ℕ)) (n : �
   pub within : sum (sizes_of m) ≤ limit
   pub long : n ≡ 8 * length own
 
--- The first word tells of so many segments, more than 512.
+-- The first word gives `count` segments, more than 512.
 pub record TellsMany (bytes : List ℕ) (count : ℕ) : Type 0 where
   pub first : ℕ
   pub rest : List ℕ
@@ -21,7 +22,8 @@ pub record TellsMany (bytes : List ℕ) (count : ℕ) : Type 0 where
   pub count_is : count ≡ first % 2 ^ 32 + 1
   pub many : 512 < count
 
--- The bytes begin with a table of at most 512 segments, whose sizes are so many words together, more than the limit.
+-- The bytes begin with a table of at most 512 segments, whose sizes sum to `total` words, more than
+-- the limit.
 pub record TellsLarge (limit : ℕ) (bytes : List ℕ) (total : ℕ) : Type 0 where
   pub table : List ℕ
   pub rest : List ℕ
@@ -31,11 +33,11 @@ pub record TellsLarge (limit : ℕ) (bytes : List ℕ) (total : ℕ) : Type 0 wh
   pub total_is : total ≡ sum sizes
   pub past : limit < total
 
--- how many words the table of so many segments has
+-- how many words the table of `count` segments has
 abbrev pub table_words : ℕ → ℕ
 table_words count = count / 2 + 1
 
--- Of words that end inside a frame: how many bytes there must be for them to tell more.
+-- Of words that end inside a frame: how many bytes there must be to learn more.
 pub data Wants (words : List ℕ) (n : ℕ) : Type 0 where
   -- those of the first word
   a_word : words ≡ [] → n ≡ 8 → Wants words n
@@ -45,6 +47,6 @@ pub data Wants (words : List ℕ) (n : ℕ) : Type 0 where
   -- those of the whole frame
   a_frame : (table sizes rest : List ℕ) → words ≡ table ++ rest → IsTable table sizes → n ≡ 8 * (length table + sum sizes) → Wants words n
 
--- the sizes of so many segments, as the table in front of words tells them
+-- the sizes of `count` segments, from the table at the start of the words
 abbrev pub sizes_told : ℕ → List ℕ → List ℕ
 sizes_told count words = take count (drop 1 (flat_map halves words))

@@ -6,6 +6,6 @@ use Rattle.cap_spec.specs.Frames.{sizes_of}
 abbrev pub numbers_of : List (List ℕ) → List ℕ
 numbers_of m = (length m - 1) ∷ sizes_of m
 
--- number k and the one behind it in one word, 0 where there is none
+-- number k and the one after it in one word, 0 for a number past the last
 abbrev pub pair_at : List ℕ → ℕ → ℕ
 pair_at numbers k = slice_index numbers k + 2 ^ 32 * slice_index numbers (k + 1)

@@ -6,7 +6,8 @@ use Rattle.cap_frame.specs.Taking.{Takes, IsUsable, IsOver, Breaks, Refuses}
 use Rattle.cap_frame.specs.declared.fault.FrameFault.{FrameFault}
 use Rattle.cap_frame.specs.declared.fault.FrameFault.TheVariants.{TooManySegments, TooLarge, Truncated, Device, Memory, Spent}
 
--- P, unless the answer is a fault of the device, of memory, or that the source was spent
+-- P, unless the result is an error of I/O, of memory, or of a source that was closed by an earlier
+-- error
 abbrev pub Answered : {A : Type 0} → Result A FrameFault → Type 0 → Type 0
 Answered (Ok x) P = P
 Answered (Err (TooManySegments n)) P = P
@@ -27,7 +28,7 @@ OnUsable (Err Memory) P = P
 OnUsable (Err Spent) P = ⊤
 
 module _ {X : Type 0} (g : source.Ghosts X) where
-  -- The first word tells of too many segments.
+  -- The first word gives too many segments.
   pub record TakesTooMany (old new : X) (count : ℕ) : Type 0 where
     pub first : ℕ
     pub takes : Takes g old new (first ∷ [])
@@ -58,13 +59,13 @@ module _ {X : Type 0} (g : source.Ghosts X) where
   Faults limit old new Memory = ((sizes : List ℕ) × TakesTable old new sizes × (sum sizes ≤ limit)) × IsUsable g old new
   Faults limit old new Spent = Refuses g old new
 
-  -- Behind the first word, the rest of a table of at most 512 segments was taken, and no more.
+  -- After the first word, the rest of a table of at most 512 segments was taken, and no more.
   pub record TakesTableBehind (first : ℕ) (old new : X) (sizes : List ℕ) : Type 0 where
     pub more : List ℕ
     pub takes : Takes g old new more
     pub is_table : IsTable (first ∷ more) sizes
 
-  -- Behind its first word the source ended inside a message.
+  -- After its first word the source ended inside a message.
   pub record EndsBehind (limit first : ℕ) (old new : X) (byte : ℕ) : Type 0 where
     pub partial : IfSome (g.words old) (λ ws. ((cut : Bool) → IsPartial limit (first ∷ ws) cut) × (drop (length ws) (g.places old) ≡ byte ∷ []))
     pub place : byte ≡ g.place new
@@ -86,12 +87,13 @@ module _ {X : Type 0} (g : source.Ghosts X) where
 module _ {X A : Type 0} (g : source.Ghosts X) where
   -- Known words decide the answer, unless a device, memory or an earlier fault is in the way. `none` answers that there is no message.
   pub record Decides (none : A) (is : List (List ℕ) → Type 0) (limit : ℕ) (old new : X) (result : Result A FrameFault) : Type 0 where
-    -- A front of them frames a message within the limit: that is the answer, and the source has the other words.
+    -- A prefix of them frames a message within the limit: the result is that message, and the
+    -- source has the other words.
     pub whole : (own rest : List ℕ) (m : List (List ℕ)) → g.words old ≡ Some (own ++ rest) → Frames own m → sum (sizes_of m) ≤ limit
         → Answered result (is m × (g.words new ≡ Some rest))
     -- They end before the first one.
     pub no_word : g.words old ≡ Some [] → g.is_cut old ≡ false → Answered result (result ≡ Ok none)
-    -- The first word tells of too many segments.
+    -- The first word gives too many segments.
     pub many : (first : ℕ) (rest : List ℕ) → g.words old ≡ Some (first ∷ rest) → 512 < first % 2 ^ 32 + 1
         → Answered result ((result ≡ Err (TooManySegments (first % 2 ^ 32 + 1))) × (g.words new ≡ Some rest))
     -- The table is whole and past the limit.

@@ -1,7 +1,8 @@
--- Empty vectors with room for the segments of a message (profile).
+-- Empty vectors with capacity for the segments of a message (profile).
 use Rattle.std.specs.Prelude.{⊤, ℕ, ◌≡◌, ◌≤◌, List, [], ◌∷◌}
 
--- vectors without words, each with room for its size. The two functions give a vector's words and how many it has room for
+-- Vectors without words, each with capacity for its size. The two functions give a vector's words
+-- and its capacity in words.
 abbrev pub AreRooms : {V : Type 0} → (V → List ℕ) → (V → ℕ) → List V → List ℕ → Type 0
 AreRooms words room [] [] = ⊤
 AreRooms words room [] (n ∷ ns) = ⊥

@@ -18,7 +18,7 @@ module _ {X : Type 0} (g : source.Ghosts X) where
     pub unread : Consumes (g.unread old) (g.unread new) bytes
     pub counted : min (g.place new) (2 ^ 64 - 1) ≡ min (g.place old + length bytes) (2 ^ 64 - 1)
 
-  -- no fault came: it wasn't spent before, and isn't now
+  -- there was no error: no error has closed it, before or now
   abbrev pub IsUsable : X → X → Type 0
   IsUsable old new = Works (g.spent old) (g.spent new) (g.failures old) (g.failures new)
 

@@ -22,11 +22,11 @@ const PIECE: usize = 131_072;
 // string instruction, which was seen to be slow over pages that the system gives only as they are touched.
 const STEP: usize = 1024;
 
-// How much is made ready behind a run of words that was longer than this and appended as it is, in bytes:
-// the head of a further run, mostly, which is appended next.
+// How many bytes are initialized after a run of literal words that was longer than this. They are
+// mostly the head of a further run, which is appended next.
 const FEW: usize = 64;
 
-/// Where segments of these sizes start, one behind the other.
+/// Where segments of these sizes start, one after the other.
 pub(crate) fn fill_starts(sizes: &[u32], starts: &mut Starts)
     requires few { length sizes.now ≤ 512 }
     requires small { sum sizes.now ≤ 268435456 }
@@ -40,8 +40,8 @@ pub(crate) fn fill_starts(sizes: &[u32], starts: &mut Starts)
     }
 }
 
-/// Sees to it that a buffer has room for so many bytes. Where it hasn't, it is let go before another is
-/// taken, so that what it holds is neither moved nor kept beside the new one.
+/// Makes sure that a buffer has capacity for `need` bytes. If it hasn't, it is freed before another
+/// is allocated, so that its contents are neither moved nor kept beside the new buffer.
 pub(crate) fn make_room(alloc: Global, bytes: &mut Vec<u8>, need: usize) -> Result<(), AllocError>
     ensures ok { OnOk result (need ≤ vec_capacity bytes.new) }
     ensures refused { OnErr result (vec_capacity bytes.old < need) }
@@ -53,7 +53,7 @@ pub(crate) fn make_room(alloc: Global, bytes: &mut Vec<u8>, need: usize) -> Resu
     Ok(())
 }
 
-// Makes a buffer at least so long, within its room.
+// Makes a buffer at least `end` bytes long, within its capacity.
 #[inline(always)]
 fn lengthen(bytes: &mut Vec<u8>, end: usize)
     requires room { end ≤ vec_capacity bytes.old }
@@ -63,7 +63,7 @@ fn lengthen(bytes: &mut Vec<u8>, end: usize)
 {
     'steps: while bytes.len() < end {
         let next = bytes.len() + STEP.min(end - bytes.len());
-        // there is room, so no growth is asked for
+        // the capacity suffices, so nothing is allocated
         bytes.resize(next, 0).unwrap();
     }
 }
@@ -99,7 +99,7 @@ fn read_piece<S: WordSource>(
     }
 }
 
-// How much of a fresh buffer is made ready behind a run of words that was appended as it is.
+// How much of a fresh buffer is initialized after a run of literal words that was appended.
 #[inline(always)]
 fn piece_behind(run: usize) -> usize
     ensures { (result % 8 ≡ 0) × (0 < result) }
@@ -130,9 +130,9 @@ fn append_run<S: WordSource>(source: &mut S, bytes: &mut Vec<u8>, done: usize, n
     source.append(bytes, need - done)
 }
 
-/// Reads so many words into a buffer with room for their bytes. What it holds already is read over in
-/// one piece, and the rest in pieces of no more than `PIECE`, behind each of which the source may append
-/// words as they are.
+/// Reads `words` words into a buffer with capacity for their bytes. The bytes that it has already
+/// are read over in one piece, and the rest in pieces of no more than `PIECE`. After each of these
+/// the source may append literal words.
 pub(crate) fn read_bytes<S: WordSource>(
     source: &mut S,
     words: usize,

@@ -9,11 +9,12 @@ use crate::view::ByteView;
 use arrayvec::ArrayVec;
 use std::alloc::Global;
 
-/// A message whose segments stand one behind the other in one buffer.
+/// A message whose segments follow one another in one buffer.
 // Nothing is derived that looks at its fields: bytes that an earlier message left would show.
 #[derive(Drop)]
 pub struct ByteMessage {
-    // the words of all segments in order; behind them may stand bytes that an earlier message left
+    // the words of all segments in order; after them there may be bytes that an earlier message
+    // left
     pub(crate) bytes: Vec<u8>,
     pub(crate) sizes: Sizes,
     // where each segment starts, in words

@@ -18,8 +18,8 @@ use crate::table::{Sizes, next_table, total};
 use cap_words::WordSource;
 use std::alloc::Global;
 
-// Reads a message: its table, and the words of its segments one behind the other. Its clauses say what
-// each answer tells of the source's words.
+// Reads a message: its table, and the words of its segments one after the other. Its clauses say
+// what each result says about the source's words.
 #[inline(always)]
 fn read_parts<S: WordSource>(
     alloc: Global,
@@ -58,8 +58,8 @@ fn read_parts<S: WordSource>(
     }
 }
 
-// Reads a message into one that is there already. Its clauses say what each answer tells of the source's
-// words.
+// Reads a message into one that is there already. Its clauses say what each result says about the
+// source's words.
 fn read_over<S: WordSource>(
     alloc: Global,
     source: &mut S,
@@ -95,14 +95,18 @@ fn read_over<S: WordSource>(
     answer
 }
 
-/// Reads the next message of a stream into `message`, in the place of what that held. `false` where the
-/// stream ends before the message's first word.
+/// Reads the next message of a stream into `message`, in place of its contents. `false` if the
+/// stream ends before the message's first word (encoding: Serialization Over a Stream).
 ///
-/// The words that are taken, the faults, and where these leave the source are those of
-/// [`read_byte_message`]. After another answer than `true` the message has one segment without words,
-/// as a blank one. Memory is asked for only where the buffer hasn't room for the message's words, eight
-/// bytes each. The buffer is let go first, and where no memory is given it stays empty. So a stream that
-/// is read into one message takes memory only where a message is larger than all before it.
+/// Allocates only if the buffer's capacity is less than the message's words, eight bytes each. The
+/// buffer is freed first, and stays empty if the allocation fails. So a stream that is read into
+/// one message allocates only for a message that is larger than all before it.
+///
+/// # Errors
+///
+/// The errors, the words that are taken, and the state of the source after an error are those of
+/// [`read_byte_message`]. After an error, and after `false`, the message has one segment without
+/// words, as a blank one.
 pub fn read_into<S: WordSource>(
     alloc: Global,
     source: &mut S,
@@ -121,9 +125,9 @@ pub fn read_into<S: WordSource>(
     ensures spent { S.spent source.old ≡ true → result ≡ Err FrameFault.Spent }
     // Whatever the answer is, the place counts the bytes that were read.
     ensures reads { Reads S.WordSource source.old source.new }
-    // Which words were taken before the fault, and what the source says of itself behind it.
+    // Which words were taken before the fault, and the state of the source after it.
     ensures err { IfErr result (Faults S.WordSource (limit_of limit) source.old source.new) }
-    // The table was taken, and no more, and there wasn't room for the words that it tells of.
+    // The table was taken, and no more, and the capacity was less than its words need.
     ensures memory { IsErrOf result FrameFault.Memory → (sizes : List ℕ) × TakesTable S.WordSource source.old source.new sizes
         × (sum sizes ≤ limit_of limit) × (room_in message.old < 8 * sum sizes) }
     ensures blank { (result ≡ Ok true → ⊥) → held_segments message.new ≡ [] ∷ [] }
@@ -133,7 +137,8 @@ pub fn read_into<S: WordSource>(
     read_over(alloc, source, limit, message)
 }
 
-// Reads a message into one of its own. Its clauses say what each answer tells of the source's words.
+// Reads a message into one of its own. Its clauses say what each result says about the source's
+// words.
 fn read_one<S: WordSource>(
     alloc: Global,
     source: &mut S,
@@ -158,26 +163,29 @@ fn read_one<S: WordSource>(
     }
 }
 
-/// Reads the next message of a stream, or `None` where the stream ends before its first word.
+/// Reads the next message of a stream, or `None` if the stream ends before its first word
+/// (encoding: Serialization Over a Stream).
 ///
 /// A message is a table of its segments' sizes and then the words of the segments, in order. The
-/// table's padding may hold anything. The faults, and where the source then stands:
+/// table's padding may hold anything. Allocates once, after the table and before the first word of
+/// a segment: eight bytes for each word of the message.
 ///
-/// - [`FrameFault::TooManySegments`]: the first word tells of more than 512 segments. It was taken,
+/// To read one message after the other, see [`read_into`].
+///
+/// # Errors
+///
+/// - [`FrameFault::TooManySegments`]: the first word gives more than 512 segments. It was taken,
 ///   and no more.
 /// - [`FrameFault::TooLarge`]: the sizes sum to more words than the limit. The table was taken, and
 ///   no more.
 /// - [`FrameFault::Truncated`]: the source ended inside the message, at this byte.
 /// - [`FrameFault::Device`]: the device of the source failed.
-/// - [`FrameFault::Memory`]: a growth was refused. The table was taken, and no more.
-/// - [`FrameFault::Spent`]: an earlier fault had ended the source.
+/// - [`FrameFault::Memory`]: the allocation failed. The table was taken, and no more.
+/// - [`FrameFault::Spent`]: an earlier error had closed the source.
 ///
-/// After an answer, and after too many segments, too many words and want of memory, the source can
-/// be used on. After `Truncated` it answers `Spent` where its input ended inside a word or a packed
-/// group, and `None` where it ended between words. All memory is asked for behind the table and
-/// before the first word of a segment, at once: eight bytes for each word of the message.
-///
-/// To read one message after the other, see [`read_into`].
+/// After a message, and after `TooManySegments`, `TooLarge` and `Memory`, the source can be used
+/// on. After `Truncated` it returns `Spent` if its input ended inside a word or a packed group, and
+/// `None` if it ended between words.
 pub fn read_byte_message<S: WordSource>(
     alloc: Global,
     source: &mut S,

@@ -8,17 +8,17 @@ use cap_words::SourceFault;
 /// Why a source of words gave no message.
 #[derive(Clone, Copy, Debug, PartialEq, Eq, Drop)]
 pub enum FrameFault {
-    /// The first word tells so many segments, more than 512. It was taken from the source, and no
+    /// The first word gives `count` segments, more than 512. It was taken from the source, and no
     /// more.
     TooManySegments { count: u64 },
-    /// The table's sizes sum to so many words, more than the limit. The table was taken from the
+    /// The table's sizes sum to `words` words, more than the limit. The table was taken from the
     /// source, and no more.
     TooLarge { words: u64 },
     /// The source ended inside the message. `byte` is its position then.
     Truncated { byte: u64 },
     /// The device of the source failed in this call.
     Device,
-    /// A growth was refused. The table was taken from the source, and no more.
+    /// An allocation failed. The table was taken from the source, and no more.
     Memory,
     /// An earlier fault has ended the source.
     Spent,
@@ -27,12 +27,12 @@ pub enum FrameFault {
 /// Why bytes begin with no message.
 #[derive(Clone, Copy, Debug, PartialEq, Eq, Drop)]
 pub enum FrontFault {
-    /// The first word tells so many segments, more than 512.
+    /// The first word gives `count` segments, more than 512.
     TooManySegments { count: u64 },
-    /// The table's sizes sum to so many words, more than the limit.
+    /// The table's sizes sum to `words` words, more than the limit.
     TooLarge { words: u64 },
-    /// The bytes end inside the message. For more to be told there must be so many of them: 8, then
-    /// those of the table, then those of the whole frame.
+    /// The bytes end inside the message. To learn more, there must be `wanted` bytes: 8, then those
+    /// of the table, then those of the whole frame.
     Truncated { wanted: u64 },
 }
 

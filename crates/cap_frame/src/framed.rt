@@ -1,4 +1,4 @@
-//! A framed message in front of borrowed bytes.
+//! A framed message at the start of borrowed bytes.
 
 ghost use Rattle.cap_frame.specs.Bytes.{starts_of};
 ghost use Rattle.cap_frame.specs.Fronts.{sizes_told, table_words};
@@ -13,10 +13,11 @@ use crate::table::Sizes;
 use crate::view::{ByteView, words_at};
 use byteorder::{ByteOrder, LittleEndian};
 
-/// The framed message in front of borrowed bytes: its table is read, and its words stay where they are.
+/// The framed message at the start of borrowed bytes: its table is read, and its words are not
+/// copied.
 #[derive(Clone, Copy, Drop)]
 pub struct Framed<'b> {
-    // of the frame; more may stand behind it
+    // of the frame; more may follow it
     pub(crate) bytes: &'b [u8],
     // how many segments there are
     pub(crate) count: u32,
@@ -57,7 +58,7 @@ impl<'b> Framed<'b> {
         8 * (self.count as usize / 2 + 1 + self.words as usize)
     }
 
-    /// The bytes of the segments' words, one segment behind the other, as they stand (encoding: 64-bit
+    /// The bytes of the segments' words, one segment after the other, unchanged (encoding: 64-bit
     /// Words).
     #[inline]
     pub fn contents(&self) -> &'b [u8]
@@ -66,7 +67,7 @@ impl<'b> Framed<'b> {
         words_at(self.bytes, self.count as usize / 2 + 1, self.words as usize)
     }
 
-    // Puts the tables of the message into this room, in the place of what it held.
+    // Puts the tables of the message into `tables`, in place of their contents.
     fn fill(&self, tables: &mut SegmentTables)
         ensures sizes { tables.new.sizes.items ≡ sizes_told self.now.count (plain_words self.now.bytes.now) }
         ensures starts { tables.new.starts.items ≡ starts_of 0 (sizes_told self.now.count (plain_words self.now.bytes.now)) }
@@ -75,7 +76,7 @@ impl<'b> Framed<'b> {
         fill_starts(&tables.sizes, &mut tables.starts);
     }
 
-    /// The message as its segments, whose tables are put into this room.
+    /// The message as its segments, whose tables are put into `tables`.
     #[inline]
     pub fn view(&self, tables: &'b mut SegmentTables) -> ByteView<'b>
         ensures { ⟦<ByteView<'b> as Segments>⟧.segments result ≡ framed_segments self.now }
@@ -85,7 +86,7 @@ impl<'b> Framed<'b> {
         ByteView::over(behind, &tables.starts, &tables.sizes)
     }
 
-    /// The message as its one segment, whose size is put into this room, or `None` where it has more.
+    /// The message as its one segment, whose size is put into `size`, or `None` if it has more.
     #[inline]
     pub fn one_segment(&self, size: &'b mut [u32; 1]) -> Option<ByteView<'b>>
         ensures one { IsSome result ↔ (length (framed_segments self.now) ≡ 1) }
@@ -99,7 +100,7 @@ impl<'b> Framed<'b> {
     }
 }
 
-// The sizes that the table in front of bytes tells of so many segments.
+// The sizes of `count` segments, from the table at the start of bytes.
 fn fill_sizes(bytes: &[u8], count: u32, sizes: &mut Sizes)
     requires few { count ≤ 512 }
     requires inside { 8 * table_words count ≤ length bytes.now }

@@ -1,4 +1,4 @@
-//! Finding a framed message in front of bytes.
+//! Finding a framed message at the start of bytes.
 
 ghost use Rattle.cap_frame.specs.Framed.{TellsFront, frame_bytes, framed_segments};
 ghost use Rattle.cap_frame.specs.Fronts.{IsFront, TellsLarge, TellsMany, Wants, sizes_told, table_words};
@@ -12,7 +12,7 @@ use crate::framed::Framed;
 use crate::limit::SizeLimit;
 use byteorder::{ByteOrder, LittleEndian};
 
-// How many words the table in front says that so many segments have together.
+// How many words `count` segments have together, by the table at the start of bytes.
 fn total_told(bytes: &[u8], count: u32) -> u64
     requires few { count ≤ 512 }
     requires inside { 8 * table_words count ≤ length bytes.now }
@@ -25,7 +25,7 @@ fn total_told(bytes: &[u8], count: u32) -> u64
     words
 }
 
-// Reads the table in front of bytes, and looks whether its message is whole.
+// Reads the table at the start of bytes, and looks whether its message is whole.
 fn read_front(bytes: &[u8], limit: SizeLimit) -> Result<Option<Framed<'_>>, FrontFault>
     ensures { TellsFront (limit_of limit) bytes.now result }
 {
@@ -61,32 +61,35 @@ fn read_front(bytes: &[u8], limit: SizeLimit) -> Result<Option<Framed<'_>>, Fron
     }))
 }
 
-/// The framed message in front of bytes, or `None` where there are no bytes. No memory is taken, and
-/// nothing behind the message is looked at (encoding: Serialization Over a Stream).
+/// The framed message at the start of bytes, or `None` if there are no bytes. Allocates nothing,
+/// and looks at nothing after the message (encoding: Serialization Over a Stream).
 ///
-/// The faults, in the order in which they are looked for:
+/// # Errors
 ///
-/// - [`FrontFault::Truncated`]: there are fewer than 8 bytes;
-/// - [`FrontFault::TooManySegments`]: the first word tells of more than 512 segments;
-/// - [`FrontFault::Truncated`]: the table isn't whole;
-/// - [`FrontFault::TooLarge`]: the sizes sum to more words than the limit;
+/// In the order in which they are looked for:
+///
+/// - [`FrontFault::Truncated`]: there are fewer than 8 bytes.
+/// - [`FrontFault::TooManySegments`]: the first word gives more than 512 segments.
+/// - [`FrontFault::Truncated`]: the table isn't whole.
+/// - [`FrontFault::TooLarge`]: the sizes sum to more words than the limit.
 /// - [`FrontFault::Truncated`]: the contents aren't whole.
 pub fn front_of(bytes: &[u8], limit: SizeLimit) -> Result<Option<Framed<'_>>, FrontFault>
-    // A front of the bytes frames the message, within the limit.
+    // A prefix of the bytes frames the message, within the limit.
     ensures message { IfOk result (λ r. IfSome r (λ f. IsFront (limit_of limit) bytes.now (framed_segments f) (frame_bytes f))) }
     ensures none { result ≡ Ok None → bytes.now ≡ [] }
     ensures too_many { (count : ℕ) → IsErrOf result (FrontFault.TooManySegments count) → TellsMany bytes.now count }
     ensures too_large { (words : ℕ) → IsErrOf result (FrontFault.TooLarge words) → TellsLarge (limit_of limit) bytes.now words }
     ensures truncated { (wanted : ℕ) → IsErrOf result (FrontFault.Truncated wanted) →
         IsPartial (limit_of limit) (plain_words bytes.now) (plain_is_cut bytes.now) × Wants (plain_words bytes.now) wanted }
-    // More bytes are wanted than there are, and never more than a frame within the limit has.
+    // More bytes are needed than there are, and never more than a frame within the limit has.
     ensures more { (wanted : ℕ) → IsErrOf result (FrontFault.Truncated wanted) → (length bytes.now < wanted) × (wanted ≤ 8 * limit_of limit + 2056) }
-    // And the other way round. A front of the bytes frames a message within the limit: that is the answer.
+    // And the other way round. If a prefix of the bytes frames a message within the limit, the
+    // result is that message.
     ensures whole { (m : List (List ℕ)) (n : ℕ) → IsFront (limit_of limit) bytes.now m n →
         IsOkAnd result (λ r. IsSomeAnd r (λ f. (framed_segments f ≡ m) × (frame_bytes f ≡ n))) }
     // There are no bytes.
     ensures empty { bytes.now ≡ [] → result ≡ Ok None }
-    // The first word tells of too many segments.
+    // The first word gives too many segments.
     ensures many { (count : ℕ) → TellsMany bytes.now count → result ≡ Err (FrontFault.TooManySegments count) }
     // The table is whole and past the limit.
     ensures large { (words : ℕ) → TellsLarge (limit_of limit) bytes.now words → result ≡ Err (FrontFault.TooLarge words) }

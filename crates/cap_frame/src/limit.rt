@@ -12,7 +12,7 @@ pub struct SizeLimit {
 impl SizeLimit {
     ghost use Rattle.cap_frame.specs.Limit.{limit_of};
 
-    /// A limit of so many words, or `None` past 268435456.
+    /// A limit of `words` words, or `None` past 268435456.
     pub fn new(words: u64) -> Option<SizeLimit>
         ensures some { IsSome result ↔ (words ≤ 268435456) }
         ensures words { IfSome result (λ limit. limit_of limit ≡ words) }

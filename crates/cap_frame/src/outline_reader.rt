@@ -14,7 +14,8 @@ use crate::table::next_table;
 use crate::words::skip_contents;
 use cap_words::WordSource;
 
-// Reads a message and keeps its outline. Its clauses say what each answer tells of the source's words.
+// Reads a message and keeps its outline. Its clauses say what each result says about the source's
+// words.
 fn read_outlined<S: WordSource>(
     source: &mut S,
     limit: SizeLimit,
@@ -77,7 +78,7 @@ pub fn read_outline<S: WordSource>(
     ensures spent { S.spent source.old ≡ true → result ≡ Err FrameFault.Spent }
     // Whatever the answer is, the place counts the bytes that were read.
     ensures reads { Reads S.WordSource source.old source.new }
-    // Which words were taken before the fault, and what the source says of itself behind it.
+    // Which words were taken before the fault, and the state of the source after it.
     ensures err { IfErr result (Faults S.WordSource (limit_of limit) source.old source.new) }
     ensures no_memory { IsErrOf result FrameFault.Memory → ⊥ }
     ensures emptied { (result ≡ Ok true → ⊥) → (sizes_in outline.new ≡ []) × (root_in outline.new ≡ None) }

@@ -15,7 +15,7 @@ use crate::words::{read_contents, rooms};
 use cap_words::WordSource;
 use std::alloc::Global;
 
-// Reads a message. Its clauses say what each answer tells of the source's words.
+// Reads a message. Its clauses say what each result says about the source's words.
 fn read_framed<S: WordSource>(
     alloc: Global,
     source: &mut S,
@@ -47,24 +47,27 @@ fn read_framed<S: WordSource>(
     Ok(Some(WordMessage::new(segments).unwrap()))
 }
 
-/// Reads the next message of a stream, or `None` where the stream ends before its first word.
+/// Reads the next message of a stream, or `None` if the stream ends before its first word
+/// (encoding: Serialization Over a Stream).
 ///
 /// A message is a table of its segments' sizes and then the words of the segments, in order. The
-/// table's padding may hold anything. The faults, and where the source then stands:
+/// table's padding may hold anything. Everything is allocated after the table and before the first
+/// word of a segment: a vector for each segment, with capacity for its words.
 ///
-/// - [`FrameFault::TooManySegments`]: the first word tells of more than 512 segments. It was taken,
+/// # Errors
+///
+/// - [`FrameFault::TooManySegments`]: the first word gives more than 512 segments. It was taken,
 ///   and no more.
 /// - [`FrameFault::TooLarge`]: the sizes sum to more words than the limit. The table was taken, and
 ///   no more.
 /// - [`FrameFault::Truncated`]: the source ended inside the message, at this byte.
 /// - [`FrameFault::Device`]: the device of the source failed.
-/// - [`FrameFault::Memory`]: a growth was refused. The table was taken, and no more.
-/// - [`FrameFault::Spent`]: an earlier fault had ended the source.
+/// - [`FrameFault::Memory`]: an allocation failed. The table was taken, and no more.
+/// - [`FrameFault::Spent`]: an earlier error had closed the source.
 ///
-/// After an answer, and after too many segments, too many words and want of memory, the source can
-/// be used on. After `Truncated` it answers `Spent` where its input ended inside a word or a packed
-/// group, and `None` where it ended between words. All memory is asked for behind the table and
-/// before the first word of a segment: as much as the message holds, and a vector for each segment.
+/// After a message, and after `TooManySegments`, `TooLarge` and `Memory`, the source can be used
+/// on. After `Truncated` it returns `Spent` if its input ended inside a word or a packed group, and
+/// `None` if it ended between words.
 pub fn read_message<S: WordSource>(
     alloc: Global,
     source: &mut S,

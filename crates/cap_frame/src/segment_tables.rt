@@ -1,11 +1,12 @@
-//! Room for the tables of a message that is borrowed.
+//! Buffers for the tables of a message that is borrowed.
 
 ghost use Rattle.std.specs.Prelude.{◌≡◌, []};
 
 use crate::byte_contents::Starts;
 use crate::table::Sizes;
 
-/// Room for how many words each segment of a message has, and where it starts: 4 KiB, and no memory.
+/// A buffer of 4 KiB for how many words each segment of a message has, and where it starts.
+/// Allocates nothing.
 #[derive(Drop)]
 pub struct SegmentTables {
     pub(crate) sizes: Sizes,
@@ -15,7 +16,7 @@ pub struct SegmentTables {
 impl SegmentTables {
     ghost use Rattle.cap_frame.specs.Framed.{sizes_held};
 
-    /// Room that holds no tables yet.
+    /// A buffer of 4 KiB that holds no tables yet.
     pub fn new() -> SegmentTables
         ensures { sizes_held result ≡ [] }
     {

@@ -1,4 +1,4 @@
-//! The table in front of a message: how many segments it has, and how many words each of them.
+//! The table at the start of a message: how many segments it has, and how many words each of them.
 
 ghost use Rattle.arrayvec.specs.ArrayVec.{array_vec_len};
 ghost use Rattle.cap_frame.specs.ReadingFaults.{Faults, FaultsBehind, TakesTable, TakesTableBehind};
@@ -42,7 +42,7 @@ fn push_halves(sizes: &mut Sizes, count: usize, word: u64)
     }
 }
 
-// Reads the rest of a table, behind its first word, which tells of at most 512 segments.
+// Reads the rest of a table, after its first word, which gives at most 512 segments.
 #[inline(always)]
 fn read_sizes<S: WordSource>(
     source: &mut S,

@@ -9,12 +9,12 @@ ghost use Rattle.std.specs.Prelude.{◌%◌, ◌*◌, ◌+◌, ◌<◌, ◌^◌,
 use crate::segments::Segments;
 use byteorder::{ByteOrder, LittleEndian};
 
-/// A message whose segments are borrowed bytes, one behind the other, each word in eight of them.
+/// A message whose segments are borrowed bytes, one after the other, each word in eight of them.
 ///
-/// It shows nothing of bytes that stand behind its last segment.
+/// It shows nothing of bytes after its last segment.
 #[derive(Clone, Copy, Drop)]
 pub struct ByteView<'b> {
-    // of the contents; more may stand behind them
+    // of the contents; more may follow them
     bytes: &'b [u8],
     // where each segment starts, in words
     starts: &'b [u32],
@@ -46,8 +46,9 @@ impl<'b> ByteView<'b> {
         }
     }
 
-    /// A message of one segment, whose words these bytes spell, without a table. Its size is put into
-    /// this room. `None` where the bytes aren't whole words, or are more than 268435456 of them.
+    /// A message of one segment, whose words these bytes encode, without a table. Its size in words
+    /// is put into `size`. `None` if the bytes aren't whole words, or are more than 268435456 of
+    /// them.
     #[inline]
     pub fn of_words(bytes: &'b [u8], size: &'b mut [u32; 1]) -> Option<ByteView<'b>>
         ensures some { IsSome result ↔ (length bytes.now % 8 ≡ 0) × (length bytes.now ≤ 8 * 268435456) }
@@ -60,8 +61,8 @@ impl<'b> ByteView<'b> {
         Some(ByteView::over(bytes, &[0], size))
     }
 
-    /// The bytes of so many words of segment `s` from word `start` on, as they stand (encoding:
-    /// 64-bit Words).
+    /// The bytes of `words` words of segment `s` from word `start` on, unchanged (encoding: 64-bit
+    /// Words). The caller makes sure that the segment and these words exist.
     #[inline]
     pub fn bytes(&self, s: u32, start: u32, words: u32) -> &'b [u8]
         requires exists { let m = ⟦<ByteView<'b> as Segments>⟧.segments self.now in s < length m }
@@ -73,7 +74,7 @@ impl<'b> ByteView<'b> {
     }
 }
 
-/// The bytes of so many words from word `at` on.
+/// The bytes of `words` words from word `at` on.
 #[inline(always)]
 pub(crate) fn words_at<'b>(bytes: &'b [u8], at: usize, words: usize) -> &'b [u8]
     requires { 8 * (at + words) ≤ length bytes.now }

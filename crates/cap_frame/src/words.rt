@@ -30,7 +30,7 @@ pub(crate) fn next_word<S: WordSource>(source: &mut S) -> Result<u64, SourceFaul
     }
 }
 
-/// Reads as many words as a segment has, into a vector with room for them.
+/// Reads as many words as a segment has, into a vector with capacity for them.
 pub(crate) fn read_words<S: WordSource>(
     source: &mut S,
     size: u32,
@@ -54,7 +54,7 @@ pub(crate) fn read_words<S: WordSource>(
     Ok(())
 }
 
-/// Empty vectors with room for the words of segments of these sizes.
+/// Empty vectors with capacity for the words of segments of these sizes.
 pub(crate) fn rooms(alloc: Global, sizes: &[u32]) -> Result<Vec<Vec<u64>>, AllocError>
     ensures { IfOk result (λ rooms. AreRooms (λ v. v.items) (λ v. vec_capacity v) rooms.items sizes.now) }
 {
@@ -88,11 +88,11 @@ pub(crate) fn read_contents<S: WordSource>(
     Ok(())
 }
 
-// Room for the words that are passed over at once, in bytes.
+// How many bytes of words are skipped at once.
 const AT_ONCE: usize = 512;
 
-// Takes the words at hand, as far as there is room for them, or the next one where there are none, and
-// answers how many.
+// Takes the buffered words, as many as `room` holds, or the next word if none is buffered. Returns
+// how many.
 #[inline(always)]
 fn skip_some<S: WordSource>(source: &mut S, room: &mut [u8]) -> Result<u64, SourceFault>
     requires usable { S.spent source.old ≡ false }
@@ -113,7 +113,7 @@ fn skip_some<S: WordSource>(source: &mut S, room: &mut [u8]) -> Result<u64, Sour
     }
 }
 
-/// Reads so many words, and keeps none.
+/// Reads `many` words, and keeps none.
 pub(crate) fn skip_words<S: WordSource>(source: &mut S, many: u64) -> Result<(), SourceFault>
     requires usable { S.spent source.old ≡ false }
     ensures ok { OnOk result ((own : List ℕ) × Takes S.WordSource source.old source.new own × (length own ≡ many)) }

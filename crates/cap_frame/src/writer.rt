@@ -35,7 +35,7 @@ fn table_word<M: Segments>(message: &M, w: u32) -> u64
     u64::from(low) + u64::from(high) * 0x1_0000_0000
 }
 
-// Puts the table behind its first word.
+// Puts the table after its first word.
 fn put_sizes<K: WordSink, M: Segments>(sink: &mut K, message: &M) -> Result<(), SinkFault>
     requires open { K.closed sink.old ≡ false }
     ensures ok { OnOk result (Puts K.WordSink sink.old sink.new (paired (drop 2 (numbers_of (M.segments message.now))))) }
@@ -97,10 +97,13 @@ fn put_framed<K: WordSink, M: Segments>(sink: &mut K, message: &M) -> Result<(),
 }
 
 /// Puts a framed message: the table of its segments' sizes with zero padding, and then the words of
-/// the segments, in order. It doesn't finish the sink, so that another message may follow.
+/// the segments, in order (encoding: Serialization Over a Stream). It doesn't finish the sink, so
+/// that another message may follow.
 ///
-/// A fault is that of the sink at some word. The sink then answers `Spent` for good, and what its
-/// output took is a beginning of the text.
+/// # Errors
+///
+/// The error of the sink at some word. The sink then returns `Spent` for good, and what its output
+/// took is a beginning of the text.
 pub fn write_message<K: WordSink, M: Segments>(sink: &mut K, message: &M) -> Result<(), SinkFault>
     ensures ok { OnOk result (WasPut K.text sink.old sink.new (frame_text (M.segments message.now))) }
     ensures was_open { OnOk result (K.closed sink.old ≡ false) }
