@@ -1,4 +1,4 @@
--- What bytes at hand give of the words of an unpacker (profile).
+-- Which words of an unpacker buffered bytes give (profile).
 use Rattle.std.specs.Prelude.{ℕ, ◌+◌, ◌%◌, ◌<◌, ◌^◌, ◌≡◌, ◌≤◌, List, ◌∷◌, ◌++◌, length, take, drop}
 use Rattle.cap_spec.specs.Plain.{capped, plain_words}
 use Rattle.cap_pack.specs.Course.{Course, words_of, is_cut_of, places_of}
@@ -12,14 +12,16 @@ pub record Leads (from to : Course) (place now : ℕ) (own : List ℕ) : Type 0 
   pub cut : is_cut_of from ≡ is_cut_of to
   pub places : now ∷ places_of to ≡ drop (length own) (place ∷ places_of from)
 
--- Whatever comes behind them, these bytes give these words, where so many zero words are held and so many words as they are
--- to be read before them; the other two numbers are those behind them.
+-- Whatever follows them, these bytes give these words. Before them `zeros` zero words are still to
+-- be given, and `plain` literal words are still to be read. The other two numbers are those after
+-- them.
 abbrev pub Gives : ℕ → ℕ → ℕ → ℕ → List ℕ → List ℕ → Type 0
 Gives zeros plain zeros_left plain_left bytes own = (place : ℕ) (rest : List ℕ) → place < 2 ^ 64 →
     Leads (ahead Open zeros plain place (bytes ++ rest)) (ahead Open zeros_left plain_left (capped (place + length bytes)) rest)
     place (capped (place + length bytes)) own
 
--- Of these bytes so many at the front were read, and the words that they give were written at the front of this room.
+-- The first done.read of these bytes were read, and the words that they give are at the start of
+-- this buffer.
 pub record Unpacks (zeros plain : ℕ) (bytes room : List ℕ) (done : Unpacked) : Type 0 where
   pub within : done.read ≤ length bytes
   pub fits : done.written ≤ length room

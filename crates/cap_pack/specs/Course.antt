@@ -27,7 +27,7 @@ places_of (ends at) = at ∷ []
 places_of (stops at) = at ∷ []
 places_of (gives word at more) = at ∷ places_of more
 
--- so many zero words first, all given at one position
+-- n zero words first, all given at one position
 abbrev pub zeros_then : ℕ → ℕ → Course → Course
 zeros_then zero at more = more
 zeros_then (suc n) at more = gives 0 at (zeros_then n at more)
@@ -44,11 +44,12 @@ first_word tag bytes = if tag == 0 then 0 else (if tag == 255 then little_number
 unfoldable pub zeros_of : ℕ → List ℕ → ℕ
 zeros_of tag bytes = if tag == 0 then slice_index bytes 0 else 0
 
--- and how many words as they are, each behind its own eight bytes
+-- and how many literal words, each by its own eight bytes
 unfoldable pub plain_of : ℕ → List ℕ → ℕ
 plain_of tag bytes = if tag == 255 then slice_index bytes 8 else 0
 
--- From a position on, so many words as they are and then groups, in fewer steps than this. A head is read whole before its first word is given.
+-- From a position on, literal words and then groups, in fewer steps than the first number. The
+-- second number counts the literal words. A head is read whole before its first word is given.
 unfoldable pub course_in : ℕ → ℕ → ℕ → List ℕ → Course
 course_in zero plain at bytes = ends at
 course_in (suc f) zero at [] = ends at
@@ -61,6 +62,6 @@ course_in (suc f) (suc n) at bytes =
     if nat_lt (length bytes) 8 then stops (capped (at + length bytes)) else
     gives (little_number 8 bytes) (capped (at + 8)) (course_in f n (capped (at + 8)) (drop 8 bytes))
 
--- from a position on, so many words as they are and then groups
+-- from a position on, `plain` literal words and then groups
 unfoldable pub course : ℕ → ℕ → List ℕ → Course
 course plain at bytes = course_in (suc (length bytes)) plain at bytes

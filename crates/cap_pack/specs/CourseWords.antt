@@ -25,7 +25,7 @@ first_is_word tag bytes all =
     chosen_word (tag == 0) 0 (if tag == 255 then little_number 8 bytes else spread 8 tag bytes) (lit< tt)
     (chosen_word (tag == 255) (little_number 8 bytes) (spread 8 tag bytes) (eight_bytes_below bytes all) (spread_below 8 tag bytes all))
 
--- zero words, and words behind them
+-- zero words, and words after them
 pub zeros_are_words : (n at : ℕ) (more : Course) → AllByRecursion IsWord (words_of more) → AllByRecursion IsWord (words_of (zeros_then n at more))
 zeros_are_words zero at more all = all
 zeros_are_words (suc n) at more all = (lit< tt, zeros_are_words n at more all)
@@ -36,7 +36,7 @@ pub given_are_words : (c : Bool) (end word at : ℕ) (more : Course) → IsWord 
 given_are_words true end word at more p all = tt
 given_are_words false end word at more p all = (p, all)
 
--- a course in so many steps
+-- a course in f steps
 pub course_gives_words : (f n at : ℕ) (bytes : List ℕ) → AllByRecursion (λ b. b < 256) bytes → AllByRecursion IsWord (words_of (course_in f n at bytes))
 unfolding course_in
 course_gives_words zero n at bytes all = tt

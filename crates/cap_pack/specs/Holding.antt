@@ -1,4 +1,4 @@
--- The open group of a packer: the words that it stands for so far, and the bytes that spell it (profile).
+-- The open group of a packer: its words so far, and the bytes that encode them (profile).
 use Rattle.std.specs.Prelude.{ℕ, ◌≡◌, ◌⊎◌, ⊤, List, [], ◌∷◌, ◌++◌, length, take, replicate}
 use Rattle.cap_spec.specs.Packing.{zero_bytes, zero_run, full_run, pack_text}
 use Rattle.cap_spec.specs.Plain.{word_bytes, plain_text}
@@ -28,6 +28,6 @@ abbrev pub IsRun : List ℕ → Type 0
 IsRun [] = ⊤
 IsRun (w ∷ ws) = ((w ≡ 0) × (zero_run ws ≡ length ws)) ⊎ ((zero_bytes w ≡ 0) × (full_run ws ≡ length ws))
 
--- whatever comes behind these words, this text spells them but for those that are left
+-- whatever follows these words, this text encodes them but for those that are left
 abbrev pub Spells : List ℕ → List ℕ → List ℕ → Type 0
 Spells all text left = (ws : List ℕ) → pack_text (all ++ ws) ≡ text ++ pack_text (left ++ ws)

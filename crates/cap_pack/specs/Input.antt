@@ -1,4 +1,4 @@
--- What an unpacker stands on (profile).
+-- The input that an unpacker reads from (profile).
 use Rattle.cap_words.specs.declared.ends.ByteIn.{Ghosts}
 use Rattle.cap_pack.specs.declared.unpacker.Unpacker.{Unpacker}
 

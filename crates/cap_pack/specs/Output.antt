@@ -1,4 +1,4 @@
--- What a packer stands on (profile).
+-- The output that a packer writes to (profile).
 use Rattle.cap_pack.specs.declared.packer.Packer.{Packer}
 
 -- `sink.into_inner()`

@@ -14,13 +14,14 @@ has_failed Open = false
 has_failed Ended = false
 has_failed Failed = true
 
--- by its own phase and whether its input is spent
+-- whether an error has closed it, by its own phase and by whether one has closed its input
 abbrev pub source_spent : Phase → Bool → Bool
 source_spent Open input = input
 source_spent Ended input = false
 source_spent Failed input = true
 
--- what it gives, with so many zero words held and so many words as they are to read, of these bytes to come behind this position
+-- what it gives of these bytes to come after this position, with `held` zero words to give and
+-- `plain` literal words to read first
 abbrev pub ahead : Phase → ℕ → ℕ → ℕ → List ℕ → Course
 ahead Open held plain at bytes = zeros_then held at (course plain at bytes)
 ahead Ended held plain at bytes = ends at

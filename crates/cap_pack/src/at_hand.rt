@@ -1,4 +1,4 @@
-//! Unpacking bytes that are at hand, many words at once (encoding: Packing).
+//! Unpacking buffered bytes, many words at once (encoding: Packing).
 
 ghost use Rattle.cap_pack.specs.AtHand.{Unpacks};
 ghost use Rattle.std.specs.List.{AllByRecursion};
@@ -8,14 +8,15 @@ ghost use Rattle.std.specs.Vec.{vec_capacity, vec_len};
 use super::head::{head_len, head_of};
 use cap_words::bytes_of;
 
-// The bytes that are to be at hand for a group: its tag, and as many as a head may have behind that.
+// The bytes that are to be buffered for a group: its tag, and as many as a head may have after
+// that.
 const HEAD: usize = 10;
 
-// The bytes of a few words, which are written at once where there is room: a run of no more of them is
-// no call then.
+// The bytes of a few words, which are written at once if the buffer has space. A run of no more of
+// them is no call then.
 const FEW: usize = 32;
 
-/// How much of the bytes at hand was unpacked, and what is left of the run behind that.
+/// How many of the buffered bytes were unpacked, and what is left of the run after them.
 #[derive(Clone, Copy)]
 pub(crate) struct Unpacked {
     /// how many bytes were read
@@ -28,7 +29,7 @@ pub(crate) struct Unpacked {
     pub(crate) plain: u8,
 }
 
-// Writes zero words, so many or as many as there is room for, and tells how many.
+// Writes `count` zero words, or as many as `out` has space for, and returns how many.
 #[inline(always)]
 fn zero_words(count: u8, out: &mut [u8]) -> u8
     ensures within { result ≤ count }
@@ -44,7 +45,7 @@ fn zero_words(count: u8, out: &mut [u8]) -> u8
     words as u8
 }
 
-// Copies words as they are, so many or as many as there are and as there is room for, and tells how many.
+// Copies `count` literal words, or as many as `from` has and `out` has space for. Returns how many.
 #[inline(always)]
 fn plain_words(count: u8, from: &[u8], out: &mut [u8]) -> u8
     ensures within { result ≤ count }
@@ -61,8 +62,8 @@ fn plain_words(count: u8, from: &[u8], out: &mut [u8]) -> u8
     words as u8
 }
 
-/// Appends words as they are, so many or as many as there are and as there is room for, in no more than
-/// `most` bytes, and tells how many.
+/// Appends `count` literal words, or as many as `from` has and the vector has capacity for, in no
+/// more than `most` bytes. Returns how many.
 pub(crate) fn append_words(count: u8, from: &[u8], out: &mut Vec<u8>, most: usize) -> u8
     ensures within { result ≤ count }
     ensures held { 8 * result ≤ length from.now }
@@ -74,12 +75,12 @@ pub(crate) fn append_words(count: u8, from: &[u8], out: &mut Vec<u8>, most: usiz
 {
     let room = most.min(out.capacity() - out.len());
     let words = (count as usize).min(from.len() / 8).min(room / 8);
-    // there is room, so no growth is asked for
+    // the capacity suffices, so nothing is allocated
     out.extend_from_slice(&from[..8 * words]).unwrap();
     words as u8
 }
 
-// What is left of a run, as far as there are bytes for it and room.
+// What is left of a run, as far as there are bytes for it and `out` has space.
 #[inline(always)]
 fn run(from: &[u8], out: &mut [u8], zeros: u8, plain: u8) -> Unpacked
     ensures { Unpacks zeros plain from.now out.new result }
@@ -123,7 +124,7 @@ fn first(from: &[u8], out: &mut [u8]) -> Unpacked
     }
 }
 
-// A group, as far as there are bytes for its run and room.
+// A group, as far as there are bytes for its run and `out` has space.
 #[inline(always)]
 fn group(from: &[u8], out: &mut [u8]) -> Unpacked
     requires held { 10 ≤ length from.now }
@@ -149,9 +150,9 @@ fn group(from: &[u8], out: &mut [u8]) -> Unpacked
     }
 }
 
-/// Unpacks bytes at hand as far as there is room, behind so many zero words that are still to be given
-/// and so many words as they are that are still to be read. It stops before a group that begins less
-/// than ten bytes before the end of these bytes.
+/// Unpacks buffered bytes as far as `out` has space. Before them it writes `zeros` zero words that
+/// are still to be given, and reads `plain` literal words that are still to be read. It stops
+/// before a group that begins less than ten bytes before the end of these bytes.
 pub(crate) fn unpack(from: &[u8], out: &mut [u8], zeros: u8, plain: u8) -> Unpacked
     ensures { Unpacks zeros plain from.now out.new result }
 {

@@ -9,7 +9,7 @@ ghost use Rattle.std.specs.Prelude.{◌<◌, ◌≡◌, [], ◌++◌, IfOk, IfSo
 use super::head::{Head, head_len, head_of};
 use cap_words::{ByteIn, InFault, SourceFault, fill, word_of};
 
-/// An input of packed bytes. A fault is told, and not remembered.
+/// An input of packed bytes. A fault is returned, and not remembered.
 #[derive(Drop)]
 pub(crate) struct Counted<I: ByteIn> {
     pub(crate) input: I,
@@ -97,7 +97,7 @@ impl<I: ByteIn> Counted<I> {
         }
     }
 
-    /// Fills a buffer with the next bytes as far as there are any, and tells how many came.
+    /// Fills a buffer with the next bytes as far as there are any, and returns how many came.
     #[inline(always)]
     fn fill(&mut self, buf: &mut [u8]) -> Result<usize, InFault>
         requires { 0 < length buf.old }

@@ -1,4 +1,4 @@
-//! The head of a group: its tag, and the bytes behind the tag that tell the group's first word and
+//! The head of a group: its tag, and the bytes after the tag that give the group's first word and
 //! what comes after that one (encoding: Packing).
 
 ghost use Rattle.cap_pack.specs.Course.{first_word, head_rest, plain_of, zeros_of};
@@ -7,14 +7,14 @@ ghost use Rattle.std.specs.Prelude.{◌<◌, ◌≡◌, ◌≤◌};
 use super::lanes::scatter;
 use byteorder::{ByteOrder, LittleEndian};
 
-/// What the head of a group tells.
+/// What the head of a group says.
 #[derive(Clone, Copy)]
 pub(crate) struct Head {
     /// the first word
     pub(crate) word: u64,
     /// how many zero words come after it
     pub(crate) zeros: u8,
-    /// how many words as they are come after it, each behind its own eight bytes
+    /// how many literal words come after it, each by its own eight bytes
     pub(crate) plain: u8,
 }
 
@@ -32,7 +32,7 @@ pub(crate) fn head_len(tag: u8) -> usize
     }
 }
 
-/// What a head tells, by its tag and the bytes behind the tag. Bytes behind the head change nothing.
+/// What a head says, by its tag and the bytes after the tag. Bytes after the head change nothing.
 #[inline(always)]
 pub(crate) fn head_of(tag: u8, room: &[u8; 9]) -> Head
     ensures word { result.word ≡ first_word tag room.now }

@@ -1,4 +1,4 @@
-//! The groups of a piece of words, spelled one behind the other.
+//! The groups of a piece of words, encoded one after the other.
 
 ghost use Rattle.cap_pack.specs.Holding.{IsRun};
 ghost use Rattle.cap_spec.specs.Packing.{pack_text, tag_of};
@@ -12,7 +12,7 @@ use byteorder::{ByteOrder, LittleEndian};
 /// The most words of a piece.
 pub(crate) const PIECE_WORDS: usize = 64;
 
-/// Reads the words of these bytes, as many as there are and a piece has room for. Answers how many.
+/// Reads the words of these bytes, but no more than a piece has. Returns how many.
 pub(crate) fn read_words(bytes: &[u8], words: &mut [u64; PIECE_WORDS]) -> usize
     ensures few { result ≤ 64 }
     ensures some { 8 ≤ length bytes.now → 0 < result }
@@ -24,17 +24,17 @@ pub(crate) fn read_words(bytes: &[u8], words: &mut [u64; PIECE_WORDS]) -> usize
     count
 }
 
-/// How much of a piece was spelled.
+/// How much of a piece was encoded.
 #[derive(Clone, Copy)]
 pub(crate) struct Spelled {
     /// the words of the groups that ended
     pub(crate) words: usize,
-    /// the bytes in the room
+    /// the bytes in the buffer
     pub(crate) bytes: usize,
 }
 
-// Spells a word by its tag and its bytes that aren't zero, behind so many bytes. Answers how many
-// bytes there are then.
+// Encodes a word by its tag and its bytes that aren't zero, after the first `len` bytes. Returns
+// how many bytes there are then.
 #[inline(always)]
 fn spell_marked(text: &mut [u8; ROOM_BYTES], len: usize, tag: u8, word: u64) -> usize
     requires marked { tag ≡ tag_of (word_bytes word) }
@@ -47,8 +47,8 @@ fn spell_marked(text: &mut [u8; ROOM_BYTES], len: usize, tag: u8, word: u64) -> 
     len + 1 + tag.count_ones() as usize
 }
 
-/// Spells the groups of a piece of words behind so many bytes, but for a run at the end, which words
-/// behind the piece may go on with.
+/// Encodes the groups of a piece of words after the first `start` bytes, but for a run at the end,
+/// which words after the piece may go on with.
 pub(crate) fn spell_groups(words: &[u64], text: &mut [u8; ROOM_BYTES], start: usize) -> Spelled
     requires few { length words.now ≤ 64 }
     requires room { start ≤ 2050 }

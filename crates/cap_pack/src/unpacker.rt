@@ -12,10 +12,10 @@ use super::at_hand::{append_words, unpack};
 use super::counted::Counted;
 use cap_words::{ByteIn, SourceFault, WordSource};
 
-/// Reads the words that packed bytes spell (encoding: Packing). Every spelling is taken: a byte that
-/// its tag marks may be zero, and a run may be shorter than it could be. The head of a group is read
-/// whole before the group's first word is given, and each word of a run of words as they are when
-/// it is asked for. Its size is fixed.
+/// Reads the words that packed bytes encode (encoding: Packing). Every encoding is accepted: a byte
+/// that its tag marks may be zero, and a run may be shorter than it could be. The head of a group
+/// is read whole before the group's first word is given. Each literal word of a run is read when it
+/// is asked for. Its size is fixed.
 #[derive(Drop)]
 pub struct Unpacker<I: ByteIn> {
     bytes: Counted<I>,
@@ -65,7 +65,7 @@ impl<I: ByteIn> Unpacker<I> {
         }
     }
 
-    /// Gives the input back as it is: behind the bytes of the last word that was given, or of its
+    /// Gives the input back as it is: after the bytes of the last word that was given, or of its
     /// group's head.
     pub fn into_inner(self) -> I
         ensures { result ≡ input_of self }
@@ -173,8 +173,8 @@ impl<I: ByteIn> WordSource for Unpacker<I> {
         count
     }
 
-    // Zero words of a run that are still to be given are no bytes: they don't keep anyone from being
-    // told what was written so far.
+    // Zero words of a run that are still to be given are no bytes: they don't delay a flush of what
+    // was written so far.
     fn is_at_hand(&self) -> bool {
         match self.phase {
             Phase::Open => !self.bytes.input.held().is_empty(),

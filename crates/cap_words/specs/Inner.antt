@@ -1,4 +1,4 @@
--- What the ends, sources and sinks that stand on another end stand on (profile).
+-- The ends that other ends, sources and sinks read from or write to (profile).
 use Rattle.cap_words.specs.declared.from_read.FromRead.{FromRead}
 use Rattle.cap_words.specs.declared.from_write.FromWrite.{FromWrite}
 use Rattle.cap_words.specs.declared.plain_sink.PlainSink.{PlainSink}

@@ -13,6 +13,7 @@ pub record ReadsBytes (unread rest : Option (List ℕ)) (place now : ℕ) : Type
   pub lost : Consumes unread rest bytes
   pub counted : min now (2 ^ 64 - 1) ≡ min (place + length bytes) (2 ^ 64 - 1)
 
--- There are fewer words than so many, and the input ends behind them, inside a word or not, at this place.
+-- There are fewer than `count` words, and the input ends after them, inside a word or not, at this
+-- place.
 abbrev pub EndsWithin : ℕ → Option (List ℕ) → Bool → Bool → List ℕ → ℕ → Type 0
 EndsWithin count words cut inside places at = IfSome words (λ ws. (length ws < count) × (cut ≡ inside) × (drop (length ws) places ≡ at ∷ []))

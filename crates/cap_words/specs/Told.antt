@@ -6,7 +6,7 @@ abbrev pub are_bytes : List ℕ → Bool
 are_bytes [] = true
 are_bytes (b ∷ bytes) = nat_lt b 256 && are_bytes bytes
 
--- what a reader tells of the bytes to come, where they are bytes: it can give no other numbers
+-- the numbers that a reader says are to come, if they are bytes: it can give no other numbers
 abbrev pub told_bytes : Option (List ℕ) → Option (List ℕ)
 told_bytes None = None
 told_bytes (Some bytes) = if are_bytes bytes then Some bytes else None

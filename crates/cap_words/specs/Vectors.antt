@@ -7,11 +7,11 @@ use Rattle.cap_words.specs.declared.vec_out.VecOut.{VecOut}
 abbrev pub vec_written : VecOut → Option (List ℕ)
 vec_written output = Some output.bytes.items
 
--- each growth that was refused
+-- each allocation that failed
 abbrev pub vec_failures : VecOut → Failures
 vec_failures output = record { device = 0; memory = output.refused }
 
--- its count of refused growths can't go up any more
+-- its count of failed allocations can't go up any more
 abbrev pub vec_spent : VecOut → Bool
 vec_spent output = output.refused == 2 ^ 64 - 1
 

@@ -17,7 +17,7 @@ pub struct FromWrite<W: Write> {
 }
 
 impl<W: Write> FromWrite<W> {
-    /// An output that goes on behind what `writer` holds.
+    /// An output that appends to what `writer` holds.
     pub fn new(writer: W) -> FromWrite<W>
         ensures writer { writer_of result ≡ writer }
         ensures written { ⟦<FromWrite<W> as ByteOut>⟧.written result ≡ W.contents writer }

@@ -1,5 +1,5 @@
 //! Bytes and words: the fields of a word, the ends that bytes come in and go out by, and the
-//! sources and sinks of words that stand on them.
+//! sources and sinks of words that use them.
 #![tactic(auto)]
 
 mod buffered_in;

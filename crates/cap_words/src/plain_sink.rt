@@ -1,4 +1,4 @@
-//! Words to the plain spelling, eight bytes a word.
+//! Words to the plain encoding, eight bytes a word.
 
 ghost use Rattle.cap_spec.specs.Plain.{plain_text};
 ghost use Rattle.cap_words.specs.Inner.{output_of};
@@ -21,7 +21,7 @@ pub struct PlainSink<O: ByteOut> {
 }
 
 impl<O: ByteOut> PlainSink<O> {
-    /// A sink that writes to `output`, behind what it took before.
+    /// A sink that writes to `output`, after what it took before.
     pub fn new(output: O) -> PlainSink<O>
         ensures output { output_of result ≡ output }
         ensures taken { ⟦<PlainSink<O> as WordSink>⟧.taken result ≡ O.written output }
@@ -72,7 +72,8 @@ impl<O: ByteOut> WordSink for PlainSink<O> {
         }
     }
 
-    // All words at once: an output that has no room for them hands them on without a copy.
+    // All words at once: an output whose buffer has no space for them passes them on without a
+    // copy.
     fn put_bytes(&mut self, bytes: &[u8]) -> Result<(), SinkFault> {
         let whole = bytes.len() / 8 * 8;
         if self.closed {

@@ -1,4 +1,4 @@
-//! Words from the plain spelling, eight bytes a word.
+//! Words from the plain encoding, eight bytes a word.
 
 ghost use Rattle.cap_spec.specs.Plain.{plain_ends, plain_is_cut, plain_words};
 ghost use Rattle.cap_words.specs.Laws.{known_are_words};
@@ -94,7 +94,8 @@ impl<I: ByteIn> WordSource for PlainWords<I> {
         }
         let mut bytes = [0; 8];
         let filled = fill(&mut self.input, &mut bytes);
-        // Nearly every call gives a whole word, so that is told first, and counted as what it is.
+        // Nearly every call gives a whole word, so this case is tested first, with a constant
+        // count.
         if filled.len == 8 {
             self.read = read.saturating_add(8);
             return Ok(Some(word_of(&bytes)));
@@ -134,7 +135,7 @@ impl<I: ByteIn> WordSource for PlainWords<I> {
         count
     }
 
-    // The words are filled in by one read, where the input gives so many bytes at once.
+    // The words are filled in by one read, if the input gives that many bytes at once.
     fn fill(&mut self, out: &mut [u8]) -> Result<bool, SourceFault> {
         let whole = out.len() / 8 * 8;
         if whole == 0 {
@@ -183,8 +184,9 @@ impl<I: ByteIn> WordSource for PlainWords<I> {
     ghost are_words = { λ s. known_are_words s.phase (I.to_come s.input) (I.are_bytes s.input) };
 }
 
-// Copies as many whole words as there are and as there is room for, and tells how many bytes that are.
-// That they are bytes is known here, of a parameter, and not of a slice that a call gave back.
+// Copies as many whole words as there are and as `to` has space for. Returns how many bytes these
+// are. The prover knows that they are bytes here, of a parameter, and not of a slice that a call
+// returned.
 #[inline(always)]
 fn copy_words(from: &[u8], to: &mut [u8]) -> usize
     ensures within { result ≤ length from.now }

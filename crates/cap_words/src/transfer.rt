@@ -28,7 +28,8 @@ pub fn fill<I: ByteIn>(input: &mut I, buf: &mut [u8]) -> Filled
     ensures device { result.fault ≡ Some InFault.Device → Fails (I.spent input.old) (I.failures input.old) (I.failures input.new) × (I.spent input.new ≡ true) }
     ensures was_spent { result.fault ≡ Some InFault.Spent → (I.spent input.old ≡ true) × (result.len ≡ 0) × (input.new ≡ input.old) }
 {
-    // Nearly always the first read fills the buffer, so the loop for the others stands apart.
+    // Nearly always the first read fills the buffer, so the loop for the others is a function of
+    // its own.
     match input.read(buf) {
         Ok(count) if 0 < count && count < buf.len() => {
             let rest = fill_rest(input, &mut buf[count..]);

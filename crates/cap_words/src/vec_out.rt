@@ -9,8 +9,8 @@ ghost use Rattle.std.specs.Prelude.{◌-◌, ◌<◌, ◌==◌, ◌^◌, ◌≡�
 use super::ends::{ByteOut, OutFault};
 use std::alloc::Global;
 
-/// Appends to a vector: all that it is given, or nothing where the vector can't grow. A later
-/// call may succeed then. It is spent once 2^64 - 1 growths were refused.
+/// Appends to a vector: all bytes of a call, or nothing if the vector can't grow. A later call may
+/// succeed then. It is closed after 2^64 - 1 failed allocations.
 #[derive(Drop)]
 pub struct VecOut {
     bytes: Vec<u8>,

@@ -3,7 +3,8 @@
 ghost use Rattle.cap_pack.specs.Places.{spread_row};
 ghost use Rattle.std.specs.Prelude.{◌≡◌};
 
-// Row `t`: for each bit of the tag `t` the place of its byte behind the tag, or 128 where the bit is clear.
+// Row `t`: for each bit of the tag `t` the place of its byte after the tag, or 128 if the bit is
+// clear.
 static SPREAD: [[u8; 8]; 256] = [
     [128, 128, 128, 128, 128, 128, 128, 128],
     [0, 128, 128, 128, 128, 128, 128, 128],
@@ -263,7 +264,7 @@ static SPREAD: [[u8; 8]; 256] = [
     [0, 1, 2, 3, 4, 5, 6, 7],
 ];
 
-/// Of each byte of a word, its place among those behind the tag, or 128 where it is zero.
+/// Of each byte of a word, its place among those after the tag, or 128 if it is zero.
 #[inline(always)]
 pub(crate) fn spread_places(tag: u8) -> [u8; 8]
     ensures { result ≡ spread_row tag }

@@ -1,4 +1,4 @@
-//! Which bytes of a word stand in its group, for each tag (encoding: Packing).
+//! Which bytes of a word are in its group, for each tag (encoding: Packing).
 
 ghost use Rattle.cap_pack.specs.Places.{squeeze_row};
 ghost use Rattle.std.specs.Prelude.{◌≡◌};
