@@ -54,13 +54,15 @@ fn read_outlined<S: WordSource>(
     }
 }
 
-/// Reads the next message of a stream and keeps its outline. `false` where the stream ends before
-/// the message's first word.
+/// Reads the next message of a stream and keeps its outline. `false` if the stream ends before the
+/// message's first word (encoding: Serialization Over a Stream). Takes every word of the message,
+/// as [`read_message`](crate::read_message) does. Allocates nothing.
 ///
-/// Every word of the message is taken, as [`read_message`](crate::read_message) takes it. The faults
-/// are the same and leave the source where that would leave it, but [`FrameFault::Memory`] isn't
-/// among them, since no memory is taken. After another answer than `true` the outline is as a new
-/// one.
+/// # Errors
+///
+/// The errors, and the state of the source after an error, are those of
+/// [`read_message`](crate::read_message), but for [`FrameFault::Memory`], which never comes. After
+/// an error, and after `false`, the outline is as a new one.
 pub fn read_outline<S: WordSource>(
     source: &mut S,
     limit: SizeLimit,
