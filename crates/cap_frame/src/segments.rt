@@ -12,12 +12,13 @@ pub trait Segments {
     fn count(&self) -> u32
         ensures { result ≡ length (segments self.now) };
 
-    /// How many words segment `s` has.
+    /// How many words segment `s` has, where `s` counts from 0. The caller makes sure that it
+    /// exists.
     fn len(&self, s: u32) -> u32
         requires { s < length (segments self.now) }
         ensures { result ≡ length (segment_of (segments self.now) s) };
 
-    /// Word `w` of segment `s`.
+    /// Word `w` of segment `s`, both counted from 0. The caller makes sure that the word exists.
     fn word(&self, s: u32, w: u32) -> u64
         requires exists { s < length (segments self.now) }
         requires inside { w < length (segment_of (segments self.now) s) }

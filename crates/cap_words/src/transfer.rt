@@ -75,8 +75,15 @@ fn fill_rest<I: ByteIn>(input: &mut I, buf: &mut [u8]) -> Filled
     Filled { len, fault: None }
 }
 
-/// Writes all the bytes. After a fault the output took a beginning of them. With no bytes the
-/// output isn't called.
+/// Writes all the bytes. With no bytes the output isn't called.
+///
+/// # Errors
+///
+/// After an error the output took a beginning of the bytes, and not all of them.
+///
+/// - [`OutFault::Device`]: the device of the output failed. The output is closed then.
+/// - [`OutFault::Memory`]: an allocation of the output failed.
+/// - [`OutFault::Spent`]: an earlier error had closed the output. It is as it was.
 pub fn write_all<O: ByteOut>(output: &mut O, bytes: &[u8]) -> Result<(), OutFault>
     ensures ok { OnOk result (Appends (O.written output.old) (O.written output.new) bytes.now) }
     ensures err { OnErr result ((n : ℕ) × (n < length bytes.now) × Appends (O.written output.old) (O.written output.new) (take n bytes.now)) }

@@ -7,7 +7,8 @@ ghost use Rattle.std.specs.Prelude.{◌+◌, ◌≡◌, ◌≤◌};
 
 use byteorder::{ByteOrder, LittleEndian};
 
-/// The `count` bits of a word from bit `low` on, as a number.
+/// The `count` bits of a word from bit `low` on, as a number; bit 0 is the lowest. The caller makes
+/// sure that `low` and `count` sum to at most 64.
 pub fn bits(word: u64, low: u32, count: u32) -> u64
     requires { low + count ≤ 64 }
     ensures { result ≡ field word low count }
