@@ -21,7 +21,7 @@ pub(crate) fn cloned<T: Clone>(x: &T) -> Result<T, Fail> {
     Ok(x.clone()?)
 }
 
-/// Some words, others so many times, and the last ones.
+/// Some words, others repeated `times` times, and the last ones.
 pub(crate) fn repeated(
     alloc: Global,
     first: &[u64],
@@ -61,7 +61,7 @@ pub(crate) struct Forms {
 }
 
 impl Forms {
-    /// The message whose segments have these words, each spelled from its first byte on.
+    /// The message whose segments have these words, each encoded from its first byte on.
     pub(crate) fn of(alloc: Global, spelled: &[&[u64]]) -> Result<Forms, Fail> {
         let mut segments = Vec::new(alloc);
         for segment in spelled {
@@ -80,7 +80,7 @@ impl Forms {
         })
     }
 
-    /// The message of one segment over words that are lent, where it has one segment.
+    /// The message of one segment over borrowed words, if it has one segment.
     pub(crate) fn lent(&self) -> Option<OneSegment<'_>> {
         match &self.alone {
             Some(words) => OneSegment::new(words),

@@ -13,7 +13,7 @@ use cap_words::{OutFault, PlainSink, PlainWords, SliceIn, VecOut};
 use std::process::Abort;
 use std::test::Fail;
 
-// A null root, and a struct of one word: the second message needs more room.
+// A null root, and a struct of one word: the second message needs a larger buffer.
 const STREAM: &[u8] =
     b"\0\0\0\0\x01\0\0\0\0\0\0\0\0\0\0\0\0\0\0\0\x02\0\0\0\0\0\0\0\x01\0\0\0\x2a\0\0\0\0\0\0\0";
 
@@ -33,9 +33,9 @@ const BOTH: Outcome = Outcome {
     noncanonical: 0,
 };
 
-// What a run left: the texts of both messages, of which the first has so many bytes; those of the
-// messages before the one at which memory was wanted; or a beginning of the texts, where the output
-// wanted it.
+// A run leaves the texts of both messages, of which the first has `first` bytes. If an allocation
+// for a message failed, it leaves the texts of the messages before that one. If one of the output
+// failed, it leaves a beginning of the texts.
 fn settle(
     rt: &impl Abort,
     answer: Result<Outcome, RunFault>,
@@ -160,7 +160,8 @@ fn the_copy_of_each_message(rt: HostRuntime) -> Result<(), Fail> {
     settle(&rt, answer, &sink.into_inner(), 16, STREAM)
 }
 
-// What a copy of words left: all of its text, or a beginning of it where the output wanted memory.
+// What a copy of words left: all of its text, or a beginning of it if an allocation of the output
+// failed.
 fn settle_words(
     rt: &impl Abort,
     answer: Result<u64, CopyFault>,

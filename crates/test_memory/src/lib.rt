@@ -1,10 +1,9 @@
-//! Tests of what a refused growth leaves: what each call that takes memory answers then, and the state
-//! behind it.
+//! Tests of failed allocations: the result of each call that allocates, and the state after it.
 //!
-//! Each test has constant inputs and allocates nothing itself, so that the growths of the call under test
-//! are its only ones. It ends well where none of them is refused, and with the error `refused` where one
-//! was, the call has answered its want of memory, and the state behind it is as promised. With ample
-//! memory each ends well; `make growths` has each growth refused in turn.
+//! Each test has constant inputs and allocates nothing itself, so that the allocations of the call
+//! under test are its only ones. It ends well if none of them fails. If one fails, the call has to
+//! report it and to leave the state that is promised, and then the test ends with the error
+//! `refused`. With ample memory each ends well; `make growths` makes each allocation fail in turn.
 #![tactic(auto)]
 
 #[cfg(test)]

@@ -36,7 +36,7 @@ fn two_writes(rt: HostRuntime) -> Result<(), Fail> {
     if was_refused { refused() } else { Ok(()) }
 }
 
-// Two words, the lowest byte of each first, and their packed spelling.
+// Two words, the lowest byte of each first, and their packed encoding.
 const WORD: u64 = 0x0002_0003_0000_0008;
 
 const NEXT: &[u8] = b"\x19\0\0\0\xaa\x01\0\0";
@@ -51,14 +51,14 @@ fn put_all<K: WordSink>(sink: &mut K) -> Result<(), SinkFault> {
     sink.finish()
 }
 
-// Nothing more is taken behind a fault, or where the sink is finished.
+// Nothing more is taken after a fault, or after the sink is finished.
 fn expect_closed<K: WordSink>(rt: &impl Abort, sink: &mut K) {
     same(rt, sink.put(WORD), Err(SinkFault::Spent));
     same(rt, sink.put_bytes(NEXT), Err(SinkFault::Spent));
     same(rt, sink.finish(), Err(SinkFault::Spent));
 }
 
-// A sink was put all of a text, or a beginning of it where it wanted memory.
+// A sink was put all of a text, or a beginning of it if an allocation failed.
 fn settle(
     rt: &impl Abort,
     answer: Result<(), SinkFault>,

@@ -3,7 +3,7 @@
 use std::fmt::Debug;
 use std::process::Abort;
 
-// A call's answer, and the one that is wanted: in one function, since the proof of a comparison that
+// A call's result, and the expected one: in one function, since the proof of a comparison that
 // shows both sides is dear.
 pub(crate) fn same<T: PartialEq + Debug + Drop>(rt: &impl Abort, given: T, wanted: T) {
     assert_eq!(rt; given, wanted);
