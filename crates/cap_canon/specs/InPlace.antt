@@ -14,7 +14,7 @@ IsInPlace p = (p.0 ≡ 0) × (p.1 ≡ p.2)
 abbrev pub AreInPlace : List Frame → Type 0
 AreInPlace frames = AllByRecursion IsInPlace (all_places frames)
 
--- and those of an object, whose own words a copy has from end on
+-- and those of an object; a copy has the object's own words from end on
 abbrev pub StandsIn : ℕ → Object → Type 0
 StandsIn end Null = ⊤
 StandsIn end (Cap index) = ⊤

@@ -15,7 +15,7 @@ use crate::target::Target;
 use crate::words::{last_word, tag_word};
 use cap_frame::Segments;
 
-/// Structs in a row, as they stand, and how much of each is left.
+/// Structs in a row, with the sizes that they have, and how much of each is left.
 #[derive(Clone, Copy)]
 struct Elements {
     segment: u32,
@@ -127,7 +127,7 @@ fn append_struct<M: Segments, T: Target>(message: &M, element: &Elements, copy: 
     copy.append_from(message, element.segment, pointers, element.pointers_left);
 }
 
-// Appends what is left of each of so many structs in a row.
+// Appends what is left of each of `count` structs in a row.
 fn append_structs<M: Segments, T: Target>(
     message: &M,
     elements: &Elements,
@@ -158,7 +158,7 @@ fn append_structs<M: Segments, T: Target>(
     }
 }
 
-// Appends the words of values, the last one without the bits behind the last value.
+// Appends the words of values, the last one without the bits after the last value.
 fn append_values<M: Segments, T: Target>(
     message: &M,
     segment: u32,

@@ -24,11 +24,14 @@ use cap_frame::Segments;
 use cap_vet::Vetted;
 use std::alloc::Global;
 
-/// The canonical copy of a message: the words of its one segment (encoding: Canonicalization). Its
-/// length is computed first, one reservation of just that many words is made, and nothing grows afterwards.
+/// The canonical copy of a message: the words of its one segment (encoding: Canonicalization).
+/// Allocates once: its length is computed first, and just that many words are reserved.
 ///
-/// A message in which a capability is reached has no copy, and the fault names the first of them in
-/// preorder. Else the fault is that the reservation was refused.
+/// # Errors
+///
+/// - [`CanonFault::HasCapability`]: a capability is reached, so there is no copy. The error names
+///   the first in preorder.
+/// - [`CanonFault::Memory`]: there is a copy, and the allocation failed.
 pub fn canonical<M: Segments>(alloc: Global, v: &Vetted<'_, M>) -> Result<Vec<u64>, CanonFault>
     ensures ok { IfOk result (λ words. HasCopy (M.segments (message_of v.now)) words.items) }
     ensures few { IfOk result (λ words. length words.items ≤ (report_of v.now).charge + 1) }
@@ -36,7 +39,7 @@ pub fn canonical<M: Segments>(alloc: Global, v: &Vetted<'_, M>) -> Result<Vec<u6
     ensures cap { (s w : ℕ) → IsErrOf result (CanonFault.HasCapability s w) → IsFirstCap (M.segments (message_of v.now)) s w }
     ensures memory { IsErrOf result CanonFault.Memory → (s w : ℕ) → ¬ IsFirstCap (M.segments (message_of v.now)) s w }
 
-    // The other direction, want of memory aside.
+    // The other direction, unless the call is out of memory.
     ensures copy { (words : List ℕ) → HasCopy (M.segments (message_of v.now)) words
         → UnlessMemory result (IsOk result × IfOk result (λ copied. copied.items ≡ words)) }
     ensures first_cap { (s w : ℕ) → IsFirstCap (M.segments (message_of v.now)) s w → result ≡ Err (CanonFault.HasCapability s w) }
@@ -65,8 +68,8 @@ pub fn canonical<M: Segments>(alloc: Global, v: &Vetted<'_, M>) -> Result<Vec<u6
     Ok(words)
 }
 
-/// Appends the layout of a message of this depth, trimmed. The frames are made ready anew for each
-/// message, so a walk that can't be deep has few of them.
+/// Appends the layout of a message of this depth, trimmed. Each message initializes its frames, so
+/// a walk that can't be deep has few of them.
 pub(crate) fn copy_into<M: Segments, T: Target>(message: &M, depth: u32, copy: &mut T)
     requires denotes { (t : Tree) × (c : ℕ) × Denotes (M.segments message.now) 0 0 t c depth × (c ≤ 268435456) × (depth ≤ 256)
         × (length (layout (trim t)) ≤ T.room copy.old) }
@@ -84,7 +87,7 @@ pub(crate) fn copy_into<M: Segments, T: Target>(message: &M, depth: u32, copy: &
     copy_within::<M, T, 256>(message, depth, copy);
 }
 
-// The same with room for `N` frames.
+// The same with capacity for `N` frames.
 fn copy_within<M: Segments, T: Target, const N: usize>(message: &M, depth: u32, copy: &mut T)
     requires denotes { (t : Tree) × (c : ℕ) × Denotes (M.segments message.now) 0 0 t c depth × (c ≤ 268435456) × (length (layout (trim t)) ≤ T.room copy.old) }
     requires room { (depth ≤ N) × (N ≤ 256) }

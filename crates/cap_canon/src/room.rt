@@ -1,4 +1,4 @@
-//! The canonical copy of a message, in room that is lent for it.
+//! The canonical copy of a message, in the caller's buffer.
 
 ghost use Rattle.cap_canon.specs.CopyRooms.{TellsRoom};
 ghost use Rattle.cap_canon.specs.declared.fault.RoomFault.{RoomFault};
@@ -11,22 +11,27 @@ use crate::word_bytes::fill;
 use cap_frame::Segments;
 use cap_vet::Vetted;
 
-/// Writes the canonical copy of a message into the front of `out` as bytes, eight a word, the lowest
-/// byte first, and answers how many these are (encoding: Canonicalization, 64-bit Words). Takes no
-/// memory.
+/// Writes the canonical copy of a message at the start of `out` as bytes, eight a word, the lowest
+/// byte first, and returns how many these are (encoding: Canonicalization, 64-bit Words). The bytes
+/// of `out` after the copy stay as they were. Allocates nothing.
 ///
-/// A message in which a capability is reached has no copy, and the fault names the first of them in
-/// preorder. Else the fault is that `out` is too small, and tells how many bytes the copy has. After
-/// a fault `out` is as it was, and what stands behind the copy is as it was in any case.
+/// # Errors
+///
+/// After an error `out` is as it was.
+///
+/// - [`RoomFault::HasCapability`]: a capability is reached, so there is no copy. The error names
+///   the first in preorder.
+/// - [`RoomFault::NoRoom`]: there is a copy, and `out` is shorter. The error says how many bytes
+///   the copy has.
 pub fn canonical_into<M: Segments>(v: &Vetted<'_, M>, out: &mut [u8]) -> Result<usize, RoomFault>
     ensures tells { TellsRoom (M.segments (message_of v.now)) out.old result out.new }
-    // Nothing else is to be told of the message and the room.
+    // The message and the buffer allow no other result.
     ensures only { (told : Result ℕ RoomFault) (new : List ℕ) → TellsRoom (M.segments (message_of v.now)) out.old told new → (result ≡ told) × (out.new ≡ new) }
 {
     fill_front(v, out)
 }
 
-// The same, as the answer tells it.
+// The same, by the result.
 fn fill_front<M: Segments>(v: &Vetted<'_, M>, out: &mut [u8]) -> Result<usize, RoomFault>
     ensures { TellsRoom (M.segments (message_of v.now)) out.old result out.new }
 {

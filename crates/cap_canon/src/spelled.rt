@@ -15,15 +15,21 @@ use cap_vet::Vetted;
 use std::alloc::Global;
 
 /// The canonical copy of a message as bytes, eight a word, the lowest byte first (encoding:
-/// Canonicalization, 64-bit Words): those of the words of `canonical`, with the same faults. Its
-/// length is computed first, one reservation of just that length is made, and nothing grows afterwards.
+/// Canonicalization, 64-bit Words). They encode the words of `canonical`. Allocates once: the
+/// length is computed first, and just that many bytes are reserved.
+///
+/// # Errors
+///
+/// - [`CanonFault::HasCapability`]: a capability is reached, so there is no copy. The error names
+///   the first in preorder.
+/// - [`CanonFault::Memory`]: there is a copy, and the allocation failed.
 pub fn canonical_bytes<M: Segments>(alloc: Global, v: &Vetted<'_, M>) -> Result<Vec<u8>, CanonFault>
     ensures ok { IfOk result (λ bytes. let copy = plain_words bytes.items in HasCopy (M.segments (message_of v.now)) copy × (bytes.items ≡ plain_text copy)) }
     ensures few { IfOk result (λ bytes. length bytes.items ≤ 8 * ((report_of v.now).charge + 1)) }
     ensures cap { (s w : ℕ) → IsErrOf result (CanonFault.HasCapability s w) → IsFirstCap (M.segments (message_of v.now)) s w }
     ensures memory { IsErrOf result CanonFault.Memory → (s w : ℕ) → ¬ IsFirstCap (M.segments (message_of v.now)) s w }
 
-    // The other direction, want of memory aside.
+    // The other direction, unless the call is out of memory.
     ensures copy { (words : List ℕ) → HasCopy (M.segments (message_of v.now)) words
         → UnlessMemory result (IsOk result × IfOk result (λ bytes. bytes.items ≡ plain_text words)) }
     ensures first_cap { (s w : ℕ) → IsFirstCap (M.segments (message_of v.now)) s w → result ≡ Err (CanonFault.HasCapability s w) }

@@ -9,12 +9,12 @@ ghost use Rattle.std.specs.Vec.{vec_capacity};
 
 use cap_frame::Segments;
 
-/// Words with room for more of them.
+/// Words with capacity for more of them.
 pub(crate) trait Target {
     // The words so far.
     ghost words: { Self → List ℕ };
 
-    // How many words there is room for, with these.
+    // The capacity in words, these words included.
     ghost room: { Self → ℕ };
 
     // The name of the borrow that is written through, where there is one.

@@ -69,7 +69,7 @@ fn push_some<const N: usize>(stack: &mut Stack<N>, frame: Option<Frame>)
     }
 }
 
-// The pointer words of an object whose own words are laid from `end` on.
+// The pointer words of an object. The object's own words are laid from `end` on.
 #[inline(always)]
 fn frame_of(object: &Object, end: u32) -> Option<Frame>
     requires { (m : List (List ℕ)) × (d s w : ℕ) × (tree : Tree) × IsMessage m × IsObject m d s w tree object.now × (end + own_size tree ≤ 268435457) }

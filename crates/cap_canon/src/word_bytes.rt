@@ -38,7 +38,7 @@ fn write_words<M: Segments>(message: &M, depth: u32, out: &mut [u8])
 #[derive(Drop)]
 struct WordBytes<'b> {
     bytes: &'b mut [u8],
-    // how many words stand there
+    // how many words are there
     count: usize,
     ghost inside: { 8 * count ≤ length bytes.now },
 }

@@ -14,8 +14,8 @@ use cap_ptr::Pointer;
 use cap_words::bits;
 
 /// The word that leads from a pointer word to what is left of an object, which starts `offset`
-/// words behind it (encoding: Structs, Lists, Capabilities). Asks that the offset fits its 30 bits,
-/// one of which is the sign.
+/// words after it (encoding: Structs, Lists, Capabilities). The caller makes sure that the offset
+/// fits its 30 bits, one of which is the sign.
 #[inline(always)]
 pub(crate) fn pointer_word(offset: u32, object: &Object) -> u64
     requires near { offset < 2 ^ 29 }
@@ -63,7 +63,7 @@ fn struct_pointer(offset: u32, data_words: u32, pointers: u32) -> u64
     pointer.word()
 }
 
-/// The tag of a list of so many structs (encoding: Lists): a struct pointer with their number in
+/// The tag of a list of `count` structs (encoding: Lists): a struct pointer with their number in
 /// place of its offset.
 pub(crate) fn tag_word(count: u32, data_words: u32, pointers: u32) -> u64
     requires { (count < 2 ^ 30) × (data_words < 2 ^ 16) × (pointers < 2 ^ 16) }
@@ -95,7 +95,7 @@ fn cap_pointer(index: u32) -> u64
     pointer.word()
 }
 
-/// The last word of a list of values that has `words` words, without the bits behind the last value.
+/// The last word of a list of values that has `words` words, without the bits after the last value.
 pub(crate) fn last_word(code: u8, count: u32, words: u32, word: u64) -> u64
     requires code { code < 6 }
     requires words { words ≡ list_words code count }

@@ -10,10 +10,11 @@ use super::lanes::{count_zeros, squeezed, tag_of_word};
 use byteorder::{ByteOrder, LittleEndian};
 use cap_words::bytes_of;
 
-/// Writes the packed text of the words that these bytes begin with, eight bytes a word, the lowest first,
-/// into the front of `out` (encoding: Packing). Tells how many bytes that text has, at most ten for each
-/// word. Where there is less room `out` is as it was, and what stands behind the text is as it was in any
-/// case. Bytes behind the last whole word change nothing.
+/// Writes the packed text of the words that these bytes begin with, at the start of `out`
+/// (encoding: Packing). A word has eight bytes, the lowest first. Returns how many bytes that text
+/// has, at most ten for each word. If `out` is shorter than that, it is as it was. The bytes of
+/// `out` after the text are as they were in any case. Bytes after the last whole word change
+/// nothing. Allocates nothing.
 pub fn pack_into(bytes: &[u8], out: &mut [u8]) -> usize
     ensures len { result ≡ length (pack_text (plain_words bytes.now)) }
     ensures few { 4 * result ≤ 5 * length bytes.now }
@@ -43,7 +44,7 @@ fn packed_len(bytes: &[u8]) -> usize
     len
 }
 
-// Writes the packed text into just its room.
+// Writes the packed text into a buffer of just its length.
 fn write_text(bytes: &[u8], text: &mut [u8])
     requires { length text.old ≡ length (pack_text (plain_words bytes.now)) }
     ensures { text.new ≡ pack_text (plain_words bytes.now) }

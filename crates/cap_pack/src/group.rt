@@ -8,7 +8,7 @@ ghost use Rattle.std.specs.Prelude.{◌≡◌, ◌≤◌, IsErrOf, OnErr, OnOk, 
 use super::spelling::{ROOM_BYTES, spell_plain, spell_zeros};
 use cap_words::{ByteOut, OutFault, write_all};
 
-/// The most words that stand behind the first one of a group.
+/// The most words that follow the first one of a group.
 pub(crate) const MORE_WORDS: usize = 255;
 
 /// A group that further words may join.
@@ -16,13 +16,13 @@ pub(crate) const MORE_WORDS: usize = 255;
 pub(crate) enum Group {
     /// No word is held.
     Empty,
-    /// A zero word and so many more.
+    /// A zero word and `more` further ones.
     Zeros { more: u8 },
-    /// A word without a zero byte, and so many further words with at most one each.
+    /// A word without a zero byte, and `more` further words with at most one each.
     Plain { first: u64, more: u8 },
 }
 
-/// Spells the group at the front of the room. Answers how many bytes that takes.
+/// Encodes the group at the start of the buffer. Returns how many bytes that takes.
 #[inline(always)]
 pub(crate) fn spell_group(
     group: Group,
@@ -39,7 +39,7 @@ pub(crate) fn spell_group(
     }
 }
 
-/// Writes the group, of which `words` holds the words behind the first.
+/// Writes the group, of which `words` holds the words after the first.
 #[inline(always)]
 pub(crate) fn write_group<O: ByteOut>(
     output: &mut O,

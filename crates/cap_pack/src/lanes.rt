@@ -68,8 +68,8 @@ pub(crate) fn count_zeros(word: u64) -> u32
     8 - tag_of_word(word).count_ones()
 }
 
-/// The tag of each word, as it stands before the bytes of a group: bit `i` of `out[k]` is set exactly
-/// where byte `i` of word `k` isn't zero. There has to be room for just as many tags as words.
+/// The tag of each word, as in a packed group: bit `i` of `out[k]` is set exactly if byte `i` of
+/// word `k` isn't zero. The caller makes sure that `out` has as many bytes as there are words.
 #[inline]
 pub fn tags(words: &[u64], out: &mut [u8])
     requires { length out.old ≡ length words.now }
@@ -105,7 +105,7 @@ fn zeros_of_eight(words: &[u64], at: usize) -> usize
     before_first(present)
 }
 
-// How many words of the front are zero, as far as whole eights tell.
+// How many words at the start are zero, counted by whole eights.
 #[inline]
 fn zeros_of_eights(words: &[u64]) -> usize
     ensures { result ≤ zero_run words.now }
@@ -146,7 +146,7 @@ fn fulls_of_eight(words: &[u64], at: usize) -> usize
     before_first(sparse)
 }
 
-// How many words of the front have at most one zero byte, as far as whole eights tell.
+// How many words at the start have at most one zero byte, counted by whole eights.
 #[inline]
 fn fulls_of_eights(words: &[u64]) -> usize
     ensures { result ≤ full_run words.now }
@@ -193,7 +193,7 @@ fn low_bytes(lanes: u8x16) -> [u8; 8]
     lanes.extract::<0, 8>().to_array()
 }
 
-// The bytes behind a tag, each in its place in the word.
+// The bytes after a tag, each in its place in the word.
 #[inline(always)]
 fn spread_lanes(tag: u8, bytes: u8x16) -> u8x16
     ensures { little_number 8 (take 8 result) ≡ spread 8 tag bytes }
@@ -201,7 +201,7 @@ fn spread_lanes(tag: u8, bytes: u8x16) -> u8x16
     bytes.swizzle_dyn_within::<16>(lanes_of(spread_places(tag), 128))
 }
 
-// The bytes of a word that its tag marks, in order, and zeros behind them.
+// The bytes of a word that its tag marks, in order, and zeros after them.
 #[inline(always)]
 fn squeeze_lanes(tag: u8, word: u64) -> u8x16
     requires { tag ≡ tag_of (word_bytes word) }
@@ -211,7 +211,7 @@ fn squeeze_lanes(tag: u8, word: u64) -> u8x16
     lanes_of_word(word).swizzle_dyn_within::<16>(places)
 }
 
-/// The bytes of a word that its tag marks, in order, and zeros behind them.
+/// The bytes of a word that its tag marks, in order, and zeros after them.
 #[inline(always)]
 pub(crate) fn squeezed(tag: u8, word: u64) -> [u8; 8]
     requires { tag ≡ tag_of (word_bytes word) }
@@ -220,8 +220,8 @@ pub(crate) fn squeezed(tag: u8, word: u64) -> [u8; 8]
     low_bytes(squeeze_lanes(tag, word))
 }
 
-/// The bytes of a word that aren't zero, in order, at the front of `out`, and zeros behind them.
-/// Answers how many they are.
+/// The bytes of a word that aren't zero, in order, at the start of `out`, and zeros after them.
+/// Returns how many they are.
 #[inline]
 pub fn gather(word: u64, out: &mut [u8; 8]) -> usize
     ensures count { result ≡ length (filter (λ b. not (b == 0)) (word_bytes word)) }

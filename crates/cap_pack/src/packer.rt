@@ -13,18 +13,18 @@ use super::pieces::{PIECE_WORDS, read_words, spell_groups};
 use super::spelling::ROOM_BYTES;
 use cap_words::{ByteOut, OutFault, SinkFault, WordSink, write_all};
 
-/// Writes words in one packed spelling (encoding: Packing). At a zero word that is the longest run
-/// of zero words, at most 256. At a word without a zero byte it is the word as it is, with the
-/// words behind it that have at most one zero byte each, at most 255. Any other word is spelled by
+/// Writes words in one packed encoding (encoding: Packing). A zero word begins the longest run of
+/// zero words, at most 256. A word without a zero byte is written literally. The words after it
+/// that have at most one zero byte each follow literally, at most 255. Any other word is encoded by
 /// itself. It holds at most one group back, which `finish` writes.
 #[derive(Drop)]
 pub struct Packer<O> {
     output: O,
     closed: bool,
     group: Group,
-    // behind the first word of a run of words as they are
+    // after the first word of a run of literal words
     words: [u64; MORE_WORDS],
-    // where a group is spelled before it is written
+    // where a group is encoded before it is written
     room: [u8; ROOM_BYTES],
     ghost one_group: { group_size (held group words) ≡ length (held group words) },
     ghost full_first: { first_zeros group ≡ 0 },
@@ -34,7 +34,7 @@ impl<O: ByteOut> Packer<O> {
     ghost use Rattle.cap_pack.specs.Output.{output_of};
     ghost use Rattle.cap_pack.specs.declared.packer.Packer.{Packer};
 
-    /// A sink that writes to `output`, behind what it took before.
+    /// A sink that writes to `output`, after what it took before.
     pub fn new(output: O) -> Packer<O>
         ensures output { output_of result ≡ output }
         ensures starts { ⟦<Packer<O> as WordSink>⟧.taken result ≡ O.written output }
@@ -63,9 +63,17 @@ impl<O: ByteOut> Packer<O> {
         self.output
     }
 
-    /// Takes the words, one after the other. After a fault every call answers `Spent`, and what the
-    /// output took is a beginning of the text. A closed sink answers `Spent` also where there is no
-    /// word.
+    /// Takes the words, one after the other.
+    ///
+    /// # Errors
+    ///
+    /// After an error every call returns `Spent`, and what the output took is a beginning of the
+    /// text.
+    ///
+    /// - [`SinkFault::Device`]: the device of the output failed.
+    /// - [`SinkFault::Memory`]: an allocation of the output failed.
+    /// - [`SinkFault::Spent`]: the sink is finished, or an earlier error has closed it or its
+    ///   output. A closed sink returns it also if there is no word.
     pub fn put_all(&mut self, words: &[u64]) -> Result<(), SinkFault>
         ensures put { OnOk result (WasPut ⟦<Packer<O> as WordSink>⟧.text self.old self.new words.now) }
         ensures ok { OnOk result ((⟦<Packer<O> as WordSink>⟧.closed self.old ≡ false) × (⟦<Packer<O> as WordSink>⟧.closed self.new ≡ false)

@@ -6,12 +6,12 @@ ghost use Rattle.std.specs.Prelude.{◌*◌, ◌+◌, ◌++◌, ◌≡◌, ◌�
 use byteorder::{ByteOrder, LittleEndian};
 use cap_words::bytes_of;
 
-/// Room for the groups of a piece of words: the longest group, of a tag, a word, a count and 255
-/// further words, and ten bytes for each of 64 words.
+/// The bytes of a buffer for the groups of a piece of words: the longest group, of a tag, a word, a
+/// count and 255 further words, and ten bytes for each of 64 words.
 pub(crate) const ROOM_BYTES: usize = 2690;
 
-/// Spells a run of a zero word and so many more, behind so many bytes. Answers how many bytes there
-/// are then.
+/// Encodes a run of a zero word and `more` further ones, after the first `len` bytes. Returns how
+/// many bytes there are then.
 #[inline(always)]
 pub(crate) fn spell_zeros(text: &mut [u8; ROOM_BYTES], len: usize, more: u8) -> usize
     requires { len + 2 ≤ 2690 }
@@ -23,8 +23,8 @@ pub(crate) fn spell_zeros(text: &mut [u8; ROOM_BYTES], len: usize, more: u8) -> 
     len + 2
 }
 
-/// Spells a word as it is, and at most 255 more, behind so many bytes. Answers how many bytes there are
-/// then.
+/// Encodes a literal word, and at most 255 more, after the first `len` bytes. Returns how many
+/// bytes there are then.
 pub(crate) fn spell_plain(
     text: &mut [u8; ROOM_BYTES],
     len: usize,

@@ -99,7 +99,7 @@ abbrev mutual
   element_sizes (more (struct words ts) es) = sizes ts + element_sizes es
   element_sizes (more t es) = element_sizes es
 
--- the pointer to a tree whose content begins so many words behind it
+-- the pointer to a tree whose content begins `offset` words after it
 abbrev pub pointer_to : ℕ → Tree → ℕ
 pointer_to offset null = 0
 pointer_to offset (cap i) = 3 + 2 ^ 32 * i
@@ -108,12 +108,13 @@ pointer_to offset (scalars c vs) = list_word offset c (length vs)
 pointer_to offset (pointers ts) = list_word offset 6 (tree_count ts)
 pointer_to offset (structs d p es) = list_word offset 7 (tree_count es * (d + p))
 
--- how far pointers in a row lead, with so many words between the last and the first child's content
+-- how far pointers in a row lead, with `after` words between the last and the first child's content
 abbrev pub pointer_offsets : ℕ → Trees → List ℕ
 pointer_offsets after none = []
 pointer_offsets after (more t ts) = (tree_count ts + after) ∷ pointer_offsets (after + size t) ts
 
--- and those of each element in a row, with so many words between the last and the first child's content
+-- and those of each element in a row, with `after` words between the last and the first child's
+-- content
 abbrev pub element_offsets : ℕ → ℕ → Trees → List (List ℕ)
 element_offsets each after none = []
 element_offsets each after (more (struct words ts) es) =

@@ -7,7 +7,8 @@ use Rattle.cap_spec.specs.Denoting.{Finds, element_levels}
 use Rattle.cap_spec.specs.declared.Step.{Step}
 use Rattle.cap_spec.specs.declared.Step.TheVariants.{Ptr, Item}
 
--- Where a node stands: at a pointer word, or at an element of a struct list (its segment, its start, its sizes).
+-- Where a node is: at a pointer word, or at an element of a struct list (its segment, its start,
+-- its sizes).
 pub data Spot : Type 0 where
   word : ℕ → ℕ → Spot
   element : ℕ → ℕ → ℕ → ℕ → Spot
@@ -34,7 +35,8 @@ Walks m a [] n b = (n ≡ 0) × (b ≡ a)
 Walks m a (step ∷ path) n b =
     (mid : Spot) × (n' : ℕ) × Goes m a step mid × Walks m mid path n' b × (n ≡ level_of mid + n')
 
--- The path from the root comes to this spot, at this level, whether or not the pointer that stands there is wrong.
+-- The path from the root comes to this spot, at this level, whether or not the pointer at the spot
+-- is wrong.
 abbrev pub Comes : List (List ℕ) → List Step → ℕ → Spot → Type 0
 Comes m path level spot =
     (root n : ℕ) × HasWord m 0 0 root × Walks m (word 0 0) path n spot × (level ≡ 1 + n)
@@ -76,7 +78,8 @@ pub record IsTour (m : List (List ℕ)) (p : List Step) (tour : List (List Step)
   pub all : (q : List Step) (level s w : ℕ) → Reaches m q level s w → (q ≡ p) ⊎ Before q p → IsOneOf q tour
   pub none_after : (q : List Step) → IsOneOf q tour → (q ≡ p) ⊎ Before q p
 
--- What stands at a spot: the object that its pointer finds, or the element, as segment, start and words.
+-- What is at a spot: the object that its pointer finds, or the element, as segment, start and
+-- words.
 abbrev pub Stands : List (List ℕ) → Spot → ℕ → ℕ → ℕ → Type 0
 Stands m (word s w) t b n = (k q : ℕ) × Finds m s w k t b q × (n ≡ extent q)
 Stands m (element t' b' ds ps) t b n = (t ≡ t') × (b ≡ b') × (n ≡ ds + ps)

@@ -1,4 +1,5 @@
--- That what is told are bytes, and words: the laws of the inputs and the source of this crate (profile).
+-- What is known to come are bytes, and words: the laws of the inputs and the source of this crate
+-- (profile).
 use Rattle.std.specs.Prelude.{ℕ, ◌≡◌, ◌<◌, ◌&&◌, Bool, true, false, if◌then◌else◌, nat_lt, IfSome, Option, None, Some, List, [], ◌∷◌, refl}
 use Rattle.std.specs.List.{AllByRecursion}
 use Rattle.std.specs.Option.{option_map}
@@ -21,12 +22,12 @@ pub each_byte : (bytes : List ℕ) → are_bytes bytes ≡ true → AllByRecursi
 each_byte [] e = tt
 each_byte (b ∷ bytes) e = (ltb-true b 256 (both_hold (nat_lt b 256) (are_bytes bytes) e).0, each_byte bytes (both_hold (nat_lt b 256) (are_bytes bytes) e).1)
 
--- numbers are told where they pass it
+-- only numbers that pass the test are given, so these are bytes
 pub passed_bytes : (bytes : List ℕ) (c : Bool) → are_bytes bytes ≡ c → IfSome (if c then Some bytes else None) (AllByRecursion (λ b. b < 256))
 passed_bytes bytes true e = each_byte bytes e
 passed_bytes bytes false e = tt
 
--- what a reader tells are bytes
+-- the numbers that a reader is known to give are bytes
 pub told_are_bytes : (known : Option (List ℕ)) → IfSome (told_bytes known) (AllByRecursion (λ b. b < 256))
 told_are_bytes None = tt
 told_are_bytes (Some bytes) = passed_bytes bytes (are_bytes bytes) refl

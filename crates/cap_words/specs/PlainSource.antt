@@ -1,4 +1,4 @@
--- What a source of the plain spelling says of itself, by its phase (profile).
+-- What a source of the plain encoding says of itself, by its phase (profile).
 use Rattle.std.specs.Prelude.{ℕ, Bool, true, false, Option, List, []}
 use Rattle.std.specs.Option.{option_map}
 use Rattle.cap_words.specs.declared.plain_words.Phase.{Phase}
@@ -16,7 +16,7 @@ has_failed Open = false
 has_failed Ended = false
 has_failed Failed = true
 
--- it can't be used on, by its own phase and whether its input is spent
+-- whether an error has closed it, by its own phase and by whether one has closed its input
 abbrev pub source_spent : Phase → Bool → Bool
 source_spent Open input = input
 source_spent Ended input = false

@@ -15,9 +15,9 @@ const BUFFER: usize = 65536;
 /// Reads from a std reader 64 KiB at a time. Each error of the reader, an interruption too, is one
 /// failure, and the reader isn't called again after it.
 ///
-/// It is what `FromRead` over std's `BufReader` is, and made for many reads of a few bytes: those
-/// are given out of the buffer by a copy whose length the compiler knows. A read with room for 64 KiB
-/// or more, where nothing is held, is one read of the reader, past the buffer.
+/// It does what `FromRead` over std's `BufReader` does, and is made for many reads of a few bytes:
+/// those are given out of the buffer by a copy whose length the compiler knows. If nothing is
+/// buffered, a read into a buffer of 64 KiB or more is one read of the reader, past its own buffer.
 #[derive(Drop)]
 pub struct BufferedIn<R: Read> {
     reader: R,
@@ -35,8 +35,11 @@ pub struct BufferedIn<R: Read> {
 impl<R: Read> BufferedIn<R> {
     ghost use Rattle.cap_words.specs.declared.buffered_in.BufferedIn.{BufferedIn};
 
-    /// An input with all that `reader` has still to come, or an error where there is no memory for
-    /// the buffer.
+    /// An input with all that `reader` has still to come. Allocates once, for its buffer of 64 KiB.
+    ///
+    /// # Errors
+    ///
+    /// - [`AllocError`]: allocating the buffer failed.
     pub fn new(alloc: Global, reader: R) -> Result<BufferedIn<R>, AllocError>
     where
         R: Drop,
@@ -83,8 +86,8 @@ impl<R: Read> BufferedIn<R> {
         }
     }
 
-    // Reads once, straight into a room of the buffer's size or more, where all that was read has been
-    // given: bytes that fill the buffer are copied no second time.
+    // Reads once, straight into a buffer of its own buffer's size or more, after all that was read
+    // has been given: bytes that fill the buffer are copied no second time.
     #[inline(never)]
     fn read_past(&mut self, buf: &mut [u8]) -> Result<usize, InFault>
         requires { self.old.start ≡ self.old.end }
@@ -147,8 +150,8 @@ impl<R: Read> ByteIn for BufferedIn<R> {
     ghost are_bytes = { λ s. told_are_bytes (prepend_known (slice_range s.buffer.items s.start s.end) (R.remaining s.reader)) };
 }
 
-// Copies as many bytes as there are and as there is room for. A copy that fills the room stands apart,
-// since its length is known wherever that of the room is: for a word it is one move and no call.
+// Copies as many bytes as there are and as `to` has space for. A copy that fills `to` is a case of
+// its own. Its length is known wherever that of `to` is: for a word it is one move and no call.
 #[inline(always)]
 fn copy_front(from: &[u8], to: &mut [u8]) -> usize
     ensures within { result ≤ length from.now }

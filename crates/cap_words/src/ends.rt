@@ -19,7 +19,7 @@ pub enum InFault {
 pub enum OutFault {
     /// The device failed in this call.
     Device,
-    /// A growth was refused in this call.
+    /// An allocation failed in this call.
     Memory,
     /// An earlier fault has ended the output.
     Spent,
@@ -39,15 +39,16 @@ pub trait ByteIn {
     // The bytes that can be taken without a call of the device.
     ghost at_hand: { Self → List ℕ };
 
-    /// The bytes at hand, in front of the others to come. They can be taken without a call of the
-    /// device, and a spent input has none. An input that holds nothing back always has none.
+    /// The buffered bytes, which are the first of those to come. They can be taken without a call
+    /// of the device. An input that an error has closed has none. An input that holds nothing back
+    /// always has none.
     fn held(&self) -> &[u8]
         ensures held { result.now ≡ at_hand self.now }
         ensures known { IfSome (to_come self.now) (λ xs. (rest : List ℕ) × (xs ≡ result.now ++ rest)) }
         ensures usable { 0 < length result.now → spent self.now ≡ false };
 
-    /// Takes the first `count` of the bytes at hand, or all of them where there are fewer. Nothing
-    /// else happens: where there are none to take, the input stays as it is.
+    /// Takes the first `count` of the buffered bytes, or all of them if there are fewer. Nothing
+    /// else happens: if there are none to take, the input stays as it is.
     fn skip(&mut self, count: usize)
         ensures idle { take count (at_hand self.old) ≡ [] → self.new ≡ self.old }
         ensures bytes { Consumes (to_come self.old) (to_come self.new) (take count (at_hand self.old)) }
@@ -55,9 +56,16 @@ pub trait ByteIn {
         ensures spent { spent self.new ≡ spent self.old }
         ensures failures { failures self.new ≡ failures self.old };
 
-    /// The next bytes, at most as many as there is room for. With room, 0 is the end of the input;
-    /// with none it is always the answer, and nothing happens. A fault takes no bytes, and after one
-    /// every call with room answers `Spent`.
+    /// The next bytes, at most as many as `buf` has. With an empty `buf` the result is always 0,
+    /// and nothing happens. Otherwise 0 is the end of the input.
+    ///
+    /// # Errors
+    ///
+    /// An error takes no bytes. After one, every call with a `buf` that isn't empty returns
+    /// `Spent`.
+    ///
+    /// - [`InFault::Device`]: the device failed in this call.
+    /// - [`InFault::Spent`]: an earlier error has closed the input.
     fn read(&mut self, buf: &mut [u8]) -> Result<usize, InFault>
         ensures within { IfOk result (λ n. n ≤ length buf.new) }
         ensures bytes { ReadConsumes (to_come self.old) (to_come self.new) result buf.new }
@@ -76,15 +84,23 @@ pub trait ByteOut {
     // The bytes written so far, where they are known.
     ghost written: { Self → Option (List ℕ) };
 
-    // How often the device failed, or a growth was refused.
+    // How often the device failed, or an allocation failed.
     ghost failures: { Self → Failures };
 
     // An earlier fault has ended it.
     ghost spent: { Self → Bool };
 
-    /// Takes a beginning of the bytes, at least one of them where there is one; with a fault none.
-    /// With no bytes nothing happens. After `Device` every call with bytes answers `Spent`; after
-    /// `Memory` a later call may succeed.
+    /// Takes a beginning of the bytes, at least one of them if there is one, and returns how many.
+    /// With no bytes nothing happens.
+    ///
+    /// # Errors
+    ///
+    /// An error takes no bytes.
+    ///
+    /// - [`OutFault::Device`]: the device failed in this call. After it every call with bytes
+    ///   returns `Spent`.
+    /// - [`OutFault::Memory`]: an allocation failed in this call. A later call may succeed.
+    /// - [`OutFault::Spent`]: an earlier error has closed the output.
     fn write(&mut self, buf: &[u8]) -> Result<usize, OutFault>
         ensures within { IfOk result (λ n. n ≤ length buf.now) }
         ensures bytes { WriteAppends (written self.old) (written self.new) result buf.now }
@@ -96,9 +112,15 @@ pub trait ByteOut {
         ensures memory { IsErrOf result OutFault.Memory → GrowthFails (spent self.old) (failures self.old) (failures self.new) }
         ensures was_spent { IsErrOf result OutFault.Spent → WasSpent (spent self.old) (spent self.new) (failures self.old) (failures self.new) };
 
-    /// Hands on what was written, where the output or its device holds some of it back. No byte is
-    /// added or lost. After `Device` every write with bytes answers `Spent`, and so does `flush`, where
-    /// there is anything to hand on: an output that holds nothing back answers `Ok` even then.
+    /// Flushes what was written, if the output or its device holds some of it back. No byte is
+    /// added or lost. An output that holds nothing back returns `Ok` even after `Device`.
+    ///
+    /// # Errors
+    ///
+    /// - [`OutFault::Device`]: the device failed in this call. After it every write with bytes
+    ///   returns `Spent`, and so does `flush` if there is anything to flush.
+    /// - [`OutFault::Memory`]: an allocation failed in this call.
+    /// - [`OutFault::Spent`]: an earlier error has closed the output.
     fn flush(&mut self) -> Result<(), OutFault>
         ensures bytes { Keeps (written self.old) (written self.new) }
         ensures for_good { spent self.old ≡ true → self.new ≡ self.old }

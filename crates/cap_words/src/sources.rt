@@ -52,8 +52,16 @@ pub trait WordSource {
     // An earlier fault has ended it, or its input.
     ghost spent: { Self → Bool };
 
-    /// The next word, or `None` where the input ends between words, and from then on. After a fault
-    /// every call answers `Spent`.
+    /// The next word, or `None` if the input ends between words, and from then on.
+    ///
+    /// # Errors
+    ///
+    /// After an error every call returns `Spent`.
+    ///
+    /// - [`SourceFault::Truncated`]: the input ended inside a word, or inside a
+    ///   group of packed words. `byte` is the position then.
+    /// - [`SourceFault::Device`]: the device of the input failed in this call.
+    /// - [`SourceFault::Spent`]: an earlier error has closed the source, or its input.
     fn next(&mut self) -> Result<Option<u64>, SourceFault>
         ensures words { IfOk result (λ r. Consumes (words self.old) (words self.new) (option_to_list r)) }
         ensures word { IfOk result (λ r. IfSome r (λ _. OnSome (words self.old)
@@ -74,9 +82,10 @@ pub trait WordSource {
         ensures was_spent { IsErrOf result SourceFault.Spent → WasSpent (spent self.old) (spent self.new) (failures self.old) (failures self.new)
             × (place self.new ≡ place self.old) × Keeps (unread self.old) (unread self.new) };
 
-    /// Gives the bytes of words that are at hand, as far as there is room for whole ones, and how many
-    /// bytes these are. The device isn't called. 0 doesn't say that no words are to come: `next` tells
-    /// that. The bytes of `out` after those given may be overwritten, even where the answer is 0.
+    /// Gives the bytes of buffered words, as far as `out` has space for whole ones, and returns how
+    /// many bytes these are. The device isn't called. 0 doesn't say that no words are to come:
+    /// `next` does. The bytes of `out` after those given may be overwritten, even if the result is
+    /// 0.
     fn ready(&mut self, out: &mut [u8]) -> usize
         ensures room { result ≤ length out.new }
         ensures words { let ws = plain_words (take result out.new) in (take result out.new ≡ plain_text ws)
@@ -94,9 +103,10 @@ pub trait WordSource {
         0
     }
 
-    /// Appends bytes at hand that are the next words as they stand, whole words of no more than `most`
-    /// bytes and within the room of `out`, and answers how many bytes these are. The device isn't called.
-    /// 0 doesn't say that no words are to come or at hand: `next` and `ready` tell that.
+    /// Appends buffered bytes that are the next words literally, and returns how many bytes these
+    /// are. They are whole words of no more than `most` bytes, and within the capacity of `out`.
+    /// The device isn't called. 0 doesn't say that no words are to come or buffered: `next` and
+    /// `ready` do.
     fn append(&mut self, out: &mut Vec<u8>, most: usize) -> usize
         ensures most { result ≤ most }
         ensures room { vec_len out.old + result ≤ vec_capacity out.old }
@@ -116,11 +126,15 @@ pub trait WordSource {
         0
     }
 
-    /// Fills the whole words of `out` with the bytes of the next words, and answers whether there were
-    /// so many: `false` where the input ends between words before that, and from then on. With room
-    /// for no whole word nothing happens. What the whole words of `out` hold after any other answer than
-    /// `true` is not said, nor how many words came. Less than a word at the end of `out` stays as it is.
-    /// After a fault every call answers `Spent`.
+    /// Fills the whole words of `out` with the bytes of the next words. `false` if the input ends
+    /// between words before `out` is full, and from then on. If `out` is shorter than a word, the
+    /// result is `true` and nothing happens. Less than a word at the end of `out` stays as it is.
+    ///
+    /// # Errors
+    ///
+    /// The errors are those of `next`. After one every call with space for a word returns `Spent`.
+    /// After an error, and after `false`, the whole words of `out` hold anything, and how many
+    /// words came isn't known.
     fn fill(&mut self, out: &mut [u8]) -> Result<bool, SourceFault>
         ensures full { result ≡ Ok true → let ws = plain_words out.new in (length ws ≡ length out.old / 8) × (take (8 * length ws) out.new ≡ plain_text ws)
             × TakesAll (words self.old) (words self.new) (is_cut self.old) (is_cut self.new) (place self.old) (place self.new)
@@ -162,9 +176,9 @@ pub trait WordSource {
         Ok(true)
     }
 
-    /// Whether bytes of the input are at hand, so that the next word may come without a call of the
-    /// device. `false` doesn't say that no words are to come: `next` tells that. A source that has ended
-    /// or failed has no bytes at hand, nor has one whose input is spent.
+    /// Whether bytes of the input are buffered, so that the next word may come without a call of
+    /// the device. `false` doesn't say that no words are to come: `next` does. A source that has
+    /// ended or failed has no buffered bytes, nor has one with a closed input.
     fn is_at_hand(&self) -> bool
         ensures usable { result ≡ true → spent self.now ≡ false }
         ensures stays { ended self.now ≡ true → result ≡ false }
