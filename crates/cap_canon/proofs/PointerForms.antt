@@ -1,13 +1,12 @@
 -- The pointer words of a copy have the forms of what they lead to.
-use Rattle.std.proofs.Common.{◌≡◌, ℕ, ◌+◌, ◌*◌, ◌-◌, ◌^◌, ◌<◌, ◌==◌, false, pos, refl, sym, ap, arith, if◌then◌else◌}
+use Rattle.std.proofs.Common.{◌≡◌, ℕ, ◌+◌, ◌*◌, ◌^◌, ◌<◌, ◌==◌, false, pos, refl, sym, ap, arith}
 use Rattle.std.proofs.lemmas.Bool.{lt-ltb}
 use Rattle.std.proofs.lemmas.Bool.Decides.{nat_tests}
 use Rattle.cap_spec.specs.Words.{signed_offset_of}
-use Rattle.cap_spec.specs.Pointers.{kind, middle}
+use Rattle.cap_spec.specs.Pointers.{middle}
 use Rattle.cap_spec.specs.Canonical.{struct_word, list_word}
 use Rattle.cap_spec.proofs.Canonical.PointerFields.{cap_fields, list_fields, struct_fields}
 use Rattle.cap_ptr.specs.Forms.{pointer_of}
-use Rattle.cap_ptr.specs.declared.forms.Pointer.{Pointer}
 use Rattle.cap_ptr.specs.declared.forms.Pointer.TheVariants.{Struct, List, Cap}
 
 -- an offset that isn't negative

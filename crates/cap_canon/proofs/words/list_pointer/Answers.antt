@@ -1,4 +1,4 @@
-use Rattle.std.proofs.Common.{◌≡◌, ◌∙◌, ap, arith, sym, pos, w32}
+use Rattle.std.proofs.Common.{◌∙◌, ap, arith, sym, w32}
 use Rattle.std.proofs.lemmas.Int.{to_z_pos}
 use Rattle.cap_spec.specs.Canonical.{list_word}
 use Rattle.cap_ptr.specs.declared.forms.Pointer.TheVariants.{List}
