@@ -3,10 +3,9 @@
 
 A run over all tests, which `rt try` builds anew and proves nothing of, makes the allocation of one number fail in
 each test's own process. A test ends well where it made fewer of them. Else it has to end with the error `refused`:
-the call that it tests has answered its want of memory, and what it left is as promised. The numbers go up from 1
-until each test ends well. A test with a number in GROWTHS has to end well from the next number on. How a test ended
-in a run is a case. Failures are printed as they come. The last line is 'N passed, M failed', and the status is 1 where
-a case failed.
+the call that it tests answered out of memory, and left what it promises. The numbers go up from 1 until each test
+ends well. A test with a number in GROWTHS has to end well from the next number on. How a test ended in a run is a case.
+Failures are printed as they come. The last line is 'N passed, M failed', and the status is 1 where a case failed.
 """
 import re
 import subprocess
@@ -14,10 +13,10 @@ import sys
 from pathlib import Path
 
 CRATE = Path(__file__).resolve().parent.parent / "crates/test_memory"
-# How many growths the calls of these tests make, no more and no fewer: none before a message that is too large is
-# refused, and one for a canonical copy.
+# How many growths these tests make, no more and no fewer: one for a canonical copy. A message that is too large is refused
+# before any growth, so the only growth there is the test's own, at its end: it is refused in place of one before it.
 GROWTHS = {
-    "reading::a_table_that_tells_of_too_many_words": 0,
+    "reading::a_table_that_tells_of_too_many_words": 1,
     "copies::a_copy_in_words": 1,
     "copies::a_copy_in_bytes": 1,
 }

@@ -111,32 +111,39 @@ fn a_message_read_into_a_blank_one(rt: HostRuntime) -> Result<(), Fail> {
     }
 }
 
-// One segment, and 512 segments, each of the most words that a table can tell of: no growth is made.
+// Tables past the limits: of one segment too many, of one segment of the most words that there can be,
+// and of 512 such segments. The calls make no growth, so the test's first growth is its own, at the end.
 #[test]
-fn a_table_that_tells_of_too_many_words(rt: HostRuntime) -> Result<(), Fail> {
+fn a_table_past_the_limits(rt: HostRuntime) -> Result<(), Fail> {
     let limit = SizeLimit::new(268435456).ok_or("a limit")?;
+    let further = [0, 2, 0, 0, 0, 0, 0, 0];
     let one = [0, 0, 0, 0, 0xff, 0xff, 0xff, 0xff];
     let mut many = [0xff; 2056];
     many[..4].copy_from_slice(&[0xff, 1, 0, 0]);
     many[2052..].copy_from_slice(&[0; 4]);
-    for (table, words) in [
-        (one.as_slice(), 4294967295),
-        (many.as_slice(), 2199023255040),
+    let (first, all) = (4294967295, 2199023255040);
+    for (table, fault) in [
+        (
+            further.as_slice(),
+            FrameFault::TooManySegments { count: 513 },
+        ),
+        (one.as_slice(), FrameFault::TooLarge { words: first }),
+        (many.as_slice(), FrameFault::TooLarge { words: all }),
     ] {
-        let large = Some(FrameFault::TooLarge { words });
         let mut source = PlainWords::new(SliceIn::new(table));
-        same(
-            &rt,
-            read_byte_message(rt.alloc(), &mut source, limit).err(),
-            large,
-        );
+        let read = read_byte_message(rt.alloc(), &mut source, limit);
+        same(&rt, read.err(), Some(fault));
         let mut source = PlainWords::new(SliceIn::new(table));
-        same(
-            &rt,
-            read_message(rt.alloc(), &mut source, limit).err(),
-            large,
-        );
+        let mut message = ByteMessage::blank(rt.alloc());
+        let read = read_into(rt.alloc(), &mut source, limit, &mut message);
+        same(&rt, read, Err(fault));
+        let mut source = PlainWords::new(SliceIn::new(table));
+        let read = read_message(rt.alloc(), &mut source, limit);
+        same(&rt, read.err(), Some(fault));
         same(&rt, source.position(), table.len() as u64);
     }
-    Ok(())
+    match Vec::<u8>::with_capacity(rt.alloc(), 1) {
+        Ok(_) => Ok(()),
+        Err(_) => refused(),
+    }
 }
