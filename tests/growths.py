@@ -16,7 +16,7 @@ CRATE = Path(__file__).resolve().parent.parent / "crates/test_memory"
 # How many growths these tests make, no more and no fewer: one for a canonical copy. A message that is too large is refused
 # before any growth, so the only growth there is the test's own, at its end: it is refused in place of one before it.
 GROWTHS = {
-    "reading::a_table_that_tells_of_too_many_words": 1,
+    "reading::a_table_past_the_limits": 1,
     "copies::a_copy_in_words": 1,
     "copies::a_copy_in_bytes": 1,
 }
