@@ -3,7 +3,19 @@
 use crate::same::same;
 use crate::whole::job;
 use cap_cmd::{JobFault, read_job};
+use std::alloc::Global;
 use std::test::Fail;
+
+// Whether these arguments are answered with how the program is used.
+fn is_usage(alloc: Global, all: Vec<String>) -> bool {
+    match read_job(alloc, all) {
+        Ok(_job) => false,
+        Err(JobFault::Help { text: _text }) => false,
+        Err(JobFault::Usage { text }) => !text.is_empty(),
+        Err(JobFault::Path { at: _at }) => false,
+        Err(JobFault::Memory) => false,
+    }
+}
 
 #[test]
 fn reads_a_command_line(rt: HostRuntime) -> Result<(), Fail> {
@@ -11,10 +23,6 @@ fn reads_a_command_line(rt: HostRuntime) -> Result<(), Fail> {
     let job = job(rt.alloc(), "vet", &[])?;
     same(&rt, job.settings.messages, u32::MAX);
     // not even the name of a program
-    let is_usage = match read_job(rt.alloc(), Vec::new(rt.alloc())) {
-        Err(JobFault::Usage { text }) => !text.is_empty(),
-        _ => false,
-    };
-    same(&rt, is_usage, true);
+    same(&rt, is_usage(rt.alloc(), Vec::new(rt.alloc())), true);
     Ok(())
 }
