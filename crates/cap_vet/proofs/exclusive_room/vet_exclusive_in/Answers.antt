@@ -1,5 +1,6 @@
 -- One fault, or none.
 use Rattle.std.proofs.Common.{◌≤◌, Err, ap, arith, length}
+use Rattle.std.proofs.lemmas.Grind.{common_steps}
 use Rattle.cap_spec.proofs.Disjoint.Bounds.{charge_below_words}
 use Rattle.cap_vet.specs.Limits.{depth_of, words_of}
 use Rattle.cap_vet.specs.Taken.{marks_of}
@@ -35,3 +36,18 @@ returns-in-Err-Overlap-clause-refuses g c =
     let first = rw c.in-Err-Overlap.field-0-is at c.in-Err-Overlap.ensures.err in
     rw c.in-Err-Overlap.field-0-is (λ x h. ap Err (one_exclusive_fault (g.M.Segments.segments c.args.message.now) (words_of c.args.limits) (depth_of c.args.limits) (length c.args.marks.now)
     (Overlap c.in-Err-Overlap.segment c.in-Err-Overlap.word c.in-Err-Overlap.pointers) x (c.in-Ok.vetted.report, c.in-Ok.ensures.ok, room, first) h))
+
+pub returns-then-marks-needed-clause-err : goal.returns-then-marks-needed-clause-err
+returns-then-marks-needed-clause-err g c = (rw c.report.ensures.value c.in-Ok.ensures.ok, c.if-marks-needed.true, c.numbers_for-needed.ensures.exact)
+
+pub mark_cleared-requires-clause-enough : goal.mark_cleared-requires-clause-enough
+mark_cleared-requires-clause-enough g c = grind (arith, common_steps)
+
+pub returns-in-Ok-mark_cleared-clause-ok : goal.returns-in-Ok-mark_cleared-clause-ok
+returns-in-Ok-mark_cleared-clause-ok g c = (c.in-Ok.ensures.ok, c.in-Ok-mark_cleared.ensures.ok, omega (arith, c.numbers_for-needed.ensures.exact, c.if-marks-needed.false))
+
+pub returns-in-Ok-mark_cleared-clause-rest : goal.returns-in-Ok-mark_cleared-clause-rest
+returns-in-Ok-mark_cleared-clause-rest g c = grind (arith, common_steps)
+
+pub returns-in-Err-Overlap-clause-rest : goal.returns-in-Err-Overlap-clause-rest
+returns-in-Err-Overlap-clause-rest g c = grind (arith, common_steps)

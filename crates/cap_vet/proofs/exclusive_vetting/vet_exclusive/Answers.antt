@@ -1,5 +1,7 @@
-use Rattle.std.proofs.Common.{ap, inl, Err}
+use Rattle.std.proofs.Common.{◌≡◌, ap, inl, subst, Err}
 use Rattle.cap_spec.proofs.Disjoint.Bounds.{charge_below_words}
+use Rattle.cap_spec.specs.Faults.{IsRefused}
+use Rattle.cap_spec.specs.declared.Refusal.{Refusal}
 use Rattle.cap_spec.proofs.Verdicts.OneFault.{one_refusal}
 use Rattle.cap_spec.proofs.Disjoint.Overlaps.{none_of_disjoint}
 use Rattle.cap_spec.proofs.Verdicts.Refusals.{tree_not_refused}
@@ -52,3 +54,11 @@ pub returns-in-Ok-mark_message-clause-bound : goal.returns-in-Ok-mark_message-cl
 returns-in-Ok-mark_message-clause-bound g c =
     let a = c.in-Ok.ensures.ok in
     (a.0, a.1, charge_below_words (g.M.Segments.segments c.args.message.now) a.0 c.in-Ok.vetted.report.charge c.in-Ok.vetted.report.depth a.1.denotes c.in-Ok-mark_message.ensures.ok)
+
+pub returns-in-Err-clause-refused : goal.returns-in-Err-clause-refused
+returns-in-Err-clause-refused g c = λ r e.
+    (let same : c.in-Err.fault ≡ r = cc in
+    subst (λ (x : Refusal). IsRefused (g.M.Segments.segments c.args.message.now) (words_of c.args.limits) (depth_of c.args.limits) x) same c.in-Err.ensures.err)
+
+pub returns-in-Err-clause-memory : goal.returns-in-Err-clause-memory
+returns-in-Err-clause-memory g c = λ e. absurd (cc)
