@@ -1,4 +1,4 @@
--- What a call answers, and what it tells beside that (profile).
+-- What a call returns, and what it reports beside that (profile).
 use Rattle.std.specs.Prelude.{ℕ, Option, None, Some}
 use Rattle.cap_frame.specs.declared.fault.FrontFault.TheVariants as fault
 use Rattle.cap_calls.specs.AnswerNumbers.{reason_answer}
@@ -10,11 +10,11 @@ use Rattle.cap_calls.specs.declared.verdict.NoFrame.TheVariants.{BadLimits, NoMe
 use Rattle.cap_calls.specs.declared.verdict.Verdict.{Verdict}
 use Rattle.cap_calls.specs.declared.verdict.Verdict.TheVariants.{Without, Refused, Accepted}
 
--- of a frame of so many bytes and segments
+-- of a frame with these numbers of bytes and segments
 abbrev pub extent_report : ℕ → ℕ → CallReport
 extent_report frame segments = record { frame = frame; number = 0; charge = 0; pointers = 0; caps = 0; depth = 0; segment = 0; word = 0; segments = segments }
 
--- the number that is told of bytes without a frame: how many segments, words or bytes
+-- the number that is reported of bytes without a frame: how many segments, words or bytes
 abbrev pub cause_number : NoFrame → ℕ
 cause_number BadLimits = 0
 cause_number NoMessage = 8
@@ -36,7 +36,7 @@ abbrev pub cap_word : Option (ℕ × ℕ) → ℕ
 cap_word None = 0
 cap_word (Some place) = place.1
 
--- what is told of a verdict
+-- what is reported of a verdict
 abbrev pub verdict_report : Verdict → CallReport
 verdict_report (Without cause) = no_frame_report cause
 verdict_report (Refused frame segments refusal) =

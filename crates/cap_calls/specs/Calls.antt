@@ -1,4 +1,5 @@
--- What each call answers and tells, of the bytes alone (profile; standard: Serialization Over a Stream, Canonicalization).
+-- What each call returns and reports, from the bytes alone
+-- (profile; standard: Serialization Over a Stream, Canonicalization).
 use Rattle.std.specs.Prelude.{ℕ, ◌≡◌, List}
 use Rattle.cap_spec.specs.Copies.{IsCanonical}
 use Rattle.cap_spec.specs.Faults.{IsRefused}
@@ -16,14 +17,14 @@ use Rattle.cap_calls.specs.declared.verdict.NoFrame.{NoFrame}
 use Rattle.cap_calls.specs.declared.verdict.Verdict.{Verdict}
 use Rattle.cap_calls.specs.declared.verdict.Verdict.TheVariants.{Refused, Accepted}
 
--- of the frame in front of the bytes
+-- of the frame at the start of the bytes
 pub data TellsFrame (l : CallLimits) (bytes : List ℕ) (a : Answer) (r : CallReport) : Type 0 where
   -- there is none
   without : (cause : NoFrame) → HasNoFrame l bytes cause → a ≡ cause_answer cause → r ≡ no_frame_report cause → TellsFrame l bytes a r
   -- its length and its segments
   whole : (m : List (List ℕ)) (frame segments : ℕ) → HasFrame l bytes frame segments m → a ≡ Good → r ≡ extent_report frame segments → TellsFrame l bytes a r
 
--- of the message in front of the bytes, vetted
+-- of the message at the start of the bytes, vetted
 abbrev pub TellsVet : CallLimits → List ℕ → Answer → CallReport → Type 0
 TellsVet l bytes a r = (v : Verdict) × IsVerdict l bytes v × (a ≡ verdict_answer v) × (r ≡ verdict_report v)
 

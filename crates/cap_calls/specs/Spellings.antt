@@ -6,12 +6,13 @@ use Rattle.cap_spec.specs.Unpacking.{packed_is_cut, unpacked}
 use Rattle.cap_calls.specs.declared.answer.Answer.{Answer}
 use Rattle.cap_calls.specs.declared.answer.Answer.TheVariants.{Good, TooLarge, Truncated, NoRoom}
 
--- A text of bytes for this room, which held these: whether it has room, how many bytes it takes, and what the room holds then.
+-- A text of bytes for this buffer, which held these: whether it fits, how many bytes it takes, and
+-- what the buffer holds then.
 pub data TellsText (text old : List ℕ) (a : Answer) (n : ℕ) (new : List ℕ) : Type 0 where
   no_room : length old < length text → a ≡ NoRoom → n ≡ length text → new ≡ old → TellsText text old a n new
   written : length text ≤ length old → a ≡ Good → n ≡ length text → new ≡ text ++ drop (length text) old → TellsText text old a n new
 
--- of the words that the bytes stand for
+-- of the words that the bytes encode
 pub data TellsUnpack (bytes old : List ℕ) (a : Answer) (n : ℕ) (new : List ℕ) : Type 0 where
   too_large : 2 ^ 53 < length bytes → a ≡ TooLarge → n ≡ 0 → new ≡ old → TellsUnpack bytes old a n new
   cut : length bytes ≤ 2 ^ 53 → packed_is_cut bytes ≡ true → a ≡ Truncated → n ≡ 0 → new ≡ old → TellsUnpack bytes old a n new

@@ -11,7 +11,7 @@ pub enum Answer {
     Good = 0,
     /// There are no bytes.
     NoMessage = 1,
-    /// The table tells of more than 512 segments.
+    /// The table announces more than 512 segments.
     TooManySegments = 2,
     /// The table's sizes sum to more words than the limit, or there are too many packed bytes.
     TooLarge = 3,
@@ -19,7 +19,7 @@ pub enum Answer {
     Truncated = 4,
     /// A limit is above its most.
     BadLimits = 8,
-    /// The room given is too small.
+    /// The buffer given is too small.
     NoRoom = 9,
     /// The message is accepted, and isn't its own canonical copy.
     NotCanonical = 16,
@@ -27,7 +27,8 @@ pub enum Answer {
     HasCapability = 17,
     /// The message is accepted, and a word of it is used twice.
     Overlap = 18,
-    /// The message is refused for [`Reason::NoRoot`], as those behind it for the reasons of their names.
+    /// The message is refused for [`Reason::NoRoot`]. Those after it are for the reasons of their
+    /// names.
     NoRoot = 32,
     Reserved = 33,
     SegmentMissing = 34,

@@ -28,7 +28,7 @@ pub fn version() -> u32
 /// whole.
 pub fn frame(bytes: &[u8], limits: &CallLimits, report: &mut CallReport) -> Answer
     ensures tells { TellsFrame limits.now bytes.now result report.new }
-    // Nothing else is to be told of the bytes.
+    // The bytes allow no other result.
     ensures only { (a : Answer) (r : CallReport) → TellsFrame limits.now bytes.now a r → (result ≡ a) × (report.new ≡ r) }
 {
     match front(bytes, limits) {
@@ -43,15 +43,15 @@ pub fn frame(bytes: &[u8], limits: &CallLimits, report: &mut CallReport) -> Answ
     }
 }
 
-/// Vets the message that bytes begin with, within limits. Takes no memory, and looks at nothing behind
-/// the message (encoding: Security Considerations).
+/// Vets the message that bytes begin with, within limits. Allocates nothing, and doesn't look at
+/// the bytes after the message (encoding: Security Considerations).
 ///
-/// The answer is [`Answer::Good`] where the message is accepted: its root denotes a finite tree within
-/// the limits. Else it is why there is no frame, or the reason of the refusal. The report is written
-/// whole.
+/// It returns [`Answer::Good`] if the message is accepted: its root denotes a finite tree within
+/// the limits. Otherwise it returns why there is no frame, or the reason of the refusal. The report
+/// is written whole.
 pub fn vet(bytes: &[u8], limits: &CallLimits, report: &mut CallReport) -> Answer
     ensures tells { TellsVet limits.now bytes.now result report.new }
-    // Nothing else is to be told of the bytes.
+    // The bytes allow no other result.
     ensures only { (a : Answer) (r : CallReport) → TellsVet limits.now bytes.now a r → (result ≡ a) × (report.new ≡ r) }
 {
     let verdict = verdict_of(bytes, limits);
@@ -59,7 +59,7 @@ pub fn vet(bytes: &[u8], limits: &CallLimits, report: &mut CallReport) -> Answer
     answer_of_verdict(&verdict)
 }
 
-// What is found of the message in front of bytes.
+// What is found of the message at the start of bytes.
 fn verdict_of(bytes: &[u8], limits: &CallLimits) -> Verdict
     ensures { IsVerdict limits.now bytes.now result }
 {

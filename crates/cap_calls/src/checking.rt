@@ -1,4 +1,4 @@
-//! The call that tells whether a message is canonical.
+//! The call that checks whether a message is canonical.
 
 ghost use Rattle.cap_calls.specs.Calls.{TellsCheck};
 ghost use Rattle.cap_calls.specs.declared.answer.Answer.{Answer};
@@ -28,13 +28,13 @@ use cap_vet::{Limits, Report, vet};
 /// capability too; else it is that of [`crate::vet`]. The report is written whole.
 pub fn is_canonical(bytes: &[u8], limits: &CallLimits, report: &mut CallReport) -> Answer
     ensures tells { TellsCheck limits.now bytes.now result report.new }
-    // Nothing else is to be told of the bytes.
+    // The bytes allow no other result.
     ensures only { (a : Answer) (r : CallReport) → TellsCheck limits.now bytes.now a r → (result ≡ a) × (report.new ≡ r) }
 {
     check(bytes, limits, report)
 }
 
-// The same, as the answer tells it.
+// The same, without the clause `only`.
 fn check(bytes: &[u8], limits: &CallLimits, report: &mut CallReport) -> Answer
     ensures { TellsCheck limits.now bytes.now result report.new }
 {

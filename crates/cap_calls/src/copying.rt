@@ -21,16 +21,19 @@ use cap_frame::{ByteView, Framed, SegmentTables, Segments};
 use cap_spec::Refusal;
 use cap_vet::{Limits, Report, vet};
 
-/// Writes the canonical copy of the message that bytes begin with into the front of `out`, as the bytes
-/// of its words alone, without a table (encoding: Canonicalization, 64-bit Words). Takes no memory, and
-/// looks at nothing behind the message.
+/// Writes the canonical copy of the message that bytes begin with to the start of `out`, as the
+/// bytes of its words alone, without a table (encoding: Canonicalization, 64-bit Words). Allocates
+/// nothing, and doesn't look at the bytes after the message.
 ///
-/// The answers, in the order in which they are looked for: those of [`crate::vet`] where the message
-/// isn't accepted; [`Answer::HasCapability`] where a capability is reached, the first of which the
-/// report names, so that there is no copy; [`Answer::NoRoom`] where `out` is too small, `written` tells
-/// how many bytes the copy has then; [`Answer::Good`] with how many were written. It is 0 after any
-/// other answer. After any answer but the last `out` is as it was, and what stands behind the copy is as
-/// it was after that too. The report is written whole.
+/// The first of these that applies is returned:
+/// - the answers of [`crate::vet`], if the message isn't accepted;
+/// - [`Answer::HasCapability`], if a capability is reached, so that there is no copy; the report
+///   names the first one;
+/// - [`Answer::NoRoom`], if `out` is too small; `written` is then how many bytes the copy has;
+/// - [`Answer::Good`], and `written` is how many bytes were written.
+///
+/// With the first two, `written` is 0. Without [`Answer::Good`], `out` is unchanged; with it, the
+/// bytes after the copy are. The report is written whole.
 pub fn canonical(
     bytes: &[u8],
     limits: &CallLimits,
@@ -39,16 +42,16 @@ pub fn canonical(
     report: &mut CallReport,
 ) -> Answer
     ensures tells { TellsCopy limits.now bytes.now out.old result written.new out.new report.new }
-    // Nothing else is to be told of the bytes and the room.
+    // The bytes and the capacity allow no other result.
     ensures only { (a : Answer) (n : ℕ) (new : List ℕ) (r : CallReport) → TellsCopy limits.now bytes.now out.old a n new r
         → (result ≡ a) × (written.new ≡ n) × (out.new ≡ new) × (report.new ≡ r) }
-    // So much room always serves.
+    // This capacity is always enough.
     ensures few { written.new ≤ 8 * (report.new.charge + 1) }
 {
     copy(bytes, limits, out, written, report)
 }
 
-// The same, as the answer tells it.
+// The same, without the clauses `only` and `few`.
 fn copy(
     bytes: &[u8],
     limits: &CallLimits,
@@ -90,7 +93,7 @@ fn copy(
     }
 }
 
-// The answer for what is told of the room, and how many bytes are told.
+// The answer for what is found of the buffer's capacity, and the number of bytes that is returned.
 fn answer_of_room(told: Result<usize, RoomFault>) -> (Answer, usize)
     ensures answer { result.0 ≡ room_answer told }
     ensures count { result.1 ≡ room_count told }
@@ -102,7 +105,7 @@ fn answer_of_room(told: Result<usize, RoomFault>) -> (Answer, usize)
     }
 }
 
-// The report of a framed message, and what is told of its copy.
+// The report of a framed message, and the result of its copy.
 fn copy_framed(
     framed: &Framed<'_>,
     limits: Limits,
@@ -120,7 +123,7 @@ fn copy_framed(
     }
 }
 
-// The same of one of several segments, which needs more room for its tables.
+// The same for one of several segments, which needs more space for its tables.
 #[cold]
 #[inline(never)]
 fn copy_segments(

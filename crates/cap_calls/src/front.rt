@@ -1,4 +1,4 @@
-//! The frame in front of bytes, and what its message is found to be.
+//! The frame at the start of bytes, and what its message is found to be.
 
 ghost use Rattle.cap_calls.specs.CallVerdicts.{AreLimits, HasNoFrame};
 ghost use Rattle.cap_frame.specs.Framed.{frame_bytes, framed_segments};
@@ -14,7 +14,7 @@ use cap_frame::{ByteView, Framed, SegmentTables, Segments, SizeLimit, front_of};
 use cap_spec::Refusal;
 use cap_vet::{Limits, Report, vet};
 
-// The frame in front of bytes, with the limits of a walk through its message.
+// The frame at the start of bytes, with the limits of a walk through its message.
 pub(crate) fn front<'b>(
     bytes: &'b [u8],
     limits: &CallLimits,
@@ -49,7 +49,7 @@ pub(crate) fn vet_framed(framed: &Framed<'_>, limits: Limits) -> Result<Report, 
     }
 }
 
-// The same of one of several segments, which needs more room.
+// The same for one of several segments, which needs more space.
 #[cold]
 #[inline(never)]
 pub(crate) fn vet_segments(framed: &Framed<'_>, limits: Limits) -> Result<Report, Refusal>

@@ -21,17 +21,21 @@ use crate::verdict::Verdict;
 use cap_frame::{ByteView, Framed, SegmentTables, Segments};
 use cap_vet::{ExclusiveFault, Limits, Report, marks_for, vet_exclusive_in};
 
-/// Vets the message that bytes begin with as [`crate::vet`] does, and asks that also no word of it is
-/// used twice: by two pointers that paths reach, by one pointer, or by the root (profile). A bit for each
-/// word is marked in `marks`, which may hold anything before. Takes no memory, and looks at nothing
-/// behind the message.
+/// Vets the message that bytes begin with as [`crate::vet`] does, and also refuses one that uses a
+/// word twice: by two pointers that paths reach, by one pointer, or by the root (profile). It marks
+/// a bit for each word in `marks`, which may hold anything before. Allocates nothing, and doesn't
+/// look at the bytes after the message.
 ///
-/// The answers, in the order in which they are looked for: those of [`crate::vet`] where the message
-/// isn't accepted, with `needed` 0; [`Answer::NoRoom`] where `marks` has fewer numbers than are needed,
-/// with the report of [`crate::vet`]; [`Answer::Overlap`] where a word is used twice, the report then
-/// names the first pointer in preorder that uses one, and how many were looked at;
-/// [`Answer::Good`] with the report of [`crate::vet`]. After the last two the first `needed` numbers hold
-/// marks and the others are as they were; after any other answer all are. The report is written whole.
+/// The first of these that applies is returned:
+/// - the answers of [`crate::vet`], if the message isn't accepted; `needed` is 0;
+/// - [`Answer::NoRoom`], if `marks` has fewer numbers than are needed; the report is that of
+///   [`crate::vet`];
+/// - [`Answer::Overlap`], if a word is used twice; the report names the first pointer in preorder
+///   that uses one, and how many were looked at;
+/// - [`Answer::Good`]; the report is that of [`crate::vet`].
+///
+/// With the last two, the first `needed` numbers hold marks and the others are unchanged. With any
+/// other answer all are unchanged. The report is written whole.
 pub fn vet_exclusive(
     bytes: &[u8],
     limits: &CallLimits,
@@ -40,10 +44,10 @@ pub fn vet_exclusive(
     report: &mut CallReport,
 ) -> Answer
     ensures tells { TellsExclusive limits.now bytes.now (length marks.old) result needed.new report.new }
-    // Nothing else is to be told of the bytes and the room.
+    // The bytes and the capacity allow no other result.
     ensures only { (a : Answer) (n : ℕ) (r : CallReport) → TellsExclusive limits.now bytes.now (length marks.old) a n r
         → (result ≡ a) × (needed.new ≡ n) × (report.new ≡ r) }
-    // So much room always serves.
+    // This capacity is always enough.
     ensures few { needed.new ≤ report.new.frame / 512 + 1 }
     ensures rest { drop needed.new marks.new ≡ drop needed.new marks.old }
     ensures kept { (result ≡ Good) ⊎ ((result ≡ Overlap) ⊎ (marks.new ≡ marks.old)) }
@@ -51,7 +55,7 @@ pub fn vet_exclusive(
     mark(bytes, limits, marks, needed, report)
 }
 
-// The same, as the answer tells it.
+// The same, without the clauses `only` and `few`.
 fn mark(
     bytes: &[u8],
     limits: &CallLimits,
@@ -92,7 +96,7 @@ fn mark(
     }
 }
 
-// How many numbers are told of after a fault, where a message that is accepted takes so many.
+// The number that is returned as needed after a fault, if an accepted message takes `numbers`.
 fn needed_after(fault: &ExclusiveFault, numbers: usize) -> usize
     ensures { result ≡ fault_needed numbers fault.now }
 {
@@ -103,7 +107,7 @@ fn needed_after(fault: &ExclusiveFault, numbers: usize) -> usize
     }
 }
 
-// The report of a fault, of a frame of so many bytes and segments.
+// The report of a fault, of a frame with these numbers of bytes and segments.
 fn report_of_fault(fault: &ExclusiveFault, frame: u64, segments: u32) -> CallReport
     ensures { result ≡ fault_report frame segments fault.now }
 {
@@ -162,7 +166,7 @@ fn mark_framed(
     }
 }
 
-// The same of one of several segments, which needs more room for its tables.
+// The same for one of several segments, which needs more space for its tables.
 #[cold]
 #[inline(never)]
 fn mark_segments(

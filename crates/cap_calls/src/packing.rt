@@ -7,22 +7,25 @@ ghost use Rattle.std.specs.Prelude.{◌≡◌, List, ℕ};
 use crate::answer::Answer;
 use cap_pack::pack_into;
 
-/// Packs the words that all the bytes are, eight bytes a word, the lowest first, into the front of `out`
-/// (encoding: Packing, 64-bit Words). It looks at no framing.
+/// Packs the words that all the bytes are, eight bytes a word, the lowest first, to the start of
+/// `out` (encoding: Packing, 64-bit Words). It looks at no framing. Allocates nothing.
 ///
-/// The answers, in the order in which they are looked for: [`Answer::Truncated`] where the bytes end
-/// inside a word, and `written` is 0 then; [`Answer::NoRoom`] where `out` is too small, `written` tells
-/// how many bytes the packed text has then; [`Answer::Good`] with how many were written. After any
-/// answer but the last `out` is as it was, and what stands behind the text is as it was after that too.
+/// The first of these that applies is returned:
+/// - [`Answer::Truncated`], if the bytes end inside a word; `written` is 0;
+/// - [`Answer::NoRoom`], if `out` is too small; `written` is then how many bytes the packed text
+///   has;
+/// - [`Answer::Good`], and `written` is how many bytes were written.
+///
+/// Without [`Answer::Good`], `out` is unchanged; with it, the bytes after the text are.
 pub fn pack(bytes: &[u8], out: &mut [u8], written: &mut usize) -> Answer
     ensures tells { TellsPack bytes.now out.old result written.new out.new }
-    // Nothing else is to be told of the bytes.
+    // The bytes and the capacity allow no other result.
     ensures only { (a : Answer) (n : ℕ) (new : List ℕ) → TellsPack bytes.now out.old a n new → (result ≡ a) × (written.new ≡ n) × (out.new ≡ new) }
 {
     pack_all(bytes, out, written)
 }
 
-// The same, as the answer tells it.
+// The same, without the clause `only`.
 fn pack_all(bytes: &[u8], out: &mut [u8], written: &mut usize) -> Answer
     ensures { TellsPack bytes.now out.old result written.new out.new }
 {

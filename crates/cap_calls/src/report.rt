@@ -1,9 +1,9 @@
-//! What a call tells beside its answer.
+//! What a call reports beside its answer.
 
 use crate::verdict::{NoFrame, Verdict};
 use cap_frame::FrontFault;
 
-/// What a call tells beside its answer, laid out as C has it. What doesn't apply is 0.
+/// What a call reports beside its answer, laid out as C has it. A field that doesn't apply is 0.
 #[repr(C)]
 #[derive(Clone, Copy, Debug, PartialEq, Eq)]
 pub struct CallReport {
@@ -31,7 +31,7 @@ impl CallReport {
     ghost use Rattle.cap_calls.specs.CallReports.{extent_report, no_frame_report, verdict_report};
     ghost use Rattle.std.specs.Prelude.{◌≡◌};
 
-    // Of a frame of so many bytes and segments.
+    // Of a frame with these numbers of bytes and segments.
     pub(crate) fn of_extent(frame: u64, segments: u32) -> CallReport
         ensures { result ≡ extent_report frame segments }
     {

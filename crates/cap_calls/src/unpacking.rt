@@ -13,23 +13,25 @@ use cap_words::{SliceIn, WordSource};
 /// The longest packed text that is unpacked, in bytes.
 const MOST_PACKED: usize = 9007199254740992;
 
-/// Unpacks all the bytes into the front of `out`, eight bytes a word, the lowest first (encoding:
-/// Packing, 64-bit Words). It looks at no framing.
+/// Unpacks all the bytes to the start of `out`, eight bytes a word, the lowest first (encoding:
+/// Packing, 64-bit Words). It looks at no framing. Allocates nothing.
 ///
-/// The answers, in the order in which they are looked for: [`Answer::TooLarge`] where there are more than
-/// 2^53 bytes; [`Answer::Truncated`] where they end inside a group; [`Answer::NoRoom`] where `out` is
-/// too small, `written` tells how many bytes it takes then; [`Answer::Good`] with how many were
-/// written. It is 0 after the first two. After any answer but the last `out` is as it was, and what
-/// stands behind the words is as it was after that too.
+/// The first of these that applies is returned:
+/// - [`Answer::TooLarge`], if there are more than 2^53 bytes; `written` is 0;
+/// - [`Answer::Truncated`], if they end inside a group; `written` is 0;
+/// - [`Answer::NoRoom`], if `out` is too small; `written` is then how many bytes the words take;
+/// - [`Answer::Good`], and `written` is how many bytes were written.
+///
+/// Without [`Answer::Good`], `out` is unchanged; with it, the bytes after the words are.
 pub fn unpack(bytes: &[u8], out: &mut [u8], written: &mut usize) -> Answer
     ensures tells { TellsUnpack bytes.now out.old result written.new out.new }
-    // Nothing else is to be told of the bytes.
+    // The bytes and the capacity allow no other result.
     ensures only { (a : Answer) (n : ℕ) (new : List ℕ) → TellsUnpack bytes.now out.old a n new → (result ≡ a) × (written.new ≡ n) × (out.new ≡ new) }
 {
     unpack_all(bytes, out, written)
 }
 
-// The same, as the answer tells it.
+// The same, without the clause `only`.
 fn unpack_all(bytes: &[u8], out: &mut [u8], written: &mut usize) -> Answer
     ensures { TellsUnpack bytes.now out.old result written.new out.new }
 {
@@ -49,7 +51,7 @@ fn unpack_all(bytes: &[u8], out: &mut [u8], written: &mut usize) -> Answer
     Answer::Good
 }
 
-// How many words packed bytes stand for, or `None` where they end inside a group. Only the heads of
+// How many words packed bytes encode, or `None` if they end inside a group. Only the heads of
 // groups are read.
 fn unpacked_words(bytes: &[u8]) -> Option<u64>
     requires { length bytes.now ≤ 2 ^ 53 }
@@ -67,7 +69,7 @@ fn unpacked_words(bytes: &[u8]) -> Option<u64>
     Some(words)
 }
 
-// How many bytes the group in front has, and how many words it stands for, or `None` where the bytes end
+// How many bytes the first group has, and how many words it encodes, or `None` if the bytes end
 // inside it.
 fn front_group(bytes: &[u8]) -> Option<(usize, u64)>
     requires { 0 < length bytes.now }
@@ -102,7 +104,7 @@ fn front_group(bytes: &[u8]) -> Option<(usize, u64)>
     }
 }
 
-// Writes the words that the bytes stand for, which fill the room.
+// Writes the words that the bytes encode, which fill the buffer.
 fn write_unpacked(bytes: &[u8], out: &mut [u8])
     requires whole { packed_is_cut bytes.now ≡ false }
     requires room { length out.old ≡ 8 * length (unpacked bytes.now) }

@@ -1,10 +1,10 @@
-//! What is found of the message in front of bytes.
+//! What is found of the message at the start of bytes.
 
 use cap_frame::FrontFault;
 use cap_spec::Refusal;
 use cap_vet::Report;
 
-/// Why there is no frame to tell of.
+/// Why there is no frame to report.
 #[derive(Clone, Copy, Debug, PartialEq, Eq, Drop)]
 pub enum NoFrame {
     /// A limit is above its most.
@@ -15,8 +15,8 @@ pub enum NoFrame {
     Fault(FrontFault),
 }
 
-/// What is found of the message in front of bytes: how many bytes its frame has, how many segments it
-/// has, and whether it is accepted.
+/// What is found of the message at the start of bytes: how many bytes its frame has, how many
+/// segments it has, and whether it is accepted.
 #[derive(Clone, Copy, Debug, PartialEq, Eq, Drop)]
 pub enum Verdict {
     /// There is no frame.

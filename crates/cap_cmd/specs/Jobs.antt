@@ -1,6 +1,8 @@
--- What a job does: its engine gives an answer over the words of its input, and the status and the line of a fault tell that (profile).
--- The members of types have the letters of types: gi of the input's, gs of the source's over it, go and ge of the two
--- outputs', gp of a packer's over the first, and gu of a plain sink's.
+-- What a job does: its engine returns an answer over the words of its input.
+-- The status and the line of a fault report that answer (profile).
+-- The members of types have the letters of types. gi is of the input's, and gs of the source's over
+-- it. Those of the two outputs' are go and ge. That of a packer's over the first is gp, and that of
+-- a plain sink's is gu.
 use Rattle.std.specs.Prelude.{ℕ, ◌≡◌, ◌≤◌, ◌||◌, if◌then◌else◌, true, false, Bool, List, length, sum, [], Option, Some, OnSome, Result, Ok, Err, unwrap_or}
 use Rattle.std.specs.List.{AllByRecursion}
 use Rattle.std.specs.Option.{option_map}
@@ -32,7 +34,7 @@ use Rattle.cap_cmd.specs.declared.job.Task.TheVariants.{Segments, Vet, Dump, Get
 use Rattle.cap_run.specs.declared.settings.Outcome.{Outcome}
 use Rattle.cap_run.specs.declared.settings.Settings.{Settings}
 
--- what is unpacked is packed, what is packed isn't yet, and of messages the user tells it
+-- the input of unpacking is packed, that of packing is not, and for messages the user decides
 abbrev pub is_packed : Task → Bool → Bool
 is_packed Segments told = told
 is_packed (Vet exclusive) told = told
@@ -56,7 +58,8 @@ abbrev pub input_ends : Bool → Option (List ℕ) → List ℕ
 input_ends packed bytes = if packed then packed_ends 0 (unwrap_or bytes []) else plain_ends 0 (unwrap_or bytes [])
 
 module _ {I S : Type 0} (gi : input.Ghosts I) (gs : source.Ghosts S) where
-  -- A source begins with the words of an input that is packed or not, and fails as often as the input that it stands on.
+  -- A source begins with the words of an input that is packed or not.
+  -- It fails as often as the input that it reads.
   pub record BeginsInput (packed : Bool) (start : I) (first : S) : Type 0 where
     pub words : gs.words first ≡ input_words packed (gi.to_come start)
     pub is_cut : gs.is_cut first ≡ input_is_cut packed (gi.to_come start)
@@ -68,7 +71,7 @@ module _ {I S : Type 0} (gi : input.Ghosts I) (gs : source.Ghosts S) where
     pub shows_failures : (s : S) → gs.failures s ≡ gi.failures (stands_on s)
 
 module _ {O K : Type 0} (go : output.Ghosts O) (gk : sink.Ghosts K) where
-  -- A sink begins over an output: the text of the words that it is put comes behind what the output took.
+  -- A sink begins over an output: the text of the words put to it follows what the output took.
   pub record BeginsOutput (text : List ℕ → List ℕ) (start : O) (first : K) : Type 0 where
     pub empty : (ws : List ℕ) → gk.text first ws ≡ append_known (go.written start) (text ws)
     pub taken : gk.taken first ≡ go.written start
@@ -76,7 +79,7 @@ module _ {O K : Type 0} (go : output.Ghosts O) (gk : sink.Ghosts K) where
     pub spent : gk.spent first ≡ go.spent start
     pub failures : gk.failures first ≡ go.failures start
 
-  -- This is the output that the sink stands on.
+  -- This is the output that the sink writes to.
   pub record GivesOutput (last : K) (end : O) : Type 0 where
     pub taken : gk.taken last ≡ go.written end
     pub spent : gk.spent last ≡ gk.closed last || go.spent end
@@ -99,7 +102,8 @@ module _ {E : Type 0} (ge : output.Ghosts E) where
     pub line : WritesLine copy_fault_line answer old new
 
 module _ {S O E P U : Type 0} (gs : source.Ghosts S) (go : output.Ghosts O) (ge : output.Ghosts E) (gp : sink.Ghosts P) (gu : sink.Ghosts U) where
-  -- What is done over the words of a source, by the task: an answer of the task's engine, which the status and the line of a fault tell.
+  -- What is done over the words of a source, by the task: an answer of the task's engine.
+  -- The status and the line of a fault report it.
   abbrev pub DoesTask : Task → Settings → S → O → O → E → E → ℕ → Type 0
   DoesTask Segments s first before after old new status = (answer : Result Outcome RunFault) × (last : S)
       × ShowsStream gs go (limit_of s.size) s.messages first last before after answer × TellsRun ge answer old new status

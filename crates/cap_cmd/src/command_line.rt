@@ -370,10 +370,13 @@ fn job_of(alloc: Global, task: Task, options: &ArgMatches<'_>) -> Result<Job, Jo
 
 /// Reads the arguments of the program, its name first.
 ///
-/// A request for help or for the version is a `Help`, and a mistake a `Usage`, each with the text
-/// for the user. A path that is none is a `Path`, with the place where it goes wrong: it is read
-/// here, before any input is opened.
-/// `Memory` comes only if an allocation failed.
+/// # Errors
+///
+/// - [`JobFault::Help`]: the user asks for help or for the version; it has the text for the user.
+/// - [`JobFault::Usage`]: there is a mistake in the arguments; it has the text for the user.
+/// - [`JobFault::Path`]: the text of a path is not a path; it has the byte where it goes wrong.
+///   The path is read here, before any input is opened.
+/// - [`JobFault::Memory`]: an allocation failed, and only then.
 pub fn read_job(alloc: Global, words: Vec<String>) -> Result<Job, JobFault>
     ensures messages { IfOk result (λ job. job.settings.messages ≡ most_messages) }
 {

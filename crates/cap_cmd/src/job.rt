@@ -7,7 +7,7 @@ use cap_run::{Settings, Step};
 pub enum Task {
     /// To show the segments of each message.
     Segments,
-    /// To tell of each message whether it is accepted.
+    /// To report for each message whether it is accepted.
     Vet {
         /// Whether it is refused too where some word is used twice.
         exclusive: bool,
@@ -19,7 +19,7 @@ pub enum Task {
         /// The steps of the path, from the root on.
         path: Vec<Step>,
     },
-    /// To tell of each message whether it is canonical.
+    /// To report for each message whether it is canonical.
     Check,
     /// To write the canonical copy of each message.
     Canon,
@@ -48,11 +48,11 @@ pub struct Job {
 pub enum JobFault {
     /// They ask for help or for the version, and this is the text.
     Help { text: String },
-    /// There is a mistake in them, and this is what the user is told.
+    /// There is a mistake in them, and this is the text for the user.
     Usage { text: String },
-    /// The text of a path is that of none: at this byte, counted from 0, it stops being the beginning
-    /// of a path's text, or this is its length, where all of it is such a beginning.
+    /// The text of a path is not a path. `at` is the first byte, counted from 0, at which it
+    /// stops being a prefix of a path's text. If all of it is such a prefix, `at` is its length.
     Path { at: usize },
-    /// A growth was refused.
+    /// An allocation failed.
     Memory,
 }

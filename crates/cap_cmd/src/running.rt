@@ -123,14 +123,18 @@ fn run_over<S: WordSource + Drop, O: ByteOut, E: ByteOut>(
 }
 
 /// Does a job: reads the input, writes to the output, and writes the line of a fault to `err`. It
-/// answers the exit status and the output. A line that can't be written changes no status.
+/// returns the exit status and the output. A line that can't be written changes no status.
 ///
-/// The status is 0 where every message was accepted, and canonical where that was asked, or all words
-/// were copied; 1 where a message was refused, also for a word that is used twice where that was asked,
-/// or isn't canonical where that was asked, or has a capability where its canonical copy is wanted, or
-/// where the input is no stream of messages within the limits, is cut inside a word or a group, or has
-/// more words than are copied; and 3 where a device failed, an end was spent before, or a growth was
-/// refused.
+/// # Status
+///
+/// - 0: every message was accepted, and is canonical if the task is [`Task::Check`]; or all words
+///   were copied.
+/// - 1, for a message: it was refused, or it has a capability and a copy is needed. Also if it uses
+///   a word twice and the job forbids that, or isn't canonical and the task is [`Task::Check`].
+/// - 1, for the input: it is no stream of messages within the limits, is cut inside a word or a
+///   group, or has more words than are copied.
+/// - 3: reading or writing failed, the input or the output was closed after an error, or an
+///   allocation failed.
 pub fn run_job<I: ByteIn + Drop, O: ByteOut, E: ByteOut>(
     alloc: Global,
     job: &Job,
@@ -138,7 +142,8 @@ pub fn run_job<I: ByteIn + Drop, O: ByteOut, E: ByteOut>(
     out: O,
     err: &mut E,
 ) -> (u8, O)
-    // There is an answer of the task's engine that meets the engine's contract, and the status and the line of a fault tell it.
+    // There is an answer of the task's engine that meets the engine's contract.
+    // The status and the line of a fault report it.
     ensures plain { is_packed job.now.task job.now.packed ≡ false →
         DoesJob I.ByteIn ⟦<PlainWords<I> as WordSource>⟧ O.ByteOut E.ByteOut ⟦<Packer<O> as WordSink>⟧ ⟦<PlainSink<O> as WordSink>⟧
         false job.now.task job.now.settings input out result.1 err.old err.new result.0 }

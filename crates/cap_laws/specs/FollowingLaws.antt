@@ -5,7 +5,8 @@ use Rattle.cap_spec.specs.Following.{Leads, to_null, to_cap, Wrong}
 use Rattle.cap_spec.specs.Denoting.{Finds}
 use Rattle.cap_spec.specs.declared.Reason.{Reason}
 
--- a reason why it is refused; or, over some pads, null, a capability, or an object with its segment, its start and the word that tells its shape
+-- a reason why it is refused; or, over some pads, null, a capability, or an object:
+-- its segment, its start and the word that holds its shape
 pub data Outcome : Type 0 where
   refused : Reason → Outcome
   null : ℕ → Outcome

@@ -17,8 +17,9 @@ abbrev pub OneEnding : Type 0
 OneEnding = (limit : ℕ) (words : List ℕ) (cut : Bool) → AllByRecursion IsWord words →
     (ending : Ending) × EndsIn limit words cut ending × ((other : Ending) → EndsIn limit words cut other → other ≡ ending)
 
--- The bytes of a frame: the number of segments less one and the size of each, four bytes each, then no or four bytes
--- of any padding, up to the next word, and the words of the segments.
+-- The bytes of a frame. First come the number of segments less one and the size of each, four bytes
+-- each. Then comes padding up to the next word: no bytes, or any four. Then come the words of the
+-- segments.
 pub record FramesInBytes (bytes : List ℕ) (m : List (List ℕ)) : Type 0 where
   pub some : 1 ≤ length m
   pub few : length m ≤ 512

@@ -17,12 +17,13 @@ abbrev pub UnpacksAsComputed : Type 0
 UnpacksAsComputed = (bytes : List ℕ) → AllByRecursion (λ b. b < 256) bytes → (words : List ℕ) →
     Unpacks bytes words ↔ (packed_is_cut bytes ≡ false) × (words ≡ unpacked bytes)
 
--- bytes are cut behind words just where the two functions say so
+-- bytes are cut after words exactly if the two functions say so
 abbrev pub CutAsComputed : Type 0
 CutAsComputed = (bytes : List ℕ) → AllByRecursion (λ b. b < 256) bytes → (words : List ℕ) →
     Cut bytes words ↔ (packed_is_cut bytes ≡ true) × (words ≡ unpacked bytes)
 
--- the packed text of no words is empty, and that of others the text of the group that takes their longest front, and then that of the words behind it
+-- the packed text of no words is empty; that of other words is the text of the group that takes
+-- their longest prefix, and then the text of the words after it
 abbrev pub PackedByGroups : Type 0
 PackedByGroups = (pack_text [] ≡ [])
     × ((w : ℕ) (words : List ℕ) → pack_text (w ∷ words) ≡
@@ -32,9 +33,10 @@ PackedByGroups = (pack_text [] ≡ [])
 abbrev pub GroupHasEnds : Type 0
 GroupHasEnds = (at : ℕ) (bytes words : List ℕ) (group : IsGroup bytes words) → length (group_ends at group) ≡ length words
 
--- The positions in packed bytes, behind so many: without bytes that of the end alone; with a group in front those of
--- its words, and then those of what is behind it; in the beginning of a group those that the words which it gives
--- have in the whole group, and then that of the end.
+-- The positions in packed bytes that follow a number of bytes. Without bytes there is only that of
+-- the end. If a group comes first, they are those of its words, and then those of what follows it.
+-- In the beginning of a group, they are those that its words have in the whole group, and then that
+-- of the end.
 abbrev pub EndsByGroups : Type 0
 EndsByGroups = ((at : ℕ) → packed_ends at [] ≡ capped at ∷ [])
     × ((at : ℕ) (bytes words rest : List ℕ) (group : IsGroup bytes words) → packed_ends at (bytes ++ rest) ≡ group_ends at group

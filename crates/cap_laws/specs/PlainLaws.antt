@@ -1,4 +1,4 @@
--- What the laws of the plain spelling say (standard: 64-bit Words).
+-- What the laws of the plain encoding say (standard: 64-bit Words).
 use Rattle.std.specs.Prelude.{ℕ, ◌*◌, ◌<◌, ◌≡◌, ◌≢◌, ◌↔◌, true, List, [], length, drop}
 use Rattle.std.specs.List.{AllByRecursion}
 use Rattle.cap_spec.specs.Plain.{PlainSplits, plain_words, plain_is_cut}
@@ -8,6 +8,6 @@ abbrev pub OneSplit : Type 0
 OneSplit = (bytes : List ℕ) → AllByRecursion (λ b. b < 256) bytes → (words rest : List ℕ) →
     PlainSplits bytes words rest ↔ (words ≡ plain_words bytes) × (rest ≡ drop (8 * length (plain_words bytes)) bytes)
 
--- the bytes end inside a word just where something is left behind the words
+-- the bytes end inside a word exactly if something is left after the words
 abbrev pub CutWithRest : Type 0
 CutWithRest = (bytes words rest : List ℕ) → PlainSplits bytes words rest → (plain_is_cut bytes ≡ true) ↔ (rest ≢ [])

@@ -27,9 +27,9 @@ pub fn layout_is_charged()
         Denotes m s w t c d → length (layout (trim t)) ≤ c + 1 }
 {}
 
-/// The layout of what a word denotes, trimmed, is a message of one segment whose root denotes the
-/// trimmed tree, at a charge no greater and at the same depth, so that it passes under the limits
-/// that the word passes under. Charges below 2^29 words, twice the greatest limit, keep each offset
+/// The layout of what a word denotes, trimmed, is a message of one segment. Its root denotes the
+/// trimmed tree, at a charge no greater and at the same depth. So it passes under the limits that
+/// the word passes under. Charges below 2^29 words, twice the greatest limit, keep each offset
 /// within its 30 bits. (It holds with capabilities too, though such a tree has no canonical form.)
 pub fn layout_denotes_trimmed_tree()
     ensures { (m : List (List ℕ)) (s w : ℕ) (t : Tree) (c d : ℕ) →

@@ -7,8 +7,8 @@ ghost use Rattle.cap_spec.specs.Words.{IsWord};
 ghost use Rattle.std.specs.List.{AllByRecursion};
 ghost use Rattle.std.specs.Prelude.{List, false, ℕ, ◌<◌, ◌≡◌};
 
-/// Each list of bytes is a packed text of words, or is cut inside a group behind words that it
-/// gives: one of the two and not the other, for exactly one list of words.
+/// Each list of bytes is a packed text of words, or is cut inside a group after words that it
+/// gives. Exactly one of the two holds, for exactly one list of words.
 pub fn one_unpacking()
     ensures { OneUnpacking }
 {}
@@ -25,7 +25,7 @@ pub fn cut_as_computed()
     ensures { CutAsComputed }
 {}
 
-/// The one packed spelling that is written is a packed text of its words.
+/// The one packed encoding that is written is a packed text of its words.
 pub fn pack_text_unpacks()
     ensures { (words : List ℕ) → AllByRecursion IsWord words → Unpacks (pack_text words) words }
 {}
@@ -40,13 +40,13 @@ pub fn unpacks_are_bytes()
     ensures { (bytes words : List ℕ) → Unpacks bytes words → AllByRecursion (λ b. b < 256) bytes }
 {}
 
-/// The one packed spelling, group by group: the group that takes the longest front of the words,
-/// and then the spelling of the words behind it.
+/// The one packed encoding, group by group: first the group that takes the longest prefix of the
+/// words, and then the encoding of the words after it.
 pub fn packed_by_groups()
     ensures { PackedByGroups }
 {}
 
-/// The one packed spelling of words gives just these words, and isn't cut.
+/// The one packed encoding of words gives exactly these words, and isn't cut.
 pub fn pack_text_reads_back()
     ensures { (words : List ℕ) → AllByRecursion IsWord words → (unpacked (pack_text words) ≡ words) × (packed_is_cut (pack_text words) ≡ false) }
 {}
@@ -57,8 +57,8 @@ pub fn group_has_ends()
 {}
 
 /// The positions after the words of packed bytes, and at their end, group by group: those of the
-/// words of the group in front, and then those behind it. Where the bytes are cut inside a group
-/// they are those of the words that it gives, and then that of the whole input.
+/// words of the first group, and then those after it. If the bytes are cut inside a group, they are
+/// those of the words that it gives, and then that of the whole input.
 pub fn ends_by_groups()
     ensures { EndsByGroups }
 {}

@@ -35,8 +35,8 @@ pub fn last_step()
         ↔ ((b : Spot) × (level' : ℕ) × Comes m path level' b × Goes m b step c × (level ≡ level' + level_of c)) }
 {}
 
-/// Where the root denotes a tree, a path comes to a spot exactly where the tree has a node at the
-/// path, and that node stands there.
+/// If the root denotes a tree, a path comes to a spot exactly if the tree has a node at the path,
+/// and that node is at the spot.
 pub fn path_arrives_at_node()
     ensures node { (m : List (List ℕ)) (t : Tree) (c d : ℕ) → Denotes m 0 0 t c d →
         (path : List Step) (level : ℕ) (spot : Spot) → Comes m path level spot →
@@ -46,8 +46,8 @@ pub fn path_arrives_at_node()
         (level : ℕ) × (spot : Spot) × Comes m path level spot × DenotesAt m spot u }
 {}
 
-/// Preorder is a strict order of all paths, and of two paths that lead somewhere in one message one
-/// comes before the other unless they are one. (A step to a struct's pointer and one to a list's
+/// Preorder is a strict order of all paths. Of two paths that lead to spots in one message, one
+/// comes before the other unless they are equal. (A step to a struct's pointer and one to a list's
 /// element may have one number, but no spot has both.)
 pub fn preorder_is_a_strict_total_order()
     ensures irreflexive { (p : List Step) → ¬ Before p p }
@@ -79,10 +79,10 @@ pub fn reached_cycle_denotes_no_tree()
         (t : Tree) (c d : ℕ) → ¬ Denotes m s w t c d }
 {}
 
-/// Where the root denotes a tree, the pointers of the tree are as many as the paths that reach a
-/// pointer word, and its capabilities as many as those that reach a capability: there is a rising
-/// list of exactly these paths, of that length. A tree has a capability exactly where some pointer
-/// word is the first in preorder that leads to one.
+/// If the root denotes a tree, its pointers are as many as the paths that reach a pointer word. Its
+/// capabilities are as many as the paths that reach a capability. There is a rising list of exactly
+/// these paths, of that length. A tree has a capability exactly if some pointer word is the first
+/// in preorder that leads to one.
 pub fn counts_are_numbers_of_paths()
     ensures pointers { (m : List (List ℕ)) (t : Tree) (c d : ℕ) → Denotes m 0 0 t c d →
         (paths : List (List Step)) × Rises paths × (length paths ≡ pointer_count t)

@@ -1,4 +1,4 @@
-//! Words in their plain spelling, eight bytes each.
+//! Words in their plain encoding, eight bytes each.
 
 ghost use Rattle.cap_laws.specs.PlainLaws.{CutWithRest, OneSplit};
 ghost use Rattle.cap_spec.specs.Plain.{plain_text, plain_words};
@@ -6,18 +6,18 @@ ghost use Rattle.cap_spec.specs.Words.{IsWord};
 ghost use Rattle.std.specs.List.{AllByRecursion};
 ghost use Rattle.std.specs.Prelude.{List, ℕ, ◌≡◌};
 
-/// Each list of bytes is the plain spelling of exactly one list of words, and then exactly one
-/// list of less than eight bytes: the words that `plain_words` gives, and what is behind them.
+/// Each list of bytes is the plain encoding of exactly one list of words, and then exactly one
+/// list of less than eight bytes: the words that `plain_words` gives, and what follows them.
 pub fn one_split()
     ensures { OneSplit }
 {}
 
-/// The bytes end inside a word, by `plain_is_cut`, just where something is left behind the words.
+/// The bytes end inside a word, by `plain_is_cut`, exactly if something is left after the words.
 pub fn cut_with_rest()
     ensures { CutWithRest }
 {}
 
-/// The plain spelling of words reads back as these words.
+/// The plain encoding of words reads back as these words.
 pub fn plain_reads_back()
     ensures { (words : List ℕ) → AllByRecursion IsWord words → plain_words (plain_text words) ≡ words }
 {}

@@ -23,8 +23,8 @@ pub fn charge_is_cost_of_paths()
         (paths : List (List Step)) (cost : ℕ) → AreDistinct paths → CostOf m paths cost → cost ≤ c }
 {}
 
-/// Where the root denotes a tree, nothing is wrong at a pointer word that a path reaches, no path
-/// leads to an object past the depth of the tree, and some path leads as deep, unless that is 0.
+/// If the root denotes a tree, nothing is wrong at a pointer word that a path reaches. No path
+/// leads to an object past the depth of the tree. Some path leads as deep, unless that is 0.
 pub fn reached_pointers_of_tree()
     ensures right { (m : List (List ℕ)) (t : Tree) (c d : ℕ) → Denotes m 0 0 t c d →
         (p : List Step) (level s w : ℕ) (v : Reason) → Reaches m p level s w → ¬ Wrong m s w v }

@@ -1,11 +1,12 @@
--- Which word stands for a pointer word, once its landing pads are passed (standard: Inter-Segment Pointers).
+-- Which word takes the place of a pointer word, once its landing pads are passed
+-- (standard: Inter-Segment Pointers).
 use Rattle.std.specs.Prelude.{ℕ, ◌+◌, List, pos}
 use Rattle.cap_spec.specs.Messages.{HasWord}
 use Rattle.cap_spec.specs.Pointers.{pad, far_segment, IsFar, IsReserved}
 use Rattle.cap_spec.specs.Following.{Lead, to_object, Leads, Says, IsTwoPad, Wrong}
 use Rattle.cap_spec.specs.declared.Reason.TheVariants.{Reserved, PadIsFar}
 
--- Over k pads, the word q at t:b stands for the pointer word at s:w.
+-- Over k pads, the word q at t:b takes the place of the pointer word at s:w.
 pub record StandsFor (m : List (List ℕ)) (s w k t b q : ℕ) : Type 0 where
   pub leads : (r : Lead) → Says t b q r → Leads m s w k r
   pub reserved : IsReserved q → Wrong m s w Reserved

@@ -11,7 +11,7 @@ use Rattle.cap_ptr.specs.declared.shapes.Target.{Target}
 use Rattle.cap_ptr.specs.declared.shapes.Followed.{Followed}
 use Rattle.cap_ptr.specs.declared.shapes.Followed.TheVariants as followed
 
--- the word q tells a struct of d data words and n pointers
+-- the word q encodes a struct of d data words and n pointers
 pub record IsStructShape (q d n : ℕ) : Type 0 where
   pub kind : kind q ≡ 0
   pub data_words : d ≡ data_size q
@@ -30,7 +30,7 @@ pub record IsPointersShape (q n : ℕ) : Type 0 where
   pub code : code q ≡ 6
   pub count : n ≡ list_size q
 
--- a list of n structs of d data words and p pointers, as its tag word tells, in size words
+-- a list of n structs of d data words and p pointers, by its tag word, in size words
 pub record IsStructsShape (q tag size n d p : ℕ) : Type 0 where
   pub kind : kind q ≡ 1
   pub code : code q ≡ 7
@@ -39,7 +39,7 @@ pub record IsStructsShape (q tag size n d p : ℕ) : Type 0 where
   pub data_words : d ≡ data_size tag
   pub pointers : p ≡ pointer_size tag
 
--- the shape that the word q tells, for a list of structs with its tag word
+-- the shape that the word q encodes, for a list of structs with its tag word
 abbrev pub IsShape : ℕ → ℕ → Shape → Type 0
 IsShape q tag (Struct d p) = IsStructShape q d p
 IsShape q tag (Scalars c n) = IsScalarsShape q c n

@@ -19,13 +19,27 @@ use cap_spec::Reason;
 use cap_words::{bits, signed_offset};
 
 /// What word `w` of segment `s`, a pointer, leads to: null, a capability, or an object that lies
-/// inside its segment. Asks that the word exists. Takes no memory.
+/// inside its segment. The caller makes sure that the word exists. Allocates nothing.
 ///
-/// A far pointer leads through a landing pad of one or two words, which may stand in any segment
-/// (encoding: Inter-Segment Pointers). The error is the first reason, in the order of `Reason`,
-/// whose condition holds; it is never `NoRoot`, `DepthLimit` or `WordLimit`.
-// It and what it calls at nearly every word are inlined: in a walk's loop what a word leads to then stays
-// in registers.
+/// A far pointer leads through a landing pad of one or two words, which may lie in any segment
+/// (encoding: Inter-Segment Pointers).
+///
+/// # Errors
+///
+/// The first reason, in the order of [`Reason`], whose condition holds. It is never `NoRoot`,
+/// `DepthLimit` or `WordLimit`.
+/// - [`Reason::Reserved`]: the word, or that of a one-word pad, is of kind 3 and no capability.
+/// - [`Reason::SegmentMissing`]: a far pointer names a segment that the message doesn't have.
+/// - [`Reason::PadOutside`]: the landing pad isn't all inside its segment.
+/// - [`Reason::PadIsFar`]: a one-word pad is a far pointer.
+/// - [`Reason::PadNotFar`]: the first word of a two-word pad isn't a far pointer to a one-word pad.
+/// - [`Reason::TagKind`]: the second word of a two-word pad is no struct and no list pointer.
+/// - [`Reason::TagOffset`]: the offset of that word isn't 0.
+/// - [`Reason::OutOfSegment`]: the object starts before its segment or ends after it.
+/// - [`Reason::CompositeTag`]: the tag of a list of structs isn't laid out as a struct pointer.
+/// - [`Reason::CompositeOverrun`]: the elements of a list of structs take more words than it has.
+// It is inlined, and so is what it calls at nearly every word: in a walk's loop the result then
+// stays in registers.
 #[inline(always)]
 pub fn follow<M: Segments>(message: &M, s: u32, w: u32) -> Result<Followed, Reason>
     requires exists { s < length (M.segments message.now) }
@@ -33,7 +47,7 @@ pub fn follow<M: Segments>(message: &M, s: u32, w: u32) -> Result<Followed, Reas
     ensures ok { IfOk result (IsFollowed (M.segments message.now) s w) }
     ensures err { IfErr result (Wrong (M.segments message.now) s w) }
 
-    // The other direction: what is so of the word tells the answer.
+    // The other direction: what holds of the word decides the result.
     ensures wrong { (v : Reason) → Wrong (M.segments message.now) s w v → result ≡ Err v }
     ensures null { (k : ℕ) → Leads (M.segments message.now) s w k to_null → result ≡ Ok (Followed.Null k) }
     ensures cap { (k i : ℕ) → Leads (M.segments message.now) s w k (to_cap i) → result ≡ Ok (Followed.Cap k i) }
@@ -52,7 +66,7 @@ fn followed<M: Segments>(message: &M, s: u32, w: u32) -> Result<Followed, Reason
     ensures err { IfErr result (Wrong (M.segments message.now) s w) }
 {
     let word = message.word(s, w);
-    // Null is told first: in many lists of pointers nearly every word is.
+    // Null comes first: in many lists of pointers nearly every word is null.
     if word == 0 {
         return Ok(Followed::Null { pads: 0 });
     }
@@ -65,7 +79,7 @@ fn followed<M: Segments>(message: &M, s: u32, w: u32) -> Result<Followed, Reason
     over_two_pads(message, word)
 }
 
-// What the word at this place, which stands for a pointer word over some pads, leads to.
+// What the word at this place leads to. The word takes the place of a pointer word, over some pads.
 #[inline(always)]
 fn resolved<M: Segments>(
     message: &M,
@@ -89,8 +103,8 @@ fn resolved<M: Segments>(
     }
 }
 
-// The object of the struct or list pointer at this place, which stands for a pointer word over some
-// pads.
+// The object of the struct or list pointer at this place. That pointer takes the place of a pointer
+// word, over some pads.
 #[inline(always)]
 fn object<M: Segments>(
     message: &M,

@@ -11,7 +11,7 @@ use cap_words::{bits, signed_offset};
 pub enum Pointer {
     /// The word of all zeros.
     Null,
-    /// A struct, which starts `offset` words behind the pointer's end.
+    /// A struct, which starts `offset` words after the pointer's end.
     Struct {
         /// In words, from -536870912 to 536870911.
         offset: i32,
@@ -20,7 +20,7 @@ pub enum Pointer {
         /// How many pointers its pointer section has.
         pointers: u16,
     },
-    /// A list, which starts `offset` words behind the pointer's end.
+    /// A list, which starts `offset` words after the pointer's end.
     List {
         /// In words, from -536870912 to 536870911.
         offset: i32,
@@ -29,7 +29,7 @@ pub enum Pointer {
         /// At most 536870911: for code 7 the list's words without its tag, else its elements.
         size: u32,
     },
-    /// A landing pad, which lies `pad` words behind the start of segment `segment`.
+    /// A landing pad, which lies `pad` words after the start of segment `segment`.
     Far {
         /// The pad has two words, not one.
         two: bool,
@@ -92,8 +92,9 @@ impl Pointer {
         }
     }
 
-    /// The word of this form. Asks that the fields are in the ranges told of them, that a struct
-    /// isn't all zeros, which is the form of null, and that a reserved word is one.
+    /// The word of this form. The caller makes sure that the fields are in the ranges given for
+    /// them. A struct may not be all zeros, which is the form of null. A reserved word has to be
+    /// one.
     #[inline(always)]
     pub fn word(&self) -> u64
         requires { IsPointer self.now }

@@ -12,7 +12,7 @@ use cap_frame::Segments;
 use cap_spec::Reason;
 use cap_words::bits;
 
-/// The target of the word `word`, which tells its shape, from word `start` of a segment on.
+/// The target of the word `word`, which encodes its shape, from word `start` of a segment on.
 #[inline(always)]
 pub(crate) fn target_at<M: Segments>(
     message: &M,

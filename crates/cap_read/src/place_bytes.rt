@@ -1,4 +1,4 @@
-//! A message in one buffer is vetted, and the bytes of what stands at a path are given.
+//! A message in one buffer is vetted, and the bytes of the object at a path are returned.
 
 ghost use Rattle.cap_spec.specs.Denoting.{Denotes, words_from};
 ghost use Rattle.cap_spec.specs.Faults.{IsRefused};
@@ -14,13 +14,16 @@ ghost use Rattle.std.specs.Prelude.{◌≡◌, ◌≤◌, [], Err, IfErr, IfOk, 
 use cap_frame::{ByteView, Segments};
 use cap_vet::{Limits, Refusal, Step, vet};
 
-/// Vets a message in one buffer within limits, and gives the bytes of the words at a path of steps from
-/// its root, as they stand and without a copy. Takes no memory.
+/// Vets a message in one buffer within limits, and returns the bytes of the words at a path of
+/// steps from its root: a part of the buffer, not a copy. Allocates nothing.
 ///
-/// The words are those of the object that stands at the path, with tag and surplus words, or of the
-/// element of a list of structs that the path ends at. Empty where nothing stands there, and for null
-/// and a capability. The whole message is vetted, whatever the path is: it is accepted or refused as
-/// [`vet`] does it (encoding: Security Considerations).
+/// The words are those of the object at the path, with its tag and surplus words, or of the element
+/// of a list of structs that the path ends at. The bytes are empty if there is no node at the path,
+/// and for null and a capability. The whole message is vetted, whatever the path is.
+///
+/// # Errors
+///
+/// - [`Refusal`]: the message isn't accepted, as for [`vet`] (encoding: Security Considerations).
 pub fn read_bytes<'b>(
     message: &ByteView<'b>,
     limits: Limits,

@@ -1,4 +1,4 @@
-//! A message is vetted, and what stands at a path is read.
+//! A message is vetted, and the node at a path is read.
 
 ghost use Rattle.cap_read.specs.Reading.{IsRead};
 ghost use Rattle.cap_spec.specs.Denoting.{Denotes};
@@ -25,13 +25,18 @@ pub struct Reading<'m, M: Segments> {
     pub place: Option<Place>,
 }
 
-/// Vets a message within limits, and reads the node at a path of steps from its root. Takes no memory.
+/// Vets a message within limits, and reads the node at a path of steps from its root. Allocates
+/// nothing.
 ///
-/// The message is accepted where its root denotes a finite tree within the limits. Then that is the only
-/// such tree, the report tells its numbers, and what is read is the tree's node at the path, whose words
-/// lie inside their segment, or nothing where the tree has no node there. Else it is refused: the pointer
-/// word that is named is reached from the root, and the reason that is named holds there
-/// (encoding: Security Considerations). It is the first such word in preorder, as [`vet`] tells it.
+/// The message is accepted if its root denotes a finite tree within the limits. Then that is the
+/// only such tree, and the report has its numbers. The view is the tree's node at the path, and its
+/// words lie inside their segment. There is no view if the tree has no node at the path.
+///
+/// # Errors
+///
+/// - [`Refusal`]: the message isn't accepted (encoding: Security Considerations). The root reaches
+///   the pointer word that it names, and its reason holds there. It is the first such word in
+///   preorder, as [`vet`] reports it.
 pub fn read<'m, M: Segments>(
     message: &'m M,
     limits: Limits,
@@ -46,7 +51,8 @@ pub fn read<'m, M: Segments>(
     // It is the first fault in preorder, with its count of pointers.
     ensures first { IfErr result (IsRefused (M.segments message.now) (words_of limits) (depth_of limits)) }
 
-    // The other direction: what denotes a tree within the limits is read, and where there is a first fault it is told.
+    // The other direction: a message that denotes a tree within the limits is read, and a first
+    // fault is returned if there is one.
     ensures accepts { (t : Tree) (c d : ℕ) →
         Denotes (M.segments message.now) 0 0 t c d → c ≤ words_of limits → d ≤ depth_of limits → IsOk result }
     ensures refuses { (r : Refusal) → IsRefused (M.segments message.now) (words_of limits) (depth_of limits) r → result ≡ Err r }

@@ -55,8 +55,8 @@ fn open_and_run(rt: &HostRuntime, job: &Job) -> u8 {
     }
 }
 
-// Runs the job on this input, with standard output behind it, and flushes that. The line of a fault
-// is held until then, so that it comes behind the texts where both go to one place.
+// Runs the job on this input, writes to standard output, and flushes that. It holds the line of a
+// fault until after the flush, so that the line follows the texts if both go to one place.
 fn run_on<R: Read + Drop>(rt: &HostRuntime, job: &Job, input: R) -> u8 {
     let Ok(input) = BufferedIn::new(rt.alloc(), input) else {
         return out_of_memory(rt);
