@@ -1,13 +1,15 @@
 //! The engines under a limit of messages, which no option sets.
 
-use crate::same::same_of;
+use crate::same::{same, same_of};
 use cap_cmd::{
     Cause, Limits, Outcome, RunFault, Settings, run_segments, run_vet, run_vet_exclusive,
 };
 use cap_frame::SizeLimit;
-use cap_words::{PlainWords, SliceIn, VecOut};
+use cap_words::{FromWrite, OutFault, PlainWords, SliceIn, VecOut};
 use std::alloc::Global;
+use std::io::ErrorKind;
 use std::test::Fail;
+use test_support::{Fault, Writer};
 
 pub(crate) fn settings(messages: u32) -> Option<Settings> {
     Some(Settings {
@@ -130,5 +132,24 @@ fn reads_no_more_messages_than_it_may(rt: HostRuntime) -> Result<(), Fail> {
         assert!(rt; answer == *wanted, "{engine:?}");
         same_of(&rt, engine, out.bytes(), text.as_bytes());
     }
+    Ok(())
+}
+
+// Each text is one call of the writer, and the third call is the flush after the second text.
+#[test]
+fn a_message_whose_flush_fails_is_not_counted(rt: HostRuntime) -> Result<(), Fail> {
+    let bytes = hex::decode(rt.alloc(), TWO)?;
+    let settings = settings(3).ok_or("settings")?;
+    let kind = Some(ErrorKind::Other);
+    let mut out = FromWrite::new(Writer::new(rt.alloc(), 4096, Fault { at: 3, kind }));
+    let mut source = PlainWords::new(SliceIn::new(bytes.as_slice()));
+    let answer = run_vet(rt.alloc(), &mut source, &mut out, &settings);
+    let failed = Err(RunFault {
+        message: 1,
+        cause: Cause::Output(OutFault::Device),
+    });
+    assert!(rt; answer == failed);
+    let writer = out.into_inner();
+    same(&rt, (writer.calls, writer.taken.len()), (3, 99));
     Ok(())
 }
