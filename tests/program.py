@@ -4,7 +4,7 @@
     program.py [PROGRAM]
 
 A case is one call of `case`. Failures are printed as they come. The last line is 'N passed, M failed', and
-the status is 1 where a case failed. The texts that are wanted were written from docs/format.md, and the
+the status is 1 where a case failed. The texts that are wanted were written from docs/output.md, and the
 numbers of the samples counted by another program. Those of a wrong command line are the library clap's. Streams
 and command lines, with what comes of them, stand in tables.py, and the texts of help in helps.py.
 """

@@ -1,5 +1,5 @@
-"""Reads the trees of messages that are accepted, as docs/format.md lays them out, and the lines that `dump` and
-`get` write of them. What isn't so laid out is no concern of it: nothing is checked here."""
+"""Reads the trees of accepted messages, as docs/format.md defines them, and the lines that `dump` and `get` print for
+them, as docs/output.md defines them. It checks nothing: other messages are not its concern."""
 import struct
 from dataclasses import dataclass, field
 
