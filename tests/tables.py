@@ -410,18 +410,18 @@ NESTED = (
 )
 
 # Structs of two pointers, each below the first pointer of the one before it, with a capability behind each second one.
-def rungs(count):
+def ladder(count):
     words = 2 * count + 3
     return (f"00000000{words.to_bytes(4, 'little').hex()} 0000000000000200" + count * " 0400000000000200 0300000000000000"
             + " 0000000000000000 0300000000000000")
 
 
 LEVELS_WITH_A_POINTER_LEFT = (
-    Row("vet --words 268435456 --depth 256", rungs(255), "message 0: accepted charge 512 depth 256 pointers 513 caps 256\n"),
-    Row("vet --words 512 --depth 256", rungs(255), "message 0: accepted charge 512 depth 256 pointers 513 caps 256\n"),
-    Row("vet --words 511 --depth 256", rungs(255), "message 0: refused WordLimit at 0:509 pointers 256\n", status=1),
-    Row("vet --words 268435456 --depth 255", rungs(255), "message 0: refused DepthLimit at 0:509 pointers 256\n", status=1),
-    Row("vet --words 268435456 --depth 256", rungs(256), "message 0: refused DepthLimit at 0:511 pointers 257\n", status=1),
+    Row("vet --words 268435456 --depth 256", ladder(255), "message 0: accepted charge 512 depth 256 pointers 513 caps 256\n"),
+    Row("vet --words 512 --depth 256", ladder(255), "message 0: accepted charge 512 depth 256 pointers 513 caps 256\n"),
+    Row("vet --words 511 --depth 256", ladder(255), "message 0: refused WordLimit at 0:509 pointers 256\n", status=1),
+    Row("vet --words 268435456 --depth 255", ladder(255), "message 0: refused DepthLimit at 0:509 pointers 256\n", status=1),
+    Row("vet --words 268435456 --depth 256", ladder(256), "message 0: refused DepthLimit at 0:511 pointers 257\n", status=1),
     # one list of a struct too many
     Row("vet --depth 256", "0000000003010000" + 129 * " 010000000f000000 0400000000000100" + " 0000000000000000",
         "message 0: refused DepthLimit at 0:256 pointers 129\n", status=1),
