@@ -1,7 +1,7 @@
 # What capvet does with a sample, all proofs and tests, what is installed, and how fast it is.
 .PHONY: run build install uninstall test gate growths bench
 
-# Where things are installed. DESTDIR stands in front of all of it, and in nothing that is installed.
+# Where things are installed. DESTDIR goes before each of these paths, and no installed file has it in its text.
 PREFIX ?= /usr/local
 bindir ?= $(PREFIX)/bin
 libdir ?= $(PREFIX)/lib
@@ -68,8 +68,8 @@ growths:
 	python3 tests/growths.py
 	python3 tests/refusals.py build/capvet
 
-# Times the built program beside plain copying of the same bytes, and beside Cap'n Proto's own C++ library and
-# Rust crate where they are installed; then the calls of the library beside the C++ library, in one process.
+# Times the built program beside plain copying of the same bytes. Where Cap'n Proto's own C++ library and Rust
+# crate are installed, it times them too. Then it times the library's calls beside the C++ library, in one process.
 bench:
 	python3 bench/bench.py
 	python3 bench/in_process.py

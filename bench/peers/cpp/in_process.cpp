@@ -2,13 +2,13 @@
 //
 //     in_process ROUNDS FILE..
 //
-// Each round does each job once over all messages of a file, in turn, so that a busy machine slows them alike; the jobs
-// that copy have rounds of their own, since copies of large messages leave cold memory behind. Of each job the least
-// processor time of the rounds counts, in nanoseconds a message; each ratio is capvet's over that of the library. `walk`
-// is a FlatArrayMessageReader and a full walk. `isCanonical` stops at the first difference, and what stands behind it is
-// never looked at. `canonicalize` takes room for each copy anew, and `capvet_canonical` writes all copies into the same
-// room; where the root of the first message is no struct, which `canonicalize` asks for, that pair is left out. Both jobs
-// of a pair have to say yes to as many messages, or the status is 1.
+// Each round does each job once over all messages of a file, in turn, so that a busy machine slows them alike. The jobs
+// that copy have rounds of their own, since copies of large messages leave the caches cold. The time of a job is the
+// least processor time of its rounds, in nanoseconds a message. Each ratio is capvet's time over that of the library.
+// `walk` is a FlatArrayMessageReader and a full walk. `isCanonical` stops at the first difference, and never looks at
+// what comes after it. `canonicalize` allocates each copy, and `capvet_canonical` writes all copies into one buffer.
+// `canonicalize` needs a struct as the root: where the root of the first message is none, that pair is left out. Both
+// jobs of a pair have to say yes to as many messages, or the status is 1.
 #include <capnp/any.h>
 #include <capnp/message.h>
 #include <capnp/serialize.h>

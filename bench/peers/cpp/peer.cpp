@@ -2,21 +2,21 @@
 //
 //     peer walk|canon|check|pack|unpack [--packed] [--words N] FILE
 //
-//   walk    reads every node of each message, and writes a line for it
-//   canon   writes the canonical copy of each message, as a message of one segment
-//   check   writes for each message whether it is canonical
-//   pack    writes the messages packed
-//   unpack  reads packed messages and writes them plain
+//     walk    reads every node of each message, and writes a line for it
+//     canon   writes the canonical copy of each message, as a message of one segment
+//     check   writes for each message whether it is canonical
+//     pack    writes the messages packed
+//     unpack  reads packed messages and writes them plain
 //
 // With --packed the messages are read packed. N is the library's traversal limit, in words.
 // Status: 0 all went well, 1 a message was refused or isn't canonical, 2 the command line is wrong,
 // 3 FILE doesn't open.
 //
 // What differs from capvet's work:
-// - walk counts words alone: neither depth nor pointers, and it doesn't tell where a message goes wrong.
-// - canon doesn't vet the message: it counts the words below the root, for the copy's room, and copies. Both
-//   count against the traversal limit, so N has to be more than twice as large.
-// - check stops at the first difference, and what stands behind it is never looked at.
+// - walk counts words alone: neither depth nor pointers, and it doesn't report where a message goes wrong.
+// - canon doesn't vet the message: it counts the words below the root, for the size of the copy, and copies.
+//   Both count against the traversal limit, so N has to be more than twice as large.
+// - check stops at the first difference, and never looks at what comes after it.
 // - pack and unpack need framed messages, and take one at a time; capvet copies words, whatever they mean.
 
 #include <capnp/any.h>
@@ -43,7 +43,7 @@ void writeCanonical(capnp::MessageReader& message, kj::OutputStream& out) {
   capnp::writeMessage(out, copy);
 }
 
-// The library tells no count of segments: behind the last one there is none.
+// No call of the library returns the count of segments: the number after the last one has no segment.
 kj::Vector<kj::ArrayPtr<const capnp::word>> segmentsOf(capnp::MessageReader& message) {
   kj::Vector<kj::ArrayPtr<const capnp::word>> segments;
   for (uint number = 0;; number++) {

@@ -76,7 +76,7 @@ pub(crate) fn total(sizes: &[u32]) -> u64
     sizes.iter().map(|size| u64::from(*size)).sum()
 }
 
-// Reads the rest of a table, behind its first word, and looks at its numbers.
+// Reads the rest of a table, after its first word, and checks its numbers.
 #[inline(always)]
 fn read_table<S: WordSource>(
     source: &mut S,

@@ -95,7 +95,7 @@ pub fn counts_are_numbers_of_paths()
 {}
 
 /// A text is of at most one path. A text that is of none is bad at one place: at no two, and not at
-/// none. A text of a path is bad nowhere.
+/// none. A text of a path is bad at no place.
 pub fn one_path_text()
     ensures path { (xs ys : List Step) → AllByRecursion IsStep xs → AllByRecursion IsStep ys → path_text xs ≡ path_text ys → xs ≡ ys }
     ensures bad { (text : List ℕ) (at at' : ℕ) → IsBadAt text at → IsBadAt text at' → at ≡ at' }

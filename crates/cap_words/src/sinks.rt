@@ -13,7 +13,7 @@ use super::ends::OutFault;
 pub enum SinkFault {
     /// The output's device failed in this call.
     Device,
-    /// A growth of the output was refused in this call.
+    /// An allocation of the output failed in this call.
     Memory,
     /// The sink is finished, or an earlier fault has ended it or its output.
     Spent,
@@ -75,7 +75,7 @@ pub trait WordSink {
         ensures was_spent { IsErrOf result SinkFault.Spent → WasSpent (spent self.old) (spent self.new) (failures self.old) (failures self.new)
             × Keeps (taken self.old) (taken self.new) };
 
-    /// Hands on what the output took, where that holds some of it back. A word that the sink holds back
+    /// Flushes the output, which passes on the bytes that it holds back. A word that the sink holds back
     /// itself stays: `finish` writes it. After a fault every call answers `Spent`.
     fn flush(&mut self) -> Result<(), SinkFault>
         ensures put { OnOk result (WasPut text self.old self.new []) }

@@ -2,24 +2,24 @@
 //!
 //!     peer walk|canon|check|pack|unpack [--packed] [--words N] FILE
 //!
-//!   walk    reads every node of each message, and writes a line for it
-//!   canon   writes the canonical copy of each message, as a message of one segment
-//!   check   writes for each message whether it is canonical
-//!   pack    writes the messages packed
-//!   unpack  reads packed messages and writes them plain
+//!     walk    reads every node of each message, and writes a line for it
+//!     canon   writes the canonical copy of each message, as a message of one segment
+//!     check   writes for each message whether it is canonical
+//!     pack    writes the messages packed
+//!     unpack  reads packed messages and writes them plain
 //!
 //! With --packed the messages are read packed. N is the crate's traversal limit, in words.
 //! Status: 0 all went well, 1 a message was refused or isn't canonical, 2 the command line is wrong,
 //! 3 FILE doesn't open.
 //!
 //! What differs from capvet's work:
-//! - walk counts words alone: neither depth nor pointers, and it doesn't tell where a message goes wrong. The
+//! - walk counts words alone: neither depth nor pointers, and it doesn't report where a message goes wrong. The
 //!   crate has no public reader of a struct or list of unknown type, so it goes through `capnp::private`.
-//! - canon doesn't vet the message: it counts the words below the root, for the copy's room, and copies. Both
-//!   count against the traversal limit, so N has to be more than twice as large.
-//! - check stops at the first difference, and what stands behind it is never looked at.
-//! - pack makes a deep copy of each message, since the crate packs nothing but what was built with it. The copy's
-//!   objects may stand in another order, and in one segment.
+//! - canon doesn't vet the message: it counts the words below the root, for the size of the copy, and copies.
+//!   Both count against the traversal limit, so N has to be more than twice as large.
+//! - check stops at the first difference, and never looks at what comes after it.
+//! - pack makes a deep copy of each message, since the crate packs nothing but what was built with it. The
+//!   objects of the copy may be in another order, and in one segment.
 //! - pack and unpack need framed messages, and take one at a time; capvet copies words, whatever they mean.
 
 use capnp::message::{Builder, HeapAllocator, Reader, ReaderOptions, ReaderSegments, SegmentArray};
@@ -92,7 +92,7 @@ fn walk_list(list: ListReader<'_>) -> Result<u64> {
     }
 }
 
-/// A builder with room for a message in its first segment.
+/// A builder whose first segment is large enough for the whole message.
 fn builder(root: &any_pointer::Reader) -> Result<Builder<HeapAllocator>> {
     let words = root.target_size()?.word_count as u32 + 1;
     let memory = HeapAllocator::new().first_segment_words(words);
