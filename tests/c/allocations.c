@@ -108,7 +108,7 @@ static void reports(const uint8_t *bytes, size_t length) {
 static const uint8_t SHARED[40] = {0, 0, 0, 0, 4, 0, 0, 0, 0, 0, 0, 0, 0, 0, 2, 0, 4, 0, 0, 0,
                                    1, 0, 0, 0, 0, 0, 0, 0, 1, 0, 0, 0, 7, 0, 0, 0, 0, 0, 0, 0};
 
-/* Without room, and with as much as is needed. */
+/* Without numbers for the marks, and with as many as are needed. */
 static void marks(const uint8_t *bytes, size_t length) {
   static uint64_t room[1 << 12];
   capvet_report report;
@@ -125,7 +125,7 @@ static void marks(const uint8_t *bytes, size_t length) {
 
 typedef uint32_t (*spelling)(const uint8_t *, size_t, uint8_t *, size_t, size_t *);
 
-/* Without room, and with as much as is needed. */
+/* With an output buffer of length 0, and of the length that is needed. */
 static void spells(int number, spelling call, const uint8_t *bytes, size_t length) {
   static uint8_t out[1 << 16];
   size_t written, needed;
@@ -139,7 +139,7 @@ static void spells(int number, spelling call, const uint8_t *bytes, size_t lengt
   }
 }
 
-/* Each front of the bytes, and what stands behind each of their words. */
+/* Each prefix of the bytes, and the bytes from the start of each of their words on. */
 static void parts(const uint8_t *bytes, size_t length) {
   size_t at;
   for (at = 0; at <= length; at++) {

@@ -17,7 +17,7 @@ static void expect(int holds, const char *what, unsigned long long got) {
 
 #define EXPECT(holds, what, got) expect((holds), (what), (unsigned long long)(got))
 
-/* A block with these bytes at an address that is `odd` behind an even one. */
+/* A block with these bytes from `odd` bytes after its start on. */
 static uint8_t *block(const uint8_t *bytes, size_t length, size_t odd) {
   uint8_t *whole = malloc(length + odd + (length + odd == 0));
   if (whole == NULL) exit(3);
@@ -34,7 +34,7 @@ static capvet_report unwritten(void) {
   return r;
 }
 
-/* A message of two segments, whose tree has three pointers, the third a capability, and 8 bytes behind. */
+/* A message of two segments, whose tree has three pointers, the third a capability, and 8 bytes after it. */
 static const uint8_t TWO[64] = {
     1, 0, 0, 0, 1, 0, 0, 0, 4, 0, 0, 0, 0, 0, 0, 0, 2, 0, 0, 0, 1, 0, 0, 0, 0, 0, 0, 0, 1, 0, 2, 0,
     7, 0, 0, 0, 0, 0, 0, 0, 0, 0, 0, 0, 0, 0, 0, 0, 3, 0, 0, 0, 5, 0, 0, 0, 9, 9, 9, 9, 9, 9, 9, 9};
@@ -71,7 +71,7 @@ static void fields(void) {
   }
 }
 
-/* How many bytes a buffer must have that ends behind so many of TWO. */
+/* How many bytes a report asks for, where the buffer ends after `length` bytes of TWO. */
 static uint64_t wanted(size_t length) { return length < 8 ? 8 : length < 16 ? 16 : 56; }
 
 /* A message that arrives byte by byte. */
@@ -185,7 +185,7 @@ static const uint8_t PACKED[] = {0,    2, 0x51, 8, 3, 2, 255, 1, 2, 3, 4, 5, 6, 
 static const uint8_t UNPACKED[48] = {0, 0, 0, 0, 0, 0, 0, 0, 0, 0, 0, 0, 0, 0, 0, 0, 0,    0, 0,    0, 0, 0, 0, 0,
                                      8, 0, 0, 0, 3, 0, 2, 0, 1, 2, 3, 4, 5, 6, 7, 8, 0x11, 0, 0x33, 0, 0, 0, 0, 0};
 
-/* What is answered for a front of PACKED with so much room, between bytes that stay as they are. */
+/* The answer for a prefix of PACKED, with an output buffer of `room` bytes. The byte after it stays as it is. */
 static uint32_t unpacked(size_t length, size_t room, size_t *written, uint8_t *behind) {
   uint8_t *from = block(PACKED, length, 1);
   uint8_t *out = malloc(room + 1);
@@ -202,9 +202,9 @@ static uint32_t unpacked(size_t length, size_t room, size_t *written, uint8_t *b
   return answer;
 }
 
-/* Each front, and each room. */
+/* Each prefix, and each length of the output buffer. */
 static void unpacking(void) {
-  /* how many words the fronts that end between groups stand for */
+  /* the prefixes that end between groups, and how many words each of them unpacks to */
   static const struct {
     size_t length, words;
   } whole[] = {{0, 0}, {2, 3}, {6, 4}, {24, 6}};
@@ -228,15 +228,15 @@ static void unpacking(void) {
   }
 }
 
-/* A message of two segments with 8 bytes behind, and its canonical copy: a struct of two words, the second
- * of them zeros, and a pointer to a list of three bytes, behind which a byte of the word isn't zero. */
+/* A message of two segments with 8 bytes after it, and its canonical copy. The root is a struct of two words,
+ * the second of them zeros, and a pointer to a list of three bytes. The byte after these three isn't zero. */
 static const uint8_t LOOSE[72] = {1, 0, 0, 0, 1, 0, 0, 0, 5, 0, 0, 0, 0, 0, 0, 0, 2, 0, 0, 0, 1, 0, 0, 0,
                                   0, 0, 0, 0, 2, 0, 1, 0, 7, 0, 0, 0, 0, 0, 0, 0, 0, 0, 0, 0, 0, 0, 0, 0,
                                   1, 0, 0, 0, 26, 0, 0, 0, 1, 2, 3, 4, 0, 0, 0, 0, 9, 9, 9, 9, 9, 9, 9, 9};
 static const uint8_t COPIED[32] = {0, 0, 0, 0, 1, 0, 1, 0, 7, 0, 0, 0, 0, 0, 0, 0,
                                    1, 0, 0, 0, 26, 0, 0, 0, 1, 2, 3, 0, 0, 0, 0, 0};
 
-/* What is answered for a message with so much room, between bytes that stay as they are. */
+/* The answer for a message, with an output buffer of `room` bytes. The byte after it stays as it is. */
 static uint32_t copied(const uint8_t *bytes, size_t length, size_t room, size_t *written, uint8_t *got,
                        capvet_report *report) {
   uint8_t *from = block(bytes, length, 1);
@@ -255,7 +255,7 @@ static uint32_t copied(const uint8_t *bytes, size_t length, size_t room, size_t 
   return answer;
 }
 
-/* Each room, each front, and a capability. */
+/* Each length of the output buffer, each prefix, and a capability. */
 static void copying(void) {
   uint8_t got[40];
   capvet_report r;
@@ -315,8 +315,8 @@ static const uint8_t REFUSING[16] = {0, 0, 0, 0, 1, 0, 0, 0, 0xfc, 0xff, 0xff, 0
 static const uint8_t SHARED[40] = {0, 0, 0, 0, 4, 0, 0, 0, 0, 0, 0, 0, 0, 0, 2, 0, 4, 0, 0, 0,
                                    1, 0, 0, 0, 0, 0, 0, 0, 1, 0, 0, 0, 7, 0, 0, 0, 0, 0, 0, 0};
 
-/* What is answered for a message with so many numbers of room, each of which is all ones before, and how
- * many of them and of the one behind them are so still, from the last. */
+/* The answer for a message, with `room` numbers for its marks. These numbers and one more are all ones before.
+ * `kept` is how many of them still are, counted back from the last. */
 static uint32_t marked(const uint8_t *bytes, size_t length, size_t room, size_t *needed, size_t *kept,
                        capvet_report *report) {
   uint8_t *from = block(bytes, length, 1);
@@ -334,8 +334,8 @@ static uint32_t marked(const uint8_t *bytes, size_t length, size_t room, size_t 
   return answer;
 }
 
-/* Each room, for a message of which no word is used twice, one of which some are, and one that is refused;
- * each front; and messages of so many words as fill a number, and one less. */
+/* Up to three numbers for the marks, for a message of which no word is used twice, for one of which some are,
+ * and for one that is refused. Each prefix. Then messages of 63 words, whose marks take one number, and of 64. */
 static void marking(void) {
   static uint8_t wide[8 + 8 * 64];
   capvet_report r;

@@ -1,13 +1,13 @@
-/* lines vet FILE, lines exclusive FILE, lines check FILE: what the program writes of a stream of messages,
- * and its fault, from a buffer that holds the stream, by the calls of capvet.h; for `exclusive` by
- * vet --exclusive. Each message is vetted in a block of its own of exactly the bytes that are left, up to a
- * limit, so that a tool that watches memory sees a read behind them.
+/* lines vet FILE, lines exclusive FILE, lines check FILE: the lines that the program writes for a stream of
+ * messages, and that of its fault. They come from the calls of capvet.h, and the stream is in a buffer. The
+ * lines of `exclusive` are those of `vet --exclusive`. Each message is vetted in a block of its own, which ends
+ * with the message, so that a tool that watches memory sees a read after it. A cut message takes all bytes left.
  *
- * lines canon FILE: the canonical copies of the messages, each behind its table, up to the first message that
- * is refused or has a capability. Each is written into a block of exactly its bytes.
+ * lines canon FILE: the canonical copies of the messages, each after its table, up to the first message that
+ * is refused or has a capability. Each is written into a block that ends with it.
  *
  * lines unpack FILE: the words of a packed text, or the program's line where it is cut. They are written
- * into a block of exactly their bytes. */
+ * into a block that ends with them. */
 #include <capvet.h>
 
 #include <stdio.h>
@@ -34,7 +34,7 @@ static void line(int check, unsigned long n, uint32_t answer, const capvet_repor
            (unsigned long)r->depth, (unsigned long long)r->pointers, (unsigned long long)r->caps);
 }
 
-/* The line of a fault of the frame, where the stream has so many bytes. */
+/* The line of a fault of the frame, where the stream has `length` bytes. */
 static void fault(unsigned long n, uint32_t answer, const capvet_report *r, size_t length) {
   if (answer == CAPVET_TOO_MANY_SEGMENTS)
     fprintf(stderr, "capvet: message %lu: TooManySegments %llu\n", n, (unsigned long long)r->number);
@@ -113,8 +113,8 @@ static int copy(unsigned long n, const uint8_t *bytes, size_t length, const capv
   return 0;
 }
 
-/* The answer with so many numbers of room, each of which is all ones before; behind those that are needed,
- * and behind the room, they stay so. */
+/* The answer with `room` numbers for the marks. These numbers and one more are all ones before. The numbers
+ * that aren't needed stay so, and so does the one more. */
 static uint32_t marked(const uint8_t *bytes, size_t length, const capvet_limits *limits, size_t room, size_t *needed,
                        capvet_report *report) {
   uint64_t *marks = malloc(8 * room + 8);
@@ -133,8 +133,8 @@ static uint32_t marked(const uint8_t *bytes, size_t length, const capvet_limits 
   return answer;
 }
 
-/* Vets a message exclusively without room, with a number less than is needed, with as many, and with more:
- * the last two tell the same. */
+/* Vets a message exclusively without numbers for its marks, with one less than it needs, with as many, and with
+ * more. The last two calls have the same answer and the same report. */
 static uint32_t exclusive(const uint8_t *bytes, size_t length, const capvet_limits *limits, capvet_report *report) {
   capvet_report vetted, less, more;
   size_t none, needed, short_of, again;

@@ -1,11 +1,11 @@
-/* packing: what capvet_pack answers of known words, with each room.
+/* packing: what capvet_pack answers for known words, with each length of the output buffer.
  *
- * packing FILE: packs each list of bytes of a file, in which four bytes in front of each say how many it has, the
- * lowest first. For each it writes how many bytes its packed text has, in the same way, and that text; of one
- * that ends inside a word, that it has 0xffffffff, and nothing.
+ * packing FILE: packs each list of bytes of a file. The four bytes before a list are its length, the lowest byte
+ * first. For each list it writes the length of its packed text, in the same way, and then that text. For a list
+ * that ends inside a word it writes the length 0xffffffff, and no text.
  *
- * All bytes stand in a block of their own of exactly that length, so that a tool that watches memory sees a read
- * or a write outside. */
+ * Each list and each text is in a block of its own, which ends with it, so that a tool that watches memory sees a
+ * read or a write after it. */
 #include <capvet.h>
 
 #include <stdio.h>
@@ -23,7 +23,7 @@ static void expect(int holds, const char *what, size_t got) {
   }
 }
 
-/* A block of so many bytes behind a first one, at an odd address. */
+/* A block of one byte and `length` bytes after it, which start at an odd address. */
 static uint8_t *block(size_t length) {
   uint8_t *whole = malloc(length + 1);
   if (whole == NULL) exit(3);
@@ -35,7 +35,7 @@ static const uint8_t WORDS[48] = {0, 0, 0, 0, 0, 0, 0, 0, 0, 0, 0, 0, 0, 0, 0, 0
                                   8, 0, 0, 0, 3, 0, 2, 0, 1, 2, 3, 4, 5, 6, 7, 8, 0x11, 0, 0x33, 0, 0, 0, 0, 0};
 static const uint8_t TEXT[19] = {0, 2, 0x51, 8, 3, 2, 255, 1, 2, 3, 4, 5, 6, 7, 8, 0, 5, 0x11, 0x33};
 
-/* What is answered for a front of WORDS with so much room, of which `got` has what it holds then. */
+/* The answer for a prefix of WORDS, with an output buffer of `room` bytes. `got` has the buffer's bytes then. */
 static uint32_t packed(size_t length, size_t room, size_t *written, uint8_t *got) {
   uint8_t *from = block(length), *out = block(room);
   uint32_t answer;
@@ -50,7 +50,7 @@ static uint32_t packed(size_t length, size_t room, size_t *written, uint8_t *got
   return answer;
 }
 
-/* Each front, and each room. */
+/* Each prefix, and each length of the output buffer. */
 static void known(void) {
   /* how many bytes the texts of the first words have */
   static const size_t texts[] = {0, 2, 2, 2, 6, 16, 19};

@@ -1,8 +1,8 @@
-/* texts FILE: unpacks each packed text of a file, in which four bytes in front of each say how many it
- * has, the lowest first. For each it writes how many bytes its words have, in the same way, and these
- * bytes; of a text that is cut, that it has 0xffffffff, and nothing. Each text stands in a block of its
- * own of exactly its bytes, and so do its words, so that a tool that watches memory sees a read or a
- * write outside. */
+/* texts FILE: unpacks each packed text of a file. The four bytes before a text are its length, the lowest
+ * byte first. For each text it writes how many bytes its words have, in the same way, and these bytes. For
+ * a text that is cut it writes the length 0xffffffff, and no bytes. Each text is in a block of its own,
+ * which ends with it, and so are its words, so that a tool that watches memory sees a read or a write
+ * after them. */
 #include <capvet.h>
 
 #include <stdio.h>
@@ -11,7 +11,7 @@
 
 #define CUT 0xfffffffful
 
-/* A block of so many bytes behind a first one, at an odd address. */
+/* A block of one byte and `length` bytes after it, which start at an odd address. */
 static uint8_t *block(size_t length) {
   uint8_t *whole = malloc(length + 1);
   if (whole == NULL) exit(3);
