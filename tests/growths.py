@@ -13,14 +13,14 @@ import sys
 from pathlib import Path
 
 CRATE = Path(__file__).resolve().parent.parent / "crates/test_memory"
-# How many growths these tests make, no more and no fewer: one for a canonical copy. A message that is too large is refused
-# before any growth, so the only growth there is the test's own, at its end: it is refused in place of one before it.
+# How many allocations these tests make, no more and no fewer: one for a canonical copy. A message that is too large is
+# refused before any allocation. So the only one in its test is the test's own, at the end, and that is the one that fails.
 GROWTHS = {
     "reading::a_table_past_the_limits": 1,
     "copies::a_copy_in_words": 1,
     "copies::a_copy_in_bytes": 1,
 }
-# More growths than any test makes.
+# More allocations than any test makes.
 MOST = 20
 
 

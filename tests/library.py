@@ -40,7 +40,7 @@ def inputs(folder):
     turned, known = b"", random.Random(7)
     for _ in range(500):
         message = bytearray(streams[known.choice(("contacts.bin", "telemetry.bin"))])
-        # (behind its table, so that it stays a frame)
+        # (after its table, so that it stays a frame)
         message[known.randrange(8, len(message))] ^= 1 << known.randrange(8)
         turned += message
     streams["turned.bin"] = turned

@@ -177,7 +177,7 @@ CHECKS = {
     + "message 2: not canonical\n"
     + "message 3: not canonical\n",
 }
-# The canonical words of each sample's messages, one behind the other, as `capnp convert binary:canonical` writes them.
+# The canonical words of each sample's messages, one after the other, as `capnp convert binary:canonical` writes them.
 COPIES = {
     "contacts.bin": "contacts.bin",
     "contacts-many-segments.bin": "contacts.bin",
@@ -474,7 +474,7 @@ def long_runs():
         text = packed(plain)
         case("pack", text, stdin=plain)
         case("unpack", plain, stdin=text)
-    # after a word without a zero byte so many with one go on with it, and no more than 255
+    # after a word without a zero byte, up to 255 words with one zero byte belong to its group, and no more
     for count, further in (0, 0), (1, 0), (254, 0), (255, 0), (255, 1), (255, 2):
         text = b"\xff" + FULL + bytes((count,)) + count * SPARSE + further * (b"\x7f" + SPARSE[:7])
         plain = FULL + (count + further) * SPARSE
@@ -527,7 +527,7 @@ def long_messages():
     many = struct.pack("<514I", 511, *sizes, 0) + word("02000000ff010000") + bytes(8 * 510) + word("0000000001000000 2a00000000000000")
     case("segments", segments_text(many), stdin=many)
     case("dump", "message 0: accepted charge 2 depth 1 pointers 1 caps 0\nroot struct 1 0\n  d0 2a00000000000000\n", stdin=many)
-    # messages about as long as the pieces in which words are passed over, whole and cut inside the last word
+    # messages of about the length of the pieces that skip words, whole and cut inside the last word
     for size in 64, 65, 66, 129, 130:
         stream = struct.pack("<II", 0, size) + struct.pack(f"<{size}Q", *range(size))
         case("segments", segments_text(stream + NULL), stdin=stream + NULL)
@@ -603,8 +603,8 @@ with open("/dev/full", "wb") as full:
         for words in ("help", "help vet", "--version"):
             case(words, err=FAILED, status=3, stdout=stdout)
 
-# ------------------------------------------------------------------ faults at each byte, and want of memory
-# A message of two pointers to one struct, its packed spelling, and what each command writes of it.
+# ------------------------------------------------------------------ faults at each byte, and out of memory
+# A message of two pointers to one struct, its packed encoding, and what each command writes for it.
 SHARED = framed("0000000000000200", "0400000001000000", "0000000001000000", "0700000000000000")
 SHARED_PACKED = word("1004400211040110010107")
 SHARED_VET = "message 0: accepted charge 4 depth 2 pointers 3 caps 0\n"
@@ -701,7 +701,7 @@ def wants_memory(command, stream, *wanted):
     for kibibytes in range(1 << 10, 64 << 10, 16):
         got = run([PROGRAM, *command.split()], input=stream, stdout=subprocess.PIPE,
                   preexec_fn=lambda: limit_memory(kibibytes))
-        # (the loader has no room for the program itself)
+        # (at first the loader has too little memory for the program itself)
         started = got[2] in (0, 1, 2, 3)
         if started and got not in seen[-1:]:
             seen.append(got)
@@ -775,7 +775,7 @@ def help_example(command, status):
 for command in ("", *COMMANDS):
     # (that of `vet` is a refused message)
     help_example(command, status=1 if command == "vet" else 0)
-# Where both outputs go to one place, a fault's line comes behind the texts of the messages before it.
+# Where both outputs go to one place, a fault's line comes after the texts of the messages before it.
 shell_case(
     "head -c 3200 examples/stream-of-four.bin | capvet vet 2>&1",
     CONTACTS + "capvet: message 1: Truncated at byte 3200\n",

@@ -83,7 +83,7 @@ def expect(command, stream, refusing, texts=()):
     print(f"capvet {command}: {number - 1} allocations refused", flush=True)
 
 
-# A null root, and two pointers to one struct: the second message needs more room. Their packed spelling.
+# A null root, and two pointers to one struct: the second message needs a larger buffer. Their packed encoding.
 NULL = bytes.fromhex("00000000010000000000000000000000")
 SHARED = bytes.fromhex("00000000040000000000000000000200040000000100000000000000010000000700000000000000")
 PACKED = bytes.fromhex("100100001004400211040110010107")

@@ -54,7 +54,7 @@ NO_STRUCTS = "0000000002000000 0100000007000000 0000000000000000"
 THREE_EMPTIES = "0000000002000000 0100000007000000 0c00000000000000"
 FIVE_EMPTIES = "0000000002000000 0100000007000000 1400000000000000"
 
-# so many structs without words that no word limit allows them
+# structs without words, more of them than any word limit allows
 EMPTY_STRUCTS = "0000000002000000 0100000007000000 fcffffff00000000"
 
 # three elements without bits, and 268435455 of them
@@ -100,7 +100,7 @@ VERDICTS = (
     # two faults, of which the first is named
     Row("vet", "0000000003000000 0000000000000200 0800000001000000 0700000005000000",
         "message 0: refused OutOfSegment at 0:1 pointers 2\n", status=1),
-    # a capability behind a landing pad
+    # a capability that a landing pad leads to
     Row("vet", "0100000001000000 0100000000000000 0200000001000000 0300000005000000",
         "message 0: accepted charge 1 depth 0 pointers 1 caps 1\n"),
     # both limits are passed, and the depth limit is named
@@ -167,7 +167,7 @@ MESSAGES = (
     # three bits
     Row("vet", "0000000002000000 0100000019000000 ffffffffffffffff",
         "message 0: accepted charge 1 depth 1 pointers 1 caps 0\n"),
-    # two structs in three words, in one word, and behind a tag that is no struct
+    # two structs in three words, in one word, and after a tag that is no struct
     Row("vet", "0000000005000000 010000001f000000 0800000001000000 0500000000000000 0000000000000000 ff00000000000000",
         "message 0: accepted charge 4 depth 2 pointers 1 caps 0\n"),
     Row("vet", "0000000005000000 010000000f000000 0800000001000000 0500000000000000 0000000000000000 ff00000000000000",
@@ -197,7 +197,7 @@ MESSAGES = (
         "message 0: refused TagKind at 0:0 pointers 1\n", status=1),
     Row("vet", "0200000001000000 0200000001000000 0600000001000000 0000000000000000 0000000001000000 2a00000000000000",
         "message 0: refused PadNotFar at 0:0 pointers 1\n", status=1),
-    # far pointers that lead nowhere
+    # far pointers to a pad that is far, in no segment, outside its segment, or leads out of its segment
     Row("vet", "0100000001000000 0100000000000000 0200000001000000 0200000000000000",
         "message 0: refused PadIsFar at 0:0 pointers 1\n", status=1),
     Row("vet", "0100000001000000 0100000000000000 0200000007000000 0000000000000000",
@@ -223,7 +223,7 @@ SEGMENTS = (
     # more segments than there may be, and more than there can be
     Row("segments", "ffffffff00000000", "", "capvet: message 0: TooManySegments 4294967296\n", 1),
     Row("segments", "0002000000000000", "", "capvet: message 0: TooManySegments 513\n", 1),
-    # cut in the first word, behind it, and in the contents
+    # cut in the first word, after it, and in the contents
     Row("segments", "ffffffff", "", "capvet: message 0: Truncated at byte 4\n", 1),
     Row("segments", "ff01000000000000", "", "capvet: message 0: Truncated at byte 8\n", 1),
     Row("segments", "0000000002000000 0000000001000000", "", "capvet: message 0: Truncated at byte 16\n", 1),
@@ -252,7 +252,7 @@ SEGMENTS = (
     Row("segments --size 2", STRUCT, "message 0: segments 1 words 2\nsegment 0: 2\nroot 0000000001000000\n"),
 )
 
-# How deep the structs of a list stand: a level below their list, where it has any.
+# The level of the structs of a list: one below their list, where it has any.
 LEVELS = (
     Row("vet --depth 64", SURPLUS, "message 0: accepted charge 4 depth 2 pointers 1 caps 0\n"),
     Row("vet --depth 1", SURPLUS, "message 0: refused DepthLimit at 0:0 pointers 1\n", status=1),
@@ -322,7 +322,7 @@ OVERLAPS = (
         "message 2: accepted charge 0 depth 0 pointers 1 caps 0\n", status=1),
 )
 
-# Tables that tell of too many words: of one segment, and of 512, each of the most that a table can tell of. Each
+# Tables of too many words: of one segment, and of 512, each of the most words that a table can state. Each
 # command that reads messages refuses them.
 TOO_LARGE = (
     ("00000000ffffffff", "capvet: message 0: TooLarge 4294967295\n"),
@@ -409,7 +409,7 @@ NESTED = (
     Row("check --depth 255", NESTED_LISTS, "message 0: refused DepthLimit at 0:254 pointers 128\n", status=1),
 )
 
-# Structs of two pointers, each below the first pointer of the one before it, with a capability behind each second one.
+# Structs of two pointers. The first pointer of each leads to the next struct, and the second is a capability.
 def ladder(count):
     words = 2 * count + 3
     return (f"00000000{words.to_bytes(4, 'little').hex()} 0000000000000200" + count * " 0400000000000200 0300000000000000"
@@ -586,7 +586,7 @@ COPIES = (
     # a struct without words in an empty segment
     ("0200000001000000 0200000000000000 0600000001000000 0200000002000000 0000000000000000",
      "0000000001000000 fcffffff00000000", False),
-    # bits behind the last value
+    # bits after the last value
     ("0000000002000000 0100000019000000 ffffffffffffffff",
      "0000000002000000 0100000019000000 0700000000000000", False),
     # a pad of two words
@@ -608,7 +608,7 @@ COPIES = (
     # an element's pointer
     ("0000000004000000 010000000f000000 0400000000000100 0000000001000000 2a00000000000000",
      "0000000004000000 010000000f000000 0400000000000100 0000000001000000 2a00000000000000", True),
-    # a word behind the tree
+    # a word after the tree
     ("0000000003000000 0000000001000000 2a00000000000000 0000000000000000",
      "0000000002000000 0000000001000000 2a00000000000000", False),
     # a second segment without words
@@ -640,7 +640,7 @@ COPY_ENDS = (
         "message 4: refused NoRoot at 0:0 pointers 0\n", status=1),
 )
 
-# Words, and their packed spelling.
+# Words, and their packed encoding.
 SPELLINGS = (
     ("0800000003000200 19000000aa010000", "51080302 3119aa01"),
     ("", ""),
@@ -668,7 +668,7 @@ PACKED_STREAMS = (
     Row("vet --packed", "10010001",
         "message 0: accepted charge 0 depth 0 pointers 1 caps 0\n"
         "message 1: refused NoRoot at 0:0 pointers 0\n", status=1),
-    # and the same with further messages behind it
+    # and the same with further messages after it
     Row("vet --packed", "10010001100440021104011001010710044002110401100101071004400211040110010107",
         "message 0: accepted charge 0 depth 0 pointers 1 caps 0\n"
         "message 1: refused NoRoot at 0:0 pointers 0\n"
