@@ -1,6 +1,6 @@
-/* Refuses one allocation of the program that LD_PRELOAD loads it into. The variable `REFUSE` has the number of that
-   allocation, counted from 1 after the program's start. Then it writes a byte to the descriptor whose number is in
-   `TELL`. It needs no header, only the C library's own names of the functions that it replaces. */
+/* Refuses one allocation of the program that LD_PRELOAD loads it into. The variable `REFUSE` has the number of
+   that allocation, counted from 1 after the program's start. Then it writes a byte to the descriptor whose number
+   is in `TELL`. It needs no header, only the C library's own names of the functions that it replaces. */
 typedef __SIZE_TYPE__ size_t;
 
 void *__libc_malloc(size_t);

@@ -1,5 +1,5 @@
-//! What the four calls tell together of messages whose copies are known from outside, and of those
-//! that have none.
+//! The answers of the four calls, which have to agree, for messages whose copies are known from
+//! outside, and for messages that have none.
 
 mod values;
 
@@ -159,7 +159,7 @@ static STRUCTS: [Row; 18] = [
         Ok(&[0x0000000001000000, 42]),
     ),
     (&[&[0x0000000001000000, 0]], Ok(&[0xfcffffff00000000])),
-    // A word behind the tree, and a far pointer into its own segment.
+    // A word after the tree, and a far pointer into its own segment.
     (
         &[&[0x0000000001000000, 0x2a00000000000000, 0]],
         Ok(&[0x0000000001000000, 0x2a00000000000000]),
@@ -240,7 +240,7 @@ static STRUCTS: [Row; 18] = [
             7,
         ]),
     ),
-    // A struct without words whose pointer leads elsewhere.
+    // A struct without words whose pointer doesn't have the offset -1.
     (
         &[&[0x0000000001000100, 0x2a00000000000000, 0xf8ffffff00000000]],
         Ok(&[0x0000000001000100, 0x2a00000000000000, 0xfcffffff00000000]),
@@ -280,7 +280,7 @@ static LISTS: [Row; 13] = [
         &[&[0x010000001f000000, 0x0800000001000000, 5, 0, 255]],
         Ok(&[0x0100000017000000, 0x0800000001000000, 5, 0]),
     ),
-    // Elements without bits, and three bits with those behind them.
+    // Elements without bits, and three bits with other bits of their word set.
     (&[&[0x0100000018000000]], Ok(&[0x0100000018000000])),
     (
         &[&[0x0100000019000000, 0xffffffffffffffff]],
@@ -421,7 +421,7 @@ static IN_SEGMENTS: [Row; 9] = [
 
 // Messages of objects below others.
 static OBJECTS: [Row; 7] = [
-    // Words between objects and behind them.
+    // Words between objects and after them.
     (
         &[&[
             0x0000000000000200,
@@ -441,7 +441,7 @@ static OBJECTS: [Row; 7] = [
             0x0900000000000000,
         ]),
     ),
-    // The children of both children, level by level, which stand child by child in the copy.
+    // The children of both children: level by level in the message, child by child in the copy.
     (
         &[&[
             0x0000000000000200,
@@ -462,7 +462,7 @@ static OBJECTS: [Row; 7] = [
             0x0900000000000000,
         ]),
     ),
-    // A struct of a pointer, shared by two pointers: what stands below it is copied twice too.
+    // A struct of a pointer, shared by two pointers: the struct below it is copied twice too.
     (
         &[&[
             0x0000000000000200,
@@ -585,7 +585,7 @@ static OF_STRUCTS: [Row; 6] = [
             0xfcffffff00000000,
         ]),
     ),
-    // What the elements' pointers lead to is cut, each by itself, and stands element by element.
+    // The targets of the elements' pointers are cut, each by itself, and follow element by element.
     (
         &[&[
             0x0100000017000000,

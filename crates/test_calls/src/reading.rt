@@ -11,7 +11,7 @@ use std::test::Fail;
 #[test]
 fn a_struct_in_another_segment(rt: HostRuntime) -> Result<(), Fail> {
     let alloc = rt.alloc();
-    // A far pointer to a landing pad of one word, and a struct of one data word behind it.
+    // A far pointer to a landing pad of one word, and a struct of one data word after it.
     let mut segments = Vec::new(alloc);
     segments.push(vec![in alloc; 0x0000000100000002]?)?;
     segments.push(vec![in alloc; 0x0000000100000000, 42]?)?;

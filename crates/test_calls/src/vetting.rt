@@ -15,7 +15,7 @@ use std::alloc::Global;
 use std::process::Abort;
 use std::test::Fail;
 
-// What is wanted of a message.
+// The expected verdict on a message.
 #[derive(Clone, Copy)]
 enum Verdict {
     // The charge, the depth and the pointers of one without capabilities.
@@ -53,10 +53,10 @@ impl Verdict {
     }
 }
 
-// The words of each segment of a message, its limits, and what is wanted.
+// The words of each segment of a message, its limits, and the expected verdict.
 type Row = (&'static [&'static [u64]], u64, u32, Verdict);
 
-// Each message, held in each way, has the verdict that is wanted.
+// Each message, held in each way, has the expected verdict.
 fn have_verdicts(rt: &impl Abort, alloc: Global, rows: &[Row]) -> Result<(), Fail> {
     for (spelled, most_words, most_depth, wanted) in rows {
         let limits = Limits::new(*most_words, *most_depth).ok_or("no limits")?;
@@ -378,7 +378,7 @@ static OF_ONE_SEGMENT: [Row; 53] = [
         DEPTH,
         WithCaps(7, 2, 5, 2, 4),
     ),
-    // Two faults: the first in preorder is told.
+    // Two faults: the first in preorder is reported.
     (
         &[&[0x0000000000000200, 0x0800000001000000, 0x0700000005000000]],
         WORDS,

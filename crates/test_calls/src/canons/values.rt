@@ -6,7 +6,7 @@ use std::test::Fail;
 // All bits of a word.
 const ONES: u64 = 0xffffffffffffffff;
 
-// Lists of values of each code, with unused bits that are set, and with a word behind them.
+// Lists of values of each code, with unused bits that are set, and with a word after them.
 static VALUES: [Row; 12] = [
     (&[&[0x0100000018000000]], Ok(&[0x0100000018000000])),
     (&[&[0x0100000018000000, ONES]], Ok(&[0x0100000018000000])),

@@ -36,7 +36,7 @@ static PLACES: [(&[&[u64]], Rows); 8] = [
     (&[&[0x0300000005000000]], &[(&[], &[])]),
     (&[&[0xfcffffff00000000]], &[(&[], &[])]),
     // A struct of one data word and two pointers: to one word, and to three bits, whose other bits are
-    // shown as they stand.
+    // shown as they are.
     (
         &[&[
             0x0000000001000200,
@@ -104,7 +104,7 @@ static PLACES: [(&[&[u64]], Rows); 8] = [
         &[&[0x0100000019000000, 0xffffffffffffffff]],
         &[(&[], &[0xffffffffffffffff])],
     ),
-    // A struct in the last of four segments, behind a landing pad of two words in the second.
+    // A struct in the last of four segments, reached through a landing pad of two words in the second.
     (
         &[
             &[0x0600000001000000],

@@ -13,7 +13,7 @@ use std::test::Fail;
 // A kind and a place, or nothing.
 type Seen = Option<(Kind, Option<Place>)>;
 
-// What a path arrives at, and what is left of a budget of so many words.
+// What a path arrives at, and what is left of a budget of `words` words.
 fn charged<M: Segments>(
     message: &M,
     words: u64,
@@ -29,7 +29,7 @@ fn charged<M: Segments>(
     (answer, budget.left())
 }
 
-// What is wanted at a path.
+// The expected answer at a path.
 #[derive(Clone, Copy)]
 enum Wanted {
     Nothing,
@@ -65,8 +65,8 @@ impl Wanted {
     }
 }
 
-// The words of each segment of a message, the words of the budget and the depth, a path, what is
-// wanted, and what is left.
+// The words of each segment of a message, the words of the budget and the depth, a path, the
+// expected answer, and the words that are left.
 type Row = (
     &'static [&'static [u64]],
     u64,
@@ -76,7 +76,7 @@ type Row = (
     u64,
 );
 
-// Each message, held in each way, is charged as is wanted.
+// Each message, held in each way, is charged as expected.
 fn are_charged(rt: &impl Abort, alloc: Global, rows: &[Row]) -> Result<(), Fail> {
     for (spelled, words, depth, path, wanted, left) in rows {
         let forms = Forms::of(alloc, spelled)?;
@@ -169,7 +169,7 @@ const ELEMENTS: &[&[u64]] = &[&[
     0xff00000000000000,
 ]];
 
-// Pointers up to a step that leads nowhere are charged.
+// Pointers up to a step that leads to no node are charged.
 static NOWHERE: [Row; 5] = [
     (SHARED, 4, 64, &[Step::Ptr(5)], Nothing, 2),
     (ELEMENTS, 4, 64, &[Step::Item(1)], Struct(1, 0, 3), 0),
@@ -203,7 +203,7 @@ const BELOW: &[&[u64]] = &[&[
 
 const NONE: &[&[u64]] = &[&[0x0100000007000000, 0]];
 
-// Structs of a list stand a level below it.
+// Structs of a list are a level below it.
 static LEVELS: [Row; 8] = [
     (BELOW, 9, 3, &[Step::Item(0), P0], Struct(1, 0, 3), 6),
     (

@@ -36,7 +36,7 @@ fn has_overlap(
     Ok(())
 }
 
-// The overlap in a message as it is held, over memory and over room.
+// The overlap in a message as it is held, with allocated marks, and with marks in a given buffer.
 fn overlap<M: Segments>(rt: &impl Abort, alloc: Global, message: &M) -> Result<Overlap, Fail> {
     let limits = Limits::new(WORDS, DEPTH).ok_or("no limits")?;
     let Ok(vetted) = vet(message, limits) else {
@@ -77,8 +77,8 @@ fn over_memory<M: Segments>(
     }
 }
 
-// The same over room that is lent, which is all ones before: of just the numbers that the marks take,
-// and of more. A number less is too little, and what isn't used stays as it is.
+// The same with the marks in a borrowed buffer, which is all ones before: of just the numbers that
+// they take, and of more. A number less is too few, and the numbers that aren't used stay as they are.
 fn over_room<M: Segments>(
     rt: &impl Abort,
     alloc: Global,
@@ -111,7 +111,7 @@ fn are_ones(rt: &impl Abort, marks: &[u64]) {
     }
 }
 
-// How many numbers the marks of an accepted message take, which this room hasn't.
+// How many numbers the marks of an accepted message take: more than this buffer has.
 fn without_room<M: Segments>(
     rt: &impl Abort,
     report: Report,
@@ -133,7 +133,7 @@ fn without_room<M: Segments>(
     }
 }
 
-// The answer of an accepted message with this report, over room that is large enough.
+// The answer for an accepted message with this report, where the buffer is large enough.
 fn marked<M: Segments>(
     rt: &impl Abort,
     report: Report,
@@ -176,7 +176,7 @@ static OVERLAPS: [(&[&[u64]], Overlap); 28] = [
         &[&[0x0a00000000000000, 0xfcffffff01000000]],
         Some((0, 0, 1)),
     ),
-    // Two structs, the second on the last word of the first, and behind it.
+    // Two structs, the second on the last word of the first, and after it.
     (
         &[&[
             0x0000000000000200,
@@ -198,7 +198,7 @@ static OVERLAPS: [(&[&[u64]], Overlap); 28] = [
         ]],
         None,
     ),
-    // A list of one struct, and a struct on its element, on its tag, and behind it.
+    // A list of one struct, and a struct on its element, on its tag, and after the list.
     (
         &[&[
             0x0000000000000200,
@@ -282,7 +282,7 @@ static OVERLAPS: [(&[&[u64]], Overlap); 28] = [
     (&[&[0x0a00000000000000, 0x0000000001000000, 42]], None),
     // Words that no pointer uses.
     (&[&[0x0000000001000000, 42, 43, 44]], None),
-    // A struct behind a pad of one word, and behind one of two.
+    // A struct that is reached through a pad of one word, and through one of two.
     (
         &[&[0x0200000001000000], &[0x0000000001000000, 42], &[]],
         None,
@@ -349,8 +349,8 @@ fn numbers_that_marks_take(rt: HostRuntime) {
     }
 }
 
-// A struct of two pointers to lists of words, and so many further words. The second list begins
-// behind the first, or on its last word.
+// A struct of two pointers to lists of words, a count of further words, and the overlap. The second
+// list begins after the first, or on its last word.
 static TWO_LISTS: [(u64, u64, u32, Overlap); 14] = [
     (0x000001e500000005, 0x00000015000000f1, 62, None),
     (0x000001e500000005, 0x00000015000000ed, 61, Some((0, 2, 3))),
@@ -381,7 +381,7 @@ fn words_used_twice(rt: HostRuntime) -> Result<(), Fail> {
     Ok(())
 }
 
-// The refusal of a message whose one segment has these words, and its fault without room.
+// The refusal of a message whose one segment has these words, and its fault with an empty buffer.
 fn refusals(alloc: Global, spelled: &[u64]) -> Result<(ExclusiveRefusal, ExclusiveFault), Fail> {
     let segment = words(alloc, spelled)?;
     let message = OneSegment::new(&segment).ok_or("no message")?;

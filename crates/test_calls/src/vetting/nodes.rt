@@ -18,7 +18,7 @@ fn seen<M: Segments>(node: Option<Node<'_, M>>) -> Seen {
     Some((view.kind(), view.place()))
 }
 
-// What is wanted at a path.
+// The expected node at a path.
 #[derive(Clone, Copy)]
 enum Wanted {
     Nothing,
@@ -45,7 +45,7 @@ impl Wanted {
     }
 }
 
-// Paths, and what is wanted at each.
+// Paths, and the expected node at each.
 type Rows = &'static [(&'static [Step], Wanted)];
 
 // What is at a path, by `get` and by one child after the other, which have to agree.
@@ -123,7 +123,7 @@ const POINTERS: Kind = Kind::Pointers { count: 2 };
 
 const P0: Step = Step::Ptr(0);
 
-// The words of each segment of a message, and what is wanted in it.
+// The words of each segment of a message, and the expected nodes.
 type Message = (&'static [&'static [u64]], Rows);
 
 static STRUCTS: [Message; 5] = [
@@ -156,7 +156,7 @@ static STRUCTS: [Message; 5] = [
             (&[Step::Ptr(2), P0], Nothing),
         ],
     ),
-    // A struct in a segment of its own, behind a landing pad of two words.
+    // A struct in a segment of its own, reached through a landing pad of two words.
     (
         &[
             &[0x0600000001000000],
@@ -168,7 +168,7 @@ static STRUCTS: [Message; 5] = [
 ];
 
 static LISTS: [Message; 4] = [
-    // Elements with surplus words behind.
+    // Elements with surplus words after them.
     (
         &[&[
             0x010000001f000000,

@@ -29,7 +29,7 @@ const THROUGH_STRUCTS: &[&[u64]] = &[
     &[],
 ];
 
-// Three structs, each behind a pad of one word.
+// Three structs, each reached through a pad of one word.
 const THROUGH_ONE_WORD: &[&[u64]] = &[
     &[0x0200000001000000],
     &[
@@ -41,7 +41,7 @@ const THROUGH_ONE_WORD: &[&[u64]] = &[
     &[0x0000000000000100, 0x1200000001000000],
 ];
 
-// Three structs, the second of them behind a pad of two words and the first behind one of one word.
+// Three structs, the second reached through a pad of two words and the first through one of one word.
 const THROUGH_TWO_WORDS: &[&[u64]] = &[
     &[0x0000000000000100, 0x0600000001000000, 0xf8ffffff00000100],
     &[0x0200000002000000, 0x0000000000000100],
@@ -118,7 +118,7 @@ pub(super) static OVER_LANDING_PADS: [Row; 27] = [
         DEPTH,
         Refused(0, 0, Reason::PadOutside, 1),
     ),
-    // Its first word tells of a pad of two words, and its second one is a far pointer.
+    // Its first word is a far pointer to a pad of two words, and its second one is a far pointer.
     (
         &[
             &[0x0600000001000000],
@@ -180,7 +180,7 @@ pub(super) static OVER_LANDING_PADS: [Row; 27] = [
         DEPTH,
         Refused(0, 0, Reason::CompositeTag, 1),
     ),
-    // Five structs without words, near and behind pads of one word and of two.
+    // Five structs without words: by a near pointer, and through pads of one word and of two.
     (
         &[&[0x0100000007000000, 0x1400000000000000], &[], &[]],
         6,
