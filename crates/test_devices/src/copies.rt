@@ -9,7 +9,7 @@ use std::process::Abort;
 use std::test::Fail;
 use test_support::Reader;
 
-// What a copy of so many words answers, where it may take so many.
+// The answer for a copy of `words` words, where it may take at most `most`.
 fn answer(words: u64, most: u64) -> Result<u64, CopyFault> {
     if most < words {
         Err(CopyFault::TooManyWords)
@@ -18,7 +18,7 @@ fn answer(words: u64, most: u64) -> Result<u64, CopyFault> {
     }
 }
 
-// At most so many of the 130 zero words of a source are packed: they are one group.
+// At most `most` of the 130 zero words of a source are packed: they are one group.
 fn expect_packed<S: WordSource>(rt: &impl Abort, alloc: Global, source: &mut S, most: u64) {
     let mut sink = Packer::new(VecOut::new(alloc));
     assert!(rt; run_pack(source, &mut sink, most) == answer(130, most));

@@ -41,7 +41,7 @@ const NESTED: &str =
 const NESTED_TEXT: &str =
     "root structs 2 1 1\n  i0 struct 1 1\n    d0 0100000000000000\n    p0 null\n  i1 struct 1 1\n    d0 0000000000000000\n    p0 null\n";
 
-// A dump to an output that fails after so many bytes, and another to the same.
+// A dump to an output that fails after `room` bytes, and another to the same.
 fn expect_beginning<R: AllocGlobal + Abort>(
     rt: &R,
     segment: &[u64],

@@ -12,8 +12,8 @@ use test_support::Reader;
 // Zero, without a zero byte, and with one.
 const KINDS: [u64; 3] = [0, 0x8a8a_8a8a_8a8a_8a8a, 0x8a8a_8a00_8a8a_8a8a];
 
-// Puts a message of two segments: one of so many words, and one of three. The first words of both together
-// are a run, and those after it aren't.
+// Puts a message of two segments: one of `first` words, and one of three. The first `run` words of both
+// together are a run, and those after it aren't.
 fn put_message<K: WordSink>(sink: &mut K, first: u32, kind: u64, run: u32) -> Result<(), Fail> {
     sink.put((first as u64) << 32 | 1)?;
     sink.put(3)?;
@@ -54,7 +54,7 @@ fn expect_message<R: AllocGlobal + Abort>(
     Ok(())
 }
 
-// A message whose run has so many words is read from its packed text, by reads of each size.
+// A message whose run has `run` words is read from its packed text, by reads of each size.
 fn expect_run<R: AllocGlobal + Abort>(
     rt: &R,
     kind: u64,

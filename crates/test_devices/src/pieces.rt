@@ -226,8 +226,8 @@ static ROWS: [Row; 17] = [
     },
 ];
 
-// Reads that fail: the device isn't called again, the output is what the bytes given before tell, and
-// the line and the status are those of the fault.
+// Reads that fail: the device isn't called again, the output is that of the bytes given before, and the
+// line and the status are those of the fault.
 fn expect_read_faults<R: AllocGlobal + Abort>(
     rt: &R,
     row: &Row,
@@ -250,7 +250,7 @@ fn expect_read_faults<R: AllocGlobal + Abort>(
     }
 }
 
-// The line of a read that fails after so many bytes.
+// The line of a read that fails after `given` bytes.
 fn line_of(row: &Row, given: usize) -> &'static str {
     let mut line = "";
     for (from, text) in row.lines {

@@ -8,13 +8,13 @@ use cap_words::{PlainWords, SliceIn, WordSource};
 use std::process::Abort;
 use std::test::Fail;
 
-// Two segments, of one and two words, behind a table of two words.
+// Two segments, of one and two words, after a table of two words.
 const MESSAGE: &[u8] =
     b"\x01\0\0\0\x01\0\0\0\x02\0\0\0\xde\xad\xbe\xef\x02\0\0\0\x01\0\0\0\0\0\0\0\x01\0\0\0\x2a\0\0\0\0\0\0\0";
 
 const SEGMENTS: [&[u64]; 2] = [&[0x1_0000_0002], &[0x1_0000_0000, 42]];
 
-// A call answered that it wanted memory, and what it left is as promised.
+// A call answered out of memory, and what it left is as promised.
 pub(crate) fn refused() -> Result<(), Fail> {
     Err(Fail::from("refused"))
 }
@@ -41,7 +41,7 @@ fn is_message<M: Segments>(message: &M, want: &[&[u64]]) -> bool {
     true
 }
 
-// The source stands behind the table, and can be used on.
+// The source is after the table, and can still be read.
 fn expect_contents<S: WordSource>(rt: &impl Abort, source: &mut S) {
     same(rt, source.position(), 16);
     for word in [0x1_0000_0002, 0x1_0000_0000, 42] {
@@ -112,7 +112,8 @@ fn a_message_read_into_a_blank_one(rt: HostRuntime) -> Result<(), Fail> {
 }
 
 // Tables past the limits: of one segment too many, of one segment of the most words that there can be,
-// and of 512 such segments. The calls make no growth, so the test's first growth is its own, at the end.
+// and of 512 such segments. The calls allocate nothing, so the first allocation is the test's own, at the
+// end.
 #[test]
 fn a_table_past_the_limits(rt: HostRuntime) -> Result<(), Fail> {
     let limit = SizeLimit::new(268435456).ok_or("a limit")?;

@@ -59,7 +59,7 @@ fn fields_and_bytes_of_words(rt: HostRuntime) {
     same(&rt, bytes_of(SECOND), [8, 7, 6, 5, 4, 3, 2, 1]);
 }
 
-// So many bytes of the text in a slice, and calls of a source of their words.
+// The length of a slice of the text, and calls of a source of its words.
 static SLICES: [(usize, &[Takes]); 6] = [
     (
         16,
@@ -273,8 +273,8 @@ static BIG_READS: [Reads; 11] = [
     Reads::Read(1, Err(InFault::Spent)),
 ];
 
-// So many bytes and the text are read through a buffer; the call of this number fails, where it isn't
-// 0, and is the last.
+// `len` bytes and then the text are read through a buffer. Where `fails_at` isn't 0, the call of that
+// number fails, and is the last.
 fn expect_reads<R: AllocGlobal + Abort>(
     rt: &R,
     len: usize,
@@ -330,7 +330,7 @@ fn expect_filled<S: WordSource>(
 // How many bytes a call of the reader gives at most.
 static SIZES: [usize; 8] = [1, 3, 7, 8, 9, 65535, 65536, 65537];
 
-// So many bytes are filled by reads of each size, with a buffer and without.
+// These bytes are filled in pieces by reads of each size, with a buffer and without.
 fn expect_pieces<R: AllocGlobal + Abort>(
     rt: &R,
     bytes: &[u8],

@@ -1,4 +1,4 @@
-//! Tests of ends, words, packed texts and frames, by public calls alone: a file for each end, each spelling
+//! Tests of ends, words, packed texts and frames, by public calls alone: a file for each end, each encoding
 //! of words and each way to read a frame.
 #![tactic(auto)]
 

@@ -26,7 +26,7 @@ fn put_pieces<K: WordSink>(rt: &impl Abort, sink: &mut K, bytes: &[u8]) {
     same(rt, sink.put_bytes(&[]), Err(SinkFault::Spent));
 }
 
-// The source gives these words and no more, and has then read so many bytes.
+// The source gives these words and no more, and has then read `len` bytes.
 fn gives_each<S: WordSource>(rt: &impl Abort, source: &mut S, words: &[u64], len: usize) {
     for word in words {
         same(rt, source.next(), Ok(Some(*word)));
@@ -45,7 +45,7 @@ fn bytes_from(alloc: Global, words: &[u64]) -> Result<Vec<u8>, AllocError> {
     Ok(bytes)
 }
 
-// The text of the words by pieces of so many.
+// The text of the words, put in pieces of `size` words.
 fn packed_pieces(rt: &impl Abort, alloc: Global, words: &[u64], size: usize) -> VecOut {
     let mut sink = Packer::new(VecOut::new(alloc));
     for piece in words.chunks(size.max(1)) {

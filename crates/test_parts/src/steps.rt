@@ -1,7 +1,7 @@
 //! Calls of ends, sources and sinks, each with the expected answer.
 //!
 //! A test is a table of them: one function makes all calls of a trait, and is proved once. Bytes are
-//! given as so many of a text from one on.
+//! given by their place in a text and their count.
 
 use crate::same::same_of;
 use cap_words::{
@@ -16,7 +16,7 @@ pub(crate) enum Reads {
     Skip(usize),
     // A read into a buffer of this length.
     Read(usize, Result<usize, InFault>),
-    // So many bytes, and a fault or none, into a buffer of this length.
+    // The buffer's length, how many bytes are filled in, and a fault or none.
     Fill(usize, usize, Option<InFault>),
     // From this place of the buffer on are these bytes.
     Gave(usize, usize, usize),
@@ -52,7 +52,7 @@ pub(crate) fn front(room: &mut [u8], most: usize) -> &mut [u8] {
     &mut room[..len]
 }
 
-// So many bytes from this one on, or all that there are.
+// At most `most` bytes, from the byte `from` on.
 pub(crate) fn part(bytes: &[u8], from: usize, most: usize) -> &[u8] {
     let rest = &bytes[from.min(bytes.len())..];
     &rest[..most.min(rest.len())]

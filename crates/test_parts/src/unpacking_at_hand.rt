@@ -23,7 +23,7 @@ static WORDS: [u8; 72] = [
     9, 9, 9, 9, 9, 9, 9, 1, 2, 3, 4, 0, 0, 0, 0, 0, 0, 0, 0, 5, 6, 7, 8,
 ];
 
-// How many bytes of the text give so many bytes of words, and whether a group ends there.
+// A length of the text, how many bytes of words it gives, and whether a group ends there.
 static ENDS: [(usize, usize, bool); 8] = [
     (0, 0, true),
     (2, 8, true),
@@ -52,7 +52,7 @@ fn end_of(len: usize) -> (usize, Result<bool, SourceFault>) {
     (given, end)
 }
 
-// The source fills pieces of so many bytes with these, and then ends like that.
+// The source fills pieces of `size` bytes with these bytes, and then answers `end`.
 fn expect<S: WordSource>(
     rt: &impl Abort,
     source: &mut S,
@@ -69,7 +69,7 @@ fn expect<S: WordSource>(
     same(rt, source.fill(front(&mut room, 8)), end);
 }
 
-// A prefix of the text in a slice, and read through a buffer, at most so many bytes a call.
+// A prefix of the text in a slice, and read through a buffer, at most `most` bytes a call.
 fn expect_front(
     rt: &impl Abort,
     alloc: Global,

@@ -63,7 +63,7 @@ fn shows(
 // Bytes that are none of a message.
 const LEFT: [u8; 9] = [0xee; 9];
 
-// How many bytes the table of so many segments takes.
+// How many bytes the table of `segments` segments takes.
 fn table_len(segments: usize) -> usize {
     (segments / 2).saturating_add(1).saturating_mul(8)
 }
