@@ -25,8 +25,8 @@ const CYCLE: &str = "0000000001000000 fcffffff00000100";
 // A message without a root.
 const ROOTLESS: &str = "0000000000000000";
 
-// The answer for copies of a message and of `next` after it, of which at most `messages` are made. A packer
-// holds its last words back, so that its output shows whether it was finished.
+// The answer for copies of a message and of `next` after it, of which at most `messages` are made. A
+// packer holds its last words back, so that its output shows whether it was finished.
 fn end_of_copies<R: AllocGlobal + Abort>(
     rt: &R,
     next: &str,

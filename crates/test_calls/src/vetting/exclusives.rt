@@ -78,7 +78,7 @@ fn over_memory<M: Segments>(
 }
 
 // The same with the marks in a borrowed buffer, which is all ones before: of just the numbers that
-// they take, and of more. A number less is too few, and the numbers that aren't used stay as they are.
+// they take, and of more. A number less is too few, and unused numbers stay as they are.
 fn over_room<M: Segments>(
     rt: &impl Abort,
     alloc: Global,

@@ -41,7 +41,7 @@ const THROUGH_ONE_WORD: &[&[u64]] = &[
     &[0x0000000000000100, 0x1200000001000000],
 ];
 
-// Three structs, the second reached through a pad of two words and the first through one of one word.
+// Three structs, the second reached through a pad of two words, and the first through one of one.
 const THROUGH_TWO_WORDS: &[&[u64]] = &[
     &[0x0000000000000100, 0x0600000001000000, 0xf8ffffff00000100],
     &[0x0200000002000000, 0x0000000000000100],
