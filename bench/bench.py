@@ -4,12 +4,12 @@ Rust crate where they are installed, and prints a table.
 
     bench.py [--rounds N] [--only WORD] [--program PATH]
 
-The inputs are made anew in a temporary folder. In each round every command runs once, in turn, so that
+The inputs are generated in a temporary folder. In each round every command runs once, in turn, so that
 a busy machine slows them alike; the table has the median of the rounds. MiB, MB/s and `ratio`, against `dd`
 with blocks of 64 KiB, are those of the plain file also where a command gets it packed or packs it. Memory
 is the largest resident size of any round, and never less than this script's own, some 17 MiB, which a
 program that it starts inherits. `peer` is capvet's seconds over those of the faster of the two libraries at
-the same job. They don't do just the same work: the programs in peers/ tell what differs.
+the same job. They don't do just the same work: the programs in peers/ say what differs.
 """
 import argparse
 import multiprocessing
@@ -105,7 +105,7 @@ def write_tree(path):
 
 
 def tree_node(number, is_leaf):
-    """A struct of the tree, whose structs stand in the order of their numbers: 2n + 1 and 2n + 2 are below n."""
+    """A struct of the tree, whose structs are in the order of their numbers: 2n + 1 and 2n + 2 are below n."""
     data = word(number) + word(number * number)
     if is_leaf:
         return data + word(0) + word(0)
@@ -244,7 +244,7 @@ def cases():
 
 
 def write_packed(program, plain, path):
-    """The packed spelling of a file, which unpacks to it again."""
+    """The packed encoding of a file, which unpacks to it again."""
     with open(path, "wb") as out:
         subprocess.run([program, "pack", plain], stdout=out, check=True)
     with subprocess.Popen([program, "unpack", path], stdout=subprocess.PIPE) as back, open(plain, "rb") as wanted:
@@ -278,7 +278,7 @@ def why_not_built(words, folder):
 
 
 def build_peers(names, folder):
-    """The paths of the programs that these names stand for. A peer that can't be built is left out, and said so."""
+    """The paths of the programs of these names. A peer that can't be built is left out, and a line says why."""
     sources = Path(__file__).resolve().parent / "peers"
     built = {}
     for name in names:

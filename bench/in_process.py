@@ -3,9 +3,9 @@
 
     in_process.py [--rounds N] [--archive PATH] [FILE..]
 
-The inputs are files of messages. Where none is given they are made anew in a temporary folder: those of bench.py that are
-messages, and `lists`, 16 messages of 4 MiB with one list of bytes each. peers/cpp/in_process.cpp tells what is timed. Where
-it can't be built, for want of the archive, the C++ library or a compiler, a line says why.
+The inputs are files of messages. Where none is given, they are generated in a temporary folder. They are those of
+bench.py that are messages, and `lists`, 16 messages of 4 MiB with one list of bytes each. peers/cpp/in_process.cpp says
+what is timed. Where it can't be built, without the archive, the C++ library or a compiler, a line says why.
 """
 import argparse
 import os

@@ -4,14 +4,18 @@
     calls.py ARCHIVE PROGRAM
 
 The header alone is compiled in each standard of C and C++ that it is promised for. `calls` looks at known
-buffers, and `allocations` counts how often memory is taken; `lines` writes what the program writes of a stream, and
-both outputs are compared, for the samples, for each front of one of them, and for 100,000 messages of a fixed seed,
-most of which are samples with changed bytes. So are the canonical copies of as many messages, with the line of some
-that have none, and the words of packed texts: of the samples, of each front of one, and of 1,000 that are made up; and
-by `texts`, of 100,000, many with changed bytes. `packing` looks at known words, and packs 100,000 lists of words, as the
-program does: the samples, each front of one, changed ones, runs about as long as a group's longest, and words of few
-kinds. All but `allocations` run with the compiler's checks of memory, and `calls`, `texts` and `packing` under
-valgrind, where these are there. The last line is 'N passed, M failed', and the status is 1 where something failed.
+buffers, and `allocations` counts how often memory is taken.
+
+`lines` writes what the program writes for a stream, and both outputs are compared. The streams are the samples, each
+prefix of one of them, and 100,000 messages of a fixed seed, most of which are samples with changed bytes. The canonical
+copies of as many messages are compared too, with the line of some that have none. So are the words of packed texts: of
+the samples, of each prefix of one, and of 1,000 that are made up. `texts` unpacks 100,000 texts, many with changed bytes.
+
+`packing` looks at known words, and packs 100,000 lists of words, as the program does. They are the samples, each prefix
+of one, changed ones, runs of about the greatest length of a group, and words of few kinds.
+
+All but `allocations` run with the compiler's checks of memory, and `calls`, `texts` and `packing` under valgrind, where
+these are installed. The last line is 'N passed, M failed', and the status is 1 where something failed.
 """
 import random
 import shutil
@@ -160,7 +164,7 @@ def compare(lines, program):
 
 
 def with_copies(program, chance):
-    """Streams of messages that have a canonical copy, and such with one behind the first message that has none."""
+    """Streams of messages that have a canonical copy, and such with one after the first message that has none."""
     whole = samples()
     yield b"".join(whole), True
     small = [message for message in whole if len(message) < 1000]
@@ -218,8 +222,8 @@ def plain_texts(chance):
 
 
 def compare_packed(packing, watched, program):
-    """Packed texts, beside the program's. It takes all in one run: behind each stands a word that is a group by itself,
-    with which no run goes on."""
+    """Packed texts, beside the program's. It takes all in one run: after each comes a word that is a group by itself,
+    which no run takes in."""
     texts, end, end_text = plain_texts(random.Random(SEED)), b"\1\0\2\0\3\0\4\0", b"\x55\1\2\3\4"
     whole = [text for text in texts if len(text) % 8 == 0]
     cut = [text for text in texts if len(text) % 8 != 0]
@@ -329,8 +333,8 @@ def words_of(output):
 
 
 def compare_texts(texts, watched, program):
-    """Both programs over many packed texts. Whole ones and then a cut one are together one text, which the program
-    takes in one run: it has to write the words of the whole ones, and to end where the cut one does."""
+    """Both programs over many packed texts. The program takes some whole ones and then a cut one as one text. It has to
+    write the words of the whole ones, and to end where the cut one does."""
     many = list(many_texts(program, random.Random(SEED)))
     with tempfile.TemporaryDirectory() as folder:
         path = Path(folder) / "texts"

@@ -1,10 +1,10 @@
 #!/usr/bin/env python3
-"""Has each growth refused in turn that a test of crates/test_memory makes, and reads how the test ended.
+"""Makes each allocation of the tests of crates/test_memory fail in turn, and reads how each test ended.
 
-A run over all tests, which `rt try` builds anew and proves nothing of, makes the allocation of one number fail in
-each test's own process. A test ends well where it made fewer of them. Else it has to end with the error `refused`:
+A run over all tests, which `rt try` builds and doesn't prove, makes the allocation of one number fail in each
+test's own process. A test ends well where it made fewer of them. Else it has to end with the error `refused`:
 the call that it tests answered out of memory, and left what it promises. The numbers go up from 1 until each test
-ends well. A test with a number in GROWTHS has to end well from the next number on. How a test ended in a run is a case.
+ends well. A test with a number in `GROWTHS` has to end well from the next number on. How a test ended in a run is a case.
 Failures are printed as they come. The last line is 'N passed, M failed', and the status is 1 where a case failed.
 """
 import re

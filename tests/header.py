@@ -12,7 +12,7 @@ ROOT = pathlib.Path(__file__).resolve().parent.parent
 
 
 def answers(path, pattern):
-    """The names and numbers that a file tells, each name once."""
+    """The names and numbers that a file has, each name once."""
     pairs = re.findall(pattern, (ROOT / path).read_text(), re.MULTILINE)
     told = {name: int(number) for name, number in pairs}
     if len(told) != len(pairs) or not told:

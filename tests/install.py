@@ -1,5 +1,5 @@
 #!/usr/bin/env python3
-"""Installs the built program and library into scratch folders as their users do, and compares what stands there.
+"""Installs the built program and library into scratch folders as their users do, and compares what is there.
 
     install.py [PROGRAM [ARCHIVE]]
 
@@ -31,7 +31,7 @@ passed = failed = 0
 
 
 def compare(name, wanted, got):
-    """Counts a case as passed where what is wanted is what came, and else shows both."""
+    """Counts a case as passed where it got what was expected, and else shows both."""
     global passed, failed
     if wanted == got:
         passed += 1
@@ -108,7 +108,7 @@ def works(prefix):
 
 
 def options_of_help(command):
-    """The long options that the program's own help tells."""
+    """The long options that the program's own help lists."""
     text, _ = run([PROGRAM, "help", command])
     return sorted(set(re.findall(r"^ +(?:-\w, |    )(--[a-z]+)", text.partition("\nOptions:\n")[2].partition("\n\n")[0], re.M)))
 
@@ -126,7 +126,7 @@ def options():
 
 
 def examples():
-    """Each example of the manual page, run as it stands there."""
+    """Each example of the manual page, run as it is there."""
     page = (TOP / "docs/capvet.1").read_text().replace("\\-", "-")
     environment = {**os.environ, "PATH": f"{PROGRAM.parent}:{os.environ['PATH']}"}
     found = re.findall(r"^\$ (.*)\n((?:[^.$].*\n)*)", page, re.M)

@@ -33,7 +33,7 @@ no frame: the connection is dropped
 
 
 def inputs(folder):
-    """Streams to vet: the samples, a front of one, nothing, and messages of which one bit is turned."""
+    """Streams to vet: the samples, a prefix of one, nothing, and messages of which one bit is turned."""
     streams = {name: (TOP / "examples" / name).read_bytes() for name in SAMPLES}
     streams["cut.bin"] = streams["stream-of-four.bin"][:3200]
     streams["empty.bin"] = b""
@@ -64,14 +64,14 @@ def same(name, command, files):
 
 
 def flags(environment, *packages):
-    """What pkg-config wants a compiler to be told."""
+    """The arguments that pkg-config gives for a compiler."""
     text, status = run(["pkg-config", "--cflags", "--libs", *packages], env=environment)
     compare(f"pkg-config {packages}", 0, status)
     return text.split()
 
 
 def described(prefix, environment):
-    """The description for pkg-config is a whole one, and tells the folders and the version of the header."""
+    """The description for pkg-config is a whole one, and has the folders and the version of the header."""
     compare("pkg-config --validate", ("", 0), run(["pkg-config", "--validate", prefix / install.DESCRIPTION], env=environment))
     header = (TOP / "include/capvet.h").read_text()
     version = ".".join(re.search(rf"#define CAPVET_VERSION_{part} (\d+)", header)[1] for part in ("MAJOR", "MINOR"))
@@ -152,7 +152,7 @@ def signs_from_rust(program):
 
 
 def from_cplusplus(folder, environment, files):
-    """The server in front of libcapnp."""
+    """The server that vets messages before it passes them to libcapnp."""
     if missing("the server in front of libcapnp", "c++"):
         return
     if run(["pkg-config", "capnp"], env=environment)[1]:

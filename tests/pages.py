@@ -32,7 +32,7 @@ passed = failed = 0
 
 
 def compare(name, wanted, got):
-    """Counts a case as passed if `got` is what is wanted, and otherwise shows both."""
+    """Counts a case as passed if `got` is what was expected, and otherwise shows both."""
     global passed, failed
     if wanted == got:
         passed += 1

@@ -4,9 +4,9 @@
     program.py [PROGRAM]
 
 A case is one call of `case`. Failures are printed as they come. The last line is 'N passed, M failed', and
-the status is 1 where a case failed. The texts that are wanted were written from docs/output.md, and the
-numbers of the samples counted by another program. Those of a wrong command line are the library clap's. Streams
-and command lines, with what comes of them, stand in tables.py, and the texts of help in helps.py.
+the status is 1 where a case failed. The expected texts were written from docs/output.md, and the numbers of the
+samples counted by another program. The texts of a wrong command line are the library clap's. Streams and command
+lines are in tables.py, with what the program has to write for them, and the texts of help are in helps.py.
 """
 import fcntl
 import os
@@ -37,7 +37,7 @@ def encoded(text):
 
 
 def compare(name, wanted, got):
-    """Counts a case as passed where each of what is wanted is what came, and else shows both."""
+    """Counts a case as passed where each part of it is what was expected, and else shows both."""
     global passed, failed
     if wanted == got:
         passed += 1
@@ -59,8 +59,8 @@ def run(command, **how):
 
 
 def case(words, out="", err="", status=0, stdin=b"", stdout=subprocess.PIPE):
-    """The program on these words, split at spaces where they are a text. What it writes to `stdout`, where that is
-    told, isn't seen."""
+    """The program with these arguments, split at spaces where they are a text. Where a `stdout` is given, what the
+    program writes to it isn't looked at."""
     words = words.split() if isinstance(words, str) else words
     name = "capvet " + " ".join(it if isinstance(it, str) else repr(it) for it in words)
     if stdin:
@@ -105,7 +105,7 @@ def framed(*words):
 
 
 def packed(stream):
-    """The packed spelling of a stream of words, as the encoding specification and Cap'n Proto's own packer have it."""
+    """The packed encoding of a stream of words, as the encoding specification and Cap'n Proto's own packer have it."""
     words = [stream[at:at + 8] for at in range(0, len(stream), 8)]
     text, at = b"", 0
     while at < len(words):
@@ -123,7 +123,7 @@ def packed(stream):
 
 
 def rows(table, also_packed=False):
-    """Each row of a table, and where that is told the same over the packed spelling of its input."""
+    """Each row of a table, and with `also_packed` the same over the packed encoding of its input."""
     for words, digits, out, err, status in table:
         stream = word(digits)
         case(words, out, err, status, stream)
@@ -196,7 +196,7 @@ def sample(name):
 
 
 def contents(stream):
-    """The words of all messages of a stream without their tables, as long as each has one segment."""
+    """The words of all messages of a stream without their tables, up to one that has several segments."""
     text, at = b"", 0
     while at < len(stream) and stream[at:at + 4] == bytes(4):
         size = 8 * struct.unpack_from("<I", stream, at + 4)[0]
@@ -240,7 +240,7 @@ def samples():
 
 
 def text_of(process, length):
-    """What a running process writes, up to so many bytes, or until nothing came for a minute."""
+    """What a running process writes, up to `length` bytes, or until nothing came for a minute."""
     text, output = bytearray(), process.stdout.fileno()
     while len(text) < length and select.select([output], [], [], 60)[0]:
         part = os.read(output, min(length - len(text), MIB))
@@ -251,7 +251,7 @@ def text_of(process, length):
 
 
 def live_pipe(command, wanted, status=0):
-    """The text of a message comes while the input is still open behind it, and not only at the end."""
+    """The text of a message comes while the input is still open after it, and not only at the end."""
     piped = {"stdin": subprocess.PIPE, "stdout": subprocess.PIPE, "stderr": subprocess.PIPE}
     with subprocess.Popen([PROGRAM, *command.split()], cwd=TOP, **piped) as ran:
         ran.stdin.write(sample("contacts.bin"))
@@ -280,8 +280,8 @@ def waits_for_input(process):
 
 
 def resident(command, name, parts, wanted, most):
-    """A command that gets these parts of a stream, and whose input stays open behind them: it has to write these parts
-    of a text and no more, with at most so many KiB resident."""
+    """A command that gets these parts of a stream, and whose input stays open after them. It has to write the parts of
+    a text in `wanted` and no more, with at most `most` KiB resident."""
     pipes = {"stdin": subprocess.PIPE, "stdout": subprocess.PIPE}
     with subprocess.Popen([PROGRAM, *command.split()], cwd=TOP, **pipes) as ran:
         writer = threading.Thread(target=lambda: [ran.stdin.write(part) for part in parts] + [ran.stdin.flush()])
@@ -317,7 +317,7 @@ resident("vet", "64 MiB of small messages", [contacts] * COPIES,
 
 
 def zero_parts(size):
-    """So many zero bytes, in parts of a MiB."""
+    """Zero bytes, `size` of them, in parts of a MiB."""
     return size // MIB * [bytes(MIB)] + [bytes(size % MIB)]
 
 
@@ -467,7 +467,7 @@ def kind_at(kind, place):
 
 
 def long_runs():
-    """Lists of up to 600 words of each kind, packed and unpacked, each with a word behind it that no run takes in."""
+    """Lists of up to 600 words of each kind, packed and unpacked, each with a word after it that no run takes in."""
     for kind in range(5):
         words = b"".join(kind_at(kind, place) for place in range(600))
         plain = b"".join(words[:8 * count] + END for count in range(601))
@@ -505,7 +505,7 @@ def cut_texts():
 
 
 def list_in_second(count, first):
-    """A message of two segments: a pad in the second and a list of so many words, which count up."""
+    """A message of two segments: a pad in the second and a list of `count` words, which count up from `first`."""
     pad = struct.pack("<II", 1, count << 3 | 5)
     words = struct.pack(f"<{count}Q", *range(first, first + count))
     return struct.pack("<IIII", 1, 1, 1 + count, 0) + word("0200000001000000") + pad + words
@@ -535,7 +535,7 @@ def long_messages():
 
 
 def in_sips(command, stream, wanted, status, most):
-    """A stream that comes through a pipe so many bytes at a time."""
+    """A stream that comes through a pipe, `most` bytes at a time."""
     pipes = {"stdin": subprocess.PIPE, "stdout": subprocess.PIPE, "stderr": subprocess.PIPE}
     with subprocess.Popen([PROGRAM, *command.split()], cwd=TOP, **pipes) as ran:
         for at in range(0, len(stream), most):
@@ -620,7 +620,7 @@ SHARED_TEXTS = {
 
 
 def cut_inputs():
-    """Each front of a message, plain and packed, through each command that reads messages, and behind a whole one."""
+    """Each prefix of a message, plain and packed, through each command that reads messages, and after a whole one."""
     for command, text in SHARED_TEXTS.items():
         for option, stream in ("", SHARED), (" --packed", SHARED_PACKED):
             for size in range(1, len(stream)):
@@ -634,13 +634,13 @@ def cut_inputs():
 
 
 def limit_files(size):
-    """For a process that is about to start: its files take so many bytes, and a write past that fails."""
+    """For a process that is about to start: its files take `size` bytes, and a write past that fails."""
     signal.signal(signal.SIGXFSZ, signal.SIG_IGN)
     resource.setrlimit(resource.RLIMIT_FSIZE, (size, size))
 
 
 def short_outputs():
-    """An output that takes so many bytes and no more, for each number of them up to the whole text."""
+    """An output that takes a number of bytes and no more, for each number up to the whole text."""
     runs = [(command, SHARED, encoded(text)) for command, text in SHARED_TEXTS.items()]
     runs += [("pack", SHARED, SHARED_PACKED), ("unpack", SHARED_PACKED, SHARED)]
     # 1154 zero words and three others: more than one piece of words
@@ -657,7 +657,7 @@ def short_outputs():
 
 
 def short_errors():
-    """Standard error that takes so many bytes of a line of a fault and no more: the texts before it and the status
+    """Standard error that takes a number of bytes of a fault's line and no more. The texts before it and the status
     are the same."""
     line = b"capvet: message 1: Truncated at byte 20\n"
     for size in range(len(line)):
@@ -674,8 +674,8 @@ def short_errors():
 
 
 def closing_pipe(command, text):
-    """A pipe whose reader takes so many bytes of a message's text and closes it, for each number of them, while the
-    input stays open: the text of the next message fails."""
+    """A pipe whose reader takes a number of bytes of a message's text and closes it, for each number, while the input
+    stays open. The text of the next message fails."""
     piped = {"stdin": subprocess.PIPE, "stdout": subprocess.PIPE, "stderr": subprocess.PIPE}
     for size in range(len(text) + 1):
         with subprocess.Popen([PROGRAM, *command.split()], cwd=TOP, **piped) as ran:
@@ -691,12 +691,12 @@ def closing_pipe(command, text):
 
 
 def limit_memory(kibibytes):
-    """For a process that is about to start: so much address space, as by `ulimit -v`."""
+    """For a process that is about to start: this much address space, as by `ulimit -v`."""
     resource.setrlimit(resource.RLIMIT_AS, (kibibytes << 10, kibibytes << 10))
 
 
 def wants_memory(command, stream, *wanted):
-    """What comes of a run with more and more memory, from too little to start with until it ends with status 0."""
+    """The ends of runs with more and more memory, from too little for a start until a run ends with status 0."""
     seen = []
     for kibibytes in range(1 << 10, 64 << 10, 16):
         got = run([PROGRAM, *command.split()], input=stream, stdout=subprocess.PIPE,
@@ -712,7 +712,8 @@ def wants_memory(command, stream, *wanted):
 
 
 def wants():
-    """A small message, and one of 1 MiB behind it, which has no room at first, and in `canon` a copy as large."""
+    """A small message, and then one of 1 MiB, for which the memory is too little at first. In `canon` its copy is as
+    large."""
     words = 1 << 17
     large = struct.pack("<IIII", 0, 1 + words, 1, 8 * words << 3 | 2) + bytes(8 * words)
     nothing = ("", "capvet: out of memory\n", 3)
@@ -764,7 +765,7 @@ for lines, text in HELPS:
 
 
 def help_example(command, status):
-    """The example at the end of a command's help, run as it stands there."""
+    """The example at the end of a command's help, run as it is there."""
     help_text, _, _ = run([PROGRAM, "help", *command.split()], stdout=subprocess.PIPE)
     _, _, example = help_text.decode().partition("\nExample:\n  $ ")
     line, _, wanted = example.partition("\n")

@@ -23,13 +23,13 @@ PROGRAM, ARCHIVE = "capvet", "capvet_c"
 
 
 def listed(root):
-    """The lines of crates.txt by the crate that each is of, with the words behind its name."""
+    """The lines of crates.txt by the crate that each is of, with the words after its name."""
     lines = [line for line in (root / "crates.txt").read_text().splitlines() if line and not line.startswith("#")]
     return {line.replace(":", " ").split()[0]: line for line in lines}
 
 
 def below(names, lines):
-    """These crates of the repository and all that they stand on."""
+    """These crates of the repository and all that they depend on."""
     found, left = set(), list(names)
     while left:
         name = left.pop()

@@ -1,13 +1,13 @@
 #!/usr/bin/env python3
-"""Has each allocation of the built program refused in turn, and compares what it then writes and its status.
+"""Makes each allocation of the built program fail in turn, and compares what it then writes and its status.
 
     refusals.py [PROGRAM]
 
-A small library (refuse.c), loaded into the program, refuses the allocation of one number and tells that it did. The
-numbers go up from 1 until a run makes fewer allocations. Each run has to end as one of which nothing is refused, or with
-the line that tells of want of memory, behind the texts of the messages before it and no more. How a run ended is a case,
-and so is that each such line of a command was seen. Failures are printed as they come. The last line is 'N passed,
-M failed', and the status is 1 where a case failed.
+A small library (refuse.c), loaded into the program, refuses the allocation of one number and reports that it did. The
+numbers go up from 1 until a run makes fewer allocations. Each run has to end as one of which nothing is refused, or out
+of memory. Then it writes the line that says so, after the texts of the messages before it, and no more. How a run ended
+is a case, and so is that each such line of a command was seen. Failures are printed as they come. The last line is
+'N passed, M failed', and the status is 1 where a case failed.
 """
 import os
 import shutil
@@ -30,7 +30,7 @@ passed = failed = 0
 
 
 def count(name, holds, text, cases=1):
-    """Counts cases, and tells of them where they failed."""
+    """Counts cases, and prints them where they failed."""
     global passed, failed
     if holds:
         passed += cases
@@ -64,8 +64,8 @@ OUT_OF_MEMORY = (b"", b"capvet: out of memory\n", 3)
 
 
 def expect(command, stream, refusing, texts=()):
-    """Each allocation of a command refused in turn. Where it holds messages, memory is wanted for one behind each of
-    these texts."""
+    """Each allocation of a command refused in turn. Where it holds messages, a run is out of memory for one after each
+    of these texts."""
     words = command.split()
     whole, _ = run(words, stream, refusing, 0)
     wants = [OUT_OF_MEMORY] + [(text, b"capvet: message %d: Memory\n" % at, 3) for at, text in enumerate(texts)]

@@ -1,7 +1,7 @@
-"""The tables of tests/program.py: command lines, what goes in, and what the built program has to write of it.
+"""The tables of tests/program.py: command lines, what goes in, and what the built program has to write for it.
 
-Streams stand in hexadecimal digits, in words as far as they have such, and texts as they are written. What is wanted
-was written from docs/output.md, and what is said of a wrong command line is the library clap's. Nothing here was
+Streams are in hexadecimal digits, in words as far as they have such, and texts are as they are written. The expected
+texts were written from docs/output.md, and those of a wrong command line are the library clap's. Nothing here was
 computed by the program.
 """
 from typing import NamedTuple
