@@ -1,7 +1,8 @@
-/* texts FILE: unpacks each packed text of a file. The four bytes before a text are its length, the lowest
- * byte first. For each text it writes how many bytes its words have, in the same way, and these bytes. For
- * a cut text it writes the length 0xffffffff, and no bytes. Each text is in a block of its own, which ends
- * with it, and so are its words, so that a tool that watches memory sees a read or a write after them. */
+/* texts FILE: unpacks each packed text of a file. The four bytes before a text are its length, the
+ * lowest byte first. For each text it writes how many bytes its words have, in the same way, and these
+ * bytes. For a cut text it writes the length 0xffffffff, and no bytes. Each text is in a block of its
+ * own, which ends with it, and so are its words, so that a tool that watches memory sees a read or a
+ * write after them. */
 #include <capvet.h>
 
 #include <stdio.h>
