@@ -1,5 +1,5 @@
-//! The engines: each reads the messages of a source and writes what is asked about each of them, or
-//! copies the words of a source.
+//! The engines, one for each command. Most read the messages of a stream and write a text or a copy
+//! for each. The others copy the words of a source.
 
 pub mod canon;
 pub mod check;

@@ -10,9 +10,10 @@ use thiserror::Error;
 #[derive(Clone, Copy, Debug, PartialEq, Eq, Drop, Error)]
 #[error("message {message}: {cause:?}")]
 pub struct RunFault {
-    /// The number of the message at which it ended, counted from 0. Where the output failed, as
-    /// many messages' texts were handed over whole: the next one was taken in part, or was taken and
-    /// couldn't be flushed.
+    /// The number of the message at which the engine ended, counted from 0.
+    ///
+    /// If the output failed, the texts of `message` messages had been put without an error. Of the
+    /// next text the output took a prefix, or it took all of it and the flush failed.
     pub message: u32,
     /// Why it ended there.
     pub cause: Cause,
@@ -25,27 +26,32 @@ pub enum Cause {
     TooManyMessages,
     /// No message could be read.
     Frame(FrameFault),
-    /// The output didn't take the text, or didn't hand it on. It took a beginning of it.
+    /// Writing or flushing the text failed. The output took a prefix of the text, or all of it.
     Output(OutFault),
-    /// The message was refused, where it has to have a canonical copy.
+    /// The message was refused, so that it has no canonical copy. Only
+    /// [`run_canon`](crate::run_canon) ends there.
     Refused(Refusal),
-    /// The message was accepted, and no canonical copy of it was made.
+    /// The message was accepted, and no canonical copy of it was made. Only
+    /// [`run_canon`](crate::run_canon) ends there.
     Canon(CanonFault),
-    /// The message was accepted, and room to mark its words was refused, where none may be used twice.
+    /// The message was accepted, and the allocation of the marks for its words failed. Only
+    /// [`run_vet_exclusive`](crate::run_vet_exclusive) marks words.
     Memory,
 }
 
 /// Why a copy of words ended before its source did.
 #[derive(Clone, Copy, Debug, PartialEq, Eq, Drop, Error)]
 pub enum CopyFault {
-    /// One more word was read than may be copied. Those before it were put, and the sink finished.
+    /// One more word was read than may be copied. The words before it were put, and the sink was
+    /// finished.
     #[error("too many words")]
     TooManyWords,
-    /// The source answered this. The words before it were put, and the sink finished.
+    /// The source returned this error. The words before it were put, and the sink was finished.
     #[error("source: {0:?}")]
     Source(SourceFault),
-    /// The output didn't take the words. What it took is a beginning of their text, and no word was
-    /// read behind the piece of them at which it failed.
+    /// The output failed, as words were put or as the sink was finished. The output took a prefix
+    /// of the text of the words. If it failed at a piece of the words, no word after that piece was
+    /// read.
     #[error("output: {0:?}")]
     Output(OutFault),
 }

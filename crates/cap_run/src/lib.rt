@@ -1,7 +1,7 @@
-//! The engines of the program: each goes through the messages of a source and tells something about
-//! each, or copies the words of a source.
+//! The engines of the program. Most read the messages of a stream and write a text or a copy for
+//! each. The others copy the words of a source.
 //!
-//! Their lines are put together on a page of a fixed size, so that no text takes memory.
+//! Texts are put together in a buffer of a fixed size, a page, so that no text allocates.
 #![tactic(auto)]
 
 mod engines;

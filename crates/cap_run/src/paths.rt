@@ -13,14 +13,14 @@ use thiserror::Error;
 /// Why a text gives no steps.
 #[derive(Clone, Copy, Debug, PartialEq, Eq, Drop, Error)]
 pub enum PathFault {
-    /// It is the text of no path.
+    /// The text isn't a path.
     #[error("bad path at {at}")]
     Bad {
-        /// The first byte, counted from 0, at which it stops being the beginning of a path's text,
-        /// or its length in bytes, where all of it is such a beginning.
+        /// The first byte, counted from 0, at which the text stops being a prefix of a path's text.
+        /// If the whole text is such a prefix, this is its length in bytes.
         at: usize,
     },
-    /// A growth was refused.
+    /// An allocation failed.
     #[error("out of memory")]
     Memory,
 }
@@ -36,11 +36,11 @@ pub(crate) enum Reading {
     Pointer,
     /// A slash, and the letter of an element.
     Item,
-    /// A step, whose number may go on.
+    /// A step. Its number may have more digits.
     Number(Step),
 }
 
-/// A number with one more digit. `None` where it would have a leading zero or be more than `most`.
+/// A number with one more digit. `None` if it would have a leading zero or be more than `most`.
 fn longer_number(n: u64, digit: u8, most: u64) -> Option<u64>
     requires digit { digit < 10 }
     requires most { most < 2 ^ 32 }
@@ -54,7 +54,7 @@ fn longer_number(n: u64, digit: u8, most: u64) -> Option<u64>
     if longer > most { None } else { Some(longer) }
 }
 
-/// What is read with one byte more, or `None` where no path goes on so.
+/// How far the step has been read after one more byte. `None` if no path goes on with this byte.
 fn next(reading: Reading, byte: u8) -> Option<Reading>
     ensures { result ≡ next_of reading byte }
 {
@@ -95,20 +95,28 @@ fn ended(reading: Reading, byte: u8) -> Option<Step>
     }
 }
 
-/// The steps of a path's text.
+/// Parses the text of a path into its steps.
 ///
-/// `/` alone is the empty path; else the text is steps, each `/p` and the number of a pointer, from
-/// 0 to 65535, or `/i` and the number of an element, from 0 to 4294967295, decimal and without
-/// leading zeros (docs/format.md, Paths). `Memory` comes only where a growth was refused; the empty
-/// path takes no memory.
+/// `/` alone is the empty path. Any other path is one step or more. A step is `/p` and the number
+/// of a pointer, from 0 to 65535, or `/i` and the number of an element, from 0 to 4294967295.
+/// Numbers are decimal, without leading zeros (docs/format.md, Paths).
+///
+/// Allocates for the steps alone. The empty path allocates nothing.
+///
+/// # Errors
+///
+/// - [`PathFault::Bad`]: the text isn't a path. `at` is the first byte, counted from 0, at which no
+///   path can go on, or the length of the text if all of it is a prefix of a path.
+/// - [`PathFault::Memory`]: an allocation failed. The text may be bad at a later byte.
 pub fn parse_path(alloc: Global, text: &str) -> Result<Vec<Step>, PathFault>
     ensures ok { IfOk result (λ steps. AllByRecursion IsStep steps.items × (text.now ≡ path_text steps.items)) }
     ensures bad { (at : ℕ) → IsErrOf result (PathFault.Bad at) → IsBadAt text.now at }
-    // The other direction: a path gives its steps, and a text that is none is bad where it is, want of memory aside.
+    // The other direction: a path gives its steps, and any other text is bad at its bad byte.
+    // Both hold unless an allocation fails.
     ensures path { (steps : List Step) → AllByRecursion IsStep steps → text.now ≡ path_text steps →
         MatchResult result (λ v. v.items ≡ steps) (λ fault. fault ≡ PathFault.Memory) }
     ensures no_path { (at : ℕ) → IsBadAt text.now at → (result ≡ Err (PathFault.Bad at)) ⊎ (result ≡ Err PathFault.Memory) }
-    // The empty path takes no memory.
+    // The empty path allocates nothing.
     ensures root { text.now ≡ path_text [] → IsOk result }
 {
     let mut steps = Vec::new(alloc);

@@ -1,9 +1,9 @@
-//! What an engine is told, and what it answers.
+//! The settings of an engine, and the counts that it returns.
 
 use cap_frame::SizeLimit;
 use cap_vet::Limits;
 
-/// What every engine is told.
+/// The limits of a run over a stream, for every engine.
 #[derive(Clone, Copy, Debug, PartialEq, Eq, Drop)]
 pub struct Settings {
     /// The limits of a walk over a message.
@@ -14,14 +14,14 @@ pub struct Settings {
     pub messages: u32,
 }
 
-/// What became of the messages of a stream that was read to its end.
+/// The counts of a stream that was read to its end.
 #[derive(Clone, Copy, Debug, PartialEq, Eq, Drop)]
 pub struct Outcome {
-    /// How many there were.
+    /// How many messages there were.
     pub messages: u32,
     /// How many of them were refused.
     pub refused: u32,
-    /// How many of them were accepted and aren't canonical, where that is asked. `segments`,
-    /// `vet`, `dump` and `get` don't ask it.
+    /// How many of them were accepted and aren't canonical. Only [`run_check`](crate::run_check)
+    /// looks at that; for the other engines it is 0.
     pub noncanonical: u32,
 }

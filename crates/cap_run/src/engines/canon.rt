@@ -1,4 +1,4 @@
-//! The engine that puts the canonical copy of each message.
+//! The engine that puts the canonical copy of each message to a sink.
 
 ghost use Rattle.cap_run.specs.Canons.{Canonised, IsCanonised, MakesCopies};
 ghost use Rattle.cap_run.specs.Copying.{Fills};
@@ -21,8 +21,8 @@ use cap_vet::{Limits, vet};
 use cap_words::{SinkFault, WordSink, WordSource};
 use std::alloc::Global;
 
-/// Puts the words of these bytes as a framed message of one segment: its table, and then all of them
-/// in one piece.
+/// Puts the words of these bytes as a framed message of one segment: the table, and then all words
+/// in one call (encoding: Serialization Over a Stream).
 fn put_framed<K: WordSink>(sink: &mut K, copy: &[u8]) -> Result<(), SinkFault>
     requires { length copy.now < 2 ^ 35 }
     ensures ok { OnOk result (Fills K.WordSink sink.old sink.new (frame_text (plain_words copy.now ∷ []))) }
@@ -38,7 +38,8 @@ fn put_framed<K: WordSink>(sink: &mut K, copy: &[u8]) -> Result<(), SinkFault>
     Ok(())
 }
 
-/// Puts the copy of a message that is accepted within the limits and has one.
+/// Vets a message and puts its canonical copy to the sink. If the message is refused, or no copy
+/// can be made, nothing is put.
 fn put_copy<K: WordSink, M: Segments>(
     alloc: Global,
     sink: &mut K,
@@ -64,7 +65,7 @@ fn put_copy<K: WordSink, M: Segments>(
     }
 }
 
-/// Hands on what was put where no byte of the next message has come yet.
+/// Flushes what was put, unless a byte of the next message is buffered.
 fn hand_on<S: WordSource, K: WordSink>(source: &S, sink: &mut K) -> Result<(), SinkFault>
     ensures ok { OnOk result ((before : K) (own : List ℕ) → Fills K.WordSink before sink.old own → Fills K.WordSink before sink.new own) }
     ensures err { IfErr result (λ fault. (before : K) (own : List ℕ) → Fills K.WordSink before sink.old own → Halts K.WordSink before sink.new own fault) }
@@ -75,8 +76,8 @@ fn hand_on<S: WordSource, K: WordSink>(source: &S, sink: &mut K) -> Result<(), S
     sink.flush()
 }
 
-/// Reads the next message in the place of the last, and puts its copy. `false` where the stream ends
-/// before it.
+/// Reads the next message into the buffer of the last one, and puts its copy. `false` if the stream
+/// ends before it.
 fn put_next<S: WordSource, K: WordSink>(
     alloc: Global,
     message: &mut ByteMessage,
@@ -106,8 +107,8 @@ fn put_next<S: WordSource, K: WordSink>(
     }
 }
 
-/// Puts the copies of the messages of a stream, and answers how many there were and why there were
-/// no more. The sink isn't finished yet.
+/// Puts the copies of the messages of a stream. Returns how many were put, and why there were no
+/// more. The sink isn't finished yet.
 fn put_copies<S: WordSource, K: WordSink>(
     alloc: Global,
     source: &mut S,
@@ -128,7 +129,7 @@ fn put_copies<S: WordSource, K: WordSink>(
     (settings.messages, end_stream(source, settings.size))
 }
 
-/// Whether the output didn't fail, so that the sink is still to be finished.
+/// Whether the output didn't fail, so that the sink has still to be finished.
 fn without_fault(end: &Result<(), Cause>) -> bool
     ensures { result ≡ is_unfinished end.now }
 {
@@ -138,7 +139,7 @@ fn without_fault(end: &Result<(), Cause>) -> bool
     }
 }
 
-/// Puts the copies of the messages of a stream, and finishes the sink but for an output's fault.
+/// Puts the copies of the messages of a stream, and finishes the sink unless the output failed.
 fn make_copies<S: WordSource, K: WordSink>(
     alloc: Global,
     source: &mut S,
@@ -157,13 +158,32 @@ fn make_copies<S: WordSource, K: WordSink>(
     (messages, end)
 }
 
-/// Reads the messages of a stream to its end, puts the canonical copy of each to a sink, as a framed
-/// message of one segment, and finishes the sink. The copy of a message is put before the next is
-/// read.
+/// Reads the messages of a stream to its end, and puts the canonical copy of each to a sink. Each
+/// copy is put as a framed message of one segment (encoding: Canonicalization, Serialization Over a
+/// Stream).
 ///
-/// It ends at the first message that is refused or has no copy, and answers that fault. It finishes
-/// the sink before each fault but one of the output. Then what the output took is a beginning of
-/// the text.
+/// The copy of a message is put before the next message is read. It is flushed unless a byte of the
+/// next message is buffered. The sink is finished at the end, and before an error is returned,
+/// unless the output failed. It is closed after the call in any case.
+///
+/// Allocates to hold a message only if it is larger than all before it. Allocates each copy, and
+/// frees it once it is put. Both take eight bytes for each word.
+///
+/// # Errors
+///
+/// The error names the message at which the run ended, counted from 0. The copies of all messages
+/// before it were put, and no message after it was read.
+///
+/// - [`Cause::TooManyMessages`]: the stream has more than `settings.messages` messages.
+/// - [`Cause::Frame`]: the message can't be read within `settings.size`, see
+///   [`FrameFault`](cap_frame::FrameFault).
+/// - [`Cause::Refused`]: the message isn't accepted within `settings.limits`. The refusal names the
+///   first bad pointer and the reason.
+/// - [`Cause::Canon`]: the message has a capability, so that it has no copy, or the allocation of
+///   the copy failed.
+/// - [`Cause::Output`]: the output failed as a copy was put or flushed, or as the sink was
+///   finished. It took a prefix of the text of the copies. If finishing the sink fails after
+///   another error, `Output` is returned.
 pub fn run_canon<S: WordSource, K: WordSink>(
     alloc: Global,
     source: &mut S,

@@ -1,4 +1,4 @@
-//! The engine that tells of each message whether it is canonical.
+//! The engine that writes for each message whether it is canonical.
 
 ghost use Rattle.cap_run.specs.Checking.{TellsCheck, TellsChecked};
 ghost use Rattle.cap_run.specs.Engines.{TellsStream};
@@ -20,7 +20,7 @@ use cap_vet::Vetted;
 use cap_words::{ByteOut, OutFault, WordSource};
 use std::alloc::Global;
 
-/// Tells whether a message is canonical.
+/// Writes whether a message is canonical.
 #[derive(Clone, Copy)]
 struct CheckTeller;
 
@@ -43,7 +43,7 @@ impl Teller for CheckTeller {
     }
 }
 
-/// What is counted of a message that is accepted.
+/// What is counted of an accepted message, by whether it is canonical.
 fn check_mark(canonical: bool) -> Mark
     ensures { result ≡ (if canonical then Mark.Accepted else Mark.NotCanonical) }
 {
@@ -54,11 +54,28 @@ fn check_mark(canonical: bool) -> Mark
     }
 }
 
-/// Reads the messages of a stream to its end, and tells of each whether it is canonical: whether it
-/// has one segment, whose words are its canonical copy. A message that isn't within the limits is
-/// told as [`run_vet`](crate::run_vet) tells it. Neither ends the run. The text of a message is
-/// written before the next is read. A fault comes behind the messages whose text is out, and tells
-/// how many they are.
+/// Reads the messages of a stream to its end, and writes for each whether it is canonical. A
+/// message is canonical if it has one segment, whose words are its canonical copy (encoding:
+/// Canonicalization). A message with a capability isn't.
+///
+/// For a message that isn't accepted within `settings.limits` it writes the line of
+/// [`run_vet`](crate::run_vet). A message that is refused or isn't canonical is counted, and
+/// doesn't end the run. The line of a message is written before the next message is read. It is
+/// flushed unless a byte of the next message is buffered.
+///
+/// Allocates only to hold a message that is larger than all before it: eight bytes for each word.
+///
+/// # Errors
+///
+/// The error names the message at which the run ended, counted from 0. The lines of all messages
+/// before it were written, and no message after it was read.
+///
+/// - [`Cause::TooManyMessages`](crate::Cause::TooManyMessages): the stream has more than
+///   `settings.messages` messages.
+/// - [`Cause::Frame`](crate::Cause::Frame): the message can't be read within `settings.size`, see
+///   [`FrameFault`](cap_frame::FrameFault).
+/// - [`Cause::Output`](crate::Cause::Output): the output failed as the line was written or flushed.
+///   It took a prefix of the line, or all of it.
 pub fn run_check<S: WordSource, O: ByteOut>(
     alloc: Global,
     source: &mut S,

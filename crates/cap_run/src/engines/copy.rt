@@ -1,4 +1,4 @@
-//! The engines that copy words from one spelling to another. They don't look at framing.
+//! The engines that copy words from one encoding to another. They don't look at framing.
 
 ghost use Rattle.cap_run.specs.Copying.{Copied, StopsMidway};
 ghost use Rattle.cap_run.specs.Engines.{CopiesWords, most_packed_at_once, most_unpacked_at_once};
@@ -22,14 +22,14 @@ pub(crate) fn output_fault(fault: SinkFault) -> OutFault
     }
 }
 
-// The bytes of the most words that a packer is handed at once, which are 64.
+// The buffer of `run_pack` in bytes. The packer gets at most this in one call: 64 words.
 const ROOM_TO_PACK: usize = 512;
 
-// The bytes of the most words that a sink is handed at once as words are unpacked, which are 1024.
+// The buffer of `run_unpack` in bytes. The sink gets at most this in one call: 1024 words.
 const ROOM_TO_UNPACK: usize = 8192;
 
-/// Puts the words at hand, as many as there is room for, and answers how many. 0 doesn't say that no
-/// words are to come.
+/// Puts the buffered words of the source that fit in `room`, in one call, and returns how many
+/// words these are. 0 doesn't say that no words are to come.
 #[inline]
 fn put_ready<S: WordSource, K: WordSink>(
     source: &mut S,
@@ -50,8 +50,10 @@ fn put_ready<S: WordSource, K: WordSink>(
     }
 }
 
-/// Puts the words of a source, at most so many, in pieces of those at hand, as many as there is room
-/// for, and answers what is to be answered once the sink is finished, or the fault of its output.
+/// Puts the words of a source to a sink, at most `words` of them, and doesn't finish the sink. One
+/// piece is the buffered words that fit in `room`, or one word if none are buffered.
+///
+/// `Err` is an error of the output. `Ok` has the result of the copy if the sink can be finished.
 fn put_words<S: WordSource, K: WordSink>(
     source: &mut S,
     sink: &mut K,
@@ -89,8 +91,8 @@ fn put_words<S: WordSource, K: WordSink>(
     }
 }
 
-/// Copies the words of a source, at most so many, in pieces of as many as there is room for, and
-/// finishes the sink.
+/// Copies the words of a source to a sink, at most `words` of them, in pieces that fit in `room`.
+/// Finishes the sink unless the output failed before.
 fn copy_words<S: WordSource, K: WordSink>(
     source: &mut S,
     sink: &mut K,
@@ -109,11 +111,24 @@ fn copy_words<S: WordSource, K: WordSink>(
     }
 }
 
-/// Packs the words of a source, at most so many, finishes the packer, and answers how many words
-/// there were. It finishes the packer before a fault of the source too, and where there was a word
-/// too many. Where the output fails, that is the fault, and what the output took is a beginning of
-/// the text. All words that were read were handed to the packer then: it took those before the piece
-/// at which the output failed, one of at most 64 words, and nothing is read behind that.
+/// Packs the words of a source, at most `words` of them, finishes the packer, and returns how many
+/// words there were (encoding: Packing). It doesn't look at what the words mean.
+///
+/// Allocates nothing itself: the words pass through a buffer of 512 bytes on the stack. The packer
+/// is closed after the call in any case.
+///
+/// # Errors
+///
+/// - [`CopyFault::TooManyWords`]: the source has more than `words` words. The first `words` of them
+///   were packed, and the packer was finished.
+/// - [`CopyFault::Source`]: the source failed, or its input ended inside a word or inside a group
+///   of packed words. The words before that were packed, and the packer was finished.
+/// - [`CopyFault::Output`]: the output failed, as words were put or as the packer was finished. It
+///   took a prefix of the text. All words that were read were put to the packer. If the output
+///   failed at a piece of at most 64 words, the packer took the words before the piece, and no word
+///   after the piece was read.
+///
+/// If finishing the packer fails after another error, `Output` is returned.
 pub fn run_pack<S: WordSource, O: ByteOut>(
     source: &mut S,
     sink: &mut Packer<O>,
@@ -124,8 +139,25 @@ pub fn run_pack<S: WordSource, O: ByteOut>(
     copy_words(source, sink, words, &mut [0; ROOM_TO_PACK])
 }
 
-/// Puts the words of a source, at most so many, to a sink, finishes that, and answers how many
-/// words there were. Faults are as in [`run_pack`], but that a piece has at most 1024 words.
+/// Puts the words of a source to a sink, at most `words` of them, finishes the sink, and returns
+/// how many words there were. With an unpacker as the source this unpacks (encoding: Packing). It
+/// doesn't look at what the words mean.
+///
+/// Allocates nothing itself: the words pass through a buffer of 8192 bytes on the stack. The sink
+/// is closed after the call in any case.
+///
+/// # Errors
+///
+/// - [`CopyFault::TooManyWords`]: the source has more than `words` words. The first `words` of them
+///   were put, and the sink was finished.
+/// - [`CopyFault::Source`]: the source failed, or its input ended inside a word or inside a group
+///   of packed words. The words before that were put, and the sink was finished.
+/// - [`CopyFault::Output`]: the output failed, as words were put or as the sink was finished. It
+///   took a prefix of the text. All words that were read were put to the sink. If the output failed
+///   at a piece of at most 1024 words, the sink took the words before the piece, and no word after
+///   the piece was read.
+///
+/// If finishing the sink fails after another error, `Output` is returned.
 pub fn run_unpack<S: WordSource, K: WordSink>(
     source: &mut S,
     sink: &mut K,

@@ -25,11 +25,11 @@ use cap_vet::Vetted;
 use cap_words::{ByteOut, OutFault, WordSource};
 use std::alloc::Global;
 
-/// Tells a message's tree.
+/// Writes the tree of a message.
 #[derive(Clone, Copy)]
 struct DumpTeller;
 
-/// Writes the line of an accepted message, and its tree.
+/// Writes the line of an accepted message, and then its tree.
 fn write_tree<M: Segments, O: ByteOut>(
     page: &mut Page,
     out: &mut O,
@@ -63,11 +63,26 @@ impl Teller for DumpTeller {
     }
 }
 
-/// Reads the messages of a stream to its end, and writes of each the line that `run_vet` writes, and
-/// behind it, where the message is accepted, its whole tree, as [`dump`](crate::dump) does. A refused message
-/// doesn't end the run. The text of a message is written before the next is read. A fault comes
-/// behind the messages whose text is out, and tells how many they are; where it is the output's, a
-/// beginning of the next text may be out too.
+/// Reads the messages of a stream to its end, and writes for each the line of
+/// [`run_vet`](crate::run_vet). After the line of an accepted message it writes the message's whole
+/// tree, as [`dump`](crate::dump) does.
+///
+/// A refused message is counted, and doesn't end the run. The text of a message is written before
+/// the next message is read. It is flushed unless a byte of the next message is buffered.
+///
+/// Allocates only to hold a message that is larger than all before it: eight bytes for each word.
+///
+/// # Errors
+///
+/// The error names the message at which the run ended, counted from 0. The texts of all messages
+/// before it were written, and no message after it was read.
+///
+/// - [`Cause::TooManyMessages`](crate::Cause::TooManyMessages): the stream has more than
+///   `settings.messages` messages.
+/// - [`Cause::Frame`](crate::Cause::Frame): the message can't be read within `settings.size`, see
+///   [`FrameFault`](cap_frame::FrameFault).
+/// - [`Cause::Output`](crate::Cause::Output): the output failed as the text was written or flushed.
+///   It took a prefix of the text, or all of it.
 pub fn run_dump<S: WordSource, O: ByteOut>(
     alloc: Global,
     source: &mut S,

@@ -1,4 +1,4 @@
-//! The engine that tells of each message whether it is accepted and no word of it is used twice.
+//! The engine that writes for each message whether it is accepted and uses no word twice.
 
 ghost use Rattle.cap_run.specs.Engines.{TellsStream};
 ghost use Rattle.cap_run.specs.Vetting.{TellsExclusive, WantsMarks};
@@ -18,8 +18,9 @@ use cap_vet::{ExclusiveRefusal, Limits, vet_exclusive};
 use cap_words::{ByteOut, WordSource};
 use std::alloc::Global;
 
-/// Reads each message whole, and tells the numbers of its tree where it is accepted within the limits
-/// and no word of it is used twice. Else it tells the first fault, or the first pointer that overlaps.
+/// Reads each message whole. Writes the numbers of its tree if it is accepted within the limits and
+/// uses no word twice. Otherwise it writes the first bad pointer, or the first pointer that
+/// overlaps.
 #[derive(Clone, Copy)]
 struct ExclusiveEngine {
     alloc: Global,
@@ -27,8 +28,8 @@ struct ExclusiveEngine {
 }
 
 impl ExclusiveEngine {
-    /// Begins the page with the line of a message's verdict. `None` where room to mark the words of a
-    /// message that is accepted was refused.
+    /// Begins the page with the line of a message's verdict. `None` if the message is accepted and
+    /// the allocation of the marks for its words failed.
     fn verdict_line<M: Segments>(&self, page: &mut Page, number: u32, message: &M) -> Option<Mark>
         ensures some { IfSome result (λ mark. TellsExclusive (words_of self.now.limits) (depth_of self.now.limits) number (M.segments message.now)
             page.new mark) }
@@ -97,12 +98,34 @@ impl Engine for ExclusiveEngine {
     }
 }
 
-/// Reads the messages of a stream to its end, and tells of each whether its root denotes a tree within
-/// the limits and no word is used twice, or the first fault, or the first pointer in preorder that
-/// overlaps: one that uses a word twice, the root word, or a word of an earlier pointer. Neither a
-/// refused message nor an overlap ends the run. The text of a message is written before the next is
-/// read. A fault comes behind the messages whose text is out, and tells how many they are; so does want
-/// of memory to mark the words of a message that is accepted within the limits, a bit for each of them.
+/// Reads the messages of a stream to its end, and vets each exclusively: a message is accepted if
+/// its root denotes a finite tree within `settings.limits` and uses no word twice (profile).
+///
+/// The line of an accepted message has the numbers of its tree. For a message that
+/// [`run_vet`](crate::run_vet) refuses, the line is the same as there. For a message that only uses
+/// a word twice, the line has the first pointer in preorder that overlaps. A pointer overlaps if it
+/// uses a word twice, the root word, or a word of an earlier pointer.
+///
+/// A message that is refused, or in which a pointer overlaps, is counted as refused. It doesn't end
+/// the run. The line of a message is written before the next message is read. It is flushed unless
+/// a byte of the next message is buffered.
+///
+/// Allocates to hold a message only if it is larger than all before it: eight bytes for each word.
+/// For a message within the limits it allocates the marks: one bit for each word, and at most 64
+/// bits more.
+///
+/// # Errors
+///
+/// The error names the message at which the run ended, counted from 0. The lines of all messages
+/// before it were written, and no message after it was read.
+///
+/// - [`Cause::TooManyMessages`]: the stream has more than `settings.messages` messages.
+/// - [`Cause::Frame`]: the message can't be read within `settings.size`, see
+///   [`FrameFault`](cap_frame::FrameFault).
+/// - [`Cause::Output`]: the output failed as the line was written or flushed. It took a prefix of
+///   the line, or all of it.
+/// - [`Cause::Memory`]: the message is accepted within the limits, and the allocation of the marks
+///   failed. Nothing was written for it.
 pub fn run_vet_exclusive<S: WordSource, O: ByteOut>(
     alloc: Global,
     source: &mut S,

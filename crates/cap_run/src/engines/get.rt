@@ -1,4 +1,4 @@
-//! The engine that shows the node of each message at one path.
+//! The engine that writes the node of each message at one path.
 
 ghost use Rattle.cap_run.specs.Engines.{TellsStream};
 ghost use Rattle.cap_run.specs.Telling.{WantsNone};
@@ -18,7 +18,7 @@ use cap_vet::Vetted;
 use cap_words::{ByteOut, OutFault, WordSource};
 use std::alloc::Global;
 
-/// Tells the node at this path of a message's tree.
+/// Writes the node at this path of a message's tree.
 #[derive(Clone, Copy)]
 struct GetTeller<'p> {
     path: &'p [Step],
@@ -41,11 +41,27 @@ impl<'p> Teller for GetTeller<'p> {
     }
 }
 
-/// Reads the messages of a stream to its end, and writes of each the node that its tree has at a path,
-/// without its children, or that there is none, or the line of its refusal, as `run_vet` does. A
-/// message without such a node isn't refused. A refused message doesn't end the run. The text of a
-/// message is written before the next is read. A fault comes behind the messages whose text is out,
-/// and tells how many they are; where it is the output's, a beginning of the next text may be out too.
+/// Reads the messages of a stream to its end, and writes for each the node of its tree at the path,
+/// without the node's children. If the tree has no node there, it writes `none`. For a refused
+/// message it writes the line of [`run_vet`](crate::run_vet).
+///
+/// A message without such a node isn't refused. A refused message is counted, and doesn't end the
+/// run. The text of a message is written before the next message is read. It is flushed unless a
+/// byte of the next message is buffered.
+///
+/// Allocates only to hold a message that is larger than all before it: eight bytes for each word.
+///
+/// # Errors
+///
+/// The error names the message at which the run ended, counted from 0. The texts of all messages
+/// before it were written, and no message after it was read.
+///
+/// - [`Cause::TooManyMessages`](crate::Cause::TooManyMessages): the stream has more than
+///   `settings.messages` messages.
+/// - [`Cause::Frame`](crate::Cause::Frame): the message can't be read within `settings.size`, see
+///   [`FrameFault`](cap_frame::FrameFault).
+/// - [`Cause::Output`](crate::Cause::Output): the output failed as the text was written or flushed.
+///   It took a prefix of the text, or all of it.
 pub fn run_get<S: WordSource, O: ByteOut>(
     alloc: Global,
     source: &mut S,

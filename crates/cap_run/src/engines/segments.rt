@@ -1,4 +1,4 @@
-//! The engine that shows how each message is cut into segments.
+//! The engine that writes how each message is cut into segments.
 
 ghost use Rattle.cap_run.specs.Engines.{ShowsStream};
 ghost use Rattle.cap_run.specs.Telling.{TellsSegments, WantsNone};
@@ -13,14 +13,14 @@ use crate::texts::segments::write_segments_text;
 use cap_frame::{Outline, SizeLimit, read_outline};
 use cap_words::{ByteOut, WordSource};
 
-/// What is kept of a message that was read, and the page of what is told of it.
+/// The outline of the message that was read last, and the page for its text.
 #[derive(Drop)]
 struct OutlineRoom {
     outline: Outline,
     page: Page,
 }
 
-/// Tells how a message is cut into segments, of which its outline is enough.
+/// Writes the segments of each message. The outline of a message is enough for that.
 #[derive(Clone, Copy)]
 struct SegmentsEngine;
 
@@ -59,10 +59,24 @@ impl Engine for SegmentsEngine {
     }
 }
 
-/// Reads the messages of a stream to its end, and shows of each its segments, their sizes and the
-/// root word. The text of a message is written before the next is read. A fault comes behind the
-/// messages whose text is out, and tells how many they are. The words of a message aren't held, and no
-/// memory is taken.
+/// Reads the messages of a stream to its end, and writes for each its segments, their sizes in
+/// words and the root word (encoding: Serialization Over a Stream). The messages aren't vetted.
+///
+/// The text of a message is written before the next message is read. It is flushed unless a byte of
+/// the next message is buffered. The words of a message aren't held, and nothing is allocated.
+///
+/// # Errors
+///
+/// The error names the message at which the run ended, counted from 0. The texts of all messages
+/// before it were written, and no message after it was read.
+///
+/// - [`Cause::TooManyMessages`](crate::Cause::TooManyMessages): the stream has more than
+///   `settings.messages` messages.
+/// - [`Cause::Frame`](crate::Cause::Frame): the message can't be read within `settings.size`, see
+///   [`FrameFault`](cap_frame::FrameFault). It is never
+///   [`FrameFault::Memory`](cap_frame::FrameFault::Memory).
+/// - [`Cause::Output`](crate::Cause::Output): the output failed as the text was written or flushed.
+///   It took a prefix of the text, or all of it.
 pub fn run_segments<S: WordSource, O: ByteOut>(
     source: &mut S,
     out: &mut O,

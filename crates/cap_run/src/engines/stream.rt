@@ -1,4 +1,4 @@
-//! Going through the messages of a stream, and telling something about each.
+//! Reading the messages of a stream, and writing a text for each.
 
 ghost use Rattle.cap_run.specs.Engines.{TellsStream};
 ghost use Rattle.cap_run.specs.Running.{Appended, EndStops, RunStops, StepStops};
@@ -28,24 +28,30 @@ pub(crate) enum Mark {
 pub(crate) trait Engine {
     ghost use Rattle.cap_run.specs.declared.engines.stream.Mark.{Mark};
 
-    // The texts that may be written of a message by its number, each with what is counted then.
+    // The texts that may be written of a message, by its number, each with what is counted then.
     ghost tells: { Self → ℕ → List (List ℕ) → List ℕ → Mark → Type 0 };
 
-    // Of which messages memory may be wanted once they were read.
+    // The messages at which an allocation may fail after they were read.
     ghost wants: { Self → List (List ℕ) → Type 0 };
 
-    // Whether it takes memory to read a message.
+    // Whether it allocates to read a message.
     ghost takes_memory: { Bool };
 
-    /// What it fills anew at each message, and keeps from one to the next.
+    /// The buffers that it fills again at each message, and keeps from one message to the next.
     type Room: Drop;
 
-    /// Room as it is before the first message.
+    /// The buffers as they are before the first message.
     fn room(&self) -> Self::Room;
 
-    /// Reads the next message and writes its text. `None` where the stream ends before it. After a
-    /// fault of the output, the output took a beginning of the text, and where memory was wanted once
-    /// the message was read, it took nothing. Nothing that is told depends on what the room holds.
+    /// Reads the next message and writes its text. `None` if the stream ends before it. The text
+    /// doesn't depend on what the buffers held before.
+    ///
+    /// # Errors
+    ///
+    /// - [`Cause::Frame`]: the message can't be read. The output took nothing.
+    /// - [`Cause::Output`]: the output failed. It took a prefix of the text.
+    /// - [`Cause::Memory`]: the message was read, and an allocation failed then. The output took
+    ///   nothing.
     fn tell_next<S: WordSource, O: ByteOut>(
         &self,
         room: &mut Self::Room,
@@ -62,7 +68,7 @@ pub(crate) trait Engine {
         ensures memory { result ≡ Err (Cause.Frame FrameFault.Memory) → takes_memory ≡ true };
 }
 
-/// The stream has to end here: a message more is one too many.
+/// Checks that the stream ends here. One more message is [`Cause::TooManyMessages`].
 pub(crate) fn end_stream<S: WordSource>(source: &mut S, limit: SizeLimit) -> Result<(), Cause>
     ensures ok { OnOk result (EndsStream S.WordSource source.old source.new) }
     ensures err { IfErr result (λ cause. EndStops S.WordSource (limit_of limit) source.old source.new cause) }
@@ -75,8 +81,8 @@ pub(crate) fn end_stream<S: WordSource>(source: &mut S, limit: SizeLimit) -> Res
     }
 }
 
-/// Hands on what was written where no byte of the next message has come yet. After a fault the output
-/// took all that it was given.
+/// Flushes what was written, unless a byte of the next message is buffered. After an error the
+/// output has taken all that was written.
 fn hand_on<S: WordSource, O: ByteOut>(source: &S, out: &mut O) -> Result<(), OutFault>
     ensures { (before : O) (text : List ℕ) → Wrote O.ByteOut before out.old text → Writes O.ByteOut before out.new result text }
 {
@@ -117,8 +123,8 @@ fn count(outcome: Outcome, mark: Mark) -> Outcome
     counted
 }
 
-// Reads the messages of a stream to its end, and writes the text of each. Its clauses say what each answer
-// tells.
+// Reads the messages of a stream to its end, and writes the text of each. Its clauses say what each
+// result means.
 fn tell_each<S: WordSource, O: ByteOut, E: Engine>(
     source: &mut S,
     out: &mut O,
@@ -162,8 +168,8 @@ fn tell_each<S: WordSource, O: ByteOut, E: Engine>(
     }
 }
 
-/// Reads the messages of a stream to its end, and writes the text of each before it reads the next. It
-/// hands on what was written where nothing is at hand of the source.
+/// Reads the messages of a stream to its end, and writes the text of each before it reads the next.
+/// It flushes the text unless a byte of the next message is buffered.
 pub(crate) fn tell_all<S: WordSource, O: ByteOut, E: Engine>(
     source: &mut S,
     out: &mut O,

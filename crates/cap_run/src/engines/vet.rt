@@ -1,4 +1,4 @@
-//! The engine that tells of each message whether it is accepted.
+//! The engine that writes for each message whether it is accepted.
 
 ghost use Rattle.cap_run.specs.Engines.{TellsStream};
 ghost use Rattle.cap_run.specs.Telling.{WantsNone};
@@ -18,7 +18,7 @@ use cap_vet::Vetted;
 use cap_words::{ByteOut, OutFault, WordSource};
 use std::alloc::Global;
 
-/// Tells the numbers of a message's tree.
+/// Writes the numbers of a message's tree.
 #[derive(Clone, Copy)]
 struct VetTeller;
 
@@ -40,10 +40,26 @@ impl Teller for VetTeller {
     }
 }
 
-/// Reads the messages of a stream to its end, and tells of each whether its root denotes a tree
-/// within the limits, or the first fault. A refused message doesn't end the run. The text of a
-/// message is written before the next is read. A fault comes behind the messages whose text is
-/// out, and tells how many they are.
+/// Reads the messages of a stream to its end, and vets each (encoding: Security Considerations). A
+/// message is accepted if its root denotes a finite tree within `settings.limits`. Its line has the
+/// numbers of the tree. The line of a refused message has the first bad pointer and the reason.
+///
+/// A refused message is counted, and doesn't end the run. The line of a message is written before
+/// the next message is read. It is flushed unless a byte of the next message is buffered.
+///
+/// Allocates only to hold a message that is larger than all before it: eight bytes for each word.
+///
+/// # Errors
+///
+/// The error names the message at which the run ended, counted from 0. The lines of all messages
+/// before it were written, and no message after it was read.
+///
+/// - [`Cause::TooManyMessages`](crate::Cause::TooManyMessages): the stream has more than
+///   `settings.messages` messages.
+/// - [`Cause::Frame`](crate::Cause::Frame): the message can't be read within `settings.size`, see
+///   [`FrameFault`](cap_frame::FrameFault).
+/// - [`Cause::Output`](crate::Cause::Output): the output failed as the line was written or flushed.
+///   It took a prefix of the line, or all of it.
 pub fn run_vet<S: WordSource, O: ByteOut>(
     alloc: Global,
     source: &mut S,

@@ -1,4 +1,4 @@
-//! Telling something about messages that are held whole.
+//! Writing a text about each message of a stream, with the whole message in memory.
 
 ghost use Rattle.cap_run.specs.Telling.{WantsNone};
 ghost use Rattle.cap_run.specs.Vetting.{TellsRefused};
@@ -19,16 +19,16 @@ use cap_vet::{Limits, Vetted, vet};
 use cap_words::{ByteOut, OutFault, WordSource};
 use std::alloc::Global;
 
-/// What an engine writes about a message that is accepted.
+/// What an engine writes about an accepted message.
 pub(crate) trait Teller {
     ghost use Rattle.cap_run.specs.declared.engines.stream.Mark.{Mark};
 
-    // The texts that may be written of a message that is accepted within so many words and levels, by
-    // its number, each with what is counted then.
+    // The texts that may be written of a message that is accepted within these limits of words and
+    // levels, by its number. Each comes with what is counted then.
     ghost tells: { Self → ℕ → ℕ → ℕ → List (List ℕ) → List ℕ → Mark → Type 0 };
 
-    /// Writes the text of an accepted message. After a fault the output took a beginning of it. The
-    /// page is begun anew.
+    /// Writes the text of an accepted message. After an error the output took a prefix of the text.
+    /// What the page held before isn't written.
     fn tell<M: Segments, O: ByteOut>(
         &self,
         page: &mut Page,
@@ -44,15 +44,15 @@ pub(crate) trait Teller {
             × Stopped O.ByteOut out.old out.new fault text) };
 }
 
-/// A message that was read, and the page of what is told of it.
+/// The message that was read last, and the page for its text.
 #[derive(Drop)]
 pub(crate) struct MessageRoom {
     pub(crate) message: ByteMessage,
     pub(crate) page: Page,
 }
 
-/// Reads each message whole, and tells of it where it is accepted within the limits. Else it tells
-/// the first fault.
+/// Reads each message whole, and writes the text of its teller if the message is accepted within
+/// the limits. Otherwise it writes the first bad pointer and the reason.
 #[derive(Clone, Copy)]
 pub(crate) struct Whole<T> {
     pub(crate) alloc: Global,
@@ -61,7 +61,7 @@ pub(crate) struct Whole<T> {
 }
 
 impl<T: Teller> Whole<T> {
-    /// Writes the text of a message. After a fault the output took a beginning of it.
+    /// Writes the text of a message. After an error the output took a prefix of the text.
     fn tell<M: Segments, O: ByteOut>(
         &self,
         page: &mut Page,
