@@ -18,7 +18,7 @@ use cap_frame::Segments;
 use cap_vet::{Kind, Node, Step, Vetted};
 use cap_words::{ByteOut, OutFault};
 
-/// How many children of a node are shown: the elements of a list of structs without words aren't.
+/// How many children of a node are written. The elements of a list of structs without words aren't.
 fn shown_count(kind: Kind) -> u32
     ensures { result ≡ shown_count_of kind }
 {
@@ -61,10 +61,12 @@ fn child_step(kind: Kind, i: u32) -> Step
     }
 }
 
-/// Puts on a page what stands below a node, where at most `left` levels of lines are below it: each child at
-/// this level, and what stands below that. Calls itself with one level less, so at most 257 calls
-/// stand in one another. What has no room is written. After a fault the output took a beginning of what
-/// stood on the page and of that text.
+/// Puts on a page the lines below a node: at this level each child, with its own words and the
+/// lines below it. There are at most `left` levels of lines below the node.
+///
+/// It calls itself with one level less, so at most 257 calls are active at once. If the page has no
+/// space for a line, it is written and cleared first. After an error the output took a prefix of
+/// the page's old text and these lines.
 fn put_children<M: Segments, O: ByteOut>(
     page: &mut Page,
     out: &mut O,
@@ -94,8 +96,9 @@ fn put_children<M: Segments, O: ByteOut>(
     Ok(())
 }
 
-/// Puts on a page the tree of a message that was accepted. What has no room is written. After a fault
-/// the output took a beginning of what stood on the page and of that text.
+/// Puts on a page the tree of an accepted message. If the page has no space for a line, it is
+/// written and cleared first. After an error the output took a prefix of the page's old text and
+/// the text of the tree.
 pub(crate) fn put_dump<M: Segments, O: ByteOut>(
     page: &mut Page,
     out: &mut O,
@@ -105,7 +108,8 @@ pub(crate) fn put_dump<M: Segments, O: ByteOut>(
         Adds O.ByteOut (out.old, page.old) (out.new, page.new) result (dump_text t) }
 {
     let root = vetted.root();
-    // An object's children stand at the level of lines that is its own: a struct of a list has one too.
+    // The children of an object at level n have lines at level n, and a struct of a list has a
+    // level too.
     let levels = vetted.report().depth;
     match put_named(page, out, b"root", &root) {
         Ok(()) => put_children(page, out, &root, 1, levels),
@@ -113,10 +117,19 @@ pub(crate) fn put_dump<M: Segments, O: ByteOut>(
     }
 }
 
-/// Writes the tree of a message that was accepted: a line for each node, with its own words and its
-/// children below it, two spaces deeper each. The elements of a list of structs without words aren't
-/// shown. After a fault the output took a beginning of that text, and the fault is the output's own.
-/// Takes no memory. The calls of its recursion are at most 257 deep, of some 150 bytes of stack each.
+/// Writes the tree of an accepted message (docs/output.md, dump). Each node has a line, then the
+/// lines of its own words, and then its children. Words and children are indented by two spaces
+/// more than the node's line. The elements of a list of structs without words aren't written.
+///
+/// Allocates nothing. Its calls nest at most 257 deep, and each takes about 150 bytes of stack.
+///
+/// # Errors
+///
+/// The error of the output, which took a prefix of the text.
+///
+/// - [`OutFault::Device`]: the device failed. After it every write with bytes returns `Spent`.
+/// - [`OutFault::Memory`]: an allocation of the output failed. A later write may succeed.
+/// - [`OutFault::Spent`]: an earlier error had closed the output. It took nothing.
 pub fn dump<M: Segments, O: ByteOut>(vetted: &Vetted<'_, M>, out: &mut O) -> Result<(), OutFault>
     ensures { (t : Tree) (c d : ℕ) → Denotes (M.segments (message_of vetted.now)) 0 0 t c d →
         Writes O.ByteOut out.old out.new result (dump_text t) }

@@ -14,7 +14,7 @@ use cap_frame::FrameFault;
 use cap_vet::Refusal;
 use cap_words::{ByteOut, OutFault, SourceFault};
 
-/// Appends what is said of a message that couldn't be read.
+/// Appends the text for a message that can't be read.
 fn push_frame_fault(page: &mut Page, fault: FrameFault)
     requires { length page.old + 40 ≤ 4096 }
     ensures items { page.new ≡ page.old ++ frame_fault_text fault }
@@ -30,7 +30,7 @@ fn push_frame_fault(page: &mut Page, fault: FrameFault)
     }
 }
 
-/// Appends the message that is spoken of.
+/// Appends which message it is: `message `, its number, and a colon.
 fn push_message(page: &mut Page, number: u32)
     requires { length page.old + 40 ≤ 4096 }
     ensures items { page.new ≡ page.old ++ message_name number }
@@ -50,7 +50,7 @@ fn push_place(page: &mut Page, segment: u32, word: u32)
     page.push_named(b":", u64::from(word));
 }
 
-/// Appends what is said of a message that is refused, where that ends an engine.
+/// Appends the text for a message whose refusal ended an engine.
 fn push_refusal(page: &mut Page, refusal: Refusal)
     requires { length page.old + 70 ≤ 4096 }
     ensures items { page.new ≡ page.old ++ refusal_text refusal }
@@ -61,7 +61,7 @@ fn push_refusal(page: &mut Page, refusal: Refusal)
     push_place(page, refusal.segment, refusal.word);
 }
 
-/// Appends what is said of a message of which no canonical copy was made.
+/// Appends the text for a message without a canonical copy.
 fn push_canon_fault(page: &mut Page, fault: CanonFault)
     requires { length page.old + 70 ≤ 4096 }
     ensures items { page.new ≡ page.old ++ canon_fault_text fault }
@@ -76,7 +76,7 @@ fn push_canon_fault(page: &mut Page, fault: CanonFault)
     }
 }
 
-/// Appends what is said of an engine that ended at a message.
+/// Appends the text for an engine that ended at a message.
 fn push_cause(page: &mut Page, number: u32, cause: Cause)
     requires { length page.old + 110 ≤ 4096 }
     ensures items { page.new ≡ page.old ++ cause_text number cause }
@@ -118,14 +118,23 @@ fn fault_text(fault: &RunFault) -> Page
     page
 }
 
-/// Writes the line of a fault at a message. After a fault of its own the output took a beginning of it.
+/// Writes the line of an error that ended a run (docs/output.md, Standard error). Allocates
+/// nothing.
+///
+/// # Errors
+///
+/// The error of the output, which took a prefix of the line.
+///
+/// - [`OutFault::Device`]: the device failed. After it every write with bytes returns `Spent`.
+/// - [`OutFault::Memory`]: an allocation of the output failed. A later write may succeed.
+/// - [`OutFault::Spent`]: an earlier error had closed the output. It took nothing.
 pub fn write_fault<E: ByteOut>(err: &mut E, fault: &RunFault) -> Result<(), OutFault>
     ensures { Writes E.ByteOut err.old err.new result (run_fault_line fault.now) }
 {
     write_bytes(err, fault_text(fault).text())
 }
 
-/// Appends what is said of a source that gave no word.
+/// Appends the text for a source that gave no word.
 fn push_source_fault(page: &mut Page, fault: SourceFault)
     requires { length page.old + 40 ≤ 4096 }
     ensures items { page.new ≡ page.old ++ source_fault_text fault }
@@ -138,7 +147,7 @@ fn push_source_fault(page: &mut Page, fault: SourceFault)
     }
 }
 
-/// Appends what is said of a copy of words that ended early.
+/// Appends the text for a copy of words that ended early.
 fn push_copy_fault(page: &mut Page, fault: CopyFault)
     requires { length page.old + 40 ≤ 4096 }
     ensures items { page.new ≡ page.old ++ copy_text fault }
@@ -162,7 +171,16 @@ fn copy_fault_text(fault: &CopyFault) -> Page
     page
 }
 
-/// Writes the line of a fault of a copy. After a fault of its own the output took a beginning of it.
+/// Writes the line of an error that ended a copy of words (docs/output.md, Standard error).
+/// Allocates nothing.
+///
+/// # Errors
+///
+/// The error of the output, which took a prefix of the line.
+///
+/// - [`OutFault::Device`]: the device failed. After it every write with bytes returns `Spent`.
+/// - [`OutFault::Memory`]: an allocation of the output failed. A later write may succeed.
+/// - [`OutFault::Spent`]: an earlier error had closed the output. It took nothing.
 pub fn write_copy_fault<E: ByteOut>(err: &mut E, fault: &CopyFault) -> Result<(), OutFault>
     ensures { Writes E.ByteOut err.old err.new result (copy_fault_line fault.now) }
 {

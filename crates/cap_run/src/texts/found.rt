@@ -1,4 +1,4 @@
-//! What is told of the node at a path.
+//! The text for the node at a path.
 
 ghost use Rattle.cap_run.specs.Writing.{Writes};
 ghost use Rattle.cap_spec.specs.Standing.{DenotesAt};
@@ -34,7 +34,8 @@ fn none_line(page: &mut Page, number: u32)
     page.push_text(b": none\n");
 }
 
-/// Writes the node at a path, without its children, or that there is none.
+/// Writes the node at a path, without its children, or that there is none. After an error the
+/// output took a prefix of the text.
 pub(crate) fn write_node<M: Segments, O: ByteOut>(
     page: &mut Page,
     out: &mut O,

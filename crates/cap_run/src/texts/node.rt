@@ -15,11 +15,11 @@ use cap_frame::Segments;
 use cap_vet::{Kind, Node, View};
 use cap_words::{ByteOut, OutFault};
 
-/// No node stands below level 256, the deepest that a message may have: the root stands at level 0.
-/// The words of a node there would stand at this level.
+/// The deepest level of a line. A node has level 256 at most, the deepest that a message may have,
+/// and the root has level 0. The words of a node have one level more than the node.
 const DEEPEST: usize = 257;
 
-// The spaces before a line, two a level.
+// The spaces before a line, two for each level.
 static SPACES: [u8; 2 * DEEPEST] = [b' '; 2 * DEEPEST];
 
 /// Appends the head of a node of a kind.
@@ -116,8 +116,9 @@ fn word_line(page: &mut Page, level: u32, letter: u8, i: u32, word: u64)
     page.push_text(b"\n");
 }
 
-/// Puts on a page the lines of a node's own words at a level. What has no room is written. After a
-/// fault the output took a beginning of what stood on the page and of them.
+/// Puts on a page the lines of a node's own words at a level. If the page has no space for a line,
+/// it is written and cleared first. After an error the output took a prefix of the page's old text
+/// and these lines.
 #[inline(always)]
 fn put_words<M: Segments, O: ByteOut>(
     page: &mut Page,
@@ -141,10 +142,10 @@ fn put_words<M: Segments, O: ByteOut>(
     Ok(())
 }
 
-/// Puts on a page the lines of the own words of a node of a kind at a level: a struct and a list of
-/// values have some. What has no room is written. After a fault the output took a beginning of what
-/// stood on the page and of them.
-// The kind is asked here, and so not at each word.
+/// Puts on a page, at a level, the lines of the own words of a node of this kind. Structs and lists
+/// of values have some. If the page has no space for a line, it is written and cleared first. After
+/// an error the output took a prefix of the page's old text and these lines.
+// The kind is looked at here, and not at each word.
 #[inline(always)]
 fn put_own<M: Segments, O: ByteOut>(
     page: &mut Page,
@@ -164,10 +165,12 @@ fn put_own<M: Segments, O: ByteOut>(
     }
 }
 
-/// Puts on a page the line of a node under a name, and one level deeper the lines of its own words: its
-/// data words, or those of its values with unused bits as zeros. What has no room is written. After a
-/// fault the output took a beginning of what stood on the page and of that text. Takes no memory.
-// It and what it calls are inlined: a stream may have millions of messages, each told by a few lines.
+/// Puts on a page the line of a node under a name, and one level deeper the lines of its own words.
+/// These are the data words of a struct, or the words of a list's values with zeros in unused bits.
+/// If the page has no space for a line, it is written and cleared first. After an error the output
+/// took a prefix of the page's old text and these lines. Allocates nothing.
+// It is inlined, and so is what it calls: a stream may have millions of messages with a few lines
+// each.
 #[inline(always)]
 pub(crate) fn put_named<M: Segments, O: ByteOut>(
     page: &mut Page,
@@ -190,10 +193,11 @@ pub(crate) fn put_named<M: Segments, O: ByteOut>(
     }
 }
 
-/// Puts on a page at a level the line of a child by its letter and number, and one level deeper the
-/// lines of its own words. What has no room is written. After a fault the output took a beginning of
-/// what stood on the page and of that text. It has a frame of its own, which a recursion that calls it
-/// doesn't keep.
+/// Puts on a page, at a level, the line of a child by its letter and number, and one level deeper
+/// the lines of its own words. If the page has no space for a line, it is written and cleared
+/// first. After an error the output took a prefix of the page's old text and these lines.
+///
+/// It isn't inlined, so that its stack frame isn't part of each frame of a recursion that calls it.
 #[inline(never)]
 pub(crate) fn put_child<M: Segments, O: ByteOut>(
     page: &mut Page,

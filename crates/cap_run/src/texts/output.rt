@@ -1,4 +1,4 @@
-//! Texts as they go out.
+//! Writing texts to an output.
 
 ghost use Rattle.cap_run.specs.Paging.{Added, Adds};
 ghost use Rattle.cap_run.specs.Writing.{Writes};
@@ -7,7 +7,7 @@ ghost use Rattle.std.specs.Prelude.{◌+◌, ◌++◌, ◌<◌, ◌≤◌, [], L
 use crate::texts::page::{CAPACITY, LINE, Page};
 use cap_words::{ByteOut, OutFault, write_all};
 
-/// Writes a text that isn't empty. After a fault the output took a beginning of it.
+/// Writes a text that isn't empty. After an error the output took a prefix of it.
 pub(crate) fn write_bytes<O: ByteOut>(out: &mut O, text: &[u8]) -> Result<(), OutFault>
     requires { 0 < length text.now }
     ensures { Writes O.ByteOut out.old out.new result text.now }
@@ -15,7 +15,8 @@ pub(crate) fn write_bytes<O: ByteOut>(out: &mut O, text: &[u8]) -> Result<(), Ou
     write_all(out, text)
 }
 
-/// Makes room for a line on a page: where there is none, what stands there is written first.
+/// Makes space on a page for a line of 768 bytes: if there isn't enough, writes the page and clears
+/// it.
 #[inline]
 pub(crate) fn make_room<O: ByteOut>(page: &mut Page, out: &mut O) -> Result<(), OutFault>
     ensures room { OnOk result (length page.new + 768 ≤ 4096) }
@@ -27,7 +28,7 @@ pub(crate) fn make_room<O: ByteOut>(page: &mut Page, out: &mut O) -> Result<(), 
     turn(page, out)
 }
 
-// Writes what stands on a page, and begins it anew.
+// Writes the text of a page, and clears the page.
 #[cold]
 #[inline(never)]
 fn turn<O: ByteOut>(page: &mut Page, out: &mut O) -> Result<(), OutFault>
@@ -44,8 +45,8 @@ fn turn<O: ByteOut>(page: &mut Page, out: &mut O) -> Result<(), OutFault>
     }
 }
 
-/// Writes what is left on a page of a text that isn't empty. After a fault the output took a beginning
-/// of the whole text.
+/// Writes the end of a text, which is on a page. The whole text isn't empty. After an error the
+/// output took a prefix of the whole text.
 pub(crate) fn write_page<O: ByteOut>(page: &Page, out: &mut O) -> Result<(), OutFault>
     ensures { (before : O) (held text : List ℕ) → 0 < length (held ++ text) → Added O.ByteOut (before, held) (out.old, page.now) text
         → Writes O.ByteOut before out.new result (held ++ text) }

@@ -1,4 +1,4 @@
-//! The page on which lines are put together before they go out.
+//! The page: a buffer in which lines are put together before they are written.
 
 ghost use Rattle.cap_spec.specs.Texts.{hex};
 ghost use Rattle.std.specs.Prelude.{◌+◌, ◌++◌, ◌≡◌, ◌≤◌, ◌==◌, [], decimal, length, take};
@@ -8,15 +8,15 @@ use cap_words::bytes_of;
 use itoa::write_digits;
 use std::marker::Model;
 
-/// The bytes of a page, which holds the lines of most messages.
+/// The capacity of a page in bytes. It holds the lines of most messages.
 pub(crate) const CAPACITY: usize = 4096;
 
-/// The bytes of a line. The longest has the spaces of 257 levels, and behind them the head of a node;
-/// without spaces the longest has five numbers and what stands between them.
+/// The space for one line, in bytes. The longest line has the spaces of 257 levels and then the
+/// head of a node. Without spaces, the longest has five numbers and the text between them.
 pub(crate) const LINE: usize = 768;
 
-/// Lines that aren't written yet. What stood on the page before they were begun is left in its bytes,
-/// so that a page costs nothing when it is begun anew.
+/// Lines that aren't written yet. Clearing a page leaves the old bytes in its buffer, so that it
+/// costs nothing.
 #[derive(Drop)]
 pub(crate) struct Page {
     bytes: [u8; CAPACITY],
@@ -44,7 +44,7 @@ impl Page {
         }
     }
 
-    /// Begins it anew.
+    /// Removes all text from the page.
     #[inline]
     pub(crate) fn clear(&mut self)
         ensures { self.new ≡ [] }
@@ -52,7 +52,7 @@ impl Page {
         self.len = 0;
     }
 
-    /// What stands on it.
+    /// The text on the page.
     #[inline]
     pub(crate) fn text(&self) -> &[u8]
         ensures { result.now ≡ self.now }
@@ -60,7 +60,7 @@ impl Page {
         &self.bytes[..self.len]
     }
 
-    /// How many bytes stand on it.
+    /// How many bytes of text the page has.
     #[inline]
     pub(crate) fn len(&self) -> usize
         ensures { result ≡ length self.now }
@@ -91,7 +91,7 @@ impl Page {
         self.len = end;
     }
 
-    /// Appends a name and a number behind it.
+    /// Appends a name and then a number.
     #[inline(always)]
     pub(crate) fn push_named(&mut self, name: &[u8], number: u64)
         requires room { length self.old + length name.now + 20 ≤ 4096 }
@@ -102,7 +102,7 @@ impl Page {
         self.push_number(number);
     }
 
-    /// Appends the 16 digits of a word's bytes.
+    /// Appends the 16 hexadecimal digits of a word's bytes, the lowest byte first.
     #[inline]
     pub(crate) fn push_hex(&mut self, word: u64)
         requires { length self.old + 16 ≤ 4096 }

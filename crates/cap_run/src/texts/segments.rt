@@ -25,7 +25,7 @@ fn head_line(page: &mut Page, number: u32, count: u32, words: u64)
     page.push_text(b"\n");
 }
 
-/// Appends the line of segment `s`, which has so many words.
+/// Appends the line of segment `s`, which has `words` words.
 fn segment_line(page: &mut Page, s: u32, words: u32)
     requires { length page.old + 768 ≤ 4096 }
     ensures { page.new ≡ page.old ++ plain_line 0 (codes "segment" ++ then_number s ++ 58 ∷ then_number words) }
@@ -35,7 +35,7 @@ fn segment_line(page: &mut Page, s: u32, words: u32)
     page.push_text(b"\n");
 }
 
-/// Appends the line that stands in place of the root word's, where there is none.
+/// Appends the line for a message without a root word.
 fn rootless_line(page: &mut Page)
     requires { length page.old + 768 ≤ 4096 }
     ensures { page.new ≡ page.old ++ plain_line 0 (codes "root " ++ codes "none") }
@@ -64,8 +64,8 @@ fn root_line(page: &mut Page, root: Option<u64>)
     }
 }
 
-/// Puts on a page the line of each segment. What has no room is written. After a fault the output took
-/// a beginning of what stood on the page and of them.
+/// Puts on a page the line of each segment. If the page has no space for a line, it is written and
+/// cleared first. After an error the output took a prefix of the page's old text and these lines.
 fn put_segment_lines<O: ByteOut>(
     page: &mut Page,
     out: &mut O,
@@ -83,7 +83,8 @@ fn put_segment_lines<O: ByteOut>(
     Ok(())
 }
 
-/// Puts on a page the line of the root word. What has no room is written.
+/// Puts on a page the line of the root word. If the page has no space for a line, it is written and
+/// cleared first. After an error the output took a prefix of the page's old text and this line.
 fn put_root_line<O: ByteOut>(
     page: &mut Page,
     out: &mut O,
@@ -100,7 +101,7 @@ fn put_root_line<O: ByteOut>(
     }
 }
 
-/// Writes what is shown of a message's segments.
+/// Writes the text of a message's segments. After an error the output took a prefix of the text.
 pub(crate) fn write_segments_text<O: ByteOut>(
     page: &mut Page,
     out: &mut O,

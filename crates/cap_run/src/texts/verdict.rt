@@ -18,7 +18,7 @@ pub(crate) fn accepted_line(page: &mut Page, number: u32, report: &Report)
     page.push_text(b"\n");
 }
 
-/// Appends what is said of a message that is accepted.
+/// Appends the text for an accepted message: the numbers of its tree.
 fn push_report(page: &mut Page, report: &Report)
     requires { length page.old + 119 ≤ 4096 }
     ensures items { page.new ≡ page.old ++ (codes "accepted charge" ++ then_number report.now.charge
@@ -46,8 +46,8 @@ pub(crate) fn refused_line(page: &mut Page, number: u32, refusal: &Refusal)
     );
 }
 
-/// Begins the page with the line of a message of which some word is used twice, with the place of the
-/// first pointer that overlaps.
+/// Begins the page with the line of a message that uses a word twice, with the place of the first
+/// pointer that overlaps.
 pub(crate) fn overlap_line(page: &mut Page, number: u32, segment: u32, word: u32, pointers: u64)
     ensures { page.new ≡ vet_text number (refused (codes "Overlap") segment word pointers) }
 {
@@ -74,7 +74,7 @@ fn put_refused(page: &mut Page, number: u32, name: &[u8], segment: u32, word: u3
     page.push_text(b"\n");
 }
 
-/// Begins the page with the line of a message that is accepted, by whether it is canonical.
+/// Begins the page with the line of an accepted message: whether it is canonical.
 pub(crate) fn check_line(page: &mut Page, number: u32, canonical: bool)
     ensures { page.new ≡ check_text number canonical }
 {
