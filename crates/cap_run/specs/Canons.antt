@@ -1,5 +1,5 @@
--- What the engine does that puts canonical copies of the messages of a stream (profile). gs and gk have the members of the
--- source's and of the sink's type.
+-- What the engine `run_canon` does, which puts canonical copies of the messages of a stream (profile). gs and gk have
+-- the members of the source's and of the sink's type.
 use Rattle.std.specs.Prelude.{ℕ, ◌≡◌, ◌<◌, ◌≤◌, ◌⊎◌, false, List, [], ◌∷◌, ◌++◌, length, map, sum, Some, Result, Ok, Err, IfOk, IfErr}
 use Rattle.std.specs.List.{AllByRecursion, flat_map}
 use Rattle.cap_spec.specs.Copies.{HasCopy}
@@ -47,13 +47,13 @@ pub record IsCanonised (words depth : ℕ) (c : Canonised) : Type 0 where
 abbrev pub AreCanonised : ℕ → ℕ → List Canonised → Type 0
 AreCanonised words depth cs = AllByRecursion (IsCanonised words depth) cs
 
--- why no copy was made: this is the first capability in preorder, or there is none and a growth was refused
+-- why no copy was made: this is the first capability in preorder, or there is none and an allocation failed
 abbrev pub HasNoCopy : List (List ℕ) → CanonFault → Type 0
 HasNoCopy m (HasCapability s w) = IsFirstCap m s w
 HasNoCopy m Memory = (s w : ℕ) → ¬ IsFirstCap m s w
 
 module _ {S K : Type 0} (gs : source.Ghosts S) (gk : sink.Ghosts K) (words depth limit most : ℕ) (cs : List Canonised) where
-  -- why no more copies were put, the source standing at `mid` behind these messages: Ok where the stream ended
+  -- why no more copies were put: the source was `mid` after these messages, and Ok says that the stream ended
   abbrev pub CanonEnds : S → S → Result (Unit {0}) Cause → Type 0
   CanonEnds mid new (Ok ended) = EndsStream gs mid new
   CanonEnds mid new (Err TooManyMessages) = (length cs ≡ most) × (m : List (List ℕ)) × ReadsStream gs limit mid new (m ∷ [])
@@ -64,7 +64,7 @@ module _ {S K : Type 0} (gs : source.Ghosts S) (gk : sink.Ghosts K) (words depth
       × IsAccepted m words depth report × HasNoCopy m fault
   CanonEnds mid new (Err no_marks) = ⊥
 
-  -- One more message was read, and the output answered this fault while its copy was put.
+  -- One more message was read, and the output returned this error while its copy was put.
   pub record StopsInCopy (mid new : S) (before after : K) (fault : OutFault) : Type 0 where
     pub next : Canonised
     pub few : length cs < most
@@ -72,13 +72,13 @@ module _ {S K : Type 0} (gs : source.Ghosts S) (gk : sink.Ghosts K) (words depth
     pub is_canonised : IsCanonised words depth next
     pub halts : Halts gk before after (copies_of cs ++ frame_text (next.copy ∷ [])) (sink_fault_of fault)
 
-  -- What was to be answered was known, and the output answered this fault as the sink was finished.
+  -- The result was known, and the output returned this error as the sink was finished.
   pub record StopsBehindCopies (mid new : S) (before after : K) (fault : OutFault) : Type 0 where
     pub end : Result (Unit {0}) Cause
     pub ends : CanonEnds mid new end
     pub spoils : Spoils gk before after (copies_of cs) fault
 
-  -- what each cause says: but for an output's fault, the copies were put and the sink was finished
+  -- what each cause says: unless the output failed, the copies were put and the sink was finished
   abbrev pub CanonStops : S → S → K → K → Cause → Type 0
   CanonStops mid new before after TooManyMessages = CanonEnds mid new (Err TooManyMessages) × Finishes gk before after (copies_of cs)
   CanonStops mid new before after (Frame fault) = CanonEnds mid new (Err (Frame fault)) × Finishes gk before after (copies_of cs)
@@ -88,18 +88,18 @@ module _ {S K : Type 0} (gs : source.Ghosts S) (gk : sink.Ghosts K) (words depth
   CanonStops mid new before after no_marks = ⊥
 
 module _ {S K : Type 0} (gs : source.Ghosts S) (gk : sink.Ghosts K) where
-  -- What the engine does over a stream of at most so many messages, each of at most `limit` words, where a message may be
-  -- charged so many words and have objects of at most this level.
+  -- What the engine does over a stream of at most `most` messages, each of at most `limit` words.
+  -- The charge of a message may be at most `words`, and its depth at most `depth`.
   pub record MakesCopies (words depth limit most : ℕ) (old new : S) (before after : K) (answer : Result Outcome RunFault) : Type 0 where
     -- All words of the source are frames of these messages, and exactly their copies were put.
     pub ok : IfOk answer (λ outcome. (cs : List Canonised) × ReadsAll gs limit old new (canonised cs) × AreCanonised words depth cs
         × Finishes gk before after (copies_of cs) × (length cs ≤ most)
         × (outcome ≡ record { messages = length cs; refused = 0; noncanonical = 0 }))
-    -- The source stood at `mid` when the messages before the fault had been read.
+    -- The source was `mid` after the messages before the error had been read.
     pub err : IfErr answer (λ fault. (cs : List Canonised) × (mid : S) × (fault.message ≡ length cs) × (length cs ≤ most)
         × ReadsStream gs limit old mid (canonised cs) × AreCanonised words depth cs
         × CanonStops gs gk words depth limit most cs mid new before after fault.cause)
-    -- And the other way round: a stream of at most so many messages, each within the limits and with a copy, is read to its end.
+    -- The other way round: such a stream, if each message is within the limits and has a copy, is read to its end.
     pub whole : (own : List ℕ) (cs : List Canonised) → gs.words old ≡ Some own → gs.is_cut old ≡ false → Stream own (canonised cs)
         → AllByRecursion (λ m. sum (sizes_of m) ≤ limit) (canonised cs) → AreCanonised words depth cs → length cs ≤ most →
         Settled answer (Finishes gk before after (copies_of cs) × (answer ≡ Ok (record { messages = length cs; refused = 0; noncanonical = 0 })))

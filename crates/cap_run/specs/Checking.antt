@@ -1,4 +1,4 @@
--- What may be told of a message that is checked (profile).
+-- What may be written of a message that is checked (profile).
 use Rattle.std.specs.Prelude.{ℕ, ◌≡◌, ◌⊎◌, ◌↔◌, if◌then◌else◌, Bool, IsTrue, List}
 use Rattle.cap_spec.specs.Copies.{IsCanonical}
 use Rattle.cap_spec.specs.Texts.{check_text}
@@ -8,7 +8,7 @@ use Rattle.cap_run.specs.declared.engines.stream.Mark.{Mark}
 use Rattle.cap_run.specs.declared.engines.stream.Mark.TheVariants.{Accepted, NotCanonical}
 use Rattle.cap_run.specs.Vetting.{TellsRefused}
 
--- the text of message n where it is accepted, by whether its words are its own canonical copy
+-- the text of message n if it is accepted, by whether its words are its own canonical copy
 pub record TellsChecked (words depth n : ℕ) (m : List (List ℕ)) (text : List ℕ) (mark : Mark) : Type 0 where
   pub report : Report
   pub is_accepted : IsAccepted m words depth report
@@ -17,6 +17,6 @@ pub record TellsChecked (words depth n : ℕ) (m : List (List ℕ)) (text : List
   pub line : text ≡ check_text n canonical
   pub counted : mark ≡ (if canonical then Accepted else NotCanonical)
 
--- this, or where it is refused, the first fault
+-- this, or if it is refused, the first bad pointer and the reason
 abbrev pub TellsCheck : ℕ → ℕ → ℕ → List (List ℕ) → List ℕ → Mark → Type 0
 TellsCheck words depth n m text mark = TellsChecked words depth n m text mark ⊎ TellsRefused words depth n m text mark

@@ -14,7 +14,7 @@ use Rattle.cap_run.specs.declared.fault.CopyFault.{CopyFault}
 use Rattle.cap_run.specs.declared.fault.CopyFault.TheVariants.{TooManyWords, Source, Output}
 
 module _ {S : Type 0} (gs : source.Ghosts S) where
-  -- These words were read, and no fault came: where there were any, the source wasn't spent before.
+  -- These words were read without an error. If there were any, the source wasn't closed before.
   pub record Gives (old new : S) (own : List ℕ) : Type 0 where
     pub takes : Takes gs old new own
     pub usable : (own ≡ []) ⊎ (gs.spent old ≡ false)
@@ -36,13 +36,13 @@ module _ {S : Type 0} (gs : source.Ghosts S) where
   GivesNone old new Device = Breaks gs old new
   GivesNone old new Spent = Refuses gs old new
 
-  -- why no more than these words were put, at most so many: the input ended, a fault came, or one more was one too many
+  -- why no more words were put than these: the input ended, the source failed, or a word past `most` was read
   abbrev pub StopsGiving : ℕ → List ℕ → S → S → Type 0
   StopsGiving most own old new = EndsStream gs old new ⊎ (((fault : SourceFault) × GivesNone old new fault)
       ⊎ ((length own ≡ most) × ((word : ℕ) × Gives old new (word ∷ []))))
 
 module _ {K : Type 0} (gk : sink.Ghosts K) where
-  -- These words were put, and no fault came.
+  -- These words were put without an error.
   pub record Fills (old new : K) (own : List ℕ) : Type 0 where
     pub put : WasPut gk.text old new own
     pub closed : gk.closed new ≡ gk.closed old
@@ -56,7 +56,7 @@ module _ {K : Type 0} (gk : sink.Ghosts K) where
     pub closed : gk.closed new ≡ true
     pub failures : gk.failures new ≡ gk.failures old
 
-  -- The output answered this fault, and what it took begins the text of these words.
+  -- The output returned this error, and what it took is a prefix of the text of these words.
   pub record Spoils (old new : K) (own : List ℕ) (fault : OutFault) : Type 0 where
     pub blames : Blames gk old new (sink_fault_of fault)
     pub closed : gk.closed new ≡ true
@@ -79,7 +79,7 @@ module _ {S K : Type 0} (gs : source.Ghosts S) (gk : sink.Ghosts K) where
     pub gives : Gives gs old new (own ++ word ∷ [])
     pub finishes : Finishes gk before after own
 
-  -- The source answered this fault behind the words that were put.
+  -- The source returned this error after the words that were put.
   pub record CopiesUntil (most : ℕ) (old new : S) (before after : K) (fault : SourceFault) : Type 0 where
     pub own : List ℕ
     pub mid : S
@@ -88,8 +88,8 @@ module _ {S K : Type 0} (gs : source.Ghosts S) (gk : sink.Ghosts K) where
     pub none : GivesNone gs mid new fault
     pub finishes : Finishes gk before after own
 
-  -- All words that were read were handed to the sink, in pieces of at most so many at once. It took those in front,
-  -- and its output failed at the last piece, behind which no further word was read.
+  -- All words that were read were put to the sink, in pieces of at most `at_once` words. The sink took the pieces
+  -- before the last, and its output failed at the last. After it no word was read, or the reading was at its end.
   pub record StopsMidway (at_once most : ℕ) (old new : S) (before after : K) (fault : OutFault) : Type 0 where
     pub done : List ℕ
     pub piece : List ℕ
@@ -104,7 +104,7 @@ module _ {S K : Type 0} (gs : source.Ghosts S) (gk : sink.Ghosts K) where
     pub halts : Halts gk between after piece (sink_fault_of fault)
     pub part : StoppedPutting gk.text gk.taken before after (done ++ piece)
 
-  -- All words that may be copied were read and put, the source gave no more, and the output failed as the sink was finished.
+  -- All words that may be copied were put, the source gave no more, and the output failed as the sink was finished.
   pub record StopsFinishing (most : ℕ) (old new : S) (before after : K) (fault : OutFault) : Type 0 where
     pub own : List ℕ
     pub mid : S
@@ -113,7 +113,7 @@ module _ {S K : Type 0} (gs : source.Ghosts S) (gk : sink.Ghosts K) where
     pub none : StopsGiving gs most own mid new
     pub spoils : Spoils gk before after own fault
 
-  -- what each answer says of a copy of at most so many words, of which at most so many are handed to the sink at once
+  -- what each result says of a copy of at most `most` words, in pieces of at most `at_once` words
   abbrev pub Copied : ℕ → ℕ → S → S → K → K → Result ℕ CopyFault → Type 0
   Copied at_once most old new before after (Ok n) = (own : List ℕ) × (n ≡ length own) × CopiesAll most old new before after own
   Copied at_once most old new before after (Err TooManyWords) = CopiesMost most old new before after
@@ -121,7 +121,7 @@ module _ {S K : Type 0} (gs : source.Ghosts S) (gk : sink.Ghosts K) where
   Copied at_once most old new before after (Err (Output fault)) = StopsMidway at_once most old new before after fault
       ⊎ StopsFinishing most old new before after fault
 
--- P, unless the answer is a fault of a device or of the output, or that an end was spent before
+-- P, unless reading failed, the output failed, or the input was closed by an earlier error
 abbrev pub CopySettled : Result ℕ CopyFault → Type 0 → Type 0
 CopySettled (Ok n) P = P
 CopySettled (Err TooManyWords) P = P

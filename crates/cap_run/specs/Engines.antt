@@ -1,5 +1,5 @@
--- The whole contract of each engine: what its answer says of its source and its output, and what it answers where the
--- words are known (profile). gs, go and gk have the members of their types.
+-- The whole contract of each engine (profile). It says what the result means for the source and the output, and what
+-- the result is if the words are known. gs, go and gk have the members of their types.
 use Rattle.std.specs.Prelude.{ℕ, ◌-◌, ◌≡◌, ◌<◌, ◌≤◌, ◌^◌, false, true, List, [], ◌∷◌, length, sum, take, drop, Some, Result, Ok, Err, IfOk, IfErr, IsErrOf}
 use Rattle.std.specs.List.{AllByRecursion}
 use Rattle.cap_spec.specs.Frames.{Stream, sizes_of}
@@ -22,11 +22,11 @@ use Rattle.cap_run.specs.declared.settings.Outcome.{Outcome}
 abbrev pub most_words : ℕ
 most_words = 2 ^ 40
 
--- the most words that a packer is handed at once
+-- the most words that are put to a packer in one call
 abbrev pub most_packed_at_once : ℕ
 most_packed_at_once = 64
 
--- the most words that a sink is handed at once as words are unpacked
+-- the most words that are put to a sink in one call as words are unpacked
 abbrev pub most_unpacked_at_once : ℕ
 most_unpacked_at_once = 1024
 
@@ -35,37 +35,37 @@ abbrev pub most_messages : ℕ
 most_messages = 2 ^ 32 - 1
 
 module _ {S O : Type 0} (gs : source.Ghosts S) (go : output.Ghosts O) where
-  -- What an engine does that writes such texts of the messages of a stream, of at most so many messages, each of at most `limit` words,
-  -- where it may want memory for such messages once they were read.
+  -- What an engine does over at most `most` messages, each of at most `limit` words: it writes a text of each.
+  -- A message in `wants` may need an allocation after it was read.
   pub record TellsStream (tells : Tells) (wants : List (List ℕ) → Type 0) (limit most : ℕ)
       (old new : S) (before after : O) (answer : Result Outcome RunFault) : Type 0 where
-    -- All words of the source are frames of these messages, and of each its text was written.
+    -- All words of the source are frames of these messages, and the text of each was written.
     pub ok : IfOk answer (λ outcome. (ts : List Told) × ReadsAll gs limit old new (messages_of ts) × TellsEach tells 0 ts
         × Appended go before after (texts_of ts)
         × (length ts ≤ most) × (outcome ≡ outcome_of ts))
-    -- The source stood at `mid` when the messages before the fault had been read.
+    -- The source was `mid` after the messages before the error had been read.
     pub err : IfErr answer (λ fault. (ts : List Told) × (mid : S) × (fault.message ≡ length ts) × (length ts ≤ most)
         × ReadsStream gs limit old mid (messages_of ts)
         × TellsEach tells 0 ts × RunStops gs go tells wants limit most ts mid new before after fault.cause)
-    -- And the other way round: a stream of at most so many messages, each within the limit, is read to its end.
+    -- And the other way round: a stream of at most `most` messages, each within the limit, is read to its end.
     pub whole : (own : List ℕ) (ms : List (List (List ℕ))) → gs.words old ≡ Some own → gs.is_cut old ≡ false → Stream own ms
         → AllByRecursion (λ m. sum (sizes_of m) ≤ limit) ms → length ms ≤ most →
         Settled answer ((ts : List Told) × (messages_of ts ≡ ms) × TellsEach tells 0 ts × Appended go before after (texts_of ts)
         × (answer ≡ Ok (outcome_of ts)))
 
-  -- What the engine does that shows the segments of each message. No memory is taken in reading.
+  -- What the engine `run_segments` does, which writes the segments of each message. Reading allocates nothing.
   pub record ShowsStream (limit most : ℕ) (old new : S) (before after : O) (answer : Result Outcome RunFault) : Type 0 where
     pub told : TellsStream TellsSegments WantsNone limit most old new before after answer
     pub no_memory : (n : ℕ) → IsErrOf answer (record { message = n; cause = Frame Memory }) → ⊥
 
 module _ {S K : Type 0} (gs : source.Ghosts S) (gk : sink.Ghosts K) where
-  -- What an engine does that copies words, at most so many, and hands at most so many at once to the sink.
+  -- What an engine does that copies at most `most` words, in pieces of at most `at_once` words.
   pub record CopiesWords (at_once most : ℕ) (old new : S) (before after : K) (answer : Result ℕ CopyFault) : Type 0 where
     pub copied : Copied gs gk at_once most old new before after answer
-    -- And the other way round, where the words are known. There aren't too many, and the input isn't cut.
+    -- And the other way round, if the words are known. There are at most `most`, and the input isn't cut.
     pub whole : (own : List ℕ) → gs.words old ≡ Some own → gs.is_cut old ≡ false → length own ≤ most →
         CopySettled answer ((answer ≡ Ok (length own)) × Finishes gk before after own)
-    -- The input ends inside a word behind them.
+    -- The input ends inside a word after them.
     pub cut_short : (own : List ℕ) → gs.words old ≡ Some own → gs.is_cut old ≡ true → length own ≤ most →
         CopySettled answer ((byte : ℕ) × (answer ≡ Err (Source (Truncated byte))) × (drop (length own) (gs.places old) ≡ byte ∷ [])
         × Finishes gk before after own)

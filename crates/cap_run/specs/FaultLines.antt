@@ -14,7 +14,7 @@ use Rattle.cap_run.specs.declared.fault.CopyFault.{CopyFault}
 use Rattle.cap_run.specs.declared.fault.CopyFault.TheVariants.{TooManyWords, Source as copy_source, Output as copy_output}
 use Rattle.cap_run.specs.declared.fault.RunFault.{RunFault}
 
--- what is said of a message that couldn't be read
+-- the text for a message that can't be read
 abbrev pub frame_fault_text : FrameFault → List ℕ
 frame_fault_text (TooManySegments count) = codes "TooManySegments" ++ then_number count
 frame_fault_text (TooLarge words) = codes "TooLarge" ++ then_number words
@@ -27,20 +27,20 @@ frame_fault_text Spent = codes "Spent"
 abbrev pub place_text : ℕ → ℕ → List ℕ
 place_text s w = codes " at" ++ then_number s ++ 58 ∷ decimal w
 
--- what is said of a message that is refused, where that ends an engine
+-- the text for a message whose refusal ended an engine
 abbrev pub refusal_text : Refusal → List ℕ
 refusal_text r = codes "refused " ++ reason_name r.reason ++ place_text r.segment r.word
 
--- what is said of a message of which no canonical copy was made
+-- the text for a message of which no canonical copy was made
 abbrev pub canon_fault_text : CanonFault → List ℕ
 canon_fault_text (HasCapability s w) = codes "HasCapability" ++ place_text s w
 canon_fault_text canon_memory = codes "Memory"
 
--- the message that is spoken of
+-- which message it is
 abbrev pub message_name : ℕ → List ℕ
 message_name n = codes "message" ++ then_number n ++ codes ": "
 
--- what is said of an engine that ended at message n
+-- the text for an engine that ended at message n
 abbrev pub cause_text : ℕ → Cause → List ℕ
 cause_text n TooManyMessages = message_name n ++ codes "TooManyMessages"
 cause_text n (Frame fault) = message_name n ++ frame_fault_text fault
@@ -56,13 +56,13 @@ fault_line n cause = codes "capvet: " ++ cause_text n cause ++ 10 ∷ []
 abbrev pub run_fault_line : RunFault → List ℕ
 run_fault_line fault = fault_line fault.message fault.cause
 
--- what is said of a source that gave no word
+-- the text for a source that gave no word
 abbrev pub source_fault_text : SourceFault → List ℕ
 source_fault_text (source_truncated byte) = codes "Truncated at byte" ++ then_number byte
 source_fault_text source_device = codes "Device"
 source_fault_text source_spent = codes "Spent"
 
--- what is said of a copy of words that ended early
+-- the text for a copy of words that ended early
 abbrev pub copy_fault_text : CopyFault → List ℕ
 copy_fault_text TooManyWords = codes "TooManyWords"
 copy_fault_text (copy_source fault) = source_fault_text fault

@@ -1,4 +1,5 @@
--- How handing words that were read at once to a sink ends (profile). gs and gk have the members of the source's and of the sink's type.
+-- How putting words that were read at once to a sink ends in an error (profile). gs and gk have the members of the
+-- source's and of the sink's type.
 use Rattle.std.specs.Prelude.{ℕ, ◌<◌, ◌≤◌, List, length}
 use Rattle.cap_words.specs.Sinks.{sink_fault_of}
 use Rattle.cap_words.specs.declared.ends.OutFault.{OutFault}
@@ -8,7 +9,7 @@ use Rattle.cap_frame.specs.Putting.{Halts}
 use Rattle.cap_run.specs.Copying.{Gives}
 
 module _ {S K : Type 0} (gs : source.Ghosts S) (gk : sink.Ghosts K) where
-  -- Some words were read, at most so many, and a fault came as they were put.
+  -- Some words were read, at most `most`, and the output failed as they were put.
   pub record HandsOver (most : ℕ) (old new : S) (before after : K) (fault : OutFault) : Type 0 where
     pub piece : List ℕ
     pub some : 0 < length piece

@@ -1,5 +1,5 @@
--- What the steps of the engine do that puts canonical copies (profile). gs and gk have the members of the source's and of
--- the sink's type.
+-- What the steps of the engine `run_canon` do, which puts canonical copies (profile). gs and gk have the members of the
+-- source's and of the sink's type.
 use Rattle.std.specs.Prelude.{ℕ, ◌≡◌, ◌≤◌, true, false, Bool, List, [], ◌∷◌, length, Result, Ok, Err}
 use Rattle.cap_spec.specs.Faults.{IsRefused}
 use Rattle.cap_spec.specs.Frames.{frame_text}
@@ -50,7 +50,7 @@ module _ {S K : Type 0} (gs : source.Ghosts S) (gk : sink.Ghosts K) (words depth
       × CopyStops gk words depth m before after (Canon fault)
   NextStops old new before after no_marks = ⊥
 
-  -- So many messages were read, and their copies put.
+  -- n messages were read, and their copies were put.
   pub record CopiesSoFar (old new : S) (before after : K) (n : ℕ) : Type 0 where
     pub cs : List Canonised
     pub many : length cs ≡ n
@@ -58,7 +58,7 @@ module _ {S K : Type 0} (gs : source.Ghosts S) (gk : sink.Ghosts K) (words depth
     pub each : AreCanonised words depth cs
     pub fills : Fills gk before after (copies_of cs)
 
-  -- why no more copies were put behind these, the sink not yet finished
+  -- why no more copies were put after these, before the sink is finished
   abbrev pub StopsMaking : ℕ → List Canonised → S → S → K → K → Result (Unit {0}) Cause → Type 0
   StopsMaking most cs mid new before after (Ok ended) = CanonEnds gs gk words depth limit most cs mid new (Ok ended) × Fills gk before after (copies_of cs)
   StopsMaking most cs mid new before after (Err TooManyMessages) =
@@ -72,7 +72,7 @@ module _ {S K : Type 0} (gs : source.Ghosts S) (gk : sink.Ghosts K) (words depth
       CanonEnds gs gk words depth limit most cs mid new (Err (Canon fault)) × Fills gk before after (copies_of cs)
   StopsMaking most cs mid new before after (Err no_marks) = ⊥
 
-  -- So many messages were read, and this is why no more copies were put.
+  -- n messages were read, and `end` is why no more copies were put.
   pub record Making (most : ℕ) (old new : S) (before after : K) (n : ℕ) (end : Result (Unit {0}) Cause) : Type 0 where
     pub cs : List Canonised
     pub mid : S
@@ -87,7 +87,7 @@ module _ {S K : Type 0} (gs : source.Ghosts S) (gk : sink.Ghosts K) (words depth
   CopiesEnd most cs mid new before after (Ok ended) = CanonEnds gs gk words depth limit most cs mid new (Ok ended) × Finishes gk before after (copies_of cs)
   CopiesEnd most cs mid new before after (Err cause) = CanonStops gs gk words depth limit most cs mid new before after cause
 
-  -- So many messages were read, and the run ended so.
+  -- n messages were read, and `end` is how the run ended.
   pub record Made (most : ℕ) (old new : S) (before after : K) (n : ℕ) (end : Result (Unit {0}) Cause) : Type 0 where
     pub cs : List Canonised
     pub mid : S

@@ -8,7 +8,7 @@ use Rattle.cap_run.specs.declared.paths.Reading.TheVariants.{Start, Slash, Point
 abbrev pub is_digit : ℕ → Bool
 is_digit b = nat_le 48 b && nat_le b 57
 
--- a number with one more digit, of at most so much; 0 goes on with none
+-- n with one more digit, if n isn't 0 and the result is at most `most`
 abbrev pub longer_number : ℕ → ℕ → ℕ → Option ℕ
 longer_number n digit most = if n == 0 then None else (if nat_lt most (10 * n + digit) then None else Some (10 * n + digit))
 
@@ -21,7 +21,7 @@ abbrev pub item_number : Option ℕ → Option Reading
 item_number None = None
 item_number (Some n) = Some (Number (item n))
 
--- what is read with one byte more
+-- how far the step has been read after one more byte
 abbrev pub next_of : Reading → ℕ → Option Reading
 next_of Start b = if b == 47 then Some Slash else None
 next_of Slash b = if b == 112 then Some Pointer else (if b == 105 then Some Item else None)

@@ -1,4 +1,5 @@
--- How putting the words of a source to a sink ends, before the sink is finished (profile). gs and gk have the members of the source's and of the sink's type.
+-- How putting the words of a source to a sink ends, before the sink is finished (profile). gs and gk have the members
+-- of the source's and of the sink's type.
 use Rattle.std.specs.Prelude.{ℕ, ◌≡◌, ◌<◌, ◌≤◌, List, [], ◌∷◌, ◌++◌, length, Result, Ok, Err}
 use Rattle.cap_words.specs.Sinks.{sink_fault_of}
 use Rattle.cap_words.specs.declared.ends.OutFault.{OutFault}
@@ -11,14 +12,14 @@ use Rattle.cap_run.specs.declared.fault.CopyFault.{CopyFault}
 use Rattle.cap_run.specs.declared.fault.CopyFault.TheVariants.{TooManyWords, Source, Output}
 
 module _ {S K : Type 0} (gs : source.Ghosts S) (gk : sink.Ghosts K) where
-  -- So many words were read and put.
+  -- n words were read and put.
   pub record Copies (old new : S) (before after : K) (n : ℕ) : Type 0 where
     pub own : List ℕ
     pub many : length own ≡ n
     pub gives : Gives gs old new own
     pub fills : Fills gk before after own
 
-  -- A fault came as the last of the words that were read was put.
+  -- The output failed as the last of the words that were read was put.
   pub record StopsAt (most : ℕ) (old new : S) (before after : K) (fault : OutFault) : Type 0 where
     pub done : List ℕ
     pub word : ℕ
@@ -28,7 +29,7 @@ module _ {S K : Type 0} (gs : source.Ghosts S) (gk : sink.Ghosts K) where
     pub fills : Fills gk before between done
     pub halts : Halts gk between after (word ∷ []) (sink_fault_of fault)
 
-  -- why no more words were put, the source standing at `mid` behind those that were
+  -- why no more words were put: the source was `mid` after the words that were put
   abbrev pub StopsPutting : ℕ → S → S → K → K → Result ℕ CopyFault → Type 0
   StopsPutting most old new before after (Ok n) = (mid : S) × (n ≤ most) × Copies old mid before after n × EndsStream gs mid new
   StopsPutting most old new before after (Err TooManyWords) = (mid : S) × (word : ℕ) × Copies old mid before after most × Gives gs mid new (word ∷ [])

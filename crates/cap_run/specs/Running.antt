@@ -16,7 +16,7 @@ use Rattle.cap_run.specs.Streams.{ReadsStream}
 use Rattle.cap_run.specs.Telling.{Tells, Told, texts_of}
 use Rattle.cap_run.specs.Writing.{Stopped}
 
--- P, unless this fault is one of a device or of the output, of memory, or of an end that was spent
+-- P, unless reading failed, the output failed, an allocation failed, or the input was closed by an earlier error
 abbrev pub SettledAt : Cause → Type 0 → Type 0
 SettledAt TooManyMessages P = P
 SettledAt (Frame fault) P = Answered {A = Outcome} (Err fault) P
@@ -26,25 +26,25 @@ SettledAt (Canon (HasCapability s w)) P = P
 SettledAt (Canon canon_memory) P = Unit {0}
 SettledAt no_marks P = Unit {0}
 
--- P, unless the answer is such a fault
+-- P, unless the result is such an error
 abbrev pub Settled : Result Outcome RunFault → Type 0 → Type 0
 Settled (Ok outcome) P = P
 Settled (Err fault) P = SettledAt fault.cause P
 
--- what an output's fault says of whether it is spent and how often it failed
+-- what an error of an output says of whether it is closed and how often it failed
 abbrev pub OutFails : OutFault → Bool → Bool → Failures → Failures → Type 0
 OutFails Device was is before after = DeviceFails was before after × (is ≡ true)
 OutFails Memory was is before after = GrowthFails was before after
 OutFails Spent was is before after = WasSpent was is before after
 
 module _ {O : Type 0} (g : output.Ghosts O) where
-  -- The text was written, and no fault came.
+  -- The text was written without an error.
   pub record Appended (old new : O) (text : List ℕ) : Type 0 where
     pub appended : Appends (g.written old) (g.written new) text
     pub spent : g.spent new ≡ g.spent old
     pub failures : g.failures new ≡ g.failures old
 
-  -- The output answered this fault behind these texts and a beginning of the next.
+  -- The output returned this error after these texts and a prefix of the next.
   pub record StopsIn (old new : O) (fault : OutFault) (done text : List ℕ) : Type 0 where
     pub fails : OutFails fault (g.spent old) (g.spent new) (g.failures old) (g.failures new)
     pub part : List ℕ
@@ -63,7 +63,7 @@ module _ {S : Type 0} (g : source.Ghosts S) where
   EndStops limit old new no_marks = ⊥
 
 module _ {S O : Type 0} (gs : source.Ghosts S) (go : output.Ghosts O) where
-  -- why an engine ended at message n, which may want memory once it was read
+  -- why an engine ended at message n, which may need an allocation after it was read
   abbrev pub StepStops : Tells → (List (List ℕ) → Type 0) → ℕ → ℕ → S → S → O → O → Cause → Type 0
   StepStops tells wants limit n old new before after TooManyMessages = ⊥
   StepStops tells wants limit n old new before after (Frame fault) = Faults gs limit old new fault × (after ≡ before)
@@ -73,7 +73,7 @@ module _ {S O : Type 0} (gs : source.Ghosts S) (go : output.Ghosts O) where
   StepStops tells wants limit n old new before after (Canon fault) = ⊥
   StepStops tells wants limit n old new before after no_marks = (m : List (List ℕ)) × ReadsStream gs limit old new (m ∷ []) × wants m × (after ≡ before)
 
-  -- why an engine ended behind these messages, the source standing at `mid` then
+  -- why an engine ended after these messages, when the source was `mid`
   abbrev pub RunStops : Tells → (List (List ℕ) → Type 0) → ℕ → ℕ → List Told → S → S → O → O → Cause → Type 0
   RunStops tells wants limit most ts mid new before after TooManyMessages =
       (length ts ≡ most) × Appended go before after (texts_of ts) × ((m : List (List ℕ)) × ReadsStream gs limit mid new (m ∷ []))

@@ -1,4 +1,5 @@
--- What reading the messages of a stream says of its source before and after (profile). g has the members of the source's type.
+-- What reading the messages of a stream says of its source before and after (profile). g has the members of the
+-- source's type.
 use Rattle.std.specs.Prelude.{ℕ, ◌≡◌, ◌≤◌, true, false, List, [], ◌∷◌, sum, Some, OnSome}
 use Rattle.std.specs.List.{AllByRecursion}
 use Rattle.cap_spec.specs.Frames.{Stream, sizes_of}
@@ -22,7 +23,7 @@ module _ {S : Type 0} (g : source.Ghosts S) where
     pub ended : g.ended new ≡ true
     pub works : Works (g.spent old) (g.spent new) (g.failures old) (g.failures new)
 
-  -- All words of the source are frames of these messages, each within the limit. They were read, and the source has ended.
+  -- All words of the source are frames of these messages, each within the limit. They were read, and the source ended.
   pub record ReadsAll (limit : ℕ) (old new : S) (ms : List (List (List ℕ))) : Type 0 where
     pub own : List ℕ
     pub all : OnSome (g.words old) ((g.words old ≡ Some own) × (g.is_cut old ≡ false))

@@ -1,4 +1,4 @@
--- What was told of each message of a stream: a text, and what is counted of it (profile).
+-- What was written for each message of a stream: a text, and what is counted of the message (profile).
 use Rattle.std.specs.Prelude.{ℕ, ◌≡◌, ◌+◌, List, [], ◌∷◌, map, length}
 use Rattle.std.specs.List.{flat_map}
 use Rattle.cap_spec.specs.Texts.{segments_text}
@@ -6,7 +6,7 @@ use Rattle.cap_run.specs.declared.engines.stream.Mark.{Mark}
 use Rattle.cap_run.specs.declared.engines.stream.Mark.TheVariants.{Accepted, Refused, NotCanonical}
 use Rattle.cap_run.specs.declared.settings.Outcome.{Outcome}
 
--- a message, and what was told of it
+-- a message, what was written for it, and what is counted of it
 pub record Told : Type 0 where
   pub message : List (List ℕ)
   pub text : List ℕ
@@ -19,7 +19,7 @@ messages_of ts = map (λ t. t.message) ts
 abbrev pub texts_of : List Told → List ℕ
 texts_of ts = flat_map (λ t. t.text) ts
 
--- which texts may be told of a message by its number, each with what is counted of it
+-- which texts may be written of a message by its number, each with what is counted of it
 abbrev pub Tells : Type 1
 Tells = ℕ → List (List ℕ) → List ℕ → Mark → Type 0
 
@@ -27,11 +27,11 @@ Tells = ℕ → List (List ℕ) → List ℕ → Mark → Type 0
 abbrev pub TellsSegments : ℕ → List (List ℕ) → List ℕ → Mark → Type 0
 TellsSegments n m text mark = (text ≡ segments_text n m) × (mark ≡ Accepted)
 
--- of which messages memory is wanted once they were read: of none
+-- the messages that need an allocation after they were read: none
 abbrev pub WantsNone : List (List ℕ) → Type 0
 WantsNone m = ⊥
 
--- each text is one that may be told of its message by its number, from this number on
+-- each text is one that may be written of its message by its number, from this number on
 abbrev pub TellsEach : Tells → ℕ → List Told → Type 0
 TellsEach tells n [] = Unit {0}
 TellsEach tells n (t ∷ ts) = tells n t.message t.text t.mark × TellsEach tells (n + 1) ts

@@ -1,4 +1,4 @@
--- What may be told of a message that is vetted (profile).
+-- What may be written of a message that is vetted (profile).
 use Rattle.std.specs.Prelude.{ℕ, ◌≡◌, ◌⊎◌, List, ◌++◌, codes}
 use Rattle.cap_spec.specs.Faults.{IsRefused}
 use Rattle.cap_spec.specs.Occupying.{IsDisjoint, IsFirstOverlap}
@@ -11,14 +11,14 @@ use Rattle.cap_vet.specs.declared.report.Report.{Report}
 use Rattle.cap_run.specs.declared.engines.stream.Mark.{Mark}
 use Rattle.cap_run.specs.declared.engines.stream.Mark.TheVariants.{Accepted, Refused}
 
--- the text of message n where it is accepted, with the numbers of its tree
+-- the text of message n if it is accepted, with the numbers of its tree
 pub record TellsAccepted (words depth n : ℕ) (m : List (List ℕ)) (text : List ℕ) (mark : Mark) : Type 0 where
   pub report : Report
   pub is_accepted : IsAccepted m words depth report
   pub line : text ≡ vet_text n (accepted report.charge report.depth report.pointers report.caps)
   pub counted : mark ≡ Accepted
 
--- and where it is refused, with the first fault
+-- and if it is refused, with the first bad pointer and the reason
 pub record TellsRefused (words depth n : ℕ) (m : List (List ℕ)) (text : List ℕ) (mark : Mark) : Type 0 where
   pub refusal : Refusal
   pub is_refused : IsRefused m words depth refusal
@@ -29,7 +29,7 @@ pub record TellsRefused (words depth n : ℕ) (m : List (List ℕ)) (text : List
 abbrev pub TellsVerdict : ℕ → ℕ → ℕ → List (List ℕ) → List ℕ → Mark → Type 0
 TellsVerdict words depth n m text mark = TellsAccepted words depth n m text mark ⊎ TellsRefused words depth n m text mark
 
--- where it is accepted and some word is used twice, with the first pointer that overlaps
+-- if it is accepted and some word is used twice, with the first pointer that overlaps
 pub record TellsOverlap (words depth n : ℕ) (m : List (List ℕ)) (text : List ℕ) (mark : Mark) : Type 0 where
   pub report : Report
   pub is_accepted : IsAccepted m words depth report
@@ -49,7 +49,7 @@ TellsExclusive words depth n m text mark =
 abbrev pub WantsMarks : ℕ → ℕ → List (List ℕ) → Type 0
 WantsMarks words depth m = (report : Report) × IsAccepted m words depth report
 
--- the line of message n where it is accepted, with the numbers of its tree, and behind it the whole tree
+-- the line of message n if it is accepted, with the numbers of its tree, and after it the whole tree
 pub record TellsTree (words depth n : ℕ) (m : List (List ℕ)) (text : List ℕ) (mark : Mark) : Type 0 where
   pub report : Report
   pub tree : Tree
@@ -61,7 +61,7 @@ pub record TellsTree (words depth n : ℕ) (m : List (List ℕ)) (text : List �
 abbrev pub TellsDump : ℕ → ℕ → ℕ → List (List ℕ) → List ℕ → Mark → Type 0
 TellsDump words depth n m text mark = TellsTree words depth n m text mark ⊎ TellsRefused words depth n m text mark
 
--- the tree's node at a path, or that there is none, where message n is accepted
+-- the tree's node at a path, or that there is none, if message n is accepted
 pub record TellsNode (words depth : ℕ) (path : List Step) (n : ℕ) (m : List (List ℕ)) (text : List ℕ) (mark : Mark) : Type 0 where
   pub report : Report
   pub tree : Tree

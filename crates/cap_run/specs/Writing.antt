@@ -6,7 +6,7 @@ use Rattle.cap_words.specs.declared.ends.ByteOut as output
 use Rattle.cap_words.specs.declared.ends.OutFault.{OutFault}
 use Rattle.cap_words.specs.declared.ends.OutFault.TheVariants.{Device, Memory, Spent}
 
--- a beginning of the text was written
+-- a prefix of the text was written
 pub record WritesPart (before after : Option (List ℕ)) (text : List ℕ) : Type 0 where
   pub part : List ℕ
   pub rest : List ℕ
@@ -14,18 +14,18 @@ pub record WritesPart (before after : Option (List ℕ)) (text : List ℕ) : Typ
   pub appended : Appends before after part
 
 module _ {O : Type 0} (g : output.Ghosts O) where
-  -- the whole text was written, with no fault
+  -- the whole text was written without an error
   pub record Wrote (old new : O) (text : List ℕ) : Type 0 where
     pub appended : Appends (g.written old) (g.written new) text
     pub works : Works (g.spent old) (g.spent new) (g.failures old) (g.failures new)
 
-  -- the output answered this fault, after a beginning of the text
+  -- the output returned this error, after a prefix of the text
   abbrev pub Stopped : O → O → OutFault → List ℕ → Type 0
   Stopped old new Device text = DeviceFails (g.spent old) (g.failures old) (g.failures new) × (g.spent new ≡ true)
       × WritesPart (g.written old) (g.written new) text
   Stopped old new Memory text = GrowthFails (g.spent old) (g.failures old) (g.failures new) × WritesPart (g.written old) (g.written new) text
   Stopped old new Spent text = (g.spent old ≡ true) × (new ≡ old)
 
-  -- the text was written, or a fault came after a beginning of it
+  -- the text was written, or the output failed after a prefix of it
   abbrev pub Writes : {T : Type 0} → O → O → Result T OutFault → List ℕ → Type 0
   Writes old new r text = MatchResult r (λ _. Wrote old new text) (λ fault. Stopped old new fault text)
