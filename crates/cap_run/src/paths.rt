@@ -106,7 +106,7 @@ fn ended(reading: Reading, byte: u8) -> Option<Step>
 /// # Errors
 ///
 /// - [`PathFault::Bad`]: the text isn't a path. `at` is the first byte, counted from 0, at which no
-///   path can go on, or the length of the text if all of it is a prefix of a path.
+///   path can go on. If all of the text is a prefix of a path, `at` is its length in bytes.
 /// - [`PathFault::Memory`]: an allocation failed. The text may be bad at a later byte.
 pub fn parse_path(alloc: Global, text: &str) -> Result<Vec<Step>, PathFault>
     ensures ok { IfOk result (λ steps. AllByRecursion IsStep steps.items × (text.now ≡ path_text steps.items)) }

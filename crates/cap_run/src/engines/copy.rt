@@ -125,7 +125,7 @@ fn copy_words<S: WordSource, K: WordSink>(
 ///   of packed words. The words before that were packed, and the packer was finished.
 /// - [`CopyFault::Output`]: the output failed, as words were put or as the packer was finished. It
 ///   took a prefix of the text. All words that were read were put to the packer. If the output
-///   failed at a piece of at most 64 words, the packer took the words before the piece, and no word
+///   failed at a piece of at most 64 words, the packer took the words before the piece. No word
 ///   after the piece was read.
 ///
 /// If finishing the packer fails after another error, `Output` is returned.
@@ -154,8 +154,8 @@ pub fn run_pack<S: WordSource, O: ByteOut>(
 ///   of packed words. The words before that were put, and the sink was finished.
 /// - [`CopyFault::Output`]: the output failed, as words were put or as the sink was finished. It
 ///   took a prefix of the text. All words that were read were put to the sink. If the output failed
-///   at a piece of at most 1024 words, the sink took the words before the piece, and no word after
-///   the piece was read.
+///   at a piece of at most 1024 words, the sink took the words before the piece. No word after the
+///   piece was read.
 ///
 /// If finishing the sink fails after another error, `Output` is returned.
 pub fn run_unpack<S: WordSource, K: WordSink>(

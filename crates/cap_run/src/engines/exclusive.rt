@@ -98,8 +98,8 @@ impl Engine for ExclusiveEngine {
     }
 }
 
-/// Reads the messages of a stream to its end, and vets each exclusively: a message is accepted if
-/// its root denotes a finite tree within `settings.limits` and uses no word twice (profile).
+/// Reads the messages of a stream to its end, and vets each exclusively (profile). A message is
+/// accepted if its root denotes a finite tree within `settings.limits` and it uses no word twice.
 ///
 /// The line of an accepted message has the numbers of its tree. For a message that
 /// [`run_vet`](crate::run_vet) refuses, the line is the same as there. For a message that only uses

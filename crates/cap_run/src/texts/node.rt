@@ -193,8 +193,8 @@ pub(crate) fn put_named<M: Segments, O: ByteOut>(
     }
 }
 
-/// Puts on a page, at a level, the line of a child by its letter and number, and one level deeper
-/// the lines of its own words. If the page has no space for a line, it is written and cleared
+/// Puts on a page, at a level, the line of a child by its letter and number. The lines of its own
+/// words follow one level deeper. If the page has no space for a line, it is written and cleared
 /// first. After an error the output took a prefix of the page's old text and these lines.
 ///
 /// It isn't inlined, so that its stack frame isn't part of each frame of a recursion that calls it.
