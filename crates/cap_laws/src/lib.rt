@@ -9,5 +9,7 @@ pub mod framing;
 pub mod packing;
 pub mod paths;
 pub mod plain;
+pub mod strict;
 pub mod trees;
+pub mod unamplified;
 pub mod verdicts;

@@ -8,3 +8,4 @@ pub mod Paths
 pub mod Verdicts
 pub mod Canonical
 pub mod Disjoint
+pub mod Strict

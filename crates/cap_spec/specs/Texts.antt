@@ -5,7 +5,11 @@ use Rattle.cap_spec.specs.Frames.{sizes_of}
 use Rattle.cap_spec.specs.Messages.{root_of}
 use Rattle.cap_spec.specs.Plain.{word_bytes}
 use Rattle.cap_spec.specs.Scalars.{scalar_words}
+use Rattle.cap_spec.specs.declared.Lax.{Lax}
+use Rattle.cap_spec.specs.declared.Lax.TheVariants.{NullPad, EmptySegment, CapabilityPad}
 use Rattle.cap_spec.specs.declared.Refusal.{Refusal}
+use Rattle.cap_spec.specs.declared.StrictRefusal.{StrictRefusal}
+use Rattle.cap_spec.specs.declared.StrictRefusal.TheVariants.{Refused, ManySegments, Pointer}
 use Rattle.cap_spec.specs.declared.Reason.{Reason}
 use Rattle.cap_spec.specs.declared.Reason.TheVariants.{NoRoot, Reserved, SegmentMissing, PadOutside, PadIsFar, PadNotFar, TagKind, TagOffset, OutOfSegment, CompositeTag, CompositeOverrun, DepthLimit, WordLimit}
 use Rattle.cap_spec.specs.Tree.{Tree, null, cap, struct, scalars, pointers, structs, Trees, none, more, tree_count}
@@ -123,6 +127,18 @@ reason_name WordLimit = codes "WordLimit"
 
 abbrev pub refusal_verdict : Refusal → Verdict
 refusal_verdict r = refused (reason_name r.reason) r.segment r.word r.pointers
+
+-- the name of a form that common readers reject
+abbrev pub lax_name : Lax → List ℕ
+lax_name NullPad = codes "NullPad"
+lax_name EmptySegment = codes "EmptySegment"
+lax_name CapabilityPad = codes "CapabilityPad"
+
+-- why a message isn't strict
+abbrev pub strict_verdict : StrictRefusal → Verdict
+strict_verdict (Refused r) = refusal_verdict r
+strict_verdict ManySegments = refused (codes "ManySegments") 0 0 0
+strict_verdict (Pointer what s w pointers) = refused (lax_name what) s w pointers
 
 -- the line of a message that was checked, where it is accepted
 abbrev pub check_text : ℕ → Bool → List ℕ

@@ -1,0 +1,66 @@
+-- An accepted message is strict, or has one fault.
+use Rattle.std.proofs.Common.{ℕ, ◌≤◌, ◌≡◌, ◌⊎◌, List, length, inl, inr, sym, ap, refl, ◌∙◌, arith}
+use Rattle.std.proofs.lemmas.Bool.{cases_lt}
+use Rattle.cap_spec.specs.Faults.{IsRefused}
+use Rattle.cap_spec.specs.Strict.{IsFirstLax, IsStrict, IsStrictFault, IsWithin}
+use Rattle.cap_spec.specs.declared.Lax.{Lax}
+use Rattle.cap_spec.specs.declared.Refusal.{Refusal}
+use Rattle.cap_spec.specs.declared.StrictRefusal.{StrictRefusal}
+use Rattle.cap_spec.specs.declared.StrictRefusal.TheVariants.{Refused, ManySegments, Pointer}
+use Rattle.cap_spec.proofs.Verdicts.OneFault.{one_refusal}
+use Rattle.cap_spec.proofs.Verdicts.Refusals.{tree_not_refused}
+use Rattle.cap_spec.proofs.Strict.FirstLax.{first_is_lax, first_lax_or_none, one_first_lax}
+
+-- an accepted message isn't refused
+pub within_not_refused : (m : List (List ℕ)) (words depth : ℕ) (refusal : Refusal) → IsWithin m words depth → ¬ IsRefused m words depth refusal
+within_not_refused m words depth refusal a h = tree_not_refused m a.tree a.charge a.levels words depth refusal a.denotes a.few_words a.few_levels h
+
+-- An accepted message is strict, or has a fault.
+pub strict_or_fault : (m : List (List ℕ)) (words depth : ℕ) → IsWithin m words depth → length m ≤ 512
+    → IsStrict m words depth ⊎ ((fault : StrictRefusal) × IsStrictFault m words depth fault)
+strict_or_fault m words depth a few = elim (cases_lt 511 (length m)) [
+  | inl many ↦ inr (ManySegments, (a, omega (arith, many, few)))
+  | inr fits ↦ elim (first_lax_or_none m a.tree a.charge a.levels a.denotes) [
+    | inl (s, w, what, pointers, first) ↦ inr (Pointer what s w pointers, (a, fits, first))
+    | inr none ↦ inl (record { accepted = a; few_segments = fits; none = none })
+  ]
+]
+
+-- It isn't both.
+pub strict_not_fault : (m : List (List ℕ)) (words depth : ℕ) (fault : StrictRefusal) → IsStrict m words depth → ¬ IsStrictFault m words depth fault
+strict_not_fault m words depth (Refused refusal) h f = within_not_refused m words depth refusal h.accepted f
+strict_not_fault m words depth ManySegments h f = absurd (omega (arith, h.few_segments, f.1))
+strict_not_fault m words depth (Pointer what s w pointers) h f = h.none f.2.path (first_is_lax m s w what pointers f.2)
+
+-- faults of equal parts are equal
+same_pointer : (u v : Lax) (s w n s' w' n' : ℕ) → s ≡ s' → w ≡ w' → u ≡ v → n ≡ n' → Pointer u s w n ≡ Pointer v s' w' n'
+same_pointer u v s w n s' w' n' e1 e2 e3 e4 = cc
+
+-- It has one fault.
+pub one_strict_fault : (m : List (List ℕ)) (words depth : ℕ) (f g : StrictRefusal) → IsStrictFault m words depth f → IsStrictFault m words depth g → f ≡ g
+one_strict_fault m words depth (Refused r) (Refused r') h k = ap Refused (one_refusal m words depth r r' h k)
+one_strict_fault m words depth (Refused r) ManySegments h k = absurd (within_not_refused m words depth r k.0 h)
+one_strict_fault m words depth (Refused r) (Pointer v s' w' n') h k = absurd (within_not_refused m words depth r k.0 h)
+one_strict_fault m words depth ManySegments (Refused r) h k = absurd (within_not_refused m words depth r h.0 k)
+one_strict_fault m words depth ManySegments ManySegments h k = refl
+one_strict_fault m words depth ManySegments (Pointer v s' w' n') h k = absurd (omega (arith, h.1, k.1))
+one_strict_fault m words depth (Pointer u s w n) (Refused r) h k = absurd (within_not_refused m words depth r h.0 k)
+one_strict_fault m words depth (Pointer u s w n) ManySegments h k = absurd (omega (arith, h.1, k.1))
+one_strict_fault m words depth (Pointer u s w n) (Pointer v s' w' n') h k =
+    let e = one_first_lax m s w u n s' w' v n' h.2 k.2 in
+    same_pointer u v s w n s' w' n' e.0 e.1 e.2 e.3
+
+-- What is strict within limits is strict within wider ones.
+pub strict_wider : (m : List (List ℕ)) (words depth words' depth' : ℕ) → IsStrict m words depth → words ≤ words' → depth ≤ depth' → IsStrict m words' depth'
+strict_wider m words depth words' depth' h w d = record {
+  accepted = record {
+    tree = h.accepted.tree;
+    charge = h.accepted.charge;
+    levels = h.accepted.levels;
+    denotes = h.accepted.denotes;
+    few_words = omega (arith, h.accepted.few_words, w);
+    few_levels = omega (arith, h.accepted.few_levels, d);
+  };
+  few_segments = h.few_segments;
+  none = h.none;
+}

@@ -1,0 +1,160 @@
+-- Of the pointers of a tree one is the first that common readers reject, or none is such a pointer.
+use Rattle.std.proofs.Common.{ℕ, ◌≡◌, ◌⊎◌, List, [], ◌∷◌, ◌++◌, length, inl, inr, refl, sym, ap, subst, ◌∙◌}
+use Rattle.cap_spec.specs.Following.{Leads}
+use Rattle.cap_spec.specs.Tree.{Tree}
+use Rattle.cap_spec.specs.Denoting.{Denotes}
+use Rattle.cap_spec.specs.Paths.{Before, IsOneOf, IsTour, Reaches, Rises, word}
+use Rattle.cap_spec.specs.Strict.{IsFirstLax, IsLax, IsLaxAt}
+use Rattle.cap_spec.specs.declared.Lax.{Lax}
+use Rattle.cap_spec.specs.declared.Step.{Step}
+use Rattle.std.proofs.Common.{true, false}
+use Rattle.cap_spec.proofs.Trees.OneTree.{Formed, formed}
+use Rattle.cap_spec.proofs.Paths.Arrivals.{coming_to_node, lead_word}
+use Rattle.cap_spec.proofs.Paths.PathCounts.{pointer_paths, pointer_path_reached}
+use Rattle.cap_spec.proofs.Paths.PathLists.{is_pointer, listed_rise}
+use Rattle.cap_spec.proofs.Paths.Preorder.{Before-asymmetric, Before-irreflexive, Before-total_coming, Before-trans, Rises-first, Rises-rest, one_tour}
+use Rattle.cap_spec.proofs.Paths.Walks.{one_reached}
+use Rattle.cap_spec.proofs.Verdicts.OneFault.{last_is_one, one_of_last}
+use Rattle.cap_spec.proofs.Strict.LaxForms.{lax_decided, one_lax}
+
+-- a path between two lists
+middle_is_one : (p : List Step) (xs ys : List (List Step)) → IsOneOf p (xs ++ p ∷ ys)
+middle_is_one p [] ys = inl refl
+middle_is_one p (x ∷ xs) ys = inr (middle_is_one p xs ys)
+
+front_is_one : (q p : List Step) (xs ys : List (List Step)) → IsOneOf q (xs ++ p ∷ []) → IsOneOf q (xs ++ p ∷ ys)
+front_is_one q p [] ys (inl e) = inl e
+front_is_one q p [] ys (inr h) = absurd h
+front_is_one q p (x ∷ xs) ys (inl e) = inl e
+front_is_one q p (x ∷ xs) ys (inr h) = inr (front_is_one q p xs ys h)
+
+front_or_back : (q p : List Step) (xs ys : List (List Step)) → IsOneOf q (xs ++ p ∷ ys) → IsOneOf q (xs ++ p ∷ []) ⊎ IsOneOf q ys
+front_or_back q p [] ys (inl e) = inl (inl e)
+front_or_back q p [] ys (inr h) = inr h
+front_or_back q p (x ∷ xs) ys (inl e) = inl (inl e)
+front_or_back q p (x ∷ xs) ys (inr h) = elim (front_or_back q p xs ys h) [ inl i ↦ inl (inr i) | inr i ↦ inr i ]
+
+-- where the lists rise, the first rises up to it, comes before it, and the second comes after it
+Rises-front : (xs : List (List Step)) (p : List Step) (ys : List (List Step)) → Rises (xs ++ p ∷ ys) → Rises (xs ++ p ∷ [])
+Rises-front [] p ys h = tt
+Rises-front (x ∷ []) p ys h = (h.0, tt)
+Rises-front (x ∷ z ∷ xs) p ys h = (h.0, Rises-front (z ∷ xs) p ys h.1)
+
+before_middle : (xs : List (List Step)) (p : List Step) (ys : List (List Step)) (q : List Step) → Rises (xs ++ p ∷ ys) → IsOneOf q xs → Before q p
+before_middle [] p ys q h i = absurd i
+before_middle (x ∷ xs) p ys q h (inl e) = subst (λ (u : List Step). Before u p) (sym e) (Rises-first x (xs ++ p ∷ ys) p h (middle_is_one p xs ys))
+before_middle (x ∷ xs) p ys q h (inr i) = before_middle xs p ys q (Rises-rest x (xs ++ p ∷ ys) h) i
+
+after_middle : (xs : List (List Step)) (p : List Step) (ys : List (List Step)) (q : List Step) → Rises (xs ++ p ∷ ys) → IsOneOf q ys → Before p q
+after_middle [] p ys q h i = Rises-first p ys q h i
+after_middle (x ∷ xs) p ys q h i = after_middle xs p ys q (Rises-rest x (xs ++ p ∷ ys) h) i
+
+-- the first path of a list at which something is so
+record FirstOf (P : List Step → Type 0) (ps : List (List Step)) : Type 0 where
+  before : List (List Step)
+  path : List Step
+  after : List (List Step)
+  whole : ps ≡ before ++ path ∷ after
+  holds : P path
+  none : (q : List Step) → IsOneOf q before → ¬ P q
+
+-- where it is decided at each path, there is a first one, or it is so at none
+first_of_list : (P : List Step → Type 0) (ps : List (List Step)) → ((q : List Step) → IsOneOf q ps → P q ⊎ ¬ P q) → FirstOf P ps ⊎ ((q : List Step) → IsOneOf q ps → ¬ P q)
+first_of_list P [] decided = inr (λ q i. absurd i)
+first_of_list P (p ∷ ps) decided = by_head (decided p (inl refl)) (first_of_list P ps (λ q i. decided q (inr i)))
+  where
+    none_of : ¬ P p → (qs : List (List Step)) → ((q : List Step) → IsOneOf q qs → ¬ P q) → (q : List Step) → IsOneOf q (p ∷ qs) → ¬ P q
+    none_of n qs k q (inl e) h = n (subst P e h)
+    none_of n qs k q (inr i) h = k q i h
+
+    by_head : P p ⊎ ¬ P p → FirstOf P ps ⊎ ((q : List Step) → IsOneOf q ps → ¬ P q) → FirstOf P (p ∷ ps) ⊎ ((q : List Step) → IsOneOf q (p ∷ ps) → ¬ P q)
+    by_head (inl h) r = inl (record { before = []; path = p; after = ps; whole = refl; holds = h; none = λ q i. absurd i })
+    by_head (inr n) (inl f) =
+        inl (record { before = p ∷ f.before; path = f.path; after = f.after; whole = ap (λ u. p ∷ u) f.whole; holds = f.holds; none = none_of n f.before f.none })
+    by_head (inr n) (inr k) = inr (none_of n ps k)
+
+-- The root denotes a tree.
+module _ (m : List (List ℕ)) (t : Tree) (c d : ℕ) (denotes : Denotes m 0 0 t c d) where
+  -- whether a path reaches such a pointer is decided
+  path_decided : (q : List Step) → IsOneOf q (pointer_paths t) → IsLax m q ⊎ ¬ IsLax m q
+  path_decided q i =
+      let r = (pointer_path_reached m t c d denotes q).0 i in
+      let n = coming_to_node m t c d denotes q r.0 (word r.1 r.2) r.3 in
+      let f : Formed m r.1 r.2 n.0 = formed m r.1 r.2 n.0 n.2.0 n.2.1 n.2.2 in
+      let p = lead_word m r.1 r.2 f.k f.r f.leads in
+      elim (lax_decided m r.1 r.2 p.0 p.1) [
+        | inl (what, x) ↦ inl (r.0, r.1, r.2, what, r.3, x)
+        | inr none ↦ inr (λ (level, s, w, what, reached, x).
+          let o = one_reached m q level r.0 s w r.1 r.2 reached r.3 in
+          none what (subst (λ u. IsLaxAt m r.1 u what) o.2 (subst (λ u. IsLaxAt m u w what) o.1 x)))
+      ]
+
+  -- the first of its paths that reaches one is the first in preorder
+  first_of_tree : FirstOf (IsLax m) (pointer_paths t) → (s w : ℕ) × (what : Lax) × (pointers : ℕ) × IsFirstLax m s w what pointers
+  first_of_tree f =
+      let l = f.holds in (
+        l.1,
+        l.2,
+        l.3,
+        length (f.before ++ f.path ∷ []),
+        record {
+          path = f.path;
+          level = l.0;
+          tour = f.before ++ f.path ∷ [];
+          reached = l.4;
+          is_tour = record {
+            rising = Rises-front f.before f.path f.after rises;
+            reached = λ q i. (pointer_path_reached m t c d denotes q).0 (subst (IsOneOf q) (sym f.whole) (front_is_one q f.path f.before f.after i));
+            all = λ q level s w r k. upto q level s w r k;
+            none_after = λ q i. elim (one_of_last q f.path f.before i) [ inl e ↦ inl e | inr j ↦ inr (before_middle f.before f.path f.after q rises j) ];
+          };
+          number = refl;
+          lax = l.5;
+          first = λ other b x. elim (one_of_last other f.path f.before (upto other x.0 x.1 x.2 x.4 (inr b))) [
+            | inl e ↦ Before-irreflexive f.path (subst (λ (u : List Step). Before u f.path) e b)
+            | inr j ↦ f.none other j x
+          ];
+        },
+      )
+    where
+      rises : Rises (f.before ++ f.path ∷ f.after)
+      rises = subst Rises f.whole (listed_rise is_pointer false t)
+
+      upto : (q : List Step) (level s w : ℕ) → Reaches m q level s w → (q ≡ f.path) ⊎ Before q f.path → IsOneOf q (f.before ++ f.path ∷ [])
+      upto q level s w r k =
+          elim (front_or_back q f.path f.before f.after (subst (IsOneOf q) f.whole ((pointer_path_reached m t c d denotes q).1 (level, s, w, r)))) [
+            | inl i ↦ i
+            | inr i ↦ absurd (late q (after_middle f.before f.path f.after q rises i) k)
+          ]
+        where
+          late : (q : List Step) → Before f.path q → (q ≡ f.path) ⊎ Before q f.path → ⊥
+          late q b (inl e) = Before-irreflexive f.path (subst (λ (u : List Step). Before f.path u) e b)
+          late q b (inr g) = Before-asymmetric f.path q b g
+
+  -- There is a first pointer in preorder that common readers reject, or no path reaches one.
+  pub first_lax_or_none : ((s w : ℕ) × (what : Lax) × (pointers : ℕ) × IsFirstLax m s w what pointers) ⊎ ((path : List Step) → ¬ IsLax m path)
+  first_lax_or_none = elim (first_of_list (IsLax m) (pointer_paths t) path_decided) [
+    | inl f ↦ inl (first_of_tree f)
+    | inr none ↦ inr (λ path x. none path ((pointer_path_reached m t c d denotes path).1 (x.0, x.1, x.2, x.4)) x)
+  ]
+
+-- It is one pointer, of one form, and the count up to it is one number.
+pub one_first_lax : (m : List (List ℕ)) (s w : ℕ) (u : Lax) (n s' w' : ℕ) (v : Lax) (n' : ℕ) → IsFirstLax m s w u n → IsFirstLax m s' w' v n'
+    → (s ≡ s') × (w ≡ w') × (u ≡ v) × (n ≡ n')
+one_first_lax m s w u n s' w' v n' f g =
+    elim (Before-total_coming m f.path g.path f.level g.level (word s w) (word s' w') f.reached g.reached) [
+      | inl e ↦
+          let r = one_reached m f.path f.level g.level s w s' w' f.reached (subst (λ (x : List Step). Reaches m x g.level s' w') (sym e) g.reached) in
+          let x : IsLaxAt m s w v = subst (λ y. IsLaxAt m s y v) (sym r.2) (subst (λ y. IsLaxAt m y w' v) (sym r.1) g.lax) in (
+            r.1,
+            r.2,
+            one_lax m s w u v f.lax x,
+            f.number ∙ ap length (one_tour m f.path f.tour g.tour f.is_tour (subst (λ (y : List Step). IsTour m y g.tour) (sym e) g.is_tour)) ∙ sym g.number,
+          )
+      | inr (inl b) ↦ absurd (g.first f.path b (f.level, s, w, u, f.reached, f.lax))
+      | inr (inr b) ↦ absurd (f.first g.path b (g.level, s', w', v, g.reached, g.lax))
+    ]
+
+-- The first is one of them.
+pub first_is_lax : (m : List (List ℕ)) (s w : ℕ) (what : Lax) (n : ℕ) → (f : IsFirstLax m s w what n) → IsLax m f.path
+first_is_lax m s w what n f = (f.level, s, w, what, f.reached, f.lax)

@@ -1,0 +1,128 @@
+-- A pointer has at most one form that common readers reject, has a landing pad there, and whether it has one is decided.
+use Rattle.std.proofs.Common.{ℕ, ◌+◌, ◌<◌, ◌≤◌, ◌≡◌, ◌≢◌, ◌⊎◌, List, [], ◌∷◌, length, inl, inr, refl, sym, ap, subst, ◌∙◌, arith}
+use Rattle.std.specs.Prelude.{pos}
+use Rattle.std.proofs.lemmas.Bool.Decides.{eqb_tells}
+use Rattle.cap_spec.specs.Messages.{HasWord, segment_of}
+use Rattle.cap_spec.specs.Pointers.{extent, far_segment, pad}
+use Rattle.cap_spec.specs.Following.{Lead, to_null, to_cap, to_object, Leads, near, one_pad, two_pads, Wrong}
+use Rattle.cap_spec.specs.Denoting.{Finds}
+use Rattle.cap_spec.specs.Strict.{IsLaxAt}
+use Rattle.cap_spec.specs.declared.Lax.{Lax}
+use Rattle.cap_spec.specs.declared.Lax.TheVariants.{NullPad, EmptySegment, CapabilityPad}
+use Rattle.cap_spec.specs.declared.Reason.{Reason}
+use Rattle.cap_spec.proofs.Frames.Messages.{HasWord-inside}
+use Rattle.cap_spec.proofs.Pointers.Following.{one_lead, null-not_wrong, cap-not_wrong, object-not_wrong}
+use Rattle.cap_spec.proofs.Trees.Finding.{one_object}
+use Rattle.cap_spec.proofs.Trees.Outcomes.{Fate, fate}
+
+-- a segment with a word isn't empty
+word_not_empty : (m : List (List ℕ)) (t w x : ℕ) → HasWord m t w x → segment_of m t ≡ [] → ⊥
+word_not_empty m t w x h e =
+    let l : length (segment_of m t) ≡ 0 = ap length e in
+    omega (arith, l, HasWord-inside m t w x h)
+
+-- a lead to an object in a segment without words has two pad words
+two_words : (m : List (List ℕ)) (s w k t b q : ℕ) → Leads m s w k (to_object t (pos b) q) → segment_of m t ≡ [] → k ≡ 2
+two_words m s w k t b q (near p has n says none) e =
+    absurd (word_not_empty m t w p (subst (λ u. HasWord m u w p) (sym says.2) has) e)
+two_words m s w k t b q (one_pad p x has one hasx n says single) e =
+    absurd (word_not_empty m t (pad p) x (subst (λ u. HasWord m u (pad p) x) (sym says.2) hasx) e)
+two_words m s w k t b q (two_pads p f x has both hasf hasx one tag says two) e = two
+
+-- so has one that is found there, and the object has no words
+pub empty_by_two : (m : List (List ℕ)) (s w k t b q : ℕ) → Finds m s w k t b q → segment_of m t ≡ [] → (k ≡ 2) × (b ≡ 0) × (extent q ≡ 0)
+empty_by_two m s w k t b q f e =
+    let l : length (segment_of m t) ≡ 0 = ap length e in
+    (two_words m s w k t b q f.leads e, omega (arith, l, f.sits.inside), omega (arith, l, f.sits.inside))
+
+-- a pointer of one of these forms has a landing pad
+pub lax_pads : (m : List (List ℕ)) (s w : ℕ) (what : Lax) → IsLaxAt m s w what → (k : ℕ) × (r : Lead) × Leads m s w k r × (1 ≤ k)
+lax_pads m s w NullPad h = (1, to_null, h, omega arith)
+lax_pads m s w EmptySegment (k, t, b, q, f, e) = (k, to_object t (pos b) q, f.leads, omega (arith, (empty_by_two m s w k t b q f e).0))
+lax_pads m s w CapabilityPad (i, h) = (1, to_cap i, h, omega arith)
+
+-- what a pointer leads to in each form
+same_lead : (m : List (List ℕ)) (s w k k' : ℕ) (r r' : Lead) → Leads m s w k r → Leads m s w k' r' → r ≡ r'
+same_lead m s w k k' r r' h g = (one_lead m s w k k' r r' h g).1
+
+-- a pointer has one form
+pub one_lax : (m : List (List ℕ)) (s w : ℕ) (u v : Lax) → IsLaxAt m s w u → IsLaxAt m s w v → u ≡ v
+one_lax m s w NullPad NullPad h g = refl
+one_lax m s w NullPad EmptySegment h (k, t, b, q, f, e) =
+    let x : to_null ≡ to_object t (pos b) q = same_lead m s w 1 k to_null (to_object t (pos b) q) h f.leads in absurd cc
+one_lax m s w NullPad CapabilityPad h (i, g) = let x : to_null ≡ to_cap i = same_lead m s w 1 1 to_null (to_cap i) h g in absurd cc
+one_lax m s w EmptySegment NullPad (k, t, b, q, f, e) g =
+    let x : to_object t (pos b) q ≡ to_null = same_lead m s w k 1 (to_object t (pos b) q) to_null f.leads g in absurd cc
+one_lax m s w EmptySegment EmptySegment h g = refl
+one_lax m s w EmptySegment CapabilityPad (k, t, b, q, f, e) (i, g) =
+    let x : to_object t (pos b) q ≡ to_cap i = same_lead m s w k 1 (to_object t (pos b) q) (to_cap i) f.leads g in absurd cc
+one_lax m s w CapabilityPad NullPad (i, h) g = let x : to_cap i ≡ to_null = same_lead m s w 1 1 (to_cap i) to_null h g in absurd cc
+one_lax m s w CapabilityPad EmptySegment (i, h) (k, t, b, q, f, e) =
+    let x : to_cap i ≡ to_object t (pos b) q = same_lead m s w 1 k (to_cap i) (to_object t (pos b) q) h f.leads in absurd cc
+one_lax m s w CapabilityPad CapabilityPad h g = refl
+
+-- what is wrong has none of these forms
+wrong_not_lax : (m : List (List ℕ)) (s w : ℕ) (v : Reason) → Wrong m s w v → (what : Lax) → ¬ IsLaxAt m s w what
+wrong_not_lax m s w v wrong NullPad h = null-not_wrong m s w 1 h v wrong
+wrong_not_lax m s w v wrong EmptySegment (k, t, b, q, f, e) = object-not_wrong m s w k t b q f v wrong
+wrong_not_lax m s w v wrong CapabilityPad (i, h) = cap-not_wrong m s w 1 i h v wrong
+
+-- a pointer has one of these forms, or none
+abbrev pub LaxOrNot : List (List ℕ) → ℕ → ℕ → Type 0
+LaxOrNot m s w = ((what : Lax) × IsLaxAt m s w what) ⊎ ((what : Lax) → ¬ IsLaxAt m s w what)
+
+-- what leads to null
+null_decided : (m : List (List ℕ)) (s w k : ℕ) → Leads m s w k to_null → LaxOrNot m s w
+null_decided m s w k leads = elim (eqb_tells k 1) [
+  | inl (x, one) ↦ inl (NullPad, subst (λ u. Leads m s w u to_null) one leads)
+  | inr (x, other) ↦ inr (none other)
+]
+  where
+    none : k ≢ 1 → (what : Lax) → ¬ IsLaxAt m s w what
+    none other NullPad h = other (sym (one_lead m s w 1 k to_null to_null h leads).0)
+    none other EmptySegment (k', t, b, q, f, e) =
+        let x : to_object t (pos b) q ≡ to_null = same_lead m s w k' k (to_object t (pos b) q) to_null f.leads leads in absurd cc
+    none other CapabilityPad (i, h) = let x : to_cap i ≡ to_null = same_lead m s w 1 k (to_cap i) to_null h leads in absurd cc
+
+-- what leads to a capability
+cap_decided : (m : List (List ℕ)) (s w k i : ℕ) → Leads m s w k (to_cap i) → LaxOrNot m s w
+cap_decided m s w k i leads = elim (eqb_tells k 1) [
+  | inl (x, one) ↦ inl (CapabilityPad, (i, subst (λ u. Leads m s w u (to_cap i)) one leads))
+  | inr (x, other) ↦ inr (none other)
+]
+  where
+    none : k ≢ 1 → (what : Lax) → ¬ IsLaxAt m s w what
+    none other NullPad h = let x : to_null ≡ to_cap i = same_lead m s w 1 k to_null (to_cap i) h leads in absurd cc
+    none other EmptySegment (k', t, b, q, f, e) =
+        let x : to_object t (pos b) q ≡ to_cap i = same_lead m s w k' k (to_object t (pos b) q) (to_cap i) f.leads leads in absurd cc
+    none other CapabilityPad (j, h) = other (sym (one_lead m s w 1 k (to_cap j) (to_cap i) h leads).0)
+
+-- a list is empty, or isn't
+empty_decided : (xs : List ℕ) → (xs ≡ []) ⊎ (xs ≢ [])
+empty_decided [] = inl refl
+empty_decided (x ∷ xs) = inr (λ e. absurd (cc e))
+
+-- what leads to an object
+object_decided : (m : List (List ℕ)) (s w k t b q : ℕ) → Finds m s w k t b q → LaxOrNot m s w
+object_decided m s w k t b q f = elim (empty_decided (segment_of m t)) [
+  | inl e ↦ inl (EmptySegment, (k, t, b, q, f, e))
+  | inr some ↦ inr (none some)
+]
+  where
+    none : segment_of m t ≢ [] → (what : Lax) → ¬ IsLaxAt m s w what
+    none some NullPad h = let x : to_null ≡ to_object t (pos b) q = same_lead m s w 1 k to_null (to_object t (pos b) q) h f.leads in absurd cc
+    none some EmptySegment (k', t', b', q', f', e) =
+        let o = one_object m s w k' t' b' q' k t b q f' f in
+        some (subst (λ u. segment_of m u ≡ []) o.segment e)
+    none some CapabilityPad (i, h) =
+        let x : to_cap i ≡ to_object t (pos b) q = same_lead m s w 1 k (to_cap i) (to_object t (pos b) q) h f.leads in absurd cc
+
+-- Whether a word of a message has one of these forms is decided.
+pub lax_decided : (m : List (List ℕ)) (s w p : ℕ) → HasWord m s w p → LaxOrNot m s w
+lax_decided m s w p h = by_fate (fate m s w p h)
+  where
+    by_fate : Fate m s w → LaxOrNot m s w
+    by_fate (inl (v, wrong)) = inr (wrong_not_lax m s w v wrong)
+    by_fate (inr (inl (k, leads))) = null_decided m s w k leads
+    by_fate (inr (inr (inl (k, i, leads)))) = cap_decided m s w k i leads
+    by_fate (inr (inr (inr (k, t, b, q, f)))) = object_decided m s w k t b q f

@@ -1,0 +1,64 @@
+-- The word limit that follows from what was sent: what it bounds, which refusals it adds, and that a copy may be past it.
+use Rattle.std.proofs.Common.{ℕ, zero, suc, ◌+◌, ◌-◌, ◌*◌, ◌^◌, ◌<◌, ◌≤◌, ◌≡◌, ◌⊎◌, ◌↔◌, min, List, [], ◌∷◌, ◌++◌, length, sum, inl, inr, refl, sym, ap, ◌∙◌, arith, length-append}
+use Rattle.cap_spec.specs.Canonical.{layout, trim}
+use Rattle.cap_spec.specs.Copies.{HasCopy}
+use Rattle.cap_spec.specs.Faults.{IsFirstReason, IsRefused, is_deep, is_past, is_wrong}
+use Rattle.cap_spec.specs.Frames.{frame_text, joined, paired, sizes_of}
+use Rattle.cap_spec.specs.Unamplified.{slack, unamplified}
+use Rattle.cap_spec.specs.declared.Reason.{Reason}
+use Rattle.cap_spec.specs.declared.Reason.TheVariants.{WordLimit}
+use Rattle.cap_spec.specs.declared.Refusal.{Refusal}
+use Rattle.cap_spec.proofs.Canonical.Sizes.{layout_charged}
+use Rattle.cap_spec.proofs.Frames.Endings.{length_joined}
+
+-- a charge is within the limit where it is within the words given, and within the words of the segments with the slack
+pub within_both : (m : List (List ℕ)) (words c : ℕ) → c ≤ unamplified m words ↔ (c ≤ words) × (c ≤ sum (sizes_of m) + 4096)
+within_both m words c = ((λ h. (omega (arith, h), omega (arith, h))), (λ h. omega (arith, h.0, h.1)))
+
+-- a copy has at most one word more than is charged
+pub copy_length : (m : List (List ℕ)) (words : List ℕ) (limit : ℕ) → (k : HasCopy m words) → k.charge ≤ unamplified m limit → length words ≤ sum (sizes_of m) + 4097
+copy_length m words limit k h =
+    let l : length words ≡ length (layout (trim k.tree)) = ap length k.laid in
+    let c = layout_charged m 0 0 k.tree k.charge k.depth k.denotes in
+    let b = (within_both m limit k.charge).0 h in
+    omega (arith, l, c, b.1)
+
+-- numbers in pairs are a word at least
+paired_some : (x : ℕ) (xs : List ℕ) → 1 ≤ length (paired (x ∷ xs))
+paired_some x [] = omega arith
+paired_some x (y ∷ ys) = omega arith
+
+-- and so is its frame longer than the message's
+pub copy_frame_length : (m : List (List ℕ)) (words : List ℕ) (limit : ℕ) → (k : HasCopy m words) → k.charge ≤ unamplified m limit
+    → length (frame_text (words ∷ [])) ≤ length (frame_text m) + 4097
+copy_frame_length m words limit k h =
+    let a : length (frame_text (words ∷ [])) ≡ 1 + length (joined (words ∷ [])) = length-append (paired (0 ∷ length words ∷ [])) (joined (words ∷ [])) in
+    let b : length (frame_text m) ≡ length (paired ((length m - 1) ∷ sizes_of m)) + length (joined m) = length-append (paired ((length m - 1) ∷ sizes_of m)) (joined m) in
+    omega (arith, a, b, length_joined (words ∷ []), length_joined m, paired_some (length m - 1) (sizes_of m), copy_length m words limit k h)
+
+-- The refusals that a smaller word limit adds are by this limit.
+pub added_refusals : (m : List (List ℕ)) (few words depth : ℕ) (refusal : Refusal) → few ≤ words → IsRefused m few depth refusal
+    → IsRefused m words depth refusal ⊎ (refusal.reason ≡ WordLimit)
+added_refusals m few words depth refusal le (inl h) = inl (inl h)
+added_refusals m few words depth refusal le (inr f) = by_reason f.reason
+  where
+    whole : IsFirstReason m words depth f.charge refusal.segment refusal.word f.level refusal.reason → IsRefused m words depth refusal
+    whole reason = inr (record {
+      path = f.path;
+      before = f.before;
+      level = f.level;
+      charge = f.charge;
+      reached = f.reached;
+      tour = f.tour;
+      costs = f.costs;
+      within = omega (arith, f.within, le);
+      shallow = f.shallow;
+      reason = reason;
+      pointers = f.pointers;
+      few = omega (arith, f.few, le);
+    })
+
+    by_reason : IsFirstReason m few depth f.charge refusal.segment refusal.word f.level refusal.reason → IsRefused m words depth refusal ⊎ (refusal.reason ≡ WordLimit)
+    by_reason (is_wrong h) = inl (whole (is_wrong h))
+    by_reason (is_deep e h) = inl (whole (is_deep e h))
+    by_reason (is_past cost e none costs past) = inr e

@@ -1,0 +1,56 @@
+-- Messages without the forms that common readers reject, at least in part (profile).
+use Rattle.std.specs.Prelude.{ℕ, ◌≤◌, ◌≡◌, List, [], length}
+use Rattle.cap_spec.specs.Messages.{segment_of}
+use Rattle.cap_spec.specs.Following.{to_null, to_cap, Leads}
+use Rattle.cap_spec.specs.Denoting.{Denotes, Finds}
+use Rattle.cap_spec.specs.Paths.{Before, IsTour, Reaches}
+use Rattle.cap_spec.specs.Faults.{IsRefused}
+use Rattle.cap_spec.specs.Tree.{Tree}
+use Rattle.cap_spec.specs.declared.Lax.{Lax}
+use Rattle.cap_spec.specs.declared.Lax.TheVariants.{NullPad, EmptySegment, CapabilityPad}
+use Rattle.cap_spec.specs.declared.StrictRefusal.{StrictRefusal}
+use Rattle.cap_spec.specs.declared.StrictRefusal.TheVariants.{Refused, ManySegments, Pointer}
+use Rattle.cap_spec.specs.declared.Step.{Step}
+
+-- The pointer at s:w uses a one-word pad of zeros, a pad to an object in a segment without words, or a one-word pad that is a
+-- capability (standard: Inter-Segment Pointers).
+abbrev pub IsLaxAt : List (List ℕ) → ℕ → ℕ → Lax → Type 0
+IsLaxAt m s w NullPad = Leads m s w 1 to_null
+IsLaxAt m s w EmptySegment = (k t b q : ℕ) × Finds m s w k t b q × (segment_of m t ≡ [])
+IsLaxAt m s w CapabilityPad = (i : ℕ) × Leads m s w 1 (to_cap i)
+
+-- the path reaches a pointer of one of these forms
+abbrev pub IsLax : List (List ℕ) → List Step → Type 0
+IsLax m path = (level s w : ℕ) × (what : Lax) × Reaches m path level s w × IsLaxAt m s w what
+
+-- The pointer at s:w is the first in preorder of one of these forms. Up to it `pointers` pointer words were looked at.
+pub record IsFirstLax (m : List (List ℕ)) (s w : ℕ) (what : Lax) (pointers : ℕ) : Type 0 where
+  pub path : List Step
+  pub level : ℕ
+  pub tour : List (List Step)
+  pub reached : Reaches m path level s w
+  pub is_tour : IsTour m path tour
+  pub number : pointers ≡ length tour
+  pub lax : IsLaxAt m s w what
+  pub first : (other : List Step) → Before other path → ¬ IsLax m other
+
+-- the root denotes a tree within the limits, so the message is accepted
+pub record IsWithin (m : List (List ℕ)) (words depth : ℕ) : Type 0 where
+  pub tree : Tree
+  pub charge : ℕ
+  pub levels : ℕ
+  pub denotes : Denotes m 0 0 tree charge levels
+  pub few_words : charge ≤ words
+  pub few_levels : levels ≤ depth
+
+-- It is accepted, has at most 511 segments, and no path reaches a pointer of one of these forms.
+pub record IsStrict (m : List (List ℕ)) (words depth : ℕ) : Type 0 where
+  pub accepted : IsWithin m words depth
+  pub few_segments : length m ≤ 511
+  pub none : (path : List Step) → ¬ IsLax m path
+
+-- Why a message isn't strict: first that it is refused, then that it has 512 segments, then the first pointer of one of these forms.
+abbrev pub IsStrictFault : List (List ℕ) → ℕ → ℕ → StrictRefusal → Type 0
+IsStrictFault m words depth (Refused refusal) = IsRefused m words depth refusal
+IsStrictFault m words depth ManySegments = IsWithin m words depth × (length m ≡ 512)
+IsStrictFault m words depth (Pointer what s w pointers) = IsWithin m words depth × (length m ≤ 511) × IsFirstLax m s w what pointers
