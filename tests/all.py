@@ -18,6 +18,7 @@ TOP = Path(__file__).resolve().parent.parent
 PROGRAM, ARCHIVE = "build/capvet", "build/libcapvet.a"
 COUNTED = re.compile(r"(\d+) passed, (\d+) failed")
 SCRIPTS = (
+    ("which messages are strict", ["strict.py"]),
     ("the built program", ["program.py", PROGRAM]),
     ("what is installed", ["install.py", PROGRAM, ARCHIVE]),
     ("the library from C, C++ and Rust", ["library.py", PROGRAM, ARCHIVE]),
