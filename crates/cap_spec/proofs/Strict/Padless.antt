@@ -98,22 +98,25 @@ each_tight m t b (suc n) (more u ts) c d (suc i) x h le lt e =
     let a = measured m h.0 h.1 u h.3 h.4 h.8 in
     each_tight m t (b + 1) n ts h.5 h.6 i x (rw p.1 h.9) (omega (arith, h.10, le, a.charged)) (omega arith) (omega arith)
 
+-- the elements after the first lie inside too
+elements_after : (b ds ps n n' l : ℕ) → b + n * ds + n * ps ≤ l → n ≡ suc n' → b + ds + ps + n' * ds + n' * ps ≤ l
+elements_after b ds ps n n' l h e =
+    let y : n * ds ≡ ds + n' * ds = rw e (omega arith) in
+    let z : n * ps ≡ ps + n' * ps = rw e (omega arith) in
+    omega (arith, h, y, z)
+
 -- an element, where the elements are charged no more than their cost
 elements_tight : (m : List (List ℕ)) (t b ds ps n : ℕ) (es : Trees) (c d i x : ℕ) → b + n * ds + n * ps ≤ length (segment_of m t) → AreElements m t b ds ps n es c d
     → c ≤ element_costs es → i < n → x ≡ b + i * (ds + ps) → (u : Tree) × Tight m (element t x ds ps) u
 elements_tight m t b ds ps n none c d i x inside h le lt e = absurd (omega (arith, h.0))
-elements_tight m t b ds ps n (more (struct ws ts) es) c d i x inside h le lt e =
-    let y : n * ds ≡ ds + h.0 * ds = rw h.5 (omega arith) in
-    let z : n * ps ≡ ps + h.0 * ps = rw h.5 (omega arith) in
-    let rest : b + ds + ps + h.0 * ds + h.0 * ps ≤ length (segment_of m t) = omega (arith, inside, y, z) in
+elements_tight m t b ds ps n (more (struct ws ts) es) c d zero x inside h le lt e =
+    let f : x ≡ b = omega arith in
+    let later = elements_measured m t (b + ds + ps) ds ps h.0 es h.3 h.4 (elements_after b ds ps n h.0 (length (segment_of m t)) inside h.5) h.8 in
+    (struct ws ts, (h.1, h.2, rw f h.7, omega (arith, h.9, le, later.charged)))
+elements_tight m t b ds ps n (more (struct ws ts) es) c d (suc i) x inside h le lt e =
     let own = each_measured m (places t (b + ds) ps) ts h.1 h.2 h.7 in
-    let later = elements_measured m t (b + ds + ps) ds ps h.0 es h.3 h.4 rest h.8 in
-    by_number i lt e rest (omega (arith, h.9, le, later.charged)) (omega (arith, h.9, le, own.charged))
-  where
-    by_number : (i : ℕ) → i < n → x ≡ b + i * (ds + ps) → b + ds + ps + h.0 * ds + h.0 * ps ≤ length (segment_of m t) → h.1 ≤ costs ts → h.3 ≤ element_costs es
-        → (u : Tree) × Tight m (element t x ds ps) u
-    by_number zero lt e rest a b' = let f : x ≡ b = omega arith in (struct ws ts, (h.1, h.2, rw f h.7, a))
-    by_number (suc i) lt e rest a b' = elements_tight m t (b + ds + ps) ds ps h.0 es h.3 h.4 i x rest h.8 b' (omega (arith, h.5)) (omega arith)
+    elements_tight m t (b + ds + ps) ds ps h.0 es h.3 h.4 i x (elements_after b ds ps n h.0 (length (segment_of m t)) inside h.5) h.8
+    (omega (arith, h.9, le, own.charged)) (omega (arith, lt, h.5)) (omega (arith, e))
 elements_tight m t b ds ps n (more y es) c d i x inside h le lt e = absurd h
 
 -- a step from a word to a struct's pointer, to an entry of a list of pointers, and to an element
