@@ -3,3 +3,4 @@ pub mod FrameBytes
 mod Examples
 mod TreeExamples
 mod CanonicalExamples
+mod StrictExamples

@@ -1,5 +1,6 @@
 -- Messages without the forms that common readers reject.
 pub mod LaxForms
+pub mod Looking
 pub mod FirstLax
 pub mod Faults
 pub mod Padless

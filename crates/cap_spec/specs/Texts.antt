@@ -138,7 +138,7 @@ lax_name CapabilityPad = codes "CapabilityPad"
 abbrev pub strict_verdict : StrictRefusal → Verdict
 strict_verdict (Refused r) = refusal_verdict r
 strict_verdict ManySegments = refused (codes "ManySegments") 0 0 0
-strict_verdict (Pointer what s w pointers) = refused (lax_name what) s w pointers
+strict_verdict (Pointer what s w n) = refused (lax_name what) s w n
 
 -- the line of a message that was checked, where it is accepted
 abbrev pub check_text : ℕ → Bool → List ℕ

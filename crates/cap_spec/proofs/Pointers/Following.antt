@@ -39,12 +39,12 @@ Says-unique t w q (to_object u b x) (to_object u' b' x') h h' =
 
 -- What a word leads to, by its form.
 module _ (m : List (List ℕ)) (s w k : ℕ) (r : Lead) where
-  leads-near : Leads m s w k r → (p : ℕ) → HasWord m s w p → kind p ≢ 2 → (k ≡ 0) × Says s w p r
+  pub leads-near : Leads m s w k r → (p : ℕ) → HasWord m s w p → kind p ≢ 2 → (k ≡ 0) × Says s w p r
   leads-near (near x hx n says e) p h not_far = (e, at_word (λ y. Says s w y r) m s w x p hx h says)
   leads-near (one_pad x q hx one hq n says e) p h not_far = absurd (not_far (at_word IsFar m s w x p hx h one.0))
   leads-near (two_pads x f q hx both hf hq one tag says e) p h not_far = absurd (not_far (at_word IsFar m s w x p hx h both.0))
 
-  leads-one : Leads m s w k r → (p q : ℕ) → HasWord m s w p → IsOnePad p → HasWord m (far_segment p) (pad p) q → (k ≡ 1) × Says (far_segment p) (pad p) q r
+  pub leads-one : Leads m s w k r → (p q : ℕ) → HasWord m s w p → IsOnePad p → HasWord m (far_segment p) (pad p) q → (k ≡ 1) × Says (far_segment p) (pad p) q r
   leads-one (near x hx n says e) p q h one hq = absurd (n (at_word IsFar m s w p x h hx one.0))
   leads-one (one_pad x y hx single hy n says e) p q h one hq =
       let a : x ≡ p = one_word m s w x p hx h in
@@ -56,7 +56,7 @@ module _ (m : List (List ℕ)) (s w k : ℕ) (r : Lead) where
       let b : two p ≡ 0 = one.1 in
       absurd (omega arith)
 
-  leads-two : Leads m s w k r → (p f q : ℕ) → HasWord m s w p → IsTwoPad p → HasWord m (far_segment p) (pad p) f → HasWord m (far_segment p) (pad p + 1) q → (k ≡ 2) × (r ≡ to_object (far_segment f) (pos (pad f)) q)
+  pub leads-two : Leads m s w k r → (p f q : ℕ) → HasWord m s w p → IsTwoPad p → HasWord m (far_segment p) (pad p) f → HasWord m (far_segment p) (pad p + 1) q → (k ≡ 2) × (r ≡ to_object (far_segment f) (pos (pad f)) q)
   leads-two (near x hx n says e) p f q h both hf hq = absurd (n (at_word IsFar m s w p x h hx both.0))
   leads-two (one_pad x y hx single hy n says e) p f q h both hf hq =
       let a : two p ≡ 0 = at_word (λ z. two z ≡ 0) m s w x p hx h single.1 in

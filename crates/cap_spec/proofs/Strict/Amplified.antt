@@ -84,7 +84,7 @@ children-zeros zero = refl
 children-zeros (suc n) = omega (arith, children-zeros n)
 
 cut-zeros : (n : ℕ) → cut_elements 0 0 (zeros n) ≡ empties n
-unfolding (zeros, empties)
+unfolding zeros empties
 cut-zeros zero = refl
 cut-zeros (suc n) = ap (λ (ts : Trees). more (struct [] none) ts) (cut-zeros n)
 
@@ -99,7 +99,7 @@ bare : ℕ → Tree
 bare n = structs 0 0 (empties n)
 
 trim-wide : (n : ℕ) → trim (wide n) ≡ bare n
-unfolding (wide, bare)
+unfolding wide bare
 trim-wide n = trimmed-zeros n
 
 fits-wide : (n : ℕ) → n < 2 ^ 29 → Fits (wide n)

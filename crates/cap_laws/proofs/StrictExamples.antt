@@ -1,0 +1,67 @@
+-- Small messages: one for each form that common readers reject, one that is strict, and one with a two-word pad that is strict.
+use Rattle.std.proofs.Common.{◌≡◌, [], ◌∷◌, List, ℕ, refl, arith, lit<, lit≤}
+use Rattle.std.specs.Prelude.{pos}
+use Rattle.cap_spec.specs.Denoting.{Denotes, Finds}
+use Rattle.cap_spec.specs.Following.{near, one_pad, two_pads, to_object, to_null, to_cap, Leads}
+use Rattle.cap_spec.specs.Messages.{segment_of}
+use Rattle.cap_spec.specs.Strict.{IsLaxAt, IsStrict}
+use Rattle.cap_spec.specs.Tree.{null}
+use Rattle.cap_spec.specs.declared.Lax.{Lax}
+use Rattle.cap_spec.specs.declared.Lax.TheVariants.{NullPad, EmptySegment, CapabilityPad}
+use Rattle.cap_spec.proofs.Pointers.Following.{one_lead}
+use Rattle.cap_spec.proofs.Trees.Finding.{one_object}
+use Rattle.cap_spec.proofs.Strict.Copies.{none_lax}
+
+-- a root whose one-word pad is zero
+lax-null_pad : IsLaxAt ((0x0a ∷ 0 ∷ []) ∷ []) 0 0 NullPad
+lax-null_pad = one_pad 0x0a 0 refl (refl, refl) refl (λ e. absurd (omega (arith, e))) refl refl
+
+-- and one whose pad is capability 0
+lax-capability_pad : IsLaxAt ((0x0a ∷ 3 ∷ []) ∷ []) 0 0 CapabilityPad
+lax-capability_pad = (0, one_pad 0x0a 3 refl (refl, refl) refl (λ e. absurd (omega (arith, e))) ((refl, refl), refl) refl)
+
+-- a two-word pad that leads to a struct without words in segment 2, which has no words
+lax-empty_segment : IsLaxAt ((0x0000000100000006 ∷ []) ∷ (0x0000000200000002 ∷ 0 ∷ []) ∷ [] ∷ []) 0 0 EmptySegment
+lax-empty_segment = (
+  2,
+  2,
+  0,
+  0,
+  record {
+    leads = two_pads 0x0000000100000006 0x0000000200000002 0 refl (refl, refl) refl refl (refl, refl) (lit< tt, refl) refl refl;
+    sits = record { exists = lit< tt; inside = lit≤ tt; composite = λ (a, b). absurd (omega (arith, a)) };
+  },
+  refl,
+)
+
+-- the message of one null pointer is strict
+null-denoted : Denotes ((0 ∷ []) ∷ []) 0 0 null 0 0
+null-denoted = (near 0 refl (λ e. absurd (omega (arith, e))) refl refl, refl)
+
+strict-null : IsStrict ((0 ∷ []) ∷ []) 0 0
+strict-null = record {
+  accepted = record { tree = null; charge = 0; levels = 0; denotes = null-denoted; few_words = lit≤ tt; few_levels = lit≤ tt };
+  few_segments = lit≤ tt;
+  none = none_lax ((0 ∷ []) ∷ []) null 0 0 null-denoted (lit≤ tt);
+}
+
+-- a two-word pad whose tag is zero, to a struct without words in a segment with words
+abbrev two_words : List (List ℕ)
+two_words = (0x0000000100000006 ∷ []) ∷ (0x0000000100000002 ∷ 0 ∷ []) ∷ []
+
+two_words-found : Finds two_words 0 0 2 1 0 0
+two_words-found = record {
+  leads = two_pads 0x0000000100000006 0x0000000100000002 0 refl (refl, refl) refl refl (refl, refl) (lit< tt, refl) refl refl;
+  sits = record { exists = lit< tt; inside = lit≤ tt; composite = λ (a, b). absurd (omega (arith, a)) };
+}
+
+-- it has none of the forms
+two_words-not_lax : (what : Lax) → ¬ IsLaxAt two_words 0 0 what
+two_words-not_lax NullPad h =
+    let x : to_null ≡ to_object 1 (pos 0) 0 = (one_lead two_words 0 0 1 2 to_null (to_object 1 (pos 0) 0) h two_words-found.leads).1 in absurd cc
+two_words-not_lax EmptySegment (k, t, b, q, f, e) =
+    let o = one_object two_words 0 0 2 1 0 0 k t b q two_words-found f in
+    let none : segment_of two_words 1 ≡ [] = rw o.segment e in
+    absurd (cc none)
+two_words-not_lax CapabilityPad (i, h) =
+    let x : to_cap i ≡ to_object 1 (pos 0) 0 = (one_lead two_words 0 0 1 2 (to_cap i) (to_object 1 (pos 0) 0) h two_words-found.leads).1 in absurd cc

@@ -1,0 +1,62 @@
+-- Which form a pointer that can be followed has, by its word and the words of its landing pad.
+use Rattle.std.proofs.Common.{ℕ, ◌+◌, ◌<◌, ◌≡◌, ◌≢◌, List, [], inl, inr, refl, sym, subst, arith}
+use Rattle.std.specs.Prelude.{pos}
+use Rattle.cap_spec.specs.Messages.{HasWord, segment_of}
+use Rattle.cap_spec.specs.Pointers.{far_segment, kind, pad}
+use Rattle.cap_spec.specs.Following.{IsOnePad, IsTwoPad, one_pad, to_cap, to_null, to_object}
+use Rattle.cap_spec.specs.Paths.{Costs}
+use Rattle.cap_spec.specs.Strict.{IsLaxAt}
+use Rattle.cap_spec.specs.declared.Lax.{Lax}
+use Rattle.cap_spec.specs.declared.Lax.TheVariants.{NullPad, EmptySegment, CapabilityPad}
+use Rattle.cap_spec.proofs.Pointers.Following.{leads-near, leads-one, leads-two}
+use Rattle.cap_spec.proofs.Strict.LaxForms.{empty_by_two, lax_pads}
+
+-- a pointer that isn't far has none of the forms
+pub near_has_none : (m : List (List ℕ)) (s w p : ℕ) → HasWord m s w p → kind p ≢ 2 → (what : Lax) → ¬ IsLaxAt m s w what
+near_has_none m s w p has n what x =
+    let l = lax_pads m s w what x in
+    absurd (omega (arith, l.3, leads-near m s w l.0 l.1 l.2 p has n))
+
+-- It has a one-word pad.
+module _ (m : List (List ℕ)) (s w p q : ℕ) (has : HasWord m s w p) (one : IsOnePad p) (hasq : HasWord m (far_segment p) (pad p) q) where
+  -- of zeros
+  pub zero_pad : q ≡ 0 → IsLaxAt m s w NullPad
+  zero_pad e = one_pad p q has one hasq (λ f. absurd (omega (arith, e, f))) e refl
+
+  -- that is a capability
+  pub cap_pad : (cost : ℕ) → Costs m s w cost → kind q ≡ 3 → IsLaxAt m s w CapabilityPad
+  cap_pad cost (inl h) e = let g = leads-one m s w cost to_null h p q has one hasq in absurd (omega (arith, e, g.1))
+  cap_pad cost (inr (inl (i, h))) e = let g = leads-one m s w cost (to_cap i) h p q has one hasq in (i, one_pad p q has one hasq (λ f. absurd (omega (arith, e, f))) g.1 refl)
+  cap_pad cost (inr (inr (k, t, b, x, tag, f, tagged, sum))) e =
+      let g = leads-one m s w k (to_object t (pos b) x) f.leads p q has one hasq in
+      let l : kind q < 2 = g.1.0 in
+      absurd (omega (arith, e, l))
+
+  -- and that is neither
+  pub other_pad : q ≢ 0 → kind q ≢ 3 → (what : Lax) → ¬ IsLaxAt m s w what
+  other_pad some n NullPad h = some (leads-one m s w 1 to_null h p q has one hasq).1
+  other_pad some n EmptySegment (k, t, b, x, f, e) =
+      let g = leads-one m s w k (to_object t (pos b) x) f.leads p q has one hasq in
+      absurd (omega (arith, g.0, (empty_by_two m s w k t b x f e).0))
+  other_pad some n CapabilityPad (i, h) = n (leads-one m s w 1 (to_cap i) h p q has one hasq).1.0.0
+
+-- It has a two-word pad.
+module _ (m : List (List ℕ)) (s w p f q : ℕ) (has : HasWord m s w p) (both : IsTwoPad p) (hasf : HasWord m (far_segment p) (pad p) f) (hasq : HasWord m (far_segment p) (pad p + 1) q) where
+  -- into a segment without words
+  pub empty_pad : (cost : ℕ) → Costs m s w cost → segment_of m (far_segment f) ≡ [] → IsLaxAt m s w EmptySegment
+  empty_pad cost (inl h) e = let x : to_null ≡ to_object (far_segment f) (pos (pad f)) q = (leads-two m s w cost to_null h p f q has both hasf hasq).1 in absurd cc
+  empty_pad cost (inr (inl (i, h))) e =
+      let x : to_cap i ≡ to_object (far_segment f) (pos (pad f)) q = (leads-two m s w cost (to_cap i) h p f q has both hasf hasq).1 in absurd cc
+  empty_pad cost (inr (inr (k, t, b, y, tag, finds, tagged, sum))) e =
+      let x : to_object t (pos b) y ≡ to_object (far_segment f) (pos (pad f)) q = (leads-two m s w k (to_object t (pos b) y) finds.leads p f q has both hasf hasq).1 in
+      let z : t ≡ far_segment f = cc x in
+      (k, t, b, y, finds, subst (λ u. segment_of m u ≡ []) (sym z) e)
+
+  -- and into one with words
+  pub filled_pad : segment_of m (far_segment f) ≢ [] → (what : Lax) → ¬ IsLaxAt m s w what
+  filled_pad some NullPad h = absurd (omega (arith, leads-two m s w 1 to_null h p f q has both hasf hasq))
+  filled_pad some EmptySegment (k, t, b, y, finds, e) =
+      let x : to_object t (pos b) y ≡ to_object (far_segment f) (pos (pad f)) q = (leads-two m s w k (to_object t (pos b) y) finds.leads p f q has both hasf hasq).1 in
+      let z : t ≡ far_segment f = cc x in
+      some (subst (λ u. segment_of m u ≡ []) z e)
+  filled_pad some CapabilityPad (i, h) = absurd (omega (arith, leads-two m s w 1 (to_cap i) h p f q has both hasf hasq))
