@@ -1,5 +1,5 @@
 -- Small messages: one for each form that common readers reject, one that is strict, and one with a two-word pad that is strict.
-use Rattle.std.proofs.Common.{◌≡◌, [], ◌∷◌, List, ℕ, refl, arith, lit<, lit≤}
+use Rattle.std.proofs.Common.{◌≡◌, [], ◌∷◌, List, ℕ, refl, sym, subst, arith, lit<, lit≤}
 use Rattle.std.specs.Prelude.{pos}
 use Rattle.cap_spec.specs.Denoting.{Denotes, Finds}
 use Rattle.cap_spec.specs.Following.{near, one_pad, two_pads, to_object, to_null, to_cap, Leads}
@@ -61,7 +61,7 @@ two_words-not_lax NullPad h =
     let x : to_null ≡ to_object 1 (pos 0) 0 = (one_lead two_words 0 0 1 2 to_null (to_object 1 (pos 0) 0) h two_words-found.leads).1 in absurd cc
 two_words-not_lax EmptySegment (k, t, b, q, f, e) =
     let o = one_object two_words 0 0 2 1 0 0 k t b q two_words-found f in
-    let none : segment_of two_words 1 ≡ [] = rw o.segment e in
+    let none : segment_of two_words 1 ≡ [] = subst (λ u. segment_of two_words u ≡ []) (sym o.segment) e in
     absurd (cc none)
 two_words-not_lax CapabilityPad (i, h) =
     let x : to_cap i ≡ to_object 1 (pos 0) 0 = (one_lead two_words 0 0 1 2 (to_cap i) (to_object 1 (pos 0) 0) h two_words-found.leads).1 in absurd cc
