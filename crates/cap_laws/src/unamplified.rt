@@ -10,32 +10,37 @@ ghost use Rattle.cap_spec.specs.Frames.{frame_text, sizes_of};
 ghost use Rattle.cap_spec.specs.Tree.{Tree};
 ghost use Rattle.cap_spec.specs.Unamplified.{unamplified};
 
-/// A charge is within this limit exactly if it is within the word limit that was given, and is at most
-/// the words of the message's segments and 4,096 more.
+/// A charge is within this limit exactly if it is within the word limit that was given, and is at
+/// most the words of the message's segments and 4,096 more.
 pub fn unamplified_charge_is_bounded()
-    ensures { (m : List (List ℕ)) (words c : ℕ) → (c ≤ unamplified m words) ↔ ((c ≤ words) × (c ≤ sum (sizes_of m) + 4096)) }
+    ensures { (m : List (List ℕ)) (words c : ℕ) →
+        (c ≤ unamplified m words) ↔ ((c ≤ words) × (c ≤ sum (sizes_of m) + 4096)) }
 {}
 
-/// What is refused under this limit alone is refused for its charge: under the limit that was given there
-/// is the same refusal, or the reason is `WordLimit`.
+/// What is refused under this limit alone is refused for its charge. Under the limit that was given
+/// the refusal is the same, or its reason is `WordLimit`.
 pub fn unamplified_adds_word_limits()
-    ensures { (m : List (List ℕ)) (words depth : ℕ) (refusal : Refusal) → IsRefused m (unamplified m words) depth refusal →
+    ensures { (m : List (List ℕ)) (words depth : ℕ) (refusal : Refusal) →
+        IsRefused m (unamplified m words) depth refusal →
         IsRefused m words depth refusal ⊎ (refusal.reason ≡ WordLimit) }
 {}
 
-/// The canonical copy of an unamplified message has at most 4,097 words more than its segments. The frame
-/// of the copy has at most 4,097 words more than the message's.
+/// The canonical copy of an unamplified message has at most 4,097 words more than its segments. The
+/// frame of the copy has at most 4,097 words more than the message's.
 pub fn unamplified_copy_is_short()
     ensures words { (m : List (List ℕ)) (words : List ℕ) (limit : ℕ) (copy : HasCopy m words) →
         copy.charge ≤ unamplified m limit → length words ≤ sum (sizes_of m) + 4097 }
     ensures frame { (m : List (List ℕ)) (words : List ℕ) (limit : ℕ) (copy : HasCopy m words) →
-        copy.charge ≤ unamplified m limit → length (frame_text (words ∷ [])) ≤ length (frame_text m) + 4097 }
+        copy.charge ≤ unamplified m limit →
+        length (frame_text (words ∷ [])) ≤ length (frame_text m) + 4097 }
 {}
 
-/// The canonical copy of an unamplified message may be amplified: some message is within this limit, for
-/// each word limit that its charge is within, and its copy within none.
+/// The canonical copy of an unamplified message may be amplified. There is a message whose charge
+/// is within this limit for each word limit that it is within, and whose copy's charge is within
+/// it for none.
 pub fn copy_may_be_amplified()
     ensures { (m : List (List ℕ)) × (words : List ℕ) × (copy : HasCopy m words)
         × ((limit : ℕ) → copy.charge ≤ limit → copy.charge ≤ unamplified m limit)
-        × ((limit : ℕ) (t : Tree) (c d : ℕ) → Denotes (words ∷ []) 0 0 t c d → unamplified (words ∷ []) limit < c) }
+        × ((limit : ℕ) (t : Tree) (c d : ℕ) → Denotes (words ∷ []) 0 0 t c d →
+        unamplified (words ∷ []) limit < c) }
 {}

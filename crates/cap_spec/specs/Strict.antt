@@ -12,8 +12,8 @@ use Rattle.cap_spec.specs.declared.StrictRefusal.{StrictRefusal}
 use Rattle.cap_spec.specs.declared.StrictRefusal.TheVariants.{Refused, ManySegments, Pointer}
 use Rattle.cap_spec.specs.declared.Step.{Step}
 
--- The pointer at s:w uses a one-word pad of zeros, a pad to an object in a segment without words, or a one-word pad that is a
--- capability (standard: Inter-Segment Pointers).
+-- The forms of the pointer at s:w (standard: Inter-Segment Pointers): over a one-word pad of zeros, to
+-- an object in a segment without words, and over a one-word pad that is a capability.
 abbrev pub IsLaxAt : List (List ℕ) → ℕ → ℕ → Lax → Type 0
 IsLaxAt m s w NullPad = Leads m s w 1 to_null
 IsLaxAt m s w EmptySegment = (k t b q : ℕ) × Finds m s w k t b q × (segment_of m t ≡ [])
@@ -23,7 +23,8 @@ IsLaxAt m s w CapabilityPad = (i : ℕ) × Leads m s w 1 (to_cap i)
 abbrev pub IsLax : List (List ℕ) → List Step → Type 0
 IsLax m path = (level s w : ℕ) × (what : Lax) × Reaches m path level s w × IsLaxAt m s w what
 
--- The pointer at s:w is the first in preorder of one of these forms. Up to it `pointers` pointer words were looked at.
+-- The pointer at s:w is the first in preorder of one of these forms. Up to it `pointers` pointer words
+-- were looked at.
 pub record IsFirstLax (m : List (List ℕ)) (s w : ℕ) (what : Lax) (pointers : ℕ) : Type 0 where
   pub path : List Step
   pub level : ℕ
@@ -49,8 +50,10 @@ pub record IsStrict (m : List (List ℕ)) (words depth : ℕ) : Type 0 where
   pub few_segments : length m ≤ 511
   pub none : (path : List Step) → ¬ IsLax m path
 
--- Why a message isn't strict: first that it is refused, then that it has 512 segments, then the first pointer of one of these forms.
+-- Why a message isn't strict: first that it is refused, then that it has 512 segments, then the first
+-- pointer of one of these forms.
 abbrev pub IsStrictFault : List (List ℕ) → ℕ → ℕ → StrictRefusal → Type 0
 IsStrictFault m words depth (Refused refusal) = IsRefused m words depth refusal
 IsStrictFault m words depth ManySegments = IsWithin m words depth × (length m ≡ 512)
-IsStrictFault m words depth (Pointer what s w pointers) = IsWithin m words depth × (length m ≤ 511) × IsFirstLax m s w what pointers
+IsStrictFault m words depth (Pointer what s w pointers) =
+    IsWithin m words depth × (length m ≤ 511) × IsFirstLax m s w what pointers

@@ -2,7 +2,7 @@
 use Rattle.std.specs.Prelude.{ℕ, ◌+◌, min, List, sum}
 use Rattle.cap_spec.specs.Frames.{sizes_of}
 
--- How many words more than its segments have an unamplified message may be charged, for elements without words.
+-- how many words more than its segments have an unamplified message may be charged
 abbrev pub slack : ℕ
 slack = 4096
 

@@ -145,8 +145,10 @@ amplified_by : (n : ℕ) → n < 2 ^ 28 → 4098 ≤ n
     × ((limit : ℕ) (t : Tree) (c d : ℕ) → Denotes (words ∷ []) 0 0 t c d → unamplified (words ∷ []) limit < c)
 amplified_by n few many =
     let w : n < 2 ^ 29 = omega (arith, few) in
-    let h : Denotes (layout (wide n) ∷ []) 0 0 (wide n) (cost (wide n)) (height (wide n)) = layout_denotes (wide n) (fits-wide n w) (omega (arith, size-wide n, few)) in
-    let g : Denotes (layout (bare n) ∷ []) 0 0 (bare n) (cost (bare n)) (height (bare n)) = layout_denotes (bare n) (fits-bare n w) (omega (arith, size-bare n)) in (
+    let h : Denotes (layout (wide n) ∷ []) 0 0 (wide n) (cost (wide n)) (height (wide n)) =
+    layout_denotes (wide n) (fits-wide n w) (omega (arith, size-wide n, few)) in
+    let g : Denotes (layout (bare n) ∷ []) 0 0 (bare n) (cost (bare n)) (height (bare n)) =
+    layout_denotes (bare n) (fits-bare n w) (omega (arith, size-bare n)) in (
       layout (wide n) ∷ [],
       layout (bare n),
       record {

@@ -29,7 +29,8 @@ copy_strict m words limit depth k few within shallow =
     let a : Measured k.tree k.charge k.depth = measured m 0 0 k.tree k.charge k.depth k.denotes in
     let b : Trimmed k.tree (trim k.tree) = trimmed k.tree a.fits in
     let e : size (trim k.tree) ≤ k.charge = trimmed_size_charged m 0 0 k.tree k.charge k.depth k.denotes in
-    let i : Denotes (layout (trim k.tree) ∷ []) 0 0 (trim k.tree) (cost (trim k.tree)) (height (trim k.tree)) = layout_denotes (trim k.tree) b.fits (omega (arith, e, few)) in
+    let i : Denotes (layout (trim k.tree) ∷ []) 0 0 (trim k.tree) (cost (trim k.tree)) (height (trim k.tree)) =
+    layout_denotes (trim k.tree) b.fits (omega (arith, e, few)) in
     let h : Denotes (words ∷ []) 0 0 (trim k.tree) (cost (trim k.tree)) (height (trim k.tree)) =
     subst (λ ws. Denotes (ws ∷ []) 0 0 (trim k.tree) (cost (trim k.tree)) (height (trim k.tree))) (sym k.laid) i in
     let j : height (trim k.tree) ≡ k.depth = b.deep ∙ a.deep in

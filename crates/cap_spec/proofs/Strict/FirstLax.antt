@@ -58,7 +58,8 @@ record FirstOf (P : List Step → Type 0) (ps : List (List Step)) : Type 0 where
   none : (q : List Step) → IsOneOf q before → ¬ P q
 
 -- where it is decided at each path, there is a first one, or it is so at none
-first_of_list : (P : List Step → Type 0) (ps : List (List Step)) → ((q : List Step) → IsOneOf q ps → P q ⊎ ¬ P q) → FirstOf P ps ⊎ ((q : List Step) → IsOneOf q ps → ¬ P q)
+first_of_list : (P : List Step → Type 0) (ps : List (List Step)) → ((q : List Step) → IsOneOf q ps → P q ⊎ ¬ P q)
+    → FirstOf P ps ⊎ ((q : List Step) → IsOneOf q ps → ¬ P q)
 first_of_list P [] decided = inr (λ q i. absurd i)
 first_of_list P (p ∷ ps) decided = by_head (decided p (inl refl)) (first_of_list P ps (λ q i. decided q (inr i)))
   where
@@ -69,7 +70,14 @@ first_of_list P (p ∷ ps) decided = by_head (decided p (inl refl)) (first_of_li
     by_head : P p ⊎ ¬ P p → FirstOf P ps ⊎ ((q : List Step) → IsOneOf q ps → ¬ P q) → FirstOf P (p ∷ ps) ⊎ ((q : List Step) → IsOneOf q (p ∷ ps) → ¬ P q)
     by_head (inl h) r = inl (record { before = []; path = p; after = ps; whole = refl; holds = h; none = λ q i. absurd i })
     by_head (inr n) (inl f) =
-        inl (record { before = p ∷ f.before; path = f.path; after = f.after; whole = ap (λ u. p ∷ u) f.whole; holds = f.holds; none = none_of n f.before f.none })
+        inl (record {
+          before = p ∷ f.before;
+          path = f.path;
+          after = f.after;
+          whole = ap (λ u. p ∷ u) f.whole;
+          holds = f.holds;
+          none = none_of n f.before f.none;
+        })
     by_head (inr n) (inr k) = inr (none_of n ps k)
 
 -- The root denotes a tree.

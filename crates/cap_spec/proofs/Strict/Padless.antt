@@ -62,7 +62,8 @@ structs_tight m s w ds ps es k t b q tag inner deep c d f each le =
     let i : middle tag * ds + middle tag * ps ≤ list_size q = elements_fit m s w ds ps k t b q tag inner deep c d f in
     let j : tree_count es * (ds + ps) ≤ list_size q = rw a.count (omega (arith, i)) in
     let y : extra q tag ≡ idle (ds + ps) (tree_count es) = rw (f.data_sizes, f.pointer_sizes, a.count) (extra_structs q tag f.kind f.code) in
-    no_pads_structs k (extent q) (extra q tag) inner (list_size q) (tree_count es * (ds + ps)) (idle (ds + ps) (tree_count es)) (element_costs es) c f.charge x y j a.charged le
+    no_pads_structs k (extent q) (extra q tag) inner (list_size q) (tree_count es * (ds + ps)) (idle (ds + ps) (tree_count es)) (element_costs es) c
+    f.charge x y j a.charged le
 
 -- a word whose tree is charged no more than its cost leads there without pads
 pub own_padless : (m : List (List ℕ)) (s w : ℕ) (t : Tree) (c d k : ℕ) (r : Lead) → Denotes m s w t c d → c ≤ cost t → Leads m s w k r → k ≡ 0
@@ -80,7 +81,8 @@ own_padless m s w (scalars e vs) c d k r h le l =
 own_padless m s w (pointers ts) c d k r h le l =
     omega (arith, one_lead m s w h.0 k (to_object h.1 (pos h.2) h.3) r h.6.finds.leads l, pointers_tight m s w ts h.0 h.1 h.2 h.3 h.4 h.5 c d h.6 h.7 le)
 own_padless m s w (structs ds ps es) c d k r h le l =
-    omega (arith, one_lead m s w h.0 k (to_object h.1 (pos h.2) h.3) r h.7.finds.leads l, structs_tight m s w ds ps es h.0 h.1 h.2 h.3 h.4 h.5 h.6 c d h.7 h.8 le)
+    let a = structs_tight m s w ds ps es h.0 h.1 h.2 h.3 h.4 h.5 h.6 c d h.7 h.8 le in
+    omega (arith, one_lead m s w h.0 k (to_object h.1 (pos h.2) h.3) r h.7.finds.leads l, a)
 
 -- a word of a row, where the row is charged no more than its cost
 each_tight : (m : List (List ℕ)) (t b n : ℕ) (ts : Trees) (c d i x : ℕ) → DenoteEach m (places t b n) ts c d → c ≤ costs ts → i < n → x ≡ b + i
@@ -106,8 +108,8 @@ elements_after b ds ps n n' l h e =
     omega (arith, h, y, z)
 
 -- an element, where the elements are charged no more than their cost
-elements_tight : (m : List (List ℕ)) (t b ds ps n : ℕ) (es : Trees) (c d i x : ℕ) → b + n * ds + n * ps ≤ length (segment_of m t) → AreElements m t b ds ps n es c d
-    → c ≤ element_costs es → i < n → x ≡ b + i * (ds + ps) → (u : Tree) × Tight m (element t x ds ps) u
+elements_tight : (m : List (List ℕ)) (t b ds ps n : ℕ) (es : Trees) (c d i x : ℕ) → b + n * ds + n * ps ≤ length (segment_of m t)
+    → AreElements m t b ds ps n es c d → c ≤ element_costs es → i < n → x ≡ b + i * (ds + ps) → (u : Tree) × Tight m (element t x ds ps) u
 elements_tight m t b ds ps n none c d i x inside h le lt e = absurd (omega (arith, h.0))
 elements_tight m t b ds ps n (more (struct ws ts) es) c d zero x inside h le lt e =
     let f : x ≡ b = omega arith in
@@ -120,17 +122,18 @@ elements_tight m t b ds ps n (more (struct ws ts) es) c d (suc i) x inside h le 
 elements_tight m t b ds ps n (more y es) c d i x inside h le lt e = absurd h
 
 -- a step from a word to a struct's pointer, to an entry of a list of pointers, and to an element
-to_pointer : (m : List (List ℕ)) (s w : ℕ) (x : Tree) (c d k t b q i : ℕ) → Denotes m s w x c d → c ≤ cost x → Finds m s w k t b q → kind q ≡ 0 → i < pointer_size q
-    → (u : Tree) × Tight m (word t (b + data_size q + i)) u
+to_pointer : (m : List (List ℕ)) (s w : ℕ) (x : Tree) (c d k t b q i : ℕ) → Denotes m s w x c d → c ≤ cost x → Finds m s w k t b q
+    → kind q ≡ 0 → i < pointer_size q → (u : Tree) × Tight m (word t (b + data_size q + i)) u
 to_pointer m s w (struct ws ts) c d k t b q i h le f e lt =
     let o : SameObject k t b q h.0 h.1 h.2 h.3 = one_object m s w k t b q h.0 h.1 h.2 h.3 f h.6.finds in
     let a = struct_tight m s w ws ts h.0 h.1 h.2 h.3 h.4 h.5 c d h.6 h.7 le in
-    let r = each_tight m h.1 (h.2 + data_size h.3) (pointer_size h.3) ts h.4 h.5 i (b + data_size q + i) h.7 a.1 (rw (← o.shape) lt) (rw (o.start, o.shape) refl) in
+    let r = each_tight m h.1 (h.2 + data_size h.3) (pointer_size h.3) ts h.4 h.5 i (b + data_size q + i) h.7 a.1
+    (rw (← o.shape) lt) (rw (o.start, o.shape) refl) in
     (r.0, subst (λ (y : ℕ). Tight m (word y (b + data_size q + i)) r.0) (sym o.segment) r.1)
 to_pointer m s w x c d k t b q i h le f e lt = absurd (omega (arith, number_struct (kind q) (code q) e, found_form m s w x c d k t b q h f))
 
-to_entry : (m : List (List ℕ)) (s w : ℕ) (x : Tree) (c d k t b q i : ℕ) → Denotes m s w x c d → c ≤ cost x → Finds m s w k t b q → kind q ≡ 1 → code q ≡ 6 → i < list_size q
-    → (u : Tree) × Tight m (word t (b + i)) u
+to_entry : (m : List (List ℕ)) (s w : ℕ) (x : Tree) (c d k t b q i : ℕ) → Denotes m s w x c d → c ≤ cost x → Finds m s w k t b q
+    → kind q ≡ 1 → code q ≡ 6 → i < list_size q → (u : Tree) × Tight m (word t (b + i)) u
 to_entry m s w (pointers ts) c d k t b q i h le f e g lt =
     let o : SameObject k t b q h.0 h.1 h.2 h.3 = one_object m s w k t b q h.0 h.1 h.2 h.3 f h.6.finds in
     let a = pointers_tight m s w ts h.0 h.1 h.2 h.3 h.4 h.5 c d h.6 h.7 le in
@@ -139,11 +142,12 @@ to_entry m s w (pointers ts) c d k t b q i h le f e g lt =
 to_entry m s w x c d k t b q i h le f e g lt = absurd (omega (arith, number_list (kind q) (code q) e, g, found_form m s w x c d k t b q h f))
 
 -- an element by equal places
-tight_moved : (m : List (List ℕ)) (t t' x ds ds' ps ps' : ℕ) (u : Tree) → t ≡ t' → ds ≡ ds' → ps ≡ ps' → Tight m (element t x ds ps) u → Tight m (element t' x ds' ps') u
+tight_moved : (m : List (List ℕ)) (t t' x ds ds' ps ps' : ℕ) (u : Tree) → t ≡ t' → ds ≡ ds' → ps ≡ ps'
+    → Tight m (element t x ds ps) u → Tight m (element t' x ds' ps') u
 tight_moved m t t' x ds ds' ps ps' u e f g h = rw (← e, ← f, ← g) h
 
-to_element : (m : List (List ℕ)) (s w : ℕ) (x : Tree) (c d k t b q tag i : ℕ) → Denotes m s w x c d → c ≤ cost x → Finds m s w k t b q → kind q ≡ 1 → code q ≡ 7
-    → HasWord m t b tag → i < middle tag
+to_element : (m : List (List ℕ)) (s w : ℕ) (x : Tree) (c d k t b q tag i : ℕ) → Denotes m s w x c d → c ≤ cost x → Finds m s w k t b q
+    → kind q ≡ 1 → code q ≡ 7 → HasWord m t b tag → i < middle tag
     → (u : Tree) × Tight m (element t (b + 1 + i * (data_size tag + pointer_size tag)) (data_size tag) (pointer_size tag)) u
 to_element m s w (structs ds ps es) c d k t b q tag i h le f e g y lt =
     let o : SameObject k t b q h.0 h.1 h.2 h.3 = one_object m s w k t b q h.0 h.1 h.2 h.3 f h.7.finds in

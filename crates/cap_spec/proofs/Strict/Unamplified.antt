@@ -16,7 +16,8 @@ pub within_both : (m : List (List ℕ)) (words c : ℕ) → c ≤ unamplified m 
 within_both m words c = ((λ h. (omega (arith, h), omega (arith, h))), (λ h. omega (arith, h.0, h.1)))
 
 -- a copy has at most one word more than is charged
-pub copy_length : (m : List (List ℕ)) (words : List ℕ) (limit : ℕ) → (k : HasCopy m words) → k.charge ≤ unamplified m limit → length words ≤ sum (sizes_of m) + 4097
+pub copy_length : (m : List (List ℕ)) (words : List ℕ) (limit : ℕ) → (k : HasCopy m words) → k.charge ≤ unamplified m limit
+    → length words ≤ sum (sizes_of m) + 4097
 copy_length m words limit k h =
     let l : length words ≡ length (layout (trim k.tree)) = ap length k.laid in
     let c = layout_charged m 0 0 k.tree k.charge k.depth k.denotes in
@@ -33,7 +34,8 @@ pub copy_frame_length : (m : List (List ℕ)) (words : List ℕ) (limit : ℕ) �
     → length (frame_text (words ∷ [])) ≤ length (frame_text m) + 4097
 copy_frame_length m words limit k h =
     let a : length (frame_text (words ∷ [])) ≡ 1 + length (joined (words ∷ [])) = length-append (paired (0 ∷ length words ∷ [])) (joined (words ∷ [])) in
-    let b : length (frame_text m) ≡ length (paired ((length m - 1) ∷ sizes_of m)) + length (joined m) = length-append (paired ((length m - 1) ∷ sizes_of m)) (joined m) in
+    let b : length (frame_text m) ≡ length (paired ((length m - 1) ∷ sizes_of m)) + length (joined m) =
+    length-append (paired ((length m - 1) ∷ sizes_of m)) (joined m) in
     omega (arith, a, b, length_joined (words ∷ []), length_joined m, paired_some (length m - 1) (sizes_of m), copy_length m words limit k h)
 
 -- The refusals that a smaller word limit adds are by this limit.
@@ -58,7 +60,8 @@ added_refusals m few words depth refusal le (inr f) = by_reason f.reason
       few = omega (arith, f.few, le);
     })
 
-    by_reason : IsFirstReason m few depth f.charge refusal.segment refusal.word f.level refusal.reason → IsRefused m words depth refusal ⊎ (refusal.reason ≡ WordLimit)
+    by_reason : IsFirstReason m few depth f.charge refusal.segment refusal.word f.level refusal.reason
+        → IsRefused m words depth refusal ⊎ (refusal.reason ≡ WordLimit)
     by_reason (is_wrong h) = inl (whole (is_wrong h))
     by_reason (is_deep e h) = inl (whole (is_deep e h))
     by_reason (is_past cost e none costs past) = inr e
