@@ -2,7 +2,7 @@
 use Rattle.std.proofs.Common.{◌≡◌, [], ◌∷◌, List, ℕ, refl, sym, subst, arith, lit<, lit≤}
 use Rattle.std.specs.Prelude.{pos}
 use Rattle.cap_spec.specs.Denoting.{Denotes, Finds}
-use Rattle.cap_spec.specs.Following.{near, one_pad, two_pads, to_object, to_null, to_cap, Leads}
+use Rattle.cap_spec.specs.Following.{near, one_pad, two_pads, to_object, to_null, to_cap}
 use Rattle.cap_spec.specs.Messages.{segment_of}
 use Rattle.cap_spec.specs.Strict.{IsLaxAt, IsStrict}
 use Rattle.cap_spec.specs.Tree.{null}

@@ -1,8 +1,8 @@
 -- A message within its unamplified limit, of which the canonical copy isn't within its own: a list of structs whose words are all zero.
-use Rattle.std.proofs.Common.{ℕ, zero, suc, ◌+◌, ◌*◌, ◌^◌, ◌<◌, ◌≤◌, ◌≡◌, List, [], ◌∷◌, length, sum, false, refl, sym, ap, ◌∙◌, subst, arith}
+use Rattle.std.proofs.Common.{ℕ, zero, suc, ◌+◌, ◌^◌, ◌<◌, ◌≤◌, ◌≡◌, List, [], ◌∷◌, sum, false, refl, sym, ap, arith}
 use Rattle.cap_spec.specs.Tree.{Tree, struct, structs, Trees, none, more, tree_count, cap_counts, has_cap}
 use Rattle.cap_spec.specs.Denoting.{Denotes}
-use Rattle.cap_spec.specs.Canonical.{children_of, content, cut_elements, data_of, element_sizes, layout, size, trim, trim_elements}
+use Rattle.cap_spec.specs.Canonical.{children_of, cut_elements, data_of, element_sizes, layout, size, trim, trim_elements}
 use Rattle.cap_spec.specs.Copies.{HasCopy}
 use Rattle.cap_spec.specs.Frames.{sizes_of}
 use Rattle.cap_spec.specs.Unamplified.{unamplified}
@@ -10,7 +10,6 @@ use Rattle.cap_spec.proofs.Trees.OneTree.{one_tree}
 use Rattle.cap_spec.proofs.Canonical.TreeMeasures.{FitElements, Fits, cost, element_costs, height}
 use Rattle.cap_spec.proofs.Canonical.Sizes.{length-content}
 use Rattle.cap_spec.proofs.Canonical.Layouts.{layout_denotes}
-use Rattle.cap_spec.proofs.Canonical.TrimmedTrees.{has_cap-trim}
 
 -- n structs of a zero word, and n without words
 zeros : ℕ → Trees
@@ -161,8 +160,8 @@ amplified_by n few many =
       },
       (λ limit le. omega (arith, le, length-wide n w, cost-wide n)),
       (λ limit t c d k.
-        let same = one_tree (layout (bare n) ∷ []) 0 0 t (bare n) c d (cost (bare n)) (height (bare n)) k g in
-        omega (arith, same.charge, length-bare n w, cost-bare n, many)),
+          let same = one_tree (layout (bare n) ∷ []) 0 0 t (bare n) c d (cost (bare n)) (height (bare n)) k g in
+          omega (arith, same.charge, length-bare n w, cost-bare n, many)),
     )
 
 -- So it is of 5,000 structs.

@@ -1,11 +1,10 @@
 -- The canonical copy of a message is strict, and keeps to the limits that the message keeps to.
-use Rattle.std.proofs.Common.{ℕ, ◌+◌, ◌^◌, ◌<◌, ◌≤◌, List, [], ◌∷◌, ◌≡◌, length, sym, ap, subst, ◌∙◌, refl, arith}
-use Rattle.cap_spec.specs.Following.{Lead, Leads}
+use Rattle.std.proofs.Common.{ℕ, ◌^◌, ◌<◌, ◌≤◌, List, [], ◌∷◌, ◌≡◌, sym, subst, ◌∙◌, arith}
 use Rattle.cap_spec.specs.Tree.{Tree}
 use Rattle.cap_spec.specs.Denoting.{Denotes}
 use Rattle.cap_spec.specs.Canonical.{layout, size, trim}
 use Rattle.cap_spec.specs.Copies.{HasCopy}
-use Rattle.cap_spec.specs.Paths.{Reaches, word}
+use Rattle.cap_spec.specs.Paths.{word}
 use Rattle.cap_spec.specs.Strict.{IsLax, IsStrict}
 use Rattle.cap_spec.specs.declared.Step.{Step}
 use Rattle.cap_spec.proofs.Canonical.TreeMeasures.{Measured, cost, height, measured}

@@ -1,8 +1,8 @@
 -- An accepted message is strict, or has one fault.
-use Rattle.std.proofs.Common.{ℕ, ◌≤◌, ◌≡◌, ◌⊎◌, List, length, inl, inr, sym, ap, refl, ◌∙◌, arith}
+use Rattle.std.proofs.Common.{ℕ, ◌≤◌, ◌≡◌, ◌⊎◌, List, length, inl, inr, ap, refl, arith}
 use Rattle.std.proofs.lemmas.Bool.{cases_lt}
 use Rattle.cap_spec.specs.Faults.{IsRefused}
-use Rattle.cap_spec.specs.Strict.{IsFirstLax, IsStrict, IsStrictFault, IsWithin}
+use Rattle.cap_spec.specs.Strict.{IsStrict, IsStrictFault, IsWithin}
 use Rattle.cap_spec.specs.declared.Lax.{Lax}
 use Rattle.cap_spec.specs.declared.Refusal.{Refusal}
 use Rattle.cap_spec.specs.declared.StrictRefusal.{StrictRefusal}

@@ -1,6 +1,5 @@
 -- Of the pointers of a tree one is the first that common readers reject, or none is such a pointer.
 use Rattle.std.proofs.Common.{ℕ, ◌≡◌, ◌⊎◌, List, [], ◌∷◌, ◌++◌, length, inl, inr, refl, sym, ap, subst, ◌∙◌, false}
-use Rattle.cap_spec.specs.Following.{Leads}
 use Rattle.cap_spec.specs.Tree.{Tree}
 use Rattle.cap_spec.specs.Denoting.{Denotes}
 use Rattle.cap_spec.specs.Paths.{Before, IsOneOf, IsTour, Reaches, Rises, word}
@@ -11,9 +10,9 @@ use Rattle.cap_spec.proofs.Trees.OneTree.{Formed, formed}
 use Rattle.cap_spec.proofs.Paths.Arrivals.{coming_to_node, lead_word}
 use Rattle.cap_spec.proofs.Paths.PathCounts.{pointer_paths, pointer_path_reached}
 use Rattle.cap_spec.proofs.Paths.PathLists.{is_pointer, listed_rise}
-use Rattle.cap_spec.proofs.Paths.Preorder.{Before-asymmetric, Before-irreflexive, Before-total_coming, Before-trans, Rises-first, Rises-rest, one_tour}
+use Rattle.cap_spec.proofs.Paths.Preorder.{Before-asymmetric, Before-irreflexive, Before-total_coming, Rises-first, Rises-rest, one_tour}
 use Rattle.cap_spec.proofs.Paths.Walks.{one_reached}
-use Rattle.cap_spec.proofs.Verdicts.OneFault.{last_is_one, one_of_last}
+use Rattle.cap_spec.proofs.Verdicts.OneFault.{one_of_last}
 use Rattle.cap_spec.proofs.Strict.LaxForms.{lax_decided, one_lax}
 
 -- a path between two lists
@@ -92,8 +91,8 @@ module _ (m : List (List ℕ)) (t : Tree) (c d : ℕ) (denotes : Denotes m 0 0 t
       elim (lax_decided m r.1 r.2 p.0 p.1) [
         | inl (what, x) ↦ inl (r.0, r.1, r.2, what, r.3, x)
         | inr none ↦ inr (λ (level, s, w, what, reached, x).
-          let o = one_reached m q level r.0 s w r.1 r.2 reached r.3 in
-          none what (subst (λ u. IsLaxAt m r.1 u what) o.2 (subst (λ u. IsLaxAt m u w what) o.1 x)))
+            let o = one_reached m q level r.0 s w r.1 r.2 reached r.3 in
+            none what (subst (λ u. IsLaxAt m r.1 u what) o.2 (subst (λ u. IsLaxAt m u w what) o.1 x)))
       ]
 
   -- the first of its paths that reaches one is the first in preorder

@@ -1,9 +1,9 @@
 -- A pointer has at most one form that common readers reject, has a landing pad there, and whether it has one is decided.
-use Rattle.std.proofs.Common.{ℕ, ◌+◌, ◌<◌, ◌≤◌, ◌≡◌, ◌≢◌, ◌⊎◌, List, [], ◌∷◌, length, inl, inr, refl, sym, ap, subst, ◌∙◌, arith}
+use Rattle.std.proofs.Common.{ℕ, ◌≤◌, ◌≡◌, ◌≢◌, ◌⊎◌, List, [], ◌∷◌, length, inl, inr, refl, sym, ap, subst, arith}
 use Rattle.std.specs.Prelude.{pos}
 use Rattle.std.proofs.lemmas.Bool.Decides.{eqb_tells}
 use Rattle.cap_spec.specs.Messages.{HasWord, segment_of}
-use Rattle.cap_spec.specs.Pointers.{extent, far_segment, pad}
+use Rattle.cap_spec.specs.Pointers.{extent, pad}
 use Rattle.cap_spec.specs.Following.{Lead, to_null, to_cap, to_object, Leads, near, one_pad, two_pads, Wrong}
 use Rattle.cap_spec.specs.Denoting.{Finds}
 use Rattle.cap_spec.specs.Strict.{IsLaxAt}

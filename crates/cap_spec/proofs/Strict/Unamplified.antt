@@ -1,11 +1,10 @@
 -- The word limit that follows from what was sent: what it bounds, which refusals it adds, and that a copy may be past it.
-use Rattle.std.proofs.Common.{ℕ, zero, suc, ◌+◌, ◌-◌, ◌*◌, ◌^◌, ◌<◌, ◌≤◌, ◌≡◌, ◌⊎◌, ◌↔◌, min, List, [], ◌∷◌, ◌++◌, length, sum, inl, inr, refl, sym, ap, ◌∙◌, arith, length-append}
+use Rattle.std.proofs.Common.{ℕ, ◌+◌, ◌-◌, ◌≤◌, ◌≡◌, ◌⊎◌, ◌↔◌, List, [], ◌∷◌, length, sum, inl, inr, ap, arith, length-append}
 use Rattle.cap_spec.specs.Canonical.{layout, trim}
 use Rattle.cap_spec.specs.Copies.{HasCopy}
 use Rattle.cap_spec.specs.Faults.{IsFirstReason, IsRefused, is_deep, is_past, is_wrong}
 use Rattle.cap_spec.specs.Frames.{frame_text, joined, paired, sizes_of}
-use Rattle.cap_spec.specs.Unamplified.{slack, unamplified}
-use Rattle.cap_spec.specs.declared.Reason.{Reason}
+use Rattle.cap_spec.specs.Unamplified.{unamplified}
 use Rattle.cap_spec.specs.declared.Reason.TheVariants.{WordLimit}
 use Rattle.cap_spec.specs.declared.Refusal.{Refusal}
 use Rattle.cap_spec.proofs.Canonical.Sizes.{layout_charged}
