@@ -1,20 +1,48 @@
 -- Small messages: one for each form that common readers reject, one that is strict, and one with a two-word pad that is strict.
-use Rattle.std.proofs.Common.{◌≡◌, [], ◌∷◌, List, ℕ, refl, sym, subst, arith, lit<, lit≤}
+use Rattle.std.proofs.Common.{◌≡◌, ◌⊎◌, [], ◌∷◌, List, ℕ, inl, inr, refl, sym, subst, arith, lit<, lit≤}
 use Rattle.std.specs.Prelude.{pos}
 use Rattle.cap_spec.specs.Denoting.{Denotes, Finds}
 use Rattle.cap_spec.specs.Following.{near, one_pad, two_pads, to_object, to_null, to_cap}
 use Rattle.cap_spec.specs.Messages.{segment_of}
-use Rattle.cap_spec.specs.Strict.{IsLaxAt, IsStrict}
+use Rattle.cap_spec.specs.Paths.{Before, IsOneOf, IsTour, Reaches}
+use Rattle.cap_spec.specs.Strict.{IsFirstLax, IsLaxAt, IsStrict}
 use Rattle.cap_spec.specs.Tree.{null}
 use Rattle.cap_spec.specs.declared.Lax.{Lax}
 use Rattle.cap_spec.specs.declared.Lax.TheVariants.{NullPad, EmptySegment, CapabilityPad}
+use Rattle.cap_spec.specs.declared.Step.{Step}
 use Rattle.cap_spec.proofs.Pointers.Following.{one_lead}
 use Rattle.cap_spec.proofs.Trees.Finding.{one_object}
 use Rattle.cap_spec.proofs.Strict.Copies.{none_lax}
+use Rattle.cap_spec.proofs.Strict.FirstLax.{first_by_tour}
 
 -- a root whose one-word pad is zero
-lax-null_pad : IsLaxAt ((0x0a ∷ 0 ∷ []) ∷ []) 0 0 NullPad
+abbrev null_pad : List (List ℕ)
+null_pad = (0x0a ∷ 0 ∷ []) ∷ []
+
+lax-null_pad : IsLaxAt null_pad 0 0 NullPad
 lax-null_pad = one_pad 0x0a 0 refl (refl, refl) refl (λ e. absurd (omega (arith, e))) refl refl
+
+root-null_pad : Reaches null_pad [] 1 0 0
+root-null_pad = (0x0a, 0, refl, (refl, refl), refl)
+
+-- it is the first pointer of such a form, and the only one that is looked at
+first-null_pad : IsFirstLax null_pad 0 0 NullPad 1
+first-null_pad = first_by_tour null_pad [] 1 0 0 NullPad ([] ∷ []) root-null_pad tour lax-null_pad (λ q i b. absurd b)
+  where
+    reached : (q : List Step) → IsOneOf q ([] ∷ []) → (level s w : ℕ) × Reaches null_pad q level s w
+    reached q (inl e) = (1, 0, 0, subst (λ (u : List Step). Reaches null_pad u 1 0 0) (sym e) root-null_pad)
+    reached q (inr h) = absurd h
+
+    only : (q : List Step) → (q ≡ []) ⊎ Before q [] → IsOneOf q ([] ∷ [])
+    only q (inl e) = inl e
+    only q (inr b) = absurd b
+
+    own : (q : List Step) → IsOneOf q ([] ∷ []) → (q ≡ []) ⊎ Before q []
+    own q (inl e) = inl e
+    own q (inr h) = absurd h
+
+    tour : IsTour null_pad [] ([] ∷ [])
+    tour = record { rising = tt; reached = reached; all = λ q level s w r k. only q k; none_after = own }
 
 -- and one whose pad is capability 0
 lax-capability_pad : IsLaxAt ((0x0a ∷ 3 ∷ []) ∷ []) 0 0 CapabilityPad

@@ -7,6 +7,7 @@ ghost use Rattle.cap_spec.specs.Copies.{HasCopy};
 ghost use Rattle.cap_spec.specs.Denoting.{Denotes};
 ghost use Rattle.cap_spec.specs.Faults.{IsRefused};
 ghost use Rattle.cap_spec.specs.Frames.{frame_text, sizes_of};
+ghost use Rattle.cap_spec.specs.Occupying.{IsDisjoint, empty_count};
 ghost use Rattle.cap_spec.specs.Tree.{Tree};
 ghost use Rattle.cap_spec.specs.Unamplified.{unamplified};
 
@@ -15,6 +16,13 @@ ghost use Rattle.cap_spec.specs.Unamplified.{unamplified};
 pub fn unamplified_charge_is_bounded()
     ensures { (m : List (List ℕ)) (words c : ℕ) →
         (c ≤ unamplified m words) ↔ ((c ≤ words) × (c ≤ sum (sizes_of m) + 4096)) }
+{}
+
+/// A message that uses no word twice, and has at most 4,097 list elements without bits or words, is
+/// within this limit if it is within the word limit that was given.
+pub fn disjoint_is_unamplified()
+    ensures { (m : List (List ℕ)) (t : Tree) (c d words : ℕ) → Denotes m 0 0 t c d →
+        IsDisjoint m → empty_count t ≤ 4097 → c ≤ words → c ≤ unamplified m words }
 {}
 
 /// What is refused under this limit alone is refused for its charge. Under the limit that was given

@@ -79,6 +79,20 @@ first_of_list P (p ∷ ps) decided = by_head (decided p (inl refl)) (first_of_li
         })
     by_head (inr n) (inr k) = inr (none_of n ps k)
 
+-- A pointer of one of these forms is the first where the tour up to it has none before it.
+pub first_by_tour : (m : List (List ℕ)) (path : List Step) (level s w : ℕ) (what : Lax) (tour : List (List Step)) → Reaches m path level s w → IsTour m path tour
+    → IsLaxAt m s w what → ((q : List Step) → IsOneOf q tour → Before q path → ¬ IsLax m q) → IsFirstLax m s w what (length tour)
+first_by_tour m path level s w what tour reached is_tour lax none = record {
+  path = path;
+  level = level;
+  tour = tour;
+  reached = reached;
+  is_tour = is_tour;
+  number = refl;
+  lax = lax;
+  first = λ other b x. none other (is_tour.all other x.0 x.1 x.2 x.4 (inr b)) b x;
+}
+
 -- The root denotes a tree.
 module _ (m : List (List ℕ)) (t : Tree) (c d : ℕ) (denotes : Denotes m 0 0 t c d) where
   -- whether a path reaches such a pointer is decided
@@ -103,28 +117,17 @@ module _ (m : List (List ℕ)) (t : Tree) (c d : ℕ) (denotes : Denotes m 0 0 t
         l.2,
         l.3,
         length (f.before ++ f.path ∷ []),
-        record {
-          path = f.path;
-          level = l.0;
-          tour = f.before ++ f.path ∷ [];
-          reached = l.4;
-          is_tour = record {
-            rising = Rises-front f.before f.path f.after rises;
-            reached = λ q i. (pointer_path_reached m t c d denotes q).0 (subst (IsOneOf q) (sym f.whole) (front_is_one q f.path f.before f.after i));
-            all = λ q level s w r k. upto q level s w r k;
-            none_after = λ q i. elim (one_of_last q f.path f.before i) [ inl e ↦ inl e | inr j ↦ inr (before_middle f.before f.path f.after q rises j) ];
-          };
-          number = refl;
-          lax = l.5;
-          first = λ other b x. elim (one_of_last other f.path f.before (upto other x.0 x.1 x.2 x.4 (inr b))) [
-            | inl e ↦ Before-irreflexive f.path (subst (λ (u : List Step). Before u f.path) e b)
-            | inr j ↦ f.none other j x
-          ];
-        },
+        first_by_tour m f.path l.0 l.1 l.2 l.3 (f.before ++ f.path ∷ []) l.4 is_tour l.5 none_before,
       )
     where
       rises : Rises (f.before ++ f.path ∷ f.after)
       rises = subst Rises f.whole (listed_rise is_pointer false t)
+
+      none_before : (q : List Step) → IsOneOf q (f.before ++ f.path ∷ []) → Before q f.path → ¬ IsLax m q
+      none_before q i b x = elim (one_of_last q f.path f.before i) [
+        | inl e ↦ Before-irreflexive f.path (subst (λ (u : List Step). Before u f.path) e b)
+        | inr j ↦ f.none q j x
+      ]
 
       upto : (q : List Step) (level s w : ℕ) → Reaches m q level s w → (q ≡ f.path) ⊎ Before q f.path → IsOneOf q (f.before ++ f.path ∷ [])
       upto q level s w r k =
@@ -136,6 +139,14 @@ module _ (m : List (List ℕ)) (t : Tree) (c d : ℕ) (denotes : Denotes m 0 0 t
           late : (q : List Step) → Before f.path q → (q ≡ f.path) ⊎ Before q f.path → ⊥
           late q b (inl e) = Before-irreflexive f.path (subst (λ (u : List Step). Before f.path u) e b)
           late q b (inr g) = Before-asymmetric f.path q b g
+
+      is_tour : IsTour m f.path (f.before ++ f.path ∷ [])
+      is_tour = record {
+        rising = Rises-front f.before f.path f.after rises;
+        reached = λ q i. (pointer_path_reached m t c d denotes q).0 (subst (IsOneOf q) (sym f.whole) (front_is_one q f.path f.before f.after i));
+        all = λ q level s w r k. upto q level s w r k;
+        none_after = λ q i. elim (one_of_last q f.path f.before i) [ inl e ↦ inl e | inr j ↦ inr (before_middle f.before f.path f.after q rises j) ];
+      }
 
   -- There is a first pointer in preorder that common readers reject, or no path reaches one.
   pub first_lax_or_none : ((s w : ℕ) × (what : Lax) × (pointers : ℕ) × IsFirstLax m s w what pointers) ⊎ ((path : List Step) → ¬ IsLax m path)

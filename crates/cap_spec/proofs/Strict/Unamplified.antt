@@ -2,17 +2,26 @@
 use Rattle.std.proofs.Common.{ℕ, ◌+◌, ◌-◌, ◌≤◌, ◌≡◌, ◌⊎◌, ◌↔◌, List, [], ◌∷◌, length, sum, inl, inr, ap, arith, length-append}
 use Rattle.cap_spec.specs.Canonical.{layout, trim}
 use Rattle.cap_spec.specs.Copies.{HasCopy}
+use Rattle.cap_spec.specs.Denoting.{Denotes}
 use Rattle.cap_spec.specs.Faults.{IsFirstReason, IsRefused, is_deep, is_past, is_wrong}
 use Rattle.cap_spec.specs.Frames.{frame_text, joined, paired, sizes_of}
+use Rattle.cap_spec.specs.Occupying.{IsDisjoint, empty_count}
+use Rattle.cap_spec.specs.Tree.{Tree}
 use Rattle.cap_spec.specs.Unamplified.{unamplified}
 use Rattle.cap_spec.specs.declared.Reason.TheVariants.{WordLimit}
 use Rattle.cap_spec.specs.declared.Refusal.{Refusal}
 use Rattle.cap_spec.proofs.Canonical.Sizes.{layout_charged}
+use Rattle.cap_spec.proofs.Disjoint.Bounds.{charge_below_words}
 use Rattle.cap_spec.proofs.Frames.Endings.{length_joined}
 
 -- a charge is within the limit where it is within the words given, and within the words of the segments with the slack
 pub within_both : (m : List (List ℕ)) (words c : ℕ) → c ≤ unamplified m words ↔ (c ≤ words) × (c ≤ sum (sizes_of m) + 4096)
 within_both m words c = ((λ h. (omega (arith, h), omega (arith, h))), (λ h. omega (arith, h.0, h.1)))
+
+-- A message that uses no word twice is charged its words at most, but for elements without bits or words.
+pub disjoint_unamplified : (m : List (List ℕ)) (t : Tree) (c d words : ℕ) → Denotes m 0 0 t c d → IsDisjoint m → empty_count t ≤ 4097 → c ≤ words
+    → c ≤ unamplified m words
+disjoint_unamplified m t c d words h apart few le = (within_both m words c).1 (le, omega (arith, charge_below_words m t c d h apart, few))
 
 -- a copy has at most one word more than is charged
 pub copy_length : (m : List (List ℕ)) (words : List ℕ) (limit : ℕ) → (k : HasCopy m words) → k.charge ≤ unamplified m limit
