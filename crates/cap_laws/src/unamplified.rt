@@ -43,9 +43,8 @@ pub fn unamplified_copy_is_short()
         length (frame_text (words ∷ [])) ≤ length (frame_text m) + 4097 }
 {}
 
-/// The canonical copy of an unamplified message may be amplified. There is a message whose charge
-/// is within this limit for each word limit that it is within, and whose copy's charge is within
-/// it for none.
+/// The canonical copy of an unamplified message may be amplified. The charge of some message is
+/// within this limit for each word limit that it is within. That of its copy is within it for none.
 pub fn copy_may_be_amplified()
     ensures { (m : List (List ℕ)) × (words : List ℕ) × (copy : HasCopy m words)
         × ((limit : ℕ) → copy.charge ≤ limit → copy.charge ≤ unamplified m limit)

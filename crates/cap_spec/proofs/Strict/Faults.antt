@@ -1,10 +1,13 @@
 -- An accepted message is strict, or has one fault.
 use Rattle.std.proofs.Common.{ℕ, ◌≤◌, ◌≡◌, ◌⊎◌, List, length, inl, inr, ap, refl, arith}
+use Rattle.std.proofs.Props.{props}
+use Rattle.std.proofs.Math.Logic.{∥∥₁_elim}
 use Rattle.std.proofs.lemmas.Bool.{cases_lt}
 use Rattle.cap_spec.specs.Faults.{IsRefused}
-use Rattle.cap_spec.specs.Strict.{IsStrict, IsStrictFault, IsWithin}
+use Rattle.cap_spec.specs.Strict.{IsLax, IsStrict, IsStrictFault, IsWithin}
 use Rattle.cap_spec.specs.declared.Lax.{Lax}
 use Rattle.cap_spec.specs.declared.Refusal.{Refusal}
+use Rattle.cap_spec.specs.declared.Step.{Step}
 use Rattle.cap_spec.specs.declared.StrictRefusal.{StrictRefusal}
 use Rattle.cap_spec.specs.declared.StrictRefusal.TheVariants.{Refused, ManySegments, Pointer}
 use Rattle.cap_spec.proofs.Verdicts.OneFault.{one_refusal}
@@ -64,3 +67,10 @@ strict_wider m words depth words' depth' h w d = record {
   few_segments = h.few_segments;
   none = h.none;
 }
+
+-- Of what may be strict it is known that it has few segments and no such pointer.
+pub strict_kept : (m : List (List ℕ)) (words depth : ℕ) → ∥ IsStrict m words depth ∥₁ → (length m ≤ 511) × ((path : List Step) → ¬ IsLax m path)
+strict_kept m words depth h =
+    let one : IsProp ⊥ = hlevel props in
+    let one_le : IsProp (length m ≤ 511) = hlevel props in
+    (∥∥₁_elim h one_le (λ s. s.few_segments), λ path x. ∥∥₁_elim h one (λ s. s.none path x))
