@@ -12,8 +12,8 @@ use Rattle.cap_spec.specs.declared.StrictRefusal.{StrictRefusal}
 use Rattle.cap_spec.specs.declared.StrictRefusal.TheVariants.{Refused, ManySegments, Pointer}
 use Rattle.cap_spec.specs.declared.Step.{Step}
 
--- The forms of the pointer at s:w (standard: Inter-Segment Pointers): over a one-word pad of zeros, to
--- an object in a segment without words, and over a one-word pad that is a capability.
+-- The pointer at s:w has this form: it leads over a one-word pad of zeros, to an object in a segment
+-- without words, or over a one-word pad that is a capability (standard: Inter-Segment Pointers).
 abbrev pub IsLaxAt : List (List ℕ) → ℕ → ℕ → Lax → Type 0
 IsLaxAt m s w NullPad = Leads m s w 1 to_null
 IsLaxAt m s w EmptySegment = (k t b q : ℕ) × Finds m s w k t b q × (segment_of m t ≡ [])
