@@ -14,8 +14,8 @@ use Rattle.cap_pack.specs.AtHand.{Gives, Leads, Unpacks}
 use Rattle.cap_pack.specs.Course.{Course, gives, words_of, is_cut_of, places_of, zeros_then, course, head_rest, first_word, zeros_of, plain_of}
 use Rattle.cap_pack.specs.State.{ahead}
 use Rattle.cap_pack.specs.declared.at_hand.Unpacked.{Unpacked}
-use Rattle.cap_pack.specs.declared.unpacker.Phase.{Phase}
-use Rattle.cap_pack.specs.declared.unpacker.Phase.TheVariants.{Open}
+use Rattle.cap_words.specs.declared.phase.Phase.{Phase}
+use Rattle.cap_words.specs.declared.phase.Phase.TheVariants.{Open}
 use Rattle.cap_pack.proofs.Courses.{course_head, course_none, course_plain, course_plain_stops}
 use Rattle.cap_pack.proofs.Heads.{first_word-append, zeros_of-append, plain_of-append}
 

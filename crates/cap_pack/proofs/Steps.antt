@@ -7,8 +7,8 @@ use Rattle.cap_spec.specs.PackedEnds.{packed_ends}
 use Rattle.cap_spec.specs.Unpacking.{unpacked, packed_is_cut}
 use Rattle.cap_pack.specs.Course.{Course, ends, stops, gives, words_of, is_cut_of, places_of, course, zeros_then}
 use Rattle.cap_pack.specs.State.{ahead}
-use Rattle.cap_pack.specs.declared.unpacker.Phase.{Phase}
-use Rattle.cap_pack.specs.declared.unpacker.Phase.TheVariants.{Open, Ended, Failed}
+use Rattle.cap_words.specs.declared.phase.Phase.{Phase}
+use Rattle.cap_words.specs.declared.phase.Phase.TheVariants.{Open, Ended, Failed}
 use Rattle.cap_pack.proofs.Courses.{course_none}
 use Rattle.cap_pack.proofs.Ties.{course_tells}
 

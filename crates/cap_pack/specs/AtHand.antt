@@ -4,7 +4,7 @@ use Rattle.cap_spec.specs.Plain.{capped, plain_words}
 use Rattle.cap_pack.specs.Course.{Course, words_of, is_cut_of, places_of}
 use Rattle.cap_pack.specs.State.{ahead}
 use Rattle.cap_pack.specs.declared.at_hand.Unpacked.{Unpacked}
-use Rattle.cap_pack.specs.declared.unpacker.Phase.TheVariants.{Open}
+use Rattle.cap_words.specs.declared.phase.Phase.TheVariants.{Open}
 
 -- One course from a place on gives these words, and then it is the other one, from another place on.
 pub record Leads (from to : Course) (place now : ℕ) (own : List ℕ) : Type 0 where

@@ -10,8 +10,8 @@ use Rattle.cap_spec.specs.Unpacking.{spread}
 use Rattle.cap_spec.specs.Words.{IsWord}
 use Rattle.cap_pack.specs.Course.{Course, stops, gives, words_of, zeros_then, head_rest, first_word, zeros_of, plain_of, course, course_in}
 use Rattle.cap_pack.specs.State.{ahead}
-use Rattle.cap_pack.specs.declared.unpacker.Phase.{Phase}
-use Rattle.cap_pack.specs.declared.unpacker.Phase.TheVariants.{Open, Ended, Failed}
+use Rattle.cap_words.specs.declared.phase.Phase.{Phase}
+use Rattle.cap_words.specs.declared.phase.Phase.TheVariants.{Open, Ended, Failed}
 
 -- of two words the one that is chosen
 pub chosen_word : (c : Bool) (x y : ℕ) → IsWord x → IsWord y → IsWord (if c then x else y)

@@ -2,15 +2,16 @@
 
 ghost use Rattle.cap_pack.specs.Course.{is_cut_of, places_of, words_of};
 ghost use Rattle.cap_pack.specs.CourseWords.{known_are_words};
-ghost use Rattle.cap_pack.specs.State.{ahead, has_ended, has_failed, source_spent};
+ghost use Rattle.cap_pack.specs.State.{ahead};
 ghost use Rattle.cap_spec.specs.PackedEnds.{packed_ends};
 ghost use Rattle.cap_spec.specs.Unpacking.{packed_is_cut, unpacked};
+ghost use Rattle.cap_words.specs.Phases.{has_ended, has_failed, source_spent};
 ghost use Rattle.std.specs.Option.{option_map};
 ghost use Rattle.std.specs.Prelude.{◌<◌, ◌≡◌, ◌||◌, [], OnSome, false, if◌then◌else◌, unwrap_or, ℕ};
 
 use super::at_hand::{append_words, unpack};
 use super::counted::Counted;
-use cap_words::{ByteIn, SourceFault, WordSource};
+use cap_words::{ByteIn, Phase, SourceFault, WordSource};
 
 /// Reads the words that packed bytes encode (encoding: Packing). Every encoding is accepted: a byte
 /// that its tag marks may be zero, and a run may be shorter than it could be. The head of a group
@@ -26,14 +27,6 @@ pub struct Unpacker<I: ByteIn> {
     plain: u8,
     // while zero words are held the input works
     ghost usable: { 0 < zeros → I.spent bytes.input ≡ false },
-}
-
-// What a source does at its next call.
-#[derive(Clone, Copy)]
-pub(crate) enum Phase {
-    Open,
-    Ended,
-    Failed,
 }
 
 impl<I: ByteIn> Unpacker<I> {

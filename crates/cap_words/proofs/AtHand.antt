@@ -9,8 +9,8 @@ use Rattle.cap_spec.specs.Plain.{capped, plain_ends, plain_is_cut, plain_text, p
 use Rattle.cap_spec.proofs.Bytes.Plain.{length_plain, plain_back, plain_cut_back, plain_split}
 use Rattle.cap_words.specs.PlainSource.{bytes_left}
 use Rattle.cap_words.specs.TakingMany.{TakesAll}
-use Rattle.cap_words.specs.declared.plain_words.Phase.{Phase}
-use Rattle.cap_words.specs.declared.plain_words.Phase.TheVariants.{Open}
+use Rattle.cap_words.specs.declared.phase.Phase.{Phase}
+use Rattle.cap_words.specs.declared.phase.Phase.TheVariants.{Open}
 
 pub bytes_small : (xs : List ℕ) → ((k : ℕ) → Fits w8 (get_or xs k 0)) → AllByRecursion (λ b. b < 256) xs
 bytes_small [] f = tt

@@ -10,8 +10,8 @@ use Rattle.cap_spec.proofs.Bytes.Plain.{length_plain, plain_back, plain_short, p
 use Rattle.cap_words.proofs.AtHand.{taken}
 use Rattle.cap_words.specs.PlainSource.{bytes_left}
 use Rattle.cap_words.specs.TakingMany.{EndsWithin, TakesAll}
-use Rattle.cap_words.specs.declared.plain_words.Phase.{Phase}
-use Rattle.cap_words.specs.declared.plain_words.Phase.TheVariants.{Open}
+use Rattle.cap_words.specs.declared.phase.Phase.{Phase}
+use Rattle.cap_words.specs.declared.phase.Phase.TheVariants.{Open}
 
 -- how plain text ends, by its length
 pub record PlainEnd (at : ℕ) (bytes : List ℕ) : Type 0 where

@@ -8,8 +8,8 @@ use Rattle.cap_spec.specs.Plain.{capped, plain_ends, plain_is_cut, plain_text, p
 use Rattle.cap_spec.proofs.Bytes.PlainText.{part_of_word}
 use Rattle.cap_words.specs.PlainSource.{bytes_left}
 use Rattle.cap_words.specs.Sinks.{Begins}
-use Rattle.cap_words.specs.declared.plain_words.Phase.{Phase}
-use Rattle.cap_words.specs.declared.plain_words.Phase.TheVariants.{Open}
+use Rattle.cap_words.specs.declared.phase.Phase.{Phase}
+use Rattle.cap_words.specs.declared.phase.Phase.TheVariants.{Open}
 
 -- a read of fewer bytes, but of some, at the end of the input took a part of a word
 part_consumed : (a b : Option (List ℕ)) (bytes : List ℕ) (at : ℕ) → 0 < length bytes → length bytes < 8 → Consumes a b bytes → IsAtEnd b

@@ -35,3 +35,21 @@ pub record GrowthFails (was : Bool) (before after : Failures) : Type 0 where
   pub usable : was ≡ false
   pub device : after.device ≡ before.device
   pub failed : after.memory ≡ before.memory + 1
+
+-- The same by the members of an end, and its states before and after the call.
+
+abbrev pub NoFault : {S A : Type 0} → (S → Bool) → (S → A) → S → S → Type 0
+NoFault spent failures old new = Works (spent old) (spent new) (failures old) (failures new)
+
+-- a failure of its device closes an input
+abbrev pub InputFails : {S : Type 0} → (S → Bool) → (S → ℕ) → S → S → Type 0
+InputFails spent failures old new = Fails (spent old) (failures old) (failures new) × (spent new ≡ true)
+
+abbrev pub OutputFails : {S : Type 0} → (S → Bool) → (S → Failures) → S → S → Type 0
+OutputFails spent failures old new = DeviceFails (spent old) (failures old) (failures new)
+
+abbrev pub MemoryFails : {S : Type 0} → (S → Bool) → (S → Failures) → S → S → Type 0
+MemoryFails spent failures old new = GrowthFails (spent old) (failures old) (failures new)
+
+abbrev pub WasClosed : {S A : Type 0} → (S → Bool) → (S → A) → S → S → Type 0
+WasClosed spent failures old new = WasSpent (spent old) (spent new) (failures old) (failures new)

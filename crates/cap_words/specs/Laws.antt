@@ -9,8 +9,8 @@ use Rattle.cap_spec.specs.Plain.{plain_words}
 use Rattle.cap_spec.specs.Words.{IsWord}
 use Rattle.cap_words.specs.PlainSource.{bytes_left}
 use Rattle.cap_words.specs.Told.{are_bytes, told_bytes}
-use Rattle.cap_words.specs.declared.plain_words.Phase.{Phase}
-use Rattle.cap_words.specs.declared.plain_words.Phase.TheVariants.{Open, Ended, Failed}
+use Rattle.cap_words.specs.declared.phase.Phase.{Phase}
+use Rattle.cap_words.specs.declared.phase.Phase.TheVariants.{Open, Ended, Failed}
 
 -- both of two tests hold
 pub both_hold : (a b : Bool) → (a && b) ≡ true → (a ≡ true) × (b ≡ true)

@@ -1,6 +1,7 @@
 pub mod Ends
 pub mod Inner
 pub mod Laws
+pub mod Phases
 pub mod PlainSource
 pub mod Sinks
 pub mod TakingMany

@@ -1,5 +1,5 @@
 -- What is known of the text of a sink (profile).
-use Rattle.std.specs.Prelude.{ℕ, ◌≡◌, Option, None, Some, List, ◌++◌, ⊤, refl}
+use Rattle.std.specs.Prelude.{ℕ, ◌≡◌, Bool, false, Option, None, Some, List, ◌++◌, ⊤, refl}
 use Rattle.std.specs.Io.KnownBytes.{Keeps, append_known}
 use Rattle.cap_words.specs.declared.ends.OutFault.{OutFault}
 use Rattle.cap_words.specs.declared.ends.OutFault.TheVariants.{Device, Memory, Spent}
@@ -15,6 +15,11 @@ Begins (Some text) (Some part) = (rest : List ℕ) × (text ≡ part ++ rest)
 -- the sink was put exactly these words: its text after further words is what its text after both was before
 abbrev pub WasPut : {K : Type 0} → (K → List ℕ → Option (List ℕ)) → K → K → List ℕ → Type 0
 WasPut text old new xs = (ws : List ℕ) → Keeps (text old (xs ++ ws)) (text new ws)
+
+-- it was open, stays open, and nothing failed
+abbrev pub StaysOpen : {K A : Type 0} → (K → Bool) → (K → Bool) → (K → A) → K → K → Type 0
+StaysOpen closed spent failures old new =
+    (closed old ≡ false) × (closed new ≡ false) × (spent new ≡ spent old) × (failures new ≡ failures old)
 
 -- a fault came while these words were put: what was taken begins each text that goes on after them
 abbrev pub StoppedPutting : {K : Type 0} → (K → List ℕ → Option (List ℕ)) → (K → Option (List ℕ)) → K → K → List ℕ → Type 0

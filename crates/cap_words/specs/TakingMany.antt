@@ -7,6 +7,12 @@ pub record TakesAll (words rest : Option (List ℕ)) (cut still_cut : Bool) (pla
   pub consumed : Consumes words rest own
   pub goes_on : OnSome words ((still_cut ≡ cut) × (now ∷ left ≡ drop (length own) (place ∷ places)))
 
+-- The same by the members of a source, and its states before and after the call.
+abbrev pub TakesWords : {S : Type 0} → (S → Option (List ℕ)) → (S → Bool) → (S → ℕ) → (S → List ℕ)
+    → S → S → List ℕ → Type 0
+TakesWords words cut place places old new own =
+    TakesAll (words old) (words new) (cut old) (cut new) (place old) (place new) (places old) (places new) own
+
 -- These bytes of the input were read, and the place counts them.
 pub record ReadsBytes (unread rest : Option (List ℕ)) (place now : ℕ) : Type 0 where
   pub bytes : List ℕ

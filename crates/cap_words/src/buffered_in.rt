@@ -43,9 +43,12 @@ impl<R: Read> BufferedIn<R> {
     pub fn new(alloc: Global, reader: R) -> Result<BufferedIn<R>, AllocError>
     where
         R: Drop,
-        ensures to_come { IfOk result (λ s. ⟦<BufferedIn<R> as ByteIn>⟧.to_come s ≡ told_bytes (R.remaining reader)) }
+        ensures to_come { IfOk result (λ s.
+            ⟦<BufferedIn<R> as ByteIn>⟧.to_come s ≡ told_bytes (R.remaining reader)) }
         ensures spent { IfOk result (λ s. ⟦<BufferedIn<R> as ByteIn>⟧.spent s ≡ false) }
-        ensures fails_once { (s : BufferedIn R R.Read) → ⟦<BufferedIn<R> as ByteIn>⟧.failures s ≡ (if ⟦<BufferedIn<R> as ByteIn>⟧.spent s then 1 else 0) }
+        ensures fails_once { (s : BufferedIn R R.Read) →
+            ⟦<BufferedIn<R> as ByteIn>⟧.failures s
+            ≡ (if ⟦<BufferedIn<R> as ByteIn>⟧.spent s then 1 else 0) }
     {
         let mut buffer = Vec::with_capacity(alloc, BUFFER)?;
         buffer.resize(BUFFER, 0)?;
@@ -63,12 +66,18 @@ impl<R: Read> BufferedIn<R> {
     #[inline(never)]
     fn refill(&mut self) -> Result<(), InFault>
         requires { self.old.start ≡ self.old.end }
-        ensures bytes { Keeps (prepend_known (slice_range self.old.buffer.items self.old.start self.old.end) (R.remaining self.old.reader))
-            (prepend_known (slice_range self.new.buffer.items self.new.start self.new.end) (R.remaining self.new.reader)) }
-        ensures end { OnOk result (self.new.start ≡ self.new.end → IsAtEnd (R.remaining self.new.reader)) }
+        ensures bytes { Keeps
+            (prepend_known (slice_range self.old.buffer.items self.old.start self.old.end)
+            (R.remaining self.old.reader))
+            (prepend_known (slice_range self.new.buffer.items self.new.start self.new.end)
+            (R.remaining self.new.reader)) }
+        ensures end { OnOk result (self.new.start ≡ self.new.end →
+            IsAtEnd (R.remaining self.new.reader)) }
         ensures ok { OnOk result ((self.old.failed ≡ false) × (self.new.failed ≡ false)) }
-        ensures device { IsErrOf result InFault.Device → (self.old.failed ≡ false) × (self.new.failed ≡ true) }
-        ensures was_spent { IsErrOf result InFault.Spent → (self.old.failed ≡ true) × (self.new ≡ self.old) }
+        ensures device { IsErrOf result InFault.Device →
+            (self.old.failed ≡ false) × (self.new.failed ≡ true) }
+        ensures was_spent { IsErrOf result InFault.Spent →
+            (self.old.failed ≡ true) × (self.new ≡ self.old) }
     {
         if self.failed {
             return Err(InFault::Spent);
@@ -92,11 +101,15 @@ impl<R: Read> BufferedIn<R> {
     fn read_past(&mut self, buf: &mut [u8]) -> Result<usize, InFault>
         requires { self.old.start ≡ self.old.end }
         ensures within { IfOk result (λ n. n ≤ length buf.new) }
-        ensures bytes { ReadConsumes (R.remaining self.old.reader) (R.remaining self.new.reader) result buf.new }
-        ensures held { (self.new.buffer ≡ self.old.buffer) × (self.new.start ≡ self.old.start) × (self.new.end ≡ self.old.end) }
+        ensures bytes { ReadConsumes (R.remaining self.old.reader) (R.remaining self.new.reader)
+            result buf.new }
+        ensures held { (self.new.buffer ≡ self.old.buffer) × (self.new.start ≡ self.old.start)
+            × (self.new.end ≡ self.old.end) }
         ensures ok { OnOk result ((self.old.failed ≡ false) × (self.new.failed ≡ false)) }
-        ensures device { IsErrOf result InFault.Device → (self.old.failed ≡ false) × (self.new.failed ≡ true) }
-        ensures was_spent { IsErrOf result InFault.Spent → (self.old.failed ≡ true) × (self.new ≡ self.old) }
+        ensures device { IsErrOf result InFault.Device →
+            (self.old.failed ≡ false) × (self.new.failed ≡ true) }
+        ensures was_spent { IsErrOf result InFault.Spent →
+            (self.old.failed ≡ true) × (self.new ≡ self.old) }
     {
         if self.failed {
             return Err(InFault::Spent);

@@ -1,6 +1,6 @@
 //! The ends that bytes come in and go out by.
 
-ghost use Rattle.cap_words.specs.Ends.{DeviceFails, Failures, Fails, GrowthFails, WasSpent, Works};
+ghost use Rattle.cap_words.specs.Ends.{Failures, InputFails, MemoryFails, NoFault, OutputFails, WasClosed};
 ghost use Rattle.std.specs.Io.KnownBytes.{Consumes, Keeps, ReadConsumes, WriteAppends};
 ghost use Rattle.std.specs.List.{AllByRecursion};
 ghost use Rattle.std.specs.Prelude.{◌++◌, ◌<◌, ◌≡◌, ◌≤◌, [], Bool, IfOk, IfSome, IsErrOf, List, OnOk, Option, drop, false, length, take, true, ℕ};
@@ -71,9 +71,9 @@ pub trait ByteIn {
         ensures bytes { ReadConsumes (to_come self.old) (to_come self.new) result buf.new }
         ensures no_room { buf.old ≡ [] → (result ≡ Ok 0) × (self.new ≡ self.old) }
         ensures for_good { spent self.old ≡ true → self.new ≡ self.old }
-        ensures ok { 0 < length buf.old → OnOk result (Works (spent self.old) (spent self.new) (failures self.old) (failures self.new)) }
-        ensures device { IsErrOf result InFault.Device → Fails (spent self.old) (failures self.old) (failures self.new) × (spent self.new ≡ true) }
-        ensures was_spent { IsErrOf result InFault.Spent → WasSpent (spent self.old) (spent self.new) (failures self.old) (failures self.new) };
+        ensures ok { 0 < length buf.old → OnOk result (NoFault spent failures self.old self.new) }
+        ensures device { IsErrOf result InFault.Device → InputFails spent failures self.old self.new }
+        ensures was_spent { IsErrOf result InFault.Spent → WasClosed spent failures self.old self.new };
 
     // What is known to come are bytes.
     ghost are_bytes: { (s : Self) → IfSome (to_come s) (AllByRecursion (λ b. b < 256)) };
@@ -107,10 +107,11 @@ pub trait ByteOut {
         ensures no_bytes { buf.now ≡ [] → (result ≡ Ok 0) × (self.new ≡ self.old) }
         ensures for_good { spent self.old ≡ true → self.new ≡ self.old }
         ensures some { 0 < length buf.now → IfOk result (λ n. 0 < n) }
-        ensures ok { 0 < length buf.now → OnOk result (Works (spent self.old) (spent self.new) (failures self.old) (failures self.new)) }
-        ensures device { IsErrOf result OutFault.Device → DeviceFails (spent self.old) (failures self.old) (failures self.new) × (spent self.new ≡ true) }
-        ensures memory { IsErrOf result OutFault.Memory → GrowthFails (spent self.old) (failures self.old) (failures self.new) }
-        ensures was_spent { IsErrOf result OutFault.Spent → WasSpent (spent self.old) (spent self.new) (failures self.old) (failures self.new) };
+        ensures ok { 0 < length buf.now → OnOk result (NoFault spent failures self.old self.new) }
+        ensures device { IsErrOf result OutFault.Device →
+            OutputFails spent failures self.old self.new × (spent self.new ≡ true) }
+        ensures memory { IsErrOf result OutFault.Memory → MemoryFails spent failures self.old self.new }
+        ensures was_spent { IsErrOf result OutFault.Spent → WasClosed spent failures self.old self.new };
 
     /// Flushes what was written, if the output or its device holds some of it back. No byte is
     /// added or lost. An output that holds nothing back returns `Ok` even after `Device`.
@@ -124,10 +125,12 @@ pub trait ByteOut {
     fn flush(&mut self) -> Result<(), OutFault>
         ensures bytes { Keeps (written self.old) (written self.new) }
         ensures for_good { spent self.old ≡ true → self.new ≡ self.old }
-        ensures ok { OnOk result ((spent self.new ≡ spent self.old) × (failures self.new ≡ failures self.old)) }
-        ensures device { IsErrOf result OutFault.Device → DeviceFails (spent self.old) (failures self.old) (failures self.new) × (spent self.new ≡ true) }
-        ensures memory { IsErrOf result OutFault.Memory → GrowthFails (spent self.old) (failures self.old) (failures self.new) }
-        ensures was_spent { IsErrOf result OutFault.Spent → WasSpent (spent self.old) (spent self.new) (failures self.old) (failures self.new) }
+        ensures ok { OnOk result ((spent self.new ≡ spent self.old)
+            × (failures self.new ≡ failures self.old)) }
+        ensures device { IsErrOf result OutFault.Device →
+            OutputFails spent failures self.old self.new × (spent self.new ≡ true) }
+        ensures memory { IsErrOf result OutFault.Memory → MemoryFails spent failures self.old self.new }
+        ensures was_spent { IsErrOf result OutFault.Spent → WasClosed spent failures self.old self.new }
     {
         Ok(())
     }

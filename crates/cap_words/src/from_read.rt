@@ -23,8 +23,11 @@ impl<R: Read> FromRead<R> {
         ensures reader { reader_of result ≡ reader }
         ensures to_come { ⟦<FromRead<R> as ByteIn>⟧.to_come result ≡ told_bytes (R.remaining reader) }
         ensures spent { ⟦<FromRead<R> as ByteIn>⟧.spent result ≡ false }
-        ensures shows_to_come { (s : FromRead R) → ⟦<FromRead<R> as ByteIn>⟧.to_come s ≡ told_bytes (R.remaining (reader_of s)) }
-        ensures fails_once { (s : FromRead R) → ⟦<FromRead<R> as ByteIn>⟧.failures s ≡ (if ⟦<FromRead<R> as ByteIn>⟧.spent s then 1 else 0) }
+        ensures shows_to_come { (s : FromRead R) →
+            ⟦<FromRead<R> as ByteIn>⟧.to_come s ≡ told_bytes (R.remaining (reader_of s)) }
+        ensures fails_once { (s : FromRead R) →
+            ⟦<FromRead<R> as ByteIn>⟧.failures s
+            ≡ (if ⟦<FromRead<R> as ByteIn>⟧.spent s then 1 else 0) }
     {
         FromRead {
             reader,

@@ -22,8 +22,11 @@ impl<W: Write> FromWrite<W> {
         ensures writer { writer_of result ≡ writer }
         ensures written { ⟦<FromWrite<W> as ByteOut>⟧.written result ≡ W.contents writer }
         ensures spent { ⟦<FromWrite<W> as ByteOut>⟧.spent result ≡ false }
-        ensures shows_written { (s : FromWrite W) → ⟦<FromWrite<W> as ByteOut>⟧.written s ≡ W.contents (writer_of s) }
-        ensures fails_once { (s : FromWrite W) → (⟦<FromWrite<W> as ByteOut>⟧.failures s).device ≡ (if ⟦<FromWrite<W> as ByteOut>⟧.spent s then 1 else 0) }
+        ensures shows_written { (s : FromWrite W) →
+            ⟦<FromWrite<W> as ByteOut>⟧.written s ≡ W.contents (writer_of s) }
+        ensures fails_once { (s : FromWrite W) →
+            (⟦<FromWrite<W> as ByteOut>⟧.failures s).device
+            ≡ (if ⟦<FromWrite<W> as ByteOut>⟧.spent s then 1 else 0) }
         ensures no_growths { (s : FromWrite W) → (⟦<FromWrite<W> as ByteOut>⟧.failures s).memory ≡ 0 }
     {
         FromWrite {

@@ -30,9 +30,13 @@ impl<O: ByteOut> PlainSink<O> {
         ensures spent { ⟦<PlainSink<O> as WordSink>⟧.spent result ≡ O.spent output }
         ensures holds_nothing { (s : PlainSink O) (ws : List ℕ) → ⟦<PlainSink<O> as WordSink>⟧.text s ws
             ≡ append_known (⟦<PlainSink<O> as WordSink>⟧.taken s) (plain_text ws) }
-        ensures shows_taken { (s : PlainSink O) → ⟦<PlainSink<O> as WordSink>⟧.taken s ≡ O.written (output_of s) }
-        ensures when_spent { (s : PlainSink O) → ⟦<PlainSink<O> as WordSink>⟧.spent s ≡ (⟦<PlainSink<O> as WordSink>⟧.closed s || O.spent (output_of s)) }
-        ensures shows_failures { (s : PlainSink O) → ⟦<PlainSink<O> as WordSink>⟧.failures s ≡ O.failures (output_of s) }
+        ensures shows_taken { (s : PlainSink O) →
+            ⟦<PlainSink<O> as WordSink>⟧.taken s ≡ O.written (output_of s) }
+        ensures when_spent { (s : PlainSink O) →
+            ⟦<PlainSink<O> as WordSink>⟧.spent s
+            ≡ (⟦<PlainSink<O> as WordSink>⟧.closed s || O.spent (output_of s)) }
+        ensures shows_failures { (s : PlainSink O) →
+            ⟦<PlainSink<O> as WordSink>⟧.failures s ≡ O.failures (output_of s) }
     {
         PlainSink {
             output,

@@ -3,13 +3,15 @@
 ghost use Rattle.cap_spec.specs.Plain.{plain_ends, plain_is_cut, plain_words};
 ghost use Rattle.cap_words.specs.Laws.{known_are_words};
 ghost use Rattle.cap_words.specs.Inner.{input_of};
-ghost use Rattle.cap_words.specs.PlainSource.{bytes_left, has_ended, has_failed, source_spent};
+ghost use Rattle.cap_words.specs.Phases.{has_ended, has_failed, source_spent};
+ghost use Rattle.cap_words.specs.PlainSource.{bytes_left};
 ghost use Rattle.cap_words.specs.declared.plain_words.PlainWords.{PlainWords};
 ghost use Rattle.std.specs.List.{AllByRecursion};
 ghost use Rattle.std.specs.Option.{option_map};
 ghost use Rattle.std.specs.Prelude.{◌*◌, ◌/◌, ◌<◌, ◌≡◌, ◌≤◌, ◌||◌, [], OnSome, false, if◌then◌else◌, length, take, unwrap_or, ℕ};
 
 use super::ends::{ByteIn, InFault};
+use super::phase::Phase;
 use super::sources::{SourceFault, WordSource};
 use super::transfer::fill;
 use super::word::word_of;
@@ -23,31 +25,30 @@ pub struct PlainWords<I: ByteIn> {
     phase: Phase,
 }
 
-// What a source does at its next call.
-#[derive(Clone, Copy)]
-enum Phase {
-    Open,
-    Ended,
-    Failed,
-}
-
 impl<I: ByteIn> PlainWords<I> {
     /// The words that the bytes of `input` spell.
     pub fn new(input: I) -> PlainWords<I>
         ensures input { input_of result ≡ input }
-        ensures words { ⟦<PlainWords<I> as WordSource>⟧.words result ≡ option_map plain_words (I.to_come input) }
-        ensures is_cut { ⟦<PlainWords<I> as WordSource>⟧.is_cut result ≡ plain_is_cut (unwrap_or (I.to_come input) []) }
+        ensures words { ⟦<PlainWords<I> as WordSource>⟧.words result
+            ≡ option_map plain_words (I.to_come input) }
+        ensures is_cut { ⟦<PlainWords<I> as WordSource>⟧.is_cut result
+            ≡ plain_is_cut (unwrap_or (I.to_come input) []) }
         ensures place { ⟦<PlainWords<I> as WordSource>⟧.place result ≡ 0 }
-        ensures places { OnSome (I.to_come input) (⟦<PlainWords<I> as WordSource>⟧.places result ≡ plain_ends 0 (unwrap_or (I.to_come input) [])) }
+        ensures places { OnSome (I.to_come input) (⟦<PlainWords<I> as WordSource>⟧.places result
+            ≡ plain_ends 0 (unwrap_or (I.to_come input) [])) }
         ensures unread { ⟦<PlainWords<I> as WordSource>⟧.unread result ≡ I.to_come input }
         ensures ended { ⟦<PlainWords<I> as WordSource>⟧.ended result ≡ false }
         ensures failed { ⟦<PlainWords<I> as WordSource>⟧.failed result ≡ false }
         ensures failures { ⟦<PlainWords<I> as WordSource>⟧.failures result ≡ I.failures input }
         ensures spent { ⟦<PlainWords<I> as WordSource>⟧.spent result ≡ I.spent input }
-        ensures when_spent { (s : PlainWords I) → ⟦<PlainWords<I> as WordSource>⟧.spent s ≡
-            (if ⟦<PlainWords<I> as WordSource>⟧.ended s then false else (⟦<PlainWords<I> as WordSource>⟧.failed s || I.spent (input_of s))) }
-        ensures shows_unread { (s : PlainWords I) → ⟦<PlainWords<I> as WordSource>⟧.unread s ≡ I.to_come (input_of s) }
-        ensures shows_failures { (s : PlainWords I) → ⟦<PlainWords<I> as WordSource>⟧.failures s ≡ I.failures (input_of s) }
+        ensures when_spent { (s : PlainWords I) →
+            ⟦<PlainWords<I> as WordSource>⟧.spent s
+            ≡ (if ⟦<PlainWords<I> as WordSource>⟧.ended s then false else
+            (⟦<PlainWords<I> as WordSource>⟧.failed s || I.spent (input_of s))) }
+        ensures shows_unread { (s : PlainWords I) →
+            ⟦<PlainWords<I> as WordSource>⟧.unread s ≡ I.to_come (input_of s) }
+        ensures shows_failures { (s : PlainWords I) →
+            ⟦<PlainWords<I> as WordSource>⟧.failures s ≡ I.failures (input_of s) }
     {
         PlainWords {
             input,

@@ -1,8 +1,9 @@
 //! Sinks of words.
 
 ghost use Rattle.cap_spec.specs.Plain.{plain_words};
-ghost use Rattle.cap_words.specs.Ends.{DeviceFails, Failures, GrowthFails, WasSpent};
-ghost use Rattle.cap_words.specs.Sinks.{Begins, StoppedPutting, WasFinished, WasPut, sink_fault_of};
+ghost use Rattle.cap_words.specs.Ends.{Failures, MemoryFails, OutputFails, WasClosed};
+ghost use Rattle.cap_words.specs.Sinks.{Begins, StaysOpen, StoppedPutting, WasFinished, WasPut, sink_fault_of};
+ghost use Rattle.cap_words.specs.declared.sinks.SinkFault.TheVariants.{Device, Memory, Spent};
 ghost use Rattle.std.specs.Io.KnownBytes.{Keeps};
 ghost use Rattle.std.specs.Prelude.{◌≡◌, [], ◌∷◌, Bool, IsErrOf, List, OnErr, OnOk, Option, false, true, ℕ};
 
@@ -52,13 +53,13 @@ pub trait WordSink {
     /// beginning of the text.
     fn put(&mut self, word: u64) -> Result<(), SinkFault>
         ensures put { OnOk result (WasPut text self.old self.new (word ∷ [])) }
-        ensures ok { OnOk result ((closed self.old ≡ false) × (closed self.new ≡ false) × (spent self.new ≡ spent self.old)
-            × (failures self.new ≡ failures self.old)) }
-        ensures err { OnErr result ((closed self.new ≡ true) × ((ws : List ℕ) → Begins (text self.old (word ∷ ws)) (taken self.new))) }
-        ensures stays { closed self.old ≡ true → (result ≡ Err SinkFault.Spent) × (self.new ≡ self.old) }
-        ensures device { IsErrOf result SinkFault.Device → DeviceFails (spent self.old) (failures self.old) (failures self.new) }
-        ensures memory { IsErrOf result SinkFault.Memory → GrowthFails (spent self.old) (failures self.old) (failures self.new) }
-        ensures was_spent { IsErrOf result SinkFault.Spent → WasSpent (spent self.old) (spent self.new) (failures self.old) (failures self.new)
+        ensures ok { OnOk result (StaysOpen closed spent failures self.old self.new) }
+        ensures err { OnErr result ((closed self.new ≡ true)
+            × ((ws : List ℕ) → Begins (text self.old (word ∷ ws)) (taken self.new))) }
+        ensures stays { closed self.old ≡ true → (result ≡ Err Spent) × (self.new ≡ self.old) }
+        ensures device { IsErrOf result Device → OutputFails spent failures self.old self.new }
+        ensures memory { IsErrOf result Memory → MemoryFails spent failures self.old self.new }
+        ensures was_spent { IsErrOf result Spent → WasClosed spent failures self.old self.new
             × Keeps (taken self.old) (taken self.new) };
 
     /// Takes the words of these bytes, one after the other, the lowest byte of each first; less than a
@@ -66,37 +67,39 @@ pub trait WordSink {
     /// is a beginning of the text. A closed sink answers `Spent` also where there is no word.
     fn put_bytes(&mut self, bytes: &[u8]) -> Result<(), SinkFault>
         ensures put { OnOk result (WasPut text self.old self.new (plain_words bytes.now)) }
-        ensures ok { OnOk result ((closed self.old ≡ false) × (closed self.new ≡ false) × (spent self.new ≡ spent self.old)
-            × (failures self.new ≡ failures self.old)) }
-        ensures err { OnErr result ((closed self.new ≡ true) × StoppedPutting text taken self.old self.new (plain_words bytes.now)) }
-        ensures stays { closed self.old ≡ true → (result ≡ Err SinkFault.Spent) × (self.new ≡ self.old) }
-        ensures device { IsErrOf result SinkFault.Device → DeviceFails (spent self.old) (failures self.old) (failures self.new) }
-        ensures memory { IsErrOf result SinkFault.Memory → GrowthFails (spent self.old) (failures self.old) (failures self.new) }
-        ensures was_spent { IsErrOf result SinkFault.Spent → WasSpent (spent self.old) (spent self.new) (failures self.old) (failures self.new)
+        ensures ok { OnOk result (StaysOpen closed spent failures self.old self.new) }
+        ensures err { OnErr result ((closed self.new ≡ true)
+            × StoppedPutting text taken self.old self.new (plain_words bytes.now)) }
+        ensures stays { closed self.old ≡ true → (result ≡ Err Spent) × (self.new ≡ self.old) }
+        ensures device { IsErrOf result Device → OutputFails spent failures self.old self.new }
+        ensures memory { IsErrOf result Memory → MemoryFails spent failures self.old self.new }
+        ensures was_spent { IsErrOf result Spent → WasClosed spent failures self.old self.new
             × Keeps (taken self.old) (taken self.new) };
 
     /// Flushes the output, which passes on the bytes that it holds back. A word that the sink holds back
     /// itself stays: `finish` writes it. After a fault every call answers `Spent`.
     fn flush(&mut self) -> Result<(), SinkFault>
         ensures put { OnOk result (WasPut text self.old self.new []) }
-        ensures ok { OnOk result ((closed self.old ≡ false) × (closed self.new ≡ false) × (spent self.new ≡ spent self.old)
-            × (failures self.new ≡ failures self.old)) }
-        ensures err { OnErr result ((closed self.new ≡ true) × StoppedPutting text taken self.old self.new []) }
+        ensures ok { OnOk result (StaysOpen closed spent failures self.old self.new) }
+        ensures err { OnErr result ((closed self.new ≡ true)
+            × StoppedPutting text taken self.old self.new []) }
         ensures kept { Keeps (taken self.old) (taken self.new) }
-        ensures stays { closed self.old ≡ true → (result ≡ Err SinkFault.Spent) × (self.new ≡ self.old) }
-        ensures device { IsErrOf result SinkFault.Device → DeviceFails (spent self.old) (failures self.old) (failures self.new) }
-        ensures memory { IsErrOf result SinkFault.Memory → GrowthFails (spent self.old) (failures self.old) (failures self.new) }
-        ensures was_spent { IsErrOf result SinkFault.Spent → WasSpent (spent self.old) (spent self.new) (failures self.old) (failures self.new) };
+        ensures stays { closed self.old ≡ true → (result ≡ Err Spent) × (self.new ≡ self.old) }
+        ensures device { IsErrOf result Device → OutputFails spent failures self.old self.new }
+        ensures memory { IsErrOf result Memory → MemoryFails spent failures self.old self.new }
+        ensures was_spent { IsErrOf result Spent → WasClosed spent failures self.old self.new };
 
     /// Writes what is held back. After `Ok` as after a fault every call answers `Spent`.
     fn finish(&mut self) -> Result<(), SinkFault>
         ensures finished { OnOk result (WasFinished text taken self.old self.new []) }
-        ensures ok { OnOk result ((closed self.old ≡ false) × (closed self.new ≡ true) × (failures self.new ≡ failures self.old)) }
-        ensures err { OnErr result ((closed self.new ≡ true) × Begins (text self.old []) (taken self.new)) }
-        ensures stays { closed self.old ≡ true → (result ≡ Err SinkFault.Spent) × (self.new ≡ self.old) }
-        ensures device { IsErrOf result SinkFault.Device → DeviceFails (spent self.old) (failures self.old) (failures self.new) }
-        ensures memory { IsErrOf result SinkFault.Memory → GrowthFails (spent self.old) (failures self.old) (failures self.new) }
-        ensures was_spent { IsErrOf result SinkFault.Spent → WasSpent (spent self.old) (spent self.new) (failures self.old) (failures self.new)
+        ensures ok { OnOk result ((closed self.old ≡ false) × (closed self.new ≡ true)
+            × (failures self.new ≡ failures self.old)) }
+        ensures err { OnErr result ((closed self.new ≡ true)
+            × Begins (text self.old []) (taken self.new)) }
+        ensures stays { closed self.old ≡ true → (result ≡ Err Spent) × (self.new ≡ self.old) }
+        ensures device { IsErrOf result Device → OutputFails spent failures self.old self.new }
+        ensures memory { IsErrOf result Memory → MemoryFails spent failures self.old self.new }
+        ensures was_spent { IsErrOf result Spent → WasClosed spent failures self.old self.new
             × Keeps (taken self.old) (taken self.new) };
 
     // What was taken begins each text that may come of it.

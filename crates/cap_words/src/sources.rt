@@ -2,8 +2,9 @@
 
 ghost use Rattle.cap_spec.specs.Plain.{plain_text, plain_words};
 ghost use Rattle.cap_spec.specs.Words.{IsWord};
-ghost use Rattle.cap_words.specs.Ends.{Fails, WasSpent, Works};
-ghost use Rattle.cap_words.specs.TakingMany.{EndsWithin, ReadsBytes, TakesAll};
+ghost use Rattle.cap_words.specs.Ends.{InputFails, NoFault, WasClosed};
+ghost use Rattle.cap_words.specs.TakingMany.{EndsWithin, ReadsBytes, TakesWords};
+ghost use Rattle.cap_words.specs.declared.sources.SourceFault.TheVariants.{Device, Spent, Truncated};
 ghost use Rattle.std.specs.Io.KnownBytes.{Consumes, Keeps};
 ghost use Rattle.std.specs.List.{AllByRecursion};
 ghost use Rattle.std.specs.Option.{option_to_list};
@@ -63,23 +64,29 @@ pub trait WordSource {
     /// - [`SourceFault::Device`]: the device of the input failed in this call.
     /// - [`SourceFault::Spent`]: an earlier error has closed the source, or its input.
     fn next(&mut self) -> Result<Option<u64>, SourceFault>
-        ensures words { IfOk result (λ r. Consumes (words self.old) (words self.new) (option_to_list r)) }
-        ensures word { IfOk result (λ r. IfSome r (λ _. OnSome (words self.old)
-            ((is_cut self.new ≡ is_cut self.old) × (places self.old ≡ place self.new ∷ places self.new)))) }
-        ensures none { result ≡ Ok None → OnSome (words self.old)
-            ((words self.old ≡ Some []) × (is_cut self.old ≡ false) × (places self.old ≡ place self.new ∷ [])) }
+        ensures words { IfOk result (λ r.
+            Consumes (words self.old) (words self.new) (option_to_list r)) }
+        ensures word { IfOk result (λ r.
+            IfSome r (λ _. OnSome (words self.old) ((is_cut self.new ≡ is_cut self.old)
+            × (places self.old ≡ place self.new ∷ places self.new)))) }
+        ensures none { result ≡ Ok None →
+            OnSome (words self.old) ((words self.old ≡ Some []) × (is_cut self.old ≡ false)
+            × (places self.old ≡ place self.new ∷ [])) }
         ensures ended { result ≡ Ok None → ended self.new ≡ true }
         ensures stays { ended self.old ≡ true → (result ≡ Ok None) × (self.new ≡ self.old) }
         ensures err { OnErr result (failed self.new ≡ true) }
-        ensures for_good { failed self.old ≡ true → (result ≡ Err SourceFault.Spent) × (self.new ≡ self.old) }
-        ensures reads { (bs : List ℕ) × Consumes (unread self.old) (unread self.new) bs × (place self.new ≡ min (place self.old + length bs) (2 ^ 64 - 1)) }
-        ensures ok { OnOk result (Works (spent self.old) (spent self.new) (failures self.old) (failures self.new)) }
-        ensures truncated { (byte : ℕ) → IsErrOf result (SourceFault.Truncated byte) → OnSome (words self.old)
-            ((words self.old ≡ Some []) × (is_cut self.old ≡ true) × (places self.old ≡ place self.new ∷ [])) }
-        ensures at { (byte : ℕ) → IsErrOf result (SourceFault.Truncated byte) → (byte ≡ place self.new)
-            × (spent self.old ≡ false) × (spent self.new ≡ true) × (failures self.new ≡ failures self.old) }
-        ensures device { IsErrOf result SourceFault.Device → Fails (spent self.old) (failures self.old) (failures self.new) × (spent self.new ≡ true) }
-        ensures was_spent { IsErrOf result SourceFault.Spent → WasSpent (spent self.old) (spent self.new) (failures self.old) (failures self.new)
+        ensures for_good { failed self.old ≡ true → (result ≡ Err Spent) × (self.new ≡ self.old) }
+        ensures reads { (bs : List ℕ) × Consumes (unread self.old) (unread self.new) bs
+            × (place self.new ≡ min (place self.old + length bs) (2 ^ 64 - 1)) }
+        ensures ok { OnOk result (NoFault spent failures self.old self.new) }
+        ensures truncated { (byte : ℕ) → IsErrOf result (Truncated byte) →
+            OnSome (words self.old) ((words self.old ≡ Some []) × (is_cut self.old ≡ true)
+            × (places self.old ≡ place self.new ∷ [])) }
+        ensures at { (byte : ℕ) → IsErrOf result (Truncated byte) →
+            (byte ≡ place self.new) × (spent self.old ≡ false) × (spent self.new ≡ true)
+            × (failures self.new ≡ failures self.old) }
+        ensures device { IsErrOf result Device → InputFails spent failures self.old self.new }
+        ensures was_spent { IsErrOf result Spent → WasClosed spent failures self.old self.new
             × (place self.new ≡ place self.old) × Keeps (unread self.old) (unread self.new) };
 
     /// Gives the bytes of buffered words, as far as `out` has space for whole ones, and returns how
@@ -88,16 +95,17 @@ pub trait WordSource {
     /// 0.
     fn ready(&mut self, out: &mut [u8]) -> usize
         ensures room { result ≤ length out.new }
-        ensures words { let ws = plain_words (take result out.new) in (take result out.new ≡ plain_text ws)
-            × TakesAll (words self.old) (words self.new) (is_cut self.old) (is_cut self.new) (place self.old) (place self.new)
-            (places self.old) (places self.new) ws }
+        ensures words { let ws = plain_words (take result out.new) in
+            (take result out.new ≡ plain_text ws)
+            × TakesWords words is_cut place places self.old self.new ws }
         ensures usable { (result ≡ 0) ⊎ (spent self.old ≡ false) }
         ensures stays { ended self.old ≡ true → result ≡ 0 }
         ensures for_good { failed self.old ≡ true → result ≡ 0 }
         ensures spent { spent self.new ≡ spent self.old }
         ensures failures { failures self.new ≡ failures self.old }
         ensures none { result ≡ 0 → self.new ≡ self.old }
-        ensures reads { ReadsBytes (unread self.old) (unread self.new) (place self.old) (place self.new) }
+        ensures reads { ReadsBytes (unread self.old) (unread self.new) (place self.old)
+            (place self.new) }
     {
         let _room = out.len();
         0
@@ -110,9 +118,9 @@ pub trait WordSource {
     fn append(&mut self, out: &mut Vec<u8>, most: usize) -> usize
         ensures most { result ≤ most }
         ensures room { vec_len out.old + result ≤ vec_capacity out.old }
-        ensures words { (given : List ℕ) × (out.new.items ≡ out.old.items ++ given) × (length given ≡ result) × (given ≡ plain_text (plain_words given))
-            × TakesAll (words self.old) (words self.new) (is_cut self.old) (is_cut self.new) (place self.old) (place self.new)
-            (places self.old) (places self.new) (plain_words given) }
+        ensures words { (given : List ℕ) × (out.new.items ≡ out.old.items ++ given)
+            × (length given ≡ result) × (given ≡ plain_text (plain_words given))
+            × TakesWords words is_cut place places self.old self.new (plain_words given) }
         ensures capacity { vec_capacity out.old ≤ vec_capacity out.new }
         ensures usable { (result ≡ 0) ⊎ (spent self.old ≡ false) }
         ensures stays { ended self.old ≡ true → result ≡ 0 }
@@ -120,7 +128,8 @@ pub trait WordSource {
         ensures spent { spent self.new ≡ spent self.old }
         ensures failures { failures self.new ≡ failures self.old }
         ensures none { result ≡ 0 → self.new ≡ self.old }
-        ensures reads { ReadsBytes (unread self.old) (unread self.new) (place self.old) (place self.new) }
+        ensures reads { ReadsBytes (unread self.old) (unread self.new) (place self.old)
+            (place self.new) }
     {
         let _room = out.len().min(most);
         0
@@ -136,24 +145,31 @@ pub trait WordSource {
     /// After an error, and after `false`, the whole words of `out` hold anything, and how many
     /// words came isn't known.
     fn fill(&mut self, out: &mut [u8]) -> Result<bool, SourceFault>
-        ensures full { result ≡ Ok true → let ws = plain_words out.new in (length ws ≡ length out.old / 8) × (take (8 * length ws) out.new ≡ plain_text ws)
-            × TakesAll (words self.old) (words self.new) (is_cut self.old) (is_cut self.new) (place self.old) (place self.new)
-            (places self.old) (places self.new) ws }
+        ensures full { result ≡ Ok true → let ws = plain_words out.new in
+            (length ws ≡ length out.old / 8) × (take (8 * length ws) out.new ≡ plain_text ws)
+            × TakesWords words is_cut place places self.old self.new ws }
         ensures rest { let whole = length out.old / 8 * 8 in drop whole out.new ≡ drop whole out.old }
         ensures none { length out.old < 8 → (result ≡ Ok true) × (self.new ≡ self.old) }
-        ensures works { 8 ≤ length out.old → OnOk result (Works (spent self.old) (spent self.new) (failures self.old) (failures self.new)) }
-        ensures reads { ReadsBytes (unread self.old) (unread self.new) (place self.old) (place self.new) }
-        ensures ended { result ≡ Ok false → (ended self.new ≡ true)
-            × EndsWithin (length out.old / 8) (words self.old) (is_cut self.old) false (places self.old) (place self.new) }
-        ensures stays { ended self.old ≡ true → 8 ≤ length out.old → (result ≡ Ok false) × (self.new ≡ self.old) }
+        ensures works { 8 ≤ length out.old → OnOk result (NoFault spent failures self.old self.new) }
+        ensures reads { ReadsBytes (unread self.old) (unread self.new) (place self.old)
+            (place self.new) }
+        ensures ended { result ≡ Ok false →
+            (ended self.new ≡ true)
+            × EndsWithin (length out.old / 8) (words self.old) (is_cut self.old) false
+            (places self.old) (place self.new) }
+        ensures stays { ended self.old ≡ true → 8 ≤ length out.old →
+            (result ≡ Ok false) × (self.new ≡ self.old) }
         ensures err { OnErr result (failed self.new ≡ true) }
-        ensures for_good { failed self.old ≡ true → 8 ≤ length out.old → (result ≡ Err SourceFault.Spent) × (self.new ≡ self.old) }
-        ensures truncated { (byte : ℕ) → IsErrOf result (SourceFault.Truncated byte) →
-            EndsWithin (length out.old / 8) (words self.old) (is_cut self.old) true (places self.old) (place self.new) }
-        ensures at { (byte : ℕ) → IsErrOf result (SourceFault.Truncated byte) → (byte ≡ place self.new)
-            × (spent self.old ≡ false) × (spent self.new ≡ true) × (failures self.new ≡ failures self.old) }
-        ensures device { IsErrOf result SourceFault.Device → Fails (spent self.old) (failures self.old) (failures self.new) × (spent self.new ≡ true) }
-        ensures was_spent { IsErrOf result SourceFault.Spent → WasSpent (spent self.old) (spent self.new) (failures self.old) (failures self.new)
+        ensures for_good { failed self.old ≡ true → 8 ≤ length out.old →
+            (result ≡ Err Spent) × (self.new ≡ self.old) }
+        ensures truncated { (byte : ℕ) → IsErrOf result (Truncated byte) →
+            EndsWithin (length out.old / 8) (words self.old) (is_cut self.old) true
+            (places self.old) (place self.new) }
+        ensures at { (byte : ℕ) → IsErrOf result (Truncated byte) →
+            (byte ≡ place self.new) × (spent self.old ≡ false) × (spent self.new ≡ true)
+            × (failures self.new ≡ failures self.old) }
+        ensures device { IsErrOf result Device → InputFails spent failures self.old self.new }
+        ensures was_spent { IsErrOf result Spent → WasClosed spent failures self.old self.new
             × (place self.new ≡ place self.old) × Keeps (unread self.old) (unread self.new) }
     {
         let whole = out.len() / 8 * 8;

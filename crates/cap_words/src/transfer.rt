@@ -1,6 +1,6 @@
 //! Filling a whole buffer from an input, and writing a whole buffer to an output.
 
-ghost use Rattle.cap_words.specs.Ends.{DeviceFails, Fails, GrowthFails, WasSpent, Works};
+ghost use Rattle.cap_words.specs.Ends.{InputFails, MemoryFails, NoFault, OutputFails};
 ghost use Rattle.std.specs.Io.KnownBytes.{Appends, Consumes, IsAtEnd, Keeps};
 ghost use Rattle.std.specs.Prelude.{◌<◌, ◌≡◌, ◌≤◌, [], IfNone, IfSome, IsErrOf, OnErr, OnOk, length, take, true, ℕ};
 
@@ -24,9 +24,12 @@ pub fn fill<I: ByteIn>(input: &mut I, buf: &mut [u8]) -> Filled
     ensures no_room { buf.old ≡ [] → (result.fault ≡ None) × (input.new ≡ input.old) }
     ensures end { IfNone result.fault (result.len < length buf.new → IsAtEnd (I.to_come input.new)) }
     ensures short { IfSome result.fault (λ _. result.len < length buf.new) }
-    ensures ok { 0 < length buf.old → IfNone result.fault (Works (I.spent input.old) (I.spent input.new) (I.failures input.old) (I.failures input.new)) }
-    ensures device { result.fault ≡ Some InFault.Device → Fails (I.spent input.old) (I.failures input.old) (I.failures input.new) × (I.spent input.new ≡ true) }
-    ensures was_spent { result.fault ≡ Some InFault.Spent → (I.spent input.old ≡ true) × (result.len ≡ 0) × (input.new ≡ input.old) }
+    ensures ok { 0 < length buf.old →
+        IfNone result.fault (NoFault I.spent I.failures input.old input.new) }
+    ensures device { result.fault ≡ Some InFault.Device →
+        InputFails I.spent I.failures input.old input.new }
+    ensures was_spent { result.fault ≡ Some InFault.Spent →
+        (I.spent input.old ≡ true) × (result.len ≡ 0) × (input.new ≡ input.old) }
 {
     // Nearly always the first read fills the buffer, so the loop for the others is a function of
     // its own.
@@ -57,8 +60,10 @@ fn fill_rest<I: ByteIn>(input: &mut I, buf: &mut [u8]) -> Filled
     ensures bytes { Consumes (I.to_come input.old) (I.to_come input.new) (take result.len buf.new) }
     ensures end { IfNone result.fault (result.len < length buf.new → IsAtEnd (I.to_come input.new)) }
     ensures short { IfSome result.fault (λ _. result.len < length buf.new) }
-    ensures ok { 0 < length buf.old → IfNone result.fault (Works (I.spent input.old) (I.spent input.new) (I.failures input.old) (I.failures input.new)) }
-    ensures device { result.fault ≡ Some InFault.Device → Fails (I.spent input.old) (I.failures input.old) (I.failures input.new) × (I.spent input.new ≡ true) }
+    ensures ok { 0 < length buf.old →
+        IfNone result.fault (NoFault I.spent I.failures input.old input.new) }
+    ensures device { result.fault ≡ Some InFault.Device →
+        InputFails I.spent I.failures input.old input.new }
     ensures was_spent { result.fault ≡ Some InFault.Spent → I.spent input.old ≡ true }
 {
     let mut len = 0;
@@ -86,13 +91,17 @@ fn fill_rest<I: ByteIn>(input: &mut I, buf: &mut [u8]) -> Filled
 /// - [`OutFault::Spent`]: an earlier error had closed the output. It is as it was.
 pub fn write_all<O: ByteOut>(output: &mut O, bytes: &[u8]) -> Result<(), OutFault>
     ensures ok { OnOk result (Appends (O.written output.old) (O.written output.new) bytes.now) }
-    ensures err { OnErr result ((n : ℕ) × (n < length bytes.now) × Appends (O.written output.old) (O.written output.new) (take n bytes.now)) }
+    ensures err { OnErr result ((n : ℕ) × (n < length bytes.now)
+        × Appends (O.written output.old) (O.written output.new) (take n bytes.now)) }
     ensures no_bytes { bytes.now ≡ [] → (result ≡ Ok tt) × (output.new ≡ output.old) }
-    ensures works { 0 < length bytes.now → OnOk result (Works (O.spent output.old) (O.spent output.new) (O.failures output.old) (O.failures output.new)) }
-    ensures device { IsErrOf result OutFault.Device → DeviceFails (O.spent output.old) (O.failures output.old) (O.failures output.new)
-        × (O.spent output.new ≡ true) }
-    ensures memory { IsErrOf result OutFault.Memory → GrowthFails (O.spent output.old) (O.failures output.old) (O.failures output.new) }
-    ensures was_spent { IsErrOf result OutFault.Spent → (O.spent output.old ≡ true) × (output.new ≡ output.old) }
+    ensures works { 0 < length bytes.now →
+        OnOk result (NoFault O.spent O.failures output.old output.new) }
+    ensures device { IsErrOf result OutFault.Device →
+        OutputFails O.spent O.failures output.old output.new × (O.spent output.new ≡ true) }
+    ensures memory { IsErrOf result OutFault.Memory →
+        MemoryFails O.spent O.failures output.old output.new }
+    ensures was_spent { IsErrOf result OutFault.Spent →
+        (O.spent output.old ≡ true) × (output.new ≡ output.old) }
 {
     let mut done = 0;
     while done < bytes.len() {

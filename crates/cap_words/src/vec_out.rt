@@ -1,6 +1,6 @@
 //! An output into memory.
 
-ghost use Rattle.cap_words.specs.Ends.{DeviceFails, GrowthFails, WasSpent, Works};
+ghost use Rattle.cap_words.specs.Ends.{MemoryFails, NoFault, OutputFails, WasClosed};
 ghost use Rattle.cap_words.specs.Vectors.{vec_failures, vec_room, vec_spent, vec_written};
 ghost use Rattle.cap_words.specs.declared.vec_out.VecOut.{VecOut};
 ghost use Rattle.std.specs.Io.KnownBytes.{WriteAppends};
@@ -22,7 +22,9 @@ impl VecOut {
     pub fn new(alloc: Global) -> VecOut
         ensures written { ⟦<VecOut as ByteOut>⟧.written result ≡ Some [] }
         ensures none_failed { ⟦<VecOut as ByteOut>⟧.failures result ≡ record { device = 0; memory = 0 } }
-        ensures when_spent { (s : VecOut) → ⟦<VecOut as ByteOut>⟧.spent s ≡ ((⟦<VecOut as ByteOut>⟧.failures s).memory == 2 ^ 64 - 1) }
+        ensures when_spent { (s : VecOut) →
+            ⟦<VecOut as ByteOut>⟧.spent s
+            ≡ ((⟦<VecOut as ByteOut>⟧.failures s).memory == 2 ^ 64 - 1) }
         ensures no_device { (s : VecOut) → (⟦<VecOut as ByteOut>⟧.failures s).device ≡ 0 }
     {
         VecOut {
@@ -54,12 +56,16 @@ impl ByteOut for VecOut {
         ensures no_bytes { buf.now ≡ [] → (result ≡ Ok 0) × (self.new ≡ self.old) }
         ensures for_good { vec_spent self.old ≡ true → self.new ≡ self.old }
         ensures some { 0 < length buf.now → IfOk result (λ n. 0 < n) }
-        ensures ok { 0 < length buf.now → OnOk result (Works (vec_spent self.old) (vec_spent self.new) (vec_failures self.old) (vec_failures self.new)) }
-        ensures device { IsErrOf result OutFault.Device → DeviceFails (vec_spent self.old) (vec_failures self.old) (vec_failures self.new)
-            × (vec_spent self.new ≡ true) }
-        ensures memory { IsErrOf result OutFault.Memory → GrowthFails (vec_spent self.old) (vec_failures self.old) (vec_failures self.new) }
-        ensures full { IsErrOf result OutFault.Memory → (vec_room self.old < length buf.now) × (vec_room self.old ≤ vec_room self.new) }
-        ensures was_spent { IsErrOf result OutFault.Spent → WasSpent (vec_spent self.old) (vec_spent self.new) (vec_failures self.old) (vec_failures self.new) }
+        ensures ok { 0 < length buf.now →
+            OnOk result (NoFault vec_spent vec_failures self.old self.new) }
+        ensures device { IsErrOf result OutFault.Device →
+            OutputFails vec_spent vec_failures self.old self.new × (vec_spent self.new ≡ true) }
+        ensures memory { IsErrOf result OutFault.Memory →
+            MemoryFails vec_spent vec_failures self.old self.new }
+        ensures full { IsErrOf result OutFault.Memory →
+            (vec_room self.old < length buf.now) × (vec_room self.old ≤ vec_room self.new) }
+        ensures was_spent { IsErrOf result OutFault.Spent →
+            WasClosed vec_spent vec_failures self.old self.new }
     {
         if buf.is_empty() {
             return Ok(0);

@@ -1,0 +1,22 @@
+-- What a source says of itself by its phase (profile).
+use Rattle.std.specs.Prelude.{Bool, true, false}
+use Rattle.cap_words.specs.declared.phase.Phase.{Phase}
+use Rattle.cap_words.specs.declared.phase.Phase.TheVariants.{Open, Ended, Failed}
+
+-- it has answered that there are no more words
+abbrev pub has_ended : Phase → Bool
+has_ended Open = false
+has_ended Ended = true
+has_ended Failed = false
+
+-- it has answered a fault
+abbrev pub has_failed : Phase → Bool
+has_failed Open = false
+has_failed Ended = false
+has_failed Failed = true
+
+-- whether an error has closed it, by its own phase and by whether one has closed its input
+abbrev pub source_spent : Phase → Bool → Bool
+source_spent Open input = input
+source_spent Ended input = false
+source_spent Failed input = true
