@@ -26,15 +26,18 @@ no_length [] e = refl
 no_length (x ∷ xs) e = absurd (omega arith)
 
 -- the places behind words, and the last of them
-ends_back : (at now : ℕ) (ws rest : List ℕ) → at < 2 ^ 64 → now ≡ capped (at + 8 * length ws) → now ∷ plain_ends now rest ≡ drop (length ws) (at ∷ plain_ends at (plain_text ws ++ rest))
+ends_back : (at now : ℕ) (ws rest : List ℕ) → at < 2 ^ 64 → now ≡ capped (at + 8 * length ws) →
+    now ∷ plain_ends now rest ≡ drop (length ws) (at ∷ plain_ends at (plain_text ws ++ rest))
 ends_back at now [] rest low e =
     let same : now ≡ at = omega arith in
     ap (λ k. k ∷ plain_ends k rest) same
 ends_back at now (w ∷ ws) rest low e = ends_back (capped (at + 8)) now ws rest (omega arith) (omega arith)
 
-pub taken : (a b : Option (List ℕ)) (bs : List ℕ) (k at now : ℕ) → AllByRecursion (λ b. b < 256) bs → length bs ≡ 8 * k → at < 2 ^ 64 → now ≡ capped (at + 8 * k) → Consumes a b bs
+pub taken : (a b : Option (List ℕ)) (bs : List ℕ) (k at now : ℕ) → AllByRecursion (λ b. b < 256) bs → length bs ≡ 8 * k → at < 2 ^ 64 →
+    now ≡ capped (at + 8 * k) → Consumes a b bs
     → (bs ≡ plain_text (plain_words bs))
-    × TakesAll (option_map plain_words a) (option_map plain_words b) (plain_is_cut (unwrap_or a [])) (plain_is_cut (unwrap_or b [])) at now (plain_ends at (unwrap_or a [])) (plain_ends now (unwrap_or b [])) (plain_words bs)
+    × TakesAll (option_map plain_words a) (option_map plain_words b) (plain_is_cut (unwrap_or a [])) (plain_is_cut (unwrap_or b [])) at now
+    (plain_ends at (unwrap_or a [])) (plain_ends now (unwrap_or b [])) (plain_words bs)
 taken a b bs k at now small long low e p =
     let s = plain_split bs small in
     let ws = plain_words bs in
@@ -49,7 +52,8 @@ taken a b bs k at now small long low e p =
     (all, go a b p s.are_words all many)
   where
     go : (a b : Option (List ℕ)) → Consumes a b bs → AllByRecursion IsWord (plain_words bs) → bs ≡ plain_text (plain_words bs) → length (plain_words bs) ≡ k
-        → TakesAll (option_map plain_words a) (option_map plain_words b) (plain_is_cut (unwrap_or a [])) (plain_is_cut (unwrap_or b [])) at now (plain_ends at (unwrap_or a [])) (plain_ends now (unwrap_or b [])) (plain_words bs)
+        → TakesAll (option_map plain_words a) (option_map plain_words b) (plain_is_cut (unwrap_or a [])) (plain_is_cut (unwrap_or b [])) at now
+        (plain_ends at (unwrap_or a [])) (plain_ends now (unwrap_or b [])) (plain_words bs)
     go None b p w all many = record { consumed = tt; goes_on = tt }
     go (Some x) None p w all many = absurd p
     go (Some x) (Some y) p w all many =
@@ -63,10 +67,13 @@ taken a b bs k at now small long low e p =
         }
 
 -- by a source that is open
-pub ready_words : (phase : Phase) (a b : Option (List ℕ)) (held out : List ℕ) (n k at now : ℕ) → phase ≡ Open → AllByRecursion (λ b. b < 256) (take n held) → n ≤ length held → n ≡ 8 * k → at < 2 ^ 64 → now ≡ capped (at + n)
+pub ready_words : (phase : Phase) (a b : Option (List ℕ)) (held out : List ℕ) (n k at now : ℕ) → phase ≡ Open →
+    AllByRecursion (λ b. b < 256) (take n held) → n ≤ length held → n ≡ 8 * k → at < 2 ^ 64 → now ≡ capped (at + n)
     → take n out ≡ take n held → Consumes a b (take n held)
     → (take n out ≡ plain_text (plain_words (take n out)))
-    × TakesAll (option_map plain_words (bytes_left phase a)) (option_map plain_words (bytes_left phase b)) (plain_is_cut (unwrap_or (bytes_left phase a) [])) (plain_is_cut (unwrap_or (bytes_left phase b) [])) at now (plain_ends at (unwrap_or (bytes_left phase a) [])) (plain_ends now (unwrap_or (bytes_left phase b) [])) (plain_words (take n out))
+    × TakesAll (option_map plain_words (bytes_left phase a)) (option_map plain_words (bytes_left phase b))
+    (plain_is_cut (unwrap_or (bytes_left phase a) [])) (plain_is_cut (unwrap_or (bytes_left phase b) [])) at now
+    (plain_ends at (unwrap_or (bytes_left phase a) [])) (plain_ends now (unwrap_or (bytes_left phase b) [])) (plain_words (take n out))
 ready_words phase a b held out n k at now is_open small within eight low value copied p =
     let long : length (take n held) ≡ 8 * k = omega (arith, length-take-le n held within) in
     rw (is_open, copied) (taken a b (take n held) k at now small long low (omega arith) p)

@@ -29,16 +29,25 @@ plain_join (a ∷ b ∷ c ∷ d ∷ x ∷ f ∷ g ∷ h ∷ xs) ys e = let t = p
 -- some words were taken, and then others
 takes_both : (a b c : Option (List ℕ)) (own more : List ℕ) (d e f : Bool) (p q r : ℕ) (ps qs rs : List ℕ)
     → TakesAll a b d e p q ps qs own → TakesAll b c e f q r qs rs more → TakesAll a c d f p r ps rs (own ++ more)
-takes_both a b c own more d e f p q r ps qs rs t u = record { consumed = Consumes-trans a b c own more t.consumed u.consumed; goes_on = go a b t.consumed t.goes_on u.goes_on }
+takes_both a b c own more d e f p q r ps qs rs t u = record {
+  consumed = Consumes-trans a b c own more t.consumed u.consumed;
+  goes_on = go a b t.consumed t.goes_on u.goes_on;
+}
   where
-    go : (a b : Option (List ℕ)) → Consumes a b own → OnSome a ((e ≡ d) × (q ∷ qs ≡ drop (length own) (p ∷ ps))) → OnSome b ((f ≡ e) × (r ∷ rs ≡ drop (length more) (q ∷ qs)))
+    go : (a b : Option (List ℕ)) → Consumes a b own → OnSome a ((e ≡ d) × (q ∷ qs ≡ drop (length own) (p ∷ ps))) →
+        OnSome b ((f ≡ e) × (r ∷ rs ≡ drop (length more) (q ∷ qs)))
         → OnSome a ((f ≡ d) × (r ∷ rs ≡ drop (length (own ++ more)) (p ∷ ps)))
     go None b t g h = tt
     go (Some x) None t g h = absurd t
-    go (Some x) (Some y) t g h = (h.0 ∙ g.0, h.1 ∙ (ap (drop (length more)) g.1 ∙ (drop-drop (length more) (length own) (p ∷ ps) ∙ ap (λ n. drop n (p ∷ ps)) (sym (length-append own more)))))
+    go (Some x) (Some y) t g h = (
+      h.0 ∙ g.0,
+      h.1 ∙ (ap (drop (length more)) g.1
+          ∙ (drop-drop (length more) (length own) (p ∷ ps) ∙ ap (λ n. drop n (p ∷ ps)) (sym (length-append own more)))),
+    )
 
 -- the next word, as a call gives it
-takes_one : (a b : Option (List ℕ)) (word : ℕ) (c d : Bool) (p q : ℕ) (ps qs : List ℕ) → Consumes a b (word ∷ []) → OnSome a ((d ≡ c) × (ps ≡ q ∷ qs)) → TakesAll a b c d p q ps qs (word ∷ [])
+takes_one : (a b : Option (List ℕ)) (word : ℕ) (c d : Bool) (p q : ℕ) (ps qs : List ℕ) → Consumes a b (word ∷ []) →
+    OnSome a ((d ≡ c) × (ps ≡ q ∷ qs)) → TakesAll a b c d p q ps qs (word ∷ [])
 takes_one a b word c d p q ps qs t g = record { consumed = t; goes_on = go a g }
   where
     go : (a : Option (List ℕ)) → OnSome a ((d ≡ c) × (ps ≡ q ∷ qs)) → OnSome a ((d ≡ c) × (q ∷ qs ≡ drop 1 (p ∷ ps)))
@@ -46,11 +55,13 @@ takes_one a b word c d p q ps qs t g = record { consumed = t; goes_on = go a g }
     go (Some x) g = (g.0, sym g.1)
 
 -- the input ended behind words that were taken, fewer than were wanted
-pub ends_both : (a b : Option (List ℕ)) (own : List ℕ) (count at p q : ℕ) (ps qs : List ℕ) (c d inside : Bool) → length own < count → TakesAll a b c d p q ps qs own
+pub ends_both : (a b : Option (List ℕ)) (own : List ℕ) (count at p q : ℕ) (ps qs : List ℕ) (c d inside : Bool) → length own < count →
+    TakesAll a b c d p q ps qs own
     → OnSome b ((b ≡ Some []) × (d ≡ inside) × (qs ≡ at ∷ [])) → EndsWithin count a c inside ps at
 ends_both a b own count at p q ps qs c d inside few t s = go a b t.consumed t.goes_on s
   where
-    go : (a b : Option (List ℕ)) → Consumes a b own → OnSome a ((d ≡ c) × (q ∷ qs ≡ drop (length own) (p ∷ ps))) → OnSome b ((b ≡ Some []) × (d ≡ inside) × (qs ≡ at ∷ [])) → EndsWithin count a c inside ps at
+    go : (a b : Option (List ℕ)) → Consumes a b own → OnSome a ((d ≡ c) × (q ∷ qs ≡ drop (length own) (p ∷ ps))) →
+        OnSome b ((b ≡ Some []) × (d ≡ inside) × (qs ≡ at ∷ [])) → EndsWithin count a c inside ps at
     go None b t g s = tt
     go (Some x) None t g s = absurd t
     go (Some x) (Some y) t g s =
@@ -73,7 +84,8 @@ reads_both a b c p q r s t = record {
 }
 
 -- a call that gave bytes at hand worked
-pub ready_works : {A : Type 0} (n : ℕ) (was is : Bool) (before after : A) → 0 < n → (n ≡ 0) ⊎ (was ≡ false) → is ≡ was → after ≡ before → Works was is before after
+pub ready_works : {A : Type 0} (n : ℕ) (was is : Bool) (before after : A) → 0 < n → (n ≡ 0) ⊎ (was ≡ false) → is ≡ was → after ≡ before →
+    Works was is before after
 ready_works n was is before after some (inl none) still same = absurd (omega arith)
 ready_works n was is before after some (inr usable) still same = record { usable = usable; still = still ∙ usable; none_failed = same }
 
@@ -89,14 +101,16 @@ word_filled at k l room before given h long =
     let within : at + 0 ≤ length (put_mid at k room before) = filled_within at k 0 room before h (omega arith) in
     filled at l 8 (put_mid at k room before) given (omega arith) long ∙ ap (λ xs. xs ++ take 8 given) (front_kept at k room before h)
 
-pub word_within : (at k l : ℕ) (room before given : List ℕ) → at ≤ length room → 8 ≤ length given → at + 8 ≤ length (put_mid at l (put_mid at k room before) given)
+pub word_within : (at k l : ℕ) (room before given : List ℕ) → at ≤ length room → 8 ≤ length given →
+    at + 8 ≤ length (put_mid at l (put_mid at k room before) given)
 word_within at k l room before given h long =
     let within : at + 0 ≤ length (put_mid at k room before) = filled_within at k 0 room before h (omega arith) in
     filled_within at l 8 (put_mid at k room before) given (omega arith) long
 
 -- no bytes were appended
 pub none_appended : (items : List ℕ) (words : Option (List ℕ)) (cut : Bool) (place : ℕ) (places : List ℕ)
-    → (given : List ℕ) × (items ≡ items ++ given) × (length given ≡ 0) × (given ≡ plain_text (plain_words given)) × TakesAll words words cut cut place place places places (plain_words given)
+    → (given : List ℕ) × (items ≡ items ++ given) × (length given ≡ 0) × (given ≡ plain_text (plain_words given))
+    × TakesAll words words cut cut place place places places (plain_words given)
 none_appended items words cut place places =
     ([], sym (append-nil items), refl, refl, record { consumed = Consumes-nil words; goes_on = on_some words _ (refl, refl) })
 
@@ -106,7 +120,8 @@ module _ {X : Type 0} (g : source.Ghosts X) where
     pub whole : done % 8 ≡ 0
     pub within : done ≤ length out
     pub text : take done out ≡ plain_text (plain_words (take done out))
-    pub takes : TakesAll (g.words old) (g.words now) (g.is_cut old) (g.is_cut now) (g.place old) (g.place now) (g.places old) (g.places now) (plain_words (take done out))
+    pub takes : TakesAll (g.words old) (g.words now) (g.is_cut old) (g.is_cut now) (g.place old) (g.place now) (g.places old) (g.places now)
+        (plain_words (take done out))
     pub reads : ReadsBytes (g.unread old) (g.unread now) (g.place old) (g.place now)
     pub none : done ≡ 0 → now ≡ old
     pub some : 0 < done → Works (g.spent old) (g.spent now) (g.failures old) (g.failures now)
@@ -118,7 +133,8 @@ module _ {X : Type 0} (g : source.Ghosts X) where
     pub some : 0 < n
     pub within : n ≤ length given
     pub text : take n given ≡ plain_text (plain_words (take n given))
-    pub takes : TakesAll (g.words now) (g.words new) (g.is_cut now) (g.is_cut new) (g.place now) (g.place new) (g.places now) (g.places new) (plain_words (take n given))
+    pub takes : TakesAll (g.words now) (g.words new) (g.is_cut now) (g.is_cut new) (g.place now) (g.place new) (g.places now) (g.places new)
+        (plain_words (take n given))
     pub reads : ReadsBytes (g.unread now) (g.unread new) (g.place now) (g.place new)
     pub works : Works (g.spent now) (g.spent new) (g.failures now) (g.failures new)
     pub not_ended : g.ended now ≡ true → n ≡ 0
@@ -132,7 +148,8 @@ module _ {X : Type 0} (g : source.Ghosts X) where
   next_gives now new given word e is t p r w not_ended not_failed =
       let bytes : take 8 given ≡ word_bytes word = ap (take 8) e in
       let one : plain_words (take 8 given) ≡ word ∷ [] = ap plain_words bytes ∙ plain_back (word ∷ []) [] (is, tt) in
-      let P = λ (ws : List ℕ). TakesAll (g.words now) (g.words new) (g.is_cut now) (g.is_cut new) (g.place now) (g.place new) (g.places now) (g.places new) ws in
+      let P = λ (ws : List ℕ). TakesAll (g.words now) (g.words new) (g.is_cut now) (g.is_cut new) (g.place now) (g.place new) (g.places now)
+      (g.places new) ws in
       record {
         some = omega arith;
         within = let long : length given ≡ 8 = ap length e in omega arith;
@@ -159,10 +176,15 @@ module _ {X : Type 0} (g : source.Ghosts X) where
   }
 
   -- without a fault so far, and then
-  pub works_both : (old now new : X) (done : ℕ) (out : List ℕ) → FilledSoFar old now done out → Works (g.spent now) (g.spent new) (g.failures now) (g.failures new)
+  pub works_both : (old now new : X) (done : ℕ) (out : List ℕ) → FilledSoFar old now done out →
+      Works (g.spent now) (g.spent new) (g.failures now) (g.failures new)
       → Works (g.spent old) (g.spent new) (g.failures old) (g.failures new)
   works_both old now new zero out f w = subst (λ (s : X). Works (g.spent s) (g.spent new) (g.failures s) (g.failures new)) (f.none refl) w
-  works_both old now new (suc k) out f w = let v = f.some (omega arith) in record { usable = v.usable; still = w.still; none_failed = w.none_failed ∙ v.none_failed }
+  works_both old now new (suc k) out f w = let v = f.some (omega arith) in record {
+    usable = v.usable;
+    still = w.still;
+    none_failed = w.none_failed ∙ v.none_failed;
+  }
 
   -- so many words are that
   pub filled_words : (old now : X) (done : ℕ) (out : List ℕ) → FilledSoFar old now done out → 8 * length (plain_words (take done out)) ≡ done
@@ -173,10 +195,13 @@ module _ {X : Type 0} (g : source.Ghosts X) where
       → take (done + n) longer ≡ take done out ++ take n given → done + n ≤ length longer → FilledSoFar old new (done + n) longer
   filled_more old now new done n out longer given f p e room =
       let many = filled_words old now done out f in
-      let more : 8 * length (plain_words (take n given)) ≡ n = sym (length_plain (plain_words (take n given))) ∙ (sym (ap length p.text) ∙ length-take-le n given p.within) in
+      let more : 8 * length (plain_words (take n given)) ≡ n = sym (length_plain (plain_words (take n given)))
+      ∙ (sym (ap length p.text) ∙ length-take-le n given p.within) in
       let front : length (take done out) % 8 ≡ 0 = ap (λ k. k % 8) (length-take-le done out f.within) ∙ f.whole in
-      let words : plain_words (take (done + n) longer) ≡ plain_words (take done out) ++ plain_words (take n given) = ap plain_words e ∙ plain_join (take done out) (take n given) front in
-      let P = λ (ws : List ℕ). TakesAll (g.words old) (g.words new) (g.is_cut old) (g.is_cut new) (g.place old) (g.place new) (g.places old) (g.places new) ws in
+      let words : plain_words (take (done + n) longer) ≡ plain_words (take done out) ++ plain_words (take n given) = ap plain_words e
+      ∙ plain_join (take done out) (take n given) front in
+      let P = λ (ws : List ℕ). TakesAll (g.words old) (g.words new) (g.is_cut old) (g.is_cut new) (g.place old) (g.place new) (g.places old)
+      (g.places new) ws in
       record {
         whole = omega (arith, f.whole, more);
         within = room;
@@ -205,5 +230,6 @@ module _ {X : Type 0} (g : source.Ghosts X) where
       let front : length (take done out) % 8 ≡ 0 = ap (λ k. k % 8) (length-take-le done out f.within) ∙ f.whole in
       let few : length (drop done out) < 8 = omega (arith, length-drop done out) in
       let same : plain_words out ≡ ws =
-      ap plain_words (sym (take-append-drop done out)) ∙ plain_join (take done out) (drop done out) front ∙ ap (λ l. ws ++ l) (plain_short (drop done out) few) ∙ append-nil ws in
+      ap plain_words (sym (take-append-drop done out)) ∙ plain_join (take done out) (drop done out) front
+      ∙ ap (λ l. ws ++ l) (plain_short (drop done out) few) ∙ append-nil ws in
       rw same (omega (arith, many), ap (λ k. take k out) many ∙ f.text, f.takes)

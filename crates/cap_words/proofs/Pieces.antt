@@ -39,12 +39,15 @@ plain_end at (a ∷ b ∷ c ∷ d ∷ e ∷ f ∷ g ∷ h ∷ rest) low =
     }
 
 -- the input ended behind these bytes, by a source that is open
-pub ends_within : (phase : Phase) (a b : Option (List ℕ)) (bytes : List ℕ) (count at next : ℕ) (inside : Bool) → phase ≡ Open → at < 2 ^ 64 → length bytes < 8 * count → next ≡ capped (at + length bytes)
+pub ends_within : (phase : Phase) (a b : Option (List ℕ)) (bytes : List ℕ) (count at next : ℕ) (inside : Bool) → phase ≡ Open → at < 2 ^ 64 →
+    length bytes < 8 * count → next ≡ capped (at + length bytes)
     → plain_is_cut bytes ≡ inside → Consumes a b bytes → IsAtEnd b
-    → EndsWithin count (option_map plain_words (bytes_left phase a)) (plain_is_cut (unwrap_or (bytes_left phase a) [])) inside (plain_ends at (unwrap_or (bytes_left phase a) [])) next
+    → EndsWithin count (option_map plain_words (bytes_left phase a)) (plain_is_cut (unwrap_or (bytes_left phase a) [])) inside
+    (plain_ends at (unwrap_or (bytes_left phase a) [])) next
 ends_within phase a b bytes count at next inside is_open low few value cut p end = rw is_open (go a b p end)
   where
-    go : (a b : Option (List ℕ)) → Consumes a b bytes → IsAtEnd b → EndsWithin count (option_map plain_words a) (plain_is_cut (unwrap_or a [])) inside (plain_ends at (unwrap_or a [])) next
+    go : (a b : Option (List ℕ)) → Consumes a b bytes → IsAtEnd b →
+        EndsWithin count (option_map plain_words a) (plain_is_cut (unwrap_or a [])) inside (plain_ends at (unwrap_or a [])) next
     go None b p end = tt
     go (Some x) None p end = absurd p
     go (Some x) (Some y) p end =
@@ -59,7 +62,8 @@ on_some (Some x) P h = h
 
 -- nothing was asked for
 pub none_filled : (words : Option (List ℕ)) (cut : Bool) (at : ℕ) (places out : List ℕ) (count : ℕ) → length out < 8 → count ≡ 0
-    → (length (plain_words out) ≡ count) × (take (8 * length (plain_words out)) out ≡ plain_text (plain_words out)) × TakesAll words words cut cut at at places places (plain_words out)
+    → (length (plain_words out) ≡ count) × (take (8 * length (plain_words out)) out ≡ plain_text (plain_words out))
+    × TakesAll words words cut cut at at places places (plain_words out)
 none_filled words cut at places out count few none =
     rw (plain_short out few) (sym none, refl, record { consumed = Consumes-nil words; goes_on = on_some words _ (refl, refl) })
 
@@ -69,10 +73,13 @@ front_all [] ys a = tt
 front_all (x ∷ xs) ys a = (a.0, front_all xs ys a.1)
 
 -- a piece was filled, by a source that is open
-pub piece_filled : (phase : Phase) (a b : Option (List ℕ)) (given rest : List ℕ) (n k at now : ℕ) → phase ≡ Open → AllByRecursion (λ b. b < 256) (given ++ rest) → length given ≡ 8 * k → n ≡ length given → length rest < 8
+pub piece_filled : (phase : Phase) (a b : Option (List ℕ)) (given rest : List ℕ) (n k at now : ℕ) → phase ≡ Open →
+    AllByRecursion (λ b. b < 256) (given ++ rest) → length given ≡ 8 * k → n ≡ length given → length rest < 8
     → at < 2 ^ 64 → now ≡ capped (at + n) → Consumes a b (take n given)
     → (length (plain_words (given ++ rest)) ≡ k) × (take (8 * length (plain_words (given ++ rest))) (given ++ rest) ≡ plain_text (plain_words (given ++ rest)))
-    × TakesAll (option_map plain_words (bytes_left phase a)) (option_map plain_words (bytes_left phase b)) (plain_is_cut (unwrap_or (bytes_left phase a) [])) (plain_is_cut (unwrap_or (bytes_left phase b) [])) at now (plain_ends at (unwrap_or (bytes_left phase a) [])) (plain_ends now (unwrap_or (bytes_left phase b) [])) (plain_words (given ++ rest))
+    × TakesAll (option_map plain_words (bytes_left phase a)) (option_map plain_words (bytes_left phase b))
+    (plain_is_cut (unwrap_or (bytes_left phase a) [])) (plain_is_cut (unwrap_or (bytes_left phase b) [])) at now
+    (plain_ends at (unwrap_or (bytes_left phase a) [])) (plain_ends now (unwrap_or (bytes_left phase b) [])) (plain_words (given ++ rest))
 piece_filled phase a b given rest n k at now is_open small long whole few low value p =
     let bytes = front_all given rest small in
     let all : take n given ≡ given = take_all n given (omega arith) in

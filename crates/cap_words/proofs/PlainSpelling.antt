@@ -23,7 +23,8 @@ part_consumed (Some x) (Some y) bytes at some few p end =
     (ap (λ l. Some (plain_words l)) all ∙ ap Some part.words, ap plain_is_cut all ∙ part.is_cut, ap (plain_ends at) all ∙ part.ends)
 
 -- a part of a word, taken by a source that is open
-pub part_taken : (phase : Phase) (a b : Option (List ℕ)) (bytes : List ℕ) (n at next : ℕ) → phase ≡ Open → 0 < n → n < 8 → length bytes ≡ 8 → next ≡ capped (at + n)
+pub part_taken : (phase : Phase) (a b : Option (List ℕ)) (bytes : List ℕ) (n at next : ℕ) → phase ≡ Open → 0 < n → n < 8 → length bytes ≡ 8 →
+    next ≡ capped (at + n)
     → Consumes a b (take n bytes) → IsAtEnd b → OnSome (option_map plain_words (bytes_left phase a)) ((option_map plain_words (bytes_left phase a) ≡ Some [])
     × (plain_is_cut (unwrap_or (bytes_left phase a) []) ≡ true) × (plain_ends at (unwrap_or (bytes_left phase a) []) ≡ next ∷ []))
 part_taken phase a b bytes n at next is_open some few long value p end =
@@ -41,5 +42,6 @@ pub part_begins : (a b : Option (List ℕ)) (n : ℕ) (bytes rest all : List ℕ
 part_begins None b n bytes rest all e p = tt
 part_begins (Some x) None n bytes rest all e p = absurd p
 part_begins (Some x) (Some y) n bytes rest all e p =
-    let split : all ≡ take n bytes ++ (drop n bytes ++ rest) = e ∙ ap (λ l. l ++ rest) (sym (take-append-drop n bytes)) ∙ append_assoc (take n bytes) (drop n bytes) rest in
+    let split : all ≡ take n bytes ++ (drop n bytes ++ rest) = e ∙ ap (λ l. l ++ rest) (sym (take-append-drop n bytes))
+    ∙ append_assoc (take n bytes) (drop n bytes) rest in
     (drop n bytes ++ rest, ap (λ l. x ++ l) split ∙ sym (append_assoc x (take n bytes) (drop n bytes ++ rest)) ∙ ap (λ l. l ++ (drop n bytes ++ rest)) (sym p))

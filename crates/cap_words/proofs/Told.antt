@@ -27,7 +27,8 @@ told_rest bs ys false e = tt
 pub told_consumes : (a b : Option (List ℕ)) (bs : List ℕ) → Consumes a b bs → Consumes (told_bytes a) (told_bytes b) bs
 told_consumes None b bs p = tt
 told_consumes (Some xs) None bs p = absurd p
-told_consumes (Some xs) (Some ys) bs p = subst (λ l. Consumes (told_bytes (Some l)) (told_bytes (Some ys)) bs) (sym p) (told_rest bs ys (are_bytes (bs ++ ys)) refl)
+told_consumes (Some xs) (Some ys) bs p =
+    subst (λ l. Consumes (told_bytes (Some l)) (told_bytes (Some ys)) bs) (sym p) (told_rest bs ys (are_bytes (bs ++ ys)) refl)
 
 -- and is at its end where that is
 pub told_end : (a : Option (List ℕ)) → IsAtEnd a → IsAtEnd (told_bytes a)
@@ -40,12 +41,14 @@ told_keeps None b p = tt
 told_keeps (Some xs) None p = absurd p
 told_keeps (Some xs) (Some ys) p = subst (λ l. Keeps (told_bytes (Some xs)) (told_bytes (Some l))) (sym p) (Keeps-refl (told_bytes (Some xs)))
 
-told_read : {E : Type 0} (a b : Option (List ℕ)) (answer : Result ℕ E) (buf : List ℕ) → ReadConsumes a b answer buf → ReadConsumes (told_bytes a) (told_bytes b) answer buf
+told_read : {E : Type 0} (a b : Option (List ℕ)) (answer : Result ℕ E) (buf : List ℕ) → ReadConsumes a b answer buf →
+    ReadConsumes (told_bytes a) (told_bytes b) answer buf
 told_read a b (Ok n) buf p = (told_consumes a b _ p.0, λ none some. told_end b (p.1 none some))
 told_read a b (Err e) buf p = told_keeps a b p
 
 -- a read past a buffer that holds nothing
-pub told_past : {E : Type 0} (a b : Option (List ℕ)) (held left : List ℕ) (answer : Result ℕ E) (buf : List ℕ) → held ≡ [] → left ≡ [] → ReadConsumes a b answer buf
+pub told_past : {E : Type 0} (a b : Option (List ℕ)) (held left : List ℕ) (answer : Result ℕ E) (buf : List ℕ) → held ≡ [] → left ≡ [] →
+    ReadConsumes a b answer buf
     → ReadConsumes (told_bytes (prepend_known held a)) (told_bytes (prepend_known left b)) answer buf
 told_past a b held left answer buf none nothing p =
     let before : prepend_known held a ≡ a = ap (λ l. prepend_known l a) none ∙ prepend_known-nil a in

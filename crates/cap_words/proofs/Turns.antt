@@ -20,7 +20,10 @@ moved_more spent failures zero n old mid new before some works =
     record { none = λ none. absurd (omega arith); some = λ _. subst P (before.none refl) works }
 moved_more spent failures (suc m) n old mid new before some works =
     let was = before.some (omega arith) in
-    record { none = λ none. absurd (omega arith); some = λ _. record { usable = was.usable; still = works.still; none_failed = works.none_failed ∙ was.none_failed } }
+    record {
+      none = λ none. absurd (omega arith);
+      some = λ _. record { usable = was.usable; still = works.still; none_failed = works.none_failed ∙ was.none_failed };
+    }
 
 -- a buffer that was filled up to a place, and then by a read into the rest of it
 pub filled : (at k n : ℕ) (buf given : List ℕ) → at ≤ length buf → n ≤ length given → take (at + n) (put_mid at k buf given) ≡ take at buf ++ take n given

@@ -20,14 +20,17 @@ whole_text bytes small =
     let long : length bytes ≡ length text + length rest = ap length s.whole ∙ length-append text rest in
     let few : length rest < 8 = s.partial in
     let same : length bytes / 8 * 8 ≡ length text = omega (arith, eight, long, few) in
-    ap (λ n. take n bytes) same ∙ ap (take (length text)) s.whole ∙ take-append-le (length text) text rest (omega arith) ∙ take_all (length text) text (omega arith)
+    ap (λ n. take n bytes) same ∙ ap (take (length text)) s.whole ∙ take-append-le (length text) text rest (omega arith)
+    ∙ take_all (length text) text (omega arith)
 
 -- the text of words was written
-pub words_put : (a b : Option (List ℕ)) (bytes ws more : List ℕ) → bytes ≡ plain_text ws → Appends a b bytes → Keeps (append_known a (plain_text (ws ++ more))) (append_known b (plain_text more))
+pub words_put : (a b : Option (List ℕ)) (bytes ws more : List ℕ) → bytes ≡ plain_text ws → Appends a b bytes →
+    Keeps (append_known a (plain_text (ws ++ more))) (append_known b (plain_text more))
 words_put a b bytes ws more e p =
     append_known-moved a b bytes (plain_text more) (plain_text (ws ++ more)) p (flat_map-append word_bytes ws more ∙ ap (λ l. l ++ plain_text more) (sym e))
 
 -- a part of the text of words was written
-pub words_begin : (a b : Option (List ℕ)) (n : ℕ) (bytes ws more : List ℕ) → bytes ≡ plain_text ws → Appends a b (take n bytes) → Begins (append_known a (plain_text (ws ++ more))) b
+pub words_begin : (a b : Option (List ℕ)) (n : ℕ) (bytes ws more : List ℕ) → bytes ≡ plain_text ws → Appends a b (take n bytes) →
+    Begins (append_known a (plain_text (ws ++ more))) b
 words_begin a b n bytes ws more e p =
     part_begins a b n bytes (plain_text more) (plain_text (ws ++ more)) (flat_map-append word_bytes ws more ∙ ap (λ l. l ++ plain_text more) (sym e)) p

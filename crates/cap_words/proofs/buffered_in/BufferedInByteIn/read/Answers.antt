@@ -19,8 +19,10 @@ returns-clause-bytes g c =
       | else-self w ↦ rw w.self-is (Keeps-refl _)
     ] in
     let read = prepend_known-read _ _ _ _ _ _ kept split (λ (p : (given.result ≡ 0) × (0 < length given.new.to)).
-    let none : length (slice_range held s.start s.end) ≡ 0 = zero_unless_positive _ _ (λ some. given.ensures.some some (omega (arith, p.1, given.auto.to))) p.0 in
-    let empty : s.start ≡ s.end = omega (arith, none, length-take (s.end - s.start) (drop s.start held), length-drop s.start held, s.ordered, s.inside, c.deref.ensures.len) in
+    let none : length (slice_range held s.start s.end) ≡ 0 =
+    zero_unless_positive _ _ (λ some. given.ensures.some some (omega (arith, p.1, given.auto.to))) p.0 in
+    let empty : s.start ≡ s.end =
+    omega (arith, none, length-take (s.end - s.start) (drop s.start held), length-drop s.start held, s.ordered, s.inside, c.deref.ensures.len) in
     let end : IsAtEnd (g.R.Read.remaining s.reader) = elim c.if-self.branch [
       | then-self+else-buf-ge-BUFFER+in_default w ↦ rw w.self-is (w.in_default.ensures.end (rw w.self-is at empty))
       | else-self w ↦ absurd (w.if-self.false (rw w.self-is at empty))
@@ -34,4 +36,5 @@ returns-then-buf-ge-BUFFER-clause-bytes g c =
     let old = c.args.self.now in
     let new = c.read_past.new.self in
     let held = c.read_past.ensures.held in
-    told_past _ _ _ _ _ _ (none_between old.buffer.items old.start old.end c.if-self.true) (none_between new.buffer.items new.start new.end (held.1 ∙ c.if-self.true ∙ sym held.2)) c.read_past.ensures.bytes
+    told_past _ _ _ _ _ _ (none_between old.buffer.items old.start old.end c.if-self.true)
+    (none_between new.buffer.items new.start new.end (held.1 ∙ c.if-self.true ∙ sym held.2)) c.read_past.ensures.bytes

@@ -11,8 +11,11 @@ returns-in-Ok-clause-put g c = λ ws.
 
 pub returns-in-Err-clause-err : goal.returns-in-Err-clause-err
 returns-in-Err-clause-err g c =
-    let bytes = c.args.bytes.now in
-    (refl, λ ws. words_begin _ _ c.in-Err.ensures.err.0 _ (plain_words bytes) ws (whole_text bytes (bytes_small bytes (λ i. c.type_inv.bytes i))) c.in-Err.ensures.err.2)
+    let bytes = c.args.bytes.now in (
+      refl,
+      λ ws. words_begin _ _ c.in-Err.ensures.err.0 _ (plain_words bytes) ws (whole_text bytes (bytes_small bytes (λ i. c.type_inv.bytes i)))
+          c.in-Err.ensures.err.2,
+    )
 
 pub returns-in-Ok-clause-ok : goal.returns-in-Ok-clause-ok
 returns-in-Ok-clause-ok g c = search rules

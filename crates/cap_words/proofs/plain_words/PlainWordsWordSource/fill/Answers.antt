@@ -14,15 +14,18 @@ returns-then-piece-whole-clause-full g c = λ is.
     let whole = length c.args.out.now / 8 * 8 in
     let rest = drop whole c.args.out.now in
     let small : AllByRecursion (λ b. b < 256) (given ++ rest) = bytes_small (given ++ rest) (λ i. c.type_inv.out i) in
-    let long : length given ≡ 8 * (length c.args.out.now / 8) = omega (arith, c.fill-piece.auto.buf, length-take-le (length c.args.out.now / 8 * 8) c.args.out.now (omega arith)) in
+    let long : length given ≡ 8 * (length c.args.out.now / 8) =
+    omega (arith, c.fill-piece.auto.buf, length-take-le (length c.args.out.now / 8 * 8) c.args.out.now (omega arith)) in
     let few : length rest < 8 = omega (arith, length-drop whole c.args.out.now) in
-    piece_filled _ _ _ given rest c.fill-piece.result.len (length c.args.out.now / 8) _ _ c.in-Open.is small long (omega arith) few (omega arith) (omega (arith, c.saturating_add-byte.ensures)) c.fill-piece.ensures.bytes
+    piece_filled _ _ _ given rest c.fill-piece.result.len (length c.args.out.now / 8) _ _ c.in-Open.is small long (omega arith) few (omega arith)
+    (omega (arith, c.saturating_add-byte.ensures)) c.fill-piece.ensures.bytes
 
 pub returns-then-piece-eq0-clause-ended : goal.returns-then-piece-eq0-clause-ended
 returns-then-piece-eq0-clause-ended g c = λ is.
     let given = c.fill-piece.new.buf in
     let n = c.fill-piece.result.len in
-    let long : length given ≡ 8 * (length c.args.out.now / 8) = omega (arith, c.fill-piece.auto.buf, length-take-le (length c.args.out.now / 8 * 8) c.args.out.now (omega arith)) in
+    let long : length given ≡ 8 * (length c.args.out.now / 8) =
+    omega (arith, c.fill-piece.auto.buf, length-take-le (length c.args.out.now / 8 * 8) c.args.out.now (omega arith)) in
     let count : length (take n given) ≡ n = length-take-le n given c.fill-piece.ensures.len in
     let end = rw c.in_default.is at c.fill-piece.ensures.end in (
       refl,
@@ -34,7 +37,8 @@ pub returns-else-piece-eq0-clause-truncated : goal.returns-else-piece-eq0-clause
 returns-else-piece-eq0-clause-truncated g c = λ byte is.
     let given = c.fill-piece.new.buf in
     let n = c.fill-piece.result.len in
-    let long : length given ≡ 8 * (length c.args.out.now / 8) = omega (arith, c.fill-piece.auto.buf, length-take-le (length c.args.out.now / 8 * 8) c.args.out.now (omega arith)) in
+    let long : length given ≡ 8 * (length c.args.out.now / 8) =
+    omega (arith, c.fill-piece.auto.buf, length-take-le (length c.args.out.now / 8 * 8) c.args.out.now (omega arith)) in
     let count : length (take n given) ≡ n = length-take-le n given c.fill-piece.ensures.len in
     let end = rw c.in_default.is at c.fill-piece.ensures.end in
     ends_within _ _ _ (take n given) _ _ _ _ c.in-Open.is (omega arith) (omega arith) (omega (arith, c.saturating_add-byte.ensures))

@@ -39,7 +39,8 @@ loop-done-preserved g c =
     record {
       filled =
           filled_more s _ _ _ c.loop-done.done 8 c.loop-done.out _ given still
-          (next_gives s _ _ given c.in-Ok-Some.word bytes (search rules) e.words e.word (reads_one _ _ _ _ c.next.ensures.reads) e.ok (λ is. let h = (e.stays is).0 in cc) (λ is. let h = (e.for_good is).0 in cc))
+          (next_gives s _ _ given c.in-Ok-Some.word bytes (search rules) e.words e.word (reads_one _ _ _ _ c.next.ensures.reads) e.ok
+          (λ is. let h = (e.stays is).0 in cc) (λ is. let h = (e.for_good is).0 in cc))
           (word_filled _ _ _ _ _ given far.within (omega arith)) (word_within _ _ _ _ _ given far.within (omega arith));
       rest = search (rules, overwrites);
     }
@@ -58,7 +59,8 @@ pub returns-in-Ok-None-clause-ended : goal.returns-in-Ok-None-clause-ended
 returns-in-Ok-None-clause-ended g c = λ is.
     let far = c.loop-done.invariant.filled in
     let still = filled_still g.Self.WordSource _ _ _ _ _ (c.ready-count.ensures.none (omega arith)) far in
-    let few : length (plain_words (take c.loop-done.done c.loop-done.out)) < length c.args.out.now / 8 = omega (arith, filled_words g.Self.WordSource _ _ _ _ far) in
+    let few : length (plain_words (take c.loop-done.done c.loop-done.out)) < length c.args.out.now / 8 =
+    omega (arith, filled_words g.Self.WordSource _ _ _ _ far) in
     let e = rw c.in-Ok-None.field-0-is at c.in-Ok-None.ensures in
     (e.ended refl, ends_both _ _ _ _ _ _ _ _ _ _ _ _ few still.takes (e.none refl))
 
@@ -66,7 +68,8 @@ pub returns-in-Err-clause-truncated : goal.returns-in-Err-clause-truncated
 returns-in-Err-clause-truncated g c = λ byte is.
     let far = c.loop-done.invariant.filled in
     let still = filled_still g.Self.WordSource _ _ _ _ _ (c.ready-count.ensures.none (omega arith)) far in
-    let few : length (plain_words (take c.loop-done.done c.loop-done.out)) < length c.args.out.now / 8 = omega (arith, filled_words g.Self.WordSource _ _ _ _ far) in
+    let few : length (plain_words (take c.loop-done.done c.loop-done.out)) < length c.args.out.now / 8 =
+    omega (arith, filled_words g.Self.WordSource _ _ _ _ far) in
     ends_both _ _ _ _ _ _ _ _ _ _ _ _ few still.takes (c.in-Err.ensures.truncated byte (cc))
 
 pub returns-clause-full : goal.returns-clause-full
