@@ -32,12 +32,14 @@ leads_both : (c d e : Course) (at mid to : ℕ) (xs ys : List ℕ) → Leads c d
 leads_both c d e at mid to xs ys s t = record {
   words = s.words ∙ (ap (λ l. xs ++ l) t.words ∙ sym (append_assoc xs ys (words_of e)));
   cut = s.cut ∙ t.cut;
-  places = t.places ∙ (ap (drop (length ys)) s.places ∙ (drop-drop (length ys) (length xs) (at ∷ places_of c) ∙ ap (λ n. drop n (at ∷ places_of c)) (sym (length-append xs ys))));
+  places = t.places ∙ (ap (drop (length ys)) s.places
+      ∙ (drop-drop (length ys) (length xs) (at ∷ places_of c) ∙ ap (λ n. drop n (at ∷ places_of c)) (sym (length-append xs ys))));
 }
 
 -- zero words that are held
 leads_zeros : (t n m at : ℕ) (c : Course) → t ≡ n + m → Leads (zeros_then t at c) (zeros_then m at c) at at (replicate n 0)
-leads_zeros t zero m at c e = let same : m ≡ t = omega arith in subst (λ k. Leads (zeros_then t at c) (zeros_then k at c) at at []) (sym same) (leads_none (zeros_then t at c) at)
+leads_zeros t zero m at c e = let same : m ≡ t = omega arith in
+    subst (λ k. Leads (zeros_then t at c) (zeros_then k at c) at at []) (sym same) (leads_none (zeros_then t at c) at)
 leads_zeros zero (suc n) m at c e = absurd (omega arith)
 leads_zeros (suc t) (suc n) m at c e =
     let more = leads_zeros t n m at c (omega arith) in
@@ -56,7 +58,8 @@ gives_both z p y q x r bs cs ws vs f g = λ at rest low.
     let place : capped (mid + length cs) ≡ capped (at + length (bs ++ cs)) = omega (arith, length-append bs cs) in
     let both = leads_both _ _ _ at mid (capped (mid + length cs)) ws vs (f at (cs ++ rest) low) (g mid rest (omega arith)) in
     let moved = subst (λ k. Leads (ahead Open z p at (bs ++ (cs ++ rest))) (ahead Open x r k rest) at k (ws ++ vs)) place both in
-    subst (λ l. Leads (ahead Open z p at l) (ahead Open x r (capped (at + length (bs ++ cs))) rest) at (capped (at + length (bs ++ cs))) (ws ++ vs)) (sym (append_assoc bs cs rest)) moved
+    subst (λ l. Leads (ahead Open z p at l) (ahead Open x r (capped (at + length (bs ++ cs))) rest) at (capped (at + length (bs ++ cs))) (ws ++ vs))
+    (sym (append_assoc bs cs rest)) moved
 
 -- zero words that are held need none
 pub gives_zeros : (t n m p : ℕ) → t ≡ n + m → Gives t p m p [] (replicate n 0)
@@ -99,27 +102,33 @@ gives_head n w z p (tag ∷ more) room few long same size e f g =
     rw (head, word, zeros, plain) (λ at rest low. leads_word _ _ _ at _ (course_head at tag bs rest many))
 
 -- what was unpacked, and then some more of the bytes behind it, into the room behind it
-pub unpacks_both : (z p : ℕ) (bytes room longer part given : List ℕ) (d e : Unpacked) → Unpacks z p bytes room d → Unpacks d.zeros d.plain part given e → part ≡ drop d.read bytes
+pub unpacks_both : (z p : ℕ) (bytes room longer part given : List ℕ) (d e : Unpacked) → Unpacks z p bytes room d →
+    Unpacks d.zeros d.plain part given e → part ≡ drop d.read bytes
     → take (d.written + e.written) longer ≡ take d.written room ++ take e.written given → d.written + e.written ≤ length longer
     → Unpacks z p bytes longer (record { read = d.read + e.read; written = d.written + e.written; zeros = e.zeros; plain = e.plain })
 unpacks_both z p bytes room longer part given d e s t behind filled fits =
     let front : length (take d.written room) % 8 ≡ 0 = ap (λ k. k % 8) (length-take-le d.written room s.fits) ∙ s.whole in
     let words : plain_words (take (d.written + e.written) longer) ≡ plain_words (take d.written room) ++ plain_words (take e.written given) =
     ap plain_words filled ∙ plain_join (take d.written room) (take e.written given) front in
-    let taken : take (d.read + e.read) bytes ≡ take d.read bytes ++ take e.read part = take-add d.read e.read bytes ∙ ap (λ l. take d.read bytes ++ take e.read l) (sym behind) in
+    let taken : take (d.read + e.read) bytes ≡ take d.read bytes ++ take e.read part = take-add d.read e.read bytes
+    ∙ ap (λ l. take d.read bytes ++ take e.read l) (sym behind) in
     record {
       within = omega (arith, s.within, t.within, ap length behind, length-drop d.read bytes);
       fits = fits;
       whole = omega (arith, s.whole, t.whole);
-      gives = rw (words, taken) (gives_both z p d.zeros d.plain e.zeros e.plain (take d.read bytes) (take e.read part) (plain_words (take d.written room)) (plain_words (take e.written given)) s.gives t.gives);
+      gives = rw (words, taken)
+          (gives_both z p d.zeros d.plain e.zeros e.plain (take d.read bytes) (take e.read part) (plain_words (take d.written room))
+          (plain_words (take e.written given)) s.gives t.gives);
     }
 
 -- and then a group, where no run is left
-pub unpacks_between : (z p : ℕ) (bytes room longer part given : List ℕ) (d e : Unpacked) → Unpacks z p bytes room d → Unpacks 0 0 part given e → d.zeros ≡ 0 → d.plain ≡ 0 → part ≡ drop d.read bytes
+pub unpacks_between : (z p : ℕ) (bytes room longer part given : List ℕ) (d e : Unpacked) → Unpacks z p bytes room d → Unpacks 0 0 part given e →
+    d.zeros ≡ 0 → d.plain ≡ 0 → part ≡ drop d.read bytes
     → take (d.written + e.written) longer ≡ take d.written room ++ take e.written given → d.written + e.written ≤ length longer
     → Unpacks z p bytes longer (record { read = d.read + e.read; written = d.written + e.written; zeros = e.zeros; plain = e.plain })
 unpacks_between z p bytes room longer part given d e s t none no_plain =
-    unpacks_both z p bytes room longer part given d e s (subst (λ k. Unpacks k d.plain part given e) (sym none) (subst (λ k. Unpacks 0 k part given e) (sym no_plain) t))
+    unpacks_both z p bytes room longer part given d e s
+    (subst (λ k. Unpacks k d.plain part given e) (sym none) (subst (λ k. Unpacks 0 k part given e) (sym no_plain) t))
 
 -- where something was written there are words
 pub some_words : (n : ℕ) (out : List ℕ) → n ≤ length out → n % 8 ≡ 0 → 0 < n → 0 < length (plain_words (take n out))
@@ -136,7 +145,8 @@ gives_nothing (suc p) [] e = ap words_of (course_plain_stops p 0 [] (lit< tt))
 gives_nothing p (x ∷ bs) e = absurd (omega arith)
 
 -- words were given for zero words that were held, or for bytes
-pub given_for : (z p y q : ℕ) (held own : List ℕ) (k : ℕ) (spent : Bool) → Gives z p y q (take k held) own → 0 < length own → (0 < z → spent ≡ false) → (0 < length held → spent ≡ false) → spent ≡ false
+pub given_for : (z p y q : ℕ) (held own : List ℕ) (k : ℕ) (spent : Bool) → Gives z p y q (take k held) own → 0 < length own →
+    (0 < z → spent ≡ false) → (0 < length held → spent ≡ false) → spent ≡ false
 given_for zero p y q [] own k spent g some zeros bytes =
     let nil : List ℕ = [] in
     let none : length (take k nil ++ nil) ≡ 0 = omega (arith, length-append (take k nil) nil, length-take k nil) in
@@ -151,7 +161,8 @@ nothing [] e = refl
 nothing (x ∷ xs) e = absurd (omega arith)
 
 -- by a source that is open
-pub words_at_hand : (phase : Phase) (a b : Option (List ℕ)) (held out : List ℕ) (z p at now : ℕ) (d : Unpacked) → phase ≡ Open → Unpacks z p held out d → AllByRecursion (λ b. b < 256) (take d.written out)
+pub words_at_hand : (phase : Phase) (a b : Option (List ℕ)) (held out : List ℕ) (z p at now : ℕ) (d : Unpacked) → phase ≡ Open →
+    Unpacks z p held out d → AllByRecursion (λ b. b < 256) (take d.written out)
     → at < 2 ^ 64 → now ≡ capped (at + d.read) → Consumes a b (take d.read held)
     → (take d.written out ≡ plain_text (plain_words (take d.written out)))
     × TakesAll (option_map (λ bs. words_of (ahead phase z p at bs)) a) (option_map (λ bs. words_of (ahead phase d.zeros d.plain now bs)) b)
@@ -162,16 +173,21 @@ words_at_hand phase a b held out z p at now d is_open u small low value lost =
     let s = plain_split bytes small in
     let rest = drop (8 * length (plain_words bytes)) bytes in
     let long : length bytes ≡ d.written = length-take-le d.written out u.fits in
-    let whole : length bytes ≡ length (plain_text (plain_words bytes)) + length rest = ap length s.whole ∙ length-append (plain_text (plain_words bytes)) rest in
+    let whole : length bytes ≡ length (plain_text (plain_words bytes)) + length rest = ap length s.whole
+    ∙ length-append (plain_text (plain_words bytes)) rest in
     let none : rest ≡ [] = nothing rest (omega (arith, whole, length_plain (plain_words bytes), s.partial, long, u.whole)) in
-    let all : bytes ≡ plain_text (plain_words bytes) = s.whole ∙ (ap (λ l. plain_text (plain_words bytes) ++ l) none ∙ append-nil (plain_text (plain_words bytes))) in
+    let all : bytes ≡ plain_text (plain_words bytes) = s.whole
+    ∙ (ap (λ l. plain_text (plain_words bytes) ++ l) none ∙ append-nil (plain_text (plain_words bytes))) in
     let place : now ≡ capped (at + length (take d.read held)) = value ∙ ap (λ k. capped (at + k)) (sym (length-take-le d.read held u.within)) in
     rw (is_open, place) (all, go a b lost)
   where
     go : (a b : Option (List ℕ)) → Consumes a b (take d.read held)
-        → TakesAll (option_map (λ bs. words_of (ahead Open z p at bs)) a) (option_map (λ bs. words_of (ahead Open d.zeros d.plain (capped (at + length (take d.read held))) bs)) b)
-        (is_cut_of (ahead Open z p at (unwrap_or a []))) (is_cut_of (ahead Open d.zeros d.plain (capped (at + length (take d.read held))) (unwrap_or b []))) at (capped (at + length (take d.read held)))
-        (places_of (ahead Open z p at (unwrap_or a []))) (places_of (ahead Open d.zeros d.plain (capped (at + length (take d.read held))) (unwrap_or b []))) (plain_words (take d.written out))
+        → TakesAll (option_map (λ bs. words_of (ahead Open z p at bs)) a)
+        (option_map (λ bs. words_of (ahead Open d.zeros d.plain (capped (at + length (take d.read held))) bs)) b)
+        (is_cut_of (ahead Open z p at (unwrap_or a [])))
+        (is_cut_of (ahead Open d.zeros d.plain (capped (at + length (take d.read held))) (unwrap_or b []))) at (capped (at + length (take d.read held)))
+        (places_of (ahead Open z p at (unwrap_or a [])))
+        (places_of (ahead Open d.zeros d.plain (capped (at + length (take d.read held))) (unwrap_or b []))) (plain_words (take d.written out))
     go None b lost = record { consumed = tt; goes_on = tt }
     go (Some x) None lost = absurd lost
     go (Some x) (Some y) lost =
@@ -185,7 +201,8 @@ words_at_hand phase a b held out z p at now d is_open u small low value lost =
         }
 
 -- words as they are, appended by a source that is open and holds no zero words
-pub words_appended : (phase : Phase) (a b : Option (List ℕ)) (held : List ℕ) (z p q n at now : ℕ) → phase ≡ Open → z ≡ 0 → p ≡ n + q → 8 * n ≤ length held → AllByRecursion (λ b. b < 256) (take (8 * n) held)
+pub words_appended : (phase : Phase) (a b : Option (List ℕ)) (held : List ℕ) (z p q n at now : ℕ) → phase ≡ Open → z ≡ 0 → p ≡ n + q →
+    8 * n ≤ length held → AllByRecursion (λ b. b < 256) (take (8 * n) held)
     → at < 2 ^ 64 → now ≡ capped (at + 8 * n) → Consumes a b (take (8 * n) held)
     → (take (8 * n) held ≡ plain_text (plain_words (take (8 * n) held)))
     × TakesAll (option_map (λ bs. words_of (ahead phase z p at bs)) a) (option_map (λ bs. words_of (ahead phase z q now bs)) b)
@@ -194,5 +211,10 @@ pub words_appended : (phase : Phase) (a b : Option (List ℕ)) (held : List ℕ)
 words_appended phase a b held z p q n at now is_open none run within small low value lost =
     let long : length (take (8 * n) held) ≡ 8 * n = length-take-le (8 * n) held within in
     let done : Unpacked = record { read = 8 * n; written = 8 * n; zeros = 0; plain = q } in
-    let all : Unpacks 0 p held held done = record { within = within; fits = within; whole = omega arith; gives = gives_plain p n q (take (8 * n) held) run long } in
+    let all : Unpacks 0 p held held done = record {
+      within = within;
+      fits = within;
+      whole = omega arith;
+      gives = gives_plain p n q (take (8 * n) held) run long;
+    } in
     rw none (words_at_hand phase a b held held 0 p at now done is_open all small low value lost)

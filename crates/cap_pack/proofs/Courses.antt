@@ -30,13 +30,18 @@ enough (suc f) (suc g) zero at (tag ∷ bytes) p q =
     let e = enough f g (plain_of tag bytes) (capped (at + (suc (head_rest tag)))) (drop (head_rest tag) bytes) a b in
     rw e refl
 enough (suc f) (suc g) (suc n) at bytes p q = branches_same _ _ _ _ (λ t.
-    ap (gives (little_number 8 bytes) (capped (at + 8))) (enough f g n (capped (at + 8)) (drop 8 bytes) (left_shorter 8 f bytes (lit< tt) (ltb-false (length bytes) 8 t) p) (left_shorter 8 g bytes (lit< tt) (ltb-false (length bytes) 8 t) q)))
+    ap (gives (little_number 8 bytes) (capped (at + 8)))
+    (enough f g n (capped (at + 8)) (drop 8 bytes) (left_shorter 8 f bytes (lit< tt) (ltb-false (length bytes) 8 t) p)
+    (left_shorter 8 g bytes (lit< tt) (ltb-false (length bytes) 8 t) q)))
 
 -- a word as it is, and what comes after it
-pub course_plain : (n at : ℕ) (bs ys : List ℕ) → length bs ≡ 8 → course (suc n) at (bs ++ ys) ≡ gives (little_number 8 bs) (capped (at + length bs)) (course n (capped (at + length bs)) ys)
+pub course_plain : (n at : ℕ) (bs ys : List ℕ) → length bs ≡ 8 →
+    course (suc n) at (bs ++ ys) ≡ gives (little_number 8 bs) (capped (at + length bs)) (course n (capped (at + length bs)) ys)
 unfolding course course_in
 course_plain n at (a ∷ b ∷ c ∷ d ∷ e ∷ f ∷ g ∷ h ∷ []) ys l =
-    cond-false _ _ _ (le-ltb (suc (suc (suc (suc (suc (suc (suc (suc (length ys))))))))) 8 (omega arith)) ∙ ap (gives (little_number 8 (a ∷ b ∷ c ∷ d ∷ e ∷ f ∷ g ∷ h ∷ [])) (capped (at + 8))) (enough (suc (suc (suc (suc (suc (suc (suc (suc (length ys))))))))) (suc (length ys)) n (capped (at + 8)) ys (omega arith) (omega arith))
+    cond-false _ _ _ (le-ltb (suc (suc (suc (suc (suc (suc (suc (suc (length ys))))))))) 8 (omega arith))
+    ∙ ap (gives (little_number 8 (a ∷ b ∷ c ∷ d ∷ e ∷ f ∷ g ∷ h ∷ [])) (capped (at + 8)))
+    (enough (suc (suc (suc (suc (suc (suc (suc (suc (length ys))))))))) (suc (length ys)) n (capped (at + 8)) ys (omega arith) (omega arith))
 course_plain n at _ ys l = absurd (omega (arith, l))
 
 -- the input ends inside one
@@ -46,7 +51,8 @@ course_plain_stops n at bs l = cond-true _ _ _ (lt-ltb (length bs) 8 l)
 
 -- a group behind its head
 pub course_head : (at tag : ℕ) (bs ys : List ℕ) → length bs ≡ head_rest tag →
-    course 0 at (tag ∷ bs ++ ys) ≡ gives (first_word tag bs) (capped (at + length (tag ∷ bs))) (zeros_then (zeros_of tag bs) (capped (at + length (tag ∷ bs))) (course (plain_of tag bs) (capped (at + length (tag ∷ bs))) ys))
+    course 0 at (tag ∷ bs ++ ys) ≡ gives (first_word tag bs) (capped (at + length (tag ∷ bs)))
+    (zeros_then (zeros_of tag bs) (capped (at + length (tag ∷ bs))) (course (plain_of tag bs) (capped (at + length (tag ∷ bs))) ys))
 unfolding course course_in
 course_head at tag bs ys l =
     let long : head_rest tag ≤ length (bs ++ ys) = omega (arith, length-append bs ys) in

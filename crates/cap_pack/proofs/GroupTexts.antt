@@ -54,7 +54,8 @@ words_parted bs n e l =
     ap plain_words (sym (take-append-drop n bs)) ∙ plain_join (take n bs) (drop n bs) (omega (arith, e, length-take-le n bs l))
 
 -- a word and k others in front begin with the same word
-pub front_first : (bs : List ℕ) (k : ℕ) → 8 + 8 * k ≤ length bs → plain_words (take (8 + 8 * k) bs) ≡ get_or (plain_words bs) 0 0 ∷ plain_words (drop 8 (take (8 + 8 * k) bs))
+pub front_first : (bs : List ℕ) (k : ℕ) → 8 + 8 * k ≤ length bs →
+    plain_words (take (8 + 8 * k) bs) ≡ get_or (plain_words bs) 0 0 ∷ plain_words (drop 8 (take (8 + 8 * k) bs))
 front_first bs k l =
     let part = take (8 + 8 * k) bs in
     let own = words_first part (omega (arith, length-take-le (8 + 8 * k) bs l)) in
@@ -109,11 +110,13 @@ pub record IsFront (bs : List ℕ) (k spelled : ℕ) : Type 0 where
 run_within : (bs rest : List ℕ) (k n : ℕ) → 8 ≤ length bs → rest ≡ drop 8 bs → k ≡ min 255 n → n ≤ length (plain_words rest) → 8 + 8 * k ≤ length bs
 run_within bs rest k n l e m f = omega (arith, l, ap length e, length-drop 8 bs, words_exact rest, m, f)
 
-pub zeros_front : (bs rest : List ℕ) (k : ℕ) → 8 ≤ length bs → rest ≡ drop 8 bs → get_or (plain_words bs) 0 0 ≡ 0 → k ≡ min 255 (zero_run (plain_words rest)) → IsFront bs k 2
+pub zeros_front : (bs rest : List ℕ) (k : ℕ) → 8 ≤ length bs → rest ≡ drop 8 bs → get_or (plain_words bs) 0 0 ≡ 0 →
+    k ≡ min 255 (zero_run (plain_words rest)) → IsFront bs k 2
 zeros_front bs rest k l e z m =
     let run = zero_run (plain_words rest) in
     let within : 8 + 8 * k ≤ length bs = run_within bs rest k run l e m (front-le (λ x. x == 0) (plain_words rest)) in
-    let first : group_size (plain_words bs) ≡ 1 + min 255 (zero_run (plain_words (drop 8 bs))) = ap group_size (words_first bs l) ∙ size_zero _ (plain_words (drop 8 bs)) z in
+    let first : group_size (plain_words bs) ≡ 1 + min 255 (zero_run (plain_words (drop 8 bs))) = ap group_size (words_first bs l)
+    ∙ size_zero _ (plain_words (drop 8 bs)) z in
     let same : zero_run (plain_words rest) ≡ zero_run (plain_words (drop 8 bs)) = ap (λ xs. zero_run (plain_words xs)) e in
     let text = ap front_text (front_first bs k within) ∙ text_zero _ (plain_words (drop 8 (take (8 + 8 * k) bs))) z in
     record {
@@ -123,11 +126,13 @@ zeros_front bs rest k l e z m =
       text = sym (ap length text);
     }
 
-pub full_front : (bs rest : List ℕ) (k : ℕ) → 8 ≤ length bs → rest ≡ drop 8 bs → zero_bytes (get_or (plain_words bs) 0 0) ≡ 0 → k ≡ min 255 (full_run (plain_words rest)) → IsFront bs k (10 + 8 * k)
+pub full_front : (bs rest : List ℕ) (k : ℕ) → 8 ≤ length bs → rest ≡ drop 8 bs → zero_bytes (get_or (plain_words bs) 0 0) ≡ 0 →
+    k ≡ min 255 (full_run (plain_words rest)) → IsFront bs k (10 + 8 * k)
 full_front bs rest k l e z m =
     let run = full_run (plain_words rest) in
     let within : 8 + 8 * k ≤ length bs = run_within bs rest k run l e m (front-le (λ x. nat_le (zero_bytes x) 1) (plain_words rest)) in
-    let first : group_size (plain_words bs) ≡ 1 + min 255 (full_run (plain_words (drop 8 bs))) = ap group_size (words_first bs l) ∙ size_full _ (plain_words (drop 8 bs)) z in
+    let first : group_size (plain_words bs) ≡ 1 + min 255 (full_run (plain_words (drop 8 bs))) = ap group_size (words_first bs l)
+    ∙ size_full _ (plain_words (drop 8 bs)) z in
     let same : full_run (plain_words rest) ≡ full_run (plain_words (drop 8 bs)) = ap (λ xs. full_run (plain_words xs)) e in
     let more = plain_words (drop 8 (take (8 + 8 * k) bs)) in
     let text = ap front_text (front_first bs k within) ∙ text_full _ more z in
@@ -164,7 +169,8 @@ pub pack_step : (bs front : List ℕ) (at n : ℕ) → front ≡ drop at bs → 
     pack_text (plain_words (drop at bs)) ≡ front_text (plain_words (take n front)) ++ pack_text (plain_words (drop (at + n) bs))
 pack_step bs front at n e size some within =
     let parted = words_parted front n (omega (arith, size)) within in
-    let count : length (plain_words (take n front)) ≡ group_size (plain_words front) = omega (arith, words_exact (take n front), length-take-le n front within, size) in
+    let count : length (plain_words (take n front)) ≡ group_size (plain_words front) =
+    omega (arith, words_exact (take n front), length-take-le n front within, size) in
     let behind : drop n front ≡ drop (at + n) bs = ap (drop n) e ∙ drop-drop n at bs in
     ap (λ xs. pack_text (plain_words xs)) (sym e)
     ∙ apart (plain_words front) (plain_words (take n front)) (plain_words (drop n front)) parted count (omega (arith, count, size, some))
@@ -179,7 +185,16 @@ put_is a k xs ys h l =
 
 pub put_length : (a k : ℕ) (xs ys : List ℕ) → a + k ≤ length xs → length ys ≡ k → length (put_mid a k xs ys) ≡ length xs
 put_length a k xs ys h l =
-    omega (arith, h, l, ap length (put_is a k xs ys h l), length-append (take a xs ++ ys) (drop (a + k) xs), length-append (take a xs) ys, length-take-le a xs (omega (arith, h)), length-drop (a + k) xs)
+    omega (
+      arith,
+      h,
+      l,
+      ap length (put_is a k xs ys h l),
+      length-append (take a xs ++ ys) (drop (a + k) xs),
+      length-append (take a xs) ys,
+      length-take-le a xs (omega (arith, h)),
+      length-drop (a + k) xs,
+    )
 
 -- one that ends where the list ends
 pub put_end : (a k : ℕ) (xs ys : List ℕ) → a + k ≡ length xs → length ys ≡ k → put_mid a k xs ys ≡ take a xs ++ ys
@@ -193,7 +208,8 @@ two_set (x ∷ []) a b l = absurd (omega (arith, l))
 two_set (x ∷ y ∷ []) a b l = refl
 two_set (x ∷ y ∷ z ∷ rest) a b l = absurd (omega (arith, l))
 
-pub zeros_written : (bs text : List ℕ) (tag n : ℕ) → 8 ≤ length bs → get_or (plain_words bs) 0 0 ≡ 0 → length text ≡ length (front_text (plain_words bs)) → tag ≡ 0 → n ≡ length bs / 8 - 1 →
+pub zeros_written : (bs text : List ℕ) (tag n : ℕ) → 8 ≤ length bs → get_or (plain_words bs) 0 0 ≡ 0 →
+    length text ≡ length (front_text (plain_words bs)) → tag ≡ 0 → n ≡ length bs / 8 - 1 →
     set (set text 0 tag) 1 n ≡ front_text (plain_words bs)
 zeros_written bs text tag n l z room t e =
     let more = plain_words (drop 8 bs) in
@@ -202,15 +218,19 @@ zeros_written bs text tag n l z room t e =
     two_set text tag n (room ∙ ap length is) ∙ ap (λ (a : ℕ). a ∷ n ∷ []) t ∙ ap (λ (b : ℕ). 0 ∷ b ∷ []) count ∙ sym is
 
 -- the text of a run of words as they are
-pub full_long : (bs text : List ℕ) → 8 ≤ length bs → length bs % 8 ≡ 0 → zero_bytes (get_or (plain_words bs) 0 0) ≡ 0 → length text ≡ length (front_text (plain_words bs)) → length text ≡ 2 + length bs
+pub full_long : (bs text : List ℕ) → 8 ≤ length bs → length bs % 8 ≡ 0 → zero_bytes (get_or (plain_words bs) 0 0) ≡ 0 →
+    length text ≡ length (front_text (plain_words bs)) → length text ≡ 2 + length bs
 full_long bs text l w z room =
     let more = plain_words (drop 8 bs) in
     let is = ap front_text (words_first bs l) ∙ text_full _ more z in
     let long : length (front_text (plain_words bs)) ≡ 10 + length (plain_text more) = ap length is ∙ omega arith in
     omega (arith, room, long, length_plain more, words_exact (drop 8 bs), length-drop 8 bs, w)
 
-pub full_room : (bs text head : List ℕ) (tag n : ℕ) → 8 ≤ length bs → length bs % 8 ≡ 0 → zero_bytes (get_or (plain_words bs) 0 0) ≡ 0 → length text ≡ length (front_text (plain_words bs)) → length head ≡ 8 →
-    (length (set (put_mid 1 8 (set text 0 tag) head) 9 n) ≡ length text) × (length (take (length (set (put_mid 1 8 (set text 0 tag) head) 9 n) - 10) (drop 10 (set (put_mid 1 8 (set text 0 tag) head) 9 n))) ≡ length (take (length bs - 8) (drop 8 bs)))
+pub full_room : (bs text head : List ℕ) (tag n : ℕ) → 8 ≤ length bs → length bs % 8 ≡ 0 → zero_bytes (get_or (plain_words bs) 0 0) ≡ 0 →
+    length text ≡ length (front_text (plain_words bs)) → length head ≡ 8 →
+    (length (set (put_mid 1 8 (set text 0 tag) head) 9 n) ≡ length text)
+    × (length (take (length (set (put_mid 1 8 (set text 0 tag) head) 9 n) - 10) (drop 10 (set (put_mid 1 8 (set text 0 tag) head) 9 n)))
+    ≡ length (take (length bs - 8) (drop 8 bs)))
 full_room bs text head tag n l w z room h =
     let long = full_long bs text l w z room in
     let tagged = set text 0 tag in
@@ -221,9 +241,11 @@ full_room bs text head tag n l w z room h =
     let c : length all ≡ length headed = length-set headed 9 n in
     (c ∙ b ∙ a, omega (arith, ap length (take_rest all 10), length-drop 10 all, ap length (take_rest bs 8), length-drop 8 bs, a, b, c, long))
 
-pub full_written : (bs text head rest : List ℕ) (tag n m word : ℕ) → AllByRecursion (λ b. b < 256) bs → 8 ≤ length bs → length bs % 8 ≡ 0 → word ≡ get_or (plain_words bs) 0 0 → zero_bytes word ≡ 0 →
+pub full_written : (bs text head rest : List ℕ) (tag n m word : ℕ) → AllByRecursion (λ b. b < 256) bs → 8 ≤ length bs → length bs % 8 ≡ 0 →
+    word ≡ get_or (plain_words bs) 0 0 → zero_bytes word ≡ 0 →
     length text ≡ length (front_text (plain_words bs)) → tag ≡ 255 → head ≡ word_bytes word → n ≡ length bs / 8 - 1 → rest ≡ take (length bs - 8) (drop 8 bs) →
-    m ≡ length (set (put_mid 1 8 (set text 0 tag) head) 9 n) - 10 → put_mid 10 m (set (put_mid 1 8 (set text 0 tag) head) 9 n) rest ≡ front_text (plain_words bs)
+    m ≡ length (set (put_mid 1 8 (set text 0 tag) head) 9 n) - 10 →
+    put_mid 10 m (set (put_mid 1 8 (set text 0 tag) head) 9 n) rest ≡ front_text (plain_words bs)
 full_written bs text head rest tag n m word small l w v z room t h e r k =
     let zero : zero_bytes (get_or (plain_words bs) 0 0) ≡ 0 = ap zero_bytes (sym v) ∙ z in
     let long = full_long bs text l w zero room in
@@ -257,15 +279,18 @@ marked_is : (bs : List ℕ) (word : ℕ) → 8 ≤ length bs → word ≡ get_or
 marked_is bs word l v h z =
     ap front_text (words_first bs l) ∙ ap (λ (x : ℕ). front_text (x ∷ plain_words (drop 8 bs))) (sym v) ∙ text_marked word (plain_words (drop 8 bs)) h z
 
-pub marked_room : (bs text bytes : List ℕ) (tag word : ℕ) → 8 ≤ length bs → word ≡ get_or (plain_words bs) 0 0 → word ≢ 0 → zero_bytes word ≢ 0 → length text ≡ length (front_text (plain_words bs)) →
+pub marked_room : (bs text bytes : List ℕ) (tag word : ℕ) → 8 ≤ length bs → word ≡ get_or (plain_words bs) 0 0 → word ≢ 0 → zero_bytes word ≢ 0 →
+    length text ≡ length (front_text (plain_words bs)) →
     bytes ≡ filter (λ b. not (b == 0)) (word_bytes word) → length (take (length (set text 0 tag) - 1) (drop 1 (set text 0 tag))) ≡ length bytes
 marked_room bs text bytes tag word l v h z room b =
     let marked = filter (λ b. not (b == 0)) (word_bytes word) in
     let long : length text ≡ 1 + length marked = room ∙ ap length (marked_is bs word l v h z) ∙ omega arith in
     omega (arith, ap length (take_rest (set text 0 tag) 1), length-drop 1 (set text 0 tag), length-set text 0 tag, long, ap length b)
 
-pub marked_written : (bs text bytes : List ℕ) (tag m word : ℕ) → 8 ≤ length bs → word ≡ get_or (plain_words bs) 0 0 → word ≢ 0 → zero_bytes word ≢ 0 → length text ≡ length (front_text (plain_words bs)) →
-    tag ≡ tag_of (word_bytes word) → bytes ≡ filter (λ b. not (b == 0)) (word_bytes word) → m ≡ length (set text 0 tag) - 1 → put_mid 1 m (set text 0 tag) bytes ≡ front_text (plain_words bs)
+pub marked_written : (bs text bytes : List ℕ) (tag m word : ℕ) → 8 ≤ length bs → word ≡ get_or (plain_words bs) 0 0 → word ≢ 0 → zero_bytes word ≢ 0 →
+    length text ≡ length (front_text (plain_words bs)) →
+    tag ≡ tag_of (word_bytes word) → bytes ≡ filter (λ b. not (b == 0)) (word_bytes word) → m ≡ length (set text 0 tag) - 1 →
+    put_mid 1 m (set text 0 tag) bytes ≡ front_text (plain_words bs)
 marked_written bs text bytes tag m word l v h z room t b k =
     let is = marked_is bs word l v h z in
     let marked = filter (λ b. not (b == 0)) (word_bytes word) in
@@ -276,16 +301,19 @@ marked_written bs text bytes tag m word l v h z room t b k =
     ∙ ap (λ (xs : List ℕ). tag ∷ xs) b ∙ ap (λ (x : ℕ). x ∷ marked) t ∙ sym is
 
 -- the bytes that its tag marks, of those that were squeezed together
-pub marked_bytes : (word tag : ℕ) (bytes lanes zeros : List ℕ) → tag ≡ tag_of (word_bytes word) → lanes ≡ filter (λ b. not (b == 0)) (word_bytes word) ++ zeros → bytes ≡ take (ones tag) lanes →
+pub marked_bytes : (word tag : ℕ) (bytes lanes zeros : List ℕ) → tag ≡ tag_of (word_bytes word) →
+    lanes ≡ filter (λ b. not (b == 0)) (word_bytes word) ++ zeros → bytes ≡ take (ones tag) lanes →
     bytes ≡ filter (λ b. not (b == 0)) (word_bytes word)
 marked_bytes word tag bytes lanes zeros t e b =
     b ∙ ap (take (ones tag)) e ∙ take_at (filter (λ b. not (b == 0)) (word_bytes word)) zeros (ones tag) (sym (ones_of_tag word tag t))
 
 -- which word has which tag
-pub tag_zero : (bs : List ℕ) (word tag : ℕ) → word ≡ get_or (plain_words bs) 0 0 → word < 18446744073709551616 → tag ≡ tag_of (word_bytes word) → tag ≡ 0 → get_or (plain_words bs) 0 0 ≡ 0
+pub tag_zero : (bs : List ℕ) (word tag : ℕ) → word ≡ get_or (plain_words bs) 0 0 → word < 18446744073709551616 → tag ≡ tag_of (word_bytes word) →
+    tag ≡ 0 → get_or (plain_words bs) 0 0 ≡ 0
 tag_zero bs word tag v f t z = sym v ∙ zero_word word f (sym t ∙ z)
 
-pub tag_full : (bs : List ℕ) (word tag : ℕ) → word ≡ get_or (plain_words bs) 0 0 → tag ≡ tag_of (word_bytes word) → tag ≡ 255 → zero_bytes (get_or (plain_words bs) 0 0) ≡ 0
+pub tag_full : (bs : List ℕ) (word tag : ℕ) → word ≡ get_or (plain_words bs) 0 0 → tag ≡ tag_of (word_bytes word) → tag ≡ 255 →
+    zero_bytes (get_or (plain_words bs) 0 0) ≡ 0
 tag_full bs word tag v t z = ap zero_bytes (sym v) ∙ full_word word (sym t ∙ z)
 
 pub tag_other : (word tag : ℕ) → tag ≡ tag_of (word_bytes word) → tag ≢ 0 → tag ≢ 255 → (word ≢ 0) × (zero_bytes word ≢ 0)

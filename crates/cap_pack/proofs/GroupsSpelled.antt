@@ -15,7 +15,8 @@ use Rattle.cap_pack.specs.declared.group.Group.TheVariants.{Plain}
 use Rattle.cap_pack.proofs.Runs.{run, run_is}
 
 -- each element of the front that passes does
-passes_more : (p : ℕ → Bool) (t : Bool) (x n m : ℕ) (xs : List ℕ) → p x ≡ t → suc n ≤ cond t (1 + m) 0 → (n ≤ m → prefix_len p (take n xs) ≡ n) → prefix_len p (x ∷ take n xs) ≡ suc n
+passes_more : (p : ℕ → Bool) (t : Bool) (x n m : ℕ) (xs : List ℕ) → p x ≡ t → suc n ≤ cond t (1 + m) 0 → (n ≤ m → prefix_len p (take n xs) ≡ n) →
+    prefix_len p (x ∷ take n xs) ≡ suc n
 passes_more p true x n m xs e h k =
     let first : prefix_len p (x ∷ take n xs) ≡ 1 + prefix_len p (take n xs) = ap (λ t. cond t (1 + prefix_len p (take n xs)) 0) e in
     omega (arith, first, k (omega arith))
@@ -48,7 +49,8 @@ run_stops p xs ys n e h =
     run_is p (drop n xs ++ ys) ∙ ap (λ k. prefix_len p (drop k xs ++ ys)) at ∙ stops_behind p xs ys (omega arith)
 
 -- the zero words of a run
-zeros_more : (t : Bool) (x n m : ℕ) (xs : List ℕ) → eqb x 0 ≡ t → suc n ≤ cond t (1 + m) 0 → (n ≤ m → take n xs ≡ replicate n 0) → x ∷ take n xs ≡ 0 ∷ replicate n 0
+zeros_more : (t : Bool) (x n m : ℕ) (xs : List ℕ) → eqb x 0 ≡ t → suc n ≤ cond t (1 + m) 0 → (n ≤ m → take n xs ≡ replicate n 0) →
+    x ∷ take n xs ≡ 0 ∷ replicate n 0
 zeros_more true x n m xs e h k = ap (λ (y : ℕ). y ∷ take n xs) (eqb-true x 0 e) ∙ ap (λ (l : List ℕ). 0 ∷ l) (k (omega arith))
 zeros_more false x n m xs e h k = absurd (omega arith)
 
@@ -66,13 +68,15 @@ zeros_joined more n xs h = ap (λ (l : List ℕ). 0 ∷ l) (sym (replicate-appen
 
 pub zeros_one : (more : ℕ) → more ≤ 255 → group_size (0 ∷ replicate more 0) ≡ suc (length (replicate {A = ℕ} more 0))
 zeros_one more h =
-    let whole : group_size (0 ∷ replicate more 0) ≡ 1 + more = ap (λ (l : List ℕ). group_size (0 ∷ l)) (sym (append-nil (replicate more 0))) ∙ group_size-zeros more [] h (λ _. refl) in
+    let whole : group_size (0 ∷ replicate more 0) ≡ 1 + more = ap (λ (l : List ℕ). group_size (0 ∷ l)) (sym (append-nil (replicate more 0)))
+    ∙ group_size-zeros more [] h (λ _. refl) in
     omega (arith, whole, length-replicate {A = ℕ} more 0)
 
 -- a word without a zero byte, and words with at most one
 pub full_one : (x : ℕ) (more : List ℕ) → zero_bytes x ≡ 0 → full_run more ≡ length more → length more ≤ 255 → group_size (x ∷ more) ≡ suc (length more)
 full_one x more z f h =
-    let whole : group_size (x ∷ more) ≡ 1 + length more = ap (λ (l : List ℕ). group_size (x ∷ l)) (sym (append-nil more)) ∙ group_size-plain x more [] z f h (λ _. refl) in
+    let whole : group_size (x ∷ more) ≡ 1 + length more = ap (λ (l : List ℕ). group_size (x ∷ l)) (sym (append-nil more))
+    ∙ group_size-plain x more [] z f h (λ _. refl) in
     omega (arith, whole)
 
 pub full_joined : (xs ys : List ℕ) (n : ℕ) → full_run xs ≡ length xs → n ≤ full_run ys → n ≤ length ys → full_run (xs ++ take n ys) ≡ length (xs ++ take n ys)
@@ -98,7 +102,8 @@ full_spelled w k xs z r h few = λ ws.
     let rest = drop k xs ++ ws in
     let long : length (take k xs) ≡ k = length-take-le k xs (omega arith) in
     let full : full_run (take k xs) ≡ length (take k xs) = run_takes (λ x. leb (zero_bytes x) 1) k xs (omega arith) ∙ sym long in
-    let split : w ∷ (xs ++ ws) ≡ w ∷ (take k xs ++ rest) = ap (λ (l : List ℕ). w ∷ l) (ap (λ l. l ++ ws) (sym (take-append-drop k xs)) ∙ append_assoc (take k xs) (drop k xs) ws) in
+    let split : w ∷ (xs ++ ws) ≡ w ∷ (take k xs ++ rest) = ap (λ (l : List ℕ). w ∷ l) (ap (λ l. l ++ ws) (sym (take-append-drop k xs))
+    ∙ append_assoc (take k xs) (drop k xs) ws) in
     ap pack_text split ∙ pack_text-plain w (take k xs) rest z full (omega (arith, long)) (λ _. run_stops (λ x. leb (zero_bytes x) 1) xs ws k r h)
 
 -- any other word
@@ -112,13 +117,15 @@ more_spelled front next text all left less e s h = λ ws.
     h ws ∙ ap (λ t. front ++ t) (s ws) ∙ sym (append_assoc front text (pack_text (less ++ ws))) ∙ ap (λ t. t ++ pack_text (less ++ ws)) (sym e)
 
 -- a run of zero words that took n more of these words
-pub zeros_apart : (more n : ℕ) (xs : List ℕ) → more + n ≤ 255 → (more + n < 255 → n ≡ zero_run xs) → n < length xs → Spells ((0 ∷ replicate (more + n) 0) ++ drop n xs) (0 ∷ (more + n) ∷ []) (drop n xs)
+pub zeros_apart : (more n : ℕ) (xs : List ℕ) → more + n ≤ 255 → (more + n < 255 → n ≡ zero_run xs) → n < length xs →
+    Spells ((0 ∷ replicate (more + n) 0) ++ drop n xs) (0 ∷ (more + n) ∷ []) (drop n xs)
 zeros_apart more n xs few all h = λ ws.
     ap pack_text (append_assoc (0 ∷ replicate (more + n) 0) (drop n xs) ws)
     ∙ pack_text-zeros (more + n) (drop n xs ++ ws) few (λ l. run_stops (λ x. x == 0) xs ws n (all l) h)
 
 -- a run of words as they are that did
-pub full_apart : (first n : ℕ) (more xs : List ℕ) → zero_bytes first ≡ 0 → full_run more ≡ length more → length more ≤ 255 → (length more < 255 → n ≡ full_run xs) → n < length xs →
+pub full_apart : (first n : ℕ) (more xs : List ℕ) → zero_bytes first ≡ 0 → full_run more ≡ length more → length more ≤ 255 →
+    (length more < 255 → n ≡ full_run xs) → n < length xs →
     Spells ((first ∷ more) ++ drop n xs) (255 ∷ (word_bytes first ++ length more ∷ plain_text more)) (drop n xs)
 full_apart first n more xs z f few all h = λ ws.
     ap pack_text (append_assoc (first ∷ more) (drop n xs) ws)
@@ -134,7 +141,8 @@ plain_held g words first more e one full =
     (z, whole.0, whole.1)
 
 -- the words behind the first after n more were written
-pub more_written : (words piece xs : List ℕ) (more n k end : ℕ) → piece ≡ take n xs → n ≤ length xs → more ≤ length words → end ≡ more + n → take end (put_mid more k words piece) ≡ take more words ++ take n xs
+pub more_written : (words piece xs : List ℕ) (more n k end : ℕ) → piece ≡ take n xs → n ≤ length xs → more ≤ length words → end ≡ more + n →
+    take end (put_mid more k words piece) ≡ take more words ++ take n xs
 more_written words piece xs more n k end e h l m =
     let long : length piece ≡ n = ap length e ∙ length-take-le n xs h in
     take-put_mid more k words piece end (omega (arith, m, long)) l ∙ ap (λ t. take more words ++ t) e
@@ -146,8 +154,10 @@ pub record Extended (first : ℕ) (now front xs : List ℕ) (n count : ℕ) : Ty
   pub full : full_run now ≡ length now
   pub many : length now ≡ count
 
-pub plain_extended : (g : Group) (words piece xs : List ℕ) (first more n k end : ℕ) → g ≡ Plain first more → group_size (held g words) ≡ length (held g words) → first_zeros g ≡ 0 →
-    length words ≡ 255 → end ≤ 255 → end ≡ more + n → piece ≡ take n xs → n ≤ full_run xs → Extended first (take end (put_mid more k words piece)) (take more words) xs n end
+pub plain_extended : (g : Group) (words piece xs : List ℕ) (first more n k end : ℕ) → g ≡ Plain first more →
+    group_size (held g words) ≡ length (held g words) → first_zeros g ≡ 0 →
+    length words ≡ 255 → end ≤ 255 → end ≡ more + n → piece ≡ take n xs → n ≤ full_run xs →
+    Extended first (take end (put_mid more k words piece)) (take more words) xs n end
 plain_extended g words piece xs first more n k end e one full long most m copied run =
     let h = plain_held g words first more e one full in
     let few : n ≤ length xs = omega (arith, run, front-le (λ x. leb (zero_bytes x) 1) xs) in
@@ -167,7 +177,9 @@ run_zeros [] r h e = absurd (omega (arith, h))
 run_zeros (w ∷ ws) r h e =
     ⊎_elim (λ (z, run).
     let less : suc (length ws) - 1 ≡ length ws = omega arith in
-    ap (λ n. 0 ∷ replicate n 0) less ∙ ap (λ (l : List ℕ). 0 ∷ l) (sym (zeros_front (length ws) ws (omega (arith, run))) ∙ take_all (length ws) ws (omega arith)) ∙ ap (λ (y : ℕ). y ∷ ws) (sym e))
+    ap (λ n. 0 ∷ replicate n 0) less
+    ∙ ap (λ (l : List ℕ). 0 ∷ l) (sym (zeros_front (length ws) ws (omega (arith, run))) ∙ take_all (length ws) ws (omega arith))
+    ∙ ap (λ (y : ℕ). y ∷ ws) (sym e))
     (λ (z, run). absurd (nonzero_word w (omega (arith, z)) e))
     r
 
@@ -175,11 +187,14 @@ run_zeros (w ∷ ws) r h e =
 moved_behind : (words : List ℕ) (at k : ℕ) → drop k (drop (at + 1) words) ≡ drop (at + (1 + k)) words
 moved_behind words at k = let same : at + 1 + k ≡ at + (1 + k) = omega arith in drop-drop k (at + 1) words ∙ ap (λ n. drop n words) same
 
-ends_inside : (p : ℕ → Bool) (words : List ℕ) (at k : ℕ) → at < length words → k ≡ run p (drop (at + 1) words) → at + 1 + k ≢ length words → k < length (drop (at + 1) words)
+ends_inside : (p : ℕ → Bool) (words : List ℕ) (at k : ℕ) → at < length words → k ≡ run p (drop (at + 1) words) → at + 1 + k ≢ length words →
+    k < length (drop (at + 1) words)
 ends_inside p words at k h r n =
-    ⊎_elim (λ less. less) (λ all. absurd (n (omega (arith, h, all, r, front-le p (drop (at + 1) words), length-drop (at + 1) words)))) (cases_lt k (length (drop (at + 1) words)))
+    ⊎_elim (λ less. less) (λ all. absurd (n (omega (arith, h, all, r, front-le p (drop (at + 1) words), length-drop (at + 1) words))))
+    (cases_lt k (length (drop (at + 1) words)))
 
-pub zeros_step : (words : List ℕ) (at k : ℕ) → at < length words → length words ≤ 64 → get_or words at 0 ≡ 0 → k ≡ zero_run (take (length words - (at + 1)) (drop (at + 1) words)) →
+pub zeros_step : (words : List ℕ) (at k : ℕ) → at < length words → length words ≤ 64 → get_or words at 0 ≡ 0 →
+    k ≡ zero_run (take (length words - (at + 1)) (drop (at + 1) words)) →
     at + 1 + k ≢ length words → (k < length (drop (at + 1) words)) × Spells (drop at words) (0 ∷ k ∷ []) (drop (at + (1 + k)) words)
 zeros_step words at k h few e r n =
     let rest = drop (at + 1) words in
@@ -191,9 +206,11 @@ zeros_step words at k h few e r n =
           (subst (λ l. Spells (get_or words at 0 ∷ rest) (0 ∷ k ∷ []) l) (moved_behind words at k) spelled),
     )
 
-pub full_step : (words more : List ℕ) (at k j : ℕ) → at < length words → length words ≤ 64 → zero_bytes (get_or words at 0) ≡ 0 → k ≡ full_run (take (length words - (at + 1)) (drop (at + 1) words)) →
+pub full_step : (words more : List ℕ) (at k j : ℕ) → at < length words → length words ≤ 64 → zero_bytes (get_or words at 0) ≡ 0 →
+    k ≡ full_run (take (length words - (at + 1)) (drop (at + 1) words)) →
     at + 1 + k ≢ length words → more ≡ take j (drop (at + 1) words) → j ≡ k →
-    (k < length (drop (at + 1) words)) × Spells (drop at words) (255 ∷ (word_bytes (get_or words at 0) ++ length more ∷ plain_text more)) (drop (at + (1 + k)) words)
+    (k < length (drop (at + 1) words))
+    × Spells (drop at words) (255 ∷ (word_bytes (get_or words at 0) ++ length more ∷ plain_text more)) (drop (at + (1 + k)) words)
 full_step words more at k j h few z r n m same =
     let rest = drop (at + 1) words in
     let text = λ (l : List ℕ). 255 ∷ (word_bytes (get_or words at 0) ++ length l ∷ plain_text l) in
@@ -210,12 +227,15 @@ full_step words more at k j h few z r n m same =
 pub marked_step : (words : List ℕ) (at : ℕ) → at < length words → get_or words at 0 ≢ 0 → zero_bytes (get_or words at 0) ≢ 0 →
     Spells (drop at words) (tag_of (word_bytes (get_or words at 0)) ∷ filter (λ b. not (b == 0)) (word_bytes (get_or words at 0))) (drop (at + 1) words)
 marked_step words at h n z =
-    subst (λ l. Spells l (tag_of (word_bytes (get_or words at 0)) ∷ filter (λ b. not (b == 0)) (word_bytes (get_or words at 0))) (drop (at + 1) words)) (sym (drop_more words at 0 h))
+    subst (λ l. Spells l (tag_of (word_bytes (get_or words at 0)) ∷ filter (λ b. not (b == 0)) (word_bytes (get_or words at 0)))
+    (drop (at + 1) words)) (sym (drop_more words at 0 h))
     (marked_spelled (get_or words at 0) (drop (at + 1) words) n z)
 
 -- what a whole piece does: words that join the open group, and the groups behind it
-pub piece_spelled : (before now xs piece front group text left : List ℕ) (j : ℕ) → now ≡ before ++ take j xs → Spells (now ++ drop j xs) group (drop j xs) → front ≡ group → piece ≡ drop j xs →
-    ((ws : List ℕ) → front ++ pack_text (piece ++ ws) ≡ text ++ pack_text (left ++ ws)) → (ws : List ℕ) → pack_text (before ++ (xs ++ ws)) ≡ text ++ pack_text (left ++ ws)
+pub piece_spelled : (before now xs piece front group text left : List ℕ) (j : ℕ) → now ≡ before ++ take j xs →
+    Spells (now ++ drop j xs) group (drop j xs) → front ≡ group → piece ≡ drop j xs →
+    ((ws : List ℕ) → front ++ pack_text (piece ++ ws) ≡ text ++ pack_text (left ++ ws)) → (ws : List ℕ) →
+    pack_text (before ++ (xs ++ ws)) ≡ text ++ pack_text (left ++ ws)
 piece_spelled before now xs piece front group text left j joined apart f p spelled ws =
     let whole : before ++ xs ≡ now ++ drop j xs =
     ap (λ t. before ++ t) (sym (take-append-drop j xs)) ∙ sym (append_assoc before (take j xs) (drop j xs)) ∙ ap (λ t. t ++ drop j xs) (sym joined) in
@@ -233,4 +253,5 @@ left_behind xs j k = ap (drop k) (take_rest xs j) ∙ drop-drop k j xs ∙ sym (
 pub piece_split : (xs : List ℕ) (done end : ℕ) → done ≤ end → drop done xs ≡ take (end - done) (drop done xs) ++ drop end xs
 piece_split xs done end h =
     let same : done + (end - done) ≡ end = omega (arith, h) in
-    sym (take-append-drop (end - done) (drop done xs)) ∙ ap (λ l. take (end - done) (drop done xs) ++ l) (drop-drop (end - done) done xs ∙ ap (λ n. drop n xs) same)
+    sym (take-append-drop (end - done) (drop done xs))
+    ∙ ap (λ l. take (end - done) (drop done xs) ++ l) (drop-drop (end - done) done xs ∙ ap (λ n. drop n xs) same)

@@ -67,7 +67,8 @@ little-append (a ∷ b ∷ c ∷ d ∷ e ∷ f ∷ g ∷ h ∷ bs) ys l = refl
 little-append _ ys l = absurd (omega (arith, l))
 
 first_same : (zero_run plain_run : Bool) (tag : ℕ) (bs ys : List ℕ) → length bs ≡ cond zero_run 1 (cond plain_run 9 (marks 8 tag)) →
-    cond zero_run 0 (cond plain_run (little_number 8 (bs ++ ys)) (spread 8 tag (bs ++ ys))) ≡ cond zero_run 0 (cond plain_run (little_number 8 bs) (spread 8 tag bs))
+    cond zero_run 0 (cond plain_run (little_number 8 (bs ++ ys)) (spread 8 tag (bs ++ ys)))
+    ≡ cond zero_run 0 (cond plain_run (little_number 8 bs) (spread 8 tag bs))
 first_same true q tag bs ys e = refl
 first_same false true tag bs ys e = little-append bs ys (omega arith)
 first_same false false tag bs ys e = spread-append 8 tag bs ys e
@@ -86,7 +87,8 @@ pub zeros_of-append : (tag : ℕ) (bs ys : List ℕ) → length bs ≡ head_rest
 unfolding head_rest zeros_of
 zeros_of-append tag bs ys e = zeros_same (eqb tag 0) (eqb tag 255) tag bs ys e
 
-plain_same : (zero_run plain_run : Bool) (tag : ℕ) (bs ys : List ℕ) → (zero_run ≡ true → plain_run ≡ false) → length bs ≡ cond zero_run 1 (cond plain_run 9 (marks 8 tag)) →
+plain_same : (zero_run plain_run : Bool) (tag : ℕ) (bs ys : List ℕ) → (zero_run ≡ true → plain_run ≡ false) →
+    length bs ≡ cond zero_run 1 (cond plain_run 9 (marks 8 tag)) →
     cond plain_run (get_or (bs ++ ys) 8 0) 0 ≡ cond plain_run (get_or bs 8 0) 0
 plain_same true true tag bs ys o e = absurd (let h = o refl in cc)
 plain_same false true tag bs ys o e = get_or-append bs ys 0 8 (omega arith)
@@ -113,7 +115,8 @@ head_rest-marked tag z f = cond-false (eqb tag 0) _ _ (ne_eqb tag 0 z) ∙ cond-
 marks-ones : (n tag : ℕ) → tag < 2 ^ n → marks n tag ≡ ones tag
 unfolding ones
 marks-ones zero tag p = let e : 0 ≡ tag = omega arith in ap ones e
-marks-ones (suc n) tag p = let half : tag / 2 < 2 ^ n = omega (arith, pow-succ' 2 n) in ap (λ x. tag % 2 + x) (marks-ones n (tag / 2) half) ∙ sym (ones_step tag)
+marks-ones (suc n) tag p = let half : tag / 2 < 2 ^ n = omega (arith, pow-succ' 2 n) in
+    ap (λ x. tag % 2 + x) (marks-ones n (tag / 2) half) ∙ sym (ones_step tag)
 
 pub head_rest-ones : (tag : ℕ) → tag < 256 → tag ≢ 0 → tag ≢ 255 → ones tag ≡ head_rest tag
 head_rest-ones tag p z f = sym (head_rest-marked tag z f ∙ marks-ones 8 tag p)

@@ -40,7 +40,8 @@ words_read (w ∷ words) bytes l r =
     ap (λ (x : ℕ). x ∷ words) (r 0 (omega arith)) ∙ ap (λ ws. little_number 8 bytes ∷ ws) rest ∙ sym (word_first bytes (omega (arith, l)))
 
 -- the words of a piece of whole words, and those behind it
-pub words_next : (bytes words : List ℕ) (done count : ℕ) → done ≤ length bytes → 8 * count ≤ length bytes - done → words ≡ plain_words (take (8 * count) (take (length bytes - done) (drop done bytes)))
+pub words_next : (bytes words : List ℕ) (done count : ℕ) → done ≤ length bytes → 8 * count ≤ length bytes - done →
+    words ≡ plain_words (take (8 * count) (take (length bytes - done) (drop done bytes)))
     → plain_words (drop done bytes) ≡ words ++ plain_words (drop (done + 8 * count) bytes)
 words_next bytes words done count w h e =
     let rest = drop done bytes in

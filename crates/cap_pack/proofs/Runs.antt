@@ -73,7 +73,8 @@ prefix_of_map p f [] = refl
 prefix_of_map p f (x ∷ xs) = ap (λ n. cond (p (f x)) (1 + n) 0) (prefix_of_map p f xs)
 
 -- the first of eight lanes that is marked, where the marks are those of the elements that don't pass
-pub first_marked : (p q : ℕ → Bool) (f : ℕ → ℕ) → ((x : ℕ) → not (q (f x)) ≡ p x) → (xs lanes : List ℕ) → lanes ≡ map f xs → length xs ≡ 8 → (m : ℕ) → m ≡ mask_l (map q lanes) →
+pub first_marked : (p q : ℕ → Bool) (f : ℕ → ℕ) → ((x : ℕ) → not (q (f x)) ≡ p x) → (xs lanes : List ℕ) → lanes ≡ map f xs → length xs ≡ 8 → (m : ℕ) →
+    m ≡ mask_l (map q lanes) →
     (if m == 0 then 8 else count_trailing_zeros 64 m) ≡ run p xs
 first_marked p q f same xs lanes e l m mask =
     let eight : length lanes ≡ 8 = ap length e ∙ length-map xs f ∙ l in
@@ -97,7 +98,8 @@ pub zeros_by_lanes : (ws : List ℕ) → length ws ≡ 8 → (m : ℕ) →
     m ≡ mask_l (map (top 63) (zip2 (λ a b. cond (not (eqb a b)) 18446744073709551615 0) ws (replicate 8 0))) % 18446744073709551616 →
     (if m == 0 then 8 else count_trailing_zeros 64 m) ≡ zero_run ws
 zeros_by_lanes ws l m e =
-    first_marked (λ x. x == 0) (λ x. not (eqb x 0)) (λ x. x) (λ x. twice_not (x == 0)) ws ws (map_same ws) l m (e ∙ bitmask_splat w64 differs ws 8 0 l (omega arith))
+    first_marked (λ x. x == 0) (λ x. not (eqb x 0)) (λ x. x) (λ x. twice_not (x == 0)) ws ws (map_same ws) l m (e
+    ∙ bitmask_splat w64 differs ws 8 0 l (omega arith))
 
 -- the bits that a tag leaves clear, and those of them above the lowest
 abbrev clear : ℕ → ℕ
@@ -163,7 +165,8 @@ full_by_tag w =
 -- the same of eight words, by their tags
 pub fulls_by_lanes : (ws ts : List ℕ) → length ws ≡ 8 → ts ≡ map word_tag ws → (m : ℕ) →
     m ≡ mask_l (map (top 7) (zip2 (λ a b. cond (not (eqb a b)) 255 0)
-    (zip2 bit_and (map (λ t. 255 - t) ts) (zip2 (λ a b. (a + (256 - b)) % 256) (map (λ t. 255 - t) ts) (replicate 8 1))) (replicate 8 0))) % 18446744073709551616 →
+    (zip2 bit_and (map (λ t. 255 - t) ts) (zip2 (λ a b. (a + (256 - b)) % 256) (map (λ t. 255 - t) ts) (replicate 8 1))) (replicate 8 0))) %
+    18446744073709551616 →
     (if m == 0 then 8 else count_trailing_zeros 64 m) ≡ full_run ws
 fulls_by_lanes ws ts l e m f =
     let many : length ts ≡ 8 = ap length e ∙ length-map ws word_tag ∙ l in
@@ -174,4 +177,5 @@ fulls_by_lanes ws ts l e m f =
     let all : lanes ≡ map above ts = zip2_of_maps bit_and clear (λ t. (clear t + 255) % 256) ts refl less in
     let words : lanes ≡ map (λ w. above (word_tag w)) ws = all ∙ ap (map above) e ∙ map-map above word_tag ws in
     let eight : length lanes ≡ 8 = ap length all ∙ length-map ts above ∙ many in
-    first_marked (λ x. leb (zero_bytes x) 1) (λ x. not (eqb x 0)) (λ w. above (word_tag w)) full_by_tag ws lanes words l m (f ∙ bitmask_splat w8 differs lanes 8 0 eight (omega arith))
+    first_marked (λ x. leb (zero_bytes x) 1) (λ x. not (eqb x 0)) (λ w. above (word_tag w)) full_by_tag ws lanes words l m (f
+    ∙ bitmask_splat w8 differs lanes 8 0 eight (omega arith))

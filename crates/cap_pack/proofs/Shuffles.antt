@@ -105,7 +105,8 @@ spread_places (suc n) tag k h = (spread_place (eqb (tag % 2) 0) k (omega arith),
 pub spread_ok : (row lanes : List ℕ) (tag : ℕ) → row ≡ spread_row tag → lanes ≡ row ++ replicate 8 128 → SwzOk w8 16 16 0 lanes
 spread_ok row lanes tag e f =
     let all : lanes ≡ spread_row tag ++ replicate 8 128 = f ∙ ap (λ r. r ++ replicate 8 128) e in
-    let each : Each1 IsPlace (spread_row tag ++ replicate 8 128) = each_append (spread_row tag) (replicate 8 128) (spread_places 8 tag 0 (omega arith)) (no_places 8) in
+    let each : Each1 IsPlace (spread_row tag ++ replicate 8 128) =
+    each_append (spread_row tag) (replicate 8 128) (spread_places 8 tag 0 (omega arith)) (no_places 8) in
     subst (λ js. SwzOk w8 16 16 0 js) (sym all) (SwzOk-from_Each1 w8 16 1 16 0 (spread_row tag ++ replicate 8 128) refl (omega arith) each)
 
 -- spreading bytes takes the next of them at each bit that is set
@@ -135,10 +136,12 @@ spread_picked (suc n) tag k xs h =
     ap (λ m. pick xs (cond (eqb (tag % 2) 0) 128 k) + 256 * m) (spread_picked n (tag / 2) (k + tag % 2) xs (omega arith))
     ∙ spread_one n (tag / 2) k xs (tag % 2) (omega arith) (omega arith) ∙ sym (spread_step n tag (drop k xs))
 
-pub spread_by_places : (xs row lanes : List ℕ) (tag : ℕ) → row ≡ spread_row tag → lanes ≡ row ++ replicate 8 128 → little_number 8 (take 8 (swz_l w8 16 xs 0 lanes)) ≡ spread 8 tag xs
+pub spread_by_places : (xs row lanes : List ℕ) (tag : ℕ) → row ≡ spread_row tag → lanes ≡ row ++ replicate 8 128 →
+    little_number 8 (take 8 (swz_l w8 16 xs 0 lanes)) ≡ spread 8 tag xs
 spread_by_places xs row lanes tag e f =
     let all : lanes ≡ spread_row tag ++ replicate 8 128 = f ∙ ap (λ r. r ++ replicate 8 128) e in
-    ap (λ js. little_number 8 (take 8 (swz_l w8 16 xs 0 js))) all ∙ ap (λ l. little_number 8 (take 8 l)) (shuffled xs (spread_row tag ++ replicate 8 128) 0 (omega arith))
+    ap (λ js. little_number 8 (take 8 (swz_l w8 16 xs 0 js))) all
+    ∙ ap (λ l. little_number 8 (take 8 l)) (shuffled xs (spread_row tag ++ replicate 8 128) 0 (omega arith))
     ∙ sym (eight_number (map (pick xs) (spread_row tag)) refl) ∙ spread_picked 8 tag 0 xs (omega arith)
 
 -- zeros behind the bytes change nothing
@@ -178,9 +181,11 @@ present bs = filter (λ b. not (b == 0)) bs
 marked_first : (z : Bool) (n t k : ℕ) → marked_from (suc n) (cond z 0 1 + 2 * t) k ≡ cond z [] (k ∷ []) ++ marked_from n t (k + 1)
 marked_first z n t k =
     ap (λ r. cond (eqb r 0) [] (k ∷ []) ++ marked_from n ((cond z 0 1 + 2 * t) / 2) (k + 1)) (low_bit z t)
-    ∙ ap (λ u. cond u [] (k ∷ []) ++ marked_from n ((cond z 0 1 + 2 * t) / 2) (k + 1)) (clear_bit z) ∙ ap (λ u. cond z [] (k ∷ []) ++ marked_from n u (k + 1)) (bits_behind z t)
+    ∙ ap (λ u. cond u [] (k ∷ []) ++ marked_from n ((cond z 0 1 + 2 * t) / 2) (k + 1)) (clear_bit z)
+    ∙ ap (λ u. cond z [] (k ∷ []) ++ marked_from n u (k + 1)) (bits_behind z t)
 
-first_picked : (z : Bool) (xs ks : List ℕ) (k b : ℕ) → pick xs k ≡ b → map (pick xs) (cond z [] (k ∷ []) ++ ks) ≡ cond (not z) (b ∷ map (pick xs) ks) (map (pick xs) ks)
+first_picked : (z : Bool) (xs ks : List ℕ) (k b : ℕ) → pick xs k ≡ b →
+    map (pick xs) (cond z [] (k ∷ []) ++ ks) ≡ cond (not z) (b ∷ map (pick xs) ks) (map (pick xs) ks)
 first_picked true xs ks k b e = refl
 first_picked false xs ks k b e = ap (λ x. x ∷ map (pick xs) ks) e
 
@@ -213,7 +218,8 @@ squeeze_place false k ys h each = (is_place k h, each)
 
 squeeze_places : (n tag k : ℕ) → k + n ≤ 16 → Each1 IsPlace (marked_from n tag k)
 squeeze_places zero tag k h = tt
-squeeze_places (suc n) tag k h = squeeze_place (eqb (tag % 2) 0) k (marked_from n (tag / 2) (k + 1)) (omega arith) (squeeze_places n (tag / 2) (k + 1) (omega arith))
+squeeze_places (suc n) tag k h =
+    squeeze_place (eqb (tag % 2) 0) k (marked_from n (tag / 2) (k + 1)) (omega arith) (squeeze_places n (tag / 2) (k + 1) (omega arith))
 
 length_first : (r k : ℕ) (ys : List ℕ) → r < 2 → length (cond (eqb r 0) [] (k ∷ []) ++ ys) ≡ r + length ys
 length_first zero k ys h = omega arith
@@ -256,7 +262,8 @@ squeeze_by_places word xs row lanes tag l e t r f =
     let low : map (pick xs) (squeeze_row tag) ≡ present word ++ replicate (8 - marks 8 tag) 0 =
     map-append (pick xs) (marked_from 8 tag 0) (replicate (8 - marks 8 tag) 128)
     ∙ ap (λ front. front ++ map (pick xs) (replicate (8 - marks 8 tag) 128))
-    (ap (λ u. map (pick xs) (marked_from 8 u 0)) t ∙ ap (λ n. map (pick xs) (marked_from n (tag_of word) 0)) (sym l) ∙ marked_picked word xs (replicate 8 0) 0 e (omega arith))
+    (ap (λ u. map (pick xs) (marked_from 8 u 0)) t ∙ ap (λ n. map (pick xs) (marked_from n (tag_of word) 0)) (sym l)
+    ∙ marked_picked word xs (replicate 8 0) 0 e (omega arith))
     ∙ ap (λ zeros. present word ++ zeros) (none_picked xs (8 - marks 8 tag)) in
     ap (λ js. take 8 (swz_l w8 16 xs 0 js)) all ∙ ap (take 8) (shuffled xs (squeeze_row tag ++ replicate 8 128) 0 (omega (arith, length_lanes tag)))
     ∙ ap (take 8) (map-append (pick xs) (squeeze_row tag) (replicate 8 128))
@@ -272,7 +279,8 @@ present_or_zero : (bs : List ℕ) → length (present bs) + zeros_in bs ≡ leng
 present_or_zero [] = refl
 present_or_zero (b ∷ bs) = one_of (b == 0) b bs (present_or_zero bs)
   where
-    one_of : (z : Bool) (b : ℕ) (bs : List ℕ) → length (present bs) + zeros_in bs ≡ length bs → length (if not z then b ∷ present bs else present bs) + ((if z then 1 else 0) + zeros_in bs) ≡ suc (length bs)
+    one_of : (z : Bool) (b : ℕ) (bs : List ℕ) → length (present bs) + zeros_in bs ≡ length bs →
+        length (if not z then b ∷ present bs else present bs) + ((if z then 1 else 0) + zeros_in bs) ≡ suc (length bs)
     one_of true b bs e = omega (arith, e)
     one_of false b bs e = omega (arith, e)
 
@@ -280,11 +288,13 @@ present_or_zero (b ∷ bs) = one_of (b == 0) b bs (present_or_zero bs)
 pub ones_and_zeros : (w tag : ℕ) → tag ≡ word_tag w → ones tag + zero_bytes w ≡ 8
 ones_and_zeros w tag e = ap (λ n. n + zero_bytes w) (ones_of_tag w tag e) ∙ present_or_zero (word_bytes w)
 
-pub gathered : (w tag : ℕ) (out : List ℕ) → tag ≡ word_tag w → out ≡ present (word_bytes w) ++ replicate (8 - marks 8 tag) 0 → out ≡ present (word_bytes w) ++ replicate (8 - ones tag) 0
+pub gathered : (w tag : ℕ) (out : List ℕ) → tag ≡ word_tag w → out ≡ present (word_bytes w) ++ replicate (8 - marks 8 tag) 0 →
+    out ≡ present (word_bytes w) ++ replicate (8 - ones tag) 0
 gathered w tag out t e =
     let count : marks 8 tag ≡ ones tag = ap (marks 8) t ∙ present_count (word_bytes w) ∙ sym (ones_of_tag w tag t) in
     e ∙ ap (λ n. present (word_bytes w) ++ replicate (8 - n) 0) count
 
-pub scattered : (tag word : ℕ) (bytes wide lanes low : List ℕ) → word ≡ little_number 8 low → low ≡ take 8 lanes → little_number 8 (take 8 lanes) ≡ spread 8 tag wide →
+pub scattered : (tag word : ℕ) (bytes wide lanes low : List ℕ) → word ≡ little_number 8 low → low ≡ take 8 lanes →
+    little_number 8 (take 8 lanes) ≡ spread 8 tag wide →
     wide ≡ bytes ++ replicate 8 0 → word ≡ spread 8 tag bytes
 scattered tag word bytes wide lanes low e f g h = e ∙ ap (little_number 8) f ∙ g ∙ ap (spread 8 tag) h ∙ spread_with_zeros 8 tag 8 bytes

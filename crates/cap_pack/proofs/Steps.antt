@@ -32,7 +32,8 @@ module _ (f g : List ℕ → Course) (w to : ℕ) (bs : List ℕ) (step : (ys : 
   given_words (Some x) (Some y) p = ap (λ l. words_of (f l)) p ∙ ap words_of (step y)
 
   pub given_rest : (a b : Option (List ℕ)) → Consumes a b bs →
-      OnSome (option_map (λ l. words_of (f l)) a) ((is_cut_of (g (unwrap_or b [])) ≡ is_cut_of (f (unwrap_or a []))) × (places_of (f (unwrap_or a [])) ≡ to ∷ places_of (g (unwrap_or b []))))
+      OnSome (option_map (λ l. words_of (f l)) a) ((is_cut_of (g (unwrap_or b [])) ≡ is_cut_of (f (unwrap_or a [])))
+      × (places_of (f (unwrap_or a [])) ≡ to ∷ places_of (g (unwrap_or b []))))
   given_rest None b p = tt
   given_rest (Some x) None p = absurd p
   given_rest (Some x) (Some y) p = (sym (ap (λ l. is_cut_of (f l)) p ∙ ap is_cut_of (step y)), ap (λ l. places_of (f l)) p ∙ ap places_of (step y))
@@ -42,7 +43,8 @@ all_taken : (x y bs : List ℕ) → x ≡ bs ++ y → y ≡ [] → x ≡ bs
 all_taken x y bs p e = p ∙ ap (λ l. bs ++ l) e ∙ append-nil bs
 
 pub left_none : (f : List ℕ → Course) (to : ℕ) (a b : Option (List ℕ)) → f [] ≡ ends to → Consumes a b [] → IsAtEnd b →
-    OnSome (option_map (λ l. words_of (f l)) a) ((option_map (λ l. words_of (f l)) a ≡ Some []) × (is_cut_of (f (unwrap_or a [])) ≡ false) × (places_of (f (unwrap_or a [])) ≡ to ∷ []))
+    OnSome (option_map (λ l. words_of (f l)) a) ((option_map (λ l. words_of (f l)) a ≡ Some []) × (is_cut_of (f (unwrap_or a [])) ≡ false)
+    × (places_of (f (unwrap_or a [])) ≡ to ∷ []))
 left_none f to None b e p q = tt
 left_none f to (Some x) None e p q = absurd p
 left_none f to (Some x) (Some y) e p q =
@@ -50,7 +52,8 @@ left_none f to (Some x) (Some y) e p q =
     (ap (λ l. Some (words_of l)) c, ap is_cut_of c, ap places_of c)
 
 pub left_cut : (f : List ℕ → Course) (to : ℕ) (bs : List ℕ) (a b : Option (List ℕ)) → f bs ≡ stops to → Consumes a b bs → IsAtEnd b →
-    OnSome (option_map (λ l. words_of (f l)) a) ((option_map (λ l. words_of (f l)) a ≡ Some []) × (is_cut_of (f (unwrap_or a [])) ≡ true) × (places_of (f (unwrap_or a [])) ≡ to ∷ []))
+    OnSome (option_map (λ l. words_of (f l)) a) ((option_map (λ l. words_of (f l)) a ≡ Some []) × (is_cut_of (f (unwrap_or a [])) ≡ true)
+    × (places_of (f (unwrap_or a [])) ≡ to ∷ []))
 left_cut f to bs None b e p q = tt
 left_cut f to bs (Some x) None e p q = absurd p
 left_cut f to bs (Some x) (Some y) e p q =
@@ -71,7 +74,8 @@ zero_step Ended z p at e q ys = absurd (cc)
 zero_step Failed z p at e q ys = absurd (cc)
 
 -- the input ends inside it
-pub word_cut_step : (phase : Phase) (z p at to : ℕ) (bs : List ℕ) → phase ≡ Open → z ≡ 0 → 0 < p → ((n : ℕ) → course (suc n) at bs ≡ stops to) → ahead phase z p at bs ≡ stops to
+pub word_cut_step : (phase : Phase) (z p at to : ℕ) (bs : List ℕ) → phase ≡ Open → z ≡ 0 → 0 < p → ((n : ℕ) → course (suc n) at bs ≡ stops to) →
+    ahead phase z p at bs ≡ stops to
 word_cut_step Open (suc z) p at to bs e o q s = absurd (omega arith)
 word_cut_step Open zero zero at to bs e o q s = absurd (omega arith)
 word_cut_step Open zero (suc p) at to bs e o q s = s p

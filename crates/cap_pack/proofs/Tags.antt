@@ -35,7 +35,8 @@ eight_digits n w r h =
     ap (λ k. digits_l 256 k x) size ∙ cc
 
 -- the lanes of words, as bytes, are the bytes of the words
-pub lanes_are_bytes : (ws : List ℕ) → Each1 (λ x. x < 18446744073709551616) ws → digits_l 256 (8 * length ws) (number_l 18446744073709551616 ws) ≡ flat_map word_bytes ws
+pub lanes_are_bytes : (ws : List ℕ) → Each1 (λ x. x < 18446744073709551616) ws →
+    digits_l 256 (8 * length ws) (number_l 18446744073709551616 ws) ≡ flat_map word_bytes ws
 lanes_are_bytes [] e = refl
 lanes_are_bytes (w ∷ ws) e = eight_digits (length ws) w (number_l 18446744073709551616 ws) e.0 ∙ ap (λ bs. word_bytes w ++ bs) (lanes_are_bytes ws e.1)
 
@@ -95,15 +96,19 @@ marked_tags : (bs ws : List ℕ) → bs ≡ flat_map word_bytes ws → length ws
 marked_tags bs ws e l =
     let long : length bs ≡ 64 = ap length e ∙ length_plain ws ∙ ap (λ n. 8 * n) l in
     let few : length (map word_tag ws) ≡ 8 = length-map ws word_tag ∙ l in
-    ap word_bytes (bitmask_splat w8 differs bs 64 0 long (omega arith) ∙ mask_is_tag bs ∙ ap tag_of e ∙ tags_of_bytes ws) ∙ tags_back (map word_tag ws) (tags_fit ws) few
+    ap word_bytes (bitmask_splat w8 differs bs 64 0 long (omega arith) ∙ mask_is_tag bs ∙ ap tag_of e ∙ tags_of_bytes ws)
+    ∙ tags_back (map word_tag ws) (tags_fit ws) few
 
 pub eight_tags : (ws : List ℕ) → Each1 (λ x. x < 18446744073709551616) ws → length ws ≡ 8 →
-    word_bytes (mask_l (map (top 7) (zip2 (λ a b. cond (not (eqb a b)) 255 0) (digits_l 256 64 (number_l 18446744073709551616 ws)) (replicate 64 0))) % 18446744073709551616) ≡ map word_tag ws
+    word_bytes (mask_l (map (top 7) (zip2 (λ a b. cond (not (eqb a b)) 255 0) (digits_l 256 64 (number_l 18446744073709551616 ws)) (replicate 64 0)))
+    % 18446744073709551616) ≡ map word_tag ws
 eight_tags ws fit l =
-    marked_tags (digits_l 256 64 (number_l 18446744073709551616 ws)) ws (ap (λ n. digits_l 256 (8 * n) (number_l 18446744073709551616 ws)) (sym l) ∙ lanes_are_bytes ws fit) l
+    marked_tags (digits_l 256 64 (number_l 18446744073709551616 ws)) ws (ap (λ n. digits_l 256 (8 * n) (number_l 18446744073709551616 ws)) (sym l)
+    ∙ lanes_are_bytes ws fit) l
 
 -- eight tags more are written
-pub eights_more : (ws out eight : List ℕ) (i : ℕ) → i + 8 ≤ length ws → length out ≡ length ws → eight ≡ map word_tag (chunk i 8 ws) → take i out ≡ map word_tag (take i ws) →
+pub eights_more : (ws out eight : List ℕ) (i : ℕ) → i + 8 ≤ length ws → length out ≡ length ws → eight ≡ map word_tag (chunk i 8 ws) →
+    take i out ≡ map word_tag (take i ws) →
     take (i + 8) (put_chunk i out eight) ≡ map word_tag (take (i + 8) ws)
 eights_more ws out eight i room l e before =
     let few : length eight ≡ 8 = ap length e ∙ length-map (chunk i 8 ws) word_tag ∙ length-chunk i 8 ws room in

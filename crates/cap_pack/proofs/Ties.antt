@@ -23,15 +23,26 @@ tells_along e f g h t = record { words = ap words_of e ∙ t.words ∙ sym f; cu
 tells_one : {c : Course} {ws : List ℕ} {u : Bool} {ps : List ℕ} (x at : ℕ) → Tells c ws u ps → Tells (gives x at c) (x ∷ ws) u (at ∷ ps)
 tells_one x at t = record { words = ap (λ l. x ∷ l) t.words; cut = t.cut; ends = ap (λ l. at ∷ l) t.ends }
 
-tells_zeros : {c : Course} {ws : List ℕ} {u : Bool} {ps : List ℕ} (n at : ℕ) → Tells c ws u ps → Tells (zeros_then n at c) (replicate n 0 ++ ws) u (replicate n at ++ ps)
+tells_zeros : {c : Course} {ws : List ℕ} {u : Bool} {ps : List ℕ} (n at : ℕ) → Tells c ws u ps →
+    Tells (zeros_then n at c) (replicate n 0 ++ ws) u (replicate n at ++ ps)
 tells_zeros zero at t = t
 tells_zeros (suc n) at t = tells_one 0 at (tells_zeros n at t)
 
-tells_true : {c : Course} {x : List ℕ} {u : Bool} {p : List ℕ} (y : List ℕ) (v : Bool) (q : List ℕ) (b : Bool) → b ≡ true → Tells c x u p → Tells c (cond b x y) (cond b u v) (cond b p q)
-tells_true {x = x} {u = u} {p = p} y v q b e t = record { words = t.words ∙ sym (cond-true b x y e); cut = t.cut ∙ sym (cond-true b u v e); ends = t.ends ∙ sym (cond-true b p q e) }
+tells_true : {c : Course} {x : List ℕ} {u : Bool} {p : List ℕ} (y : List ℕ) (v : Bool) (q : List ℕ) (b : Bool) → b ≡ true → Tells c x u p →
+    Tells c (cond b x y) (cond b u v) (cond b p q)
+tells_true {x = x} {u = u} {p = p} y v q b e t = record {
+  words = t.words ∙ sym (cond-true b x y e);
+  cut = t.cut ∙ sym (cond-true b u v e);
+  ends = t.ends ∙ sym (cond-true b p q e);
+}
 
-tells_false : {c : Course} {y : List ℕ} {v : Bool} {q : List ℕ} (x : List ℕ) (u : Bool) (p : List ℕ) (b : Bool) → b ≡ false → Tells c y v q → Tells c (cond b x y) (cond b u v) (cond b p q)
-tells_false {y = y} {v = v} {q = q} x u p b e t = record { words = t.words ∙ sym (cond-false b x y e); cut = t.cut ∙ sym (cond-false b u v e); ends = t.ends ∙ sym (cond-false b p q e) }
+tells_false : {c : Course} {y : List ℕ} {v : Bool} {q : List ℕ} (x : List ℕ) (u : Bool) (p : List ℕ) (b : Bool) → b ≡ false → Tells c y v q →
+    Tells c (cond b x y) (cond b u v) (cond b p q)
+tells_false {y = y} {v = v} {q = q} x u p b e t = record {
+  words = t.words ∙ sym (cond-false b x y e);
+  cut = t.cut ∙ sym (cond-false b u v e);
+  ends = t.ends ∙ sym (cond-false b p q e);
+}
 
 -- a position that has stopped stays where it is
 capped_more : (at m : ℕ) → capped (capped at + m) ≡ capped (at + m)
@@ -42,14 +53,17 @@ tells_stop : (at m : ℕ) → Tells (stops (capped (capped at + m))) [] true (ca
 tells_stop at m = record { words = refl; cut = refl; ends = ap (λ p. p ∷ []) (capped_more at m) }
 
 -- a word as it is, behind so many bytes
-plain_behind : (n at : ℕ) (bs ys : List ℕ) → length bs ≡ 8 → course (suc n) (capped at) (bs ++ ys) ≡ gives (little_number 8 bs) (capped (at + length bs)) (course n (capped (at + length bs)) ys)
+plain_behind : (n at : ℕ) (bs ys : List ℕ) → length bs ≡ 8 →
+    course (suc n) (capped at) (bs ++ ys) ≡ gives (little_number 8 bs) (capped (at + length bs)) (course n (capped (at + length bs)) ys)
 plain_behind n at bs ys l = course_plain n (capped at) bs ys l ∙ ap (λ p. gives (little_number 8 bs) p (course n p ys)) (capped_more at (length bs))
 
 -- a group behind its head
 head_behind : (at tag : ℕ) (bs ys : List ℕ) → length bs ≡ head_rest tag →
-    course 0 (capped at) (tag ∷ bs ++ ys) ≡ gives (first_word tag bs) (capped (at + length (tag ∷ bs))) (zeros_then (zeros_of tag bs) (capped (at + length (tag ∷ bs))) (course (plain_of tag bs) (capped (at + length (tag ∷ bs))) ys))
+    course 0 (capped at) (tag ∷ bs ++ ys) ≡ gives (first_word tag bs) (capped (at + length (tag ∷ bs)))
+    (zeros_then (zeros_of tag bs) (capped (at + length (tag ∷ bs))) (course (plain_of tag bs) (capped (at + length (tag ∷ bs))) ys))
 head_behind at tag bs ys l =
-    course_head (capped at) tag bs ys l ∙ ap (λ p. gives (first_word tag bs) p (zeros_then (zeros_of tag bs) p (course (plain_of tag bs) p ys))) (capped_more at (length (tag ∷ bs)))
+    course_head (capped at) tag bs ys l
+    ∙ ap (λ p. gives (first_word tag bs) p (zeros_then (zeros_of tag bs) p (course (plain_of tag bs) p ys))) (capped_more at (length (tag ∷ bs)))
 
 -- what so many words as they are give, and then groups
 behind : ℕ → ℕ → List ℕ → List ℕ
@@ -72,7 +86,8 @@ eight_more n = omega arith
 
 -- the bytes end inside those words
 behind_short : (k n at : ℕ) (bytes : List ℕ) → length bytes < 8 * n →
-    (behind k n bytes ≡ plain_words bytes) × (behind_is_cut k n bytes ≡ true) × (behind_ends k n at bytes ≡ take (length (plain_words bytes)) (word_ends at n) ++ capped (at + length bytes) ∷ [])
+    (behind k n bytes ≡ plain_words bytes) × (behind_is_cut k n bytes ≡ true)
+    × (behind_ends k n at bytes ≡ take (length (plain_words bytes)) (word_ends at n) ++ capped (at + length bytes) ∷ [])
 unfolding behind behind_is_cut behind_ends
 behind_short k zero at bytes p = absurd (omega arith)
 behind_short k (suc n) at (a ∷ b ∷ c ∷ d ∷ e ∷ f ∷ g ∷ h ∷ rest) p =
@@ -116,7 +131,8 @@ none_ends (suc k) at = let here : at + 0 ≡ at = omega arith in none_ends k (at
 Told : ℕ → Type 0
 Told k = (at : ℕ) (bytes : List ℕ) → length bytes ≤ k → Tells (course 0 (capped at) bytes) (given_in k bytes) (is_cut_in k bytes) (ends_in k at bytes)
 
-plain_told : (k : ℕ) → Told k → (n at : ℕ) (bytes : List ℕ) → length bytes ≤ k → Tells (course n (capped at) bytes) (behind k n bytes) (behind_is_cut k n bytes) (behind_ends k n at bytes)
+plain_told : (k : ℕ) → Told k → (n at : ℕ) (bytes : List ℕ) → length bytes ≤ k →
+    Tells (course n (capped at) bytes) (behind k n bytes) (behind_is_cut k n bytes) (behind_ends k n at bytes)
 unfolding behind behind_is_cut behind_ends Told
 plain_told k t zero at bytes p = t at bytes p
 plain_told k t (suc n) at (a ∷ b ∷ c ∷ d ∷ e ∷ f ∷ g ∷ h ∷ rest) p =
@@ -124,21 +140,25 @@ plain_told k t (suc n) at (a ∷ b ∷ c ∷ d ∷ e ∷ f ∷ g ∷ h ∷ rest)
 plain_told k t (suc n) at bytes p = tells_along (course_plain_stops n (capped at) bytes (omega arith)) refl refl refl (tells_stop at (length bytes))
 
 -- the three kinds of groups
-zeros_told : (k : ℕ) → Told k → (at : ℕ) (bytes : List ℕ) → length bytes ≤ k → Tells (course 0 (capped at) (0 ∷ bytes)) (given_in (suc k) (0 ∷ bytes)) (is_cut_in (suc k) (0 ∷ bytes)) (ends_in (suc k) at (0 ∷ bytes))
+zeros_told : (k : ℕ) → Told k → (at : ℕ) (bytes : List ℕ) → length bytes ≤ k →
+    Tells (course 0 (capped at) (0 ∷ bytes)) (given_in (suc k) (0 ∷ bytes)) (is_cut_in (suc k) (0 ∷ bytes)) (ends_in (suc k) at (0 ∷ bytes))
 unfolding Told head_rest first_word zeros_of plain_of
 zeros_told k t at [] p = tells_along (course_head_stops (capped at) 0 [] (lit< tt)) refl refl refl (tells_stop at 1)
 zeros_told k t at (n ∷ rest) p =
     let many : 1 + n ≡ suc n = omega arith in
     tells_false _ _ _ _ (le-ltb (suc (suc (length rest))) 2 (omega arith))
-    (tells_along (head_behind at 0 (n ∷ []) rest refl) (ap (λ m. replicate m 0 ++ given_in k rest) many) refl (ap (λ m. replicate m (capped (at + 2)) ++ ends_in k (at + 2) rest) many)
+    (tells_along (head_behind at 0 (n ∷ []) rest refl) (ap (λ m. replicate m 0 ++ given_in k rest) many) refl
+    (ap (λ m. replicate m (capped (at + 2)) ++ ends_in k (at + 2) rest) many)
     (tells_one 0 (capped (at + 2)) (tells_zeros n (capped (at + 2)) (t (at + 2) rest (omega arith)))))
 
-plain_run_told : (k : ℕ) → Told k → (at : ℕ) (bytes : List ℕ) → length bytes ≤ k → Tells (course 0 (capped at) (255 ∷ bytes)) (given_in (suc k) (255 ∷ bytes)) (is_cut_in (suc k) (255 ∷ bytes)) (ends_in (suc k) at (255 ∷ bytes))
+plain_run_told : (k : ℕ) → Told k → (at : ℕ) (bytes : List ℕ) → length bytes ≤ k →
+    Tells (course 0 (capped at) (255 ∷ bytes)) (given_in (suc k) (255 ∷ bytes)) (is_cut_in (suc k) (255 ∷ bytes)) (ends_in (suc k) at (255 ∷ bytes))
 unfolding Told head_rest first_word zeros_of plain_of
 plain_run_told k t at (a ∷ b ∷ c ∷ d ∷ e ∷ f ∷ g ∷ h ∷ n ∷ rest) p =
     let bytes : List ℕ = a ∷ b ∷ c ∷ d ∷ e ∷ f ∷ g ∷ h ∷ n ∷ rest in
     let one : ℕ = little_number 8 (a ∷ b ∷ c ∷ d ∷ e ∷ f ∷ g ∷ h ∷ []) in
-    let after : Tells (course n (capped (at + 10)) rest) (behind k n rest) (behind_is_cut k n rest) (behind_ends k n (at + 10) rest) = plain_told k t n (at + 10) rest (omega arith) in
+    let after : Tells (course n (capped (at + 10)) rest) (behind k n rest) (behind_is_cut k n rest) (behind_ends k n (at + 10) rest) =
+    plain_told k t n (at + 10) rest (omega arith) in
     let step = head_behind at 255 (a ∷ b ∷ c ∷ d ∷ e ∷ f ∷ g ∷ h ∷ n ∷ []) rest refl in
     let head : 10 + 8 * n ≡ suc (suc (suc (suc (suc (suc (suc (suc (suc (suc (8 * n)))))))))) = omega arith in
     ⊎_elim
@@ -162,12 +182,16 @@ plain_run_told k t at (a ∷ b ∷ c ∷ d ∷ e ∷ f ∷ g ∷ h ∷ n ∷ res
     (cases_lt (length rest) (8 * n))
 plain_run_told k t at bytes p = tells_along (course_head_stops (capped at) 255 bytes (omega arith)) refl refl refl (tells_stop at (length (255 ∷ bytes)))
 
-tells_marked : {ws : List ℕ} {u : Bool} {ps : List ℕ} (w z o x at : ℕ) (bytes : List ℕ) → w ≡ x → z ≡ 0 → o ≡ 0 → Tells (course 0 at bytes) ws u ps → Tells (gives w at (zeros_then z at (course o at bytes))) (x ∷ ws) u (at ∷ ps)
-tells_marked w z o x at bytes e f g t = tells_along (ap (λ n. gives n at (zeros_then z at (course o at bytes))) e ∙ ap (λ n. gives x at (zeros_then n at (course o at bytes))) f ∙ ap (λ n. gives x at (course n at bytes)) g) refl refl refl (tells_one x at t)
+tells_marked : {ws : List ℕ} {u : Bool} {ps : List ℕ} (w z o x at : ℕ) (bytes : List ℕ) → w ≡ x → z ≡ 0 → o ≡ 0 → Tells (course 0 at bytes) ws u ps →
+    Tells (gives w at (zeros_then z at (course o at bytes))) (x ∷ ws) u (at ∷ ps)
+tells_marked w z o x at bytes e f g t = tells_along (ap (λ n. gives n at (zeros_then z at (course o at bytes))) e
+    ∙ ap (λ n. gives x at (zeros_then n at (course o at bytes))) f ∙ ap (λ n. gives x at (course n at bytes)) g) refl refl refl (tells_one x at t)
 
 -- a head of so many further bytes that is a word by itself
-marked_in : (k : ℕ) → Told k → (at tag m x : ℕ) (bytes : List ℕ) → length bytes ≤ k → m ≡ head_rest tag → (m ≤ length bytes → first_word tag (take m bytes) ≡ x) → zeros_of tag (take m bytes) ≡ 0 → plain_of tag (take m bytes) ≡ 0 →
-    Tells (course 0 (capped at) (tag ∷ bytes)) (cond (ltb (suc (length bytes)) (suc m)) [] (x ∷ given_in k (drop m bytes))) (cond (ltb (suc (length bytes)) (suc m)) true (is_cut_in k (drop m bytes)))
+marked_in : (k : ℕ) → Told k → (at tag m x : ℕ) (bytes : List ℕ) → length bytes ≤ k → m ≡ head_rest tag →
+    (m ≤ length bytes → first_word tag (take m bytes) ≡ x) → zeros_of tag (take m bytes) ≡ 0 → plain_of tag (take m bytes) ≡ 0 →
+    Tells (course 0 (capped at) (tag ∷ bytes)) (cond (ltb (suc (length bytes)) (suc m)) [] (x ∷ given_in k (drop m bytes)))
+    (cond (ltb (suc (length bytes)) (suc m)) true (is_cut_in k (drop m bytes)))
     (cond (ltb (suc (length bytes)) (suc m)) (capped (at + suc (length bytes)) ∷ []) (capped (at + suc m) ∷ ends_in k (at + suc m) (drop m bytes)))
 unfolding Told
 marked_in k t at tag m x bytes p r e z o = ⊎_elim
@@ -180,7 +204,8 @@ marked_in k t at tag m x bytes p r e z o = ⊎_elim
     let place : capped (at + suc (length (take m bytes))) ≡ capped (at + suc m) = ap (λ n. capped (at + suc n)) whole in
     tells_false _ _ _ _ (le-ltb (suc (length bytes)) (suc m) (omega arith))
     (tells_along (ap (λ l. course 0 (capped at) (tag ∷ l)) (sym (take-append-drop m bytes)) ∙ step
-    ∙ ap (λ p. gives (first_word tag (take m bytes)) p (zeros_then (zeros_of tag (take m bytes)) p (course (plain_of tag (take m bytes)) p (drop m bytes)))) place) refl refl refl
+    ∙ ap (λ p. gives (first_word tag (take m bytes)) p
+    (zeros_then (zeros_of tag (take m bytes)) p (course (plain_of tag (take m bytes)) p (drop m bytes)))) place) refl refl refl
     (tells_marked _ _ _ x (capped (at + suc m)) (drop m bytes) (e q) z o (t (at + suc m) (drop m bytes) short))))
     (cases_lt (length bytes) m)
 
@@ -203,14 +228,17 @@ marked_told k t at tag bytes z o p =
     let long : group_length (tag ∷ bytes) ≡ suc m = pick (eqb tag 0) (eqb tag 255) 2 (10 + 8 * slice_index bytes 8) (1 + m) not_zero not_full ∙ one-add m in
     let spelled : group_words (tag ∷ bytes) ≡ spread 8 tag bytes ∷ [] = pick (eqb tag 0) (eqb tag 255) _ _ _ not_zero not_full in
     let before : given_of (tag ∷ bytes) ≡ [] = cond-false (eqb tag 255) _ _ not_full in
-    let placed : front_ends at (tag ∷ bytes) ≡ capped (at + suc m) ∷ [] = pick (eqb tag 0) (eqb tag 255) _ _ _ not_zero not_full ∙ ap (λ n. capped (at + n) ∷ []) (one-add m) in
+    let placed : front_ends at (tag ∷ bytes) ≡ capped (at + suc m) ∷ [] = pick (eqb tag 0) (eqb tag 255) _ _ _ not_zero not_full
+    ∙ ap (λ n. capped (at + n) ∷ []) (one-add m) in
     let whole : List ℕ → List ℕ = λ ws. cond (ltb (suc (length bytes)) (suc m)) [] (ws ++ given_in k (drop m bytes)) in
     tells_along refl
     (ap (λ n. cond (ltb (suc (length bytes)) n) (given_of (tag ∷ bytes)) (group_words (tag ∷ bytes) ++ given_in k (drop n (tag ∷ bytes)))) long
     ∙ ap (λ ws. cond (ltb (suc (length bytes)) (suc m)) ws (group_words (tag ∷ bytes) ++ given_in k (drop m bytes))) before ∙ ap whole spelled)
     (ap (λ n. cond (ltb (suc (length bytes)) n) true (is_cut_in k (drop n (tag ∷ bytes)))) long)
-    (ap (λ n. cond (ltb (suc (length bytes)) n) (take (length (given_of (tag ∷ bytes))) (front_ends at (tag ∷ bytes)) ++ capped (at + suc (length bytes)) ∷ []) (front_ends at (tag ∷ bytes) ++ ends_in k (at + n) (drop n (tag ∷ bytes)))) long
-    ∙ ap (λ ws. cond (ltb (suc (length bytes)) (suc m)) (take (length ws) (front_ends at (tag ∷ bytes)) ++ capped (at + suc (length bytes)) ∷ []) (front_ends at (tag ∷ bytes) ++ ends_in k (at + suc m) (drop m bytes))) before
+    (ap (λ n. cond (ltb (suc (length bytes)) n) (take (length (given_of (tag ∷ bytes))) (front_ends at (tag ∷ bytes))
+    ++ capped (at + suc (length bytes)) ∷ []) (front_ends at (tag ∷ bytes) ++ ends_in k (at + n) (drop n (tag ∷ bytes)))) long
+    ∙ ap (λ ws. cond (ltb (suc (length bytes)) (suc m)) (take (length ws) (front_ends at (tag ∷ bytes)) ++ capped (at + suc (length bytes)) ∷ [])
+    (front_ends at (tag ∷ bytes) ++ ends_in k (at + suc m) (drop m bytes))) before
     ∙ ap (λ ps. cond (ltb (suc (length bytes)) (suc m)) (capped (at + suc (length bytes)) ∷ []) (ps ++ ends_in k (at + suc m) (drop m bytes))) placed)
     (marked_in k t at tag m (spread 8 tag bytes) bytes p (sym (pick (eqb tag 0) (eqb tag 255) 1 9 m not_zero not_full))
     (λ q. pick (eqb tag 0) (eqb tag 255) _ _ _ not_zero not_full ∙ spread-take tag m bytes refl q)
@@ -220,12 +248,14 @@ told : (k : ℕ) → Told k
 unfolding Told
 told zero at [] p = tells_along (course_none (capped at)) refl refl refl (record { words = refl; cut = refl; ends = refl })
 told zero at (tag ∷ bytes) p = absurd (omega arith)
-told (suc k) at [] p = tells_along (course_none (capped at)) (none_given k) (none_cut k) (none_ends (suc k) at) (record { words = refl; cut = refl; ends = refl })
+told (suc k) at [] p =
+    tells_along (course_none (capped at)) (none_given k) (none_cut k) (none_ends (suc k) at) (record { words = refl; cut = refl; ends = refl })
 told (suc k) at (tag ∷ bytes) p = ⊎_elim
     (λ z. rw z (zeros_told k (told k) at bytes (omega arith)))
     (λ z. ⊎_elim (λ o. rw o (plain_run_told k (told k) at bytes (omega arith))) (λ o. marked_told k (told k) at tag bytes z o (omega arith)) (cases_eq tag 255))
     (cases_eq tag 0)
 
-pub course_tells : (at : ℕ) (bytes : List ℕ) → (words_of (course 0 (capped at) bytes) ≡ unpacked bytes) × (is_cut_of (course 0 (capped at) bytes) ≡ packed_is_cut bytes) × (places_of (course 0 (capped at) bytes) ≡ packed_ends at bytes)
+pub course_tells : (at : ℕ) (bytes : List ℕ) → (words_of (course 0 (capped at) bytes) ≡ unpacked bytes)
+    × (is_cut_of (course 0 (capped at) bytes) ≡ packed_is_cut bytes) × (places_of (course 0 (capped at) bytes) ≡ packed_ends at bytes)
 unfolding Told
 course_tells at bytes = let t = told (length bytes) at bytes (omega arith) in (t.words, t.cut, t.ends)

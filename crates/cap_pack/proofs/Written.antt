@@ -15,7 +15,8 @@ pub take-pushed : (xs : List ℕ) (n m x : ℕ) → m ≡ n + 1 → n < length x
 take-pushed xs n m x e h = take-set_at xs n m x e h
 
 -- after writes of a word as it is and of those behind it
-pub take-plain : (text first head bytes more : List ℕ) (len k m count end : ℕ) → len + 10 ≤ length text → length head ≡ 8 → k ≡ 8 → end ≡ len + 10 + length bytes → head ≡ first → more ≡ bytes →
+pub take-plain : (text first head bytes more : List ℕ) (len k m count end : ℕ) → len + 10 ≤ length text → length head ≡ 8 → k ≡ 8 →
+    end ≡ len + 10 + length bytes → head ≡ first → more ≡ bytes →
     take end (put_mid (len + 10) m (set (put_mid (len + 1) k (set text len 255) head) (len + 9) count) more) ≡ take len text ++ 255 ∷ (first ++ count ∷ bytes)
 take-plain text first head bytes more len k m count end h l e n f b =
     let tagged = set text len 255 in
@@ -36,7 +37,8 @@ take-plain text first head bytes more len k m count end h l e n f b =
     ∙ ap (λ t. take len text ++ 255 ∷ (first ++ count ∷ t)) b
 
 -- after writes of a tag and of the bytes that it marks, with some behind them
-pub take-marked : (text marked bytes zeros : List ℕ) (len k tag ones end : ℕ) → ones ≡ length marked → len < length text → bytes ≡ marked ++ zeros → end ≡ len + 1 + ones →
+pub take-marked : (text marked bytes zeros : List ℕ) (len k tag ones end : ℕ) → ones ≡ length marked → len < length text → bytes ≡ marked ++ zeros →
+    end ≡ len + 1 + ones →
     take end (put_mid (len + 1) k (set text len tag) bytes) ≡ take len text ++ tag ∷ marked
 take-marked text marked bytes zeros len k tag ones end o h b e =
     let tagged = set text len tag in

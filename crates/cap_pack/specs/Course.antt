@@ -65,3 +65,7 @@ course_in (suc f) (suc n) at bytes =
 -- from a position on, `plain` literal words and then groups
 unfoldable pub course : ℕ → ℕ → List ℕ → Course
 course plain at bytes = course_in (suc (length bytes)) plain at bytes
+
+-- a group whose head ends at this position, and the groups after it
+abbrev pub group_course : ℕ → ℕ → ℕ → ℕ → List ℕ → Course
+group_course word zeros plain at bytes = gives word at (zeros_then zeros at (course plain at bytes))

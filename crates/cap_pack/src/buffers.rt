@@ -18,7 +18,8 @@ use cap_words::bytes_of;
 pub fn pack_into(bytes: &[u8], out: &mut [u8]) -> usize
     ensures len { result ≡ length (pack_text (plain_words bytes.now)) }
     ensures few { 4 * result ≤ 5 * length bytes.now }
-    ensures written { result ≤ length out.old → out.new ≡ pack_text (plain_words bytes.now) ++ drop result out.old }
+    ensures written { result ≤ length out.old →
+        out.new ≡ pack_text (plain_words bytes.now) ++ drop result out.old }
     ensures no_room { length out.old < result → out.new ≡ out.old }
 {
     let len = packed_len(bytes);

@@ -1,8 +1,8 @@
 //! An input, and how many bytes were read of it.
 
-ghost use Rattle.cap_pack.specs.Course.{course, gives, stops, zeros_then};
-ghost use Rattle.cap_pack.specs.InputReads.{Took};
-ghost use Rattle.cap_words.specs.Ends.{Fails, Works};
+ghost use Rattle.cap_pack.specs.Course.{course, gives, group_course, stops};
+ghost use Rattle.cap_pack.specs.InputReads.{Reads, ReadsAll};
+ghost use Rattle.cap_words.specs.Ends.{InputFails, NoFault};
 ghost use Rattle.std.specs.Io.KnownBytes.{IsAtEnd};
 ghost use Rattle.std.specs.Prelude.{◌<◌, ◌≡◌, [], ◌++◌, IfOk, IfSome, IsErrOf, List, OnOk, length, suc, take, ◌≤◌, true, ℕ};
 
@@ -21,21 +21,21 @@ impl<I: ByteIn> Counted<I> {
     /// The head of the next group, or `None` where the input ends before it.
     pub(crate) fn head(&mut self) -> Result<Option<Head>, SourceFault>
         ensures head { IfOk result (λ o. IfSome o (λ g. (bs : List ℕ)
-            × Took (I.to_come self.old.input) (I.to_come self.new.input) self.old.read self.new.read bs
-            × ((ys : List ℕ) → course 0 self.old.read (bs ++ ys)
-            ≡ gives g.word self.new.read (zeros_then g.zeros self.new.read (course g.plain self.new.read ys))))) }
-        ensures none { result ≡ Ok None → Took (I.to_come self.old.input) (I.to_come self.new.input) self.old.read self.new.read []
+            × Reads I.to_come self.old self.new bs × ((ys : List ℕ) → course 0 self.old.read (bs ++ ys)
+            ≡ group_course g.word g.zeros g.plain self.new.read ys))) }
+        ensures none { result ≡ Ok None → Reads I.to_come self.old self.new []
             × IsAtEnd (I.to_come self.new.input) × (self.new.read ≡ self.old.read) }
-        ensures works { OnOk result (Works (I.spent self.old.input) (I.spent self.new.input) (I.failures self.old.input) (I.failures self.new.input)) }
-        ensures truncated { (byte : ℕ) → IsErrOf result (SourceFault.Truncated byte) → (byte ≡ self.new.read)
-            × ((bs : List ℕ) × Took (I.to_come self.old.input) (I.to_come self.new.input) self.old.read self.new.read bs
-            × IsAtEnd (I.to_come self.new.input) × (course 0 self.old.read bs ≡ stops self.new.read)) }
+        ensures works { OnOk result (NoFault I.spent I.failures self.old.input self.new.input) }
+        ensures truncated { (byte : ℕ) → IsErrOf result (SourceFault.Truncated byte) →
+            (byte ≡ self.new.read) × ReadsAll I.to_come self.old self.new
+            (λ bs. course 0 self.old.read bs ≡ stops self.new.read) }
         ensures worked { (byte : ℕ) → IsErrOf result (SourceFault.Truncated byte)
-            → Works (I.spent self.old.input) (I.spent self.new.input) (I.failures self.old.input) (I.failures self.new.input) }
-        ensures device { IsErrOf result SourceFault.Device → Fails (I.spent self.old.input) (I.failures self.old.input) (I.failures self.new.input)
-            × (I.spent self.new.input ≡ true) }
-        ensures reads { (bs : List ℕ) × Took (I.to_come self.old.input) (I.to_come self.new.input) self.old.read self.new.read bs }
-        ensures was_spent { IsErrOf result SourceFault.Spent → (I.spent self.old.input ≡ true) × (self.new ≡ self.old) }
+            → NoFault I.spent I.failures self.old.input self.new.input }
+        ensures device { IsErrOf result SourceFault.Device →
+            InputFails I.spent I.failures self.old.input self.new.input }
+        ensures reads { (bs : List ℕ) × Reads I.to_come self.old self.new bs }
+        ensures was_spent { IsErrOf result SourceFault.Spent →
+            (I.spent self.old.input ≡ true) × (self.new ≡ self.old) }
     {
         let mut tag = [0];
         match self.fill(&mut tag) {
@@ -54,18 +54,21 @@ impl<I: ByteIn> Counted<I> {
 
     /// The next word as it is.
     pub(crate) fn word(&mut self) -> Result<u64, SourceFault>
-        ensures word { IfOk result (λ w. (bs : List ℕ) × Took (I.to_come self.old.input) (I.to_come self.new.input) self.old.read self.new.read bs
-            × ((n : ℕ) (ys : List ℕ) → course (suc n) self.old.read (bs ++ ys) ≡ gives w self.new.read (course n self.new.read ys))) }
-        ensures works { OnOk result (Works (I.spent self.old.input) (I.spent self.new.input) (I.failures self.old.input) (I.failures self.new.input)) }
-        ensures truncated { (byte : ℕ) → IsErrOf result (SourceFault.Truncated byte) → (byte ≡ self.new.read)
-            × ((bs : List ℕ) × Took (I.to_come self.old.input) (I.to_come self.new.input) self.old.read self.new.read bs
-            × IsAtEnd (I.to_come self.new.input) × ((n : ℕ) → course (suc n) self.old.read bs ≡ stops self.new.read)) }
+        ensures word { IfOk result (λ w. (bs : List ℕ) × Reads I.to_come self.old self.new bs
+            × ((n : ℕ) (ys : List ℕ) →
+            course (suc n) self.old.read (bs ++ ys)
+            ≡ gives w self.new.read (course n self.new.read ys))) }
+        ensures works { OnOk result (NoFault I.spent I.failures self.old.input self.new.input) }
+        ensures truncated { (byte : ℕ) → IsErrOf result (SourceFault.Truncated byte) →
+            (byte ≡ self.new.read) × ReadsAll I.to_come self.old self.new
+            (λ bs. (n : ℕ) → course (suc n) self.old.read bs ≡ stops self.new.read) }
         ensures worked { (byte : ℕ) → IsErrOf result (SourceFault.Truncated byte)
-            → Works (I.spent self.old.input) (I.spent self.new.input) (I.failures self.old.input) (I.failures self.new.input) }
-        ensures device { IsErrOf result SourceFault.Device → Fails (I.spent self.old.input) (I.failures self.old.input) (I.failures self.new.input)
-            × (I.spent self.new.input ≡ true) }
-        ensures reads { (bs : List ℕ) × Took (I.to_come self.old.input) (I.to_come self.new.input) self.old.read self.new.read bs }
-        ensures was_spent { IsErrOf result SourceFault.Spent → (I.spent self.old.input ≡ true) × (self.new ≡ self.old) }
+            → NoFault I.spent I.failures self.old.input self.new.input }
+        ensures device { IsErrOf result SourceFault.Device →
+            InputFails I.spent I.failures self.old.input self.new.input }
+        ensures reads { (bs : List ℕ) × Reads I.to_come self.old self.new bs }
+        ensures was_spent { IsErrOf result SourceFault.Spent →
+            (I.spent self.old.input ≡ true) × (self.new ≡ self.old) }
     {
         let mut bytes = [0; 8];
         match self.whole(&mut bytes) {
@@ -77,17 +80,18 @@ impl<I: ByteIn> Counted<I> {
     /// Fills a buffer with the next bytes.
     fn whole(&mut self, buf: &mut [u8]) -> Result<(), SourceFault>
         requires { 0 < length buf.old }
-        ensures took { OnOk result (Took (I.to_come self.old.input) (I.to_come self.new.input) self.old.read self.new.read buf.new) }
-        ensures works { OnOk result (Works (I.spent self.old.input) (I.spent self.new.input) (I.failures self.old.input) (I.failures self.new.input)) }
-        ensures truncated { (byte : ℕ) → IsErrOf result (SourceFault.Truncated byte) → (byte ≡ self.new.read)
-            × ((bs : List ℕ) × Took (I.to_come self.old.input) (I.to_come self.new.input) self.old.read self.new.read bs
-            × IsAtEnd (I.to_come self.new.input) × (length bs < length buf.new)) }
+        ensures took { OnOk result (Reads I.to_come self.old self.new buf.new) }
+        ensures works { OnOk result (NoFault I.spent I.failures self.old.input self.new.input) }
+        ensures truncated { (byte : ℕ) → IsErrOf result (SourceFault.Truncated byte) →
+            (byte ≡ self.new.read) × ReadsAll I.to_come self.old self.new
+            (λ bs. length bs < length buf.new) }
         ensures worked { (byte : ℕ) → IsErrOf result (SourceFault.Truncated byte)
-            → Works (I.spent self.old.input) (I.spent self.new.input) (I.failures self.old.input) (I.failures self.new.input) }
-        ensures device { IsErrOf result SourceFault.Device → Fails (I.spent self.old.input) (I.failures self.old.input) (I.failures self.new.input)
-            × (I.spent self.new.input ≡ true) }
-        ensures reads { (bs : List ℕ) × Took (I.to_come self.old.input) (I.to_come self.new.input) self.old.read self.new.read bs }
-        ensures was_spent { IsErrOf result SourceFault.Spent → (I.spent self.old.input ≡ true) × (self.new ≡ self.old) }
+            → NoFault I.spent I.failures self.old.input self.new.input }
+        ensures device { IsErrOf result SourceFault.Device →
+            InputFails I.spent I.failures self.old.input self.new.input }
+        ensures reads { (bs : List ℕ) × Reads I.to_come self.old self.new bs }
+        ensures was_spent { IsErrOf result SourceFault.Spent →
+            (I.spent self.old.input ≡ true) × (self.new ≡ self.old) }
     {
         match self.fill(buf) {
             Ok(len) if len == buf.len() => Ok(()),
@@ -102,14 +106,15 @@ impl<I: ByteIn> Counted<I> {
     fn fill(&mut self, buf: &mut [u8]) -> Result<usize, InFault>
         requires { 0 < length buf.old }
         ensures len { IfOk result (λ n. n ≤ length buf.new) }
-        ensures took { IfOk result (λ n. Took (I.to_come self.old.input) (I.to_come self.new.input) self.old.read self.new.read (take n buf.new)) }
+        ensures took { IfOk result (λ n. Reads I.to_come self.old self.new (take n buf.new)) }
         ensures end { IfOk result (λ n. n < length buf.new → IsAtEnd (I.to_come self.new.input)) }
         ensures still { result ≡ Ok 0 → self.new.read ≡ self.old.read }
-        ensures works { OnOk result (Works (I.spent self.old.input) (I.spent self.new.input) (I.failures self.old.input) (I.failures self.new.input)) }
-        ensures device { IsErrOf result InFault.Device → Fails (I.spent self.old.input) (I.failures self.old.input) (I.failures self.new.input)
-            × (I.spent self.new.input ≡ true) }
-        ensures reads { (bs : List ℕ) × Took (I.to_come self.old.input) (I.to_come self.new.input) self.old.read self.new.read bs }
-        ensures was_spent { IsErrOf result InFault.Spent → (I.spent self.old.input ≡ true) × (self.new ≡ self.old) }
+        ensures works { OnOk result (NoFault I.spent I.failures self.old.input self.new.input) }
+        ensures device { IsErrOf result InFault.Device →
+            InputFails I.spent I.failures self.old.input self.new.input }
+        ensures reads { (bs : List ℕ) × Reads I.to_come self.old self.new bs }
+        ensures was_spent { IsErrOf result InFault.Spent →
+            (I.spent self.old.input ≡ true) × (self.new ≡ self.old) }
     {
         let read = self.read;
         let filled = fill(&mut self.input, buf);

@@ -1,7 +1,7 @@
 //! The group that a packer holds open, and how it is written.
 
 ghost use Rattle.cap_pack.specs.Holding.{group_bytes};
-ghost use Rattle.cap_words.specs.Ends.{DeviceFails, GrowthFails};
+ghost use Rattle.cap_words.specs.Ends.{MemoryFails, OutputFails};
 ghost use Rattle.std.specs.Io.KnownBytes.{Appends};
 ghost use Rattle.std.specs.Prelude.{◌≡◌, ◌≤◌, IsErrOf, OnErr, OnOk, take, true, ℕ};
 
@@ -47,14 +47,20 @@ pub(crate) fn write_group<O: ByteOut>(
     words: &[u64; MORE_WORDS],
     room: &mut [u8; ROOM_BYTES],
 ) -> Result<(), OutFault>
-    ensures ok { OnOk result (Appends (O.written output.old) (O.written output.new) (group_bytes group words.now)) }
-    ensures err { OnErr result ((n : ℕ) × Appends (O.written output.old) (O.written output.new) (take n (group_bytes group words.now))) }
-    ensures works { OnOk result ((O.spent output.new ≡ O.spent output.old) × (O.failures output.new ≡ O.failures output.old)) }
+    ensures ok { OnOk result
+        (Appends (O.written output.old) (O.written output.new) (group_bytes group words.now)) }
+    ensures err { OnErr result ((n : ℕ)
+        × Appends (O.written output.old) (O.written output.new)
+        (take n (group_bytes group words.now))) }
+    ensures works { OnOk result ((O.spent output.new ≡ O.spent output.old)
+        × (O.failures output.new ≡ O.failures output.old)) }
     ensures idle { OnOk result (O.spent output.new ≡ true → output.new ≡ output.old) }
-    ensures device { IsErrOf result OutFault.Device → DeviceFails (O.spent output.old) (O.failures output.old) (O.failures output.new)
-        × (O.spent output.new ≡ true) }
-    ensures memory { IsErrOf result OutFault.Memory → GrowthFails (O.spent output.old) (O.failures output.old) (O.failures output.new) }
-    ensures was_spent { IsErrOf result OutFault.Spent → (O.spent output.old ≡ true) × (output.new ≡ output.old) }
+    ensures device { IsErrOf result OutFault.Device →
+        OutputFails O.spent O.failures output.old output.new × (O.spent output.new ≡ true) }
+    ensures memory { IsErrOf result OutFault.Memory →
+        MemoryFails O.spent O.failures output.old output.new }
+    ensures was_spent { IsErrOf result OutFault.Spent →
+        (O.spent output.old ≡ true) × (output.new ≡ output.old) }
 {
     let len = spell_group(group, words, room);
     write_all(output, &room[..len])

@@ -205,7 +205,8 @@ fn spread_lanes(tag: u8, bytes: u8x16) -> u8x16
 #[inline(always)]
 fn squeeze_lanes(tag: u8, word: u64) -> u8x16
     requires { tag ≡ tag_of (word_bytes word) }
-    ensures { take 8 result ≡ filter (λ b. not (b == 0)) (word_bytes word) ++ replicate (8 - marks 8 tag) 0 }
+    ensures { take 8 result ≡ filter (λ b. not (b == 0)) (word_bytes word)
+        ++ replicate (8 - marks 8 tag) 0 }
 {
     let places = lanes_of(squeeze_places(tag), 128);
     lanes_of_word(word).swizzle_dyn_within::<16>(places)
@@ -225,7 +226,8 @@ pub(crate) fn squeezed(tag: u8, word: u64) -> [u8; 8]
 #[inline]
 pub fn gather(word: u64, out: &mut [u8; 8]) -> usize
     ensures count { result ≡ length (filter (λ b. not (b == 0)) (word_bytes word)) }
-    ensures bytes { out.new ≡ filter (λ b. not (b == 0)) (word_bytes word) ++ replicate (8 - result) 0 }
+    ensures bytes { out.new ≡ filter (λ b. not (b == 0)) (word_bytes word)
+        ++ replicate (8 - result) 0 }
 {
     let tag = tag_of_word(word);
     *out = squeezed(tag, word);

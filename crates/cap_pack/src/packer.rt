@@ -2,8 +2,9 @@
 
 ghost use Rattle.cap_pack.specs.Holding.{IsRun, Spells, first_zeros, group_bytes, held};
 ghost use Rattle.cap_spec.specs.Packing.{group_size, pack_text};
-ghost use Rattle.cap_words.specs.Ends.{DeviceFails, GrowthFails, WasSpent};
-ghost use Rattle.cap_words.specs.Sinks.{Begins, StoppedPutting, WasPut, begins_appended};
+ghost use Rattle.cap_words.specs.Ends.{MemoryFails, OutputFails, WasClosed};
+ghost use Rattle.cap_words.specs.Sinks.{StaysOpen, StoppedPutting, WasPut, begins_appended};
+ghost use Rattle.cap_words.specs.declared.sinks.SinkFault.TheVariants.{Device, Memory, Spent};
 ghost use Rattle.std.specs.Io.KnownBytes.{Keeps, append_known};
 ghost use Rattle.std.specs.Prelude.{◌++◌, ◌<◌, ◌≡◌, ◌≤◌, ◌||◌, [], ◌∷◌, IsErrOf, List, OnErr, OnOk, drop, false, length, take, true, ℕ};
 
@@ -38,14 +39,21 @@ impl<O: ByteOut> Packer<O> {
     pub fn new(output: O) -> Packer<O>
         ensures output { output_of result ≡ output }
         ensures starts { ⟦<Packer<O> as WordSink>⟧.taken result ≡ O.written output }
-        ensures empty { (ws : List ℕ) → ⟦<Packer<O> as WordSink>⟧.text result ws ≡ append_known (O.written output) (pack_text ws) }
+        ensures empty { (ws : List ℕ) →
+            ⟦<Packer<O> as WordSink>⟧.text result ws
+            ≡ append_known (O.written output) (pack_text ws) }
         ensures open { ⟦<Packer<O> as WordSink>⟧.closed result ≡ false }
         ensures spent { ⟦<Packer<O> as WordSink>⟧.spent result ≡ O.spent output }
         ensures taken { (s : Packer O) → ⟦<Packer<O> as WordSink>⟧.taken s ≡ O.written (output_of s) }
-        ensures when_spent { (s : Packer O) → ⟦<Packer<O> as WordSink>⟧.spent s ≡ (⟦<Packer<O> as WordSink>⟧.closed s || O.spent (output_of s)) }
-        ensures failures { (s : Packer O) → ⟦<Packer<O> as WordSink>⟧.failures s ≡ O.failures (output_of s) }
-        ensures text { (s : Packer O) → (h : List ℕ) × (group_size h ≡ length h)
-            × ((ws : List ℕ) → ⟦<Packer<O> as WordSink>⟧.text s ws ≡ append_known (⟦<Packer<O> as WordSink>⟧.taken s) (pack_text (h ++ ws))) }
+        ensures when_spent { (s : Packer O) →
+            ⟦<Packer<O> as WordSink>⟧.spent s
+            ≡ (⟦<Packer<O> as WordSink>⟧.closed s || O.spent (output_of s)) }
+        ensures failures { (s : Packer O) →
+            ⟦<Packer<O> as WordSink>⟧.failures s ≡ O.failures (output_of s) }
+        ensures text { (s : Packer O) →
+            (h : List ℕ) × (group_size h ≡ length h)
+            × ((ws : List ℕ) → ⟦<Packer<O> as WordSink>⟧.text s ws
+            ≡ append_known (⟦<Packer<O> as WordSink>⟧.taken s) (pack_text (h ++ ws))) }
     {
         Packer {
             output,
@@ -76,18 +84,20 @@ impl<O: ByteOut> Packer<O> {
     ///   output. A closed sink returns it also if there is no word.
     pub fn put_all(&mut self, words: &[u64]) -> Result<(), SinkFault>
         ensures put { OnOk result (WasPut ⟦<Packer<O> as WordSink>⟧.text self.old self.new words.now) }
-        ensures ok { OnOk result ((⟦<Packer<O> as WordSink>⟧.closed self.old ≡ false) × (⟦<Packer<O> as WordSink>⟧.closed self.new ≡ false)
-            × (⟦<Packer<O> as WordSink>⟧.spent self.new ≡ ⟦<Packer<O> as WordSink>⟧.spent self.old)
-            × (⟦<Packer<O> as WordSink>⟧.failures self.new ≡ ⟦<Packer<O> as WordSink>⟧.failures self.old)) }
+        ensures ok { OnOk result
+            (StaysOpen ⟦<Packer<O> as WordSink>⟧.closed ⟦<Packer<O> as WordSink>⟧.spent
+            ⟦<Packer<O> as WordSink>⟧.failures self.old self.new) }
         ensures err { OnErr result ((⟦<Packer<O> as WordSink>⟧.closed self.new ≡ true)
-            × StoppedPutting ⟦<Packer<O> as WordSink>⟧.text ⟦<Packer<O> as WordSink>⟧.taken self.old self.new words.now) }
-        ensures stays { ⟦<Packer<O> as WordSink>⟧.closed self.old ≡ true → (result ≡ Err SinkFault.Spent) × (self.new ≡ self.old) }
-        ensures device { IsErrOf result SinkFault.Device → DeviceFails (⟦<Packer<O> as WordSink>⟧.spent self.old)
-            (⟦<Packer<O> as WordSink>⟧.failures self.old) (⟦<Packer<O> as WordSink>⟧.failures self.new) }
-        ensures memory { IsErrOf result SinkFault.Memory → GrowthFails (⟦<Packer<O> as WordSink>⟧.spent self.old)
-            (⟦<Packer<O> as WordSink>⟧.failures self.old) (⟦<Packer<O> as WordSink>⟧.failures self.new) }
-        ensures was_spent { IsErrOf result SinkFault.Spent → WasSpent (⟦<Packer<O> as WordSink>⟧.spent self.old) (⟦<Packer<O> as WordSink>⟧.spent self.new)
-            (⟦<Packer<O> as WordSink>⟧.failures self.old) (⟦<Packer<O> as WordSink>⟧.failures self.new)
+            × StoppedPutting ⟦<Packer<O> as WordSink>⟧.text ⟦<Packer<O> as WordSink>⟧.taken self.old
+            self.new words.now) }
+        ensures stays { ⟦<Packer<O> as WordSink>⟧.closed self.old ≡ true →
+            (result ≡ Err Spent) × (self.new ≡ self.old) }
+        ensures device { IsErrOf result Device →
+            OutputFails ⟦<Packer<O> as WordSink>⟧.spent ⟦<Packer<O> as WordSink>⟧.failures self.old self.new }
+        ensures memory { IsErrOf result Memory →
+            MemoryFails ⟦<Packer<O> as WordSink>⟧.spent ⟦<Packer<O> as WordSink>⟧.failures self.old self.new }
+        ensures was_spent { IsErrOf result Spent →
+            WasClosed ⟦<Packer<O> as WordSink>⟧.spent ⟦<Packer<O> as WordSink>⟧.failures self.old self.new
             × Keeps (⟦<Packer<O> as WordSink>⟧.taken self.old) (⟦<Packer<O> as WordSink>⟧.taken self.new) }
     {
         if self.closed {
@@ -109,9 +119,11 @@ impl<O: ByteOut> Packer<O> {
     fn extend(&mut self, words: &[u64]) -> usize
         ensures output { (self.new.output ≡ self.old.output) × (self.new.closed ≡ self.old.closed) }
         ensures within { result ≤ length words.now }
-        ensures joined { held self.new.group self.new.words ≡ held self.old.group self.old.words ++ take result words.now }
-        ensures apart { result < length words.now → Spells (held self.new.group self.new.words ++ drop result words.now)
-            (group_bytes self.new.group self.new.words) (drop result words.now) }
+        ensures joined { held self.new.group self.new.words ≡ held self.old.group self.old.words
+            ++ take result words.now }
+        ensures apart { let rest = drop result words.now in result < length words.now →
+            Spells (held self.new.group self.new.words ++ rest)
+            (group_bytes self.new.group self.new.words) rest }
     {
         match self.group {
             Group::Empty => 0,
@@ -162,15 +174,19 @@ impl<O: ByteOut> Packer<O> {
     // Takes a piece of words. What spells the groups that ended is written at once.
     fn put_piece(&mut self, words: &[u64]) -> Result<(), OutFault>
         requires { length words.now ≤ 64 }
-        ensures ok { OnOk result ((ws : List ℕ) → Keeps (append_known (O.written self.old.output) (pack_text (held self.old.group self.old.words
-            ++ (words.now ++ ws)))) (append_known (O.written self.new.output) (pack_text (held self.new.group self.new.words ++ ws)))) }
-        ensures err { OnErr result ((ws : List ℕ) → Begins (append_known (O.written self.old.output) (pack_text (held self.old.group self.old.words
-            ++ (words.now ++ ws)))) (O.written self.new.output)) }
-        ensures works { OnOk result ((O.spent self.new.output ≡ O.spent self.old.output) × (O.failures self.new.output ≡ O.failures self.old.output)) }
-        ensures idle { OnOk result (O.spent self.new.output ≡ true → self.new.output ≡ self.old.output) }
-        ensures device { IsErrOf result OutFault.Device → DeviceFails (O.spent self.old.output) (O.failures self.old.output) (O.failures self.new.output) }
-        ensures memory { IsErrOf result OutFault.Memory → GrowthFails (O.spent self.old.output) (O.failures self.old.output) (O.failures self.new.output) }
-        ensures was_spent { IsErrOf result OutFault.Spent → (O.spent self.old.output ≡ true) × (self.new.output ≡ self.old.output) }
+        ensures ok { OnOk result (WasPut ⟦<Packer<O> as WordSink>⟧.text self.old self.new words.now) }
+        ensures err { OnErr result (StoppedPutting ⟦<Packer<O> as WordSink>⟧.text ⟦<Packer<O> as WordSink>⟧.taken
+            self.old self.new words.now) }
+        ensures works { OnOk result ((O.spent self.new.output ≡ O.spent self.old.output)
+            × (O.failures self.new.output ≡ O.failures self.old.output)) }
+        ensures idle { OnOk result (O.spent self.new.output ≡ true →
+            self.new.output ≡ self.old.output) }
+        ensures device { IsErrOf result OutFault.Device →
+            OutputFails O.spent O.failures self.old.output self.new.output }
+        ensures memory { IsErrOf result OutFault.Memory →
+            MemoryFails O.spent O.failures self.old.output self.new.output }
+        ensures was_spent { IsErrOf result OutFault.Spent →
+            (O.spent self.old.output ≡ true) × (self.new.output ≡ self.old.output) }
         ensures closed { self.new.closed ≡ self.old.closed }
     {
         let joined = self.extend(words);

@@ -40,7 +40,8 @@ fn spell_marked(text: &mut [u8; ROOM_BYTES], len: usize, tag: u8, word: u64) -> 
     requires marked { tag ≡ tag_of (word_bytes word) }
     requires room { len + 9 ≤ 2690 }
     ensures within { result ≤ len + 9 }
-    ensures spelled { take result text.new ≡ take len text.old ++ tag ∷ filter (λ b. not (b == 0)) (word_bytes word) }
+    ensures spelled { take result text.new ≡ take len text.old ++ tag
+        ∷ filter (λ b. not (b == 0)) (word_bytes word) }
 {
     text[len] = tag;
     text[len + 1..len + 9].copy_from_slice(&squeezed(tag, word));

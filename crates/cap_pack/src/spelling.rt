@@ -34,7 +34,8 @@ pub(crate) fn spell_plain(
     requires few { length more.now ≤ 255 }
     requires room { len + 10 + 8 * length more.now ≤ 2690 }
     ensures end { result ≡ len + 10 + 8 * length more.now }
-    ensures spelled { take result text.new ≡ take len text.old ++ 255 ∷ (word_bytes first ++ length more.now ∷ plain_text more.now) }
+    ensures spelled { take result text.new ≡ take len text.old ++ 255
+        ∷ (word_bytes first ++ length more.now ∷ plain_text more.now) }
 {
     text[len] = 255;
     text[len + 1..len + 9].copy_from_slice(&bytes_of(first));

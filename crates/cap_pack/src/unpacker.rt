@@ -36,19 +36,26 @@ impl<I: ByteIn> Unpacker<I> {
     /// The words that the packed bytes of `input` spell, from its next byte on.
     pub fn new(input: I) -> Unpacker<I>
         ensures input { input_of result ≡ input }
-        ensures words { ⟦<Unpacker<I> as WordSource>⟧.words result ≡ option_map unpacked (I.to_come input) }
-        ensures is_cut { ⟦<Unpacker<I> as WordSource>⟧.is_cut result ≡ packed_is_cut (unwrap_or (I.to_come input) []) }
+        ensures words { ⟦<Unpacker<I> as WordSource>⟧.words result
+            ≡ option_map unpacked (I.to_come input) }
+        ensures is_cut { ⟦<Unpacker<I> as WordSource>⟧.is_cut result
+            ≡ packed_is_cut (unwrap_or (I.to_come input) []) }
         ensures place { ⟦<Unpacker<I> as WordSource>⟧.place result ≡ 0 }
-        ensures places { OnSome (I.to_come input) (⟦<Unpacker<I> as WordSource>⟧.places result ≡ packed_ends 0 (unwrap_or (I.to_come input) [])) }
+        ensures places { OnSome (I.to_come input) (⟦<Unpacker<I> as WordSource>⟧.places result
+            ≡ packed_ends 0 (unwrap_or (I.to_come input) [])) }
         ensures unread { ⟦<Unpacker<I> as WordSource>⟧.unread result ≡ I.to_come input }
         ensures ended { ⟦<Unpacker<I> as WordSource>⟧.ended result ≡ false }
         ensures failed { ⟦<Unpacker<I> as WordSource>⟧.failed result ≡ false }
         ensures failures { ⟦<Unpacker<I> as WordSource>⟧.failures result ≡ I.failures input }
         ensures spent { ⟦<Unpacker<I> as WordSource>⟧.spent result ≡ I.spent input }
-        ensures when_spent { (s : Unpacker I I.ByteIn) → ⟦<Unpacker<I> as WordSource>⟧.spent s ≡
-            (if ⟦<Unpacker<I> as WordSource>⟧.ended s then false else (⟦<Unpacker<I> as WordSource>⟧.failed s || I.spent (input_of s))) }
-        ensures shows_unread { (s : Unpacker I I.ByteIn) → ⟦<Unpacker<I> as WordSource>⟧.unread s ≡ I.to_come (input_of s) }
-        ensures shows_failures { (s : Unpacker I I.ByteIn) → ⟦<Unpacker<I> as WordSource>⟧.failures s ≡ I.failures (input_of s) }
+        ensures when_spent { (s : Unpacker I I.ByteIn) →
+            ⟦<Unpacker<I> as WordSource>⟧.spent s
+            ≡ (if ⟦<Unpacker<I> as WordSource>⟧.ended s then false else
+            (⟦<Unpacker<I> as WordSource>⟧.failed s || I.spent (input_of s))) }
+        ensures shows_unread { (s : Unpacker I I.ByteIn) →
+            ⟦<Unpacker<I> as WordSource>⟧.unread s ≡ I.to_come (input_of s) }
+        ensures shows_failures { (s : Unpacker I I.ByteIn) →
+            ⟦<Unpacker<I> as WordSource>⟧.failures s ≡ I.failures (input_of s) }
     {
         Unpacker {
             bytes: Counted { input, read: 0 },

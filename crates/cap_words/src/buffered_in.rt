@@ -67,10 +67,8 @@ impl<R: Read> BufferedIn<R> {
     fn refill(&mut self) -> Result<(), InFault>
         requires { self.old.start ≡ self.old.end }
         ensures bytes { Keeps
-            (prepend_known (slice_range self.old.buffer.items self.old.start self.old.end)
-            (R.remaining self.old.reader))
-            (prepend_known (slice_range self.new.buffer.items self.new.start self.new.end)
-            (R.remaining self.new.reader)) }
+            (prepend_known (⟦<BufferedIn<R> as ByteIn>⟧.at_hand self.old) (R.remaining self.old.reader))
+            (prepend_known (⟦<BufferedIn<R> as ByteIn>⟧.at_hand self.new) (R.remaining self.new.reader)) }
         ensures end { OnOk result (self.new.start ≡ self.new.end →
             IsAtEnd (R.remaining self.new.reader)) }
         ensures ok { OnOk result ((self.old.failed ≡ false) × (self.new.failed ≡ false)) }

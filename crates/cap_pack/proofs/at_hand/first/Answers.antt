@@ -18,5 +18,7 @@ returns-clause-unpacks c =
       within = omega (arith, c.requires.held, c.head_len.ensures.few);
       fits = omega (arith, long);
       whole = refl;
-      gives = rw one (gives_head c.head_len.result word c.head_of-head.result.zeros c.head_of-head.result.plain c.args.from.now _ c.head_len.ensures.few c.requires.held c.copy_from_slice.ensures.after c.head_len.ensures.rest c.head_of-head.ensures.word c.head_of-head.ensures.zeros c.head_of-head.ensures.plain);
+      gives = rw one (gives_head c.head_len.result word c.head_of-head.result.zeros c.head_of-head.result.plain c.args.from.now _
+          c.head_len.ensures.few c.requires.held c.copy_from_slice.ensures.after c.head_len.ensures.rest c.head_of-head.ensures.word
+          c.head_of-head.ensures.zeros c.head_of-head.ensures.plain);
     }

@@ -30,7 +30,9 @@ returns c =
     let eight : 8 * (n + m) ≡ 8 * n + 8 * m = omega arith in
     let front : length (take (8 * n) out) % 8 ≡ 0 = omega (arith, length-take-le (8 * n) out c.zero_words-given.ensures.room) in
     let bytes : take (8 * (n + m)) room ≡ take (8 * n) out ++ copied =
-    ap (λ (k : ℕ). take k room) eight ∙ (filled (8 * n) _ (8 * m) out given c.zero_words-given.ensures.room c.plain_words-copied.ensures.room ∙ ap (λ (l : List ℕ). take (8 * n) out ++ l) c.plain_words-copied.ensures.copied) in
+    ap (λ (k : ℕ). take k room) eight
+    ∙ (filled (8 * n) _ (8 * m) out given c.zero_words-given.ensures.room c.plain_words-copied.ensures.room
+    ∙ ap (λ (l : List ℕ). take (8 * n) out ++ l) c.plain_words-copied.ensures.copied) in
     let words : plain_words (take (8 * (n + m)) room) ≡ replicate n 0 ++ plain_words copied =
     ap plain_words bytes ∙ (plain_join (take (8 * n) out) copied front ∙ ap (λ (l : List ℕ). l ++ plain_words copied) zeros) in
     let long : length copied ≡ 8 * m = length-take-le (8 * m) c.args.from.now c.plain_words-copied.ensures.held in

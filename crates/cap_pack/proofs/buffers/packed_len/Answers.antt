@@ -17,7 +17,8 @@ counting-preserved c =
     let taken : ℕ = c.front_group-taken.result.0 in
     let left : List ℕ = take (length bytes - at) (drop at bytes) in
     let step = pack_step bytes left at taken (take_rest bytes at) group.size group.within.0 group.within.2 in
-    let long : length (pack_text (plain_words (drop at bytes))) ≡ length (front_text (plain_words (take taken left))) + length (pack_text (plain_words (drop (at + taken) bytes))) =
+    let long : length (pack_text (plain_words (drop at bytes)))
+    ≡ length (front_text (plain_words (take taken left))) + length (pack_text (plain_words (drop (at + taken) bytes))) =
     ap length step ∙ length-append (front_text (plain_words (take taken left))) (pack_text (plain_words (drop (at + taken) bytes))) in
     record {
       inside = omega (arith, far.inside, group.within.2, ap length (take_rest bytes at), length-drop at bytes);

@@ -17,7 +17,8 @@ slice_bounds-write_group-end-in-writing c =
     let taken : ℕ = c.front_group-taken.result.0 in
     let left : List ℕ = take (length bytes - at) (drop at bytes) in
     let step = pack_step bytes left at taken (take_rest bytes at) group.size group.within.0 group.within.2 in
-    let long : length (pack_text (plain_words (drop at bytes))) ≡ length (front_text (plain_words (take taken left))) + length (pack_text (plain_words (drop (at + taken) bytes))) =
+    let long : length (pack_text (plain_words (drop at bytes)))
+    ≡ length (front_text (plain_words (take taken left))) + length (pack_text (plain_words (drop (at + taken) bytes))) =
     ap length step ∙ length-append (front_text (plain_words (take taken left))) (pack_text (plain_words (drop (at + taken) bytes))) in
     let fits : c.writing.len + c.front_group-taken.result.1 ≤ length c.writing.text = omega (arith, c.writing.invariant.room, long, group.spelled) in
     fits
@@ -41,7 +42,13 @@ writing-preserved c =
     let count : length new ≡ spelled = ap length c.write_group.ensures ∙ sym group.spelled in
     record {
       inside = omega (arith, far.inside, group.within.2, ap length (take_rest bytes at), length-drop at bytes);
-      room = omega (arith, put_length len (len + spelled - len) text new (omega (arith, far.room, long, group.spelled)) (omega (arith, count)), far.room, long, group.spelled);
+      room = omega (
+        arith,
+        put_length len (len + spelled - len) text new (omega (arith, far.room, long, group.spelled)) (omega (arith, count)),
+        far.room,
+        long,
+        group.spelled,
+      );
       spelled =
           ap (λ (t : List ℕ). t ++ behind) (take-put_mid len (len + spelled - len) text new (len + spelled) (omega (arith, count)) (omega (arith, far.room)))
           ∙ append_assoc (take len text) new behind
@@ -57,4 +64,5 @@ returns c =
     let far = c.writing.invariant in
     let none = no_word c.args.bytes.now c.writing.at (omega (arith, c.writing-test.false)) in
     let no_text : length (pack_text (plain_words (drop c.writing.at c.args.bytes.now))) ≡ 0 = ap (λ ws. length (pack_text ws)) none in
-    sym (take_all len text (omega (arith, far.room, no_text))) ∙ sym (append-nil (take len text)) ∙ sym (ap (λ ws. take len text ++ pack_text ws) none) ∙ far.spelled
+    sym (take_all len text (omega (arith, far.room, no_text))) ∙ sym (append-nil (take len text))
+    ∙ sym (ap (λ ws. take len text ++ pack_text ws) none) ∙ far.spelled

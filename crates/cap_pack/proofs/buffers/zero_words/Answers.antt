@@ -16,7 +16,8 @@ loop-count-preserved c =
     record {
       most = far.most;
       within = omega (arith, c.loop-count-test.true);
-      run = run_more (λ x. x == 0) c.loop-count.count words (omega (arith, words_exact c.args.bytes.now, far.most, c.loop-count-test.true)) (eq-eqb _ 0 (sym c.word_at.ensures ∙ c.if-word_at-eq0.true)) far.run;
+      run = run_more (λ x. x == 0) c.loop-count.count words (omega (arith, words_exact c.args.bytes.now, far.most, c.loop-count-test.true))
+          (eq-eqb _ 0 (sym c.word_at.ensures ∙ c.if-word_at-eq0.true)) far.run;
     }
 
 pub returns-else-word_at-eq0 : goal.returns-else-word_at-eq0

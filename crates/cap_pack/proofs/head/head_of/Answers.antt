@@ -22,7 +22,9 @@ pub returns-in-255-clause-plain : goal.returns-in-255-clause-plain
 returns-in-255-clause-plain c = plain_of-plain c.args.tag c.args.room.now c.in-255.is
 
 pub returns-in_default-clause-word : goal.returns-in_default-clause-word
-returns-in_default-clause-word c = c.scatter.ensures ∙ (ap (spread 8 c.args.tag) c.copy_from_slice.ensures.after ∙ spread_eight c.args.tag c.args.room.now (omega arith)) ∙ first_word-marked c.args.tag c.args.room.now (omega arith) (omega arith)
+returns-in_default-clause-word c = c.scatter.ensures
+    ∙ (ap (spread 8 c.args.tag) c.copy_from_slice.ensures.after ∙ spread_eight c.args.tag c.args.room.now (omega arith))
+    ∙ first_word-marked c.args.tag c.args.room.now (omega arith) (omega arith)
 
 pub returns-in_default-clause-zeros : goal.returns-in_default-clause-zeros
 returns-in_default-clause-zeros c = zeros_of-others c.args.tag c.args.room.now (omega arith)

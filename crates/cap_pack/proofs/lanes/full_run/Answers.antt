@@ -5,7 +5,8 @@ use Rattle.cap_pack.proofs.Runs.{run_more, run_ends}
 use Rattle.cap_pack.proofs.lanes.full_run.Goals as goal
 
 pub loop-i-preserved : goal.loop-i-preserved
-loop-i-preserved c = run_more (λ x. leb (zero_bytes x) 1) c.loop-i.i c.args.words.now (omega arith) (le-leb _ 1 (omega (arith, c.count_zeros.ensures))) c.loop-i.invariant
+loop-i-preserved c = run_more (λ x. leb (zero_bytes x) 1) c.loop-i.i c.args.words.now (omega arith)
+    (le-leb _ 1 (omega (arith, c.count_zeros.ensures))) c.loop-i.invariant
 
 pub returns-else-count_zeros-le1 : goal.returns-else-count_zeros-le1
 returns-else-count_zeros-le1 c =

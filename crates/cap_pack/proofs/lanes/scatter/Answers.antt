@@ -3,4 +3,5 @@ use Rattle.cap_pack.proofs.lanes.scatter.Goals as goal
 
 pub returns : goal.returns
 returns c =
-    scattered c.args.tag c.word_of.result c.args.bytes.now c.lanes_of.result c.spread_lanes.result c.low_bytes.result c.word_of.ensures.value c.low_bytes.ensures c.spread_lanes.ensures c.lanes_of.ensures
+    scattered c.args.tag c.word_of.result c.args.bytes.now c.lanes_of.result c.spread_lanes.result c.low_bytes.result c.word_of.ensures.value
+    c.low_bytes.ensures c.spread_lanes.ensures c.lanes_of.ensures

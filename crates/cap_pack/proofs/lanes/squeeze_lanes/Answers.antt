@@ -8,4 +8,5 @@ swizzle c = squeeze_ok c.squeeze_places.result c.lanes_of-places.result c.args.t
 
 pub returns : goal.returns
 returns c =
-    squeeze_by_places (word_bytes c.args.word) c.lanes_of_word.result c.squeeze_places.result c.lanes_of-places.result c.args.tag refl c.lanes_of_word.ensures c.requires c.squeeze_places.ensures c.lanes_of-places.ensures
+    squeeze_by_places (word_bytes c.args.word) c.lanes_of_word.result c.squeeze_places.result c.lanes_of-places.result c.args.tag refl
+    c.lanes_of_word.ensures c.requires c.squeeze_places.ensures c.lanes_of-places.ensures

@@ -7,4 +7,6 @@ use Rattle.cap_pack.proofs.lanes.tags_of_eight.Goals as goal
 pub returns : goal.returns
 returns c =
     let ws = chunk c.args.at 8 c.args.words.now in
-    c.bytes_of.ensures.value ∙ eight_tags ws (below_from_Fits w64 ws (chunk-fits w64 c.args.at 8 c.args.words.now c.type_inv.words)) (length-chunk c.args.at 8 c.args.words.now c.requires)
+    c.bytes_of.ensures.value
+    ∙ eight_tags ws (below_from_Fits w64 ws (chunk-fits w64 c.args.at 8 c.args.words.now c.type_inv.words))
+    (length-chunk c.args.at 8 c.args.words.now c.requires)

@@ -17,7 +17,8 @@ loop-at-preserved-then-tag-eq0 c =
       within = omega (arith, step.0, length-drop (at + 1) words);
       room = omega (arith, c.spell_zeros-len.ensures.end, c.loop-at.invariant.room);
       spelled =
-          more_spelled _ _ (0 ∷ c.zero_run-more.result ∷ []) (λ ws. take c.args.start c.args.text.now ++ pack_text (words ++ ws)) (drop at words) (drop (at + (1 + c.zero_run-more.result)) words) c.spell_zeros-len.ensures.spelled step.1
+          more_spelled _ _ (0 ∷ c.zero_run-more.result ∷ []) (λ ws. take c.args.start c.args.text.now ++ pack_text (words ++ ws)) (drop at words)
+          (drop (at + (1 + c.zero_run-more.result)) words) c.spell_zeros-len.ensures.spelled step.1
           c.loop-at.invariant.spelled;
     }
 
@@ -26,12 +27,20 @@ loop-at-preserved-then-tag c =
     let words = c.args.words.now in
     let at = c.loop-at.at in
     let full = full_word (get_or words at 0) (sym c.tag_of_word-tag.ensures ∙ c.if-tag.true) in
-    let step = full_step words _ at c.full_run-more.result _ (omega arith) c.requires.few full c.full_run-more.ensures c.if-at-more-2.false refl (omega arith) in
+    let step = full_step words _ at c.full_run-more.result _ (omega arith) c.requires.few full c.full_run-more.ensures c.if-at-more-2.false refl
+    (omega arith) in
     record {
       within = omega (arith, step.0, length-drop (at + 1) words);
-      room = omega (arith, c.spell_plain-len.ensures.end, c.loop-at.invariant.room, length-take (at + 1 + c.full_run-more.result - (at + 1)) (drop (at + 1) words));
+      room = omega (
+        arith,
+        c.spell_plain-len.ensures.end,
+        c.loop-at.invariant.room,
+        length-take (at + 1 + c.full_run-more.result - (at + 1))
+            (drop (at + 1) words),
+      );
       spelled =
-          more_spelled _ _ _ (λ ws. take c.args.start c.args.text.now ++ pack_text (words ++ ws)) (drop at words) (drop (at + (1 + c.full_run-more.result)) words) c.spell_plain-len.ensures.spelled step.1 c.loop-at.invariant.spelled;
+          more_spelled _ _ _ (λ ws. take c.args.start c.args.text.now ++ pack_text (words ++ ws)) (drop at words)
+          (drop (at + (1 + c.full_run-more.result)) words) c.spell_plain-len.ensures.spelled step.1 c.loop-at.invariant.spelled;
     }
 
 pub loop-at-preserved : goal.loop-at-preserved
@@ -39,11 +48,14 @@ loop-at-preserved c =
     let words = c.args.words.now in
     let at = c.loop-at.at in
     let tag = c.tag_of_word-tag.ensures in
-    let step = marked_step words at (omega arith) (λ e. c.if-tag-eq0.false (tag ∙ ap (λ v. tag_of (word_bytes v)) e)) (λ z. c.if-tag.false (tag ∙ word_tag (get_or words at 0) z)) in
+    let step = marked_step words at (omega arith) (λ e. c.if-tag-eq0.false (tag ∙ ap (λ v. tag_of (word_bytes v)) e))
+    (λ z. c.if-tag.false (tag ∙ word_tag (get_or words at 0) z)) in
     record {
       within = omega arith;
       room = omega (arith, c.spell_marked-len.ensures.within, c.loop-at.invariant.room);
       spelled =
           more_spelled _ _ _ (λ ws. take c.args.start c.args.text.now ++ pack_text (words ++ ws)) (drop at words) (drop (at + 1) words)
-          (c.spell_marked-len.ensures.spelled ∙ ap (λ (t : ℕ). take c.loop-at.len c.loop-at.text ++ t ∷ filter (λ b. not (b == 0)) (word_bytes (get_or words at 0))) tag) step c.loop-at.invariant.spelled;
+          (c.spell_marked-len.ensures.spelled
+          ∙ ap (λ (t : ℕ). take c.loop-at.len c.loop-at.text ++ t ∷ filter (λ b. not (b == 0)) (word_bytes (get_or words at 0))) tag) step
+          c.loop-at.invariant.spelled;
     }

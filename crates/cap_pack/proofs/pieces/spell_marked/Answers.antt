@@ -6,5 +6,6 @@ use Rattle.cap_pack.proofs.pieces.spell_marked.Goals as goal
 
 pub returns-clause-spelled : goal.returns-clause-spelled
 returns-clause-spelled c =
-    take-marked c.args.text.now (filter (λ b. not (b == 0)) (word_bytes c.args.word)) _ _ c.args.len _ c.args.tag _ _ (ones_of_tag c.args.word c.args.tag c.requires.marked) (omega arith)
+    take-marked c.args.text.now (filter (λ b. not (b == 0)) (word_bytes c.args.word)) _ _ c.args.len _ c.args.tag _ _
+    (ones_of_tag c.args.word c.args.tag c.requires.marked) (omega arith)
     (c.copy_from_slice.ensures.after ∙ c.squeezed.ensures) refl

@@ -12,7 +12,8 @@ returns-in-Ok-whole-clause-head g c =
     let took = head_taken c.fill.new.buf (omega arith) one c.in-Ok.ensures.took c.in-Ok-whole.ensures.took in (
       _,
       took,
-      group_taken size (c.head_of.ensures.word ∙ first_word-append tag c.whole.new.buf _ size) (c.head_of.ensures.zeros ∙ zeros_of-append tag c.whole.new.buf _ size)
+      group_taken size (c.head_of.ensures.word ∙ first_word-append tag c.whole.new.buf _ size) (c.head_of.ensures.zeros
+          ∙ zeros_of-append tag c.whole.new.buf _ size)
           (c.head_of.ensures.plain ∙ plain_of-append tag c.whole.new.buf _ size) took,
     )
 

@@ -17,10 +17,12 @@ loop-done-preserved g c =
       within = omega (arith, c.min-end.ensures);
       put =
           put_more _ _ _ _ _ c.args.self.now c.loop-done.self c.put_piece.new.self _ _ (drop c.min-end.result c.args.words.now) _
-          (piece_split c.args.words.now c.loop-done.done c.min-end.result (omega (arith, c.min-end.ensures))) c.loop-done.invariant.put c.in_default.ensures.ok (
+          (piece_split c.args.words.now c.loop-done.done c.min-end.result (omega (arith, c.min-end.ensures))) c.loop-done.invariant.put
+          c.in_default.ensures.ok (
             is_open,
             c.put_piece.ensures.closed ∙ is_open,
-            ap (λ t. t || g.O.ByteOut.spent c.put_piece.new.self.output) c.put_piece.ensures.closed ∙ ap (λ t. c.loop-done.self.closed || t) c.in_default.ensures.works.0,
+            ap (λ t. t || g.O.ByteOut.spent c.put_piece.new.self.output) c.put_piece.ensures.closed
+                ∙ ap (λ t. c.loop-done.self.closed || t) c.in_default.ensures.works.0,
             c.in_default.ensures.works.1,
           );
       idle = λ h. c.in_default.ensures.idle h ∙ c.loop-done.invariant.idle (sym c.in_default.ensures.works.0 ∙ h);

@@ -18,12 +18,16 @@ returns-in-Err-clause-err g c = λ ws.
     let bytes = take c.spell_groups-spelled.result.bytes c.spell_groups-spelled.new.text in
     let left = drop c.spell_groups-spelled.result.words (take (length xs - j) (drop j xs)) in
     let all =
-    piece_spelled (held s.group s.words) (held e.group e.words) xs (take (length xs - j) (drop j xs)) (take c.spell_group-start.result c.spell_group-start.new.room) (group_bytes e.group e.words) bytes left j
-    c.extend-joined.ensures.joined (c.extend-joined.ensures.apart (omega (arith, c.extend-joined.ensures.within, c.if-joined-words.false))) c.spell_group-start.ensures.spelled (take_rest xs j)
+    piece_spelled (held s.group s.words) (held e.group e.words) xs (take (length xs - j) (drop j xs))
+    (take c.spell_group-start.result c.spell_group-start.new.room) (group_bytes e.group e.words) bytes left j
+    c.extend-joined.ensures.joined (c.extend-joined.ensures.apart (omega (arith, c.extend-joined.ensures.within, c.if-joined-words.false)))
+    c.spell_group-start.ensures.spelled (take_rest xs j)
     c.spell_groups-spelled.ensures.spelled in
     let part = c.in-Err.ensures.err in
-    subst (λ o. Begins (append_known (g.O.ByteOut.written o) (pack_text (held s.group s.words ++ (xs ++ ws)))) (g.O.ByteOut.written c.write_all.new.output)) c.extend-joined.ensures.output.0
-    (part_begins (g.O.ByteOut.written e.output) (g.O.ByteOut.written c.write_all.new.output) part.0 bytes (pack_text (left ++ ws)) (pack_text (held s.group s.words ++ (xs ++ ws))) (all ws) part.2)
+    subst (λ o. Begins (append_known (g.O.ByteOut.written o) (pack_text (held s.group s.words ++ (xs ++ ws))))
+    (g.O.ByteOut.written c.write_all.new.output)) c.extend-joined.ensures.output.0
+    (part_begins (g.O.ByteOut.written e.output) (g.O.ByteOut.written c.write_all.new.output) part.0 bytes (pack_text (left ++ ws))
+    (pack_text (held s.group s.words ++ (xs ++ ws))) (all ws) part.2)
 
 pub returns-clause-ok : goal.returns-clause-ok
 returns-clause-ok g c = λ ws.
@@ -35,13 +39,20 @@ returns-clause-ok g c = λ ws.
     let bytes = take c.spell_groups-spelled.result.bytes c.spell_groups-spelled.new.text in
     let left = drop k (take (length xs - j) (drop j xs)) in
     let all =
-    piece_spelled (held s.group s.words) (held e.group e.words) xs (take (length xs - j) (drop j xs)) (take c.spell_group-start.result c.spell_group-start.new.room) (group_bytes e.group e.words) bytes left j
-    c.extend-joined.ensures.joined (c.extend-joined.ensures.apart (omega (arith, c.extend-joined.ensures.within, c.if-joined-words.false))) c.spell_group-start.ensures.spelled (take_rest xs j)
+    piece_spelled (held s.group s.words) (held e.group e.words) xs (take (length xs - j) (drop j xs))
+    (take c.spell_group-start.result c.spell_group-start.new.room) (group_bytes e.group e.words) bytes left j
+    c.extend-joined.ensures.joined (c.extend-joined.ensures.apart (omega (arith, c.extend-joined.ensures.within, c.if-joined-words.false)))
+    c.spell_group-start.ensures.spelled (take_rest xs j)
     c.spell_groups-spelled.ensures.spelled in
     let kept =
-    append_known-moved (g.O.ByteOut.written e.output) (g.O.ByteOut.written c.write_all.new.output) bytes (pack_text (left ++ ws)) (pack_text (held s.group s.words ++ (xs ++ ws))) c.in_default.ensures.ok (all ws) in
+    append_known-moved (g.O.ByteOut.written e.output) (g.O.ByteOut.written c.write_all.new.output) bytes (pack_text (left ++ ws))
+    (pack_text (held s.group s.words ++ (xs ++ ws))) c.in_default.ensures.ok (all ws) in
     let same : left ≡ held c.open.new.self.group c.open.new.self.words = left_behind xs j k ∙ sym c.open.ensures.held in
     let whole = pack_text (held s.group s.words ++ (xs ++ ws)) in
-    subst (λ o. Keeps (append_known (g.O.ByteOut.written o) whole) (append_known (g.O.ByteOut.written c.open.new.self.output) (pack_text (held c.open.new.self.group c.open.new.self.words ++ ws)))) c.extend-joined.ensures.output.0
-    (subst (λ o. Keeps (append_known (g.O.ByteOut.written e.output) whole) (append_known (g.O.ByteOut.written o) (pack_text (held c.open.new.self.group c.open.new.self.words ++ ws)))) (sym c.open.ensures.output.0)
-    (subst (λ t. Keeps (append_known (g.O.ByteOut.written e.output) whole) (append_known (g.O.ByteOut.written c.write_all.new.output) (pack_text (t ++ ws)))) same kept))
+    subst (λ o. Keeps (append_known (g.O.ByteOut.written o) whole)
+    (append_known (g.O.ByteOut.written c.open.new.self.output) (pack_text (held c.open.new.self.group c.open.new.self.words ++ ws))))
+    c.extend-joined.ensures.output.0
+    (subst (λ o. Keeps (append_known (g.O.ByteOut.written e.output) whole)
+    (append_known (g.O.ByteOut.written o) (pack_text (held c.open.new.self.group c.open.new.self.words ++ ws)))) (sym c.open.ensures.output.0)
+    (subst (λ t. Keeps (append_known (g.O.ByteOut.written e.output) whole)
+    (append_known (g.O.ByteOut.written c.write_all.new.output) (pack_text (t ++ ws)))) same kept))

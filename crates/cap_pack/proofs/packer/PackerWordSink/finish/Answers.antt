@@ -8,7 +8,8 @@ use Rattle.cap_pack.proofs.packer.PackerWordSink.finish.Goals as goal
 pub returns-in-Ok-clause-finished : goal.returns-in-Ok-clause-finished
 returns-in-Ok-clause-finished g c =
     let s = c.args.self.now in
-    group_written (g.O.ByteOut.written s.output) (g.O.ByteOut.written c.write_group.new.output) (group_bytes s.group s.words) (pack_text (held s.group s.words ++ [])) c.in-Ok.ensures.ok
+    group_written (g.O.ByteOut.written s.output) (g.O.ByteOut.written c.write_group.new.output) (group_bytes s.group s.words)
+    (pack_text (held s.group s.words ++ [])) c.in-Ok.ensures.ok
     (no_more s.group s.words s.one_group s.full_first (omega arith))
 
 pub returns-in-Err-clause-err : goal.returns-in-Err-clause-err
@@ -16,6 +17,7 @@ returns-in-Err-clause-err g c =
     let s = c.args.self.now in
     let part = c.in-Err.ensures.err in (
       refl,
-      part_begins (g.O.ByteOut.written s.output) (g.O.ByteOut.written c.write_group.new.output) part.0 (group_bytes s.group s.words) [] (pack_text (held s.group s.words ++ []))
+      part_begins (g.O.ByteOut.written s.output) (g.O.ByteOut.written c.write_group.new.output) part.0 (group_bytes s.group s.words) []
+          (pack_text (held s.group s.words ++ []))
           (no_more s.group s.words s.one_group s.full_first (omega arith)) part.1,
     )

@@ -10,7 +10,8 @@ returns-clause-words g c =
     let e = c.append_words-words.ensures in
     let held = c.held.result.now in
     let long : length (take (8 * n) held) ≡ 8 * n = length-take-le (8 * n) held e.held in
-    let given = words_appended s.phase _ _ held s.zeros s.plain _ n s.bytes.read _ c.in-Open.is (omega arith) (omega (arith, e.within)) e.held e.bytes (omega arith) (omega (arith, c.saturating_add-self.ensures)) (rw c.held.ensures.held c.skip.ensures.bytes) in
+    let given = words_appended s.phase _ _ held s.zeros s.plain _ n s.bytes.read _ c.in-Open.is (omega arith) (omega (arith, e.within)) e.held e.bytes
+    (omega arith) (omega (arith, c.saturating_add-self.ensures)) (rw c.held.ensures.held c.skip.ensures.bytes) in
     (take (8 * n) held, e.appended, long, given.0, given.1)
 
 pub returns-clause-usable : goal.returns-clause-usable

@@ -8,7 +8,8 @@ pub returns-clause-words : goal.returns-clause-words
 returns-clause-words g c =
     let s = c.args.self.now in
     let out = c.unpack-done.new.out in
-    words_at_hand s.phase _ _ c.held.result.now out s.zeros s.plain s.bytes.read _ c.unpack-done.result c.in-Open.is c.unpack-done.ensures (front_small c.unpack-done.result.written out (bytes_small out (λ i. c.type_inv.out i)))
+    words_at_hand s.phase _ _ c.held.result.now out s.zeros s.plain s.bytes.read _ c.unpack-done.result c.in-Open.is c.unpack-done.ensures
+    (front_small c.unpack-done.result.written out (bytes_small out (λ i. c.type_inv.out i)))
     (omega arith) (omega (arith, c.saturating_add-self.ensures)) (rw c.held.ensures.held c.skip.ensures.bytes)
 
 pub returns-clause-usable : goal.returns-clause-usable
@@ -17,7 +18,8 @@ returns-clause-usable g c =
     let done = c.unpack-done.result in
     let u = c.unpack-done.ensures in
     let some = some_words done.written c.unpack-done.new.out u.fits u.whole (omega arith) in
-    inr (rw c.in-Open.is (given_for s.zeros s.plain done.zeros done.plain c.held.result.now (plain_words (take done.written c.unpack-done.new.out)) done.read _ u.gives some s.usable c.held.ensures.usable))
+    inr (rw c.in-Open.is (given_for s.zeros s.plain done.zeros done.plain c.held.result.now (plain_words (take done.written c.unpack-done.new.out))
+    done.read _ u.gives some s.usable c.held.ensures.usable))
 
 pub invariant_of-self : goal.invariant_of-self
 invariant_of-self g c =
@@ -28,5 +30,6 @@ invariant_of-self g c =
     record {
       usable = λ held.
           c.skip.ensures.spent
-          ∙ given_for s.zeros s.plain done.zeros done.plain c.held.result.now (plain_words (take done.written c.unpack-done.new.out)) done.read _ u.gives some s.usable c.held.ensures.usable;
+          ∙ given_for s.zeros s.plain done.zeros done.plain c.held.result.now (plain_words (take done.written c.unpack-done.new.out)) done.read _
+          u.gives some s.usable c.held.ensures.usable;
     }
