@@ -4,7 +4,7 @@ use Rattle.std.proofs.KnownBytes.{Consumes-trans}
 use Rattle.byteorder.specs.Endian.{little_number}
 use Rattle.cap_spec.specs.Plain.{capped}
 use Rattle.cap_pack.specs.Course.{course, gives, stops, head_rest, first_word, zeros_of, plain_of, zeros_then}
-use Rattle.cap_pack.specs.InputReads.{Took}
+use Rattle.cap_words.specs.Counting.{Took}
 use Rattle.cap_pack.proofs.Courses.{course_plain, course_plain_stops, course_head, course_head_stops}
 
 -- eight bytes are the next word as it is

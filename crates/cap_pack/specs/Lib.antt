@@ -4,7 +4,6 @@ pub mod CourseWords
 pub mod Holding
 pub mod Input
 pub mod Output
-pub mod InputReads
 pub mod State
 pub mod Places
 pub mod GroupTexts

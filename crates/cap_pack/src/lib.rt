@@ -4,12 +4,12 @@
 
 mod at_hand;
 mod buffers;
-mod counted;
 mod group;
 mod head;
 pub mod lanes;
 mod packer;
 mod pieces;
+mod reads;
 mod spelling;
 mod unpacker;
 

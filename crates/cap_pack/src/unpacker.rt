@@ -10,8 +10,8 @@ ghost use Rattle.std.specs.Option.{option_map};
 ghost use Rattle.std.specs.Prelude.{◌<◌, ◌≡◌, ◌||◌, [], OnSome, false, if◌then◌else◌, unwrap_or, ℕ};
 
 use super::at_hand::{append_words, unpack};
-use super::counted::Counted;
-use cap_words::{ByteIn, Phase, SourceFault, WordSource};
+use super::reads::{read_head, read_word};
+use cap_words::{ByteIn, Counted, Phase, SourceFault, WordSource};
 
 /// Reads the words that packed bytes encode (encoding: Packing). Every encoding is accepted: a byte
 /// that its tag marks may be zero, and a run may be shorter than it could be. The head of a group
@@ -105,7 +105,7 @@ impl<I: ByteIn> WordSource for Unpacker<I> {
             return Ok(Some(0));
         }
         if self.plain > 0 {
-            return match self.bytes.word() {
+            return match read_word(&mut self.bytes) {
                 Ok(word) => {
                     self.plain -= 1;
                     Ok(Some(word))
@@ -116,7 +116,7 @@ impl<I: ByteIn> WordSource for Unpacker<I> {
                 }
             };
         }
-        match self.bytes.head() {
+        match read_head(&mut self.bytes) {
             Ok(Some(head)) => {
                 self.zeros = head.zeros;
                 self.plain = head.plain;

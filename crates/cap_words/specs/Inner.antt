@@ -14,7 +14,7 @@ writer_of output = output.writer
 
 -- `source.into_inner()`
 abbrev pub input_of : {I : Type 0} → PlainWords I → I
-input_of source = source.input
+input_of source = source.bytes.input
 
 -- `sink.into_inner()`
 abbrev pub output_of : {O : Type 0} → PlainSink O → O

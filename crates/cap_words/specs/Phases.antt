@@ -1,7 +1,11 @@
--- What a source says of itself by its phase (profile).
+-- What a source says of itself by its phase, and by the faults of its input (profile).
 use Rattle.std.specs.Prelude.{Bool, true, false}
+use Rattle.cap_words.specs.declared.ends.InFault.{InFault}
+use Rattle.cap_words.specs.declared.ends.InFault.TheVariants as fault
 use Rattle.cap_words.specs.declared.phase.Phase.{Phase}
 use Rattle.cap_words.specs.declared.phase.Phase.TheVariants.{Open, Ended, Failed}
+use Rattle.cap_words.specs.declared.sources.SourceFault.{SourceFault}
+use Rattle.cap_words.specs.declared.sources.SourceFault.TheVariants.{Device, Spent}
 
 -- it has answered that there are no more words
 abbrev pub has_ended : Phase → Bool
@@ -20,3 +24,8 @@ abbrev pub source_spent : Phase → Bool → Bool
 source_spent Open input = input
 source_spent Ended input = false
 source_spent Failed input = true
+
+-- an input's fault as its source returns it
+abbrev pub source_fault_of : InFault → SourceFault
+source_fault_of fault.Device = Device
+source_fault_of fault.Spent = Spent

@@ -3,6 +3,7 @@
 #![tactic(auto)]
 
 mod buffered_in;
+mod counted;
 mod ends;
 mod from_read;
 mod from_write;
@@ -17,6 +18,7 @@ mod vec_out;
 mod word;
 
 pub use buffered_in::BufferedIn;
+pub use counted::Counted;
 pub use ends::{ByteIn, ByteOut, InFault, OutFault};
 pub use from_read::FromRead;
 pub use from_write::FromWrite;

@@ -10,18 +10,16 @@ ghost use Rattle.std.specs.List.{AllByRecursion};
 ghost use Rattle.std.specs.Option.{option_map};
 ghost use Rattle.std.specs.Prelude.{◌*◌, ◌/◌, ◌<◌, ◌≡◌, ◌≤◌, ◌||◌, [], OnSome, false, if◌then◌else◌, length, take, unwrap_or, ℕ};
 
-use super::ends::{ByteIn, InFault};
+use super::counted::Counted;
+use super::ends::ByteIn;
 use super::phase::Phase;
 use super::sources::{SourceFault, WordSource};
-use super::transfer::fill;
 use super::word::word_of;
 
 /// Reads words of eight bytes, the lowest byte first (encoding: 64-bit Words).
 #[derive(Drop)]
 pub struct PlainWords<I: ByteIn> {
-    input: I,
-    // how many bytes were read so far, or 2^64 - 1 where there were more
-    read: u64,
+    bytes: Counted<I>,
     phase: Phase,
 }
 
@@ -51,8 +49,7 @@ impl<I: ByteIn> PlainWords<I> {
             ⟦<PlainWords<I> as WordSource>⟧.failures s ≡ I.failures (input_of s) }
     {
         PlainWords {
-            input,
-            read: 0,
+            bytes: Counted { input, read: 0 },
             phase: Phase::Open,
         }
     }
@@ -61,78 +58,71 @@ impl<I: ByteIn> PlainWords<I> {
     pub fn into_inner(self) -> I
         ensures { result ≡ input_of self }
     {
-        self.input
+        self.bytes.input
     }
 }
 
 impl<I: ByteIn> WordSource for PlainWords<I> {
-    ghost words = { λ s. option_map plain_words (bytes_left s.phase (I.to_come s.input)) };
+    ghost words = { λ s. option_map plain_words (bytes_left s.phase (I.to_come s.bytes.input)) };
 
-    ghost is_cut = { λ s. plain_is_cut (unwrap_or (bytes_left s.phase (I.to_come s.input)) []) };
+    ghost is_cut = { λ s. plain_is_cut (unwrap_or (bytes_left s.phase (I.to_come s.bytes.input)) []) };
 
-    ghost place = { λ s. s.read };
+    ghost place = { λ s. s.bytes.read };
 
-    ghost places = { λ s. plain_ends s.read (unwrap_or (bytes_left s.phase (I.to_come s.input)) []) };
+    ghost places = { λ s. plain_ends s.bytes.read (unwrap_or (bytes_left s.phase (I.to_come s.bytes.input)) []) };
 
-    ghost unread = { λ s. I.to_come s.input };
+    ghost unread = { λ s. I.to_come s.bytes.input };
 
     ghost ended = { λ s. has_ended s.phase };
 
     ghost failed = { λ s. has_failed s.phase };
 
-    ghost failures = { λ s. I.failures s.input };
+    ghost failures = { λ s. I.failures s.bytes.input };
 
-    ghost spent = { λ s. source_spent s.phase (I.spent s.input) };
+    ghost spent = { λ s. source_spent s.phase (I.spent s.bytes.input) };
 
     // Inlined, since it is called at each word of a message.
     #[inline(always)]
     fn next(&mut self) -> Result<Option<u64>, SourceFault> {
-        let read = self.read;
+        let _read = self.bytes.read;
         match self.phase {
             Phase::Ended => return Ok(None),
             Phase::Failed => return Err(SourceFault::Spent),
             Phase::Open => {}
         }
         let mut bytes = [0; 8];
-        let filled = fill(&mut self.input, &mut bytes);
-        // Nearly every call gives a whole word, so this case is tested first, with a constant
-        // count.
-        if filled.len == 8 {
-            self.read = read.saturating_add(8);
-            return Ok(Some(word_of(&bytes)));
-        }
-        self.read = read.saturating_add(filled.len as u64);
-        if let Some(fault) = filled.fault {
-            self.phase = Phase::Failed;
-            return Err(match fault {
-                InFault::Device => SourceFault::Device,
-                InFault::Spent => SourceFault::Spent,
-            });
-        }
-        match filled.len {
-            0 => {
+        match self.bytes.fill(&mut bytes) {
+            // Nearly every call gives a whole word, so this case is tested first.
+            Ok(8) => Ok(Some(word_of(&bytes))),
+            Ok(0) => {
                 self.phase = Phase::Ended;
                 Ok(None)
             }
-            _ => {
+            Ok(_) => {
                 self.phase = Phase::Failed;
-                Err(SourceFault::Truncated { byte: self.read })
+                Err(SourceFault::Truncated {
+                    byte: self.bytes.read,
+                })
+            }
+            Err(fault) => {
+                self.phase = Phase::Failed;
+                Err(SourceFault::from(fault))
             }
         }
     }
 
     fn ready(&mut self, out: &mut [u8]) -> usize {
-        let _read = self.read;
+        let _read = self.bytes.read;
         match self.phase {
             Phase::Open => {}
             _ => return 0,
         }
-        let count = copy_words(self.input.held(), out);
+        let count = copy_words(self.bytes.input.held(), out);
         if count == 0 {
             return 0;
         }
-        self.input.skip(count);
-        self.read = self.read.saturating_add(count as u64);
+        self.bytes.input.skip(count);
+        self.bytes.read = self.bytes.read.saturating_add(count as u64);
         count
     }
 
@@ -142,47 +132,46 @@ impl<I: ByteIn> WordSource for PlainWords<I> {
         if whole == 0 {
             return Ok(true);
         }
-        let before = self.read;
+        let _read = self.bytes.read;
         match self.phase {
             Phase::Ended => return Ok(false),
             Phase::Failed => return Err(SourceFault::Spent),
             Phase::Open => {}
         }
         // no further: a read past the last word would take bytes of the next one
-        let piece = fill(&mut self.input, &mut out[..whole]);
-        let byte = before.saturating_add(piece.len as u64);
-        self.read = byte;
-        if let Some(fault) = piece.fault {
-            self.phase = Phase::Failed;
-            return match fault {
-                InFault::Device => Err(SourceFault::Device),
-                InFault::Spent => Err(SourceFault::Spent),
-            };
-        }
-        if piece.len == whole {
+        let count = match self.bytes.fill(&mut out[..whole]) {
+            Ok(count) => count,
+            Err(fault) => {
+                self.phase = Phase::Failed;
+                return Err(SourceFault::from(fault));
+            }
+        };
+        if count == whole {
             return Ok(true);
         }
-        if piece.len % 8 == 0 {
+        if count % 8 == 0 {
             self.phase = Phase::Ended;
             Ok(false)
         } else {
             self.phase = Phase::Failed;
-            Err(SourceFault::Truncated { byte })
+            Err(SourceFault::Truncated {
+                byte: self.bytes.read,
+            })
         }
     }
 
     fn is_at_hand(&self) -> bool {
         match self.phase {
-            Phase::Open => !self.input.held().is_empty(),
+            Phase::Open => !self.bytes.input.held().is_empty(),
             _ => false,
         }
     }
 
     fn position(&self) -> u64 {
-        self.read
+        self.bytes.read
     }
 
-    ghost are_words = { λ s. known_are_words s.phase (I.to_come s.input) (I.are_bytes s.input) };
+    ghost are_words = { λ s. known_are_words s.phase (I.to_come s.bytes.input) (I.are_bytes s.bytes.input) };
 }
 
 // Copies as many whole words as there are and as `to` has space for. Returns how many bytes these

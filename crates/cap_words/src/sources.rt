@@ -3,6 +3,7 @@
 ghost use Rattle.cap_spec.specs.Plain.{plain_text, plain_words};
 ghost use Rattle.cap_spec.specs.Words.{IsWord};
 ghost use Rattle.cap_words.specs.Ends.{InputFails, NoFault, WasClosed};
+ghost use Rattle.cap_words.specs.Phases.{source_fault_of};
 ghost use Rattle.cap_words.specs.TakingMany.{EndsWithin, ReadsBytes, TakesWords};
 ghost use Rattle.cap_words.specs.declared.sources.SourceFault.TheVariants.{Device, Spent, Truncated};
 ghost use Rattle.std.specs.Io.KnownBytes.{Consumes, Keeps};
@@ -11,6 +12,7 @@ ghost use Rattle.std.specs.Option.{option_to_list};
 ghost use Rattle.std.specs.Prelude.{◌*◌, ◌+◌, ◌++◌, ◌-◌, ◌/◌, ◌<◌, ◌^◌, ◌≡◌, ◌≤◌, ◌⊎◌, [], ◌∷◌, Bool, IfOk, IfSome, IsErrOf, List, OnErr, OnOk, OnSome, Option, drop, false, length, min, take, true, ℕ};
 ghost use Rattle.std.specs.Vec.{vec_capacity, vec_len};
 
+use super::ends::InFault;
 use super::word::bytes_of;
 
 /// Why a source gave no word.
@@ -22,6 +24,17 @@ pub enum SourceFault {
     Device,
     /// An earlier fault has ended the source, or its input.
     Spent,
+}
+
+impl From<InFault> for SourceFault {
+    ghost from_gives = { λ fault given. given ≡ source_fault_of fault };
+
+    fn from(fault: InFault) -> SourceFault {
+        match fault {
+            InFault::Device => SourceFault::Device,
+            InFault::Spent => SourceFault::Spent,
+        }
+    }
 }
 
 /// Words that come in.

@@ -22,19 +22,19 @@ pub returns-in-Err-clause-truncated : goal.returns-in-Err-clause-truncated
 returns-in-Err-clause-truncated g c = λ byte is.
     let s = c.args.self.now in
     let t = c.in-Err.ensures.truncated byte (cc) in
-    left_cut (ahead s.phase s.zeros s.plain s.bytes.read) c.word.new.self.read t.1.0 _ _
-    (word_cut_step s.phase s.zeros s.plain s.bytes.read c.word.new.self.read t.1.0 c.in-Open.is (omega arith) (omega arith) t.1.3) t.1.1.lost t.1.2
+    left_cut (ahead s.phase s.zeros s.plain s.bytes.read) c.read_word.new.bytes.read t.1.0 _ _
+    (word_cut_step s.phase s.zeros s.plain s.bytes.read c.read_word.new.bytes.read t.1.0 c.in-Open.is (omega arith) (omega arith) t.1.3) t.1.1.lost t.1.2
 
 pub returns-in-Ok-None-clause-words : goal.returns-in-Ok-None-clause-words
 returns-in-Ok-None-clause-words g c =
     let s = c.args.self.now in
     let n = c.in-Ok-None.ensures.none (cc) in
-    none_words (ahead s.phase s.zeros s.plain s.bytes.read) (ahead Ended s.zeros s.plain c.head.new.self.read) s.bytes.read c.head.new.self.read _ _
+    none_words (ahead s.phase s.zeros s.plain s.bytes.read) (ahead Ended s.zeros s.plain c.read_head.new.bytes.read) s.bytes.read c.read_head.new.bytes.read _ _
     (no_group s.phase s.zeros s.plain s.bytes.read c.in-Open.is (omega arith) (omega arith)) (λ l. refl) n.0.lost n.1
 
 pub returns-in-Ok-None-clause-none : goal.returns-in-Ok-None-clause-none
 returns-in-Ok-None-clause-none g c = λ is.
     let s = c.args.self.now in
     let n = c.in-Ok-None.ensures.none (cc) in
-    left_none (ahead s.phase s.zeros s.plain s.bytes.read) c.head.new.self.read _ _
+    left_none (ahead s.phase s.zeros s.plain s.bytes.read) c.read_head.new.bytes.read _ _
     (no_group s.phase s.zeros s.plain s.bytes.read c.in-Open.is (omega arith) (omega arith) ∙ ap ends (sym n.2)) n.0.lost n.1

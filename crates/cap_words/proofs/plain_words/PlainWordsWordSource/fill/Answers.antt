@@ -8,38 +8,42 @@ use Rattle.cap_words.proofs.plain_words.PlainWordsWordSource.fill.Goals as goal
 pub returns-then-whole-eq0-clause-full : goal.returns-then-whole-eq0-clause-full
 returns-then-whole-eq0-clause-full g c = λ is. none_filled _ _ _ _ c.args.out.now _ (omega arith) (omega arith)
 
-pub returns-then-piece-whole-clause-full : goal.returns-then-piece-whole-clause-full
-returns-then-piece-whole-clause-full g c = λ is.
-    let given = c.fill-piece.new.buf in
+pub returns-then-count-whole-clause-full : goal.returns-then-count-whole-clause-full
+returns-then-count-whole-clause-full g c = λ is.
+    let given = c.fill.new.buf in
+    let n = c.in-Ok.count in
     let whole = length c.args.out.now / 8 * 8 in
     let rest = drop whole c.args.out.now in
     let small : AllByRecursion (λ b. b < 256) (given ++ rest) = bytes_small (given ++ rest) (λ i. c.type_inv.out i) in
     let long : length given ≡ 8 * (length c.args.out.now / 8) =
-    omega (arith, c.fill-piece.auto.buf, length-take-le (length c.args.out.now / 8 * 8) c.args.out.now (omega arith)) in
+    omega (arith, c.fill.auto.buf, length-take-le (length c.args.out.now / 8 * 8) c.args.out.now (omega arith)) in
     let few : length rest < 8 = omega (arith, length-drop whole c.args.out.now) in
-    piece_filled _ _ _ given rest c.fill-piece.result.len (length c.args.out.now / 8) _ _ c.in-Open.is small long (omega arith) few (omega arith)
-    (omega (arith, c.saturating_add-byte.ensures)) c.fill-piece.ensures.bytes
+    let count : length (take n given) ≡ n = length-take-le n given c.in-Ok.ensures.len in
+    piece_filled _ _ _ given rest n (length c.args.out.now / 8) _ _ c.in-Open.is small long (omega (arith, long)) few (omega arith)
+    (omega (arith, c.in-Ok.ensures.took.place, count)) c.in-Ok.ensures.took.lost
 
-pub returns-then-piece-eq0-clause-ended : goal.returns-then-piece-eq0-clause-ended
-returns-then-piece-eq0-clause-ended g c = λ is.
-    let given = c.fill-piece.new.buf in
-    let n = c.fill-piece.result.len in
+pub returns-then-count-eq0-clause-ended : goal.returns-then-count-eq0-clause-ended
+returns-then-count-eq0-clause-ended g c = λ is.
+    let given = c.fill.new.buf in
+    let n = c.in-Ok.count in
     let long : length given ≡ 8 * (length c.args.out.now / 8) =
-    omega (arith, c.fill-piece.auto.buf, length-take-le (length c.args.out.now / 8 * 8) c.args.out.now (omega arith)) in
-    let count : length (take n given) ≡ n = length-take-le n given c.fill-piece.ensures.len in
-    let end = rw c.in_default.is at c.fill-piece.ensures.end in (
+    omega (arith, c.fill.auto.buf, length-take-le (length c.args.out.now / 8 * 8) c.args.out.now (omega arith)) in
+    let count : length (take n given) ≡ n = length-take-le n given c.in-Ok.ensures.len in
+    let took = c.in-Ok.ensures.took in (
       refl,
-      ends_within _ _ _ (take n given) _ _ _ _ c.in-Open.is (omega arith) (omega arith) (omega (arith, c.saturating_add-byte.ensures))
-          ((plain_end c.args.self.now.read (take n given) (omega arith)).whole (omega arith)) c.fill-piece.ensures.bytes (end (omega arith)),
+      ends_within _ _ _ (take n given) _ _ _ _ c.in-Open.is (omega arith) (omega (arith, long, count, c.in-Ok.ensures.len)) took.place
+          ((plain_end c.args.self.now.bytes.read (take n given) (omega arith)).whole (omega (arith, count))) took.lost
+          (c.in-Ok.ensures.end (omega (arith, long, c.in-Ok.ensures.len))),
     )
 
-pub returns-else-piece-eq0-clause-truncated : goal.returns-else-piece-eq0-clause-truncated
-returns-else-piece-eq0-clause-truncated g c = λ byte is.
-    let given = c.fill-piece.new.buf in
-    let n = c.fill-piece.result.len in
+pub returns-else-count-eq0-clause-truncated : goal.returns-else-count-eq0-clause-truncated
+returns-else-count-eq0-clause-truncated g c = λ byte is.
+    let given = c.fill.new.buf in
+    let n = c.in-Ok.count in
     let long : length given ≡ 8 * (length c.args.out.now / 8) =
-    omega (arith, c.fill-piece.auto.buf, length-take-le (length c.args.out.now / 8 * 8) c.args.out.now (omega arith)) in
-    let count : length (take n given) ≡ n = length-take-le n given c.fill-piece.ensures.len in
-    let end = rw c.in_default.is at c.fill-piece.ensures.end in
-    ends_within _ _ _ (take n given) _ _ _ _ c.in-Open.is (omega arith) (omega arith) (omega (arith, c.saturating_add-byte.ensures))
-    ((plain_end c.args.self.now.read (take n given) (omega arith)).cut (omega arith)) c.fill-piece.ensures.bytes (end (omega arith))
+    omega (arith, c.fill.auto.buf, length-take-le (length c.args.out.now / 8 * 8) c.args.out.now (omega arith)) in
+    let count : length (take n given) ≡ n = length-take-le n given c.in-Ok.ensures.len in
+    let took = c.in-Ok.ensures.took in
+    ends_within _ _ _ (take n given) _ _ _ _ c.in-Open.is (omega arith) (omega (arith, long, count, c.in-Ok.ensures.len)) took.place
+    ((plain_end c.args.self.now.bytes.read (take n given) (omega arith)).cut (omega (arith, count))) took.lost
+    (c.in-Ok.ensures.end (omega (arith, long, c.in-Ok.ensures.len)))

@@ -1,9 +1,9 @@
 use Rattle.std.proofs.Common.{arith}
 use Rattle.cap_pack.proofs.Turns.{word_taken, word_cut}
-use Rattle.cap_pack.proofs.counted.Counted.word.Goals as goal
+use Rattle.cap_pack.proofs.reads.read_word.Goals as goal
 
 pub returns-in-Ok-clause-word : goal.returns-in-Ok-clause-word
-returns-in-Ok-clause-word g c = (c.whole.new.buf, c.in-Ok.ensures.took, word_taken (omega arith) c.word_of.ensures.value c.in-Ok.ensures.took)
+returns-in-Ok-clause-word g c = (c.read_whole.new.buf, c.in-Ok.ensures.took, word_taken (omega arith) c.word_of.ensures.value c.in-Ok.ensures.took)
 
 pub returns-in-Err-clause-truncated : goal.returns-in-Err-clause-truncated
 returns-in-Err-clause-truncated g c = λ byte is.
