@@ -1,20 +1,16 @@
 -- Words that are read into one buffer, piece by piece.
-use Rattle.std.proofs.Common.{◌≡◌, ◌∙◌, Bool, true, Result, Ok, ℕ, ◌+◌, ◌-◌, ◌*◌, ◌/◌, ◌%◌, ◌≤◌, false, List, [], ◌∷◌, ◌++◌, length, take, drop, sum, refl, sym, ap, subst, arith, append-nil, append_assoc, length-append, length-drop}
+use Rattle.std.proofs.Common.{◌≡◌, ◌∙◌, ℕ, ◌+◌, ◌-◌, ◌*◌, ◌/◌, ◌%◌, ◌≤◌, false, List, [], ◌∷◌, ◌++◌, length, take, drop, sum, refl, sym, ap, subst, arith, append-nil, append_assoc, length-append, length-drop}
 use Rattle.std.proofs.Math.Seq.{take-add, take-append_seam}
 use Rattle.std.proofs.lemmas.List.{length-take-le, take-append-le, take-take, take_all}
 use Rattle.std.proofs.lemmas.List.Sums.{sum_by-cons}
 use Rattle.cap_words.specs.declared.sources.WordSource as source
 use Rattle.cap_words.specs.declared.sources.SourceFault.{SourceFault}
 use Rattle.cap_words.proofs.Filling.{plain_join}
-use Rattle.cap_spec.specs.Frames.{Frames, joined, sizes_of}
+use Rattle.cap_spec.specs.Frames.{joined, sizes_of}
 use Rattle.cap_spec.specs.Plain.{plain_words}
 use Rattle.cap_frame.specs.Bytes.{cut}
-use Rattle.cap_frame.specs.ReadingFaults.{TakesTable}
 use Rattle.cap_frame.specs.Taking.{Takes, Reads, IsUsable, Stops}
-use Rattle.cap_frame.specs.declared.fault.FrameFault.{FrameFault}
-use Rattle.cap_frame.proofs.Behind.{behind_message}
 use Rattle.cap_frame.proofs.Cuts.{words_exact, words_inside}
-use Rattle.cap_frame.proofs.Outlines.{FindsMessage}
 use Rattle.cap_frame.proofs.Taking.{takes_none, takes_both, reads_none, reads_both, usable_both, stops_later, stops_weaker}
 
 -- what stands in a buffer up to the end of a piece that was written over it
@@ -108,18 +104,3 @@ module _ {X : Type 0} (g : source.Ghosts X) where
       let few : 8 * taken ≤ done = omega (arith, words_inside (take done bytes), length-take-le done bytes t.within) in
       let some : taken + (end - done) / 8 ≤ words = omega (arith, t.whole) in
       stops_weaker g old new (taken + (end - done) / 8) words fault some (stops_later g old now new (plain_words (take done bytes)) ((end - done) / 8) fault t.takes t.usable s)
-
-  -- the table and the words of the bytes in front frame the message
-  pub behind_held : (limit words : ℕ) (old mid new : X) (sizes bytes : List ℕ) → TakesTable g old mid sizes → sum sizes ≤ limit → words ≡ sum sizes → 8 * words ≤ length bytes
-      → Takes g mid new (plain_words (take (8 * words) bytes)) → (own : List ℕ) × Takes g old new own × Frames own (cut sizes bytes) × (sum (sizes_of (cut sizes bytes)) ≤ limit)
-  behind_held limit words old mid new sizes bytes table within e inside takes =
-      let enough : 8 * sum sizes ≤ length bytes = omega (arith, e, inside) in
-      let ns : sizes_of (cut sizes bytes) ≡ sizes = held_sizes sizes bytes enough in
-      let ws : joined (cut sizes bytes) ≡ plain_words (take (8 * words) bytes) = held_joined sizes bytes enough ∙ ap (λ (n : ℕ). plain_words (take (8 * n) bytes)) (sym e) in
-      let read = behind_message g old mid new sizes (cut sizes bytes) table (subst (Takes g mid new) (sym ws) takes) ns in
-      (read.0, read.1, read.2, rw ns within)
-
--- a message that a clause names
-pub held_found : {X : Type 0} (g : source.Ghosts X) (limit : ℕ) (old new : X) (held : List (List ℕ)) (r : Result Bool FrameFault)
-    → (r ≡ Ok true → (own : List ℕ) × Takes g old new own × Frames own held × (sum (sizes_of held) ≤ limit)) → FindsMessage g (λ m. held ≡ m) limit old new r
-held_found g limit old new held r f = λ e. let t = f e in (t.0, held, t.1, t.2, t.3, refl)

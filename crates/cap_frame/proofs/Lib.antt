@@ -6,7 +6,7 @@ pub mod Skipping
 pub mod Behind
 pub mod Before
 pub mod Converse
-pub mod Outlines
+pub mod Reading
 pub mod InOneBuffer
 pub mod Starts
 pub mod Putting

@@ -2,6 +2,7 @@ pub mod Limit
 pub mod Outlines
 pub mod Taking
 pub mod ReadingFaults
+pub mod Reading
 pub mod Rooms
 pub mod SourceFaults
 pub mod Putting

@@ -1,6 +1,6 @@
--- What each fault of reading a message says of the source and of its words, and which answer known words decide (profile).
-use Rattle.std.specs.Prelude.{⊤, ℕ, ◌+◌, ◌%◌, ◌^◌, ◌≡◌, ◌<◌, ◌≤◌, ◌⊎◌, Bool, true, false, List, [], ◌∷◌, ◌++◌, length, drop, sum, IfSome, OnSome, Some, Result, Ok, Err}
-use Rattle.cap_spec.specs.Frames.{Frames, IsPartial, IsTable, sizes_of}
+-- What each fault of reading a message says of the source and of its words (profile).
+use Rattle.std.specs.Prelude.{⊤, ℕ, ◌+◌, ◌%◌, ◌^◌, ◌≡◌, ◌<◌, ◌≤◌, ◌⊎◌, Bool, true, List, [], ◌∷◌, length, drop, sum, IfSome, OnSome, Result, Ok, Err}
+use Rattle.cap_spec.specs.Frames.{IsPartial, IsTable}
 use Rattle.cap_words.specs.declared.sources.WordSource as source
 use Rattle.cap_frame.specs.Taking.{Takes, IsUsable, IsOver, Breaks, Refuses}
 use Rattle.cap_frame.specs.declared.fault.FrameFault.{FrameFault}
@@ -16,16 +16,6 @@ Answered (Err (Truncated n)) P = P
 Answered (Err Device) P = ⊤
 Answered (Err Memory) P = ⊤
 Answered (Err Spent) P = ⊤
-
--- P, unless the answer is a fault of the source, which includes that it ended
-abbrev pub OnUsable : {A : Type 0} → Result A FrameFault → Type 0 → Type 0
-OnUsable (Ok x) P = P
-OnUsable (Err (TooManySegments n)) P = P
-OnUsable (Err (TooLarge n)) P = P
-OnUsable (Err (Truncated n)) P = ⊤
-OnUsable (Err Device) P = ⊤
-OnUsable (Err Memory) P = P
-OnUsable (Err Spent) P = ⊤
 
 module _ {X : Type 0} (g : source.Ghosts X) where
   -- The first word gives too many segments.
@@ -83,22 +73,3 @@ module _ {X : Type 0} (g : source.Ghosts X) where
   FaultsBehind limit first old new Device = Breaks g old new
   FaultsBehind limit first old new Memory = ((sizes : List ℕ) × TakesTableBehind first old new sizes × (sum sizes ≤ limit)) × IsUsable g old new
   FaultsBehind limit first old new Spent = Refuses g old new
-
-module _ {X A : Type 0} (g : source.Ghosts X) where
-  -- Known words decide the answer, unless a device, memory or an earlier fault is in the way. `none` answers that there is no message.
-  pub record Decides (none : A) (is : List (List ℕ) → Type 0) (limit : ℕ) (old new : X) (result : Result A FrameFault) : Type 0 where
-    -- A prefix of them frames a message within the limit: the result is that message, and the
-    -- source has the other words.
-    pub whole : (own rest : List ℕ) (m : List (List ℕ)) → g.words old ≡ Some (own ++ rest) → Frames own m → sum (sizes_of m) ≤ limit
-        → Answered result (is m × (g.words new ≡ Some rest))
-    -- They end before the first one.
-    pub no_word : g.words old ≡ Some [] → g.is_cut old ≡ false → Answered result (result ≡ Ok none)
-    -- The first word gives too many segments.
-    pub many : (first : ℕ) (rest : List ℕ) → g.words old ≡ Some (first ∷ rest) → 512 < first % 2 ^ 32 + 1
-        → Answered result ((result ≡ Err (TooManySegments (first % 2 ^ 32 + 1))) × (g.words new ≡ Some rest))
-    -- The table is whole and past the limit.
-    pub large : (table rest sizes : List ℕ) → g.words old ≡ Some (table ++ rest) → IsTable table sizes → limit < sum sizes
-        → Answered result ((result ≡ Err (TooLarge (sum sizes))) × (g.words new ≡ Some rest))
-    -- They end inside a message.
-    pub cut_short : (words : List ℕ) → g.words old ≡ Some words → IsPartial limit words (g.is_cut old)
-        → Answered result ((byte : ℕ) × (result ≡ Err (Truncated byte)) × (drop (length words) (g.places old) ≡ byte ∷ []))

@@ -3,10 +3,10 @@
 ghost use Rattle.cap_frame.specs.Bytes.{starts_of};
 ghost use Rattle.std.specs.Prelude.{◌*◌, ◌^◌, ◌≡◌, ◌≤◌, [], ◌∷◌, length, sum, vec_len};
 
+use crate::byte_contents::Starts;
 use crate::segments::Segments;
 use crate::table::Sizes;
 use crate::view::ByteView;
-use arrayvec::ArrayVec;
 use std::alloc::Global;
 
 /// A message whose segments follow one another in one buffer.
@@ -18,12 +18,23 @@ pub struct ByteMessage {
     pub(crate) bytes: Vec<u8>,
     pub(crate) sizes: Sizes,
     // where each segment starts, in words
-    pub(crate) starts: ArrayVec<u32, 512>,
+    pub(crate) starts: Starts,
     ghost starts_are: { starts.items ≡ starts_of 0 sizes.items },
     ghost inside: { 8 * sum sizes.items ≤ vec_len bytes },
     ghost some: { 1 ≤ length sizes.items },
     ghost few: { length sizes.items ≤ 512 },
     ghost small: { sum sizes.items ≤ 2 ^ 28 },
+}
+
+/// Makes the tables those of one segment without words.
+pub(crate) fn blank(sizes: &mut Sizes, starts: &mut Starts)
+    ensures sizes { sizes.new.items ≡ 0 ∷ [] }
+    ensures starts { starts.new.items ≡ 0 ∷ [] }
+{
+    sizes.clear();
+    sizes.push(0);
+    starts.clear();
+    starts.push(0);
 }
 
 impl ByteMessage {
@@ -34,9 +45,8 @@ impl ByteMessage {
         ensures { held_segments result ≡ [] ∷ [] }
     {
         let mut sizes = Sizes::new();
-        sizes.push(0);
-        let mut starts = ArrayVec::new();
-        starts.push(0);
+        let mut starts = Starts::new();
+        blank(&mut sizes, &mut starts);
         ByteMessage {
             bytes: Vec::new(alloc),
             sizes,

@@ -2,24 +2,21 @@
 
 ghost use Rattle.cap_frame.specs.ByteRoom.{room_in};
 ghost use Rattle.cap_frame.specs.Bytes.{cut};
-ghost use Rattle.cap_frame.specs.ReadingFaults.{Decides, EndsInside, Faults, OnUsable, TakesTable, TakesTooMany};
 ghost use Rattle.cap_frame.specs.HeldBytes.{held_segments};
 ghost use Rattle.cap_frame.specs.Limit.{limit_of};
-ghost use Rattle.cap_frame.specs.Taking.{Breaks, IsUsable, Reads, Refuses, Takes};
-ghost use Rattle.cap_spec.specs.Frames.{Frames, sizes_of};
-ghost use Rattle.std.specs.Prelude.{◌*◌, ◌<◌, ◌≡◌, ◌≤◌, [], ◌∷◌, IfErr, IfOk, IfSome, IsErrOf, IsOkAnd, IsSomeAnd, List, None, OnOk, OnSome, false, length, sum, true, ℕ};
+ghost use Rattle.cap_frame.specs.Reading.{IsResult, LacksMemory, ReadsFrame, has_message};
+ghost use Rattle.std.specs.Prelude.{◌*◌, ◌≡◌, ◌≤◌, [], ◌∷◌, IsErrOf, length, sum, true};
 ghost use Rattle.std.specs.Vec.{vec_capacity, vec_len};
 
 use crate::byte_contents::{fill_starts, make_room, read_bytes};
-use crate::byte_message::ByteMessage;
+use crate::byte_message::{ByteMessage, blank};
 use crate::fault::{FrameFault, frame_fault};
 use crate::limit::SizeLimit;
 use crate::table::{Sizes, next_table, total};
 use cap_words::WordSource;
 use std::alloc::Global;
 
-// Reads a message: its table, and the words of its segments one after the other. Its clauses say
-// what each result says about the source's words.
+// Reads a message: its table, and the words of its segments one after the other.
 #[inline(always)]
 fn read_parts<S: WordSource>(
     alloc: Global,
@@ -28,25 +25,20 @@ fn read_parts<S: WordSource>(
     sizes: &mut Sizes,
     bytes: &mut Vec<u8>,
 ) -> Result<bool, FrameFault>
-    ensures message { result ≡ Ok true → (own : List ℕ) × Takes S.WordSource source.old source.new own
-        × Frames own (cut sizes.new.items bytes.new.items) × (sum (sizes_of (cut sizes.new.items bytes.new.items)) ≤ limit_of limit) }
-    ensures bounds { result ≡ Ok true → (1 ≤ length sizes.new.items) × (length sizes.new.items ≤ 512) × (sum sizes.new.items ≤ 268435456) }
+    ensures read { ReadsFrame S.WordSource (λ m. cut sizes.new.items bytes.new.items ≡ m) (limit_of limit)
+        source.old source.new result }
+    ensures some { result ≡ Ok true → 1 ≤ length sizes.new.items }
+    ensures few { result ≡ Ok true → length sizes.new.items ≤ 512 }
+    ensures small { result ≡ Ok true → sum sizes.new.items ≤ 268435456 }
     ensures inside { result ≡ Ok true → 8 * sum sizes.new.items ≤ vec_len bytes.new }
-    ensures works { OnOk result (IsUsable S.WordSource source.old source.new) }
-    ensures none { result ≡ Ok false → OnSome (S.words source.old)
-        ((S.words source.old ≡ Some []) × (S.is_cut source.old ≡ false) × (S.places source.old ≡ S.place source.new ∷ [])) }
-    ensures ended { result ≡ Ok false → S.ended source.new ≡ true }
-    ensures stays { S.ended source.old ≡ true → (result ≡ Ok false) × (source.new ≡ source.old) }
-    ensures for_good { S.failed source.old ≡ true → (result ≡ Err FrameFault.Spent) × (source.new ≡ source.old) }
-    ensures reads { Reads S.WordSource source.old source.new }
-    ensures err { IfErr result (Faults S.WordSource (limit_of limit) source.old source.new) }
-    ensures memory { IsErrOf result FrameFault.Memory → (table : List ℕ) × TakesTable S.WordSource source.old source.new table
-        × (sum table ≤ limit_of limit) × (vec_capacity bytes.old < 8 * sum table) }
+    ensures memory { IsErrOf result FrameFault.Memory → LacksMemory S.WordSource (limit_of limit)
+        (vec_capacity bytes.old) source.old source.new }
 {
     sizes.clear();
     match next_table(source, limit, sizes) {
         Ok(true) => {}
-        ended => return ended,
+        Ok(false) => return Ok(false),
+        Err(fault) => return Err(fault),
     }
     let words = total(sizes) as usize;
     let Ok(()) = make_room(alloc, bytes, 8 * words) else {
@@ -56,43 +48,6 @@ fn read_parts<S: WordSource>(
         Ok(()) => Ok(true),
         Err(fault) => Err(frame_fault(fault)),
     }
-}
-
-// Reads a message into one that is there already. Its clauses say what each result says about the
-// source's words.
-fn read_over<S: WordSource>(
-    alloc: Global,
-    source: &mut S,
-    limit: SizeLimit,
-    message: &mut ByteMessage,
-) -> Result<bool, FrameFault>
-    ensures message { result ≡ Ok true → (own : List ℕ) × Takes S.WordSource source.old source.new own
-        × Frames own (held_segments message.new) × (sum (sizes_of (held_segments message.new)) ≤ limit_of limit) }
-    ensures works { OnOk result (IsUsable S.WordSource source.old source.new) }
-    ensures none { result ≡ Ok false → OnSome (S.words source.old)
-        ((S.words source.old ≡ Some []) × (S.is_cut source.old ≡ false) × (S.places source.old ≡ S.place source.new ∷ [])) }
-    ensures ended { result ≡ Ok false → S.ended source.new ≡ true }
-    ensures stays { S.ended source.old ≡ true → (result ≡ Ok false) × (source.new ≡ source.old) }
-    ensures for_good { S.failed source.old ≡ true → (result ≡ Err FrameFault.Spent) × (source.new ≡ source.old) }
-    ensures reads { Reads S.WordSource source.old source.new }
-    ensures err { IfErr result (Faults S.WordSource (limit_of limit) source.old source.new) }
-    ensures memory { IsErrOf result FrameFault.Memory → (sizes : List ℕ) × TakesTable S.WordSource source.old source.new sizes
-        × (sum sizes ≤ limit_of limit) × (room_in message.old < 8 * sum sizes) }
-    ensures blank { (result ≡ Ok true → ⊥) → held_segments message.new ≡ [] ∷ [] }
-{
-    let ByteMessage {
-        bytes,
-        sizes,
-        starts,
-    } = message;
-    let answer = read_parts(alloc, source, limit, sizes, bytes);
-    if !matches!(answer, Ok(true)) {
-        // one segment without words
-        sizes.clear();
-        sizes.push(0);
-    }
-    fill_starts(sizes, starts);
-    answer
 }
 
 /// Reads the next message of a stream into `message`, in place of its contents. `false` if the
@@ -113,53 +68,31 @@ pub fn read_into<S: WordSource>(
     limit: SizeLimit,
     message: &mut ByteMessage,
 ) -> Result<bool, FrameFault>
-    // The words that were taken frame the message, within the limit.
-    ensures message { result ≡ Ok true → (own : List ℕ) × Takes S.WordSource source.old source.new own
-        × Frames own (held_segments message.new) × (sum (sizes_of (held_segments message.new)) ≤ limit_of limit) }
-    ensures works { OnOk result (IsUsable S.WordSource source.old source.new) }
-    ensures none { result ≡ Ok false → OnSome (S.words source.old)
-        ((S.words source.old ≡ Some []) × (S.is_cut source.old ≡ false) × (S.places source.old ≡ S.place source.new ∷ [])) }
-    ensures ended { result ≡ Ok false → S.ended source.new ≡ true }
-    ensures stays { S.ended source.old ≡ true → (result ≡ Ok false) × (source.new ≡ source.old) }
-    ensures for_good { S.failed source.old ≡ true → (result ≡ Err FrameFault.Spent) × (source.new ≡ source.old) }
-    ensures spent { S.spent source.old ≡ true → result ≡ Err FrameFault.Spent }
-    // Whatever the answer is, the place counts the bytes that were read.
-    ensures reads { Reads S.WordSource source.old source.new }
-    // Which words were taken before the fault, and the state of the source after it.
-    ensures err { IfErr result (Faults S.WordSource (limit_of limit) source.old source.new) }
-    // The table was taken, and no more, and the capacity was less than its words need.
-    ensures memory { IsErrOf result FrameFault.Memory → (sizes : List ℕ) × TakesTable S.WordSource source.old source.new sizes
-        × (sum sizes ≤ limit_of limit) × (room_in message.old < 8 * sum sizes) }
+    ensures read { ReadsFrame S.WordSource (λ m. held_segments message.new ≡ m) (limit_of limit)
+        source.old source.new result }
+    // The capacity was less than the words of the table need.
+    ensures memory { IsErrOf result FrameFault.Memory → LacksMemory S.WordSource (limit_of limit)
+        (room_in message.old) source.old source.new }
     ensures blank { (result ≡ Ok true → ⊥) → held_segments message.new ≡ [] ∷ [] }
-    // And the other way round, where the words are known and no device, memory or earlier fault is in the way.
-    ensures decides { Decides S.WordSource false (λ m. (result ≡ Ok true) × (held_segments message.new ≡ m)) (limit_of limit) source.old source.new result }
 {
-    read_over(alloc, source, limit, message)
-}
-
-// Reads a message into one of its own. Its clauses say what each result says about the source's
-// words.
-fn read_one<S: WordSource>(
-    alloc: Global,
-    source: &mut S,
-    limit: SizeLimit,
-) -> Result<Option<ByteMessage>, FrameFault>
-    ensures message { IfOk result (λ r. IfSome r (λ m. (own : List ℕ) × Takes S.WordSource source.old source.new own
-        × Frames own (held_segments m) × (sum (sizes_of (held_segments m)) ≤ limit_of limit))) }
-    ensures works { OnOk result (IsUsable S.WordSource source.old source.new) }
-    ensures none { result ≡ Ok None → OnSome (S.words source.old)
-        ((S.words source.old ≡ Some []) × (S.is_cut source.old ≡ false) × (S.places source.old ≡ S.place source.new ∷ [])) }
-    ensures ended { result ≡ Ok None → S.ended source.new ≡ true }
-    ensures stays { S.ended source.old ≡ true → (result ≡ Ok None) × (source.new ≡ source.old) }
-    ensures for_good { S.failed source.old ≡ true → (result ≡ Err FrameFault.Spent) × (source.new ≡ source.old) }
-    ensures reads { Reads S.WordSource source.old source.new }
-    ensures err { IfErr result (Faults S.WordSource (limit_of limit) source.old source.new) }
-{
-    let mut message = ByteMessage::blank(alloc);
-    match read_into(alloc, source, limit, &mut message) {
-        Ok(true) => Ok(Some(message)),
-        Ok(false) => Ok(None),
-        Err(fault) => Err(fault),
+    let ByteMessage {
+        bytes,
+        sizes,
+        starts,
+    } = message;
+    match read_parts(alloc, source, limit, sizes, bytes) {
+        Ok(true) => {
+            fill_starts(sizes, starts);
+            Ok(true)
+        }
+        Ok(false) => {
+            blank(sizes, starts);
+            Ok(false)
+        }
+        Err(fault) => {
+            blank(sizes, starts);
+            Err(fault)
+        }
     }
 }
 
@@ -191,32 +124,13 @@ pub fn read_byte_message<S: WordSource>(
     source: &mut S,
     limit: SizeLimit,
 ) -> Result<Option<ByteMessage>, FrameFault>
-    // The words that were taken frame the message, within the limit.
-    ensures message { IfOk result (λ r. IfSome r (λ m. (own : List ℕ) × Takes S.WordSource source.old source.new own
-        × Frames own (held_segments m) × (sum (sizes_of (held_segments m)) ≤ limit_of limit))) }
-    ensures works { OnUsable result (IsUsable S.WordSource source.old source.new) }
-    ensures none { result ≡ Ok None → OnSome (S.words source.old)
-        ((S.words source.old ≡ Some []) × (S.is_cut source.old ≡ false) × (S.places source.old ≡ S.place source.new ∷ [])) }
-    ensures ended { result ≡ Ok None → S.ended source.new ≡ true }
-    ensures stays { S.ended source.old ≡ true → (result ≡ Ok None) × (source.new ≡ source.old) }
-    ensures for_good { S.failed source.old ≡ true → (result ≡ Err FrameFault.Spent) × (source.new ≡ source.old) }
-    ensures spent { S.spent source.old ≡ true → result ≡ Err FrameFault.Spent }
-    // Whatever the answer is, the place counts the bytes that were read.
-    ensures reads { Reads S.WordSource source.old source.new }
-    // The first word was taken, and no more.
-    ensures too_many { (count : ℕ) → IsErrOf result (FrameFault.TooManySegments count) → TakesTooMany S.WordSource source.old source.new count }
-    // The table was taken, and no more.
-    ensures too_large { (words : ℕ) → IsErrOf result (FrameFault.TooLarge words) →
-        (sizes : List ℕ) × TakesTable S.WordSource source.old source.new sizes × (words ≡ sum sizes) × (limit_of limit < words) }
-    ensures truncated { (byte : ℕ) → IsErrOf result (FrameFault.Truncated byte) → EndsInside S.WordSource (limit_of limit) source.old source.new byte }
-    ensures device { IsErrOf result FrameFault.Device → Breaks S.WordSource source.old source.new }
-    // The table was taken, and no more.
-    ensures memory { IsErrOf result FrameFault.Memory →
-        (sizes : List ℕ) × TakesTable S.WordSource source.old source.new sizes × (sum sizes ≤ limit_of limit) }
-    ensures was_spent { IsErrOf result FrameFault.Spent → Refuses S.WordSource source.old source.new }
-    // And the other way round, where the words are known and no device, memory or earlier fault is in the way.
-    ensures decides { Decides S.WordSource None (λ m. IsOkAnd result (λ r. IsSomeAnd r (λ k. held_segments k ≡ m)))
-        (limit_of limit) source.old source.new result }
+    ensures { ReadsFrame S.WordSource (IsResult held_segments result) (limit_of limit)
+        source.old source.new (has_message result) }
 {
-    read_one(alloc, source, limit)
+    let mut message = ByteMessage::blank(alloc);
+    match read_into(alloc, source, limit, &mut message) {
+        Ok(true) => Ok(Some(message)),
+        Ok(false) => Ok(None),
+        Err(fault) => Err(fault),
+    }
 }

@@ -1,7 +1,8 @@
 //! The table at the start of a message: how many segments it has, and how many words each of them.
 
 ghost use Rattle.arrayvec.specs.ArrayVec.{array_vec_len};
-ghost use Rattle.cap_frame.specs.ReadingFaults.{Faults, FaultsBehind, TakesTable, TakesTableBehind};
+ghost use Rattle.cap_frame.specs.Reading.{ReadsNext};
+ghost use Rattle.cap_frame.specs.ReadingFaults.{FaultsBehind, TakesTable, TakesTableBehind};
 ghost use Rattle.cap_frame.specs.Limit.{limit_of};
 ghost use Rattle.cap_frame.specs.Taking.{IsUsable, Reads, Stops};
 ghost use Rattle.cap_spec.specs.Frames.{halves};
@@ -120,14 +121,7 @@ pub(crate) fn next_table<S: WordSource>(
     requires empty { sizes.old.items ≡ [] }
     ensures table { result ≡ Ok true → TakesTable S.WordSource source.old source.new sizes.new.items }
     ensures within { result ≡ Ok true → sum sizes.new.items ≤ limit_of limit }
-    ensures works { OnOk result (IsUsable S.WordSource source.old source.new) }
-    ensures none { result ≡ Ok false → OnSome (S.words source.old)
-        ((S.words source.old ≡ Some []) × (S.is_cut source.old ≡ false) × (S.places source.old ≡ S.place source.new ∷ [])) }
-    ensures ended { result ≡ Ok false → S.ended source.new ≡ true }
-    ensures stays { S.ended source.old ≡ true → (result ≡ Ok false) × (source.new ≡ source.old) }
-    ensures for_good { S.failed source.old ≡ true → (result ≡ Err FrameFault.Spent) × (source.new ≡ source.old) }
-    ensures reads { Reads S.WordSource source.old source.new }
-    ensures err { IfErr result (Faults S.WordSource (limit_of limit) source.old source.new) }
+    ensures next { ReadsNext S.WordSource (limit_of limit) source.old source.new result }
     ensures no_memory { IsErrOf result FrameFault.Memory → ⊥ }
 {
     match source.next() {

@@ -1,16 +1,12 @@
 -- The messages of a stream, read one after the other.
-use Rattle.std.proofs.Common.{◌≡◌, ◌∙◌, ℕ, ◌≤◌, ◌<◌, Result, Ok, Err, Bool, false, Option, Some, None, List, [], ◌∷◌, ◌++◌, sum, OnSome, refl, sym, ap, append-nil}
+use Rattle.std.proofs.Common.{◌≡◌, ◌∙◌, ℕ, ◌≤◌, Bool, false, Option, Some, None, List, [], ◌∷◌, ◌++◌, sum, OnSome, refl, sym, ap, subst, append-nil}
 use Rattle.std.specs.Io.KnownBytes.{Consumes}
-use Rattle.cap_spec.specs.Frames.{Frames, sizes_of}
+use Rattle.cap_spec.specs.Frames.{sizes_of}
 use Rattle.cap_spec.proofs.Bytes.Lists.{all_append}
 use Rattle.cap_spec.proofs.Frames.Streams.{stream_append, stream_none, stream_one}
 use Rattle.cap_words.specs.declared.sources.WordSource as source
 use Rattle.cap_words.specs.Ends.{Works}
-use Rattle.cap_frame.specs.Taking.{Takes, Breaks, Refuses}
-use Rattle.cap_frame.specs.ReadingFaults.{EndsInside, Faults, OnUsable, TakesTable, TakesTooMany}
-use Rattle.cap_frame.specs.declared.fault.FrameFault.{FrameFault}
-use Rattle.cap_frame.specs.declared.fault.FrameFault.TheVariants.{TooManySegments, TooLarge, Truncated, Device, Memory, Spent}
-use Rattle.std.specs.Prelude.{IfErr, IsErrOf}
+use Rattle.cap_frame.specs.Reading.{TakesFrame}
 use Rattle.cap_frame.proofs.Taking.{takes_none, takes_both}
 use Rattle.cap_run.specs.Streams.{ReadsStream, EndsStream, ReadsAll}
 
@@ -32,10 +28,21 @@ module _ {S : Type 0} (g : source.Ghosts S) where
   reads_none limit s = record { own = []; takes = takes_none g s; stream = stream_none; within = tt; spent = refl; failures = refl }
 
   -- one message was read
-  pub reads_one : (limit : ℕ) (old new : S) (own : List ℕ) (m : List (List ℕ)) → Takes g old new own → Frames own m → sum (sizes_of m) ≤ limit
-      → Works (g.spent old) (g.spent new) (g.failures old) (g.failures new) → ReadsStream g limit old new (m ∷ [])
-  reads_one limit old new own m t f h w =
-      record { own = own; takes = t; stream = stream_one own m f; within = (h, tt); spent = w.still ∙ sym w.usable; failures = w.none_failed }
+  pub reads_one : (limit : ℕ) (old new : S) (m : List (List ℕ)) → TakesFrame g limit old new m → Works (g.spent old) (g.spent new) (g.failures old) (g.failures new)
+      → ReadsStream g limit old new (m ∷ [])
+  reads_one limit old new m t w = record {
+    own = t.own;
+    takes = t.takes;
+    stream = stream_one t.own m t.frames;
+    within = (t.within, tt);
+    spent = w.still ∙ sym w.usable;
+    failures = w.none_failed;
+  }
+
+  -- it is one that a call named
+  pub reads_named : (limit : ℕ) (old new : S) (held : List (List ℕ)) → (m : List (List ℕ)) × TakesFrame g limit old new m × (held ≡ m)
+      → Works (g.spent old) (g.spent new) (g.failures old) (g.failures new) → ReadsStream g limit old new (held ∷ [])
+  reads_named limit old new held t w = subst (λ m. ReadsStream g limit old new (m ∷ [])) (sym t.2) (reads_one limit old new t.0 t.1 w)
 
   -- some messages were read, and then others
   pub reads_both : (limit : ℕ) (old mid new : S) (ms ns : List (List (List ℕ))) → ReadsStream g limit old mid ms → ReadsStream g limit mid new ns
@@ -59,19 +66,3 @@ module _ {S : Type 0} (g : source.Ghosts S) where
     ended = e.ended;
     works = record { usable = sym r.spent ∙ e.works.usable; still = e.works.still; none_failed = e.works.none_failed ∙ r.failures };
   }
-
-  -- the fault of a call that reads a message, put together
-  pub faults : {T : Type 0} (limit : ℕ) (old new : S) (r : Result T FrameFault) → OnUsable r (Works (g.spent old) (g.spent new) (g.failures old) (g.failures new))
-      → ((count : ℕ) → IsErrOf r (TooManySegments count) → TakesTooMany g old new count)
-      → ((words : ℕ) → IsErrOf r (TooLarge words) → (sizes : List ℕ) × TakesTable g old new sizes × (words ≡ sum sizes) × (limit < words))
-      → ((byte : ℕ) → IsErrOf r (Truncated byte) → EndsInside g limit old new byte)
-      → (IsErrOf r Device → Breaks g old new)
-      → (IsErrOf r Memory → (sizes : List ℕ) × TakesTable g old new sizes × (sum sizes ≤ limit))
-      → (IsErrOf r Spent → Refuses g old new) → IfErr r (Faults g limit old new)
-  faults limit old new (Ok x) works too_many too_large truncated device memory was_spent = tt
-  faults limit old new (Err (TooManySegments count)) works too_many too_large truncated device memory was_spent = (too_many count refl, works)
-  faults limit old new (Err (TooLarge words)) works too_many too_large truncated device memory was_spent = (too_large words refl, works)
-  faults limit old new (Err (Truncated byte)) works too_many too_large truncated device memory was_spent = truncated byte refl
-  faults limit old new (Err Device) works too_many too_large truncated device memory was_spent = device refl
-  faults limit old new (Err Memory) works too_many too_large truncated device memory was_spent = (memory refl, works)
-  faults limit old new (Err Spent) works too_many too_large truncated device memory was_spent = was_spent refl

@@ -1,10 +1,12 @@
--- No two of the ways in which reading ends hold of the same words, so what holds of them decides the answer.
-use Rattle.cap_frame.specs.HeldBytes.{held_segments}
-use Rattle.cap_frame.specs.Limit.{limit_of}
-use Rattle.cap_frame.proofs.Converse.{decides}
+use Rattle.std.proofs.Common.{Ok, Err, false}
+use Rattle.cap_frame.proofs.Reading.{no_frame}
 use Rattle.cap_frame.proofs.byte_reader.read_byte_message.Goals as goal
 
-pub returns-clause-decides : goal.returns-clause-decides
-returns-clause-decides g c =
-    let one = c.read_one.ensures in
-    decides g.S.WordSource (λ k. held_segments k) (limit_of c.args.limit) c.args.source.now c.read_one.new.source c.read_one.result one.message one.none one.err
+pub returns-in-Ok-true : goal.returns-in-Ok-true
+returns-in-Ok-true g c = c.in-Ok-true.ensures.read
+
+pub returns-in-Ok-false : goal.returns-in-Ok-false
+returns-in-Ok-false g c = no_frame g.S.WordSource _ _ _ _ (Ok false) (λ h. absurd (cc)) c.in-Ok-false.ensures.read.next
+
+pub returns-in-Err : goal.returns-in-Err
+returns-in-Err g c = no_frame g.S.WordSource _ _ _ _ (Err c.in-Err.fault) (λ h. absurd (cc)) c.in-Err.ensures.read.next

@@ -1,30 +1,40 @@
 -- The table and the words of the buffer behind it frame the message.
-use Rattle.std.proofs.Common.{◌≡◌, ◌∙◌, sum, refl, arith, subst, sym}
-use Rattle.cap_frame.specs.Limit.{limit_of}
-use Rattle.cap_frame.specs.ReadingFaults.{Faults}
-use Rattle.cap_frame.specs.Taking.{Stops}
-use Rattle.cap_frame.proofs.Behind.{behind_contents}
-use Rattle.cap_frame.proofs.InOneBuffer.{behind_held}
-use Rattle.cap_frame.proofs.Taking.{reads_both}
+use Rattle.std.proofs.Common.{◌≡◌, ◌∙◌, ◌*◌, Ok, Err, false, ◌≤◌, length, refl, subst, sum, sym, take}
+use Rattle.cap_spec.specs.Plain.{plain_words}
+use Rattle.cap_frame.specs.Bytes.{cut}
+use Rattle.cap_frame.specs.Taking.{Stops, Takes}
+use Rattle.cap_frame.proofs.InOneBuffer.{held_joined, held_sizes}
+use Rattle.cap_frame.proofs.Reading.{frame_stopped, frame_taken, no_frame, no_memory}
 use Rattle.cap_frame.proofs.byte_reader.read_parts.Goals as goal
 
-pub returns-in-Ok-read_bytes-clause-message : goal.returns-in-Ok-read_bytes-clause-message
-returns-in-Ok-read_bytes-clause-message g c = λ _.
-    let table = c.in-Ok-true.ensures.table (cc) in
-    let within = c.in-Ok-true.ensures.within (cc) in
-    let many : c.total-words.result ≡ sum c.next_table.new.sizes.items = c.total-words.ensures ∙ rw c.deref.ensures.0 refl in
-    behind_held g.S.WordSource (limit_of c.args.limit) c.total-words.result c.args.source.now c.next_table.new.source c.read_bytes.new.source c.next_table.new.sizes.items c.read_bytes.new.bytes.items
-    table within many (omega (arith, c.in-Ok-read_bytes.ensures.within)) c.in-Ok-read_bytes.ensures.ok
+pub returns-in-Ok-false-clause-read : goal.returns-in-Ok-false-clause-read
+returns-in-Ok-false-clause-read g c = no_frame g.S.WordSource _ _ _ _ (Ok false) (λ h. absurd (cc)) c.in-Ok-false.ensures.next
 
-pub returns-in-Ok-read_bytes-clause-reads : goal.returns-in-Ok-read_bytes-clause-reads
-returns-in-Ok-read_bytes-clause-reads g c = reads_both g.S.WordSource c.args.source.now c.next_table.new.source c.read_bytes.new.source c.next_table.ensures.reads c.read_bytes.ensures.reads
+pub returns-in-Err-clause-read : goal.returns-in-Err-clause-read
+returns-in-Err-clause-read g c = no_frame g.S.WordSource _ _ _ _ (Err c.in-Err.fault) (λ h. absurd (cc)) c.in-Err.ensures.next
 
-pub returns-in-Err-clause-reads : goal.returns-in-Err-clause-reads
-returns-in-Err-clause-reads g c = reads_both g.S.WordSource c.args.source.now c.next_table.new.source c.read_bytes.new.source c.next_table.ensures.reads c.read_bytes.ensures.reads
+pub returns-else-clause-read : goal.returns-else-clause-read
+returns-else-clause-read g c =
+    let e = c.in-Ok-true.ensures in
+    no_memory g.S.WordSource _ _ _ _ c.next_table.new.sizes.items e.next (e.table (cc)) (e.within (cc))
 
-pub returns-in-Err-clause-err : goal.returns-in-Err-clause-err
-returns-in-Err-clause-err g c =
-    let many : c.total-words.result ≡ sum c.next_table.new.sizes.items = c.total-words.ensures ∙ rw c.deref.ensures.0 refl in
-    let stops = subst (λ n. Stops g.S.WordSource n c.next_table.new.source c.read_bytes.new.source c.in-Err.fault) many c.in-Err.ensures.err in
-    let stopped = behind_contents g.S.WordSource (limit_of c.args.limit) c.args.source.now c.next_table.new.source c.read_bytes.new.source c.next_table.new.sizes.items c.in-Err.fault (c.in-Ok-true.ensures.table (cc)) c.in-Ok-true.ensures.works (c.in-Ok-true.ensures.within (cc)) stops in
-    subst (Faults g.S.WordSource (limit_of c.args.limit) c.args.source.now c.read_bytes.new.source) (sym c.frame_fault.ensures) stopped
+pub returns-in-Ok-read_bytes-clause-read : goal.returns-in-Ok-read_bytes-clause-read
+returns-in-Ok-read_bytes-clause-read g c =
+    let e = c.in-Ok-true.ensures in
+    let sizes = c.next_table.new.sizes.items in
+    let bytes = c.read_bytes.new.bytes.items in
+    let many : c.total-words.result ≡ sum sizes = c.total-words.ensures ∙ rw c.deref.ensures.0 refl in
+    let enough = subst (λ n. 8 * n ≤ length bytes) many c.in-Ok-read_bytes.ensures.within in
+    let words = subst (λ n. Takes g.S.WordSource c.next_table.new.source c.read_bytes.new.source (plain_words (take (8 * n) bytes))) many
+    c.in-Ok-read_bytes.ensures.ok in
+    let takes = subst (Takes g.S.WordSource c.next_table.new.source c.read_bytes.new.source) (sym (held_joined sizes bytes enough)) words in
+    frame_taken g.S.WordSource _ _ _ _ _ sizes (cut sizes bytes) e.next (e.table (cc)) (e.within (cc)) takes (held_sizes sizes bytes enough)
+    c.in-Ok-read_bytes.ensures.works c.read_bytes.ensures.reads refl
+
+pub returns-in-Err-read_bytes-clause-read : goal.returns-in-Err-read_bytes-clause-read
+returns-in-Err-read_bytes-clause-read g c =
+    let e = c.in-Ok-true.ensures in
+    let sizes = c.next_table.new.sizes.items in
+    let many : c.total-words.result ≡ sum sizes = c.total-words.ensures ∙ rw c.deref.ensures.0 refl in
+    let stops = subst (λ n. Stops g.S.WordSource n c.next_table.new.source c.read_bytes.new.source _) many c.in-Err-read_bytes.ensures.err in
+    frame_stopped g.S.WordSource _ _ _ _ _ sizes _ _ c.frame_fault.ensures e.next (e.table (cc)) (e.within (cc)) stops c.read_bytes.ensures.reads

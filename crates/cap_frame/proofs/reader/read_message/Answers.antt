@@ -1,10 +1,39 @@
--- No two of the ways in which reading ends hold of the same words, so what holds of them decides the answer.
-use Rattle.std.proofs.Common.{map}
-use Rattle.cap_frame.specs.Limit.{limit_of}
-use Rattle.cap_frame.proofs.Converse.{decides}
+-- The table and the contents behind it frame the message.
+use Rattle.std.proofs.Common.{◌∙◌, Ok, Err, false, refl, subst, sym, map}
+use Rattle.cap_spec.specs.Frames.{IsTable}
+use Rattle.cap_frame.proofs.Behind.{message_of}
+use Rattle.cap_frame.proofs.Reading.{frame_stopped, frame_taken, no_frame, no_memory}
 use Rattle.cap_frame.proofs.reader.read_message.Goals as goal
 
-pub returns-clause-decides : goal.returns-clause-decides
-returns-clause-decides g c =
-    let one = c.read_framed.ensures in
-    decides g.S.WordSource (λ k. map (λ v. v.items) k.segments.items) (limit_of c.args.limit) c.args.source.now c.read_framed.new.source c.read_framed.result one.message one.none one.err
+pub returns-in-Ok-false : goal.returns-in-Ok-false
+returns-in-Ok-false g c = no_frame g.S.WordSource _ _ _ _ (Ok false) (λ h. absurd (cc)) c.in-Ok-false.ensures.next
+
+pub returns-in-Err : goal.returns-in-Err
+returns-in-Err g c = no_frame g.S.WordSource _ _ _ _ (Err c.in-Err.fault) (λ h. absurd (cc)) c.in-Err.ensures.next
+
+pub returns-else : goal.returns-else
+returns-else g c =
+    let e = c.in-Ok-true.ensures in
+    no_memory g.S.WordSource _ _ _ _ c.next_table.new.sizes.items e.next (e.table (cc)) (e.within (cc))
+
+pub returns-in-Err-read_contents : goal.returns-in-Err-read_contents
+returns-in-Err-read_contents g c =
+    let e = c.in-Ok-true.ensures in
+    let stops = rw c.deref-2.ensures.0 at c.in-Err-read_contents.ensures.err in
+    frame_stopped g.S.WordSource _ _ _ _ _ c.next_table.new.sizes.items _ _ c.frame_fault.ensures e.next (e.table (cc)) (e.within (cc)) stops
+    c.read_contents.ensures.reads
+
+pub unwrap-requires : goal.unwrap-requires
+unwrap-requires g c =
+    let table = c.in-Ok-true.ensures.table (cc) in
+    let sizes = c.in_default-read_contents.ensures.sizes ∙ c.deref-2.ensures.0 in
+    c.new.ensures.some.1 (message_of table.table (map (λ v. v.items) c.read_contents.new.segments.items)
+    (subst (IsTable table.table) (sym sizes) table.is_table))
+
+pub returns : goal.returns
+returns g c =
+    let e = c.in-Ok-true.ensures in
+    let read = c.in_default-read_contents.ensures in
+    let held = rw c.unwrap.ensures at c.new.ensures.segments in
+    frame_taken g.S.WordSource _ _ _ _ _ c.next_table.new.sizes.items (map (λ v. v.items) c.read_contents.new.segments.items) e.next (e.table (cc))
+    (e.within (cc)) read.ok (read.sizes ∙ c.deref-2.ensures.0) read.works c.read_contents.ensures.reads held

@@ -4,25 +4,25 @@ use Rattle.cap_frame.specs.Limit.{limit_of}
 use Rattle.cap_frame.specs.Putting.{Halts}
 use Rattle.cap_vet.specs.Limits.{depth_of, words_of}
 use Rattle.cap_run.proofs.Making.{next_stops}
-use Rattle.cap_run.proofs.Streams.{reads_one}
+use Rattle.cap_run.proofs.Streams.{reads_named}
 use Rattle.cap_run.proofs.engines.canon.put_next.Goals as goal
 
 pub returns-in-Ok-clause-some : goal.returns-in-Ok-clause-some
 returns-in-Ok-clause-some g c = λ _.
-    let r = c.in-Ok-true.ensures.message (cc) in
+    let r = c.in-Ok-true.ensures.read.message (cc) in
     let put = rw c.view.ensures at c.in_default.ensures.ok in (
       record { message = _; copy = put.0 },
-      reads_one g.S.WordSource (limit_of c.args.settings.now.size) c.args.source.now c.read_into.new.source r.0 _ r.1 r.2 r.3 c.in-Ok-true.ensures.works,
+      reads_named g.S.WordSource (limit_of c.args.settings.now.size) c.args.source.now c.read_into.new.source _ r c.in-Ok-true.ensures.read.next.works,
       put.1,
       c.in-Ok.ensures.ok c.args.sink.now (frame_text (put.0 ∷ [])) put.2,
     )
 
 pub returns-in-Err-hand_on-clause-err : goal.returns-in-Err-hand_on-clause-err
 returns-in-Err-hand_on-clause-err g c =
-    let r = c.in-Ok-true.ensures.message (cc) in
+    let r = c.in-Ok-true.ensures.read.message (cc) in
     let put = rw c.view.ensures at c.in_default.ensures.ok in (
       _,
-      reads_one g.S.WordSource (limit_of c.args.settings.now.size) c.args.source.now c.read_into.new.source r.0 _ r.1 r.2 r.3 c.in-Ok-true.ensures.works,
+      reads_named g.S.WordSource (limit_of c.args.settings.now.size) c.args.source.now c.read_into.new.source _ r c.in-Ok-true.ensures.read.next.works,
       (
         put.0,
         put.1,
@@ -33,10 +33,10 @@ returns-in-Err-hand_on-clause-err g c =
 
 pub returns-in-Err-put_copy-clause-err : goal.returns-in-Err-put_copy-clause-err
 returns-in-Err-put_copy-clause-err g c =
-    let r = c.in-Ok-true.ensures.message (cc) in
+    let r = c.in-Ok-true.ensures.read.message (cc) in
     next_stops g.S.WordSource g.K.WordSink (words_of c.args.settings.now.limits) (depth_of c.args.settings.now.limits) (limit_of c.args.settings.now.size) _ c.args.source.now c.read_into.new.source
     c.args.sink.now c.put_copy.new.sink c.in-Err-put_copy.cause
-    (reads_one g.S.WordSource (limit_of c.args.settings.now.size) c.args.source.now c.read_into.new.source r.0 _ r.1 r.2 r.3 c.in-Ok-true.ensures.works)
+    (reads_named g.S.WordSource (limit_of c.args.settings.now.size) c.args.source.now c.read_into.new.source _ r c.in-Ok-true.ensures.read.next.works)
     (rw c.view.ensures at c.in-Err-put_copy.ensures.err)
 
 pub returns-in-Err-put_copy-clause-some : goal.returns-in-Err-put_copy-clause-some

@@ -4,8 +4,8 @@ use Rattle.cap_run.proofs.engines.stream.end_stream.Goals as goal
 
 pub returns-in-Ok-true-clause-err : goal.returns-in-Ok-true-clause-err
 returns-in-Ok-true-clause-err g c =
-    let r = c.in-Ok-true.ensures.message (cc) in
-    (r.1, reads_one g.S.WordSource (limit_of c.args.limit) c.args.source.now c.read_outline.new.source r.0 r.1 r.2 r.3 r.4 c.in-Ok-true.ensures.works)
+    let r = c.in-Ok-true.ensures.read.message (cc) in
+    (r.0, reads_one g.S.WordSource (limit_of c.args.limit) c.args.source.now c.read_outline.new.source r.0 r.1 c.in-Ok-true.ensures.read.next.works)
 
 pub returns-in-Ok-true-clause-ok : goal.returns-in-Ok-true-clause-ok
 returns-in-Ok-true-clause-ok g c = tt

@@ -10,21 +10,21 @@ use Rattle.cap_run.proofs.engines.segments.SegmentsEngineEngine.tell_next.Goals 
 pub returns-in-Ok-clause-some : goal.returns-in-Ok-clause-some
 returns-in-Ok-clause-some g c =
     let outline = c.read_outline.new.outline in
-    let r = c.in-Ok-true.ensures.message (cc) in (
-      record { message = r.1; text = outline_text c.args.number (sizes_in outline) (root_in outline); mark = Accepted },
+    let r = c.in-Ok-true.ensures.read.message (cc) in (
+      record { message = r.0; text = outline_text c.args.number (sizes_in outline) (root_in outline); mark = Accepted },
       refl,
-      (text_of_outline c.args.number outline r.1 r.5, refl),
-      reads_one g.S.WordSource (limit_of c.args.limit) c.args.source.now c.read_outline.new.source r.0 r.1 r.2 r.3 r.4 c.in-Ok-true.ensures.works,
+      (text_of_outline c.args.number outline r.0 r.2, refl),
+      reads_one g.S.WordSource (limit_of c.args.limit) c.args.source.now c.read_outline.new.source r.0 r.1 c.in-Ok-true.ensures.read.next.works,
       c.in-Ok.ensures,
     )
 
 pub returns-in-Err-write_segments_text-clause-err : goal.returns-in-Err-write_segments_text-clause-err
 returns-in-Err-write_segments_text-clause-err g c =
     let outline = c.read_outline.new.outline in
-    let r = c.in-Ok-true.ensures.message (cc) in (
-      record { message = r.1; text = outline_text c.args.number (sizes_in outline) (root_in outline); mark = Accepted },
-      (text_of_outline c.args.number outline r.1 r.5, refl),
-      reads_one g.S.WordSource (limit_of c.args.limit) c.args.source.now c.read_outline.new.source r.0 r.1 r.2 r.3 r.4 c.in-Ok-true.ensures.works,
+    let r = c.in-Ok-true.ensures.read.message (cc) in (
+      record { message = r.0; text = outline_text c.args.number (sizes_in outline) (root_in outline); mark = Accepted },
+      (text_of_outline c.args.number outline r.0 r.2, refl),
+      reads_one g.S.WordSource (limit_of c.args.limit) c.args.source.now c.read_outline.new.source r.0 r.1 c.in-Ok-true.ensures.read.next.works,
       c.in-Err-write_segments_text.ensures,
     )
 

@@ -1,26 +1,26 @@
 use Rattle.std.proofs.Common.{refl}
 use Rattle.cap_frame.specs.Limit.{limit_of}
-use Rattle.cap_run.proofs.Streams.{reads_one}
+use Rattle.cap_run.proofs.Streams.{reads_named}
 use Rattle.cap_run.proofs.engines.whole.WholeEngine.tell_next.Goals as goal
 
 pub returns-in-Ok-clause-some : goal.returns-in-Ok-clause-some
 returns-in-Ok-clause-some g c =
-    let r = c.in-Ok-true.ensures.message (cc) in
+    let r = c.in-Ok-true.ensures.read.message (cc) in
     let told = c.in-Ok.ensures.ok in (
       record { message = _; text = told.0; mark = c.in-Ok.mark },
       refl,
       rw c.view.ensures at told.1,
-      reads_one g.S.WordSource (limit_of c.args.limit) c.args.source.now c.read_into.new.source r.0 _ r.1 r.2 r.3 c.in-Ok-true.ensures.works,
+      reads_named g.S.WordSource (limit_of c.args.limit) c.args.source.now c.read_into.new.source _ r c.in-Ok-true.ensures.read.next.works,
       told.2,
     )
 
 pub returns-in-Err-tell-clause-err : goal.returns-in-Err-tell-clause-err
 returns-in-Err-tell-clause-err g c =
-    let r = c.in-Ok-true.ensures.message (cc) in
+    let r = c.in-Ok-true.ensures.read.message (cc) in
     let told = c.in-Err-tell.ensures.err in (
       record { message = _; text = told.0; mark = told.1 },
       rw c.view.ensures at told.2,
-      reads_one g.S.WordSource (limit_of c.args.limit) c.args.source.now c.read_into.new.source r.0 _ r.1 r.2 r.3 c.in-Ok-true.ensures.works,
+      reads_named g.S.WordSource (limit_of c.args.limit) c.args.source.now c.read_into.new.source _ r c.in-Ok-true.ensures.read.next.works,
       told.3,
     )
 

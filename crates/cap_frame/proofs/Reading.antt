@@ -1,0 +1,77 @@
+-- What reading a message says, put together from what its steps say.
+use Rattle.std.proofs.Common.{◌≡◌, ℕ, ◌≤◌, Bool, true, false, Result, Ok, Err, List, sum, IfErr, OnOk, subst, sym}
+use Rattle.cap_words.specs.declared.sources.WordSource as source
+use Rattle.cap_words.specs.declared.sources.SourceFault.{SourceFault}
+use Rattle.cap_spec.specs.Frames.{joined, sizes_of}
+use Rattle.cap_frame.specs.Reading.{ReadsFrame, ReadsNext, TakesFrame}
+use Rattle.cap_frame.specs.ReadingFaults.{Faults, TakesTable}
+use Rattle.cap_frame.specs.SourceFaults.{frame_fault_of}
+use Rattle.cap_frame.specs.Taking.{IsUsable, Reads, Stops, Takes}
+use Rattle.cap_frame.specs.declared.fault.FrameFault.{FrameFault}
+use Rattle.cap_frame.specs.declared.fault.FrameFault.TheVariants.{Memory}
+use Rattle.cap_frame.proofs.Behind.{behind_contents, behind_message}
+use Rattle.cap_frame.proofs.Converse.{decides}
+use Rattle.cap_frame.proofs.Taking.{reads_both, reads_none, usable_both}
+
+module _ {X : Type 0} (g : source.Ghosts X) (limit : ℕ) (old mid new : X) where
+  -- two steps without a fault
+  works_after : (r : Result Bool FrameFault) → IsUsable g old mid → OnOk r (IsUsable g mid new) → OnOk r (IsUsable g old new)
+  works_after (Ok b) u w = usable_both g old mid new u w
+  works_after (Err fault) u w = tt
+
+  -- a source that gave something has not ended or failed before
+  pub next_after : (r : Result Bool FrameFault) → (g.ended old ≡ true → ⊥) → (g.failed old ≡ true → ⊥) → IsUsable g old mid → Reads g old mid
+      → Reads g mid new → OnOk r (IsUsable g mid new) → IfErr r (Faults g limit old new) → (r ≡ Ok false → ⊥) → ReadsNext g limit old new r
+  next_after r ended failed usable before reads works err some = record {
+    works = works_after r usable works;
+    none = λ e. absurd (some e);
+    ended = λ e. absurd (some e);
+    stays = λ e. absurd (ended e);
+    for_good = λ e. absurd (failed e);
+    spent = λ e. absurd (let h = usable.usable in cc);
+    reads = reads_both g old mid new before reads;
+    err = err;
+  }
+
+  -- so has one that gave a table
+  pub next_later : (r : Result Bool FrameFault) → ReadsNext g limit old mid (Ok true) → Reads g mid new → OnOk r (IsUsable g mid new)
+      → IfErr r (Faults g limit old new) → (r ≡ Ok false → ⊥) → ReadsNext g limit old new r
+  next_later r n reads works err some =
+      next_after r (λ e. absurd (let h = (n.stays e).0 in cc)) (λ e. absurd (let h = (n.for_good e).0 in cc)) n.works n.reads reads works err some
+
+module _ {X : Type 0} (g : source.Ghosts X) (is : List (List ℕ) → Type 0) (limit : ℕ) (old new : X) where
+  -- what follows where the words are known
+  pub read_frame : (r : Result Bool FrameFault) → (r ≡ Ok true → (m : List (List ℕ)) × TakesFrame g limit old new m × is m)
+      → ReadsNext g limit old new r → ReadsFrame g is limit old new r
+  read_frame r s n = record { message = s; next = n; decides = decides g is limit old new r s n }
+
+  -- there was no message
+  pub no_frame : (r : Result Bool FrameFault) → (r ≡ Ok true → ⊥) → ReadsNext g limit old new r → ReadsFrame g is limit old new r
+  no_frame r h n = read_frame r (λ e. absurd (h e)) n
+
+  -- there was no memory behind a table
+  pub no_memory : (sizes : List ℕ) → ReadsNext g limit old new (Ok true) → TakesTable g old new sizes → sum sizes ≤ limit
+      → ReadsFrame g is limit old new (Err Memory)
+  no_memory sizes n table within =
+      no_frame (Err Memory) (λ i. absurd (cc)) (next_later g limit old new new (Err Memory) n (reads_none g new) tt ((sizes, table, within), n.works) (λ i. absurd (cc)))
+
+module _ {X : Type 0} (g : source.Ghosts X) (is : List (List ℕ) → Type 0) (limit : ℕ) (old mid new : X) (sizes : List ℕ) where
+  -- the contents stood behind a table
+  pub frame_taken : (m : List (List ℕ)) → ReadsNext g limit old mid (Ok true) → TakesTable g old mid sizes → sum sizes ≤ limit
+      → Takes g mid new (joined m) → sizes_of m ≡ sizes → IsUsable g mid new → Reads g mid new → is m → ReadsFrame g is limit old new (Ok true)
+  frame_taken m n table within takes e works reads i =
+      let t = behind_message g old mid new sizes m table takes e in
+      let frame : TakesFrame g limit old new m = record { own = t.0; takes = t.1; frames = t.2; within = subst (λ ns. sum ns ≤ limit) (sym e) within } in
+      read_frame g is limit old new (Ok true) (λ _. (m, frame, i)) (next_later g limit old mid new (Ok true) n reads works tt (λ h. absurd (cc)))
+
+  -- the source stopped inside them
+  pub frame_stopped : (fault : SourceFault) (f : FrameFault) → f ≡ frame_fault_of fault → ReadsNext g limit old mid (Ok true) → TakesTable g old mid sizes
+      → sum sizes ≤ limit → Stops g (sum sizes) mid new fault → Reads g mid new → ReadsFrame g is limit old new (Err f)
+  frame_stopped fault f e n table within stops reads =
+      let faults = subst (Faults g limit old new) (sym e) (behind_contents g limit old mid new sizes fault table n.works within stops) in
+      no_frame g is limit old new (Err f) (λ i. absurd (cc)) (next_later g limit old mid new (Err f) n reads tt faults (λ i. absurd (cc)))
+
+-- what is said of a message may be said otherwise
+pub read_as : {X : Type 0} (g : source.Ghosts X) (is other : List (List ℕ) → Type 0) (limit : ℕ) (old new : X) (r : Result Bool FrameFault)
+    → ((m : List (List ℕ)) → is m → other m) → ReadsFrame g is limit old new r → ReadsFrame g other limit old new r
+read_as g is other limit old new r h f = read_frame g other limit old new r (λ e. let t = f.message e in (t.0, t.1, h t.0 t.2)) f.next
