@@ -1,13 +1,10 @@
 -- The bytes decide what each call answers and tells.
-use Rattle.std.proofs.Common.{ℕ, ap₂, List, [], ◌≡◌, ◌∙◌, ◌<◌, ◌≤◌, ◌+◌, ◌*◌, ap, sym, subst, refl, length, Option, None, Result, Ok, Err, inl, inr}
+use Rattle.std.proofs.Common.{ℕ, ap₂, List, [], ◌≡◌, ◌∙◌, ◌*◌, ap, sym, subst, refl, length, Option, None, Result, Ok, Err, inl, inr}
 use Rattle.std.specs.Prelude.{◌⊎◌}
 use Rattle.cap_spec.specs.Copies.{IsCanonical}
 use Rattle.cap_spec.proofs.Frames.Framing.{one_frame}
 use Rattle.cap_spec.proofs.Verdicts.OneFault.{one_refusal}
 use Rattle.cap_frame.specs.Framed.{TellsFront}
-use Rattle.cap_frame.specs.Fronts.{TellsLarge, TellsMany, Wants}
-use Rattle.cap_spec.specs.Frames.{IsPartial}
-use Rattle.cap_spec.specs.Plain.{plain_is_cut, plain_words}
 use Rattle.cap_frame.specs.declared.fault.FrontFault.{FrontFault}
 use Rattle.cap_frame.specs.declared.fault.FrontFault.TheVariants.{TooManySegments, TooLarge, Truncated}
 use Rattle.cap_frame.specs.declared.framed.Framed.{Framed}
@@ -30,15 +27,6 @@ use Rattle.cap_calls.specs.declared.verdict.Verdict.TheVariants.{Without, Refuse
 -- an answer without a frame
 abbrev Without-fault : FrontFault → Result (Option Framed) FrontFault
 Without-fault e = Err e
-
--- what a fault tells, by the clauses of the call that answers it
-pub fault_told : (limit : ℕ) (bs : List ℕ) (e : FrontFault) → ((n : ℕ) → Without-fault e ≡ Without-fault (TooManySegments n) → TellsMany bs n)
-    → ((n : ℕ) → Without-fault e ≡ Without-fault (TooLarge n) → TellsLarge limit bs n)
-    → ((n : ℕ) → Without-fault e ≡ Without-fault (Truncated n) → IsPartial limit (plain_words bs) (plain_is_cut bs) × Wants (plain_words bs) n)
-    → ((n : ℕ) → Without-fault e ≡ Without-fault (Truncated n) → (length bs < n) × (n ≤ 8 * limit + 2056)) → TellsFront limit bs (Err e)
-fault_told limit bs (TooManySegments n) many large short more = many n refl
-fault_told limit bs (TooLarge n) many large short more = large n refl
-fault_told limit bs (Truncated n) many large short more = (let h = short n refl in let k = more n refl in (h.0, h.1, k.0, k.1))
 
 -- bytes begin with no message in one way
 one_fault : (limit : ℕ) (bs : List ℕ) (a b : FrontFault) → TellsFront limit bs (Err a) → TellsFront limit bs (Err b) → a ≡ b

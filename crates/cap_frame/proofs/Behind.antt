@@ -9,16 +9,19 @@ use Rattle.cap_words.specs.declared.sources.SourceFault.TheVariants.{Truncated, 
 use Rattle.cap_spec.specs.Messages.{IsMessage}
 use Rattle.cap_spec.specs.Frames.{joined, sizes_of, IsTable, Frames, IsPartial, in_table, in_contents}
 use Rattle.cap_frame.specs.Taking.{Takes, IsUsable, Stops}
-use Rattle.cap_frame.specs.ReadingFaults.{TakesTable, Faults, FaultsBehind}
+use Rattle.cap_frame.specs.ReadingFaults.{TakesTable, TakesTableBehind, Faults}
 use Rattle.cap_frame.specs.SourceFaults.{frame_fault_of}
 use Rattle.cap_frame.proofs.Taking.{takes_both, breaks_later, stops_later}
 
--- where fewer words are left than the table wants, they are a part of a frame
-pub partial_table : (o : Option (List ℕ)) (limit first byte : ℕ) (ps : List ℕ) → first % 2 ^ 32 < 512
-    → IfSome o (λ ws. (length ws < (first % 2 ^ 32 + 1) / 2) × (drop (length ws) ps ≡ byte ∷ []))
-    → IfSome o (λ ws. ((cut : Bool) → IsPartial limit (first ∷ ws) cut) × (drop (length ws) ps ≡ byte ∷ []))
-partial_table None limit first byte ps few s = tt
-partial_table (Some ws) limit first byte ps few s = (λ cut. in_table first ws refl few s.0, s.1)
+-- where fewer words are left than the table needs, they are a part of a frame
+pub partial_table : (a b : Option (List ℕ)) (limit first n byte : ℕ) (ps qs : List ℕ) (cut : Bool) → first % 2 ^ 32 < 512
+    → Consumes a b (first ∷ [])
+    → IfSome b (λ ws. (length ws < (first % 2 ^ 32 + 1) / 2) × (drop (length ws) qs ≡ byte ∷ []))
+    → IfSome a (λ ws. (length ws < n) × (drop (length ws) ps ≡ byte ∷ []))
+    → IfSome a (λ ws. IsPartial limit ws cut × (drop (length ws) ps ≡ byte ∷ []))
+partial_table None b limit first n byte ps qs cut few c s u = tt
+partial_table (Some ws) None limit first n byte ps qs cut few c s u = absurd c
+partial_table (Some ws) (Some rest) limit first n byte ps qs cut few c s u = (in_table first rest c few s.0, u.1)
 
 -- and so where fewer are left than the contents want
 pub partial_contents : (a b : Option (List ℕ)) (limit n byte : ℕ) (table sizes ps qs : List ℕ) (cut : Bool) → IsTable table sizes → sum sizes ≤ limit
@@ -32,18 +35,30 @@ partial_contents (Some ws) (Some rest) limit n byte table sizes ps qs cut t l c 
 
 module _ {X : Type 0} (g : source.Ghosts X) where
   -- the source stopped inside the table
-  pub behind_table : (limit first : ℕ) (old new : X) (fault : SourceFault) → first % 2 ^ 32 < 512
-      → Stops g ((first % 2 ^ 32 + 1) / 2) old new fault → FaultsBehind g limit first old new (frame_fault_of fault)
-  behind_table limit first old new (Truncated byte) few s = record {
-    partial = partial_table (g.words old) limit first byte (g.places old) few s.short;
-    place = s.place;
-    usable = s.usable;
-    none_failed = s.none_failed;
-    over = s.over;
-    how = s.how;
+  pub behind_first : (limit first : ℕ) (old mid new : X) (fault : SourceFault) → first % 2 ^ 32 < 512 → Takes g old mid (first ∷ []) → IsUsable g old mid
+      → Stops g ((first % 2 ^ 32 + 1) / 2) mid new fault → Faults g limit old new (frame_fault_of fault)
+  behind_first limit first old mid new (Truncated byte) few t u s =
+      let n = (first % 2 ^ 32 + 1) / 2 in
+      let later = stops_later g old mid new (first ∷ []) n (Truncated byte) t u s in
+      record {
+        partial = partial_table (g.words old) (g.words mid) limit first (1 + n) byte (g.places old) (g.places mid) (g.is_cut old) few t.words s.short later.short;
+        place = s.place;
+        usable = later.usable;
+        none_failed = later.none_failed;
+        over = s.over;
+        how = later.how;
+      }
+  behind_first limit first old mid new Device few t u s = breaks_later g old mid new u s
+  behind_first limit first old mid new Spent few t u s = stops_later g old mid new (first ∷ []) ((first % 2 ^ 32 + 1) / 2) Spent t u s
+
+  -- the table, with its first word
+  pub table_whole : (first : ℕ) (old mid new : X) (sizes : List ℕ) → Takes g old mid (first ∷ []) → TakesTableBehind g first mid new sizes
+      → TakesTable g old new sizes
+  table_whole first old mid new sizes t b = record {
+    table = first ∷ b.more;
+    takes = takes_both g old mid new (first ∷ []) b.more t b.takes;
+    is_table = b.is_table;
   }
-  behind_table limit first old new Device few s = s
-  behind_table limit first old new Spent few s = s
 
   -- the source stopped inside the contents behind a table
   pub behind_contents : (limit : ℕ) (old mid new : X) (sizes : List ℕ) (fault : SourceFault) → TakesTable g old mid sizes → IsUsable g old mid → sum sizes ≤ limit

@@ -4,7 +4,6 @@ pub mod Tables
 pub mod Contents
 pub mod Skipping
 pub mod Behind
-pub mod Before
 pub mod Converse
 pub mod Reading
 pub mod InOneBuffer

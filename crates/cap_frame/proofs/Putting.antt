@@ -1,19 +1,21 @@
 -- Words put to a sink in several calls.
-use Rattle.std.proofs.Common.{◌≡◌, ◌∙◌, ℕ, zero, suc, ◌+◌, ◌*◌, ◌/◌, ◌^◌, ◌<◌, true, false, Option, Some, None, Result, Err, List, [], ◌∷◌, ◌++◌, length, drop, get_or, refl, sym, ap, subst, arith, append_assoc, append-nil}
+use Rattle.std.proofs.Common.{◌≡◌, ◌∙◌, ℕ, zero, suc, ◌+◌, ◌-◌, ◌*◌, ◌/◌, ◌^◌, ◌<◌, true, false, Option, Some, None, Result, Err, List, [], ◌∷◌, ◌++◌, length, drop, get_or, refl, sym, ap, subst, arith, append_assoc, append-nil}
 use Rattle.std.proofs.Math.Seq.{drop-cons}
 use Rattle.std.proofs.lemmas.List.{length-map}
 use Rattle.std.specs.Io.KnownBytes.{Keeps}
 use Rattle.std.specs.Prelude.{slice_get}
 use Rattle.std.proofs.KnownBytes.{Keeps-refl, Keeps-trans}
-use Rattle.cap_words.specs.Sinks.{Begins, WasPut}
+use Rattle.cap_words.specs.Sinks.{Begins, StoppedPutting, WasPut}
 use Rattle.cap_words.specs.Ends.{Failures, DeviceFails, GrowthFails, WasSpent}
 use Rattle.cap_words.specs.declared.sinks.WordSink as sink
 use Rattle.cap_words.specs.declared.sinks.SinkFault.{SinkFault}
 use Rattle.cap_words.specs.declared.sinks.SinkFault.TheVariants.{Device, Memory, Spent}
 use Rattle.cap_spec.specs.Frames.{paired, joined, frame_text}
 use Rattle.cap_spec.specs.Messages.{segment_of}
-use Rattle.cap_frame.specs.Numbers.{numbers_of, pair_at}
+use Rattle.cap_spec.specs.Plain.{plain_words}
+use Rattle.cap_frame.specs.Numbers.{numbers_of, pair_at, table_rest}
 use Rattle.cap_frame.specs.Putting.{Puts, Halts, Blames}
+use Rattle.cap_frame.proofs.Cuts.{words_exact}
 
 -- what begins the kept text begins the text
 pub begins_kept : (a b part : Option (List ℕ)) → Keeps a b → Begins b part → Begins a part
@@ -47,21 +49,21 @@ module _ {K : Type 0} (g : sink.Ghosts K) where
   }
   blames_later old mid new Spent s n b = record { spent = sym s ∙ b.spent; still = b.still; none_failed = b.none_failed ∙ n }
 
-  -- the next word
-  pub puts_one : (old new : K) (word : ℕ) → WasPut g.text old new (word ∷ [])
-      → (g.closed old ≡ false) × (g.closed new ≡ false) × (g.spent new ≡ g.spent old) × (g.failures new ≡ g.failures old) → Puts g old new (word ∷ [])
-  puts_one old new word p o = record { put = p; was_open = o.0; is_open = o.1; spent = o.2; none_failed = o.3 }
+  -- the words of one call
+  pub puts_of : (old new : K) (own : List ℕ) → WasPut g.text old new own
+      → (g.closed old ≡ false) × (g.closed new ≡ false) × (g.spent new ≡ g.spent old) × (g.failures new ≡ g.failures old) → Puts g old new own
+  puts_of old new own p o = record { put = p; was_open = o.0; is_open = o.1; spent = o.2; none_failed = o.3 }
 
-  -- a fault at the next word
-  pub halts_one : (old new : K) (word : ℕ) (r : Result (Unit {0}) SinkFault) (fault : SinkFault) → r ≡ Err fault
-      → (g.closed new ≡ true) × ((ws : List ℕ) → Begins (g.text old (word ∷ ws)) (g.taken new))
+  -- a fault at the words of one call
+  pub halts_of : (old new : K) (own : List ℕ) (r : Result (Unit {0}) SinkFault) (fault : SinkFault) → r ≡ Err fault
+      → (g.closed new ≡ true) × StoppedPutting g.text g.taken old new own
       → (r ≡ Err Device → DeviceFails (g.spent old) (g.failures old) (g.failures new))
       → (r ≡ Err Memory → GrowthFails (g.spent old) (g.failures old) (g.failures new))
       → (r ≡ Err Spent → WasSpent (g.spent old) (g.spent new) (g.failures old) (g.failures new) × Keeps (g.taken old) (g.taken new))
-      → Halts g old new (word ∷ []) fault
-  halts_one old new word r Device e h d m s = record { stopped = h.1; closed = h.0; blames = d e }
-  halts_one old new word r Memory e h d m s = record { stopped = h.1; closed = h.0; blames = m e }
-  halts_one old new word r Spent e h d m s = record { stopped = h.1; closed = h.0; blames = (s e).0 }
+      → Halts g old new own fault
+  halts_of old new own r Device e h d m s = record { stopped = h.1; closed = h.0; blames = d e }
+  halts_of old new own r Memory e h d m s = record { stopped = h.1; closed = h.0; blames = m e }
+  halts_of old new own r Spent e h d m s = record { stopped = h.1; closed = h.0; blames = (s e).0 }
 
   -- a fault before other words
   pub halts_before : (old new : K) (b c : List ℕ) (fault : SinkFault) → Halts g old new b fault → Halts g old new (b ++ c) fault
@@ -71,12 +73,12 @@ module _ {K : Type 0} (g : sink.Ghosts K) where
     blames = h.blames;
   }
 
-  -- a fault behind some words, and before others
-  pub halts_within : (old mid new : K) (a b c : List ℕ) (fault : SinkFault) → Puts g old mid a → Halts g mid new b fault → Halts g old new (a ++ (b ++ c)) fault
-  halts_within old mid new a b c fault p h = record {
+  -- a fault behind some words
+  pub halts_behind : (old mid new : K) (a b : List ℕ) (fault : SinkFault) → Puts g old mid a → Halts g mid new b fault → Halts g old new (a ++ b) fault
+  halts_behind old mid new a b fault p h = record {
     stopped = λ ws.
-        let same : a ++ (b ++ (c ++ ws)) ≡ (a ++ (b ++ c)) ++ ws = sym (append_assoc a (b ++ c) ws ∙ ap (λ (xs : List ℕ). a ++ xs) (append_assoc b c ws)) in
-        subst (λ (xs : List ℕ). Begins (g.text old xs) (g.taken new)) same (begins_kept (g.text old (a ++ (b ++ (c ++ ws)))) (g.text mid (b ++ (c ++ ws))) (g.taken new) (p.put (b ++ (c ++ ws))) (h.stopped (c ++ ws)));
+        subst (λ (xs : List ℕ). Begins (g.text old xs) (g.taken new)) (sym (append_assoc a b ws))
+        (begins_kept (g.text old (a ++ (b ++ ws))) (g.text mid (b ++ ws)) (g.taken new) (p.put (b ++ ws)) (h.stopped ws));
     closed = h.closed;
     blames = blames_later old mid new fault p.spent p.none_failed h.blames;
   }
@@ -96,21 +98,29 @@ module _ {K : Type 0} (g : sink.Ghosts K) where
   }
 
   -- the next ones were put
-  pub leaves_less : (old now new : K) (all rest front less : List ℕ) → rest ≡ front ++ less → Leaves old now all rest → Puts g now new front → Leaves old new all less
+  pub leaves_less : (old now new : K) (all rest front less : List ℕ) → rest ≡ front ++ less → Leaves old now all rest → Puts g now new front
+      → Leaves old new all less
   leaves_less old now new all rest front less e l p = record {
     done = l.done ++ front;
     whole = l.whole ∙ (ap (λ (ws : List ℕ). l.done ++ ws) e ∙ sym (append_assoc l.done front less));
     puts = puts_both old now new l.done front l.puts p;
   }
 
+  -- the first ones were put
+  pub starts : (old new : K) (all front less : List ℕ) → all ≡ front ++ less → WasPut g.text old new front
+      → (g.closed old ≡ false) × (g.closed new ≡ false) × (g.spent new ≡ g.spent old) × (g.failures new ≡ g.failures old) → Leaves old new all less
+  starts old new all front less e p o = record { done = front; whole = e; puts = puts_of old new front p o }
+
   -- none is left
   pub leaves_none : (old now : K) (all rest : List ℕ) → rest ≡ [] → Leaves old now all rest → Puts g old now all
   leaves_none old now all rest e l = subst (Puts g old now) (sym (l.whole ∙ (ap (λ (ws : List ℕ). l.done ++ ws) e ∙ append-nil l.done))) l.puts
 
   -- the next ones were refused
-  pub leaves_halts : (old now new : K) (all rest front less : List ℕ) (fault : SinkFault) → rest ≡ front ++ less → Leaves old now all rest → Halts g now new front fault → Halts g old new all fault
+  pub leaves_halts : (old now new : K) (all rest front less : List ℕ) (fault : SinkFault) → rest ≡ front ++ less → Leaves old now all rest
+      → Halts g now new front fault → Halts g old new all fault
   leaves_halts old now new all rest front less fault e l h =
-      subst (λ (ws : List ℕ). Halts g old new ws fault) (sym (l.whole ∙ ap (λ (ws : List ℕ). l.done ++ ws) e)) (halts_within old now new l.done front less fault l.puts h)
+      subst (λ (ws : List ℕ). Halts g old new ws fault) (sym (l.whole ∙ ap (λ (ws : List ℕ). l.done ++ ws) e))
+      (halts_behind old now new l.done (front ++ less) fault l.puts (halts_before now new front less fault h))
 
 -- the pair in front of numbers from k on
 paired_at : (numbers : List ℕ) (k : ℕ) → k < length numbers → paired (drop k numbers) ≡ (get_or numbers k 0 + 2 ^ 32 * get_or numbers (suc k) 0) ∷ paired (drop (suc (suc k)) numbers)
@@ -136,7 +146,7 @@ table_from m w x h e =
     ∙ ap (λ (y : ℕ). y ∷ paired (drop (2 * (w + 1) + 2) (numbers_of m))) (sym e))
 
 -- the first word of a framed message, the rest of its table, and its contents
-pub frame_from : (m : List (List ℕ)) (x : ℕ) → x ≡ pair_at (numbers_of m) 0 → frame_text m ≡ (x ∷ []) ++ (paired (drop 2 (numbers_of m)) ++ joined m)
+pub frame_from : (m : List (List ℕ)) (x : ℕ) → x ≡ pair_at (numbers_of m) 0 → frame_text m ≡ (x ∷ []) ++ (table_rest m ++ joined m)
 frame_from m x e =
     let first : paired (numbers_of m) ≡ pair_at (numbers_of m) 0 ∷ paired (drop 2 (numbers_of m)) = paired_from (numbers_of m) 0 (omega arith) in
     ap (λ (ws : List ℕ). ws ++ joined m) (first ∙ ap (λ (y : ℕ). y ∷ paired (drop 2 (numbers_of m))) (sym e))
@@ -149,6 +159,13 @@ words_at (y ∷ words) (suc w) x e = words_at words w x e
 
 pub words_from : (words : List ℕ) (w x : ℕ) → slice_get words w ≡ Some x → drop w words ≡ (x ∷ []) ++ drop (w + 1) words
 words_from words w x e = let one : suc w ≡ w + 1 = omega arith in words_at words w x e ∙ ap (λ (j : ℕ). x ∷ drop j words) one
+
+-- the table of one segment, whose words are these bytes
+pub segment_frame : (bytes : List ℕ) (x : ℕ) → x ≡ length bytes / 8 * 2 ^ 32 → frame_text (plain_words bytes ∷ []) ≡ (x ∷ []) ++ plain_words bytes
+segment_frame bytes x e =
+    let ws = plain_words bytes in
+    let same : 1 - 1 + 2 ^ 32 * length ws ≡ x = omega (arith, words_exact bytes, e) in
+    ap (λ (n : ℕ). n ∷ (ws ++ [])) same ∙ ap (λ (l : List ℕ). x ∷ l) (append-nil ws)
 
 -- the segment in front of segments from s on
 pub segments_from : (m : List (List ℕ)) (s : ℕ) → s < length m → joined (drop s m) ≡ segment_of m s ++ joined (drop (s + 1) m)

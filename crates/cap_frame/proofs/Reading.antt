@@ -1,7 +1,10 @@
 -- What reading a message says, put together from what its steps say.
-use Rattle.std.proofs.Common.{◌≡◌, ℕ, ◌≤◌, Bool, true, false, Result, Ok, Err, List, sum, IfErr, OnOk, subst, sym}
+use Rattle.std.proofs.Common.{◌≡◌, ℕ, ◌+◌, ◌-◌, ◌^◌, ◌≤◌, Bool, true, false, Option, Some, None, Result, Ok, Err, List, [], ◌∷◌, length, min, sum, IfErr, IfOk, IfSome, OnOk, OnSome, subst, sym}
+use Rattle.std.specs.Io.KnownBytes.{Consumes}
+use Rattle.std.specs.Option.{option_to_list}
 use Rattle.cap_words.specs.declared.sources.WordSource as source
 use Rattle.cap_words.specs.declared.sources.SourceFault.{SourceFault}
+use Rattle.cap_words.specs.declared.sources.SourceFault.TheVariants.{Spent}
 use Rattle.cap_spec.specs.Frames.{joined, sizes_of}
 use Rattle.cap_frame.specs.Reading.{ReadsFrame, ReadsNext, TakesFrame}
 use Rattle.cap_frame.specs.ReadingFaults.{Faults, TakesTable}
@@ -11,7 +14,7 @@ use Rattle.cap_frame.specs.declared.fault.FrameFault.{FrameFault}
 use Rattle.cap_frame.specs.declared.fault.FrameFault.TheVariants.{Memory}
 use Rattle.cap_frame.proofs.Behind.{behind_contents, behind_message}
 use Rattle.cap_frame.proofs.Converse.{decides}
-use Rattle.cap_frame.proofs.Taking.{reads_both, reads_none, usable_both}
+use Rattle.cap_frame.proofs.Taking.{reads_both, reads_none, reads_one, takes_one, usable_both}
 
 module _ {X : Type 0} (g : source.Ghosts X) (limit : ℕ) (old mid new : X) where
   -- two steps without a fault
@@ -38,6 +41,40 @@ module _ {X : Type 0} (g : source.Ghosts X) (limit : ℕ) (old mid new : X) wher
       → IfErr r (Faults g limit old new) → (r ≡ Ok false → ⊥) → ReadsNext g limit old new r
   next_later r n reads works err some =
       next_after r (λ e. absurd (let h = (n.stays e).0 in cc)) (λ e. absurd (let h = (n.for_good e).0 in cc)) n.works n.reads reads works err some
+
+module _ {X : Type 0} (g : source.Ghosts X) where
+  -- The source gave this word, so it has not ended or failed before.
+  pub record Gave (old new : X) (word : ℕ) : Type 0 where
+    pub takes : Takes g old new (word ∷ [])
+    pub usable : IsUsable g old new
+    pub reads : Reads g old new
+    pub going : g.ended old ≡ true → ⊥
+    pub working : g.failed old ≡ true → ⊥
+
+  -- as the clauses of `next` say
+  pub gave : (old new : X) (word : ℕ) (r : Result (Option ℕ) SourceFault) → r ≡ Ok (Some word)
+      → IfOk r (λ o. Consumes (g.words old) (g.words new) (option_to_list o))
+      → IfOk r (λ o. IfSome o (λ _. OnSome (g.words old) ((g.is_cut new ≡ g.is_cut old) × (g.places old ≡ g.place new ∷ g.places new))))
+      → (g.ended old ≡ true → (r ≡ Ok None) × (new ≡ old)) → (g.failed old ≡ true → (r ≡ Err Spent) × (new ≡ old))
+      → (bs : List ℕ) × Consumes (g.unread old) (g.unread new) bs × (g.place new ≡ min (g.place old + length bs) (2 ^ 64 - 1))
+      → OnOk r (IsUsable g old new) → Gave old new word
+  gave old new word (Ok (Some x)) e words places stays good reads ok =
+      let same : x ≡ word = cc in
+      record {
+        takes = takes_one g old new word (subst (λ w. Consumes (g.words old) (g.words new) (w ∷ [])) same words) places;
+        usable = ok;
+        reads = reads_one g old new reads;
+        going = λ h. absurd (let k = (stays h).0 in cc);
+        working = λ h. absurd (let k = (good h).0 in cc);
+      }
+  gave old new word (Ok None) e words places stays good reads ok = absurd (cc)
+  gave old new word (Err fault) e words places stays good reads ok = absurd (cc)
+
+  -- what follows it
+  pub next_first : (limit : ℕ) (old mid new : X) (word : ℕ) (r : Result Bool FrameFault) → Gave old mid word → Reads g mid new
+      → OnOk r (IsUsable g mid new) → IfErr r (Faults g limit old new) → (r ≡ Ok false → ⊥) → ReadsNext g limit old new r
+  next_first limit old mid new word r f reads works err some =
+      next_after g limit old mid new r f.going f.working f.usable f.reads reads works err some
 
 module _ {X : Type 0} (g : source.Ghosts X) (is : List (List ℕ) → Type 0) (limit : ℕ) (old new : X) where
   -- what follows where the words are known

@@ -1,5 +1,5 @@
 -- What contracts see of a framed message at the start of borrowed bytes (profile).
-use Rattle.std.specs.Prelude.{ℕ, ◌+◌, ◌*◌, ◌≡◌, ◌<◌, ◌≤◌, List, [], drop, length, Option, Some, None, Result, Ok, Err}
+use Rattle.std.specs.Prelude.{ℕ, ◌+◌, ◌*◌, ◌≡◌, ◌<◌, ◌≤◌, List, [], drop, length, IsOkAnd, IsSomeAnd, Option, Some, None, Result, Ok, Err}
 use Rattle.cap_spec.specs.Frames.{IsPartial}
 use Rattle.cap_spec.specs.Plain.{plain_words, plain_is_cut}
 use Rattle.cap_frame.specs.Bytes.{cut}
@@ -31,5 +31,20 @@ TellsFront limit bytes (Ok None) = bytes ≡ []
 TellsFront limit bytes (Ok (Some f)) = IsFront limit bytes (framed_segments f) (frame_bytes f)
 TellsFront limit bytes (Err (TooManySegments count)) = TellsMany bytes count
 TellsFront limit bytes (Err (TooLarge words)) = TellsLarge limit bytes words
-TellsFront limit bytes (Err (Truncated wanted)) = IsPartial limit (plain_words bytes) (plain_is_cut bytes) × Wants (plain_words bytes) wanted
-    × (length bytes < wanted) × (wanted ≤ 8 * limit + 2056)
+TellsFront limit bytes (Err (Truncated wanted)) = IsPartial limit (plain_words bytes) (plain_is_cut bytes)
+    × Wants (plain_words bytes) wanted × (length bytes < wanted) × (wanted ≤ 8 * limit + 2056)
+
+-- And the other way round: the bytes decide the result.
+pub record DecidesFront (limit : ℕ) (bytes : List ℕ) (result : Result (Option Framed) FrontFault) : Type 0 where
+  -- A prefix of them frames a message within the limit.
+  pub whole : (m : List (List ℕ)) (n : ℕ) → IsFront limit bytes m n
+      → IsOkAnd result (λ r. IsSomeAnd r (λ f. (framed_segments f ≡ m) × (frame_bytes f ≡ n)))
+  -- There are none.
+  pub empty : bytes ≡ [] → result ≡ Ok None
+  -- The first word gives too many segments.
+  pub many : (count : ℕ) → TellsMany bytes count → result ≡ Err (TooManySegments count)
+  -- The table is whole and past the limit.
+  pub large : (words : ℕ) → TellsLarge limit bytes words → result ≡ Err (TooLarge words)
+  -- They end inside a message.
+  pub cut_short : (wanted : ℕ) → IsPartial limit (plain_words bytes) (plain_is_cut bytes) → Wants (plain_words bytes) wanted
+      → result ≡ Err (Truncated wanted)

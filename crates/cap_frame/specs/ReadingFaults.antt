@@ -54,22 +54,3 @@ module _ {X : Type 0} (g : source.Ghosts X) where
     pub more : List ℕ
     pub takes : Takes g old new more
     pub is_table : IsTable (first ∷ more) sizes
-
-  -- After its first word the source ended inside a message.
-  pub record EndsBehind (limit first : ℕ) (old new : X) (byte : ℕ) : Type 0 where
-    pub partial : IfSome (g.words old) (λ ws. ((cut : Bool) → IsPartial limit (first ∷ ws) cut) × (drop (length ws) (g.places old) ≡ byte ∷ []))
-    pub place : byte ≡ g.place new
-    pub usable : g.spent old ≡ false
-    pub none_failed : g.failures new ≡ g.failures old
-    pub over : (g.ended new ≡ true) ⊎ (g.failed new ≡ true)
-    pub how : OnSome (g.words old) (IsOver g (g.is_cut old) new)
-
-  -- what each fault says where the first word was taken before
-  abbrev pub FaultsBehind : ℕ → ℕ → X → X → FrameFault → Type 0
-  FaultsBehind limit first old new (TooManySegments count) = (count ≡ first % 2 ^ 32 + 1) × (512 < count) × (new ≡ old)
-  FaultsBehind limit first old new (TooLarge words) = ((sizes : List ℕ) × TakesTableBehind first old new sizes × (words ≡ sum sizes) × (limit < words))
-      × IsUsable g old new
-  FaultsBehind limit first old new (Truncated byte) = EndsBehind limit first old new byte
-  FaultsBehind limit first old new Device = Breaks g old new
-  FaultsBehind limit first old new Memory = ((sizes : List ℕ) × TakesTableBehind first old new sizes × (sum sizes ≤ limit)) × IsUsable g old new
-  FaultsBehind limit first old new Spent = Refuses g old new

@@ -1,11 +1,10 @@
 //! Finding a framed message at the start of bytes.
 
-ghost use Rattle.cap_frame.specs.Framed.{TellsFront, frame_bytes, framed_segments};
-ghost use Rattle.cap_frame.specs.Fronts.{IsFront, TellsLarge, TellsMany, Wants, sizes_told, table_words};
+ghost use Rattle.cap_frame.specs.Framed.{DecidesFront, TellsFront};
+ghost use Rattle.cap_frame.specs.Fronts.{sizes_told, table_words};
 ghost use Rattle.cap_frame.specs.Limit.{limit_of};
-ghost use Rattle.cap_spec.specs.Frames.{IsPartial};
-ghost use Rattle.cap_spec.specs.Plain.{plain_is_cut, plain_words};
-ghost use Rattle.std.specs.Prelude.{◌*◌, ◌+◌, ◌<◌, ◌≡◌, ◌≤◌, [], IfOk, IfSome, IsErrOf, IsOkAnd, IsSomeAnd, List, None, length, sum, ℕ};
+ghost use Rattle.cap_spec.specs.Plain.{plain_words};
+ghost use Rattle.std.specs.Prelude.{◌*◌, ◌≡◌, ◌≤◌, length, sum};
 
 use crate::fault::FrontFault;
 use crate::framed::Framed;
@@ -74,28 +73,8 @@ fn read_front(bytes: &[u8], limit: SizeLimit) -> Result<Option<Framed<'_>>, Fron
 /// - [`FrontFault::TooLarge`]: the sizes sum to more words than the limit.
 /// - [`FrontFault::Truncated`]: the contents aren't whole.
 pub fn front_of(bytes: &[u8], limit: SizeLimit) -> Result<Option<Framed<'_>>, FrontFault>
-    // A prefix of the bytes frames the message, within the limit.
-    ensures message { IfOk result (λ r. IfSome r (λ f. IsFront (limit_of limit) bytes.now (framed_segments f) (frame_bytes f))) }
-    ensures none { result ≡ Ok None → bytes.now ≡ [] }
-    ensures too_many { (count : ℕ) → IsErrOf result (FrontFault.TooManySegments count) → TellsMany bytes.now count }
-    ensures too_large { (words : ℕ) → IsErrOf result (FrontFault.TooLarge words) → TellsLarge (limit_of limit) bytes.now words }
-    ensures truncated { (wanted : ℕ) → IsErrOf result (FrontFault.Truncated wanted) →
-        IsPartial (limit_of limit) (plain_words bytes.now) (plain_is_cut bytes.now) × Wants (plain_words bytes.now) wanted }
-    // More bytes are needed than there are, and never more than a frame within the limit has.
-    ensures more { (wanted : ℕ) → IsErrOf result (FrontFault.Truncated wanted) → (length bytes.now < wanted) × (wanted ≤ 8 * limit_of limit + 2056) }
-    // And the other way round. If a prefix of the bytes frames a message within the limit, the
-    // result is that message.
-    ensures whole { (m : List (List ℕ)) (n : ℕ) → IsFront (limit_of limit) bytes.now m n →
-        IsOkAnd result (λ r. IsSomeAnd r (λ f. (framed_segments f ≡ m) × (frame_bytes f ≡ n))) }
-    // There are no bytes.
-    ensures empty { bytes.now ≡ [] → result ≡ Ok None }
-    // The first word gives too many segments.
-    ensures many { (count : ℕ) → TellsMany bytes.now count → result ≡ Err (FrontFault.TooManySegments count) }
-    // The table is whole and past the limit.
-    ensures large { (words : ℕ) → TellsLarge (limit_of limit) bytes.now words → result ≡ Err (FrontFault.TooLarge words) }
-    // The bytes end inside a message.
-    ensures cut_short { (wanted : ℕ) → IsPartial (limit_of limit) (plain_words bytes.now) (plain_is_cut bytes.now) → Wants (plain_words bytes.now) wanted →
-        result ≡ Err (FrontFault.Truncated wanted) }
+    ensures tells { TellsFront (limit_of limit) bytes.now result }
+    ensures decides { DecidesFront (limit_of limit) bytes.now result }
 {
     read_front(bytes, limit)
 }

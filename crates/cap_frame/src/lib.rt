@@ -32,4 +32,4 @@ pub use reader::read_message;
 pub use segment_tables::SegmentTables;
 pub use segments::Segments;
 pub use view::ByteView;
-pub use writer::write_message;
+pub use writer::{write_message, write_segment};

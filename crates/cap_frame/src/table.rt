@@ -2,11 +2,11 @@
 
 ghost use Rattle.arrayvec.specs.ArrayVec.{array_vec_len};
 ghost use Rattle.cap_frame.specs.Reading.{ReadsNext};
-ghost use Rattle.cap_frame.specs.ReadingFaults.{FaultsBehind, TakesTable, TakesTableBehind};
+ghost use Rattle.cap_frame.specs.ReadingFaults.{TakesTable, TakesTableBehind};
 ghost use Rattle.cap_frame.specs.Limit.{limit_of};
 ghost use Rattle.cap_frame.specs.Taking.{IsUsable, Reads, Stops};
 ghost use Rattle.cap_spec.specs.Frames.{halves};
-ghost use Rattle.std.specs.Prelude.{◌%◌, ◌*◌, ◌+◌, ◌++◌, ◌/◌, ◌<◌, ◌^◌, ◌≡◌, ◌≤◌, [], ◌∷◌, IfErr, IsErrOf, OnOk, OnSome, false, length, sum, take, true};
+ghost use Rattle.std.specs.Prelude.{◌%◌, ◌*◌, ◌+◌, ◌++◌, ◌/◌, ◌<◌, ◌^◌, ◌≡◌, ◌≤◌, [], ◌∷◌, IfErr, IsErrOf, OnOk, false, length, sum, take, true};
 
 use crate::fault::{FrameFault, frame_fault};
 use crate::limit::SizeLimit;
@@ -77,39 +77,6 @@ pub(crate) fn total(sizes: &[u32]) -> u64
     sizes.iter().map(|size| u64::from(*size)).sum()
 }
 
-// Reads the rest of a table, after its first word, and checks its numbers.
-#[inline(always)]
-fn read_table<S: WordSource>(
-    source: &mut S,
-    first: u64,
-    limit: SizeLimit,
-    sizes: &mut Sizes,
-) -> Result<(), FrameFault>
-    requires usable { S.spent source.old ≡ false }
-    requires empty { sizes.old.items ≡ [] }
-    ensures ok { OnOk result (TakesTableBehind S.WordSource first source.old source.new sizes.new.items) }
-    ensures within { OnOk result (sum sizes.new.items ≤ limit_of limit) }
-    ensures works { OnOk result (IsUsable S.WordSource source.old source.new) }
-    ensures reads { Reads S.WordSource source.old source.new }
-    ensures err { IfErr result (FaultsBehind S.WordSource (limit_of limit) first source.old source.new) }
-    ensures no_memory { IsErrOf result FrameFault.Memory → ⊥ }
-{
-    let last = low_half(first);
-    if last >= 512 {
-        return Err(FrameFault::TooManySegments {
-            count: u64::from(last) + 1,
-        });
-    }
-    if let Err(fault) = read_sizes(source, first, sizes) {
-        return Err(frame_fault(fault));
-    }
-    let words = total(sizes);
-    if words > limit.words() {
-        return Err(FrameFault::TooLarge { words });
-    }
-    Ok(())
-}
-
 /// Reads the table of the next message. `false` where the stream ends before its first word.
 // Inlined, with what it calls, since a stream may be of many small messages.
 #[inline(always)]
@@ -124,12 +91,23 @@ pub(crate) fn next_table<S: WordSource>(
     ensures next { ReadsNext S.WordSource (limit_of limit) source.old source.new result }
     ensures no_memory { IsErrOf result FrameFault.Memory → ⊥ }
 {
-    match source.next() {
-        Ok(Some(first)) => match read_table(source, first, limit, sizes) {
-            Ok(()) => Ok(true),
-            Err(fault) => Err(fault),
-        },
-        Ok(None) => Ok(false),
-        Err(fault) => Err(frame_fault(fault)),
+    let first = match source.next() {
+        Ok(Some(first)) => first,
+        Ok(None) => return Ok(false),
+        Err(fault) => return Err(frame_fault(fault)),
+    };
+    let last = low_half(first);
+    if last >= 512 {
+        return Err(FrameFault::TooManySegments {
+            count: u64::from(last) + 1,
+        });
     }
+    if let Err(fault) = read_sizes(source, first, sizes) {
+        return Err(frame_fault(fault));
+    }
+    let words = total(sizes);
+    if words > limit.words() {
+        return Err(FrameFault::TooLarge { words });
+    }
+    Ok(true)
 }

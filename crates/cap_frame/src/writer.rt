@@ -1,12 +1,11 @@
 //! Writing messages to a sink of words.
 
-ghost use Rattle.cap_frame.specs.Numbers.{numbers_of, pair_at};
+ghost use Rattle.cap_frame.specs.Numbers.{numbers_of, pair_at, table_rest};
 ghost use Rattle.cap_frame.specs.Putting.{Halts, Puts};
-ghost use Rattle.cap_spec.specs.Frames.{frame_text, joined, paired};
+ghost use Rattle.cap_spec.specs.Frames.{frame_text, joined};
 ghost use Rattle.cap_spec.specs.Messages.{segment_of};
-ghost use Rattle.cap_words.specs.Ends.{DeviceFails, GrowthFails, WasSpent};
-ghost use Rattle.cap_words.specs.Sinks.{StoppedPutting, WasPut};
-ghost use Rattle.std.specs.Prelude.{◌*◌, ◌<◌, ◌≡◌, ◌≤◌, IfErr, IsErrOf, OnErr, OnOk, drop, false, length, slice_index, true};
+ghost use Rattle.cap_spec.specs.Plain.{plain_words};
+ghost use Rattle.std.specs.Prelude.{◌*◌, ◌<◌, ◌^◌, ◌≡◌, ◌≤◌, [], ◌∷◌, IfErr, OnOk, false, length, slice_index, true};
 
 use crate::segments::Segments;
 use cap_words::{SinkFault, WordSink};
@@ -38,8 +37,8 @@ fn table_word<M: Segments>(message: &M, w: u32) -> u64
 // Puts the table after its first word.
 fn put_sizes<K: WordSink, M: Segments>(sink: &mut K, message: &M) -> Result<(), SinkFault>
     requires open { K.closed sink.old ≡ false }
-    ensures ok { OnOk result (Puts K.WordSink sink.old sink.new (paired (drop 2 (numbers_of (M.segments message.now))))) }
-    ensures err { IfErr result (Halts K.WordSink sink.old sink.new (paired (drop 2 (numbers_of (M.segments message.now))))) }
+    ensures ok { OnOk result (Puts K.WordSink sink.old sink.new (table_rest (M.segments message.now))) }
+    ensures err { IfErr result (Halts K.WordSink sink.old sink.new (table_rest (M.segments message.now))) }
 {
     'table: for w in 0..message.count() / 2 {
         if let Err(fault) = sink.put(table_word(message, w + 1)) {
@@ -78,8 +77,15 @@ fn put_contents<K: WordSink, M: Segments>(sink: &mut K, message: &M) -> Result<(
     Ok(())
 }
 
-// Puts a framed message.
-fn put_framed<K: WordSink, M: Segments>(sink: &mut K, message: &M) -> Result<(), SinkFault>
+/// Puts a framed message: the table of its segments' sizes with zero padding, and then the words of
+/// the segments, in order (encoding: Serialization Over a Stream). It doesn't finish the sink, so
+/// that another message may follow.
+///
+/// # Errors
+///
+/// The error of the sink at some word. The sink then returns `Spent` for good, and what its output
+/// took is a beginning of the text.
+pub fn write_message<K: WordSink, M: Segments>(sink: &mut K, message: &M) -> Result<(), SinkFault>
     ensures ok { OnOk result (Puts K.WordSink sink.old sink.new (frame_text (M.segments message.now))) }
     ensures err { IfErr result (Halts K.WordSink sink.old sink.new (frame_text (M.segments message.now))) }
     ensures for_good { K.closed sink.old ≡ true → (result ≡ Err SinkFault.Spent) × (sink.new ≡ sink.old) }
@@ -96,24 +102,25 @@ fn put_framed<K: WordSink, M: Segments>(sink: &mut K, message: &M) -> Result<(),
     Ok(())
 }
 
-/// Puts a framed message: the table of its segments' sizes with zero padding, and then the words of
-/// the segments, in order (encoding: Serialization Over a Stream). It doesn't finish the sink, so
-/// that another message may follow.
+/// Puts the framed message of one segment, whose words these bytes encode: its table, and then all
+/// words in one piece. Ignores less than a word at the end of the bytes. It doesn't finish the sink,
+/// so that another message may follow.
 ///
 /// # Errors
 ///
-/// The error of the sink at some word. The sink then returns `Spent` for good, and what its output
-/// took is a beginning of the text.
-pub fn write_message<K: WordSink, M: Segments>(sink: &mut K, message: &M) -> Result<(), SinkFault>
-    ensures ok { OnOk result (WasPut K.text sink.old sink.new (frame_text (M.segments message.now))) }
-    ensures was_open { OnOk result (K.closed sink.old ≡ false) }
-    ensures works { OnOk result ((K.closed sink.new ≡ K.closed sink.old) × (K.spent sink.new ≡ K.spent sink.old)
-        × (K.failures sink.new ≡ K.failures sink.old)) }
-    ensures err { OnErr result ((K.closed sink.new ≡ true) × StoppedPutting K.text K.taken sink.old sink.new (frame_text (M.segments message.now))) }
+/// Those of [`write_message`].
+pub fn write_segment<K: WordSink>(sink: &mut K, words: &[u8]) -> Result<(), SinkFault>
+    requires { length words.now < 2 ^ 35 }
+    ensures ok { OnOk result (Puts K.WordSink sink.old sink.new (frame_text (plain_words words.now ∷ []))) }
+    ensures err { IfErr result (Halts K.WordSink sink.old sink.new (frame_text (plain_words words.now ∷ []))) }
     ensures for_good { K.closed sink.old ≡ true → (result ≡ Err SinkFault.Spent) × (sink.new ≡ sink.old) }
-    ensures device { IsErrOf result SinkFault.Device → DeviceFails (K.spent sink.old) (K.failures sink.old) (K.failures sink.new) }
-    ensures memory { IsErrOf result SinkFault.Memory → GrowthFails (K.spent sink.old) (K.failures sink.old) (K.failures sink.new) }
-    ensures was_spent { IsErrOf result SinkFault.Spent → WasSpent (K.spent sink.old) (K.spent sink.new) (K.failures sink.old) (K.failures sink.new) }
 {
-    put_framed(sink, message)
+    let table = words.len() as u64 / 8 * 0x1_0000_0000;
+    if let Err(fault) = sink.put(table) {
+        return Err(fault);
+    }
+    if let Err(fault) = sink.put_bytes(words) {
+        return Err(fault);
+    }
+    Ok(())
 }

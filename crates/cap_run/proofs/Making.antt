@@ -7,11 +7,9 @@ use Rattle.std.proofs.lemmas.Grind.{flat_map-append}
 use Rattle.cap_spec.specs.Frames.{frame_text}
 use Rattle.cap_spec.specs.Paths.{IsFirstCap}
 use Rattle.cap_spec.proofs.Bytes.Lists.{all_append}
-use Rattle.cap_words.specs.Ends.{DeviceFails, GrowthFails, WasSpent}
-use Rattle.cap_words.specs.Sinks.{Begins, StoppedPutting, sink_fault_of}
+use Rattle.cap_words.specs.Sinks.{Begins, sink_fault_of}
 use Rattle.cap_words.specs.declared.ends.OutFault.{OutFault}
 use Rattle.cap_words.specs.declared.sinks.SinkFault.{SinkFault}
-use Rattle.cap_words.specs.declared.sinks.SinkFault.TheVariants.{Device, Memory as sink_memory, Spent}
 use Rattle.cap_words.specs.declared.sinks.WordSink as sink
 use Rattle.cap_words.specs.declared.sources.WordSource as source
 use Rattle.cap_frame.specs.Putting.{Blames, Halts}
@@ -35,16 +33,6 @@ has_no_copy m r (HasCapability s w) e cap memory = cap s w e
 has_no_copy m r Memory e cap memory = memory e
 
 module _ {K : Type 0} (gk : sink.Ghosts K) where
-  -- a fault came as a message was put
-  pub halts_of : (old new : K) (own : List ℕ) (r : Result (Unit {0}) SinkFault) (fault : SinkFault) → r ≡ Err fault → (gk.closed new ≡ true) × StoppedPutting gk.text gk.taken old new own
-      → (IsErrOf r Device → DeviceFails (gk.spent old) (gk.failures old) (gk.failures new))
-      → (IsErrOf r sink_memory → GrowthFails (gk.spent old) (gk.failures old) (gk.failures new))
-      → (IsErrOf r Spent → WasSpent (gk.spent old) (gk.spent new) (gk.failures old) (gk.failures new) × Keeps (gk.taken old) (gk.taken new))
-      → Halts gk old new own fault
-  halts_of old new own r Device e h d m s = record { stopped = h.1; closed = h.0; blames = d e }
-  halts_of old new own r sink_memory e h d m s = record { stopped = h.1; closed = h.0; blames = m e }
-  halts_of old new own r Spent e h d m s = record { stopped = h.1; closed = h.0; blames = (s e).0 }
-
   -- a fault came behind other words
   pub halts_behind : (old mid new : K) (a b : List ℕ) (fault : SinkFault) → Fills gk old mid a → Halts gk mid new b fault → Halts gk old new (a ++ b) fault
   halts_behind old mid new a b fault f h = record {

@@ -1,31 +1,12 @@
--- What is said behind the first word, seen from before it.
-use Rattle.std.proofs.Common.{Ok, Err, true, refl, rules, arith}
+-- What is said after the first word, seen from before it.
+use Rattle.std.proofs.Common.{◌∙◌, Ok, Err, true, refl, rules, arith, subst, sym}
 use Rattle.std.proofs.lemmas.Grind.{common_steps}
 use Rattle.cap_frame.specs.Limit.{limit_of}
-use Rattle.cap_frame.proofs.Before.{faults_before}
-use Rattle.cap_frame.proofs.Reading.{next_after}
-use Rattle.cap_frame.proofs.Taking.{reads_one, takes_one}
+use Rattle.cap_frame.specs.ReadingFaults.{Faults}
+use Rattle.cap_frame.proofs.Behind.{behind_first, table_whole}
+use Rattle.cap_frame.proofs.Reading.{gave, next_first}
+use Rattle.cap_frame.proofs.Taking.{reads_none, reads_one, usable_both}
 use Rattle.cap_frame.proofs.table.next_table.Goals as goal
-
-pub returns-in-Ok-clause-next : goal.returns-in-Ok-clause-next
-returns-in-Ok-clause-next g c =
-    let e = c.in-Ok-Some.ensures in
-    next_after g.S.WordSource (limit_of c.args.limit) c.args.source.now c.next.new.self c.read_table.new.source (Ok true)
-    (λ h. absurd (let k = (e.stays h).0 in cc)) (λ h. absurd (let k = (e.for_good h).0 in cc)) e.ok
-    (reads_one g.S.WordSource c.args.source.now c.next.new.self c.next.ensures.reads) c.read_table.ensures.reads c.in-Ok.ensures.works tt (λ h. absurd (cc))
-
-pub returns-in-Err-read_table-clause-next : goal.returns-in-Err-read_table-clause-next
-returns-in-Err-read_table-clause-next g c =
-    let e = c.in-Ok-Some.ensures in
-    let words = rw c.in-Ok-Some.field-0-is at e.words in
-    let word = rw c.in-Ok-Some.field-0-is at e.word in
-    let first = takes_one g.S.WordSource c.args.source.now c.next.new.self c.in-Ok-Some.first words word in
-    let faults =
-    faults_before g.S.WordSource (limit_of c.args.limit) c.in-Ok-Some.first c.args.source.now c.next.new.self c.read_table.new.source _ first e.ok
-    c.in-Err-read_table.ensures.err in
-    next_after g.S.WordSource (limit_of c.args.limit) c.args.source.now c.next.new.self c.read_table.new.source (Err c.in-Err-read_table.fault)
-    (λ h. absurd (let k = (e.stays h).0 in cc)) (λ h. absurd (let k = (e.for_good h).0 in cc)) e.ok
-    (reads_one g.S.WordSource c.args.source.now c.next.new.self c.next.ensures.reads) c.read_table.ensures.reads tt faults (λ h. absurd (cc))
 
 pub returns-in-Ok-None-clause-next : goal.returns-in-Ok-None-clause-next
 returns-in-Ok-None-clause-next g c =
@@ -52,3 +33,59 @@ returns-in-Err-clause-next g c = record {
   reads = reads_one g.S.WordSource c.args.source.now c.next.new.self c.next.ensures.reads;
   err = grind (arith, common_steps);
 }
+
+pub returns-then-last-ge512-clause-next : goal.returns-then-last-ge512-clause-next
+returns-then-last-ge512-clause-next g c =
+    let e = c.next.ensures in
+    let old = c.args.source.now in
+    let mid = c.next.new.self in
+    let first = c.in-Ok-Some.first in
+    let f = gave g.S.WordSource old mid first c.next.result (cc) e.words e.word e.stays e.for_good e.reads e.ok in
+    next_first g.S.WordSource (limit_of c.args.limit) old mid mid first (Err _) f (reads_none g.S.WordSource mid) tt
+    (record { first = first; takes = f.takes; count_is = omega arith; many = omega arith }, f.usable) (λ h. absurd (cc))
+
+pub returns-in-Err-read_sizes-clause-next : goal.returns-in-Err-read_sizes-clause-next
+returns-in-Err-read_sizes-clause-next g c =
+    let e = c.next.ensures in
+    let old = c.args.source.now in
+    let mid = c.next.new.self in
+    let first = c.in-Ok-Some.first in
+    let f = gave g.S.WordSource old mid first c.next.result (cc) e.words e.word e.stays e.for_good e.reads e.ok in
+    let new = c.read_sizes.new.source in
+    let faults = behind_first g.S.WordSource (limit_of c.args.limit) first old mid new _ (omega arith) f.takes f.usable c.in-Err-read_sizes.ensures.err in
+    next_first g.S.WordSource (limit_of c.args.limit) old mid new first (Err _) f c.read_sizes.ensures.reads tt
+    (subst (Faults g.S.WordSource (limit_of c.args.limit) old new) (sym c.frame_fault.ensures) faults) (λ h. absurd (cc))
+
+pub returns-then-words-clause-next : goal.returns-then-words-clause-next
+returns-then-words-clause-next g c =
+    let e = c.next.ensures in
+    let old = c.args.source.now in
+    let mid = c.next.new.self in
+    let first = c.in-Ok-Some.first in
+    let f = gave g.S.WordSource old mid first c.next.result (cc) e.words e.word e.stays e.for_good e.reads e.ok in
+    let new = c.read_sizes.new.source in
+    let sizes = c.read_sizes.new.sizes.items in
+    let read = c.in_default.ensures in
+    let table = table_whole g.S.WordSource first old mid new sizes f.takes read.ok in
+    next_first g.S.WordSource (limit_of c.args.limit) old mid new first (Err _) f c.read_sizes.ensures.reads tt
+    ((sizes, table, c.total-words.ensures ∙ rw c.deref.ensures.0 refl, omega arith), usable_both g.S.WordSource old mid new f.usable read.works)
+    (λ h. absurd (cc))
+
+pub returns-clause-next : goal.returns-clause-next
+returns-clause-next g c =
+    let e = c.next.ensures in
+    let old = c.args.source.now in
+    let mid = c.next.new.self in
+    let first = c.in-Ok-Some.first in
+    let f = gave g.S.WordSource old mid first c.next.result (cc) e.words e.word e.stays e.for_good e.reads e.ok in
+    next_first g.S.WordSource (limit_of c.args.limit) old mid c.read_sizes.new.source first (Ok true) f c.read_sizes.ensures.reads c.in_default.ensures.works
+    tt (λ h. absurd (cc))
+
+pub returns-clause-table : goal.returns-clause-table
+returns-clause-table g c = λ _.
+    let e = c.next.ensures in
+    let old = c.args.source.now in
+    let mid = c.next.new.self in
+    let first = c.in-Ok-Some.first in
+    let f = gave g.S.WordSource old mid first c.next.result (cc) e.words e.word e.stays e.for_good e.reads e.ok in
+    table_whole g.S.WordSource first old mid c.read_sizes.new.source c.read_sizes.new.sizes.items f.takes c.in_default.ensures.ok

@@ -1,11 +1,11 @@
 use Rattle.std.proofs.Common.{[], ◌∷◌, ◌*◌, ◌/◌, List, ℕ, length, subst, sym, arith}
 use Rattle.cap_spec.specs.Plain.{plain_words}
 use Rattle.cap_frame.specs.Putting.{Halts}
-use Rattle.cap_frame.proofs.Putting.{halts_before, halts_one}
+use Rattle.cap_frame.proofs.Putting.{halts_before, halts_of}
 use Rattle.cap_run.specs.Copying.{Fills}
 use Rattle.cap_run.proofs.Copying.{fills_both}
 use Rattle.cap_run.proofs.Handing.{fills_of, frame_of_bytes}
-use Rattle.cap_run.proofs.Making.{halts_behind, halts_of}
+use Rattle.cap_run.proofs.Making.{halts_behind}
 use Rattle.cap_run.proofs.engines.canon.put_framed.Goals as goal
 
 pub returns-in-Err-clause-err : goal.returns-in-Err-clause-err
@@ -13,7 +13,7 @@ returns-in-Err-clause-err g c =
     let whole = frame_of_bytes c.args.copy.now (length c.args.copy.now / 8 * 4294967296) (omega arith) in
     subst (λ (ws : List ℕ). Halts g.K.WordSink c.args.sink.now c.put.new.self ws c.in-Err.fault) (sym whole)
     (halts_before g.K.WordSink c.args.sink.now c.put.new.self _ (plain_words c.args.copy.now) c.in-Err.fault
-    (halts_one g.K.WordSink c.args.sink.now c.put.new.self _ c.put.result c.in-Err.fault c.in-Err.is c.in-Err.ensures.err c.put.ensures.device c.put.ensures.memory c.put.ensures.was_spent))
+    (halts_of g.K.WordSink c.args.sink.now c.put.new.self (length c.args.copy.now / 8 * 4294967296 ∷ []) c.put.result c.in-Err.fault c.in-Err.is c.in-Err.ensures.err c.put.ensures.device c.put.ensures.memory c.put.ensures.was_spent))
 
 pub returns-in-Err-put_bytes-clause-err : goal.returns-in-Err-put_bytes-clause-err
 returns-in-Err-put_bytes-clause-err g c =

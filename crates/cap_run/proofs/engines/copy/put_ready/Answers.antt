@@ -4,7 +4,7 @@ use Rattle.cap_frame.specs.Putting.{Halts}
 use Rattle.cap_run.specs.PuttingEnds.{Copies}
 use Rattle.cap_run.proofs.Handed.{copies_start, gives_ready, words_in}
 use Rattle.cap_run.proofs.Handing.{fills_of}
-use Rattle.cap_run.proofs.Making.{halts_of}
+use Rattle.cap_frame.proofs.Putting.{halts_of}
 use Rattle.cap_run.proofs.engines.copy.put_ready.Goals as goal
 
 pub returns-then-count-eq0-clause-ok : goal.returns-then-count-eq0-clause-ok

@@ -1,0 +1,49 @@
+-- The first word, the rest of the table, and the contents.
+use Rattle.std.proofs.Common.{sym, subst, refl, append-nil, List, ℕ, [], ◌∷◌, ◌++◌}
+use Rattle.cap_spec.specs.Frames.{joined, frame_text}
+use Rattle.cap_frame.specs.Numbers.{table_rest}
+use Rattle.cap_frame.specs.Putting.{Halts}
+use Rattle.cap_frame.proofs.Putting.{frame_from, halts_before, halts_of, leaves_halts, leaves_less, leaves_none, starts}
+use Rattle.cap_frame.proofs.writer.write_message.Goals as goal
+
+pub returns-in-Err-clause-err : goal.returns-in-Err-clause-err
+returns-in-Err-clause-err g c =
+    let m = g.M.Segments.segments c.args.message.now in
+    let first = c.table_word.result ∷ [] in
+    let halts =
+    halts_of g.K.WordSink c.args.sink.now c.put.new.self first c.put.result c.in-Err.fault c.in-Err.is c.in-Err.ensures.err c.put.ensures.device
+    c.put.ensures.memory c.put.ensures.was_spent in
+    subst (λ (ws : List ℕ). Halts g.K.WordSink c.args.sink.now c.put.new.self ws c.in-Err.fault) (sym (frame_from m c.table_word.result c.table_word.ensures))
+    (halts_before g.K.WordSink c.args.sink.now c.put.new.self first (table_rest m ++ joined m) c.in-Err.fault halts)
+
+pub returns-in-Err-put_sizes-clause-err : goal.returns-in-Err-put_sizes-clause-err
+returns-in-Err-put_sizes-clause-err g c =
+    let m = g.M.Segments.segments c.args.message.now in
+    let whole = frame_from m c.table_word.result c.table_word.ensures in
+    let first = starts g.K.WordSink c.args.sink.now c.put.new.self (frame_text m) _ _ whole c.in_default.ensures.put c.in_default.ensures.ok in
+    leaves_halts g.K.WordSink c.args.sink.now c.put.new.self c.put_sizes.new.sink (frame_text m) _ (table_rest m) (joined m) c.in-Err-put_sizes.fault refl
+    first c.in-Err-put_sizes.ensures.err
+
+pub returns-in-Err-put_contents-clause-err : goal.returns-in-Err-put_contents-clause-err
+returns-in-Err-put_contents-clause-err g c =
+    let m = g.M.Segments.segments c.args.message.now in
+    let whole = frame_from m c.table_word.result c.table_word.ensures in
+    let first = starts g.K.WordSink c.args.sink.now c.put.new.self (frame_text m) _ _ whole c.in_default.ensures.put c.in_default.ensures.ok in
+    let table =
+    leaves_less g.K.WordSink c.args.sink.now c.put.new.self c.put_sizes.new.sink (frame_text m) _ (table_rest m) (joined m) refl first
+    c.in_default-put_sizes.ensures.ok in
+    leaves_halts g.K.WordSink c.args.sink.now c.put_sizes.new.sink c.put_contents.new.sink (frame_text m) _ (joined m) [] c.in-Err-put_contents.fault
+    (sym (append-nil (joined m))) table c.in-Err-put_contents.ensures.err
+
+pub returns-clause-ok : goal.returns-clause-ok
+returns-clause-ok g c =
+    let m = g.M.Segments.segments c.args.message.now in
+    let whole = frame_from m c.table_word.result c.table_word.ensures in
+    let first = starts g.K.WordSink c.args.sink.now c.put.new.self (frame_text m) _ _ whole c.in_default.ensures.put c.in_default.ensures.ok in
+    let table =
+    leaves_less g.K.WordSink c.args.sink.now c.put.new.self c.put_sizes.new.sink (frame_text m) _ (table_rest m) (joined m) refl first
+    c.in_default-put_sizes.ensures.ok in
+    let contents =
+    leaves_less g.K.WordSink c.args.sink.now c.put_sizes.new.sink c.put_contents.new.sink (frame_text m) _ (joined m) [] (sym (append-nil (joined m))) table
+    c.in_default-put_contents.ensures.ok in
+    leaves_none g.K.WordSink c.args.sink.now c.put_contents.new.sink (frame_text m) [] refl contents
