@@ -9,8 +9,7 @@ use Rattle.cap_words.specs.declared.sources.SourceFault.TheVariants.{Truncated, 
 use Rattle.cap_spec.specs.Messages.{IsMessage}
 use Rattle.cap_spec.specs.Frames.{joined, sizes_of, IsTable, Frames, IsPartial, in_table, in_contents}
 use Rattle.cap_frame.specs.Taking.{Takes, IsUsable, Stops}
-use Rattle.cap_frame.specs.ReadingFaults.{TakesTable, TakesTableBehind, Faults}
-use Rattle.cap_frame.specs.SourceFaults.{frame_fault_of}
+use Rattle.cap_frame.specs.ReadingFaults.{TakesTable, Faults, frame_fault_of}
 use Rattle.cap_frame.proofs.Taking.{takes_both, breaks_later, stops_later}
 
 -- where fewer words are left than the table needs, they are a part of a frame
@@ -41,7 +40,7 @@ module _ {X : Type 0} (g : source.Ghosts X) where
       let n = (first % 2 ^ 32 + 1) / 2 in
       let later = stops_later g old mid new (first ∷ []) n (Truncated byte) t u s in
       record {
-        partial = partial_table (g.words old) (g.words mid) limit first (1 + n) byte (g.places old) (g.places mid) (g.is_cut old) few t.words s.short later.short;
+        short = partial_table (g.words old) (g.words mid) limit first (1 + n) byte (g.places old) (g.places mid) (g.is_cut old) few t.words s.short later.short;
         place = s.place;
         usable = later.usable;
         none_failed = later.none_failed;
@@ -52,13 +51,10 @@ module _ {X : Type 0} (g : source.Ghosts X) where
   behind_first limit first old mid new Spent few t u s = stops_later g old mid new (first ∷ []) ((first % 2 ^ 32 + 1) / 2) Spent t u s
 
   -- the table, with its first word
-  pub table_whole : (first : ℕ) (old mid new : X) (sizes : List ℕ) → Takes g old mid (first ∷ []) → TakesTableBehind g first mid new sizes
-      → TakesTable g old new sizes
-  table_whole first old mid new sizes t b = record {
-    table = first ∷ b.more;
-    takes = takes_both g old mid new (first ∷ []) b.more t b.takes;
-    is_table = b.is_table;
-  }
+  pub table_whole : (first : ℕ) (old mid new : X) (sizes : List ℕ) → Takes g old mid (first ∷ [])
+      → (more : List ℕ) × Takes g mid new more × IsTable (first ∷ more) sizes → TakesTable g old new sizes
+  table_whole first old mid new sizes t b =
+      record { table = first ∷ b.0; takes = takes_both g old mid new (first ∷ []) b.0 t b.1; is_table = b.2 }
 
   -- the source stopped inside the contents behind a table
   pub behind_contents : (limit : ℕ) (old mid new : X) (sizes : List ℕ) (fault : SourceFault) → TakesTable g old mid sizes → IsUsable g old mid → sum sizes ≤ limit
@@ -66,7 +62,7 @@ module _ {X : Type 0} (g : source.Ghosts X) where
   behind_contents limit old mid new sizes (Truncated byte) t u l s =
       let later = stops_later g old mid new t.table (sum sizes) (Truncated byte) t.takes u s in
       record {
-        partial = partial_contents (g.words old) (g.words mid) limit (length t.table + sum sizes) byte t.table sizes (g.places old) (g.places mid) (g.is_cut old) t.is_table l t.takes.words s.short later.short;
+        short = partial_contents (g.words old) (g.words mid) limit (length t.table + sum sizes) byte t.table sizes (g.places old) (g.places mid) (g.is_cut old) t.is_table l t.takes.words s.short later.short;
         place = s.place;
         usable = later.usable;
         none_failed = later.none_failed;

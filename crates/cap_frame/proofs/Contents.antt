@@ -3,7 +3,6 @@ use Rattle.std.proofs.Common.{◌≡◌, ◌∙◌, ℕ, ◌+◌, ◌<◌, ◌�
 use Rattle.std.proofs.Math.ListN.{set}
 use Rattle.std.proofs.Math.Seq.{drop-cons}
 use Rattle.std.proofs.lemmas.List.{take_more, map-append, take_more_set, drop-set-lt, length-set, take_all}
-use Rattle.std.proofs.lemmas.List.Sums.{sum_by-append, sum_by-take-le}
 use Rattle.std.proofs.lemmas.Grind.{flat_map-append}
 use Rattle.cap_words.specs.declared.sources.WordSource as source
 use Rattle.cap_words.specs.declared.sources.SourceFault.{SourceFault}
@@ -11,6 +10,7 @@ use Rattle.cap_spec.specs.Frames.{joined, sizes_of}
 use Rattle.cap_spec.proofs.Frames.Endings.{length_joined}
 use Rattle.cap_frame.specs.Taking.{Takes, Reads, IsUsable, Stops}
 use Rattle.cap_frame.specs.Rooms.{AreRooms}
+use Rattle.cap_frame.proofs.Cuts.{front_sum}
 use Rattle.cap_frame.proofs.Taking.{takes_none, takes_both, reads_none, reads_both, usable_both, stops_later, stops_weaker}
 
 -- as many rooms as sizes
@@ -27,14 +27,6 @@ rooms_more f room [] [] v n e h r = ((e, h), tt)
 rooms_more f room [] (m ∷ ns) v n e h r = absurd r
 rooms_more f room (w ∷ vs) [] v n e h r = absurd r
 rooms_more f room (w ∷ vs) (m ∷ ns) v n e h r = (r.0, rooms_more f room vs ns v n e h r.1)
-
--- the first numbers and the next one sum to no more than all
-pub sum_front : (ns : List ℕ) (s n : ℕ) → s < length ns → n ≡ get_or ns s 0 → sum (take s ns) + n ≤ sum ns
-sum_front ns s n h d =
-    let front : take (s + 1) ns ≡ take s ns ++ get_or ns s 0 ∷ [] = take_more ns s 0 h in
-    let whole : sum (take (s + 1) ns) ≡ sum (take s ns) + sum (get_or ns s 0 ∷ []) = ap sum front ∙ sum_by-append (λ x. x) (take s ns) (get_or ns s 0 ∷ []) in
-    let one : sum (get_or ns s 0 ∷ []) ≡ get_or ns s 0 = zero-add (get_or ns s 0) in
-    omega (arith, sum_by-take-le (λ x. x) ns (s + 1))
 
 -- the room at s, and those behind it
 pub rooms_from : {V : Type 0} (f : V → List ℕ) (room : V → ℕ) (s : ℕ) (vs : List V) (ns : List ℕ) (v : V) → s < length vs → s < length ns
@@ -131,7 +123,7 @@ module _ {X : Type 0} (g : source.Ghosts X) where
         → SegmentsSoFar old now s segments sizes → Stops g n now new fault → Stops g (sum sizes) old new fault
     segments_stop old now new s segments sizes n fault h d t stops =
         let words : length (joined (map f (take s segments))) ≡ sum (take s sizes) = length_joined (map f (take s segments)) ∙ ap sum t.sizes_are in
-        let enough : length (joined (map f (take s segments))) + n ≤ sum sizes = omega (arith, words, sum_front sizes s n h d) in
+        let enough : length (joined (map f (take s segments))) + n ≤ sum sizes = omega (arith, words, front_sum sizes s h, d) in
         stops_weaker g old new (length (joined (map f (take s segments))) + n) (sum sizes) fault enough (stops_later g old now new (joined (map f (take s segments))) n fault t.takes t.usable stops)
 
     -- all were read

@@ -138,7 +138,7 @@ module _ {X : Type 0} (g : source.Ghosts X) (is : List (List ℕ) → Type 0) (l
       let c = left_of ws t.table e t.takes in
       (record { table = t.table; rest = c.0; sizes = h.0.0; whole = c.2; is_table = t.is_table; past = omega (arith, h.0.2, h.0.3) }, c.1, h.0.2)
   tells_fault (Truncated byte) ws e h =
-      subst (λ (o : Option (List ℕ)). IfSome o (λ xs. IsPartial limit xs (g.is_cut old) × (drop (length xs) (g.places old) ≡ byte ∷ []))) e h.partial
+      subst (λ (o : Option (List ℕ)). IfSome o (λ xs. IsPartial limit xs (g.is_cut old) × (drop (length xs) (g.places old) ≡ byte ∷ []))) e h.short
   tells_fault Device ws e h = tt
   tells_fault Memory ws e h = tt
   tells_fault Spent ws e h = tt
@@ -165,15 +165,9 @@ module _ {X : Type 0} (g : source.Ghosts X) (is : List (List ℕ) → Type 0) (l
       let places = g.places old in
       let left = g.words new in
       record {
-        whole = λ own rest m e f w.
-            let b : BeginsMessage limit (own ++ rest) = record { own = own; rest = rest; message = m; whole = refl; frames = f; within = w } in
-            whole_answer is limit (own ++ rest) cut places left r b (tells r (own ++ rest) e s n);
+        whole = λ ws e b. whole_answer is limit ws cut places left r b (tells r ws e s n);
         no_word = λ e c. none_answer is limit [] cut places left r (refl, c) (tells r [] e s n);
-        many = λ first rest e p.
-            let b : TellsTooMany (first ∷ rest) = record { first = first; rest = rest; whole = refl; many = p } in
-            many_answer is limit (first ∷ rest) cut places left r b (tells r (first ∷ rest) e s n);
-        large = λ table rest sizes e t p.
-            let b : TellsTooMuch limit (table ++ rest) = record { table = table; rest = rest; sizes = sizes; whole = refl; is_table = t; past = p } in
-            large_answer is limit (table ++ rest) cut places left r b (tells r (table ++ rest) e s n);
-        cut_short = λ words e p. partial_answer is limit words cut places left r p (tells r words e s n);
+        many = λ ws e b. many_answer is limit ws cut places left r b (tells r ws e s n);
+        large = λ ws e b. large_answer is limit ws cut places left r b (tells r ws e s n);
+        cut_short = λ ws e b. partial_answer is limit ws cut places left r b (tells r ws e s n);
       }

@@ -1,8 +1,8 @@
 -- Words of segments whose bytes stand one behind the other.
-use Rattle.std.proofs.Common.{◌≡◌, ℕ, zero, suc, ◌+◌, ◌-◌, ◌*◌, ◌/◌, ◌^◌, ◌<◌, ◌≤◌, List, [], ◌∷◌, length, drop, take, sum, get_or, refl, sym, ap, ◌∙◌, subst, arith, Some, slice_get}
+use Rattle.std.proofs.Common.{◌≡◌, ℕ, zero, suc, ◌+◌, ◌-◌, ◌*◌, ◌/◌, ◌^◌, ◌<◌, ◌≤◌, List, [], ◌∷◌, length, drop, take, sum, get_or, refl, sym, ap, ◌∙◌, subst, arith, zero-add, Some, slice_get}
 use Rattle.std.specs.List.{All}
-use Rattle.std.proofs.lemmas.List.{drop-drop, drop-take, get_or_default, length-drop, length-take-le, get_or-take}
-use Rattle.std.proofs.lemmas.List.Sums.{sum_by-cons}
+use Rattle.std.proofs.lemmas.List.{drop-drop, drop-take, get_or_default, length-drop, length-take-le, get_or-take, take_more}
+use Rattle.std.proofs.lemmas.List.Sums.{sum_by-append, sum_by-cons, sum_by-take-le}
 use Rattle.byteorder.specs.Endian.{little_from, little_number}
 use Rattle.cap_spec.specs.Messages.{IsMessage}
 use Rattle.cap_frame.specs.Bytes.{cut, starts_of}
@@ -90,13 +90,11 @@ cut_at (n ∷ ns) bs (suc s) l =
 
 -- the first numbers and the next one sum to no more than all
 pub front_sum : (ns : List ℕ) (s : ℕ) → s < length ns → sum (take s ns) + get_or ns s 0 ≤ sum ns
-front_sum [] s l = absurd (omega arith)
-front_sum (n ∷ ns) zero l = let k : sum (n ∷ ns) ≡ n + sum ns = sum_by-cons (λ x. x) n ns in let e : 0 + n ≤ sum (n ∷ ns) = omega (arith, k) in e
-front_sum (n ∷ ns) (suc s) l =
-    let t : sum (take s ns) + get_or ns s 0 ≤ sum ns = front_sum ns s (omega arith) in
-    let k : sum (n ∷ ns) ≡ n + sum ns = sum_by-cons (λ x. x) n ns in
-    let j : sum (n ∷ take s ns) ≡ n + sum (take s ns) = sum_by-cons (λ x. x) n (take s ns) in
-    let e : sum (n ∷ take s ns) + get_or ns s 0 ≤ sum (n ∷ ns) = omega (arith, k, j, t) in e
+front_sum ns s h =
+    let whole : sum (take (s + 1) ns) ≡ sum (take s ns) + sum (get_or ns s 0 ∷ []) =
+    ap sum (take_more ns s 0 h) ∙ sum_by-append (λ x. x) (take s ns) (get_or ns s 0 ∷ []) in
+    let one : sum (get_or ns s 0 ∷ []) ≡ get_or ns s 0 = zero-add (get_or ns s 0) in
+    omega (arith, sum_by-take-le (λ x. x) ns (s + 1))
 
 -- how long it is
 pub cut_words : (ns bs : List ℕ) (s : ℕ) → s < length ns → 8 * sum ns ≤ length bs → length (get_or (cut ns bs) s []) ≡ get_or ns s 0

@@ -1,6 +1,6 @@
 -- What holds of the bytes decides what is found at their start.
 use Rattle.std.proofs.Common.{◌≡◌, ◌∙◌, ℕ, ◌+◌, ◌*◌, ◌%◌, ◌^◌, false, Option, Some, None, Result, Ok, Err, List, [], length, sum, IsOkAnd, IsSomeAnd, refl, sym, ap, arith}
-use Rattle.cap_spec.specs.Endings.{BeginsMessage, EndsIn, Ending, TellsTooMany, TellsTooMuch, message, none, partial, too_large, too_many}
+use Rattle.cap_spec.specs.Endings.{BeginsMessage, EndsIn, Ending, message, none, partial, too_large, too_many}
 use Rattle.cap_spec.specs.Frames.{IsPartial}
 use Rattle.cap_spec.specs.Plain.{plain_words, plain_is_cut}
 use Rattle.cap_spec.proofs.Frames.Framing.{one_frame, same_table}
@@ -36,19 +36,6 @@ module _ (limit : ℕ) (bs : List ℕ) where
   ends : bs ≡ [] → (plain_words bs ≡ []) × (plain_is_cut bs ≡ false)
   ends e = (ap plain_words e, ap plain_is_cut e)
 
-  has_many : (count : ℕ) → TellsMany bs count → TellsTooMany (plain_words bs)
-  has_many count t = record { first = t.first; rest = t.rest; whole = t.words; many = omega (arith, t.count_is, t.many) }
-
-  has_much : (words : ℕ) → TellsLarge limit bs words → TellsTooMuch limit (plain_words bs)
-  has_much words t = record {
-    table = t.table;
-    rest = t.rest;
-    sizes = t.sizes;
-    whole = t.words;
-    is_table = t.is_table;
-    past = omega (arith, t.total_is, t.past);
-  }
-
   abbrev ending_of : Result (Option Framed) FrontFault → Ending
   ending_of (Ok (Some f)) = message
   ending_of (Ok None) = none
@@ -59,8 +46,8 @@ module _ (limit : ℕ) (bs : List ℕ) where
   told : (r : Result (Option Framed) FrontFault) → TellsFront limit bs r → EndsIn limit (plain_words bs) (plain_is_cut bs) (ending_of r)
   told (Ok (Some f)) t = begins (framed_segments f) (frame_bytes f) t
   told (Ok None) t = ends t
-  told (Err (TooManySegments count)) t = has_many count t
-  told (Err (TooLarge words)) t = has_much words t
+  told (Err (TooManySegments count)) t = t.0
+  told (Err (TooLarge words)) t = t.0
   told (Err (Truncated wanted)) t = t.0
 
   -- no other one holds of the words
@@ -88,24 +75,24 @@ module _ (limit : ℕ) (bs : List ℕ) where
 
   -- where the first word gives too many segments, that is the result
   pub many_answer : (r : Result (Option Framed) FrontFault) (count : ℕ) → TellsMany bs count → TellsFront limit bs r → r ≡ Err (TooManySegments count)
-  many_answer (Ok (Some f)) count w t = absurd (let e = only (Ok (Some f)) too_many (has_many count w) t in cc)
-  many_answer (Ok None) count w t = absurd (let e = only (Ok None) too_many (has_many count w) t in cc)
+  many_answer (Ok (Some f)) count w t = absurd (let e = only (Ok (Some f)) too_many w.0 t in cc)
+  many_answer (Ok None) count w t = absurd (let e = only (Ok None) too_many w.0 t in cc)
   many_answer (Err (TooManySegments other)) count w t =
-      let same : t.first ≡ w.first = (let h = sym t.words ∙ w.words in cc) in
-      ap (λ (k : ℕ). Err (TooManySegments k)) (t.count_is ∙ (ap (λ (k : ℕ). k % 2 ^ 32 + 1) same ∙ sym w.count_is))
-  many_answer (Err (TooLarge words)) count w t = absurd (let e = only (Err (TooLarge words)) too_many (has_many count w) t in cc)
-  many_answer (Err (Truncated wanted)) count w t = absurd (let e = only (Err (Truncated wanted)) too_many (has_many count w) t in cc)
+      let same : t.0.first ≡ w.0.first = (let h = sym t.0.whole ∙ w.0.whole in cc) in
+      ap (λ (k : ℕ). Err (TooManySegments k)) (t.1 ∙ (ap (λ (k : ℕ). k % 2 ^ 32 + 1) same ∙ sym w.1))
+  many_answer (Err (TooLarge words)) count w t = absurd (let e = only (Err (TooLarge words)) too_many w.0 t in cc)
+  many_answer (Err (Truncated wanted)) count w t = absurd (let e = only (Err (Truncated wanted)) too_many w.0 t in cc)
 
   -- where a table is past the limit, that is the result
   pub large_answer : (r : Result (Option Framed) FrontFault) (words : ℕ) → TellsLarge limit bs words → TellsFront limit bs r → r ≡ Err (TooLarge words)
-  large_answer (Ok (Some f)) words w t = absurd (let e = only (Ok (Some f)) too_large (has_much words w) t in cc)
-  large_answer (Ok None) words w t = absurd (let e = only (Ok None) too_large (has_much words w) t in cc)
+  large_answer (Ok (Some f)) words w t = absurd (let e = only (Ok (Some f)) too_large w.0 t in cc)
+  large_answer (Ok None) words w t = absurd (let e = only (Ok None) too_large w.0 t in cc)
   large_answer (Err (TooManySegments count)) words w t =
-      absurd (let e = only (Err (TooManySegments count)) too_large (has_much words w) t in cc)
+      absurd (let e = only (Err (TooManySegments count)) too_large w.0 t in cc)
   large_answer (Err (TooLarge other)) words w t =
-      let same = same_table t.table w.table t.rest w.rest t.sizes w.sizes t.is_table w.is_table (sym t.words ∙ w.words) in
-      ap (λ (k : ℕ). Err (TooLarge k)) (t.total_is ∙ (ap sum same.1 ∙ sym w.total_is))
-  large_answer (Err (Truncated wanted)) words w t = absurd (let e = only (Err (Truncated wanted)) too_large (has_much words w) t in cc)
+      let same = same_table t.0.table w.0.table t.0.rest w.0.rest t.0.sizes w.0.sizes t.0.is_table w.0.is_table (sym t.0.whole ∙ w.0.whole) in
+      ap (λ (k : ℕ). Err (TooLarge k)) (t.1 ∙ (ap sum same.1 ∙ sym w.1))
+  large_answer (Err (Truncated wanted)) words w t = absurd (let e = only (Err (Truncated wanted)) too_large w.0 t in cc)
 
   -- where the bytes end inside a frame, the result is how many are wanted
   pub short_answer : (r : Result (Option Framed) FrontFault) (wanted : ℕ) → IsPartial limit (plain_words bs) (plain_is_cut bs)

@@ -5,6 +5,7 @@ use Rattle.std.proofs.lemmas.List.{length-drop, length-take-le, take-append-le}
 use Rattle.std.proofs.lemmas.List.Concat.{flat_map-append}
 use Rattle.byteorder.specs.Endian.{little_number}
 use Rattle.cap_spec.specs.Frames.{halves, joined, sizes_of, IsTable, IsPartial, in_word, in_table, in_contents}
+use Rattle.cap_spec.specs.Endings.{TellsTooMuch}
 use Rattle.cap_spec.specs.Plain.{plain_words, plain_is_cut}
 use Rattle.cap_spec.specs.Words.{IsWord}
 use Rattle.cap_spec.proofs.Frames.Framing.{length_halves, table_length}
@@ -43,7 +44,8 @@ no_first (b ∷ bs) limit some few =
 
 -- the first word tells of too many
 pub tells_many : (bs : List ℕ) (last count : ℕ) → Begins bs last → 512 ≤ last → count ≡ last + 1 → TellsMany bs count
-tells_many bs last count b l e = record { first = b.first; rest = b.more; words = b.words; count_is = omega (arith, b.last_is, e); many = omega (arith, l, e) }
+tells_many bs last count b l e =
+    (record { first = b.first; rest = b.more; whole = b.words; many = omega (arith, b.last_is, l) }, omega (arith, b.last_is, e))
 
 -- the table isn't whole
 pub no_table : (bs : List ℕ) (limit last wanted : ℕ) → Begins bs last → last < 512 → wanted ≡ 8 * table_words (last + 1) → length bs < wanted
@@ -94,15 +96,16 @@ has_table bs last count all b few e inside =
 
 -- its sizes are past the limit
 pub tells_large : (bs : List ℕ) (limit count words : ℕ) → HasTable bs count → words ≡ sum (sizes_told count (plain_words bs)) → limit < words → TellsLarge limit bs words
-tells_large bs limit count words t e l = record {
-  table = take (table_words count) (plain_words bs);
-  rest = plain_words (drop (8 * table_words count) bs);
-  sizes = sizes_told count (plain_words bs);
-  words = t.whole;
-  is_table = t.is_table;
-  total_is = e;
-  past = l;
-}
+tells_large bs limit count words t e l =
+    let tells : TellsTooMuch limit (plain_words bs) = record {
+      table = take (table_words count) (plain_words bs);
+      rest = plain_words (drop (8 * table_words count) bs);
+      sizes = sizes_told count (plain_words bs);
+      whole = t.whole;
+      is_table = t.is_table;
+      past = omega (arith, e, l);
+    } in
+    (tells, e)
 
 -- the contents aren't whole
 pub no_contents : (bs : List ℕ) (limit count words wanted : ℕ) → HasTable bs count → words ≡ sum (sizes_told count (plain_words bs)) → words ≤ limit

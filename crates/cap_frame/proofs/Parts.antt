@@ -1,60 +1,45 @@
 -- The bytes of some words of a segment, where the segments stand one behind the other.
-use Rattle.std.proofs.Common.{◌≡◌, ℕ, zero, suc, ◌+◌, ◌-◌, ◌*◌, ◌<◌, ◌≤◌, List, [], ◌∷◌, length, drop, take, sum, get_or, slice_range, ◌++◌, Fits, w8, refl, sym, ap, ◌∙◌, arith, append-nil}
+use Rattle.std.proofs.Common.{◌≡◌, inl, inr, ℕ, ◌+◌, ◌-◌, ◌*◌, ◌<◌, ◌≤◌, List, [], ◌∷◌, length, drop, take, sum, get_or, slice_range, ◌++◌, Fits, w8, refl, sym, ap, ◌∙◌, arith, append-nil}
 use Rattle.std.specs.List.{AllByRecursion}
-use Rattle.std.proofs.lemmas.List.{drop-drop, drop-take, drop_all, length-drop, length-take-le, take-take, take_all}
-use Rattle.byteorder.specs.Endian.{little_number}
+use Rattle.std.proofs.lemmas.List.{drop-drop, drop-take, drop_all, length-drop, length-take-le, take-append-drop, take-take, take_all}
 use Rattle.cap_frame.specs.Bytes.{cut, starts_of}
-use Rattle.cap_frame.proofs.Cuts.{cut_at, cut_length, cut_words, front_sum, start_is, words_exact}
-use Rattle.cap_spec.proofs.Bytes.Plain.{plain_short, plain_split}
+use Rattle.cap_frame.proofs.Cuts.{cut_at, cut_length, cut_words, front_sum, start_is, words_exact, words_inside}
+use Rattle.cap_spec.proofs.Bytes.Lists.{all_drop}
+use Rattle.cap_spec.proofs.Bytes.Plain.{plain_split}
 use Rattle.cap_words.proofs.AtHand.{bytes_small, front_small}
+use Rattle.cap_words.proofs.Filling.{plain_join}
+use Rattle.std.proofs.Math.Seq.{take-append_seam}
+use Rattle.std.proofs.lemmas.Bool.{cases_lt}
 use Rattle.cap_spec.specs.Plain.{plain_text, plain_words}
 
--- less than a word has no first words, however many are taken
-short_front : (k : ℕ) (bs : List ℕ) → length bs < 8 → take (suc k) (plain_words bs) ≡ plain_words (take (8 * suc k) bs)
-short_front k bs l =
-    let none : plain_words bs ≡ [] = plain_short bs l in
-    ap (take (suc k)) none ∙ sym (ap plain_words (take_all (8 * suc k) bs (omega arith)) ∙ none)
-
--- and none behind them
-short_back : (k : ℕ) (bs : List ℕ) → length bs < 8 → drop (suc k) (plain_words bs) ≡ plain_words (drop (8 * suc k) bs)
-short_back k bs l = ap (drop (suc k)) (plain_short bs l) ∙ sym (ap plain_words (drop_all (8 * suc k) bs (omega arith)))
+-- so many words, and those behind them
+parts_of : (k : ℕ) (bs : List ℕ) → 8 * k ≤ length bs
+    → (plain_words bs ≡ plain_words (take (8 * k) bs) ++ plain_words (drop (8 * k) bs)) × (length (plain_words (take (8 * k) bs)) ≡ k)
+parts_of k bs h =
+    let front : length (take (8 * k) bs) ≡ 8 * k = length-take-le (8 * k) bs h in (
+      ap plain_words (sym (take-append-drop (8 * k) bs)) ∙ plain_join (take (8 * k) bs) (drop (8 * k) bs) (omega (arith, front)),
+      omega (arith, words_exact (take (8 * k) bs), front),
+    )
 
 -- the first bytes spell the first words
 pub take_words : (k : ℕ) (bs : List ℕ) → take k (plain_words bs) ≡ plain_words (take (8 * k) bs)
-take_words zero bs = refl
-take_words (suc k) (a ∷ b ∷ c ∷ d ∷ e ∷ f ∷ g ∷ h ∷ rest) =
-    let j : suc (suc (suc (suc (suc (suc (suc (suc (8 * k)))))))) ≡ 8 * suc k = omega arith in
-    ap (λ ws. little_number 8 (a ∷ b ∷ c ∷ d ∷ e ∷ f ∷ g ∷ h ∷ []) ∷ ws) (take_words k rest)
-    ∙ ap (λ n. plain_words (take n (a ∷ b ∷ c ∷ d ∷ e ∷ f ∷ g ∷ h ∷ rest))) j
-take_words (suc k) [] = short_front k [] (omega arith)
-take_words (suc k) (a ∷ []) = short_front k (a ∷ []) (omega arith)
-take_words (suc k) (a ∷ b ∷ []) = short_front k (a ∷ b ∷ []) (omega arith)
-take_words (suc k) (a ∷ b ∷ c ∷ []) = short_front k (a ∷ b ∷ c ∷ []) (omega arith)
-take_words (suc k) (a ∷ b ∷ c ∷ d ∷ []) = short_front k (a ∷ b ∷ c ∷ d ∷ []) (omega arith)
-take_words (suc k) (a ∷ b ∷ c ∷ d ∷ e ∷ []) = short_front k (a ∷ b ∷ c ∷ d ∷ e ∷ []) (omega arith)
-take_words (suc k) (a ∷ b ∷ c ∷ d ∷ e ∷ f ∷ []) = short_front k (a ∷ b ∷ c ∷ d ∷ e ∷ f ∷ []) (omega arith)
-take_words (suc k) (a ∷ b ∷ c ∷ d ∷ e ∷ f ∷ g ∷ []) = short_front k (a ∷ b ∷ c ∷ d ∷ e ∷ f ∷ g ∷ []) (omega arith)
+take_words k bs = elim (cases_lt (length bs) (8 * k)) [
+  | inl few ↦ take_all k (plain_words bs) (omega (arith, words_inside bs, few)) ∙ sym (ap plain_words (take_all (8 * k) bs (omega (arith, few))))
+  | inr enough ↦
+      let p = parts_of k bs enough in
+      ap (take k) p.0 ∙ (ap (λ n. take n (plain_words (take (8 * k) bs) ++ plain_words (drop (8 * k) bs))) (sym p.1)
+      ∙ take-append_seam (plain_words (take (8 * k) bs)) (plain_words (drop (8 * k) bs)))
+]
 
 -- and the other bytes the other words
 pub drop_words : (k : ℕ) (bs : List ℕ) → drop k (plain_words bs) ≡ plain_words (drop (8 * k) bs)
-drop_words zero bs = refl
-drop_words (suc k) (a ∷ b ∷ c ∷ d ∷ e ∷ f ∷ g ∷ h ∷ rest) =
-    let j : suc (suc (suc (suc (suc (suc (suc (suc (8 * k)))))))) ≡ 8 * suc k = omega arith in
-    drop_words k rest ∙ ap (λ n. plain_words (drop n (a ∷ b ∷ c ∷ d ∷ e ∷ f ∷ g ∷ h ∷ rest))) j
-drop_words (suc k) [] = short_back k [] (omega arith)
-drop_words (suc k) (a ∷ []) = short_back k (a ∷ []) (omega arith)
-drop_words (suc k) (a ∷ b ∷ []) = short_back k (a ∷ b ∷ []) (omega arith)
-drop_words (suc k) (a ∷ b ∷ c ∷ []) = short_back k (a ∷ b ∷ c ∷ []) (omega arith)
-drop_words (suc k) (a ∷ b ∷ c ∷ d ∷ []) = short_back k (a ∷ b ∷ c ∷ d ∷ []) (omega arith)
-drop_words (suc k) (a ∷ b ∷ c ∷ d ∷ e ∷ []) = short_back k (a ∷ b ∷ c ∷ d ∷ e ∷ []) (omega arith)
-drop_words (suc k) (a ∷ b ∷ c ∷ d ∷ e ∷ f ∷ []) = short_back k (a ∷ b ∷ c ∷ d ∷ e ∷ f ∷ []) (omega arith)
-drop_words (suc k) (a ∷ b ∷ c ∷ d ∷ e ∷ f ∷ g ∷ []) = short_back k (a ∷ b ∷ c ∷ d ∷ e ∷ f ∷ g ∷ []) (omega arith)
-
--- the other ones of numbers below 256 are below it
-small_back : (k : ℕ) (bs : List ℕ) → AllByRecursion (λ b. b < 256) bs → AllByRecursion (λ b. b < 256) (drop k bs)
-small_back zero bs all = all
-small_back (suc k) [] all = tt
-small_back (suc k) (b ∷ bs) all = small_back k bs all.1
+drop_words k bs = elim (cases_lt (length bs) (8 * k)) [
+  | inl few ↦ drop_all k (plain_words bs) (omega (arith, words_inside bs, few)) ∙ sym (ap plain_words (drop_all (8 * k) bs (omega (arith, few))))
+  | inr enough ↦
+      let p = parts_of k bs enough in
+      ap (drop k) p.0 ∙ (ap (λ n. drop n (plain_words (take (8 * k) bs) ++ plain_words (drop (8 * k) bs))) (sym p.1)
+      ∙ drop-append_seam (plain_words (take (8 * k) bs)) (plain_words (drop (8 * k) bs)))
+]
 
 -- bytes that are whole words are the text of these words
 whole_text : (bs : List ℕ) (n : ℕ) → AllByRecursion (λ b. b < 256) bs → length bs ≡ 8 * n → bs ≡ plain_text (plain_words bs)
@@ -70,7 +55,7 @@ pub part_text : (bs : List ℕ) (at words : ℕ) → ((i : ℕ) → Fits w8 (get
 part_text bs at words fits inside =
     let d : length (drop (8 * at) bs) ≡ length bs - 8 * at = length-drop (8 * at) bs in
     let e : length (take (8 * words) (drop (8 * at) bs)) ≡ 8 * words = length-take-le (8 * words) (drop (8 * at) bs) (omega (arith, d, inside)) in
-    whole_text (take (8 * words) (drop (8 * at) bs)) words (front_small (8 * words) (drop (8 * at) bs) (small_back (8 * at) bs (bytes_small bs fits))) e
+    whole_text (take (8 * words) (drop (8 * at) bs)) words (front_small (8 * words) (drop (8 * at) bs) (all_drop (λ b. b < 256) (8 * at) bs (bytes_small bs fits))) e
 
 -- some words of a segment are spelled where their start and that of the segment tell
 pub part_words : (ns bs : List ℕ) (s start words : ℕ) → s < length ns → 8 * sum ns ≤ length bs → start + words ≤ length (get_or (cut ns bs) s [])

@@ -7,8 +7,7 @@ use Rattle.cap_words.specs.declared.sources.SourceFault.{SourceFault}
 use Rattle.cap_words.specs.declared.sources.SourceFault.TheVariants.{Spent}
 use Rattle.cap_spec.specs.Frames.{joined, sizes_of}
 use Rattle.cap_frame.specs.Reading.{ReadsFrame, ReadsNext, TakesFrame}
-use Rattle.cap_frame.specs.ReadingFaults.{Faults, TakesTable}
-use Rattle.cap_frame.specs.SourceFaults.{frame_fault_of}
+use Rattle.cap_frame.specs.ReadingFaults.{Faults, TakesTable, frame_fault_of}
 use Rattle.cap_frame.specs.Taking.{IsUsable, Reads, Stops, Takes}
 use Rattle.cap_frame.specs.declared.fault.FrameFault.{FrameFault}
 use Rattle.cap_frame.specs.declared.fault.FrameFault.TheVariants.{Memory}

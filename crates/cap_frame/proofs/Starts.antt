@@ -4,7 +4,7 @@ use Rattle.std.proofs.Math.Seq.{drop-cons}
 use Rattle.std.proofs.lemmas.List.{drop_all, take_more}
 use Rattle.std.proofs.lemmas.List.Sums.{sum_by-append}
 use Rattle.cap_frame.specs.Bytes.{starts_of}
-use Rattle.cap_frame.proofs.Contents.{sum_front}
+use Rattle.cap_frame.proofs.Cuts.{front_sum}
 
 -- The starts of the first s segments were told, and the next one starts at this word.
 pub record StartsSoFar (sizes : List ℕ) (s at : ℕ) (starts : List ℕ) : Type 0 where
@@ -18,7 +18,7 @@ starts_none sizes starts e = record { many = ap length e; at_is = refl; whole = 
 
 -- the next segment ends within all words
 pub starts_room : (sizes starts : List ℕ) (s at n : ℕ) → s < length sizes → n ≡ get_or sizes s 0 → StartsSoFar sizes s at starts → at + n ≤ sum sizes
-starts_room sizes starts s at n h e t = omega (arith, t.at_is, sum_front sizes s n h e)
+starts_room sizes starts s at n h e t = omega (arith, t.at_is, front_sum sizes s h, e)
 
 -- one more
 pub starts_more : (sizes starts longer : List ℕ) (s at n : ℕ) → s < length sizes → n ≡ get_or sizes s 0 → longer ≡ starts ++ at ∷ []

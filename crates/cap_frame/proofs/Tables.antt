@@ -5,15 +5,12 @@ use Rattle.std.proofs.lemmas.List.{length-take, take_all, take-append-drop}
 use Rattle.std.proofs.lemmas.Grind.{flat_map-append}
 use Rattle.cap_words.specs.declared.sources.WordSource as source
 use Rattle.cap_words.specs.declared.sources.SourceFault.{SourceFault}
-use Rattle.cap_spec.specs.Frames.{halves, IsTable}
+use Rattle.cap_spec.specs.Frames.{halves}
+use Rattle.cap_spec.specs.Words.{IsWord}
 use Rattle.cap_spec.proofs.Frames.Framing.{length_halves}
-use Rattle.cap_spec.proofs.Bytes.Lists.{all_append, all_drop, all_take}
+use Rattle.cap_spec.proofs.Bytes.Lists.{all_append}
 use Rattle.cap_frame.specs.Taking.{Takes, Reads, IsUsable, Stops}
 use Rattle.cap_frame.proofs.Taking.{takes_none, takes_both, reads_none, reads_both, usable_both, stops_later, stops_weaker}
-
--- the halves of a word are numbers of 32 bits
-pub halves_fit : (word : ℕ) → word < 2 ^ 64 → AllByRecursion (λ n. n < 2 ^ 32) (halves word)
-halves_fit word h = (omega arith, (omega arith, tt))
 
 -- the numbers of a table: those of its further words, behind the high half of its first
 abbrev pub behind : ℕ → List ℕ → List ℕ
@@ -21,27 +18,6 @@ behind first more = first / 2 ^ 32 ∷ flat_map halves more
 
 pub length_behind : (first : ℕ) (more : List ℕ) → length (behind first more) ≡ 1 + 2 * length more
 length_behind first more = omega (arith, length_halves more)
-
--- enough further words make the table of these sizes
-pub is_table : (first : ℕ) (more : List ℕ) → first < 2 ^ 64 → first % 2 ^ 32 < 512 → AllByRecursion (λ n. n < 2 ^ 32) (flat_map halves more)
-    → length more ≡ (first % 2 ^ 32 + 1) / 2 → IsTable (first ∷ more) (take (first % 2 ^ 32 + 1) (behind first more))
-is_table first more word few fit many =
-    let count : ℕ = first % 2 ^ 32 + 1 in
-    let all : List ℕ = behind first more in
-    let k : length all ≡ 1 + 2 * length more = length_behind first more in
-    let l : length (take count all) ≡ count = omega (arith, length-take count all) in
-    let r : length (drop count all) + count ≡ length all = omega (arith, length-drop count all) in
-    let c : length (take count all) - 1 ≡ first % 2 ^ 32 = omega arith in
-    let w : length (drop count all) ≡ (1 + length (take count all)) % 2 = omega arith in
-    record {
-      some = omega arith;
-      few = omega arith;
-      fit = all_take (λ (n : ℕ). n < 2 ^ 32) count all (omega arith, fit);
-      padding = drop count all;
-      padding_fits = all_drop (λ (n : ℕ). n < 2 ^ 32) count all (omega arith, fit);
-      width = w;
-      numbers = ap (λ (n : ℕ). n ∷ all) (sym c) ∙ ap (λ (ns : List ℕ). (length (take count all) - 1) ∷ ns) (sym (take-append-drop count all));
-    }
 
 module _ {X : Type 0} (g : source.Ghosts X) where
   -- So many further words of a table were read, and these sizes found in them.
@@ -51,7 +27,7 @@ module _ {X : Type 0} (g : source.Ghosts X) where
     pub takes : Takes g old now more
     pub reads : Reads g old now
     pub usable : IsUsable g old now
-    pub fit : AllByRecursion (λ n. n < 2 ^ 32) (flat_map halves more)
+    pub fit : AllByRecursion IsWord more
     pub sizes_are : sizes ≡ take (first % 2 ^ 32 + 1) (behind first more)
 
   -- only the first word was read
@@ -76,7 +52,7 @@ module _ {X : Type 0} (g : source.Ghosts X) where
     takes = takes_both g old now new t.more (word ∷ []) t.takes takes;
     reads = reads_both g old now new t.reads reads;
     usable = usable_both g old now new t.usable usable;
-    fit = subst (λ (ns : List ℕ). AllByRecursion (λ n. n < 2 ^ 32) ns) (sym (flat_map-append halves t.more (word ∷ []))) (all_append (λ n. n < 2 ^ 32) (flat_map halves t.more) (flat_map halves (word ∷ [])) t.fit (halves_fit word w));
+    fit = all_append IsWord t.more (word ∷ []) t.fit (w, tt);
     sizes_are =
         let short : sizes ≡ behind first t.more = t.sizes_are ∙ take_all (first % 2 ^ 32 + 1) (behind first t.more) (omega (arith, length_behind first t.more, t.length_is)) in
         let longer_is : sizes ++ halves word ≡ behind first (t.more ++ word ∷ []) = ap (λ (ns : List ℕ). ns ++ halves word) short ∙ ap (λ (ns : List ℕ). first / 2 ^ 32 ∷ ns) (sym (flat_map-append halves t.more (word ∷ []))) in

@@ -2,6 +2,7 @@
 -- profile's).
 use Rattle.std.specs.Prelude.{ℕ, ◌+◌, ◌*◌, ◌/◌, ◌%◌, ◌^◌, ◌<◌, ◌≡◌, ◌≤◌, List, [], ◌∷◌, ◌++◌, length, sum, drop, take}
 use Rattle.std.specs.List.{flat_map}
+use Rattle.cap_spec.specs.Endings.{TellsTooMany, TellsTooMuch}
 use Rattle.cap_spec.specs.Frames.{halves, Frames, IsTable, sizes_of}
 use Rattle.cap_spec.specs.Plain.{plain_words}
 
@@ -15,23 +16,13 @@ pub record IsFront (limit : ℕ) (bytes : List ℕ) (m : List (List ℕ)) (n : �
   pub long : n ≡ 8 * length own
 
 -- The first word gives `count` segments, more than 512.
-pub record TellsMany (bytes : List ℕ) (count : ℕ) : Type 0 where
-  pub first : ℕ
-  pub rest : List ℕ
-  pub words : plain_words bytes ≡ first ∷ rest
-  pub count_is : count ≡ first % 2 ^ 32 + 1
-  pub many : 512 < count
+abbrev pub TellsMany : List ℕ → ℕ → Type 0
+TellsMany bytes count = (t : TellsTooMany (plain_words bytes)) × (count ≡ t.first % 2 ^ 32 + 1)
 
 -- The bytes begin with a table of at most 512 segments, whose sizes sum to `total` words, more than
 -- the limit.
-pub record TellsLarge (limit : ℕ) (bytes : List ℕ) (total : ℕ) : Type 0 where
-  pub table : List ℕ
-  pub rest : List ℕ
-  pub sizes : List ℕ
-  pub words : plain_words bytes ≡ table ++ rest
-  pub is_table : IsTable table sizes
-  pub total_is : total ≡ sum sizes
-  pub past : limit < total
+abbrev pub TellsLarge : ℕ → List ℕ → ℕ → Type 0
+TellsLarge limit bytes total = (t : TellsTooMuch limit (plain_words bytes)) × (total ≡ sum t.sizes)
 
 -- how many words the table of `count` segments has
 abbrev pub table_words : ℕ → ℕ

@@ -4,11 +4,9 @@ pub mod Taking
 pub mod ReadingFaults
 pub mod Reading
 pub mod Rooms
-pub mod SourceFaults
 pub mod Putting
 pub mod Numbers
 pub mod Bytes
 pub mod HeldBytes
-pub mod ByteRoom
 pub mod Fronts
 pub mod Framed

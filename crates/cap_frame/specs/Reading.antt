@@ -1,7 +1,8 @@
 -- What reading a message of a source says of the source before and after, and of the result (profile). g has the
 -- members of the source's type.
-use Rattle.std.specs.Prelude.{ℕ, ◌+◌, ◌*◌, ◌%◌, ◌^◌, ◌≡◌, ◌<◌, ◌≤◌, Bool, true, false, List, [], ◌∷◌, ◌++◌, length, drop, sum, IfErr, IsOkAnd, IsSomeAnd, OnOk, OnSome, Option, Some, None, Result, Ok, Err}
-use Rattle.cap_spec.specs.Frames.{Frames, IsPartial, IsTable, sizes_of}
+use Rattle.std.specs.Prelude.{ℕ, ◌+◌, ◌*◌, ◌%◌, ◌^◌, ◌≡◌, ◌<◌, ◌≤◌, Bool, true, false, List, [], ◌∷◌, length, drop, sum, IfErr, IsOkAnd, IsSomeAnd, OnOk, OnSome, Option, Some, None, Result, Ok, Err}
+use Rattle.cap_spec.specs.Endings.{BeginsMessage, TellsTooMany, TellsTooMuch}
+use Rattle.cap_spec.specs.Frames.{Frames, IsPartial, sizes_of}
 use Rattle.cap_words.specs.declared.sources.WordSource as source
 use Rattle.cap_frame.specs.ReadingFaults.{Answered, Faults, TakesTable}
 use Rattle.cap_frame.specs.Taking.{IsUsable, Reads, Takes}
@@ -53,19 +54,19 @@ module _ {X : Type 0} (g : source.Ghosts X) where
   pub record Decides (is : List (List ℕ) → Type 0) (limit : ℕ) (old new : X) (result : Result Bool FrameFault) : Type 0 where
     -- A prefix of them frames a message within the limit: the result is that message, and the
     -- source has the other words.
-    pub whole : (own rest : List ℕ) (m : List (List ℕ)) → g.words old ≡ Some (own ++ rest) → Frames own m
-        → sum (sizes_of m) ≤ limit → Answered result ((result ≡ Ok true) × is m × (g.words new ≡ Some rest))
+    pub whole : (ws : List ℕ) → g.words old ≡ Some ws → (b : BeginsMessage limit ws)
+        → Answered result ((result ≡ Ok true) × is b.message × (g.words new ≡ Some b.rest))
     -- They end before the first one.
     pub no_word : g.words old ≡ Some [] → g.is_cut old ≡ false → Answered result (result ≡ Ok false)
     -- The first word gives too many segments.
-    pub many : (first : ℕ) (rest : List ℕ) → g.words old ≡ Some (first ∷ rest) → 512 < first % 2 ^ 32 + 1
-        → Answered result ((result ≡ Err (TooManySegments (first % 2 ^ 32 + 1))) × (g.words new ≡ Some rest))
+    pub many : (ws : List ℕ) → g.words old ≡ Some ws → (b : TellsTooMany ws)
+        → Answered result ((result ≡ Err (TooManySegments (b.first % 2 ^ 32 + 1))) × (g.words new ≡ Some b.rest))
     -- The table is whole and past the limit.
-    pub large : (table rest sizes : List ℕ) → g.words old ≡ Some (table ++ rest) → IsTable table sizes → limit < sum sizes
-        → Answered result ((result ≡ Err (TooLarge (sum sizes))) × (g.words new ≡ Some rest))
+    pub large : (ws : List ℕ) → g.words old ≡ Some ws → (b : TellsTooMuch limit ws)
+        → Answered result ((result ≡ Err (TooLarge (sum b.sizes))) × (g.words new ≡ Some b.rest))
     -- They end inside a message.
-    pub cut_short : (words : List ℕ) → g.words old ≡ Some words → IsPartial limit words (g.is_cut old)
-        → Answered result ((byte : ℕ) × (result ≡ Err (Truncated byte)) × (drop (length words) (g.places old) ≡ byte ∷ []))
+    pub cut_short : (ws : List ℕ) → g.words old ≡ Some ws → IsPartial limit ws (g.is_cut old)
+        → Answered result ((byte : ℕ) × (result ≡ Err (Truncated byte)) × (drop (length ws) (g.places old) ≡ byte ∷ []))
 
   -- The next message of a stream was read: `is` says of a message that it is the one. Or there was none,
   -- or a fault came.

@@ -1,8 +1,10 @@
 -- What each fault of reading a message says of the source and of its words (profile).
-use Rattle.std.specs.Prelude.{⊤, ℕ, ◌+◌, ◌%◌, ◌^◌, ◌≡◌, ◌<◌, ◌≤◌, ◌⊎◌, Bool, true, List, [], ◌∷◌, length, drop, sum, IfSome, OnSome, Result, Ok, Err}
+use Rattle.std.specs.Prelude.{⊤, ℕ, ◌+◌, ◌%◌, ◌^◌, ◌≡◌, ◌<◌, ◌≤◌, List, [], ◌∷◌, sum, Result, Ok, Err}
 use Rattle.cap_spec.specs.Frames.{IsPartial, IsTable}
+use Rattle.cap_words.specs.declared.sources.SourceFault.{SourceFault}
+use Rattle.cap_words.specs.declared.sources.SourceFault.TheVariants as fault
 use Rattle.cap_words.specs.declared.sources.WordSource as source
-use Rattle.cap_frame.specs.Taking.{Takes, IsUsable, IsOver, Breaks, Refuses}
+use Rattle.cap_frame.specs.Taking.{Takes, IsUsable, EndsAfter, Breaks, Refuses}
 use Rattle.cap_frame.specs.declared.fault.FrameFault.{FrameFault}
 use Rattle.cap_frame.specs.declared.fault.FrameFault.TheVariants.{TooManySegments, TooLarge, Truncated, Device, Memory, Spent}
 
@@ -16,6 +18,12 @@ Answered (Err (Truncated n)) P = P
 Answered (Err Device) P = ⊤
 Answered (Err Memory) P = ⊤
 Answered (Err Spent) P = ⊤
+
+-- a fault of a source as one of reading a message
+abbrev pub frame_fault_of : SourceFault → FrameFault
+frame_fault_of (fault.Truncated byte) = Truncated byte
+frame_fault_of fault.Device = Device
+frame_fault_of fault.Spent = Spent
 
 module _ {X : Type 0} (g : source.Ghosts X) where
   -- The first word gives too many segments.
@@ -31,26 +39,13 @@ module _ {X : Type 0} (g : source.Ghosts X) where
     pub takes : Takes g old new table
     pub is_table : IsTable table sizes
 
-  -- The source ended inside a message.
-  pub record EndsInside (limit : ℕ) (old new : X) (byte : ℕ) : Type 0 where
-    pub partial : IfSome (g.words old) (λ ws. IsPartial limit ws (g.is_cut old) × (drop (length ws) (g.places old) ≡ byte ∷ []))
-    pub place : byte ≡ g.place new
-    pub usable : g.spent old ≡ false
-    pub none_failed : g.failures new ≡ g.failures old
-    pub over : (g.ended new ≡ true) ⊎ (g.failed new ≡ true)
-    pub how : OnSome (g.words old) (IsOver g (g.is_cut old) new)
-
   -- what each fault says
   abbrev pub Faults : ℕ → X → X → FrameFault → Type 0
   Faults limit old new (TooManySegments count) = TakesTooMany old new count × IsUsable g old new
-  Faults limit old new (TooLarge words) = ((sizes : List ℕ) × TakesTable old new sizes × (words ≡ sum sizes) × (limit < words)) × IsUsable g old new
-  Faults limit old new (Truncated byte) = EndsInside limit old new byte
+  Faults limit old new (TooLarge words) = ((sizes : List ℕ) × TakesTable old new sizes × (words ≡ sum sizes) × (limit < words))
+      × IsUsable g old new
+  Faults limit old new (Truncated byte) = EndsAfter g (λ ws. IsPartial limit ws (g.is_cut old)) old new byte
   Faults limit old new Device = Breaks g old new
-  Faults limit old new Memory = ((sizes : List ℕ) × TakesTable old new sizes × (sum sizes ≤ limit)) × IsUsable g old new
+  Faults limit old new Memory = ((sizes : List ℕ) × TakesTable old new sizes × (sum sizes ≤ limit))
+      × IsUsable g old new
   Faults limit old new Spent = Refuses g old new
-
-  -- After the first word, the rest of a table of at most 512 segments was taken, and no more.
-  pub record TakesTableBehind (first : ℕ) (old new : X) (sizes : List ℕ) : Type 0 where
-    pub more : List ℕ
-    pub takes : Takes g old new more
-    pub is_table : IsTable (first ∷ more) sizes

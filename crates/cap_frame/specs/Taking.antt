@@ -27,9 +27,9 @@ module _ {X : Type 0} (g : source.Ghosts X) where
   IsOver true new = g.failed new ≡ true
   IsOver false new = g.ended new ≡ true
 
-  -- It ended before it gave n words.
-  pub record EndsEarly (n : ℕ) (old new : X) (byte : ℕ) : Type 0 where
-    pub short : IfSome (g.words old) (λ ws. (length ws < n) × (drop (length ws) (g.places old) ≡ byte ∷ []))
+  -- It ended at this byte, after words of which P holds.
+  pub record EndsAfter (P : List ℕ → Type 0) (old new : X) (byte : ℕ) : Type 0 where
+    pub short : IfSome (g.words old) (λ ws. P ws × (drop (length ws) (g.places old) ≡ byte ∷ []))
     pub place : byte ≡ g.place new
     pub usable : g.spent old ≡ false
     pub none_failed : g.failures new ≡ g.failures old
@@ -51,6 +51,6 @@ module _ {X : Type 0} (g : source.Ghosts X) where
 
   -- why it didn't give n words
   abbrev pub Stops : ℕ → X → X → SourceFault → Type 0
-  Stops n old new (Truncated byte) = EndsEarly n old new byte
+  Stops n old new (Truncated byte) = EndsAfter (λ ws. length ws < n) old new byte
   Stops n old new Device = Breaks old new
   Stops n old new Spent = Refuses old new

@@ -1,8 +1,7 @@
 //! Reading messages into one buffer.
 
-ghost use Rattle.cap_frame.specs.ByteRoom.{room_in};
 ghost use Rattle.cap_frame.specs.Bytes.{cut};
-ghost use Rattle.cap_frame.specs.HeldBytes.{held_segments};
+ghost use Rattle.cap_frame.specs.HeldBytes.{held_segments, room_in};
 ghost use Rattle.cap_frame.specs.Limit.{limit_of};
 ghost use Rattle.cap_frame.specs.Reading.{IsResult, LacksMemory, ReadsFrame, has_message};
 ghost use Rattle.std.specs.Prelude.{◌*◌, ◌≡◌, ◌≤◌, [], ◌∷◌, IsErrOf, length, sum, true};

@@ -1,6 +1,6 @@
 //! Why no message was read.
 
-ghost use Rattle.cap_frame.specs.SourceFaults.{frame_fault_of};
+ghost use Rattle.cap_frame.specs.ReadingFaults.{frame_fault_of};
 ghost use Rattle.std.specs.Prelude.{◌≡◌};
 
 use cap_words::SourceFault;

@@ -2,11 +2,11 @@
 
 ghost use Rattle.arrayvec.specs.ArrayVec.{array_vec_len};
 ghost use Rattle.cap_frame.specs.Reading.{ReadsNext};
-ghost use Rattle.cap_frame.specs.ReadingFaults.{TakesTable, TakesTableBehind};
+ghost use Rattle.cap_frame.specs.ReadingFaults.{TakesTable};
 ghost use Rattle.cap_frame.specs.Limit.{limit_of};
-ghost use Rattle.cap_frame.specs.Taking.{IsUsable, Reads, Stops};
-ghost use Rattle.cap_spec.specs.Frames.{halves};
-ghost use Rattle.std.specs.Prelude.{◌%◌, ◌*◌, ◌+◌, ◌++◌, ◌/◌, ◌<◌, ◌^◌, ◌≡◌, ◌≤◌, [], ◌∷◌, IfErr, IsErrOf, OnOk, false, length, sum, take, true};
+ghost use Rattle.cap_frame.specs.Taking.{IsUsable, Reads, Stops, Takes};
+ghost use Rattle.cap_spec.specs.Frames.{IsTable, halves};
+ghost use Rattle.std.specs.Prelude.{◌%◌, ◌*◌, ◌+◌, ◌++◌, ◌/◌, ◌<◌, ◌^◌, ◌≡◌, ◌≤◌, [], ◌∷◌, IfErr, IsErrOf, List, OnOk, false, length, sum, take, true, ℕ};
 
 use crate::fault::{FrameFault, frame_fault};
 use crate::limit::SizeLimit;
@@ -53,7 +53,8 @@ fn read_sizes<S: WordSource>(
     requires few { first % 2 ^ 32 < 512 }
     requires usable { S.spent source.old ≡ false }
     requires empty { sizes.old.items ≡ [] }
-    ensures ok { OnOk result (TakesTableBehind S.WordSource first source.old source.new sizes.new.items) }
+    ensures ok { OnOk result ((more : List ℕ) × Takes S.WordSource source.old source.new more
+        × IsTable (first ∷ more) sizes.new.items) }
     ensures works { OnOk result (IsUsable S.WordSource source.old source.new) }
     ensures reads { Reads S.WordSource source.old source.new }
     ensures err { IfErr result (Stops S.WordSource ((first % 2 ^ 32 + 1) / 2) source.old source.new) }

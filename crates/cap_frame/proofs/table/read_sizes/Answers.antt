@@ -1,7 +1,8 @@
 -- Each word appends its halves to the sizes, as far as there are sizes to come.
 use Rattle.cap_frame.proofs.Taking.{reads_both}
 use Rattle.std.proofs.Common.{arith, ◌%◌, ◌+◌, ◌/◌, ◌<◌, ◌^◌}
-use Rattle.cap_frame.proofs.Tables.{is_table, table_more, table_room, table_stops}
+use Rattle.cap_spec.proofs.Frames.OneEnding.{makes_table}
+use Rattle.cap_frame.proofs.Tables.{table_more, table_room, table_stops}
 use Rattle.cap_frame.proofs.table.read_sizes.Goals as goal
 
 pub push_halves-requires-clause-room : goal.push_halves-requires-clause-room
@@ -21,8 +22,8 @@ table-preserved g c =
 pub returns-clause-ok : goal.returns-clause-ok
 returns-clause-ok g c =
     let t = c.table.invariant in
-    let whole = is_table c.args.first t.more c.ranges.first.fits c.requires.few t.fit (omega (arith, t.length_is)) in
-    record { more = t.more; takes = t.takes; is_table = rw (← t.sizes_are) at whole }
+    let whole = makes_table c.args.first t.more (c.ranges.first.fits, t.fit) c.requires.few (omega (arith, t.length_is)) in
+    (t.more, t.takes, rw (← t.sizes_are) at whole)
 
 pub returns-in-Err-clause-reads : goal.returns-in-Err-clause-reads
 returns-in-Err-clause-reads g c = reads_both g.S.WordSource c.args.source.now c.table.source c.next_word.new.source c.table.invariant.reads c.next_word.ensures.reads
