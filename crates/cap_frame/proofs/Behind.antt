@@ -57,12 +57,14 @@ module _ {X : Type 0} (g : source.Ghosts X) where
       record { table = first ∷ b.0; takes = takes_both g old mid new (first ∷ []) b.0 t b.1; is_table = b.2 }
 
   -- the source stopped inside the contents behind a table
-  pub behind_contents : (limit : ℕ) (old mid new : X) (sizes : List ℕ) (fault : SourceFault) → TakesTable g old mid sizes → IsUsable g old mid → sum sizes ≤ limit
+  pub behind_contents : (limit : ℕ) (old mid new : X) (sizes : List ℕ) (fault : SourceFault) → TakesTable g old mid sizes → IsUsable g old mid
+      → sum sizes ≤ limit
       → Stops g (sum sizes) mid new fault → Faults g limit old new (frame_fault_of fault)
   behind_contents limit old mid new sizes (Truncated byte) t u l s =
       let later = stops_later g old mid new t.table (sum sizes) (Truncated byte) t.takes u s in
       record {
-        short = partial_contents (g.words old) (g.words mid) limit (length t.table + sum sizes) byte t.table sizes (g.places old) (g.places mid) (g.is_cut old) t.is_table l t.takes.words s.short later.short;
+        short = partial_contents (g.words old) (g.words mid) limit (length t.table + sum sizes) byte t.table sizes (g.places old) (g.places mid)
+            (g.is_cut old) t.is_table l t.takes.words s.short later.short;
         place = s.place;
         usable = later.usable;
         none_failed = later.none_failed;
@@ -75,8 +77,11 @@ module _ {X : Type 0} (g : source.Ghosts X) where
   -- the table and the contents frame the message
   pub behind_message : (old mid new : X) (sizes : List ℕ) (m : List (List ℕ)) → TakesTable g old mid sizes → Takes g mid new (joined m) → sizes_of m ≡ sizes
       → (own : List ℕ) × Takes g old new own × Frames own m
-  behind_message old mid new sizes m t u e =
-      (t.table ++ joined m, takes_both g old mid new t.table (joined m) t.takes u, record { table = t.table; is_table = subst (IsTable t.table) (sym e) t.is_table; whole = refl })
+  behind_message old mid new sizes m t u e = (
+    t.table ++ joined m,
+    takes_both g old mid new t.table (joined m) t.takes u,
+    record { table = t.table; is_table = subst (IsTable t.table) (sym e) t.is_table; whole = refl },
+  )
 
 -- segments of the sizes of a table are a message
 pub message_of : (table : List ℕ) (m : List (List ℕ)) → IsTable table (sizes_of m) → IsMessage m

@@ -29,7 +29,8 @@ module _ (bs : List ℕ) (count words : ℕ) (total : words ≡ sum (sizes_told 
   words_are = total ∙ ap sum (sym (held_sizes (sizes_told count (plain_words bs)) (drop (8 * table_words count) bs) enough))
 
   -- whose bytes stand behind the table
-  pub contents_are : plain_words (take (8 * words) (drop (8 * table_words count) bs)) ≡ joined (cut (sizes_told count (plain_words bs)) (drop (8 * table_words count) bs))
+  pub contents_are : plain_words (take (8 * words) (drop (8 * table_words count) bs)) ≡ joined
+      (cut (sizes_told count (plain_words bs)) (drop (8 * table_words count) bs))
   contents_are =
       ap (λ n. plain_words (take (8 * n) (drop (8 * table_words count) bs))) total
       ∙ sym (held_joined (sizes_told count (plain_words bs)) (drop (8 * table_words count) bs) enough)

@@ -52,7 +52,8 @@ module _ {X : Type 0} (g : source.Ghosts X) where
   }
 
   -- one more
-  pub words_more : (old now new : X) (words longer : List ℕ) (many word : ℕ) → WordsSoFar old now words many → Takes g now new (word ∷ []) → Reads g now new → IsUsable g now new
+  pub words_more : (old now new : X) (words longer : List ℕ) (many word : ℕ) → WordsSoFar old now words many → Takes g now new (word ∷ []) → Reads g now new
+      → IsUsable g now new
       → longer ≡ words ++ word ∷ [] → WordsSoFar old new longer (many + 1)
   words_more old now new words longer many word w t r u e = record {
     takes = subst (Takes g old new) (sym e) (takes_both g old now new words (word ∷ []) w.takes t);
@@ -62,7 +63,8 @@ module _ {X : Type 0} (g : source.Ghosts X) where
   }
 
   -- the source stopped before the segment had its size
-  pub words_stop : (old now new : X) (words : List ℕ) (many size : ℕ) (fault : SourceFault) → many < size → WordsSoFar old now words many → Stops g 1 now new fault → Stops g size old new fault
+  pub words_stop : (old now new : X) (words : List ℕ) (many size : ℕ) (fault : SourceFault) → many < size → WordsSoFar old now words many
+      → Stops g 1 now new fault → Stops g size old new fault
   words_stop old now new words many size fault h w s =
       stops_weaker g old new (length words + 1) size fault (omega (arith, w.length_is)) (stops_later g old now new words 1 fault w.takes w.usable s)
 
@@ -88,7 +90,8 @@ module _ {X : Type 0} (g : source.Ghosts X) where
     }
 
     -- the next room
-    pub segments_room : (old now : X) (s : ℕ) (segments : List V) (sizes : List ℕ) (v : V) (n : ℕ) → s < length sizes → v ≡ get_or segments s v → n ≡ get_or sizes s 0
+    pub segments_room : (old now : X) (s : ℕ) (segments : List V) (sizes : List ℕ) (v : V) (n : ℕ) → s < length sizes → v ≡ get_or segments s v
+        → n ≡ get_or sizes s 0
         → SegmentsSoFar old now s segments sizes → (f v ≡ []) × (n ≤ room v)
     segments_room old now s segments sizes v n h e d t =
         let inside : s < length segments = omega (arith, t.many) in
@@ -105,7 +108,8 @@ module _ {X : Type 0} (g : source.Ghosts X) where
         let back : drop (s + 1) longer ≡ drop (s + 1) segments = ap (drop (s + 1)) e ∙ drop-set-lt (s + 1) segments s v (omega arith) in
         let parts : map f (take (s + 1) longer) ≡ map f (take s segments) ++ f v ∷ [] = ap (map f) front ∙ map-append f (take s segments) (v ∷ []) in
         let words : joined (map f (take (s + 1) longer)) ≡ joined (map f (take s segments)) ++ f v =
-        ap joined parts ∙ (flat_map-append (λ (ws : List ℕ). ws) (map f (take s segments)) (f v ∷ []) ∙ ap (λ (ws : List ℕ). joined (map f (take s segments)) ++ ws) (append-nil (f v))) in
+        ap joined parts ∙ (flat_map-append (λ (ws : List ℕ). ws) (map f (take s segments)) (f v ∷ [])
+        ∙ ap (λ (ws : List ℕ). joined (map f (take s segments)) ++ ws) (append-nil (f v))) in
         let r = rooms_from f room s segments sizes v inside h t.rooms in
         record {
           takes = subst (Takes g old new) (sym words) (takes_both g old now new (joined (map f (take s segments))) (f v) t.takes takes);
@@ -124,7 +128,8 @@ module _ {X : Type 0} (g : source.Ghosts X) where
     segments_stop old now new s segments sizes n fault h d t stops =
         let words : length (joined (map f (take s segments))) ≡ sum (take s sizes) = length_joined (map f (take s segments)) ∙ ap sum t.sizes_are in
         let enough : length (joined (map f (take s segments))) + n ≤ sum sizes = omega (arith, words, front_sum sizes s h, d) in
-        stops_weaker g old new (length (joined (map f (take s segments))) + n) (sum sizes) fault enough (stops_later g old now new (joined (map f (take s segments))) n fault t.takes t.usable stops)
+        stops_weaker g old new (length (joined (map f (take s segments))) + n) (sum sizes) fault enough
+        (stops_later g old now new (joined (map f (take s segments))) n fault t.takes t.usable stops)
 
     -- all were read
     pub segments_end : (old now : X) (s : ℕ) (segments : List V) (sizes : List ℕ) → length sizes ≤ s → SegmentsSoFar old now s segments sizes

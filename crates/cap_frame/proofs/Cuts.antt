@@ -154,7 +154,8 @@ pub place_facts : (ns starts bs : List ℕ) (s w : ℕ) → starts ≡ starts_of
     → w < length (get_or (cut ns bs) s []) → PlaceFacts ns starts bs s w
 place_facts ns starts bs s w are inside exists within =
     let l : s < length ns = omega (arith, cut_length ns bs) in
-    let at : get_or starts s 0 ≡ sum (take s ns) = ap (λ xs. get_or xs s 0) are ∙ (start_is 0 ns s l ∙ (let z : 0 + sum (take s ns) ≡ sum (take s ns) = omega arith in z)) in
+    let at : get_or starts s 0 ≡ sum (take s ns) = ap (λ xs. get_or xs s 0) are
+    ∙ (start_is 0 ns s l ∙ (let z : 0 + sum (take s ns) ≡ sum (take s ns) = omega arith in z)) in
     let e : length (get_or (cut ns bs) s []) ≡ get_or ns s 0 = cut_words ns bs s l inside in
     let f : sum (take s ns) + get_or ns s 0 ≤ sum ns = front_sum ns s l in
     record {

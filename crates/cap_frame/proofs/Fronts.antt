@@ -76,16 +76,19 @@ sizes_front count first more l =
     sym (flat_map-append halves (take k more) (drop k more)) ∙ ap (flat_map halves) (take-append-drop k more) in
     sym (take-append-le count (first / 2 ^ 32 ∷ front) (flat_map halves (drop k more)) enough) ∙ ap (λ ns. take count (first / 2 ^ 32 ∷ ns)) parts
 
-pub has_table : (bs : List ℕ) (last count : ℕ) → AllByRecursion (λ b. b < 256) bs → Begins bs last → last < 512 → count ≡ last + 1 → 8 * table_words count ≤ length bs → HasTable bs count
+pub has_table : (bs : List ℕ) (last count : ℕ) → AllByRecursion (λ b. b < 256) bs → Begins bs last → last < 512 → count ≡ last + 1
+    → 8 * table_words count ≤ length bs → HasTable bs count
 has_table bs last count all b few e inside =
     let words = plain_words bs in
     let many : b.first % 2 ^ 32 + 1 ≡ count = ap (λ n. n + 1) b.last_is ∙ sym e in
     let room : count / 2 ≤ length b.more = omega (arith, words_all bs, ap length b.words, inside) in
     let next : count / 2 + 1 ≡ suc (count / 2) = omega arith in
-    let front : take (table_words count) words ≡ b.first ∷ take (count / 2) b.more = ap (take (table_words count)) b.words ∙ ap (λ n. take n (b.first ∷ b.more)) next in
+    let front : take (table_words count) words ≡ b.first ∷ take (count / 2) b.more = ap (take (table_words count)) b.words
+    ∙ ap (λ n. take n (b.first ∷ b.more)) next in
     let fit : AllByRecursion IsWord (b.first ∷ b.more) = subst (AllByRecursion IsWord) b.words (plain_split bs all).are_words in
     let sizes : take (b.first % 2 ^ 32 + 1) (b.first / 2 ^ 32 ∷ flat_map halves (take (count / 2) b.more)) ≡ sizes_told count words =
-    ap (λ n. take n (b.first / 2 ^ 32 ∷ flat_map halves (take (count / 2) b.more))) many ∙ (sizes_front count b.first b.more room ∙ ap (sizes_told count) (sym b.words)) in
+    ap (λ n. take n (b.first / 2 ^ 32 ∷ flat_map halves (take (count / 2) b.more))) many
+    ∙ (sizes_front count b.first b.more room ∙ ap (sizes_told count) (sym b.words)) in
     let half : length (take (count / 2) b.more) ≡ (b.first % 2 ^ 32 + 1) / 2 = length-take-le (count / 2) b.more room ∙ ap (λ n. n / 2) (sym many) in
     let made = makes_table b.first (take (count / 2) b.more) (fit.0, all_take IsWord (count / 2) b.more fit.1) (omega (arith, b.last_is, few)) half in
     record {
@@ -95,7 +98,8 @@ has_table bs last count all b few e inside =
     }
 
 -- its sizes are past the limit
-pub tells_large : (bs : List ℕ) (limit count words : ℕ) → HasTable bs count → words ≡ sum (sizes_told count (plain_words bs)) → limit < words → TellsLarge limit bs words
+pub tells_large : (bs : List ℕ) (limit count words : ℕ) → HasTable bs count → words ≡ sum (sizes_told count (plain_words bs)) → limit < words
+    → TellsLarge limit bs words
 tells_large bs limit count words t e l =
     let tells : TellsTooMuch limit (plain_words bs) = record {
       table = take (table_words count) (plain_words bs);
@@ -135,10 +139,17 @@ is_front bs limit count words t e within inside =
     let enough : 8 * sum sizes ≤ length behind = omega (arith, length-drop (8 * table_words count) bs, e, inside) in
     let same : sizes_of m ≡ sizes = held_sizes sizes behind enough in
     let contents : plain_words behind ≡ joined m ++ drop (sum sizes) (plain_words behind) =
-    sym (take-append-drop (sum sizes) (plain_words behind)) ∙ ap (λ ws. ws ++ drop (sum sizes) (plain_words behind)) (take_words (sum sizes) behind ∙ sym (held_joined sizes behind enough)) in
+    sym (take-append-drop (sum sizes) (plain_words behind))
+    ∙ ap (λ ws. ws ++ drop (sum sizes) (plain_words behind)) (take_words (sum sizes) behind ∙ sym (held_joined sizes behind enough)) in
     let front : length (take (8 * sum sizes) behind) ≡ 8 * sum sizes = length-take-le (8 * sum sizes) behind enough in
     let size : length (joined m) ≡ words =
-    ap length (held_joined sizes behind enough) ∙ omega (arith, words_inside (take (8 * sum sizes) behind), words_all (take (8 * sum sizes) behind), front, e) in
+    ap length (held_joined sizes behind enough) ∙ omega (
+      arith,
+      words_inside (take (8 * sum sizes) behind),
+      words_all (take (8 * sum sizes) behind),
+      front,
+      e,
+    ) in
     record {
       own = table ++ joined m;
       rest = drop (sum sizes) (plain_words behind);

@@ -11,7 +11,8 @@ use Rattle.cap_spec.proofs.Frames.Framing.{length_halves}
 use Rattle.cap_frame.specs.Fronts.{sizes_told}
 
 -- half k of the words is the number at byte 4 k
-pub half_at : (bs : List ℕ) (k : ℕ) → AllByRecursion (λ b. b < 256) bs → k < 2 * length (plain_words bs) → get_or (flat_map halves (plain_words bs)) k 0 ≡ little_number 4 (drop (4 * k) bs)
+pub half_at : (bs : List ℕ) (k : ℕ) → AllByRecursion (λ b. b < 256) bs → k < 2 * length (plain_words bs)
+    → get_or (flat_map halves (plain_words bs)) k 0 ≡ little_number 4 (drop (4 * k) bs)
 half_at (a ∷ b ∷ c ∷ d ∷ e ∷ f ∷ g ∷ h ∷ rest) zero all l =
     let p = all.0 in let q = all.1.0 in let r = all.1.1.0 in let s = all.1.1.1.0 in
     let t : little_number 8 (a ∷ b ∷ c ∷ d ∷ e ∷ f ∷ g ∷ h ∷ []) % 2 ^ 32 ≡ little_number 4 (a ∷ b ∷ c ∷ d ∷ []) = omega (arith, p, q, r, s) in t
@@ -31,7 +32,8 @@ half_at (a ∷ b ∷ c ∷ d ∷ e ∷ f ∷ []) k all l = absurd (omega (arith,
 half_at (a ∷ b ∷ c ∷ d ∷ e ∷ f ∷ g ∷ []) k all l = absurd (omega (arith, l))
 
 -- the low half of the first word is the first number
-pub first_half : (bs : List ℕ) (first : ℕ) (more : List ℕ) → AllByRecursion (λ b. b < 256) bs → plain_words bs ≡ first ∷ more → first % 2 ^ 32 ≡ little_number 4 bs
+pub first_half : (bs : List ℕ) (first : ℕ) (more : List ℕ) → AllByRecursion (λ b. b < 256) bs → plain_words bs ≡ first ∷ more
+    → first % 2 ^ 32 ≡ little_number 4 bs
 first_half bs first more all e = ap (λ ws. get_or (flat_map halves ws) 0 0) (sym e) ∙ half_at bs 0 all (omega (arith, ap length e))
 
 -- one more size is the next number
@@ -50,4 +52,5 @@ pub more_total : (bs : List ℕ) (s : ℕ) → AllByRecursion (λ b. b < 256) bs
     → sum (sizes_told (s + 1) (plain_words bs)) ≡ sum (sizes_told s (plain_words bs)) + little_number 4 (drop (4 + 4 * s) bs)
 more_total bs s all l =
     let n = little_number 4 (drop (4 + 4 * s) bs) in
-    ap sum (more_told bs s all l) ∙ (sum_by-append (λ x. x) (sizes_told s (plain_words bs)) (n ∷ []) ∙ ap (λ k. sum (sizes_told s (plain_words bs)) + k) (zero-add n))
+    ap sum (more_told bs s all l) ∙ (sum_by-append (λ x. x) (sizes_told s (plain_words bs)) (n ∷ [])
+    ∙ ap (λ k. sum (sizes_told s (plain_words bs)) + k) (zero-add n))

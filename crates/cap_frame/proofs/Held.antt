@@ -19,7 +19,8 @@ module _ {V : Type 0} (f : V → List ℕ) where
       → All (λ segment. length segment < 2 ^ 32) (take s (map f vs)) → All (λ segment. length segment < 2 ^ 32) (take (s + 1) (map f vs))
   held_more vs s v h is short before =
       let inside : s < length (map f vs) = omega (arith, length-map vs f) in
-      All-more (λ (ws : List ℕ). length ws < 2 ^ 32) (map f vs) s [] inside before (subst (λ (ws : List ℕ). length ws < 2 ^ 32) (sym (held vs s v inside is)) short)
+      All-more (λ (ws : List ℕ). length ws < 2 ^ 32) (map f vs) s [] inside before
+      (subst (λ (ws : List ℕ). length ws < 2 ^ 32) (sym (held vs s v inside is)) short)
 
   -- a vector that is too long is no segment
   pub held_too_long : (vs : List V) (s : ℕ) (v : V) → s < length vs → v ≡ get_or vs s v → 2 ^ 32 ≤ length (f v) → IsMessage (map f vs) → ⊥

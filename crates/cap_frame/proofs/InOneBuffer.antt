@@ -14,7 +14,8 @@ use Rattle.cap_frame.proofs.Cuts.{words_exact, words_inside}
 use Rattle.cap_frame.proofs.Taking.{takes_none, takes_both, reads_none, reads_both, usable_both, stops_later, stops_weaker}
 
 -- what stands in a buffer up to the end of a piece that was written over it
-pub piece_in : (start end many : ℕ) (before held more items piece post rest : List ℕ) → start ≤ length before → end ≤ many → length piece ≡ end - start → start ≤ end
+pub piece_in : (start end many : ℕ) (before held more items piece post rest : List ℕ) → start ≤ length before → end ≤ many → length piece ≡ end - start
+    → start ≤ end
     → held ≡ before ++ more → items ≡ take many ((take start held ++ (piece ++ post)) ++ rest) → take end items ≡ take start before ++ piece
 piece_in start end many before held more items piece post rest h e l k b i =
     let front : take start held ≡ take start before = ap (take start) b ∙ take-append-le start before more h in
@@ -27,9 +28,11 @@ piece_in start end many before held more items piece post rest h e l k b i =
     ap (take end) i ∙ (take-take end many _ e ∙ (ap (take end) parts ∙ shown))
 
 -- what was appended stands behind what was read, where that was all
-pub appended_in : (done n : ℕ) (before given items : List ℕ) → length before ≤ done → length given ≡ n → items ≡ before ++ given → take (done + n) items ≡ take done before ++ given
+pub appended_in : (done n : ℕ) (before given items : List ℕ) → length before ≤ done → length given ≡ n → items ≡ before ++ given
+    → take (done + n) items ≡ take done before ++ given
 appended_in done n before given items h l e =
-    ap (take (done + n)) e ∙ take_all (done + n) (before ++ given) (omega (arith, length-append before given)) ∙ ap (λ (xs : List ℕ). xs ++ given) (sym (take_all done before h))
+    ap (take (done + n)) e ∙ take_all (done + n) (before ++ given) (omega (arith, length-append before given))
+    ∙ ap (λ (xs : List ℕ). xs ++ given) (sym (take_all done before h))
 
 -- and nothing else
 pub nothing_in : (done : ℕ) (items : List ℕ) → take (done + 0) items ≡ take done items ++ []
@@ -55,7 +58,8 @@ pub held_joined : (ns bytes : List ℕ) → 8 * sum ns ≤ length bytes → join
 held_joined [] bytes h = refl
 held_joined (n ∷ ns) bytes h =
     let all = sum_by-cons (λ x. x) n ns in
-    let back : joined (cut ns (drop (8 * n) bytes)) ≡ plain_words (take (8 * sum ns) (drop (8 * n) bytes)) = held_joined ns (drop (8 * n) bytes) (omega (arith, all, length-drop (8 * n) bytes)) in
+    let back : joined (cut ns (drop (8 * n) bytes)) ≡ plain_words (take (8 * sum ns) (drop (8 * n) bytes)) =
+    held_joined ns (drop (8 * n) bytes) (omega (arith, all, length-drop (8 * n) bytes)) in
     let long : length (take (8 * n) bytes) ≡ 8 * n = length-take-le (8 * n) bytes (omega (arith, all)) in
     let bound : 8 * n + 8 * sum ns ≡ 8 * sum (n ∷ ns) = omega (arith, all) in
     let parts : take (8 * sum (n ∷ ns)) bytes ≡ take (8 * n) bytes ++ take (8 * sum ns) (drop (8 * n) bytes) =
@@ -83,11 +87,13 @@ module _ {X : Type 0} (g : source.Ghosts X) where
   }
 
   -- one more piece
-  pub bytes_more : (old now new : X) (done end : ℕ) (bytes longer piece : List ℕ) → end % 8 ≡ 0 → end ≤ length longer → take end longer ≡ take done bytes ++ piece
+  pub bytes_more : (old now new : X) (done end : ℕ) (bytes longer piece : List ℕ) → end % 8 ≡ 0 → end ≤ length longer
+      → take end longer ≡ take done bytes ++ piece
       → BytesSoFar old now done bytes → Takes g now new (plain_words piece) → Reads g now new → IsUsable g now new → BytesSoFar old new end longer
   bytes_more old now new done end bytes longer piece w i e t takes r u =
       let front : length (take done bytes) % 8 ≡ 0 = omega (arith, length-take-le done bytes t.within, t.whole) in
-      let words : plain_words (take end longer) ≡ plain_words (take done bytes) ++ plain_words piece = ap plain_words e ∙ plain_join (take done bytes) piece front in
+      let words : plain_words (take end longer) ≡ plain_words (take done bytes) ++ plain_words piece = ap plain_words e
+      ∙ plain_join (take done bytes) piece front in
       record {
         whole = w;
         within = i;
@@ -103,4 +109,5 @@ module _ {X : Type 0} (g : source.Ghosts X) where
       let taken = length (plain_words (take done bytes)) in
       let few : 8 * taken ≤ done = omega (arith, words_inside (take done bytes), length-take-le done bytes t.within) in
       let some : taken + (end - done) / 8 ≤ words = omega (arith, t.whole) in
-      stops_weaker g old new (taken + (end - done) / 8) words fault some (stops_later g old now new (plain_words (take done bytes)) ((end - done) / 8) fault t.takes t.usable s)
+      stops_weaker g old new (taken + (end - done) / 8) words fault some
+      (stops_later g old now new (plain_words (take done bytes)) ((end - done) / 8) fault t.takes t.usable s)

@@ -8,7 +8,7 @@ use Rattle.cap_spec.proofs.Bytes.Lists.{all_drop}
 use Rattle.cap_spec.proofs.Bytes.Plain.{plain_split}
 use Rattle.cap_words.proofs.AtHand.{bytes_small, front_small}
 use Rattle.cap_words.proofs.Filling.{plain_join}
-use Rattle.std.proofs.Math.Seq.{take-append_seam}
+use Rattle.std.proofs.Math.Seq.{drop-append_seam, take-append_seam}
 use Rattle.std.proofs.lemmas.Bool.{cases_lt}
 use Rattle.cap_spec.specs.Plain.{plain_text, plain_words}
 
@@ -55,7 +55,8 @@ pub part_text : (bs : List ℕ) (at words : ℕ) → ((i : ℕ) → Fits w8 (get
 part_text bs at words fits inside =
     let d : length (drop (8 * at) bs) ≡ length bs - 8 * at = length-drop (8 * at) bs in
     let e : length (take (8 * words) (drop (8 * at) bs)) ≡ 8 * words = length-take-le (8 * words) (drop (8 * at) bs) (omega (arith, d, inside)) in
-    whole_text (take (8 * words) (drop (8 * at) bs)) words (front_small (8 * words) (drop (8 * at) bs) (all_drop (λ b. b < 256) (8 * at) bs (bytes_small bs fits))) e
+    whole_text (take (8 * words) (drop (8 * at) bs)) words
+    (front_small (8 * words) (drop (8 * at) bs) (all_drop (λ b. b < 256) (8 * at) bs (bytes_small bs fits))) e
 
 -- some words of a segment are spelled where their start and that of the segment tell
 pub part_words : (ns bs : List ℕ) (s start words : ℕ) → s < length ns → 8 * sum ns ≤ length bs → start + words ≤ length (get_or (cut ns bs) s [])
@@ -70,7 +71,8 @@ part_words ns bs s start words l h inside =
     let few : (start + words) - start ≡ words = omega arith in
     let r = 8 * n - 8 * start in
     let q : 8 * n ≡ 8 * start + r = omega (arith, inside, e) in
-    let x : drop (8 * start) own ≡ take r (drop (8 * start) (drop at bs)) = ap (λ k. drop (8 * start) (take k (drop at bs))) q ∙ drop-take (8 * start) r (drop at bs) in
+    let x : drop (8 * start) own ≡ take r (drop (8 * start) (drop at bs)) = ap (λ k. drop (8 * start) (take k (drop at bs))) q
+    ∙ drop-take (8 * start) r (drop at bs) in
     let m : 8 * words ≤ r = omega (arith, inside, e) in
     let z : at + 8 * start ≡ 8 * (sum (take s ns) + start) = omega arith in
     let y : drop (8 * start) (drop at bs) ≡ drop (8 * (sum (take s ns) + start)) bs = drop-drop (8 * start) at bs ∙ ap (λ k. drop k bs) z in
@@ -89,7 +91,8 @@ pub part_facts : (ns starts bs : List ℕ) (s start words : ℕ) → starts ≡ 
     → start + words ≤ length (get_or (cut ns bs) s []) → PartFacts ns starts bs s start words
 part_facts ns starts bs s start words are inside exists within =
     let l : s < length ns = omega (arith, cut_length ns bs) in
-    let at : get_or starts s 0 ≡ sum (take s ns) = ap (λ xs. get_or xs s 0) are ∙ (start_is 0 ns s l ∙ (let z : 0 + sum (take s ns) ≡ sum (take s ns) = omega arith in z)) in
+    let at : get_or starts s 0 ≡ sum (take s ns) = ap (λ xs. get_or xs s 0) are
+    ∙ (start_is 0 ns s l ∙ (let z : 0 + sum (take s ns) ≡ sum (take s ns) = omega arith in z)) in
     let e : length (get_or (cut ns bs) s []) ≡ get_or ns s 0 = cut_words ns bs s l inside in
     let f : sum (take s ns) + get_or ns s 0 ≤ sum ns = front_sum ns s l in
     record {

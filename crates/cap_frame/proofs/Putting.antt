@@ -28,7 +28,8 @@ module _ {K : Type 0} (g : sink.Ghosts K) where
   -- some words, and then others
   pub puts_both : (old mid new : K) (a b : List ℕ) → Puts g old mid a → Puts g mid new b → Puts g old new (a ++ b)
   puts_both old mid new a b p q = record {
-    put = λ ws. subst (λ (xs : List ℕ). Keeps (g.text old xs) (g.text new ws)) (sym (append_assoc a b ws)) (Keeps-trans (g.text old (a ++ (b ++ ws))) (g.text mid (b ++ ws)) (g.text new ws) (p.put (b ++ ws)) (q.put ws));
+    put = λ ws. subst (λ (xs : List ℕ). Keeps (g.text old xs) (g.text new ws)) (sym (append_assoc a b ws))
+        (Keeps-trans (g.text old (a ++ (b ++ ws))) (g.text mid (b ++ ws)) (g.text new ws) (p.put (b ++ ws)) (q.put ws));
     was_open = p.was_open;
     is_open = q.is_open;
     spent = q.spent ∙ p.spent;
@@ -36,7 +37,8 @@ module _ {K : Type 0} (g : sink.Ghosts K) where
   }
 
   -- a fault tells the same of the output as it was before words were put
-  pub blames_later : (old mid new : K) (fault : SinkFault) → g.spent mid ≡ g.spent old → g.failures mid ≡ g.failures old → Blames g mid new fault → Blames g old new fault
+  pub blames_later : (old mid new : K) (fault : SinkFault) → g.spent mid ≡ g.spent old → g.failures mid ≡ g.failures old → Blames g mid new fault
+      → Blames g old new fault
   blames_later old mid new Device s n b = record {
     usable = sym s ∙ b.usable;
     failed = b.failed ∙ ap (λ (f : Failures). f.device + 1) n;
@@ -123,7 +125,8 @@ module _ {K : Type 0} (g : sink.Ghosts K) where
       (halts_behind old now new l.done (front ++ less) fault l.puts (halts_before now new front less fault h))
 
 -- the pair in front of numbers from k on
-paired_at : (numbers : List ℕ) (k : ℕ) → k < length numbers → paired (drop k numbers) ≡ (get_or numbers k 0 + 2 ^ 32 * get_or numbers (suc k) 0) ∷ paired (drop (suc (suc k)) numbers)
+paired_at : (numbers : List ℕ) (k : ℕ) → k < length numbers
+    → paired (drop k numbers) ≡ (get_or numbers k 0 + 2 ^ 32 * get_or numbers (suc k) 0) ∷ paired (drop (suc (suc k)) numbers)
 paired_at [] k h = absurd (omega arith)
 paired_at (x ∷ []) zero h = let e : x ≡ x + 2 ^ 32 * 0 = omega arith in ap (λ (y : ℕ). y ∷ []) e
 paired_at (x ∷ y ∷ numbers) zero h = refl

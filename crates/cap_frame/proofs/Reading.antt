@@ -89,7 +89,8 @@ module _ {X : Type 0} (g : source.Ghosts X) (is : List (List ℕ) → Type 0) (l
   pub no_memory : (sizes : List ℕ) → ReadsNext g limit old new (Ok true) → TakesTable g old new sizes → sum sizes ≤ limit
       → ReadsFrame g is limit old new (Err Memory)
   no_memory sizes n table within =
-      no_frame (Err Memory) (λ i. absurd (cc)) (next_later g limit old new new (Err Memory) n (reads_none g new) tt ((sizes, table, within), n.works) (λ i. absurd (cc)))
+      no_frame (Err Memory) (λ i. absurd (cc)) (next_later g limit old new new (Err Memory) n (reads_none g new) tt ((sizes, table, within), n.works)
+      (λ i. absurd (cc)))
 
 module _ {X : Type 0} (g : source.Ghosts X) (is : List (List ℕ) → Type 0) (limit : ℕ) (old mid new : X) (sizes : List ℕ) where
   -- the contents stood behind a table

@@ -49,7 +49,8 @@ module _ {X : Type 0} (g : source.Ghosts X) where
   skipped_none s u = record { own = []; so_far = words_start g s [] u refl }
 
   -- some more
-  pub skipped_more : (old now new : X) (many n : ℕ) (own : List ℕ) → SkippedSoFar old now many → Takes g now new own → length own ≡ n → Reads g now new → IsUsable g now new → SkippedSoFar old new (many + n)
+  pub skipped_more : (old now new : X) (many n : ℕ) (own : List ℕ) → SkippedSoFar old now many → Takes g now new own → length own ≡ n → Reads g now new
+      → IsUsable g now new → SkippedSoFar old new (many + n)
   skipped_more old now new many n own w t l r u = record {
     own = w.own ++ own;
     so_far = record {

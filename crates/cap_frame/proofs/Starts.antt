@@ -25,7 +25,8 @@ pub starts_more : (sizes starts longer : List ℕ) (s at n : ℕ) → s < length
     → StartsSoFar sizes s at starts → StartsSoFar sizes (s + 1) (at + n) longer
 starts_more sizes starts longer s at n h e l t =
     let back : drop s sizes ≡ get_or sizes s 0 ∷ drop (s + 1) sizes = rw add-one (drop-cons sizes s 0 h) in
-    let whole : sum (take (s + 1) sizes) ≡ sum (take s sizes) + sum (get_or sizes s 0 ∷ []) = ap sum (take_more sizes s 0 h) ∙ sum_by-append (λ x. x) (take s sizes) (get_or sizes s 0 ∷ []) in
+    let whole : sum (take (s + 1) sizes) ≡ sum (take s sizes) + sum (get_or sizes s 0 ∷ []) = ap sum (take_more sizes s 0 h)
+    ∙ sum_by-append (λ x. x) (take s sizes) (get_or sizes s 0 ∷ []) in
     let one : sum (get_or sizes s 0 ∷ []) ≡ get_or sizes s 0 = zero-add (get_or sizes s 0) in
     record {
       many = omega (arith, ap length l, length-append starts (at ∷ []), t.many);

@@ -54,13 +54,16 @@ module _ {X : Type 0} (g : source.Ghosts X) where
     usable = usable_both g old now new t.usable usable;
     fit = all_append IsWord t.more (word ∷ []) t.fit (w, tt);
     sizes_are =
-        let short : sizes ≡ behind first t.more = t.sizes_are ∙ take_all (first % 2 ^ 32 + 1) (behind first t.more) (omega (arith, length_behind first t.more, t.length_is)) in
-        let longer_is : sizes ++ halves word ≡ behind first (t.more ++ word ∷ []) = ap (λ (ns : List ℕ). ns ++ halves word) short ∙ ap (λ (ns : List ℕ). first / 2 ^ 32 ∷ ns) (sym (flat_map-append halves t.more (word ∷ []))) in
+        let short : sizes ≡ behind first t.more = t.sizes_are
+        ∙ take_all (first % 2 ^ 32 + 1) (behind first t.more) (omega (arith, length_behind first t.more, t.length_is)) in
+        let longer_is : sizes ++ halves word ≡ behind first (t.more ++ word ∷ []) = ap (λ (ns : List ℕ). ns ++ halves word) short
+        ∙ ap (λ (ns : List ℕ). first / 2 ^ 32 ∷ ns) (sym (flat_map-append halves t.more (word ∷ []))) in
         e ∙ ap (take (first % 2 ^ 32 + 1)) longer_is;
   }
 
   -- there is room for one more number at least
-  pub table_room : (first many : ℕ) (old now : X) (sizes : List ℕ) → many < (first % 2 ^ 32 + 1) / 2 → TableSoFar first many old now sizes → length sizes < first % 2 ^ 32 + 1
+  pub table_room : (first many : ℕ) (old now : X) (sizes : List ℕ) → many < (first % 2 ^ 32 + 1) / 2 → TableSoFar first many old now sizes
+      → length sizes < first % 2 ^ 32 + 1
   table_room first many old now sizes h t =
       let l = length_behind first t.more in
       let k = length-take (first % 2 ^ 32 + 1) (behind first t.more) in
@@ -71,4 +74,5 @@ module _ {X : Type 0} (g : source.Ghosts X) where
   pub table_stops : (first many : ℕ) (old now new : X) (sizes : List ℕ) (fault : SourceFault) → many < (first % 2 ^ 32 + 1) / 2
       → TableSoFar first many old now sizes → Stops g 1 now new fault → Stops g ((first % 2 ^ 32 + 1) / 2) old new fault
   table_stops first many old now new sizes fault h t s =
-      stops_weaker g old new (length t.more + 1) ((first % 2 ^ 32 + 1) / 2) fault (omega (arith, t.length_is)) (stops_later g old now new t.more 1 fault t.takes t.usable s)
+      stops_weaker g old new (length t.more + 1) ((first % 2 ^ 32 + 1) / 2) fault (omega (arith, t.length_is))
+      (stops_later g old now new t.more 1 fault t.takes t.usable s)

@@ -22,7 +22,11 @@ pub goes_on_both : (a b : Option (List ℕ)) (taken own : List ℕ) (c d e : Boo
     → OnSome a ((e ≡ c) × (r ∷ rs ≡ drop (length (taken ++ own)) (p ∷ ps)))
 goes_on_both None b taken own c d e p q r ps qs rs t f s = tt
 goes_on_both (Some x) None taken own c d e p q r ps qs rs t f s = absurd t
-goes_on_both (Some x) (Some y) taken own c d e p q r ps qs rs t f s = (s.0 ∙ f.0, s.1 ∙ (ap (drop (length own)) f.1 ∙ (drop-drop (length own) (length taken) (p ∷ ps) ∙ ap (λ n. drop n (p ∷ ps)) (sym (length-append taken own)))))
+goes_on_both (Some x) (Some y) taken own c d e p q r ps qs rs t f s = (
+  s.0 ∙ f.0,
+  s.1 ∙ (ap (drop (length own)) f.1 ∙ (drop-drop (length own) (length taken) (p ∷ ps)
+      ∙ ap (λ n. drop n (p ∷ ps)) (sym (length-append taken own)))),
+)
 
 -- the source ended after these words and fewer than n more
 pub short_both : (a b : Option (List ℕ)) (taken : List ℕ) (n byte p q : ℕ) (ps qs : List ℕ) (P : Type 0)
@@ -34,8 +38,11 @@ short_both None b taken n byte p q ps qs P t f s = tt
 short_both (Some x) None taken n byte p q ps qs P t f s = absurd t
 short_both (Some x) (Some y) taken n byte p q ps qs P t f s =
     let l : length x ≡ length taken + length y = ap length t ∙ length-append taken y in
-    let k : length taken + suc (length y) ≡ suc (length x) = omega arith in
-    (omega (arith, s.0), ap (λ n. drop n (p ∷ ps)) (sym k) ∙ (sym (drop-drop (suc (length y)) (length taken) (p ∷ ps)) ∙ (ap (drop (suc (length y))) (sym f.1) ∙ s.1)))
+    let k : length taken + suc (length y) ≡ suc (length x) = omega arith in (
+      omega (arith, s.0),
+      ap (λ n. drop n (p ∷ ps)) (sym k)
+          ∙ (sym (drop-drop (suc (length y)) (length taken) (p ∷ ps)) ∙ (ap (drop (suc (length y))) (sym f.1) ∙ s.1)),
+    )
 
 -- a count that stops at a number goes on from where it is or from where it stopped
 capped_both : (m p q r x y : ℕ) → min q m ≡ min (p + x) m → min r m ≡ min (q + y) m → min r m ≡ min (p + (x + y)) m
@@ -63,14 +70,19 @@ module _ {X : Type 0} (g : source.Ghosts X) where
   -- the next word
   pub takes_one : (old new : X) (word : ℕ) → Consumes (g.words old) (g.words new) (word ∷ [])
       → OnSome (g.words old) ((g.is_cut new ≡ g.is_cut old) × (g.places old ≡ g.place new ∷ g.places new)) → Takes g old new (word ∷ [])
-  takes_one old new word c f = record { words = c; goes_on = goes_on_one (g.words old) (g.is_cut new ≡ g.is_cut old) (g.place old) (g.place new) (g.places old) (g.places new) f }
+  takes_one old new word c f = record {
+    words = c;
+    goes_on =
+        goes_on_one (g.words old) (g.is_cut new ≡ g.is_cut old) (g.place old) (g.place new) (g.places old) (g.places new) f;
+  }
 
   -- no bytes
   pub reads_none : (s : X) → Reads g s s
   reads_none s = record { bytes = []; unread = Consumes-nil (g.unread s); counted = omega arith }
 
   -- those of one call
-  pub reads_one : (old new : X) → (bs : List ℕ) × Consumes (g.unread old) (g.unread new) bs × (g.place new ≡ min (g.place old + length bs) (2 ^ 64 - 1)) → Reads g old new
+  pub reads_one : (old new : X) → (bs : List ℕ) × Consumes (g.unread old) (g.unread new) bs × (g.place new ≡ min (g.place old + length bs) (2 ^ 64 - 1))
+      → Reads g old new
   reads_one old new r = record { bytes = r.0; unread = r.1; counted = let p = r.2 in omega (arith, p) }
 
   -- some bytes, and then others
@@ -78,14 +90,16 @@ module _ {X : Type 0} (g : source.Ghosts X) where
   reads_both old mid new a b = record {
     bytes = a.bytes ++ b.bytes;
     unread = Consumes-trans (g.unread old) (g.unread mid) (g.unread new) a.bytes b.bytes a.unread b.unread;
-    counted = rw (length-append a.bytes b.bytes) (capped_both (2 ^ 64 - 1) (g.place old) (g.place mid) (g.place new) (length a.bytes) (length b.bytes) a.counted b.counted);
+    counted = rw (length-append a.bytes b.bytes) (capped_both (2 ^ 64 - 1) (g.place old) (g.place mid) (g.place new) (length a.bytes)
+        (length b.bytes) a.counted b.counted);
   }
 
   -- some words, and then others
   pub takes_both : (old mid new : X) (taken own : List ℕ) → Takes g old mid taken → Takes g mid new own → Takes g old new (taken ++ own)
   takes_both old mid new taken own t u = record {
     words = Consumes-trans (g.words old) (g.words mid) (g.words new) taken own t.words u.words;
-    goes_on = goes_on_both (g.words old) (g.words mid) taken own (g.is_cut old) (g.is_cut mid) (g.is_cut new) (g.place old) (g.place mid) (g.place new) (g.places old) (g.places mid) (g.places new) t.words t.goes_on u.goes_on;
+    goes_on = goes_on_both (g.words old) (g.words mid) taken own (g.is_cut old) (g.is_cut mid) (g.is_cut new) (g.place old) (g.place mid) (g.place new)
+        (g.places old) (g.places mid) (g.places new) t.words t.goes_on u.goes_on;
   }
 
   -- two calls without a fault
@@ -101,9 +115,11 @@ module _ {X : Type 0} (g : source.Ghosts X) where
   }
 
   -- the source stopped where n words were wanted after these
-  pub stops_later : (old mid new : X) (taken : List ℕ) (n : ℕ) (fault : SourceFault) → Takes g old mid taken → IsUsable g old mid → Stops g n mid new fault → Stops g (length taken + n) old new fault
+  pub stops_later : (old mid new : X) (taken : List ℕ) (n : ℕ) (fault : SourceFault) → Takes g old mid taken → IsUsable g old mid → Stops g n mid new fault
+      → Stops g (length taken + n) old new fault
   stops_later old mid new taken n (Truncated byte) t a s = record {
-    short = short_both (g.words old) (g.words mid) taken n byte (g.place old) (g.place mid) (g.places old) (g.places mid) (g.is_cut mid ≡ g.is_cut old) t.words t.goes_on s.short;
+    short = short_both (g.words old) (g.words mid) taken n byte (g.place old) (g.place mid) (g.places old) (g.places mid)
+        (g.is_cut mid ≡ g.is_cut old) t.words t.goes_on s.short;
     place = s.place;
     usable = a.usable;
     none_failed = s.none_failed ∙ a.none_failed;

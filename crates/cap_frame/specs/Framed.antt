@@ -46,5 +46,5 @@ pub record DecidesFront (limit : ℕ) (bytes : List ℕ) (result : Result (Optio
   -- The table is whole and past the limit.
   pub large : (words : ℕ) → TellsLarge limit bytes words → result ≡ Err (TooLarge words)
   -- They end inside a message.
-  pub cut_short : (wanted : ℕ) → IsPartial limit (plain_words bytes) (plain_is_cut bytes) → Wants (plain_words bytes) wanted
-      → result ≡ Err (Truncated wanted)
+  pub cut_short : (wanted : ℕ) → IsPartial limit (plain_words bytes) (plain_is_cut bytes)
+      → Wants (plain_words bytes) wanted → result ≡ Err (Truncated wanted)

@@ -36,7 +36,8 @@ pub data Wants (words : List ℕ) (n : ℕ) : Type 0 where
   a_table : (first : ℕ) (rest : List ℕ) → words ≡ first ∷ rest → length rest < (first % 2 ^ 32 + 1) / 2
       → n ≡ 8 * table_words (first % 2 ^ 32 + 1) → Wants words n
   -- those of the whole frame
-  a_frame : (table sizes rest : List ℕ) → words ≡ table ++ rest → IsTable table sizes → n ≡ 8 * (length table + sum sizes) → Wants words n
+  a_frame : (table sizes rest : List ℕ) → words ≡ table ++ rest → IsTable table sizes
+      → n ≡ 8 * (length table + sum sizes) → Wants words n
 
 -- the sizes of `count` segments, from the table at the start of the words
 abbrev pub sizes_told : ℕ → List ℕ → List ℕ

@@ -1,5 +1,5 @@
 -- What putting the words of a message does to a sink (profile). g has the members of its type.
-use Rattle.std.specs.Prelude.{◌≡◌, List, ℕ, true, false}
+use Rattle.std.specs.Prelude.{◌≡◌, List, ℕ, true, false, Result, Ok, Err}
 use Rattle.cap_words.specs.Ends.{DeviceFails, GrowthFails, WasSpent}
 use Rattle.cap_words.specs.Sinks.{WasPut, StoppedPutting}
 use Rattle.cap_words.specs.declared.sinks.WordSink as sink
@@ -26,3 +26,8 @@ module _ {K : Type 0} (g : sink.Ghosts K) where
     pub stopped : StoppedPutting g.text g.taken old new words
     pub closed : g.closed new ≡ true
     pub blames : Blames old new fault
+
+  -- they were put, or a fault came
+  abbrev pub PutsOrHalts : K → K → List ℕ → Result (Unit {0}) SinkFault → Type 0
+  PutsOrHalts old new words (Ok x) = Puts old new words
+  PutsOrHalts old new words (Err fault) = Halts old new words fault

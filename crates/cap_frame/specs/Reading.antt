@@ -51,7 +51,8 @@ module _ {X : Type 0} (g : source.Ghosts X) where
 
   -- Known words decide the result, unless a device, memory or an earlier fault is in the way. `is`
   -- says that this message was read.
-  pub record Decides (is : List (List ℕ) → Type 0) (limit : ℕ) (old new : X) (result : Result Bool FrameFault) : Type 0 where
+  pub record Decides (is : List (List ℕ) → Type 0) (limit : ℕ) (old new : X)
+      (result : Result Bool FrameFault) : Type 0 where
     -- A prefix of them frames a message within the limit: the result is that message, and the
     -- source has the other words.
     pub whole : (ws : List ℕ) → g.words old ≡ Some ws → (b : BeginsMessage limit ws)
@@ -70,7 +71,8 @@ module _ {X : Type 0} (g : source.Ghosts X) where
 
   -- The next message of a stream was read: `is` says of a message that it is the one. Or there was none,
   -- or a fault came.
-  pub record ReadsFrame (is : List (List ℕ) → Type 0) (limit : ℕ) (old new : X) (result : Result Bool FrameFault) : Type 0 where
+  pub record ReadsFrame (is : List (List ℕ) → Type 0) (limit : ℕ) (old new : X)
+      (result : Result Bool FrameFault) : Type 0 where
     -- The words that were taken frame the message, within the limit.
     pub message : result ≡ Ok true → (m : List (List ℕ)) × TakesFrame limit old new m × is m
     pub next : ReadsNext limit old new result

@@ -10,7 +10,8 @@ module _ {X : Type 0} (g : source.Ghosts X) where
   -- These words were taken, and no more. How the input ends and the places of the other words stay as they were.
   pub record Takes (old new : X) (own : List ℕ) : Type 0 where
     pub words : Consumes (g.words old) (g.words new) own
-    pub goes_on : OnSome (g.words old) ((g.is_cut new ≡ g.is_cut old) × (g.place new ∷ g.places new ≡ drop (length own) (g.place old ∷ g.places old)))
+    pub goes_on : OnSome (g.words old)
+        ((g.is_cut new ≡ g.is_cut old) × (g.place new ∷ g.places new ≡ drop (length own) (g.place old ∷ g.places old)))
 
   -- These bytes of the input were read, and the place counts them.
   pub record Reads (old new : X) : Type 0 where

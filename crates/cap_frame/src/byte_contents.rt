@@ -81,8 +81,10 @@ fn read_piece<S: WordSource>(
     requires some { start < end }
     requires begun { start ≤ vec_len bytes.old }
     requires room { end ≤ vec_capacity bytes.old }
-    ensures ok { OnOk result ((piece : List ℕ) × (take end bytes.new.items ≡ take start bytes.old.items ++ piece)
-        × (length piece ≡ end - start) × Takes S.WordSource source.old source.new (plain_words piece)) }
+    ensures ok { OnOk result ((piece : List ℕ)
+        × (take end bytes.new.items ≡ take start bytes.old.items ++ piece)
+        × (length piece ≡ end - start)
+        × Takes S.WordSource source.old source.new (plain_words piece)) }
     ensures within { OnOk result (end ≤ vec_len bytes.new) }
     ensures capacity { vec_capacity bytes.old ≤ vec_capacity bytes.new }
     ensures works { OnOk result (IsUsable S.WordSource source.old source.new) }
@@ -115,7 +117,8 @@ fn append_run<S: WordSource>(source: &mut S, bytes: &mut Vec<u8>, done: usize, n
     requires begun { done ≤ vec_len bytes.old }
     requires within { done ≤ need }
     requires usable { S.spent source.old ≡ false }
-    ensures ok { (piece : List ℕ) × (take (done + result) bytes.new.items ≡ take done bytes.old.items ++ piece)
+    ensures ok { (piece : List ℕ)
+        × (take (done + result) bytes.new.items ≡ take done bytes.old.items ++ piece)
         × (length piece ≡ result) × Takes S.WordSource source.old source.new (plain_words piece) }
     ensures whole { result % 8 ≡ 0 }
     ensures within { done + result ≤ need }
@@ -141,7 +144,8 @@ pub(crate) fn read_bytes<S: WordSource>(
     requires usable { S.spent source.old ≡ false }
     requires small { words ≤ 268435456 }
     requires room { 8 * words ≤ vec_capacity bytes.old }
-    ensures ok { OnOk result (Takes S.WordSource source.old source.new (plain_words (take (8 * words) bytes.new.items))) }
+    ensures ok { OnOk result (Takes S.WordSource source.old source.new
+        (plain_words (take (8 * words) bytes.new.items))) }
     ensures within { OnOk result (8 * words ≤ vec_len bytes.new) }
     ensures works { OnOk result (IsUsable S.WordSource source.old source.new) }
     ensures reads { Reads S.WordSource source.old source.new }

@@ -24,8 +24,8 @@ fn read_parts<S: WordSource>(
     sizes: &mut Sizes,
     bytes: &mut Vec<u8>,
 ) -> Result<bool, FrameFault>
-    ensures read { ReadsFrame S.WordSource (λ m. cut sizes.new.items bytes.new.items ≡ m) (limit_of limit)
-        source.old source.new result }
+    ensures read { ReadsFrame S.WordSource (λ m. cut sizes.new.items bytes.new.items ≡ m)
+        (limit_of limit) source.old source.new result }
     ensures some { result ≡ Ok true → 1 ≤ length sizes.new.items }
     ensures few { result ≡ Ok true → length sizes.new.items ≤ 512 }
     ensures small { result ≡ Ok true → sum sizes.new.items ≤ 268435456 }

@@ -31,7 +31,7 @@ pub struct Framed<'b> {
 }
 
 impl<'b> Framed<'b> {
-    ghost use Rattle.cap_frame.specs.Framed.{frame_bytes, framed_segments};
+    ghost use Rattle.cap_frame.specs.Framed.{frame_bytes, framed_segments, framed_sizes};
 
     /// How many segments the message has, 1 to 512.
     #[inline]
@@ -69,8 +69,8 @@ impl<'b> Framed<'b> {
 
     // Puts the tables of the message into `tables`, in place of their contents.
     fn fill(&self, tables: &mut SegmentTables)
-        ensures sizes { tables.new.sizes.items ≡ sizes_told self.now.count (plain_words self.now.bytes.now) }
-        ensures starts { tables.new.starts.items ≡ starts_of 0 (sizes_told self.now.count (plain_words self.now.bytes.now)) }
+        ensures sizes { tables.new.sizes.items ≡ framed_sizes self.now }
+        ensures starts { tables.new.starts.items ≡ starts_of 0 (framed_sizes self.now) }
     {
         fill_sizes(self.bytes, self.count, &mut tables.sizes);
         fill_starts(&tables.sizes, &mut tables.starts);
@@ -90,7 +90,8 @@ impl<'b> Framed<'b> {
     #[inline]
     pub fn one_segment(&self, size: &'b mut [u32; 1]) -> Option<ByteView<'b>>
         ensures one { IsSome result ↔ (length (framed_segments self.now) ≡ 1) }
-        ensures segments { IfSome result (λ v. ⟦<ByteView<'b> as Segments>⟧.segments v ≡ framed_segments self.now) }
+        ensures segments { let of = ⟦<ByteView<'b> as Segments>⟧.segments in
+            IfSome result (λ v. of v ≡ framed_segments self.now) }
     {
         if self.count != 1 {
             return None;

@@ -18,7 +18,8 @@ impl WordMessage {
     /// has more than 4294967295 words.
     pub fn new(segments: Vec<Vec<u64>>) -> Option<WordMessage>
         ensures some { IsSome result ↔ IsMessage (map (λ v. v.items) segments.items) }
-        ensures segments { IfSome result (λ m. ⟦<WordMessage as Segments>⟧.segments m ≡ map (λ v. v.items) segments.items) }
+        ensures segments { let of = ⟦<WordMessage as Segments>⟧.segments in
+            IfSome result (λ m. of m ≡ map (λ v. v.items) segments.items) }
     {
         if segments.is_empty() || segments.len() > 512 {
             return None;
@@ -61,7 +62,8 @@ impl<'w> OneSegment<'w> {
     /// The message whose one segment has these words, or `None` for more than 4294967295 of them.
     pub fn new(words: &'w [u64]) -> Option<OneSegment<'w>>
         ensures some { IsSome result ↔ (length words.now ≤ 4294967295) }
-        ensures segments { IfSome result (λ m. ⟦<OneSegment<'w> as Segments>⟧.segments m ≡ words.now ∷ []) }
+        ensures segments { let of = ⟦<OneSegment<'w> as Segments>⟧.segments in
+            IfSome result (λ m. of m ≡ words.now ∷ []) }
     {
         if words.len() > 4294967295 {
             None

@@ -26,9 +26,11 @@ pub fn read_outline<S: WordSource>(
     limit: SizeLimit,
     outline: &mut Outline,
 ) -> Result<bool, FrameFault>
-    ensures read { ReadsFrame S.WordSource (Outlines outline.new) (limit_of limit) source.old source.new result }
+    ensures read { ReadsFrame S.WordSource (Outlines outline.new) (limit_of limit)
+        source.old source.new result }
     ensures no_memory { IsErrOf result FrameFault.Memory → ⊥ }
-    ensures emptied { (result ≡ Ok true → ⊥) → (sizes_in outline.new ≡ []) × (root_in outline.new ≡ None) }
+    ensures emptied { (result ≡ Ok true → ⊥)
+        → (sizes_in outline.new ≡ []) × (root_in outline.new ≡ None) }
 {
     outline.clear();
     match next_table(source, limit, &mut outline.sizes) {

@@ -38,8 +38,8 @@ pub fn read_message<S: WordSource>(
     source: &mut S,
     limit: SizeLimit,
 ) -> Result<Option<WordMessage>, FrameFault>
-    ensures { ReadsFrame S.WordSource (IsResult ⟦<WordMessage as Segments>⟧.segments result) (limit_of limit)
-        source.old source.new (has_message result) }
+    ensures { ReadsFrame S.WordSource (IsResult ⟦<WordMessage as Segments>⟧.segments result)
+        (limit_of limit) source.old source.new (has_message result) }
 {
     let mut sizes = Sizes::new();
     match next_table(source, limit, &mut sizes) {

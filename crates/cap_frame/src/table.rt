@@ -57,7 +57,8 @@ fn read_sizes<S: WordSource>(
         × IsTable (first ∷ more) sizes.new.items) }
     ensures works { OnOk result (IsUsable S.WordSource source.old source.new) }
     ensures reads { Reads S.WordSource source.old source.new }
-    ensures err { IfErr result (Stops S.WordSource ((first % 2 ^ 32 + 1) / 2) source.old source.new) }
+    ensures err { IfErr result (Stops S.WordSource ((first % 2 ^ 32 + 1) / 2)
+        source.old source.new) }
 {
     let count = low_half(first) as usize + 1;
     sizes.push(high_half(first));
@@ -87,7 +88,8 @@ pub(crate) fn next_table<S: WordSource>(
     sizes: &mut Sizes,
 ) -> Result<bool, FrameFault>
     requires empty { sizes.old.items ≡ [] }
-    ensures table { result ≡ Ok true → TakesTable S.WordSource source.old source.new sizes.new.items }
+    ensures table { result ≡ Ok true
+        → TakesTable S.WordSource source.old source.new sizes.new.items }
     ensures within { result ≡ Ok true → sum sizes.new.items ≤ limit_of limit }
     ensures next { ReadsNext S.WordSource (limit_of limit) source.old source.new result }
     ensures no_memory { IsErrOf result FrameFault.Memory → ⊥ }

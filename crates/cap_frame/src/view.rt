@@ -51,8 +51,10 @@ impl<'b> ByteView<'b> {
     /// them.
     #[inline]
     pub fn of_words(bytes: &'b [u8], size: &'b mut [u32; 1]) -> Option<ByteView<'b>>
-        ensures some { IsSome result ↔ (length bytes.now % 8 ≡ 0) × (length bytes.now ≤ 8 * 268435456) }
-        ensures segments { IfSome result (λ v. ⟦<ByteView<'b> as Segments>⟧.segments v ≡ plain_words bytes.now ∷ []) }
+        ensures some { IsSome result
+            ↔ (length bytes.now % 8 ≡ 0) × (length bytes.now ≤ 8 * 268435456) }
+        ensures segments { let of = ⟦<ByteView<'b> as Segments>⟧.segments in
+            IfSome result (λ v. of v ≡ plain_words bytes.now ∷ []) }
     {
         if bytes.len() % 8 != 0 || bytes.len() > 8 * 268_435_456 {
             return None;
@@ -66,8 +68,10 @@ impl<'b> ByteView<'b> {
     #[inline]
     pub fn bytes(&self, s: u32, start: u32, words: u32) -> &'b [u8]
         requires exists { let m = ⟦<ByteView<'b> as Segments>⟧.segments self.now in s < length m }
-        requires inside { let m = ⟦<ByteView<'b> as Segments>⟧.segments self.now in start + words ≤ length (segment_of m s) }
-        ensures { let m = ⟦<ByteView<'b> as Segments>⟧.segments self.now in result.now ≡ plain_text (slice_range (segment_of m s) start (start + words)) }
+        requires inside { let m = ⟦<ByteView<'b> as Segments>⟧.segments self.now in
+            start + words ≤ length (segment_of m s) }
+        ensures { let m = ⟦<ByteView<'b> as Segments>⟧.segments self.now in
+            result.now ≡ plain_text (slice_range (segment_of m s) start (start + words)) }
     {
         let at = (self.starts[s as usize] + start) as usize;
         words_at(self.bytes, at, words as usize)

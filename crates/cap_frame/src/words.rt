@@ -56,7 +56,8 @@ pub(crate) fn read_words<S: WordSource>(
 
 /// Empty vectors with capacity for the words of segments of these sizes.
 pub(crate) fn rooms(alloc: Global, sizes: &[u32]) -> Result<Vec<Vec<u64>>, AllocError>
-    ensures { IfOk result (λ rooms. AreRooms (λ v. v.items) (λ v. vec_capacity v) rooms.items sizes.now) }
+    ensures { IfOk result (λ rooms. AreRooms (λ v. v.items) (λ v. vec_capacity v)
+        rooms.items sizes.now) }
 {
     let mut rooms = Vec::with_capacity(alloc, sizes.len())?;
     'sizes: for size in sizes {
@@ -73,7 +74,8 @@ pub(crate) fn read_contents<S: WordSource>(
 ) -> Result<(), SourceFault>
     requires usable { S.spent source.old ≡ false }
     requires rooms { AreRooms (λ v. v.items) (λ v. vec_capacity v) segments.old.items sizes.now }
-    ensures ok { OnOk result (Takes S.WordSource source.old source.new (joined (map (λ v. v.items) segments.new.items))) }
+    ensures ok { OnOk result (Takes S.WordSource source.old source.new
+        (joined (map (λ v. v.items) segments.new.items))) }
     ensures sizes { OnOk result (sizes_of (map (λ v. v.items) segments.new.items) ≡ sizes.now) }
     ensures works { OnOk result (IsUsable S.WordSource source.old source.new) }
     ensures reads { Reads S.WordSource source.old source.new }
@@ -98,7 +100,8 @@ fn skip_some<S: WordSource>(source: &mut S, room: &mut [u8]) -> Result<u64, Sour
     requires usable { S.spent source.old ≡ false }
     requires room { 8 ≤ length room.old }
     ensures some { IfOk result (λ n. (1 ≤ n) × (8 * n ≤ length room.old)) }
-    ensures ok { IfOk result (λ n. (own : List ℕ) × Takes S.WordSource source.old source.new own × (length own ≡ n)) }
+    ensures ok { IfOk result (λ n. (own : List ℕ)
+        × Takes S.WordSource source.old source.new own × (length own ≡ n)) }
     ensures works { OnOk result (IsUsable S.WordSource source.old source.new) }
     ensures reads { Reads S.WordSource source.old source.new }
     ensures err { IfErr result (Stops S.WordSource 1 source.old source.new) }
@@ -116,7 +119,8 @@ fn skip_some<S: WordSource>(source: &mut S, room: &mut [u8]) -> Result<u64, Sour
 /// Reads `many` words, and keeps none.
 pub(crate) fn skip_words<S: WordSource>(source: &mut S, many: u64) -> Result<(), SourceFault>
     requires usable { S.spent source.old ≡ false }
-    ensures ok { OnOk result ((own : List ℕ) × Takes S.WordSource source.old source.new own × (length own ≡ many)) }
+    ensures ok { OnOk result ((own : List ℕ)
+        × Takes S.WordSource source.old source.new own × (length own ≡ many)) }
     ensures works { OnOk result (IsUsable S.WordSource source.old source.new) }
     ensures reads { Reads S.WordSource source.old source.new }
     ensures err { IfErr result (Stops S.WordSource many source.old source.new) }
@@ -141,7 +145,8 @@ pub(crate) fn skip_contents<S: WordSource>(
     requires usable { S.spent source.old ≡ false }
     requires some { 1 ≤ length sizes.now }
     requires few { length sizes.now ≤ 512 }
-    ensures ok { IfOk result (λ root. (m : List (List ℕ)) × Takes S.WordSource source.old source.new (joined m) × (sizes_of m ≡ sizes.now)
+    ensures ok { IfOk result (λ root. (m : List (List ℕ))
+        × Takes S.WordSource source.old source.new (joined m) × (sizes_of m ≡ sizes.now)
         × (root_of m ≡ root)) }
     ensures works { OnOk result (IsUsable S.WordSource source.old source.new) }
     ensures reads { Reads S.WordSource source.old source.new }

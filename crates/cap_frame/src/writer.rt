@@ -1,11 +1,11 @@
 //! Writing messages to a sink of words.
 
 ghost use Rattle.cap_frame.specs.Numbers.{numbers_of, pair_at, table_rest};
-ghost use Rattle.cap_frame.specs.Putting.{Halts, Puts};
+ghost use Rattle.cap_frame.specs.Putting.{PutsOrHalts};
 ghost use Rattle.cap_spec.specs.Frames.{frame_text, joined};
 ghost use Rattle.cap_spec.specs.Messages.{segment_of};
 ghost use Rattle.cap_spec.specs.Plain.{plain_words};
-ghost use Rattle.std.specs.Prelude.{◌*◌, ◌<◌, ◌^◌, ◌≡◌, ◌≤◌, [], ◌∷◌, IfErr, OnOk, false, length, slice_index, true};
+ghost use Rattle.std.specs.Prelude.{◌*◌, ◌<◌, ◌^◌, ◌≡◌, ◌≤◌, [], ◌∷◌, false, length, slice_index, true};
 
 use crate::segments::Segments;
 use cap_words::{SinkFault, WordSink};
@@ -37,8 +37,7 @@ fn table_word<M: Segments>(message: &M, w: u32) -> u64
 // Puts the table after its first word.
 fn put_sizes<K: WordSink, M: Segments>(sink: &mut K, message: &M) -> Result<(), SinkFault>
     requires open { K.closed sink.old ≡ false }
-    ensures ok { OnOk result (Puts K.WordSink sink.old sink.new (table_rest (M.segments message.now))) }
-    ensures err { IfErr result (Halts K.WordSink sink.old sink.new (table_rest (M.segments message.now))) }
+    ensures { PutsOrHalts K.WordSink sink.old sink.new (table_rest (M.segments message.now)) result }
 {
     'table: for w in 0..message.count() / 2 {
         if let Err(fault) = sink.put(table_word(message, w + 1)) {
@@ -52,8 +51,7 @@ fn put_sizes<K: WordSink, M: Segments>(sink: &mut K, message: &M) -> Result<(), 
 fn put_segment<K: WordSink, M: Segments>(sink: &mut K, message: &M, s: u32) -> Result<(), SinkFault>
     requires exists { s < length (M.segments message.now) }
     requires open { K.closed sink.old ≡ false }
-    ensures ok { OnOk result (Puts K.WordSink sink.old sink.new (segment_of (M.segments message.now) s)) }
-    ensures err { IfErr result (Halts K.WordSink sink.old sink.new (segment_of (M.segments message.now) s)) }
+    ensures { PutsOrHalts K.WordSink sink.old sink.new (segment_of (M.segments message.now) s) result }
 {
     'words: for w in 0..message.len(s) {
         if let Err(fault) = sink.put(message.word(s, w)) {
@@ -66,8 +64,7 @@ fn put_segment<K: WordSink, M: Segments>(sink: &mut K, message: &M, s: u32) -> R
 // Puts the words of all segments.
 fn put_contents<K: WordSink, M: Segments>(sink: &mut K, message: &M) -> Result<(), SinkFault>
     requires open { K.closed sink.old ≡ false }
-    ensures ok { OnOk result (Puts K.WordSink sink.old sink.new (joined (M.segments message.now))) }
-    ensures err { IfErr result (Halts K.WordSink sink.old sink.new (joined (M.segments message.now))) }
+    ensures { PutsOrHalts K.WordSink sink.old sink.new (joined (M.segments message.now)) result }
 {
     'segments: for s in 0..message.count() {
         if let Err(fault) = put_segment(sink, message, s) {
@@ -86,9 +83,9 @@ fn put_contents<K: WordSink, M: Segments>(sink: &mut K, message: &M) -> Result<(
 /// The error of the sink at some word. The sink then returns `Spent` for good, and what its output
 /// took is a beginning of the text.
 pub fn write_message<K: WordSink, M: Segments>(sink: &mut K, message: &M) -> Result<(), SinkFault>
-    ensures ok { OnOk result (Puts K.WordSink sink.old sink.new (frame_text (M.segments message.now))) }
-    ensures err { IfErr result (Halts K.WordSink sink.old sink.new (frame_text (M.segments message.now))) }
-    ensures for_good { K.closed sink.old ≡ true → (result ≡ Err SinkFault.Spent) × (sink.new ≡ sink.old) }
+    ensures put { PutsOrHalts K.WordSink sink.old sink.new (frame_text (M.segments message.now)) result }
+    ensures for_good { K.closed sink.old ≡ true → (result ≡ Err SinkFault.Spent)
+        × (sink.new ≡ sink.old) }
 {
     if let Err(fault) = sink.put(table_word(message, 0)) {
         return Err(fault);
@@ -111,9 +108,9 @@ pub fn write_message<K: WordSink, M: Segments>(sink: &mut K, message: &M) -> Res
 /// Those of [`write_message`].
 pub fn write_segment<K: WordSink>(sink: &mut K, words: &[u8]) -> Result<(), SinkFault>
     requires { length words.now < 2 ^ 35 }
-    ensures ok { OnOk result (Puts K.WordSink sink.old sink.new (frame_text (plain_words words.now ∷ []))) }
-    ensures err { IfErr result (Halts K.WordSink sink.old sink.new (frame_text (plain_words words.now ∷ []))) }
-    ensures for_good { K.closed sink.old ≡ true → (result ≡ Err SinkFault.Spent) × (sink.new ≡ sink.old) }
+    ensures put { PutsOrHalts K.WordSink sink.old sink.new (frame_text (plain_words words.now ∷ [])) result }
+    ensures for_good { K.closed sink.old ≡ true → (result ≡ Err SinkFault.Spent)
+        × (sink.new ≡ sink.old) }
 {
     let table = words.len() as u64 / 8 * 0x1_0000_0000;
     if let Err(fault) = sink.put(table) {

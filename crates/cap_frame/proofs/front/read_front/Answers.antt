@@ -8,13 +8,15 @@ use Rattle.cap_words.proofs.AtHand.{bytes_small}
 use Rattle.cap_frame.proofs.front.read_front.Goals as goal
 
 pub returns-then-bytes-lt8 : goal.returns-then-bytes-lt8
-returns-then-bytes-lt8 c = no_first c.args.bytes.now (limit_of c.args.limit) (grind (arith, nat_tests, c.is_empty.ensures, c.if-is_empty.false)) c.if-bytes-lt8.true
+returns-then-bytes-lt8 c = no_first c.args.bytes.now (limit_of c.args.limit)
+    (grind (arith, nat_tests, c.is_empty.ensures, c.if-is_empty.false)) c.if-bytes-lt8.true
 
 pub returns-then-last-ge512 : goal.returns-then-last-ge512
 returns-then-last-ge512 c =
     let bs = c.args.bytes.now in
     let b = begins bs (bytes_small bs (λ i. c.type_inv.bytes i)) c.if-bytes-lt8.false in
-    tells_many bs _ (c.from.result + 1) b (omega (arith, c.read_u32-last.ensures, c.if-last-ge512.true)) (omega (arith, c.from.ensures, c.read_u32-last.ensures))
+    tells_many bs _ (c.from.result + 1) b (omega (arith, c.read_u32-last.ensures, c.if-last-ge512.true))
+    (omega (arith, c.from.ensures, c.read_u32-last.ensures))
 
 pub returns-then-bytes-table : goal.returns-then-bytes-table
 returns-then-bytes-table c =
@@ -28,18 +30,22 @@ returns-then-words c =
     let bs = c.args.bytes.now in
     let all = bytes_small bs (λ i. c.type_inv.bytes i) in
     let b = begins bs all c.if-bytes-lt8.false in
-    let t = has_table bs _ (c.read_u32-last.result + 1) all b (omega (arith, c.read_u32-last.ensures, c.if-last-ge512.false)) (ap (λ n. n + 1) c.read_u32-last.ensures)
+    let t = has_table bs _ (c.read_u32-last.result + 1) all b (omega (arith, c.read_u32-last.ensures, c.if-last-ge512.false))
+    (ap (λ n. n + 1) c.read_u32-last.ensures)
     (omega (arith, c.if-bytes-table.false, c.from-2.ensures)) in
-    tells_large bs (limit_of c.args.limit) (c.read_u32-last.result + 1) c.total_told-words.result t c.total_told-words.ensures (omega (arith, c.if-words.true, c.words.ensures.words))
+    tells_large bs (limit_of c.args.limit) (c.read_u32-last.result + 1) c.total_told-words.result t c.total_told-words.ensures
+    (omega (arith, c.if-words.true, c.words.ensures.words))
 
 pub returns-then-bytes-wanted : goal.returns-then-bytes-wanted
 returns-then-bytes-wanted c =
     let bs = c.args.bytes.now in
     let all = bytes_small bs (λ i. c.type_inv.bytes i) in
     let b = begins bs all c.if-bytes-lt8.false in
-    let t = has_table bs _ (c.read_u32-last.result + 1) all b (omega (arith, c.read_u32-last.ensures, c.if-last-ge512.false)) (ap (λ n. n + 1) c.read_u32-last.ensures)
+    let t = has_table bs _ (c.read_u32-last.result + 1) all b (omega (arith, c.read_u32-last.ensures, c.if-last-ge512.false))
+    (ap (λ n. n + 1) c.read_u32-last.ensures)
     (omega (arith, c.if-bytes-table.false, c.from-2.ensures)) in
-    no_contents bs (limit_of c.args.limit) (c.read_u32-last.result + 1) c.total_told-words.result (8 * (c.from-2.result / 2 + 1) + 8 * c.total_told-words.result) t c.total_told-words.ensures
+    no_contents bs (limit_of c.args.limit) (c.read_u32-last.result + 1) c.total_told-words.result
+    (8 * (c.from-2.result / 2 + 1) + 8 * c.total_told-words.result) t c.total_told-words.ensures
     (omega (arith, c.if-words.false, c.words.ensures.words)) (omega (arith, c.from-2.ensures)) c.if-bytes-wanted.true
 
 pub returns : goal.returns
@@ -47,7 +53,8 @@ returns c =
     let bs = c.args.bytes.now in
     let all = bytes_small bs (λ i. c.type_inv.bytes i) in
     let b = begins bs all c.if-bytes-lt8.false in
-    let t = has_table bs _ (c.read_u32-last.result + 1) all b (omega (arith, c.read_u32-last.ensures, c.if-last-ge512.false)) (ap (λ n. n + 1) c.read_u32-last.ensures)
+    let t = has_table bs _ (c.read_u32-last.result + 1) all b (omega (arith, c.read_u32-last.ensures, c.if-last-ge512.false))
+    (ap (λ n. n + 1) c.read_u32-last.ensures)
     (omega (arith, c.if-bytes-table.false, c.from-2.ensures)) in
     is_front bs (limit_of c.args.limit) (c.read_u32-last.result + 1) c.total_told-words.result t c.total_told-words.ensures
     (omega (arith, c.if-words.false, c.words.ensures.words)) (omega (arith, c.if-bytes-wanted.false, c.from-2.ensures))

@@ -18,4 +18,8 @@ sizes-preserved c =
     c.from-words.ensures ∙ (c.read_u32.ensures ∙ ap (little_number 4) (take_rest bs (4 + 4 * s))) in
     let more : sum (sizes_told (s + 1) (plain_words bs)) ≡ sum (sizes_told s (plain_words bs)) + little_number 4 (drop (4 + 4 * s) bs) =
     more_total bs s (bytes_small bs (λ i. c.type_inv.bytes i)) room in
-    record { total = omega (arith, c.sizes.invariant.total, read, more); small = omega (arith, c.sizes.invariant.small, c.from-words.ensures, c.read_u32.type_inv) }
+    record {
+      total = omega (arith, c.sizes.invariant.total, read, more);
+      small =
+          omega (arith, c.sizes.invariant.small, c.from-words.ensures, c.read_u32.type_inv);
+    }

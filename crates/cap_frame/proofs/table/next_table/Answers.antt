@@ -54,7 +54,7 @@ returns-in-Err-read_sizes-clause-next g c =
     let new = c.read_sizes.new.source in
     let faults = behind_first g.S.WordSource (limit_of c.args.limit) first old mid new _ (omega arith) f.takes f.usable c.in-Err-read_sizes.ensures.err in
     next_first g.S.WordSource (limit_of c.args.limit) old mid new first (Err _) f c.read_sizes.ensures.reads tt
-    (subst (Faults g.S.WordSource (limit_of c.args.limit) old new) (sym c.frame_fault.ensures) faults) (λ h. absurd (cc))
+    (subst (Faults g.S.WordSource (limit_of c.args.limit) old new) (sym c.frame_fault-in-Err-read_sizes.ensures) faults) (λ h. absurd (cc))
 
 pub returns-then-words-clause-next : goal.returns-then-words-clause-next
 returns-then-words-clause-next g c =

@@ -13,11 +13,14 @@ push_halves-requires-clause-room g c =
 
 pub returns-in-Err-clause-err : goal.returns-in-Err-clause-err
 returns-in-Err-clause-err g c =
-    table_stops g.S.WordSource c.args.first c.table.counter c.args.source.now c.table.source c.next_word.new.source c.table.sizes.items c.in-Err.fault (omega arith) c.table.invariant c.in-Err.ensures.err
+    table_stops g.S.WordSource c.args.first c.table.counter c.args.source.now c.table.source c.next_word.new.source c.table.sizes.items c.in-Err.fault
+    (omega arith) c.table.invariant c.in-Err.ensures.err
 
 pub table-preserved : goal.table-preserved
 table-preserved g c =
-    table_more g.S.WordSource c.args.first c.table.counter c.args.source.now c.table.source c.next_word.new.source c.table.sizes.items c.push_halves.new.sizes.items c.in-Ok.word c.in-Ok.ensures.word (omega arith) c.table.invariant c.in-Ok.ensures.ok c.next_word.ensures.reads c.in-Ok.ensures.works (cc)
+    table_more g.S.WordSource c.args.first c.table.counter c.args.source.now c.table.source c.next_word.new.source c.table.sizes.items
+    c.push_halves.new.sizes.items c.in-Ok.word c.in-Ok.ensures.word
+    (omega arith) c.table.invariant c.in-Ok.ensures.ok c.next_word.ensures.reads c.in-Ok.ensures.works (cc)
 
 pub returns-clause-ok : goal.returns-clause-ok
 returns-clause-ok g c =
@@ -26,4 +29,5 @@ returns-clause-ok g c =
     (t.more, t.takes, rw (← t.sizes_are) at whole)
 
 pub returns-in-Err-clause-reads : goal.returns-in-Err-clause-reads
-returns-in-Err-clause-reads g c = reads_both g.S.WordSource c.args.source.now c.table.source c.next_word.new.source c.table.invariant.reads c.next_word.ensures.reads
+returns-in-Err-clause-reads g c = reads_both g.S.WordSource c.args.source.now c.table.source c.next_word.new.source c.table.invariant.reads
+    c.next_word.ensures.reads

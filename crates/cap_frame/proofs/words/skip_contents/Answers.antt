@@ -15,11 +15,15 @@ returns-clause-ok g c =
     let own = c.in_ok-root.root ∷ skipped.0 in
     let more = first_of_sum c.args.sizes.now in
     skipped_all g.S.WordSource c.args.source.now c.skip_words-2.new.source c.args.sizes.now own (Some c.in_ok-root.root)
-    (takes_both g.S.WordSource c.args.source.now c.next_word.new.source c.skip_words-2.new.source (c.in_ok-root.root ∷ []) skipped.0 c.in_ok-root.ensures.ok skipped.1)
-    (omega (arith, skipped.2, c.total-words.ensures, c.if-sizes-eq0.false)) (cut_root c.args.sizes.now skipped.0 c.in_ok-root.root (omega (arith, c.if-sizes-eq0.false)))
+    (takes_both g.S.WordSource c.args.source.now c.next_word.new.source c.skip_words-2.new.source
+    (c.in_ok-root.root ∷ []) skipped.0 c.in_ok-root.ensures.ok skipped.1)
+    (omega (arith, skipped.2, c.total-words.ensures, c.if-sizes-eq0.false))
+    (cut_root c.args.sizes.now skipped.0 c.in_ok-root.root (omega (arith, c.if-sizes-eq0.false)))
 
 pub returns-clause-reads : goal.returns-clause-reads
-returns-clause-reads g c = reads_both g.S.WordSource c.args.source.now c.next_word.new.source c.skip_words-2.new.source c.next_word.ensures.reads c.skip_words-2.ensures.reads
+returns-clause-reads g c = reads_both g.S.WordSource c.args.source.now c.next_word.new.source c.skip_words-2.new.source c.next_word.ensures.reads
+    c.skip_words-2.ensures.reads
 
 pub returns-in_err-skip_words-2-clause-reads : goal.returns-in_err-skip_words-2-clause-reads
-returns-in_err-skip_words-2-clause-reads g c = reads_both g.S.WordSource c.args.source.now c.next_word.new.source c.skip_words-2.new.source c.next_word.ensures.reads c.skip_words-2.ensures.reads
+returns-in_err-skip_words-2-clause-reads g c = reads_both g.S.WordSource c.args.source.now c.next_word.new.source c.skip_words-2.new.source
+    c.next_word.ensures.reads c.skip_words-2.ensures.reads

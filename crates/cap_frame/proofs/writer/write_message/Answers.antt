@@ -6,8 +6,8 @@ use Rattle.cap_frame.specs.Putting.{Halts}
 use Rattle.cap_frame.proofs.Putting.{frame_from, halts_before, halts_of, leaves_halts, leaves_less, leaves_none, starts}
 use Rattle.cap_frame.proofs.writer.write_message.Goals as goal
 
-pub returns-in-Err-clause-err : goal.returns-in-Err-clause-err
-returns-in-Err-clause-err g c =
+pub returns-in-Err-clause-put : goal.returns-in-Err-clause-put
+returns-in-Err-clause-put g c =
     let m = g.M.Segments.segments c.args.message.now in
     let first = c.table_word.result ∷ [] in
     let halts =
@@ -16,34 +16,37 @@ returns-in-Err-clause-err g c =
     subst (λ (ws : List ℕ). Halts g.K.WordSink c.args.sink.now c.put.new.self ws c.in-Err.fault) (sym (frame_from m c.table_word.result c.table_word.ensures))
     (halts_before g.K.WordSink c.args.sink.now c.put.new.self first (table_rest m ++ joined m) c.in-Err.fault halts)
 
-pub returns-in-Err-put_sizes-clause-err : goal.returns-in-Err-put_sizes-clause-err
-returns-in-Err-put_sizes-clause-err g c =
+pub returns-in-Err-put_sizes-clause-put : goal.returns-in-Err-put_sizes-clause-put
+returns-in-Err-put_sizes-clause-put g c =
     let m = g.M.Segments.segments c.args.message.now in
     let whole = frame_from m c.table_word.result c.table_word.ensures in
-    let first = starts g.K.WordSink c.args.sink.now c.put.new.self (frame_text m) _ _ whole c.in_default.ensures.put c.in_default.ensures.ok in
+    let first = starts g.K.WordSink c.args.sink.now c.put.new.self (frame_text m) (c.table_word.result ∷ [])
+    (table_rest m ++ joined m) whole c.in_default.ensures.put c.in_default.ensures.ok in
     leaves_halts g.K.WordSink c.args.sink.now c.put.new.self c.put_sizes.new.sink (frame_text m) _ (table_rest m) (joined m) c.in-Err-put_sizes.fault refl
-    first c.in-Err-put_sizes.ensures.err
+    first c.in-Err-put_sizes.ensures
 
-pub returns-in-Err-put_contents-clause-err : goal.returns-in-Err-put_contents-clause-err
-returns-in-Err-put_contents-clause-err g c =
+pub returns-in-Err-put_contents-clause-put : goal.returns-in-Err-put_contents-clause-put
+returns-in-Err-put_contents-clause-put g c =
     let m = g.M.Segments.segments c.args.message.now in
     let whole = frame_from m c.table_word.result c.table_word.ensures in
-    let first = starts g.K.WordSink c.args.sink.now c.put.new.self (frame_text m) _ _ whole c.in_default.ensures.put c.in_default.ensures.ok in
+    let first = starts g.K.WordSink c.args.sink.now c.put.new.self (frame_text m) (c.table_word.result ∷ [])
+    (table_rest m ++ joined m) whole c.in_default.ensures.put c.in_default.ensures.ok in
     let table =
     leaves_less g.K.WordSink c.args.sink.now c.put.new.self c.put_sizes.new.sink (frame_text m) _ (table_rest m) (joined m) refl first
-    c.in_default-put_sizes.ensures.ok in
+    c.in_default-put_sizes.ensures in
     leaves_halts g.K.WordSink c.args.sink.now c.put_sizes.new.sink c.put_contents.new.sink (frame_text m) _ (joined m) [] c.in-Err-put_contents.fault
-    (sym (append-nil (joined m))) table c.in-Err-put_contents.ensures.err
+    (sym (append-nil (joined m))) table c.in-Err-put_contents.ensures
 
-pub returns-clause-ok : goal.returns-clause-ok
-returns-clause-ok g c =
+pub returns-clause-put : goal.returns-clause-put
+returns-clause-put g c =
     let m = g.M.Segments.segments c.args.message.now in
     let whole = frame_from m c.table_word.result c.table_word.ensures in
-    let first = starts g.K.WordSink c.args.sink.now c.put.new.self (frame_text m) _ _ whole c.in_default.ensures.put c.in_default.ensures.ok in
+    let first = starts g.K.WordSink c.args.sink.now c.put.new.self (frame_text m) (c.table_word.result ∷ [])
+    (table_rest m ++ joined m) whole c.in_default.ensures.put c.in_default.ensures.ok in
     let table =
     leaves_less g.K.WordSink c.args.sink.now c.put.new.self c.put_sizes.new.sink (frame_text m) _ (table_rest m) (joined m) refl first
-    c.in_default-put_sizes.ensures.ok in
+    c.in_default-put_sizes.ensures in
     let contents =
     leaves_less g.K.WordSink c.args.sink.now c.put_sizes.new.sink c.put_contents.new.sink (frame_text m) _ (joined m) [] (sym (append-nil (joined m))) table
-    c.in_default-put_contents.ensures.ok in
+    c.in_default-put_contents.ensures in
     leaves_none g.K.WordSink c.args.sink.now c.put_contents.new.sink (frame_text m) [] refl contents

@@ -5,8 +5,8 @@ use Rattle.cap_frame.specs.Putting.{Halts, Puts}
 use Rattle.cap_frame.proofs.Putting.{halts_before, halts_behind, halts_of, puts_both, puts_of, segment_frame}
 use Rattle.cap_frame.proofs.writer.write_segment.Goals as goal
 
-pub returns-in-Err-clause-err : goal.returns-in-Err-clause-err
-returns-in-Err-clause-err g c =
+pub returns-in-Err-clause-put : goal.returns-in-Err-clause-put
+returns-in-Err-clause-put g c =
     let table = length c.args.words.now / 8 * 4294967296 in
     let whole = segment_frame c.args.words.now table (omega arith) in
     let halts =
@@ -15,8 +15,8 @@ returns-in-Err-clause-err g c =
     subst (λ (ws : List ℕ). Halts g.K.WordSink c.args.sink.now c.put.new.self ws c.in-Err.fault) (sym whole)
     (halts_before g.K.WordSink c.args.sink.now c.put.new.self (table ∷ []) (plain_words c.args.words.now) c.in-Err.fault halts)
 
-pub returns-in-Err-put_bytes-clause-err : goal.returns-in-Err-put_bytes-clause-err
-returns-in-Err-put_bytes-clause-err g c =
+pub returns-in-Err-put_bytes-clause-put : goal.returns-in-Err-put_bytes-clause-put
+returns-in-Err-put_bytes-clause-put g c =
     let table = length c.args.words.now / 8 * 4294967296 in
     let words = plain_words c.args.words.now in
     let whole = segment_frame c.args.words.now table (omega arith) in
@@ -27,8 +27,8 @@ returns-in-Err-put_bytes-clause-err g c =
     subst (λ (ws : List ℕ). Halts g.K.WordSink c.args.sink.now c.put_bytes.new.self ws c.in-Err-put_bytes.fault) (sym whole)
     (halts_behind g.K.WordSink c.args.sink.now c.put.new.self c.put_bytes.new.self (table ∷ []) words c.in-Err-put_bytes.fault first halts)
 
-pub returns-clause-ok : goal.returns-clause-ok
-returns-clause-ok g c =
+pub returns-clause-put : goal.returns-clause-put
+returns-clause-put g c =
     let table = length c.args.words.now / 8 * 4294967296 in
     let words = plain_words c.args.words.now in
     let whole = segment_frame c.args.words.now table (omega arith) in

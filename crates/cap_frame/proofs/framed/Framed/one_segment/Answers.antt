@@ -22,4 +22,5 @@ returns-clause-segments c =
     let at : 8 ≡ 8 * table_words f.count = omega (arith, c.if-self-ne1.false) in
     let one = one_told f.bytes.now f.count f.words f.total f.inside c.if-self-ne1.false in
     c.over.ensures
-    ∙ (ap (cut (f.words ∷ [])) (take_rest f.bytes.now 8 ∙ ap (λ n. drop n f.bytes.now) at) ∙ ap (λ ns. cut ns (drop (8 * table_words f.count) f.bytes.now)) (sym one))
+    ∙ (ap (cut (f.words ∷ [])) (take_rest f.bytes.now 8 ∙ ap (λ n. drop n f.bytes.now) at)
+    ∙ ap (λ ns. cut ns (drop (8 * table_words f.count) f.bytes.now)) (sym one))

@@ -23,4 +23,5 @@ returns c =
     let sizes : c.deref-2.result.now ≡ sizes_told f.count (plain_words f.bytes.now) = c.deref-2.ensures.0 ∙ c.fill.ensures.sizes in
     let at = 8 * table_words f.count in
     c.over.ensures
-    ∙ (ap (λ ns. cut ns (take (length f.bytes.now - at) (drop at f.bytes.now))) sizes ∙ ap (cut (sizes_told f.count (plain_words f.bytes.now))) (take_rest f.bytes.now at))
+    ∙ (ap (λ ns. cut ns (take (length f.bytes.now - at) (drop at f.bytes.now))) sizes
+    ∙ ap (cut (sizes_told f.count (plain_words f.bytes.now))) (take_rest f.bytes.now at))

@@ -6,16 +6,21 @@ use Rattle.cap_frame.proofs.message.WordMessage.new.Goals as goal
 
 pub returns-then-len-gt4294967295-clause-some : goal.returns-then-len-gt4294967295-clause-some
 returns-then-len-gt4294967295-clause-some c =
-    let long : 2 ^ 32 ≤ length c.words-item.result.items = omega (arith, c.words-item.result.ok.0) in
-    (λ e. absurd (cc), λ m. absurd (held_too_long (λ v. v.items) c.deref-words-items.result.now c.loop-words.words-index c.words-item.result c.loop-words-test.true c.words-item.is long (rw c.deref-words-items.ensures.value m)))
+    let long : 2 ^ 32 ≤ length c.words-item.result.items = omega (arith, c.words-item.result.ok.0) in (
+      λ e. absurd (cc),
+      λ m. absurd (held_too_long (λ v. v.items) c.deref-words-items.result.now c.loop-words.words-index c.words-item.result
+          c.loop-words-test.true c.words-item.is long (rw c.deref-words-items.ensures.value m)),
+    )
 
 pub loop-words-preserved : goal.loop-words-preserved
 loop-words-preserved c =
     let short : length c.words-item.result.items < 2 ^ 32 = omega (arith, c.words-item.result.ok.0) in
-    held_more (λ v. v.items) c.deref-words-items.result.now c.loop-words.words-index c.words-item.result c.loop-words-test.true c.words-item.is short c.loop-words.invariant
+    held_more (λ v. v.items) c.deref-words-items.result.now c.loop-words.words-index c.words-item.result c.loop-words-test.true c.words-item.is short
+    c.loop-words.invariant
 
 pub invariant_of-result : goal.invariant_of-result
 invariant_of-result c =
     let some : 1 ≤ length c.deref-words-items.result.now = grind (arith, nat_tests, c.if-is_empty.ensures, c.deref-words-items.ensures.len) in
-    let whole = held_message (λ v. v.items) c.deref-words-items.result.now c.loop-words.words-index some (omega (arith, c.deref-words-items.ensures.len)) c.loop-words-test.false c.loop-words.invariant in
+    let whole = held_message (λ v. v.items) c.deref-words-items.result.now c.loop-words.words-index some
+    (omega (arith, c.deref-words-items.ensures.len)) c.loop-words-test.false c.loop-words.invariant in
     record { is_message = rw c.deref-words-items.ensures.value at whole }
