@@ -11,7 +11,7 @@ use Rattle.cap_spec.proofs.Frames.Endings.{length_joined}
 use Rattle.cap_frame.specs.Taking.{Takes, Reads, IsUsable, Stops}
 use Rattle.cap_frame.specs.Rooms.{AreRooms}
 use Rattle.cap_frame.proofs.Cuts.{front_sum}
-use Rattle.cap_frame.proofs.Taking.{takes_none, takes_both, reads_none, reads_both, usable_both, stops_later, stops_weaker}
+use Rattle.cap_frame.proofs.Taking.{Took, took_more, took_none, took_stop}
 
 -- as many rooms as sizes
 pub rooms_many : {V : Type 0} (f : V → List ℕ) (room : V → ℕ) (vs : List V) (ns : List ℕ) → AreRooms f room vs ns → length vs ≡ length ns
@@ -37,43 +37,30 @@ rooms_from f room s vs ns v h k r = rw add-one (rw (drop-cons vs s v h, drop-con
 module _ {X : Type 0} (g : source.Ghosts X) where
   -- These words were read for a segment, so many.
   pub record WordsSoFar (old now : X) (words : List ℕ) (many : ℕ) : Type 0 where
-    pub takes : Takes g old now words
-    pub reads : Reads g old now
-    pub usable : IsUsable g old now
+    pub took : Took g old now words
     pub length_is : length words ≡ many
 
   -- none yet
   pub words_start : (s : X) (words : List ℕ) → g.spent s ≡ false → words ≡ [] → WordsSoFar s s words 0
-  words_start s words u e = record {
-    takes = subst (Takes g s s) (sym e) (takes_none g s);
-    reads = reads_none g s;
-    usable = record { usable = u; still = u; none_failed = refl };
-    length_is = ap length e;
-  }
+  words_start s words u e = record { took = subst (Took g s s) (sym e) (took_none g s u); length_is = ap length e }
 
   -- one more
-  pub words_more : (old now new : X) (words longer : List ℕ) (many word : ℕ) → WordsSoFar old now words many → Takes g now new (word ∷ []) → Reads g now new
-      → IsUsable g now new
-      → longer ≡ words ++ word ∷ [] → WordsSoFar old new longer (many + 1)
+  pub words_more : (old now new : X) (words longer : List ℕ) (many word : ℕ) → WordsSoFar old now words many → Takes g now new (word ∷ [])
+      → Reads g now new → IsUsable g now new → longer ≡ words ++ word ∷ [] → WordsSoFar old new longer (many + 1)
   words_more old now new words longer many word w t r u e = record {
-    takes = subst (Takes g old new) (sym e) (takes_both g old now new words (word ∷ []) w.takes t);
-    reads = reads_both g old now new w.reads r;
-    usable = usable_both g old now new w.usable u;
+    took = took_more g old now new words (word ∷ []) longer e w.took t r u;
     length_is = ap length e ∙ omega (arith, length-append words (word ∷ []), w.length_is);
   }
 
   -- the source stopped before the segment had its size
   pub words_stop : (old now new : X) (words : List ℕ) (many size : ℕ) (fault : SourceFault) → many < size → WordsSoFar old now words many
       → Stops g 1 now new fault → Stops g size old new fault
-  words_stop old now new words many size fault h w s =
-      stops_weaker g old new (length words + 1) size fault (omega (arith, w.length_is)) (stops_later g old now new words 1 fault w.takes w.usable s)
+  words_stop old now new words many size fault h w s = took_stop g old now new words 1 size fault (omega (arith, w.length_is)) w.took s
 
   module _ {V : Type 0} (f : V → List ℕ) (room : V → ℕ) where
     -- The first s segments were read, and there is room for the others.
     pub record SegmentsSoFar (old now : X) (s : ℕ) (segments : List V) (sizes : List ℕ) : Type 0 where
-      pub takes : Takes g old now (joined (map f (take s segments)))
-      pub reads : Reads g old now
-      pub usable : IsUsable g old now
+      pub took : Took g old now (joined (map f (take s segments)))
       pub sizes_are : sizes_of (map f (take s segments)) ≡ take s sizes
       pub many : length segments ≡ length sizes
       pub rooms : AreRooms f room (drop s segments) (drop s sizes)
@@ -81,9 +68,7 @@ module _ {X : Type 0} (g : source.Ghosts X) where
     -- none yet
     pub segments_start : (s : X) (segments : List V) (sizes : List ℕ) → g.spent s ≡ false → AreRooms f room segments sizes → SegmentsSoFar s s 0 segments sizes
     segments_start s segments sizes u r = record {
-      takes = takes_none g s;
-      reads = reads_none g s;
-      usable = record { usable = u; still = u; none_failed = refl };
+      took = took_none g s u;
       sizes_are = refl;
       many = rooms_many f room segments sizes r;
       rooms = r;
@@ -112,9 +97,7 @@ module _ {X : Type 0} (g : source.Ghosts X) where
         ∙ ap (λ (ws : List ℕ). joined (map f (take s segments)) ++ ws) (append-nil (f v))) in
         let r = rooms_from f room s segments sizes v inside h t.rooms in
         record {
-          takes = subst (Takes g old new) (sym words) (takes_both g old now new (joined (map f (take s segments))) (f v) t.takes takes);
-          reads = reads_both g old now new t.reads reads;
-          usable = usable_both g old now new t.usable u;
+          took = took_more g old now new (joined (map f (take s segments))) (f v) (joined (map f (take (s + 1) longer))) words t.took takes reads u;
           sizes_are =
               ap sizes_of parts ∙ (map-append (λ (ws : List ℕ). length ws) (map f (take s segments)) (f v ∷ [])
               ∙ (ap (λ (ns : List ℕ). ns ++ length (f v) ∷ []) t.sizes_are ∙ (ap (λ (k : ℕ). take s sizes ++ k ∷ []) (l ∙ d) ∙ sym (take_more sizes s 0 h))));
@@ -128,8 +111,7 @@ module _ {X : Type 0} (g : source.Ghosts X) where
     segments_stop old now new s segments sizes n fault h d t stops =
         let words : length (joined (map f (take s segments))) ≡ sum (take s sizes) = length_joined (map f (take s segments)) ∙ ap sum t.sizes_are in
         let enough : length (joined (map f (take s segments))) + n ≤ sum sizes = omega (arith, words, front_sum sizes s h, d) in
-        stops_weaker g old new (length (joined (map f (take s segments))) + n) (sum sizes) fault enough
-        (stops_later g old now new (joined (map f (take s segments))) n fault t.takes t.usable stops)
+        took_stop g old now new (joined (map f (take s segments))) n (sum sizes) fault enough t.took stops
 
     -- all were read
     pub segments_end : (old now : X) (s : ℕ) (segments : List V) (sizes : List ℕ) → length sizes ≤ s → SegmentsSoFar old now s segments sizes
@@ -137,4 +119,4 @@ module _ {X : Type 0} (g : source.Ghosts X) where
     segments_end old now s segments sizes h t =
         let vs : take s segments ≡ segments = take_all s segments (omega (arith, t.many)) in
         let ns : take s sizes ≡ sizes = take_all s sizes h in
-        (rw vs at t.takes, rw vs at (t.sizes_are ∙ ns))
+        (rw vs at t.took.takes, rw vs at (t.sizes_are ∙ ns))

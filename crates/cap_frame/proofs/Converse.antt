@@ -34,92 +34,36 @@ module _ (is : List (List ℕ) → Type 0) (limit : ℕ) (ws : List ℕ) (cut : 
   Tells (Err Memory) = ⊤
   Tells (Err Spent) = ⊤
 
-  -- in which of the five ways the reading ended
-  abbrev ending_of : Result Bool FrameFault → Ending
-  ending_of (Ok true) = message
-  ending_of (Ok false) = none
-  ending_of (Err (TooManySegments count)) = too_many
-  ending_of (Err (TooLarge words)) = too_large
-  ending_of (Err (Truncated byte)) = partial
-  ending_of (Err Device) = none
-  ending_of (Err Memory) = none
-  ending_of (Err Spent) = none
+  -- what the result is where the words end so
+  abbrev pub Is : (e : Ending) → EndsIn limit ws cut e → Result Bool FrameFault → Type 0
+  Is message b r = (r ≡ Ok true) × is b.message × (left ≡ Some b.rest)
+  Is none b r = r ≡ Ok false
+  Is too_many b r = (r ≡ Err (TooManySegments (b.first % 2 ^ 32 + 1))) × (left ≡ Some b.rest)
+  Is too_large b r = (r ≡ Err (TooLarge (sum b.sizes))) × (left ≡ Some b.rest)
+  Is partial b r = (byte : ℕ) × (r ≡ Err (Truncated byte)) × (drop (length ws) places ≡ byte ∷ [])
 
-  -- no other one holds of the words
-  only : (r : Result Bool FrameFault) (e : Ending) → EndsIn limit ws cut e → Tells r → Answered r (e ≡ ending_of r)
-  only (Ok true) e h t = one_ending limit ws cut message e t.0 h
-  only (Ok false) e h t = one_ending limit ws cut none e t h
-  only (Err (TooManySegments count)) e h t = one_ending limit ws cut too_many e t.0 h
-  only (Err (TooLarge words)) e h t = one_ending limit ws cut too_large e t.0 h
-  only (Err (Truncated byte)) e h t = one_ending limit ws cut partial e t.0 h
-  only (Err Device) e h t = tt
-  only (Err Memory) e h t = tt
-  only (Err Spent) e h t = tt
+  -- the words end so in no other way
+  only : (r : Result Bool FrameFault) (d e : Ending) → EndsIn limit ws cut d → ((h : EndsIn limit ws cut d) → Is d h r) → (h : EndsIn limit ws cut e) → Is e h r
+  only r d e k claim h = subst (λ (i : Ending). (h : EndsIn limit ws cut i) → Is i h r) (sym (one_ending limit ws cut d e k h)) claim h
 
-  -- where a prefix of the words frames a message within the limit, that message is the result
-  pub whole_answer : (r : Result Bool FrameFault) (b : BeginsMessage limit ws) → Tells r → Answered r ((r ≡ Ok true) × is b.message × (left ≡ Some b.rest))
-  whole_answer (Ok true) b t =
+  -- so how they end decides the result
+  pub settled : (r : Result Bool FrameFault) (e : Ending) (h : EndsIn limit ws cut e) → Tells r → Answered r (Is e h r)
+  settled (Ok true) e h t = only (Ok true) message e t.0 (λ b.
       let same = one_frame t.0.own b.own t.0.rest b.rest t.0.message b.message t.0.frames b.frames (sym t.0.whole ∙ b.whole) in
-      (refl, subst is same.1 t.2, t.1 ∙ ap Some same.2)
-  whole_answer (Ok false) b t = absurd (let e = only (Ok false) message b t in cc)
-  whole_answer (Err (TooManySegments count)) b t = absurd (let e = only (Err (TooManySegments count)) message b t in cc)
-  whole_answer (Err (TooLarge words)) b t = absurd (let e = only (Err (TooLarge words)) message b t in cc)
-  whole_answer (Err (Truncated byte)) b t = absurd (let e = only (Err (Truncated byte)) message b t in cc)
-  whole_answer (Err Device) b t = tt
-  whole_answer (Err Memory) b t = tt
-  whole_answer (Err Spent) b t = tt
-
-  -- where there is no word and the input doesn't end inside one, there is no message
-  pub none_answer : (r : Result Bool FrameFault) → (ws ≡ []) × (cut ≡ false) → Tells r → Answered r (r ≡ Ok false)
-  none_answer (Ok true) b t = absurd (let e = only (Ok true) none b t in cc)
-  none_answer (Ok false) b t = refl
-  none_answer (Err (TooManySegments count)) b t = absurd (let e = only (Err (TooManySegments count)) none b t in cc)
-  none_answer (Err (TooLarge words)) b t = absurd (let e = only (Err (TooLarge words)) none b t in cc)
-  none_answer (Err (Truncated byte)) b t = absurd (let e = only (Err (Truncated byte)) none b t in cc)
-  none_answer (Err Device) b t = tt
-  none_answer (Err Memory) b t = tt
-  none_answer (Err Spent) b t = tt
-
-  -- where the first word gives too many segments, that is the result
-  many_answer : (r : Result Bool FrameFault) (b : TellsTooMany ws) → Tells r
-      → Answered r ((r ≡ Err (TooManySegments (b.first % 2 ^ 32 + 1))) × (left ≡ Some b.rest))
-  many_answer (Ok true) b t = absurd (let e = only (Ok true) too_many b t in cc)
-  many_answer (Ok false) b t = absurd (let e = only (Ok false) too_many b t in cc)
-  many_answer (Err (TooManySegments count)) b t =
+      (refl, subst is same.1 t.2, t.1 ∙ ap Some same.2)) h
+  settled (Ok false) e h t = only (Ok false) none e t (λ b. refl) h
+  settled (Err (TooManySegments count)) e h t = only (Err (TooManySegments count)) too_many e t.0 (λ b.
       let same : t.0.first ∷ t.0.rest ≡ b.first ∷ b.rest = sym t.0.whole ∙ b.whole in
-      let h : t.0.first ≡ b.first = cc in
-      let k : t.0.rest ≡ b.rest = cc in
-      (ap (λ (i : ℕ). Err (TooManySegments i)) (t.2 ∙ ap (λ (i : ℕ). i % 2 ^ 32 + 1) h), t.1 ∙ ap Some k)
-  many_answer (Err (TooLarge words)) b t = absurd (let e = only (Err (TooLarge words)) too_many b t in cc)
-  many_answer (Err (Truncated byte)) b t = absurd (let e = only (Err (Truncated byte)) too_many b t in cc)
-  many_answer (Err Device) b t = tt
-  many_answer (Err Memory) b t = tt
-  many_answer (Err Spent) b t = tt
-
-  -- where a table is past the limit, that is the result
-  large_answer : (r : Result Bool FrameFault) (b : TellsTooMuch limit ws) → Tells r → Answered r ((r ≡ Err (TooLarge (sum b.sizes))) × (left ≡ Some b.rest))
-  large_answer (Ok true) b t = absurd (let e = only (Ok true) too_large b t in cc)
-  large_answer (Ok false) b t = absurd (let e = only (Ok false) too_large b t in cc)
-  large_answer (Err (TooManySegments count)) b t = absurd (let e = only (Err (TooManySegments count)) too_large b t in cc)
-  large_answer (Err (TooLarge words)) b t =
+      let first : t.0.first ≡ b.first = cc in
+      let rest : t.0.rest ≡ b.rest = cc in
+      (ap (λ (i : ℕ). Err (TooManySegments i)) (t.2 ∙ ap (λ (i : ℕ). i % 2 ^ 32 + 1) first), t.1 ∙ ap Some rest)) h
+  settled (Err (TooLarge words)) e h t = only (Err (TooLarge words)) too_large e t.0 (λ b.
       let same = same_table t.0.table b.table t.0.rest b.rest t.0.sizes b.sizes t.0.is_table b.is_table (sym t.0.whole ∙ b.whole) in
-      (ap (λ (n : ℕ). Err (TooLarge n)) (t.2 ∙ ap sum same.1), t.1 ∙ ap Some same.2)
-  large_answer (Err (Truncated byte)) b t = absurd (let e = only (Err (Truncated byte)) too_large b t in cc)
-  large_answer (Err Device) b t = tt
-  large_answer (Err Memory) b t = tt
-  large_answer (Err Spent) b t = tt
-
-  -- where the words are a part of a frame, the result is that they are cut short
-  partial_answer : (r : Result Bool FrameFault) → IsPartial limit ws cut → Tells r
-      → Answered r ((byte : ℕ) × (r ≡ Err (Truncated byte)) × (drop (length ws) places ≡ byte ∷ []))
-  partial_answer (Ok true) b t = absurd (let e = only (Ok true) partial b t in cc)
-  partial_answer (Ok false) b t = absurd (let e = only (Ok false) partial b t in cc)
-  partial_answer (Err (TooManySegments count)) b t = absurd (let e = only (Err (TooManySegments count)) partial b t in cc)
-  partial_answer (Err (TooLarge words)) b t = absurd (let e = only (Err (TooLarge words)) partial b t in cc)
-  partial_answer (Err (Truncated byte)) b t = (byte, refl, t.1)
-  partial_answer (Err Device) b t = tt
-  partial_answer (Err Memory) b t = tt
-  partial_answer (Err Spent) b t = tt
+      (ap (λ (n : ℕ). Err (TooLarge n)) (t.2 ∙ ap sum same.1), t.1 ∙ ap Some same.2)) h
+  settled (Err (Truncated byte)) e h t = only (Err (Truncated byte)) partial e t.0 (λ b. (byte, refl, t.1)) h
+  settled (Err Device) e h t = tt
+  settled (Err Memory) e h t = tt
+  settled (Err Spent) e h t = tt
 
 module _ {X : Type 0} (g : source.Ghosts X) (is : List (List ℕ) → Type 0) (limit : ℕ) (old new : X) where
   -- the words that are left of known ones
@@ -161,13 +105,14 @@ module _ {X : Type 0} (g : source.Ghosts X) (is : List (List ℕ) → Type 0) (l
   -- so known words decide the result
   pub decides : (r : Result Bool FrameFault) → SaysMessage r → ReadsNext g limit old new r → Decides g is limit old new r
   decides r s n =
+      let at = λ (ws : List ℕ) (e : g.words old ≡ Some ws). tells r ws e s n in
       let cut = g.is_cut old in
       let places = g.places old in
       let left = g.words new in
       record {
-        whole = λ ws e b. whole_answer is limit ws cut places left r b (tells r ws e s n);
-        no_word = λ e c. none_answer is limit [] cut places left r (refl, c) (tells r [] e s n);
-        many = λ ws e b. many_answer is limit ws cut places left r b (tells r ws e s n);
-        large = λ ws e b. large_answer is limit ws cut places left r b (tells r ws e s n);
-        cut_short = λ ws e b. partial_answer is limit ws cut places left r b (tells r ws e s n);
+        whole = λ ws e b. settled is limit ws cut places left r message b (at ws e);
+        no_word = λ e c. settled is limit [] cut places left r none (refl, c) (at [] e);
+        many = λ ws e b. settled is limit ws cut places left r too_many b (at ws e);
+        large = λ ws e b. settled is limit ws cut places left r too_large b (at ws e);
+        cut_short = λ ws e b. settled is limit ws cut places left r partial b (at ws e);
       }

@@ -9,28 +9,23 @@ use Rattle.cap_frame.specs.Bytes.{cut, starts_of}
 use Rattle.cap_spec.specs.Plain.{plain_words}
 
 -- a word is eight bytes
+pub words_exact : (bs : List ℕ) → length bs / 8 ≡ length (plain_words bs)
+words_exact (a ∷ b ∷ c ∷ d ∷ e ∷ f ∷ g ∷ h ∷ rest) = let t = words_exact rest in omega arith
+words_exact [] = refl
+words_exact (a ∷ []) = refl
+words_exact (a ∷ b ∷ []) = refl
+words_exact (a ∷ b ∷ c ∷ []) = refl
+words_exact (a ∷ b ∷ c ∷ d ∷ []) = refl
+words_exact (a ∷ b ∷ c ∷ d ∷ e ∷ []) = refl
+words_exact (a ∷ b ∷ c ∷ d ∷ e ∷ f ∷ []) = refl
+words_exact (a ∷ b ∷ c ∷ d ∷ e ∷ f ∷ g ∷ []) = refl
+
 pub words_inside : (bs : List ℕ) → 8 * length (plain_words bs) ≤ length bs
-words_inside (a ∷ b ∷ c ∷ d ∷ e ∷ f ∷ g ∷ h ∷ rest) = let t = words_inside rest in omega arith
-words_inside [] = omega arith
-words_inside (a ∷ []) = omega arith
-words_inside (a ∷ b ∷ []) = omega arith
-words_inside (a ∷ b ∷ c ∷ []) = omega arith
-words_inside (a ∷ b ∷ c ∷ d ∷ []) = omega arith
-words_inside (a ∷ b ∷ c ∷ d ∷ e ∷ []) = omega arith
-words_inside (a ∷ b ∷ c ∷ d ∷ e ∷ f ∷ []) = omega arith
-words_inside (a ∷ b ∷ c ∷ d ∷ e ∷ f ∷ g ∷ []) = omega arith
+words_inside bs = omega (arith, words_exact bs)
 
 -- and all whole ones are there
 pub words_all : (bs : List ℕ) → length bs < 8 * length (plain_words bs) + 8
-words_all (a ∷ b ∷ c ∷ d ∷ e ∷ f ∷ g ∷ h ∷ rest) = let t = words_all rest in omega arith
-words_all [] = omega arith
-words_all (a ∷ []) = omega arith
-words_all (a ∷ b ∷ []) = omega arith
-words_all (a ∷ b ∷ c ∷ []) = omega arith
-words_all (a ∷ b ∷ c ∷ d ∷ []) = omega arith
-words_all (a ∷ b ∷ c ∷ d ∷ e ∷ []) = omega arith
-words_all (a ∷ b ∷ c ∷ d ∷ e ∷ f ∷ []) = omega arith
-words_all (a ∷ b ∷ c ∷ d ∷ e ∷ f ∷ g ∷ []) = omega arith
+words_all bs = omega (arith, words_exact bs)
 
 -- word w is spelled from byte 8 w on
 pub word_at : (bs : List ℕ) (w : ℕ) → w < length (plain_words bs) → slice_get (plain_words bs) w ≡ Some (little_number 8 (drop (8 * w) bs))
@@ -47,10 +42,6 @@ word_at (a ∷ b ∷ c ∷ d ∷ []) w l = absurd (omega arith)
 word_at (a ∷ b ∷ c ∷ d ∷ e ∷ []) w l = absurd (omega arith)
 word_at (a ∷ b ∷ c ∷ d ∷ e ∷ f ∷ []) w l = absurd (omega arith)
 word_at (a ∷ b ∷ c ∷ d ∷ e ∷ f ∷ g ∷ []) w l = absurd (omega arith)
-
--- exactly the whole words
-pub words_exact : (bs : List ℕ) → length bs / 8 ≡ length (plain_words bs)
-words_exact bs = let a = words_inside bs in let b = words_all bs in omega arith
 
 -- a number is in its own bytes, whatever stands behind them
 pub number_take : (i n m : ℕ) (xs : List ℕ) → i + n ≤ m → little_from i n (take m xs) ≡ little_from i n xs

@@ -1,5 +1,5 @@
 -- What holds of the bytes decides what is found at their start.
-use Rattle.std.proofs.Common.{◌≡◌, ◌∙◌, ℕ, ◌+◌, ◌*◌, ◌%◌, ◌^◌, false, Option, Some, None, Result, Ok, Err, List, [], length, sum, IsOkAnd, IsSomeAnd, refl, sym, ap, arith}
+use Rattle.std.proofs.Common.{◌≡◌, ◌∙◌, ℕ, ◌+◌, ◌*◌, ◌%◌, ◌^◌, false, Option, Some, None, Result, Ok, Err, List, [], length, sum, IsOkAnd, IsSomeAnd, refl, sym, ap, subst, arith}
 use Rattle.cap_spec.specs.Endings.{BeginsMessage, EndsIn, Ending, message, none, partial, too_large, too_many}
 use Rattle.cap_spec.specs.Frames.{IsPartial}
 use Rattle.cap_spec.specs.Plain.{plain_words, plain_is_cut}
@@ -50,58 +50,56 @@ module _ (limit : ℕ) (bs : List ℕ) where
   told (Err (TooLarge words)) t = t.0
   told (Err (Truncated wanted)) t = t.0
 
-  -- no other one holds of the words
-  only : (r : Result (Option Framed) FrontFault) (e : Ending) → EndsIn limit (plain_words bs) (plain_is_cut bs) e → TellsFront limit bs r → e ≡ ending_of r
-  only r e h t = one_ending limit (plain_words bs) (plain_is_cut bs) (ending_of r) e (told r t) h
+  -- what the result is where they end so
+  abbrev Is : (e : Ending) → EndsIn limit (plain_words bs) (plain_is_cut bs) e → Result (Option Framed) FrontFault → Type 0
+  Is message b r = IsOkAnd r (λ o. IsSomeAnd o (λ f. (framed_segments f ≡ b.message) × (frame_bytes f ≡ 8 * length b.own)))
+  Is none b r = r ≡ Ok None
+  Is too_many b r = r ≡ Err (TooManySegments (b.first % 2 ^ 32 + 1))
+  Is too_large b r = r ≡ Err (TooLarge (sum b.sizes))
+  Is partial b r = (wanted : ℕ) → Wants (plain_words bs) wanted → r ≡ Err (Truncated wanted)
+
+  claim : (r : Result (Option Framed) FrontFault) → TellsFront limit bs r → (h : EndsIn limit (plain_words bs) (plain_is_cut bs) (ending_of r))
+      → Is (ending_of r) h r
+  claim (Ok (Some f)) t b =
+      let same = one_frame t.own b.own t.rest b.rest (framed_segments f) b.message t.frames b.frames (sym t.words ∙ b.whole) in
+      (same.1, t.long ∙ ap (λ (xs : List ℕ). 8 * length xs) same.0)
+  claim (Ok None) t b = refl
+  claim (Err (TooManySegments count)) t b =
+      let same : t.0.first ≡ b.first = (let h = sym t.0.whole ∙ b.whole in cc) in
+      ap (λ (k : ℕ). Err (TooManySegments k)) (t.1 ∙ ap (λ (k : ℕ). k % 2 ^ 32 + 1) same)
+  claim (Err (TooLarge words)) t b =
+      let same = same_table t.0.table b.table t.0.rest b.rest t.0.sizes b.sizes t.0.is_table b.is_table (sym t.0.whole ∙ b.whole) in
+      ap (λ (k : ℕ). Err (TooLarge k)) (t.1 ∙ ap sum same.1)
+  claim (Err (Truncated other)) t b = λ wanted w. ap (λ (k : ℕ). Err (Truncated k)) (one_wanted (plain_words bs) other wanted t.1 w)
+
+  -- they end so in no other way
+  settled : (r : Result (Option Framed) FrontFault) (e : Ending) (h : EndsIn limit (plain_words bs) (plain_is_cut bs) e) → TellsFront limit bs r → Is e h r
+  settled r e h t =
+      subst (λ (i : Ending). (h : EndsIn limit (plain_words bs) (plain_is_cut bs) i) → Is i h r)
+      (sym (one_ending limit (plain_words bs) (plain_is_cut bs) (ending_of r) e (told r t) h)) (claim r t) h
 
   -- where a prefix of the bytes frames a message within the limit, that is the result
   pub whole_answer : (r : Result (Option Framed) FrontFault) (m : List (List ℕ)) (n : ℕ) → IsFront limit bs m n → TellsFront limit bs r
       → IsOkAnd r (λ o. IsSomeAnd o (λ f. (framed_segments f ≡ m) × (frame_bytes f ≡ n)))
-  whole_answer (Ok (Some f)) m n w t =
-      let same = one_frame t.own w.own t.rest w.rest (framed_segments f) m t.frames w.frames (sym t.words ∙ w.words) in
-      (same.1, t.long ∙ (ap (λ (xs : List ℕ). 8 * length xs) same.0 ∙ sym w.long))
-  whole_answer (Ok None) m n w t = absurd (let e = only (Ok None) message (begins m n w) t in cc)
-  whole_answer (Err (TooManySegments count)) m n w t = absurd (let e = only (Err (TooManySegments count)) message (begins m n w) t in cc)
-  whole_answer (Err (TooLarge words)) m n w t = absurd (let e = only (Err (TooLarge words)) message (begins m n w) t in cc)
-  whole_answer (Err (Truncated wanted)) m n w t = absurd (let e = only (Err (Truncated wanted)) message (begins m n w) t in cc)
+  whole_answer r m n w t =
+      subst (λ (k : ℕ). IsOkAnd r (λ o. IsSomeAnd o (λ f. (framed_segments f ≡ m) × (frame_bytes f ≡ k)))) (sym w.long) (settled r message (begins m n w) t)
 
   -- where there are no bytes, there is no message
   pub empty_answer : (r : Result (Option Framed) FrontFault) → bs ≡ [] → TellsFront limit bs r → r ≡ Ok None
-  empty_answer (Ok (Some f)) h t = absurd (let e = only (Ok (Some f)) none (ends h) t in cc)
-  empty_answer (Ok None) h t = refl
-  empty_answer (Err (TooManySegments count)) h t = absurd (let e = only (Err (TooManySegments count)) none (ends h) t in cc)
-  empty_answer (Err (TooLarge words)) h t = absurd (let e = only (Err (TooLarge words)) none (ends h) t in cc)
-  empty_answer (Err (Truncated wanted)) h t = absurd (let e = only (Err (Truncated wanted)) none (ends h) t in cc)
+  empty_answer r e t = settled r none (ends e) t
 
   -- where the first word gives too many segments, that is the result
   pub many_answer : (r : Result (Option Framed) FrontFault) (count : ℕ) → TellsMany bs count → TellsFront limit bs r → r ≡ Err (TooManySegments count)
-  many_answer (Ok (Some f)) count w t = absurd (let e = only (Ok (Some f)) too_many w.0 t in cc)
-  many_answer (Ok None) count w t = absurd (let e = only (Ok None) too_many w.0 t in cc)
-  many_answer (Err (TooManySegments other)) count w t =
-      let same : t.0.first ≡ w.0.first = (let h = sym t.0.whole ∙ w.0.whole in cc) in
-      ap (λ (k : ℕ). Err (TooManySegments k)) (t.1 ∙ (ap (λ (k : ℕ). k % 2 ^ 32 + 1) same ∙ sym w.1))
-  many_answer (Err (TooLarge words)) count w t = absurd (let e = only (Err (TooLarge words)) too_many w.0 t in cc)
-  many_answer (Err (Truncated wanted)) count w t = absurd (let e = only (Err (Truncated wanted)) too_many w.0 t in cc)
+  many_answer r count w t = settled r too_many w.0 t ∙ ap (λ (k : ℕ). Err (TooManySegments k)) (sym w.1)
 
   -- where a table is past the limit, that is the result
   pub large_answer : (r : Result (Option Framed) FrontFault) (words : ℕ) → TellsLarge limit bs words → TellsFront limit bs r → r ≡ Err (TooLarge words)
-  large_answer (Ok (Some f)) words w t = absurd (let e = only (Ok (Some f)) too_large w.0 t in cc)
-  large_answer (Ok None) words w t = absurd (let e = only (Ok None) too_large w.0 t in cc)
-  large_answer (Err (TooManySegments count)) words w t =
-      absurd (let e = only (Err (TooManySegments count)) too_large w.0 t in cc)
-  large_answer (Err (TooLarge other)) words w t =
-      let same = same_table t.0.table w.0.table t.0.rest w.0.rest t.0.sizes w.0.sizes t.0.is_table w.0.is_table (sym t.0.whole ∙ w.0.whole) in
-      ap (λ (k : ℕ). Err (TooLarge k)) (t.1 ∙ (ap sum same.1 ∙ sym w.1))
-  large_answer (Err (Truncated wanted)) words w t = absurd (let e = only (Err (Truncated wanted)) too_large w.0 t in cc)
+  large_answer r words w t = settled r too_large w.0 t ∙ ap (λ (k : ℕ). Err (TooLarge k)) (sym w.1)
 
-  -- where the bytes end inside a frame, the result is how many are wanted
+  -- where the bytes end inside a frame, the result is how many are needed
   pub short_answer : (r : Result (Option Framed) FrontFault) (wanted : ℕ) → IsPartial limit (plain_words bs) (plain_is_cut bs)
       → Wants (plain_words bs) wanted → TellsFront limit bs r → r ≡ Err (Truncated wanted)
-  short_answer (Ok (Some f)) wanted p w t = absurd (let e = only (Ok (Some f)) partial p t in cc)
-  short_answer (Ok None) wanted p w t = absurd (let e = only (Ok None) partial p t in cc)
-  short_answer (Err (TooManySegments count)) wanted p w t = absurd (let e = only (Err (TooManySegments count)) partial p t in cc)
-  short_answer (Err (TooLarge words)) wanted p w t = absurd (let e = only (Err (TooLarge words)) partial p t in cc)
-  short_answer (Err (Truncated other)) wanted p w t = ap (λ (k : ℕ). Err (Truncated k)) (one_wanted (plain_words bs) other wanted t.1 w)
+  short_answer r wanted p w t = settled r partial p t wanted w
 
   -- so the bytes decide the result
   pub decides_front : (r : Result (Option Framed) FrontFault) → TellsFront limit bs r → DecidesFront limit bs r

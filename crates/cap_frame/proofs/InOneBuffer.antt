@@ -11,7 +11,7 @@ use Rattle.cap_spec.specs.Plain.{plain_words}
 use Rattle.cap_frame.specs.Bytes.{cut}
 use Rattle.cap_frame.specs.Taking.{Takes, Reads, IsUsable, Stops}
 use Rattle.cap_frame.proofs.Cuts.{words_exact, words_inside}
-use Rattle.cap_frame.proofs.Taking.{takes_none, takes_both, reads_none, reads_both, usable_both, stops_later, stops_weaker}
+use Rattle.cap_frame.proofs.Taking.{Took, took_more, took_none, took_stop}
 
 -- what stands in a buffer up to the end of a piece that was written over it
 pub piece_in : (start end many : ℕ) (before held more items piece post rest : List ℕ) → start ≤ length before → end ≤ many → length piece ≡ end - start
@@ -72,19 +72,11 @@ module _ {X : Type 0} (g : source.Ghosts X) where
   pub record BytesSoFar (old now : X) (done : ℕ) (bytes : List ℕ) : Type 0 where
     pub whole : done % 8 ≡ 0
     pub within : done ≤ length bytes
-    pub takes : Takes g old now (plain_words (take done bytes))
-    pub reads : Reads g old now
-    pub usable : IsUsable g old now
+    pub took : Took g old now (plain_words (take done bytes))
 
   -- none yet
   pub bytes_none : (s : X) (bytes : List ℕ) → g.spent s ≡ false → BytesSoFar s s 0 bytes
-  bytes_none s bytes u = record {
-    whole = refl;
-    within = omega arith;
-    takes = takes_none g s;
-    reads = reads_none g s;
-    usable = record { usable = u; still = u; none_failed = refl };
-  }
+  bytes_none s bytes u = record { whole = refl; within = omega arith; took = took_none g s u }
 
   -- one more piece
   pub bytes_more : (old now new : X) (done end : ℕ) (bytes longer piece : List ℕ) → end % 8 ≡ 0 → end ≤ length longer
@@ -97,9 +89,7 @@ module _ {X : Type 0} (g : source.Ghosts X) where
       record {
         whole = w;
         within = i;
-        takes = subst (Takes g old new) (sym words) (takes_both g old now new (plain_words (take done bytes)) (plain_words piece) t.takes takes);
-        reads = reads_both g old now new t.reads r;
-        usable = usable_both g old now new t.usable u;
+        took = took_more g old now new (plain_words (take done bytes)) (plain_words piece) (plain_words (take end longer)) words t.took takes r u;
       }
 
   -- the source stopped inside a piece
@@ -109,5 +99,4 @@ module _ {X : Type 0} (g : source.Ghosts X) where
       let taken = length (plain_words (take done bytes)) in
       let few : 8 * taken ≤ done = omega (arith, words_inside (take done bytes), length-take-le done bytes t.within) in
       let some : taken + (end - done) / 8 ≤ words = omega (arith, t.whole) in
-      stops_weaker g old new (taken + (end - done) / 8) words fault some
-      (stops_later g old now new (plain_words (take done bytes)) ((end - done) / 8) fault t.takes t.usable s)
+      took_stop g old now new (plain_words (take done bytes)) ((end - done) / 8) words fault some t.took s

@@ -10,7 +10,7 @@ use Rattle.cap_spec.proofs.Bytes.Plain.{length_plain}
 use Rattle.cap_spec.proofs.Frames.OneEnding.{split, split_joined, split_sizes}
 use Rattle.cap_frame.specs.Taking.{Takes, Reads, IsUsable}
 use Rattle.cap_frame.proofs.Contents.{WordsSoFar, words_start}
-use Rattle.cap_frame.proofs.Taking.{reads_both, takes_both, usable_both}
+use Rattle.cap_frame.proofs.Taking.{took_more}
 
 -- joined, the parts of words are the words
 split_whole : (ns ws : List ℕ) → length ws ≡ sum ns → joined (split ns ws) ≡ ws
@@ -54,9 +54,7 @@ module _ {X : Type 0} (g : source.Ghosts X) where
   skipped_more old now new many n own w t l r u = record {
     own = w.own ++ own;
     so_far = record {
-      takes = takes_both g old now new w.own own w.so_far.takes t;
-      reads = reads_both g old now new w.so_far.reads r;
-      usable = usable_both g old now new w.so_far.usable u;
+      took = took_more g old now new w.own own (w.own ++ own) refl w.so_far.took t r u;
       length_is = omega (arith, length-append w.own own, w.so_far.length_is, l);
     };
   }

@@ -10,7 +10,7 @@ use Rattle.cap_spec.specs.Words.{IsWord}
 use Rattle.cap_spec.proofs.Frames.Framing.{length_halves}
 use Rattle.cap_spec.proofs.Bytes.Lists.{all_append}
 use Rattle.cap_frame.specs.Taking.{Takes, Reads, IsUsable, Stops}
-use Rattle.cap_frame.proofs.Taking.{takes_none, takes_both, reads_none, reads_both, usable_both, stops_later, stops_weaker}
+use Rattle.cap_frame.proofs.Taking.{Took, took_more, took_none, took_stop}
 
 -- the numbers of a table: those of its further words, behind the high half of its first
 abbrev pub behind : ℕ → List ℕ → List ℕ
@@ -24,9 +24,7 @@ module _ {X : Type 0} (g : source.Ghosts X) where
   pub record TableSoFar (first many : ℕ) (old now : X) (sizes : List ℕ) : Type 0 where
     pub more : List ℕ
     pub length_is : length more ≡ many
-    pub takes : Takes g old now more
-    pub reads : Reads g old now
-    pub usable : IsUsable g old now
+    pub took : Took g old now more
     pub fit : AllByRecursion IsWord more
     pub sizes_are : sizes ≡ take (first % 2 ^ 32 + 1) (behind first more)
 
@@ -35,9 +33,7 @@ module _ {X : Type 0} (g : source.Ghosts X) where
   table_start first s sizes u e = record {
     more = [];
     length_is = refl;
-    takes = takes_none g s;
-    reads = reads_none g s;
-    usable = record { usable = u; still = u; none_failed = refl };
+    took = took_none g s u;
     fit = tt;
     sizes_are = e ∙ sym (take_all (first % 2 ^ 32 + 1) (first / 2 ^ 32 ∷ []) (omega arith));
   }
@@ -49,9 +45,7 @@ module _ {X : Type 0} (g : source.Ghosts X) where
   table_more first many old now new sizes longer word w h t takes reads usable e = record {
     more = t.more ++ word ∷ [];
     length_is = omega (arith, length-append t.more (word ∷ []), t.length_is);
-    takes = takes_both g old now new t.more (word ∷ []) t.takes takes;
-    reads = reads_both g old now new t.reads reads;
-    usable = usable_both g old now new t.usable usable;
+    took = took_more g old now new t.more (word ∷ []) (t.more ++ word ∷ []) refl t.took takes reads usable;
     fit = all_append IsWord t.more (word ∷ []) t.fit (w, tt);
     sizes_are =
         let short : sizes ≡ behind first t.more = t.sizes_are
@@ -74,5 +68,4 @@ module _ {X : Type 0} (g : source.Ghosts X) where
   pub table_stops : (first many : ℕ) (old now new : X) (sizes : List ℕ) (fault : SourceFault) → many < (first % 2 ^ 32 + 1) / 2
       → TableSoFar first many old now sizes → Stops g 1 now new fault → Stops g ((first % 2 ^ 32 + 1) / 2) old new fault
   table_stops first many old now new sizes fault h t s =
-      stops_weaker g old new (length t.more + 1) ((first % 2 ^ 32 + 1) / 2) fault (omega (arith, t.length_is))
-      (stops_later g old now new t.more 1 fault t.takes t.usable s)
+      took_stop g old now new t.more 1 ((first % 2 ^ 32 + 1) / 2) fault (omega (arith, t.length_is)) t.took s

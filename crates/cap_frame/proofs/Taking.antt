@@ -1,5 +1,5 @@
 -- Words taken from a source in several calls.
-use Rattle.std.proofs.Common.{◌≡◌, ◌∙◌, ℕ, ◌+◌, ◌-◌, ◌^◌, ◌<◌, ◌≤◌, suc, Bool, Option, Some, None, List, [], ◌∷◌, ◌++◌, length, min, drop, IfSome, OnSome, refl, sym, ap, subst, arith, length-append}
+use Rattle.std.proofs.Common.{◌≡◌, ◌∙◌, ℕ, ◌+◌, ◌-◌, ◌^◌, ◌<◌, ◌≤◌, suc, Bool, false, Option, Some, None, List, [], ◌∷◌, ◌++◌, length, min, drop, IfSome, OnSome, refl, sym, ap, subst, arith, length-append}
 use Rattle.std.specs.Io.KnownBytes.{Consumes}
 use Rattle.std.proofs.KnownBytes.{Consumes-nil, Consumes-trans}
 use Rattle.std.proofs.lemmas.List.{drop-drop}
@@ -141,3 +141,28 @@ module _ {X : Type 0} (g : source.Ghosts X) where
   }
   stops_weaker old new m n Device h s = s
   stops_weaker old new m n Spent h s = s
+
+  -- These words were taken, and no fault came.
+  pub record Took (old now : X) (words : List ℕ) : Type 0 where
+    pub takes : Takes g old now words
+    pub reads : Reads g old now
+    pub usable : IsUsable g old now
+
+  -- none yet
+  pub took_none : (s : X) → g.spent s ≡ false → Took s s []
+  took_none s u = record { takes = takes_none s; reads = reads_none s; usable = record { usable = u; still = u; none_failed = refl } }
+
+  -- and then others
+  pub took_more : (old now new : X) (words own all : List ℕ) → all ≡ words ++ own → Took old now words → Takes g now new own → Reads g now new
+      → IsUsable g now new → Took old new all
+  took_more old now new words own all e w t r u = record {
+    takes = subst (Takes g old new) (sym e) (takes_both old now new words own w.takes t);
+    reads = reads_both old now new w.reads r;
+    usable = usable_both old now new w.usable u;
+  }
+
+  -- the source stopped before there were m
+  pub took_stop : (old now new : X) (words : List ℕ) (n m : ℕ) (fault : SourceFault) → length words + n ≤ m → Took old now words → Stops g n now new fault
+      → Stops g m old new fault
+  took_stop old now new words n m fault h w s =
+      stops_weaker old new (length words + n) m fault h (stops_later old now new words n fault w.takes w.usable s)

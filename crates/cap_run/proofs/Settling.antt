@@ -3,7 +3,7 @@ use Rattle.std.proofs.Common.{◌≡◌, ◌∙◌, ◌⊎◌, inl, inr, ℕ, �
 use Rattle.std.specs.Bool.{⊤}
 use Rattle.std.specs.List.{AllByRecursion}
 use Rattle.std.specs.Io.KnownBytes.{Consumes}
-use Rattle.cap_spec.specs.Endings.{BeginsMessage}
+use Rattle.cap_spec.specs.Endings.{BeginsMessage, message, none}
 use Rattle.cap_spec.specs.Frames.{Stream, sizes_of}
 use Rattle.cap_spec.proofs.Frames.FrameTexts.{one_stream}
 use Rattle.cap_spec.proofs.Bytes.Lists.{all_back}
@@ -13,7 +13,7 @@ use Rattle.cap_words.specs.declared.sources.WordSource as source
 use Rattle.cap_frame.specs.ReadingFaults.{Answered, Faults}
 use Rattle.cap_frame.specs.declared.fault.FrameFault.{FrameFault}
 use Rattle.cap_frame.specs.declared.fault.FrameFault.TheVariants.{TooManySegments, TooLarge, Truncated, Device, Memory, Spent}
-use Rattle.cap_frame.proofs.Converse.{known_still, same_some, tells_fault, whole_answer, none_answer}
+use Rattle.cap_frame.proofs.Converse.{known_still, same_some, settled as settled_by, tells_fault}
 use Rattle.cap_run.specs.Running.{Appended, RunStops, Settled, SettledAt}
 use Rattle.cap_run.specs.Streams.{ReadsAll, ReadsStream}
 use Rattle.cap_run.specs.Telling.{Tells, TellsEach, Told, messages_of, outcome_of, texts_of}
@@ -46,12 +46,12 @@ module _ {S : Type 0} (g : source.Ghosts S) (limit : ℕ) where
       next : (rest ≡ []) ⊎ StreamNext rest more → Answered {A = Outcome} (Err fault) P
       next (inl e) =
           answered_absurd fault P _ (λ a. (cc))
-          (none_answer (λ m. ⊤) limit rest (g.is_cut mid) (g.places mid) (g.words new) (Err fault) (e, c) (tells_fault g (λ m. ⊤) limit mid new fault rest w h))
+          (settled_by (λ m. ⊤) limit rest (g.is_cut mid) (g.places mid) (g.words new) (Err fault) none (e, c) (tells_fault g (λ m. ⊤) limit mid new fault rest w h))
       next (inr t) =
           let within = (subst (AllByRecursion (λ m. sum (sizes_of m) ≤ limit)) t.messages l).0 in
           let begins : BeginsMessage limit rest = record { own = t.own; rest = t.rest; message = t.message; whole = t.whole; frames = t.frames; within = within } in
           answered_absurd fault P _ (λ a. let e = a.0 in cc)
-          (whole_answer (λ m. ⊤) limit rest (g.is_cut mid) (g.places mid) (g.words new) (Err fault) begins (tells_fault g (λ m. ⊤) limit mid new fault rest w h))
+          (settled_by (λ m. ⊤) limit rest (g.is_cut mid) (g.places mid) (g.words new) (Err fault) message begins (tells_fault g (λ m. ⊤) limit mid new fault rest w h))
 
 module _ {S : Type 0} (gs : source.Ghosts S) (limit : ℕ) (old mid new : S) (read : List (List (List ℕ))) (own : List ℕ) (ms : List (List (List ℕ))) where
   -- a stream of which some messages were read goes on with the others

@@ -21,7 +21,7 @@ pieces-preserved g c =
     )
 
 pub returns-in-Err-clause-reads : goal.returns-in-Err-clause-reads
-returns-in-Err-clause-reads g c = reads_both g.S.WordSource c.args.source.now c.pieces.source c.read_piece.new.source c.pieces.invariant.0.reads
+returns-in-Err-clause-reads g c = reads_both g.S.WordSource c.args.source.now c.pieces.source c.read_piece.new.source c.pieces.invariant.0.took.reads
     c.read_piece.ensures.reads
 
 pub returns-in-Err-clause-err : goal.returns-in-Err-clause-err

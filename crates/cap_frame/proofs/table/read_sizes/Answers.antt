@@ -26,8 +26,8 @@ pub returns-clause-ok : goal.returns-clause-ok
 returns-clause-ok g c =
     let t = c.table.invariant in
     let whole = makes_table c.args.first t.more (c.ranges.first.fits, t.fit) c.requires.few (omega (arith, t.length_is)) in
-    (t.more, t.takes, rw (← t.sizes_are) at whole)
+    (t.more, t.took.takes, rw (← t.sizes_are) at whole)
 
 pub returns-in-Err-clause-reads : goal.returns-in-Err-clause-reads
-returns-in-Err-clause-reads g c = reads_both g.S.WordSource c.args.source.now c.table.source c.next_word.new.source c.table.invariant.reads
+returns-in-Err-clause-reads g c = reads_both g.S.WordSource c.args.source.now c.table.source c.next_word.new.source c.table.invariant.took.reads
     c.next_word.ensures.reads

@@ -15,7 +15,7 @@ returns-in-Err-clause-err g c =
     c.in-Err.ensures.err
 
 pub returns-in-Err-clause-reads : goal.returns-in-Err-clause-reads
-returns-in-Err-clause-reads g c = reads_both g.S.WordSource c.args.source.now c.segments.source c.read_words.new.source c.segments.invariant.reads
+returns-in-Err-clause-reads g c = reads_both g.S.WordSource c.args.source.now c.segments.source c.read_words.new.source c.segments.invariant.took.reads
     c.read_words.ensures.reads
 
 pub segments-preserved : goal.segments-preserved

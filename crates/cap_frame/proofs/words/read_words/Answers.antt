@@ -16,5 +16,5 @@ words-preserved g c = record {
 }
 
 pub returns-in-Err-clause-reads : goal.returns-in-Err-clause-reads
-returns-in-Err-clause-reads g c = reads_both g.S.WordSource c.args.source.now c.words.source c.next_word.new.source c.words.invariant.far.reads
+returns-in-Err-clause-reads g c = reads_both g.S.WordSource c.args.source.now c.words.source c.next_word.new.source c.words.invariant.far.took.reads
     c.next_word.ensures.reads

@@ -25,5 +25,5 @@ returns-in-Err-clause-err g c =
     w.so_far c.in-Err.ensures.err
 
 pub returns-in-Err-clause-reads : goal.returns-in-Err-clause-reads
-returns-in-Err-clause-reads g c = reads_both g.S.WordSource c.args.source.now c.words.source c.skip_some.new.source c.words.invariant.skipped.so_far.reads
+returns-in-Err-clause-reads g c = reads_both g.S.WordSource c.args.source.now c.words.source c.skip_some.new.source c.words.invariant.skipped.so_far.took.reads
     c.skip_some.ensures.reads
