@@ -1,5 +1,5 @@
 -- What holds of the bytes decides what is found at their start.
-use Rattle.std.proofs.Common.{◌≡◌, ◌∙◌, ℕ, ◌+◌, ◌*◌, ◌%◌, ◌^◌, false, Option, Some, None, Result, Ok, Err, List, [], length, sum, IsOkAnd, IsSomeAnd, refl, sym, ap, subst, arith}
+use Rattle.std.proofs.Common.{◌≡◌, ◌∙◌, ℕ, ◌+◌, ◌*◌, ◌%◌, ◌^◌, false, Option, Some, None, Result, Ok, Err, List, [], length, sum, IsOkAnd, IsSomeAnd, refl, sym, ap, subst}
 use Rattle.cap_spec.specs.Endings.{BeginsMessage, EndsIn, Ending, message, none, partial, too_large, too_many}
 use Rattle.cap_spec.specs.Frames.{IsPartial}
 use Rattle.cap_spec.specs.Plain.{plain_words, plain_is_cut}
@@ -30,7 +30,7 @@ one_wanted ws a b (a_frame table sizes rest e t h) (a_frame other counts more f 
 
 module _ (limit : ℕ) (bs : List ℕ) where
   -- what is found, as ways in which reading a message of the words ends
-  begins : (m : List (List ℕ)) (n : ℕ) → IsFront limit bs m n → BeginsMessage limit (plain_words bs)
+  abbrev begins : (m : List (List ℕ)) (n : ℕ) → IsFront limit bs m n → BeginsMessage limit (plain_words bs)
   begins m n f = record { own = f.own; rest = f.rest; message = m; whole = f.words; frames = f.frames; within = f.within }
 
   ends : bs ≡ [] → (plain_words bs ≡ []) × (plain_is_cut bs ≡ false)

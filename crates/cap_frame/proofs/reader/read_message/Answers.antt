@@ -1,5 +1,5 @@
 -- The table and the contents behind it frame the message.
-use Rattle.std.proofs.Common.{◌∙◌, Ok, Err, false, refl, subst, sym, map}
+use Rattle.std.proofs.Common.{◌∙◌, Ok, Err, false, subst, sym, map}
 use Rattle.cap_spec.specs.Frames.{IsTable}
 use Rattle.cap_frame.proofs.Behind.{message_of}
 use Rattle.cap_frame.proofs.Reading.{frame_stopped, frame_taken, no_frame, no_memory}

@@ -1,5 +1,5 @@
 -- What is said after the first word, seen from before it.
-use Rattle.std.proofs.Common.{◌∙◌, Ok, Err, true, refl, rules, arith, subst, sym}
+use Rattle.std.proofs.Common.{◌∙◌, Ok, Err, true, refl, arith, subst, sym}
 use Rattle.std.proofs.lemmas.Grind.{common_steps}
 use Rattle.cap_frame.specs.Limit.{limit_of}
 use Rattle.cap_frame.specs.ReadingFaults.{Faults}
