@@ -85,7 +85,7 @@ module _ {X : Type 0} (g : source.Ghosts X) (is : List (List ℕ) → Type 0) (l
   pub no_frame : (r : Result Bool FrameFault) → (r ≡ Ok true → ⊥) → ReadsNext g limit old new r → ReadsFrame g is limit old new r
   no_frame r h n = read_frame r (λ e. absurd (h e)) n
 
-  -- there was no memory behind a table
+  -- there was no memory after a table
   pub no_memory : (sizes : List ℕ) → ReadsNext g limit old new (Ok true) → TakesTable g old new sizes → sum sizes ≤ limit
       → ReadsFrame g is limit old new (Err Memory)
   no_memory sizes n table within =
@@ -93,7 +93,7 @@ module _ {X : Type 0} (g : source.Ghosts X) (is : List (List ℕ) → Type 0) (l
       (λ i. absurd (cc)))
 
 module _ {X : Type 0} (g : source.Ghosts X) (is : List (List ℕ) → Type 0) (limit : ℕ) (old mid new : X) (sizes : List ℕ) where
-  -- the contents stood behind a table
+  -- the contents after a table were read
   pub frame_taken : (m : List (List ℕ)) → ReadsNext g limit old mid (Ok true) → TakesTable g old mid sizes → sum sizes ≤ limit
       → Takes g mid new (joined m) → sizes_of m ≡ sizes → IsUsable g mid new → Reads g mid new → is m → ReadsFrame g is limit old new (Ok true)
   frame_taken m n table within takes e works reads i =

@@ -1,44 +1,25 @@
 //! Reading the words of a message into one buffer of bytes.
 
-ghost use Rattle.cap_frame.specs.Bytes.{starts_of};
 ghost use Rattle.cap_frame.specs.Taking.{IsUsable, Reads, Stops, Takes};
 ghost use Rattle.cap_spec.specs.Plain.{plain_words};
 ghost use Rattle.std.specs.Prelude.{◌%◌, ◌*◌, ◌+◌, ◌++◌, ◌-◌, ◌/◌, ◌<◌, ◌≡◌, ◌≤◌, [], ◌∷◌, IfErr, List, OnErr, OnOk, false, length, sum, take, ℕ};
 ghost use Rattle.std.specs.Vec.{vec_capacity, vec_len};
 
-use crate::table::Sizes;
 use cap_words::{SourceFault, WordSource};
 use std::alloc::{AllocError, Global};
 
-/// Where each segment of a message starts, in words.
-pub(crate) type Starts = Sizes;
-
-// How far a fresh buffer is made ready before it is read over, in bytes. Little enough to be in the cache
-// still, and twice the buffer of an input: what that holds already of a piece would else leave too little
-// of it to be read without a copy.
+// How many bytes of a new buffer are filled with zeros before they are read over. They are still in
+// the cache then. Twice the buffer of an input, so that its buffered bytes leave enough of a piece to
+// be read without a copy.
 const PIECE: usize = 131_072;
 
-// How much of a fresh buffer is made ready by one call, in bytes. The C library fills 2 KiB and more by one
-// string instruction, which was seen to be slow over pages that the system gives only as they are touched.
+// How many bytes one call fills with zeros. The C library fills 2 KiB and more by one string
+// instruction, which was slow over pages that the system gives only as they are touched.
 const STEP: usize = 1024;
 
 // How many bytes are initialized after a run of literal words that was longer than this. They are
 // mostly the head of a further run, which is appended next.
 const FEW: usize = 64;
-
-/// Where segments of these sizes start, one after the other.
-pub(crate) fn fill_starts(sizes: &[u32], starts: &mut Starts)
-    requires few { length sizes.now ≤ 512 }
-    requires small { sum sizes.now ≤ 268435456 }
-    ensures { starts.new.items ≡ starts_of 0 sizes.now }
-{
-    starts.clear();
-    let mut at = 0u32;
-    'segments: for size in sizes {
-        starts.push(at);
-        at += *size;
-    }
-}
 
 /// Makes sure that a buffer has capacity for `need` bytes. If it hasn't, it is freed before another
 /// is allocated, so that its contents are neither moved nor kept beside the new buffer.
@@ -68,8 +49,8 @@ fn lengthen(bytes: &mut Vec<u8>, end: usize)
     }
 }
 
-// Reads whole words over the bytes from `start` to `end`, which are made ready first where there are
-// none yet.
+// Reads whole words over the bytes from `start` to `end`. Where there are none yet, zeros are
+// appended first.
 #[inline(always)]
 fn read_piece<S: WordSource>(
     source: &mut S,
@@ -109,8 +90,8 @@ fn piece_behind(run: usize) -> usize
     if run > FEW { FEW } else { PIECE }
 }
 
-// Appends words as they are, where the bytes that were read so far are all that a buffer holds. Answers
-// how many bytes they are.
+// Appends buffered words to the bytes that were read, if the buffer has no others. Returns how many
+// bytes they are.
 #[inline(always)]
 fn append_run<S: WordSource>(source: &mut S, bytes: &mut Vec<u8>, done: usize, need: usize) -> usize
     requires whole { done % 8 ≡ 0 }

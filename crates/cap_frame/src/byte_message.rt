@@ -3,7 +3,7 @@
 ghost use Rattle.cap_frame.specs.Bytes.{starts_of};
 ghost use Rattle.std.specs.Prelude.{◌*◌, ◌^◌, ◌≡◌, ◌≤◌, [], ◌∷◌, length, sum, vec_len};
 
-use crate::byte_contents::Starts;
+use crate::segment_tables::Starts;
 use crate::segments::Segments;
 use crate::table::Sizes;
 use crate::view::ByteView;

@@ -7,10 +7,11 @@ ghost use Rattle.cap_frame.specs.Reading.{IsResult, LacksMemory, ReadsFrame, has
 ghost use Rattle.std.specs.Prelude.{◌*◌, ◌≡◌, ◌≤◌, [], ◌∷◌, IsErrOf, length, sum, true};
 ghost use Rattle.std.specs.Vec.{vec_capacity, vec_len};
 
-use crate::byte_contents::{fill_starts, make_room, read_bytes};
+use crate::byte_contents::{make_room, read_bytes};
 use crate::byte_message::{ByteMessage, blank};
 use crate::fault::{FrameFault, frame_fault};
 use crate::limit::SizeLimit;
+use crate::segment_tables::fill_starts;
 use crate::table::{Sizes, next_table, total};
 use cap_words::WordSource;
 use std::alloc::Global;

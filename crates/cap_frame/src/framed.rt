@@ -6,8 +6,7 @@ ghost use Rattle.cap_spec.specs.Frames.{joined, sizes_of};
 ghost use Rattle.cap_spec.specs.Plain.{plain_text, plain_words};
 ghost use Rattle.std.specs.Prelude.{◌*◌, ◌+◌, ◌≡◌, ◌≤◌, ◌↔◌, IfSome, IsSome, length, sum};
 
-use crate::byte_contents::fill_starts;
-use crate::segment_tables::SegmentTables;
+use crate::segment_tables::{SegmentTables, fill_starts};
 use crate::segments::Segments;
 use crate::table::Sizes;
 use crate::view::{ByteView, words_at};

@@ -14,6 +14,7 @@ mod outline_reader;
 mod reader;
 mod segment_tables;
 mod segments;
+mod skipping;
 mod table;
 mod view;
 mod words;

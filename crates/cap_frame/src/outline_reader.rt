@@ -8,8 +8,8 @@ ghost use Rattle.std.specs.Prelude.{◌≡◌, [], IsErrOf, None, true};
 use crate::fault::{FrameFault, frame_fault};
 use crate::limit::SizeLimit;
 use crate::outline::Outline;
+use crate::skipping::skip_contents;
 use crate::table::next_table;
-use crate::words::skip_contents;
 use cap_words::WordSource;
 
 /// Reads the next message of a stream and keeps its outline. `false` if the stream ends before the

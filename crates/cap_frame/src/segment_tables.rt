@@ -1,9 +1,12 @@
-//! Buffers for the tables of a message that is borrowed.
+//! Tables of the segments of a message: their sizes, and where each starts.
 
-ghost use Rattle.std.specs.Prelude.{◌≡◌, []};
+ghost use Rattle.cap_frame.specs.Bytes.{starts_of};
+ghost use Rattle.std.specs.Prelude.{◌≡◌, ◌≤◌, [], length, sum};
 
-use crate::byte_contents::Starts;
 use crate::table::Sizes;
+
+/// Where each segment of a message starts, in words.
+pub(crate) type Starts = Sizes;
 
 /// A buffer of 4 KiB for how many words each segment of a message has, and where it starts.
 /// Allocates nothing.
@@ -24,5 +27,19 @@ impl SegmentTables {
             sizes: Sizes::new(),
             starts: Starts::new(),
         }
+    }
+}
+
+/// Where segments of these sizes start, one after the other.
+pub(crate) fn fill_starts(sizes: &[u32], starts: &mut Starts)
+    requires few { length sizes.now ≤ 512 }
+    requires small { sum sizes.now ≤ 268435456 }
+    ensures { starts.new.items ≡ starts_of 0 sizes.now }
+{
+    starts.clear();
+    let mut at = 0u32;
+    'segments: for size in sizes {
+        starts.push(at);
+        at += *size;
     }
 }

@@ -100,8 +100,8 @@ pub fn write_message<K: WordSink, M: Segments>(sink: &mut K, message: &M) -> Res
 }
 
 /// Puts the framed message of one segment, whose words these bytes encode: its table, and then all
-/// words in one piece. Ignores less than a word at the end of the bytes. It doesn't finish the sink,
-/// so that another message may follow.
+/// words in one piece. Ignores less than a word at the end. It doesn't finish the sink, so that
+/// another message may follow. The bytes are fewer than 2^35, so that the table can count the words.
 ///
 /// # Errors
 ///

@@ -3,7 +3,7 @@ use Rattle.std.proofs.lemmas.List.{length-take-le}
 use Rattle.cap_frame.proofs.Contents.{words_stop}
 use Rattle.cap_frame.proofs.Skipping.{skipped_more, skipped_none}
 use Rattle.cap_frame.proofs.Taking.{reads_both}
-use Rattle.cap_frame.proofs.words.skip_words.Goals as goal
+use Rattle.cap_frame.proofs.skipping.skip_words.Goals as goal
 
 pub words-init : goal.words-init
 words-init g c = record { few = omega arith; skipped = skipped_none g.S.WordSource c.args.source.now c.requires.usable }

@@ -1,6 +1,6 @@
 use Rattle.std.proofs.Common.{◌-◌, ◌≤◌}
 use Rattle.cap_frame.proofs.Skipping.{SkippedSoFar}
-use Rattle.cap_frame.proofs.words.skip_words.Given as goal
+use Rattle.cap_frame.proofs.skipping.skip_words.Given as goal
 
 abbrev pub invariant-words : goal.invariant-words
 invariant-words g l = record {
