@@ -2,7 +2,7 @@ pub mod Held
 pub mod Taking
 pub mod Tables
 pub mod Contents
-pub mod Skipping
+pub mod Skips
 pub mod Behind
 pub mod Converse
 pub mod Reading

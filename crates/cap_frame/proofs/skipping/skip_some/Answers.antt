@@ -1,7 +1,7 @@
 use Rattle.std.proofs.Common.{◌∷◌, [], arith, refl, subst, take}
 use Rattle.cap_spec.specs.Plain.{plain_words}
 use Rattle.cap_frame.specs.Taking.{IsUsable, Reads, Stops, Takes}
-use Rattle.cap_frame.proofs.Skipping.{words_in}
+use Rattle.cap_frame.proofs.Skips.{words_in}
 use Rattle.cap_frame.proofs.skipping.skip_some.Goals as goal
 
 pub returns-then-count-gt0-clause-some : goal.returns-then-count-gt0-clause-some

@@ -1,7 +1,7 @@
 use Rattle.std.proofs.Common.{◌*◌, arith}
 use Rattle.std.proofs.lemmas.List.{length-take-le}
 use Rattle.cap_frame.proofs.Contents.{words_stop}
-use Rattle.cap_frame.proofs.Skipping.{skipped_more, skipped_none}
+use Rattle.cap_frame.proofs.Skips.{skipped_more, skipped_none}
 use Rattle.cap_frame.proofs.Taking.{reads_both}
 use Rattle.cap_frame.proofs.skipping.skip_words.Goals as goal
 

@@ -1,5 +1,5 @@
 use Rattle.std.proofs.Common.{◌-◌, ◌≤◌}
-use Rattle.cap_frame.proofs.Skipping.{SkippedSoFar}
+use Rattle.cap_frame.proofs.Skips.{SkippedSoFar}
 use Rattle.cap_frame.proofs.skipping.skip_words.Given as goal
 
 abbrev pub invariant-words : goal.invariant-words
