@@ -1,0 +1,207 @@
+// Reads messages by Cap'n Proto's own C++ library, and writes a line for each.
+//
+//     read FILE
+//
+// FILE has for each message its traversal limit (8 bytes), its nesting limit and its length in bytes (4 bytes each), the
+// lowest byte first, and then its bytes. Each message is read four times by the flat reader and four times by the stream
+// reader, each time under these limits:
+//
+// - `walk` asks each pointer for its kind and then for what it is, and reads every byte;
+// - `upgraded` does so too, and asks for each list but those of bits as a list of structs, as a newer schema may;
+// - `size` asks the root for its target size;
+// - `copy` makes the canonical copy of a message without capabilities.
+//
+// The line is 'sum N pointers N caps N', and 'copy HEX' where there are no capabilities; the sum is that of all bytes. Where
+// the library throws, the line is 'threw', the reader, the reading, the getter and the exception's text. Where two readings
+// differ, it says so.
+
+#include <capnp/any.h>
+#include <capnp/capability.h>
+#include <capnp/message.h>
+#include <capnp/serialize.h>
+#include <kj/debug.h>
+#include <kj/io.h>
+#include <stdio.h>
+#include <string.h>
+
+#include <string>
+
+namespace {
+
+// What is done at the moment, for the line of an exception.
+const char *reader, *reading, *getter;
+
+// What the library's own generated code calls.
+capnp::_::PointerReader internal(capnp::AnyPointer::Reader pointer) {
+  return capnp::_::PointerHelpers<capnp::AnyPointer>::getInternalReader(pointer);
+}
+
+// Gives a capability for every index, since a message may name any.
+class EveryCapability final : public capnp::_::CapTableReader {
+ public:
+  kj::Maybe<kj::Own<capnp::ClientHook>> extractCap(uint) override { return cap->addRef(); }
+
+ private:
+  // (this tells the library too how capabilities are made)
+  capnp::ReaderCapabilityTable context{nullptr};
+  kj::Own<capnp::ClientHook> cap = capnp::newBrokenCap("for tests");
+};
+
+// Counts pointers and capabilities, and adds up all bytes.
+class Walk {
+ public:
+  explicit Walk(bool upgrades) : upgrades(upgrades) {}
+
+  void pointer(capnp::AnyPointer::Reader pointer) {
+    pointers++;
+    getter = "getPointerType";
+    switch (pointer.getPointerType()) {
+      case capnp::PointerType::NULL_:
+        return null(pointer);
+      case capnp::PointerType::CAPABILITY:
+        caps++;
+        getter = "getAs<Capability>";
+        pointer.getAs<capnp::Capability>();
+        return;
+      case capnp::PointerType::STRUCT:
+        getter = "getAs<AnyStruct>";
+        return node(pointer.getAs<capnp::AnyStruct>());
+      case capnp::PointerType::LIST:
+        getter = "getAs<AnyList>";
+        return list(pointer, pointer.getAs<capnp::AnyList>());
+    }
+  }
+
+  std::string text() const {
+    return "sum " + std::to_string(sum) + " pointers " + std::to_string(pointers) + " caps " + std::to_string(caps);
+  }
+
+  uint64_t pointers = 0, caps = 0, sum = 0;
+
+ private:
+  // A null pointer is the default of each kind.
+  void null(capnp::AnyPointer::Reader pointer) {
+    getter = "getters of a null pointer";
+    pointer.getAs<capnp::AnyStruct>();
+    pointer.getAs<capnp::AnyList>();
+    pointer.getAs<capnp::List<bool>>();
+    pointer.getAs<capnp::Text>();
+    pointer.getAs<capnp::Data>();
+    pointer.getAs<capnp::Capability>();
+  }
+
+  void node(capnp::AnyStruct::Reader node) {
+    bytes(node.getDataSection());
+    for (auto each : node.getPointerSection()) pointer(each);
+  }
+
+  void list(capnp::AnyPointer::Reader pointer, capnp::AnyList::Reader list) {
+    auto size = list.getElementSize();
+    if (upgrades && size != capnp::ElementSize::BIT) {
+      getter = "getList(INLINE_COMPOSITE)";
+      auto structs = internal(pointer).getList(capnp::ElementSize::INLINE_COMPOSITE, nullptr);
+      for (auto each : capnp::List<capnp::AnyStruct>::Reader(structs)) node(each);
+    } else if (size == capnp::ElementSize::INLINE_COMPOSITE) {
+      for (auto each : list.as<capnp::List<capnp::AnyStruct>>()) node(each);
+    } else if (size == capnp::ElementSize::POINTER) {
+      for (auto each : list.as<capnp::List<capnp::AnyPointer>>()) this->pointer(each);
+    } else {
+      bytes(list.getRawBytes());
+    }
+  }
+
+  void bytes(kj::ArrayPtr<const kj::byte> bytes) {
+    for (auto each : bytes) sum += each;
+  }
+
+  bool upgrades;
+};
+
+struct Message {
+  capnp::ReaderOptions limits;
+  kj::Array<capnp::word> words;
+};
+
+// Does a job on the root of a message, by the flat reader or by the stream reader.
+template <typename Job>
+auto read(const Message &message, bool stream, EveryCapability &caps, Job job) {
+  auto rootOf = [&](capnp::MessageReader &reader) {
+    getter = "getRoot";
+    return capnp::AnyPointer::Reader(internal(reader.getRoot<capnp::AnyPointer>()).imbue(&caps));
+  };
+  if (stream) {
+    kj::ArrayInputStream in(message.words.asBytes());
+    capnp::InputStreamMessageReader reader(in, message.limits);
+    return job(rootOf(reader));
+  }
+  capnp::FlatArrayMessageReader reader(message.words, message.limits);
+  return job(rootOf(reader));
+}
+
+Walk walkOf(capnp::AnyPointer::Reader root, bool upgrades) {
+  Walk walk(upgrades);
+  walk.pointer(root);
+  return walk;
+}
+
+std::string hexadecimal(kj::ArrayPtr<const kj::byte> bytes) {
+  std::string text;
+  for (auto each : bytes) text += "0123456789abcdef"[each >> 4], text += "0123456789abcdef"[each & 15];
+  return text;
+}
+
+// The canonical copy. The library has a call for a struct only, so a root of another kind is copied into a builder.
+std::string copyOf(capnp::AnyPointer::Reader root) {
+  getter = "canonicalize";
+  if (root.isStruct()) return hexadecimal(root.getAs<capnp::AnyStruct>().canonicalize().asBytes());
+  getter = "setCanonical";
+  capnp::MallocMessageBuilder copy(root.targetSize().wordCount + 1);
+  copy.initRoot<capnp::AnyPointer>().setCanonical(root);
+  return hexadecimal(copy.getSegmentsForOutput()[0].asBytes());
+}
+
+// The line of a message by one of the readers.
+std::string lineBy(const Message &message, bool stream, EveryCapability &caps) {
+  reader = stream ? "stream" : "flat";
+  getter = "constructor";
+  reading = "walk";
+  auto walk = read(message, stream, caps, [](auto root) { return walkOf(root, false); });
+  reading = "upgraded";
+  auto upgraded = read(message, stream, caps, [](auto root) { return walkOf(root, true); });
+  if (walk.text() != upgraded.text()) return "walk and upgraded differ: " + walk.text() + " | " + upgraded.text();
+  reading = "size";
+  auto size = read(message, stream, caps, [](auto root) { return getter = "targetSize", root.targetSize(); });
+  if (size.capCount != walk.caps) return "targetSize counts other capabilities";
+  reading = "copy";
+  return walk.caps > 0 ? walk.text() : walk.text() + " copy " + read(message, stream, caps, copyOf);
+}
+
+std::string lineOf(const Message &message, EveryCapability &caps) {
+  try {
+    auto flat = lineBy(message, false, caps);
+    auto stream = lineBy(message, true, caps);
+    return flat == stream ? flat : "flat and stream differ: " + flat + " | " + stream;
+  } catch (const kj::Exception &thrown) {
+    return std::string("threw ") + reader + " " + reading + " " + getter + ": " + thrown.getDescription().cStr();
+  }
+}
+
+bool next(FILE *file, Message &message) {
+  uint32_t nesting, length;
+  if (fread(&message.limits.traversalLimitInWords, 8, 1, file) != 1) return false;
+  if (fread(&nesting, 4, 1, file) != 1 || fread(&length, 4, 1, file) != 1) return false;
+  message.limits.nestingLimit = nesting;
+  message.words = kj::heapArray<capnp::word>(length / sizeof(capnp::word));
+  return fread(message.words.begin(), 1, length, file) == length;
+}
+
+}  // namespace
+
+int main(int count, char **words) {
+  FILE *file = count == 2 ? fopen(words[1], "rb") : nullptr;
+  if (file == nullptr) return fputs("usage: read FILE\n", stderr), 2;
+  EveryCapability caps;
+  Message message;
+  while (next(file, message)) puts(lineOf(message, caps).c_str());
+  return 0;
+}

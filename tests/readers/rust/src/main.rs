@@ -1,0 +1,186 @@
+//! Reads messages by the Rust crate `capnp`, and writes a line for each. `../read.cpp` says what FILE is, how each message
+//! is read, and what the lines are.
+//!
+//!     read FILE
+//!
+//! What differs from it:
+//! - The flat reader is `read_message_from_flat_slice`, and the stream reader `try_read_message`.
+//! - The crate has no public reader of a struct or list of unknown type, so it goes through `capnp::private`.
+//! - A null pointer isn't asked for a capability: the crate's answer is an error for every one.
+//! - A capability comes from a table of the caller, which has none here. So the crate has to find the capability's number,
+//!   and to miss it in that table.
+
+use capnp::message::{Reader, ReaderOptions, ReaderSegments};
+use capnp::private::layout::{ElementSize, ListReader, PointerReader, PointerType, StructReader};
+use capnp::traits::{FromPointerReader, IntoInternalListReader};
+use capnp::{any_pointer, raw, serialize, Result, Word};
+use std::fs::File;
+use std::io::{BufReader, BufWriter, Read, Write};
+use std::process::exit;
+
+struct Root<'a>(PointerReader<'a>);
+
+impl<'a> FromPointerReader<'a> for Root<'a> {
+    fn get_from_pointer(pointer: &PointerReader<'a>, _: Option<&'a [Word]>) -> Result<Self> {
+        Ok(Root(*pointer))
+    }
+}
+
+struct AnyList<'a>(ListReader<'a>);
+
+impl<'a> IntoInternalListReader<'a> for AnyList<'a> {
+    fn into_internal_list_reader(self) -> ListReader<'a> {
+        self.0
+    }
+}
+
+/// Counts pointers and capabilities, and adds up all bytes.
+#[derive(Default)]
+struct Walk {
+    upgrades: bool,
+    pointers: u64,
+    caps: u64,
+    sum: u64,
+}
+
+impl Walk {
+    fn pointer(&mut self, pointer: PointerReader<'_>) -> Result<()> {
+        self.pointers += 1;
+        match pointer.get_pointer_type()? {
+            PointerType::Null => null(pointer),
+            PointerType::Capability => {
+                self.caps += 1;
+                match pointer.get_capability() {
+                    Err(error) if !error.description.contains("invalid capability pointer") => Err(error),
+                    _ => Ok(()),
+                }
+            }
+            PointerType::Struct => self.node(pointer.get_struct(None)?),
+            PointerType::List => self.list(pointer),
+        }
+    }
+
+    fn node(&mut self, node: StructReader<'_>) -> Result<()> {
+        self.bytes(node.get_data_section_as_blob());
+        (0..node.get_pointer_section_size().into()).try_for_each(|i| self.pointer(node.get_pointer_field(i)))
+    }
+
+    fn list(&mut self, pointer: PointerReader<'_>) -> Result<()> {
+        // No call reads a list of any element size: one of bits has to be asked for as such.
+        let list = pointer.get_list(ElementSize::Void, None).or_else(|_| pointer.get_list(ElementSize::Bit, None))?;
+        let size = raw::get_list_element_size(AnyList(list));
+        if self.upgrades && size != ElementSize::Bit {
+            let list = pointer.get_list(ElementSize::InlineComposite, None)?;
+            return (0..list.len()).try_for_each(|i| self.node(list.get_struct_element(i)));
+        }
+        match size {
+            ElementSize::InlineComposite => (0..list.len()).try_for_each(|i| self.node(list.get_struct_element(i))),
+            ElementSize::Pointer => (0..list.len()).try_for_each(|i| self.pointer(list.get_pointer_element(i))),
+            _ => {
+                self.bytes(raw::get_list_bytes(AnyList(list)));
+                Ok(())
+            }
+        }
+    }
+
+    fn bytes(&mut self, bytes: &[u8]) {
+        self.sum += bytes.iter().map(|&byte| u64::from(byte)).sum::<u64>();
+    }
+}
+
+/// A null pointer is the default of each kind.
+fn null(pointer: PointerReader<'_>) -> Result<()> {
+    pointer.get_struct(None)?;
+    pointer.get_list(ElementSize::Void, None)?;
+    pointer.get_list(ElementSize::Bit, None)?;
+    pointer.get_text(None)?;
+    pointer.get_data(None)?;
+    Ok(())
+}
+
+fn walk(message: &Reader<impl ReaderSegments>, upgrades: bool) -> Result<Walk> {
+    let mut walk = Walk { upgrades, ..Walk::default() };
+    walk.pointer(message.get_root::<Root>()?.0)?;
+    Ok(walk)
+}
+
+/// What one of the readings finds.
+fn found(reading: &str, message: Reader<impl ReaderSegments>) -> Result<String> {
+    Ok(match reading {
+        "size" => message.get_root::<any_pointer::Reader>()?.target_size()?.cap_count.to_string(),
+        "copy" => hexadecimal(Word::words_to_bytes(&message.canonicalize()?)),
+        _ => {
+            let walk = walk(&message, reading == "upgraded")?;
+            format!("sum {} pointers {} caps {}", walk.sum, walk.pointers, walk.caps)
+        }
+    })
+}
+
+fn hexadecimal(bytes: &[u8]) -> String {
+    let digit = |half: u8| char::from(b"0123456789abcdef"[usize::from(half)]);
+    bytes.iter().flat_map(|&byte| [digit(byte >> 4), digit(byte & 15)]).collect()
+}
+
+struct Message {
+    limits: ReaderOptions,
+    /// (words, since the flat reader asks for bytes that are aligned)
+    words: Vec<Word>,
+}
+
+/// What one of the readings finds, by the flat reader or by the stream reader. An error is the line of the message.
+fn read(message: &Message, stream: bool, reading: &str) -> std::result::Result<String, String> {
+    let mut bytes = Word::words_to_bytes(&message.words);
+    let found = if stream {
+        serialize::read_message(&mut bytes, message.limits).and_then(|message| found(reading, message))
+    } else {
+        serialize::read_message_from_flat_slice(&mut bytes, message.limits).and_then(|message| found(reading, message))
+    };
+    found.map_err(|error| format!("threw {} {reading}: {error}", if stream { "stream" } else { "flat" }))
+}
+
+/// The line of a message by one of the readers.
+fn line_by(message: &Message, stream: bool) -> std::result::Result<String, String> {
+    let walk = read(message, stream, "walk")?;
+    let upgraded = read(message, stream, "upgraded")?;
+    if upgraded != walk {
+        return Err(format!("walk and upgraded differ: {walk} | {upgraded}"));
+    }
+    let caps = read(message, stream, "size")?;
+    if !walk.ends_with(&format!(" caps {caps}")) {
+        return Err("target_size counts other capabilities".into());
+    }
+    Ok(if caps == "0" { format!("{walk} copy {}", read(message, stream, "copy")?) } else { walk })
+}
+
+fn line(message: &Message) -> std::result::Result<String, String> {
+    let flat = line_by(message, false)?;
+    let stream = line_by(message, true)?;
+    if flat == stream { Ok(flat) } else { Err(format!("flat and stream differ: {flat} | {stream}")) }
+}
+
+/// The next message of the file, if there is one.
+fn next(file: &mut impl Read) -> Option<Message> {
+    let mut traversal = [0; 8];
+    let mut numbers = [[0; 4]; 2];
+    file.read_exact(&mut traversal).ok()?;
+    numbers.iter_mut().try_for_each(|number| file.read_exact(number)).ok()?;
+    let [nesting, length] = numbers.map(u32::from_le_bytes);
+    let mut limits = ReaderOptions::new();
+    limits.traversal_limit_in_words(Some(u64::from_le_bytes(traversal) as usize)).nesting_limit(nesting as i32);
+    let mut words = Word::allocate_zeroed_vec(length as usize / 8);
+    file.read_exact(Word::words_to_bytes_mut(&mut words)).ok()?;
+    Some(Message { limits, words })
+}
+
+fn main() {
+    let mut file = match std::env::args().nth(1).map(File::open) {
+        Some(Ok(file)) => BufReader::new(file),
+        _ => exit(2),
+    };
+    let mut out = BufWriter::new(std::io::stdout().lock());
+    while let Some(message) = next(&mut file) {
+        let line = line(&message).unwrap_or_else(|failure| failure);
+        writeln!(out, "{line}").expect("a line is written");
+    }
+    out.flush().expect("all lines are written");
+}
