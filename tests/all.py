@@ -25,6 +25,7 @@ SCRIPTS = (
     ("the pages", ["pages.py", PROGRAM]),
     ("the header", ["header.py"]),
     ("the calls from C", ["calls.py", ARCHIVE, PROGRAM]),
+    ("strict messages by other readers", ["readers.py", PROGRAM]),
 )
 
 

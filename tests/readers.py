@@ -21,6 +21,7 @@ import sys
 import tempfile
 from collections import Counter
 from dataclasses import dataclass
+from itertools import zip_longest
 from pathlib import Path
 
 import trees
@@ -33,7 +34,6 @@ BATCH = 10_000
 CONTENTS = 30
 # The words that a message may amount to: a reader goes through all of them.
 WORDS = 65536
-UNAMPLIFIED = 4096
 # The smallest message of each construct, its place, how many pointers are looked at, and the readers that fail on it.
 CONSTRUCTS = {
     "NullPad": ("0000000002000000 0a00000000000000 0000000000000000", 1, ("C++", "Rust")),
@@ -47,11 +47,10 @@ passed = failed = 0
 def told(name, faults):
     """A case, which fails if there are faults. The first few are shown."""
     global passed, failed
+    faults = list(faults)
     passed, failed = passed + (not faults), failed + bool(faults)
     if faults:
-        print(f"FAILED: {name}, {len(faults)} times")
-        for fault in faults[:5]:
-            print(f"  {fault}"[:2000])
+        print(f"FAILED: {name}, {len(faults)} times", *faults[:3], sep="\n  ")
 
 
 # Messages, as lists of lists of words
@@ -94,7 +93,8 @@ class Tree:
         if len(segments) > 511:
             self.lax = "ManySegments at 0:0 pointers 0"
 
-    def is_lax(self, what):
+    def note(self, what):
+        """The last place is the first pointer that isn't strict, unless there was one before."""
         segment, at = self.places[-1]
         self.lax = self.lax or f"{what} at {segment}:{at} pointers {len(self.places)}"
 
@@ -110,15 +110,15 @@ class Tree:
                 first, word = pads[pad:pad + 2]
                 segment, start = first >> 32, first >> 3 & 0x1FFFFFFF
                 if not self.segments[segment]:
-                    self.is_lax("EmptySegment")
+                    self.note("EmptySegment")
             else:
                 segment, word = word >> 32, pads[pad]
                 start = pad + 1 + offset_of(word)
                 if word == 0:
-                    self.is_lax("NullPad")
+                    self.note("NullPad")
                     return []
                 if word & 3 == 3:
-                    self.is_lax("CapabilityPad")
+                    self.note("CapabilityPad")
         if word & 3 == 3:
             self.caps += 1
             return []
@@ -290,81 +290,84 @@ class Tests:
             yield copies[at + 8:end].hex()
             at = end
 
-    def verdicts(self, name, messages):
-        """Vets messages, and gives those that are accepted. The model and the program have to agree about them."""
-        stream = b"".join(map(framed, messages))
+    def accepted(self, name, messages):
+        """Those of the messages that are accepted. The model and the program have to agree about them."""
+        messages = [(segments, framed(segments)) for segments in messages]
+        stream = b"".join(message for _, message in messages)
         verdicts, accepted, faults = self.vet(stream), [], []
-        told(f"{name}: a verdict for each", [] if len(verdicts) == len(messages) else [f"{len(verdicts)} verdicts"])
-        for number, (segments, verdict) in enumerate(zip(messages, verdicts)):
+        told(f"{name}: a verdict for each", [len(verdicts)] if len(verdicts) != len(messages) else [])
+        for number, ((segments, message), verdict) in enumerate(zip(messages, verdicts)):
             _, _, word, *numbers = verdict.split()
             if word == "accepted":
                 charge, depth, pointers, caps = map(int, numbers[1::2])
-                it = Accepted(framed(segments), Tree(segments), charge, depth)
-                accepted.append(it)
-                if (pointers, caps) != (len(it.tree.places), it.tree.caps):
-                    faults.append(f"{it.message.hex()}\n  {verdict}\n  {len(it.tree.places)} {it.tree.caps}")
-                if it.tree.lax:
-                    verdicts[number] = f"message {number}: refused {it.tree.lax}"
+                tree = Tree(segments)
+                accepted.append(Accepted(message, tree, charge, depth))
+                if (pointers, caps) != (len(tree.places), tree.caps):
+                    faults.append(f"{message.hex()}: {verdict}, and not {len(tree.places)} and {tree.caps}")
+                if tree.lax:
+                    verdicts[number] = f"message {number}: refused {tree.lax}"
         told(f"{name}: the counts of the model", faults)
         if self.has_strict:
-            told(f"{name}: strict verdicts", [(got, wish) for got, wish in zip(self.vet(stream, "--strict"), verdicts) if got != wish])
+            strict = self.vet(stream, "--strict")
+            told(f"{name}: strict verdicts", [both for both in zip_longest(strict, verdicts) if both[0] != both[1]])
         return accepted
 
     def read(self, accepted):
         """The lines that readers should write for accepted messages, and for each reader those that it writes."""
         copies = self.copies(b"".join(it.message for it in accepted if it.tree.caps == 0))
-        wishes = [f"sum {it.tree.sum} pointers {len(it.tree.places)} caps {it.tree.caps}"
-                  + ("" if it.tree.caps else f" copy {next(copies, None)}") for it in accepted]
+        right = [f"sum {it.tree.sum} pointers {len(it.tree.places)} caps {it.tree.caps}"
+                 + ("" if it.tree.caps else f" copy {next(copies, None)}") for it in accepted]
         stream = b"".join(it.for_reader() for it in accepted)
-        return wishes, {name: self.lines([reader], stream) for name, reader in self.readers.items()}
+        return right, {name: self.lines([reader], stream) for name, reader in self.readers.items()}
 
     def compare(self, name, messages):
-        """Vets messages, and reads the strict ones."""
-        accepted = self.verdicts(name, messages)
+        """Vets messages, reads the strict ones, and gives them."""
+        accepted = self.accepted(name, messages)
         strict = [it for it in accepted if not it.tree.lax]
-        self.counts.update(it.tree.lax.split()[0] if it.tree.lax else "strict" for it in accepted)
         self.counts["messages"] += len(messages)
-        wishes, lines = self.read(strict)
+        self.counts.update(it.tree.lax.split()[0] if it.tree.lax else "strict" for it in accepted)
+        right, lines = self.read(strict)
         for reader, got in lines.items():
-            told(f"{name}: a line of {reader} for each", [] if len(got) == len(strict) else [f"{len(got)} lines"])
-            faults = [f"{it.message.hex()}\n  got    {line}\n  wanted {wish}"
-                      for it, line, wish in zip(strict, got, wishes) if line != wish]
-            told(f"{name}: {reader} reads strict messages", faults)
+            told(f"{name}: a line of {reader} for each", [len(got)] if len(got) != len(strict) else [])
+            told(f"{name}: {reader} reads strict messages", [
+                f"{it.message.hex()}\n    {line}\n    {expected}"
+                for it, line, expected in zip(strict, got, right) if line != expected])
         return strict
 
     def constructs(self):
-        """Each construct alone: the reason, the place and the count, and that readers fail on it. So they would in `compare`."""
+        """Each construct alone: its name, place and count. `compare` would notice what readers make of it."""
         for name, (text, pointers, failing) in CONSTRUCTS.items():
-            segments = next(trees.messages(bytes.fromhex(text)))
-            accepted = self.verdicts(name, [segments])
-            told(f"{name} is accepted", [] if accepted else ["refused"])
-            told(f"{name} isn't strict", [it.tree.lax for it in accepted if it.tree.lax != f"{name} at 0:0 pointers {pointers}"])
-            wishes, lines = self.read(accepted)
+            accepted = self.accepted(name, [next(trees.messages(bytes.fromhex(text)))])
+            told(f"{name}: accepted, and not strict", {it.tree.lax for it in accepted} ^ {f"{name} at 0:0 pointers {pointers}"})
+            right, lines = self.read(accepted)
             for reader, got in lines.items():
-                told(f"{name} by {reader}", [got] if (got != wishes) != (reader in failing) else [])
+                told(f"{name}: {reader} reads it", [got] if (got == right) == (reader in failing) else [])
 
-    def of_encoder(self):
+    def of_encoders(self):
         """The messages under examples/ and those of the library's encoder. All are strict and unamplified."""
         messages = [next(trees.messages(message)) for message in samples()]
         if self.encoder:
             encoded = list(trees.messages(subprocess.run([self.encoder, str(CONTENTS)], capture_output=True).stdout))
-            told("messages of the encoder", [] if len(encoded) >= 200 else [len(encoded)])
-            told("their segments", set(range(1, 21)) - {len(segments) for segments in encoded})
+            told("messages of the encoder", [len(encoded)] if len(encoded) < 200 else [])
+            told("their segments", set(range(1, 21)) ^ {len(segments) for segments in encoded})
             messages += encoded
         strict = self.compare("messages of encoders", messages)
-        told("messages of encoders are strict", [] if len(strict) == len(messages) else [f"{len(strict)} of {len(messages)}"])
-        told("messages of encoders are unamplified", [it.message.hex() for it in strict if it.charge > it.words() + UNAMPLIFIED])
+        told("messages of encoders that aren't strict", [len(strict)] if len(strict) != len(messages) else [])
+        told("messages of encoders that are amplified", (it.message.hex() for it in strict if it.charge > it.words() + 4096))
+        if self.has_strict:
+            stream = b"".join(it.message for it in strict)
+            told("both options", [0] if self.vet(stream, "--strict", "--unamplified") != self.vet(stream) else [])
         return [it.tree for it in strict]
 
     def many(self, bases, count):
-        """Changed messages, and such of few words that are made up."""
+        """Changed messages, most of them small, and made-up ones of few words."""
         small = [tree for tree in bases if sum(map(len, tree.segments)) < 130]
         for batch in range(0, count, BATCH):
             chance = random.Random(batch)
             messages = [next(trees.messages(made_up(chance))) if chance.randrange(4) == 0
                         else changed(chance.choice(small if chance.randrange(4) else bases), chance)
                         for _ in range(min(BATCH, count - batch))]
-            self.compare(f"messages {batch}..", messages)
+            self.compare(f"messages {batch} to {batch + len(messages) - 1}", messages)
 
 
 def main():
@@ -373,7 +376,7 @@ def main():
     with tempfile.TemporaryDirectory() as folder:
         tests = Tests(program, build(Path(folder)), Path(folder))
         tests.constructs()
-        bases = tests.of_encoder()
+        bases = tests.of_encoders()
         tests.counts.clear()
         tests.many(bases, count)
     for name in CONSTRUCTS:

@@ -28,8 +28,10 @@
 
 namespace {
 
-// What is done at the moment, for the line of an exception.
-const char *reader, *reading, *getter;
+// What is being done, for the line of an exception.
+struct {
+  const char *reader, *reading, *getter;
+} now;
 
 // What the library's own generated code calls.
 capnp::_::PointerReader internal(capnp::AnyPointer::Reader pointer) {
@@ -42,7 +44,7 @@ class EveryCapability final : public capnp::_::CapTableReader {
   kj::Maybe<kj::Own<capnp::ClientHook>> extractCap(uint) override { return cap->addRef(); }
 
  private:
-  // (this tells the library too how capabilities are made)
+  // (its constructor registers how the library makes capabilities that are null or broken)
   capnp::ReaderCapabilityTable context{nullptr};
   kj::Own<capnp::ClientHook> cap = capnp::newBrokenCap("for tests");
 };
@@ -54,20 +56,20 @@ class Walk {
 
   void pointer(capnp::AnyPointer::Reader pointer) {
     pointers++;
-    getter = "getPointerType";
+    now.getter = "getPointerType";
     switch (pointer.getPointerType()) {
       case capnp::PointerType::NULL_:
         return null(pointer);
       case capnp::PointerType::CAPABILITY:
         caps++;
-        getter = "getAs<Capability>";
+        now.getter = "getAs<Capability>";
         pointer.getAs<capnp::Capability>();
         return;
       case capnp::PointerType::STRUCT:
-        getter = "getAs<AnyStruct>";
+        now.getter = "getAs<AnyStruct>";
         return node(pointer.getAs<capnp::AnyStruct>());
       case capnp::PointerType::LIST:
-        getter = "getAs<AnyList>";
+        now.getter = "getAs<AnyList>";
         return list(pointer, pointer.getAs<capnp::AnyList>());
     }
   }
@@ -81,7 +83,7 @@ class Walk {
  private:
   // A null pointer is the default of each kind.
   void null(capnp::AnyPointer::Reader pointer) {
-    getter = "getters of a null pointer";
+    now.getter = "getters of a null pointer";
     pointer.getAs<capnp::AnyStruct>();
     pointer.getAs<capnp::AnyList>();
     pointer.getAs<capnp::List<bool>>();
@@ -98,7 +100,7 @@ class Walk {
   void list(capnp::AnyPointer::Reader pointer, capnp::AnyList::Reader list) {
     auto size = list.getElementSize();
     if (upgrades && size != capnp::ElementSize::BIT) {
-      getter = "getList(INLINE_COMPOSITE)";
+      now.getter = "getList(INLINE_COMPOSITE)";
       auto structs = internal(pointer).getList(capnp::ElementSize::INLINE_COMPOSITE, nullptr);
       for (auto each : capnp::List<capnp::AnyStruct>::Reader(structs)) node(each);
     } else if (size == capnp::ElementSize::INLINE_COMPOSITE) {
@@ -126,9 +128,10 @@ struct Message {
 template <typename Job>
 auto read(const Message &message, bool stream, EveryCapability &caps, Job job) {
   auto rootOf = [&](capnp::MessageReader &reader) {
-    getter = "getRoot";
+    now.getter = "getRoot";
     return capnp::AnyPointer::Reader(internal(reader.getRoot<capnp::AnyPointer>()).imbue(&caps));
   };
+  now.getter = "constructor";
   if (stream) {
     kj::ArrayInputStream in(message.words.asBytes());
     capnp::InputStreamMessageReader reader(in, message.limits);
@@ -152,9 +155,9 @@ std::string hexadecimal(kj::ArrayPtr<const kj::byte> bytes) {
 
 // The canonical copy. The library has a call for a struct only, so a root of another kind is copied into a builder.
 std::string copyOf(capnp::AnyPointer::Reader root) {
-  getter = "canonicalize";
+  now.getter = "canonicalize";
   if (root.isStruct()) return hexadecimal(root.getAs<capnp::AnyStruct>().canonicalize().asBytes());
-  getter = "setCanonical";
+  now.getter = "setCanonical";
   capnp::MallocMessageBuilder copy(root.targetSize().wordCount + 1);
   copy.initRoot<capnp::AnyPointer>().setCanonical(root);
   return hexadecimal(copy.getSegmentsForOutput()[0].asBytes());
@@ -162,17 +165,16 @@ std::string copyOf(capnp::AnyPointer::Reader root) {
 
 // The line of a message by one of the readers.
 std::string lineBy(const Message &message, bool stream, EveryCapability &caps) {
-  reader = stream ? "stream" : "flat";
-  getter = "constructor";
-  reading = "walk";
+  now.reader = stream ? "stream" : "flat";
+  now.reading = "walk";
   auto walk = read(message, stream, caps, [](auto root) { return walkOf(root, false); });
-  reading = "upgraded";
+  now.reading = "upgraded";
   auto upgraded = read(message, stream, caps, [](auto root) { return walkOf(root, true); });
   if (walk.text() != upgraded.text()) return "walk and upgraded differ: " + walk.text() + " | " + upgraded.text();
-  reading = "size";
-  auto size = read(message, stream, caps, [](auto root) { return getter = "targetSize", root.targetSize(); });
+  now.reading = "size";
+  auto size = read(message, stream, caps, [](auto root) { return now.getter = "targetSize", root.targetSize(); });
   if (size.capCount != walk.caps) return "targetSize counts other capabilities";
-  reading = "copy";
+  now.reading = "copy";
   return walk.caps > 0 ? walk.text() : walk.text() + " copy " + read(message, stream, caps, copyOf);
 }
 
@@ -182,7 +184,7 @@ std::string lineOf(const Message &message, EveryCapability &caps) {
     auto stream = lineBy(message, true, caps);
     return flat == stream ? flat : "flat and stream differ: " + flat + " | " + stream;
   } catch (const kj::Exception &thrown) {
-    return std::string("threw ") + reader + " " + reading + " " + getter + ": " + thrown.getDescription().cStr();
+    return std::string("threw ") + now.reader + " " + now.reading + " " + now.getter + ": " + thrown.getDescription().cStr();
   }
 }
 
