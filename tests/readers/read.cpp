@@ -6,7 +6,7 @@
 // lowest byte first, and then its bytes. Each message is read four times by the flat reader and four times by the stream
 // reader, each time under these limits:
 //
-// - `walk` asks each pointer for its kind and then for what it is, and reads every byte;
+// - `walk` asks each pointer for its kind and then for what it is, a null pointer for every kind, and reads every byte;
 // - `upgraded` does so too, and asks for each list but those of bits as a list of structs, as a newer schema may;
 // - `size` asks the root for its target size;
 // - `copy` makes the canonical copy of a message without capabilities.
@@ -107,6 +107,9 @@ class Walk {
       for (auto each : list.as<capnp::List<capnp::AnyStruct>>()) node(each);
     } else if (size == capnp::ElementSize::POINTER) {
       for (auto each : list.as<capnp::List<capnp::AnyPointer>>()) this->pointer(each);
+    } else if (size == capnp::ElementSize::BYTE) {
+      now.getter = "getAs<Data>";
+      bytes(pointer.getAs<capnp::Data>());
     } else {
       bytes(list.getRawBytes());
     }

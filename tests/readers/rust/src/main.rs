@@ -4,7 +4,7 @@
 //!     read FILE
 //!
 //! What differs from it:
-//! - The flat reader is `read_message_from_flat_slice`, and the stream reader `try_read_message`.
+//! - The flat reader is `read_message_from_flat_slice`, and the stream reader `read_message`.
 //! - The crate has no public reader of a struct or list of unknown type, so it goes through `capnp::private`.
 //! - A null pointer isn't asked for a capability: the crate's answer is an error for every one.
 //! - A capability comes from a table of the caller, which has none here. So the crate has to find the capability's number,
@@ -51,7 +51,9 @@ impl Walk {
             PointerType::Capability => {
                 self.caps += 1;
                 match pointer.get_capability() {
-                    Err(error) if !error.description.contains("invalid capability pointer") => Err(error),
+                    Err(error) if !error.description.contains("invalid capability pointer") => {
+                        Err(error)
+                    }
                     _ => Ok(()),
                 }
             }
@@ -62,24 +64,29 @@ impl Walk {
 
     fn node(&mut self, node: StructReader<'_>) -> Result<()> {
         self.bytes(node.get_data_section_as_blob());
-        (0..node.get_pointer_section_size().into()).try_for_each(|i| self.pointer(node.get_pointer_field(i)))
+        (0..node.get_pointer_section_size().into())
+            .try_for_each(|i| self.pointer(node.get_pointer_field(i)))
     }
 
     fn list(&mut self, pointer: PointerReader<'_>) -> Result<()> {
         // No call reads a list of any element size: one of bits has to be asked for as such.
-        let list = pointer.get_list(ElementSize::Void, None).or_else(|_| pointer.get_list(ElementSize::Bit, None))?;
+        let list = pointer
+            .get_list(ElementSize::Void, None)
+            .or_else(|_| pointer.get_list(ElementSize::Bit, None))?;
         let size = raw::get_list_element_size(AnyList(list));
         if self.upgrades && size != ElementSize::Bit {
             let list = pointer.get_list(ElementSize::InlineComposite, None)?;
             return (0..list.len()).try_for_each(|i| self.node(list.get_struct_element(i)));
         }
         match size {
-            ElementSize::InlineComposite => (0..list.len()).try_for_each(|i| self.node(list.get_struct_element(i))),
-            ElementSize::Pointer => (0..list.len()).try_for_each(|i| self.pointer(list.get_pointer_element(i))),
-            _ => {
-                self.bytes(raw::get_list_bytes(AnyList(list)));
-                Ok(())
+            ElementSize::InlineComposite => {
+                (0..list.len()).try_for_each(|i| self.node(list.get_struct_element(i)))
             }
+            ElementSize::Pointer => {
+                (0..list.len()).try_for_each(|i| self.pointer(list.get_pointer_element(i)))
+            }
+            ElementSize::Byte => Ok(self.bytes(pointer.get_data(None)?)),
+            _ => Ok(self.bytes(raw::get_list_bytes(AnyList(list)))),
         }
     }
 
@@ -98,27 +105,36 @@ fn null(pointer: PointerReader<'_>) -> Result<()> {
     Ok(())
 }
 
-fn walk(message: &Reader<impl ReaderSegments>, upgrades: bool) -> Result<Walk> {
-    let mut walk = Walk { upgrades, ..Walk::default() };
-    walk.pointer(message.get_root::<Root>()?.0)?;
-    Ok(walk)
-}
-
 /// What one of the readings finds.
 fn found(reading: &str, message: Reader<impl ReaderSegments>) -> Result<String> {
     Ok(match reading {
-        "size" => message.get_root::<any_pointer::Reader>()?.target_size()?.cap_count.to_string(),
+        "size" => message
+            .get_root::<any_pointer::Reader>()?
+            .target_size()?
+            .cap_count
+            .to_string(),
         "copy" => hexadecimal(Word::words_to_bytes(&message.canonicalize()?)),
         _ => {
-            let walk = walk(&message, reading == "upgraded")?;
-            format!("sum {} pointers {} caps {}", walk.sum, walk.pointers, walk.caps)
+            let mut walk = Walk::default();
+            walk.upgrades = reading == "upgraded";
+            walk.pointer(message.get_root::<Root>()?.0)?;
+            let Walk {
+                pointers,
+                caps,
+                sum,
+                ..
+            } = walk;
+            format!("sum {sum} pointers {pointers} caps {caps}")
         }
     })
 }
 
 fn hexadecimal(bytes: &[u8]) -> String {
     let digit = |half: u8| char::from(b"0123456789abcdef"[usize::from(half)]);
-    bytes.iter().flat_map(|&byte| [digit(byte >> 4), digit(byte & 15)]).collect()
+    bytes
+        .iter()
+        .flat_map(|&byte| [digit(byte >> 4), digit(byte & 15)])
+        .collect()
 }
 
 struct Message {
@@ -131,11 +147,14 @@ struct Message {
 fn read(message: &Message, stream: bool, reading: &str) -> std::result::Result<String, String> {
     let mut bytes = Word::words_to_bytes(&message.words);
     let found = if stream {
-        serialize::read_message(&mut bytes, message.limits).and_then(|message| found(reading, message))
+        serialize::read_message(&mut bytes, message.limits)
+            .and_then(|message| found(reading, message))
     } else {
-        serialize::read_message_from_flat_slice(&mut bytes, message.limits).and_then(|message| found(reading, message))
+        serialize::read_message_from_flat_slice(&mut bytes, message.limits)
+            .and_then(|message| found(reading, message))
     };
-    found.map_err(|error| format!("threw {} {reading}: {error}", if stream { "stream" } else { "flat" }))
+    let reader = if stream { "stream" } else { "flat" };
+    found.map_err(|error| format!("threw {reader} {reading}: {error}"))
 }
 
 /// The line of a message by one of the readers.
@@ -149,13 +168,21 @@ fn line_by(message: &Message, stream: bool) -> std::result::Result<String, Strin
     if !walk.ends_with(&format!(" caps {caps}")) {
         return Err("target_size counts other capabilities".into());
     }
-    Ok(if caps == "0" { format!("{walk} copy {}", read(message, stream, "copy")?) } else { walk })
+    Ok(if caps == "0" {
+        format!("{walk} copy {}", read(message, stream, "copy")?)
+    } else {
+        walk
+    })
 }
 
 fn line(message: &Message) -> std::result::Result<String, String> {
     let flat = line_by(message, false)?;
     let stream = line_by(message, true)?;
-    if flat == stream { Ok(flat) } else { Err(format!("flat and stream differ: {flat} | {stream}")) }
+    if flat == stream {
+        Ok(flat)
+    } else {
+        Err(format!("flat and stream differ: {flat} | {stream}"))
+    }
 }
 
 /// The next message of the file, if there is one.
@@ -163,10 +190,15 @@ fn next(file: &mut impl Read) -> Option<Message> {
     let mut traversal = [0; 8];
     let mut numbers = [[0; 4]; 2];
     file.read_exact(&mut traversal).ok()?;
-    numbers.iter_mut().try_for_each(|number| file.read_exact(number)).ok()?;
+    numbers
+        .iter_mut()
+        .try_for_each(|number| file.read_exact(number))
+        .ok()?;
     let [nesting, length] = numbers.map(u32::from_le_bytes);
     let mut limits = ReaderOptions::new();
-    limits.traversal_limit_in_words(Some(u64::from_le_bytes(traversal) as usize)).nesting_limit(nesting as i32);
+    limits
+        .traversal_limit_in_words(Some(u64::from_le_bytes(traversal) as usize))
+        .nesting_limit(nesting as i32);
     let mut words = Word::allocate_zeroed_vec(length as usize / 8);
     file.read_exact(Word::words_to_bytes_mut(&mut words)).ok()?;
     Some(Message { limits, words })
