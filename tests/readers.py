@@ -270,7 +270,7 @@ class Tests:
         self.program, self.path = program, folder / "input"
         self.encoder = programs.pop("encoder", None)
         self.readers = programs
-        self.has_strict = "--strict" in run([program, "help"]).stdout
+        self.has_strict = "--strict" in run([program, "help", "vet"]).stdout
         self.counts = Counter()
 
     def lines(self, command, stream):
@@ -381,6 +381,8 @@ def main():
     count = int(sys.argv[2]) if len(sys.argv) > 2 else MANY
     with tempfile.TemporaryDirectory() as folder:
         tests = Tests(program, build(Path(folder)), Path(folder))
+        if not tests.has_strict:
+            print("not tested, without the option --strict: what it refuses")
         tests.constructs()
         bases = tests.of_encoders()
         if tests.readers or tests.has_strict:
