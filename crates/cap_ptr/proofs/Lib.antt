@@ -1,3 +1,4 @@
 pub mod Objects
 pub mod Pads
+pub mod NearObjects
 pub mod Answers

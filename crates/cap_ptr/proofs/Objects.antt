@@ -1,9 +1,8 @@
 -- What the words of an object tell of its place and its charge.
 use Rattle.std.proofs.Common.{◌≡◌, ℕ, ◌+◌, ◌*◌, ◌^◌, ◌<◌, ◌≤◌, inr, List, length, pos, if◌then◌else◌, ◌==◌, refl, sym, ◌∙◌, arith}
 use Rattle.std.proofs.lemmas.Int.{ints}
-use Rattle.cap_spec.specs.Words.{field}
 use Rattle.cap_spec.specs.Messages.{HasWord, segment_of}
-use Rattle.cap_spec.specs.Pointers.{middle, data_size, pointer_size, list_size, extent}
+use Rattle.cap_spec.specs.Pointers.{kind, middle, data_size, pointer_size, list_size, extent}
 use Rattle.cap_spec.specs.Following.{IsComposite, extra, Wrong}
 use Rattle.cap_spec.specs.declared.Reason.TheVariants.{OutOfSegment}
 use Rattle.cap_spec.proofs.Trees.Charges.{extent_structs}
@@ -24,13 +23,13 @@ module _ (m : List (List ℕ)) (s w k t b q : ℕ) (leads : LeadsTo m s w k t b 
 
   -- a list of structs whose elements lie inside it is found
   pub found-structs : (tag size count d p none n c : ℕ) → k ≤ 2 → b + extent q ≤ length (segment_of m t) → IsComposite q → HasWord m t b tag
-      → size ≡ field q 35 29 → field tag 0 2 ≡ 0 → count ≡ field tag 2 30 → d ≡ field tag 32 16 → p ≡ field tag 48 16 → count * (d + p) ≤ size
-      → none ≡ (if (d + p) == 0 then count else 0) → none ≤ count → n ≡ 1 + size → c ≡ k + 1 + size + none
-      → FindsObject m s w k t b q tag n c (Structs size count d p)
+      → size ≡ list_size q → kind tag ≡ 0 → count ≡ middle tag → d ≡ data_size tag → p ≡ pointer_size tag
+      → middle tag * (data_size tag + pointer_size tag) ≤ size → none ≡ (if (data_size tag + pointer_size tag) == 0 then middle tag else 0)
+      → none ≤ middle tag → n ≡ 1 + size → c ≡ k + 1 + size + none → FindsObject m s w k t b q tag n c (Structs size count d p)
   found-structs tag size count d p none n c few inside composite has size_is struct count_is d_is p_is fits none_is at_most n_is c_is =
-      let fits' : middle tag * (data_size tag + pointer_size tag) ≤ list_size q = rw (← size_is, ← count_is, ← d_is, ← p_is) fits in
+      let fits' : middle tag * (data_size tag + pointer_size tag) ≤ list_size q = rw (← size_is) fits in
       let e = extent_structs q composite.0 composite.1 in
-      let x : extra q tag ≡ none = extra-composite q tag composite ∙ rw (← count_is, ← d_is, ← p_is) (sym none_is) in
+      let x : extra q tag ≡ none = extra-composite q tag composite ∙ sym none_is in
       record {
         finds = record { leads = leads; sits = record { exists = there; inside = inside; composite = λ y. (tag, has, (struct, fits')) } };
         object = record {
@@ -49,8 +48,3 @@ module _ (m : List (List ℕ)) (s w k t b q : ℕ) (leads : LeadsTo m s w k t b 
     finds = record { leads = leads; sits = record { exists = there; inside = omega arith; composite = λ y. absurd (plain y) } };
     object = record { tagged = λ y. absurd (plain y); words = n_is; charge = omega arith; small = omega arith; shape = shape };
   }
-
--- a list of structs whose elements are more than its words overruns them
-pub overruns : (q tag size count d p : ℕ) → size ≡ field q 35 29 → count ≡ field tag 2 30 → d ≡ field tag 32 16 → p ≡ field tag 48 16 → size < count * (d + p)
-    → list_size q < middle tag * (data_size tag + pointer_size tag)
-overruns q tag size count d p size_is count_is d_is p_is h = rw (← size_is, ← count_is, ← d_is, ← p_is) h

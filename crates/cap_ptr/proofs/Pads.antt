@@ -1,6 +1,6 @@
 -- Which word stands for a pointer word over its pads, and what a two-word pad leads to.
 use Rattle.std.proofs.Common.{◌≡◌, ◌≢◌, ℕ, ◌+◌, ◌<◌, ◌≤◌, List, length, pos, ℤ, ◌+ℤ◌, ◌<ℤ◌, inl, refl, subst, arith}
-use Rattle.cap_spec.specs.Words.{field, signed_offset_of}
+use Rattle.cap_spec.specs.Words.{signed_offset_of}
 use Rattle.cap_spec.specs.Messages.{HasWord}
 use Rattle.cap_spec.specs.Pointers.{kind, middle, pad, far_segment}
 use Rattle.cap_spec.specs.Following.{Lead, to_null, to_cap, to_object, Says, IsOnePad, Leads, near, one_pad, two_pads, Wrong}
@@ -36,25 +36,18 @@ stands-one_pad m s w p t b q h one t_is b_is hq =
       far = wrong-pad_far m s w p q h one hq';
     }
 
--- bits 0 to 2 tell a far pointer to one word
-pub one_pad-bits : (f : ℕ) → field f 0 3 ≡ 2 → IsOnePad f
-one_pad-bits f e = (omega arith, omega arith)
-
-pub bits-one_pad : (f : ℕ) → IsOnePad f → field f 0 3 ≡ 2
-bits-one_pad f (k, t) = omega arith
-
 module _ (m : List (List ℕ)) (s w p f q : ℕ) (h : HasTwoPad m s w p f q) where
-  pub content-not_far : field f 0 3 ≢ 2 → Wrong m s w PadNotFar
-  content-not_far n = wrong-pad_near m s w p f q h.word h.both h.first h.second (λ one. n (bits-one_pad f one))
+  pub content-not_far : ¬ IsOnePad f → Wrong m s w PadNotFar
+  content-not_far n = wrong-pad_near m s w p f q h.word h.both h.first h.second n
 
-  pub content-tag_kind : field f 0 3 ≡ 2 → far_segment f < length m → 2 ≤ kind q → Wrong m s w TagKind
-  content-tag_kind e there k = wrong-tag_kind m s w p f q h.word h.both h.first h.second (one_pad-bits f e) there k
+  pub content-tag_kind : IsOnePad f → far_segment f < length m → 2 ≤ kind q → Wrong m s w TagKind
+  content-tag_kind = wrong-tag_kind m s w p f q h.word h.both h.first h.second
 
-  pub content-tag_offset : field f 0 3 ≡ 2 → far_segment f < length m → kind q < 2 → middle q ≢ 0 → Wrong m s w TagOffset
-  content-tag_offset e there k n = wrong-tag_offset m s w p f q h.word h.both h.first h.second (one_pad-bits f e) there k n
+  pub content-tag_offset : IsOnePad f → far_segment f < length m → kind q < 2 → middle q ≢ 0 → Wrong m s w TagOffset
+  content-tag_offset = wrong-tag_offset m s w p f q h.word h.both h.first h.second
 
-  pub content-lead : (t b : ℕ) → t ≡ far_segment f → b ≡ pad f → field f 0 3 ≡ 2 → kind q < 2 → middle q ≡ 0 → LeadsTo m s w 2 t b q
-  content-lead t b t_is b_is e k z = two_pads p f q h.word h.both h.first h.second (one_pad-bits f e) (k, z) (cc) refl
+  pub content-lead : (t b : ℕ) → t ≡ far_segment f → b ≡ pad f → IsOnePad f → kind q < 2 → middle q ≡ 0 → LeadsTo m s w 2 t b q
+  content-lead t b t_is b_is one k z = two_pads p f q h.word h.both h.first h.second one (k, z) (cc) refl
 
 -- the word of an object leads there
 pub object-lead : (m : List (List ℕ)) (s w k t b q : ℕ) (start : ℤ) → StandsFor m s w k t b q → kind q < 2 → q ≢ 0 → start ≡ pos (b + 1) +ℤ signed_offset_of q → Leads m s w k (to_object t start q)

@@ -1,3 +1,4 @@
 pub mod Forms
 pub mod Shapes
 pub mod Reaching
+pub mod Rows

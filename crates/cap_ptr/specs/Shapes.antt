@@ -1,5 +1,5 @@
 -- What the answer of a following says of a pointer word (standard: Structs, Lists; the charge is the profile's).
-use Rattle.std.specs.Prelude.{ℕ, ◌+◌, ◌^◌, ◌<◌, ◌≡◌, List, Result, Ok}
+use Rattle.std.specs.Prelude.{ℕ, ◌+◌, ◌^◌, ◌<◌, ◌≡◌, ◌≢◌, List, Result, Ok}
 use Rattle.cap_spec.specs.Messages.{HasWord}
 use Rattle.cap_spec.specs.Pointers.{kind, middle, code, data_size, pointer_size, list_size, extent}
 use Rattle.cap_spec.specs.Following.{Leads, to_null, to_cap, IsComposite, TagFits, extra}
@@ -10,6 +10,10 @@ use Rattle.cap_ptr.specs.declared.shapes.Shape.TheVariants.{Struct, Scalars, Poi
 use Rattle.cap_ptr.specs.declared.shapes.Target.{Target}
 use Rattle.cap_ptr.specs.declared.shapes.Followed.{Followed}
 use Rattle.cap_ptr.specs.declared.shapes.Followed.TheVariants as followed
+
+-- the word q is that of a struct, or of a list that has no tag
+abbrev pub IsPlain : ℕ → Type 0
+IsPlain q = (kind q < 2) × (kind q ≡ 1 → code q ≢ 7)
 
 -- the word q encodes a struct of d data words and n pointers
 pub record IsStructShape (q d n : ℕ) : Type 0 where
@@ -68,6 +72,12 @@ abbrev pub IsFollowed : List (List ℕ) → ℕ → ℕ → Followed → Type 0
 IsFollowed m s w (followed.Null k) = Leads m s w k to_null
 IsFollowed m s w (followed.Cap k i) = Leads m s w k (to_cap i)
 IsFollowed m s w (followed.Target x) = FindsTarget m s w x
+
+-- what following costs, in words
+abbrev pub charge_of : Followed → ℕ
+charge_of (followed.Null k) = k
+charge_of (followed.Cap k i) = k
+charge_of (followed.Target x) = x.charge
 
 -- The answer is the object of the word q at t:b, over k pads.
 pub record AnswersObject (m : List (List ℕ)) (k t b q : ℕ) (answer : Result Followed Reason) (x : Target) (tag : ℕ) : Type 0 where

@@ -11,12 +11,13 @@ ghost use Rattle.cap_spec.specs.declared.Reason.{Reason};
 ghost use Rattle.cap_ptr.specs.declared.shapes.Target.{Target};
 ghost use Rattle.std.specs.Prelude.{◌+◌, ◌^◌, ◌<◌, ◌≡◌, ◌≢◌, ◌≤◌, ◌+ℤ◌, ◌<ℤ◌, pos, IfErr, IfNone, IfOk, IfSome, length, ℕ};
 
+use crate::fields::{far_segment, kind, middle, pad, two};
 use crate::forms::Pointer;
 use crate::placing::target_at;
 use crate::shapes::Followed;
 use cap_frame::Segments;
 use cap_spec::Reason;
-use cap_words::{bits, signed_offset};
+use cap_words::signed_offset;
 
 /// What word `w` of segment `s`, a pointer, leads to: null, a capability, or an object that lies
 /// inside its segment. The caller makes sure that the word exists. Allocates nothing.
@@ -49,10 +50,12 @@ pub fn follow<M: Segments>(message: &M, s: u32, w: u32) -> Result<Followed, Reas
 
     // The other direction: what holds of the word decides the result.
     ensures wrong { (v : Reason) → Wrong (M.segments message.now) s w v → result ≡ Err v }
-    ensures null { (k : ℕ) → Leads (M.segments message.now) s w k to_null → result ≡ Ok (Followed.Null k) }
-    ensures cap { (k i : ℕ) → Leads (M.segments message.now) s w k (to_cap i) → result ≡ Ok (Followed.Cap k i) }
-    ensures object { (k t b q : ℕ) → Finds (M.segments message.now) s w k t b q →
-        (x : Target) × (tag : ℕ) × AnswersObject (M.segments message.now) k t b q result x tag }
+    ensures null { let m = M.segments message.now in
+        (k : ℕ) → Leads m s w k to_null → result ≡ Ok (Followed.Null k) }
+    ensures cap { let m = M.segments message.now in
+        (k i : ℕ) → Leads m s w k (to_cap i) → result ≡ Ok (Followed.Cap k i) }
+    ensures object { let m = M.segments message.now in (k t b q : ℕ) → Finds m s w k t b q →
+        (x : Target) × (tag : ℕ) × AnswersObject m k t b q result x tag }
 {
     followed(message, s, w)
 }
@@ -70,10 +73,10 @@ fn followed<M: Segments>(message: &M, s: u32, w: u32) -> Result<Followed, Reason
     if word == 0 {
         return Ok(Followed::Null { pads: 0 });
     }
-    if bits(word, 0, 2) != 2 {
+    if kind(word) != 2 {
         return resolved(message, 0, s, w, word);
     }
-    if bits(word, 2, 1) == 0 {
+    if two(word) == 0 {
         return over_one_pad(message, word);
     }
     over_two_pads(message, word)
@@ -90,8 +93,10 @@ fn resolved<M: Segments>(
 ) -> Result<Followed, Reason>
     requires exists { segment < length (M.segments message.now) }
     requires pads { pads ≤ 2 }
-    ensures ok { (s w : ℕ) → StandsFor (M.segments message.now) s w pads segment place word → IfOk result (IsFollowed (M.segments message.now) s w) }
-    ensures err { (s w : ℕ) → StandsFor (M.segments message.now) s w pads segment place word → IfErr result (Wrong (M.segments message.now) s w) }
+    ensures ok { let m = M.segments message.now in (s w : ℕ) →
+        StandsFor m s w pads segment place word → IfOk result (IsFollowed m s w) }
+    ensures err { let m = M.segments message.now in (s w : ℕ) →
+        StandsFor m s w pads segment place word → IfErr result (Wrong m s w) }
 {
     match Pointer::of(word) {
         Pointer::Null => Ok(Followed::Null { pads }),
@@ -117,16 +122,15 @@ fn object<M: Segments>(
     requires pads { pads ≤ 2 }
     requires object { kind word < 2 }
     requires not_null { word ≢ 0 }
-    ensures ok { (s w : ℕ) → StandsFor (M.segments message.now) s w pads segment place word → IfOk result (IsFollowed (M.segments message.now) s w) }
-    ensures err { (s w : ℕ) → StandsFor (M.segments message.now) s w pads segment place word → IfErr result (Wrong (M.segments message.now) s w) }
+    ensures ok { let m = M.segments message.now in (s w : ℕ) →
+        StandsFor m s w pads segment place word → IfOk result (IsFollowed m s w) }
+    ensures err { let m = M.segments message.now in (s w : ℕ) →
+        StandsFor m s w pads segment place word → IfErr result (Wrong m s w) }
 {
     let Some(start) = start_of(place, word) else {
         return Err(Reason::OutOfSegment);
     };
-    match target_at(message, pads, segment, start, word) {
-        Ok(target) => Ok(Followed::Target(target)),
-        Err(reason) => Err(reason),
-    }
+    target_at(message, pads, segment, start, word)
 }
 
 // The word that the object of a struct or list pointer starts at, if it isn't negative.
@@ -142,61 +146,61 @@ fn start_of(place: u32, word: u64) -> Option<u64>
 // What a far pointer with a one-word pad leads to.
 fn over_one_pad<M: Segments>(message: &M, word: u64) -> Result<Followed, Reason>
     requires { IsOnePad word }
-    ensures ok { (s w : ℕ) → HasWord (M.segments message.now) s w word → IfOk result (IsFollowed (M.segments message.now) s w) }
-    ensures err { (s w : ℕ) → HasWord (M.segments message.now) s w word → IfErr result (Wrong (M.segments message.now) s w) }
+    ensures ok { let m = M.segments message.now in (s w : ℕ) →
+        HasWord m s w word → IfOk result (IsFollowed m s w) }
+    ensures err { let m = M.segments message.now in (s w : ℕ) →
+        HasWord m s w word → IfErr result (Wrong m s w) }
 {
-    let segment = bits(word, 32, 32) as u32;
-    let pad = bits(word, 3, 29) as u32;
+    let segment = far_segment(word);
+    let start = pad(word);
     if segment >= message.count() {
         return Err(Reason::SegmentMissing);
     }
-    if pad + 1 > message.len(segment) {
+    if start + 1 > message.len(segment) {
         return Err(Reason::PadOutside);
     }
-    resolved(message, 1, segment, pad, message.word(segment, pad))
+    resolved(message, 1, segment, start, message.word(segment, start))
 }
 
 // What a far pointer with a two-word pad leads to.
 fn over_two_pads<M: Segments>(message: &M, word: u64) -> Result<Followed, Reason>
     requires { IsTwoPad word }
-    ensures ok { (s w : ℕ) → HasWord (M.segments message.now) s w word → IfOk result (IsFollowed (M.segments message.now) s w) }
-    ensures err { (s w : ℕ) → HasWord (M.segments message.now) s w word → IfErr result (Wrong (M.segments message.now) s w) }
+    ensures ok { let m = M.segments message.now in (s w : ℕ) →
+        HasWord m s w word → IfOk result (IsFollowed m s w) }
+    ensures err { let m = M.segments message.now in (s w : ℕ) →
+        HasWord m s w word → IfErr result (Wrong m s w) }
 {
-    let segment = bits(word, 32, 32) as u32;
-    let pad = bits(word, 3, 29) as u32;
+    let segment = far_segment(word);
+    let start = pad(word);
     if segment >= message.count() {
         return Err(Reason::SegmentMissing);
     }
-    if pad + 2 > message.len(segment) {
+    if start + 2 > message.len(segment) {
         return Err(Reason::PadOutside);
     }
-    content(
-        message,
-        message.word(segment, pad),
-        message.word(segment, pad + 1),
-    )
+    let far = message.word(segment, start);
+    content(message, far, message.word(segment, start + 1))
 }
 
 // The content that the two words of a pad lead to: a far pointer to it, and a tag.
 fn content<M: Segments>(message: &M, far: u64, tag: u64) -> Result<Followed, Reason>
-    ensures ok { (s w p : ℕ) → HasTwoPad (M.segments message.now) s w p far tag → IfOk result (IsFollowed (M.segments message.now) s w) }
-    ensures err { (s w p : ℕ) → HasTwoPad (M.segments message.now) s w p far tag → IfErr result (Wrong (M.segments message.now) s w) }
+    ensures ok { let m = M.segments message.now in (s w p : ℕ) →
+        HasTwoPad m s w p far tag → IfOk result (IsFollowed m s w) }
+    ensures err { let m = M.segments message.now in (s w p : ℕ) →
+        HasTwoPad m s w p far tag → IfErr result (Wrong m s w) }
 {
-    if bits(far, 0, 3) != 2 {
+    if kind(far) != 2 || two(far) != 0 {
         return Err(Reason::PadNotFar);
     }
-    let segment = bits(far, 32, 32) as u32;
+    let segment = far_segment(far);
     if segment >= message.count() {
         return Err(Reason::SegmentMissing);
     }
-    if bits(tag, 0, 2) > 1 {
+    if kind(tag) > 1 {
         return Err(Reason::TagKind);
     }
-    if bits(tag, 2, 30) != 0 {
+    if middle(tag) != 0 {
         return Err(Reason::TagOffset);
     }
-    match target_at(message, 2, segment, bits(far, 3, 29), tag) {
-        Ok(target) => Ok(Followed::Target(target)),
-        Err(reason) => Err(reason),
-    }
+    target_at(message, 2, segment, u64::from(pad(far)), tag)
 }

@@ -4,7 +4,10 @@ ghost use Rattle.cap_spec.specs.Words.{IsWord, field, signed_offset_of};
 ghost use Rattle.cap_ptr.specs.Forms.{IsOffset};
 ghost use Rattle.std.specs.Prelude.{◌%◌, ◌<◌, ◌^◌, ◌≡◌, ℕ};
 
-use cap_words::{bits, signed_offset};
+use crate::fields::{
+    cap_index, code, data_size, far_segment, kind, list_size, middle, pad, pointer_size, two,
+};
+use cap_words::signed_offset;
 
 /// A pointer word, by its form (encoding: Structs, Lists, Inter-Segment Pointers, Capabilities).
 #[derive(Clone, Copy, Debug, PartialEq, Eq, Drop)]
@@ -64,26 +67,26 @@ impl Pointer {
         if word == 0 {
             return Pointer::Null;
         }
-        match bits(word, 0, 2) {
+        match kind(word) {
             0 => Pointer::Struct {
                 offset: signed_offset(word) as i32,
-                data_words: bits(word, 32, 16) as u16,
-                pointers: bits(word, 48, 16) as u16,
+                data_words: data_size(word),
+                pointers: pointer_size(word),
             },
             1 => Pointer::List {
                 offset: signed_offset(word) as i32,
-                code: bits(word, 32, 3) as u8,
-                size: bits(word, 35, 29) as u32,
+                code: code(word),
+                size: list_size(word),
             },
             2 => Pointer::Far {
-                two: bits(word, 2, 1) == 1,
-                pad: bits(word, 3, 29) as u32,
-                segment: bits(word, 32, 32) as u32,
+                two: two(word) == 1,
+                pad: pad(word),
+                segment: far_segment(word),
             },
             _ => {
-                if bits(word, 2, 30) == 0 {
+                if middle(word) == 0 {
                     Pointer::Cap {
-                        index: bits(word, 32, 32) as u32,
+                        index: cap_index(word),
                     }
                 } else {
                     Pointer::Reserved { word }

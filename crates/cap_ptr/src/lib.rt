@@ -1,12 +1,20 @@
-//! Pointer words: their six forms, and what following one leads to.
+//! Pointer words: their fields and forms, and what each leads to.
 #![tactic(auto)]
 
+mod fields;
 mod following;
 mod forms;
+mod near;
 mod placing;
 mod shapes;
+mod sizes;
 
 pub use cap_spec::Reason;
+pub use fields::{
+    cap_index, code, data_size, far_segment, kind, list_size, middle, pad, pointer_size, two,
+};
 pub use following::follow;
 pub use forms::Pointer;
+pub use near::{Row, near_row, near_target};
 pub use shapes::{Followed, Shape, Target};
+pub use sizes::element_bits;

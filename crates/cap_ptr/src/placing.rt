@@ -1,16 +1,17 @@
-//! Whether an object lies inside its segment, and its sizes.
+//! Whether an object lies inside its segment, and what it is charged.
 
 ghost use Rattle.cap_ptr.specs.Reaching.{LeadsTo};
-ghost use Rattle.cap_ptr.specs.Shapes.{FindsTarget, IsShape};
+ghost use Rattle.cap_ptr.specs.Shapes.{IsFollowed, IsPlain};
 ghost use Rattle.cap_spec.specs.Following.{Wrong, extra, IsComposite};
 ghost use Rattle.cap_spec.specs.Messages.{segment_of};
-ghost use Rattle.cap_spec.specs.Pointers.{code, extent, kind, list_words};
-ghost use Rattle.std.specs.Prelude.{◌+◌, ◌<◌, ◌^◌, ◌≡◌, ◌≢◌, ◌≤◌, ◌↔◌, IfErr, IfOk, IsTrue, if◌then◌else◌, ◌==◌, length, ℕ};
+ghost use Rattle.cap_spec.specs.Pointers.{data_size, extent, kind, middle, pointer_size};
+ghost use Rattle.std.specs.Prelude.{◌+◌, ◌*◌, ◌<◌, ◌^◌, ◌≡◌, ◌≤◌, ◌↔◌, ◌==◌, if◌then◌else◌, IfErr, IfOk, IsTrue, MatchBool, length, ℕ};
 
-use crate::shapes::{Shape, Target};
+use crate::fields::{code, data_size, kind, list_size, middle, pointer_size};
+use crate::shapes::{Followed, Shape, Target};
+use crate::sizes::{extent, plain_shape};
 use cap_frame::Segments;
 use cap_spec::Reason;
-use cap_words::bits;
 
 /// The target of the word `word`, which encodes its shape, from word `start` of a segment on.
 #[inline(always)]
@@ -20,15 +21,17 @@ pub(crate) fn target_at<M: Segments>(
     segment: u32,
     start: u64,
     word: u64,
-) -> Result<Target, Reason>
+) -> Result<Followed, Reason>
     requires exists { segment < length (M.segments message.now) }
     requires object { kind word < 2 }
     requires pads { pads ≤ 2 }
     requires near { start < 2 ^ 33 }
-    ensures ok { (s w : ℕ) → LeadsTo (M.segments message.now) s w pads segment start word → IfOk result (FindsTarget (M.segments message.now) s w) }
-    ensures err { (s w : ℕ) → LeadsTo (M.segments message.now) s w pads segment start word → IfErr result (Wrong (M.segments message.now) s w) }
+    ensures ok { let m = M.segments message.now in (s w : ℕ) →
+        LeadsTo m s w pads segment start word → IfOk result (IsFollowed m s w) }
+    ensures err { let m = M.segments message.now in (s w : ℕ) →
+        LeadsTo m s w pads segment start word → IfErr result (Wrong m s w) }
 {
-    let words = extent_of(word);
+    let words = extent(word);
     if start + u64::from(words) > u64::from(message.len(segment)) {
         return Err(Reason::OutOfSegment);
     }
@@ -37,14 +40,14 @@ pub(crate) fn target_at<M: Segments>(
         return composite(message, pads, segment, start, word);
     }
     let charge = u64::from(pads) + u64::from(words) + empty_elements(word);
-    Ok(Target {
+    Ok(Followed::Target(Target {
         segment,
         start,
         words,
         pads,
         charge,
         shape: plain_shape(word),
-    })
+    }))
 }
 
 // The target of the word `word` of a list of structs, whose words lie inside their segment.
@@ -54,108 +57,77 @@ fn composite<M: Segments>(
     segment: u32,
     start: u32,
     word: u64,
-) -> Result<Target, Reason>
+) -> Result<Followed, Reason>
     requires exists { segment < length (M.segments message.now) }
     requires composite { IsComposite word }
     requires inside { start + extent word ≤ length (segment_of (M.segments message.now) segment) }
     requires pads { pads ≤ 2 }
-    ensures ok { (s w : ℕ) → LeadsTo (M.segments message.now) s w pads segment start word → IfOk result (FindsTarget (M.segments message.now) s w) }
-    ensures err { (s w : ℕ) → LeadsTo (M.segments message.now) s w pads segment start word → IfErr result (Wrong (M.segments message.now) s w) }
+    ensures ok { let m = M.segments message.now in (s w : ℕ) →
+        LeadsTo m s w pads segment start word → IfOk result (IsFollowed m s w) }
+    ensures err { let m = M.segments message.now in (s w : ℕ) →
+        LeadsTo m s w pads segment start word → IfErr result (Wrong m s w) }
 {
-    let size = bits(word, 35, 29);
+    let words = list_size(word);
     let tag = message.word(segment, start);
-    if bits(tag, 0, 2) != 0 {
+    if kind(tag) != 0 {
         return Err(Reason::CompositeTag);
     }
-    let count = bits(tag, 2, 30);
-    let data_words = bits(tag, 32, 16);
-    let pointers = bits(tag, 48, 16);
-    if size < count * (data_words + pointers) {
+    if overruns(tag, words) {
         return Err(Reason::CompositeOverrun);
     }
-    let charge = u64::from(pads) + 1 + size + empty_structs(count, data_words + pointers);
-    Ok(Target {
+    let charge = u64::from(pads) + 1 + u64::from(words) + u64::from(empty_structs(tag));
+    Ok(Followed::Target(Target {
         segment,
         start,
-        words: 1 + size as u32,
+        words: 1 + words,
         pads,
         charge,
         shape: Shape::Structs {
-            words: size as u32,
-            count: count as u32,
-            data_words: data_words as u16,
-            pointers: pointers as u16,
+            words,
+            count: middle(tag),
+            data_words: data_size(tag),
+            pointers: pointer_size(tag),
         },
-    })
+    }))
 }
 
 // A word is of a list of structs.
 fn is_composite(word: u64) -> bool
     ensures { IsTrue result ↔ IsComposite word }
 {
-    bits(word, 0, 2) == 1 && bits(word, 32, 3) == 7
+    kind(word) == 1 && code(word) == 7
 }
 
-// How many elements have no words, of `count` elements of `words` words each.
-fn empty_structs(count: u64, words: u64) -> u64
-    ensures value { result ≡ (if words == 0 then count else 0) }
-    ensures within { result ≤ count }
+// The elements that a tag gives take more words than their list has without it.
+fn overruns(tag: u64, words: u32) -> bool
+    ensures { let needed = middle tag * (data_size tag + pointer_size tag) in
+        MatchBool result (words < needed) (needed ≤ words) }
 {
-    if words == 0 { count } else { 0 }
+    let each = u64::from(data_size(tag)) + u64::from(pointer_size(tag));
+    u64::from(words) < u64::from(middle(tag)) * each
 }
 
-// How many elements of a list without a tag have no bits.
-fn empty_elements(word: u64) -> u64
-    requires { kind word < 2 }
-    ensures value { (kind word ≡ 1 → code word ≢ 7) → (tag : ℕ) → result ≡ extra word tag }
-    ensures below { result < 2 ^ 29 }
+// How many elements a tag gives that have no words.
+fn empty_structs(tag: u64) -> u32
+    ensures value { result ≡ (if data_size tag + pointer_size tag == 0 then middle tag else 0) }
+    ensures within { result ≤ middle tag }
 {
-    if bits(word, 0, 2) == 1 && bits(word, 32, 3) == 0 {
-        bits(word, 35, 29)
+    if data_size(tag) == 0 && pointer_size(tag) == 0 {
+        middle(tag)
     } else {
         0
     }
 }
 
-// The shape of an object that isn't a list of structs.
-fn plain_shape(word: u64) -> Shape
-    requires object { kind word < 2 }
-    requires plain { kind word ≡ 1 → code word ≢ 7 }
-    ensures { (tag : ℕ) → IsShape word tag result }
+// How many elements of a list without a tag have no bits.
+fn empty_elements(word: u64) -> u64
+    requires { IsPlain word }
+    ensures value { (tag : ℕ) → result ≡ extra word tag }
+    ensures below { result < 2 ^ 29 }
 {
-    if bits(word, 0, 2) == 0 {
-        return Shape::Struct {
-            data_words: bits(word, 32, 16) as u16,
-            pointers: bits(word, 48, 16) as u16,
-        };
-    }
-    let count = bits(word, 35, 29) as u32;
-    match bits(word, 32, 3) {
-        6 => Shape::Pointers { count },
-        code => Shape::Scalars {
-            code: code as u8,
-            count,
-        },
-    }
-}
-
-// How many words the object of a word takes, a tag with it.
-fn extent_of(word: u64) -> u32
-    requires { kind word < 2 }
-    ensures value { result ≡ extent word }
-    ensures below { result ≤ 2 ^ 29 }
-{
-    if bits(word, 0, 2) == 0 {
-        return (bits(word, 32, 16) + bits(word, 48, 16)) as u32;
-    }
-    let size = bits(word, 35, 29) as u32;
-    match bits(word, 32, 3) {
-        0 => 0,
-        1 => size.div_ceil(64),
-        2 => size.div_ceil(8),
-        3 => size.div_ceil(4),
-        4 => size.div_ceil(2),
-        7 => 1 + size,
-        _ => size,
+    if kind(word) == 1 && code(word) == 0 {
+        u64::from(list_size(word))
+    } else {
+        0
     }
 }

@@ -70,3 +70,20 @@ pub enum Followed {
     /// An object.
     Target(Target),
 }
+
+impl Followed {
+    ghost use Rattle.cap_ptr.specs.Shapes.{charge_of};
+    ghost use Rattle.std.specs.Prelude.{◌≡◌};
+
+    /// What following the word is charged, in words: the landing pads, and what an object is
+    /// charged. Less than 2^31.
+    #[inline(always)]
+    pub fn charge(&self) -> u64
+        ensures { result ≡ charge_of self.now }
+    {
+        match self {
+            Followed::Null { pads } | Followed::Cap { pads, .. } => u64::from(*pads),
+            Followed::Target(target) => target.charge,
+        }
+    }
+}

@@ -1,5 +1,6 @@
 -- Which spot of a message a node keeps (profile).
-use Rattle.std.specs.Prelude.{ℕ, ◌+◌}
+use Rattle.std.specs.Prelude.{ℕ, ◌+◌, ◌<◌, ◌≤◌, List, length}
+use Rattle.cap_spec.specs.Messages.{segment_of}
 use Rattle.cap_spec.specs.Paths.{Spot, word, element}
 use Rattle.cap_vet.specs.declared.spot.Spot.{Spot as Kept}
 use Rattle.cap_vet.specs.declared.spot.Spot.TheVariants.{Word, Element}
@@ -16,3 +17,7 @@ segment_at (Element t b d p) = t
 abbrev pub end_at : Kept → ℕ
 end_at (Word s w) = w + 1
 end_at (Element t b d p) = b + d + p
+
+-- the words of the spot exist
+abbrev pub SpotIn : List (List ℕ) → Kept → Type 0
+SpotIn m spot = (segment_at spot < length m) × (end_at spot ≤ length (segment_of m (segment_at spot)))

@@ -10,3 +10,12 @@ pub struct Place {
     /// How many words it takes, a tag and surplus words included.
     pub words: u32,
 }
+
+impl Place {
+    /// That of null and of a capability, which have no words.
+    pub(crate) const NONE: Place = Place {
+        segment: 0,
+        start: 0,
+        words: 0,
+    };
+}

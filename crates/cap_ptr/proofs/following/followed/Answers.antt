@@ -8,12 +8,12 @@ returns-then-word-eq0-clause-ok g c =
     let e = c.if-word-eq0.true in
     near c.word-word.result c.word-word.ensures (omega (arith, e)) e refl
 
-pub returns-then-bits-ne2-clause-ok : goal.returns-then-bits-ne2-clause-ok
-returns-then-bits-ne2-clause-ok g c =
+pub returns-then-kind-ne2-clause-ok : goal.returns-then-kind-ne2-clause-ok
+returns-then-kind-ne2-clause-ok g c =
     c.resolved.ensures.ok c.args.s c.args.w
-    (stands-near (g.M.Segments.segments c.args.message.now) c.args.s c.args.w c.word-word.result c.word-word.ensures (λ e. c.if-bits-ne2.true (c.bits.ensures ∙ e)))
+    (stands-near (g.M.Segments.segments c.args.message.now) c.args.s c.args.w c.word-word.result c.word-word.ensures (λ e. c.if-kind-ne2.true (c.kind.ensures ∙ e)))
 
-pub returns-then-bits-ne2-clause-err : goal.returns-then-bits-ne2-clause-err
-returns-then-bits-ne2-clause-err g c =
+pub returns-then-kind-ne2-clause-err : goal.returns-then-kind-ne2-clause-err
+returns-then-kind-ne2-clause-err g c =
     c.resolved.ensures.err c.args.s c.args.w
-    (stands-near (g.M.Segments.segments c.args.message.now) c.args.s c.args.w c.word-word.result c.word-word.ensures (λ e. c.if-bits-ne2.true (c.bits.ensures ∙ e)))
+    (stands-near (g.M.Segments.segments c.args.message.now) c.args.s c.args.w c.word-word.result c.word-word.ensures (λ e. c.if-kind-ne2.true (c.kind.ensures ∙ e)))

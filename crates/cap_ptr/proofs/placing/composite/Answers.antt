@@ -1,27 +1,29 @@
-use Rattle.std.proofs.Common.{◌∙◌, sym, refl, arith}
+use Rattle.std.proofs.Common.{◌∙◌, ◌≤◌, ◌<◌, ◌*◌, ◌+◌, sym, refl, arith}
+use Rattle.cap_spec.specs.Pointers.{data_size, list_size, middle, pointer_size}
 use Rattle.cap_spec.proofs.Pointers.Following.{wrong-composite_tag, wrong-overrun}
-use Rattle.cap_ptr.proofs.Objects.{found-structs, overruns}
+use Rattle.cap_ptr.proofs.Objects.{found-structs}
 use Rattle.cap_ptr.proofs.placing.composite.Goals as goal
 
-pub returns-then-bits-ne0-clause-err : goal.returns-then-bits-ne0-clause-err
-returns-then-bits-ne0-clause-err g c = λ s w leads.
+pub returns-then-kind-ne0-clause-err : goal.returns-then-kind-ne0-clause-err
+returns-then-kind-ne0-clause-err g c = λ s w leads.
     wrong-composite_tag (g.M.Segments.segments c.args.message.now) s w c.args.pads c.args.segment c.args.start c.args.word c.word-tag.result leads
-    c.requires.exists c.requires.inside c.requires.composite c.word-tag.ensures (λ z. c.if-bits-ne0.true (c.bits.ensures ∙ z))
+    c.requires.exists c.requires.inside c.requires.composite c.word-tag.ensures (λ z. c.if-kind-ne0.true (c.kind.ensures ∙ z))
 
-pub returns-then-size-count-clause-err : goal.returns-then-size-count-clause-err
-returns-then-size-count-clause-err g c = λ s w leads.
+pub returns-then-overruns-clause-err : goal.returns-then-overruns-clause-err
+returns-then-overruns-clause-err g c = λ s w leads.
+    let past : c.list_size-words.result < middle c.word-tag.result * (data_size c.word-tag.result + pointer_size c.word-tag.result) =
+        rw c.if-overruns.true at c.overruns.ensures in
     wrong-overrun (g.M.Segments.segments c.args.message.now) s w c.args.pads c.args.segment c.args.start c.args.word c.word-tag.result leads
-    c.requires.exists c.requires.inside c.requires.composite c.word-tag.ensures (sym c.bits.ensures ∙ c.if-bits-ne0.false)
-    (overruns c.args.word c.word-tag.result c.bits-size.result c.bits-count.result c.bits-data_words.result c.bits-pointers.result
-    c.bits-size.ensures c.bits-count.ensures c.bits-data_words.ensures c.bits-pointers.ensures c.if-size-count.true)
+    c.requires.exists c.requires.inside c.requires.composite c.word-tag.ensures (sym c.kind.ensures ∙ c.if-kind-ne0.false)
+    (rw (← c.list_size-words.ensures) past)
 
 pub returns-clause-ok : goal.returns-clause-ok
 returns-clause-ok g c = λ s w leads. (
   c.args.word,
   c.word-tag.result,
   found-structs (g.M.Segments.segments c.args.message.now) s w c.args.pads c.args.segment c.args.start c.args.word leads c.requires.exists
-      c.word-tag.result c.bits-size.result c.bits-count.result c.bits-data_words.result c.bits-pointers.result c.empty_structs.result _ _
+      c.word-tag.result c.list_size-words.result c.middle.result c.data_size.result c.pointer_size.result c.empty_structs.result _ _
       c.requires.pads c.requires.inside c.requires.composite c.word-tag.ensures
-      c.bits-size.ensures (sym c.bits.ensures ∙ c.if-bits-ne0.false) c.bits-count.ensures c.bits-data_words.ensures c.bits-pointers.ensures c.if-size-count.false
-      c.empty_structs.ensures.value c.empty_structs.ensures.within refl (omega arith),
+      c.list_size-words.ensures (sym c.kind.ensures ∙ c.if-kind-ne0.false) c.middle.ensures c.data_size.ensures c.pointer_size.ensures
+      (rw c.if-overruns.false at c.overruns.ensures) c.empty_structs.ensures.value c.empty_structs.ensures.within refl (omega arith),
 )

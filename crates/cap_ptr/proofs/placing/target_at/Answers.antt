@@ -6,7 +6,7 @@ use Rattle.cap_ptr.proofs.placing.target_at.Goals as goal
 pub returns-then-start-from-clause-err : goal.returns-then-start-from-clause-err
 returns-then-start-from-clause-err g c = λ s w leads.
     wrong-past (g.M.Segments.segments c.args.message.now) s w c.args.pads c.args.segment c.args.start c.args.word leads c.requires.exists
-    (omega (arith, c.extent_of-words.ensures.value, c.len.ensures))
+    (omega (arith, c.extent-words.ensures.value, c.len.ensures))
 
 pub returns-clause-ok : goal.returns-clause-ok
 returns-clause-ok g c = λ s w leads.
@@ -14,7 +14,7 @@ returns-clause-ok g c = λ s w leads.
       c.args.word,
       0,
       found-plain (g.M.Segments.segments c.args.message.now) s w c.args.pads c.args.segment c.args.start c.args.word leads c.requires.exists
-          c.empty_elements.result c.extent_of-words.result _ c.plain_shape.result
-          c.requires.pads plain c.extent_of-words.ensures.value c.extent_of-words.ensures.below (omega (arith, c.len.ensures))
-          (c.empty_elements.ensures.value (λ k e. plain (k, e)) 0) c.empty_elements.ensures.below (omega arith) (c.plain_shape.ensures 0),
+          c.empty_elements.result c.extent-words.result _ c.plain_shape.result
+          c.requires.pads plain c.extent-words.ensures.value c.extent-words.ensures.few (omega (arith, c.len.ensures))
+          (c.empty_elements.ensures.value 0) c.empty_elements.ensures.below (omega arith) (c.plain_shape.ensures 0),
     )

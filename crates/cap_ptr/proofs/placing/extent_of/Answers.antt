@@ -1,5 +1,0 @@
-use Rattle.std.proofs.Common.{rules}
-use Rattle.cap_ptr.proofs.placing.extent_of.Goals as goal
-
-pub returns-in-1-clause-value : goal.returns-in-1-clause-value
-returns-in-1-clause-value c = search rules
