@@ -63,9 +63,13 @@ pub record FindsObject (m : List (List ℕ)) (s w k t b q tag n c : ℕ) (x : Sh
   pub finds : Finds m s w k t b q
   pub object : IsObject m k t b q tag n c x
 
+-- the pointer word at s:w leads to this target, of the word q and this tag
+abbrev pub FindsTargetBy : List (List ℕ) → ℕ → ℕ → ℕ → ℕ → Target → Type 0
+FindsTargetBy m s w q tag x = FindsObject m s w x.pads x.segment x.start q tag x.words x.charge x.shape
+
 -- the pointer word at s:w leads to this target
 abbrev pub FindsTarget : List (List ℕ) → ℕ → ℕ → Target → Type 0
-FindsTarget m s w x = (q tag : ℕ) × FindsObject m s w x.pads x.segment x.start q tag x.words x.charge x.shape
+FindsTarget m s w x = (q tag : ℕ) × FindsTargetBy m s w q tag x
 
 -- what the pointer word at s:w leads to
 abbrev pub IsFollowed : List (List ℕ) → ℕ → ℕ → Followed → Type 0

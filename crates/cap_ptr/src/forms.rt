@@ -103,7 +103,8 @@ impl Pointer {
         requires { IsPointer self.now }
         ensures value { pointer_of result ≡ self.now }
         ensures form { HasForm result self.now }
-        ensures inverse { (other : ℕ) → IsWord other → pointer_of other ≡ self.now → other ≡ result }
+        ensures inverse { (other : ℕ) → IsWord other → pointer_of other ≡ self.now →
+            other ≡ result }
     {
         match *self {
             Pointer::Null => 0,

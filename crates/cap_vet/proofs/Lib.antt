@@ -15,7 +15,6 @@ mod Verdicts
 mod ObjectFrames
 mod Looks
 mod Near
-mod NearRows
 mod Keeping
 mod Founds
 mod Nodes

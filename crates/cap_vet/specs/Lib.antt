@@ -11,7 +11,6 @@ pub mod Nodes
 pub mod Owing
 pub mod Passing
 pub mod Reports
-pub mod Rows
 pub mod Spots
 pub mod Taken
 pub mod Trails

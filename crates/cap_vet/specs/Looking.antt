@@ -7,6 +7,10 @@ use Rattle.cap_spec.specs.Denoting.{Finds, element_levels}
 use Rattle.cap_spec.specs.Verdicts.{levels_below}
 use Rattle.cap_spec.specs.declared.Step.{Step}
 use Rattle.cap_spec.specs.declared.Step.TheVariants.{Ptr, Item}
+use Rattle.cap_ptr.specs.Shapes.{IsFollowed, charge_of}
+use Rattle.cap_ptr.specs.declared.shapes.Followed.{Followed}
+use Rattle.cap_ptr.specs.declared.shapes.Followed.TheVariants as followed
+use Rattle.cap_vet.specs.Levels.{levels_of}
 use Rattle.cap_vet.specs.Trails.{Ahead, row, element_rows}
 use Rattle.cap_vet.specs.WalkFrames.{Place, row_places, element_places, option_spots, OptionIn}
 use Rattle.cap_vet.specs.declared.frame.Frame.{Frame}
@@ -48,3 +52,14 @@ abbrev pub IsLooked : List (List ℕ) → ℕ → ℕ → ℕ → ℕ → ℕ �
 IsLooked m words depth spent s w level (Null cost) = Leads m s w cost to_null × (spent + cost ≤ words)
 IsLooked m words depth spent s w level (Cap cost) = ((i : ℕ) × Leads m s w cost (to_cap i)) × (spent + cost ≤ words)
 IsLooked m words depth spent s w level (Object cost deep frame) = (k t b q tag : ℕ) × LooksObject m words depth spent s w level cost deep frame k t b q tag
+
+-- the deepest level that an object of this level takes, and 0 if there is none
+abbrev pub deepest_of : ℕ → Followed → ℕ
+deepest_of level (followed.Target x) = level + levels_of x.shape
+deepest_of level _ = 0
+
+-- The pointer word at s:w leads there, within the words that are left and the depth limit.
+pub record FollowsWithin (m : List (List ℕ)) (left depth s w level : ℕ) (f : Followed) : Type 0 where
+  pub followed : IsFollowed m s w f
+  pub within : charge_of f ≤ left
+  pub shallow : deepest_of level f ≤ depth

@@ -16,56 +16,12 @@ ghost use Rattle.std.specs.Prelude.{[], ◌∷◌, ◌++◌, ◌+◌, ◌-◌, �
 
 use crate::budget::Budget;
 use crate::found::{Found, element, found_of};
+use crate::looking::follow_within;
 use crate::spot::Spot;
-use crate::targets::{levels_of_elements, levels_taken};
+use crate::targets::levels_of_elements;
 use crate::view::View;
 use cap_frame::Segments;
-use cap_ptr::{Followed, follow};
 use cap_spec::{Reason, Refusal, Step};
-
-// What a pointer word leads to, and what following it costs, where `left` words may be charged. The
-// error is the first reason that applies.
-fn charge<M: Segments>(
-    message: &M,
-    left: u64,
-    depth: u32,
-    s: u32,
-    w: u32,
-    level: u64,
-) -> Result<(Found, u64), Reason>
-    requires exists { s < length (M.segments message.now) }
-    requires inside { w < length (segment_of (M.segments message.now) s) }
-    requires level { level < 2 ^ 63 }
-    ensures ok { IfOk result (λ r. IsFound (M.segments message.now) (word s w) r.0 × Costs (M.segments message.now) s w r.1 × (r.1 ≤ left)) }
-    ensures shallow { OnOk result (¬ IsDeepAt (M.segments message.now) depth s w level) }
-    ensures err { (words before : ℕ) → left ≡ words - before → before ≤ words
-        → IfErr result (IsFirstReason (M.segments message.now) words depth before s w level) }
-{
-    match follow(message, s, w) {
-        Err(reason) => Err(reason),
-        Ok(Followed::Null { pads }) => {
-            if u64::from(pads) > left {
-                return Err(Reason::WordLimit);
-            }
-            Ok((found_of(Followed::Null { pads }), u64::from(pads)))
-        }
-        Ok(Followed::Cap { pads, index }) => {
-            if u64::from(pads) > left {
-                return Err(Reason::WordLimit);
-            }
-            Ok((found_of(Followed::Cap { pads, index }), u64::from(pads)))
-        }
-        Ok(Followed::Target(target)) => {
-            if level + u64::from(levels_taken(&target.shape)) > u64::from(depth) {
-                return Err(Reason::DepthLimit);
-            }
-            if target.charge > left {
-                return Err(Reason::WordLimit);
-            }
-            Ok((found_of(Followed::Target(target)), target.charge))
-        }
-    }
-}
 
 /// Where the steps of a path have arrived so far.
 #[derive(Clone, Copy)]
@@ -85,7 +41,8 @@ fn at_root<M: Segments>(message: &M, words: u64, depth: u32) -> Result<Arrival, 
     ensures ok { IfOk result (Arrives (M.segments message.now) words depth [] (word 0 0)) }
     ensures level { IfOk result (λ at. at.level ≡ 1) }
     ensures pointers { IfOk result (λ at. at.pointers ≡ 1) }
-    ensures err { (path : List Step) → IfErr result (IsRefusedOnPath (M.segments message.now) words depth path) }
+    ensures err { (path : List Step) →
+        IfErr result (IsRefusedOnPath (M.segments message.now) words depth path) }
 {
     if message.len(0) == 0 {
         return Err(Refusal {
@@ -95,11 +52,11 @@ fn at_root<M: Segments>(message: &M, words: u64, depth: u32) -> Result<Arrival, 
             pointers: 0,
         });
     }
-    match charge(message, words, depth, 0, 0, 1) {
-        Ok((found, spent)) => Ok(Arrival {
-            found,
+    match follow_within(message, words, depth, 0, 0, 1) {
+        Ok(followed) => Ok(Arrival {
+            found: found_of(followed),
             level: 1,
-            spent,
+            spent: followed.charge(),
             pointers: 1,
         }),
         Err(reason) => Err(Refusal {
@@ -121,25 +78,29 @@ impl Arrival {
         depth: u32,
         step: Step,
     ) -> Result<Option<Arrival>, Refusal>
-        requires arrived { (path : List Step) × (a : Where) × Arrives (M.segments message.now) words depth path a self.now }
+        requires arrived { let m = M.segments message.now in
+            (path : List Step) × (a : Where) × Arrives m words depth path a self.now }
         requires levels { self.now.level < 2 ^ 61 }
         requires few { self.now.pointers < 2 ^ 61 }
-        ensures some { (path : List Step) (a : Where) → Arrives (M.segments message.now) words depth path a self.now →
-            IfOk result (λ o. IfSome o (λ next. (b : Where) × Arrives (M.segments message.now) words depth (path ++ step ∷ []) b next)) }
+        ensures some { let m = M.segments message.now in
+            (path : List Step) (a : Where) → Arrives m words depth path a self.now →
+            IfOk result (λ o. IfSome o (λ next.
+            (b : Where) × Arrives m words depth (path ++ step ∷ []) b next)) }
         ensures level { IfOk result (λ o. IfSome o (λ next. next.level ≤ self.now.level + 1)) }
-        ensures pointers { IfOk result (λ o. IfSome o (λ next. next.pointers ≤ self.now.pointers + 1)) }
-        ensures none { (path : List Step) (a : Where) → Arrives (M.segments message.now) words depth path a self.now →
-            IfOk result (λ o. IfNone o ((b : Where) → ¬ Goes (M.segments message.now) a step b)) }
-        ensures err { (path : List Step) (a : Where) → Arrives (M.segments message.now) words depth path a self.now →
-            IfErr result (IsFaultOnPath (M.segments message.now) words depth (path ++ step ∷ [])) }
+        ensures pointers { IfOk result (λ o.
+            IfSome o (λ next. next.pointers ≤ self.now.pointers + 1)) }
+        ensures none { let m = M.segments message.now in
+            (path : List Step) (a : Where) → Arrives m words depth path a self.now →
+            IfOk result (λ o. IfNone o ((b : Where) → ¬ Goes m a step b)) }
+        ensures err { let m = M.segments message.now in
+            (path : List Step) (a : Where) → Arrives m words depth path a self.now →
+            IfErr result (IsFaultOnPath m words depth (path ++ step ∷ [])) }
     {
         match self.found.step(step) {
             None => Ok(None),
             Some(Spot::Word { segment, word }) => {
-                match self.to_word(message, words, depth, segment, word) {
-                    Ok(next) => Ok(Some(next)),
-                    Err(refusal) => Err(refusal),
-                }
+                let next = self.to_word(message, words, depth, segment, word)?;
+                Ok(Some(next))
             }
             Some(
                 Spot::Element {
@@ -171,22 +132,24 @@ impl Arrival {
         requires within { self.now.spent ≤ words }
         requires levels { self.now.level < 2 ^ 61 }
         requires few { self.now.pointers < 2 ^ 61 }
-        ensures ok { (path : List Step) (a : Where) (step : Step) → Arrives (M.segments message.now) words depth path a self.now →
-            Goes (M.segments message.now) a step (word_at segment word)
-            → IfOk result (Arrives (M.segments message.now) words depth (path ++ step ∷ []) (word_at segment word)) }
+        ensures ok { let m = M.segments message.now in
+            (path : List Step) (a : Where) (step : Step) →
+            Arrives m words depth path a self.now → Goes m a step (word_at segment word) →
+            IfOk result (Arrives m words depth (path ++ step ∷ []) (word_at segment word)) }
         ensures level { IfOk result (λ next. next.level ≡ self.now.level + 1) }
         ensures pointers { IfOk result (λ next. next.pointers ≡ self.now.pointers + 1) }
-        ensures err { (path : List Step) (a : Where) (step : Step) → Arrives (M.segments message.now) words depth path a self.now →
-            Goes (M.segments message.now) a step (word_at segment word)
-            → IfErr result (IsFaultOnPath (M.segments message.now) words depth (path ++ step ∷ [])) }
+        ensures err { let m = M.segments message.now in
+            (path : List Step) (a : Where) (step : Step) →
+            Arrives m words depth path a self.now → Goes m a step (word_at segment word) →
+            IfErr result (IsFaultOnPath m words depth (path ++ step ∷ [])) }
     {
         let level = self.level + 1;
         let pointers = self.pointers + 1;
-        match charge(message, words - self.spent, depth, segment, word, level) {
-            Ok((found, cost)) => Ok(Arrival {
-                found,
+        match follow_within(message, words - self.spent, depth, segment, word, level) {
+            Ok(followed) => Ok(Arrival {
+                found: found_of(followed),
                 level,
-                spent: self.spent + cost,
+                spent: self.spent + followed.charge(),
                 pointers,
             }),
             Err(reason) => Err(Refusal {
@@ -222,31 +185,33 @@ pub fn get_charged<'m, M: Segments>(
     depth: u32,
     path: &[Step],
 ) -> Result<Option<View<'m, M>>, Refusal>
-    ensures ok { OnOk result (Charges (M.segments message.now) (left_of budget.old) depth path.now (left_of budget.new)) }
-    ensures none { IfOk result (λ o. IfNone o ((k : Kind) (t b n : ℕ) → ¬ ArrivesAt (M.segments message.now) path.now k t b n)) }
-    ensures some { IfOk result (λ o. IfSome o (λ v. let place = kept_place v in
-        ArrivesAt (M.segments message.now) path.now (view_kind v) place.segment place.start place.words)) }
+    ensures ok { let m = M.segments message.now in
+        OnOk result (Charges m (left_of budget.old) depth path.now (left_of budget.new)) }
+    ensures none { let m = M.segments message.now in IfOk result (λ o. IfNone o (
+        (k : Kind) (t b n : ℕ) → ¬ ArrivesAt m path.now k t b n)) }
+    ensures some { let m = M.segments message.now in IfOk result (λ o. IfSome o (λ v.
+        let place = kept_place v in
+        ArrivesAt m path.now (view_kind v) place.segment place.start place.words)) }
     ensures message { IfOk result (λ o. IfSome o (λ v. view_message v ≡ message.now)) }
-    ensures err { IfErr result (IsRefusedOnPath (M.segments message.now) (left_of budget.old) depth path.now) }
+    ensures err { let m = M.segments message.now in
+        IfErr result (IsRefusedOnPath m (left_of budget.old) depth path.now) }
     ensures unchanged { OnErr result (budget.new ≡ budget.old) }
     // The other direction.
-    ensures accepts { (ways : List (List Step)) (cost : ℕ) → AreOnPath (M.segments message.now) path.now ways → 0 < length ways →
-        CostOf (M.segments message.now) ways cost → AreShallow (M.segments message.now) depth ways → cost ≤ left_of budget.old → IsOk result }
-    ensures refuses { (refusal : Refusal) → IsRefusedOnPath (M.segments message.now) (left_of budget.old) depth path.now refusal → result ≡ Err refusal }
+    ensures accepts { let m = M.segments message.now in (ways : List (List Step)) (cost : ℕ) →
+        AreOnPath m path.now ways → 0 < length ways → CostOf m ways cost → AreShallow m depth ways →
+        cost ≤ left_of budget.old → IsOk result }
+    ensures refuses { let m = M.segments message.now in (refusal : Refusal) →
+        IsRefusedOnPath m (left_of budget.old) depth path.now refusal → result ≡ Err refusal }
 {
     let words = budget.words;
-    let mut at = match at_root(message, words, depth) {
-        Ok(root) => root,
-        Err(refusal) => return Err(refusal),
-    };
+    let mut at = at_root(message, words, depth)?;
     for step in path {
-        match at.step(message, words, depth, *step) {
-            Ok(Some(next)) => at = next,
-            Ok(None) => {
+        match at.step(message, words, depth, *step)? {
+            Some(next) => at = next,
+            None => {
                 budget.words = words - at.spent;
                 return Ok(None);
             }
-            Err(fault) => return Err(fault),
         }
     }
     budget.words = words - at.spent;

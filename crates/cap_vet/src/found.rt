@@ -55,7 +55,8 @@ impl Found {
         requires { (m : List (List ℕ)) × (a : Where) × IsMessage m × IsFound m a self.now }
         ensures some { (m : List (List ℕ)) (a : Where) → IsFound m a self.now →
             IfSome result (λ b. Goes m a step (spot_of b)) }
-        ensures inside { (m : List (List ℕ)) (a : Where) → IsFound m a self.now → IfSome result (SpotIn m) }
+        ensures inside { (m : List (List ℕ)) (a : Where) → IsFound m a self.now →
+            IfSome result (SpotIn m) }
         ensures none { (m : List (List ℕ)) (a : Where) → IsFound m a self.now →
             IfNone result ((b : Where) → ¬ Goes m a step b) }
     {
@@ -70,7 +71,8 @@ impl Found {
         requires { (m : List (List ℕ)) × (a : Where) × IsMessage m × IsFound m a self.now }
         ensures some { (m : List (List ℕ)) (a : Where) → IsFound m a self.now →
             IfSome result (λ b. Goes m a (Step.Ptr i) (spot_of b)) }
-        ensures inside { (m : List (List ℕ)) (a : Where) → IsFound m a self.now → IfSome result (SpotIn m) }
+        ensures inside { (m : List (List ℕ)) (a : Where) → IsFound m a self.now →
+            IfSome result (SpotIn m) }
         ensures none { (m : List (List ℕ)) (a : Where) → IsFound m a self.now →
             IfNone result ((b : Where) → ¬ Goes m a (Step.Ptr i) b) }
     {
@@ -95,7 +97,8 @@ impl Found {
         requires { (m : List (List ℕ)) × (a : Where) × IsMessage m × IsFound m a self.now }
         ensures some { (m : List (List ℕ)) (a : Where) → IsFound m a self.now →
             IfSome result (λ b. Goes m a (Step.Item i) (spot_of b)) }
-        ensures inside { (m : List (List ℕ)) (a : Where) → IsFound m a self.now → IfSome result (SpotIn m) }
+        ensures inside { (m : List (List ℕ)) (a : Where) → IsFound m a self.now →
+            IfSome result (SpotIn m) }
         ensures none { (m : List (List ℕ)) (a : Where) → IsFound m a self.now →
             IfNone result ((b : Where) → ¬ Goes m a (Step.Item i) b) }
     {
@@ -151,15 +154,12 @@ pub(crate) fn found_of(followed: Followed) -> Found
 // The object that a pointer word leads to.
 #[inline(always)]
 fn object(target: Target) -> Found
-    ensures { (m : List (List ℕ)) (s w : ℕ) → FindsTarget m s w target → IsFound m (word s w) result }
+    ensures { (m : List (List ℕ)) (s w : ℕ) →
+        FindsTarget m s w target → IsFound m (word s w) result }
 {
     Found {
         kind: kind_of(target.shape),
-        place: Place {
-            segment: target.segment,
-            start: target.start,
-            words: target.words,
-        },
+        place: Place::of(&target),
     }
 }
 

@@ -1,4 +1,4 @@
-//! The walk through a message: whether its root denotes a tree within limits.
+//! Vetted and exclusive messages, their nodes and views, and getters with a budget.
 #![tactic(auto)]
 
 mod budget;
@@ -14,7 +14,6 @@ mod marks;
 mod node;
 mod place;
 mod report;
-mod rows;
 mod spot;
 mod targets;
 mod uses;

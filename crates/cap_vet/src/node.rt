@@ -67,14 +67,18 @@ impl<'m, M: Segments> Node<'m, M> {
     #[inline(always)]
     pub fn view(&self) -> View<'m, M>
         ensures message { view_message result ≡ node_message self.now }
-        ensures stands { let place = kept_place result in
-            StandsAs (M.segments (node_message self.now)) (node_spot self.now) (view_kind result) place.segment place.start place.words }
+        ensures stands { let m = M.segments (node_message self.now) in
+            let spot = node_spot self.now in let place = kept_place result in
+            StandsAs m spot (view_kind result) place.segment place.start place.words }
 
         // There is a tree at the node, and the view shows what it is by itself.
-        ensures tree { (t : Tree) × DenotesAt (M.segments (node_message self.now)) (node_spot self.now) t × (shown result ≡ own_of t) }
-        ensures shows { (t : Tree) → DenotesAt (M.segments (node_message self.now)) (node_spot self.now) t → shown result ≡ own_of t }
-        ensures place { MatchOption (view_place result) ((t b n : ℕ) → ¬ Stands (M.segments (node_message self.now)) (node_spot self.now) t b n)
-            (λ p. Stands (M.segments (node_message self.now)) (node_spot self.now) p.segment p.start p.words) }
+        ensures tree { let m = M.segments (node_message self.now) in
+            (t : Tree) × DenotesAt m (node_spot self.now) t × (shown result ≡ own_of t) }
+        ensures shows { let m = M.segments (node_message self.now) in
+            (t : Tree) → DenotesAt m (node_spot self.now) t → shown result ≡ own_of t }
+        ensures place { let m = M.segments (node_message self.now) in
+            MatchOption (view_place result) ((t b n : ℕ) → ¬ Stands m (node_spot self.now) t b n)
+            (λ p. Stands m (node_spot self.now) p.segment p.start p.words) }
     {
         View {
             message: self.message,
@@ -88,11 +92,14 @@ impl<'m, M: Segments> Node<'m, M> {
     #[inline(always)]
     pub fn child(&self, step: Step) -> Option<Node<'m, M>>
         ensures message { IfSome result (λ n. node_message n ≡ node_message self.now) }
-        ensures some { IfSome result (λ n. Goes (M.segments (node_message self.now)) (node_spot self.now) step (node_spot n)) }
-        ensures none { IfNone result ((b : Where) → ¬ Goes (M.segments (node_message self.now)) (node_spot self.now) step b) }
-        ensures part { (t : Tree) → DenotesAt (M.segments (node_message self.now)) (node_spot self.now) t →
+        ensures some { let m = M.segments (node_message self.now) in
+            IfSome result (λ n. Goes m (node_spot self.now) step (node_spot n)) }
+        ensures none { let m = M.segments (node_message self.now) in
+            IfNone result ((b : Where) → ¬ Goes m (node_spot self.now) step b) }
+        ensures part { let m = M.segments (node_message self.now) in
+            (t : Tree) → DenotesAt m (node_spot self.now) t →
             MatchOption result (part_at t step ≡ None)
-            (λ n. (u : Tree) × (part_at t step ≡ Some u) × DenotesAt (M.segments (node_message self.now)) (node_spot n) u) }
+            (λ n. (u : Tree) × (part_at t step ≡ Some u) × DenotesAt m (node_spot n) u) }
     {
         let next = self.found().step(step)?;
         let child = Node {

@@ -1,5 +1,9 @@
 //! The words of an object.
 
+ghost use Rattle.std.specs.Prelude.{◌≡◌};
+
+use cap_ptr::Target;
+
 /// The words of an object, or of an element of a list of structs.
 #[derive(Clone, Copy, Debug, PartialEq, Eq, Drop)]
 pub struct Place {
@@ -18,4 +22,17 @@ impl Place {
         start: 0,
         words: 0,
     };
+
+    /// That of a target.
+    #[inline(always)]
+    pub(crate) fn of(target: &Target) -> Place
+        ensures { let x = target.now in
+            result ≡ record { segment = x.segment; start = x.start; words = x.words } }
+    {
+        Place {
+            segment: target.segment,
+            start: target.start,
+            words: target.words,
+        }
+    }
 }

@@ -1,6 +1,6 @@
 //! What of an object a walk goes on with.
 
-ghost use Rattle.cap_ptr.specs.Shapes.{FindsObject};
+ghost use Rattle.cap_ptr.specs.Shapes.{FindsTargetBy};
 ghost use Rattle.cap_spec.specs.Denoting.{element_levels};
 ghost use Rattle.cap_spec.specs.Messages.{IsMessage, segment_of};
 ghost use Rattle.cap_vet.specs.WalkFrames.{LevelIs, OptionIn, option_spots, row_places};
@@ -33,14 +33,15 @@ pub(crate) fn levels_taken(shape: &Shape) -> u32
 // The pointer words of an object of this level.
 pub(crate) fn frame_of(target: &Target, level: u32) -> Option<Frame>
     requires found { (m : List (List ℕ)) × (s w q tag : ℕ) × IsMessage m
-        × FindsObject m s w target.now.pads target.now.segment target.now.start q tag target.now.words target.now.charge target.now.shape }
+        × FindsTargetBy m s w q tag target.now }
     requires level { level < 2 ^ 31 }
-    ensures places { (m : List (List ℕ)) (s w q tag : ℕ) →
-        FindsObject m s w target.now.pads target.now.segment target.now.start q tag target.now.words target.now.charge target.now.shape →
-        option_spots result ≡ object_places q tag target.now.segment target.now.start level }
+    ensures places { let x = target.now in
+        (m : List (List ℕ)) (s w q tag : ℕ) → FindsTargetBy m s w q tag x →
+        option_spots result ≡ object_places q tag x.segment x.start level }
     ensures inside { (m : List (List ℕ)) (s w q tag : ℕ) →
-        FindsObject m s w target.now.pads target.now.segment target.now.start q tag target.now.words target.now.charge target.now.shape → OptionIn m result }
-    ensures rises { (depth : ℕ) → level + levels_of target.now.shape ≤ depth → FrameRises level depth result }
+        FindsTargetBy m s w q tag target.now → OptionIn m result }
+    ensures rises { (depth : ℕ) → level + levels_of target.now.shape ≤ depth →
+        FrameRises level depth result }
 {
     match target.shape {
         Shape::Struct {
@@ -77,7 +78,8 @@ pub(crate) fn frame_of(target: &Target, level: u32) -> Option<Frame>
 // The pointer words of a struct or of a list of pointers, which are in one row.
 pub(crate) fn row_frame(segment: u32, at: u32, left: u32, level: u32) -> Option<Frame>
     ensures places { option_spots result ≡ row_places level segment at left }
-    ensures inside { (m : List (List ℕ)) → segment < length m → at + left ≤ length (segment_of m segment) → OptionIn m result }
+    ensures inside { (m : List (List ℕ)) → segment < length m →
+        at + left ≤ length (segment_of m segment) → OptionIn m result }
     ensures level { LevelIs level result }
 {
     if left == 0 {

@@ -21,11 +21,7 @@ pub(crate) fn near_use<M: Segments>(message: &M, s: u32, w: u32) -> Option<Place
         return Some(Place::NONE);
     }
     let target = near_target(word, s, w, message.len(s))?;
-    Some(Place {
-        segment: s,
-        start: target.start,
-        words: target.words,
-    })
+    Some(Place::of(&target))
 }
 
 /// The same of an object that needs a following, but no landing pad.
@@ -35,11 +31,7 @@ pub(crate) fn structs_use<M: Segments>(message: &M, s: u32, w: u32) -> Option<Pl
     ensures { IfSome result (UsesPlace (M.segments message.now) s w) }
 {
     match follow(message, s, w) {
-        Ok(Followed::Target(target)) if target.pads == 0 => Some(Place {
-            segment: target.segment,
-            start: target.start,
-            words: target.words,
-        }),
+        Ok(Followed::Target(target)) if target.pads == 0 => Some(Place::of(&target)),
         _ => None,
     }
 }

@@ -76,18 +76,18 @@ impl<'m, M: Segments> Vetted<'m, M> {
     /// each pointer on the path but the last. Allocates nothing.
     pub fn get(&self, path: &[Step]) -> Option<Node<'m, M>>
         ensures message { IfSome result (λ n. node_message n ≡ message_of self.now) }
-        ensures some { IfSome result (λ n. (level : ℕ) × Comes (M.segments (message_of self.now)) path.now level (node_spot n)) }
-        ensures none { IfNone result ((level : ℕ) (a : Where) → ¬ Comes (M.segments (message_of self.now)) path.now level a) }
-        ensures node { (t : Tree) (c d : ℕ) → Denotes (M.segments (message_of self.now)) 0 0 t c d →
+        ensures some { let m = M.segments (message_of self.now) in
+            IfSome result (λ n. (level : ℕ) × Comes m path.now level (node_spot n)) }
+        ensures none { let m = M.segments (message_of self.now) in
+            IfNone result ((level : ℕ) (a : Where) → ¬ Comes m path.now level a) }
+        ensures node { let m = M.segments (message_of self.now) in
+            (t : Tree) (c d : ℕ) → Denotes m 0 0 t c d →
             MatchOption result (node_at t path.now ≡ None)
-            (λ n. (u : Tree) × (node_at t path.now ≡ Some u) × DenotesAt (M.segments (message_of self.now)) (node_spot n) u) }
+            (λ n. (u : Tree) × (node_at t path.now ≡ Some u) × DenotesAt m (node_spot n) u) }
     {
         let mut node = self.root();
         for step in path {
-            match node.child(*step) {
-                Some(child) => node = child,
-                None => return None,
-            }
+            node = node.child(*step)?;
         }
         Some(node)
     }

@@ -8,6 +8,7 @@ ghost use Rattle.std.specs.Prelude.{◌+◌, ◌<◌, ◌≡◌, ◌≤◌, ⊤,
 use crate::found::Found;
 use crate::place::Place;
 use cap_frame::{ByteView, Segments};
+use cap_ptr::element_bits;
 use cap_spec::Kind;
 use cap_words::{bits, bytes_of};
 use std::alloc::AllocError;
@@ -17,7 +18,8 @@ pub struct View<'m, M: Segments> {
     pub(crate) message: &'m M,
     pub(crate) found: Found,
     ghost exists: { found.place.segment < length (M.segments message.now) },
-    ghost inside: { found.place.start + found.place.words ≤ length (segment_of (M.segments message.now) found.place.segment) },
+    ghost inside: { found.place.start + found.place.words
+        ≤ length (segment_of (M.segments message.now) found.place.segment) },
     ghost own: { own_words found.kind ≤ found.place.words },
 }
 
@@ -47,16 +49,17 @@ impl<'m, M: Segments> View<'m, M> {
         ensures value { result ≡ view_kind self.now }
         ensures shows { result ≡ kind_of (shown self.now) }
     {
-        let Found { kind, .. } = self.found;
-        kind
+        self.found.kind
     }
 
     /// The words of a struct, an element or a list, the tag and surplus words of a list of structs
     /// included. `None` for null and a capability.
     pub fn place(&self) -> Option<Place>
         ensures value { result ≡ view_place self.now }
-        ensures exists { IfSome result (λ p. p.segment < length (M.segments (view_message self.now))) }
-        ensures inside { IfSome result (λ p. p.start + p.words ≤ length (segment_of (M.segments (view_message self.now)) p.segment)) }
+        ensures exists { let m = M.segments (view_message self.now) in
+            IfSome result (λ p. p.segment < length m) }
+        ensures inside { let m = M.segments (view_message self.now) in
+            IfSome result (λ p. p.start + p.words ≤ length (segment_of m p.segment)) }
     {
         match self.found.kind {
             Kind::Null | Kind::Cap { .. } => None,
@@ -129,7 +132,8 @@ impl<'m, M: Segments> View<'m, M> {
     // A word of its place.
     fn word_at(&self, i: u32) -> u64
         requires { let place = kept_place self.now in i < place.words }
-        ensures { let place = kept_place self.now in HasWord (M.segments (view_message self.now)) place.segment (place.start + i) result }
+        ensures { let m = M.segments (view_message self.now) in let place = kept_place self.now in
+            HasWord m place.segment (place.start + i) result }
     {
         self.message
             .word(self.found.place.segment, self.found.place.start + i)
@@ -138,8 +142,8 @@ impl<'m, M: Segments> View<'m, M> {
     // One of its first `data_words` words.
     fn struct_word(&self, i: u32, data_words: u16) -> Option<u64>
         requires { let place = kept_place self.now in data_words ≤ place.words }
-        ensures { let place = kept_place self.now in
-            result ≡ slice_get (words_from (M.segments (view_message self.now)) place.segment place.start data_words) i }
+        ensures { let m = M.segments (view_message self.now) in let place = kept_place self.now in
+            result ≡ slice_get (words_from m place.segment place.start data_words) i }
     {
         if i >= u32::from(data_words) {
             return None;
@@ -150,10 +154,11 @@ impl<'m, M: Segments> View<'m, M> {
     // A word of its `count` values, which begin at its start.
     fn values_word(&self, i: u32, code: u8, count: u32) -> Option<u64>
         requires { let place = kept_place self.now in list_words code count ≤ place.words }
-        ensures { let place = kept_place self.now in
-            result ≡ slice_get (scalar_words code (values_of (M.segments (view_message self.now)) place.segment place.start code count)) i }
+        ensures { let m = M.segments (view_message self.now) in let place = kept_place self.now in
+            let values = values_of m place.segment place.start code count in
+            result ≡ slice_get (scalar_words code values) i }
     {
-        let end = u64::from(element_size(code)) * u64::from(count);
+        let end = u64::from(element_bits(code)) * u64::from(count);
         let start = u64::from(i) * 64;
         if start >= end {
             return None;
@@ -166,10 +171,10 @@ impl<'m, M: Segments> View<'m, M> {
     fn value(&self, i: u32, code: u8, count: u32) -> u64
         requires within { i < count }
         requires inside { let place = kept_place self.now in list_words code count ≤ place.words }
-        ensures { let place = kept_place self.now in
-            result ≡ value_at (segment_of (M.segments (view_message self.now)) place.segment) place.start (element_bits code) i }
+        ensures { let m = M.segments (view_message self.now) in let place = kept_place self.now in
+            result ≡ value_at (segment_of m place.segment) place.start (element_bits code) i }
     {
-        let size = element_size(code);
+        let size = element_bits(code);
         if size == 0 {
             return 0;
         }
@@ -185,25 +190,12 @@ impl<'m, 'b> View<'m, ByteView<'b>> {
     /// The bytes of the words of its [`place`](View::place), unchanged. A tag, surplus words and
     /// the bits past the last value of a list are included. Empty for null and a capability.
     pub fn bytes(&self) -> &'b [u8]
-        ensures { result.now ≡ bytes_of_place (⟦<ByteView<'b> as Segments>⟧.segments (view_message self.now)) (view_place self.now) }
+        ensures { let m = ⟦<ByteView<'b> as Segments>⟧.segments (view_message self.now) in
+            result.now ≡ bytes_of_place m (view_place self.now) }
     {
         match self.place() {
             Some(place) => self.message.bytes(place.segment, place.start, place.words),
             None => &[],
         }
-    }
-}
-
-// The bits of one value of a list (encoding: Lists).
-fn element_size(code: u8) -> u32
-    ensures { result ≡ element_bits code }
-{
-    match code {
-        0 => 0,
-        1 => 1,
-        2 => 8,
-        3 => 16,
-        4 => 32,
-        _ => 64,
     }
 }

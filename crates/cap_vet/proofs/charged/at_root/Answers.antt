@@ -1,7 +1,8 @@
 use Rattle.std.proofs.Common.{ℕ, ◌<◌, length, arith, inl, inr, rules}
-use Rattle.cap_spec.specs.Messages.{HasWord, segment_of}
+use Rattle.cap_spec.specs.Messages.{HasWord, IsMessage, segment_of}
 use Rattle.cap_spec.proofs.Frames.Messages.{HasWord-at}
 use Rattle.cap_vet.proofs.Charging.{arrives_root, fault_root}
+use Rattle.cap_vet.proofs.Looks.{followed_costs, followed_shallow}
 use Rattle.cap_vet.proofs.Verdicts.{no_root_at}
 use Rattle.cap_vet.proofs.charged.at_root.Goals as goal
 
@@ -14,10 +15,12 @@ returns-then-len-eq0-clause-err g c = λ path.
 pub returns-in-Ok-clause-ok : goal.returns-in-Ok-clause-ok
 returns-in-Ok-clause-ok g c =
     let m = g.M.Segments.segments c.args.message.now in
+    let message : IsMessage m = search rules in
     let some : 0 < length (segment_of m 0) = omega (arith, c.if-len-eq0.false, c.len.ensures) in
     let root : (x : ℕ) × HasWord m 0 0 x = HasWord-at m 0 0 some in
-    let r = c.in-Ok.ensures.ok in
-    arrives_root m _ _ root.0 _ _ root.1 r.0 r.1 r.2 c.in-Ok.ensures.shallow
+    let h = c.in-Ok.ensures.ok in
+    arrives_root m _ _ root.0 _ _ root.1 (c.found_of.ensures m 0 0 message h.followed) (rw c.charge.ensures (followed_costs m 0 0 c.in-Ok.followed h.followed))
+    (omega (arith, c.charge.ensures, h.within)) (followed_shallow m _ 0 0 1 c.in-Ok.followed h.followed h.shallow)
 
 pub returns-in-Err-clause-err : goal.returns-in-Err-clause-err
 returns-in-Err-clause-err g c = λ path.

@@ -1,4 +1,4 @@
-use Rattle.cap_vet.proofs.Founds.{cap_found, null_found, object_found}
+use Rattle.cap_vet.proofs.Founds.{cap_found, null_found}
 use Rattle.cap_vet.proofs.found.found_of.Goals as goal
 
 pub returns-in-Null : goal.returns-in-Null
@@ -8,4 +8,4 @@ pub returns-in-Cap : goal.returns-in-Cap
 returns-in-Cap c = λ m s w h f. cap_found m s w _ _ h (rw c.in-Cap.is at f)
 
 pub returns-in-Target : goal.returns-in-Target
-returns-in-Target c = λ m s w h f. let x = rw c.in-Target.is at f in rw c.kind_of.ensures (object_found m s w _ _ _ x.0 x.1 _ _ _ x.2)
+returns-in-Target c = λ m s w h f. c.object.ensures m s w (rw c.in-Target.is at f)

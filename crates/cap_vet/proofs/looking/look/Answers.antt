@@ -1,46 +1,29 @@
 use Rattle.std.proofs.Common.{arith, ◌≤◌, ◌+◌}
-use Rattle.cap_vet.proofs.Looks.{deep_object, looks_cap, looks_null, looks_object, past_cap, past_null, past_object}
+use Rattle.cap_vet.specs.Levels.{levels_of}
+use Rattle.cap_vet.proofs.Looks.{looks_object}
 use Rattle.cap_vet.proofs.looking.look.Goals as goal
 
-pub returns-then-from-left-clause-err : goal.returns-then-from-left-clause-err
-returns-then-from-left-clause-err g c =
-    let h = rw c.in-Ok-Null.field-0-is at c.in-Ok-Null.ensures.ok in
-    past_null _ _ _ _ _ _ _ _ _ h c.from.ensures (omega (arith, c.if-from-left.true, c.words.ensures.value)) c.requires.spent
+pub returns-in-Null-clause-ok : goal.returns-in-Null-clause-ok
+returns-in-Null-clause-ok g c =
+    let h = rw c.in-Null.is at c.in_ok-follow_within.ensures.ok in
+    (rw c.from-in-Null.ensures h.followed, omega (arith, c.from-in-Null.ensures, c.words.ensures.value, c.requires.spent, h.within))
 
-pub returns-then-from-left-2-clause-err : goal.returns-then-from-left-2-clause-err
-returns-then-from-left-2-clause-err g c =
-    let h = rw c.in-Ok-Cap.field-0-is at c.in-Ok-Cap.ensures.ok in
-    past_cap _ _ _ _ _ _ _ _ _ _ h c.from-in-Ok-Cap.ensures (omega (arith, c.if-from-left-2.true, c.words.ensures.value)) c.requires.spent
+pub returns-in-Cap-clause-ok : goal.returns-in-Cap-clause-ok
+returns-in-Cap-clause-ok g c =
+    let h = rw c.in-Cap.is at c.in_ok-follow_within.ensures.ok in
+    ((_, rw c.from-in-Cap.ensures h.followed), omega (arith, c.from-in-Cap.ensures, c.words.ensures.value, c.requires.spent, h.within))
 
-pub returns-then-deepest-depth-clause-err : goal.returns-then-deepest-depth-clause-err
-returns-then-deepest-depth-clause-err g c =
-    let h = rw c.in-Ok-Target.field-0-is at c.in-Ok-Target.ensures.ok in
-    deep_object _ _ _ _ _ _ _ _ _ _ h.0 h.1 _ _ _ _ h.2 c.levels_taken.ensures.value (omega (arith, c.if-deepest-depth.true, c.depth.ensures.value))
-
-pub returns-then-target-left-clause-err : goal.returns-then-target-left-clause-err
-returns-then-target-left-clause-err g c =
-    let h = rw c.in-Ok-Target.field-0-is at c.in-Ok-Target.ensures.ok in
-    past_object _ _ _ _ _ _ _ _ _ _ h.0 h.1 _ _ _ _ h.2 c.levels_taken.ensures.value (omega (arith, c.if-deepest-depth.false, c.depth.ensures.value)) (omega (arith, c.if-target-left.true, c.words.ensures.value)) c.requires.spent
-
-pub returns-else-from-left-clause-ok : goal.returns-else-from-left-clause-ok
-returns-else-from-left-clause-ok g c =
-    let h = rw c.in-Ok-Null.field-0-is at c.in-Ok-Null.ensures.ok in
-    looks_null _ _ _ _ _ _ _ h c.from-in-Ok-Null.ensures (omega (arith, c.if-from-left.false, c.words.ensures.value, c.from.ensures, c.from-in-Ok-Null.ensures)) c.requires.spent
-
-pub returns-else-from-left-2-clause-ok : goal.returns-else-from-left-2-clause-ok
-returns-else-from-left-2-clause-ok g c =
-    let h = rw c.in-Ok-Cap.field-0-is at c.in-Ok-Cap.ensures.ok in
-    looks_cap _ _ _ _ _ _ _ _ h c.from-in-Ok-Cap-2.ensures (omega (arith, c.if-from-left-2.false, c.words.ensures.value, c.from-in-Ok-Cap.ensures, c.from-in-Ok-Cap-2.ensures)) c.requires.spent
-
-pub returns-else-target-left-clause-ok : goal.returns-else-target-left-clause-ok
-returns-else-target-left-clause-ok g c =
-    let h = rw c.in-Ok-Target.field-0-is at c.in-Ok-Target.ensures.ok in
-    let shallow : c.args.level + c.levels_taken.result ≤ c.depth.result = c.if-deepest-depth.false in (
+pub returns-in-Target-clause-ok : goal.returns-in-Target-clause-ok
+returns-in-Target-clause-ok g c =
+    let h = rw c.in-Target.is at c.in_ok-follow_within.ensures.ok in
+    let f = h.followed in
+    let shallow : c.args.level + levels_of c.in-Target.target.shape ≤ c.depth.result = omega (arith, c.from.ensures, h.shallow) in (
       _,
       _,
       _,
-      h.0,
-      h.1,
-      looks_object _ _ _ _ _ _ _ _ _ _ h.0 h.1 _ _ _ _ c.frame_of.result h.2 c.levels_taken.ensures.value (omega (arith, c.if-deepest-depth.false, c.depth.ensures.value)) (omega (arith, c.if-target-left.false, c.words.ensures.value)) c.requires.spent
-          (c.frame_of.ensures.places _ _ _ h.0 h.1 h.2) (c.frame_of.ensures.inside _ _ _ h.0 h.1 h.2) (c.frame_of.ensures.rises _ (omega (arith, c.levels_taken.ensures.value, c.if-deepest-depth.false, c.depth.ensures.value))),
+      f.0,
+      f.1,
+      looks_object _ _ _ _ _ _ _ f.0 f.1 _ c.in-Target.target c.frame_of.result f.2 c.levels_taken.ensures.value (omega (arith, c.depth.ensures.value, shallow))
+          (omega (arith, c.words.ensures.value, h.within)) c.requires.spent (c.frame_of.ensures.places _ _ _ f.0 f.1 f.2)
+          (c.frame_of.ensures.inside _ _ _ f.0 f.1 f.2) (c.frame_of.ensures.rises _ (omega (arith, c.depth.ensures.value, shallow))),
     )

@@ -15,4 +15,5 @@ pub returns-else-i-count-2-clause-some : goal.returns-else-i-count-2-clause-some
 returns-else-i-count-2-clause-some c = λ m a h. rw (c.from.ensures, c.from-in-Structs.ensures) (element_goes m a _ _ _ _ _ h c.in-Structs.is (omega (arith, c.if-i-count-2.false)))
 
 pub returns-else-i-count-2-clause-inside : goal.returns-else-i-count-2-clause-inside
-returns-else-i-count-2-clause-inside c = λ m a h. rw (c.from.ensures, c.from-in-Structs.ensures) (element_inside m a _ _ _ _ _ h c.in-Structs.is (omega (arith, c.if-i-count-2.false)))
+returns-else-i-count-2-clause-inside c = λ m a h.
+    (h.exists, rw (c.from.ensures, c.from-in-Structs.ensures) (element_inside m a _ _ _ _ _ h c.in-Structs.is (omega (arith, c.if-i-count-2.false))))

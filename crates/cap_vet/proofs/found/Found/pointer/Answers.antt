@@ -3,7 +3,7 @@ use Rattle.cap_vet.proofs.Stepping.{pointer_goes, pointer_of_other}
 use Rattle.cap_vet.proofs.found.Found.pointer.Goals as goal
 
 pub returns-in_default : goal.returns-in_default
-returns-in_default c = record { some = λ m a h. tt; exists = λ m a h. tt; inside = λ m a h. tt; none = λ m a h b g. pointer_of_other m a _ _ b (λ d p e. c.in_default.not-Struct d p e) h g }
+returns-in_default c = record { some = λ m a h. tt; inside = λ m a h. tt; none = λ m a h b g. pointer_of_other m a _ _ b (λ d p e. c.in_default.not-Struct d p e) h g }
 
 pub returns-clause-some : goal.returns-clause-some
 returns-clause-some c = λ m a h. pointer_goes m a _ _ _ _ _ h c.in-Struct.is (omega (arith, c.if-i-pointers.false)) (omega (arith, c.from.ensures, c.from-2.ensures))

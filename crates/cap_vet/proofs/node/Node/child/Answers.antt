@@ -3,8 +3,8 @@ use Rattle.cap_vet.proofs.node.Node.child.Goals as goal
 
 pub invariant_of-child : goal.invariant_of-child
 invariant_of-child g c = record {
-  exists = c.in_ok-next.ensures.exists _ _ c.found.ensures;
-  inside = c.in_ok-next.ensures.inside _ _ c.found.ensures;
+  exists = (c.in_ok-next.ensures.inside _ _ c.found.ensures).0;
+  inside = (c.in_ok-next.ensures.inside _ _ c.found.ensures).1;
   stands = next_node _ _ _ _ c.args.self.now.stands (c.in_ok-next.ensures.some _ _ c.found.ensures);
 }
 
