@@ -1,8 +1,8 @@
 -- What the answer of a following says of a pointer word (standard: Structs, Lists; the charge is the profile's).
-use Rattle.std.specs.Prelude.{ℕ, ◌+◌, ◌^◌, ◌<◌, ◌≡◌, ◌≢◌, List, Result, Ok}
+use Rattle.std.specs.Prelude.{ℕ, ◌+◌, ◌^◌, ◌<◌, ◌≡◌, ◌≢◌, List, Result, Ok, Err}
 use Rattle.cap_spec.specs.Messages.{HasWord}
 use Rattle.cap_spec.specs.Pointers.{kind, middle, code, data_size, pointer_size, list_size, extent}
-use Rattle.cap_spec.specs.Following.{Leads, to_null, to_cap, IsComposite, TagFits, extra}
+use Rattle.cap_spec.specs.Following.{Leads, to_null, to_cap, IsComposite, TagFits, Wrong, extra}
 use Rattle.cap_spec.specs.Denoting.{Finds}
 use Rattle.cap_spec.specs.declared.Reason.{Reason}
 use Rattle.cap_ptr.specs.declared.shapes.Shape.{Shape}
@@ -76,6 +76,11 @@ abbrev pub IsFollowed : List (List ℕ) → ℕ → ℕ → Followed → Type 0
 IsFollowed m s w (followed.Null k) = Leads m s w k to_null
 IsFollowed m s w (followed.Cap k i) = Leads m s w k (to_cap i)
 IsFollowed m s w (followed.Target x) = FindsTarget m s w x
+
+-- the answer says where the pointer word at s:w leads, or the first reason why it can't be followed
+abbrev pub IsAnswer : List (List ℕ) → ℕ → ℕ → Result Followed Reason → Type 0
+IsAnswer m s w (Ok f) = IsFollowed m s w f
+IsAnswer m s w (Err v) = Wrong m s w v
 
 -- what following costs, in words
 abbrev pub charge_of : Followed → ℕ

@@ -1,7 +1,7 @@
 //! Following a pointer word, through its landing pads.
 
 ghost use Rattle.cap_ptr.specs.Reaching.{HasTwoPad, StandsFor};
-ghost use Rattle.cap_ptr.specs.Shapes.{AnswersObject, IsFollowed};
+ghost use Rattle.cap_ptr.specs.Shapes.{AnswersObject, IsAnswer, IsFollowed};
 ghost use Rattle.cap_spec.specs.Denoting.{Finds};
 ghost use Rattle.cap_spec.specs.Following.{IsOnePad, IsTwoPad, Leads, Wrong, to_cap, to_null};
 ghost use Rattle.cap_spec.specs.Messages.{HasWord, segment_of};
@@ -65,8 +65,7 @@ pub fn follow<M: Segments>(message: &M, s: u32, w: u32) -> Result<Followed, Reas
 fn followed<M: Segments>(message: &M, s: u32, w: u32) -> Result<Followed, Reason>
     requires exists { s < length (M.segments message.now) }
     requires inside { w < length (segment_of (M.segments message.now) s) }
-    ensures ok { IfOk result (IsFollowed (M.segments message.now) s w) }
-    ensures err { IfErr result (Wrong (M.segments message.now) s w) }
+    ensures { IsAnswer (M.segments message.now) s w result }
 {
     let word = message.word(s, w);
     // Null comes first: in many lists of pointers nearly every word is null.
@@ -93,10 +92,8 @@ fn resolved<M: Segments>(
 ) -> Result<Followed, Reason>
     requires exists { segment < length (M.segments message.now) }
     requires pads { pads ≤ 2 }
-    ensures ok { let m = M.segments message.now in (s w : ℕ) →
-        StandsFor m s w pads segment place word → IfOk result (IsFollowed m s w) }
-    ensures err { let m = M.segments message.now in (s w : ℕ) →
-        StandsFor m s w pads segment place word → IfErr result (Wrong m s w) }
+    ensures { let m = M.segments message.now in (s w : ℕ) →
+        StandsFor m s w pads segment place word → IsAnswer m s w result }
 {
     match Pointer::of(word) {
         Pointer::Null => Ok(Followed::Null { pads }),
@@ -122,10 +119,8 @@ fn object<M: Segments>(
     requires pads { pads ≤ 2 }
     requires object { kind word < 2 }
     requires not_null { word ≢ 0 }
-    ensures ok { let m = M.segments message.now in (s w : ℕ) →
-        StandsFor m s w pads segment place word → IfOk result (IsFollowed m s w) }
-    ensures err { let m = M.segments message.now in (s w : ℕ) →
-        StandsFor m s w pads segment place word → IfErr result (Wrong m s w) }
+    ensures { let m = M.segments message.now in (s w : ℕ) →
+        StandsFor m s w pads segment place word → IsAnswer m s w result }
 {
     let Some(start) = start_of(place, word) else {
         return Err(Reason::OutOfSegment);
@@ -146,10 +141,8 @@ fn start_of(place: u32, word: u64) -> Option<u64>
 // What a far pointer with a one-word pad leads to.
 fn over_one_pad<M: Segments>(message: &M, word: u64) -> Result<Followed, Reason>
     requires { IsOnePad word }
-    ensures ok { let m = M.segments message.now in (s w : ℕ) →
-        HasWord m s w word → IfOk result (IsFollowed m s w) }
-    ensures err { let m = M.segments message.now in (s w : ℕ) →
-        HasWord m s w word → IfErr result (Wrong m s w) }
+    ensures { let m = M.segments message.now in (s w : ℕ) →
+        HasWord m s w word → IsAnswer m s w result }
 {
     let segment = far_segment(word);
     let start = pad(word);
@@ -165,10 +158,8 @@ fn over_one_pad<M: Segments>(message: &M, word: u64) -> Result<Followed, Reason>
 // What a far pointer with a two-word pad leads to.
 fn over_two_pads<M: Segments>(message: &M, word: u64) -> Result<Followed, Reason>
     requires { IsTwoPad word }
-    ensures ok { let m = M.segments message.now in (s w : ℕ) →
-        HasWord m s w word → IfOk result (IsFollowed m s w) }
-    ensures err { let m = M.segments message.now in (s w : ℕ) →
-        HasWord m s w word → IfErr result (Wrong m s w) }
+    ensures { let m = M.segments message.now in (s w : ℕ) →
+        HasWord m s w word → IsAnswer m s w result }
 {
     let segment = far_segment(word);
     let start = pad(word);
@@ -184,10 +175,8 @@ fn over_two_pads<M: Segments>(message: &M, word: u64) -> Result<Followed, Reason
 
 // The content that the two words of a pad lead to: a far pointer to it, and a tag.
 fn content<M: Segments>(message: &M, far: u64, tag: u64) -> Result<Followed, Reason>
-    ensures ok { let m = M.segments message.now in (s w p : ℕ) →
-        HasTwoPad m s w p far tag → IfOk result (IsFollowed m s w) }
-    ensures err { let m = M.segments message.now in (s w p : ℕ) →
-        HasTwoPad m s w p far tag → IfErr result (Wrong m s w) }
+    ensures { let m = M.segments message.now in (s w p : ℕ) →
+        HasTwoPad m s w p far tag → IsAnswer m s w result }
 {
     if kind(far) != 2 || two(far) != 0 {
         return Err(Reason::PadNotFar);

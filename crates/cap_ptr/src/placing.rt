@@ -1,11 +1,11 @@
 //! Whether an object lies inside its segment, and what it is charged.
 
 ghost use Rattle.cap_ptr.specs.Reaching.{LeadsTo};
-ghost use Rattle.cap_ptr.specs.Shapes.{IsFollowed, IsPlain};
-ghost use Rattle.cap_spec.specs.Following.{Wrong, extra, IsComposite};
+ghost use Rattle.cap_ptr.specs.Shapes.{IsAnswer, IsPlain};
+ghost use Rattle.cap_spec.specs.Following.{extra, IsComposite};
 ghost use Rattle.cap_spec.specs.Messages.{segment_of};
 ghost use Rattle.cap_spec.specs.Pointers.{data_size, extent, kind, middle, pointer_size};
-ghost use Rattle.std.specs.Prelude.{◌+◌, ◌*◌, ◌<◌, ◌^◌, ◌≡◌, ◌≤◌, ◌↔◌, ◌==◌, if◌then◌else◌, IfErr, IfOk, IsTrue, MatchBool, length, ℕ};
+ghost use Rattle.std.specs.Prelude.{◌+◌, ◌*◌, ◌<◌, ◌^◌, ◌≡◌, ◌≤◌, ◌↔◌, ◌==◌, if◌then◌else◌, IsTrue, MatchBool, length, ℕ};
 
 use crate::fields::{code, data_size, kind, list_size, middle, pointer_size};
 use crate::shapes::{Followed, Shape, Target};
@@ -26,10 +26,8 @@ pub(crate) fn target_at<M: Segments>(
     requires object { kind word < 2 }
     requires pads { pads ≤ 2 }
     requires near { start < 2 ^ 33 }
-    ensures ok { let m = M.segments message.now in (s w : ℕ) →
-        LeadsTo m s w pads segment start word → IfOk result (IsFollowed m s w) }
-    ensures err { let m = M.segments message.now in (s w : ℕ) →
-        LeadsTo m s w pads segment start word → IfErr result (Wrong m s w) }
+    ensures { let m = M.segments message.now in (s w : ℕ) →
+        LeadsTo m s w pads segment start word → IsAnswer m s w result }
 {
     let words = extent(word);
     if start + u64::from(words) > u64::from(message.len(segment)) {
@@ -62,10 +60,8 @@ fn composite<M: Segments>(
     requires composite { IsComposite word }
     requires inside { start + extent word ≤ length (segment_of (M.segments message.now) segment) }
     requires pads { pads ≤ 2 }
-    ensures ok { let m = M.segments message.now in (s w : ℕ) →
-        LeadsTo m s w pads segment start word → IfOk result (IsFollowed m s w) }
-    ensures err { let m = M.segments message.now in (s w : ℕ) →
-        LeadsTo m s w pads segment start word → IfErr result (Wrong m s w) }
+    ensures { let m = M.segments message.now in (s w : ℕ) →
+        LeadsTo m s w pads segment start word → IsAnswer m s w result }
 {
     let words = list_size(word);
     let tag = message.word(segment, start);

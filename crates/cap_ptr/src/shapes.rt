@@ -81,8 +81,8 @@ impl Followed {
     pub fn charge(&self) -> u64
         ensures { result ≡ charge_of self.now }
     {
-        match self {
-            Followed::Null { pads } | Followed::Cap { pads, .. } => u64::from(*pads),
+        match *self {
+            Followed::Null { pads } | Followed::Cap { pads, .. } => u64::from(pads),
             Followed::Target(target) => target.charge,
         }
     }

@@ -7,7 +7,7 @@ use Rattle.cap_spec.specs.Paths.{Goes, Spot, word, element}
 use Rattle.cap_spec.specs.declared.Kind.{Kind}
 use Rattle.cap_spec.specs.declared.Kind.TheVariants.{Null, Cap, Struct, Scalars, Pointers, Structs}
 use Rattle.cap_spec.specs.declared.Step.TheVariants.{Ptr, Item}
-use Rattle.cap_spec.proofs.Trees.Charges.{extent_structs}
+use Rattle.cap_spec.proofs.Trees.Charges.{extent_pointers, extent_structs}
 use Rattle.cap_spec.proofs.Trees.Finding.{SameObject, one_object}
 use Rattle.cap_spec.proofs.Frames.Messages.{one_word}
 use Rattle.cap_spec.specs.Arriving.{StandsAs, StandsElement}
@@ -57,6 +57,14 @@ entry_goes m (word s w) f n i x h e lt ex =
     let y = as_kind m (word s w) f (Pointers n) h e in
     inl (y.0, f.place.segment, f.place.start, y.1, y.2.finds, y.2.kind, y.2.code, omega (arith, lt, y.2.count), ap (word f.place.segment) ex)
 entry_goes m (element t' b' ds ps) f n i x h e lt ex = absurd (as_kind m (element t' b' ds ps) f (Pointers n) h e)
+
+-- which lie inside their segment
+pub entry_inside : (m : List (List ℕ)) (a : Spot) (f : Found) (n i : ℕ) → IsFound m a f → f.kind ≡ Pointers n → i < n
+    → f.place.start + i + 1 ≤ length (segment_of m f.place.segment)
+entry_inside m (word s w) f n i h e lt =
+    let y = as_kind m (word s w) f (Pointers n) h e in
+    omega (arith, lt, y.2.count, y.2.words, extent_pointers y.1 y.2.kind y.2.code, h.inside)
+entry_inside m (element t' b' ds ps) f n i h e lt = absurd (as_kind m (element t' b' ds ps) f (Pointers n) h e)
 
 pub entry_past : (m : List (List ℕ)) (a : Spot) (f : Found) (n i : ℕ) (b : Spot) → IsFound m a f → f.kind ≡ Pointers n → n ≤ i → Goes m a (Item i) b → ⊥
 entry_past m (word s w) f n i b h e past (inl g) =

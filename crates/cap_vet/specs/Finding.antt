@@ -1,14 +1,17 @@
 -- What was found at a spot (profile).
-use Rattle.std.specs.Prelude.{ℕ, ◌+◌, ◌<◌, ◌≤◌, List, length}
+use Rattle.std.specs.Prelude.{ℕ, ◌+◌, ◌<◌, ◌≤◌, List, length, Option, None, Some}
 use Rattle.cap_spec.specs.Messages.{segment_of}
 use Rattle.cap_spec.specs.Pointers.{list_words}
 use Rattle.cap_spec.specs.Arriving.{StandsAs}
-use Rattle.cap_spec.specs.Paths.{Spot}
+use Rattle.cap_spec.specs.Paths.{Goes, Spot}
 use Rattle.cap_spec.specs.declared.Kind.{Kind}
 use Rattle.cap_spec.specs.declared.Kind.TheVariants.{Struct, Scalars, Pointers, Structs}
+use Rattle.cap_spec.specs.declared.Step.{Step}
 use Rattle.cap_ptr.specs.declared.shapes.Shape.{Shape}
 use Rattle.cap_ptr.specs.declared.shapes.Shape.TheVariants as shape
+use Rattle.cap_vet.specs.Spots.{SpotIn, spot_of}
 use Rattle.cap_vet.specs.declared.found.Found.{Found}
+use Rattle.cap_vet.specs.declared.spot.Spot.{Spot as Kept}
 
 -- the kind of an object
 abbrev pub kind_of_shape : Shape → Kind
@@ -34,3 +37,8 @@ pub record IsFound (m : List (List ℕ)) (a : Spot) (f : Found) : Type 0 where
   pub exists : f.place.segment < length m
   pub inside : f.place.start + f.place.words ≤ length (segment_of m f.place.segment)
   pub own : own_words f.kind ≤ f.place.words
+
+-- the answer says where a step leads from what was found
+abbrev pub IsStep : Found → Step → Option Kept → Type 0
+IsStep f step None = (m : List (List ℕ)) (a : Spot) → IsFound m a f → (b : Spot) → ¬ Goes m a step b
+IsStep f step (Some b) = (m : List (List ℕ)) (a : Spot) → IsFound m a f → Goes m a step (spot_of b) × SpotIn m b

@@ -1,10 +1,10 @@
 //! Getters of messages that weren't vetted.
 
 ghost use Rattle.cap_spec.specs.Arriving.{ArrivesAt};
-ghost use Rattle.cap_spec.specs.Faults.{AreShallow, IsDeepAt, IsFirstReason};
+ghost use Rattle.cap_spec.specs.Faults.{AreShallow};
 ghost use Rattle.cap_spec.specs.Getting.{AreOnPath, Charges, IsFaultOnPath, IsRefusedOnPath};
-ghost use Rattle.cap_spec.specs.Messages.{IsMessage, segment_of};
-ghost use Rattle.cap_spec.specs.Paths.{Costs, Goes, Spot as Where, word, word as word_at};
+ghost use Rattle.cap_spec.specs.Messages.{segment_of};
+ghost use Rattle.cap_spec.specs.Paths.{Goes, Spot as Where, word};
 ghost use Rattle.cap_spec.specs.Verdicts.{CostOf};
 ghost use Rattle.cap_spec.specs.declared.Kind.{Kind};
 ghost use Rattle.cap_spec.specs.declared.Step.{Step};
@@ -99,8 +99,23 @@ impl Arrival {
         match self.found.step(step) {
             None => Ok(None),
             Some(Spot::Word { segment, word }) => {
-                let next = self.to_word(message, words, depth, segment, word)?;
-                Ok(Some(next))
+                let left = words - self.spent;
+                let level = self.level + 1;
+                let pointers = self.pointers + 1;
+                match follow_within(message, left, depth, segment, word, level) {
+                    Ok(followed) => Ok(Some(Arrival {
+                        found: found_of(followed),
+                        level,
+                        spent: self.spent + followed.charge(),
+                        pointers,
+                    })),
+                    Err(reason) => Err(Refusal {
+                        segment,
+                        word,
+                        reason,
+                        pointers,
+                    }),
+                }
             }
             Some(
                 Spot::Element {
@@ -115,49 +130,6 @@ impl Arrival {
                 spent: self.spent,
                 pointers: self.pointers,
             })),
-        }
-    }
-
-    // One step on to a pointer word.
-    fn to_word<M: Segments>(
-        &self,
-        message: &M,
-        words: u64,
-        depth: u32,
-        segment: u32,
-        word: u32,
-    ) -> Result<Arrival, Refusal>
-        requires exists { segment < length (M.segments message.now) }
-        requires inside { word < length (segment_of (M.segments message.now) segment) }
-        requires within { self.now.spent ≤ words }
-        requires levels { self.now.level < 2 ^ 61 }
-        requires few { self.now.pointers < 2 ^ 61 }
-        ensures ok { let m = M.segments message.now in
-            (path : List Step) (a : Where) (step : Step) →
-            Arrives m words depth path a self.now → Goes m a step (word_at segment word) →
-            IfOk result (Arrives m words depth (path ++ step ∷ []) (word_at segment word)) }
-        ensures level { IfOk result (λ next. next.level ≡ self.now.level + 1) }
-        ensures pointers { IfOk result (λ next. next.pointers ≡ self.now.pointers + 1) }
-        ensures err { let m = M.segments message.now in
-            (path : List Step) (a : Where) (step : Step) →
-            Arrives m words depth path a self.now → Goes m a step (word_at segment word) →
-            IfErr result (IsFaultOnPath m words depth (path ++ step ∷ [])) }
-    {
-        let level = self.level + 1;
-        let pointers = self.pointers + 1;
-        match follow_within(message, words - self.spent, depth, segment, word, level) {
-            Ok(followed) => Ok(Arrival {
-                found: found_of(followed),
-                level,
-                spent: self.spent + followed.charge(),
-                pointers,
-            }),
-            Err(reason) => Err(Refusal {
-                segment,
-                word,
-                reason,
-                pointers,
-            }),
         }
     }
 }

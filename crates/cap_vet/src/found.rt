@@ -3,11 +3,10 @@
 ghost use Rattle.cap_ptr.specs.Shapes.{FindsTarget, IsFollowed};
 ghost use Rattle.cap_spec.specs.Following.{Wrong};
 ghost use Rattle.cap_spec.specs.Messages.{IsMessage, segment_of};
-ghost use Rattle.cap_spec.specs.Paths.{Goes, Spot as Where, word};
+ghost use Rattle.cap_spec.specs.Paths.{Spot as Where, word};
 ghost use Rattle.cap_spec.specs.declared.Reason.{Reason};
-ghost use Rattle.cap_vet.specs.Finding.{IsFound, element_of, kind_of_shape};
-ghost use Rattle.cap_vet.specs.Spots.{SpotIn, spot_of};
-ghost use Rattle.std.specs.Prelude.{◌<◌, ◌≡◌, IfNone, IfSome, List, length, ℕ};
+ghost use Rattle.cap_vet.specs.Finding.{IsFound, IsStep, element_of, kind_of_shape};
+ghost use Rattle.std.specs.Prelude.{◌<◌, ◌≡◌, List, length, ℕ};
 
 use crate::place::Place;
 use crate::spot::Spot;
@@ -53,12 +52,7 @@ impl Found {
     /// Where a step leads from there.
     pub(crate) fn step(&self, step: Step) -> Option<Spot>
         requires { (m : List (List ℕ)) × (a : Where) × IsMessage m × IsFound m a self.now }
-        ensures some { (m : List (List ℕ)) (a : Where) → IsFound m a self.now →
-            IfSome result (λ b. Goes m a step (spot_of b)) }
-        ensures inside { (m : List (List ℕ)) (a : Where) → IsFound m a self.now →
-            IfSome result (SpotIn m) }
-        ensures none { (m : List (List ℕ)) (a : Where) → IsFound m a self.now →
-            IfNone result ((b : Where) → ¬ Goes m a step b) }
+        ensures { IsStep self.now step result }
     {
         match step {
             Step::Ptr(i) => self.pointer(i),
@@ -69,12 +63,7 @@ impl Found {
     // The pointer of a struct.
     fn pointer(&self, i: u16) -> Option<Spot>
         requires { (m : List (List ℕ)) × (a : Where) × IsMessage m × IsFound m a self.now }
-        ensures some { (m : List (List ℕ)) (a : Where) → IsFound m a self.now →
-            IfSome result (λ b. Goes m a (Step.Ptr i) (spot_of b)) }
-        ensures inside { (m : List (List ℕ)) (a : Where) → IsFound m a self.now →
-            IfSome result (SpotIn m) }
-        ensures none { (m : List (List ℕ)) (a : Where) → IsFound m a self.now →
-            IfNone result ((b : Where) → ¬ Goes m a (Step.Ptr i) b) }
+        ensures { IsStep self.now (Step.Ptr i) result }
     {
         let Kind::Struct {
             data_words,
@@ -95,12 +84,7 @@ impl Found {
     // The element of a list of pointers or of structs.
     fn item(&self, i: u32) -> Option<Spot>
         requires { (m : List (List ℕ)) × (a : Where) × IsMessage m × IsFound m a self.now }
-        ensures some { (m : List (List ℕ)) (a : Where) → IsFound m a self.now →
-            IfSome result (λ b. Goes m a (Step.Item i) (spot_of b)) }
-        ensures inside { (m : List (List ℕ)) (a : Where) → IsFound m a self.now →
-            IfSome result (SpotIn m) }
-        ensures none { (m : List (List ℕ)) (a : Where) → IsFound m a self.now →
-            IfNone result ((b : Where) → ¬ Goes m a (Step.Item i) b) }
+        ensures { IsStep self.now (Step.Item i) result }
     {
         match self.kind {
             Kind::Pointers { count } => {
