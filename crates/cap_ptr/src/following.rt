@@ -9,7 +9,7 @@ ghost use Rattle.cap_spec.specs.Pointers.{kind};
 ghost use Rattle.cap_spec.specs.Words.{signed_offset_of};
 ghost use Rattle.cap_spec.specs.declared.Reason.{Reason};
 ghost use Rattle.cap_ptr.specs.declared.shapes.Target.{Target};
-ghost use Rattle.std.specs.Prelude.{◌+◌, ◌^◌, ◌<◌, ◌≡◌, ◌≢◌, ◌≤◌, ◌+ℤ◌, ◌<ℤ◌, pos, IfErr, IfNone, IfOk, IfSome, length, ℕ};
+ghost use Rattle.std.specs.Prelude.{◌+◌, ◌^◌, ◌<◌, ◌≡◌, ◌≢◌, ◌≤◌, ◌+ℤ◌, ◌<ℤ◌, ◌↔◌, pos, IfErr, IfNone, IfOk, IfSome, IsTrue, length, ℕ};
 
 use crate::fields::{far_segment, kind, middle, pad, two};
 use crate::forms::Pointer;
@@ -178,7 +178,7 @@ fn content<M: Segments>(message: &M, far: u64, tag: u64) -> Result<Followed, Rea
     ensures { let m = M.segments message.now in (s w p : ℕ) →
         HasTwoPad m s w p far tag → IsAnswer m s w result }
 {
-    if kind(far) != 2 || two(far) != 0 {
+    if !is_one_pad(far) {
         return Err(Reason::PadNotFar);
     }
     let segment = far_segment(far);
@@ -192,4 +192,11 @@ fn content<M: Segments>(message: &M, far: u64, tag: u64) -> Result<Followed, Rea
         return Err(Reason::TagOffset);
     }
     target_at(message, 2, segment, u64::from(pad(far)), tag)
+}
+
+// A word is a far pointer with a one-word pad.
+fn is_one_pad(word: u64) -> bool
+    ensures { IsTrue result ↔ IsOnePad word }
+{
+    kind(word) == 2 && two(word) == 0
 }

@@ -3,7 +3,6 @@
 ghost use Rattle.cap_spec.specs.Arriving.{ArrivesAt};
 ghost use Rattle.cap_spec.specs.Faults.{AreShallow};
 ghost use Rattle.cap_spec.specs.Getting.{AreOnPath, Charges, IsFaultOnPath, IsRefusedOnPath};
-ghost use Rattle.cap_spec.specs.Messages.{segment_of};
 ghost use Rattle.cap_spec.specs.Paths.{Goes, Spot as Where, word};
 ghost use Rattle.cap_spec.specs.Verdicts.{CostOf};
 ghost use Rattle.cap_spec.specs.declared.Kind.{Kind};

@@ -1,4 +1,4 @@
-use Rattle.std.proofs.Common.{arith, refl}
+use Rattle.std.proofs.Common.{arith}
 use Rattle.cap_ptr.proofs.NearObjects.{pointers-plain, row_found}
 use Rattle.cap_ptr.proofs.near.near_row.Goals as goal
 

@@ -1,5 +1,5 @@
-use Rattle.std.proofs.Common.{◌∙◌, ◌≤◌, ◌<◌, ◌*◌, ◌+◌, sym, refl, arith}
-use Rattle.cap_spec.specs.Pointers.{data_size, list_size, middle, pointer_size}
+use Rattle.std.proofs.Common.{◌∙◌, ◌<◌, ◌*◌, ◌+◌, sym, refl, arith}
+use Rattle.cap_spec.specs.Pointers.{data_size, middle, pointer_size}
 use Rattle.cap_spec.proofs.Pointers.Following.{wrong-composite_tag, wrong-overrun}
 use Rattle.cap_ptr.proofs.Objects.{found-structs}
 use Rattle.cap_ptr.proofs.placing.composite.Goals as goal
