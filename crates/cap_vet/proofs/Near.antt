@@ -1,5 +1,5 @@
 -- What a walk needs to know of an object that its pointer word alone describes.
-use Rattle.std.proofs.Common.{◌≡◌, ℕ, ◌+◌, ◌-◌, ◌≤◌, ◌==◌, false, inl, inr, List, length, refl, ◌∙◌, sym, arith, Option, None, Some}
+use Rattle.std.proofs.Common.{◌≡◌, ℕ, ◌+◌, ◌-◌, ◌<◌, ◌≤◌, ◌==◌, false, inl, inr, List, length, refl, ◌∙◌, sym, arith, Option, None, Some}
 use Rattle.std.proofs.lemmas.Bool.{ne_eqb}
 use Rattle.cap_spec.specs.Messages.{segment_of}
 use Rattle.cap_spec.specs.Pointers.{code, data_size, extent, kind, list_size, pointer_size}

@@ -175,14 +175,18 @@ pub fn get_charged<'m, M: Segments>(
         IsRefusedOnPath m (left_of budget.old) depth path.now refusal → result ≡ Err refusal }
 {
     let words = budget.words;
-    let mut at = at_root(message, words, depth)?;
+    let mut at = match at_root(message, words, depth) {
+        Ok(root) => root,
+        Err(refusal) => return Err(refusal),
+    };
     for step in path {
-        match at.step(message, words, depth, *step)? {
-            Some(next) => at = next,
-            None => {
+        match at.step(message, words, depth, *step) {
+            Ok(Some(next)) => at = next,
+            Ok(None) => {
                 budget.words = words - at.spent;
                 return Ok(None);
             }
+            Err(fault) => return Err(fault),
         }
     }
     budget.words = words - at.spent;

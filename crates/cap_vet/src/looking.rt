@@ -83,7 +83,8 @@ pub(crate) fn look<M: Segments>(
         IfErr result (IsFirstReason m (words_of limits.now) (depth_of limits.now) spent s w level) }
 {
     let left = limits.words() - spent;
-    match follow_within(message, left, limits.depth(), s, w, u64::from(level))? {
+    let followed = follow_within(message, left, limits.depth(), s, w, u64::from(level))?;
+    match followed {
         Followed::Null { pads } => Ok(Looked::Null(u64::from(pads))),
         Followed::Cap { pads, .. } => Ok(Looked::Cap(u64::from(pads))),
         Followed::Target(target) => {

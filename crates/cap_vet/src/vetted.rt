@@ -87,7 +87,10 @@ impl<'m, M: Segments> Vetted<'m, M> {
     {
         let mut node = self.root();
         for step in path {
-            node = node.child(*step)?;
+            match node.child(*step) {
+                Some(child) => node = child,
+                None => return None,
+            }
         }
         Some(node)
     }

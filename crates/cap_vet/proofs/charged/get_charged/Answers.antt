@@ -10,40 +10,40 @@ use Rattle.cap_vet.specs.Charging.{Arrives}
 use Rattle.cap_vet.proofs.Charging.{arrives_nowhere, charges_nowhere, fault_longer}
 use Rattle.cap_vet.proofs.charged.get_charged.Goals as goal
 
-pub returns-in_err-at-clause-accepts : goal.returns-in_err-at-clause-accepts
-returns-in_err-at-clause-accepts g c = λ ways cost on some costs shallow within.
-    absurd (path_not_refused _ _ _ c.args.path.now ways cost c.in_err-at.field-0 on some costs shallow within (c.in_err-at.ensures.err c.args.path.now))
+pub returns-in-Err-clause-accepts : goal.returns-in-Err-clause-accepts
+returns-in-Err-clause-accepts g c = λ ways cost on some costs shallow within.
+    absurd (path_not_refused _ _ _ c.args.path.now ways cost c.in-Err.refusal on some costs shallow within (c.in-Err.ensures.err c.args.path.now))
 
-pub returns-in_err-at-clause-refuses : goal.returns-in_err-at-clause-refuses
-returns-in_err-at-clause-refuses g c = λ r refused. ap Err (one_path_refusal _ _ _ c.args.path.now c.in_err-at.field-0 r (c.in_err-at.ensures.err c.args.path.now) refused)
+pub returns-in-Err-clause-refuses : goal.returns-in-Err-clause-refuses
+returns-in-Err-clause-refuses g c = λ r refused. ap Err (one_path_refusal _ _ _ c.args.path.now c.in-Err.refusal r (c.in-Err.ensures.err c.args.path.now) refused)
 
-pub returns-in-None-clause-ok : goal.returns-in-None-clause-ok
-returns-in-None-clause-ok g c =
+pub returns-in-Ok-None-clause-ok : goal.returns-in-Ok-None-clause-ok
+returns-in-Ok-None-clause-ok g c =
     let m = g.M.Segments.segments c.args.message.now in
     let path = c.args.path.now in
     let i = c.loop-step.step-index in
     let lt : i < length path = omega (arith, c.loop-step-test.true) in
     let h = c.loop-step.invariant.arrived in
-    let none = rw c.in-None.is at (c.in_ok-step.ensures.none (take i path) h.0 h.1) in
+    let none = rw c.in-Ok-None.field-0-is at (c.in-Ok-None.ensures.none (take i path) h.0 h.1) in
     charges_nowhere m _ _ (take i path) (drop (suc i) path) path (get_or path i (Ptr 0)) h.0 c.loop-step.at (sym (split_at path i (Ptr 0) lt)) h.1 none
 
-pub returns-in-None-clause-refuses : goal.returns-in-None-clause-refuses
-returns-in-None-clause-refuses g c = λ r refused.
-    (let k = returns-in-None-clause-ok g c in
+pub returns-in-Ok-None-clause-refuses : goal.returns-in-Ok-None-clause-refuses
+returns-in-Ok-None-clause-refuses g c = λ r refused.
+    (let k = returns-in-Ok-None-clause-ok g c in
     absurd (path_not_refused _ _ _ c.args.path.now k.ways k.cost r k.on_path k.some k.costs k.shallow (omega (arith, k.spent)) refused))
 
-pub returns-in-None-clause-none : goal.returns-in-None-clause-none
-returns-in-None-clause-none g c =
+pub returns-in-Ok-None-clause-none : goal.returns-in-Ok-None-clause-none
+returns-in-Ok-None-clause-none g c =
     let m = g.M.Segments.segments c.args.message.now in
     let path = c.args.path.now in
     let i = c.loop-step.step-index in
     let lt : i < length path = omega (arith, c.loop-step-test.true) in
     let h = c.loop-step.invariant.arrived in
-    let none = rw c.in-None.is at (c.in_ok-step.ensures.none (take i path) h.0 h.1) in
+    let none = rw c.in-Ok-None.field-0-is at (c.in-Ok-None.ensures.none (take i path) h.0 h.1) in
     arrives_nowhere m _ _ (take i path) (drop (suc i) path) path (get_or path i (Ptr 0)) h.0 c.loop-step.at (split_at path i (Ptr 0) lt) h.1 none
 
-pub returns-in_err-step-clause-err : goal.returns-in_err-step-clause-err
-returns-in_err-step-clause-err g c =
+pub returns-in-Err-step-clause-err : goal.returns-in-Err-step-clause-err
+returns-in-Err-step-clause-err g c =
     let m = g.M.Segments.segments c.args.message.now in
     let path = c.args.path.now in
     let i = c.loop-step.step-index in
@@ -51,14 +51,14 @@ returns-in_err-step-clause-err g c =
     let lt : i < length path = omega (arith, c.loop-step-test.true) in
     let h = c.loop-step.invariant.arrived in
     let whole : (take i path ++ step ∷ []) ++ drop (suc i) path ≡ path = append_assoc (take i path) (step ∷ []) (drop (suc i) path) ∙ sym (split_at path i (Ptr 0) lt) in
-    inr (fault_longer m _ _ (take i path ++ step ∷ []) (drop (suc i) path) path c.in_err-step.field-0 whole (c.in_err-step.ensures.err (take i path) h.0 h.1))
+    inr (fault_longer m _ _ (take i path ++ step ∷ []) (drop (suc i) path) path c.in-Err-step.fault whole (c.in-Err-step.ensures.err (take i path) h.0 h.1))
 
-pub returns-in_err-step-clause-accepts : goal.returns-in_err-step-clause-accepts
-returns-in_err-step-clause-accepts g c = λ ways cost on some costs shallow within.
-    absurd (path_not_refused _ _ _ c.args.path.now ways cost c.in_err-step.field-0 on some costs shallow within (returns-in_err-step-clause-err g c))
+pub returns-in-Err-step-clause-accepts : goal.returns-in-Err-step-clause-accepts
+returns-in-Err-step-clause-accepts g c = λ ways cost on some costs shallow within.
+    absurd (path_not_refused _ _ _ c.args.path.now ways cost c.in-Err-step.fault on some costs shallow within (returns-in-Err-step-clause-err g c))
 
-pub returns-in_err-step-clause-refuses : goal.returns-in_err-step-clause-refuses
-returns-in_err-step-clause-refuses g c = λ r refused. ap Err (one_path_refusal _ _ _ c.args.path.now c.in_err-step.field-0 r (returns-in_err-step-clause-err g c) refused)
+pub returns-in-Err-step-clause-refuses : goal.returns-in-Err-step-clause-refuses
+returns-in-Err-step-clause-refuses g c = λ r refused. ap Err (one_path_refusal _ _ _ c.args.path.now c.in-Err-step.fault r (returns-in-Err-step-clause-err g c) refused)
 
 pub loop-step-preserved : goal.loop-step-preserved
 loop-step-preserved g c =
@@ -67,10 +67,10 @@ loop-step-preserved g c =
     let i = c.loop-step.step-index in
     let lt : i < length path = omega (arith, c.loop-step-test.true) in
     let h = c.loop-step.invariant.arrived in
-    let next = c.in-Some.next in
-    let r = rw c.in-Some.is at (c.in_ok-step.ensures.some (take i path) h.0 h.1) in
-    let level = rw c.in-Some.is at c.in_ok-step.ensures.level in
-    let pointers = rw c.in-Some.is at c.in_ok-step.ensures.pointers in
+    let next = c.in-Ok-Some.next in
+    let r = rw c.in-Ok-Some.field-0-is at (c.in-Ok-Some.ensures.some (take i path) h.0 h.1) in
+    let level = rw c.in-Ok-Some.field-0-is at c.in-Ok-Some.ensures.level in
+    let pointers = rw c.in-Ok-Some.field-0-is at c.in-Ok-Some.ensures.pointers in
     record {
       arrived = (r.0, subst (λ u. Arrives m c.args.budget.now.words c.args.depth u r.0 next) (sym (take_more path i (Ptr 0) lt)) r.1);
       levels = omega (arith, level, c.loop-step.invariant.levels);
@@ -97,17 +97,17 @@ returns-clause-refuses g c = λ r refused.
     let on : AreOnPath m path h.1.ways = subst (λ u. AreOnPath m u h.1.ways) whole h.1.on_path in
     absurd (path_not_refused m _ _ path h.1.ways c.loop-step.at.spent r on h.1.some h.1.costs h.1.shallow h.1.within refused))
 
-pub returns-in_err-at-clause-ok : goal.returns-in_err-at-clause-ok
-returns-in_err-at-clause-ok g c = tt
+pub returns-in-Err-clause-ok : goal.returns-in-Err-clause-ok
+returns-in-Err-clause-ok g c = tt
 
-pub returns-in_err-at-clause-none : goal.returns-in_err-at-clause-none
-returns-in_err-at-clause-none g c = tt
+pub returns-in-Err-clause-none : goal.returns-in-Err-clause-none
+returns-in-Err-clause-none g c = tt
 
-pub returns-in_err-at-clause-err : goal.returns-in_err-at-clause-err
-returns-in_err-at-clause-err g c = c.in_err-at.ensures.err c.args.path.now
+pub returns-in-Err-clause-err : goal.returns-in-Err-clause-err
+returns-in-Err-clause-err g c = c.in-Err.ensures.err c.args.path.now
 
-pub returns-in_err-step-clause-unchanged : goal.returns-in_err-step-clause-unchanged
-returns-in_err-step-clause-unchanged g c = c.loop-step.invariant.kept
+pub returns-in-Err-step-clause-unchanged : goal.returns-in-Err-step-clause-unchanged
+returns-in-Err-step-clause-unchanged g c = c.loop-step.invariant.kept
 
 pub returns-clause-none : goal.returns-clause-none
 returns-clause-none g c = tt

@@ -1,21 +1,22 @@
-use Rattle.std.proofs.Common.{arith, ◌≤◌, ◌+◌}
+use Rattle.std.proofs.Common.{arith, sym, ◌≤◌, ◌+◌}
 use Rattle.cap_vet.specs.Levels.{levels_of}
 use Rattle.cap_vet.proofs.Looks.{looks_object}
 use Rattle.cap_vet.proofs.looking.look.Goals as goal
 
 pub returns-in-Null-clause-ok : goal.returns-in-Null-clause-ok
 returns-in-Null-clause-ok g c =
-    let h = rw c.in-Null.is at c.in_ok-follow_within.ensures.ok in
+    let h = rw c.in-Null.is at c.in_ok-followed.ensures.ok in
     (rw c.from-in-Null.ensures h.followed, omega (arith, c.from-in-Null.ensures, c.words.ensures.value, c.requires.spent, h.within))
 
 pub returns-in-Cap-clause-ok : goal.returns-in-Cap-clause-ok
 returns-in-Cap-clause-ok g c =
-    let h = rw c.in-Cap.is at c.in_ok-follow_within.ensures.ok in
-    ((_, rw c.from-in-Cap.ensures h.followed), omega (arith, c.from-in-Cap.ensures, c.words.ensures.value, c.requires.spent, h.within))
+    let h = rw c.in-Cap.is at c.in_ok-followed.ensures.ok in
+    let lead = rw (sym c.from-in-Cap.ensures) at h.followed in
+    ((_, lead), omega (arith, c.from-in-Cap.ensures, c.words.ensures.value, c.requires.spent, h.within))
 
 pub returns-in-Target-clause-ok : goal.returns-in-Target-clause-ok
 returns-in-Target-clause-ok g c =
-    let h = rw c.in-Target.is at c.in_ok-follow_within.ensures.ok in
+    let h = rw c.in-Target.is at c.in_ok-followed.ensures.ok in
     let f = h.followed in
     let shallow : c.args.level + levels_of c.in-Target.target.shape ≤ c.depth.result = omega (arith, c.from.ensures, h.shallow) in (
       _,
