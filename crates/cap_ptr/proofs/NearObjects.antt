@@ -4,7 +4,7 @@ use Rattle.std.proofs.lemmas.Bool.{lt-ltb, ne_eqb}
 use Rattle.std.proofs.lemmas.Bool.Decides.{eqb_tells}
 use Rattle.cap_spec.specs.Words.{signed_offset_of}
 use Rattle.cap_spec.specs.Messages.{HasWord, segment_of}
-use Rattle.cap_spec.specs.Pointers.{code, element_bits, extent, kind, list_size, list_words, middle}
+use Rattle.cap_spec.specs.Pointers.{code, element_bits, extent, list_words, middle}
 use Rattle.cap_spec.specs.Following.{extra}
 use Rattle.cap_spec.proofs.Frames.Messages.{HasWord-segment}
 use Rattle.cap_spec.proofs.Trees.Charges.{extra_pointers, extra_struct}

@@ -27,11 +27,13 @@ stands-near m s w p h n = record {
 }
 
 -- the word of a one-word pad stands for its pointer word
-pub stands-one_pad : (m : List (List ℕ)) (s w p t b q : ℕ) → HasWord m s w p → IsOnePad p → t ≡ far_segment p → b ≡ pad p → HasWord m t b q → StandsFor m s w 1 t b q
+pub stands-one_pad : (m : List (List ℕ)) (s w p t b q : ℕ) → HasWord m s w p → IsOnePad p → t ≡ far_segment p → b ≡ pad p → HasWord m t b q
+    → StandsFor m s w 1 t b q
 stands-one_pad m s w p t b q h one t_is b_is hq =
     let hq' : HasWord m (far_segment p) (pad p) q = subst (λ y. HasWord m (far_segment p) y q) b_is (subst (λ x. HasWord m x b q) t_is hq) in
     record {
-      leads = λ r says. one_pad p q h one hq' (says_near t b q r says) (subst (λ y. Says (far_segment p) y q r) b_is (subst (λ x. Says x b q r) t_is says)) refl;
+      leads = λ r says. one_pad p q h one hq' (says_near t b q r says)
+          (subst (λ y. Says (far_segment p) y q r) b_is (subst (λ x. Says x b q r) t_is says)) refl;
       reserved = wrong-pad_reserved m s w p q h one hq';
       far = wrong-pad_far m s w p q h one hq';
     }
@@ -50,9 +52,11 @@ module _ (m : List (List ℕ)) (s w p f q : ℕ) (h : HasTwoPad m s w p f q) whe
   content-lead t b t_is b_is one k z = two_pads p f q h.word h.both h.first h.second one (k, z) (cc) refl
 
 -- the word of an object leads there
-pub object-lead : (m : List (List ℕ)) (s w k t b q : ℕ) (start : ℤ) → StandsFor m s w k t b q → kind q < 2 → q ≢ 0 → start ≡ pos (b + 1) +ℤ signed_offset_of q → Leads m s w k (to_object t start q)
+pub object-lead : (m : List (List ℕ)) (s w k t b q : ℕ) (start : ℤ) → StandsFor m s w k t b q → kind q < 2 → q ≢ 0
+    → start ≡ pos (b + 1) +ℤ signed_offset_of q → Leads m s w k (to_object t start q)
 object-lead m s w k t b q start stands kind_below some e = stands.leads (to_object t start q) (kind_below, some, refl, e, refl)
 
 -- an object that starts before its segment is outside
-pub wrong-before : (m : List (List ℕ)) (s w k t : ℕ) (start : ℤ) (q : ℕ) → Leads m s w k (to_object t start q) → t < length m → start <ℤ pos 0 → Wrong m s w OutOfSegment
+pub wrong-before : (m : List (List ℕ)) (s w k t : ℕ) (start : ℤ) (q : ℕ) → Leads m s w k (to_object t start q) → t < length m → start <ℤ pos 0
+    → Wrong m s w OutOfSegment
 wrong-before m s w k t start q leads there before = wrong-out m s w k t start q leads (there, inl before)

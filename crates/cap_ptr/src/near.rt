@@ -79,10 +79,7 @@ fn parts_of(word: u64) -> Option<(u32, u32)>
     ensures pointers { IfSome result (λ parts. HasPointers word parts.1) }
 {
     match kind(word) {
-        0 => Some((
-            u32::from(data_size(word)),
-            u32::from(pointer_size(word)),
-        )),
+        0 => Some((u32::from(data_size(word)), u32::from(pointer_size(word)))),
         1 => match code(word) {
             0 | 7 => None,
             6 => Some((0, list_size(word))),

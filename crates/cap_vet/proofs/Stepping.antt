@@ -20,16 +20,27 @@ as_kind : (m : List (List ℕ)) (a : Spot) (f : Found) (x : Kind) → IsFound m 
 as_kind m a f x h e = subst (λ u. StandsAs m a u f.place.segment f.place.start f.place.words) e h.stands
 
 -- a struct's pointers
-pub pointer_goes : (m : List (List ℕ)) (a : Spot) (f : Found) (d p i x : ℕ) → IsFound m a f → f.kind ≡ Struct d p → i < p → x ≡ f.place.start + d + i → Goes m a (Ptr i) (word f.place.segment x)
+pub pointer_goes : (m : List (List ℕ)) (a : Spot) (f : Found) (d p i x : ℕ) → IsFound m a f → f.kind ≡ Struct d p → i < p → x ≡ f.place.start + d + i
+    → Goes m a (Ptr i) (word f.place.segment x)
 pointer_goes m (word s w) f d p i x h e lt ex =
-    let y = as_kind m (word s w) f (Struct d p) h e in
-    (y.0, f.place.segment, f.place.start, y.1, y.2.finds, y.2.kind, omega (arith, lt, y.2.pointers), ap (word f.place.segment) (omega (arith, ex, y.2.data_words)))
+    let y = as_kind m (word s w) f (Struct d p) h e in (
+      y.0,
+      f.place.segment,
+      f.place.start,
+      y.1,
+      y.2.finds,
+      y.2.kind,
+      omega (arith, lt, y.2.pointers),
+      ap (word f.place.segment)
+          (omega (arith, ex, y.2.data_words)),
+    )
 pointer_goes m (element t' b' ds ps) f d p i x h e lt ex =
     let y : StandsElement t' b' ds ps d p f.place.segment f.place.start f.place.words = as_kind m (element t' b' ds ps) f (Struct d p) h e in
     (omega (arith, lt, y.pointers), ap (λ u. word u x) y.segment ∙ ap (word t') (omega (arith, ex, y.start, y.data_words)))
 
 -- what isn't a struct has none
-no_pointer : (m : List (List ℕ)) (a : Spot) (f : Found) (k : Kind) (i : ℕ) (b : Spot) → f.kind ≡ k → ((d p : ℕ) → f.kind ≡ Struct d p → ⊥) → IsFound m a f → Goes m a (Ptr i) b → ⊥
+no_pointer : (m : List (List ℕ)) (a : Spot) (f : Found) (k : Kind) (i : ℕ) (b : Spot) → f.kind ≡ k → ((d p : ℕ) → f.kind ≡ Struct d p → ⊥)
+    → IsFound m a f → Goes m a (Ptr i) b → ⊥
 no_pointer m (word s w) f Null i b e none h g = let y = as_kind m (word s w) f Null h e in null_no_object m s w y.0 g.0 g.1 g.2 g.3 y.1 g.4
 no_pointer m (word s w) f (Cap x) i b e none h g = let y = as_kind m (word s w) f (Cap x) h e in cap_no_object m s w y.0 x g.0 g.1 g.2 g.3 y.1 g.4
 no_pointer m (word s w) f (Struct d p) i b e none h g = none d p e
@@ -48,11 +59,13 @@ no_pointer m (word s w) f (Structs x d p) i b e none h g =
 no_pointer m (element t' b' ds ps) f (Struct d p) i b e none h g = none d p e
 no_pointer m (element t' b' ds ps) f k i b e none h g = absurd (as_kind m (element t' b' ds ps) f k h e)
 
-pub pointer_of_other : (m : List (List ℕ)) (a : Spot) (f : Found) (i : ℕ) (b : Spot) → ((d p : ℕ) → f.kind ≡ Struct d p → ⊥) → IsFound m a f → Goes m a (Ptr i) b → ⊥
+pub pointer_of_other : (m : List (List ℕ)) (a : Spot) (f : Found) (i : ℕ) (b : Spot) → ((d p : ℕ) → f.kind ≡ Struct d p → ⊥) → IsFound m a f
+    → Goes m a (Ptr i) b → ⊥
 pointer_of_other m a f i b none h g = no_pointer m a f f.kind i b refl none h g
 
 -- the entries of a list of pointers
-pub entry_goes : (m : List (List ℕ)) (a : Spot) (f : Found) (n i x : ℕ) → IsFound m a f → f.kind ≡ Pointers n → i < n → x ≡ f.place.start + i → Goes m a (Item i) (word f.place.segment x)
+pub entry_goes : (m : List (List ℕ)) (a : Spot) (f : Found) (n i x : ℕ) → IsFound m a f → f.kind ≡ Pointers n → i < n → x ≡ f.place.start + i
+    → Goes m a (Item i) (word f.place.segment x)
 entry_goes m (word s w) f n i x h e lt ex =
     let y = as_kind m (word s w) f (Pointers n) h e in
     inl (y.0, f.place.segment, f.place.start, y.1, y.2.finds, y.2.kind, y.2.code, omega (arith, lt, y.2.count), ap (word f.place.segment) ex)
@@ -78,20 +91,35 @@ entry_past m (word s w) f n i b h e past (inr g) =
 entry_past m (element t' b' ds ps) f n i b h e past g = absurd g
 
 -- the elements of a list of structs
-pub element_goes : (m : List (List ℕ)) (a : Spot) (f : Found) (n d p i : ℕ) → IsFound m a f → f.kind ≡ Structs n d p → i < n → Goes m a (Item i) (element f.place.segment (f.place.start + 1 + i * (d + p)) d p)
+pub element_goes : (m : List (List ℕ)) (a : Spot) (f : Found) (n d p i : ℕ) → IsFound m a f → f.kind ≡ Structs n d p → i < n
+    → Goes m a (Item i) (element f.place.segment (f.place.start + 1 + i * (d + p)) d p)
 element_goes m (word s w) f n d p i h e lt =
     let y = as_kind m (word s w) f (Structs n d p) h e in
-    inr (y.0, f.place.segment, f.place.start, y.1, y.2, y.3.finds, y.3.kind, y.3.code, y.3.has_tag, omega (arith, lt, y.3.count), rw (← y.3.data_words, ← y.3.pointers) refl)
+    inr (
+      y.0,
+      f.place.segment,
+      f.place.start,
+      y.1,
+      y.2,
+      y.3.finds,
+      y.3.kind,
+      y.3.code,
+      y.3.has_tag,
+      omega (arith, lt, y.3.count),
+      rw (← y.3.data_words, ← y.3.pointers) refl,
+    )
 element_goes m (element t' b' ds ps) f n d p i h e lt = absurd (as_kind m (element t' b' ds ps) f (Structs n d p) h e)
 
-pub element_past : (m : List (List ℕ)) (a : Spot) (f : Found) (n d p i : ℕ) (b : Spot) → IsFound m a f → f.kind ≡ Structs n d p → n ≤ i → Goes m a (Item i) b → ⊥
+pub element_past : (m : List (List ℕ)) (a : Spot) (f : Found) (n d p i : ℕ) (b : Spot) → IsFound m a f → f.kind ≡ Structs n d p → n ≤ i
+    → Goes m a (Item i) b → ⊥
 element_past m (word s w) f n d p i b h e past (inl g) =
     let y = as_kind m (word s w) f (Structs n d p) h e in
     let o = one_object m s w y.0 f.place.segment f.place.start y.1 g.0 g.1 g.2 g.3 y.3.finds g.4 in
     omega (arith, ap code o.shape, y.3.code, g.6)
 element_past m (word s w) f n d p i b h e past (inr g) =
     let y = as_kind m (word s w) f (Structs n d p) h e in
-    let o : SameObject y.0 f.place.segment f.place.start y.1 g.0 g.1 g.2 g.3 = one_object m s w y.0 f.place.segment f.place.start y.1 g.0 g.1 g.2 g.3 y.3.finds g.5 in
+    let o : SameObject y.0 f.place.segment f.place.start y.1 g.0 g.1 g.2 g.3 = one_object m s w y.0 f.place.segment f.place.start y.1 g.0 g.1 g.2 g.3
+    y.3.finds g.5 in
     let z : y.2 ≡ g.4 = one_word m f.place.segment f.place.start y.2 g.4 y.3.has_tag (rw (o.segment, o.start) g.8) in
     omega (arith, past, ap middle z, y.3.count, g.9)
 element_past m (element t' b' ds ps) f n d p i b h e past g = absurd g
@@ -107,8 +135,10 @@ element_inside m (word s w) f n d p i h e lt =
     let y = as_kind m (word s w) f (Structs n d p) h e in
     let fits = y.3.finds.sits.composite (y.3.kind, y.3.code) in
     let z : fits.0 ≡ y.2 = one_word m f.place.segment f.place.start fits.0 y.2 fits.1 y.3.has_tag in
-    let room : middle y.2 * (data_size y.2 + pointer_size y.2) ≤ list_size y.1 = subst (λ u. middle u * (data_size u + pointer_size u) ≤ list_size y.1) z fits.2.1 in
-    let all : n * (d + p) ≤ list_size y.1 = equal_product n (middle y.2) d (data_size y.2) p (pointer_size y.2) (list_size y.1) y.3.count y.3.data_words y.3.pointers room in
+    let room : middle y.2 * (data_size y.2 + pointer_size y.2) ≤ list_size y.1 = subst
+    (λ u. middle u * (data_size u + pointer_size u) ≤ list_size y.1) z fits.2.1 in
+    let all : n * (d + p) ≤ list_size y.1 = equal_product n (middle y.2) d (data_size y.2) p (pointer_size y.2)
+    (list_size y.1) y.3.count y.3.data_words y.3.pointers room in
     let some : (i + 1) * (d + p) ≤ n * (d + p) = mul-le-mul_right (d + p) (omega (arith, lt)) in
     omega (arith, some, all, y.3.words, extent_structs y.1 y.3.kind y.3.code, h.inside)
 element_inside m (element t' b' ds ps) f n d p i h e lt = absurd (as_kind m (element t' b' ds ps) f (Structs n d p) h e)

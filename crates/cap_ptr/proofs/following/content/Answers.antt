@@ -1,6 +1,5 @@
-use Rattle.std.proofs.Common.{◌<◌, sym, ◌∙◌, arith, inl, inr, length}
+use Rattle.std.proofs.Common.{sym, ◌∙◌, arith}
 use Rattle.cap_spec.specs.Following.{IsOnePad}
-use Rattle.cap_spec.specs.Pointers.{far_segment}
 use Rattle.cap_ptr.proofs.Pads.{content-not_far, content-tag_kind, content-tag_offset, content-lead}
 use Rattle.cap_ptr.proofs.following.content.Goals as goal
 

@@ -3,4 +3,5 @@ use Rattle.cap_ptr.proofs.near.near_target.Goals as goal
 
 pub returns-clause-target : goal.returns-clause-target
 returns-clause-target c = λ m has len.
-    rw c.from.ensures (row_target m c.args.segment c.args.at c.args.word c.in_ok-row.row _ (c.in_ok-row.ensures.row m c.args.segment has len) (c.plain_shape.ensures 0))
+    rw c.from.ensures (row_target m c.args.segment c.args.at c.args.word c.in_ok-row.row _ (c.in_ok-row.ensures.row m c.args.segment has len)
+    (c.plain_shape.ensures 0))

@@ -12,7 +12,7 @@ returns-then-kind-ne0 g c = λ s w leads.
 pub returns-then-overruns : goal.returns-then-overruns
 returns-then-overruns g c = λ s w leads.
     let past : c.list_size-words.result < middle c.word-tag.result * (data_size c.word-tag.result + pointer_size c.word-tag.result) =
-        rw c.if-overruns.true at c.overruns.ensures in
+    rw c.if-overruns.true at c.overruns.ensures in
     wrong-overrun _ s w c.args.pads c.args.segment c.args.start c.args.word c.word-tag.result leads
     c.requires.exists c.requires.inside c.requires.composite c.word-tag.ensures (sym c.kind.ensures ∙ c.if-kind-ne0.false)
     (rw (← c.list_size-words.ensures) past)

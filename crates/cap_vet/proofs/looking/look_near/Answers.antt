@@ -15,5 +15,7 @@ returns g c =
     let frame = c.row_frame-frame in
     let found : FindsRow m c.args.s c.args.w c.word-word.result c.in_ok-row.row = c.in_ok-row.ensures.row m c.args.s c.word-word.ensures (sym c.len.ensures) in
     rw c.from-cost.ensures (looks_row m _ _ c.args.spent c.args.s c.args.w c.args.level c.word-word.result c.in_ok-row.row frame.result found
-    (omega (arith, c.if-level-depth.false, c.depth.ensures.value)) (omega (arith, c.if-cost-words.false, c.words.ensures.value, c.from-cost.ensures)) c.requires.spent
-    frame.ensures.places (frame.ensures.inside m c.requires.exists (row_inside m c.args.s c.args.w c.word-word.result c.in_ok-row.row found)) frame.ensures.level)
+    (omega (arith, c.if-level-depth.false, c.depth.ensures.value)) (omega (arith, c.if-cost-words.false, c.words.ensures.value, c.from-cost.ensures))
+    c.requires.spent
+    frame.ensures.places (frame.ensures.inside m c.requires.exists (row_inside m c.args.s c.args.w c.word-word.result c.in_ok-row.row found))
+    frame.ensures.level)

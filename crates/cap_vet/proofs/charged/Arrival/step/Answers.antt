@@ -33,7 +33,7 @@ returns-in-Some-Element-clause-some g c = λ path a h.
     let e = c.in-Some-Element in
     let goes = (rw e.field-0-is at e.ensures) m a h.found in
     let level : c.args.self.now.level + c.from.result ≡ c.args.self.now.level + element_levels 1 =
-        ap (λ x. c.args.self.now.level + x) (c.from.ensures ∙ c.levels_of_elements.ensures.value) in (
+    ap (λ x. c.args.self.now.level + x) (c.from.ensures ∙ c.levels_of_elements.ensures.value) in (
       element e.segment e.start e.data_words e.pointers,
       arrives_element m _ _ path a c.args.self.now _ c.args.step e.segment e.start e.data_words e.pointers h goes.0 goes.1.0 goes.1.1
           c.element.ensures level refl refl,
