@@ -1,8 +1,8 @@
 -- What a walk needs to know of an object that its pointer word alone describes.
-use Rattle.std.proofs.Common.{◌≡◌, ℕ, ◌+◌, ◌-◌, ◌<◌, ◌≤◌, ◌==◌, false, inl, inr, List, length, refl, ◌∙◌, sym, arith, Option, None, Some}
+use Rattle.std.proofs.Common.{◌≡◌, ℕ, ◌+◌, ◌-◌, ◌<◌, ◌≤◌, ◌==◌, false, inl, inr, List, length, refl, ◌∙◌, arith, Option, None, Some}
 use Rattle.std.proofs.lemmas.Bool.{ne_eqb}
 use Rattle.cap_spec.specs.Messages.{segment_of}
-use Rattle.cap_spec.specs.Pointers.{code, data_size, extent, kind, list_size, pointer_size}
+use Rattle.cap_spec.specs.Pointers.{code, data_size, extent}
 use Rattle.cap_spec.specs.Verdicts.{levels_below}
 use Rattle.cap_spec.proofs.Trees.Charges.{extent_pointers, extent_struct}
 use Rattle.cap_ptr.specs.Rows.{FindsRow, HasPointers}

@@ -1,5 +1,4 @@
-use Rattle.std.proofs.Common.{◌<◌, ◌≤◌, arith}
-use Rattle.cap_vet.specs.Looking.{deepest_of}
+use Rattle.std.proofs.Common.{arith}
 use Rattle.cap_vet.proofs.Looks.{followed_deep, followed_past}
 use Rattle.cap_vet.proofs.looking.follow_within.Goals as goal
 
