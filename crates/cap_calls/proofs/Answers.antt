@@ -1,32 +1,40 @@
--- The bytes decide what each call answers and tells.
-use Rattle.std.proofs.Common.{ℕ, ap₂, List, [], ◌≡◌, ◌∙◌, ◌*◌, ap, sym, subst, refl, length, Option, None, Result, Ok, Err, inl, inr}
-use Rattle.std.specs.Prelude.{◌⊎◌}
-use Rattle.cap_spec.specs.Copies.{IsCanonical}
+-- The bytes decide what each call finds.
+use Rattle.std.proofs.Common.{ℕ, ap₂, List, [], ◌≡◌, ◌∙◌, ◌<◌, ◌≤◌, ◌+◌, ◌*◌, ap, sym, subst, refl, length, Option, None, Result, Ok, Err}
+use Rattle.std.specs.Prelude.{⊤}
 use Rattle.cap_spec.proofs.Frames.Framing.{one_frame}
 use Rattle.cap_spec.proofs.Verdicts.OneFault.{one_refusal}
 use Rattle.cap_frame.specs.Framed.{TellsFront}
+use Rattle.cap_frame.specs.Fronts.{TellsLarge, TellsMany, Wants}
+use Rattle.cap_spec.specs.Frames.{IsPartial}
+use Rattle.cap_spec.specs.Plain.{plain_is_cut, plain_words}
 use Rattle.cap_frame.specs.declared.fault.FrontFault.{FrontFault}
 use Rattle.cap_frame.specs.declared.fault.FrontFault.TheVariants.{TooManySegments, TooLarge, Truncated}
 use Rattle.cap_frame.specs.declared.framed.Framed.{Framed}
 use Rattle.cap_frame.proofs.FrontAnswers.{empty_answer, large_answer, many_answer, short_answer, whole_answer}
 use Rattle.cap_vet.proofs.OneReport.{not_both, one_report}
-use Rattle.cap_calls.specs.Calls.{TellsFrame, without, whole, TellsVet, TellsCheck}
-use Rattle.cap_calls.specs.Calls.{refused, canonical, not_canonical}
-use Rattle.cap_calls.specs.AnswerNumbers.{reason_answer}
-use Rattle.cap_calls.specs.CallReports.{cause_answer, extent_report, no_frame_report, verdict_answer, verdict_report}
-use Rattle.cap_calls.specs.CallVerdicts.{HasFrame, HasNoFrame, IsVerdict}
+use Rattle.cap_vet.specs.declared.report.Report.{Report}
+use Rattle.cap_calls.specs.CallFrames.{HasFrame, HasNoFrame}
+use Rattle.cap_calls.specs.Calls.{IsCheck, TellsCheck, TellsFrame, TellsVet, canonical, not_canonical}
+use Rattle.cap_calls.specs.Finding.{Judges, Returns, Tells, accepted, framed, framed_found, none_found, refused, refused_found, without}
 use Rattle.cap_calls.specs.declared.answer.Answer.{Answer}
-use Rattle.cap_calls.specs.declared.answer.Answer.TheVariants.{Good, NotCanonical}
+use Rattle.cap_calls.specs.declared.found.Found.{Found}
+use Rattle.cap_calls.specs.declared.front.NoFrame.{NoFrame}
+use Rattle.cap_calls.specs.declared.front.NoFrame.TheVariants.{BadLimits, NoMessage, Fault}
 use Rattle.cap_calls.specs.declared.limits.CallLimits.{CallLimits}
 use Rattle.cap_calls.specs.declared.report.CallReport.{CallReport}
-use Rattle.cap_calls.specs.declared.verdict.NoFrame.{NoFrame}
-use Rattle.cap_calls.specs.declared.verdict.NoFrame.TheVariants.{BadLimits, NoMessage, Fault}
-use Rattle.cap_calls.specs.declared.verdict.Verdict.{Verdict}
-use Rattle.cap_calls.specs.declared.verdict.Verdict.TheVariants.{Without, Refused, Accepted}
 
 -- an answer without a frame
 abbrev Without-fault : FrontFault → Result (Option Framed) FrontFault
 Without-fault e = Err e
+
+-- what a fault tells, by the clauses of the call that answers it
+pub fault_told : (limit : ℕ) (bs : List ℕ) (e : FrontFault) → ((n : ℕ) → Without-fault e ≡ Without-fault (TooManySegments n) → TellsMany bs n)
+    → ((n : ℕ) → Without-fault e ≡ Without-fault (TooLarge n) → TellsLarge limit bs n)
+    → ((n : ℕ) → Without-fault e ≡ Without-fault (Truncated n) → IsPartial limit (plain_words bs) (plain_is_cut bs) × Wants (plain_words bs) n)
+    → ((n : ℕ) → Without-fault e ≡ Without-fault (Truncated n) → (length bs < n) × (n ≤ 8 * limit + 2056)) → TellsFront limit bs (Err e)
+fault_told limit bs (TooManySegments n) many large short more = many n refl
+fault_told limit bs (TooLarge n) many large short more = large n refl
+fault_told limit bs (Truncated n) many large short more = (let h = short n refl in let k = more n refl in (h.0, h.1, k.0, k.1))
 
 -- bytes begin with no message in one way
 one_fault : (limit : ℕ) (bs : List ℕ) (a b : FrontFault) → TellsFront limit bs (Err a) → TellsFront limit bs (Err b) → a ≡ b
@@ -63,67 +71,54 @@ module _ (l : CallLimits) (bs : List ℕ) where
       let same = one_frame f.front.own g.front.own f.front.rest g.front.rest m n f.front.frames g.front.frames (sym f.front.words ∙ g.front.words) in
       (f.front.long ∙ (ap (λ (ws : List ℕ). 8 * length ws) same.0 ∙ sym g.front.long), f.count ∙ (ap length same.1 ∙ sym g.count), same.1)
 
--- There is one verdict.
-pub one_verdict : (l : CallLimits) (bs : List ℕ) (v w : Verdict) → IsVerdict l bs v → IsVerdict l bs w → v ≡ w
-one_verdict l bs (Without a) (Without b) h k = ap Without (one_cause l bs a b h k)
-one_verdict l bs (Without a) (Refused f s r) h k = absurd (no_cause l bs a f s k.0 h k.1)
-one_verdict l bs (Without a) (Accepted f s r) h k = absurd (no_cause l bs a f s k.0 h k.1)
-one_verdict l bs (Refused f s r) (Without b) h k = absurd (no_cause l bs b f s h.0 k h.1)
-one_verdict l bs (Accepted f s r) (Without b) h k = absurd (no_cause l bs b f s h.0 k h.1)
-one_verdict l bs (Refused f s r) (Refused g t q) (m, x, y) (n, z, w) =
-    let same = one_extent l bs f g s t m n x z in
-    let refusal = one_refusal m l.words l.depth r q y (rw same.2 w) in
-    ap (λ (k : ℕ). Refused k s r) same.0 ∙ (ap (λ (k : ℕ). Refused g k r) same.1 ∙ ap (λ k. Refused g t k) refusal)
-one_verdict l bs (Refused f s r) (Accepted g t q) (m, x, y) (n, z, w) =
-    let same = one_extent l bs f g s t m n x z in
-    absurd (not_both m l.words l.depth q r (rw same.2 w) y)
-one_verdict l bs (Accepted f s r) (Refused g t q) (m, x, y) (n, z, w) =
-    let same = one_extent l bs f g s t m n x z in
-    absurd (not_both m l.words l.depth r q y (rw same.2 w))
-one_verdict l bs (Accepted f s r) (Accepted g t q) (m, x, y) (n, z, w) =
-    let same = one_extent l bs f g s t m n x z in
-    let report = one_report m l.words l.depth r q y (rw same.2 w) in
-    ap (λ (k : ℕ). Accepted k s r) same.0 ∙ (ap (λ (k : ℕ). Accepted g k r) same.1 ∙ ap (λ k. Accepted g t k) report)
+-- What is found in one way is found in a weaker one.
+pub tells_less : {K L : Type 0} {P Q : List (List ℕ) → ℕ → ℕ → Found → Type 0} (l : CallLimits) (bs : List ℕ) (f : Found) → (K → L)
+    → ((m : List (List ℕ)) (w d : ℕ) (g : Found) → P m w d g → Q m w d g) → Tells K P l bs f → Tells L Q l bs f
+tells_less l bs f k p (without c h e x) = without c h e (k x)
+tells_less l bs f k p (framed m x y g h i e) = framed m x y g h (p m l.words l.depth g i) e
 
--- The call for the frame answers and tells one thing.
+-- There is one thing to be found, if there is one of each message.
+pub one_told : {K L S : Type 0} {P Q : List (List ℕ) → ℕ → ℕ → Found → Type 0} (l : CallLimits) (bs : List ℕ) (f g : Found) → (K → L → S)
+    → ((m : List (List ℕ)) (h k : Found) → P m l.words l.depth h → Q m l.words l.depth k → (h ≡ k) × S)
+    → Tells K P l bs f → Tells L Q l bs g → (f ≡ g) × S
+one_told l bs f g both same (without c h e x) (without d k i y) = (e ∙ (ap none_found (one_cause l bs c d h k) ∙ sym i), both x y)
+one_told l bs f g both same (without c h e x) (framed m a b v k q i) = absurd (no_cause l bs c a b m h k)
+one_told l bs f g both same (framed m a b u h p e) (without c k i y) = absurd (no_cause l bs c a b m k h)
+one_told {Q = Q} l bs f g both same (framed m a b u h p e) (framed n x y v k q i) =
+    let one = one_extent l bs a x b y m n h k in
+    let s = same m u v p (subst (λ (z : List (List ℕ)). Q z l.words l.depth v) (sym one.2) q) in
+    (e ∙ (ap₂ (λ (j t : ℕ). framed_found j t u) one.0 one.1 ∙ (ap (framed_found x y) s.0 ∙ sym i)), s.1)
+
+-- So is there of a message, if there is of an accepted one.
+pub one_judged : {K L S : Type 0} {P Q : List (List ℕ) → Report → Found → Type 0} (m : List (List ℕ)) (w d : ℕ) (f g : Found) → (K → L → S)
+    → ((r : Report) → P m r f → Q m r g → (f ≡ g) × S) → Judges K P m w d f → Judges L Q m w d g → (f ≡ g) × S
+one_judged m w d f g both same (refused r h e x) (refused q k i y) = (e ∙ (ap refused_found (one_refusal m w d r q h k) ∙ sym i), both x y)
+one_judged m w d f g both same (refused r h e x) (accepted q k i) = absurd (not_both m w d q r k h)
+one_judged m w d f g both same (accepted r h p) (refused q k i y) = absurd (not_both m w d r q h k)
+one_judged {Q = Q} m w d f g both same (accepted r h p) (accepted q k i) =
+    same r p (subst (λ (z : Report). Q m z g) (sym (one_report m w d r q h k)) i)
+
+-- And so it is returned and reported.
+pub one_returned : (f g : Found) (a b : Answer) (r q : CallReport) → f ≡ g → Returns f a r → Returns g b q → (a ≡ b) × (r ≡ q)
+one_returned f g a b r q e (h, i) (j, k) = (h ∙ (ap (λ (x : Found). x.answer) e ∙ sym j), i ∙ (ap (λ (x : Found). x.report) e ∙ sym k))
+
 pub one_frame_told : (l : CallLimits) (bs : List ℕ) (a b : Answer) (r q : CallReport) → TellsFrame l bs a r → TellsFrame l bs b q → (a ≡ b) × (r ≡ q)
-one_frame_told l bs a b r q (without c h e f) (without d k g i) =
-    let same = one_cause l bs c d h k in (e ∙ (ap cause_answer same ∙ sym g), f ∙ (ap no_frame_report same ∙ sym i))
-one_frame_told l bs a b r q (without c h e f) (whole m x y k g i) = absurd (no_cause l bs c x y m h k)
-one_frame_told l bs a b r q (whole m x y k g i) (without c h e f) = absurd (no_cause l bs c x y m h k)
-one_frame_told l bs a b r q (whole m x y h e f) (whole n z w k g i) =
-    let same = one_extent l bs x z y w m n h k in (e ∙ sym g, f ∙ (ap₂ extent_report same.0 same.1 ∙ sym i))
+one_frame_told l bs a b r q (f, t, h) (g, u, k) =
+    one_returned f g a b r q (one_told {S = ⊤} l bs f g (λ _ _. tt) (λ m x y p s. (p ∙ sym s, tt)) t u).0 h k
 
--- So does that for a verdict.
 pub one_vet_told : (l : CallLimits) (bs : List ℕ) (a b : Answer) (r q : CallReport) → TellsVet l bs a r → TellsVet l bs b q → (a ≡ b) × (r ≡ q)
-one_vet_told l bs a b r q (v, h, e, f) (w, k, g, i) =
-    let same = one_verdict l bs v w h k in (e ∙ (ap verdict_answer same ∙ sym g), f ∙ (ap verdict_report same ∙ sym i))
+one_vet_told l bs a b r q (f, t, h) (g, u, k) =
+    one_returned f g a b r q
+    (one_told {S = ⊤} l bs f g (λ _ _. tt) (λ m x y p s. one_judged {S = ⊤} m l.words l.depth x y (λ _ _. tt) (λ _ e i. (e ∙ sym i, tt)) p s) t u).0 h k
 
--- what is answered where this is the verdict
-abbrev IsCheck : CallLimits → List ℕ → Verdict → Answer → Type 0
-IsCheck l bs (Without cause) a = a ≡ cause_answer cause
-IsCheck l bs (Refused f s q) a = a ≡ reason_answer q.reason
-IsCheck l bs (Accepted f s r) a = (m : List (List ℕ)) × HasFrame l bs f s m × ((IsCanonical m × (a ≡ Good)) ⊎ ((IsCanonical m → ⊥) × (a ≡ NotCanonical)))
+one_check : (m : List (List ℕ)) (r : Report) (f g : Found) → IsCheck m r f → IsCheck m r g → f ≡ g
+one_check m r f g (canonical i e) (canonical j k) = e ∙ sym k
+one_check m r f g (not_canonical i e) (not_canonical j k) = e ∙ sym k
+one_check m r f g (canonical i e) (not_canonical j k) = absurd (j i)
+one_check m r f g (not_canonical i e) (canonical j k) = absurd (i j)
 
-checked_verdict : (l : CallLimits) (bs : List ℕ) (a : Answer) (r : CallReport) → TellsCheck l bs a r
-    → (v : Verdict) × IsVerdict l bs v × (r ≡ verdict_report v) × IsCheck l bs v a
-checked_verdict l bs a r (without c h e f) = (Without c, h, f, e)
-checked_verdict l bs a r (refused m x y q h g e f) = (Refused x y q, (m, h, g), f, e)
-checked_verdict l bs a r (canonical m x y q h g i e f) = (Accepted x y q, (m, h, g), f, (m, h, inl (i, e)))
-checked_verdict l bs a r (not_canonical m x y q h g i e f) = (Accepted x y q, (m, h, g), f, (m, h, inr (i, e)))
-
-one_check : (l : CallLimits) (bs : List ℕ) (v : Verdict) (a b : Answer) → IsCheck l bs v a → IsCheck l bs v b → a ≡ b
-one_check l bs (Without c) a b h k = h ∙ sym k
-one_check l bs (Refused f s q) a b h k = h ∙ sym k
-one_check l bs (Accepted f s r) a b (m, x, inl (i, e)) (n, y, inl (j, g)) = e ∙ sym g
-one_check l bs (Accepted f s r) a b (m, x, inr (i, e)) (n, y, inr (j, g)) = e ∙ sym g
-one_check l bs (Accepted f s r) a b (m, x, inl (i, e)) (n, y, inr (j, g)) = (let same = one_extent l bs f f s s m n x y in absurd (j (subst IsCanonical same.2 i)))
-one_check l bs (Accepted f s r) a b (m, x, inr (i, e)) (n, y, inl (j, g)) = (let same = one_extent l bs f f s s m n x y in absurd (i (subst IsCanonical (sym same.2) j)))
-
--- So does that for whether it is canonical.
 pub one_check_told : (l : CallLimits) (bs : List ℕ) (a b : Answer) (r q : CallReport) → TellsCheck l bs a r → TellsCheck l bs b q → (a ≡ b) × (r ≡ q)
-one_check_told l bs a b r q h k =
-    let x = checked_verdict l bs a r h in
-    let y = checked_verdict l bs b q k in
-    let same = one_verdict l bs x.0 y.0 x.1 y.1 in
-    (one_check l bs x.0 a b x.3 (subst (λ v. IsCheck l bs v b) (sym same) y.3), x.2 ∙ (ap verdict_report same ∙ sym y.2))
+one_check_told l bs a b r q (f, t, h) (g, u, k) =
+    one_returned f g a b r q
+    (one_told {S = ⊤} l bs f g (λ _ _. tt)
+    (λ m x y p s. one_judged {S = ⊤} m l.words l.depth x y (λ _ _. tt) (λ z e i. (one_check m z x y e i, tt)) p s) t u).0 h k

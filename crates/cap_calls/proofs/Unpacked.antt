@@ -39,7 +39,8 @@ plain_count (tag ∷ rest) e l =
     ap (λ (x : ℕ). length (group_words (x ∷ rest))) t ∙ count
 
 -- any other group has the bytes that its tag marks, and is one word
-pub marked_length : (bs : List ℕ) → 0 < length bs → slice_index bs 0 < 256 → slice_index bs 0 ≢ 0 → slice_index bs 0 ≢ 255 → group_length bs ≡ 1 + ones (slice_index bs 0)
+pub marked_length : (bs : List ℕ) → 0 < length bs → slice_index bs 0 < 256 → slice_index bs 0 ≢ 0 → slice_index bs 0 ≢ 255 →
+    group_length bs ≡ 1 + ones (slice_index bs 0)
 marked_length [] l p z f = absurd (omega (arith, l))
 marked_length (tag ∷ rest) l p z f =
     let same : ones tag ≡ marks 8 tag = head_rest-ones tag p z f ∙ head_rest-marked tag z f in
@@ -50,7 +51,8 @@ marked_words [] l p z f = absurd (omega (arith, l))
 marked_words (tag ∷ rest) l p z f = ap length (words_marked tag rest (omega (arith, z)) (omega (arith, p, f)))
 
 -- the groups behind the one in front go on with the words and with the end
-pub goes_on : (bs front : List ℕ) (at n k words : ℕ) → front ≡ drop at bs → 0 < length front → n ≡ group_length front → n ≤ length front → k ≡ length (group_words front)
+pub goes_on : (bs front : List ℕ) (at n k words : ℕ) → front ≡ drop at bs → 0 < length front → n ≡ group_length front → n ≤ length front →
+    k ≡ length (group_words front)
     → length (unpacked bs) ≡ words + length (unpacked (drop at bs)) → packed_is_cut bs ≡ packed_is_cut (drop at bs)
     → (length (unpacked bs) ≡ words + k + length (unpacked (drop (at + n) bs))) × (packed_is_cut bs ≡ packed_is_cut (drop (at + n) bs))
 goes_on bs front at n k words e some len inside count counted ends =

@@ -1,39 +1,40 @@
--- What each call returns and reports, from the bytes alone
+-- What each call that looks at a message returns and reports
 -- (profile; standard: Serialization Over a Stream, Canonicalization).
-use Rattle.std.specs.Prelude.{ℕ, ◌≡◌, List}
+use Rattle.std.specs.Prelude.{ℕ, ◌≡◌, List, ⊤}
 use Rattle.cap_spec.specs.Copies.{IsCanonical}
-use Rattle.cap_spec.specs.Faults.{IsRefused}
-use Rattle.cap_spec.specs.declared.Refusal.{Refusal}
-use Rattle.cap_vet.specs.Reports.{IsAccepted}
 use Rattle.cap_vet.specs.declared.report.Report.{Report}
-use Rattle.cap_calls.specs.AnswerNumbers.{reason_answer}
-use Rattle.cap_calls.specs.CallReports.{cause_answer, extent_report, no_frame_report, verdict_answer, verdict_report}
-use Rattle.cap_calls.specs.CallVerdicts.{HasFrame, HasNoFrame, IsVerdict}
+use Rattle.cap_calls.specs.CallReports.{none_report}
+use Rattle.cap_calls.specs.Finding.{Judges, Returns, Tells, accepted_found}
 use Rattle.cap_calls.specs.declared.answer.Answer.{Answer}
 use Rattle.cap_calls.specs.declared.answer.Answer.TheVariants.{Good, NotCanonical}
+use Rattle.cap_calls.specs.declared.found.Found.{Found}
 use Rattle.cap_calls.specs.declared.limits.CallLimits.{CallLimits}
 use Rattle.cap_calls.specs.declared.report.CallReport.{CallReport}
-use Rattle.cap_calls.specs.declared.verdict.NoFrame.{NoFrame}
-use Rattle.cap_calls.specs.declared.verdict.Verdict.{Verdict}
-use Rattle.cap_calls.specs.declared.verdict.Verdict.TheVariants.{Refused, Accepted}
+
+-- of a frame: nothing of its message
+abbrev pub Frames : List (List ℕ) → ℕ → ℕ → Found → Type 0
+Frames m words depth f = f ≡ record { answer = Good; count = 0; report = none_report }
 
 -- of the frame at the start of the bytes
-pub data TellsFrame (l : CallLimits) (bytes : List ℕ) (a : Answer) (r : CallReport) : Type 0 where
-  -- there is none
-  without : (cause : NoFrame) → HasNoFrame l bytes cause → a ≡ cause_answer cause → r ≡ no_frame_report cause → TellsFrame l bytes a r
-  -- its length and its segments
-  whole : (m : List (List ℕ)) (frame segments : ℕ) → HasFrame l bytes frame segments m → a ≡ Good → r ≡ extent_report frame segments → TellsFrame l bytes a r
+abbrev pub TellsFrame : CallLimits → List ℕ → Answer → CallReport → Type 0
+TellsFrame l bytes a r = (f : Found) × Tells ⊤ Frames l bytes f × Returns f a r
 
--- of the message at the start of the bytes, vetted
+-- of a message: it is refused, or accepted
+abbrev pub Vets : List (List ℕ) → ℕ → ℕ → Found → Type 0
+Vets = Judges ⊤ (λ m report f. f ≡ accepted_found Good 0 report)
+
+-- of the message at the start of the bytes
 abbrev pub TellsVet : CallLimits → List ℕ → Answer → CallReport → Type 0
-TellsVet l bytes a r = (v : Verdict) × IsVerdict l bytes v × (a ≡ verdict_answer v) × (r ≡ verdict_report v)
+TellsVet l bytes a r = (f : Found) × Tells ⊤ Vets l bytes f × Returns f a r
 
--- of the same, looked at for whether it is its own canonical copy
-pub data TellsCheck (l : CallLimits) (bytes : List ℕ) (a : Answer) (r : CallReport) : Type 0 where
-  without : (cause : NoFrame) → HasNoFrame l bytes cause → a ≡ cause_answer cause → r ≡ no_frame_report cause → TellsCheck l bytes a r
-  refused : (m : List (List ℕ)) (frame segments : ℕ) (refusal : Refusal) → HasFrame l bytes frame segments m → IsRefused m l.words l.depth refusal
-      → a ≡ reason_answer refusal.reason → r ≡ verdict_report (Refused frame segments refusal) → TellsCheck l bytes a r
-  canonical : (m : List (List ℕ)) (frame segments : ℕ) (report : Report) → HasFrame l bytes frame segments m → IsAccepted m l.words l.depth report
-      → IsCanonical m → a ≡ Good → r ≡ verdict_report (Accepted frame segments report) → TellsCheck l bytes a r
-  not_canonical : (m : List (List ℕ)) (frame segments : ℕ) (report : Report) → HasFrame l bytes frame segments m → IsAccepted m l.words l.depth report
-      → ¬ IsCanonical m → a ≡ NotCanonical → r ≡ verdict_report (Accepted frame segments report) → TellsCheck l bytes a r
+-- of a message that is accepted: it is its own canonical copy, or isn't
+pub data IsCheck (m : List (List ℕ)) (report : Report) (f : Found) : Type 0 where
+  canonical : IsCanonical m → f ≡ accepted_found Good 0 report → IsCheck m report f
+  not_canonical : ¬ IsCanonical m → f ≡ accepted_found NotCanonical 0 report → IsCheck m report f
+
+abbrev pub Checks : List (List ℕ) → ℕ → ℕ → Found → Type 0
+Checks = Judges ⊤ IsCheck
+
+-- of the message at the start of the bytes
+abbrev pub TellsCheck : CallLimits → List ℕ → Answer → CallReport → Type 0
+TellsCheck l bytes a r = (f : Found) × Tells ⊤ Checks l bytes f × Returns f a r

@@ -1,7 +1,8 @@
 pub mod AnswerNumbers
-pub mod CanonicalCalls
-pub mod CallVerdicts
+pub mod CallFrames
 pub mod CallReports
 pub mod Calls
+pub mod CanonicalCalls
 pub mod ExclusiveCalls
-pub mod Spellings
+pub mod Finding
+pub mod PackCalls

@@ -2,6 +2,8 @@
 
 ghost use Rattle.std.specs.Prelude.{◌≡◌};
 
+use crate::front::NoFrame;
+use cap_frame::FrontFault;
 use cap_spec::Reason;
 
 /// What a call answers. The numbers are those of `include/capvet.h` and never change.
@@ -46,6 +48,7 @@ pub enum Answer {
 
 impl Answer {
     ghost use Rattle.cap_calls.specs.AnswerNumbers.{number_of, reason_answer};
+    ghost use Rattle.cap_calls.specs.CallReports.{cause_answer};
 
     /// Its number in the header.
     #[inline]
@@ -53,6 +56,19 @@ impl Answer {
         ensures { result ≡ number_of self }
     {
         self as u32
+    }
+
+    // The answer for bytes without a frame.
+    pub(crate) fn of_cause(cause: NoFrame) -> Answer
+        ensures { result ≡ cause_answer cause }
+    {
+        match cause {
+            NoFrame::BadLimits => Answer::BadLimits,
+            NoFrame::NoMessage => Answer::NoMessage,
+            NoFrame::Fault(FrontFault::TooManySegments { .. }) => Answer::TooManySegments,
+            NoFrame::Fault(FrontFault::TooLarge { .. }) => Answer::TooLarge,
+            NoFrame::Fault(FrontFault::Truncated { .. }) => Answer::Truncated,
+        }
     }
 
     // The answer for a message that is refused for this reason.

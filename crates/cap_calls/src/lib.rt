@@ -1,25 +1,23 @@
-//! The calls that C makes, over borrowed bytes. None takes memory or keeps anything.
+//! The calls that C makes, over borrowed bytes. None allocates or keeps anything.
 #![tactic(auto)]
 
 mod answer;
 mod calls;
-mod checking;
-mod copying;
+mod found;
 mod front;
 mod limits;
-mod marking;
-mod packing;
+mod over;
 mod report;
-mod unpacking;
-mod verdict;
 
 pub use answer::Answer;
-pub use calls::{frame, version, vet};
-pub use checking::is_canonical;
-pub use copying::canonical;
+pub use calls::canonical::canonical;
+pub use calls::frame::frame;
+pub use calls::is_canonical::is_canonical;
+pub use calls::pack::pack;
+pub use calls::unpack::unpack;
+pub use calls::version::version;
+pub use calls::vet::vet;
+pub use calls::vet_exclusive::vet_exclusive;
+pub use front::NoFrame;
 pub use limits::CallLimits;
-pub use marking::vet_exclusive;
-pub use packing::pack;
 pub use report::CallReport;
-pub use unpacking::unpack;
-pub use verdict::{NoFrame, Verdict};

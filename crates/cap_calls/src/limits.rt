@@ -1,7 +1,7 @@
 //! The limits of a call.
 
-/// The limits of a call, laid out as C has them. Any numbers make one; a call answers for those that
-/// are above their most.
+/// The limits of a call, laid out as C has them. Any numbers make one; a call returns
+/// [`crate::Answer::BadLimits`] for those that are above their maximum.
 #[repr(C)]
 #[derive(Clone, Copy, Debug, PartialEq, Eq)]
 pub struct CallLimits {

@@ -1,14 +1,16 @@
 //! What a call reports beside its answer.
 
-use crate::verdict::{NoFrame, Verdict};
+use crate::front::NoFrame;
 use cap_frame::FrontFault;
+use cap_spec::Refusal;
+use cap_vet::Report;
 
 /// What a call reports beside its answer, laid out as C has it. A field that doesn't apply is 0.
 #[repr(C)]
 #[derive(Clone, Copy, Debug, PartialEq, Eq)]
 pub struct CallReport {
     /// Bytes of the frame with its table, also of a refused message; 0 where there is none.
-    pub frame: u64,
+    pub length: u64,
     /// Of a fault of the frame: how many segments, words or bytes.
     pub number: u64,
     /// Of an accepted message: the charge of all followings, in words.
@@ -28,15 +30,15 @@ pub struct CallReport {
 }
 
 impl CallReport {
-    ghost use Rattle.cap_calls.specs.CallReports.{extent_report, no_frame_report, verdict_report};
+    ghost use Rattle.cap_calls.specs.CallReports.{accepted_report, no_frame_report, none_report, refused_report};
     ghost use Rattle.std.specs.Prelude.{◌≡◌};
 
-    // Of a frame with these numbers of bytes and segments.
-    pub(crate) fn of_extent(frame: u64, segments: u32) -> CallReport
-        ensures { result ≡ extent_report frame segments }
+    // With nothing in it.
+    pub(crate) fn none() -> CallReport
+        ensures { result ≡ none_report }
     {
         CallReport {
-            frame,
+            length: 0,
             number: 0,
             charge: 0,
             pointers: 0,
@@ -44,7 +46,7 @@ impl CallReport {
             depth: 0,
             segment: 0,
             word: 0,
-            segments,
+            segments: 0,
         }
     }
 
@@ -52,7 +54,6 @@ impl CallReport {
     pub(crate) fn of_no_frame(cause: NoFrame) -> CallReport
         ensures { result ≡ no_frame_report cause }
     {
-        let none = CallReport::of_extent(0, 0);
         let number = match cause {
             NoFrame::BadLimits => 0,
             NoFrame::NoMessage => 8,
@@ -60,41 +61,37 @@ impl CallReport {
             NoFrame::Fault(FrontFault::TooLarge { words }) => words,
             NoFrame::Fault(FrontFault::Truncated { wanted }) => wanted,
         };
-        CallReport { number, ..none }
+        CallReport {
+            number,
+            ..CallReport::none()
+        }
     }
 
-    // Of a verdict.
-    pub(crate) fn of_verdict(verdict: &Verdict) -> CallReport
-        ensures { result ≡ verdict_report verdict.now }
+    // Of a message that is refused, apart from its frame.
+    pub(crate) fn of_refused(refusal: Refusal) -> CallReport
+        ensures { result ≡ refused_report refusal }
     {
-        match *verdict {
-            Verdict::Without(cause) => CallReport::of_no_frame(cause),
-            Verdict::Refused {
-                frame,
-                segments,
-                refusal,
-            } => CallReport {
-                pointers: refusal.pointers,
-                segment: refusal.segment,
-                word: refusal.word,
-                ..CallReport::of_extent(frame, segments)
-            },
-            Verdict::Accepted {
-                frame,
-                segments,
-                report,
-            } => {
-                let (segment, word) = report.first_cap.unwrap_or((0, 0));
-                CallReport {
-                    charge: report.charge,
-                    pointers: report.pointers,
-                    caps: report.caps,
-                    depth: report.depth,
-                    segment,
-                    word,
-                    ..CallReport::of_extent(frame, segments)
-                }
-            }
+        CallReport {
+            pointers: refusal.pointers,
+            segment: refusal.segment,
+            word: refusal.word,
+            ..CallReport::none()
+        }
+    }
+
+    // Of a message that is accepted, apart from its frame.
+    pub(crate) fn of_accepted(report: Report) -> CallReport
+        ensures { result ≡ accepted_report report }
+    {
+        let (segment, word) = report.first_cap.unwrap_or((0, 0));
+        CallReport {
+            charge: report.charge,
+            pointers: report.pointers,
+            caps: report.caps,
+            depth: report.depth,
+            segment,
+            word,
+            ..CallReport::none()
         }
     }
 }

@@ -5,7 +5,7 @@ ghost use Rattle.cap_calls.specs.Calls.{TellsCheck, TellsFrame, TellsVet};
 ghost use Rattle.cap_calls.specs.AnswerNumbers.{number_of};
 ghost use Rattle.cap_calls.specs.CanonicalCalls.{TellsCopy};
 ghost use Rattle.cap_calls.specs.ExclusiveCalls.{TellsExclusive};
-ghost use Rattle.cap_calls.specs.Spellings.{TellsPack, TellsUnpack};
+ghost use Rattle.cap_calls.specs.PackCalls.{TellsPack, TellsUnpack};
 ghost use Rattle.cap_calls.specs.declared.answer.Answer.{Answer};
 ghost use Rattle.cap_calls.specs.declared.answer.Answer.TheVariants.{Good, Overlap};
 ghost use Rattle.cap_calls.specs.declared.report.CallReport.{CallReport};
@@ -16,7 +16,7 @@ use cap_calls::{
     vet_exclusive,
 };
 
-/// The version of the library: 65536 times its major number, and its minor number.
+/// Returns the version of the library: 65536 times its major number, and its minor number.
 #[unsafe(no_mangle)]
 pub extern "C" fn capvet_version() -> u32
     ensures { result ≡ 65536 }
@@ -24,36 +24,44 @@ pub extern "C" fn capvet_version() -> u32
     version()
 }
 
-/// Returns in `report` the length in bytes of the frame at the start of `bytes`. Reads only the
-/// table, and vets nothing. If the frame is cut, `number` in the report is how many bytes the next
-/// call needs at least. The result is the number of what [`frame`] returns. The report is written
-/// whole. Allocates nothing.
+/// Returns in `report.length` the length in bytes of the frame at the start of `bytes`. Reads only
+/// the table, and vets nothing. Only the limit `size` matters, though all three are checked.
+///
+/// If the result is `CAPVET_NO_MESSAGE` or `CAPVET_TRUNCATED`, `report.number` is how many bytes the
+/// next call needs at least. The result is the number of what [`frame`] returns. The report is
+/// written whole. Allocates nothing.
 #[unsafe(no_mangle)]
 pub extern "C" fn capvet_frame(bytes: &[u8], limits: &CallLimits, report: &mut CallReport) -> u32
-    ensures tells { (a : Answer) × TellsFrame limits.now bytes.now a report.new × (result ≡ number_of a) }
+    ensures tells { (a : Answer) × TellsFrame limits.now bytes.now a report.new
+        × (result ≡ number_of a) }
     // The bytes allow no other result.
-    ensures only { (a : Answer) (r : CallReport) → TellsFrame limits.now bytes.now a r → (result ≡ number_of a) × (report.new ≡ r) }
+    ensures only { (a : Answer) (r : CallReport) → TellsFrame limits.now bytes.now a r →
+        (result ≡ number_of a) × (report.new ≡ r) }
 {
     frame(bytes, limits, report).number()
 }
 
-/// Vets the message at the start of `bytes`: the result is 0 (`CAPVET_OK`) if its root denotes a
-/// finite tree that lies inside its segments and is within the limits. Otherwise it is the number
-/// of the reason, as [`vet`] returns it. The report is written whole. Allocates nothing.
+/// Vets the message at the start of `bytes`. `CAPVET_OK`: its root denotes a finite tree that lies
+/// inside its segments and is within the limits. Every such message is accepted. The result is the
+/// number of what [`vet`] returns. The report is written whole. Allocates nothing.
 #[unsafe(no_mangle)]
 pub extern "C" fn capvet_vet(bytes: &[u8], limits: &CallLimits, report: &mut CallReport) -> u32
-    ensures tells { (a : Answer) × TellsVet limits.now bytes.now a report.new × (result ≡ number_of a) }
+    ensures tells { (a : Answer) × TellsVet limits.now bytes.now a report.new
+        × (result ≡ number_of a) }
     // The bytes allow no other result.
-    ensures only { (a : Answer) (r : CallReport) → TellsVet limits.now bytes.now a r → (result ≡ number_of a) × (report.new ≡ r) }
+    ensures only { (a : Answer) (r : CallReport) → TellsVet limits.now bytes.now a r →
+        (result ≡ number_of a) × (report.new ≡ r) }
 {
     vet(bytes, limits, report).number()
 }
 
-/// Vets as [`capvet_vet`] does, and also refuses a message that uses a word twice. `marks` is a
-/// buffer of numbers, not bytes, and may hold anything before. For an accepted message `needed` is
-/// how many numbers the call needs, and otherwise 0. The result is the number of what
-/// [`vet_exclusive`] returns. With `CAPVET_OK` and `CAPVET_OVERLAP` the first `needed` numbers hold
-/// marks, and the others are unchanged. With any other result all are unchanged. Allocates nothing.
+/// Vets the message as [`capvet_vet`] does, and also refuses one that uses a word twice. `marks` is
+/// a buffer of numbers, not bytes, and may hold anything before. For an accepted message `needed` is
+/// how many numbers the call needs, whatever the buffer has. For any other message it is 0.
+///
+/// With `CAPVET_OK` and `CAPVET_OVERLAP` the first `needed` numbers hold marks, and the others are
+/// unchanged. With any other result all are unchanged. The result is the number of what
+/// [`vet_exclusive`] returns. The report is written whole. Allocates nothing.
 #[unsafe(no_mangle)]
 pub extern "C" fn capvet_vet_exclusive(
     bytes: &[u8],
@@ -62,23 +70,29 @@ pub extern "C" fn capvet_vet_exclusive(
     needed: &mut usize,
     report: &mut CallReport,
 ) -> u32
-    ensures tells { (a : Answer) × TellsExclusive limits.now bytes.now (length marks.old) a needed.new report.new × (result ≡ number_of a) }
+    ensures tells { (a : Answer)
+        × TellsExclusive limits.now bytes.now (length marks.old) a needed.new report.new
+        × (result ≡ number_of a) }
     // The bytes and the capacity allow no other result.
-    ensures only { (a : Answer) (n : ℕ) (r : CallReport) → TellsExclusive limits.now bytes.now (length marks.old) a n r
-        → (result ≡ number_of a) × (needed.new ≡ n) × (report.new ≡ r) }
+    ensures only { (a : Answer) (n : ℕ) (r : CallReport) →
+        TellsExclusive limits.now bytes.now (length marks.old) a n r →
+        (result ≡ number_of a) × (needed.new ≡ n) × (report.new ≡ r) }
     // This capacity is always enough.
-    ensures few { needed.new ≤ report.new.frame / 512 + 1 }
+    ensures few { needed.new ≤ report.new.length / 512 + 1 }
     ensures rest { drop needed.new marks.new ≡ drop needed.new marks.old }
-    ensures kept { (result ≡ number_of Good) ⊎ ((result ≡ number_of Overlap) ⊎ (marks.new ≡ marks.old)) }
+    ensures kept { (result ≡ number_of Good)
+        ⊎ ((result ≡ number_of Overlap) ⊎ (marks.new ≡ marks.old)) }
 {
     vet_exclusive(bytes, limits, marks, needed, report).number()
 }
 
 /// Writes the canonical copy of the message to the start of `out`: the bytes of its words, without
-/// a table. With `CAPVET_OK`, `written` is its length in bytes, and the bytes after it are
-/// unchanged. With `CAPVET_NO_ROOM`, `written` is the capacity in bytes that it needs. With any
-/// other result `written` is 0. Without `CAPVET_OK`, `out` is unchanged. The result is the number
-/// of what [`canonical`] returns. The report is written whole. Allocates nothing.
+/// a table. `CAPVET_HAS_CAPABILITY`: a capability is reached; it comes before `CAPVET_NO_ROOM`.
+///
+/// With `CAPVET_OK`, `written` is the length of the copy in bytes, and the bytes after it are
+/// unchanged. With `CAPVET_NO_ROOM` it is the capacity that is needed, and with any other result 0.
+/// Without `CAPVET_OK`, `out` is unchanged. The result is the number of what [`canonical`] returns.
+/// The report is written whole. Allocates nothing.
 #[unsafe(no_mangle)]
 pub extern "C" fn capvet_canonical(
     bytes: &[u8],
@@ -87,57 +101,71 @@ pub extern "C" fn capvet_canonical(
     written: &mut usize,
     report: &mut CallReport,
 ) -> u32
-    ensures tells { (a : Answer) × TellsCopy limits.now bytes.now out.old a written.new out.new report.new × (result ≡ number_of a) }
+    ensures tells { (a : Answer)
+        × TellsCopy limits.now bytes.now out.old a written.new out.new report.new
+        × (result ≡ number_of a) }
     // The bytes and the capacity allow no other result.
-    ensures only { (a : Answer) (n : ℕ) (new : List ℕ) (r : CallReport) → TellsCopy limits.now bytes.now out.old a n new r
-        → (result ≡ number_of a) × (written.new ≡ n) × (out.new ≡ new) × (report.new ≡ r) }
+    ensures only { (a : Answer) (n : ℕ) (new : List ℕ) (r : CallReport) →
+        TellsCopy limits.now bytes.now out.old a n new r →
+        (result ≡ number_of a) × (written.new ≡ n) × (out.new ≡ new) × (report.new ≡ r) }
     // This capacity is always enough.
     ensures few { written.new ≤ 8 * (report.new.charge + 1) }
 {
     canonical(bytes, limits, out, written, report).number()
 }
 
-/// Checks that the message is canonical: it has one segment, and is its own canonical copy. The
-/// result is 0 (`CAPVET_OK`) if it is, and `CAPVET_NOT_CANONICAL` if it is accepted and is not.
-/// Otherwise it is the number of the reason, as [`is_canonical`] returns it. The report is written
-/// whole. Allocates nothing.
+/// Checks that the message is canonical: it has one segment, and is its own canonical copy.
+/// `CAPVET_OK` if it is, and `CAPVET_NOT_CANONICAL` if it is accepted and is not, for example if it
+/// has a capability. Otherwise the result is the reason why it is not accepted. It is the number of
+/// what [`is_canonical`] returns. The report is written whole. Allocates nothing.
 #[unsafe(no_mangle)]
 pub extern "C" fn capvet_is_canonical(
     bytes: &[u8],
     limits: &CallLimits,
     report: &mut CallReport,
 ) -> u32
-    ensures tells { (a : Answer) × TellsCheck limits.now bytes.now a report.new × (result ≡ number_of a) }
+    ensures tells { (a : Answer) × TellsCheck limits.now bytes.now a report.new
+        × (result ≡ number_of a) }
     // The bytes allow no other result.
-    ensures only { (a : Answer) (r : CallReport) → TellsCheck limits.now bytes.now a r → (result ≡ number_of a) × (report.new ≡ r) }
+    ensures only { (a : Answer) (r : CallReport) → TellsCheck limits.now bytes.now a r →
+        (result ≡ number_of a) × (report.new ≡ r) }
 {
     is_canonical(bytes, limits, report).number()
 }
 
-/// Packs the words of `bytes`, all of them, to the start of `out`; they need be no message. With
-/// `CAPVET_OK`, `written` is the length in bytes, and the bytes after it are unchanged. With
-/// `CAPVET_NO_ROOM`, `written` is the capacity that it needs. With any other result `written` is 0.
-/// Without `CAPVET_OK`, `out` is unchanged. The result is the number of what [`pack`] returns.
-/// Allocates nothing.
+/// Packs the words of `bytes`, all of them, to the start of `out`; they need be no message.
+/// `CAPVET_TRUNCATED`: they are no whole words; it comes before `CAPVET_NO_ROOM`.
+///
+/// With `CAPVET_OK`, `written` is the length in bytes, and the bytes after it are unchanged. With
+/// `CAPVET_NO_ROOM` it is the capacity that is needed, and with any other result 0. Without
+/// `CAPVET_OK`, `out` is unchanged. The result is the number of what [`pack`] returns. Allocates
+/// nothing.
 #[unsafe(no_mangle)]
 pub extern "C" fn capvet_pack(bytes: &[u8], out: &mut [u8], written: &mut usize) -> u32
-    ensures tells { (a : Answer) × TellsPack bytes.now out.old a written.new out.new × (result ≡ number_of a) }
+    ensures tells { (a : Answer) × TellsPack bytes.now out.old a written.new out.new
+        × (result ≡ number_of a) }
     // The bytes and the capacity allow no other result.
-    ensures only { (a : Answer) (n : ℕ) (new : List ℕ) → TellsPack bytes.now out.old a n new → (result ≡ number_of a) × (written.new ≡ n) × (out.new ≡ new) }
+    ensures only { (a : Answer) (n : ℕ) (new : List ℕ) → TellsPack bytes.now out.old a n new →
+        (result ≡ number_of a) × (written.new ≡ n) × (out.new ≡ new) }
 {
     pack(bytes, out, written).number()
 }
 
-/// Unpacks `bytes`, all of them, into words at the start of `out`; they need be no message. With
-/// `CAPVET_OK`, `written` is the length in bytes, and the bytes after it are unchanged. With
-/// `CAPVET_NO_ROOM`, `written` is the capacity that it needs. With any other result `written` is 0.
-/// Without `CAPVET_OK`, `out` is unchanged. The result is the number of what [`unpack`] returns.
-/// Allocates nothing.
+/// Unpacks `bytes`, all of them, into words at the start of `out`; they need be no message.
+/// `CAPVET_TOO_LARGE`: there are more than 2^53 bytes; it comes before all others.
+/// `CAPVET_TRUNCATED`: they end inside a group; it comes before `CAPVET_NO_ROOM`.
+///
+/// With `CAPVET_OK`, `written` is the length in bytes, and the bytes after it are unchanged. With
+/// `CAPVET_NO_ROOM` it is the capacity that is needed, and with any other result 0. Without
+/// `CAPVET_OK`, `out` is unchanged. The result is the number of what [`unpack`] returns. Allocates
+/// nothing.
 #[unsafe(no_mangle)]
 pub extern "C" fn capvet_unpack(bytes: &[u8], out: &mut [u8], written: &mut usize) -> u32
-    ensures tells { (a : Answer) × TellsUnpack bytes.now out.old a written.new out.new × (result ≡ number_of a) }
+    ensures tells { (a : Answer) × TellsUnpack bytes.now out.old a written.new out.new
+        × (result ≡ number_of a) }
     // The bytes and the capacity allow no other result.
-    ensures only { (a : Answer) (n : ℕ) (new : List ℕ) → TellsUnpack bytes.now out.old a n new → (result ≡ number_of a) × (written.new ≡ n) × (out.new ≡ new) }
+    ensures only { (a : Answer) (n : ℕ) (new : List ℕ) → TellsUnpack bytes.now out.old a n new →
+        (result ≡ number_of a) × (written.new ≡ n) × (out.new ≡ new) }
 {
     unpack(bytes, out, written).number()
 }

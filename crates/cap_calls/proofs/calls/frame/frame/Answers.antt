@@ -1,0 +1,10 @@
+-- Nothing else is told of the bytes.
+use Rattle.std.proofs.Common.{refl}
+use Rattle.cap_calls.proofs.Answers.{one_frame_told}
+use Rattle.cap_calls.proofs.calls.frame.frame.Goals as goal
+
+pub returns-clause-tells : goal.returns-clause-tells
+returns-clause-tells c = (c.extent-found.result, c.extent-found.ensures, (refl, refl))
+
+pub returns-clause-only : goal.returns-clause-only
+returns-clause-only c = λ a r h. one_frame_told c.args.limits.now c.args.bytes.now _ a _ r (c.extent-found.result, c.extent-found.ensures, (refl, refl)) h

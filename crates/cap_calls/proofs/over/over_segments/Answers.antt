@@ -1,0 +1,13 @@
+-- What is seen is the message.
+use Rattle.std.proofs.Common.{List, ℕ, ◌∙◌, ap, subst, sum, sym}
+use Rattle.cap_spec.specs.Frames.{sizes_of}
+use Rattle.cap_vet.specs.Limits.{depth_of, words_of}
+use Rattle.cap_calls.proofs.over.over_segments.Goals as goal
+
+pub on-requires : goal.on-requires
+on-requires g c = c.words.ensures.total ∙ ap (λ (m : List (List ℕ)). sum (sizes_of m)) (sym c.view.ensures)
+
+pub returns : goal.returns
+returns g c =
+    subst (λ m. g.C.Call.finds c.args.call.now m (words_of c.args.limits) (depth_of c.args.limits) c.args.out.now c.on.result c.on.new.out)
+    c.view.ensures c.on.ensures

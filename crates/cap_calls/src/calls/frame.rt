@@ -1,0 +1,44 @@
+//! The call that reports the length of a frame.
+
+ghost use Rattle.cap_calls.specs.Calls.{TellsFrame, Frames};
+ghost use Rattle.cap_calls.specs.Finding.{Tells};
+ghost use Rattle.cap_calls.specs.declared.answer.Answer.{Answer};
+ghost use Rattle.cap_calls.specs.declared.report.CallReport.{CallReport};
+ghost use Rattle.std.specs.Prelude.{◌≡◌, ⊤};
+
+use crate::answer::Answer;
+use crate::found::Found;
+use crate::front::front;
+use crate::limits::CallLimits;
+use crate::report::CallReport;
+
+/// Reports the length in bytes of the frame that bytes start with, and how many segments its
+/// message has. Reads only the table (encoding: Serialization Over a Stream).
+///
+/// It returns [`Answer::Good`], or why there is no frame within the limits. The report is written
+/// whole.
+pub fn frame(bytes: &[u8], limits: &CallLimits, report: &mut CallReport) -> Answer
+    ensures tells { TellsFrame limits.now bytes.now result report.new }
+    // The bytes allow no other result.
+    ensures only { (a : Answer) (r : CallReport) → TellsFrame limits.now bytes.now a r →
+        (result ≡ a) × (report.new ≡ r) }
+{
+    let found = extent(bytes, limits);
+    *report = found.report;
+    found.answer
+}
+
+// What is found of the frame.
+fn extent(bytes: &[u8], limits: &CallLimits) -> Found
+    ensures { Tells ⊤ Frames limits.now bytes.now result }
+{
+    match front(bytes, limits) {
+        Ok((framed, _)) => Found {
+            answer: Answer::Good,
+            count: 0,
+            report: CallReport::none(),
+        }
+        .framed(&framed),
+        Err(cause) => Found::without(cause),
+    }
+}

@@ -1,0 +1,57 @@
+//! The call that checks whether a message is canonical.
+
+ghost use Rattle.cap_calls.specs.Calls.{Checks, TellsCheck};
+ghost use Rattle.cap_calls.specs.declared.answer.Answer.{Answer};
+ghost use Rattle.cap_calls.specs.declared.report.CallReport.{CallReport};
+ghost use Rattle.std.specs.Prelude.{◌≡◌};
+
+use crate::answer::Answer;
+use crate::found::Found;
+use crate::limits::CallLimits;
+use crate::over::{Call, over};
+use crate::report::CallReport;
+use cap_canon::is_canonical as is_copy;
+use cap_frame::ByteView;
+use cap_vet::{Limits, vet};
+
+/// Whether the message that bytes start with has one segment, and its words are its own canonical
+/// copy (encoding: Canonicalization). Allocates nothing, and makes no copy.
+///
+/// It returns [`Answer::Good`] if so, and [`Answer::NotCanonical`] for another accepted message,
+/// also for one with a capability. Otherwise it returns what [`crate::vet`] does. The report is
+/// written whole.
+pub fn is_canonical(bytes: &[u8], limits: &CallLimits, report: &mut CallReport) -> Answer
+    ensures tells { TellsCheck limits.now bytes.now result report.new }
+    // The bytes allow no other result.
+    ensures only { (a : Answer) (r : CallReport) → TellsCheck limits.now bytes.now a r →
+        (result ≡ a) × (report.new ≡ r) }
+{
+    let found = over(&Checking, bytes, limits, &mut []);
+    *report = found.report;
+    found.answer
+}
+
+// The call on a message.
+struct Checking;
+
+impl Call for Checking {
+    type Item = u8;
+
+    ghost finds = { λ _ m words depth _ f _. Checks m words depth f };
+
+    // Inlined: a small message pays for a call more than for the check.
+    #[inline(always)]
+    fn on<'b>(&self, view: &ByteView<'b>, _words: u64, limits: Limits, _out: &mut [u8]) -> Found {
+        match vet(view, limits) {
+            Ok(vetted) => {
+                let report = vetted.report();
+                if is_copy(&vetted) {
+                    Found::accepted(Answer::Good, 0, report)
+                } else {
+                    Found::accepted(Answer::NotCanonical, 0, report)
+                }
+            }
+            Err(refusal) => Found::refused(refusal),
+        }
+    }
+}

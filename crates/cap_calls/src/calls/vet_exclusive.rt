@@ -1,0 +1,98 @@
+//! The call that vets a message of which no word may be used twice.
+
+ghost use Rattle.cap_calls.specs.ExclusiveCalls.{MarksIn, TellsExclusive, fault_found};
+ghost use Rattle.cap_calls.specs.declared.answer.Answer.{Answer};
+ghost use Rattle.cap_calls.specs.declared.answer.Answer.TheVariants.{Good, Overlap};
+ghost use Rattle.cap_calls.specs.declared.report.CallReport.{CallReport};
+ghost use Rattle.std.specs.Prelude.{◌+◌, ◌/◌, ◌≡◌, ◌≤◌, ◌⊎◌, drop, length, ℕ};
+
+use crate::answer::Answer;
+use crate::found::Found;
+use crate::limits::CallLimits;
+use crate::over::{Call, over};
+use crate::report::CallReport;
+use cap_frame::ByteView;
+use cap_vet::{ExclusiveFault, Limits, marks_for, vet_exclusive_in};
+
+/// Vets the message that bytes start with as [`crate::vet`] does, and also refuses one that uses a
+/// word twice: by two pointers that paths reach, by one pointer, or by the root (profile). It marks
+/// a bit for each word in `marks`, which may hold anything before. Allocates nothing, and doesn't
+/// look at the bytes after the message.
+///
+/// The first of these that applies is returned:
+/// - the answers of [`crate::vet`], if the message isn't accepted; `needed` is 0;
+/// - [`Answer::NoRoom`], if `marks` has fewer numbers than are needed; the report is that of
+///   [`crate::vet`];
+/// - [`Answer::Overlap`], if a word is used twice; the report names the first pointer in preorder
+///   that uses one, and how many were looked at;
+/// - [`Answer::Good`]; the report is that of [`crate::vet`].
+///
+/// With the last two, the first `needed` numbers hold marks and the others are unchanged. With any
+/// other answer all are unchanged. The report is written whole.
+pub fn vet_exclusive(
+    bytes: &[u8],
+    limits: &CallLimits,
+    marks: &mut [u64],
+    needed: &mut usize,
+    report: &mut CallReport,
+) -> Answer
+    ensures tells { TellsExclusive limits.now bytes.now (length marks.old) result needed.new
+        report.new }
+    // The bytes and the capacity allow no other result.
+    ensures only { (a : Answer) (n : ℕ) (r : CallReport) →
+        TellsExclusive limits.now bytes.now (length marks.old) a n r →
+        (result ≡ a) × (needed.new ≡ n) × (report.new ≡ r) }
+    // This capacity is always enough.
+    ensures few { needed.new ≤ report.new.length / 512 + 1 }
+    ensures rest { drop needed.new marks.new ≡ drop needed.new marks.old }
+    ensures kept { (result ≡ Good) ⊎ ((result ≡ Overlap) ⊎ (marks.new ≡ marks.old)) }
+{
+    let found = over(&Marking, bytes, limits, marks);
+    *needed = found.count;
+    *report = found.report;
+    found.answer
+}
+
+// The call on a message.
+struct Marking;
+
+impl Call for Marking {
+    type Item = u64;
+
+    ghost finds = { λ _ m words depth old f new. MarksIn old new m words depth f };
+
+    #[inline(never)]
+    fn on<'b>(&self, view: &ByteView<'b>, words: u64, limits: Limits, marks: &mut [u64]) -> Found {
+        let numbers = marks_for(words);
+        match vet_exclusive_in(view, limits, marks) {
+            Ok(exclusive) => {
+                Found::accepted(Answer::Good, numbers, exclusive.into_vetted().report())
+            }
+            Err(fault) => found_of_fault(fault, numbers),
+        }
+    }
+}
+
+// What is found of a message that isn't exclusive, if its marks take `numbers`.
+fn found_of_fault(fault: ExclusiveFault, numbers: usize) -> Found
+    ensures { result ≡ fault_found numbers fault }
+{
+    match fault {
+        ExclusiveFault::Refused(refusal) => Found::refused(refusal),
+        ExclusiveFault::NoRoom { report, .. } => Found::accepted(Answer::NoRoom, numbers, report),
+        ExclusiveFault::Overlap {
+            segment,
+            word,
+            pointers,
+        } => Found {
+            answer: Answer::Overlap,
+            count: numbers,
+            report: CallReport {
+                pointers,
+                segment,
+                word,
+                ..CallReport::none()
+            },
+        },
+    }
+}

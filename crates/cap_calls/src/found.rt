@@ -1,0 +1,71 @@
+//! What a call finds.
+
+use crate::answer::Answer;
+use crate::front::NoFrame;
+use crate::report::CallReport;
+use cap_frame::Framed;
+use cap_spec::Refusal;
+use cap_vet::Report;
+
+/// What a call finds: its answer, how many bytes or numbers its output has or needs, and what it
+/// reports.
+#[derive(Clone, Copy)]
+pub(crate) struct Found {
+    pub(crate) answer: Answer,
+    pub(crate) count: usize,
+    pub(crate) report: CallReport,
+}
+
+impl Found {
+    ghost use Rattle.cap_calls.specs.Finding.{accepted_found, framed_found, none_found, refused_found};
+    ghost use Rattle.cap_frame.specs.Framed.{frame_bytes, framed_segments};
+    ghost use Rattle.std.specs.Prelude.{◌≡◌, length};
+
+    // Of bytes without a frame.
+    pub(crate) fn without(cause: NoFrame) -> Found
+        ensures { result ≡ none_found cause }
+    {
+        Found {
+            answer: Answer::of_cause(cause),
+            count: 0,
+            report: CallReport::of_no_frame(cause),
+        }
+    }
+
+    // Of a message that is refused.
+    pub(crate) fn refused(refusal: Refusal) -> Found
+        ensures { result ≡ refused_found refusal }
+    {
+        Found {
+            answer: Answer::of_reason(refusal.reason),
+            count: 0,
+            report: CallReport::of_refused(refusal),
+        }
+    }
+
+    // Of a message that is accepted, with this answer and number.
+    pub(crate) fn accepted(answer: Answer, count: usize, report: Report) -> Found
+        ensures { result ≡ accepted_found answer count report }
+    {
+        Found {
+            answer,
+            count,
+            report: CallReport::of_accepted(report),
+        }
+    }
+
+    // The same with the extent of the frame.
+    pub(crate) fn framed(self, framed: &Framed<'_>) -> Found
+        ensures { result ≡ framed_found (frame_bytes framed.now)
+            (length (framed_segments framed.now)) self }
+    {
+        Found {
+            report: CallReport {
+                length: framed.length() as u64,
+                segments: framed.count(),
+                ..self.report
+            },
+            ..self
+        }
+    }
+}
