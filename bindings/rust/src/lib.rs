@@ -13,7 +13,7 @@
 //! let received = [0, 0, 0, 0, 1, 0, 0, 0, 0, 0, 0, 0, 0, 0, 0, 0];
 //! let report = capvet::vet(&received, Limits::DEFAULT)?;
 //! // The message is at the start of the bytes. Here it has to be all of them.
-//! assert_eq!(report.frame, received.len());
+//! assert_eq!(report.length, received.len());
 //! assert_eq!(report.pointers, 1);
 //! # Ok::<(), capvet::Refusal>(())
 //! ```
@@ -83,7 +83,7 @@ use sys::Answer;
 ///
 /// It accepts a message exactly if the root denotes a finite tree that lies inside the segments and is within the limits
 /// (encoding: Security Considerations). The bytes after the message are ignored. If the bytes should be one message and
-/// nothing else, compare [`Report::frame`] with their length.
+/// nothing else, compare [`Report::length`] with their length.
 ///
 /// # Errors
 ///
@@ -160,7 +160,7 @@ pub fn is_canonical(bytes: &[u8], limits: Limits) -> Result<bool, Refusal> {
 pub fn frame_len(bytes: &[u8], limits: Limits) -> Result<usize, Refusal> {
     let (answer, told) = sys::frame(bytes, &limits);
     match answer {
-        Answer::OK => Ok(told.frame()),
+        Answer::OK => Ok(told.length()),
         fault => Err(Refusal::of(fault, &told)),
     }
 }

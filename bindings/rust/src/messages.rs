@@ -83,7 +83,7 @@ impl<'b> Iterator for Messages<'b> {
             return None;
         }
         let (answer, told) = sys::vet(self.rest, &self.limits);
-        let frame = told.frame();
+        let frame = told.length();
         // (without a frame the start of the next message is unknown)
         self.is_over = frame == 0;
         let (bytes, rest) = self.rest.split_at(frame);

@@ -7,8 +7,8 @@ use core::fmt;
 #[derive(Clone, Copy, Debug, PartialEq, Eq, Hash)]
 #[non_exhaustive]
 pub struct Report {
-    /// The bytes of its frame, table included.
-    pub frame: usize,
+    /// The length of its frame in bytes, table included.
+    pub length: usize,
     /// The number of its segments.
     pub segments: u32,
     /// The words that a full traversal reads. A target that two pointers share counts twice, landing pads count, and a list
@@ -28,7 +28,7 @@ impl Report {
     // The report of a call on an accepted message.
     pub(crate) fn of(told: &Told) -> Self {
         Self {
-            frame: told.frame(),
+            length: told.length(),
             segments: told.segments,
             charge: told.charge,
             depth: told.depth,

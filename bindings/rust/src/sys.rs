@@ -57,7 +57,7 @@ pub(crate) struct Told {
 
 impl Told {
     /// The length of the frame in bytes. (The library is built for 64-bit machines only.)
-    pub(crate) const fn frame(&self) -> usize {
+    pub(crate) const fn length(&self) -> usize {
         self.length as usize
     }
 }

@@ -166,7 +166,7 @@ fn samples_are_accepted() {
             (report.to_string(), report.segments),
             (line.to_owned(), segments)
         );
-        assert_eq!((report.frame, report.first_cap), (bytes.len(), None));
+        assert_eq!((report.length, report.first_cap), (bytes.len(), None));
         assert_eq!(frame_len(bytes, Limits::DEFAULT), Ok(bytes.len()));
         assert_eq!(is_canonical(bytes, Limits::DEFAULT), Ok(false));
     }
@@ -181,7 +181,7 @@ fn samples_use_no_word_twice() {
             Err(ExclusiveError::NoRoom { needed }) => needed,
             answer => panic!("marks take room: {answer:?}"),
         };
-        assert!(needed <= report.frame / 512 + 1);
+        assert!(needed <= report.length / 512 + 1);
         let mut marks = vec![u64::MAX; needed + 1];
         let short = vet_exclusive(bytes, Limits::DEFAULT, &mut marks[..needed - 1]);
         assert_eq!(short, Err(ExclusiveError::NoRoom { needed }));
