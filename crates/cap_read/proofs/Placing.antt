@@ -26,7 +26,8 @@ pub no_place : (m : List (List ℕ)) (path : List Step) → ((level : ℕ) (a : 
 no_place m path none t b n h = none h.0 h.1 h.2
 
 -- or where nothing stands at that spot;
-no_place_there : (m : List (List ℕ)) (path : List Step) (level : ℕ) (a : Spot) → Comes m path level a → ((t b n : ℕ) → Stands m a t b n → ⊥) → (t b n : ℕ) → IsPlace m path t b n → ⊥
+no_place_there : (m : List (List ℕ)) (path : List Step) (level : ℕ) (a : Spot) → Comes m path level a → ((t b n : ℕ) → Stands m a t b n → ⊥) →
+    (t b n : ℕ) → IsPlace m path t b n → ⊥
 no_place_there m path level a h none t b n g =
     none t b n (subst (λ (x : Spot). Stands m x t b n) (sym (one_coming m path level g.0 a g.1 h g.2).1) g.3)
 
@@ -39,7 +40,8 @@ placed_there m path level a None h s e i = no_place_there m path level a h s
 placed_there m path level a (Some p) h s e i = record { is_place = (level, a, h, s); exists = e; inside = i }
 
 -- the one tree
-only_tree : (m : List (List ℕ)) (words depth : ℕ) (r : Report) (t : Tree) → IsReport m words depth r t → (u : Tree) (c d : ℕ) → Denotes m 0 0 u c d → (u ≡ t) × (c ≡ r.charge) × (d ≡ r.depth)
+only_tree : (m : List (List ℕ)) (words depth : ℕ) (r : Report) (t : Tree) → IsReport m words depth r t → (u : Tree) (c d : ℕ) → Denotes m 0 0 u c d →
+    (u ≡ t) × (c ≡ r.charge) × (d ≡ r.depth)
 only_tree m words depth r t h u c d g = let o = one_tree m 0 0 u t c d r.charge r.depth g h.denotes in (o.part, o.charge, o.depth)
 
 -- Nothing is read where the tree has no node.
@@ -55,7 +57,8 @@ nothing_read m words depth path r t h none empty = record {
 }
 
 -- Else the node is read.
-pub node_read : (m : List (List ℕ)) (words depth : ℕ) (path : List Step) (r : Report) (t : Tree) (a : Spot) (own : Own) (o o' : Option Place) → IsReport m words depth r t
+pub node_read : (m : List (List ℕ)) (words depth : ℕ) (path : List Step) (r : Report) (t : Tree) (a : Spot) (own : Own) (o o' : Option Place) →
+    IsReport m words depth r t
     → ((level : ℕ) × Comes m path level a)
     → ((u : Tree) (c d : ℕ) → Denotes m 0 0 u c d → (x : Tree) × (node_at u path ≡ Some x) × DenotesAt m a x)
     → ((x : Tree) → DenotesAt m a x → own ≡ own_of x)
@@ -75,7 +78,8 @@ node_read m words depth path r t a own o o' h come node shows same s e i =
 -- one thing stands at a spot
 one_stands : (m : List (List ℕ)) (a : Spot) (t b n t' b' n' : ℕ) → Stands m a t b n → Stands m a t' b' n' → (t ≡ t') × (b ≡ b') × (n ≡ n')
 one_stands m (word s w) t b n t' b' n' h g =
-    let l : to_object t (pos b) h.1 ≡ to_object t' (pos b') g.1 = (one_lead m s w h.0 g.0 (to_object t (pos b) h.1) (to_object t' (pos b') g.1) h.2.leads g.2.leads).1 in
+    let l : to_object t (pos b) h.1 ≡ to_object t' (pos b') g.1 =
+    (one_lead m s w h.0 g.0 (to_object t (pos b) h.1) (to_object t' (pos b') g.1) h.2.leads g.2.leads).1 in
     let q : h.1 ≡ g.1 = cc in
     (cc, cc, h.3 ∙ (ap extent q ∙ sym g.3))
 one_stands m (element t'' b'' ds ps) t b n t' b' n' h g = (h.0 ∙ sym g.0, h.1 ∙ sym g.1, h.2 ∙ sym g.2)

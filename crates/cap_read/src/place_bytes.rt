@@ -32,12 +32,15 @@ pub fn read_bytes<'b>(
     ensures ok { let m = ⟦<ByteView<'b> as Segments>⟧.segments message.now in
         IfOk result (λ _. (r : Report) × IsAccepted m (words_of limits) (depth_of limits) r) }
     ensures bytes { let m = ⟦<ByteView<'b> as Segments>⟧.segments message.now in
-        IfOk result (λ bytes. (t b n : ℕ) → IsPlace m path.now t b n → bytes.now ≡ plain_text (words_from m t b n)) }
+        IfOk result (λ bytes. (t b n : ℕ) → IsPlace m path.now t b n →
+        bytes.now ≡ plain_text (words_from m t b n)) }
     ensures empty { let m = ⟦<ByteView<'b> as Segments>⟧.segments message.now in
         IfOk result (λ bytes. ((t b n : ℕ) → ¬ IsPlace m path.now t b n) → bytes.now ≡ []) }
-    ensures err { let m = ⟦<ByteView<'b> as Segments>⟧.segments message.now in IfErr result (IsRefused m (words_of limits) (depth_of limits)) }
+    ensures err { let m = ⟦<ByteView<'b> as Segments>⟧.segments message.now in
+        IfErr result (IsRefused m (words_of limits) (depth_of limits)) }
     ensures accepts { let m = ⟦<ByteView<'b> as Segments>⟧.segments message.now in
-        (t : Tree) (c d : ℕ) → Denotes m 0 0 t c d → c ≤ words_of limits → d ≤ depth_of limits → IsOk result }
+        (t : Tree) (c d : ℕ) → Denotes m 0 0 t c d → c ≤ words_of limits → d ≤ depth_of limits →
+        IsOk result }
     ensures refuses { let m = ⟦<ByteView<'b> as Segments>⟧.segments message.now in
         (r : Refusal) → IsRefused m (words_of limits) (depth_of limits) r → result ≡ Err r }
 {

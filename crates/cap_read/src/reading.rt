@@ -42,20 +42,24 @@ pub fn read<'m, M: Segments>(
     limits: Limits,
     path: &[Step],
 ) -> Result<Reading<'m, M>, Refusal>
-    ensures ok { IfOk result (λ r. IsRead (M.segments message.now) (words_of limits) (depth_of limits) path.now
-        r.report (option_map (λ v. shown v) r.view) r.place) }
+    ensures ok { let m = M.segments message.now in
+        IfOk result (λ r. IsRead m (words_of limits) (depth_of limits) path.now r.report
+        (option_map (λ v. shown v) r.view) r.place) }
     ensures message { IfOk result (λ r. IfSome r.view (λ v. view_message v ≡ message.now)) }
     ensures place { IfOk result (λ r. IfSome r.view (λ v. view_place v ≡ r.place)) }
-    ensures err { IfErr result (Justified (M.segments message.now) (words_of limits) (depth_of limits)) }
+    ensures err { let m = M.segments message.now in
+        IfErr result (Justified m (words_of limits) (depth_of limits)) }
 
     // It is the first fault in preorder, with its count of pointers.
-    ensures first { IfErr result (IsRefused (M.segments message.now) (words_of limits) (depth_of limits)) }
+    ensures first { let m = M.segments message.now in
+        IfErr result (IsRefused m (words_of limits) (depth_of limits)) }
 
     // The other direction: a message that denotes a tree within the limits is read, and a first
     // fault is returned if there is one.
-    ensures accepts { (t : Tree) (c d : ℕ) →
-        Denotes (M.segments message.now) 0 0 t c d → c ≤ words_of limits → d ≤ depth_of limits → IsOk result }
-    ensures refuses { (r : Refusal) → IsRefused (M.segments message.now) (words_of limits) (depth_of limits) r → result ≡ Err r }
+    ensures accepts { let m = M.segments message.now in (t : Tree) (c d : ℕ) → Denotes m 0 0 t c d →
+        c ≤ words_of limits → d ≤ depth_of limits → IsOk result }
+    ensures refuses { let m = M.segments message.now in
+        (r : Refusal) → IsRefused m (words_of limits) (depth_of limits) r → result ≡ Err r }
 {
     let vetted = match vet(message, limits) {
         Ok(vetted) => vetted,

@@ -29,12 +29,14 @@ returns-in-Some-clause-ok g c =
     let spot = node_spot c.in-Some.node in
     let view = c.view-view.result in
     let comes = subst (λ u. (level : ℕ) × Comes (g.M.Segments.segments u) path level spot) message c.in-Some.ensures.some in
-    let node = subst (λ u. (t : Tree) (x d : ℕ) → Denotes (g.M.Segments.segments u) 0 0 t x d → (y : Tree) × (node_at t path ≡ Some y) × DenotesAt (g.M.Segments.segments u) spot y) message c.in-Some.ensures.node in
+    let node = subst (λ u. (t : Tree) (x d : ℕ) → Denotes (g.M.Segments.segments u) 0 0 t x d →
+    (y : Tree) × (node_at t path ≡ Some y) × DenotesAt (g.M.Segments.segments u) spot y) message c.in-Some.ensures.node in
     let shows = subst (λ u. (t : Tree) → DenotesAt (g.M.Segments.segments u) spot t → shown view ≡ own_of t) of_node c.view-view.ensures.shows in
     let stands = subst (λ u. MatchOption (view_place view) ((t b n : ℕ) → Stands (g.M.Segments.segments u) spot t b n → ⊥)
     (λ (p : Place). Stands (g.M.Segments.segments u) spot p.segment p.start p.words)) of_node c.view-view.ensures.place in
     let exists = subst (λ u. IfSome c.place.result (λ (p : Place). p.segment < length (g.M.Segments.segments u))) of_view c.place.ensures.exists in
-    let inside = subst (λ u. IfSome c.place.result (λ (p : Place). p.start + p.words ≤ length (segment_of (g.M.Segments.segments u) p.segment))) of_view c.place.ensures.inside in
+    let inside = subst (λ u. IfSome c.place.result (λ (p : Place). p.start + p.words ≤ length (segment_of (g.M.Segments.segments u) p.segment)))
+    of_view c.place.ensures.inside in
     let tree = c.in-Ok.ensures.ok in
     node_read _ _ _ _ _ tree.0 spot _ _ _ (rw c.report-report.ensures.value tree.1) comes node shows c.place.ensures.value stands exists inside
 
