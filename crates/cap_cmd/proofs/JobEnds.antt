@@ -1,42 +1,53 @@
 -- What a job did, and what it did whose status is that of success.
-use Rattle.std.proofs.Common.{◌≡◌, ℕ, Option, Some, None, List, Result, Ok, Err, subst, sym, arith}
+use Rattle.std.proofs.Common.{◌≡◌, ◌∙◌, ℕ, Bool, Option, Some, None, List, Result, Ok, Err, subst, sym, arith}
 use Rattle.std.specs.Io.KnownBytes.{Appends, Keeps, append_known}
+use Rattle.cap_words.specs.declared.ends.ByteIn as input
 use Rattle.cap_words.specs.declared.ends.ByteOut as output
 use Rattle.cap_words.specs.declared.sinks.WordSink as sink
 use Rattle.cap_words.specs.declared.sources.WordSource as source
+use Rattle.cap_words.specs.declared.sources.SourceFault.TheVariants.{Truncated as source_truncated}
+use Rattle.cap_words.specs.declared.sources.SourceFault.TheVariants.{Device as source_device, Spent as source_spent}
 use Rattle.cap_canon.specs.declared.fault.CanonFault.TheVariants.{HasCapability, Memory as canon_memory}
 use Rattle.cap_frame.specs.declared.fault.FrameFault.{FrameFault}
-use Rattle.cap_frame.specs.declared.fault.FrameFault.TheVariants.{TooManySegments, TooLarge, Truncated, Device, Memory, Spent}
+use Rattle.cap_frame.specs.declared.fault.FrameFault.TheVariants.{TooManySegments, TooLarge, Truncated}
+use Rattle.cap_frame.specs.declared.fault.FrameFault.TheVariants.{Device, Memory, Spent}
 use Rattle.cap_frame.specs.Limit.{limit_of}
 use Rattle.cap_vet.specs.Limits.{depth_of, words_of}
 use Rattle.cap_spec.specs.Packing.{pack_text}
 use Rattle.cap_spec.specs.Plain.{plain_text}
 use Rattle.cap_run.specs.Canons.{MakesCopies, copies_of}
+use Rattle.cap_run.specs.Checking.{TellsCheck}
 use Rattle.cap_run.specs.Copying.{Copied, CopiesAll}
-use Rattle.cap_run.specs.Engines.{CopiesWords, TellsStream, most_packed_at_once, most_unpacked_at_once, most_words}
-use Rattle.cap_cmd.specs.Statuses.{cause_status, copy_status, frame_status, outcome_status, run_status}
-use Rattle.cap_cmd.specs.Jobs.{BeginsOutput, CopiesInput, DoesTask, CanonsInput, GivesOutput, TellsCopy, TellsInput, TellsRun}
-use Rattle.cap_run.specs.Telling.{Tells, outcome_of}
+use Rattle.cap_run.specs.Engines.{CopiesWords, TellsStream}
+use Rattle.cap_run.specs.Engines.{most_packed_at_once, most_unpacked_at_once, most_words}
+use Rattle.cap_run.specs.Telling.{Tells, TellsSegments, WantsNone, outcome_of}
+use Rattle.cap_run.specs.Vetting.{TellsDump, TellsExclusive, TellsGet, TellsVerdict, WantsMarks}
 use Rattle.cap_run.specs.declared.fault.Cause.{Cause}
-use Rattle.cap_run.specs.declared.fault.Cause.TheVariants.{TooManyMessages, Frame, Output, Refused, Canon, Memory as no_marks}
+use Rattle.cap_run.specs.declared.fault.Cause.TheVariants.{TooManyMessages, Frame, Output, Refused}
+use Rattle.cap_run.specs.declared.fault.Cause.TheVariants.{Canon, Memory as no_marks}
 use Rattle.cap_run.specs.declared.fault.CopyFault.{CopyFault}
 use Rattle.cap_run.specs.declared.fault.CopyFault.TheVariants.{TooManyWords, Source, Output as copy_output}
-use Rattle.cap_words.specs.declared.sources.SourceFault.TheVariants.{Truncated as source_truncated, Device as source_device, Spent as source_spent}
 use Rattle.cap_run.specs.declared.fault.RunFault.{RunFault}
-use Rattle.cap_cmd.specs.declared.job.Task.{Task}
-use Rattle.cap_cmd.specs.declared.job.Task.TheVariants.{Canon as canon_task, Pack, Unpack}
 use Rattle.cap_run.specs.declared.settings.Outcome.{Outcome}
 use Rattle.cap_run.specs.declared.settings.Settings.{Settings}
+use Rattle.cap_cmd.specs.Statuses.{cause_status, copy_status, frame_status, outcome_status, run_status}
+use Rattle.cap_cmd.specs.Jobs.{CanonsInput, CopiesInput, DoesJob, DoesTask, GivesOutput, PutsTo}
+use Rattle.cap_cmd.specs.Jobs.{TellsInput, WritesAll, input_is_cut, input_words}
+use Rattle.cap_cmd.specs.declared.job.Task.{Task}
+use Rattle.cap_cmd.specs.declared.job.Task.TheVariants.{Segments, Vet, Dump, Get, Check, Pack, Unpack}
+use Rattle.cap_cmd.specs.declared.job.Task.TheVariants.{Canon as canon_task}
 
 -- bytes that are what others and a text were are those others, continued by the text
-pub kept_appends : (a b : Option (List ℕ)) (text : List ℕ) → Keeps (append_known a text) b → Appends a b text
+kept_appends : (a b : Option (List ℕ)) (text : List ℕ) → Keeps (append_known a text) b → Appends a b text
 kept_appends None b text k = tt
 kept_appends (Some xs) None text k = absurd k
 kept_appends (Some xs) (Some ys) text k = k
 
-module _ {S K : Type 0} (gs : source.Ghosts S) (gk : sink.Ghosts K) (at_once most : ℕ) (old new : S) (before after : K) where
+module _ {S K : Type 0} (gs : source.Ghosts S) (gk : sink.Ghosts K) (at_once most : ℕ)
+    (old new : S) (before after : K) where
   -- a copy with the status of success put all words
-  pub copied_all : (r : Result ℕ CopyFault) → copy_status r ≡ 0 → Copied gs gk at_once most old new before after r → (put : List ℕ) × CopiesAll gs gk most old new before after put
+  copied_all : (r : Result ℕ CopyFault) → copy_status r ≡ 0 → Copied gs gk at_once most old new before after r
+      → (put : List ℕ) × CopiesAll gs gk most old new before after put
   copied_all (Ok n) e c = (c.0, c.2)
   copied_all (Err TooManyWords) e c = absurd (cc)
   copied_all (Err (Source (source_truncated byte))) e c = absurd (cc)
@@ -45,7 +56,7 @@ module _ {S K : Type 0} (gs : source.Ghosts S) (gk : sink.Ghosts K) (at_once mos
   copied_all (Err (copy_output fault)) e c = absurd (cc)
 
 -- no fault has that status
-pub frame_fails : (fault : FrameFault) → frame_status fault ≡ 0 → ⊥
+frame_fails : (fault : FrameFault) → frame_status fault ≡ 0 → ⊥
 frame_fails (TooManySegments n) e = cc
 frame_fails (TooLarge n) e = cc
 frame_fails (Truncated n) e = cc
@@ -53,7 +64,7 @@ frame_fails Device e = cc
 frame_fails Memory e = cc
 frame_fails Spent e = cc
 
-pub cause_fails : (cause : Cause) → cause_status cause ≡ 0 → ⊥
+cause_fails : (cause : Cause) → cause_status cause ≡ 0 → ⊥
 cause_fails TooManyMessages e = cc
 cause_fails (Frame fault) e = frame_fails fault e
 cause_fails (Output fault) e = cc
@@ -63,20 +74,20 @@ cause_fails (Canon canon_memory) e = cc
 cause_fails no_marks e = cc
 
 -- with it no message was refused
-pub none_refused : (o : Outcome) → outcome_status o ≡ 0 → o.refused ≡ 0
+none_refused : (o : Outcome) → outcome_status o ≡ 0 → o.refused ≡ 0
 none_refused o e = grind (arith, e)
 
 -- and none wasn't canonical
-pub none_noncanonical : (o : Outcome) → outcome_status o ≡ 0 → o.noncanonical ≡ 0
+none_noncanonical : (o : Outcome) → outcome_status o ≡ 0 → o.noncanonical ≡ 0
 none_noncanonical o e = grind (arith, e)
 
-module _ {S O : Type 0} (gs : source.Ghosts S) (go : output.Ghosts O) where
+module _ {S O : Type 0} (gs : source.Ghosts S) (go : output.Ghosts O) (s : Settings) (old new : S) where
   -- all messages were accepted
-  pub told_all : (tells : Tells) (wants : List (List ℕ) → Type 0) (limit most : ℕ) (old new : S) (before after : O) (r : Result Outcome RunFault) → run_status r ≡ 0
-      → TellsStream gs go tells wants limit most old new before after r
-      → TellsInput tells (gs.words old) (gs.is_cut old) (go.written before) (go.written after) limit most
-  told_all tells wants limit most old new before after (Ok o) e s =
-      let k = s.ok in
+  told_all : (tells : Tells) (wants : List (List ℕ) → Type 0) (before after : O) (r : Result Outcome RunFault)
+      → run_status r ≡ 0 → TellsStream gs go tells wants (limit_of s.size) s.messages old new before after r
+      → TellsInput tells s (gs.words old) (gs.is_cut old) (go.written before) (go.written after)
+  told_all tells wants before after (Ok o) e t =
+      let k = t.ok in
       record {
         own = k.1.own;
         all = k.1.all;
@@ -89,31 +100,35 @@ module _ {S O : Type 0} (gs : source.Ghosts S) (go : output.Ghosts O) where
         canonical = none_noncanonical (outcome_of k.0) (subst (λ (x : Outcome). outcome_status x ≡ 0) k.5 e);
         appended = k.3.appended;
       }
-  told_all tells wants limit most old new before after (Err fault) e s = absurd (cause_fails fault.cause e)
+  told_all tells wants before after (Err fault) e t = absurd (cause_fails fault.cause e)
 
-module _ {S O K : Type 0} (gs : source.Ghosts S) (go : output.Ghosts O) (gk : sink.Ghosts K) where
+module _ {S O K : Type 0} (gs : source.Ghosts S) (go : output.Ghosts O) (s : Settings) (old new : S)
+    (gk : sink.Ghosts K) where
   -- all words were copied
-  pub all_copied : (text : List ℕ → List ℕ) (at_once most : ℕ) (old new : S) (before after : O) (begun ended : K) (r : Result ℕ CopyFault) → copy_status r ≡ 0
-      → BeginsOutput go gk text before begun → CopiesWords gs gk at_once most old new begun ended r → GivesOutput go gk ended after
-      → CopiesInput (gs.words old) (gs.is_cut old) (go.written before) (go.written after) text most
-  all_copied text at_once most old new before after begun ended r e b c g =
-      let k = copied_all gs gk at_once most old new begun ended r e c.copied in
-      let kept = subst (λ (o : Option (List ℕ)). Keeps o (gk.taken ended)) (b.empty k.0) k.1.finishes.finished in
+  all_copied : (text : List ℕ → List ℕ) (at_once : ℕ) (before after : O) (r : Result ℕ CopyFault)
+      → copy_status r ≡ 0
+      → PutsTo go gk text before after (λ begun ended. CopiesWords gs gk at_once most_words old new begun ended r)
+      → CopiesInput text (gs.words old) (gs.is_cut old) (go.written before) (go.written after)
+  all_copied text at_once before after r e p =
+      let k = copied_all gs gk at_once most_words old new p.begun p.ended r e p.puts.copied in
+      let kept = subst (λ (o : Option (List ℕ)). Keeps o (gk.taken p.ended)) (p.begins.empty k.0) k.1.finishes.finished in
       record {
         own = k.0;
         all = k.1.all;
         few = k.1.few;
-        appended = subst (λ o. Appends (go.written before) o (text k.0)) g.taken (kept_appends (go.written before) (gk.taken ended) (text k.0) kept);
+        appended = subst (λ o. Appends (go.written before) o (text k.0)) p.gives.taken
+            (kept_appends (go.written before) (gk.taken p.ended) (text k.0) kept);
       }
 
-module _ {S O K : Type 0} (gs : source.Ghosts S) (go : output.Ghosts O) (gk : sink.Ghosts K) where
   -- all copies were put
-  pub all_made : (charge depth limit most : ℕ) (old new : S) (before after : O) (begun ended : K) (r : Result Outcome RunFault) → run_status r ≡ 0
-      → BeginsOutput go gk plain_text before begun → MakesCopies gs gk charge depth limit most old new begun ended r → GivesOutput go gk ended after
-      → CanonsInput (gs.words old) (gs.is_cut old) (go.written before) (go.written after) charge depth limit most
-  all_made charge depth limit most old new before after begun ended (Ok o) e b c g =
-      let k = c.ok in
-      let kept = subst (λ (o : Option (List ℕ)). Keeps o (gk.taken ended)) (b.empty (copies_of k.0)) k.3.finished in
+  all_made : (before after : O) (r : Result Outcome RunFault) → run_status r ≡ 0
+      → PutsTo go gk plain_text before after (λ begun ended.
+      MakesCopies gs gk (words_of s.limits) (depth_of s.limits) (limit_of s.size) s.messages old new begun ended r)
+      → CanonsInput s (gs.words old) (gs.is_cut old) (go.written before) (go.written after)
+  all_made before after (Ok o) e p =
+      let k = p.puts.ok in
+      let text = plain_text (copies_of k.0) in
+      let kept = subst (λ (o : Option (List ℕ)). Keeps o (gk.taken p.ended)) (p.begins.empty (copies_of k.0)) k.3.finished in
       record {
         own = k.1.own;
         all = k.1.all;
@@ -122,34 +137,54 @@ module _ {S O K : Type 0} (gs : source.Ghosts S) (go : output.Ghosts O) (gk : si
         within = k.1.within;
         many = k.4;
         each = k.2;
-        appended = subst (λ o. Appends (go.written before) o (plain_text (copies_of k.0))) g.taken
-            (kept_appends (go.written before) (gk.taken ended) (plain_text (copies_of k.0)) kept);
+        appended = subst (λ o. Appends (go.written before) o text) p.gives.taken
+            (kept_appends (go.written before) (gk.taken p.ended) text kept);
       }
-  all_made charge depth limit most old new before after begun ended (Err fault) e b c g = absurd (cause_fails fault.cause e)
+  all_made before after (Err fault) e p = absurd (cause_fails fault.cause e)
 
-module _ {S O E P U : Type 0} (gs : source.Ghosts S) (go : output.Ghosts O) (ge : output.Ghosts E) (gp : sink.Ghosts P) (gu : sink.Ghosts U) where
-  -- what the task's engine does was done
-  pub does_as : (task one : Task) (s : Settings) (first : S) (before after : O) (old new : E) (status : ℕ) → task ≡ one → DoesTask gs go ge gp gu one s first before after old new status
+module _ {S O E P U : Type 0} (gs : source.Ghosts S) (go : output.Ghosts O) (ge : output.Ghosts E)
+    (gp : sink.Ghosts P) (gu : sink.Ghosts U) where
+  -- what a task with the status of success wrote
+  writes_all : (task : Task) (s : Settings) (first : S) (before after : O) (old new : E) (status : ℕ) → status ≡ 0
       → DoesTask gs go ge gp gu task s first before after old new status
-  does_as task one s first before after old new status e d = subst (λ (x : Task). DoesTask gs go ge gp gu x s first before after old new status) (sym e) d
+      → WritesAll task s (gs.words first) (gs.is_cut first) (go.written before) (go.written after)
+  writes_all Segments s first before after old new status e d =
+      told_all gs go s first d.last TellsSegments WantsNone before after d.answer (sym d.reported.status_is ∙ e) d.does.told
+  writes_all (Vet false) s first before after old new status e d =
+      told_all gs go s first d.last (TellsVerdict (words_of s.limits) (depth_of s.limits)) WantsNone before after
+      d.answer (sym d.reported.status_is ∙ e) d.does
+  writes_all (Vet true) s first before after old new status e d =
+      told_all gs go s first d.last (TellsExclusive (words_of s.limits) (depth_of s.limits))
+      (WantsMarks (words_of s.limits) (depth_of s.limits)) before after d.answer (sym d.reported.status_is ∙ e) d.does
+  writes_all Dump s first before after old new status e d =
+      told_all gs go s first d.last (TellsDump (words_of s.limits) (depth_of s.limits)) WantsNone before after
+      d.answer (sym d.reported.status_is ∙ e) d.does
+  writes_all (Get path) s first before after old new status e d =
+      told_all gs go s first d.last (TellsGet (words_of s.limits) (depth_of s.limits) path.items) WantsNone before after
+      d.answer (sym d.reported.status_is ∙ e) d.does
+  writes_all Check s first before after old new status e d =
+      told_all gs go s first d.last (TellsCheck (words_of s.limits) (depth_of s.limits)) WantsNone before after
+      d.answer (sym d.reported.status_is ∙ e) d.does
+  writes_all canon_task s first before after old new status e d =
+      all_made gs go s first d.last gu before after d.answer (sym d.reported.status_is ∙ e) d.does
+  writes_all Pack s first before after old new status e d =
+      all_copied gs go s first d.last gp pack_text most_packed_at_once before after d.answer
+      (sym d.reported.status_is ∙ e) d.does
+  writes_all Unpack s first before after old new status e d =
+      all_copied gs go s first d.last gu plain_text most_unpacked_at_once before after d.answer
+      (sym d.reported.status_is ∙ e) d.does
 
-  -- words were packed
-  pub does_pack : (task : Task) (s : Settings) (first last : S) (before after : O) (old new : E) (status : ℕ) (begun ended : P) (answer : Result ℕ CopyFault) → task ≡ Pack
-      → BeginsOutput go gp pack_text before begun → CopiesWords gs gp most_packed_at_once most_words first last begun ended answer → GivesOutput go gp ended after → TellsCopy ge answer old new status
-      → DoesTask gs go ge gp gu task s first before after old new status
-  does_pack task s first last before after old new status begun ended answer e b c g t =
-      subst (λ (x : Task). DoesTask gs go ge gp gu x s first before after old new status) (sym e) (answer, last, begun, ended, b, c, g, t)
-
-  -- words were unpacked
-  pub does_unpack : (task : Task) (s : Settings) (first last : S) (before after : O) (old new : E) (status : ℕ) (begun ended : U) (answer : Result ℕ CopyFault) → task ≡ Unpack
-      → BeginsOutput go gu plain_text before begun → CopiesWords gs gu most_unpacked_at_once most_words first last begun ended answer → GivesOutput go gu ended after → TellsCopy ge answer old new status
-      → DoesTask gs go ge gp gu task s first before after old new status
-  does_unpack task s first last before after old new status begun ended answer e b c g t =
-      subst (λ (x : Task). DoesTask gs go ge gp gu x s first before after old new status) (sym e) (answer, last, begun, ended, b, c, g, t)
-
-  -- copies were put
-  pub does_canon : (task : Task) (s : Settings) (first last : S) (before after : O) (old new : E) (status : ℕ) (begun ended : U) (answer : Result Outcome RunFault) → task ≡ canon_task
-      → BeginsOutput go gu plain_text before begun → MakesCopies gs gu (words_of s.limits) (depth_of s.limits) (limit_of s.size) s.messages first last begun ended answer
-      → GivesOutput go gu ended after → TellsRun ge answer old new status → DoesTask gs go ge gp gu task s first before after old new status
-  does_canon task s first last before after old new status begun ended answer e b c g t =
-      subst (λ (x : Task). DoesTask gs go ge gp gu x s first before after old new status) (sym e) (answer, last, begun, ended, b, c, g, t)
+  -- and what a job wrote
+  pub job_writes_all : {I : Type 0} (gi : input.Ghosts I) (is_packed packed : Bool) (task : Task) (s : Settings)
+      (start : I) (before after : O) (old new : E) (status : ℕ) → is_packed ≡ packed → status ≡ 0
+      → DoesJob gi gs go ge gp gu packed task s start before after old new status
+      → WritesAll task s (input_words is_packed (gi.to_come start)) (input_is_cut is_packed (gi.to_come start))
+      (go.written before) (go.written after)
+  job_writes_all gi is_packed packed task s start before after old new status same e j =
+      let written = writes_all task s j.first before after old new status e j.does in
+      let cut = subst (λ c. WritesAll task s (gs.words j.first) c (go.written before) (go.written after)) j.begins.is_cut
+      written in
+      let known = subst (λ w. WritesAll task s w (input_is_cut packed (gi.to_come start)) (go.written before)
+      (go.written after)) j.begins.words cut in
+      subst (λ b. WritesAll task s (input_words b (gi.to_come start)) (input_is_cut b (gi.to_come start))
+      (go.written before) (go.written after)) (sym same) known

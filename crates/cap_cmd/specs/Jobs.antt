@@ -1,9 +1,9 @@
 -- What a job does: its engine returns an answer over the words of its input.
 -- The status and the line of a fault report that answer (profile).
--- The members of types have the letters of types. gi is of the input's, and gs of the source's over
--- it. Those of the two outputs' are go and ge. That of a packer's over the first is gp, and that of
--- a plain sink's is gu.
-use Rattle.std.specs.Prelude.{ℕ, ◌≡◌, ◌≤◌, ◌||◌, if◌then◌else◌, true, false, Bool, List, length, sum, [], Option, Some, OnSome, Result, Ok, Err, unwrap_or}
+-- The members of types have the letters of types. gi is of the input's, and gs of the source's over it. Those of the
+-- two outputs' are go and ge. That of a packer's over the first is gp, and that of a plain sink's is gu.
+use Rattle.std.specs.Prelude.{ℕ, ◌≡◌, ◌≤◌, ◌||◌, if◌then◌else◌, true, false, Bool, List, length, sum, [], unwrap_or}
+use Rattle.std.specs.Prelude.{Option, Some, OnSome, Result, Ok, Err}
 use Rattle.std.specs.List.{AllByRecursion}
 use Rattle.std.specs.Option.{option_map}
 use Rattle.std.specs.Io.KnownBytes.{Appends, append_known}
@@ -21,18 +21,20 @@ use Rattle.cap_frame.specs.Limit.{limit_of}
 use Rattle.cap_vet.specs.Limits.{depth_of, words_of}
 use Rattle.cap_run.specs.Canons.{AreCanonised, Canonised, MakesCopies, canonised, copies_of}
 use Rattle.cap_run.specs.Checking.{TellsCheck}
-use Rattle.cap_run.specs.Engines.{CopiesWords, ShowsStream, TellsStream, most_packed_at_once, most_unpacked_at_once, most_words}
+use Rattle.cap_run.specs.Engines.{CopiesWords, ShowsStream, TellsStream}
+use Rattle.cap_run.specs.Engines.{most_packed_at_once, most_unpacked_at_once, most_words}
 use Rattle.cap_run.specs.FaultLines.{copy_fault_line, run_fault_line}
-use Rattle.cap_cmd.specs.Statuses.{copy_status, run_status}
-use Rattle.cap_run.specs.Telling.{Tells, TellsEach, TellsSegments, Told, WantsNone, messages_of, noncanonical_in, refused_in, texts_of}
+use Rattle.cap_run.specs.Telling.{Tells, TellsEach, TellsSegments, Told, WantsNone}
+use Rattle.cap_run.specs.Telling.{messages_of, noncanonical_in, refused_in, texts_of}
 use Rattle.cap_run.specs.Vetting.{TellsDump, TellsExclusive, TellsGet, TellsVerdict, WantsMarks}
 use Rattle.cap_run.specs.Writing.{Writes}
 use Rattle.cap_run.specs.declared.fault.CopyFault.{CopyFault}
 use Rattle.cap_run.specs.declared.fault.RunFault.{RunFault}
-use Rattle.cap_cmd.specs.declared.job.Task.{Task}
-use Rattle.cap_cmd.specs.declared.job.Task.TheVariants.{Segments, Vet, Dump, Get, Check, Canon, Pack, Unpack}
 use Rattle.cap_run.specs.declared.settings.Outcome.{Outcome}
 use Rattle.cap_run.specs.declared.settings.Settings.{Settings}
+use Rattle.cap_cmd.specs.Statuses.{copy_status, run_status}
+use Rattle.cap_cmd.specs.declared.job.Task.{Task}
+use Rattle.cap_cmd.specs.declared.job.Task.TheVariants.{Segments, Vet, Dump, Get, Check, Canon, Pack, Unpack}
 
 -- the input of unpacking is packed, that of packing is not, and for messages the user decides
 abbrev pub is_packed : Task → Bool → Bool
@@ -51,11 +53,13 @@ input_words packed bytes = if packed then option_map unpacked bytes else option_
 
 -- whether it ends inside a group, or inside a word
 abbrev pub input_is_cut : Bool → Option (List ℕ) → Bool
-input_is_cut packed bytes = if packed then packed_is_cut (unwrap_or bytes []) else plain_is_cut (unwrap_or bytes [])
+input_is_cut packed bytes =
+    if packed then packed_is_cut (unwrap_or bytes []) else plain_is_cut (unwrap_or bytes [])
 
 -- the places of its words and of its end
 abbrev pub input_ends : Bool → Option (List ℕ) → List ℕ
-input_ends packed bytes = if packed then packed_ends 0 (unwrap_or bytes []) else plain_ends 0 (unwrap_or bytes [])
+input_ends packed bytes =
+    if packed then packed_ends 0 (unwrap_or bytes []) else plain_ends 0 (unwrap_or bytes [])
 
 module _ {I S : Type 0} (gi : input.Ghosts I) (gs : source.Ghosts S) where
   -- A source begins with the words of an input that is packed or not.
@@ -85,109 +89,130 @@ module _ {O K : Type 0} (go : output.Ghosts O) (gk : sink.Ghosts K) where
     pub spent : gk.spent last ≡ gk.closed last || go.spent end
     pub failures : gk.failures last ≡ go.failures end
 
+  -- A sink begins over an output, an engine takes it from `begun` to `ended`, and gives the output back.
+  pub record PutsTo (text : List ℕ → List ℕ) (before after : O) (engine : K → K → Type 0) : Type 0 where
+    pub begun : K
+    pub ended : K
+    pub begins : BeginsOutput text before begun
+    pub puts : engine begun ended
+    pub gives : GivesOutput ended after
+
 module _ {E : Type 0} (ge : output.Ghosts E) where
-  -- The line of a fault was written, or a beginning of it where this output failed; and nothing where there was no fault.
+  -- The line of a fault was written, or a prefix of it if this output failed. Without a fault nothing was written.
   abbrev pub WritesLine : {A F : Type 0} → (F → List ℕ) → Result A F → E → E → Type 0
   WritesLine line (Ok x) old new = new ≡ old
   WritesLine line (Err fault) old new = (r : Result (Unit {0}) OutFault) × Writes ge old new r (line fault)
 
-  -- The status is that of an engine's answer, and the line is that of its fault.
-  pub record TellsRun (answer : Result Outcome RunFault) (old new : E) (status : ℕ) : Type 0 where
-    pub status_is : status ≡ run_status answer
-    pub line : WritesLine run_fault_line answer old new
+  -- The status and the line of a fault are those of this answer.
+  pub record Reports {A F : Type 0} (status_of : Result A F → ℕ) (line : F → List ℕ)
+      (answer : Result A F) (old new : E) (status : ℕ) : Type 0 where
+    pub status_is : status ≡ status_of answer
+    pub line_is : WritesLine line answer old new
 
-  -- The status is that of a copy's answer, and the line is that of its fault.
-  pub record TellsCopy (answer : Result ℕ CopyFault) (old new : E) (status : ℕ) : Type 0 where
-    pub status_is : status ≡ copy_status answer
-    pub line : WritesLine copy_fault_line answer old new
+  -- the answer of an engine over messages
+  abbrev pub ReportsRun : Result Outcome RunFault → E → E → ℕ → Type 0
+  ReportsRun = Reports run_status run_fault_line
 
-module _ {S O E P U : Type 0} (gs : source.Ghosts S) (go : output.Ghosts O) (ge : output.Ghosts E) (gp : sink.Ghosts P) (gu : sink.Ghosts U) where
-  -- What is done over the words of a source, by the task: an answer of the task's engine.
-  -- The status and the line of a fault report it.
-  abbrev pub DoesTask : Task → Settings → S → O → O → E → E → ℕ → Type 0
-  DoesTask Segments s first before after old new status = (answer : Result Outcome RunFault) × (last : S)
-      × ShowsStream gs go (limit_of s.size) s.messages first last before after answer × TellsRun ge answer old new status
-  DoesTask (Vet false) s first before after old new status = (answer : Result Outcome RunFault) × (last : S)
-      × TellsStream gs go (TellsVerdict (words_of s.limits) (depth_of s.limits)) WantsNone (limit_of s.size) s.messages first last before after answer
-      × TellsRun ge answer old new status
-  DoesTask (Vet true) s first before after old new status = (answer : Result Outcome RunFault) × (last : S)
-      × TellsStream gs go (TellsExclusive (words_of s.limits) (depth_of s.limits)) (WantsMarks (words_of s.limits) (depth_of s.limits)) (limit_of s.size)
-      s.messages first last before after answer × TellsRun ge answer old new status
-  DoesTask Dump s first before after old new status = (answer : Result Outcome RunFault) × (last : S)
-      × TellsStream gs go (TellsDump (words_of s.limits) (depth_of s.limits)) WantsNone (limit_of s.size) s.messages first last before after answer
-      × TellsRun ge answer old new status
-  DoesTask (Get path) s first before after old new status = (answer : Result Outcome RunFault) × (last : S)
-      × TellsStream gs go (TellsGet (words_of s.limits) (depth_of s.limits) path.items) WantsNone (limit_of s.size) s.messages first last before after answer
-      × TellsRun ge answer old new status
-  DoesTask Check s first before after old new status = (answer : Result Outcome RunFault) × (last : S)
-      × TellsStream gs go (TellsCheck (words_of s.limits) (depth_of s.limits)) WantsNone (limit_of s.size) s.messages first last before after answer
-      × TellsRun ge answer old new status
-  DoesTask Canon s first before after old new status = (answer : Result Outcome RunFault) × (last : S) × (begun : U) × (ended : U)
-      × BeginsOutput go gu plain_text before begun
-      × MakesCopies gs gu (words_of s.limits) (depth_of s.limits) (limit_of s.size) s.messages first last begun ended answer
-      × GivesOutput go gu ended after × TellsRun ge answer old new status
-  DoesTask Pack s first before after old new status = (answer : Result ℕ CopyFault) × (last : S) × (begun : P) × (ended : P)
-      × BeginsOutput go gp pack_text before begun × CopiesWords gs gp most_packed_at_once most_words first last begun ended answer
-      × GivesOutput go gp ended after × TellsCopy ge answer old new status
-  DoesTask Unpack s first before after old new status = (answer : Result ℕ CopyFault) × (last : S) × (begun : U) × (ended : U)
-      × BeginsOutput go gu plain_text before begun × CopiesWords gs gu most_unpacked_at_once most_words first last begun ended answer
-      × GivesOutput go gu ended after × TellsCopy ge answer old new status
+  -- the answer of an engine over words
+  abbrev pub ReportsCopy : Result ℕ CopyFault → E → E → ℕ → Type 0
+  ReportsCopy = Reports copy_status copy_fault_line
 
-module _ {I S O E P U : Type 0} (gi : input.Ghosts I) (gs : source.Ghosts S) (go : output.Ghosts O) (ge : output.Ghosts E)
+module _ {S E : Type 0} where
+  -- An engine left its source at `last` and gave an answer, which is reported.
+  pub record Runs {A : Type 0} (engine : S → A → Type 0) (reports : A → E → E → ℕ → Type 0)
+      (old new : E) (status : ℕ) : Type 0 where
+    pub last : S
+    pub answer : A
+    pub does : engine last answer
+    pub reported : reports answer old new status
+
+module _ {S O E : Type 0} (gs : source.Ghosts S) (go : output.Ghosts O) (ge : output.Ghosts E) where
+  -- an engine that writes a text of each message
+  abbrev pub TellsTask : Tells → (List (List ℕ) → Type 0) → Settings → S → O → O → E → E → ℕ → Type 0
+  TellsTask tells wants s first before after = Runs
+      (λ last answer. TellsStream gs go tells wants (limit_of s.size) s.messages first last before after answer)
+      (ReportsRun ge)
+
+module _ {S O E P U : Type 0} (gs : source.Ghosts S) (go : output.Ghosts O) (ge : output.Ghosts E)
     (gp : sink.Ghosts P) (gu : sink.Ghosts U) where
+  -- What is done over the words of a source, by the task: its engine runs, and its answer is reported.
+  abbrev pub DoesTask : Task → Settings → S → O → O → E → E → ℕ → Type 0
+  DoesTask Segments s first before after = Runs
+      (λ last answer. ShowsStream gs go (limit_of s.size) s.messages first last before after answer) (ReportsRun ge)
+  DoesTask (Vet false) s first before after =
+      TellsTask gs go ge (TellsVerdict (words_of s.limits) (depth_of s.limits)) WantsNone s first before after
+  DoesTask (Vet true) s first before after =
+      TellsTask gs go ge (TellsExclusive (words_of s.limits) (depth_of s.limits))
+      (WantsMarks (words_of s.limits) (depth_of s.limits)) s first before after
+  DoesTask Dump s first before after =
+      TellsTask gs go ge (TellsDump (words_of s.limits) (depth_of s.limits)) WantsNone s first before after
+  DoesTask (Get path) s first before after =
+      TellsTask gs go ge (TellsGet (words_of s.limits) (depth_of s.limits) path.items) WantsNone s first before after
+  DoesTask Check s first before after =
+      TellsTask gs go ge (TellsCheck (words_of s.limits) (depth_of s.limits)) WantsNone s first before after
+  DoesTask Canon s first before after = Runs (λ last answer. PutsTo go gu plain_text before after (λ begun ended.
+      MakesCopies gs gu (words_of s.limits) (depth_of s.limits) (limit_of s.size) s.messages first last begun ended
+      answer)) (ReportsRun ge)
+  DoesTask Pack s first before after = Runs (λ last answer. PutsTo go gp pack_text before after
+      (λ begun ended. CopiesWords gs gp most_packed_at_once most_words first last begun ended answer))
+      (ReportsCopy ge)
+  DoesTask Unpack s first before after = Runs (λ last answer. PutsTo go gu plain_text before after
+      (λ begun ended. CopiesWords gs gu most_unpacked_at_once most_words first last begun ended answer))
+      (ReportsCopy ge)
+
+module _ {I S O E P U : Type 0} (gi : input.Ghosts I) (gs : source.Ghosts S) (go : output.Ghosts O)
+    (ge : output.Ghosts E) (gp : sink.Ghosts P) (gu : sink.Ghosts U) where
   -- A task is done over the words of an input, which is packed or not.
-  pub record DoesJob (packed : Bool) (task : Task) (settings : Settings) (start : I) (before after : O) (old new : E) (status : ℕ) : Type 0 where
+  pub record DoesJob (packed : Bool) (task : Task) (settings : Settings) (start : I) (before after : O)
+      (old new : E) (status : ℕ) : Type 0 where
     pub first : S
     pub begins : BeginsInput gi gs packed start first
     pub does : DoesTask gs go ge gp gu task settings first before after old new status
 
--- All words are frames of messages, each within the limit, and none is cut short. Each message is accepted, and canonical where that was asked,
--- and such a text of it was written.
-pub record TellsInput (tells : Tells) (words : Option (List ℕ)) (is_cut : Bool) (before after : Option (List ℕ))
-    (limit most : ℕ) : Type 0 where
+-- All words are frames of messages, each within the limit, and none is cut short. Each message is accepted, and
+-- canonical if that was asked, and such a text of it was written.
+pub record TellsInput (tells : Tells) (s : Settings) (words : Option (List ℕ)) (is_cut : Bool)
+    (before after : Option (List ℕ)) : Type 0 where
   pub own : List ℕ
   pub all : OnSome words ((words ≡ Some own) × (is_cut ≡ false))
   pub ts : List Told
   pub stream : Stream own (messages_of ts)
-  pub within : AllByRecursion (λ m. sum (sizes_of m) ≤ limit) (messages_of ts)
-  pub many : length ts ≤ most
+  pub within : AllByRecursion (λ m. sum (sizes_of m) ≤ limit_of s.size) (messages_of ts)
+  pub many : length ts ≤ s.messages
   pub each : TellsEach tells 0 ts
   pub accepted : refused_in ts ≡ 0
   pub canonical : noncanonical_in ts ≡ 0
   pub appended : Appends before after (texts_of ts)
 
--- All words are frames of messages, each within the limit, and none is cut short. Each message is accepted and has a canonical copy, and the frame of
--- that was written.
-pub record CanonsInput (words : Option (List ℕ)) (is_cut : Bool) (before after : Option (List ℕ)) (charge depth limit most : ℕ) : Type 0 where
+-- All words are frames of messages, each within the limit, and none is cut short. Each message is accepted and has a
+-- canonical copy, and the frame of that was written.
+pub record CanonsInput (s : Settings) (words : Option (List ℕ)) (is_cut : Bool)
+    (before after : Option (List ℕ)) : Type 0 where
   pub own : List ℕ
   pub all : OnSome words ((words ≡ Some own) × (is_cut ≡ false))
   pub cs : List Canonised
   pub stream : Stream own (canonised cs)
-  pub within : AllByRecursion (λ m. sum (sizes_of m) ≤ limit) (canonised cs)
-  pub many : length cs ≤ most
-  pub each : AreCanonised charge depth cs
+  pub within : AllByRecursion (λ m. sum (sizes_of m) ≤ limit_of s.size) (canonised cs)
+  pub many : length cs ≤ s.messages
+  pub each : AreCanonised (words_of s.limits) (depth_of s.limits) cs
   pub appended : Appends before after (plain_text (copies_of cs))
 
 -- The text of all words was written, and none is cut short.
-pub record CopiesInput (words : Option (List ℕ)) (is_cut : Bool) (before after : Option (List ℕ)) (text : List ℕ → List ℕ) (most : ℕ) : Type 0 where
+pub record CopiesInput (text : List ℕ → List ℕ) (words : Option (List ℕ)) (is_cut : Bool)
+    (before after : Option (List ℕ)) : Type 0 where
   pub own : List ℕ
   pub all : OnSome words ((words ≡ Some own) × (is_cut ≡ false))
-  pub few : length own ≤ most
+  pub few : length own ≤ most_words
   pub appended : Appends before after (text own)
 
 -- What a task with the status of success wrote of all words, by the task.
 abbrev pub WritesAll : Task → Settings → Option (List ℕ) → Bool → Option (List ℕ) → Option (List ℕ) → Type 0
-WritesAll Segments s words is_cut before after = TellsInput TellsSegments words is_cut before after (limit_of s.size) s.messages
-WritesAll (Vet false) s words is_cut before after =
-    TellsInput (TellsVerdict (words_of s.limits) (depth_of s.limits)) words is_cut before after (limit_of s.size) s.messages
-WritesAll (Vet true) s words is_cut before after =
-    TellsInput (TellsExclusive (words_of s.limits) (depth_of s.limits)) words is_cut before after (limit_of s.size) s.messages
-WritesAll Dump s words is_cut before after =
-    TellsInput (TellsDump (words_of s.limits) (depth_of s.limits)) words is_cut before after (limit_of s.size) s.messages
-WritesAll (Get path) s words is_cut before after =
-    TellsInput (TellsGet (words_of s.limits) (depth_of s.limits) path.items) words is_cut before after (limit_of s.size) s.messages
-WritesAll Check s words is_cut before after =
-    TellsInput (TellsCheck (words_of s.limits) (depth_of s.limits)) words is_cut before after (limit_of s.size) s.messages
-WritesAll Canon s words is_cut before after = CanonsInput words is_cut before after (words_of s.limits) (depth_of s.limits) (limit_of s.size) s.messages
-WritesAll Pack s words is_cut before after = CopiesInput words is_cut before after pack_text most_words
-WritesAll Unpack s words is_cut before after = CopiesInput words is_cut before after plain_text most_words
+WritesAll Segments s = TellsInput TellsSegments s
+WritesAll (Vet false) s = TellsInput (TellsVerdict (words_of s.limits) (depth_of s.limits)) s
+WritesAll (Vet true) s = TellsInput (TellsExclusive (words_of s.limits) (depth_of s.limits)) s
+WritesAll Dump s = TellsInput (TellsDump (words_of s.limits) (depth_of s.limits)) s
+WritesAll (Get path) s = TellsInput (TellsGet (words_of s.limits) (depth_of s.limits) path.items) s
+WritesAll Check s = TellsInput (TellsCheck (words_of s.limits) (depth_of s.limits)) s
+WritesAll Canon s = CanonsInput s
+WritesAll Pack s = CopiesInput pack_text
+WritesAll Unpack s = CopiesInput plain_text

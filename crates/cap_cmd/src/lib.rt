@@ -3,15 +3,12 @@
 #![tactic(auto)]
 
 mod command_line;
+mod commands;
+mod help;
 mod job;
 mod running;
 mod status;
 
-pub use cap_run::{
-    Cause, CopyFault, Limits, Outcome, PathFault, RunFault, Settings, Step, dump, parse_path,
-    run_canon, run_check, run_dump, run_get, run_pack, run_segments, run_unpack, run_vet,
-    run_vet_exclusive,
-};
 pub use command_line::read_job;
 pub use job::{Job, JobFault, Task};
 pub use running::run_job;

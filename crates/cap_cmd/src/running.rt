@@ -1,6 +1,12 @@
 //! Doing a job: its engine is run over an input, an output and an output for faults.
 
-ghost use Rattle.cap_cmd.specs.Jobs.{DoesJob, DoesTask, TellsCopy, TellsRun, WritesAll, input_is_cut, input_words, is_packed};
+ghost use Rattle.cap_cmd.specs.Jobs.{DoesJob, DoesTask, PutsTo, ReportsCopy, ReportsRun, WritesAll, input_is_cut, input_words, is_packed};
+ghost use Rattle.cap_frame.specs.Limit.{limit_of};
+ghost use Rattle.cap_run.specs.Canons.{MakesCopies};
+ghost use Rattle.cap_run.specs.Engines.{CopiesWords, most_packed_at_once, most_unpacked_at_once, most_words};
+ghost use Rattle.cap_spec.specs.Packing.{pack_text};
+ghost use Rattle.cap_spec.specs.Plain.{plain_text};
+ghost use Rattle.cap_vet.specs.Limits.{depth_of, words_of};
 ghost use Rattle.std.specs.Prelude.{◌≡◌, false, true};
 
 use crate::job::{Job, Task};
@@ -28,9 +34,9 @@ fn input_is_packed(job: &Job) -> bool
     }
 }
 
-/// Writes the line of a fault at a message, if there is one, and answers the status.
-fn report<E: ByteOut>(err: &mut E, answer: &Result<Outcome, RunFault>) -> u8
-    ensures { TellsRun E.ByteOut answer.now err.old err.new result }
+/// Writes the line of the fault that ended a run, if there is one, and returns the exit status.
+fn report_run<E: ByteOut>(err: &mut E, answer: &Result<Outcome, RunFault>) -> u8
+    ensures { ReportsRun E.ByteOut answer.now err.old err.new result }
 {
     if let Err(fault) = answer {
         let _ = write_fault(err, fault);
@@ -38,9 +44,10 @@ fn report<E: ByteOut>(err: &mut E, answer: &Result<Outcome, RunFault>) -> u8
     stream_status(answer)
 }
 
-/// Writes the line of a fault of a copy, if there is one, and answers the status.
-fn report_copy<E: ByteOut>(err: &mut E, answer: &Result<u64, CopyFault>) -> u8
-    ensures { TellsCopy E.ByteOut answer.now err.old err.new result }
+/// Writes the line of the fault that ended packing or unpacking, if there is one, and returns the
+/// exit status.
+fn report_transcode<E: ByteOut>(err: &mut E, answer: &Result<u64, CopyFault>) -> u8
+    ensures { ReportsCopy E.ByteOut answer.now err.old err.new result }
 {
     if let Err(fault) = answer {
         let _ = write_copy_fault(err, fault);
@@ -48,25 +55,42 @@ fn report_copy<E: ByteOut>(err: &mut E, answer: &Result<u64, CopyFault>) -> u8
     words_status(answer)
 }
 
-/// Vets each message, also for words that are used twice where that is asked, and answers the status.
-fn vet_over<S: WordSource, O: ByteOut, E: ByteOut>(
+/// Writes the canonical copies of messages to an output, and returns what the engine answered.
+fn canon_to<S: WordSource, O: ByteOut>(
     alloc: Global,
-    exclusive: bool,
-    settings: &Settings,
     source: &mut S,
-    out: &mut O,
-    err: &mut E,
-) -> u8
-    ensures does { DoesTask S.WordSource O.ByteOut E.ByteOut ⟦<Packer<O> as WordSink>⟧ ⟦<PlainSink<O> as WordSink>⟧ (Task.Vet exclusive) settings.now
-        source.old out.old out.new err.old err.new result }
-    ensures success { result ≡ 0 →
-        WritesAll (Task.Vet exclusive) settings.now (S.words source.old) (S.is_cut source.old) (O.written out.old) (O.written out.new) }
+    out: O,
+    settings: &Settings,
+) -> (Result<Outcome, RunFault>, O)
+    ensures { let s = settings.now in PutsTo O.ByteOut ⟦<PlainSink<O> as WordSink>⟧ plain_text out result.1
+        (λ begun ended. MakesCopies S.WordSource ⟦<PlainSink<O> as WordSink>⟧ (words_of s.limits)
+        (depth_of s.limits) (limit_of s.size) s.messages source.old source.new begun ended result.0) }
 {
-    if exclusive {
-        report(err, &run_vet_exclusive(alloc, source, out, settings))
-    } else {
-        report(err, &run_vet(alloc, source, out, settings))
-    }
+    let mut sink = PlainSink::new(out);
+    let answer = run_canon(alloc, source, &mut sink, settings);
+    (answer, sink.into_inner())
+}
+
+/// Packs words to an output, and returns what the engine answered.
+fn pack_to<S: WordSource, O: ByteOut>(source: &mut S, out: O) -> (Result<u64, CopyFault>, O)
+    ensures { PutsTo O.ByteOut ⟦<Packer<O> as WordSink>⟧ pack_text out result.1
+        (λ begun ended. CopiesWords S.WordSource ⟦<Packer<O> as WordSink>⟧ most_packed_at_once
+        most_words source.old source.new begun ended result.0) }
+{
+    let mut sink = Packer::new(out);
+    let answer = run_pack(source, &mut sink, MOST_WORDS);
+    (answer, sink.into_inner())
+}
+
+/// Writes words to an output as they are, and returns what the engine answered.
+fn unpack_to<S: WordSource, O: ByteOut>(source: &mut S, out: O) -> (Result<u64, CopyFault>, O)
+    ensures { PutsTo O.ByteOut ⟦<PlainSink<O> as WordSink>⟧ plain_text out result.1
+        (λ begun ended. CopiesWords S.WordSource ⟦<PlainSink<O> as WordSink>⟧ most_unpacked_at_once
+        most_words source.old source.new begun ended result.0) }
+{
+    let mut sink = PlainSink::new(out);
+    let answer = run_unpack(source, &mut sink, MOST_WORDS);
+    (answer, sink.into_inner())
 }
 
 /// Does a job over the words of its input.
@@ -77,47 +101,47 @@ fn run_over<S: WordSource + Drop, O: ByteOut, E: ByteOut>(
     out: O,
     err: &mut E,
 ) -> (u8, O)
-    ensures does { DoesTask S.WordSource O.ByteOut E.ByteOut ⟦<Packer<O> as WordSink>⟧ ⟦<PlainSink<O> as WordSink>⟧ job.now.task job.now.settings
+    ensures { DoesTask S.WordSource O.ByteOut E.ByteOut ⟦<Packer<O> as WordSink>⟧
+        ⟦<PlainSink<O> as WordSink>⟧ job.now.task job.now.settings
         source out result.1 err.old err.new result.0 }
-    ensures success { result.0 ≡ 0 →
-        WritesAll job.now.task job.now.settings (S.words source) (S.is_cut source) (O.written out) (O.written result.1) }
 {
     let (mut source, mut out, settings) = (source, out, &job.settings);
     match &job.task {
         Task::Segments => {
             let answer = run_segments(&mut source, &mut out, settings);
-            (report(err, &answer), out)
+            (report_run(err, &answer), out)
         }
-        Task::Vet { exclusive } => {
-            let status = vet_over(alloc, *exclusive, settings, &mut source, &mut out, err);
-            (status, out)
+        Task::Vet { exclusive: false } => {
+            let answer = run_vet(alloc, &mut source, &mut out, settings);
+            (report_run(err, &answer), out)
+        }
+        Task::Vet { exclusive: true } => {
+            let answer = run_vet_exclusive(alloc, &mut source, &mut out, settings);
+            (report_run(err, &answer), out)
         }
         Task::Dump => {
             let answer = run_dump(alloc, &mut source, &mut out, settings);
-            (report(err, &answer), out)
+            (report_run(err, &answer), out)
         }
         Task::Get { path } => {
             let answer = run_get(alloc, &mut source, &mut out, settings, path.as_slice());
-            (report(err, &answer), out)
+            (report_run(err, &answer), out)
         }
         Task::Check => {
             let answer = run_check(alloc, &mut source, &mut out, settings);
-            (report(err, &answer), out)
+            (report_run(err, &answer), out)
         }
         Task::Canon => {
-            let mut sink = PlainSink::new(out);
-            let answer = run_canon(alloc, &mut source, &mut sink, settings);
-            (report(err, &answer), sink.into_inner())
+            let (answer, out) = canon_to(alloc, &mut source, out, settings);
+            (report_run(err, &answer), out)
         }
         Task::Pack => {
-            let mut sink = Packer::new(out);
-            let answer = run_pack(&mut source, &mut sink, MOST_WORDS);
-            (report_copy(err, &answer), sink.into_inner())
+            let (answer, out) = pack_to(&mut source, out);
+            (report_transcode(err, &answer), out)
         }
         Task::Unpack => {
-            let mut sink = PlainSink::new(out);
-            let answer = run_unpack(&mut source, &mut sink, MOST_WORDS);
-            (report_copy(err, &answer), sink.into_inner())
+            let (answer, out) = unpack_to(&mut source, out);
+            (report_transcode(err, &answer), out)
         }
     }
 }
@@ -145,15 +169,17 @@ pub fn run_job<I: ByteIn + Drop, O: ByteOut, E: ByteOut>(
     // There is an answer of the task's engine that meets the engine's contract.
     // The status and the line of a fault report it.
     ensures plain { is_packed job.now.task job.now.packed ≡ false →
-        DoesJob I.ByteIn ⟦<PlainWords<I> as WordSource>⟧ O.ByteOut E.ByteOut ⟦<Packer<O> as WordSink>⟧ ⟦<PlainSink<O> as WordSink>⟧
+        DoesJob I.ByteIn ⟦<PlainWords<I> as WordSource>⟧ O.ByteOut E.ByteOut
+        ⟦<Packer<O> as WordSink>⟧ ⟦<PlainSink<O> as WordSink>⟧
         false job.now.task job.now.settings input out result.1 err.old err.new result.0 }
     ensures packed { is_packed job.now.task job.now.packed ≡ true →
-        DoesJob I.ByteIn ⟦<Unpacker<I> as WordSource>⟧ O.ByteOut E.ByteOut ⟦<Packer<O> as WordSink>⟧ ⟦<PlainSink<O> as WordSink>⟧
+        DoesJob I.ByteIn ⟦<Unpacker<I> as WordSource>⟧ O.ByteOut E.ByteOut
+        ⟦<Packer<O> as WordSink>⟧ ⟦<PlainSink<O> as WordSink>⟧
         true job.now.task job.now.settings input out result.1 err.old err.new result.0 }
     // So with status 0 all of the input was read, and exactly this was written.
-    ensures success { result.0 ≡ 0 →
-        WritesAll job.now.task job.now.settings (input_words (is_packed job.now.task job.now.packed) (I.to_come input))
-        (input_is_cut (is_packed job.now.task job.now.packed) (I.to_come input)) (O.written out) (O.written result.1) }
+    ensures success { result.0 ≡ 0 → let packed = is_packed job.now.task job.now.packed in
+        WritesAll job.now.task job.now.settings (input_words packed (I.to_come input))
+        (input_is_cut packed (I.to_come input)) (O.written out) (O.written result.1) }
 {
     if input_is_packed(job) {
         run_over(alloc, job, Unpacker::new(input), out, err)

@@ -3,9 +3,9 @@
 use crate::engines::settings;
 use crate::same::same_of;
 use crate::whole::bytes_of;
-use cap_cmd::{Cause, Outcome, RunFault, run_canon};
 use cap_frame::FrameFault;
 use cap_pack::Packer;
+use cap_run::{Cause, Outcome, RunFault, run_canon};
 use cap_words::{FromRead, PlainWords, VecOut};
 use std::process::Abort;
 use std::test::Fail;

@@ -1,10 +1,10 @@
 //! The engines under a limit of messages, which no option sets.
 
 use crate::same::{same, same_of};
-use cap_cmd::{
+use cap_frame::SizeLimit;
+use cap_run::{
     Cause, Limits, Outcome, RunFault, Settings, run_segments, run_vet, run_vet_exclusive,
 };
-use cap_frame::SizeLimit;
 use cap_words::{FromWrite, OutFault, PlainWords, SliceIn, VecOut};
 use std::alloc::Global;
 use std::io::ErrorKind;

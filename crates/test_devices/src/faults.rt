@@ -2,9 +2,8 @@
 
 use crate::same::same;
 use cap_canon::CanonFault;
-use cap_cmd::{Cause, CopyFault, RunFault};
 use cap_frame::FrameFault;
-use cap_run::{write_copy_fault, write_fault};
+use cap_run::{Cause, CopyFault, RunFault, write_copy_fault, write_fault};
 use cap_vet::{Reason, Refusal};
 use cap_words::{OutFault, SourceFault, VecOut};
 

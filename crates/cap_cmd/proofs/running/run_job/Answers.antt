@@ -1,5 +1,7 @@
+use Rattle.std.proofs.Common.{◌∙◌, false, sym, true}
 use Rattle.cap_pack.specs.Input.{input_of as unpacker_input}
 use Rattle.cap_words.specs.Inner.{input_of}
+use Rattle.cap_cmd.proofs.JobEnds.{job_writes_all}
 use Rattle.cap_cmd.proofs.running.run_job.Goals as goal
 
 pub returns-then-input_is_packed-clause-packed : goal.returns-then-input_is_packed-clause-packed
@@ -17,7 +19,7 @@ returns-then-input_is_packed-clause-packed g c = λ _.
         stands_on = unpacker_input;
         shows_failures = new.shows_failures;
       };
-      does = c.run_over.ensures.does;
+      does = c.run_over.ensures;
     }
 
 pub returns-else-input_is_packed-clause-plain : goal.returns-else-input_is_packed-clause-plain
@@ -35,5 +37,17 @@ returns-else-input_is_packed-clause-plain g c = λ _.
         stands_on = input_of;
         shows_failures = new.shows_failures;
       };
-      does = c.run_over-else-input_is_packed.ensures.does;
+      does = c.run_over-else-input_is_packed.ensures;
     }
+
+pub returns-then-input_is_packed-clause-success : goal.returns-then-input_is_packed-clause-success
+returns-then-input_is_packed-clause-success g c = λ e.
+    job_writes_all _ g.O.ByteOut g.E.ByteOut _ _ g.I.ByteIn _ true _ _ _ _ _ _ _ _
+    (sym c.input_is_packed.ensures ∙ c.if-input_is_packed.true) e
+    (returns-then-input_is_packed-clause-packed g c (sym c.input_is_packed.ensures ∙ c.if-input_is_packed.true))
+
+pub returns-else-input_is_packed-clause-success : goal.returns-else-input_is_packed-clause-success
+returns-else-input_is_packed-clause-success g c = λ e.
+    job_writes_all _ g.O.ByteOut g.E.ByteOut _ _ g.I.ByteIn _ false _ _ _ _ _ _ _ _
+    (sym c.input_is_packed.ensures ∙ c.if-input_is_packed.false) e
+    (returns-else-input_is_packed-clause-plain g c (sym c.input_is_packed.ensures ∙ c.if-input_is_packed.false))

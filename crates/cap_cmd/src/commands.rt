@@ -1,0 +1,176 @@
+//! The commands, with their options and arguments.
+
+use crate::help::{
+    CANON_NOTES, CHECK_NOTES, DUMP_NOTES, GET_NOTES, PACK_NOTES, PROGRAM_NOTES, SEGMENTS_NOTES,
+    UNPACK_NOTES, VERSION, VET_NOTES,
+};
+use clap::{Arg, ArgAction, Command, value_parser};
+use std::alloc::{AllocError, Global};
+
+/// The default of `--size` and of `--words`, in words.
+pub(crate) const DEFAULT_WORDS: u64 = 8388608;
+const DEFAULT_WORDS_TEXT: &str = "8388608";
+
+/// The default of `--depth`, in levels.
+pub(crate) const DEFAULT_DEPTH: u32 = 64;
+const DEFAULT_DEPTH_TEXT: &str = "64";
+
+/// The most that `--size` and `--words` take, in words.
+const MOST_WORDS: u64 = 268435456;
+const SIZE_HELP: &str = "Maximum words of a message, without its table: 0 to 268435456";
+const WORDS_HELP: &str = "Maximum charge of a message in words: 0 to 268435456";
+
+/// The most that `--depth` takes, in levels.
+const MOST_DEPTH: u32 = 256;
+const DEPTH_HELP: &str = "Maximum level of an object: 0 to 256; the root object has level 1";
+
+/// An option or an argument of a command.
+#[derive(Clone, Copy)]
+enum Part {
+    Packed,
+    Size,
+    Words,
+    Depth,
+    Exclusive,
+    Path,
+    File,
+}
+
+/// A command. Help lists its options in this order.
+struct Form {
+    name: &'static str,
+    about: &'static str,
+    notes: &'static str,
+    parts: &'static [Part],
+}
+
+/// What most commands over messages take.
+static VETTING: [Part; 5] = [
+    Part::Packed,
+    Part::Size,
+    Part::Words,
+    Part::Depth,
+    Part::File,
+];
+
+/// The commands, in the order in which help lists them.
+static FORMS: [Form; 8] = [
+    Form {
+        name: "segments",
+        about: "Prints the segments of each message, their sizes in words, and the root pointer",
+        notes: SEGMENTS_NOTES,
+        parts: &[Part::Packed, Part::Size, Part::File],
+    },
+    Form {
+        name: "vet",
+        about: "Checks that each message is safe to traverse",
+        notes: VET_NOTES,
+        parts: &[Part::Packed, Part::Size, Part::Words, Part::Depth, Part::Exclusive, Part::File],
+    },
+    Form {
+        name: "dump",
+        about: "Prints the tree of each accepted message",
+        notes: DUMP_NOTES,
+        parts: &VETTING,
+    },
+    Form {
+        name: "get",
+        about: "Prints the node at a path in each accepted message",
+        notes: GET_NOTES,
+        parts: &[Part::Packed, Part::Size, Part::Words, Part::Depth, Part::Path, Part::File],
+    },
+    Form {
+        name: "check",
+        about: "Checks that each message is canonical",
+        notes: CHECK_NOTES,
+        parts: &VETTING,
+    },
+    Form {
+        name: "canon",
+        about: "Writes the canonical copy of each message",
+        notes: CANON_NOTES,
+        parts: &VETTING,
+    },
+    Form {
+        name: "pack",
+        about: "Packs a stream of words",
+        notes: PACK_NOTES,
+        parts: &[Part::File],
+    },
+    Form {
+        name: "unpack",
+        about: "Unpacks a stream of words",
+        notes: UNPACK_NOTES,
+        parts: &[Part::File],
+    },
+];
+
+// An option that takes no value.
+fn flag<'a>(alloc: Global, name: &'a str, help: &'a str) -> Arg<'a> {
+    Arg::new(alloc, name)
+        .long(name)
+        .help(help)
+        .action(ArgAction::SetTrue)
+}
+
+// An option that takes a number of words.
+fn words_option<'a>(alloc: Global, name: &'a str, help: &'a str) -> Arg<'a> {
+    Arg::new(alloc, name)
+        .long(name)
+        .value_name("N")
+        .help(help)
+        .value_parser(value_parser!(u64).range(0..=MOST_WORDS))
+        .default_value(DEFAULT_WORDS_TEXT)
+}
+
+// The option on the levels of objects.
+fn depth_option<'a>(alloc: Global) -> Arg<'a> {
+    Arg::new(alloc, "depth")
+        .long("depth")
+        .value_name("N")
+        .help(DEPTH_HELP)
+        .value_parser(value_parser!(u32).range(0..=MOST_DEPTH))
+        .default_value(DEFAULT_DEPTH_TEXT)
+}
+
+// One part of a command.
+fn argument<'a>(alloc: Global, part: Part) -> Arg<'a> {
+    match part {
+        Part::Packed => flag(alloc, "packed", "The input is packed"),
+        Part::Size => words_option(alloc, "size", SIZE_HELP),
+        Part::Words => words_option(alloc, "words", WORDS_HELP),
+        Part::Depth => depth_option(alloc),
+        Part::Exclusive => flag(alloc, "exclusive", "Refuse a message that uses a word twice"),
+        Part::Path => Arg::new(alloc, "path")
+            .value_name("PATH")
+            .help("Path of the node, such as /p0/i3")
+            .required(true),
+        Part::File => Arg::new(alloc, "file")
+            .value_name("FILE")
+            .help("File to read instead of standard input"),
+    }
+}
+
+// The command of a form.
+fn command_of<'a>(alloc: Global, form: &Form) -> Result<Command<'a>, AllocError> {
+    let mut command = Command::new(alloc, form.name)
+        .about(form.about)
+        .after_help(form.notes);
+    for part in form.parts {
+        command = command.arg(argument(alloc, *part))?;
+    }
+    Ok(command)
+}
+
+/// The program's command, with its subcommands.
+pub(crate) fn capvet_command<'a>(alloc: Global) -> Result<Command<'a>, AllocError> {
+    let mut command = Command::new(alloc, "capvet")
+        .about("Checks untrusted Cap'n Proto messages without a schema")
+        .version(VERSION)
+        .after_help(PROGRAM_NOTES)
+        .subcommand_required(true);
+    for form in &FORMS {
+        command = command.subcommand(command_of(alloc, form)?)?;
+    }
+    Ok(command)
+}

@@ -1,0 +1,104 @@
+//! The texts of help.
+
+/// The version that `--version` prints.
+pub(crate) const VERSION: &str = "0.1.0";
+
+/// The help of the program, after the list of its commands.
+pub(crate) const PROGRAM_NOTES: &str = "\
+The input is a stream of framed messages. A framed message is a table with the sizes of its
+segments, followed by the segments in words of 8 bytes. Without FILE a command reads standard input.
+
+Exit status:
+  0  every message was accepted, and is canonical for 'check'; or every word was copied;
+     or the input is empty
+  1  a message was refused, is not canonical for 'check' or has a capability for 'canon';
+     or the input is cut short, or is not a stream of messages within the limits
+  2  the command line is wrong
+  3  a file does not open, reading or writing failed, or memory ran out
+
+Example:
+  $ capvet vet examples/contacts.bin
+  message 0: accepted charge 391 depth 11 pointers 125 caps 0";
+
+/// The help of `segments`, after the list of its options.
+pub(crate) const SEGMENTS_NOTES: &str = "\
+Example:
+  $ capvet segments examples/contacts.bin
+  message 0: segments 1 words 392
+  segment 0: 392
+  root 0000000001000300";
+
+/// The help of `vet`, after the list of its options.
+pub(crate) const VET_NOTES: &str = "\
+For an accepted message it prints four numbers. The charge is the number of words that a full
+traversal reads; a target that is reached twice counts twice. The depth is the deepest level of an
+object; the structs of a list are one level below the list. Then come the numbers of pointers, null
+pointers too, and of capabilities. For a refused message it prints the reason, and the SEGMENT:WORD
+of the first pointer that is wrong.
+
+With --exclusive a message is also refused, as Overlap, if a pointer leads to a word that is already
+in use: the root word, a word of the same pointer, or a word of an earlier pointer. The charge is
+then less than the words of the message, apart from list elements that have no bits or no words.
+
+Example:
+  $ capvet vet --depth 3 examples/contacts.bin
+  message 0: refused DepthLimit at 0:7 pointers 3";
+
+/// The help of `dump`, after the list of its options.
+pub(crate) const DUMP_NOTES: &str = "\
+After the line of 'vet', an accepted message has the lines of its tree. A node has one line, then
+its own words and its children, two spaces deeper. The steps /pN and /iN of a PATH lead to the
+children pN and iN (see 'capvet help get').
+
+Example:
+  $ capvet dump examples/contacts.bin | head -n 6
+  message 0: accepted charge 391 depth 11 pointers 125 caps 0
+  root struct 1 3
+    d0 50f708d100000000
+    p0 structs 7 1 6
+      i0 struct 1 6
+        d0 0000000000000000";
+
+/// The help of `get`, after the list of its options.
+pub(crate) const GET_NOTES: &str = "\
+PATH is '/' for the root, or a list of steps. The step '/pN' leads to pointer N of a struct, and
+'/iN' to element N of a list of pointers or structs, both counted from 0. The node is printed
+without the nodes below it. A message that has no node at PATH is accepted all the same: 'get'
+prints 'none', and the exit status stays as it is.
+
+Example:
+  $ capvet get /p0/i1 examples/contacts.bin
+  message 0: found
+  node struct 1 6
+    d0 0a6e000001000000";
+
+/// The help of `check`, after the list of its options.
+pub(crate) const CHECK_NOTES: &str = "\
+A message is canonical if it has one segment, with exactly the words that 'canon' writes after the
+table of its copy. For a refused message it prints the line of 'vet'.
+
+Example:
+  $ capvet canon examples/contacts.bin | capvet check
+  message 0: canonical";
+
+/// The help of `canon`, after the list of its options.
+pub(crate) const CANON_NOTES: &str = "\
+A copy is a message of one segment; its table is the first 8 bytes. Two messages have equal copies
+exactly if they have the same content, apart from zeros and null pointers at the end of structs. The
+command ends at the first message that is refused or has a capability.
+
+Example:
+  $ capvet canon examples/contacts.bin | tail -c +9 | sha256sum
+  da5b2d724a838dca43e56e40db89de68bba3d3772cd838de0fa7e9029481403e  -";
+
+/// The help of `pack`, after the list of its options.
+pub(crate) const PACK_NOTES: &str = "\
+Example:
+  $ capvet pack examples/contacts.bin | capvet vet --packed
+  message 0: accepted charge 391 depth 11 pointers 125 caps 0";
+
+/// The help of `unpack`, after the list of its options.
+pub(crate) const UNPACK_NOTES: &str = "\
+Example:
+  $ capvet unpack examples/contacts.packed | capvet vet
+  message 0: accepted charge 391 depth 11 pointers 125 caps 0";
