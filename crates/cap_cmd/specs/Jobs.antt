@@ -1,8 +1,9 @@
--- What a job does: its engine returns an answer over the words of its input.
--- The status and the line of a fault report that answer (profile).
--- The members of types have the letters of types. gi is of the input's, and gs of the source's over it. Those of the
--- two outputs' are go and ge. That of a packer's over the first is gp, and that of a plain sink's is gu.
-use Rattle.std.specs.Prelude.{ℕ, ◌≡◌, ◌≤◌, ◌||◌, if◌then◌else◌, true, false, Bool, List, length, sum, [], unwrap_or}
+-- What a job does: its engine returns an answer over the words of its input. The status and the
+-- line of a fault report that answer (profile). The members of types have the letters of types. gi
+-- is of the input's, and gs of the source's over it. Those of the two outputs' are go and ge. That
+-- of a packer's over the first is gp, and that of a plain sink's is gu.
+use Rattle.std.specs.Prelude.{ℕ, ◌≡◌, ◌≤◌, ◌||◌, if◌then◌else◌, true, false, Bool, List, length}
+use Rattle.std.specs.Prelude.{sum, [], unwrap_or}
 use Rattle.std.specs.Prelude.{Option, Some, OnSome, Result, Ok, Err}
 use Rattle.std.specs.List.{AllByRecursion}
 use Rattle.std.specs.Option.{option_map}
@@ -34,7 +35,8 @@ use Rattle.cap_run.specs.declared.settings.Outcome.{Outcome}
 use Rattle.cap_run.specs.declared.settings.Settings.{Settings}
 use Rattle.cap_cmd.specs.Statuses.{copy_status, run_status}
 use Rattle.cap_cmd.specs.declared.job.Task.{Task}
-use Rattle.cap_cmd.specs.declared.job.Task.TheVariants.{Segments, Vet, Dump, Get, Check, Canon, Pack, Unpack}
+use Rattle.cap_cmd.specs.declared.job.Task.TheVariants.{Segments, Vet, Dump, Get, Check, Canon}
+use Rattle.cap_cmd.specs.declared.job.Task.TheVariants.{Pack, Unpack}
 
 -- the input of unpacking is packed, that of packing is not, and for messages the user decides
 abbrev pub is_packed : Task → Bool → Bool
@@ -49,7 +51,8 @@ is_packed Unpack told = true
 
 -- the words of an input that is packed or not, where its bytes are known
 abbrev pub input_words : Bool → Option (List ℕ) → Option (List ℕ)
-input_words packed bytes = if packed then option_map unpacked bytes else option_map plain_words bytes
+input_words packed bytes = if packed then option_map unpacked bytes
+    else option_map plain_words bytes
 
 -- whether it ends inside a group, or inside a word
 abbrev pub input_is_cut : Bool → Option (List ℕ) → Bool
@@ -89,8 +92,10 @@ module _ {O K : Type 0} (go : output.Ghosts O) (gk : sink.Ghosts K) where
     pub spent : gk.spent last ≡ gk.closed last || go.spent end
     pub failures : gk.failures last ≡ go.failures end
 
-  -- A sink begins over an output, an engine takes it from `begun` to `ended`, and gives the output back.
-  pub record PutsTo (text : List ℕ → List ℕ) (before after : O) (engine : K → K → Type 0) : Type 0 where
+  -- A sink begins over an output, an engine takes it from `begun` to `ended`, and gives the output
+  -- back.
+  pub record PutsTo (text : List ℕ → List ℕ) (before after : O)
+      (engine : K → K → Type 0) : Type 0 where
     pub begun : K
     pub ended : K
     pub begins : BeginsOutput text before begun
@@ -98,10 +103,12 @@ module _ {O K : Type 0} (go : output.Ghosts O) (gk : sink.Ghosts K) where
     pub gives : GivesOutput ended after
 
 module _ {E : Type 0} (ge : output.Ghosts E) where
-  -- The line of a fault was written, or a prefix of it if this output failed. Without a fault nothing was written.
+  -- The line of a fault was written, or a prefix of it if this output failed. Without a fault
+  -- nothing was written.
   abbrev pub WritesLine : {A F : Type 0} → (F → List ℕ) → Result A F → E → E → Type 0
   WritesLine line (Ok x) old new = new ≡ old
-  WritesLine line (Err fault) old new = (r : Result (Unit {0}) OutFault) × Writes ge old new r (line fault)
+  WritesLine line (Err fault) old new = (r : Result (Unit {0}) OutFault)
+      × Writes ge old new r (line fault)
 
   -- The status and the line of a fault are those of this answer.
   pub record Reports {A F : Type 0} (status_of : Result A F → ℕ) (line : F → List ℕ)
@@ -128,49 +135,62 @@ module _ {S E : Type 0} where
 
 module _ {S O E : Type 0} (gs : source.Ghosts S) (go : output.Ghosts O) (ge : output.Ghosts E) where
   -- an engine that writes a text of each message
-  abbrev pub TellsTask : Tells → (List (List ℕ) → Type 0) → Settings → S → O → O → E → E → ℕ → Type 0
+  abbrev pub TellsTask : Tells → (List (List ℕ) → Type 0) → Settings → S → O → O → E → E → ℕ
+      → Type 0
   TellsTask tells wants s first before after = Runs
-      (λ last answer. TellsStream gs go tells wants (limit_of s.size) s.messages first last before after answer)
+      (λ last answer. TellsStream gs go tells wants (limit_of s.size) s.messages first last before
+          after answer)
       (ReportsRun ge)
 
 module _ {S O E P U : Type 0} (gs : source.Ghosts S) (go : output.Ghosts O) (ge : output.Ghosts E)
     (gp : sink.Ghosts P) (gu : sink.Ghosts U) where
-  -- What is done over the words of a source, by the task: its engine runs, and its answer is reported.
+  -- What is done over the words of a source, by the task: its engine runs, and its answer is
+  -- reported.
   abbrev pub DoesTask : Task → Settings → S → O → O → E → E → ℕ → Type 0
   DoesTask Segments s first before after = Runs
-      (λ last answer. ShowsStream gs go (limit_of s.size) s.messages first last before after answer) (ReportsRun ge)
+      (λ last answer. ShowsStream gs go (limit_of s.size) s.messages first last before after answer)
+          (ReportsRun ge)
   DoesTask (Vet false) s first before after =
-      TellsTask gs go ge (TellsVerdict (words_of s.limits) (depth_of s.limits)) WantsNone s first before after
+      TellsTask gs go ge (TellsVerdict (words_of s.limits) (depth_of s.limits)) WantsNone s first
+          before after
   DoesTask (Vet true) s first before after =
       TellsTask gs go ge (TellsExclusive (words_of s.limits) (depth_of s.limits))
       (WantsMarks (words_of s.limits) (depth_of s.limits)) s first before after
   DoesTask Dump s first before after =
-      TellsTask gs go ge (TellsDump (words_of s.limits) (depth_of s.limits)) WantsNone s first before after
+      TellsTask gs go ge (TellsDump (words_of s.limits) (depth_of s.limits)) WantsNone s first
+          before after
   DoesTask (Get path) s first before after =
-      TellsTask gs go ge (TellsGet (words_of s.limits) (depth_of s.limits) path.items) WantsNone s first before after
+      TellsTask gs go ge (TellsGet (words_of s.limits) (depth_of s.limits) path.items) WantsNone s
+          first before after
   DoesTask Check s first before after =
-      TellsTask gs go ge (TellsCheck (words_of s.limits) (depth_of s.limits)) WantsNone s first before after
-  DoesTask Canon s first before after = Runs (λ last answer. PutsTo go gu plain_text before after (λ begun ended.
-      MakesCopies gs gu (words_of s.limits) (depth_of s.limits) (limit_of s.size) s.messages first last begun ended
+      TellsTask gs go ge (TellsCheck (words_of s.limits) (depth_of s.limits)) WantsNone s first
+          before after
+  DoesTask Canon s first before after = Runs
+      (λ last answer. PutsTo go gu plain_text before after (λ begun ended.
+      MakesCopies gs gu (words_of s.limits) (depth_of s.limits)
+          (limit_of s.size) s.messages first last begun ended
       answer)) (ReportsRun ge)
   DoesTask Pack s first before after = Runs (λ last answer. PutsTo go gp pack_text before after
-      (λ begun ended. CopiesWords gs gp most_packed_at_once most_words first last begun ended answer))
+      (λ begun ended. CopiesWords gs gp most_packed_at_once most_words first last begun ended
+          answer))
       (ReportsCopy ge)
   DoesTask Unpack s first before after = Runs (λ last answer. PutsTo go gu plain_text before after
-      (λ begun ended. CopiesWords gs gu most_unpacked_at_once most_words first last begun ended answer))
+      (λ begun ended. CopiesWords gs gu most_unpacked_at_once most_words first last begun ended
+          answer))
       (ReportsCopy ge)
 
 module _ {I S O E P U : Type 0} (gi : input.Ghosts I) (gs : source.Ghosts S) (go : output.Ghosts O)
     (ge : output.Ghosts E) (gp : sink.Ghosts P) (gu : sink.Ghosts U) where
   -- A task is done over the words of an input, which is packed or not.
-  pub record DoesJob (packed : Bool) (task : Task) (settings : Settings) (start : I) (before after : O)
+  pub record DoesJob (packed : Bool) (task : Task) (settings : Settings) (start : I)
+      (before after : O)
       (old new : E) (status : ℕ) : Type 0 where
     pub first : S
     pub begins : BeginsInput gi gs packed start first
     pub does : DoesTask gs go ge gp gu task settings first before after old new status
 
--- All words are frames of messages, each within the limit, and none is cut short. Each message is accepted, and
--- canonical if that was asked, and such a text of it was written.
+-- All words are frames of messages, each within the limit, and none is cut short. Each message is
+-- accepted, and canonical if that was asked, and such a text of it was written.
 pub record TellsInput (tells : Tells) (s : Settings) (words : Option (List ℕ)) (is_cut : Bool)
     (before after : Option (List ℕ)) : Type 0 where
   pub own : List ℕ
@@ -184,8 +204,8 @@ pub record TellsInput (tells : Tells) (s : Settings) (words : Option (List ℕ))
   pub canonical : noncanonical_in ts ≡ 0
   pub appended : Appends before after (texts_of ts)
 
--- All words are frames of messages, each within the limit, and none is cut short. Each message is accepted and has a
--- canonical copy, and the frame of that was written.
+-- All words are frames of messages, each within the limit, and none is cut short. Each message is
+-- accepted and has a canonical copy, and the frame of that was written.
 pub record CanonsInput (s : Settings) (words : Option (List ℕ)) (is_cut : Bool)
     (before after : Option (List ℕ)) : Type 0 where
   pub own : List ℕ
@@ -206,7 +226,8 @@ pub record CopiesInput (text : List ℕ → List ℕ) (words : Option (List ℕ)
   pub appended : Appends before after (text own)
 
 -- What a task with the status of success wrote of all words, by the task.
-abbrev pub WritesAll : Task → Settings → Option (List ℕ) → Bool → Option (List ℕ) → Option (List ℕ) → Type 0
+abbrev pub WritesAll : Task → Settings → Option (List ℕ) → Bool → Option (List ℕ) → Option (List ℕ)
+    → Type 0
 WritesAll Segments s = TellsInput TellsSegments s
 WritesAll (Vet false) s = TellsInput (TellsVerdict (words_of s.limits) (depth_of s.limits)) s
 WritesAll (Vet true) s = TellsInput (TellsExclusive (words_of s.limits) (depth_of s.limits)) s

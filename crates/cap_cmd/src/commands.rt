@@ -9,19 +9,24 @@ use std::alloc::{AllocError, Global};
 
 /// The default of `--size` and of `--words`, in words.
 pub(crate) const DEFAULT_WORDS: u64 = 8388608;
+
 const DEFAULT_WORDS_TEXT: &str = "8388608";
 
 /// The default of `--depth`, in levels.
 pub(crate) const DEFAULT_DEPTH: u32 = 64;
+
 const DEFAULT_DEPTH_TEXT: &str = "64";
 
 /// The most that `--size` and `--words` take, in words.
-const MOST_WORDS: u64 = 268435456;
+const MOST_WORDS: i64 = 268435456;
+
 const SIZE_HELP: &str = "Maximum words of a message, without its table: 0 to 268435456";
+
 const WORDS_HELP: &str = "Maximum charge of a message in words: 0 to 268435456";
 
 /// The most that `--depth` takes, in levels.
-const MOST_DEPTH: u32 = 256;
+const MOST_DEPTH: i64 = 256;
+
 const DEPTH_HELP: &str = "Maximum level of an object: 0 to 256; the root object has level 1";
 
 /// An option or an argument of a command.
@@ -45,7 +50,7 @@ struct Form {
 }
 
 /// What most commands over messages take.
-static VETTING: [Part; 5] = [
+const VETTING: [Part; 5] = [
     Part::Packed,
     Part::Size,
     Part::Words,
@@ -65,7 +70,14 @@ static FORMS: [Form; 8] = [
         name: "vet",
         about: "Checks that each message is safe to traverse",
         notes: VET_NOTES,
-        parts: &[Part::Packed, Part::Size, Part::Words, Part::Depth, Part::Exclusive, Part::File],
+        parts: &[
+            Part::Packed,
+            Part::Size,
+            Part::Words,
+            Part::Depth,
+            Part::Exclusive,
+            Part::File,
+        ],
     },
     Form {
         name: "dump",
@@ -77,7 +89,14 @@ static FORMS: [Form; 8] = [
         name: "get",
         about: "Prints the node at a path in each accepted message",
         notes: GET_NOTES,
-        parts: &[Part::Packed, Part::Size, Part::Words, Part::Depth, Part::Path, Part::File],
+        parts: &[
+            Part::Packed,
+            Part::Size,
+            Part::Words,
+            Part::Depth,
+            Part::Path,
+            Part::File,
+        ],
     },
     Form {
         name: "check",
@@ -140,7 +159,11 @@ fn argument<'a>(alloc: Global, part: Part) -> Arg<'a> {
         Part::Size => words_option(alloc, "size", SIZE_HELP),
         Part::Words => words_option(alloc, "words", WORDS_HELP),
         Part::Depth => depth_option(alloc),
-        Part::Exclusive => flag(alloc, "exclusive", "Refuse a message that uses a word twice"),
+        Part::Exclusive => flag(
+            alloc,
+            "exclusive",
+            "Refuse a message that uses a word twice",
+        ),
         Part::Path => Arg::new(alloc, "path")
             .value_name("PATH")
             .help("Path of the node, such as /p0/i3")

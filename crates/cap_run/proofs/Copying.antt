@@ -3,7 +3,7 @@ use Rattle.std.proofs.Common.{◌≡◌, ◌∙◌, ℕ, ◌+◌, ◌<◌, false
 use Rattle.std.specs.Io.KnownBytes.{Consumes, Keeps}
 use Rattle.std.proofs.KnownBytes.{Keeps-refl, Keeps-trans}
 use Rattle.cap_words.specs.Ends.{DeviceFails, GrowthFails, WasSpent, Works}
-use Rattle.cap_words.specs.Sinks.{Begins, StoppedPutting, WasPut, sink_fault_of}
+use Rattle.cap_words.specs.Sinks.{Begins, StoppedPutting, sink_fault_of}
 use Rattle.cap_words.specs.declared.ends.OutFault.{OutFault}
 use Rattle.cap_words.specs.declared.sinks.SinkFault.{SinkFault}
 use Rattle.cap_words.specs.declared.sinks.SinkFault.TheVariants.{Device, Memory, Spent}
@@ -56,11 +56,6 @@ module _ {K : Type 0} (gk : sink.Ghosts K) where
     spent = q.spent ∙ p.spent;
     failures = q.failures ∙ p.failures;
   }
-
-  -- the next word
-  pub fills_one : (old new : K) (word : ℕ) → WasPut gk.text old new (word ∷ [])
-      → (gk.closed old ≡ false) × (gk.closed new ≡ false) × (gk.spent new ≡ gk.spent old) × (gk.failures new ≡ gk.failures old) → Fills gk old new (word ∷ [])
-  fills_one old new word p o = record { put = p; closed = o.1 ∙ sym o.0; spent = o.2; failures = o.3 }
 
   -- a fault at the next word, behind others
   pub stopped_behind : (old mid new : K) (own : List ℕ) (word : ℕ) (fault : SinkFault) → Fills gk old mid own → Halts gk mid new (word ∷ []) fault
@@ -124,10 +119,10 @@ module _ {S K : Type 0} (gs : source.Ghosts S) (gk : sink.Ghosts K) where
   }
 
   -- the sink was finished behind the words that were put
-  pub copied_finished : (at_once most : ℕ) (old new : S) (before between after : K) (r : Result ℕ CopyFault) → StopsPutting gs gk most old new before between r
-      → Keeps (gk.text between []) (gk.taken after) → (gk.closed between ≡ false) × (gk.closed after ≡ true) × (gk.failures after ≡ gk.failures between)
+  pub copied_finished : (at_once most : ℕ) (old new : S) (before between after : K) (r : Result ℕ CopyFault) → StopsPutting gs gk at_once most old new before between r
+      → ((fault : OutFault) → r ≡ Err (Output fault) → ⊥) → Keeps (gk.text between []) (gk.taken after) → (gk.closed between ≡ false) × (gk.closed after ≡ true) × (gk.failures after ≡ gk.failures between)
       → Copied gs gk at_once most old new before after r
-  copied_finished at_once most old new before between after (Ok n) s k o =
+  copied_finished at_once most old new before between after (Ok n) s h k o =
       let c = s.2 in (
         c.own,
         sym c.many,
@@ -139,7 +134,7 @@ module _ {S K : Type 0} (gs : source.Ghosts S) (gk : sink.Ghosts K) where
           finishes = finishes_behind gk before between after c.own c.fills k o;
         },
       )
-  copied_finished at_once most old new before between after (Err TooManyWords) s k o =
+  copied_finished at_once most old new before between after (Err TooManyWords) s h k o =
       let c = s.2 in
       record {
         own = c.own;
@@ -148,25 +143,25 @@ module _ {S K : Type 0} (gs : source.Ghosts S) (gk : sink.Ghosts K) where
         gives = gives_both gs old s.0 new c.own (s.1 ∷ []) c.gives s.3;
         finishes = finishes_behind gk before between after c.own c.fills k o;
       }
-  copied_finished at_once most old new before between after (Err (Source fault)) s k o =
+  copied_finished at_once most old new before between after (Err (Source fault)) s h k o =
       let c = s.3 in
       record { own = c.own; mid = s.0; few = omega (arith, s.2, c.many); gives = c.gives; none = s.4; finishes = finishes_behind gk before between after c.own c.fills k o }
-  copied_finished at_once most old new before between after (Err (Output fault)) s k o = absurd s
+  copied_finished at_once most old new before between after (Err (Output fault)) s h k o = absurd (h fault refl)
 
   -- the output failed as the sink was finished
-  pub copied_spoiled : (most : ℕ) (old new : S) (before between after : K) (r : Result ℕ CopyFault) (out : OutFault) → StopsPutting gs gk most old new before between r
-      → (gk.closed after ≡ true) × Begins (gk.text between []) (gk.taken after) → Blames gk between after (sink_fault_of out)
+  pub copied_spoiled : (at_once most : ℕ) (old new : S) (before between after : K) (r : Result ℕ CopyFault) (out : OutFault) → StopsPutting gs gk at_once most old new before between r
+      → ((fault : OutFault) → r ≡ Err (Output fault) → ⊥) → (gk.closed after ≡ true) × Begins (gk.text between []) (gk.taken after) → Blames gk between after (sink_fault_of out)
       → StopsFinishing gs gk most old new before after out
-  copied_spoiled most old new before between after (Ok n) out s e b =
+  copied_spoiled at_once most old new before between after (Ok n) out s h e b =
       let c = s.2 in
       record { own = c.own; mid = s.0; few = omega (arith, s.1, c.many); gives = c.gives; spoils = spoils_last gk before between after c.own out c.fills e b; none = inl s.3 }
-  copied_spoiled most old new before between after (Err TooManyWords) out s e b =
+  copied_spoiled at_once most old new before between after (Err TooManyWords) out s h e b =
       let c = s.2 in
       record { own = c.own; mid = s.0; few = omega (arith, c.many); gives = c.gives; spoils = spoils_last gk before between after c.own out c.fills e b; none = inr (inr (c.many, (s.1, s.3))) }
-  copied_spoiled most old new before between after (Err (Source fault)) out s e b =
+  copied_spoiled at_once most old new before between after (Err (Source fault)) out s h e b =
       let c = s.3 in
       record { own = c.own; mid = s.0; few = omega (arith, s.2, c.many); gives = c.gives; spoils = spoils_last gk before between after c.own out c.fills e b; none = inr (inl (fault, s.4)) }
-  copied_spoiled most old new before between after (Err (Output fault)) out s e b = absurd s
+  copied_spoiled at_once most old new before between after (Err (Output fault)) out s h e b = absurd (h fault refl)
 
   -- the output failed at a word
   pub copied_stopped : (at_once most : ℕ) (old new : S) (before after : K) (out : OutFault) → 0 < at_once → StopsAt gs gk most old new before after out

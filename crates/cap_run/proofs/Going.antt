@@ -5,7 +5,7 @@ use Rattle.cap_words.specs.declared.ends.ByteOut as output
 use Rattle.cap_words.specs.declared.ends.OutFault.{OutFault}
 use Rattle.cap_words.specs.declared.ends.OutFault.TheVariants.{Device, Memory, Spent}
 use Rattle.cap_words.specs.declared.sources.WordSource as source
-use Rattle.cap_run.specs.declared.engines.stream.Mark.{Mark}
+use Rattle.cap_run.specs.declared.engines.stream.Counted.{Counted}
 use Rattle.cap_run.specs.declared.fault.Cause.{Cause}
 use Rattle.cap_run.specs.declared.fault.Cause.TheVariants.{TooManyMessages, Frame, Output, Refused, Canon, Memory as no_marks}
 use Rattle.cap_run.specs.declared.settings.Outcome.{Outcome}
@@ -79,18 +79,18 @@ module _ {S O : Type 0} (gs : source.Ghosts S) (go : output.Ghosts O) (tells : T
   going_none s o = record { ts = []; many = refl; counts = refl; reads = reads_none gs limit s; each = tt; appended = appended_none go o }
 
   -- one more
-  pub going_more : (old mid new : S) (before between after : O) (outcome counted : Outcome) (number : ℕ) (t : Told) (mark : Mark) → t.mark ≡ mark → Going old mid before between outcome number
-      → tells number t.message t.text t.mark → ReadsStream gs limit mid new (t.message ∷ []) → Wrote go between after t.text
-      → counted ≡ record { messages = outcome.messages + 1; refused = outcome.refused + one_refused mark; noncanonical = outcome.noncanonical + one_noncanonical mark }
-      → Going old new before after counted (number + 1)
-  going_more old mid new before between after outcome counted number t mark same w told reads wrote counts = record {
+  pub going_more : (old mid new : S) (before between after : O) (outcome next : Outcome) (number : ℕ) (t : Told) (counted : Counted) → t.counted ≡ counted → Going old mid before between outcome number
+      → tells number t.message t.text t.counted → ReadsStream gs limit mid new (t.message ∷ []) → Wrote go between after t.text
+      → next ≡ record { messages = outcome.messages + 1; refused = outcome.refused + one_refused counted; noncanonical = outcome.noncanonical + one_noncanonical counted }
+      → Going old new before after next (number + 1)
+  going_more old mid new before between after outcome next number t counted same w told reads wrote counts = record {
     ts = w.ts ++ t ∷ [];
     many = length-append w.ts (t ∷ []) ∙ ap (λ n. n + 1) w.many;
-    counts = subst (λ (k : Mark). counted ≡ record { messages = outcome.messages + 1; refused = outcome.refused + one_refused k; noncanonical = outcome.noncanonical + one_noncanonical k })
+    counts = subst (λ (k : Counted). next ≡ record { messages = outcome.messages + 1; refused = outcome.refused + one_refused k; noncanonical = outcome.noncanonical + one_noncanonical k })
         (sym same) counts
         ∙ outcome_of-snoc w.ts t outcome w.counts;
     reads = rw (messages_of-snoc w.ts t) (reads_both gs limit old mid new (messages_of w.ts) (t.message ∷ []) w.reads reads);
-    each = each-snoc tells 0 w.ts t w.each (subst (λ k. tells k t.message t.text t.mark) (sym w.many ∙ omega arith) told);
+    each = each-snoc tells 0 w.ts t w.each (subst (λ k. tells k t.message t.text t.counted) (sym w.many ∙ omega arith) told);
     appended = rw (texts_of-snoc w.ts t) (appended_more go before between after (texts_of w.ts) t.text w.appended wrote);
   }
 
@@ -109,7 +109,7 @@ module _ {S O : Type 0} (gs : source.Ghosts S) (go : output.Ghosts O) (tells : T
   going_stops old mid new before between after outcome number most TooManyMessages w h q = absurd q
   going_stops old mid new before between after outcome number most (Frame fault) w h q = (rw q.1 w.appended, q.0)
   going_stops old mid new before between after outcome number most (Output fault) w h q =
-      (q.0, omega (arith, w.many), subst (λ k. tells k q.0.message q.0.text q.0.mark) (sym w.many) q.1, q.2, stops_in go before between after fault (texts_of w.ts) q.0.text w.appended q.3)
+      (q.0, omega (arith, w.many), subst (λ k. tells k q.0.message q.0.text q.0.counted) (sym w.many) q.1, q.2, stops_in go before between after fault (texts_of w.ts) q.0.text w.appended q.3)
   going_stops old mid new before between after outcome number most (Refused refusal) w h q = absurd q
   going_stops old mid new before between after outcome number most (Canon fault) w h q = absurd q
   going_stops old mid new before between after outcome number most no_marks w h q = (omega (arith, w.many), rw q.3 w.appended, (q.0, q.1, q.2))

@@ -1,5 +1,4 @@
 pub mod CanonEnds
-pub mod Checking
 pub mod Copying
 pub mod CopyEnds
 pub mod Dumping
@@ -8,6 +7,7 @@ pub mod Going
 pub mod Handed
 pub mod Handing
 pub mod Hexes
+pub mod Judging
 pub mod Nodes
 pub mod Making
 pub mod Paging

@@ -14,6 +14,7 @@ use Rattle.cap_frame.specs.ReadingFaults.{Answered, Faults}
 use Rattle.cap_frame.specs.declared.fault.FrameFault.{FrameFault}
 use Rattle.cap_frame.specs.declared.fault.FrameFault.TheVariants.{TooManySegments, TooLarge, Truncated, Device, Memory, Spent}
 use Rattle.cap_frame.proofs.Converse.{known_still, same_some, settled as settled_by, tells_fault}
+use Rattle.cap_run.specs.Engines.{EndsEarly, ReachesEnd}
 use Rattle.cap_run.specs.Running.{Appended, RunStops, Settled, SettledAt}
 use Rattle.cap_run.specs.Streams.{ReadsAll, ReadsStream}
 use Rattle.cap_run.specs.Telling.{Tells, TellsEach, Told, messages_of, outcome_of, texts_of}
@@ -84,14 +85,6 @@ module _ {S : Type 0} (gs : source.Ghosts S) (limit : ℕ) (old mid new : S) (re
       (all_back (λ m. sum (sizes_of m) ≤ limit) read front.2.0 (subst (AllByRecursion (λ m. sum (sizes_of m) ≤ limit)) front.2.1 l)) stops
 
 module _ {S O : Type 0} (gs : source.Ghosts S) (go : output.Ghosts O) (tells_of : Tells) (limit most : ℕ) (old new : S) (before after : O) where
-  -- what an engine's clauses say where it ended, and where it didn't
-  abbrev pub SaysEnd : Result Outcome RunFault → Type 0
-  SaysEnd r = IfOk r (λ outcome. (ts : List Told) × ReadsAll gs limit old new (messages_of ts) × TellsEach tells_of 0 ts × Appended go before after (texts_of ts) × (length ts ≤ most) × (outcome ≡ outcome_of ts))
-
-  abbrev pub SaysFault : (List (List ℕ) → Type 0) → Result Outcome RunFault → Type 0
-  SaysFault wants r = IfErr r (λ fault. (ts : List Told) × (mid : S) × (fault.message ≡ length ts) × (length ts ≤ most) × ReadsStream gs limit old mid (messages_of ts) × TellsEach tells_of 0 ts
-      × RunStops gs go tells_of wants limit most ts mid new before after fault.cause)
-
   -- each of these messages was told of, and the stream ended
   abbrev pub ToldEach : List (List (List ℕ)) → Result Outcome RunFault → Type 0
   ToldEach ms r = (ts : List Told) × (messages_of ts ≡ ms) × TellsEach tells_of 0 ts × Appended go before after (texts_of ts) × (r ≡ Ok (outcome_of ts))
@@ -108,7 +101,7 @@ module _ {S O : Type 0} (gs : source.Ghosts S) (go : output.Ghosts O) (tells_of 
   settled_behind wants mid ts own ms no_marks P w c s l few reads stops = tt
 
   -- a stream of messages within the limits is read to its end
-  pub settled : (wants : List (List ℕ) → Type 0) (r : Result Outcome RunFault) (own : List ℕ) (ms : List (List (List ℕ))) → SaysEnd r → SaysFault wants r → gs.words old ≡ Some own → gs.is_cut old ≡ false → Stream own ms
+  pub settled : (wants : List (List ℕ) → Type 0) (r : Result Outcome RunFault) (own : List ℕ) (ms : List (List (List ℕ))) → ReachesEnd gs go tells_of limit most old new before after r → EndsEarly gs go tells_of limit most old new before after wants r → gs.words old ≡ Some own → gs.is_cut old ≡ false → Stream own ms
       → AllByRecursion (λ m. sum (sizes_of m) ≤ limit) ms → length ms ≤ most → Settled r (ToldEach ms r)
   settled wants (Ok outcome) own ms end fault w c s l few =
       let all = on_known (gs.words old) own _ w end.1.all in

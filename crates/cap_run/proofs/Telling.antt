@@ -2,8 +2,8 @@
 use Rattle.std.proofs.Common.{◌≡◌, ◌∙◌, ℕ, suc, ◌+◌, ◌≤◌, List, [], ◌∷◌, ◌++◌, length, refl, sym, ap, arith, append-nil, subst, length-append}
 use Rattle.std.proofs.lemmas.List.{map-append}
 use Rattle.std.proofs.lemmas.Grind.{flat_map-append}
-use Rattle.cap_run.specs.declared.engines.stream.Mark.{Mark}
-use Rattle.cap_run.specs.declared.engines.stream.Mark.TheVariants.{Accepted, Refused, NotCanonical}
+use Rattle.cap_run.specs.declared.engines.stream.Counted.{Counted}
+use Rattle.cap_run.specs.declared.engines.stream.Counted.TheVariants.{Accepted, Refused, NotCanonical}
 use Rattle.cap_run.specs.declared.settings.Outcome.{Outcome}
 use Rattle.cap_run.specs.Telling.{Told, messages_of, texts_of, TellsEach, one_refused, one_noncanonical, refused_in, noncanonical_in, outcome_of}
 
@@ -13,26 +13,26 @@ messages_of-snoc ts t = map-append (λ u. u.message) ts (t ∷ [])
 pub texts_of-snoc : (ts : List Told) (t : Told) → texts_of (ts ++ t ∷ []) ≡ texts_of ts ++ t.text
 texts_of-snoc ts t = flat_map-append (λ u. u.text) ts (t ∷ []) ∙ ap (λ l. texts_of ts ++ l) (append-nil t.text)
 
-pub each-snoc : (tells : ℕ → List (List ℕ) → List ℕ → Mark → Type 0) (n : ℕ) (ts : List Told) (t : Told) → TellsEach tells n ts
-    → tells (n + length ts) t.message t.text t.mark → TellsEach tells n (ts ++ t ∷ [])
-each-snoc tells n [] t p q = (subst (λ k. tells k t.message t.text t.mark) (omega arith) q, tt)
-each-snoc tells n (u ∷ ts) t p q = (p.0, each-snoc tells (n + 1) ts t p.1 (subst (λ k. tells k t.message t.text t.mark) (omega arith) q))
+pub each-snoc : (tells : ℕ → List (List ℕ) → List ℕ → Counted → Type 0) (n : ℕ) (ts : List Told) (t : Told) → TellsEach tells n ts
+    → tells (n + length ts) t.message t.text t.counted → TellsEach tells n (ts ++ t ∷ [])
+each-snoc tells n [] t p q = (subst (λ k. tells k t.message t.text t.counted) (omega arith) q, tt)
+each-snoc tells n (u ∷ ts) t p q = (p.0, each-snoc tells (n + 1) ts t p.1 (subst (λ k. tells k t.message t.text t.counted) (omega arith) q))
 
-pub refused_in-snoc : (ts : List Told) (t : Told) → refused_in (ts ++ t ∷ []) ≡ refused_in ts + one_refused t.mark
+pub refused_in-snoc : (ts : List Told) (t : Told) → refused_in (ts ++ t ∷ []) ≡ refused_in ts + one_refused t.counted
 refused_in-snoc [] t = omega arith
 refused_in-snoc (u ∷ ts) t = let e = refused_in-snoc ts t in omega (arith, e)
 
-pub noncanonical_in-snoc : (ts : List Told) (t : Told) → noncanonical_in (ts ++ t ∷ []) ≡ noncanonical_in ts + one_noncanonical t.mark
+pub noncanonical_in-snoc : (ts : List Told) (t : Told) → noncanonical_in (ts ++ t ∷ []) ≡ noncanonical_in ts + one_noncanonical t.counted
 noncanonical_in-snoc [] t = omega arith
 noncanonical_in-snoc (u ∷ ts) t = let e = noncanonical_in-snoc ts t in omega (arith, e)
 
 -- a message counts at most once
-one_refused_le : (mark : Mark) → one_refused mark ≤ 1
+one_refused_le : (counted : Counted) → one_refused counted ≤ 1
 one_refused_le Accepted = omega arith
 one_refused_le Refused = omega arith
 one_refused_le NotCanonical = omega arith
 
-one_noncanonical_le : (mark : Mark) → one_noncanonical mark ≤ 1
+one_noncanonical_le : (counted : Counted) → one_noncanonical counted ≤ 1
 one_noncanonical_le Accepted = omega arith
 one_noncanonical_le Refused = omega arith
 one_noncanonical_le NotCanonical = omega arith
@@ -40,23 +40,23 @@ one_noncanonical_le NotCanonical = omega arith
 -- no more are refused than there are
 pub refused_in_le : (ts : List Told) → refused_in ts ≤ length ts
 refused_in_le [] = omega arith
-refused_in_le (t ∷ ts) = let e = refused_in_le ts in let f = one_refused_le t.mark in omega arith
+refused_in_le (t ∷ ts) = let e = refused_in_le ts in let f = one_refused_le t.counted in omega arith
 
 -- no more aren't canonical than there are
 pub noncanonical_in_le : (ts : List Told) → noncanonical_in ts ≤ length ts
 noncanonical_in_le [] = omega arith
-noncanonical_in_le (t ∷ ts) = let e = noncanonical_in_le ts in let f = one_noncanonical_le t.mark in omega arith
+noncanonical_in_le (t ∷ ts) = let e = noncanonical_in_le ts in let f = one_noncanonical_le t.counted in omega arith
 
 -- the counts with one message more
 pub outcome_of-snoc : (ts : List Told) (t : Told) (o : Outcome) → o ≡ outcome_of ts
-    → record { messages = o.messages + 1; refused = o.refused + one_refused t.mark; noncanonical = o.noncanonical + one_noncanonical t.mark } ≡ outcome_of (ts ++ t ∷ [])
+    → record { messages = o.messages + 1; refused = o.refused + one_refused t.counted; noncanonical = o.noncanonical + one_noncanonical t.counted } ≡ outcome_of (ts ++ t ∷ [])
 outcome_of-snoc ts t o e =
     let m : o.messages ≡ length ts = ap (λ p. p.messages) e in
     let r : o.refused ≡ refused_in ts = ap (λ p. p.refused) e in
     let n : o.noncanonical ≡ noncanonical_in ts = ap (λ p. p.noncanonical) e in
     let m1 : o.messages + 1 ≡ length (ts ++ t ∷ []) = omega (arith, length-append ts (t ∷ [])) in
-    let r1 : o.refused + one_refused t.mark ≡ refused_in (ts ++ t ∷ []) = ap (λ k. k + one_refused t.mark) r ∙ sym (refused_in-snoc ts t) in
-    let n1 : o.noncanonical + one_noncanonical t.mark ≡ noncanonical_in (ts ++ t ∷ []) = ap (λ k. k + one_noncanonical t.mark) n ∙ sym (noncanonical_in-snoc ts t) in
+    let r1 : o.refused + one_refused t.counted ≡ refused_in (ts ++ t ∷ []) = ap (λ k. k + one_refused t.counted) r ∙ sym (refused_in-snoc ts t) in
+    let n1 : o.noncanonical + one_noncanonical t.counted ≡ noncanonical_in (ts ++ t ∷ []) = ap (λ k. k + one_noncanonical t.counted) n ∙ sym (noncanonical_in-snoc ts t) in
     cc
 
 -- there are as many messages as were told of

@@ -1,6 +1,7 @@
--- What the engine `run_canon` does, which puts canonical copies of the messages of a stream (profile). gs and gk have
--- the members of the source's and of the sink's type.
-use Rattle.std.specs.Prelude.{ℕ, ◌≡◌, ◌<◌, ◌≤◌, ◌⊎◌, false, List, [], ◌∷◌, ◌++◌, length, map, sum, Some, Result, Ok, Err, IfOk, IfErr}
+-- What the engine `run_canon` does, which puts canonical copies of the messages of a stream
+-- (profile). gs and gk have the members of the source's and of the sink's type.
+use Rattle.std.specs.Prelude.{ℕ, ◌≡◌, ◌<◌, ◌≤◌, ◌⊎◌, false, List, [], ◌∷◌, ◌++◌, length, map, sum}
+use Rattle.std.specs.Prelude.{Some, Result, Ok, Err, IfOk, IfErr}
 use Rattle.std.specs.List.{AllByRecursion, flat_map}
 use Rattle.cap_spec.specs.Copies.{HasCopy}
 use Rattle.cap_spec.specs.Faults.{IsRefused}
@@ -20,7 +21,8 @@ use Rattle.cap_run.specs.Copying.{Finishes, Spoils}
 use Rattle.cap_run.specs.Running.{Settled}
 use Rattle.cap_run.specs.Streams.{EndsStream, ReadsAll, ReadsStream}
 use Rattle.cap_run.specs.declared.fault.Cause.{Cause}
-use Rattle.cap_run.specs.declared.fault.Cause.TheVariants.{TooManyMessages, Frame, Output, Refused, Canon, Memory as no_marks}
+use Rattle.cap_run.specs.declared.fault.Cause.TheVariants.{TooManyMessages, Frame, Output, Refused}
+use Rattle.cap_run.specs.declared.fault.Cause.TheVariants.{Canon, Memory as no_marks}
 use Rattle.cap_run.specs.declared.fault.RunFault.{RunFault}
 use Rattle.cap_run.specs.declared.settings.Outcome.{Outcome}
 
@@ -47,20 +49,26 @@ pub record IsCanonised (words depth : ℕ) (c : Canonised) : Type 0 where
 abbrev pub AreCanonised : ℕ → ℕ → List Canonised → Type 0
 AreCanonised words depth cs = AllByRecursion (IsCanonised words depth) cs
 
--- why no copy was made: this is the first capability in preorder, or there is none and an allocation failed
+-- why no copy was made: this is the first capability in preorder, or there is none and an
+-- allocation failed
 abbrev pub HasNoCopy : List (List ℕ) → CanonFault → Type 0
 HasNoCopy m (HasCapability s w) = IsFirstCap m s w
 HasNoCopy m Memory = (s w : ℕ) → ¬ IsFirstCap m s w
 
-module _ {S K : Type 0} (gs : source.Ghosts S) (gk : sink.Ghosts K) (words depth limit most : ℕ) (cs : List Canonised) where
-  -- why no more copies were put: the source was `mid` after these messages, and Ok says that the stream ended
+module _ {S K : Type 0} (gs : source.Ghosts S) (gk : sink.Ghosts K) (words depth limit most : ℕ)
+    (cs : List Canonised) where
+  -- why no more copies were put: the source was `mid` after these messages, and Ok says that the
+  -- stream ended
   abbrev pub CanonEnds : S → S → Result (Unit {0}) Cause → Type 0
   CanonEnds mid new (Ok ended) = EndsStream gs mid new
-  CanonEnds mid new (Err TooManyMessages) = (length cs ≡ most) × (m : List (List ℕ)) × ReadsStream gs limit mid new (m ∷ [])
+  CanonEnds mid new (Err TooManyMessages) = (length cs ≡ most) × (m : List (List ℕ))
+      × ReadsStream gs limit mid new (m ∷ [])
   CanonEnds mid new (Err (Frame fault)) = Faults gs limit mid new fault
   CanonEnds mid new (Err (Output fault)) = ⊥
-  CanonEnds mid new (Err (Refused refusal)) = (length cs < most) × (m : List (List ℕ)) × ReadsStream gs limit mid new (m ∷ []) × IsRefused m words depth refusal
-  CanonEnds mid new (Err (Canon fault)) = (length cs < most) × (m : List (List ℕ)) × (report : Report) × ReadsStream gs limit mid new (m ∷ [])
+  CanonEnds mid new (Err (Refused refusal)) = (length cs < most) × (m : List (List ℕ))
+      × ReadsStream gs limit mid new (m ∷ []) × IsRefused m words depth refusal
+  CanonEnds mid new (Err (Canon fault)) = (length cs < most) × (m : List (List ℕ))
+      × (report : Report) × ReadsStream gs limit mid new (m ∷ [])
       × IsAccepted m words depth report × HasNoCopy m fault
   CanonEnds mid new (Err no_marks) = ⊥
 
@@ -70,7 +78,8 @@ module _ {S K : Type 0} (gs : source.Ghosts S) (gk : sink.Ghosts K) (words depth
     pub few : length cs < most
     pub reads : ReadsStream gs limit mid new (next.message ∷ [])
     pub is_canonised : IsCanonised words depth next
-    pub halts : Halts gk before after (copies_of cs ++ frame_text (next.copy ∷ [])) (sink_fault_of fault)
+    pub halts : Halts gk before after (copies_of cs ++ frame_text (next.copy ∷ []))
+        (sink_fault_of fault)
 
   -- The result was known, and the output returned this error as the sink was finished.
   pub record StopsBehindCopies (mid new : S) (before after : K) (fault : OutFault) : Type 0 where
@@ -80,26 +89,38 @@ module _ {S K : Type 0} (gs : source.Ghosts S) (gk : sink.Ghosts K) (words depth
 
   -- what each cause says: unless the output failed, the copies were put and the sink was finished
   abbrev pub CanonStops : S → S → K → K → Cause → Type 0
-  CanonStops mid new before after TooManyMessages = CanonEnds mid new (Err TooManyMessages) × Finishes gk before after (copies_of cs)
-  CanonStops mid new before after (Frame fault) = CanonEnds mid new (Err (Frame fault)) × Finishes gk before after (copies_of cs)
-  CanonStops mid new before after (Output fault) = StopsInCopy mid new before after fault ⊎ StopsBehindCopies mid new before after fault
-  CanonStops mid new before after (Refused refusal) = CanonEnds mid new (Err (Refused refusal)) × Finishes gk before after (copies_of cs)
-  CanonStops mid new before after (Canon fault) = CanonEnds mid new (Err (Canon fault)) × Finishes gk before after (copies_of cs)
+  CanonStops mid new before after TooManyMessages = CanonEnds mid new (Err TooManyMessages)
+      × Finishes gk before after (copies_of cs)
+  CanonStops mid new before after (Frame fault) = CanonEnds mid new (Err (Frame fault))
+      × Finishes gk before after (copies_of cs)
+  CanonStops mid new before after (Output fault) = StopsInCopy mid new before after fault
+      ⊎ StopsBehindCopies mid new before after fault
+  CanonStops mid new before after (Refused refusal) = CanonEnds mid new (Err (Refused refusal))
+      × Finishes gk before after (copies_of cs)
+  CanonStops mid new before after (Canon fault) = CanonEnds mid new (Err (Canon fault))
+      × Finishes gk before after (copies_of cs)
   CanonStops mid new before after no_marks = ⊥
 
 module _ {S K : Type 0} (gs : source.Ghosts S) (gk : sink.Ghosts K) where
   -- What the engine does over a stream of at most `most` messages, each of at most `limit` words.
   -- The charge of a message may be at most `words`, and its depth at most `depth`.
-  pub record MakesCopies (words depth limit most : ℕ) (old new : S) (before after : K) (answer : Result Outcome RunFault) : Type 0 where
+  pub record MakesCopies (words depth limit most : ℕ) (old new : S) (before after : K)
+      (answer : Result Outcome RunFault) : Type 0 where
     -- All words of the source are frames of these messages, and exactly their copies were put.
-    pub ok : IfOk answer (λ outcome. (cs : List Canonised) × ReadsAll gs limit old new (canonised cs) × AreCanonised words depth cs
+    pub ok : IfOk answer (λ outcome. (cs : List Canonised)
+        × ReadsAll gs limit old new (canonised cs) × AreCanonised words depth cs
         × Finishes gk before after (copies_of cs) × (length cs ≤ most)
         × (outcome ≡ record { messages = length cs; refused = 0; noncanonical = 0 }))
     -- The source was `mid` after the messages before the error had been read.
-    pub err : IfErr answer (λ fault. (cs : List Canonised) × (mid : S) × (fault.message ≡ length cs) × (length cs ≤ most)
+    pub err : IfErr answer (λ fault. (cs : List Canonised) × (mid : S) × (fault.message ≡ length cs)
+        × (length cs ≤ most)
         × ReadsStream gs limit old mid (canonised cs) × AreCanonised words depth cs
         × CanonStops gs gk words depth limit most cs mid new before after fault.cause)
-    -- The other way round: such a stream, if each message is within the limits and has a copy, is read to its end.
-    pub whole : (own : List ℕ) (cs : List Canonised) → gs.words old ≡ Some own → gs.is_cut old ≡ false → Stream own (canonised cs)
-        → AllByRecursion (λ m. sum (sizes_of m) ≤ limit) (canonised cs) → AreCanonised words depth cs → length cs ≤ most →
-        Settled answer (Finishes gk before after (copies_of cs) × (answer ≡ Ok (record { messages = length cs; refused = 0; noncanonical = 0 })))
+    -- The other way round: such a stream, if each message is within the limits and has a copy, is
+    -- read to its end.
+    pub whole : (own : List ℕ) (cs : List Canonised) → gs.words old ≡ Some own
+        → gs.is_cut old ≡ false → Stream own (canonised cs)
+        → AllByRecursion (λ m. sum (sizes_of m) ≤ limit) (canonised cs)
+            → AreCanonised words depth cs → length cs ≤ most →
+        Settled answer (Finishes gk before after (copies_of cs)
+            × (answer ≡ Ok (record { messages = length cs; refused = 0; noncanonical = 0 })))

@@ -1,22 +1,23 @@
 -- What may be written of a message that is checked (profile).
-use Rattle.std.specs.Prelude.{ℕ, ◌≡◌, ◌⊎◌, ◌↔◌, if◌then◌else◌, Bool, IsTrue, List}
+use Rattle.std.specs.Prelude.{ℕ, ◌≡◌, ◌↔◌, if◌then◌else◌, Bool, IsTrue, List}
 use Rattle.cap_spec.specs.Copies.{IsCanonical}
 use Rattle.cap_spec.specs.Texts.{check_text}
 use Rattle.cap_vet.specs.Reports.{IsAccepted}
 use Rattle.cap_vet.specs.declared.report.Report.{Report}
-use Rattle.cap_run.specs.declared.engines.stream.Mark.{Mark}
-use Rattle.cap_run.specs.declared.engines.stream.Mark.TheVariants.{Accepted, NotCanonical}
-use Rattle.cap_run.specs.Vetting.{TellsRefused}
+use Rattle.cap_run.specs.declared.engines.stream.Counted.{Counted}
+use Rattle.cap_run.specs.declared.engines.stream.Counted.TheVariants.{Accepted, NotCanonical}
+use Rattle.cap_run.specs.Vetting.{OrRefused}
 
 -- the text of message n if it is accepted, by whether its words are its own canonical copy
-pub record TellsChecked (words depth n : ℕ) (m : List (List ℕ)) (text : List ℕ) (mark : Mark) : Type 0 where
+pub record TellsChecked (words depth n : ℕ) (m : List (List ℕ)) (text : List ℕ)
+    (counted : Counted) : Type 0 where
   pub report : Report
   pub is_accepted : IsAccepted m words depth report
   pub canonical : Bool
   pub decides : IsTrue canonical ↔ IsCanonical m
   pub line : text ≡ check_text n canonical
-  pub counted : mark ≡ (if canonical then Accepted else NotCanonical)
+  pub counts : counted ≡ (if canonical then Accepted else NotCanonical)
 
 -- this, or if it is refused, the first bad pointer and the reason
-abbrev pub TellsCheck : ℕ → ℕ → ℕ → List (List ℕ) → List ℕ → Mark → Type 0
-TellsCheck words depth n m text mark = TellsChecked words depth n m text mark ⊎ TellsRefused words depth n m text mark
+abbrev pub TellsCheck : ℕ → ℕ → ℕ → List (List ℕ) → List ℕ → Counted → Type 0
+TellsCheck = OrRefused TellsChecked

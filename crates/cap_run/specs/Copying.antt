@@ -1,5 +1,7 @@
--- How a copy of words ends (profile). gs and gk have the members of the source's and of the sink's type.
-use Rattle.std.specs.Prelude.{ℕ, ◌≡◌, ◌<◌, ◌≤◌, ◌⊎◌, true, false, List, [], ◌∷◌, ◌++◌, length, Some, OnSome, Result, Ok, Err}
+-- How a copy of words ends (profile). gs and gk have the members of the source's and of the sink's
+-- type.
+use Rattle.std.specs.Prelude.{ℕ, ◌≡◌, ◌<◌, ◌≤◌, ◌⊎◌, true, false, List, [], ◌∷◌, ◌++◌, length, Some}
+use Rattle.std.specs.Prelude.{OnSome, Result, Ok, Err}
 use Rattle.cap_words.specs.Ends.{Works}
 use Rattle.cap_words.specs.Sinks.{Begins, StoppedPutting, WasFinished, WasPut, sink_fault_of}
 use Rattle.cap_words.specs.declared.ends.OutFault.{OutFault}
@@ -23,7 +25,8 @@ module _ {S : Type 0} (gs : source.Ghosts S) where
 
   -- There were no more words, and the input ended at this byte, inside a word.
   pub record IsCutAt (old new : S) (byte : ℕ) : Type 0 where
-    pub none : OnSome (gs.words old) ((gs.words old ≡ Some []) × (gs.is_cut old ≡ true) × (gs.places old ≡ byte ∷ []))
+    pub none : OnSome (gs.words old)
+        ((gs.words old ≡ Some []) × (gs.is_cut old ≡ true) × (gs.places old ≡ byte ∷ []))
     pub place : byte ≡ gs.place new
     pub usable : gs.spent old ≡ false
     pub spent : gs.spent new ≡ true
@@ -36,9 +39,11 @@ module _ {S : Type 0} (gs : source.Ghosts S) where
   GivesNone old new Device = Breaks gs old new
   GivesNone old new Spent = Refuses gs old new
 
-  -- why no more words were put than these: the input ended, the source failed, or a word past `most` was read
+  -- why no more words were put than these: the input ended, the source failed, or a word past
+  -- `most` was read
   abbrev pub StopsGiving : ℕ → List ℕ → S → S → Type 0
-  StopsGiving most own old new = EndsStream gs old new ⊎ (((fault : SourceFault) × GivesNone old new fault)
+  StopsGiving most own old new = EndsStream gs old new
+      ⊎ (((fault : SourceFault) × GivesNone old new fault)
       ⊎ ((length own ≡ most) × ((word : ℕ) × Gives old new (word ∷ []))))
 
 module _ {K : Type 0} (gk : sink.Ghosts K) where
@@ -80,7 +85,8 @@ module _ {S K : Type 0} (gs : source.Ghosts S) (gk : sink.Ghosts K) where
     pub finishes : Finishes gk before after own
 
   -- The source returned this error after the words that were put.
-  pub record CopiesUntil (most : ℕ) (old new : S) (before after : K) (fault : SourceFault) : Type 0 where
+  pub record CopiesUntil (most : ℕ) (old new : S) (before after : K)
+      (fault : SourceFault) : Type 0 where
     pub own : List ℕ
     pub mid : S
     pub few : length own ≤ most
@@ -88,9 +94,11 @@ module _ {S K : Type 0} (gs : source.Ghosts S) (gk : sink.Ghosts K) where
     pub none : GivesNone gs mid new fault
     pub finishes : Finishes gk before after own
 
-  -- All words that were read were put to the sink, in pieces of at most `at_once` words. The sink took the pieces
-  -- before the last, and its output failed at the last. After it no word was read, or the reading was at its end.
-  pub record StopsMidway (at_once most : ℕ) (old new : S) (before after : K) (fault : OutFault) : Type 0 where
+  -- All words that were read were put to the sink, in pieces of at most `at_once` words. The sink
+  -- took the pieces before the last, and its output failed at the last. After it no word was read,
+  -- or the reading was at its end.
+  pub record StopsMidway (at_once most : ℕ) (old new : S) (before after : K)
+      (fault : OutFault) : Type 0 where
     pub done : List ℕ
     pub piece : List ℕ
     pub mid : S
@@ -104,8 +112,10 @@ module _ {S K : Type 0} (gs : source.Ghosts S) (gk : sink.Ghosts K) where
     pub halts : Halts gk between after piece (sink_fault_of fault)
     pub part : StoppedPutting gk.text gk.taken before after (done ++ piece)
 
-  -- All words that may be copied were put, the source gave no more, and the output failed as the sink was finished.
-  pub record StopsFinishing (most : ℕ) (old new : S) (before after : K) (fault : OutFault) : Type 0 where
+  -- All words that may be copied were put, the source gave no more, and the output failed as the
+  -- sink was finished.
+  pub record StopsFinishing (most : ℕ) (old new : S) (before after : K)
+      (fault : OutFault) : Type 0 where
     pub own : List ℕ
     pub mid : S
     pub few : length own ≤ most
@@ -115,10 +125,13 @@ module _ {S K : Type 0} (gs : source.Ghosts S) (gk : sink.Ghosts K) where
 
   -- what each result says of a copy of at most `most` words, in pieces of at most `at_once` words
   abbrev pub Copied : ℕ → ℕ → S → S → K → K → Result ℕ CopyFault → Type 0
-  Copied at_once most old new before after (Ok n) = (own : List ℕ) × (n ≡ length own) × CopiesAll most old new before after own
+  Copied at_once most old new before after (Ok n) = (own : List ℕ) × (n ≡ length own)
+      × CopiesAll most old new before after own
   Copied at_once most old new before after (Err TooManyWords) = CopiesMost most old new before after
-  Copied at_once most old new before after (Err (Source fault)) = CopiesUntil most old new before after fault
-  Copied at_once most old new before after (Err (Output fault)) = StopsMidway at_once most old new before after fault
+  Copied at_once most old new before after (Err (Source fault)) = CopiesUntil most old new before
+      after fault
+  Copied at_once most old new before after (Err (Output fault)) = StopsMidway at_once most old new
+      before after fault
       ⊎ StopsFinishing most old new before after fault
 
 -- P, unless reading failed, the output failed, or the input was closed by an earlier error

@@ -1,7 +1,8 @@
 -- The lines of a dump by kinds of nodes, and how deep they nest (profile).
 use Rattle.std.specs.Prelude.{ℕ, zero, suc, ◌+◌, ◌==◌, if◌then◌else◌, max, List, ◌++◌, codes}
 use Rattle.cap_spec.specs.Texts.{then_number}
-use Rattle.cap_spec.specs.Tree.{Tree, null, cap, struct, scalars, pointers, structs, Trees, none, more}
+use Rattle.cap_spec.specs.Tree.{Tree, null, cap, struct, scalars, pointers, structs, Trees, none}
+use Rattle.cap_spec.specs.Tree.{more}
 use Rattle.cap_spec.specs.declared.Kind.{Kind}
 use Rattle.cap_spec.specs.declared.Kind.TheVariants.{Null, Cap, Struct, Scalars, Pointers, Structs}
 use Rattle.cap_spec.specs.declared.Step.{Step}

@@ -1,6 +1,8 @@
--- The whole contract of each engine (profile). It says what the result means for the source and the output, and what
--- the result is if the words are known. gs, go and gk have the members of their types.
-use Rattle.std.specs.Prelude.{ℕ, ◌-◌, ◌≡◌, ◌<◌, ◌≤◌, ◌^◌, false, true, List, [], ◌∷◌, length, sum, take, drop, Some, Result, Ok, Err, IfOk, IfErr, IsErrOf}
+-- The whole contract of each engine (profile). It says what the result means for the source and the
+-- output, and what the result is if the words are known. gs, go and gk have the members of their
+-- types.
+use Rattle.std.specs.Prelude.{ℕ, ◌-◌, ◌≡◌, ◌<◌, ◌≤◌, ◌^◌, false, true, List, [], ◌∷◌, length, sum}
+use Rattle.std.specs.Prelude.{take, drop, Some, Result, Ok, Err, IfOk, IfErr, IsErrOf}
 use Rattle.std.specs.List.{AllByRecursion}
 use Rattle.cap_spec.specs.Frames.{Stream, sizes_of}
 use Rattle.cap_words.specs.declared.ends.ByteOut as output
@@ -11,7 +13,8 @@ use Rattle.cap_frame.specs.declared.fault.FrameFault.TheVariants.{Memory}
 use Rattle.cap_run.specs.Copying.{Copied, CopySettled, Finishes}
 use Rattle.cap_run.specs.Running.{Appended, RunStops, Settled}
 use Rattle.cap_run.specs.Streams.{ReadsAll, ReadsStream}
-use Rattle.cap_run.specs.Telling.{Tells, TellsEach, TellsSegments, Told, WantsNone, messages_of, outcome_of, texts_of}
+use Rattle.cap_run.specs.Telling.{Tells, TellsEach, TellsSegments, Told, WantsNone, messages_of}
+use Rattle.cap_run.specs.Telling.{outcome_of, texts_of}
 use Rattle.cap_run.specs.declared.fault.Cause.TheVariants.{Frame}
 use Rattle.cap_run.specs.declared.fault.CopyFault.{CopyFault}
 use Rattle.cap_run.specs.declared.fault.CopyFault.TheVariants.{TooManyWords, Source}
@@ -34,40 +37,60 @@ most_unpacked_at_once = 1024
 abbrev pub most_messages : ℕ
 most_messages = 2 ^ 32 - 1
 
+module _ {S O : Type 0} (gs : source.Ghosts S) (go : output.Ghosts O) (tells : Tells)
+    (limit most : ℕ) (old new : S) (before after : O) where
+  -- All words of the source are frames of these messages, and the text of each was written.
+  abbrev pub ReachesEnd : Result Outcome RunFault → Type 0
+  ReachesEnd answer = IfOk answer (λ outcome. (ts : List Told)
+      × ReadsAll gs limit old new (messages_of ts) × TellsEach tells 0 ts
+      × Appended go before after (texts_of ts)
+      × (length ts ≤ most) × (outcome ≡ outcome_of ts))
+
+  -- The source was `mid` after the messages before the error had been read.
+  abbrev pub EndsEarly : (List (List ℕ) → Type 0) → Result Outcome RunFault → Type 0
+  EndsEarly wants answer = IfErr answer (λ fault. (ts : List Told) × (mid : S)
+      × (fault.message ≡ length ts) × (length ts ≤ most)
+      × ReadsStream gs limit old mid (messages_of ts) × TellsEach tells 0 ts
+      × RunStops gs go tells wants limit most ts mid new before after fault.cause)
+
 module _ {S O : Type 0} (gs : source.Ghosts S) (go : output.Ghosts O) where
-  -- What an engine does over at most `most` messages, each of at most `limit` words: it writes a text of each.
-  -- A message in `wants` may need an allocation after it was read.
+  -- What an engine does over at most `most` messages, each of at most `limit` words: it writes a
+  -- text of each. A message in `wants` may need an allocation after it was read.
   pub record TellsStream (tells : Tells) (wants : List (List ℕ) → Type 0) (limit most : ℕ)
       (old new : S) (before after : O) (answer : Result Outcome RunFault) : Type 0 where
-    -- All words of the source are frames of these messages, and the text of each was written.
-    pub ok : IfOk answer (λ outcome. (ts : List Told) × ReadsAll gs limit old new (messages_of ts) × TellsEach tells 0 ts
-        × Appended go before after (texts_of ts)
-        × (length ts ≤ most) × (outcome ≡ outcome_of ts))
-    -- The source was `mid` after the messages before the error had been read.
-    pub err : IfErr answer (λ fault. (ts : List Told) × (mid : S) × (fault.message ≡ length ts) × (length ts ≤ most)
-        × ReadsStream gs limit old mid (messages_of ts)
-        × TellsEach tells 0 ts × RunStops gs go tells wants limit most ts mid new before after fault.cause)
-    -- And the other way round: a stream of at most `most` messages, each within the limit, is read to its end.
-    pub whole : (own : List ℕ) (ms : List (List (List ℕ))) → gs.words old ≡ Some own → gs.is_cut old ≡ false → Stream own ms
+    pub ok : ReachesEnd gs go tells limit most old new before after answer
+    pub err : EndsEarly gs go tells limit most old new before after wants answer
+    -- And the other way round: a stream of at most `most` messages, each within the limit, is read
+    -- to its end.
+    pub whole : (own : List ℕ) (ms : List (List (List ℕ))) → gs.words old ≡ Some own
+        → gs.is_cut old ≡ false → Stream own ms
         → AllByRecursion (λ m. sum (sizes_of m) ≤ limit) ms → length ms ≤ most →
-        Settled answer ((ts : List Told) × (messages_of ts ≡ ms) × TellsEach tells 0 ts × Appended go before after (texts_of ts)
+        Settled answer ((ts : List Told) × (messages_of ts ≡ ms) × TellsEach tells 0 ts
+            × Appended go before after (texts_of ts)
         × (answer ≡ Ok (outcome_of ts)))
 
-  -- What the engine `run_segments` does, which writes the segments of each message. Reading allocates nothing.
-  pub record ShowsStream (limit most : ℕ) (old new : S) (before after : O) (answer : Result Outcome RunFault) : Type 0 where
+  -- What the engine `run_segments` does, which writes the segments of each message. Reading
+  -- allocates nothing.
+  pub record ShowsStream (limit most : ℕ) (old new : S) (before after : O)
+      (answer : Result Outcome RunFault) : Type 0 where
     pub told : TellsStream TellsSegments WantsNone limit most old new before after answer
     pub no_memory : (n : ℕ) → IsErrOf answer (record { message = n; cause = Frame Memory }) → ⊥
 
 module _ {S K : Type 0} (gs : source.Ghosts S) (gk : sink.Ghosts K) where
   -- What an engine does that copies at most `most` words, in pieces of at most `at_once` words.
-  pub record CopiesWords (at_once most : ℕ) (old new : S) (before after : K) (answer : Result ℕ CopyFault) : Type 0 where
+  pub record CopiesWords (at_once most : ℕ) (old new : S) (before after : K)
+      (answer : Result ℕ CopyFault) : Type 0 where
     pub copied : Copied gs gk at_once most old new before after answer
-    -- And the other way round, if the words are known. There are at most `most`, and the input isn't cut.
-    pub whole : (own : List ℕ) → gs.words old ≡ Some own → gs.is_cut old ≡ false → length own ≤ most →
+    -- And the other way round, if the words are known. There are at most `most`, and the input
+    -- isn't cut.
+    pub whole : (own : List ℕ) → gs.words old ≡ Some own → gs.is_cut old ≡ false
+        → length own ≤ most →
         CopySettled answer ((answer ≡ Ok (length own)) × Finishes gk before after own)
     -- The input ends inside a word after them.
-    pub cut_short : (own : List ℕ) → gs.words old ≡ Some own → gs.is_cut old ≡ true → length own ≤ most →
-        CopySettled answer ((byte : ℕ) × (answer ≡ Err (Source (Truncated byte))) × (drop (length own) (gs.places old) ≡ byte ∷ [])
+    pub cut_short : (own : List ℕ) → gs.words old ≡ Some own → gs.is_cut old ≡ true
+        → length own ≤ most →
+        CopySettled answer ((byte : ℕ) × (answer ≡ Err (Source (Truncated byte)))
+            × (drop (length own) (gs.places old) ≡ byte ∷ [])
         × Finishes gk before after own)
     -- There are too many.
     pub many : (own : List ℕ) → gs.words old ≡ Some own → most < length own →

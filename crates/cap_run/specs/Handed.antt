@@ -1,5 +1,5 @@
--- How putting words that were read at once to a sink ends in an error (profile). gs and gk have the members of the
--- source's and of the sink's type.
+-- How putting words that were read at once to a sink ends in an error (profile). gs and gk have the
+-- members of the source's and of the sink's type.
 use Rattle.std.specs.Prelude.{ℕ, ◌<◌, ◌≤◌, List, length}
 use Rattle.cap_words.specs.Sinks.{sink_fault_of}
 use Rattle.cap_words.specs.declared.ends.OutFault.{OutFault}

@@ -1,6 +1,7 @@
--- What the steps of the engine `run_canon` do, which puts canonical copies (profile). gs and gk have the members of the
--- source's and of the sink's type.
-use Rattle.std.specs.Prelude.{ℕ, ◌≡◌, ◌≤◌, true, false, Bool, List, [], ◌∷◌, length, Result, Ok, Err}
+-- What the steps of the engine `run_canon` do, which puts canonical copies (profile). gs and gk
+-- have the members of the source's and of the sink's type.
+use Rattle.std.specs.Prelude.{ℕ, ◌≡◌, ◌≤◌, true, false, Bool, List, [], ◌∷◌, length, Result, Ok}
+use Rattle.std.specs.Prelude.{Err}
 use Rattle.cap_spec.specs.Faults.{IsRefused}
 use Rattle.cap_spec.specs.Frames.{frame_text}
 use Rattle.cap_words.specs.Sinks.{sink_fault_of}
@@ -10,11 +11,13 @@ use Rattle.cap_frame.specs.ReadingFaults.{Faults}
 use Rattle.cap_frame.specs.Putting.{Halts}
 use Rattle.cap_vet.specs.Reports.{IsAccepted}
 use Rattle.cap_vet.specs.declared.report.Report.{Report}
-use Rattle.cap_run.specs.Canons.{AreCanonised, CanonEnds, CanonStops, Canonised, HasNoCopy, IsCanonised, StopsInCopy, canonised, copies_of}
+use Rattle.cap_run.specs.Canons.{AreCanonised, CanonEnds, CanonStops, Canonised, HasNoCopy}
+use Rattle.cap_run.specs.Canons.{IsCanonised, StopsInCopy, canonised, copies_of}
 use Rattle.cap_run.specs.Copying.{Fills, Finishes}
 use Rattle.cap_run.specs.Streams.{ReadsStream}
 use Rattle.cap_run.specs.declared.fault.Cause.{Cause}
-use Rattle.cap_run.specs.declared.fault.Cause.TheVariants.{TooManyMessages, Frame, Output, Refused, Canon, Memory as no_marks}
+use Rattle.cap_run.specs.declared.fault.Cause.TheVariants.{TooManyMessages, Frame, Output, Refused}
+use Rattle.cap_run.specs.declared.fault.Cause.TheVariants.{Canon, Memory as no_marks}
 
 -- whether the sink is still to be finished
 abbrev pub is_unfinished : Result (Unit {0}) Cause → Bool
@@ -31,10 +34,12 @@ module _ {K : Type 0} (gk : sink.Ghosts K) (words depth : ℕ) where
   abbrev pub CopyStops : List (List ℕ) → K → K → Cause → Type 0
   CopyStops m before after TooManyMessages = ⊥
   CopyStops m before after (Frame fault) = ⊥
-  CopyStops m before after (Output fault) = (copy : List ℕ) × IsCanonised words depth (record { message = m; copy = copy })
+  CopyStops m before after (Output fault) = (copy : List ℕ)
+      × IsCanonised words depth (record { message = m; copy = copy })
       × Halts gk before after (frame_text (copy ∷ [])) (sink_fault_of fault)
   CopyStops m before after (Refused refusal) = IsRefused m words depth refusal × (after ≡ before)
-  CopyStops m before after (Canon fault) = (report : Report) × IsAccepted m words depth report × HasNoCopy m fault × (after ≡ before)
+  CopyStops m before after (Canon fault) = (report : Report) × IsAccepted m words depth report
+      × HasNoCopy m fault × (after ≡ before)
   CopyStops m before after no_marks = ⊥
 
 module _ {S K : Type 0} (gs : source.Ghosts S) (gk : sink.Ghosts K) (words depth limit : ℕ) where
@@ -42,11 +47,14 @@ module _ {S K : Type 0} (gs : source.Ghosts S) (gk : sink.Ghosts K) (words depth
   abbrev pub NextStops : S → S → K → K → Cause → Type 0
   NextStops old new before after TooManyMessages = ⊥
   NextStops old new before after (Frame fault) = Faults gs limit old new fault × (after ≡ before)
-  NextStops old new before after (Output fault) = (m : List (List ℕ)) × ReadsStream gs limit old new (m ∷ [])
+  NextStops old new before after (Output fault) = (m : List (List ℕ))
+      × ReadsStream gs limit old new (m ∷ [])
       × CopyStops gk words depth m before after (Output fault)
-  NextStops old new before after (Refused refusal) = (m : List (List ℕ)) × ReadsStream gs limit old new (m ∷ [])
+  NextStops old new before after (Refused refusal) = (m : List (List ℕ))
+      × ReadsStream gs limit old new (m ∷ [])
       × CopyStops gk words depth m before after (Refused refusal)
-  NextStops old new before after (Canon fault) = (m : List (List ℕ)) × ReadsStream gs limit old new (m ∷ [])
+  NextStops old new before after (Canon fault) = (m : List (List ℕ))
+      × ReadsStream gs limit old new (m ∷ [])
       × CopyStops gk words depth m before after (Canon fault)
   NextStops old new before after no_marks = ⊥
 
@@ -60,20 +68,27 @@ module _ {S K : Type 0} (gs : source.Ghosts S) (gk : sink.Ghosts K) (words depth
 
   -- why no more copies were put after these, before the sink is finished
   abbrev pub StopsMaking : ℕ → List Canonised → S → S → K → K → Result (Unit {0}) Cause → Type 0
-  StopsMaking most cs mid new before after (Ok ended) = CanonEnds gs gk words depth limit most cs mid new (Ok ended) × Fills gk before after (copies_of cs)
+  StopsMaking most cs mid new before after (Ok ended) = CanonEnds gs gk words depth limit most cs
+      mid new (Ok ended) × Fills gk before after (copies_of cs)
   StopsMaking most cs mid new before after (Err TooManyMessages) =
-      CanonEnds gs gk words depth limit most cs mid new (Err TooManyMessages) × Fills gk before after (copies_of cs)
+      CanonEnds gs gk words depth limit most cs mid new (Err TooManyMessages)
+          × Fills gk before after (copies_of cs)
   StopsMaking most cs mid new before after (Err (Frame fault)) =
-      CanonEnds gs gk words depth limit most cs mid new (Err (Frame fault)) × Fills gk before after (copies_of cs)
-  StopsMaking most cs mid new before after (Err (Output fault)) = StopsInCopy gs gk words depth limit most cs mid new before after fault
+      CanonEnds gs gk words depth limit most cs mid new (Err (Frame fault))
+          × Fills gk before after (copies_of cs)
+  StopsMaking most cs mid new before after (Err (Output fault)) = StopsInCopy gs gk words depth
+      limit most cs mid new before after fault
   StopsMaking most cs mid new before after (Err (Refused refusal)) =
-      CanonEnds gs gk words depth limit most cs mid new (Err (Refused refusal)) × Fills gk before after (copies_of cs)
+      CanonEnds gs gk words depth limit most cs mid new (Err (Refused refusal))
+          × Fills gk before after (copies_of cs)
   StopsMaking most cs mid new before after (Err (Canon fault)) =
-      CanonEnds gs gk words depth limit most cs mid new (Err (Canon fault)) × Fills gk before after (copies_of cs)
+      CanonEnds gs gk words depth limit most cs mid new (Err (Canon fault))
+          × Fills gk before after (copies_of cs)
   StopsMaking most cs mid new before after (Err no_marks) = ⊥
 
   -- n messages were read, and `end` is why no more copies were put.
-  pub record Making (most : ℕ) (old new : S) (before after : K) (n : ℕ) (end : Result (Unit {0}) Cause) : Type 0 where
+  pub record Making (most : ℕ) (old new : S) (before after : K) (n : ℕ)
+      (end : Result (Unit {0}) Cause) : Type 0 where
     pub cs : List Canonised
     pub mid : S
     pub many : length cs ≡ n
@@ -84,11 +99,14 @@ module _ {S K : Type 0} (gs : source.Ghosts S) (gk : sink.Ghosts K) (words depth
 
   -- why the sink was finished, or why it couldn't be
   abbrev pub CopiesEnd : ℕ → List Canonised → S → S → K → K → Result (Unit {0}) Cause → Type 0
-  CopiesEnd most cs mid new before after (Ok ended) = CanonEnds gs gk words depth limit most cs mid new (Ok ended) × Finishes gk before after (copies_of cs)
-  CopiesEnd most cs mid new before after (Err cause) = CanonStops gs gk words depth limit most cs mid new before after cause
+  CopiesEnd most cs mid new before after (Ok ended) = CanonEnds gs gk words depth limit most cs mid
+      new (Ok ended) × Finishes gk before after (copies_of cs)
+  CopiesEnd most cs mid new before after (Err cause) = CanonStops gs gk words depth limit most cs
+      mid new before after cause
 
   -- n messages were read, and `end` is how the run ended.
-  pub record Made (most : ℕ) (old new : S) (before after : K) (n : ℕ) (end : Result (Unit {0}) Cause) : Type 0 where
+  pub record Made (most : ℕ) (old new : S) (before after : K) (n : ℕ)
+      (end : Result (Unit {0}) Cause) : Type 0 where
     pub cs : List Canonised
     pub mid : S
     pub many : length cs ≡ n

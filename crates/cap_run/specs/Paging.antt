@@ -1,12 +1,13 @@
--- What a call that puts a text on a page says of the output and the page before and after (profile). g has the members
--- of the output's type.
+-- What a call that puts a text on a page says of the output and the page before and after
+-- (profile). g has the members of the output's type.
 use Rattle.std.specs.Prelude.{ℕ, ◌≡◌, ◌⊎◌, List, [], ◌++◌, Result, MatchResult}
 use Rattle.cap_words.specs.declared.ends.ByteOut as output
 use Rattle.cap_words.specs.declared.ends.OutFault.{OutFault}
 use Rattle.cap_run.specs.Writing.{Wrote, Stopped}
 
 module _ {O : Type 0} (g : output.Ghosts O) where
-  -- the page's old text and then this text: some or none of it was written, and the rest is on the page
+  -- the page's old text and then this text: some or none of it was written, and the rest is on the
+  -- page
   pub record Added (old new : O × List ℕ) (text : List ℕ) : Type 0 where
     pub gone : List ℕ
     pub whole : old.1 ++ text ≡ gone ++ new.1

@@ -1,5 +1,6 @@
 -- How far the last step of a path has been read, and what may come next (profile).
-use Rattle.std.specs.Prelude.{ℕ, ◌+◌, ◌*◌, ◌-◌, ◌==◌, ◌&&◌, nat_le, nat_lt, if◌then◌else◌, Bool, Option, Some, None}
+use Rattle.std.specs.Prelude.{ℕ, ◌+◌, ◌*◌, ◌-◌, ◌==◌, ◌&&◌, nat_le, nat_lt, if◌then◌else◌, Bool}
+use Rattle.std.specs.Prelude.{Option, Some, None}
 use Rattle.cap_spec.specs.declared.Step.{Step}
 use Rattle.cap_spec.specs.declared.Step.TheVariants.{Ptr, Item as item}
 use Rattle.cap_run.specs.declared.paths.Reading.{Reading}
@@ -10,7 +11,8 @@ is_digit b = nat_le 48 b && nat_le b 57
 
 -- n with one more digit, if n isn't 0 and the result is at most `most`
 abbrev pub longer_number : ℕ → ℕ → ℕ → Option ℕ
-longer_number n digit most = if n == 0 then None else (if nat_lt most (10 * n + digit) then None else Some (10 * n + digit))
+longer_number n digit most = if n == 0 then None else
+    (if nat_lt most (10 * n + digit) then None else Some (10 * n + digit))
 
 -- a step with one more digit
 abbrev pub pointer_number : Option ℕ → Option Reading
@@ -27,8 +29,10 @@ next_of Start b = if b == 47 then Some Slash else None
 next_of Slash b = if b == 112 then Some Pointer else (if b == 105 then Some Item else None)
 next_of Pointer b = if is_digit b then Some (Number (Ptr (b - 48))) else None
 next_of Item b = if is_digit b then Some (Number (item (b - 48))) else None
-next_of (Number (Ptr n)) b = if b == 47 then Some Slash else (if is_digit b then pointer_number (longer_number n (b - 48) 65535) else None)
-next_of (Number (item n)) b = if b == 47 then Some Slash else (if is_digit b then item_number (longer_number n (b - 48) 4294967295) else None)
+next_of (Number (Ptr n)) b = if b == 47 then Some Slash
+    else (if is_digit b then pointer_number (longer_number n (b - 48) 65535) else None)
+next_of (Number (item n)) b = if b == 47 then Some Slash
+    else (if is_digit b then item_number (longer_number n (b - 48) 4294967295) else None)
 
 -- the step that ends before a byte
 abbrev pub ended_by : Reading → ℕ → Option Step

@@ -1,12 +1,12 @@
--- How putting the words of a source to a sink ends, before the sink is finished (profile). gs and gk have the members
--- of the source's and of the sink's type.
+-- How putting the words of a source to a sink ends, before the sink is finished (profile). gs and
+-- gk have the members of the source's and of the sink's type.
 use Rattle.std.specs.Prelude.{ℕ, ◌≡◌, ◌<◌, ◌≤◌, List, [], ◌∷◌, ◌++◌, length, Result, Ok, Err}
 use Rattle.cap_words.specs.Sinks.{sink_fault_of}
 use Rattle.cap_words.specs.declared.ends.OutFault.{OutFault}
 use Rattle.cap_words.specs.declared.sources.WordSource as source
 use Rattle.cap_words.specs.declared.sinks.WordSink as sink
 use Rattle.cap_frame.specs.Putting.{Halts}
-use Rattle.cap_run.specs.Copying.{Fills, Gives, GivesNone}
+use Rattle.cap_run.specs.Copying.{Fills, Gives, GivesNone, StopsMidway}
 use Rattle.cap_run.specs.Streams.{EndsStream}
 use Rattle.cap_run.specs.declared.fault.CopyFault.{CopyFault}
 use Rattle.cap_run.specs.declared.fault.CopyFault.TheVariants.{TooManyWords, Source, Output}
@@ -29,9 +29,14 @@ module _ {S K : Type 0} (gs : source.Ghosts S) (gk : sink.Ghosts K) where
     pub fills : Fills gk before between done
     pub halts : Halts gk between after (word ∷ []) (sink_fault_of fault)
 
-  -- why no more words were put: the source was `mid` after the words that were put
-  abbrev pub StopsPutting : ℕ → S → S → K → K → Result ℕ CopyFault → Type 0
-  StopsPutting most old new before after (Ok n) = (mid : S) × (n ≤ most) × Copies old mid before after n × EndsStream gs mid new
-  StopsPutting most old new before after (Err TooManyWords) = (mid : S) × (word : ℕ) × Copies old mid before after most × Gives gs mid new (word ∷ [])
-  StopsPutting most old new before after (Err (Source fault)) = (mid : S) × (n : ℕ) × (n ≤ most) × Copies old mid before after n × GivesNone gs mid new fault
-  StopsPutting most old new before after (Err (Output fault)) = ⊥
+  -- Why no more words were put: the source was `mid` after the words that were put. Unless the
+  -- output failed, the sink isn't finished.
+  abbrev pub StopsPutting : ℕ → ℕ → S → S → K → K → Result ℕ CopyFault → Type 0
+  StopsPutting at_once most old new before after (Ok n) =
+      (mid : S) × (n ≤ most) × Copies old mid before after n × EndsStream gs mid new
+  StopsPutting at_once most old new before after (Err TooManyWords) =
+      (mid : S) × (word : ℕ) × Copies old mid before after most × Gives gs mid new (word ∷ [])
+  StopsPutting at_once most old new before after (Err (Source fault)) =
+      (mid : S) × (n : ℕ) × (n ≤ most) × Copies old mid before after n × GivesNone gs mid new fault
+  StopsPutting at_once most old new before after (Err (Output fault)) =
+      StopsMidway gs gk at_once most old new before after fault

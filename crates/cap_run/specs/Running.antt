@@ -1,4 +1,5 @@
--- How an engine ends, by what it did to its source and its output (profile). gs and go have the members of their types.
+-- How an engine ends, by what it did to its source and its output (profile). gs and go have the
+-- members of their types.
 use Rattle.std.specs.Prelude.{ℕ, ◌≡◌, ◌<◌, true, Bool, List, [], ◌∷◌, ◌++◌, length, Result, Ok, Err}
 use Rattle.std.specs.Io.KnownBytes.{Appends}
 use Rattle.cap_words.specs.Ends.{DeviceFails, Failures, GrowthFails, WasSpent}
@@ -7,16 +8,20 @@ use Rattle.cap_words.specs.declared.ends.OutFault.{OutFault}
 use Rattle.cap_words.specs.declared.ends.OutFault.TheVariants.{Device, Memory, Spent}
 use Rattle.cap_words.specs.declared.sources.WordSource as source
 use Rattle.cap_frame.specs.ReadingFaults.{Answered, Faults}
-use Rattle.cap_canon.specs.declared.fault.CanonFault.TheVariants.{HasCapability, Memory as canon_memory}
+use Rattle.cap_canon.specs.declared.fault.CanonFault.TheVariants.{HasCapability}
+use Rattle.cap_canon.specs.declared.fault.CanonFault.TheVariants.{Memory as canon_memory}
 use Rattle.cap_run.specs.declared.fault.Cause.{Cause}
-use Rattle.cap_run.specs.declared.fault.Cause.TheVariants.{TooManyMessages, Frame, Output, Refused, Canon, Memory as no_marks}
+use Rattle.cap_run.specs.declared.fault.Cause.TheVariants.{TooManyMessages, Frame, Output, Refused}
+use Rattle.cap_run.specs.declared.fault.Cause.TheVariants.{Canon, Memory as no_marks}
 use Rattle.cap_run.specs.declared.fault.RunFault.{RunFault}
+use Rattle.cap_run.specs.declared.engines.stream.Counted.{Counted}
 use Rattle.cap_run.specs.declared.settings.Outcome.{Outcome}
 use Rattle.cap_run.specs.Streams.{ReadsStream}
 use Rattle.cap_run.specs.Telling.{Tells, Told, texts_of}
-use Rattle.cap_run.specs.Writing.{Stopped}
+use Rattle.cap_run.specs.Writing.{Stopped, Wrote}
 
--- P, unless reading failed, the output failed, an allocation failed, or the input was closed by an earlier error
+-- P, unless reading failed, the output failed, an allocation failed, or the input was closed by an
+-- earlier error
 abbrev pub SettledAt : Cause → Type 0 → Type 0
 SettledAt TooManyMessages P = P
 SettledAt (Frame fault) P = Answered {A = Outcome} (Err fault) P
@@ -52,10 +57,25 @@ module _ {O : Type 0} (g : output.Ghosts O) where
     pub whole : text ≡ part ++ rest
     pub appended : Appends (g.written old) (g.written new) (done ++ part)
 
+  -- One of these texts was written, with what is counted then, or the output failed after a prefix
+  -- of one. Or an allocation failed that is needed, and nothing was written.
+  abbrev pub WritesOneOf : (List ℕ → Counted → Type 0) → Type 0 → O → O → Result Counted Cause
+      → Type 0
+  WritesOneOf texts wants old new (Ok counted) = (text : List ℕ) × texts text counted
+      × Wrote g old new text
+  WritesOneOf texts wants old new (Err TooManyMessages) = ⊥
+  WritesOneOf texts wants old new (Err (Frame fault)) = ⊥
+  WritesOneOf texts wants old new (Err (Output fault)) =
+      (text : List ℕ) × (counted : Counted) × texts text counted × Stopped g old new fault text
+  WritesOneOf texts wants old new (Err (Refused refusal)) = ⊥
+  WritesOneOf texts wants old new (Err (Canon fault)) = ⊥
+  WritesOneOf texts wants old new (Err no_marks) = wants × (new ≡ old)
+
 module _ {S : Type 0} (g : source.Ghosts S) where
   -- why a stream didn't end where it had to
   abbrev pub EndStops : ℕ → S → S → Cause → Type 0
-  EndStops limit old new TooManyMessages = (m : List (List ℕ)) × ReadsStream g limit old new (m ∷ [])
+  EndStops limit old new TooManyMessages = (m : List (List ℕ))
+      × ReadsStream g limit old new (m ∷ [])
   EndStops limit old new (Frame fault) = Faults g limit old new fault
   EndStops limit old new (Output fault) = ⊥
   EndStops limit old new (Refused refusal) = ⊥
@@ -66,22 +86,30 @@ module _ {S O : Type 0} (gs : source.Ghosts S) (go : output.Ghosts O) where
   -- why an engine ended at message n, which may need an allocation after it was read
   abbrev pub StepStops : Tells → (List (List ℕ) → Type 0) → ℕ → ℕ → S → S → O → O → Cause → Type 0
   StepStops tells wants limit n old new before after TooManyMessages = ⊥
-  StepStops tells wants limit n old new before after (Frame fault) = Faults gs limit old new fault × (after ≡ before)
+  StepStops tells wants limit n old new before after (Frame fault) = Faults gs limit old new fault
+      × (after ≡ before)
   StepStops tells wants limit n old new before after (Output fault) =
-      (t : Told) × tells n t.message t.text t.mark × ReadsStream gs limit old new (t.message ∷ []) × Stopped go before after fault t.text
+      (t : Told) × tells n t.message t.text t.counted × ReadsStream gs limit old new
+          (t.message ∷ []) × Stopped go before after fault t.text
   StepStops tells wants limit n old new before after (Refused refusal) = ⊥
   StepStops tells wants limit n old new before after (Canon fault) = ⊥
-  StepStops tells wants limit n old new before after no_marks = (m : List (List ℕ)) × ReadsStream gs limit old new (m ∷ []) × wants m × (after ≡ before)
+  StepStops tells wants limit n old new before after no_marks = (m : List (List ℕ))
+      × ReadsStream gs limit old new (m ∷ []) × wants m × (after ≡ before)
 
   -- why an engine ended after these messages, when the source was `mid`
-  abbrev pub RunStops : Tells → (List (List ℕ) → Type 0) → ℕ → ℕ → List Told → S → S → O → O → Cause → Type 0
+  abbrev pub RunStops : Tells → (List (List ℕ) → Type 0) → ℕ → ℕ → List Told → S → S → O → O → Cause
+      → Type 0
   RunStops tells wants limit most ts mid new before after TooManyMessages =
-      (length ts ≡ most) × Appended go before after (texts_of ts) × ((m : List (List ℕ)) × ReadsStream gs limit mid new (m ∷ []))
-  RunStops tells wants limit most ts mid new before after (Frame fault) = Appended go before after (texts_of ts) × Faults gs limit mid new fault
+      (length ts ≡ most) × Appended go before after (texts_of ts)
+          × ((m : List (List ℕ)) × ReadsStream gs limit mid new (m ∷ []))
+  RunStops tells wants limit most ts mid new before after (Frame fault) = Appended go before after
+      (texts_of ts) × Faults gs limit mid new fault
   RunStops tells wants limit most ts mid new before after (Output fault) =
-      (t : Told) × (length ts < most) × tells (length ts) t.message t.text t.mark × ReadsStream gs limit mid new (t.message ∷ [])
+      (t : Told) × (length ts < most) × tells (length ts) t.message t.text t.counted
+          × ReadsStream gs limit mid new (t.message ∷ [])
       × StopsIn go before after fault (texts_of ts) t.text
   RunStops tells wants limit most ts mid new before after (Refused refusal) = ⊥
   RunStops tells wants limit most ts mid new before after (Canon fault) = ⊥
   RunStops tells wants limit most ts mid new before after no_marks =
-      (length ts < most) × Appended go before after (texts_of ts) × ((m : List (List ℕ)) × ReadsStream gs limit mid new (m ∷ []) × wants m)
+      (length ts < most) × Appended go before after (texts_of ts)
+          × ((m : List (List ℕ)) × ReadsStream gs limit mid new (m ∷ []) × wants m)

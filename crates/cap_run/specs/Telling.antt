@@ -1,16 +1,18 @@
--- What was written for each message of a stream: a text, and what is counted of the message (profile).
+-- What was written for each message of a stream: a text, and what is counted of the message
+-- (profile).
 use Rattle.std.specs.Prelude.{ℕ, ◌≡◌, ◌+◌, List, [], ◌∷◌, map, length}
 use Rattle.std.specs.List.{flat_map}
 use Rattle.cap_spec.specs.Texts.{segments_text}
-use Rattle.cap_run.specs.declared.engines.stream.Mark.{Mark}
-use Rattle.cap_run.specs.declared.engines.stream.Mark.TheVariants.{Accepted, Refused, NotCanonical}
+use Rattle.cap_run.specs.declared.engines.stream.Counted.{Counted}
+use Rattle.cap_run.specs.declared.engines.stream.Counted.TheVariants.{Accepted, Refused}
+use Rattle.cap_run.specs.declared.engines.stream.Counted.TheVariants.{NotCanonical}
 use Rattle.cap_run.specs.declared.settings.Outcome.{Outcome}
 
 -- a message, what was written for it, and what is counted of it
 pub record Told : Type 0 where
   pub message : List (List ℕ)
   pub text : List ℕ
-  pub mark : Mark
+  pub counted : Counted
 
 abbrev pub messages_of : List Told → List (List (List ℕ))
 messages_of ts = map (λ t. t.message) ts
@@ -21,11 +23,11 @@ texts_of ts = flat_map (λ t. t.text) ts
 
 -- which texts may be written of a message by its number, each with what is counted of it
 abbrev pub Tells : Type 1
-Tells = ℕ → List (List ℕ) → List ℕ → Mark → Type 0
+Tells = ℕ → List (List ℕ) → List ℕ → Counted → Type 0
 
 -- the text of message n's segments, whatever their words say
-abbrev pub TellsSegments : ℕ → List (List ℕ) → List ℕ → Mark → Type 0
-TellsSegments n m text mark = (text ≡ segments_text n m) × (mark ≡ Accepted)
+abbrev pub TellsSegments : ℕ → List (List ℕ) → List ℕ → Counted → Type 0
+TellsSegments n m text counted = (text ≡ segments_text n m) × (counted ≡ Accepted)
 
 -- the messages that need an allocation after they were read: none
 abbrev pub WantsNone : List (List ℕ) → Type 0
@@ -34,28 +36,29 @@ WantsNone m = ⊥
 -- each text is one that may be written of its message by its number, from this number on
 abbrev pub TellsEach : Tells → ℕ → List Told → Type 0
 TellsEach tells n [] = Unit {0}
-TellsEach tells n (t ∷ ts) = tells n t.message t.text t.mark × TellsEach tells (n + 1) ts
+TellsEach tells n (t ∷ ts) = tells n t.message t.text t.counted × TellsEach tells (n + 1) ts
 
 -- one for a message that was refused
-abbrev pub one_refused : Mark → ℕ
+abbrev pub one_refused : Counted → ℕ
 one_refused Accepted = 0
 one_refused Refused = 1
 one_refused NotCanonical = 0
 
 -- one for a message that isn't canonical
-abbrev pub one_noncanonical : Mark → ℕ
+abbrev pub one_noncanonical : Counted → ℕ
 one_noncanonical Accepted = 0
 one_noncanonical Refused = 0
 one_noncanonical NotCanonical = 1
 
 abbrev pub refused_in : List Told → ℕ
 refused_in [] = 0
-refused_in (t ∷ ts) = one_refused t.mark + refused_in ts
+refused_in (t ∷ ts) = one_refused t.counted + refused_in ts
 
 abbrev pub noncanonical_in : List Told → ℕ
 noncanonical_in [] = 0
-noncanonical_in (t ∷ ts) = one_noncanonical t.mark + noncanonical_in ts
+noncanonical_in (t ∷ ts) = one_noncanonical t.counted + noncanonical_in ts
 
 -- the three counts
 abbrev pub outcome_of : List Told → Outcome
-outcome_of ts = record { messages = length ts; refused = refused_in ts; noncanonical = noncanonical_in ts }
+outcome_of ts = record { messages = length ts; refused = refused_in ts; noncanonical =
+    noncanonical_in ts }

@@ -8,29 +8,38 @@ use Rattle.cap_spec.specs.declared.Refusal.{Refusal}
 use Rattle.cap_spec.specs.declared.Step.{Step}
 use Rattle.cap_vet.specs.Reports.{IsAccepted, IsReport}
 use Rattle.cap_vet.specs.declared.report.Report.{Report}
-use Rattle.cap_run.specs.declared.engines.stream.Mark.{Mark}
-use Rattle.cap_run.specs.declared.engines.stream.Mark.TheVariants.{Accepted, Refused}
+use Rattle.cap_run.specs.declared.engines.stream.Counted.{Counted}
+use Rattle.cap_run.specs.declared.engines.stream.Counted.TheVariants.{Accepted, Refused}
 
 -- the text of message n if it is accepted, with the numbers of its tree
-pub record TellsAccepted (words depth n : ℕ) (m : List (List ℕ)) (text : List ℕ) (mark : Mark) : Type 0 where
+pub record TellsAccepted (words depth n : ℕ) (m : List (List ℕ)) (text : List ℕ)
+    (counted : Counted) : Type 0 where
   pub report : Report
   pub is_accepted : IsAccepted m words depth report
   pub line : text ≡ vet_text n (accepted report.charge report.depth report.pointers report.caps)
-  pub counted : mark ≡ Accepted
+  pub counts : counted ≡ Accepted
 
 -- and if it is refused, with the first bad pointer and the reason
-pub record TellsRefused (words depth n : ℕ) (m : List (List ℕ)) (text : List ℕ) (mark : Mark) : Type 0 where
+pub record TellsRefused (words depth n : ℕ) (m : List (List ℕ)) (text : List ℕ)
+    (counted : Counted) : Type 0 where
   pub refusal : Refusal
   pub is_refused : IsRefused m words depth refusal
   pub line : text ≡ vet_text n (refusal_verdict refusal)
-  pub counted : mark ≡ Refused
+  pub counts : counted ≡ Refused
+
+-- a text of a message that is accepted, or the line of its refusal
+abbrev pub OrRefused : (ℕ → ℕ → ℕ → List (List ℕ) → List ℕ → Counted → Type 0)
+    → ℕ → ℕ → ℕ → List (List ℕ) → List ℕ → Counted → Type 0
+OrRefused tells words depth n m text counted = tells words depth n m text counted
+    ⊎ TellsRefused words depth n m text counted
 
 -- the one or the other
-abbrev pub TellsVerdict : ℕ → ℕ → ℕ → List (List ℕ) → List ℕ → Mark → Type 0
-TellsVerdict words depth n m text mark = TellsAccepted words depth n m text mark ⊎ TellsRefused words depth n m text mark
+abbrev pub TellsVerdict : ℕ → ℕ → ℕ → List (List ℕ) → List ℕ → Counted → Type 0
+TellsVerdict = OrRefused TellsAccepted
 
 -- if it is accepted and some word is used twice, with the first pointer that overlaps
-pub record TellsOverlap (words depth n : ℕ) (m : List (List ℕ)) (text : List ℕ) (mark : Mark) : Type 0 where
+pub record TellsOverlap (words depth n : ℕ) (m : List (List ℕ)) (text : List ℕ)
+    (counted : Counted) : Type 0 where
   pub report : Report
   pub is_accepted : IsAccepted m words depth report
   pub segment : ℕ
@@ -38,37 +47,42 @@ pub record TellsOverlap (words depth n : ℕ) (m : List (List ℕ)) (text : List
   pub pointers : ℕ
   pub is_first : IsFirstOverlap m segment word pointers
   pub line : text ≡ vet_text n (refused (codes "Overlap") segment word pointers)
-  pub counted : mark ≡ Refused
+  pub counts : counted ≡ Refused
 
 -- that, or that it is refused, or else that it is accepted
-abbrev pub TellsExclusive : ℕ → ℕ → ℕ → List (List ℕ) → List ℕ → Mark → Type 0
-TellsExclusive words depth n m text mark =
-    (IsDisjoint m × TellsAccepted words depth n m text mark) ⊎ (TellsRefused words depth n m text mark ⊎ TellsOverlap words depth n m text mark)
+abbrev pub TellsExclusive : ℕ → ℕ → ℕ → List (List ℕ) → List ℕ → Counted → Type 0
+TellsExclusive words depth n m text counted =
+    (IsDisjoint m × TellsAccepted words depth n m text counted)
+        ⊎ (TellsRefused words depth n m text counted ⊎ TellsOverlap words depth n m text counted)
 
 -- the messages whose words are marked: those that are accepted
 abbrev pub WantsMarks : ℕ → ℕ → List (List ℕ) → Type 0
 WantsMarks words depth m = (report : Report) × IsAccepted m words depth report
 
--- the line of message n if it is accepted, with the numbers of its tree, and after it the whole tree
-pub record TellsTree (words depth n : ℕ) (m : List (List ℕ)) (text : List ℕ) (mark : Mark) : Type 0 where
+-- the line of message n if it is accepted, with the numbers of its tree, and after it the whole
+-- tree
+pub record TellsTree (words depth n : ℕ) (m : List (List ℕ)) (text : List ℕ)
+    (counted : Counted) : Type 0 where
   pub report : Report
   pub tree : Tree
   pub is_report : IsReport m words depth report tree
-  pub lines : text ≡ vet_text n (accepted report.charge report.depth report.pointers report.caps) ++ dump_text tree
-  pub counted : mark ≡ Accepted
+  pub lines : text ≡ vet_text n (accepted report.charge report.depth report.pointers report.caps)
+      ++ dump_text tree
+  pub counts : counted ≡ Accepted
 
 -- that, or the line of its refusal
-abbrev pub TellsDump : ℕ → ℕ → ℕ → List (List ℕ) → List ℕ → Mark → Type 0
-TellsDump words depth n m text mark = TellsTree words depth n m text mark ⊎ TellsRefused words depth n m text mark
+abbrev pub TellsDump : ℕ → ℕ → ℕ → List (List ℕ) → List ℕ → Counted → Type 0
+TellsDump = OrRefused TellsTree
 
 -- the tree's node at a path, or that there is none, if message n is accepted
-pub record TellsNode (words depth : ℕ) (path : List Step) (n : ℕ) (m : List (List ℕ)) (text : List ℕ) (mark : Mark) : Type 0 where
+pub record TellsNode (words depth : ℕ) (path : List Step) (n : ℕ) (m : List (List ℕ))
+    (text : List ℕ) (counted : Counted) : Type 0 where
   pub report : Report
   pub tree : Tree
   pub is_report : IsReport m words depth report tree
   pub lines : text ≡ get_text n (node_at tree path)
-  pub counted : mark ≡ Accepted
+  pub counts : counted ≡ Accepted
 
 -- that, or the line of its refusal
-abbrev pub TellsGet : ℕ → ℕ → List Step → ℕ → List (List ℕ) → List ℕ → Mark → Type 0
-TellsGet words depth path n m text mark = TellsNode words depth path n m text mark ⊎ TellsRefused words depth n m text mark
+abbrev pub TellsGet : ℕ → ℕ → List Step → ℕ → List (List ℕ) → List ℕ → Counted → Type 0
+TellsGet words depth path = OrRefused (λ w d. TellsNode w d path) words depth

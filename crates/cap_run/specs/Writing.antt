@@ -1,4 +1,5 @@
--- What a call that writes a text says of its output before and after (profile). g has the members of the output's type.
+-- What a call that writes a text says of its output before and after (profile). g has the members
+-- of the output's type.
 use Rattle.std.specs.Prelude.{ℕ, ◌≡◌, true, List, ◌++◌, Option, Result, MatchResult}
 use Rattle.std.specs.Io.KnownBytes.{Appends}
 use Rattle.cap_words.specs.Ends.{Works, DeviceFails, GrowthFails}
@@ -21,11 +22,14 @@ module _ {O : Type 0} (g : output.Ghosts O) where
 
   -- the output returned this error, after a prefix of the text
   abbrev pub Stopped : O → O → OutFault → List ℕ → Type 0
-  Stopped old new Device text = DeviceFails (g.spent old) (g.failures old) (g.failures new) × (g.spent new ≡ true)
+  Stopped old new Device text = DeviceFails (g.spent old) (g.failures old) (g.failures new)
+      × (g.spent new ≡ true)
       × WritesPart (g.written old) (g.written new) text
-  Stopped old new Memory text = GrowthFails (g.spent old) (g.failures old) (g.failures new) × WritesPart (g.written old) (g.written new) text
+  Stopped old new Memory text = GrowthFails (g.spent old) (g.failures old) (g.failures new)
+      × WritesPart (g.written old) (g.written new) text
   Stopped old new Spent text = (g.spent old ≡ true) × (new ≡ old)
 
   -- the text was written, or the output failed after a prefix of it
   abbrev pub Writes : {T : Type 0} → O → O → Result T OutFault → List ℕ → Type 0
-  Writes old new r text = MatchResult r (λ _. Wrote old new text) (λ fault. Stopped old new fault text)
+  Writes old new r text = MatchResult r (λ _. Wrote old new text)
+      (λ fault. Stopped old new fault text)

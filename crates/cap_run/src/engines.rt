@@ -3,11 +3,11 @@
 
 pub mod canon;
 pub mod check;
-pub mod copy;
 pub mod dump;
 pub mod exclusive;
 pub mod get;
 pub mod segments;
 pub(crate) mod stream;
+pub mod transcode;
 pub mod vet;
 pub(crate) mod whole;

@@ -1,9 +1,12 @@
 //! Why an engine ended before its input did.
 
+ghost use Rattle.cap_words.specs.Sinks.{sink_fault_of};
+ghost use Rattle.std.specs.Prelude.{◌≡◌};
+
 use cap_canon::CanonFault;
 use cap_frame::FrameFault;
 use cap_vet::Refusal;
-use cap_words::{OutFault, SourceFault};
+use cap_words::{OutFault, SinkFault, SourceFault};
 use thiserror::Error;
 
 /// Why an engine ended before its stream did.
@@ -54,4 +57,15 @@ pub enum CopyFault {
     /// read.
     #[error("output: {0:?}")]
     Output(OutFault),
+}
+
+/// The fault of a sink's output.
+pub(crate) fn output_fault(fault: SinkFault) -> OutFault
+    ensures { sink_fault_of result ≡ fault }
+{
+    match fault {
+        SinkFault::Device => OutFault::Device,
+        SinkFault::Memory => OutFault::Memory,
+        SinkFault::Spent => OutFault::Spent,
+    }
 }

@@ -109,13 +109,15 @@ fn ended(reading: Reading, byte: u8) -> Option<Step>
 ///   path can go on. If all of the text is a prefix of a path, `at` is its length in bytes.
 /// - [`PathFault::Memory`]: an allocation failed. The text may be bad at a later byte.
 pub fn parse_path(alloc: Global, text: &str) -> Result<Vec<Step>, PathFault>
-    ensures ok { IfOk result (λ steps. AllByRecursion IsStep steps.items × (text.now ≡ path_text steps.items)) }
+    ensures ok { IfOk result (λ steps.
+        AllByRecursion IsStep steps.items × (text.now ≡ path_text steps.items)) }
     ensures bad { (at : ℕ) → IsErrOf result (PathFault.Bad at) → IsBadAt text.now at }
     // The other direction: a path gives its steps, and any other text is bad at its bad byte.
     // Both hold unless an allocation fails.
     ensures path { (steps : List Step) → AllByRecursion IsStep steps → text.now ≡ path_text steps →
         MatchResult result (λ v. v.items ≡ steps) (λ fault. fault ≡ PathFault.Memory) }
-    ensures no_path { (at : ℕ) → IsBadAt text.now at → (result ≡ Err (PathFault.Bad at)) ⊎ (result ≡ Err PathFault.Memory) }
+    ensures no_path { (at : ℕ) → IsBadAt text.now at →
+        (result ≡ Err (PathFault.Bad at)) ⊎ (result ≡ Err PathFault.Memory) }
     // The empty path allocates nothing.
     ensures root { text.now ≡ path_text [] → IsOk result }
 {

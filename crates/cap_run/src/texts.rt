@@ -3,7 +3,7 @@
 pub(crate) mod digits;
 pub mod dump;
 pub mod faults;
-pub(crate) mod found;
+pub(crate) mod get;
 pub(crate) mod node;
 pub(crate) mod output;
 pub(crate) mod page;

@@ -11,9 +11,8 @@ ghost use Rattle.cap_spec.specs.Plain.{plain_words};
 ghost use Rattle.cap_vet.specs.Limits.{depth_of, words_of};
 ghost use Rattle.std.specs.Prelude.{◌<◌, ◌≡◌, ◌^◌, [], ◌∷◌, IfErr, List, OnOk, false, length, true, ℕ};
 
-use crate::engines::copy::output_fault;
 use crate::engines::stream::end_stream;
-use crate::fault::{Cause, RunFault};
+use crate::fault::{Cause, RunFault, output_fault};
 use crate::settings::{Outcome, Settings};
 use cap_canon::canonical_bytes;
 use cap_frame::{ByteMessage, Segments, read_into};
@@ -21,15 +20,25 @@ use cap_vet::{Limits, vet};
 use cap_words::{SinkFault, WordSink, WordSource};
 use std::alloc::Global;
 
+/// The table of a message of one segment, which has `words` words: the number of segments less one
+/// in the low half, and the size in the high half (encoding: Serialization Over a Stream).
+fn table_of_one(words: u64) -> u64
+    requires { words < 2 ^ 32 }
+    ensures { result ≡ 2 ^ 32 * words }
+{
+    words * 0x1_0000_0000
+}
+
 /// Puts the words of these bytes as a framed message of one segment: the table, and then all words
 /// in one call (encoding: Serialization Over a Stream).
 fn put_framed<K: WordSink>(sink: &mut K, copy: &[u8]) -> Result<(), SinkFault>
     requires { length copy.now < 2 ^ 35 }
-    ensures ok { OnOk result (Fills K.WordSink sink.old sink.new (frame_text (plain_words copy.now ∷ []))) }
-    ensures err { IfErr result (Halts K.WordSink sink.old sink.new (frame_text (plain_words copy.now ∷ []))) }
+    ensures ok { let framed = frame_text (plain_words copy.now ∷ []) in
+        OnOk result (Fills K.WordSink sink.old sink.new framed) }
+    ensures err { let framed = frame_text (plain_words copy.now ∷ []) in
+        IfErr result (Halts K.WordSink sink.old sink.new framed) }
 {
-    let table = copy.len() as u64 / 8 * 0x1_0000_0000;
-    if let Err(fault) = sink.put(table) {
+    if let Err(fault) = sink.put(table_of_one(copy.len() as u64 / 8)) {
         return Err(fault);
     }
     if let Err(fault) = sink.put_bytes(copy) {
@@ -46,10 +55,11 @@ fn put_copy<K: WordSink, M: Segments>(
     message: &M,
     limits: Limits,
 ) -> Result<(), Cause>
-    ensures ok { OnOk result ((copy : List ℕ)
-        × IsCanonised (words_of limits) (depth_of limits) (record { message = M.segments message.now; copy = copy })
+    ensures ok { let m = M.segments message.now in OnOk result ((copy : List ℕ)
+        × IsCanonised (words_of limits) (depth_of limits) (record { message = m; copy = copy })
         × Fills K.WordSink sink.old sink.new (frame_text (copy ∷ []))) }
-    ensures err { IfErr result (λ cause. CopyStops K.WordSink (words_of limits) (depth_of limits) (M.segments message.now) sink.old sink.new cause) }
+    ensures err { let m = M.segments message.now in IfErr result (λ cause.
+        CopyStops K.WordSink (words_of limits) (depth_of limits) m sink.old sink.new cause) }
 {
     let vetted = match vet(message, limits) {
         Ok(vetted) => vetted,
@@ -67,8 +77,10 @@ fn put_copy<K: WordSink, M: Segments>(
 
 /// Flushes what was put, unless a byte of the next message is buffered.
 fn hand_on<S: WordSource, K: WordSink>(source: &S, sink: &mut K) -> Result<(), SinkFault>
-    ensures ok { OnOk result ((before : K) (own : List ℕ) → Fills K.WordSink before sink.old own → Fills K.WordSink before sink.new own) }
-    ensures err { IfErr result (λ fault. (before : K) (own : List ℕ) → Fills K.WordSink before sink.old own → Halts K.WordSink before sink.new own fault) }
+    ensures ok { OnOk result ((before : K) (own : List ℕ) →
+        Fills K.WordSink before sink.old own → Fills K.WordSink before sink.new own) }
+    ensures err { IfErr result (λ fault. (before : K) (own : List ℕ) →
+        Fills K.WordSink before sink.old own → Halts K.WordSink before sink.new own fault) }
 {
     if source.is_at_hand() {
         return Ok(());
@@ -85,12 +97,15 @@ fn put_next<S: WordSource, K: WordSink>(
     sink: &mut K,
     settings: &Settings,
 ) -> Result<bool, Cause>
-    ensures some { result ≡ Ok true → (c : Canonised) × ReadsStream S.WordSource (limit_of settings.now.size) source.old source.new (c.message ∷ [])
-        × IsCanonised (words_of settings.now.limits) (depth_of settings.now.limits) c
+    ensures some { result ≡ Ok true → let s = settings.now in (c : Canonised)
+        × ReadsStream S.WordSource (limit_of s.size) source.old source.new (c.message ∷ [])
+        × IsCanonised (words_of s.limits) (depth_of s.limits) c
         × Fills K.WordSink sink.old sink.new (frame_text (c.copy ∷ [])) }
-    ensures none { result ≡ Ok false → EndsStream S.WordSource source.old source.new × (sink.new ≡ sink.old) }
-    ensures err { IfErr result (λ cause. NextStops S.WordSource K.WordSink (words_of settings.now.limits) (depth_of settings.now.limits)
-        (limit_of settings.now.size) source.old source.new sink.old sink.new cause) }
+    ensures none { result ≡ Ok false →
+        EndsStream S.WordSource source.old source.new × (sink.new ≡ sink.old) }
+    ensures err { let s = settings.now in IfErr result (λ cause. NextStops S.WordSource K.WordSink
+        (words_of s.limits) (depth_of s.limits) (limit_of s.size)
+        source.old source.new sink.old sink.new cause) }
 {
     match read_into(alloc, source, settings.size, message) {
         Ok(true) => {
@@ -115,8 +130,9 @@ fn put_copies<S: WordSource, K: WordSink>(
     sink: &mut K,
     settings: &Settings,
 ) -> (u32, Result<(), Cause>)
-    ensures { Making S.WordSource K.WordSink (words_of settings.now.limits) (depth_of settings.now.limits) (limit_of settings.now.size)
-        settings.now.messages source.old source.new sink.old sink.new result.0 result.1 }
+    ensures { let s = settings.now in Making S.WordSource K.WordSink
+        (words_of s.limits) (depth_of s.limits) (limit_of s.size) s.messages
+        source.old source.new sink.old sink.new result.0 result.1 }
 {
     let mut message = ByteMessage::blank(alloc);
     for number in 0..settings.messages {
@@ -146,8 +162,9 @@ fn make_copies<S: WordSource, K: WordSink>(
     sink: &mut K,
     settings: &Settings,
 ) -> (u32, Result<(), Cause>)
-    ensures { Made S.WordSource K.WordSink (words_of settings.now.limits) (depth_of settings.now.limits) (limit_of settings.now.size)
-        settings.now.messages source.old source.new sink.old sink.new result.0 result.1 }
+    ensures { let s = settings.now in Made S.WordSource K.WordSink
+        (words_of s.limits) (depth_of s.limits) (limit_of s.size) s.messages
+        source.old source.new sink.old sink.new result.0 result.1 }
 {
     let (messages, end) = put_copies(alloc, source, sink, settings);
     if without_fault(&end) {
@@ -190,8 +207,9 @@ pub fn run_canon<S: WordSource, K: WordSink>(
     sink: &mut K,
     settings: &Settings,
 ) -> Result<Outcome, RunFault>
-    ensures { MakesCopies S.WordSource K.WordSink (words_of settings.now.limits) (depth_of settings.now.limits) (limit_of settings.now.size)
-        settings.now.messages source.old source.new sink.old sink.new result }
+    ensures { let s = settings.now in MakesCopies S.WordSource K.WordSink
+        (words_of s.limits) (depth_of s.limits) (limit_of s.size) s.messages
+        source.old source.new sink.old sink.new result }
 {
     let (messages, end) = make_copies(alloc, source, sink, settings);
     match end {

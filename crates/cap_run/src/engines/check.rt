@@ -7,17 +7,16 @@ ghost use Rattle.cap_frame.specs.Limit.{limit_of};
 ghost use Rattle.cap_vet.specs.Limits.{depth_of, words_of};
 ghost use Rattle.std.specs.Prelude.{◌≡◌, if◌then◌else◌};
 
-use crate::engines::stream::{Mark, tell_all};
-use crate::engines::whole::{Teller, Whole};
-use crate::fault::RunFault;
+use crate::engines::stream::Counted;
+use crate::engines::whole::{Teller, vet_all, write_line};
+use crate::fault::{Cause, RunFault};
 use crate::settings::{Outcome, Settings};
-use crate::texts::output::write_bytes;
 use crate::texts::page::Page;
 use crate::texts::verdict::check_line;
 use cap_canon::is_canonical;
 use cap_frame::Segments;
 use cap_vet::Vetted;
-use cap_words::{ByteOut, OutFault, WordSource};
+use cap_words::{ByteOut, WordSource};
 use std::alloc::Global;
 
 /// Writes whether a message is canonical.
@@ -25,7 +24,7 @@ use std::alloc::Global;
 struct CheckTeller;
 
 impl Teller for CheckTeller {
-    ghost tells = { λ _ words depth n m text mark. TellsChecked words depth n m text mark };
+    ghost tells = { λ _. TellsChecked };
 
     fn tell<M: Segments, O: ByteOut>(
         &self,
@@ -33,24 +32,21 @@ impl Teller for CheckTeller {
         out: &mut O,
         number: u32,
         vetted: &Vetted<'_, M>,
-    ) -> Result<Mark, OutFault> {
+    ) -> Result<Counted, Cause> {
         let canonical = is_canonical(vetted);
         check_line(page, number, canonical);
-        match write_bytes(out, page.text()) {
-            Ok(()) => Ok(check_mark(canonical)),
-            Err(fault) => Err(fault),
-        }
+        write_line(page, out, count_of(canonical))
     }
 }
 
 /// What is counted of an accepted message, by whether it is canonical.
-fn check_mark(canonical: bool) -> Mark
-    ensures { result ≡ (if canonical then Mark.Accepted else Mark.NotCanonical) }
+fn count_of(canonical: bool) -> Counted
+    ensures { result ≡ (if canonical then Counted.Accepted else Counted.NotCanonical) }
 {
     if canonical {
-        Mark::Accepted
+        Counted::Accepted
     } else {
-        Mark::NotCanonical
+        Counted::NotCanonical
     }
 }
 
@@ -82,13 +78,9 @@ pub fn run_check<S: WordSource, O: ByteOut>(
     out: &mut O,
     settings: &Settings,
 ) -> Result<Outcome, RunFault>
-    ensures { TellsStream S.WordSource O.ByteOut (TellsCheck (words_of settings.now.limits) (depth_of settings.now.limits)) WantsNone
-        (limit_of settings.now.size) settings.now.messages source.old source.new out.old out.new result }
+    ensures { let s = settings.now in TellsStream S.WordSource O.ByteOut
+        (TellsCheck (words_of s.limits) (depth_of s.limits)) WantsNone
+        (limit_of s.size) s.messages source.old source.new out.old out.new result }
 {
-    let engine = Whole {
-        alloc,
-        limits: settings.limits,
-        teller: CheckTeller,
-    };
-    tell_all(source, out, settings, &engine)
+    vet_all(alloc, source, out, settings, CheckTeller)
 }

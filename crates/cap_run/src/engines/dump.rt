@@ -12,9 +12,9 @@ ghost use Rattle.cap_vet.specs.Limits.{depth_of, words_of};
 ghost use Rattle.cap_vet.specs.Vettings.{message_of, report_of};
 ghost use Rattle.std.specs.Prelude.{◌++◌, ℕ};
 
-use crate::engines::stream::{Mark, tell_all};
-use crate::engines::whole::{Teller, Whole};
-use crate::fault::RunFault;
+use crate::engines::stream::Counted;
+use crate::engines::whole::{Teller, vet_all};
+use crate::fault::{Cause, RunFault};
 use crate::settings::{Outcome, Settings};
 use crate::texts::dump::put_dump;
 use crate::texts::output::write_page;
@@ -36,8 +36,10 @@ fn write_tree<M: Segments, O: ByteOut>(
     number: u32,
     vetted: &Vetted<'_, M>,
 ) -> Result<(), OutFault>
-    ensures { (t : Tree) (c d : ℕ) → Denotes (M.segments (message_of vetted.now)) 0 0 t c d → let report = report_of vetted.now in
-        Writes O.ByteOut out.old out.new result (vet_text number (accepted report.charge report.depth report.pointers report.caps) ++ dump_text t) }
+    ensures { (t : Tree) (c d : ℕ) → Denotes (M.segments (message_of vetted.now)) 0 0 t c d →
+        let r = report_of vetted.now in
+        let line = vet_text number (accepted r.charge r.depth r.pointers r.caps) in
+        Writes O.ByteOut out.old out.new result (line ++ dump_text t) }
 {
     accepted_line(page, number, &vetted.report());
     match put_dump(page, out, vetted) {
@@ -47,7 +49,7 @@ fn write_tree<M: Segments, O: ByteOut>(
 }
 
 impl Teller for DumpTeller {
-    ghost tells = { λ _ words depth n m text mark. TellsTree words depth n m text mark };
+    ghost tells = { λ _. TellsTree };
 
     fn tell<M: Segments, O: ByteOut>(
         &self,
@@ -55,10 +57,10 @@ impl Teller for DumpTeller {
         out: &mut O,
         number: u32,
         vetted: &Vetted<'_, M>,
-    ) -> Result<Mark, OutFault> {
+    ) -> Result<Counted, Cause> {
         match write_tree(page, out, number, vetted) {
-            Ok(()) => Ok(Mark::Accepted),
-            Err(fault) => Err(fault),
+            Ok(()) => Ok(Counted::Accepted),
+            Err(fault) => Err(Cause::Output(fault)),
         }
     }
 }
@@ -89,13 +91,9 @@ pub fn run_dump<S: WordSource, O: ByteOut>(
     out: &mut O,
     settings: &Settings,
 ) -> Result<Outcome, RunFault>
-    ensures { TellsStream S.WordSource O.ByteOut (TellsDump (words_of settings.now.limits) (depth_of settings.now.limits)) WantsNone
-        (limit_of settings.now.size) settings.now.messages source.old source.new out.old out.new result }
+    ensures { let s = settings.now in TellsStream S.WordSource O.ByteOut
+        (TellsDump (words_of s.limits) (depth_of s.limits)) WantsNone
+        (limit_of s.size) s.messages source.old source.new out.old out.new result }
 {
-    let engine = Whole {
-        alloc,
-        limits: settings.limits,
-        teller: DumpTeller,
-    };
-    tell_all(source, out, settings, &engine)
+    vet_all(alloc, source, out, settings, DumpTeller)
 }

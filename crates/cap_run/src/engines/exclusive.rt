@@ -4,46 +4,47 @@ ghost use Rattle.cap_run.specs.Engines.{TellsStream};
 ghost use Rattle.cap_run.specs.Vetting.{TellsExclusive, WantsMarks};
 ghost use Rattle.cap_frame.specs.Limit.{limit_of};
 ghost use Rattle.cap_vet.specs.Limits.{depth_of, words_of};
-ghost use Rattle.std.specs.Prelude.{None, ◌<◌, ◌≡◌, IfSome, length, true};
 
-use crate::engines::stream::{Engine, Mark, tell_all};
-use crate::engines::whole::MessageRoom;
+use crate::engines::stream::{Counted, tell_all};
+use crate::engines::whole::{Judge, Whole, write_line};
 use crate::fault::{Cause, RunFault};
 use crate::settings::{Outcome, Settings};
-use crate::texts::output::write_bytes;
 use crate::texts::page::Page;
 use crate::texts::verdict::{accepted_line, overlap_line, refused_line};
-use cap_frame::{ByteMessage, Segments, SizeLimit, read_into};
+use cap_frame::Segments;
 use cap_vet::{ExclusiveRefusal, Limits, vet_exclusive};
 use cap_words::{ByteOut, WordSource};
 use std::alloc::Global;
 
-/// Reads each message whole. Writes the numbers of its tree if it is accepted within the limits and
-/// uses no word twice. Otherwise it writes the first bad pointer, or the first pointer that
+/// Vets a message exclusively. Writes the numbers of its tree if it is accepted within the limits
+/// and uses no word twice. Otherwise it writes the first bad pointer, or the first pointer that
 /// overlaps.
 #[derive(Clone, Copy)]
-struct ExclusiveEngine {
+struct ExclusiveVetting {
     alloc: Global,
     limits: Limits,
 }
 
-impl ExclusiveEngine {
-    /// Begins the page with the line of a message's verdict. `None` if the message is accepted and
-    /// the allocation of the marks for its words failed.
-    fn verdict_line<M: Segments>(&self, page: &mut Page, number: u32, message: &M) -> Option<Mark>
-        ensures some { IfSome result (λ mark. TellsExclusive (words_of self.now.limits) (depth_of self.now.limits) number (M.segments message.now)
-            page.new mark) }
-        ensures text { IfSome result (λ mark. 0 < length page.new) }
-        ensures none { result ≡ None → WantsMarks (words_of self.now.limits) (depth_of self.now.limits) (M.segments message.now) }
-    {
+impl Judge for ExclusiveVetting {
+    ghost tells = { λ v. TellsExclusive (words_of v.limits) (depth_of v.limits) };
+
+    ghost wants = { λ v. WantsMarks (words_of v.limits) (depth_of v.limits) };
+
+    fn judge<M: Segments, O: ByteOut>(
+        &self,
+        page: &mut Page,
+        out: &mut O,
+        number: u32,
+        message: &M,
+    ) -> Result<Counted, Cause> {
         match vet_exclusive(self.alloc, message, self.limits) {
             Ok(exclusive) => {
                 accepted_line(page, number, &exclusive.into_vetted().report());
-                Some(Mark::Accepted)
+                write_line(page, out, Counted::Accepted)
             }
             Err(ExclusiveRefusal::Refused(refusal)) => {
                 refused_line(page, number, &refusal);
-                Some(Mark::Refused)
+                write_line(page, out, Counted::Refused)
             }
             Err(
                 ExclusiveRefusal::Overlap {
@@ -53,47 +54,9 @@ impl ExclusiveEngine {
                 },
             ) => {
                 overlap_line(page, number, segment, word, pointers);
-                Some(Mark::Refused)
+                write_line(page, out, Counted::Refused)
             }
-            Err(ExclusiveRefusal::Memory) => None,
-        }
-    }
-}
-
-impl Engine for ExclusiveEngine {
-    ghost tells = { λ e. TellsExclusive (words_of e.limits) (depth_of e.limits) };
-
-    ghost wants = { λ e. WantsMarks (words_of e.limits) (depth_of e.limits) };
-
-    ghost takes_memory = { true };
-
-    type Room = MessageRoom;
-
-    fn room(&self) -> MessageRoom {
-        MessageRoom {
-            message: ByteMessage::blank(self.alloc),
-            page: Page::new(),
-        }
-    }
-
-    fn tell_next<S: WordSource, O: ByteOut>(
-        &self,
-        room: &mut MessageRoom,
-        source: &mut S,
-        out: &mut O,
-        limit: SizeLimit,
-        number: u32,
-    ) -> Result<Option<Mark>, Cause> {
-        match read_into(self.alloc, source, limit, &mut room.message) {
-            Ok(true) => match self.verdict_line(&mut room.page, number, &room.message.view()) {
-                Some(mark) => match write_bytes(out, room.page.text()) {
-                    Ok(()) => Ok(Some(mark)),
-                    Err(fault) => Err(Cause::Output(fault)),
-                },
-                None => Err(Cause::Memory),
-            },
-            Ok(false) => Ok(None),
-            Err(fault) => Err(Cause::Frame(fault)),
+            Err(ExclusiveRefusal::Memory) => Err(Cause::Memory),
         }
     }
 }
@@ -132,13 +95,14 @@ pub fn run_vet_exclusive<S: WordSource, O: ByteOut>(
     out: &mut O,
     settings: &Settings,
 ) -> Result<Outcome, RunFault>
-    ensures { TellsStream S.WordSource O.ByteOut (TellsExclusive (words_of settings.now.limits) (depth_of settings.now.limits))
-        (WantsMarks (words_of settings.now.limits) (depth_of settings.now.limits)) (limit_of settings.now.size) settings.now.messages
-        source.old source.new out.old out.new result }
+    ensures { let s = settings.now in TellsStream S.WordSource O.ByteOut
+        (TellsExclusive (words_of s.limits) (depth_of s.limits))
+        (WantsMarks (words_of s.limits) (depth_of s.limits))
+        (limit_of s.size) s.messages source.old source.new out.old out.new result }
 {
-    let engine = ExclusiveEngine {
+    let judge = ExclusiveVetting {
         alloc,
         limits: settings.limits,
     };
-    tell_all(source, out, settings, &engine)
+    tell_all(source, out, settings, &Whole { alloc, judge })
 }

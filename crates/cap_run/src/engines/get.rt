@@ -6,16 +6,16 @@ ghost use Rattle.cap_run.specs.Vetting.{TellsGet, TellsNode};
 ghost use Rattle.cap_frame.specs.Limit.{limit_of};
 ghost use Rattle.cap_vet.specs.Limits.{depth_of, words_of};
 
-use crate::engines::stream::{Mark, tell_all};
-use crate::engines::whole::{Teller, Whole};
-use crate::fault::RunFault;
+use crate::engines::stream::Counted;
+use crate::engines::whole::{Teller, vet_all};
+use crate::fault::{Cause, RunFault};
 use crate::settings::{Outcome, Settings};
-use crate::texts::found::write_node;
+use crate::texts::get::write_node;
 use crate::texts::page::Page;
 use cap_frame::Segments;
 use cap_spec::Step;
 use cap_vet::Vetted;
-use cap_words::{ByteOut, OutFault, WordSource};
+use cap_words::{ByteOut, WordSource};
 use std::alloc::Global;
 
 /// Writes the node at this path of a message's tree.
@@ -25,7 +25,7 @@ struct GetTeller<'p> {
 }
 
 impl<'p> Teller for GetTeller<'p> {
-    ghost tells = { λ t words depth n m text mark. TellsNode words depth t.path.now n m text mark };
+    ghost tells = { λ t words depth. TellsNode words depth t.path.now };
 
     fn tell<M: Segments, O: ByteOut>(
         &self,
@@ -33,10 +33,10 @@ impl<'p> Teller for GetTeller<'p> {
         out: &mut O,
         number: u32,
         vetted: &Vetted<'_, M>,
-    ) -> Result<Mark, OutFault> {
+    ) -> Result<Counted, Cause> {
         match write_node(page, out, number, vetted.get(self.path)) {
-            Ok(()) => Ok(Mark::Accepted),
-            Err(fault) => Err(fault),
+            Ok(()) => Ok(Counted::Accepted),
+            Err(fault) => Err(Cause::Output(fault)),
         }
     }
 }
@@ -69,13 +69,9 @@ pub fn run_get<S: WordSource, O: ByteOut>(
     settings: &Settings,
     path: &[Step],
 ) -> Result<Outcome, RunFault>
-    ensures { TellsStream S.WordSource O.ByteOut (TellsGet (words_of settings.now.limits) (depth_of settings.now.limits) path.now) WantsNone
-        (limit_of settings.now.size) settings.now.messages source.old source.new out.old out.new result }
+    ensures { let s = settings.now in TellsStream S.WordSource O.ByteOut
+        (TellsGet (words_of s.limits) (depth_of s.limits) path.now) WantsNone
+        (limit_of s.size) s.messages source.old source.new out.old out.new result }
 {
-    let engine = Whole {
-        alloc,
-        limits: settings.limits,
-        teller: GetTeller { path },
-    };
-    tell_all(source, out, settings, &engine)
+    vet_all(alloc, source, out, settings, GetTeller { path })
 }

@@ -5,7 +5,7 @@ ghost use Rattle.cap_run.specs.Telling.{TellsSegments, WantsNone};
 ghost use Rattle.cap_frame.specs.Limit.{limit_of};
 ghost use Rattle.std.specs.Prelude.{false};
 
-use crate::engines::stream::{Engine, Mark, tell_all};
+use crate::engines::stream::{Counted, Engine, tell_all};
 use crate::fault::{Cause, RunFault};
 use crate::settings::{Outcome, Settings};
 use crate::texts::page::Page;
@@ -25,7 +25,7 @@ struct OutlineRoom {
 struct SegmentsEngine;
 
 impl Engine for SegmentsEngine {
-    ghost tells = { λ _ n m text mark. TellsSegments n m text mark };
+    ghost tells = { λ _. TellsSegments };
 
     ghost wants = { λ _. WantsNone };
 
@@ -47,10 +47,10 @@ impl Engine for SegmentsEngine {
         out: &mut O,
         limit: SizeLimit,
         number: u32,
-    ) -> Result<Option<Mark>, Cause> {
+    ) -> Result<Option<Counted>, Cause> {
         match read_outline(source, limit, &mut room.outline) {
             Ok(true) => match write_segments_text(&mut room.page, out, number, &room.outline) {
-                Ok(()) => Ok(Some(Mark::Accepted)),
+                Ok(()) => Ok(Some(Counted::Accepted)),
                 Err(fault) => Err(Cause::Output(fault)),
             },
             Ok(false) => Ok(None),
@@ -82,7 +82,8 @@ pub fn run_segments<S: WordSource, O: ByteOut>(
     out: &mut O,
     settings: &Settings,
 ) -> Result<Outcome, RunFault>
-    ensures { ShowsStream S.WordSource O.ByteOut (limit_of settings.now.size) settings.now.messages source.old source.new out.old out.new result }
+    ensures { let s = settings.now in ShowsStream S.WordSource O.ByteOut
+        (limit_of s.size) s.messages source.old source.new out.old out.new result }
 {
     tell_all(source, out, settings, &SegmentsEngine)
 }

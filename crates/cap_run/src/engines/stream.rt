@@ -1,12 +1,12 @@
 //! Reading the messages of a stream, and writing a text for each.
 
-ghost use Rattle.cap_run.specs.Engines.{TellsStream};
-ghost use Rattle.cap_run.specs.Running.{Appended, EndStops, RunStops, StepStops};
-ghost use Rattle.cap_run.specs.Streams.{EndsStream, ReadsAll, ReadsStream};
-ghost use Rattle.cap_run.specs.Telling.{TellsEach, Told, messages_of, one_noncanonical, one_refused, outcome_of, texts_of};
+ghost use Rattle.cap_run.specs.Engines.{EndsEarly, ReachesEnd, TellsStream};
+ghost use Rattle.cap_run.specs.Running.{EndStops, StepStops};
+ghost use Rattle.cap_run.specs.Streams.{EndsStream, ReadsStream};
+ghost use Rattle.cap_run.specs.Telling.{Told, one_noncanonical, one_refused};
 ghost use Rattle.cap_run.specs.Writing.{Writes, Wrote};
 ghost use Rattle.cap_frame.specs.Limit.{limit_of};
-ghost use Rattle.std.specs.Prelude.{◌+◌, ◌-◌, ◌<◌, ◌^◌, ◌≡◌, ◌≤◌, [], ◌∷◌, Bool, IfErr, IfOk, IfSome, List, OnOk, length, true, ℕ};
+ghost use Rattle.std.specs.Prelude.{◌+◌, ◌-◌, ◌<◌, ◌^◌, ◌≡◌, ◌≤◌, [], ◌∷◌, Bool, IfErr, IfOk, IfSome, List, OnOk, true, ℕ};
 
 use crate::fault::{Cause, RunFault};
 use crate::settings::{Outcome, Settings};
@@ -15,7 +15,7 @@ use cap_words::{ByteOut, OutFault, WordSource};
 
 /// What is counted of a message.
 #[derive(Clone, Copy)]
-pub(crate) enum Mark {
+pub(crate) enum Counted {
     /// It was accepted.
     Accepted,
     /// It was refused.
@@ -26,10 +26,10 @@ pub(crate) enum Mark {
 
 /// What is done at each message of a stream.
 pub(crate) trait Engine {
-    ghost use Rattle.cap_run.specs.declared.engines.stream.Mark.{Mark};
+    ghost use Rattle.cap_run.specs.declared.engines.stream.Counted.{Counted};
 
     // The texts that may be written of a message, by its number, each with what is counted then.
-    ghost tells: { Self → ℕ → List (List ℕ) → List ℕ → Mark → Type 0 };
+    ghost tells: { Self → ℕ → List (List ℕ) → List ℕ → Counted → Type 0 };
 
     // The messages at which an allocation may fail after they were read.
     ghost wants: { Self → List (List ℕ) → Type 0 };
@@ -59,11 +59,15 @@ pub(crate) trait Engine {
         out: &mut O,
         limit: SizeLimit,
         number: u32,
-    ) -> Result<Option<Mark>, Cause>
-        ensures some { IfOk result (λ r. IfSome r (λ mark. (t : Told) × (t.mark ≡ mark) × tells self.now number t.message t.text t.mark
-            × ReadsStream S.WordSource (limit_of limit) source.old source.new (t.message ∷ []) × Wrote O.ByteOut out.old out.new t.text)) }
-        ensures none { result ≡ Ok None → EndsStream S.WordSource source.old source.new × (out.new ≡ out.old) }
-        ensures err { IfErr result (λ cause. StepStops S.WordSource O.ByteOut (tells self.now) (wants self.now) (limit_of limit) number
+    ) -> Result<Option<Counted>, Cause>
+        ensures some { IfOk result (λ r. IfSome r (λ counted. (t : Told) × (t.counted ≡ counted)
+            × tells self.now number t.message t.text t.counted
+            × ReadsStream S.WordSource (limit_of limit) source.old source.new (t.message ∷ [])
+            × Wrote O.ByteOut out.old out.new t.text)) }
+        ensures none { result ≡ Ok None →
+            EndsStream S.WordSource source.old source.new × (out.new ≡ out.old) }
+        ensures err { IfErr result (λ cause. StepStops S.WordSource O.ByteOut
+            (tells self.now) (wants self.now) (limit_of limit) number
             source.old source.new out.old out.new cause) }
         ensures memory { result ≡ Err (Cause.Frame FrameFault.Memory) → takes_memory ≡ true };
 }
@@ -71,7 +75,8 @@ pub(crate) trait Engine {
 /// Checks that the stream ends here. One more message is [`Cause::TooManyMessages`].
 pub(crate) fn end_stream<S: WordSource>(source: &mut S, limit: SizeLimit) -> Result<(), Cause>
     ensures ok { OnOk result (EndsStream S.WordSource source.old source.new) }
-    ensures err { IfErr result (λ cause. EndStops S.WordSource (limit_of limit) source.old source.new cause) }
+    ensures err { IfErr result (λ cause.
+        EndStops S.WordSource (limit_of limit) source.old source.new cause) }
     ensures memory { result ≡ Err (Cause.Frame FrameFault.Memory) → ⊥ }
 {
     match read_outline(source, limit, &mut Outline::new()) {
@@ -84,7 +89,8 @@ pub(crate) fn end_stream<S: WordSource>(source: &mut S, limit: SizeLimit) -> Res
 /// Flushes what was written, unless a byte of the next message is buffered. After an error the
 /// output has taken all that was written.
 fn hand_on<S: WordSource, O: ByteOut>(source: &S, out: &mut O) -> Result<(), OutFault>
-    ensures { (before : O) (text : List ℕ) → Wrote O.ByteOut before out.old text → Writes O.ByteOut before out.new result text }
+    ensures { (before : O) (text : List ℕ) →
+        Wrote O.ByteOut before out.old text → Writes O.ByteOut before out.new result text }
 {
     if source.is_at_hand() {
         return Ok(());
@@ -103,42 +109,40 @@ fn output_fault_at(message: u32, fault: OutFault) -> RunFault
 }
 
 /// Counts one more message.
-fn count(outcome: Outcome, mark: Mark) -> Outcome
+fn count(outcome: Outcome, counted: Counted) -> Outcome
     requires messages { outcome.messages < 2 ^ 32 - 1 }
     requires refused { outcome.refused ≤ outcome.messages }
     requires noncanonical { outcome.noncanonical ≤ outcome.messages }
     ensures { result ≡ record {
       messages = outcome.messages + 1;
-      refused = outcome.refused + one_refused mark;
-      noncanonical = outcome.noncanonical + one_noncanonical mark;
+      refused = outcome.refused + one_refused counted;
+      noncanonical = outcome.noncanonical + one_noncanonical counted;
     } }
 {
-    let mut counted = outcome;
-    counted.messages += 1;
-    match mark {
-        Mark::Accepted => {}
-        Mark::Refused => counted.refused += 1,
-        Mark::NotCanonical => counted.noncanonical += 1,
+    let mut total = outcome;
+    total.messages += 1;
+    match counted {
+        Counted::Accepted => {}
+        Counted::Refused => total.refused += 1,
+        Counted::NotCanonical => total.noncanonical += 1,
     }
-    counted
+    total
 }
 
-// Reads the messages of a stream to its end, and writes the text of each. Its clauses say what each
-// result means.
+// Reads the messages of a stream to its end, and writes the text of each.
 fn tell_each<S: WordSource, O: ByteOut, E: Engine>(
     source: &mut S,
     out: &mut O,
     settings: &Settings,
     engine: &E,
 ) -> Result<Outcome, RunFault>
-    ensures ok { IfOk result (λ outcome. (ts : List Told) × ReadsAll S.WordSource (limit_of settings.now.size) source.old source.new (messages_of ts)
-        × TellsEach (E.tells engine.now) 0 ts × Appended O.ByteOut out.old out.new (texts_of ts) × (length ts ≤ settings.now.messages)
-        × (outcome ≡ outcome_of ts)) }
-    ensures err { IfErr result (λ fault. (ts : List Told) × (mid : S) × (fault.message ≡ length ts) × (length ts ≤ settings.now.messages)
-        × ReadsStream S.WordSource (limit_of settings.now.size) source.old mid (messages_of ts) × TellsEach (E.tells engine.now) 0 ts
-        × RunStops S.WordSource O.ByteOut (E.tells engine.now) (E.wants engine.now) (limit_of settings.now.size)
-        settings.now.messages ts mid source.new out.old out.new fault.cause) }
-    ensures memory { (n : ℕ) → result ≡ Err (record { message = n; cause = Cause.Frame FrameFault.Memory }) → E.takes_memory ≡ true }
+    ensures ok { let s = settings.now in ReachesEnd S.WordSource O.ByteOut (E.tells engine.now)
+        (limit_of s.size) s.messages source.old source.new out.old out.new result }
+    ensures err { let s = settings.now in EndsEarly S.WordSource O.ByteOut (E.tells engine.now)
+        (limit_of s.size) s.messages source.old source.new out.old out.new (E.wants engine.now) result }
+    ensures memory { (n : ℕ) →
+        result ≡ Err (record { message = n; cause = Cause.Frame FrameFault.Memory }) →
+        E.takes_memory ≡ true }
 {
     let mut outcome = Outcome {
         messages: 0,
@@ -148,8 +152,8 @@ fn tell_each<S: WordSource, O: ByteOut, E: Engine>(
     let mut room = engine.room();
     for number in 0..settings.messages {
         match engine.tell_next(&mut room, source, out, settings.size, number) {
-            Ok(Some(mark)) => match hand_on(source, out) {
-                Ok(()) => outcome = count(outcome, mark),
+            Ok(Some(counted)) => match hand_on(source, out) {
+                Ok(()) => outcome = count(outcome, counted),
                 Err(fault) => return Err(output_fault_at(number, fault)),
             },
             Ok(None) => return Ok(outcome),
@@ -176,9 +180,12 @@ pub(crate) fn tell_all<S: WordSource, O: ByteOut, E: Engine>(
     settings: &Settings,
     engine: &E,
 ) -> Result<Outcome, RunFault>
-    ensures told { TellsStream S.WordSource O.ByteOut (E.tells engine.now) (E.wants engine.now) (limit_of settings.now.size) settings.now.messages
+    ensures told { let s = settings.now in TellsStream S.WordSource O.ByteOut
+        (E.tells engine.now) (E.wants engine.now) (limit_of s.size) s.messages
         source.old source.new out.old out.new result }
-    ensures memory { (n : ℕ) → result ≡ Err (record { message = n; cause = Cause.Frame FrameFault.Memory }) → E.takes_memory ≡ true }
+    ensures memory { (n : ℕ) →
+        result ≡ Err (record { message = n; cause = Cause.Frame FrameFault.Memory }) →
+        E.takes_memory ≡ true }
 {
     tell_each(source, out, settings, engine)
 }

@@ -6,16 +6,15 @@ ghost use Rattle.cap_run.specs.Vetting.{TellsAccepted, TellsVerdict};
 ghost use Rattle.cap_frame.specs.Limit.{limit_of};
 ghost use Rattle.cap_vet.specs.Limits.{depth_of, words_of};
 
-use crate::engines::stream::{Mark, tell_all};
-use crate::engines::whole::{Teller, Whole};
-use crate::fault::RunFault;
+use crate::engines::stream::Counted;
+use crate::engines::whole::{Teller, vet_all, write_line};
+use crate::fault::{Cause, RunFault};
 use crate::settings::{Outcome, Settings};
-use crate::texts::output::write_bytes;
 use crate::texts::page::Page;
 use crate::texts::verdict::accepted_line;
 use cap_frame::Segments;
 use cap_vet::Vetted;
-use cap_words::{ByteOut, OutFault, WordSource};
+use cap_words::{ByteOut, WordSource};
 use std::alloc::Global;
 
 /// Writes the numbers of a message's tree.
@@ -23,7 +22,7 @@ use std::alloc::Global;
 struct VetTeller;
 
 impl Teller for VetTeller {
-    ghost tells = { λ _ words depth n m text mark. TellsAccepted words depth n m text mark };
+    ghost tells = { λ _. TellsAccepted };
 
     fn tell<M: Segments, O: ByteOut>(
         &self,
@@ -31,12 +30,9 @@ impl Teller for VetTeller {
         out: &mut O,
         number: u32,
         vetted: &Vetted<'_, M>,
-    ) -> Result<Mark, OutFault> {
+    ) -> Result<Counted, Cause> {
         accepted_line(page, number, &vetted.report());
-        match write_bytes(out, page.text()) {
-            Ok(()) => Ok(Mark::Accepted),
-            Err(fault) => Err(fault),
-        }
+        write_line(page, out, Counted::Accepted)
     }
 }
 
@@ -66,13 +62,9 @@ pub fn run_vet<S: WordSource, O: ByteOut>(
     out: &mut O,
     settings: &Settings,
 ) -> Result<Outcome, RunFault>
-    ensures { TellsStream S.WordSource O.ByteOut (TellsVerdict (words_of settings.now.limits) (depth_of settings.now.limits)) WantsNone
-        (limit_of settings.now.size) settings.now.messages source.old source.new out.old out.new result }
+    ensures { let s = settings.now in TellsStream S.WordSource O.ByteOut
+        (TellsVerdict (words_of s.limits) (depth_of s.limits)) WantsNone
+        (limit_of s.size) s.messages source.old source.new out.old out.new result }
 {
-    let engine = Whole {
-        alloc,
-        limits: settings.limits,
-        teller: VetTeller,
-    };
-    tell_all(source, out, settings, &engine)
+    vet_all(alloc, source, out, settings, VetTeller)
 }

@@ -74,7 +74,9 @@ fn put_children<M: Segments, O: ByteOut>(
     level: u32,
     left: u32,
 ) -> Result<(), OutFault>
-    requires low { (t : Tree) × DenotesAt (M.segments (node_message node.now)) (node_spot node.now) t × (height t ≤ left) }
+    requires low { (t : Tree)
+        × DenotesAt (M.segments (node_message node.now)) (node_spot node.now) t
+        × (height t ≤ left) }
     requires few { level + left ≤ 257 }
     ensures { (t : Tree) → DenotesAt (M.segments (node_message node.now)) (node_spot node.now) t →
         Adds O.ByteOut (out.old, page.old) (out.new, page.new) result (child_lines level t) }

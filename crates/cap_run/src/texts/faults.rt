@@ -1,24 +1,23 @@
 //! The lines of faults.
 
-ghost use Rattle.cap_run.specs.FaultLines.{canon_fault_text, cause_text, copy_fault_line, copy_fault_text as copy_text, fault_line, frame_fault_text, message_name, place_text, refusal_text, run_fault_line, source_fault_text};
+ghost use Rattle.cap_run.specs.FaultLines.{canon_fault_text, cause_text, copy_fault_text as copy_text, frame_fault_text, source_fault_text};
+ghost use Rattle.cap_run.specs.FaultLines.{copy_fault_line, fault_line, run_fault_line};
 ghost use Rattle.cap_run.specs.Writing.{Writes};
-ghost use Rattle.cap_spec.specs.Texts.{then_number};
-ghost use Rattle.std.specs.Prelude.{◌+◌, ◌++◌, ◌≡◌, ◌≤◌, ◌∷◌, [], codes, decimal, length};
+ghost use Rattle.std.specs.Prelude.{◌+◌, ◌++◌, ◌≡◌, ◌≤◌, length};
 
 use crate::fault::{Cause, CopyFault, RunFault};
 use crate::texts::output::write_bytes;
-use crate::texts::page::Page;
-use crate::texts::verdict::name_of;
+use crate::texts::page::{CAPACITY, NUMBER, Page};
+use crate::texts::verdict::{FAULT, name_of, push_place, push_refused};
 use cap_canon::CanonFault;
 use cap_frame::FrameFault;
-use cap_vet::Refusal;
 use cap_words::{ByteOut, OutFault, SourceFault};
 
 /// Appends the text for a message that can't be read.
 fn push_frame_fault(page: &mut Page, fault: FrameFault)
-    requires { length page.old + 40 ≤ 4096 }
+    requires { length page.old + FAULT ≤ CAPACITY }
     ensures items { page.new ≡ page.old ++ frame_fault_text fault }
-    ensures few { length page.new ≤ length page.old + 40 }
+    ensures few { length page.new ≤ length page.old + FAULT }
 {
     match fault {
         FrameFault::TooManySegments { count } => page.push_named(b"TooManySegments ", count),
@@ -30,42 +29,11 @@ fn push_frame_fault(page: &mut Page, fault: FrameFault)
     }
 }
 
-/// Appends which message it is: `message `, its number, and a colon.
-fn push_message(page: &mut Page, number: u32)
-    requires { length page.old + 40 ≤ 4096 }
-    ensures items { page.new ≡ page.old ++ message_name number }
-    ensures few { length page.new ≤ length page.old + 30 }
-{
-    page.push_named(b"message ", u64::from(number));
-    page.push_text(b": ");
-}
-
-/// Appends the place of a pointer word.
-fn push_place(page: &mut Page, segment: u32, word: u32)
-    requires { length page.old + 45 ≤ 4096 }
-    ensures items { page.new ≡ page.old ++ place_text segment word }
-    ensures few { length page.new ≤ length page.old + 45 }
-{
-    page.push_named(b" at ", u64::from(segment));
-    page.push_named(b":", u64::from(word));
-}
-
-/// Appends the text for a message whose refusal ended an engine.
-fn push_refusal(page: &mut Page, refusal: Refusal)
-    requires { length page.old + 70 ≤ 4096 }
-    ensures items { page.new ≡ page.old ++ refusal_text refusal }
-    ensures few { length page.new ≤ length page.old + 70 }
-{
-    page.push_text(b"refused ");
-    page.push_text(name_of(refusal.reason));
-    push_place(page, refusal.segment, refusal.word);
-}
-
 /// Appends the text for a message without a canonical copy.
 fn push_canon_fault(page: &mut Page, fault: CanonFault)
-    requires { length page.old + 70 ≤ 4096 }
+    requires { length page.old + FAULT ≤ CAPACITY }
     ensures items { page.new ≡ page.old ++ canon_fault_text fault }
-    ensures few { length page.new ≤ length page.old + 70 }
+    ensures few { length page.new ≤ length page.old + FAULT }
 {
     match fault {
         CanonFault::HasCapability { segment, word } => {
@@ -78,30 +46,30 @@ fn push_canon_fault(page: &mut Page, fault: CanonFault)
 
 /// Appends the text for an engine that ended at a message.
 fn push_cause(page: &mut Page, number: u32, cause: Cause)
-    requires { length page.old + 110 ≤ 4096 }
+    requires { length page.old + NUMBER + FAULT ≤ CAPACITY }
     ensures items { page.new ≡ page.old ++ cause_text number cause }
-    ensures few { length page.new ≤ length page.old + 110 }
+    ensures few { length page.new ≤ length page.old + NUMBER + FAULT }
 {
     match cause {
         Cause::TooManyMessages => {
-            push_message(page, number);
+            page.push_message(number);
             page.push_text(b"TooManyMessages");
         }
         Cause::Frame(fault) => {
-            push_message(page, number);
+            page.push_message(number);
             push_frame_fault(page, fault);
         }
         Cause::Output(_) => page.push_text(b"output failed"),
         Cause::Refused(refusal) => {
-            push_message(page, number);
-            push_refusal(page, refusal);
+            page.push_message(number);
+            push_refused(page, name_of(refusal.reason), refusal.segment, refusal.word);
         }
         Cause::Canon(fault) => {
-            push_message(page, number);
+            page.push_message(number);
             push_canon_fault(page, fault);
         }
         Cause::Memory => {
-            push_message(page, number);
+            page.push_message(number);
             page.push_text(b"Memory");
         }
     }
@@ -136,9 +104,9 @@ pub fn write_fault<E: ByteOut>(err: &mut E, fault: &RunFault) -> Result<(), OutF
 
 /// Appends the text for a source that gave no word.
 fn push_source_fault(page: &mut Page, fault: SourceFault)
-    requires { length page.old + 40 ≤ 4096 }
+    requires { length page.old + FAULT ≤ CAPACITY }
     ensures items { page.new ≡ page.old ++ source_fault_text fault }
-    ensures few { length page.new ≤ length page.old + 40 }
+    ensures few { length page.new ≤ length page.old + FAULT }
 {
     match fault {
         SourceFault::Truncated { byte } => page.push_named(b"Truncated at byte ", byte),
@@ -149,9 +117,9 @@ fn push_source_fault(page: &mut Page, fault: SourceFault)
 
 /// Appends the text for a copy of words that ended early.
 fn push_copy_fault(page: &mut Page, fault: CopyFault)
-    requires { length page.old + 40 ≤ 4096 }
+    requires { length page.old + FAULT ≤ CAPACITY }
     ensures items { page.new ≡ page.old ++ copy_text fault }
-    ensures few { length page.new ≤ length page.old + 40 }
+    ensures few { length page.new ≤ length page.old + FAULT }
 {
     match fault {
         CopyFault::TooManyWords => page.push_text(b"TooManyWords"),

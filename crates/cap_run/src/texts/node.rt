@@ -10,7 +10,7 @@ ghost use Rattle.cap_vet.specs.Handles.{node_message, node_spot, shown};
 ghost use Rattle.std.specs.Prelude.{◌*◌, ◌+◌, ◌++◌, ◌<◌, ◌≡◌, ◌≤◌, ◌∷◌, [], length, replicate};
 
 use crate::texts::output::make_room;
-use crate::texts::page::Page;
+use crate::texts::page::{CAPACITY, LINE, Page};
 use cap_frame::Segments;
 use cap_vet::{Kind, Node, View};
 use cap_words::{ByteOut, OutFault};
@@ -19,15 +19,23 @@ use cap_words::{ByteOut, OutFault};
 /// and the root has level 0. The words of a node have one level more than the node.
 const DEEPEST: usize = 257;
 
-// The spaces before a line, two for each level.
-static SPACES: [u8; 2 * DEEPEST] = [b' '; 2 * DEEPEST];
+/// The most spaces before a line, two for each level.
+const INDENT: usize = 2 * DEEPEST;
+
+/// The space for the head of a node: its kind and three numbers.
+const HEAD: usize = 80;
+
+/// The most bytes of a node's name.
+const NAME: usize = 32;
+
+static SPACES: [u8; INDENT] = [b' '; INDENT];
 
 /// Appends the head of a node of a kind.
 #[inline(always)]
 fn push_head(page: &mut Page, kind: Kind)
-    requires { length page.old + 80 ≤ 4096 }
+    requires { length page.old + HEAD ≤ CAPACITY }
     ensures items { page.new ≡ page.old ++ head_of kind }
-    ensures few { length page.new ≤ length page.old + 80 }
+    ensures few { length page.new ≤ length page.old + HEAD }
 {
     match kind {
         Kind::Null => page.push_text(b"null"),
@@ -59,8 +67,8 @@ fn push_head(page: &mut Page, kind: Kind)
 /// Appends the line of a node under a name.
 #[inline(always)]
 fn named_line(page: &mut Page, name: &[u8], kind: Kind)
-    requires short { length name.now ≤ 32 }
-    requires room { length page.old + 768 ≤ 4096 }
+    requires short { length name.now ≤ NAME }
+    requires room { length page.old + LINE ≤ CAPACITY }
     ensures { page.new ≡ page.old ++ (name.now ++ 32 ∷ head_of kind ++ 10 ∷ []) }
 {
     page.push_text(name);
@@ -72,7 +80,7 @@ fn named_line(page: &mut Page, name: &[u8], kind: Kind)
 /// The spaces before a line at a level.
 #[inline(always)]
 fn spaces(level: u32) -> &'static [u8]
-    requires { level ≤ 257 }
+    requires { level ≤ DEEPEST }
     ensures { result.now ≡ replicate (2 * level) 32 }
 {
     &SPACES[..2 * level as usize]
@@ -81,19 +89,20 @@ fn spaces(level: u32) -> &'static [u8]
 /// Begins a line at a level, with its spaces.
 #[inline(always)]
 fn begin_line(page: &mut Page, level: u32)
-    requires low { level ≤ 257 }
-    requires room { length page.old + 768 ≤ 4096 }
+    requires low { level ≤ DEEPEST }
+    requires room { length page.old + LINE ≤ CAPACITY }
     ensures items { page.new ≡ page.old ++ replicate (2 * level) 32 }
-    ensures few { length page.new ≤ length page.old + 514 }
+    ensures few { length page.new ≤ length page.old + INDENT }
 {
     page.push_text(spaces(level));
 }
 
 /// Appends at a level the line of a child, by its letter and number.
 fn child_line(page: &mut Page, level: u32, letter: u8, i: u32, kind: Kind)
-    requires low { level ≤ 257 }
-    requires room { length page.old + 768 ≤ 4096 }
-    ensures { page.new ≡ page.old ++ (replicate (2 * level) 32 ++ (label letter i ++ 32 ∷ head_of kind ++ 10 ∷ [])) }
+    requires low { level ≤ DEEPEST }
+    requires room { length page.old + LINE ≤ CAPACITY }
+    ensures { page.new ≡ page.old
+        ++ (replicate (2 * level) 32 ++ (label letter i ++ 32 ∷ head_of kind ++ 10 ∷ [])) }
 {
     begin_line(page, level);
     page.push_named(&[letter], u64::from(i));
@@ -105,9 +114,10 @@ fn child_line(page: &mut Page, level: u32, letter: u8, i: u32, kind: Kind)
 /// Appends at a level the line of a node's own word, by its letter and number.
 #[inline(always)]
 fn word_line(page: &mut Page, level: u32, letter: u8, i: u32, word: u64)
-    requires low { level ≤ 257 }
-    requires room { length page.old + 768 ≤ 4096 }
-    ensures { page.new ≡ page.old ++ (replicate (2 * level) 32 ++ (label letter i ++ 32 ∷ hex word ++ 10 ∷ [])) }
+    requires low { level ≤ DEEPEST }
+    requires room { length page.old + LINE ≤ CAPACITY }
+    ensures { page.new ≡ page.old
+        ++ (replicate (2 * level) 32 ++ (label letter i ++ 32 ∷ hex word ++ 10 ∷ [])) }
 {
     begin_line(page, level);
     page.push_named(&[letter], u64::from(i));
@@ -127,8 +137,9 @@ fn put_words<M: Segments, O: ByteOut>(
     letter: u8,
     view: &View<'_, M>,
 ) -> Result<(), OutFault>
-    requires { level ≤ 257 }
-    ensures { Adds O.ByteOut (out.old, page.old) (out.new, page.new) result (word_lines level letter 0 (words_of_own (shown view.now))) }
+    requires { level ≤ DEEPEST }
+    ensures { Adds O.ByteOut (out.old, page.old) (out.new, page.new) result
+        (word_lines level letter 0 (words_of_own (shown view.now))) }
 {
     let mut i = 0;
     while let Some(word) = view.data_word(i) {
@@ -154,9 +165,10 @@ fn put_own<M: Segments, O: ByteOut>(
     kind: Kind,
     view: &View<'_, M>,
 ) -> Result<(), OutFault>
-    requires low { level ≤ 257 }
+    requires low { level ≤ DEEPEST }
     requires kind { kind ≡ kind_of (shown view.now) }
-    ensures { Adds O.ByteOut (out.old, page.old) (out.new, page.new) result (word_lines level (word_letter_of kind) 0 (words_of_own (shown view.now))) }
+    ensures { Adds O.ByteOut (out.old, page.old) (out.new, page.new) result
+        (word_lines level (word_letter_of kind) 0 (words_of_own (shown view.now))) }
 {
     match kind {
         Kind::Struct { .. } => put_words(page, out, level, b'd', view),
@@ -178,7 +190,7 @@ pub(crate) fn put_named<M: Segments, O: ByteOut>(
     name: &[u8],
     node: &Node<'_, M>,
 ) -> Result<(), OutFault>
-    requires { length name.now ≤ 32 }
+    requires { length name.now ≤ NAME }
     ensures { (t : Tree) → DenotesAt (M.segments (node_message node.now)) (node_spot node.now) t →
         Adds O.ByteOut (out.old, page.old) (out.new, page.new) result (own_text 0 name.now t) }
 {
@@ -207,9 +219,10 @@ pub(crate) fn put_child<M: Segments, O: ByteOut>(
     i: u32,
     node: &Node<'_, M>,
 ) -> Result<(), OutFault>
-    requires { level < 257 }
+    requires { level < DEEPEST }
     ensures { (t : Tree) → DenotesAt (M.segments (node_message node.now)) (node_spot node.now) t →
-        Adds O.ByteOut (out.old, page.old) (out.new, page.new) result (own_text level (label letter i) t) }
+        Adds O.ByteOut (out.old, page.old) (out.new, page.new) result
+        (own_text level (label letter i) t) }
 {
     let view = node.view();
     let kind = view.kind();

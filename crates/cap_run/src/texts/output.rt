@@ -19,7 +19,7 @@ pub(crate) fn write_bytes<O: ByteOut>(out: &mut O, text: &[u8]) -> Result<(), Ou
 /// it.
 #[inline]
 pub(crate) fn make_room<O: ByteOut>(page: &mut Page, out: &mut O) -> Result<(), OutFault>
-    ensures room { OnOk result (length page.new + 768 ≤ 4096) }
+    ensures room { OnOk result (length page.new + LINE ≤ CAPACITY) }
     ensures adds { Adds O.ByteOut (out.old, page.old) (out.new, page.new) result [] }
 {
     if page.len() <= CAPACITY - LINE {
@@ -33,7 +33,7 @@ pub(crate) fn make_room<O: ByteOut>(page: &mut Page, out: &mut O) -> Result<(), 
 #[inline(never)]
 fn turn<O: ByteOut>(page: &mut Page, out: &mut O) -> Result<(), OutFault>
     requires { 0 < length page.old }
-    ensures room { OnOk result (length page.new + 768 ≤ 4096) }
+    ensures room { OnOk result (length page.new + LINE ≤ CAPACITY) }
     ensures adds { Adds O.ByteOut (out.old, page.old) (out.new, page.new) result [] }
 {
     match write_bytes(out, page.text()) {
@@ -48,8 +48,9 @@ fn turn<O: ByteOut>(page: &mut Page, out: &mut O) -> Result<(), OutFault>
 /// Writes the end of a text, which is on a page. The whole text isn't empty. After an error the
 /// output took a prefix of the whole text.
 pub(crate) fn write_page<O: ByteOut>(page: &Page, out: &mut O) -> Result<(), OutFault>
-    ensures { (before : O) (held text : List ℕ) → 0 < length (held ++ text) → Added O.ByteOut (before, held) (out.old, page.now) text
-        → Writes O.ByteOut before out.new result (held ++ text) }
+    ensures { (before : O) (held text : List ℕ) → 0 < length (held ++ text) →
+        Added O.ByteOut (before, held) (out.old, page.now) text →
+        Writes O.ByteOut before out.new result (held ++ text) }
 {
     if page.len() == 0 {
         return Ok(());

@@ -7,28 +7,26 @@ ghost use Rattle.cap_spec.specs.Texts.{hex, line as plain_line, message_text, ou
 ghost use Rattle.std.specs.Prelude.{◌+◌, ◌++◌, ◌≡◌, ◌≤◌, ◌∷◌, codes, length};
 
 use crate::texts::output::{make_room, write_page};
-use crate::texts::page::Page;
+use crate::texts::page::{CAPACITY, LINE, Page};
 use cap_frame::Outline;
 use cap_words::{ByteOut, OutFault};
 
 /// Begins the page with the line on the message as a whole.
 fn head_line(page: &mut Page, number: u32, count: u32, words: u64)
-    ensures { page.new ≡ message_text number (codes "segments" ++ then_number count ++ codes " words" ++ then_number words) }
+    ensures { page.new ≡ message_text number
+        (codes "segments" ++ then_number count ++ codes " words" ++ then_number words) }
 {
-    page.clear();
-    page.push_text(b"message ");
-    page.push_number(u64::from(number));
-    page.push_text(b": segments ");
-    page.push_number(u64::from(count));
-    page.push_text(b" words ");
-    page.push_number(words);
+    page.begin_message(number);
+    page.push_named(b"segments ", u64::from(count));
+    page.push_named(b" words ", words);
     page.push_text(b"\n");
 }
 
 /// Appends the line of segment `s`, which has `words` words.
 fn segment_line(page: &mut Page, s: u32, words: u32)
-    requires { length page.old + 768 ≤ 4096 }
-    ensures { page.new ≡ page.old ++ plain_line 0 (codes "segment" ++ then_number s ++ 58 ∷ then_number words) }
+    requires { length page.old + LINE ≤ CAPACITY }
+    ensures { page.new ≡ page.old
+        ++ plain_line 0 (codes "segment" ++ then_number s ++ 58 ∷ then_number words) }
 {
     page.push_named(b"segment ", u64::from(s));
     page.push_named(b": ", u64::from(words));
@@ -37,7 +35,7 @@ fn segment_line(page: &mut Page, s: u32, words: u32)
 
 /// Appends the line for a message without a root word.
 fn rootless_line(page: &mut Page)
-    requires { length page.old + 768 ≤ 4096 }
+    requires { length page.old + LINE ≤ CAPACITY }
     ensures { page.new ≡ page.old ++ plain_line 0 (codes "root " ++ codes "none") }
 {
     page.push_text(b"root none\n");
@@ -45,7 +43,7 @@ fn rootless_line(page: &mut Page)
 
 /// Appends the line of a root word.
 fn word_line(page: &mut Page, word: u64)
-    requires { length page.old + 768 ≤ 4096 }
+    requires { length page.old + LINE ≤ CAPACITY }
     ensures { page.new ≡ page.old ++ plain_line 0 (codes "root " ++ hex word) }
 {
     page.push_text(b"root ");
@@ -55,7 +53,7 @@ fn word_line(page: &mut Page, word: u64)
 
 /// Appends the line of the root word, or of its absence.
 fn root_line(page: &mut Page, root: Option<u64>)
-    requires { length page.old + 768 ≤ 4096 }
+    requires { length page.old + LINE ≤ CAPACITY }
     ensures { page.new ≡ page.old ++ plain_line 0 (codes "root " ++ root_text root) }
 {
     match root {
@@ -71,7 +69,8 @@ fn put_segment_lines<O: ByteOut>(
     out: &mut O,
     outline: &Outline,
 ) -> Result<(), OutFault>
-    ensures { Adds O.ByteOut (out.old, page.old) (out.new, page.new) result (segment_lines 0 (sizes_in outline.now)) }
+    ensures { Adds O.ByteOut (out.old, page.old) (out.new, page.new) result
+        (segment_lines 0 (sizes_in outline.now)) }
 {
     let sizes = outline.sizes();
     for s in 0..outline.count() {
@@ -90,7 +89,8 @@ fn put_root_line<O: ByteOut>(
     out: &mut O,
     root: Option<u64>,
 ) -> Result<(), OutFault>
-    ensures { Adds O.ByteOut (out.old, page.old) (out.new, page.new) result (plain_line 0 (codes "root " ++ root_text root)) }
+    ensures { Adds O.ByteOut (out.old, page.old) (out.new, page.new) result
+        (plain_line 0 (codes "root " ++ root_text root)) }
 {
     match make_room(page, out) {
         Ok(()) => {
@@ -108,7 +108,8 @@ pub(crate) fn write_segments_text<O: ByteOut>(
     number: u32,
     outline: &Outline,
 ) -> Result<(), OutFault>
-    ensures { Writes O.ByteOut out.old out.new result (outline_text number (sizes_in outline.now) (root_in outline.now)) }
+    ensures { Writes O.ByteOut out.old out.new result
+        (outline_text number (sizes_in outline.now) (root_in outline.now)) }
 {
     head_line(page, number, outline.count(), outline.words());
     match put_segment_lines(page, out, outline) {

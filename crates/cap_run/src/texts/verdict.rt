@@ -1,30 +1,42 @@
 //! The line of a verdict.
 
+ghost use Rattle.cap_run.specs.FaultLines.{place_text};
 ghost use Rattle.cap_spec.specs.Texts.{accepted, check_text, reason_name, refusal_verdict, refused, then_number, vet_text};
 ghost use Rattle.std.specs.Prelude.{◌+◌, ◌++◌, ◌≡◌, ◌≤◌, codes, length};
 
-use crate::texts::page::Page;
+use crate::texts::page::{CAPACITY, Page};
 use cap_vet::{Reason, Refusal, Report};
+
+/// The space for the numbers of an accepted message: four names of 39 bytes in all, each with a
+/// number.
+const REPORT: usize = 119;
+
+/// The most bytes of a reason's name.
+const NAME: usize = 16;
+
+/// The space for the place of a pointer.
+const PLACE: usize = 45;
+
+/// The space for the text of one fault, such as a reason and a place.
+pub(crate) const FAULT: usize = 70;
 
 /// Begins the page with the line of a message that is accepted, with the numbers of its tree.
 pub(crate) fn accepted_line(page: &mut Page, number: u32, report: &Report)
-    ensures { page.new ≡ vet_text number (accepted report.now.charge report.now.depth report.now.pointers report.now.caps) }
+    ensures { let r = report.now in
+        page.new ≡ vet_text number (accepted r.charge r.depth r.pointers r.caps) }
 {
-    page.clear();
-    page.push_text(b"message ");
-    page.push_number(u64::from(number));
-    page.push_text(b": ");
+    page.begin_message(number);
     push_report(page, report);
     page.push_text(b"\n");
 }
 
 /// Appends the text for an accepted message: the numbers of its tree.
 fn push_report(page: &mut Page, report: &Report)
-    requires { length page.old + 119 ≤ 4096 }
-    ensures items { page.new ≡ page.old ++ (codes "accepted charge" ++ then_number report.now.charge
-        ++ codes " depth" ++ then_number report.now.depth
-        ++ codes " pointers" ++ then_number report.now.pointers ++ codes " caps" ++ then_number report.now.caps) }
-    ensures few { length page.new ≤ length page.old + 119 }
+    requires { length page.old + REPORT ≤ CAPACITY }
+    ensures items { let r = report.now in page.new ≡ page.old
+        ++ (codes "accepted charge" ++ then_number r.charge ++ codes " depth" ++ then_number r.depth
+        ++ codes " pointers" ++ then_number r.pointers ++ codes " caps" ++ then_number r.caps) }
+    ensures few { length page.new ≤ length page.old + REPORT }
 {
     page.push_named(b"accepted charge ", report.charge);
     page.push_named(b" depth ", u64::from(report.depth));
@@ -57,41 +69,53 @@ pub(crate) fn overlap_line(page: &mut Page, number: u32, segment: u32, word: u32
 /// Begins the page with the line of a message that is refused, with the name of the reason and the
 /// place.
 fn put_refused(page: &mut Page, number: u32, name: &[u8], segment: u32, word: u32, pointers: u64)
-    requires short { length name.now ≤ 16 }
+    requires short { length name.now ≤ NAME }
     ensures { page.new ≡ vet_text number (refused name.now segment word pointers) }
 {
-    page.clear();
-    page.push_text(b"message ");
-    page.push_number(u64::from(number));
-    page.push_text(b": refused ");
-    page.push_text(name);
-    page.push_text(b" at ");
-    page.push_number(u64::from(segment));
-    page.push_text(b":");
-    page.push_number(u64::from(word));
-    page.push_text(b" pointers ");
-    page.push_number(pointers);
+    page.begin_message(number);
+    push_refused(page, name, segment, word);
+    page.push_named(b" pointers ", pointers);
     page.push_text(b"\n");
+}
+
+/// Appends the name of the reason for which a message is refused, and the place.
+pub(crate) fn push_refused(page: &mut Page, name: &[u8], segment: u32, word: u32)
+    requires short { length name.now ≤ NAME }
+    requires room { length page.old + FAULT ≤ CAPACITY }
+    ensures items { page.new ≡ page.old
+        ++ (codes "refused " ++ name.now ++ place_text segment word) }
+    ensures few { length page.new ≤ length page.old + FAULT }
+{
+    page.push_text(b"refused ");
+    page.push_text(name);
+    push_place(page, segment, word);
+}
+
+/// Appends the place of a pointer word.
+pub(crate) fn push_place(page: &mut Page, segment: u32, word: u32)
+    requires { length page.old + PLACE ≤ CAPACITY }
+    ensures items { page.new ≡ page.old ++ place_text segment word }
+    ensures few { length page.new ≤ length page.old + PLACE }
+{
+    page.push_named(b" at ", u64::from(segment));
+    page.push_named(b":", u64::from(word));
 }
 
 /// Begins the page with the line of an accepted message: whether it is canonical.
 pub(crate) fn check_line(page: &mut Page, number: u32, canonical: bool)
     ensures { page.new ≡ check_text number canonical }
 {
-    page.clear();
-    page.push_text(b"message ");
-    page.push_number(u64::from(number));
     if canonical {
-        page.push_text(b": canonical\n");
+        page.message_line(number, b"canonical");
     } else {
-        page.push_text(b": not canonical\n");
+        page.message_line(number, b"not canonical");
     }
 }
 
 /// The name of a reason.
 pub(crate) fn name_of(reason: Reason) -> &'static [u8]
     ensures name { result.now ≡ reason_name reason }
-    ensures short { length result.now ≤ 16 }
+    ensures short { length result.now ≤ NAME }
 {
     match reason {
         Reason::NoRoot => b"NoRoot",

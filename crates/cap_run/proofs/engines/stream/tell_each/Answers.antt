@@ -48,5 +48,5 @@ pub loop-number-preserved : goal.loop-number-preserved
 loop-number-preserved g c =
     let r = rw c.in-Ok-Some.field-0-is at c.in-Ok-Some.ensures.some in
     going_more g.S.WordSource g.O.ByteOut (g.E.Engine.tells c.args.engine.now) (limit_of c.args.settings.now.size) c.args.source.now c.loop-number.source c.tell_next.new.source
-    c.args.out.now c.loop-number.out c.hand_on.new.out c.loop-number.outcome c.count-outcome.result c.loop-number.number r.0 c.in-Ok-Some.mark r.1
+    c.args.out.now c.loop-number.out c.hand_on.new.out c.loop-number.outcome c.count-outcome.result c.loop-number.number r.0 c.in-Ok-Some.counted r.1
     c.loop-number.invariant r.2 r.3 (c.in-Ok.ensures c.loop-number.out r.0.text r.4) c.count-outcome.ensures

@@ -1,28 +1,31 @@
 use Rattle.std.proofs.Common.{refl}
 use Rattle.cap_frame.specs.Limit.{limit_of}
+use Rattle.cap_run.proofs.Judging.{step_stops}
 use Rattle.cap_run.proofs.Streams.{reads_named}
 use Rattle.cap_run.proofs.engines.whole.WholeEngine.tell_next.Goals as goal
 
 pub returns-in-Ok-clause-some : goal.returns-in-Ok-clause-some
 returns-in-Ok-clause-some g c =
     let r = c.in-Ok-true.ensures.read.message (cc) in
-    let told = c.in-Ok.ensures.ok in (
-      record { message = _; text = told.0; mark = c.in-Ok.mark },
+    let told = rw c.view.ensures at c.in-Ok.ensures in (
+      record { message = _; text = told.0; counted = c.in-Ok.counted },
       refl,
-      rw c.view.ensures at told.1,
-      reads_named g.S.WordSource (limit_of c.args.limit) c.args.source.now c.read_into.new.source _ r c.in-Ok-true.ensures.read.next.works,
+      told.1,
+      reads_named g.S.WordSource (limit_of c.args.limit) c.args.source.now c.read_into.new.source
+          _ r c.in-Ok-true.ensures.read.next.works,
       told.2,
     )
 
-pub returns-in-Err-tell-clause-err : goal.returns-in-Err-tell-clause-err
-returns-in-Err-tell-clause-err g c =
+pub returns-in-Err-judge-clause-err : goal.returns-in-Err-judge-clause-err
+returns-in-Err-judge-clause-err g c =
     let r = c.in-Ok-true.ensures.read.message (cc) in
-    let told = c.in-Err-tell.ensures.err in (
-      record { message = _; text = told.0; mark = told.1 },
-      rw c.view.ensures at told.2,
-      reads_named g.S.WordSource (limit_of c.args.limit) c.args.source.now c.read_into.new.source _ r c.in-Ok-true.ensures.read.next.works,
-      told.3,
-    )
+    let w = c.args.self.now in
+    step_stops g.S.WordSource g.O.ByteOut (g.J.Judge.tells w.judge) (g.J.Judge.wants w.judge)
+    (limit_of c.args.limit) c.args.number _ c.args.source.now c.read_into.new.source
+    c.args.out.now c.judge.new.out c.in-Err-judge.cause
+    (reads_named g.S.WordSource (limit_of c.args.limit) c.args.source.now c.read_into.new.source
+          _ r c.in-Ok-true.ensures.read.next.works)
+    (rw c.view.ensures at c.in-Err-judge.ensures)
 
 pub returns-in-Ok-clause-none : goal.returns-in-Ok-clause-none
 returns-in-Ok-clause-none g c = λ e. absurd (cc)

@@ -1,0 +1,14 @@
+use Rattle.std.proofs.Common.{refl}
+use Rattle.cap_vet.specs.Vettings.{message_of, report_of}
+use Rattle.cap_run.specs.Vetting.{TellsAccepted}
+use Rattle.cap_run.specs.declared.engines.stream.Counted.TheVariants.{Accepted}
+use Rattle.cap_run.proofs.Judging.{writes_line}
+use Rattle.cap_run.proofs.engines.vet.VetTellerTeller.tell.Goals as goal
+
+pub returns : goal.returns
+returns g c = λ words depth t h.
+    let texts = TellsAccepted words depth c.args.number (g.M.Segments.segments (message_of c.args.vetted.now)) in
+    writes_line g.O.ByteOut c.accepted_line.new.page Accepted texts ⊥
+    c.args.out.now c.write_line.new.out c.write_line.result
+    (record { report = report_of c.args.vetted.now; is_accepted = (t, h); line = cc; counts = refl })
+    c.write_line.ensures

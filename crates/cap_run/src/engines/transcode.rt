@@ -1,0 +1,162 @@
+//! The engines that put the words of one encoding in another. They don't look at framing.
+
+ghost use Rattle.cap_run.specs.Copying.{Copied};
+ghost use Rattle.cap_run.specs.Engines.{CopiesWords, most_packed_at_once, most_unpacked_at_once};
+ghost use Rattle.cap_run.specs.Handed.{HandsOver};
+ghost use Rattle.cap_run.specs.PuttingEnds.{Copies, StopsPutting};
+ghost use Rattle.std.specs.Prelude.{◌*◌, ◌/◌, ◌≤◌, IfErr, IfOk, length};
+
+use crate::fault::{CopyFault, output_fault};
+use cap_pack::Packer;
+use cap_words::{ByteOut, OutFault, WordSink, WordSource};
+
+// The buffer of `run_pack` in bytes. The packer gets at most these 64 words in one call.
+const ROOM_TO_PACK: usize = 8 * 64;
+
+// The buffer of `run_unpack` in bytes. The sink gets at most these 1024 words in one call.
+const ROOM_TO_UNPACK: usize = 8 * 1024;
+
+/// Puts the buffered words of the source that fit in `room`, in one call, and returns how many
+/// words these are. 0 doesn't say that no words are to come.
+#[inline]
+fn put_ready<S: WordSource, K: WordSink>(
+    source: &mut S,
+    sink: &mut K,
+    room: &mut [u8],
+) -> Result<u64, OutFault>
+    ensures few { IfOk result (λ n. 8 * n ≤ length room.old) }
+    ensures ok { IfOk result
+        (Copies S.WordSource K.WordSink source.old source.new sink.old sink.new) }
+    ensures err { IfErr result (HandsOver S.WordSource K.WordSink (length room.old / 8)
+        source.old source.new sink.old sink.new) }
+{
+    let count = source.ready(room);
+    if count == 0 {
+        return Ok(0);
+    }
+    match sink.put_bytes(&room[..count]) {
+        Ok(()) => Ok(count as u64 / 8),
+        Err(fault) => Err(output_fault(fault)),
+    }
+}
+
+/// Puts the words of a source to a sink, at most `words` of them, and doesn't finish the sink. One
+/// piece is the buffered words that fit in `room`, or one word if none are buffered. Returns how
+/// many words were put.
+fn put_words<S: WordSource, K: WordSink>(
+    source: &mut S,
+    sink: &mut K,
+    words: u64,
+    room: &mut [u8],
+) -> Result<u64, CopyFault>
+    requires { 8 ≤ length room.old }
+    ensures { StopsPutting S.WordSource K.WordSink (length room.old / 8) words
+        source.old source.new sink.old sink.new result }
+{
+    let mut put = 0;
+    while put < words {
+        let most = (words - put).min(room.len() as u64 / 8) as usize;
+        let count = match put_ready(source, sink, &mut room[..8 * most]) {
+            Ok(count) => count,
+            Err(fault) => return Err(CopyFault::Output(fault)),
+        };
+        put += count;
+        if count > 0 {
+            continue;
+        }
+        match source.next() {
+            Ok(Some(word)) => if let Err(fault) = sink.put(word) {
+                return Err(CopyFault::Output(output_fault(fault)));
+            },
+            Ok(None) => return Ok(put),
+            Err(fault) => return Err(CopyFault::Source(fault)),
+        }
+        put += 1;
+    }
+    match source.next() {
+        Ok(Some(_)) => Err(CopyFault::TooManyWords),
+        Ok(None) => Ok(put),
+        Err(fault) => Err(CopyFault::Source(fault)),
+    }
+}
+
+/// Puts the words of a source to a sink, at most `words` of them, in pieces that fit in `room`.
+/// Finishes the sink unless the output failed before.
+fn transcode<S: WordSource, K: WordSink>(
+    source: &mut S,
+    sink: &mut K,
+    words: u64,
+    room: &mut [u8],
+) -> Result<u64, CopyFault>
+    requires { 8 ≤ length room.old }
+    ensures { Copied S.WordSource K.WordSink (length room.old / 8) words
+        source.old source.new sink.old sink.new result }
+{
+    let answer = put_words(source, sink, words, room);
+    if let Err(CopyFault::Output(_)) = answer {
+        return answer;
+    }
+    match sink.finish() {
+        Ok(()) => answer,
+        Err(fault) => Err(CopyFault::Output(output_fault(fault))),
+    }
+}
+
+/// Packs the words of a source, at most `words` of them, finishes the packer, and returns how many
+/// words there were (encoding: Packing). It doesn't look at what the words mean.
+///
+/// Allocates nothing itself: the words pass through a buffer of 512 bytes on the stack. The packer
+/// is closed after the call in any case.
+///
+/// # Errors
+///
+/// - [`CopyFault::TooManyWords`]: the source has more than `words` words. The first `words` of them
+///   were packed, and the packer was finished.
+/// - [`CopyFault::Source`]: the source failed, or its input ended inside a word or inside a group
+///   of packed words. The words before that were packed, and the packer was finished.
+/// - [`CopyFault::Output`]: the output failed, as words were put or as the packer was finished. It
+///   took a prefix of the text. All words that were read were put to the packer. If the output
+///   failed at a piece of at most 64 words, the packer took the words before the piece. No word
+///   after the piece was read.
+///
+/// If finishing the packer fails after another error, `Output` is returned.
+pub fn run_pack<S: WordSource, O: ByteOut>(
+    source: &mut S,
+    sink: &mut Packer<O>,
+    words: u64,
+) -> Result<u64, CopyFault>
+    ensures { CopiesWords S.WordSource ⟦<Packer<O> as WordSink>⟧ most_packed_at_once words
+        source.old source.new sink.old sink.new result }
+{
+    transcode(source, sink, words, &mut [0; ROOM_TO_PACK])
+}
+
+/// Puts the words of a source to a sink, at most `words` of them, finishes the sink, and returns
+/// how many words there were. With an unpacker as the source this unpacks (encoding: Packing). It
+/// doesn't look at what the words mean.
+///
+/// Allocates nothing itself: the words pass through a buffer of 8192 bytes on the stack. The sink
+/// is closed after the call in any case.
+///
+/// # Errors
+///
+/// - [`CopyFault::TooManyWords`]: the source has more than `words` words. The first `words` of them
+///   were put, and the sink was finished.
+/// - [`CopyFault::Source`]: the source failed, or its input ended inside a word or inside a group
+///   of packed words. The words before that were put, and the sink was finished.
+/// - [`CopyFault::Output`]: the output failed, as words were put or as the sink was finished. It
+///   took a prefix of the text. All words that were read were put to the sink. If the output failed
+///   at a piece of at most 1024 words, the sink took the words before the piece. No word after the
+///   piece was read.
+///
+/// If finishing the sink fails after another error, `Output` is returned.
+pub fn run_unpack<S: WordSource, K: WordSink>(
+    source: &mut S,
+    sink: &mut K,
+    words: u64,
+) -> Result<u64, CopyFault>
+    ensures { CopiesWords S.WordSource K.WordSink most_unpacked_at_once words
+        source.old source.new sink.old sink.new result }
+{
+    transcode(source, sink, words, &mut [0; ROOM_TO_UNPACK])
+}
