@@ -1,5 +1,5 @@
 -- What a job did, and what it did whose status is that of success.
-use Rattle.std.proofs.Common.{◌≡◌, ◌∙◌, ℕ, Bool, Option, Some, None, List, Result, Ok, Err, subst, sym, arith}
+use Rattle.std.proofs.Common.{◌≡◌, ◌∙◌, ℕ, Bool, false, true, Option, Some, None, List, Result, Ok, Err, subst, sym, arith}
 use Rattle.std.specs.Io.KnownBytes.{Appends, Keeps, append_known}
 use Rattle.cap_words.specs.declared.ends.ByteIn as input
 use Rattle.cap_words.specs.declared.ends.ByteOut as output
@@ -15,10 +15,10 @@ use Rattle.cap_frame.specs.Limit.{limit_of}
 use Rattle.cap_vet.specs.Limits.{depth_of, words_of}
 use Rattle.cap_spec.specs.Packing.{pack_text}
 use Rattle.cap_spec.specs.Plain.{plain_text}
-use Rattle.cap_run.specs.Canons.{MakesCopies, copies_of}
+use Rattle.cap_run.specs.Canons.{copies_of}
 use Rattle.cap_run.specs.Checking.{TellsCheck}
 use Rattle.cap_run.specs.Copying.{Copied, CopiesAll}
-use Rattle.cap_run.specs.Engines.{CopiesWords, TellsStream}
+use Rattle.cap_run.specs.Engines.{TellsStream}
 use Rattle.cap_run.specs.Engines.{most_packed_at_once, most_unpacked_at_once, most_words}
 use Rattle.cap_run.specs.Telling.{Tells, TellsSegments, WantsNone, outcome_of}
 use Rattle.cap_run.specs.Vetting.{TellsDump, TellsExclusive, TellsGet, TellsVerdict, WantsMarks}
@@ -31,8 +31,9 @@ use Rattle.cap_run.specs.declared.fault.RunFault.{RunFault}
 use Rattle.cap_run.specs.declared.settings.Outcome.{Outcome}
 use Rattle.cap_run.specs.declared.settings.Settings.{Settings}
 use Rattle.cap_cmd.specs.Statuses.{cause_status, copy_status, frame_status, outcome_status, run_status}
-use Rattle.cap_cmd.specs.Jobs.{CanonsInput, CopiesInput, DoesJob, DoesTask, GivesOutput, PutsTo}
+use Rattle.cap_cmd.specs.Jobs.{CanonsInput, CanonsTo, CopiesInput, CopiesTo, DoesJob, DoesTask}
 use Rattle.cap_cmd.specs.Jobs.{TellsInput, WritesAll, input_is_cut, input_words}
+use Rattle.cap_cmd.specs.declared.job.Job.{Job}
 use Rattle.cap_cmd.specs.declared.job.Task.{Task}
 use Rattle.cap_cmd.specs.declared.job.Task.TheVariants.{Segments, Vet, Dump, Get, Check, Pack, Unpack}
 use Rattle.cap_cmd.specs.declared.job.Task.TheVariants.{Canon as canon_task}
@@ -107,7 +108,7 @@ module _ {S O K : Type 0} (gs : source.Ghosts S) (go : output.Ghosts O) (s : Set
   -- all words were copied
   all_copied : (text : List ℕ → List ℕ) (at_once : ℕ) (before after : O) (r : Result ℕ CopyFault)
       → copy_status r ≡ 0
-      → PutsTo go gk text before after (λ begun ended. CopiesWords gs gk at_once most_words old new begun ended r)
+      → CopiesTo gs go gk text at_once old new before after r
       → CopiesInput text (gs.words old) (gs.is_cut old) (go.written before) (go.written after)
   all_copied text at_once before after r e p =
       let k = copied_all gs gk at_once most_words old new p.begun p.ended r e p.puts.copied in
@@ -122,8 +123,7 @@ module _ {S O K : Type 0} (gs : source.Ghosts S) (go : output.Ghosts O) (s : Set
 
   -- all copies were put
   all_made : (before after : O) (r : Result Outcome RunFault) → run_status r ≡ 0
-      → PutsTo go gk plain_text before after (λ begun ended.
-      MakesCopies gs gk (words_of s.limits) (depth_of s.limits) (limit_of s.size) s.messages old new begun ended r)
+      → CanonsTo gs go gk s old new before after r
       → CanonsInput s (gs.words old) (gs.is_cut old) (go.written before) (go.written after)
   all_made before after (Ok o) e p =
       let k = p.puts.ok in
@@ -175,16 +175,16 @@ module _ {S O E P U : Type 0} (gs : source.Ghosts S) (go : output.Ghosts O) (ge 
       (sym d.reported.status_is ∙ e) d.does
 
   -- and what a job wrote
-  pub job_writes_all : {I : Type 0} (gi : input.Ghosts I) (is_packed packed : Bool) (task : Task) (s : Settings)
+  pub job_writes_all : {I : Type 0} (gi : input.Ghosts I) (is_packed packed : Bool) (job : Job)
       (start : I) (before after : O) (old new : E) (status : ℕ) → is_packed ≡ packed → status ≡ 0
-      → DoesJob gi gs go ge gp gu packed task s start before after old new status
-      → WritesAll task s (input_words is_packed (gi.to_come start)) (input_is_cut is_packed (gi.to_come start))
-      (go.written before) (go.written after)
-  job_writes_all gi is_packed packed task s start before after old new status same e j =
-      let written = writes_all task s j.first before after old new status e j.does in
-      let cut = subst (λ c. WritesAll task s (gs.words j.first) c (go.written before) (go.written after)) j.begins.is_cut
-      written in
-      let known = subst (λ w. WritesAll task s w (input_is_cut packed (gi.to_come start)) (go.written before)
-      (go.written after)) j.begins.words cut in
-      subst (λ b. WritesAll task s (input_words b (gi.to_come start)) (input_is_cut b (gi.to_come start))
+      → DoesJob gi gs go ge gp gu packed job start before after old new status
+      → WritesAll job.task job.settings (input_words is_packed (gi.to_come start))
+      (input_is_cut is_packed (gi.to_come start)) (go.written before) (go.written after)
+  job_writes_all gi is_packed packed job start before after old new status same e j =
+      let written = writes_all job.task job.settings j.first before after old new status e j.does in
+      let cut = subst (λ c. WritesAll job.task job.settings (gs.words j.first) c (go.written before) (go.written after))
+      j.begins.is_cut written in
+      let known = subst (λ w. WritesAll job.task job.settings w (input_is_cut packed (gi.to_come start))
+      (go.written before) (go.written after)) j.begins.words cut in
+      subst (λ b. WritesAll job.task job.settings (input_words b (gi.to_come start)) (input_is_cut b (gi.to_come start))
       (go.written before) (go.written after)) (sym same) known

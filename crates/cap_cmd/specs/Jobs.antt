@@ -34,6 +34,7 @@ use Rattle.cap_run.specs.declared.fault.RunFault.{RunFault}
 use Rattle.cap_run.specs.declared.settings.Outcome.{Outcome}
 use Rattle.cap_run.specs.declared.settings.Settings.{Settings}
 use Rattle.cap_cmd.specs.Statuses.{copy_status, run_status}
+use Rattle.cap_cmd.specs.declared.job.Job.{Job}
 use Rattle.cap_cmd.specs.declared.job.Task.{Task}
 use Rattle.cap_cmd.specs.declared.job.Task.TheVariants.{Segments, Vet, Dump, Get, Check, Canon}
 use Rattle.cap_cmd.specs.declared.job.Task.TheVariants.{Pack, Unpack}
@@ -102,6 +103,18 @@ module _ {O K : Type 0} (go : output.Ghosts O) (gk : sink.Ghosts K) where
     pub puts : engine begun ended
     pub gives : GivesOutput ended after
 
+module _ {S O K : Type 0} (gs : source.Ghosts S) (go : output.Ghosts O) (gk : sink.Ghosts K) where
+  -- an engine puts canonical copies to a sink over an output
+  abbrev pub CanonsTo : Settings → S → S → O → O → Result Outcome RunFault → Type 0
+  CanonsTo s first last before after answer = PutsTo go gk plain_text before after
+      (λ begun ended. MakesCopies gs gk (words_of s.limits) (depth_of s.limits) (limit_of s.size)
+      s.messages first last begun ended answer)
+
+  -- an engine puts words to a sink over an output
+  abbrev pub CopiesTo : (List ℕ → List ℕ) → ℕ → S → S → O → O → Result ℕ CopyFault → Type 0
+  CopiesTo text at_once first last before after answer = PutsTo go gk text before after
+      (λ begun ended. CopiesWords gs gk at_once most_words first last begun ended answer)
+
 module _ {E : Type 0} (ge : output.Ghosts E) where
   -- The line of a fault was written, or a prefix of it if this output failed. Without a fault
   -- nothing was written.
@@ -139,7 +152,7 @@ module _ {S O E : Type 0} (gs : source.Ghosts S) (go : output.Ghosts O) (ge : ou
       → Type 0
   TellsTask tells wants s first before after = Runs
       (λ last answer. TellsStream gs go tells wants (limit_of s.size) s.messages first last before
-          after answer)
+      after answer)
       (ReportsRun ge)
 
 module _ {S O E P U : Type 0} (gs : source.Ghosts S) (go : output.Ghosts O) (ge : output.Ghosts E)
@@ -149,45 +162,39 @@ module _ {S O E P U : Type 0} (gs : source.Ghosts S) (go : output.Ghosts O) (ge 
   abbrev pub DoesTask : Task → Settings → S → O → O → E → E → ℕ → Type 0
   DoesTask Segments s first before after = Runs
       (λ last answer. ShowsStream gs go (limit_of s.size) s.messages first last before after answer)
-          (ReportsRun ge)
+      (ReportsRun ge)
   DoesTask (Vet false) s first before after =
       TellsTask gs go ge (TellsVerdict (words_of s.limits) (depth_of s.limits)) WantsNone s first
-          before after
+      before after
   DoesTask (Vet true) s first before after =
       TellsTask gs go ge (TellsExclusive (words_of s.limits) (depth_of s.limits))
       (WantsMarks (words_of s.limits) (depth_of s.limits)) s first before after
   DoesTask Dump s first before after =
       TellsTask gs go ge (TellsDump (words_of s.limits) (depth_of s.limits)) WantsNone s first
-          before after
+      before after
   DoesTask (Get path) s first before after =
       TellsTask gs go ge (TellsGet (words_of s.limits) (depth_of s.limits) path.items) WantsNone s
-          first before after
+      first before after
   DoesTask Check s first before after =
       TellsTask gs go ge (TellsCheck (words_of s.limits) (depth_of s.limits)) WantsNone s first
-          before after
+      before after
   DoesTask Canon s first before after = Runs
-      (λ last answer. PutsTo go gu plain_text before after (λ begun ended.
-      MakesCopies gs gu (words_of s.limits) (depth_of s.limits)
-          (limit_of s.size) s.messages first last begun ended
-      answer)) (ReportsRun ge)
-  DoesTask Pack s first before after = Runs (λ last answer. PutsTo go gp pack_text before after
-      (λ begun ended. CopiesWords gs gp most_packed_at_once most_words first last begun ended
-          answer))
+      (λ last answer. CanonsTo gs go gu s first last before after answer) (ReportsRun ge)
+  DoesTask Pack s first before after = Runs (λ last answer.
+      CopiesTo gs go gp pack_text most_packed_at_once first last before after answer)
       (ReportsCopy ge)
-  DoesTask Unpack s first before after = Runs (λ last answer. PutsTo go gu plain_text before after
-      (λ begun ended. CopiesWords gs gu most_unpacked_at_once most_words first last begun ended
-          answer))
+  DoesTask Unpack s first before after = Runs (λ last answer.
+      CopiesTo gs go gu plain_text most_unpacked_at_once first last before after answer)
       (ReportsCopy ge)
 
 module _ {I S O E P U : Type 0} (gi : input.Ghosts I) (gs : source.Ghosts S) (go : output.Ghosts O)
     (ge : output.Ghosts E) (gp : sink.Ghosts P) (gu : sink.Ghosts U) where
   -- A task is done over the words of an input, which is packed or not.
-  pub record DoesJob (packed : Bool) (task : Task) (settings : Settings) (start : I)
-      (before after : O)
+  pub record DoesJob (packed : Bool) (job : Job) (start : I) (before after : O)
       (old new : E) (status : ℕ) : Type 0 where
     pub first : S
     pub begins : BeginsInput gi gs packed start first
-    pub does : DoesTask gs go ge gp gu task settings first before after old new status
+    pub does : DoesTask gs go ge gp gu job.task job.settings first before after old new status
 
 -- All words are frames of messages, each within the limit, and none is cut short. Each message is
 -- accepted, and canonical if that was asked, and such a text of it was written.

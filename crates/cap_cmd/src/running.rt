@@ -1,12 +1,9 @@
 //! Doing a job: its engine is run over an input, an output and an output for faults.
 
-ghost use Rattle.cap_cmd.specs.Jobs.{DoesJob, DoesTask, PutsTo, ReportsCopy, ReportsRun, WritesAll, input_is_cut, input_words, is_packed};
-ghost use Rattle.cap_frame.specs.Limit.{limit_of};
-ghost use Rattle.cap_run.specs.Canons.{MakesCopies};
-ghost use Rattle.cap_run.specs.Engines.{CopiesWords, most_packed_at_once, most_unpacked_at_once, most_words};
+ghost use Rattle.cap_cmd.specs.Jobs.{CanonsTo, CopiesTo, DoesJob, DoesTask, ReportsCopy, ReportsRun, WritesAll, input_is_cut, input_words, is_packed};
+ghost use Rattle.cap_run.specs.Engines.{most_packed_at_once, most_unpacked_at_once};
 ghost use Rattle.cap_spec.specs.Packing.{pack_text};
 ghost use Rattle.cap_spec.specs.Plain.{plain_text};
-ghost use Rattle.cap_vet.specs.Limits.{depth_of, words_of};
 ghost use Rattle.std.specs.Prelude.{◌≡◌, false, true};
 
 use crate::job::{Job, Task};
@@ -62,9 +59,8 @@ fn canon_to<S: WordSource, O: ByteOut>(
     out: O,
     settings: &Settings,
 ) -> (Result<Outcome, RunFault>, O)
-    ensures { let s = settings.now in PutsTo O.ByteOut ⟦<PlainSink<O> as WordSink>⟧ plain_text out result.1
-        (λ begun ended. MakesCopies S.WordSource ⟦<PlainSink<O> as WordSink>⟧ (words_of s.limits)
-        (depth_of s.limits) (limit_of s.size) s.messages source.old source.new begun ended result.0) }
+    ensures { CanonsTo S.WordSource O.ByteOut ⟦<PlainSink<O> as WordSink>⟧ settings.now
+        source.old source.new out result.1 result.0 }
 {
     let mut sink = PlainSink::new(out);
     let answer = run_canon(alloc, source, &mut sink, settings);
@@ -73,9 +69,8 @@ fn canon_to<S: WordSource, O: ByteOut>(
 
 /// Packs words to an output, and returns what the engine answered.
 fn pack_to<S: WordSource, O: ByteOut>(source: &mut S, out: O) -> (Result<u64, CopyFault>, O)
-    ensures { PutsTo O.ByteOut ⟦<Packer<O> as WordSink>⟧ pack_text out result.1
-        (λ begun ended. CopiesWords S.WordSource ⟦<Packer<O> as WordSink>⟧ most_packed_at_once
-        most_words source.old source.new begun ended result.0) }
+    ensures { CopiesTo S.WordSource O.ByteOut ⟦<Packer<O> as WordSink>⟧ pack_text
+        most_packed_at_once source.old source.new out result.1 result.0 }
 {
     let mut sink = Packer::new(out);
     let answer = run_pack(source, &mut sink, MOST_WORDS);
@@ -84,9 +79,8 @@ fn pack_to<S: WordSource, O: ByteOut>(source: &mut S, out: O) -> (Result<u64, Co
 
 /// Writes words to an output as they are, and returns what the engine answered.
 fn unpack_to<S: WordSource, O: ByteOut>(source: &mut S, out: O) -> (Result<u64, CopyFault>, O)
-    ensures { PutsTo O.ByteOut ⟦<PlainSink<O> as WordSink>⟧ plain_text out result.1
-        (λ begun ended. CopiesWords S.WordSource ⟦<PlainSink<O> as WordSink>⟧ most_unpacked_at_once
-        most_words source.old source.new begun ended result.0) }
+    ensures { CopiesTo S.WordSource O.ByteOut ⟦<PlainSink<O> as WordSink>⟧ plain_text
+        most_unpacked_at_once source.old source.new out result.1 result.0 }
 {
     let mut sink = PlainSink::new(out);
     let answer = run_unpack(source, &mut sink, MOST_WORDS);
@@ -168,17 +162,18 @@ pub fn run_job<I: ByteIn + Drop, O: ByteOut, E: ByteOut>(
 ) -> (u8, O)
     // There is an answer of the task's engine that meets the engine's contract.
     // The status and the line of a fault report it.
-    ensures plain { is_packed job.now.task job.now.packed ≡ false →
+    ensures plain { let j = job.now in is_packed j.task j.packed ≡ false →
         DoesJob I.ByteIn ⟦<PlainWords<I> as WordSource>⟧ O.ByteOut E.ByteOut
         ⟦<Packer<O> as WordSink>⟧ ⟦<PlainSink<O> as WordSink>⟧
-        false job.now.task job.now.settings input out result.1 err.old err.new result.0 }
-    ensures packed { is_packed job.now.task job.now.packed ≡ true →
+        false j input out result.1 err.old err.new result.0 }
+    ensures packed { let j = job.now in is_packed j.task j.packed ≡ true →
         DoesJob I.ByteIn ⟦<Unpacker<I> as WordSource>⟧ O.ByteOut E.ByteOut
         ⟦<Packer<O> as WordSink>⟧ ⟦<PlainSink<O> as WordSink>⟧
-        true job.now.task job.now.settings input out result.1 err.old err.new result.0 }
+        true j input out result.1 err.old err.new result.0 }
     // So with status 0 all of the input was read, and exactly this was written.
-    ensures success { result.0 ≡ 0 → let packed = is_packed job.now.task job.now.packed in
-        WritesAll job.now.task job.now.settings (input_words packed (I.to_come input))
+    ensures success { result.0 ≡ 0 →
+        let j = job.now in let packed = is_packed j.task j.packed in
+        WritesAll j.task j.settings (input_words packed (I.to_come input))
         (input_is_cut packed (I.to_come input)) (O.written out) (O.written result.1) }
 {
     if input_is_packed(job) {

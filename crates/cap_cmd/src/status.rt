@@ -1,5 +1,5 @@
-//! The exit statuses: 0 where all is well, 1 for what the input is, and 3 for a device or for want of
-//! memory.
+//! The exit statuses: 0 if all is well, 1 for what the input is, and 3 for a failed device or if
+//! memory ran out.
 
 ghost use Rattle.cap_cmd.specs.Statuses.{cause_status, copy_status, outcome_status, run_status};
 ghost use Rattle.std.specs.Prelude.{◌≡◌};

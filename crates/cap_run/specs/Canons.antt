@@ -121,6 +121,6 @@ module _ {S K : Type 0} (gs : source.Ghosts S) (gk : sink.Ghosts K) where
     pub whole : (own : List ℕ) (cs : List Canonised) → gs.words old ≡ Some own
         → gs.is_cut old ≡ false → Stream own (canonised cs)
         → AllByRecursion (λ m. sum (sizes_of m) ≤ limit) (canonised cs)
-            → AreCanonised words depth cs → length cs ≤ most →
+        → AreCanonised words depth cs → length cs ≤ most →
         Settled answer (Finishes gk before after (copies_of cs)
-            × (answer ≡ Ok (record { messages = length cs; refused = 0; noncanonical = 0 })))
+        × (answer ≡ Ok (record { messages = length cs; refused = 0; noncanonical = 0 })))

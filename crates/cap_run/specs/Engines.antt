@@ -66,7 +66,7 @@ module _ {S O : Type 0} (gs : source.Ghosts S) (go : output.Ghosts O) where
         → gs.is_cut old ≡ false → Stream own ms
         → AllByRecursion (λ m. sum (sizes_of m) ≤ limit) ms → length ms ≤ most →
         Settled answer ((ts : List Told) × (messages_of ts ≡ ms) × TellsEach tells 0 ts
-            × Appended go before after (texts_of ts)
+        × Appended go before after (texts_of ts)
         × (answer ≡ Ok (outcome_of ts)))
 
   -- What the engine `run_segments` does, which writes the segments of each message. Reading
@@ -90,7 +90,7 @@ module _ {S K : Type 0} (gs : source.Ghosts S) (gk : sink.Ghosts K) where
     pub cut_short : (own : List ℕ) → gs.words old ≡ Some own → gs.is_cut old ≡ true
         → length own ≤ most →
         CopySettled answer ((byte : ℕ) × (answer ≡ Err (Source (Truncated byte)))
-            × (drop (length own) (gs.places old) ≡ byte ∷ [])
+        × (drop (length own) (gs.places old) ≡ byte ∷ [])
         × Finishes gk before after own)
     -- There are too many.
     pub many : (own : List ℕ) → gs.words old ≡ Some own → most < length own →

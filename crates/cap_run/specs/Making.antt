@@ -43,6 +43,11 @@ module _ {K : Type 0} (gk : sink.Ghosts K) (words depth : ℕ) where
   CopyStops m before after no_marks = ⊥
 
 module _ {S K : Type 0} (gs : source.Ghosts S) (gk : sink.Ghosts K) (words depth limit : ℕ) where
+  -- a next message was read, and its copy was put
+  abbrev pub PutsNext : S → S → K → K → Type 0
+  PutsNext old new before after = (c : Canonised) × ReadsStream gs limit old new (c.message ∷ [])
+      × IsCanonised words depth c × Fills gk before after (frame_text (c.copy ∷ []))
+
   -- why no copy of a next message was put
   abbrev pub NextStops : S → S → K → K → Cause → Type 0
   NextStops old new before after TooManyMessages = ⊥
@@ -72,18 +77,18 @@ module _ {S K : Type 0} (gs : source.Ghosts S) (gk : sink.Ghosts K) (words depth
       mid new (Ok ended) × Fills gk before after (copies_of cs)
   StopsMaking most cs mid new before after (Err TooManyMessages) =
       CanonEnds gs gk words depth limit most cs mid new (Err TooManyMessages)
-          × Fills gk before after (copies_of cs)
+      × Fills gk before after (copies_of cs)
   StopsMaking most cs mid new before after (Err (Frame fault)) =
       CanonEnds gs gk words depth limit most cs mid new (Err (Frame fault))
-          × Fills gk before after (copies_of cs)
+      × Fills gk before after (copies_of cs)
   StopsMaking most cs mid new before after (Err (Output fault)) = StopsInCopy gs gk words depth
       limit most cs mid new before after fault
   StopsMaking most cs mid new before after (Err (Refused refusal)) =
       CanonEnds gs gk words depth limit most cs mid new (Err (Refused refusal))
-          × Fills gk before after (copies_of cs)
+      × Fills gk before after (copies_of cs)
   StopsMaking most cs mid new before after (Err (Canon fault)) =
       CanonEnds gs gk words depth limit most cs mid new (Err (Canon fault))
-          × Fills gk before after (copies_of cs)
+      × Fills gk before after (copies_of cs)
   StopsMaking most cs mid new before after (Err no_marks) = ⊥
 
   -- n messages were read, and `end` is why no more copies were put.

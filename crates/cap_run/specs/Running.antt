@@ -83,6 +83,12 @@ module _ {S : Type 0} (g : source.Ghosts S) where
   EndStops limit old new no_marks = ⊥
 
 module _ {S O : Type 0} (gs : source.Ghosts S) (go : output.Ghosts O) where
+  -- a message was read, and its text as message n was written
+  abbrev pub StepTells : Tells → ℕ → ℕ → S → S → O → O → Counted → Type 0
+  StepTells tells limit n old new before after counted = (t : Told) × (t.counted ≡ counted)
+      × tells n t.message t.text t.counted × ReadsStream gs limit old new (t.message ∷ [])
+      × Wrote go before after t.text
+
   -- why an engine ended at message n, which may need an allocation after it was read
   abbrev pub StepStops : Tells → (List (List ℕ) → Type 0) → ℕ → ℕ → S → S → O → O → Cause → Type 0
   StepStops tells wants limit n old new before after TooManyMessages = ⊥
@@ -90,7 +96,7 @@ module _ {S O : Type 0} (gs : source.Ghosts S) (go : output.Ghosts O) where
       × (after ≡ before)
   StepStops tells wants limit n old new before after (Output fault) =
       (t : Told) × tells n t.message t.text t.counted × ReadsStream gs limit old new
-          (t.message ∷ []) × Stopped go before after fault t.text
+      (t.message ∷ []) × Stopped go before after fault t.text
   StepStops tells wants limit n old new before after (Refused refusal) = ⊥
   StepStops tells wants limit n old new before after (Canon fault) = ⊥
   StepStops tells wants limit n old new before after no_marks = (m : List (List ℕ))
@@ -101,15 +107,15 @@ module _ {S O : Type 0} (gs : source.Ghosts S) (go : output.Ghosts O) where
       → Type 0
   RunStops tells wants limit most ts mid new before after TooManyMessages =
       (length ts ≡ most) × Appended go before after (texts_of ts)
-          × ((m : List (List ℕ)) × ReadsStream gs limit mid new (m ∷ []))
+      × ((m : List (List ℕ)) × ReadsStream gs limit mid new (m ∷ []))
   RunStops tells wants limit most ts mid new before after (Frame fault) = Appended go before after
       (texts_of ts) × Faults gs limit mid new fault
   RunStops tells wants limit most ts mid new before after (Output fault) =
       (t : Told) × (length ts < most) × tells (length ts) t.message t.text t.counted
-          × ReadsStream gs limit mid new (t.message ∷ [])
+      × ReadsStream gs limit mid new (t.message ∷ [])
       × StopsIn go before after fault (texts_of ts) t.text
   RunStops tells wants limit most ts mid new before after (Refused refusal) = ⊥
   RunStops tells wants limit most ts mid new before after (Canon fault) = ⊥
   RunStops tells wants limit most ts mid new before after no_marks =
       (length ts < most) × Appended go before after (texts_of ts)
-          × ((m : List (List ℕ)) × ReadsStream gs limit mid new (m ∷ []) × wants m)
+      × ((m : List (List ℕ)) × ReadsStream gs limit mid new (m ∷ []) × wants m)

@@ -60,5 +60,9 @@ noncanonical_in (t ∷ ts) = one_noncanonical t.counted + noncanonical_in ts
 
 -- the three counts
 abbrev pub outcome_of : List Told → Outcome
-outcome_of ts = record { messages = length ts; refused = refused_in ts; noncanonical =
-    noncanonical_in ts }
+outcome_of ts = record {
+  messages = length ts;
+  refused = refused_in ts;
+  noncanonical =
+      noncanonical_in ts;
+}

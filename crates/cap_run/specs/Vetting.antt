@@ -11,12 +11,16 @@ use Rattle.cap_vet.specs.declared.report.Report.{Report}
 use Rattle.cap_run.specs.declared.engines.stream.Counted.{Counted}
 use Rattle.cap_run.specs.declared.engines.stream.Counted.TheVariants.{Accepted, Refused}
 
--- the text of message n if it is accepted, with the numbers of its tree
+-- the line of message n if it is accepted, with the numbers of its tree
+abbrev pub accepted_text : ℕ → Report → List ℕ
+accepted_text n r = vet_text n (accepted r.charge r.depth r.pointers r.caps)
+
+-- this is that line
 pub record TellsAccepted (words depth n : ℕ) (m : List (List ℕ)) (text : List ℕ)
     (counted : Counted) : Type 0 where
   pub report : Report
   pub is_accepted : IsAccepted m words depth report
-  pub line : text ≡ vet_text n (accepted report.charge report.depth report.pointers report.caps)
+  pub line : text ≡ accepted_text n report
   pub counts : counted ≡ Accepted
 
 -- and if it is refused, with the first bad pointer and the reason
@@ -53,7 +57,7 @@ pub record TellsOverlap (words depth n : ℕ) (m : List (List ℕ)) (text : List
 abbrev pub TellsExclusive : ℕ → ℕ → ℕ → List (List ℕ) → List ℕ → Counted → Type 0
 TellsExclusive words depth n m text counted =
     (IsDisjoint m × TellsAccepted words depth n m text counted)
-        ⊎ (TellsRefused words depth n m text counted ⊎ TellsOverlap words depth n m text counted)
+    ⊎ (TellsRefused words depth n m text counted ⊎ TellsOverlap words depth n m text counted)
 
 -- the messages whose words are marked: those that are accepted
 abbrev pub WantsMarks : ℕ → ℕ → List (List ℕ) → Type 0
@@ -66,8 +70,7 @@ pub record TellsTree (words depth n : ℕ) (m : List (List ℕ)) (text : List �
   pub report : Report
   pub tree : Tree
   pub is_report : IsReport m words depth report tree
-  pub lines : text ≡ vet_text n (accepted report.charge report.depth report.pointers report.caps)
-      ++ dump_text tree
+  pub lines : text ≡ accepted_text n report ++ dump_text tree
   pub counts : counted ≡ Accepted
 
 -- that, or the line of its refusal

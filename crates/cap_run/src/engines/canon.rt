@@ -1,15 +1,15 @@
 //! The engine that puts the canonical copy of each message to a sink.
 
-ghost use Rattle.cap_run.specs.Canons.{Canonised, IsCanonised, MakesCopies};
+ghost use Rattle.cap_run.specs.Canons.{IsCanonised, MakesCopies};
 ghost use Rattle.cap_run.specs.Copying.{Fills};
-ghost use Rattle.cap_run.specs.Making.{CopyStops, Made, Making, NextStops, is_unfinished};
-ghost use Rattle.cap_run.specs.Streams.{EndsStream, ReadsStream};
+ghost use Rattle.cap_run.specs.Making.{CopyStops, Made, Making, NextStops, PutsNext, is_unfinished};
+ghost use Rattle.cap_run.specs.Streams.{EndsStream};
 ghost use Rattle.cap_frame.specs.Limit.{limit_of};
 ghost use Rattle.cap_frame.specs.Putting.{Halts};
 ghost use Rattle.cap_spec.specs.Frames.{frame_text};
 ghost use Rattle.cap_spec.specs.Plain.{plain_words};
 ghost use Rattle.cap_vet.specs.Limits.{depth_of, words_of};
-ghost use Rattle.std.specs.Prelude.{◌<◌, ◌≡◌, ◌^◌, [], ◌∷◌, IfErr, List, OnOk, false, length, true, ℕ};
+ghost use Rattle.std.specs.Prelude.{◌*◌, ◌<◌, ◌≡◌, ◌^◌, [], ◌∷◌, IfErr, List, OnOk, false, length, true, ℕ};
 
 use crate::engines::stream::end_stream;
 use crate::fault::{Cause, RunFault, output_fault};
@@ -76,7 +76,10 @@ fn put_copy<K: WordSink, M: Segments>(
 }
 
 /// Flushes what was put, unless a byte of the next message is buffered.
-fn hand_on<S: WordSource, K: WordSink>(source: &S, sink: &mut K) -> Result<(), SinkFault>
+fn flush_before_waiting<S: WordSource, K: WordSink>(
+    source: &S,
+    sink: &mut K,
+) -> Result<(), SinkFault>
     ensures ok { OnOk result ((before : K) (own : List ℕ) →
         Fills K.WordSink before sink.old own → Fills K.WordSink before sink.new own) }
     ensures err { IfErr result (λ fault. (before : K) (own : List ℕ) →
@@ -97,10 +100,9 @@ fn put_next<S: WordSource, K: WordSink>(
     sink: &mut K,
     settings: &Settings,
 ) -> Result<bool, Cause>
-    ensures some { result ≡ Ok true → let s = settings.now in (c : Canonised)
-        × ReadsStream S.WordSource (limit_of s.size) source.old source.new (c.message ∷ [])
-        × IsCanonised (words_of s.limits) (depth_of s.limits) c
-        × Fills K.WordSink sink.old sink.new (frame_text (c.copy ∷ [])) }
+    ensures some { result ≡ Ok true → let s = settings.now in PutsNext S.WordSource K.WordSink
+        (words_of s.limits) (depth_of s.limits) (limit_of s.size)
+        source.old source.new sink.old sink.new }
     ensures none { result ≡ Ok false →
         EndsStream S.WordSource source.old source.new × (sink.new ≡ sink.old) }
     ensures err { let s = settings.now in IfErr result (λ cause. NextStops S.WordSource K.WordSink
@@ -112,7 +114,7 @@ fn put_next<S: WordSource, K: WordSink>(
             if let Err(cause) = put_copy(alloc, sink, &message.view(), settings.limits) {
                 return Err(cause);
             }
-            match hand_on(source, sink) {
+            match flush_before_waiting(source, sink) {
                 Ok(()) => Ok(true),
                 Err(fault) => Err(Cause::Output(output_fault(fault))),
             }

@@ -2,11 +2,11 @@
 
 ghost use Rattle.cap_run.specs.Engines.{TellsStream};
 ghost use Rattle.cap_run.specs.Telling.{WantsNone};
-ghost use Rattle.cap_run.specs.Vetting.{TellsDump, TellsTree};
+ghost use Rattle.cap_run.specs.Vetting.{TellsDump, TellsTree, accepted_text};
 ghost use Rattle.cap_run.specs.Writing.{Writes};
 ghost use Rattle.cap_frame.specs.Limit.{limit_of};
 ghost use Rattle.cap_spec.specs.Denoting.{Denotes};
-ghost use Rattle.cap_spec.specs.Texts.{accepted, dump_text, vet_text};
+ghost use Rattle.cap_spec.specs.Texts.{dump_text};
 ghost use Rattle.cap_spec.specs.Tree.{Tree};
 ghost use Rattle.cap_vet.specs.Limits.{depth_of, words_of};
 ghost use Rattle.cap_vet.specs.Vettings.{message_of, report_of};
@@ -37,9 +37,8 @@ fn write_tree<M: Segments, O: ByteOut>(
     vetted: &Vetted<'_, M>,
 ) -> Result<(), OutFault>
     ensures { (t : Tree) (c d : ℕ) → Denotes (M.segments (message_of vetted.now)) 0 0 t c d →
-        let r = report_of vetted.now in
-        let line = vet_text number (accepted r.charge r.depth r.pointers r.caps) in
-        Writes O.ByteOut out.old out.new result (line ++ dump_text t) }
+        Writes O.ByteOut out.old out.new result
+        (accepted_text number (report_of vetted.now) ++ dump_text t) }
 {
     accepted_line(page, number, &vetted.report());
     match put_dump(page, out, vetted) {

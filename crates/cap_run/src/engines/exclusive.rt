@@ -95,9 +95,8 @@ pub fn run_vet_exclusive<S: WordSource, O: ByteOut>(
     out: &mut O,
     settings: &Settings,
 ) -> Result<Outcome, RunFault>
-    ensures { let s = settings.now in TellsStream S.WordSource O.ByteOut
-        (TellsExclusive (words_of s.limits) (depth_of s.limits))
-        (WantsMarks (words_of s.limits) (depth_of s.limits))
+    ensures { let s = settings.now in let w = words_of s.limits in let d = depth_of s.limits in
+        TellsStream S.WordSource O.ByteOut (TellsExclusive w d) (WantsMarks w d)
         (limit_of s.size) s.messages source.old source.new out.old out.new result }
 {
     let judge = ExclusiveVetting {

@@ -1,9 +1,9 @@
 //! Reading the messages of a stream, and writing a text for each.
 
 ghost use Rattle.cap_run.specs.Engines.{EndsEarly, ReachesEnd, TellsStream};
-ghost use Rattle.cap_run.specs.Running.{EndStops, StepStops};
-ghost use Rattle.cap_run.specs.Streams.{EndsStream, ReadsStream};
-ghost use Rattle.cap_run.specs.Telling.{Told, one_noncanonical, one_refused};
+ghost use Rattle.cap_run.specs.Running.{EndStops, StepStops, StepTells};
+ghost use Rattle.cap_run.specs.Streams.{EndsStream};
+ghost use Rattle.cap_run.specs.Telling.{one_noncanonical, one_refused};
 ghost use Rattle.cap_run.specs.Writing.{Writes, Wrote};
 ghost use Rattle.cap_frame.specs.Limit.{limit_of};
 ghost use Rattle.std.specs.Prelude.{◌+◌, ◌-◌, ◌<◌, ◌^◌, ◌≡◌, ◌≤◌, [], ◌∷◌, Bool, IfErr, IfOk, IfSome, List, OnOk, true, ℕ};
@@ -60,10 +60,8 @@ pub(crate) trait Engine {
         limit: SizeLimit,
         number: u32,
     ) -> Result<Option<Counted>, Cause>
-        ensures some { IfOk result (λ r. IfSome r (λ counted. (t : Told) × (t.counted ≡ counted)
-            × tells self.now number t.message t.text t.counted
-            × ReadsStream S.WordSource (limit_of limit) source.old source.new (t.message ∷ [])
-            × Wrote O.ByteOut out.old out.new t.text)) }
+        ensures some { IfOk result (λ r. IfSome r (StepTells S.WordSource O.ByteOut
+            (tells self.now) (limit_of limit) number source.old source.new out.old out.new)) }
         ensures none { result ≡ Ok None →
             EndsStream S.WordSource source.old source.new × (out.new ≡ out.old) }
         ensures err { IfErr result (λ cause. StepStops S.WordSource O.ByteOut
@@ -88,7 +86,7 @@ pub(crate) fn end_stream<S: WordSource>(source: &mut S, limit: SizeLimit) -> Res
 
 /// Flushes what was written, unless a byte of the next message is buffered. After an error the
 /// output has taken all that was written.
-fn hand_on<S: WordSource, O: ByteOut>(source: &S, out: &mut O) -> Result<(), OutFault>
+fn flush_before_waiting<S: WordSource, O: ByteOut>(source: &S, out: &mut O) -> Result<(), OutFault>
     ensures { (before : O) (text : List ℕ) →
         Wrote O.ByteOut before out.old text → Writes O.ByteOut before out.new result text }
 {
@@ -139,7 +137,8 @@ fn tell_each<S: WordSource, O: ByteOut, E: Engine>(
     ensures ok { let s = settings.now in ReachesEnd S.WordSource O.ByteOut (E.tells engine.now)
         (limit_of s.size) s.messages source.old source.new out.old out.new result }
     ensures err { let s = settings.now in EndsEarly S.WordSource O.ByteOut (E.tells engine.now)
-        (limit_of s.size) s.messages source.old source.new out.old out.new (E.wants engine.now) result }
+        (limit_of s.size) s.messages source.old source.new out.old out.new
+        (E.wants engine.now) result }
     ensures memory { (n : ℕ) →
         result ≡ Err (record { message = n; cause = Cause.Frame FrameFault.Memory }) →
         E.takes_memory ≡ true }
@@ -152,7 +151,7 @@ fn tell_each<S: WordSource, O: ByteOut, E: Engine>(
     let mut room = engine.room();
     for number in 0..settings.messages {
         match engine.tell_next(&mut room, source, out, settings.size, number) {
-            Ok(Some(counted)) => match hand_on(source, out) {
+            Ok(Some(counted)) => match flush_before_waiting(source, out) {
                 Ok(()) => outcome = count(outcome, counted),
                 Err(fault) => return Err(output_fault_at(number, fault)),
             },

@@ -92,13 +92,12 @@ fn transcode<S: WordSource, K: WordSink>(
     ensures { Copied S.WordSource K.WordSink (length room.old / 8) words
         source.old source.new sink.old sink.new result }
 {
-    let answer = put_words(source, sink, words, room);
-    if let Err(CopyFault::Output(_)) = answer {
-        return answer;
-    }
-    match sink.finish() {
-        Ok(()) => answer,
-        Err(fault) => Err(CopyFault::Output(output_fault(fault))),
+    match put_words(source, sink, words, room) {
+        Err(CopyFault::Output(fault)) => Err(CopyFault::Output(fault)),
+        answer => match sink.finish() {
+            Ok(()) => answer,
+            Err(fault) => Err(CopyFault::Output(output_fault(fault))),
+        },
     }
 }
 

@@ -1,7 +1,8 @@
 //! The line of a verdict.
 
 ghost use Rattle.cap_run.specs.FaultLines.{place_text};
-ghost use Rattle.cap_spec.specs.Texts.{accepted, check_text, reason_name, refusal_verdict, refused, then_number, vet_text};
+ghost use Rattle.cap_run.specs.Vetting.{accepted_text};
+ghost use Rattle.cap_spec.specs.Texts.{check_text, reason_name, refusal_verdict, refused, then_number, vet_text};
 ghost use Rattle.std.specs.Prelude.{◌+◌, ◌++◌, ◌≡◌, ◌≤◌, codes, length};
 
 use crate::texts::page::{CAPACITY, Page};
@@ -22,8 +23,7 @@ pub(crate) const FAULT: usize = 70;
 
 /// Begins the page with the line of a message that is accepted, with the numbers of its tree.
 pub(crate) fn accepted_line(page: &mut Page, number: u32, report: &Report)
-    ensures { let r = report.now in
-        page.new ≡ vet_text number (accepted r.charge r.depth r.pointers r.caps) }
+    ensures { page.new ≡ accepted_text number report.now }
 {
     page.begin_message(number);
     push_report(page, report);

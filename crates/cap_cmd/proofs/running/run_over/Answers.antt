@@ -9,7 +9,7 @@ returns-in-Segments g c = rw c.in-Segments.is (record {
 })
 
 pub returns-in-Vet-false : goal.returns-in-Vet-false
-returns-in-Vet-false g c = rw c.in-Vet-false.is (record {
+returns-in-Vet-false g c = rw (c.in-Vet-false.is, ← c.in-Vet-false.exclusive-is) (record {
   last = c.run_vet-answer.new.source;
   answer = c.run_vet-answer.result;
   does = c.run_vet-answer.ensures;
@@ -17,7 +17,7 @@ returns-in-Vet-false g c = rw c.in-Vet-false.is (record {
 })
 
 pub returns-in-Vet-true : goal.returns-in-Vet-true
-returns-in-Vet-true g c = rw c.in-Vet-true.is (record {
+returns-in-Vet-true g c = rw (c.in-Vet-true.is, ← c.in-Vet-true.exclusive-is) (record {
   last = c.run_vet_exclusive-answer.new.source;
   answer = c.run_vet_exclusive-answer.result;
   does = c.run_vet_exclusive-answer.ensures;

@@ -17,8 +17,8 @@ returns-in-Ok-clause-some g c = λ _.
       c.in-Ok.ensures.ok c.args.sink.now (frame_text (put.0 ∷ [])) put.2,
     )
 
-pub returns-in-Err-hand_on-clause-err : goal.returns-in-Err-hand_on-clause-err
-returns-in-Err-hand_on-clause-err g c =
+pub returns-in-Err-flush_before_waiting-clause-err : goal.returns-in-Err-flush_before_waiting-clause-err
+returns-in-Err-flush_before_waiting-clause-err g c =
     let r = c.in-Ok-true.ensures.read.message (cc) in
     let put = rw c.view.ensures at c.in_default.ensures.ok in (
       _,
@@ -26,8 +26,8 @@ returns-in-Err-hand_on-clause-err g c =
       (
         put.0,
         put.1,
-        subst (λ fault. Halts g.K.WordSink c.args.sink.now c.hand_on.new.sink (frame_text (put.0 ∷ [])) fault) (sym c.output_fault.ensures)
-            (c.in-Err-hand_on.ensures.err c.args.sink.now (frame_text (put.0 ∷ [])) put.2),
+        subst (λ fault. Halts g.K.WordSink c.args.sink.now c.flush_before_waiting.new.sink (frame_text (put.0 ∷ [])) fault) (sym c.output_fault.ensures)
+            (c.in-Err-flush_before_waiting.ensures.err c.args.sink.now (frame_text (put.0 ∷ [])) put.2),
       ),
     )
 

@@ -28,8 +28,8 @@ returns-in-Err-clause-err g c =
           c.args.out.now c.loop-number.out c.tell_next.new.out c.loop-number.outcome c.loop-number.number c.args.settings.now.messages c.in-Err.cause w (omega arith) c.in-Err.ensures.err,
     )
 
-pub returns-in-Err-hand_on-clause-err : goal.returns-in-Err-hand_on-clause-err
-returns-in-Err-hand_on-clause-err g c =
+pub returns-in-Err-flush_before_waiting-clause-err : goal.returns-in-Err-flush_before_waiting-clause-err
+returns-in-Err-flush_before_waiting-clause-err g c =
     let w = c.loop-number.invariant in
     let r = rw c.in-Ok-Some.field-0-is at c.in-Ok-Some.ensures.some in
     rw c.output_fault_at.ensures (
@@ -40,13 +40,13 @@ returns-in-Err-hand_on-clause-err g c =
       w.reads,
       w.each,
       going_stops g.S.WordSource g.O.ByteOut (g.E.Engine.tells c.args.engine.now) (g.E.Engine.wants c.args.engine.now) (limit_of c.args.settings.now.size) c.args.source.now c.loop-number.source c.tell_next.new.source
-          c.args.out.now c.loop-number.out c.hand_on.new.out c.loop-number.outcome c.loop-number.number c.args.settings.now.messages (Output c.in-Err-hand_on.fault) w (omega arith)
-          (r.0, r.2, r.3, c.in-Err-hand_on.ensures c.loop-number.out r.0.text r.4),
+          c.args.out.now c.loop-number.out c.flush_before_waiting.new.out c.loop-number.outcome c.loop-number.number c.args.settings.now.messages (Output c.in-Err-flush_before_waiting.fault) w (omega arith)
+          (r.0, r.2, r.3, c.in-Err-flush_before_waiting.ensures c.loop-number.out r.0.text r.4),
     )
 
 pub loop-number-preserved : goal.loop-number-preserved
 loop-number-preserved g c =
     let r = rw c.in-Ok-Some.field-0-is at c.in-Ok-Some.ensures.some in
     going_more g.S.WordSource g.O.ByteOut (g.E.Engine.tells c.args.engine.now) (limit_of c.args.settings.now.size) c.args.source.now c.loop-number.source c.tell_next.new.source
-    c.args.out.now c.loop-number.out c.hand_on.new.out c.loop-number.outcome c.count-outcome.result c.loop-number.number r.0 c.in-Ok-Some.counted r.1
+    c.args.out.now c.loop-number.out c.flush_before_waiting.new.out c.loop-number.outcome c.count-outcome.result c.loop-number.number r.0 c.in-Ok-Some.counted r.1
     c.loop-number.invariant r.2 r.3 (c.in-Ok.ensures c.loop-number.out r.0.text r.4) c.count-outcome.ensures

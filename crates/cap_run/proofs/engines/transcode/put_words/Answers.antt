@@ -1,7 +1,7 @@
 use Rattle.std.proofs.Common.{[], ◌∷◌, ◌*◌, ◌+◌, ◌≡◌, arith, refl, subst, sym}
 use Rattle.std.proofs.lemmas.List.{length-take-le}
 use Rattle.cap_frame.specs.Putting.{Halts}
-use Rattle.cap_frame.proofs.Putting.{halts_one}
+use Rattle.cap_frame.proofs.Putting.{halts_of}
 use Rattle.cap_run.proofs.Copying.{copied_stopped, copies_more, copies_stops, gives_one}
 use Rattle.cap_run.proofs.Handed.{copies_both, copies_start, gives_no_next, stops_midway}
 use Rattle.cap_run.proofs.Handing.{fills_of}
@@ -34,7 +34,7 @@ returns-in-Err-put g c =
     c.loop-put.invariant.copies c.in-Ok.ensures.ok in
     let gives = gives_one g.S.WordSource c.put_ready.new.source c.next.new.self c.in-Ok-Some.word
     (rw c.in-Ok-Some.field-0-is at c.in-Ok-Some.ensures.words) (rw c.in-Ok-Some.field-0-is at c.in-Ok-Some.ensures.word) c.in-Ok-Some.ensures.ok in
-    let halts = halts_one g.K.WordSink c.put_ready.new.sink c.put.new.self c.in-Ok-Some.word c.put.result c.in-Err-put.fault c.in-Err-put.is c.in-Err-put.ensures.err c.put.ensures.device c.put.ensures.memory c.put.ensures.was_spent in
+    let halts = halts_of g.K.WordSink c.put_ready.new.sink c.put.new.self (c.in-Ok-Some.word ∷ []) c.put.result c.in-Err-put.fault c.in-Err-put.is c.in-Err-put.ensures.err c.put.ensures.device c.put.ensures.memory c.put.ensures.was_spent in
     copied_stopped g.S.WordSource g.K.WordSink _ c.args.words c.args.source.now c.next.new.self c.args.sink.now c.put.new.self c.output_fault.result (omega arith)
     (copies_stops g.S.WordSource g.K.WordSink c.args.words c.args.source.now c.put_ready.new.source c.next.new.self c.args.sink.now c.put_ready.new.sink c.put.new.self (c.loop-put.put + c.in-Ok.count) c.in-Ok-Some.word c.output_fault.result
     (omega arith) now gives (subst (Halts g.K.WordSink c.put_ready.new.sink c.put.new.self _) (sym c.output_fault.ensures) halts))

@@ -1,5 +1,9 @@
-use Rattle.std.proofs.Common.{inl, inr, refl}
+use Rattle.std.proofs.Common.{◌≡◌, inl, inr, refl, subst, sym}
+use Rattle.cap_vet.specs.Exclusives.{vetted_of}
 use Rattle.cap_vet.specs.Limits.{depth_of, words_of}
+use Rattle.cap_vet.specs.Reports.{IsAccepted}
+use Rattle.cap_vet.specs.Vettings.{report_of}
+use Rattle.cap_vet.specs.declared.report.Report.{Report}
 use Rattle.cap_run.specs.Vetting.{TellsExclusive}
 use Rattle.cap_run.specs.declared.engines.stream.Counted.TheVariants.{Accepted, Refused}
 use Rattle.cap_run.proofs.Judging.{writes_line}
@@ -10,11 +14,18 @@ returns-in-Ok g c =
     let limits = c.args.self.now.limits in
     let texts = TellsExclusive (words_of limits) (depth_of limits) c.args.number
     (g.M.Segments.segments c.args.message.now) in
+    let m = g.M.Segments.segments c.args.message.now in
+    let same : c.report.result ≡ report_of (vetted_of c.in-Ok.exclusive) = cc in
     writes_line g.O.ByteOut c.accepted_line.new.page Accepted texts _
     c.args.out.now c.write_line.new.out c.write_line.result
     (inl (
       c.in-Ok.ensures.ok.1,
-      record { report = c.report.result; is_accepted = cc; line = c.accepted_line.ensures; counts = refl },
+      record {
+        report = c.report.result;
+        is_accepted = subst (λ (r : Report). IsAccepted m (words_of limits) (depth_of limits) r) (sym same) c.in-Ok.ensures.ok.0;
+        line = c.accepted_line.ensures;
+        counts = refl;
+      },
     ))
     c.write_line.ensures
 

@@ -1,5 +1,6 @@
-use Rattle.std.proofs.Common.{refl}
+use Rattle.std.proofs.Common.{Err, List, refl, subst, ℕ}
 use Rattle.cap_frame.specs.Limit.{limit_of}
+use Rattle.cap_run.specs.Running.{WritesOneOf}
 use Rattle.cap_run.proofs.Judging.{step_stops}
 use Rattle.cap_run.proofs.Streams.{reads_named}
 use Rattle.cap_run.proofs.engines.whole.WholeEngine.tell_next.Goals as goal
@@ -24,8 +25,9 @@ returns-in-Err-judge-clause-err g c =
     (limit_of c.args.limit) c.args.number _ c.args.source.now c.read_into.new.source
     c.args.out.now c.judge.new.out c.in-Err-judge.cause
     (reads_named g.S.WordSource (limit_of c.args.limit) c.args.source.now c.read_into.new.source
-          _ r c.in-Ok-true.ensures.read.next.works)
-    (rw c.view.ensures at c.in-Err-judge.ensures)
+    _ r c.in-Ok-true.ensures.read.next.works)
+    (subst (λ (m : List (List ℕ)). WritesOneOf g.O.ByteOut (g.J.Judge.tells w.judge c.args.number m) (g.J.Judge.wants w.judge m)
+    c.args.out.now c.judge.new.out (Err c.in-Err-judge.cause)) c.view.ensures c.in-Err-judge.ensures)
 
 pub returns-in-Ok-clause-none : goal.returns-in-Ok-clause-none
 returns-in-Ok-clause-none g c = λ e. absurd (cc)

@@ -1,5 +1,5 @@
 use Rattle.cap_run.proofs.Writing.{writes_kept}
-use Rattle.cap_run.proofs.engines.stream.hand_on.Goals as goal
+use Rattle.cap_run.proofs.engines.stream.flush_before_waiting.Goals as goal
 
 pub returns : goal.returns
 returns g c = λ before text w.
