@@ -87,6 +87,26 @@ fn unpack_to<S: WordSource, O: ByteOut>(source: &mut S, out: O) -> (Result<u64, 
     (answer, sink.into_inner())
 }
 
+/// Vets each message, exclusively if that is asked, and returns the exit status.
+fn vet_over<S: WordSource, O: ByteOut, E: ByteOut>(
+    alloc: Global,
+    exclusive: bool,
+    settings: &Settings,
+    source: &mut S,
+    out: &mut O,
+    err: &mut E,
+) -> u8
+    ensures { DoesTask S.WordSource O.ByteOut E.ByteOut ⟦<Packer<O> as WordSink>⟧
+        ⟦<PlainSink<O> as WordSink>⟧ (Task.Vet exclusive) settings.now
+        source.old out.old out.new err.old err.new result }
+{
+    if exclusive {
+        report_run(err, &run_vet_exclusive(alloc, source, out, settings))
+    } else {
+        report_run(err, &run_vet(alloc, source, out, settings))
+    }
+}
+
 /// Does a job over the words of its input.
 fn run_over<S: WordSource + Drop, O: ByteOut, E: ByteOut>(
     alloc: Global,
@@ -105,13 +125,9 @@ fn run_over<S: WordSource + Drop, O: ByteOut, E: ByteOut>(
             let answer = run_segments(&mut source, &mut out, settings);
             (report_run(err, &answer), out)
         }
-        Task::Vet { exclusive: false } => {
-            let answer = run_vet(alloc, &mut source, &mut out, settings);
-            (report_run(err, &answer), out)
-        }
-        Task::Vet { exclusive: true } => {
-            let answer = run_vet_exclusive(alloc, &mut source, &mut out, settings);
-            (report_run(err, &answer), out)
+        Task::Vet { exclusive } => {
+            let status = vet_over(alloc, *exclusive, settings, &mut source, &mut out, err);
+            (status, out)
         }
         Task::Dump => {
             let answer = run_dump(alloc, &mut source, &mut out, settings);

@@ -1,5 +1,6 @@
 -- Words that are read and put one after the other.
 use Rattle.std.proofs.Common.{◌≡◌, ◌∙◌, ℕ, ◌+◌, ◌<◌, false, true, ◌⊎◌, inl, inr, Result, Ok, Err, List, [], ◌∷◌, ◌++◌, OnSome, refl, sym, ap, subst, arith, append_assoc, append-nil, length-append}
+use Rattle.std.proofs.lemmas.Bool.{false≢true}
 use Rattle.std.specs.Io.KnownBytes.{Consumes, Keeps}
 use Rattle.std.proofs.KnownBytes.{Keeps-refl, Keeps-trans}
 use Rattle.cap_words.specs.Ends.{DeviceFails, GrowthFails, WasSpent, Works}
@@ -13,7 +14,7 @@ use Rattle.cap_frame.proofs.Taking.{takes_none, takes_one, takes_both}
 use Rattle.cap_frame.specs.Putting.{Blames, Halts}
 use Rattle.cap_frame.proofs.Putting.{begins_kept, blames_later}
 use Rattle.cap_run.specs.Copying.{Copied, Fills, Finishes, Gives, Spoils, StopsFinishing, StopsMidway}
-use Rattle.cap_run.specs.PuttingEnds.{Copies, StopsAt, StopsPutting}
+use Rattle.cap_run.specs.PuttingEnds.{Copies, StopsAt, StopsPutting, is_open}
 use Rattle.cap_run.specs.declared.fault.CopyFault.{CopyFault}
 use Rattle.cap_run.specs.declared.fault.CopyFault.TheVariants.{TooManyWords, Source, Output}
 use Rattle.cap_run.proofs.Streams.{all_taken}
@@ -120,7 +121,7 @@ module _ {S K : Type 0} (gs : source.Ghosts S) (gk : sink.Ghosts K) where
 
   -- the sink was finished behind the words that were put
   pub copied_finished : (at_once most : ℕ) (old new : S) (before between after : K) (r : Result ℕ CopyFault) → StopsPutting gs gk at_once most old new before between r
-      → ((fault : OutFault) → r ≡ Err (Output fault) → ⊥) → Keeps (gk.text between []) (gk.taken after) → (gk.closed between ≡ false) × (gk.closed after ≡ true) × (gk.failures after ≡ gk.failures between)
+      → is_open r ≡ true → Keeps (gk.text between []) (gk.taken after) → (gk.closed between ≡ false) × (gk.closed after ≡ true) × (gk.failures after ≡ gk.failures between)
       → Copied gs gk at_once most old new before after r
   copied_finished at_once most old new before between after (Ok n) s h k o =
       let c = s.2 in (
@@ -146,11 +147,19 @@ module _ {S K : Type 0} (gs : source.Ghosts S) (gk : sink.Ghosts K) where
   copied_finished at_once most old new before between after (Err (Source fault)) s h k o =
       let c = s.3 in
       record { own = c.own; mid = s.0; few = omega (arith, s.2, c.many); gives = c.gives; none = s.4; finishes = finishes_behind gk before between after c.own c.fills k o }
-  copied_finished at_once most old new before between after (Err (Output fault)) s h k o = absurd (h fault refl)
+  copied_finished at_once most old new before between after (Err (Output fault)) s h k o = absurd (false≢true h)
+
+  -- the output failed before the sink was finished
+  pub copied_failed : (at_once most : ℕ) (old new : S) (before after : K) (r : Result ℕ CopyFault) → is_open r ≡ false
+      → StopsPutting gs gk at_once most old new before after r → Copied gs gk at_once most old new before after r
+  copied_failed at_once most old new before after (Ok n) e s = absurd (false≢true (sym e))
+  copied_failed at_once most old new before after (Err TooManyWords) e s = absurd (false≢true (sym e))
+  copied_failed at_once most old new before after (Err (Source fault)) e s = absurd (false≢true (sym e))
+  copied_failed at_once most old new before after (Err (Output fault)) e s = inl s
 
   -- the output failed as the sink was finished
   pub copied_spoiled : (at_once most : ℕ) (old new : S) (before between after : K) (r : Result ℕ CopyFault) (out : OutFault) → StopsPutting gs gk at_once most old new before between r
-      → ((fault : OutFault) → r ≡ Err (Output fault) → ⊥) → (gk.closed after ≡ true) × Begins (gk.text between []) (gk.taken after) → Blames gk between after (sink_fault_of out)
+      → is_open r ≡ true → (gk.closed after ≡ true) × Begins (gk.text between []) (gk.taken after) → Blames gk between after (sink_fault_of out)
       → StopsFinishing gs gk most old new before after out
   copied_spoiled at_once most old new before between after (Ok n) out s h e b =
       let c = s.2 in
@@ -161,7 +170,7 @@ module _ {S K : Type 0} (gs : source.Ghosts S) (gk : sink.Ghosts K) where
   copied_spoiled at_once most old new before between after (Err (Source fault)) out s h e b =
       let c = s.3 in
       record { own = c.own; mid = s.0; few = omega (arith, s.2, c.many); gives = c.gives; spoils = spoils_last gk before between after c.own out c.fills e b; none = inr (inl (fault, s.4)) }
-  copied_spoiled at_once most old new before between after (Err (Output fault)) out s h e b = absurd (h fault refl)
+  copied_spoiled at_once most old new before between after (Err (Output fault)) out s h e b = absurd (false≢true h)
 
   -- the output failed at a word
   pub copied_stopped : (at_once most : ℕ) (old new : S) (before after : K) (out : OutFault) → 0 < at_once → StopsAt gs gk most old new before after out

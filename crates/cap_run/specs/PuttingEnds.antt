@@ -1,6 +1,6 @@
 -- How putting the words of a source to a sink ends, before the sink is finished (profile). gs and
 -- gk have the members of the source's and of the sink's type.
-use Rattle.std.specs.Prelude.{ℕ, ◌≡◌, ◌<◌, ◌≤◌, List, [], ◌∷◌, ◌++◌, length, Result, Ok, Err}
+use Rattle.std.specs.Prelude.{Bool, false, true, ℕ, ◌≡◌, ◌<◌, ◌≤◌, List, [], ◌∷◌, ◌++◌, length, Result, Ok, Err}
 use Rattle.cap_words.specs.Sinks.{sink_fault_of}
 use Rattle.cap_words.specs.declared.ends.OutFault.{OutFault}
 use Rattle.cap_words.specs.declared.sources.WordSource as source
@@ -10,6 +10,13 @@ use Rattle.cap_run.specs.Copying.{Fills, Gives, GivesNone, StopsMidway}
 use Rattle.cap_run.specs.Streams.{EndsStream}
 use Rattle.cap_run.specs.declared.fault.CopyFault.{CopyFault}
 use Rattle.cap_run.specs.declared.fault.CopyFault.TheVariants.{TooManyWords, Source, Output}
+
+-- whether the sink is still to be finished
+abbrev pub is_open : Result ℕ CopyFault → Bool
+is_open (Ok n) = true
+is_open (Err TooManyWords) = true
+is_open (Err (Source fault)) = true
+is_open (Err (Output fault)) = false
 
 module _ {S K : Type 0} (gs : source.Ghosts S) (gk : sink.Ghosts K) where
   -- n words were read and put.

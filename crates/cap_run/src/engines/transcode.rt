@@ -3,8 +3,8 @@
 ghost use Rattle.cap_run.specs.Copying.{Copied};
 ghost use Rattle.cap_run.specs.Engines.{CopiesWords, most_packed_at_once, most_unpacked_at_once};
 ghost use Rattle.cap_run.specs.Handed.{HandsOver};
-ghost use Rattle.cap_run.specs.PuttingEnds.{Copies, StopsPutting};
-ghost use Rattle.std.specs.Prelude.{◌*◌, ◌/◌, ◌≤◌, IfErr, IfOk, length};
+ghost use Rattle.cap_run.specs.PuttingEnds.{Copies, StopsPutting, is_open};
+ghost use Rattle.std.specs.Prelude.{◌*◌, ◌/◌, ◌≡◌, ◌≤◌, IfErr, IfOk, length};
 
 use crate::fault::{CopyFault, output_fault};
 use cap_pack::Packer;
@@ -80,6 +80,16 @@ fn put_words<S: WordSource, K: WordSink>(
     }
 }
 
+/// Whether the output didn't fail, so that the sink has still to be finished.
+fn without_fault(answer: &Result<u64, CopyFault>) -> bool
+    ensures { result ≡ is_open answer.now }
+{
+    match answer {
+        Err(CopyFault::Output(_)) => false,
+        _ => true,
+    }
+}
+
 /// Puts the words of a source to a sink, at most `words` of them, in pieces that fit in `room`.
 /// Finishes the sink unless the output failed before.
 fn transcode<S: WordSource, K: WordSink>(
@@ -92,12 +102,14 @@ fn transcode<S: WordSource, K: WordSink>(
     ensures { Copied S.WordSource K.WordSink (length room.old / 8) words
         source.old source.new sink.old sink.new result }
 {
-    match put_words(source, sink, words, room) {
-        Err(CopyFault::Output(fault)) => Err(CopyFault::Output(fault)),
-        answer => match sink.finish() {
+    let answer = put_words(source, sink, words, room);
+    if without_fault(&answer) {
+        match sink.finish() {
             Ok(()) => answer,
             Err(fault) => Err(CopyFault::Output(output_fault(fault))),
-        },
+        }
+    } else {
+        answer
     }
 }
 

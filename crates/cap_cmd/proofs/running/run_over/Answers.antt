@@ -8,21 +8,8 @@ returns-in-Segments g c = rw c.in-Segments.is (record {
   reported = c.report_run.ensures;
 })
 
-pub returns-in-Vet-false : goal.returns-in-Vet-false
-returns-in-Vet-false g c = rw (c.in-Vet-false.is, ← c.in-Vet-false.exclusive-is) (record {
-  last = c.run_vet-answer.new.source;
-  answer = c.run_vet-answer.result;
-  does = c.run_vet-answer.ensures;
-  reported = c.report_run-in-Vet-false.ensures;
-})
-
-pub returns-in-Vet-true : goal.returns-in-Vet-true
-returns-in-Vet-true g c = rw (c.in-Vet-true.is, ← c.in-Vet-true.exclusive-is) (record {
-  last = c.run_vet_exclusive-answer.new.source;
-  answer = c.run_vet_exclusive-answer.result;
-  does = c.run_vet_exclusive-answer.ensures;
-  reported = c.report_run-in-Vet-true.ensures;
-})
+pub returns-in-Vet : goal.returns-in-Vet
+returns-in-Vet g c = rw c.in-Vet.is c.vet_over-status.ensures
 
 pub returns-in-Dump : goal.returns-in-Dump
 returns-in-Dump g c = rw c.in-Dump.is (record {
