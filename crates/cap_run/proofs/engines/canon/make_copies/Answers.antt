@@ -1,7 +1,5 @@
 use Rattle.std.proofs.Common.{◌∙◌, subst, sym}
-use Rattle.cap_frame.specs.Limit.{limit_of}
 use Rattle.cap_frame.specs.Putting.{Blames}
-use Rattle.cap_vet.specs.Limits.{depth_of, words_of}
 use Rattle.cap_run.proofs.Copying.{blames_of}
 use Rattle.cap_run.proofs.Making.{made_spoiled}
 use Rattle.cap_run.proofs.engines.canon.make_copies.Goals as goal
@@ -9,7 +7,6 @@ use Rattle.cap_run.proofs.engines.canon.make_copies.Goals as goal
 pub returns-in-Err : goal.returns-in-Err
 returns-in-Err g c =
     let blames = blames_of g.K.WordSink c.put_copies-messages.new.sink c.finish.new.self c.finish.result c.in-Err.fault c.in-Err.is c.finish.ensures.device c.finish.ensures.memory c.finish.ensures.was_spent in
-    made_spoiled g.S.WordSource g.K.WordSink (words_of c.args.settings.now.limits) (depth_of c.args.settings.now.limits) (limit_of c.args.settings.now.size) c.args.settings.now.messages
-    c.args.source.now c.put_copies-messages.new.source c.args.sink.now c.put_copies-messages.new.sink c.finish.new.self c.put_copies-messages.result.0 c.put_copies-messages.result.1 c.output_fault.result
+    made_spoiled _ _ _ _ _ _ _ _ _ _ c.finish.new.self _ c.put_copies-messages.result.1 c.output_fault.result
     (sym c.without_fault.ensures ∙ c.if-without_fault.true) c.put_copies-messages.ensures c.in-Err.ensures.err
     (subst (Blames g.K.WordSink c.put_copies-messages.new.sink c.finish.new.self) (sym c.output_fault.ensures) blames)

@@ -2,7 +2,6 @@ use Rattle.std.proofs.Common.{[], ◌∷◌, subst, sym}
 use Rattle.cap_spec.specs.Frames.{frame_text}
 use Rattle.cap_frame.specs.Limit.{limit_of}
 use Rattle.cap_frame.specs.Putting.{Halts}
-use Rattle.cap_vet.specs.Limits.{depth_of, words_of}
 use Rattle.cap_run.proofs.Making.{next_stops}
 use Rattle.cap_run.proofs.Streams.{reads_named}
 use Rattle.cap_run.proofs.engines.canon.put_next.Goals as goal
@@ -34,8 +33,7 @@ returns-in-Err-flush_before_waiting-clause-err g c =
 pub returns-in-Err-put_copy-clause-err : goal.returns-in-Err-put_copy-clause-err
 returns-in-Err-put_copy-clause-err g c =
     let r = c.in-Ok-true.ensures.read.message (cc) in
-    next_stops g.S.WordSource g.K.WordSink (words_of c.args.settings.now.limits) (depth_of c.args.settings.now.limits) (limit_of c.args.settings.now.size) _ c.args.source.now c.read_into.new.source
-    c.args.sink.now c.put_copy.new.sink c.in-Err-put_copy.cause
+    next_stops _ _ _ _ _ _ _ _ c.args.sink.now c.put_copy.new.sink c.in-Err-put_copy.cause
     (reads_named g.S.WordSource (limit_of c.args.settings.now.size) c.args.source.now c.read_into.new.source _ r c.in-Ok-true.ensures.read.next.works)
     (rw c.view.ensures at c.in-Err-put_copy.ensures.err)
 

@@ -1,19 +1,18 @@
 use Rattle.std.proofs.Common.{sym, arith}
-use Rattle.cap_frame.specs.Limit.{limit_of}
 use Rattle.cap_run.specs.declared.fault.Cause.TheVariants.{Output}
 use Rattle.cap_run.proofs.Going.{going_none, going_more, going_stops, going_refused, going_noncanonical}
 use Rattle.cap_run.proofs.engines.stream.tell_each.Goals as goal
 
 pub loop-number-init : goal.loop-number-init
-loop-number-init g c = going_none g.S.WordSource g.O.ByteOut (g.E.Engine.tells c.args.engine.now) (limit_of c.args.settings.now.size) c.args.source.now c.args.out.now
+loop-number-init g c = going_none _ _ _ _ _ _
 
 pub count-outcome-requires-clause-refused : goal.count-outcome-requires-clause-refused
 count-outcome-requires-clause-refused g c =
-    going_refused g.S.WordSource g.O.ByteOut (g.E.Engine.tells c.args.engine.now) (limit_of c.args.settings.now.size) _ _ _ _ _ _ c.loop-number.invariant
+    going_refused _ _ _ _ _ _ _ _ _ _ c.loop-number.invariant
 
 pub count-outcome-requires-clause-noncanonical : goal.count-outcome-requires-clause-noncanonical
 count-outcome-requires-clause-noncanonical g c =
-    going_noncanonical g.S.WordSource g.O.ByteOut (g.E.Engine.tells c.args.engine.now) (limit_of c.args.settings.now.size) _ _ _ _ _ _ c.loop-number.invariant
+    going_noncanonical _ _ _ _ _ _ _ _ _ _ c.loop-number.invariant
 
 pub returns-in-Err-clause-err : goal.returns-in-Err-clause-err
 returns-in-Err-clause-err g c =
@@ -24,8 +23,8 @@ returns-in-Err-clause-err g c =
       omega (arith, w.many),
       w.reads,
       w.each,
-      going_stops g.S.WordSource g.O.ByteOut (g.E.Engine.tells c.args.engine.now) (g.E.Engine.wants c.args.engine.now) (limit_of c.args.settings.now.size) c.args.source.now c.loop-number.source c.tell_next.new.source
-          c.args.out.now c.loop-number.out c.tell_next.new.out c.loop-number.outcome c.loop-number.number c.args.settings.now.messages c.in-Err.cause w (omega arith) c.in-Err.ensures.err,
+      going_stops _ _ _ (g.E.Engine.wants c.args.engine.now) _ _ _ c.tell_next.new.source _ _ c.tell_next.new.out
+          _ _ c.args.settings.now.messages c.in-Err.cause w (omega arith) c.in-Err.ensures.err,
     )
 
 pub returns-in-Err-flush_before_waiting-clause-err : goal.returns-in-Err-flush_before_waiting-clause-err
@@ -39,14 +38,12 @@ returns-in-Err-flush_before_waiting-clause-err g c =
       omega (arith, w.many),
       w.reads,
       w.each,
-      going_stops g.S.WordSource g.O.ByteOut (g.E.Engine.tells c.args.engine.now) (g.E.Engine.wants c.args.engine.now) (limit_of c.args.settings.now.size) c.args.source.now c.loop-number.source c.tell_next.new.source
-          c.args.out.now c.loop-number.out c.flush_before_waiting.new.out c.loop-number.outcome c.loop-number.number c.args.settings.now.messages (Output c.in-Err-flush_before_waiting.fault) w (omega arith)
+      going_stops _ _ _ (g.E.Engine.wants c.args.engine.now) _ _ _ c.tell_next.new.source _ _ c.flush_before_waiting.new.out
+          _ _ c.args.settings.now.messages (Output c.in-Err-flush_before_waiting.fault) w (omega arith)
           (r.0, r.2, r.3, c.in-Err-flush_before_waiting.ensures c.loop-number.out r.0.text r.4),
     )
 
 pub loop-number-preserved : goal.loop-number-preserved
 loop-number-preserved g c =
     let r = rw c.in-Ok-Some.field-0-is at c.in-Ok-Some.ensures.some in
-    going_more g.S.WordSource g.O.ByteOut (g.E.Engine.tells c.args.engine.now) (limit_of c.args.settings.now.size) c.args.source.now c.loop-number.source c.tell_next.new.source
-    c.args.out.now c.loop-number.out c.flush_before_waiting.new.out c.loop-number.outcome c.count-outcome.result c.loop-number.number r.0 c.in-Ok-Some.counted r.1
-    c.loop-number.invariant r.2 r.3 (c.in-Ok.ensures c.loop-number.out r.0.text r.4) c.count-outcome.ensures
+    going_more _ _ _ _ _ _ _ _ _ _ _ _ _ r.0 c.in-Ok-Some.counted r.1 c.loop-number.invariant r.2 r.3 (c.in-Ok.ensures c.loop-number.out r.0.text r.4) c.count-outcome.ensures

@@ -9,13 +9,12 @@ use Rattle.cap_run.specs.PuttingEnds.{Copies}
 use Rattle.cap_run.proofs.engines.transcode.put_words.Goals as goal
 
 pub loop-put-init : goal.loop-put-init
-loop-put-init g c = record { few = omega arith; room = refl; copies = copies_start g.S.WordSource g.K.WordSink c.args.source.now c.args.sink.now }
+loop-put-init g c = record { few = omega arith; room = refl; copies = copies_start _ _ _ _ }
 
 pub returns-in-Err : goal.returns-in-Err
 returns-in-Err g c =
     let long = length-take-le (8 * c.min-most.result) c.loop-put.room (omega arith) in
-    stops_midway g.S.WordSource g.K.WordSink _ c.args.words c.loop-put.put _ c.args.source.now c.loop-put.source c.put_ready.new.source c.args.sink.now c.loop-put.sink c.put_ready.new.sink
-    c.in-Err.fault c.loop-put.invariant.copies c.in-Err.ensures.err (omega (arith, long)) (omega (arith, long))
+    stops_midway _ _ _ _ _ _ _ _ _ _ _ _ _ c.loop-put.invariant.copies c.in-Err.ensures.err (omega (arith, long)) (omega (arith, long))
 
 pub loop-put-preserved-then-count-gt0 : goal.loop-put-preserved-then-count-gt0
 loop-put-preserved-then-count-gt0 g c =
@@ -24,31 +23,27 @@ loop-put-preserved-then-count-gt0 g c =
     record {
       few = omega (arith, few, long);
       room = omega arith;
-      copies = copies_both g.S.WordSource g.K.WordSink c.args.source.now c.loop-put.source c.put_ready.new.source c.args.sink.now c.loop-put.sink c.put_ready.new.sink c.loop-put.put c.in-Ok.count
-          c.loop-put.invariant.copies c.in-Ok.ensures.ok;
+      copies = copies_both _ _ _ _ _ _ _ _ _ _ c.loop-put.invariant.copies c.in-Ok.ensures.ok;
     }
 
 pub returns-in-Err-put : goal.returns-in-Err-put
 returns-in-Err-put g c =
-    let now = copies_both g.S.WordSource g.K.WordSink c.args.source.now c.loop-put.source c.put_ready.new.source c.args.sink.now c.loop-put.sink c.put_ready.new.sink c.loop-put.put c.in-Ok.count
-    c.loop-put.invariant.copies c.in-Ok.ensures.ok in
+    let now = copies_both _ _ _ _ _ _ _ _ _ _ c.loop-put.invariant.copies c.in-Ok.ensures.ok in
     let gives = gives_one g.S.WordSource c.put_ready.new.source c.next.new.self c.in-Ok-Some.word
     (rw c.in-Ok-Some.field-0-is at c.in-Ok-Some.ensures.words) (rw c.in-Ok-Some.field-0-is at c.in-Ok-Some.ensures.word) c.in-Ok-Some.ensures.ok in
     let halts = halts_of g.K.WordSink c.put_ready.new.sink c.put.new.self (c.in-Ok-Some.word ∷ []) c.put.result c.in-Err-put.fault c.in-Err-put.is c.in-Err-put.ensures.err c.put.ensures.device c.put.ensures.memory c.put.ensures.was_spent in
-    copied_stopped g.S.WordSource g.K.WordSink _ c.args.words c.args.source.now c.next.new.self c.args.sink.now c.put.new.self c.output_fault.result (omega arith)
-    (copies_stops g.S.WordSource g.K.WordSink c.args.words c.args.source.now c.put_ready.new.source c.next.new.self c.args.sink.now c.put_ready.new.sink c.put.new.self (c.loop-put.put + c.in-Ok.count) c.in-Ok-Some.word c.output_fault.result
+    copied_stopped _ _ _ _ _ _ _ _ _ (omega arith)
+    (copies_stops _ _ _ _ _ _ _ _ _ (c.loop-put.put + c.in-Ok.count) c.in-Ok-Some.word _
     (omega arith) now gives (subst (Halts g.K.WordSink c.put_ready.new.sink c.put.new.self _) (sym c.output_fault.ensures) halts))
 
 pub returns-in-Ok-None : goal.returns-in-Ok-None
 returns-in-Ok-None g c =
-    let now = copies_both g.S.WordSource g.K.WordSink c.args.source.now c.loop-put.source c.put_ready.new.source c.args.sink.now c.loop-put.sink c.put_ready.new.sink c.loop-put.put c.in-Ok.count
-    c.loop-put.invariant.copies c.in-Ok.ensures.ok in
+    let now = copies_both _ _ _ _ _ _ _ _ _ _ c.loop-put.invariant.copies c.in-Ok.ensures.ok in
     (c.put_ready.new.source, omega arith, now, record { none = c.in-Ok-None.ensures.none (cc); ended = c.in-Ok-None.ensures.ended (cc); works = c.in-Ok-None.ensures.ok })
 
 pub returns-in-Err-next : goal.returns-in-Err-next
 returns-in-Err-next g c =
-    let now = copies_both g.S.WordSource g.K.WordSink c.args.source.now c.loop-put.source c.put_ready.new.source c.args.sink.now c.loop-put.sink c.put_ready.new.sink c.loop-put.put c.in-Ok.count
-    c.loop-put.invariant.copies c.in-Ok.ensures.ok in (
+    let now = copies_both _ _ _ _ _ _ _ _ _ _ c.loop-put.invariant.copies c.in-Ok.ensures.ok in (
       c.put_ready.new.source,
       c.loop-put.put + c.in-Ok.count,
       omega arith,
@@ -59,15 +54,13 @@ returns-in-Err-next g c =
 
 pub loop-put-preserved : goal.loop-put-preserved
 loop-put-preserved g c =
-    let now = copies_both g.S.WordSource g.K.WordSink c.args.source.now c.loop-put.source c.put_ready.new.source c.args.sink.now c.loop-put.sink c.put_ready.new.sink c.loop-put.put c.in-Ok.count
-    c.loop-put.invariant.copies c.in-Ok.ensures.ok in
+    let now = copies_both _ _ _ _ _ _ _ _ _ _ c.loop-put.invariant.copies c.in-Ok.ensures.ok in
     let gives = gives_one g.S.WordSource c.put_ready.new.source c.next.new.self c.in-Ok-Some.word
     (rw c.in-Ok-Some.field-0-is at c.in-Ok-Some.ensures.words) (rw c.in-Ok-Some.field-0-is at c.in-Ok-Some.ensures.word) c.in-Ok-Some.ensures.ok in
     record {
       few = omega arith;
       room = omega arith;
-      copies = copies_more g.S.WordSource g.K.WordSink c.args.source.now c.put_ready.new.source c.next.new.self c.args.sink.now c.put_ready.new.sink c.put.new.self (c.loop-put.put + c.in-Ok.count) c.in-Ok-Some.word
-          now gives (fills_of g.K.WordSink c.put_ready.new.sink c.put.new.self (c.in-Ok-Some.word ∷ []) c.in_default.ensures.put c.in_default.ensures.ok);
+      copies = copies_more _ _ _ _ _ _ _ _ (c.loop-put.put + c.in-Ok.count) c.in-Ok-Some.word now gives (fills_of g.K.WordSink c.put_ready.new.sink c.put.new.self (c.in-Ok-Some.word ∷ []) c.in_default.ensures.put c.in_default.ensures.ok);
     }
 
 pub returns-in-Ok-Some-next : goal.returns-in-Ok-Some-next

@@ -5,8 +5,7 @@ use Rattle.cap_run.proofs.engines.transcode.transcode.Goals as goal
 
 pub returns-in-Ok : goal.returns-in-Ok
 returns-in-Ok g c =
-    copied_finished g.S.WordSource g.K.WordSink _ c.args.words c.args.source.now c.put_words-answer.new.source
-    c.args.sink.now c.put_words-answer.new.sink c.finish.new.self c.put_words-answer.result
+    copied_finished _ _ _ _ c.args.source.now c.put_words-answer.new.source _ c.put_words-answer.new.sink _ c.put_words-answer.result
     c.put_words-answer.ensures (sym c.without_fault.ensures ∙ c.if-without_fault.true)
     c.in-Ok.ensures.finished c.in-Ok.ensures.ok
 
