@@ -1,8 +1,8 @@
 //! Packing and unpacking up to a number of words, which no option sets.
 
 use crate::same::same_of;
-use cap_run::{CopyFault, run_pack, run_unpack};
 use cap_pack::{Packer, Unpacker};
+use cap_run::{CopyFault, run_pack, run_unpack};
 use cap_words::{FromRead, PlainSink, PlainWords, SliceIn, VecOut, WordSource};
 use std::alloc::Global;
 use std::process::Abort;
