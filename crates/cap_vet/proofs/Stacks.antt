@@ -4,6 +4,8 @@ use Rattle.std.specs.Option.{option_to_list}
 use Rattle.std.specs.List.{AllByRecursion}
 use Rattle.std.proofs.lemmas.List.{append-nil, map-append, reverse-append, length-append, length-map}
 use Rattle.cap_spec.specs.Following.{Leads, extra, to_cap, to_null}
+use Rattle.cap_spec.specs.Messages.{HasWord}
+use Rattle.cap_spec.specs.Paths.{Costs, Reaches}
 use Rattle.cap_spec.specs.Pointers.{extent}
 use Rattle.cap_spec.specs.Denoting.{Finds}
 use Rattle.cap_spec.specs.Verdicts.{levels_below}
@@ -12,11 +14,15 @@ use Rattle.cap_vet.specs.Trails.{Ahead}
 use Rattle.cap_vet.specs.WalkFrames.{FrameIn, IsRest, LevelIs, OptionIn, all_spots, option_spots, place_of, spots}
 use Rattle.cap_vet.specs.Looking.{FrameRises, IsLooked, object_children}
 use Rattle.cap_vet.specs.Turning.{added, frame_below}
-use Rattle.cap_vet.specs.Walking.{IsNext, AreStacked, IsWalking, Progress, Walks, work_left, work_next}
+use Rattle.cap_vet.specs.Limits.{depth_of, words_of}
+use Rattle.cap_vet.specs.Turns.{GoesOn, IsAt, IsWalking}
+use Rattle.cap_vet.specs.Walking.{AreNull, IsLookedAt, IsNext, AreStacked, Progress, Walks, work_left, work_next}
 use Rattle.cap_vet.specs.declared.frame.Frame.{Frame}
+use Rattle.cap_vet.specs.declared.limits.Limits.{Limits}
 use Rattle.cap_vet.specs.declared.looking.Looked.{Looked}
 use Rattle.cap_vet.specs.declared.looking.Looked.TheVariants as looked
 use Rattle.cap_vet.specs.declared.report.Report.{Report}
+use Rattle.cap_spec.proofs.Paths.Walks.{one_reached}
 use Rattle.cap_vet.proofs.Objects.{object-brings, object_places-children}
 use Rattle.cap_vet.proofs.Turning.{next_ahead, turn_cap, turn_null, turn_object}
 
@@ -29,12 +35,14 @@ spots-more : (r : Option Frame) (frames : List Frame) → all_spots (option_to_l
 spots-more None frames = refl
 spots-more (Some r) frames = refl
 
-inside-more : (m : List (List ℕ)) (r : Option Frame) (frames : List Frame) → OptionIn m r → AllByRecursion (FrameIn m) frames → AllByRecursion (FrameIn m) (option_to_list r ++ frames)
+inside-more : (m : List (List ℕ)) (r : Option Frame) (frames : List Frame) → OptionIn m r → AllByRecursion (FrameIn m) frames
+    → AllByRecursion (FrameIn m) (option_to_list r ++ frames)
 inside-more m None frames h l = l
 inside-more m (Some r) frames h l = (h, l)
 
 -- what is left of a frame is as high as it
-stacked-rest : (depth level : ℕ) (r : Option Frame) (frames : List Frame) → length frames + 2 ≤ level → level ≤ depth + 1 → LevelIs level r → AreStacked depth frames → AreStacked depth (option_to_list r ++ frames)
+stacked-rest : (depth level : ℕ) (r : Option Frame) (frames : List Frame) → length frames + 2 ≤ level → level ≤ depth + 1 → LevelIs level r
+    → AreStacked depth frames → AreStacked depth (option_to_list r ++ frames)
 stacked-rest depth level None frames h u k s = s
 stacked-rest depth level (Some r) frames h u k s = (omega (arith, k), omega (arith, k), s)
 
@@ -43,12 +51,14 @@ high-rest level None frames h = omega arith
 high-rest level (Some r) frames h = omega arith
 
 -- and what is below a word is higher
-stacked-below : (depth level : ℕ) (r : Option Frame) (frames : List Frame) → length frames + 1 ≤ level → FrameRises level depth r → AreStacked depth frames → AreStacked depth (option_to_list r ++ frames)
+stacked-below : (depth level : ℕ) (r : Option Frame) (frames : List Frame) → length frames + 1 ≤ level → FrameRises level depth r
+    → AreStacked depth frames → AreStacked depth (option_to_list r ++ frames)
 stacked-below depth level None frames h l s = s
 stacked-below depth level (Some r) frames h l s = (omega (arith, l.0), l.1, s)
 
 -- The first word of the topmost frame is the next to look at, and what was looked at stays.
-pub next_seen : (m : List (List ℕ)) (words depth : ℕ) (frames : List Frame) (f : Frame) (r : Option Frame) (report : Report) (seen : List (List Step)) (aheads : List Ahead) → Walks m words depth (frames ++ f ∷ []) report seen aheads → IsRest f r
+pub next_seen : (m : List (List ℕ)) (words depth : ℕ) (frames : List Frame) (f : Frame) (r : Option Frame) (report : Report) (seen : List (List Step))
+    (aheads : List Ahead) → Walks m words depth (frames ++ f ∷ []) report seen aheads → IsRest f r
     → (n : IsNext m words depth f.segment f.at f.level (frames ++ option_to_list r) report) × (n.seen ≡ seen)
 next_seen m words depth frames f r report seen aheads w rest =
     let e : reverse (frames ++ f ∷ []) ≡ f ∷ reverse frames = reverse-append frames (f ∷ []) in
@@ -56,7 +66,8 @@ next_seen m words depth frames f r report seen aheads w rest =
     let inside : AllByRecursion (FrameIn m) (f ∷ reverse frames) = rw e at w.inside in
     let stacked : AreStacked depth (f ∷ reverse frames) = rw e at w.stacked in
     let more = reverse-more frames r in
-    let next = next_ahead (f.segment, f.at, f.level) (option_spots r ++ all_spots (reverse frames)) aheads (places ∙ ap (λ u. u ++ all_spots (reverse frames)) rest.words) in (
+    let next = next_ahead (f.segment, f.at, f.level) (option_spots r ++ all_spots (reverse frames)) aheads
+    (places ∙ ap (λ u. u ++ all_spots (reverse frames)) rest.words) in (
       record {
         seen = seen;
         a = next.a;
@@ -76,13 +87,17 @@ next_seen m words depth frames f r report seen aheads w rest =
       refl,
     )
 
-pub next_of : (m : List (List ℕ)) (words depth : ℕ) (frames : List Frame) (f : Frame) (r : Option Frame) (report : Report) → IsWalking m words depth (frames ++ f ∷ []) report → IsRest f r
-    → IsNext m words depth f.segment f.at f.level (frames ++ option_to_list r) report
-next_of m words depth frames f r report (seen, aheads, w) rest = (next_seen m words depth frames f r report seen aheads w rest).0
+pub next_at : (m : List (List ℕ)) (limits : Limits) (frames : List Frame) (f : Frame) (r : Option Frame) (report : Report) (K : List (List Step) → Type 0)
+    → IsWalking m limits (frames ++ f ∷ []) report K → IsRest f r → IsAt m limits f.segment f.at f.level (frames ++ option_to_list r) report K
+next_at m limits frames f r report K w rest =
+    let n = next_seen m (words_of limits) (depth_of limits) frames f r report w.seen w.ahead w.walks rest in
+    record { next = n.0; known = subst K (sym n.1) w.known }
 
 -- Looking at the next word keeps the walk, and that word is the last that was looked at.
-pub walks_on : (m : List (List ℕ)) (words depth s w level : ℕ) (frames : List Frame) (report : Report) (l : Looked) (t : IsNext m words depth s w level frames report)
-    → IsLooked m words depth report.charge s w level l → (later : List Ahead) × Walks m words depth (frames ++ option_to_list (frame_below l)) (added report s w l) (t.a.path ∷ t.seen) later
+pub walks_on : (m : List (List ℕ)) (words depth s w level : ℕ) (frames : List Frame) (report : Report) (l : Looked)
+    (t : IsNext m words depth s w level frames report)
+    → IsLooked m words depth report.charge s w level l → (later : List Ahead) × Walks m words depth (frames ++ option_to_list (frame_below l))
+    (added report s w l) (t.a.path ∷ t.seen) later
 walks_on m words depth s w level frames report (looked.Null cost) t (h, within) =
     let own : Leads m t.a.segment t.a.word cost to_null = rw (t.segment, t.at) h in
     let more = reverse-more frames None in (
@@ -99,7 +114,8 @@ walks_on m words depth s w level frames report (looked.Cap cost) t ((i, h), with
     let more = reverse-more frames None in (
       t.ahead,
       record {
-        progress = rw (← t.segment, ← t.at) (turn_cap m words depth report.charge report.depth report.pointers report.caps cost i report.first_cap t.seen t.a t.ahead t.progress own within);
+        progress = rw (← t.segment, ← t.at)
+            (turn_cap m words depth report.charge report.depth report.pointers report.caps cost i report.first_cap t.seen t.a t.ahead t.progress own within);
         places = rw more t.places;
         inside = rw more t.inside;
         stacked = rw more t.stacked;
@@ -125,41 +141,83 @@ walks_on m words depth s w level frames report (looked.Object cost deep below) t
       },
     )
 
-pub walk_on : (m : List (List ℕ)) (words depth s w level : ℕ) (frames : List Frame) (report : Report) (l : Looked) → IsNext m words depth s w level frames report
-    → IsLooked m words depth report.charge s w level l → IsWalking m words depth (frames ++ option_to_list (frame_below l)) (added report s w l)
-walk_on m words depth s w level frames report l t h = let r = walks_on m words depth s w level frames report l t h in (t.a.path ∷ t.seen, r.0, r.1)
-
 -- a word has no more words below it than it costs
 few_below : (m : List (List ℕ)) (words depth s w level : ℕ) (frames : List Frame) (report : Report) (l : Looked) → IsNext m words depth s w level frames report
-    → IsLooked m words depth report.charge s w level l → (length (option_spots (frame_below l)) + report.charge ≤ (added report s w l).charge) × ((added report s w l).charge ≤ words)
+    → IsLooked m words depth report.charge s w level l → (length (option_spots (frame_below l)) + report.charge ≤ (added report s w l).charge)
+    × ((added report s w l).charge ≤ words)
 few_below m words depth s w level frames report (looked.Null cost) t (h, within) = (omega arith, within)
 few_below m words depth s w level frames report (looked.Cap cost) t (h, within) = (omega arith, within)
 few_below m words depth s w level frames report (looked.Object cost deep below) t (k, u, b, q, tag, o) =
     let own : Finds m t.a.segment t.a.word k u b q = rw (t.segment, t.at) o.finds in
     let brings = object-brings m t.a k u b q tag report.depth t.progress.trail.ahead_reached.0 own o.tagged in
-    let e : option_spots below ≡ map place_of (object_children t.a.path q tag u b t.a.level) = o.places ∙ rw (← t.leads_to) (sym (object_places-children t.a.path q tag u b t.a.level)) in
-    let n : length (option_spots below) ≡ length (object_children t.a.path q tag u b t.a.level) = ap length e ∙ length-map (object_children t.a.path q tag u b t.a.level) place_of in
+    let e : option_spots below ≡ map place_of (object_children t.a.path q tag u b t.a.level) =
+    o.places ∙ rw (← t.leads_to) (sym (object_places-children t.a.path q tag u b t.a.level)) in
+    let n : length (option_spots below) ≡ length (object_children t.a.path q tag u b t.a.level) =
+    ap length e ∙ length-map (object_children t.a.path q tag u b t.a.level) place_of in
     (omega (arith, n, brings.few, o.charge), o.within)
 
 -- so the work that is left falls
-pub work_falls : (m : List (List ℕ)) (words depth s w level : ℕ) (frames : List Frame) (report : Report) (l : Looked) → IsNext m words depth s w level frames report
-    → IsLooked m words depth report.charge s w level l → work_left words (frames ++ option_to_list (frame_below l)) (added report s w l) < suc (work_left words frames report)
+pub work_falls : (m : List (List ℕ)) (words depth s w level : ℕ) (frames : List Frame) (report : Report) (l : Looked)
+    → IsNext m words depth s w level frames report
+    → IsLooked m words depth report.charge s w level l → work_left words (frames ++ option_to_list (frame_below l)) (added report s w l) < suc
+    (work_left words frames report)
 work_falls m words depth s w level frames report l t h =
     let few = few_below m words depth s w level frames report l t h in
     let more = reverse-more frames (frame_below l) in
     let spot = spots-more (frame_below l) (reverse frames) in
-    let n : length (all_spots (reverse (frames ++ option_to_list (frame_below l)))) ≡ length (option_spots (frame_below l)) + length (all_spots (reverse frames)) =
+    let n : length (all_spots (reverse (frames ++ option_to_list (frame_below l)))) ≡ length (option_spots (frame_below l)) + length
+    (all_spots (reverse frames)) =
     ap (λ u. length (all_spots u)) more ∙ ap length spot ∙ length-append (option_spots (frame_below l)) (all_spots (reverse frames)) in
     omega (arith, n, few.0, few.1)
 
 -- and a word that is taken from its frame was some of it
-pub work_rest : (words : ℕ) (frames : List Frame) (f : Frame) (r : Option Frame) (report : Report) → IsRest f r → work_next words (frames ++ option_to_list r) report ≡ work_left words (frames ++ f ∷ []) report
+pub work_rest : (words : ℕ) (frames : List Frame) (f : Frame) (r : Option Frame) (report : Report) → IsRest f r
+    → work_next words (frames ++ option_to_list r) report ≡ work_left words (frames ++ f ∷ []) report
 work_rest words frames f r report rest =
-    let a : length (all_spots (reverse (frames ++ f ∷ []))) ≡ length (spots f ++ all_spots (reverse frames)) = ap (λ u. length (all_spots u)) (reverse-append frames (f ∷ [])) in
-    let b : length (spots f ++ all_spots (reverse frames)) ≡ suc (length (option_spots r ++ all_spots (reverse frames))) = ap (λ u. length (u ++ all_spots (reverse frames))) rest.words in
-    let c : length (all_spots (reverse (frames ++ option_to_list r))) ≡ length (option_spots r ++ all_spots (reverse frames)) = ap (λ u. length (all_spots u)) (reverse-more frames r) ∙ ap length (spots-more r (reverse frames)) in
+    let a : length (all_spots (reverse (frames ++ f ∷ []))) ≡ length (spots f ++ all_spots (reverse frames)) =
+    ap (λ u. length (all_spots u)) (reverse-append frames (f ∷ [])) in
+    let b : length (spots f ++ all_spots (reverse frames)) ≡ suc (length (option_spots r ++ all_spots (reverse frames))) =
+    ap (λ u. length (u ++ all_spots (reverse frames))) rest.words in
+    let c : length (all_spots (reverse (frames ++ option_to_list r))) ≡ length (option_spots r ++ all_spots (reverse frames)) =
+    ap (λ u. length (all_spots u)) (reverse-more frames r) ∙ ap length (spots-more r (reverse frames)) in
     omega (arith, a, b, c)
 
-pub work_smaller : (words : ℕ) (frames left : List Frame) (f : Frame) (r : Option Frame) (report after : Report) → IsRest f r → work_left words left after < work_next words (frames ++ option_to_list r) report
+pub work_smaller : (words : ℕ) (frames left : List Frame) (f : Frame) (r : Option Frame) (report after : Report) → IsRest f r
+    → work_left words left after < work_next words (frames ++ option_to_list r) report
     → work_left words left after < work_left words (frames ++ f ∷ []) report
 work_smaller words frames left f r report after rest h = omega (arith, h, work_rest words frames f r report rest)
+
+-- A turn at the first word of the topmost frame leaves less of the walk.
+pub turned : (m : List (List ℕ)) (limits : Limits) (frames left more : List Frame) (f : Frame) (r : Option Frame) (report after : Report)
+    (K : List (List Step) → Type 0)
+    → IsRest f r → left ≡ more → GoesOn m limits left after K (work_next (words_of limits) (frames ++ option_to_list r) report)
+    → GoesOn m limits more after K (work_left (words_of limits) (frames ++ f ∷ []) report)
+turned m limits frames left more f r report after K rest e h =
+    let less : work_left (words_of limits) left after < work_left (words_of limits) (frames ++ f ∷ []) report =
+    omega (arith, h.less, work_rest (words_of limits) frames f r report rest) in
+    subst (λ u. GoesOn m limits u after K (work_left (words_of limits) (frames ++ f ∷ []) report)) e (record { walking = h.walking; less = less })
+
+-- What a turn is told of a word that was looked at.
+pub looked_at : (m : List (List ℕ)) (words depth s w level : ℕ) (frames below : List Frame) (report after : Report) (later : List Ahead)
+    (n : IsNext m words depth s w level frames report) → Walks m words depth below after (n.a.path ∷ n.seen) later → IsLookedAt m n.seen n.a s w after.pointers
+looked_at m words depth s w level frames below report after later n r =
+    let c = r.progress.costs in
+    let same = one_reached m n.a.path n.a.level c.0 n.a.segment n.a.word c.1 c.2 n.progress.trail.ahead_reached.0 c.5 in
+    let cost : Costs m n.a.segment n.a.word c.3 = rw (same.1, same.2) c.6 in record {
+      later = n.ahead;
+      trail = n.progress.trail;
+      segment = n.segment;
+      word = n.at;
+      exists = n.exists;
+      inside = n.within;
+      cost = c.3;
+      costs = rw (← n.segment, ← n.at) cost;
+      number = omega (arith, r.progress.number);
+    }
+
+-- What is known of the paths so far is known after null words too.
+pub known_past : (m : List (List ℕ)) (K : List (List Step) → Type 0) (nulls seen : List (List Step))
+    → ((seen : List (List Step)) (p : List Step) (level s w : ℕ) → Reaches m p level s w → HasWord m s w 0 → K seen → K (p ∷ seen))
+    → AreNull m nulls → K seen → K (nulls ++ seen)
+known_past m K [] seen pass h k = k
+known_past m K (p ∷ nulls) seen pass ((level, s, w, r, has), h) k = pass (nulls ++ seen) p level s w r has (known_past m K nulls seen pass h k)

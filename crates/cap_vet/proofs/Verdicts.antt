@@ -1,5 +1,5 @@
 -- How a walk ends: at the first fault, or with the whole tree.
-use Rattle.cap_vet.specs.Reports.{IsAccepted, IsFirstCapOf}
+use Rattle.cap_vet.specs.Reports.{IsAccepted, IsFirstCapOf, IsVetted}
 use Rattle.cap_vet.specs.Owing.{IsCount}
 use Rattle.cap_spec.proofs.Frames.Messages.{HasWord-at}
 use Rattle.std.proofs.Common.{◌≡◌, ℕ, ◌+◌, ◌<◌, inl, inr, List, [], ◌∷◌, ◌++◌, length, map, refl, sym, subst, arith, Option, None, Some}
@@ -14,8 +14,11 @@ use Rattle.cap_spec.specs.declared.Reason.TheVariants.{NoRoot}
 use Rattle.cap_spec.specs.declared.Step.{Step}
 use Rattle.cap_vet.specs.Trails.{Ahead, IsTrail}
 use Rattle.cap_vet.specs.WalkFrames.{place_of}
-use Rattle.cap_vet.specs.Walking.{IsFirstOf, IsNext, IsWalking, Progress}
+use Rattle.cap_vet.specs.Limits.{depth_of, words_of}
+use Rattle.cap_vet.specs.Turns.{IsAt}
+use Rattle.cap_vet.specs.Walking.{IsFirstOf, IsNext, Progress, Walks}
 use Rattle.cap_vet.specs.declared.frame.Frame.{Frame}
+use Rattle.cap_vet.specs.declared.limits.Limits.{Limits}
 use Rattle.cap_vet.specs.declared.report.Report.{Report}
 use Rattle.cap_vet.proofs.Tours.{in_order, in_order-IsOneOf, length-in_order, onto, tour_of}
 
@@ -40,11 +43,19 @@ no_root_at ([] ∷ m) some e = record { empty = refl; segment = refl; word = ref
 no_root_at ((x ∷ xs) ∷ m) some e = let f : length (x ∷ xs) ≡ 0 = e in absurd (omega (arith, f))
 
 -- The first reason that applies at the next word makes it the first fault.
-pub first_fault : (m : List (List ℕ)) (words depth s w level : ℕ) (frames : List Frame) (report : Report) (v : Reason) → IsNext m words depth s w level frames report
-    → IsFirstReason m words depth report.charge s w level v → IsFirstFault m words depth record { segment = s; word = w; reason = v; pointers = report.pointers + 1 }
+pub first_fault : (m : List (List ℕ)) (words depth s w level : ℕ) (frames : List Frame) (report : Report) (v : Reason)
+    → IsNext m words depth s w level frames report
+    → IsFirstReason m words depth report.charge s w level v → IsFirstFault m words depth record {
+      segment = s;
+      word = w;
+      reason = v;
+      pointers =
+          report.pointers + 1;
+    }
 first_fault m words depth s w level frames report v t h =
     let e : in_order (t.a.path ∷ t.seen) ≡ in_order t.seen ++ t.a.path ∷ [] = onto-append t.seen [] (t.a.path ∷ []) in
-    let many : length (in_order t.seen ++ t.a.path ∷ []) ≡ report.pointers + 1 = omega (arith, length-append (in_order t.seen) (t.a.path ∷ []), length-in_order t.seen, t.progress.number) in record {
+    let many : length (in_order t.seen ++ t.a.path ∷ []) ≡ report.pointers + 1 =
+    omega (arith, length-append (in_order t.seen) (t.a.path ∷ []), length-in_order t.seen, t.progress.number) in record {
       path = t.a.path;
       before = in_order t.seen;
       level = level;
@@ -82,10 +93,13 @@ whole_first_cap m seen (Some place) t (p, one, (level, k, i, r, lead), first) = 
 }
 
 -- A walk with nothing ahead has the whole tree.
-pub accepted_at_end : (m : List (List ℕ)) (words depth : ℕ) (report : Report) → IsWalking m words depth [] report → IsAccepted m words depth report
-accepted_at_end m words depth report (seen, ahead, w) =
+pub accepted_at_end : (m : List (List ℕ)) (words depth : ℕ) (report : Report) (seen : List (List Step)) (ahead : List Ahead)
+    → Walks m words depth [] report seen ahead
+    → IsAccepted m words depth report
+accepted_at_end m words depth report seen ahead w =
     let none : ahead ≡ [] = none_ahead ahead w.places in
-    let p : Progress m words depth report.charge report.depth report.pointers report.caps report.first_cap seen [] = subst (Progress m words depth report.charge report.depth report.pointers report.caps report.first_cap seen) none w.progress in
+    let p : Progress m words depth report.charge report.depth report.pointers report.caps report.first_cap seen [] =
+    subst (Progress m words depth report.charge report.depth report.pointers report.caps report.first_cap seen) none w.progress in
     let (t, d, whole) = p.count.completes 0 0 0 0 (refl, refl, refl, refl) in
     let e : report.charge + 0 ≡ report.charge = omega arith in
     let f : d ≡ report.depth = omega (arith, whole.depth) in (
@@ -101,16 +115,41 @@ accepted_at_end m words depth report (seen, ahead, w) =
       },
     )
 
+-- What is accepted within limits is accepted within the greatest.
+pub vetted_within : (m : List (List ℕ)) (limits : Limits) (report : Report) → IsAccepted m (words_of limits) (depth_of limits) report → IsVetted m report
+vetted_within m limits report (t, a) = (
+  t,
+  record {
+    denotes = a.denotes;
+    within = omega (arith, a.within, limits.few);
+    shallow = omega (arith, a.shallow, limits.shallow);
+    pointers = a.pointers;
+    caps = a.caps;
+    first_cap = a.first_cap;
+    few = omega (arith, a.few, limits.few);
+  },
+)
+
 -- what the root's word completes is the root's tree
-count_at_start : (m : List (List ℕ)) → IsCount m record { charge = 0; depth = 0; pointers = 0; caps = 0 } (record { path = []; segment = 0; word = 0; level = 1 } ∷ [])
+count_at_start : (m : List (List ℕ)) → IsCount m record { charge = 0; depth = 0; pointers = 0; caps = 0 }
+    (record { path = []; segment = 0; word = 0; level = 1 } ∷ [])
 count_at_start m = record {
   completes = λ charge top pointers caps (t, c, d, c', top', p', k', own, (f1, f2, f3, f4), e1, e2, e3, e4).
-      let e : c ≡ 0 + charge = omega (arith, e1, f1) in
-      (t, d, record { denotes = subst (λ u. Denotes m 0 0 t u d) e own; depth = omega (arith, e2, f2); pointer_total = omega (arith, e3, f3); cap_total = omega (arith, e4, f4) });
+      let e : c ≡ 0 + charge = omega (arith, e1, f1) in (
+        t,
+        d,
+        record {
+          denotes = subst (λ u. Denotes m 0 0 t u d) e own;
+          depth = omega (arith, e2, f2);
+          pointer_total =
+              omega (arith, e3, f3);
+          cap_total = omega (arith, e4, f4);
+        },
+      );
 }
 
 -- Before the first word nothing was looked at, and the root is ahead.
-pub starts : (m : List (List ℕ)) (words depth : ℕ) (report : Report) → 0 < length m → 0 < length (segment_of m 0)
+starts : (m : List (List ℕ)) (words depth : ℕ) (report : Report) → 0 < length m → 0 < length (segment_of m 0)
     → report.charge ≡ 0 → report.depth ≡ 0 → report.pointers ≡ 0 → report.caps ≡ 0 → report.first_cap ≡ None → IsNext m words depth 0 0 1 [] report
 starts m words depth report some root e1 e2 e3 e4 e5 =
     let x = HasWord-at m 0 0 root in
@@ -150,7 +189,8 @@ starts m words depth report some root e1 e2 e3 e4 e5 =
       low = omega arith;
     }
 
-pub begins : (m : List (List ℕ)) (words depth : ℕ) (report : Report) → 0 < length m → 0 < length (segment_of m 0)
-    → report.charge ≡ 0 → report.depth ≡ 0 → report.pointers ≡ 0 → report.caps ≡ 0 → report.first_cap ≡ None → (n : IsNext m words depth 0 0 1 [] report) × (n.seen ≡ [])
+pub begins_at : (m : List (List ℕ)) (limits : Limits) (report : Report) (K : List (List Step) → Type 0) → 0 < length m → 0 < length (segment_of m 0)
+    → report.charge ≡ 0 → report.depth ≡ 0 → report.pointers ≡ 0 → report.caps ≡ 0 → report.first_cap ≡ None → K [] → IsAt m limits 0 0 1 [] report K
 unfolding starts
-begins m words depth report some root e1 e2 e3 e4 e5 = (starts m words depth report some root e1 e2 e3 e4 e5, refl)
+begins_at m limits report K some root e1 e2 e3 e4 e5 k =
+    record { next = starts m (words_of limits) (depth_of limits) report some root e1 e2 e3 e4 e5; known = k }

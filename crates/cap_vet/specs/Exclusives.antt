@@ -8,8 +8,7 @@ use Rattle.cap_vet.specs.Taken.{marks_of}
 use Rattle.cap_vet.specs.declared.exclusive.Exclusive.{Exclusive}
 use Rattle.cap_vet.specs.declared.exclusive_room.ExclusiveFault.{ExclusiveFault}
 use Rattle.cap_vet.specs.declared.exclusive_room.ExclusiveFault.TheVariants as fault
-use Rattle.cap_vet.specs.declared.exclusive_vetting.ExclusiveRefusal.{ExclusiveRefusal}
-use Rattle.cap_vet.specs.declared.exclusive_vetting.ExclusiveRefusal.TheVariants.{Refused, Overlap, Memory}
+use Rattle.cap_vet.specs.declared.exclusive_vetting.Overlap.{Overlap}
 use Rattle.cap_vet.specs.declared.report.Report.{Report}
 use Rattle.cap_vet.specs.declared.vetted.Vetted.{Vetted}
 
@@ -17,11 +16,9 @@ use Rattle.cap_vet.specs.declared.vetted.Vetted.{Vetted}
 abbrev pub vetted_of : {M : Type 0} {g : segments.Ghosts M} → Exclusive M g → Vetted M g
 vetted_of e = e.vetted
 
--- a second walk stops at the first fault, or at the first pointer that overlaps
-abbrev pub IsStopped : List (List ℕ) → ℕ → ℕ → ExclusiveRefusal → Type 0
-IsStopped m words depth (Refused r) = IsRefused m words depth r
-IsStopped m words depth (Overlap s w n) = IsFirstOverlap m s w n
-IsStopped m words depth Memory = ⊥
+-- this is the first pointer that overlaps
+abbrev pub OverlapsFirst : List (List ℕ) → Overlap → Type 0
+OverlapsFirst m o = IsFirstOverlap m o.segment o.word o.pointers
 
 -- why a message isn't found exclusive with a buffer of `room` numbers; each message that isn't has
 -- one of these faults

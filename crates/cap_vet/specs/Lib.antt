@@ -3,10 +3,12 @@ pub mod Charging
 pub mod Exclusives
 pub mod Finding
 pub mod Handles
+pub mod Laws
 pub mod Levels
 pub mod Limits
 pub mod Looking
 pub mod Marks
+pub mod MarkSteps
 pub mod Nodes
 pub mod Owing
 pub mod Passing
@@ -15,6 +17,7 @@ pub mod Spots
 pub mod Taken
 pub mod Trails
 pub mod Turning
+pub mod Turns
 pub mod Vettings
 pub mod WalkFrames
 pub mod Walking

@@ -1,10 +1,16 @@
 -- What stays of a walk that goes past null words (profile).
 use Rattle.std.specs.Prelude.{ℕ, ◌≤◌, List, [], ◌∷◌, ◌++◌}
-use Rattle.cap_vet.specs.Walking.{IsWalking, work_left}
+use Rattle.cap_spec.specs.declared.Step.{Step}
+use Rattle.cap_vet.specs.Trails.{Ahead}
+use Rattle.cap_vet.specs.Walking.{AreNull, Walks, work_left}
 use Rattle.cap_vet.specs.declared.frame.Frame.{Frame}
 use Rattle.cap_vet.specs.declared.report.Report.{Report}
 
--- The walk goes on after pointer words of this frame that lead to nothing.
-abbrev pub Passes : List (List ℕ) → ℕ → ℕ → List Frame → Frame → Report → Frame → Report → Type 0
-Passes m words depth frames f report g after =
-    IsWalking m words depth (frames ++ g ∷ []) after × (work_left words (frames ++ g ∷ []) after ≤ work_left words (frames ++ f ∷ []) report)
+-- The walk, which had looked at these paths, goes on after null words of frame f, and g is left of that.
+pub record Passes (m : List (List ℕ)) (words depth : ℕ) (frames : List Frame) (seen : List (List Step)) (f : Frame) (report : Report) (g : Frame)
+    (after : Report) : Type 0 where
+  pub nulls : List (List Step)
+  pub later : List Ahead
+  pub are_null : AreNull m nulls
+  pub walks : Walks m words depth (frames ++ g ∷ []) after (nulls ++ seen) later
+  pub less : work_left words (frames ++ g ∷ []) after ≤ work_left words (frames ++ f ∷ []) report

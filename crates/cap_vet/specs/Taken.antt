@@ -5,10 +5,6 @@ use Rattle.cap_spec.specs.Frames.{sizes_of}
 use Rattle.cap_spec.specs.Messages.{segment_of}
 use Rattle.cap_spec.specs.declared.Step.{Step}
 use Rattle.cap_vet.specs.Marks.{IsMarked}
-use Rattle.cap_vet.specs.Trails.{Ahead}
-use Rattle.cap_vet.specs.Walking.{Walks}
-use Rattle.cap_vet.specs.declared.frame.Frame.{Frame}
-use Rattle.cap_vet.specs.declared.report.Report.{Report}
 
 -- bit i of all the words, 0 or 1
 abbrev pub bit_of : List ℕ → ℕ → ℕ
@@ -39,7 +35,7 @@ pub record HasRoom (m : List (List ℕ)) (starts bits : List ℕ) : Type 0 where
   pub known : AreStarts m starts
   pub enough : start_of m (length m) ≤ 64 * length bits
 
--- The walk goes on with these frames, and the root word and what it has looked at so far are marked, with nothing used twice.
-abbrev pub IsMarking : List (List ℕ) → ℕ → ℕ → List Frame → Report → List ℕ → Type 0
-IsMarking m words depth frames report bits =
-    (seen : List (List Step)) × (ahead : List Ahead) × Walks m words depth frames report seen ahead × IsMarked m seen (IsTaken m bits)
+-- There is a bit for each word. The root word and the words that these paths use are marked, and none is used twice.
+pub record HasMarked (m : List (List ℕ)) (seen : List (List Step)) (starts bits : List ℕ) : Type 0 where
+  pub room : HasRoom m starts bits
+  pub marked : IsMarked m seen (IsTaken m bits)

@@ -1,9 +1,9 @@
 -- What holds of a walk between two turns (profile).
 use Rattle.std.specs.Prelude.{ℕ, suc, ◌+◌, ◌-◌, ◌≤◌, ◌≡◌, List, [], ◌∷◌, length, map, reverse, Option, None, Some, ⊤, ◌<◌}
 use Rattle.std.specs.List.{AllByRecursion}
-use Rattle.cap_spec.specs.Messages.{segment_of}
+use Rattle.cap_spec.specs.Messages.{HasWord, segment_of}
 use Rattle.cap_spec.specs.Following.{Leads, to_cap}
-use Rattle.cap_spec.specs.Paths.{Before, IsOneOf, Reaches}
+use Rattle.cap_spec.specs.Paths.{Before, Costs, IsOneOf, Reaches}
 use Rattle.cap_spec.specs.Verdicts.{CostOf}
 use Rattle.cap_spec.specs.Faults.{AreShallow}
 use Rattle.cap_spec.specs.declared.Step.{Step}
@@ -51,10 +51,6 @@ pub record Walks (m : List (List ℕ)) (words depth : ℕ) (frames : List Frame)
   pub inside : AllByRecursion (FrameIn m) (reverse frames)
   pub stacked : AreStacked depth (reverse frames)
 
--- the walk has come this far
-abbrev pub IsWalking : List (List ℕ) → ℕ → ℕ → List Frame → Report → Type 0
-IsWalking m words depth frames report = (seen : List (List Step)) × (ahead : List Ahead) × Walks m words depth frames report seen ahead
-
 -- The next word to look at is s:w, and leads to this level; then come the words of the frames.
 pub record IsNext (m : List (List ℕ)) (words depth s w level : ℕ) (frames : List Frame) (report : Report) : Type 0 where
   pub seen : List (List Step)
@@ -79,3 +75,20 @@ work_left words frames report = length (all_spots (reverse frames)) + (words - r
 -- and with one more word to look at
 abbrev pub work_next : ℕ → List Frame → Report → ℕ
 work_next words frames report = suc (work_left words frames report)
+
+-- After these paths the walk looked at pointer word s:w, number n of them, which can be followed.
+pub record IsLookedAt (m : List (List ℕ)) (seen : List (List Step)) (a : Ahead) (s w n : ℕ) : Type 0 where
+  pub later : List Ahead
+  pub trail : IsTrail m seen (a ∷ later)
+  pub segment : a.segment ≡ s
+  pub word : a.word ≡ w
+  pub exists : s < length m
+  pub inside : w < length (segment_of m s)
+  pub cost : ℕ
+  pub costs : Costs m s w cost
+  pub number : n ≡ length seen + 1
+
+-- these paths reach null words
+abbrev pub AreNull : List (List ℕ) → List (List Step) → Type 0
+AreNull m [] = ⊤
+AreNull m (p ∷ paths) = ((level s w : ℕ) × Reaches m p level s w × HasWord m s w 0) × AreNull m paths

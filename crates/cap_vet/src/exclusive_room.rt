@@ -3,9 +3,8 @@
 
 ghost use Rattle.cap_spec.specs.Occupying.{IsDisjoint, empty_count};
 ghost use Rattle.cap_spec.specs.Frames.{sizes_of};
-ghost use Rattle.cap_spec.specs.Messages.{segment_of};
 ghost use Rattle.cap_spec.specs.Tree.{Tree};
-ghost use Rattle.cap_vet.specs.Exclusives.{IsExclusiveFault, IsStopped, KeepsRoom, vetted_of};
+ghost use Rattle.cap_vet.specs.Exclusives.{IsExclusiveFault, KeepsRoom, OverlapsFirst, vetted_of};
 ghost use Rattle.cap_vet.specs.Limits.{depth_of, words_of};
 ghost use Rattle.cap_vet.specs.Reports.{IsAccepted, IsReport};
 ghost use Rattle.cap_vet.specs.Taken.{marks_of, start_of};
@@ -15,7 +14,7 @@ ghost use Rattle.cap_vet.specs.declared.report.Report.{Report};
 ghost use Rattle.std.specs.Prelude.{Err, ◌+◌, ◌*◌, ◌<◌, ◌≡◌, ◌≤◌, IfErr, IfOk, IsErrOf, IsOk, drop, length, sum, ℕ};
 
 use crate::exclusive::Exclusive;
-use crate::exclusive_vetting::{ExclusiveRefusal, mark_message};
+use crate::exclusive_vetting::{Overlap, mark_message};
 use crate::limits::Limits;
 use crate::marks::numbers_for;
 use crate::report::Report;
@@ -63,23 +62,30 @@ pub fn vet_exclusive_in<'m, M: Segments>(
     limits: Limits,
     marks: &mut [u64],
 ) -> Result<Exclusive<'m, M>, ExclusiveFault>
-    ensures ok { IfOk result (λ e. IsAccepted (M.segments message.now) (words_of limits) (depth_of limits) (report_of (vetted_of e))
-        × IsDisjoint (M.segments message.now) × (marks_of (M.segments message.now) ≤ length marks.old)) }
+    ensures ok { let m = M.segments message.now in IfOk result (λ e.
+        IsAccepted m (words_of limits) (depth_of limits) (report_of (vetted_of e))
+        × IsDisjoint m × (marks_of m ≤ length marks.old)) }
     ensures message { IfOk result (λ e. message_of (vetted_of e) ≡ message.now) }
 
-    // Without that of elements which take no bits or no words, the charge is less than the words of all segments.
-    ensures bound { IfOk result (λ e. (t : Tree) × IsReport (M.segments message.now) (words_of limits) (depth_of limits) (report_of (vetted_of e)) t
-        × ((report_of (vetted_of e)).charge < sum (sizes_of (M.segments message.now)) + empty_count t)) }
-    ensures err { IfErr result (IsExclusiveFault (M.segments message.now) (words_of limits) (depth_of limits) (length marks.old)) }
+    // Without that of elements which take no bits or no words, the charge is less than the words of
+    // all segments.
+    ensures bound { let m = M.segments message.now in
+        IfOk result (λ e. let r = report_of (vetted_of e) in
+        (t : Tree) × IsReport m (words_of limits) (depth_of limits) r t
+        × (r.charge < sum (sizes_of m) + empty_count t)) }
+    ensures err { let m = M.segments message.now in
+        IfErr result (IsExclusiveFault m (words_of limits) (depth_of limits) (length marks.old)) }
 
     // The other direction.
-    ensures accepts { (report : Report) → IsAccepted (M.segments message.now) (words_of limits) (depth_of limits) report →
-        IsDisjoint (M.segments message.now) → marks_of (M.segments message.now) ≤ length marks.old → IsOk result }
-    ensures refuses { (fault : ExclusiveFault) →
-        IsExclusiveFault (M.segments message.now) (words_of limits) (depth_of limits) (length marks.old) fault → result ≡ Err fault }
+    ensures accepts { let m = M.segments message.now in (report : Report) →
+        IsAccepted m (words_of limits) (depth_of limits) report → IsDisjoint m →
+        marks_of m ≤ length marks.old → IsOk result }
+    ensures refuses { let m = M.segments message.now in (fault : ExclusiveFault) →
+        IsExclusiveFault m (words_of limits) (depth_of limits) (length marks.old) fault →
+        result ≡ Err fault }
 
     // The numbers of the buffer after the call.
-    ensures rest { drop (marks_of (M.segments message.now)) marks.new ≡ drop (marks_of (M.segments message.now)) marks.old }
+    ensures rest { let n = marks_of (M.segments message.now) in drop n marks.new ≡ drop n marks.old }
     ensures kept { IfErr result (λ fault. KeepsRoom fault marks.old marks.new) }
 {
     let vetted = match vet(message, limits) {
@@ -95,32 +101,22 @@ pub fn vet_exclusive_in<'m, M: Segments>(
     }
     match mark_cleared(message, &limits, &mut marks[..needed]) {
         Ok(()) => Ok(Exclusive { vetted }),
-        Err(
-            ExclusiveRefusal::Overlap {
-                segment,
-                word,
-                pointers,
-            },
-        ) => Err(ExclusiveFault::Overlap {
-            segment,
-            word,
-            pointers,
+        Err(overlap) => Err(ExclusiveFault::Overlap {
+            segment: overlap.segment,
+            word: overlap.word,
+            pointers: overlap.pointers,
         }),
-        Err(_) => unreachable!(),
     }
 }
 
 // Clears the marks, whatever they are, and walks a message that is accepted once more.
-fn mark_cleared<M: Segments>(
-    message: &M,
-    limits: &Limits,
-    marks: &mut [u64],
-) -> Result<(), ExclusiveRefusal>
-    requires enough { start_of (M.segments message.now) (length (M.segments message.now)) ≤ 64 * length marks.old }
-    requires root { 0 < length (segment_of (M.segments message.now) 0) }
+fn mark_cleared<M: Segments>(message: &M, limits: &Limits, bits: &mut [u64]) -> Result<(), Overlap>
+    requires enough { let m = M.segments message.now in start_of m (length m) ≤ 64 * length bits.old }
+    requires accepted { let m = M.segments message.now in
+        (report : Report) × IsAccepted m (words_of limits.now) (depth_of limits.now) report }
     ensures ok { IfOk result (λ _. IsDisjoint (M.segments message.now)) }
-    ensures err { IfErr result (IsStopped (M.segments message.now) (words_of limits.now) (depth_of limits.now)) }
+    ensures err { IfErr result (OverlapsFirst (M.segments message.now)) }
 {
-    marks.fill(0);
-    mark_message(message, limits, marks)
+    bits.fill(0);
+    mark_message(message, limits, bits)
 }

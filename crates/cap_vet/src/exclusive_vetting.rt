@@ -7,23 +7,23 @@ ghost use Rattle.cap_spec.specs.Frames.{sizes_of};
 ghost use Rattle.cap_spec.specs.Occupying.{IsDisjoint, IsFirstOverlap, empty_count};
 ghost use Rattle.cap_spec.specs.Tree.{Tree};
 ghost use Rattle.cap_spec.specs.declared.Refusal.{Refusal};
-ghost use Rattle.cap_vet.specs.Exclusives.{IsStopped, vetted_of};
+ghost use Rattle.cap_vet.specs.Exclusives.{OverlapsFirst, vetted_of};
+ghost use Rattle.cap_vet.specs.Laws.{null_marked};
 ghost use Rattle.cap_vet.specs.Limits.{depth_of, words_of};
 ghost use Rattle.cap_vet.specs.Reports.{IsAccepted, IsReport};
-ghost use Rattle.cap_vet.specs.Taken.{HasRoom, IsMarking, IsTaken, start_of};
+ghost use Rattle.cap_vet.specs.Taken.{HasMarked, HasRoom, IsTaken, start_of};
 ghost use Rattle.cap_vet.specs.Vettings.{message_of, report_of};
 ghost use Rattle.cap_vet.specs.declared.report.Report.{Report};
-ghost use Rattle.std.specs.Prelude.{Err, ◌+◌, ◌*◌, ◌<◌, ◌≡◌, ◌≤◌, ◌⊎◌, [], ◌∷◌, ◌++◌, IfErr, IfNone, IfOk, IfSome, IsErrOf, IsOk, length, sum, ℕ};
+ghost use Rattle.std.specs.Prelude.{Err, ◌+◌, ◌*◌, ◌<◌, ◌≡◌, ◌≤◌, ◌⊎◌, IfErr, IfOk, IsErrOf, IsOk, length, sum, ℕ};
 
 use crate::exclusive::Exclusive;
-use crate::frame::Frame;
 use crate::limits::Limits;
-use crate::marks::{mark_pointer, mark_words, numbers_for, starts_in};
-use crate::report::Report;
+use crate::marks::{Marks, numbers_for, starts_in};
+use crate::place::Place;
+use crate::turn::{Stopped, Turn};
 use crate::uses::near_use;
-use crate::vetted::Vetted;
 use crate::vetting::vet;
-use crate::walking::{Stack, push_kept, visit};
+use crate::walking::walk;
 use cap_frame::Segments;
 use cap_spec::Refusal;
 use std::alloc::Global;
@@ -65,29 +65,38 @@ pub fn vet_exclusive<'m, M: Segments>(
     message: &'m M,
     limits: Limits,
 ) -> Result<Exclusive<'m, M>, ExclusiveRefusal>
-    ensures ok { IfOk result (λ e. IsAccepted (M.segments message.now) (words_of limits) (depth_of limits) (report_of (vetted_of e))
-        × IsDisjoint (M.segments message.now)) }
+    ensures ok { let m = M.segments message.now in IfOk result (λ e.
+        IsAccepted m (words_of limits) (depth_of limits) (report_of (vetted_of e)) × IsDisjoint m) }
     ensures message { IfOk result (λ e. message_of (vetted_of e) ≡ message.now) }
 
-    // Without that of elements which take no bits or no words, the charge is less than the words of all segments.
-    ensures bound { IfOk result (λ e. (t : Tree) × IsReport (M.segments message.now) (words_of limits) (depth_of limits) (report_of (vetted_of e)) t
-        × ((report_of (vetted_of e)).charge < sum (sizes_of (M.segments message.now)) + empty_count t)) }
+    // Without that of elements which take no bits or no words, the charge is less than the words of
+    // all segments.
+    ensures bound { let m = M.segments message.now in
+        IfOk result (λ e. let r = report_of (vetted_of e) in
+        (t : Tree) × IsReport m (words_of limits) (depth_of limits) r t
+        × (r.charge < sum (sizes_of m) + empty_count t)) }
 
-    ensures refused { (r : Refusal) → IsErrOf result (ExclusiveRefusal.Refused r) → IsRefused (M.segments message.now) (words_of limits) (depth_of limits) r }
-    ensures overlap { (s w n : ℕ) → IsErrOf result (ExclusiveRefusal.Overlap s w n) → IsFirstOverlap (M.segments message.now) s w n }
+    ensures refused { let m = M.segments message.now in (r : Refusal) →
+        IsErrOf result (ExclusiveRefusal.Refused r) → IsRefused m (words_of limits) (depth_of limits) r }
+    ensures overlap { (s w n : ℕ) → IsErrOf result (ExclusiveRefusal.Overlap s w n) →
+        IsFirstOverlap (M.segments message.now) s w n }
 
     // Only of a message that is accepted.
-    ensures overlap_accepted { (s w n : ℕ) → IsErrOf result (ExclusiveRefusal.Overlap s w n) →
-        (report : Report) × IsAccepted (M.segments message.now) (words_of limits) (depth_of limits) report }
-    ensures memory { IsErrOf result ExclusiveRefusal.Memory →
-        (report : Report) × IsAccepted (M.segments message.now) (words_of limits) (depth_of limits) report }
+    ensures overlap_accepted { let m = M.segments message.now in (s w n : ℕ) →
+        IsErrOf result (ExclusiveRefusal.Overlap s w n) →
+        (report : Report) × IsAccepted m (words_of limits) (depth_of limits) report }
+    ensures memory { let m = M.segments message.now in IsErrOf result ExclusiveRefusal.Memory →
+        (report : Report) × IsAccepted m (words_of limits) (depth_of limits) report }
 
     // The other direction, unless the allocation fails.
-    ensures refuses { (r : Refusal) → IsRefused (M.segments message.now) (words_of limits) (depth_of limits) r → result ≡ Err (ExclusiveRefusal.Refused r) }
-    ensures accepts { (t : Tree) (c d : ℕ) → Denotes (M.segments message.now) 0 0 t c d → c ≤ words_of limits → d ≤ depth_of limits →
-        IsDisjoint (M.segments message.now) → IsOk result ⊎ (result ≡ Err ExclusiveRefusal.Memory) }
-    ensures names { (t : Tree) (c d s w n : ℕ) → Denotes (M.segments message.now) 0 0 t c d → c ≤ words_of limits → d ≤ depth_of limits →
-        IsFirstOverlap (M.segments message.now) s w n → (result ≡ Err (ExclusiveRefusal.Overlap s w n)) ⊎ (result ≡ Err ExclusiveRefusal.Memory) }
+    ensures refuses { let m = M.segments message.now in (r : Refusal) →
+        IsRefused m (words_of limits) (depth_of limits) r → result ≡ Err (ExclusiveRefusal.Refused r) }
+    ensures accepts { let m = M.segments message.now in (t : Tree) (c d : ℕ) →
+        Denotes m 0 0 t c d → c ≤ words_of limits → d ≤ depth_of limits →
+        IsDisjoint m → IsOk result ⊎ (result ≡ Err ExclusiveRefusal.Memory) }
+    ensures names { let m = M.segments message.now in (t : Tree) (c d s w n : ℕ) →
+        Denotes m 0 0 t c d → c ≤ words_of limits → d ≤ depth_of limits → IsFirstOverlap m s w n →
+        (result ≡ Err (ExclusiveRefusal.Overlap s w n)) ⊎ (result ≡ Err ExclusiveRefusal.Memory) }
 {
     let vetted = match vet(message, limits) {
         Ok(vetted) => vetted,
@@ -98,8 +107,21 @@ pub fn vet_exclusive<'m, M: Segments>(
     };
     match mark_message(message, &limits, marks.as_mut_slice()) {
         Ok(()) => Ok(Exclusive { vetted }),
-        Err(refusal) => Err(refusal),
+        Err(overlap) => Err(ExclusiveRefusal::Overlap {
+            segment: overlap.segment,
+            word: overlap.word,
+            pointers: overlap.pointers,
+        }),
     }
+}
+
+/// The first pointer in preorder that uses a word which is used already.
+#[derive(Drop)]
+pub(crate) struct Overlap {
+    pub(crate) segment: u32,
+    pub(crate) word: u32,
+    /// How many pointer words were looked at, that one included.
+    pub(crate) pointers: u64,
 }
 
 /// Walks a message that is accepted once more. A table of where the bits of its segments start is made
@@ -107,36 +129,34 @@ pub fn vet_exclusive<'m, M: Segments>(
 pub(crate) fn mark_message<M: Segments>(
     message: &M,
     limits: &Limits,
-    marks: &mut [u64],
-) -> Result<(), ExclusiveRefusal>
-    requires enough { start_of (M.segments message.now) (length (M.segments message.now)) ≤ 64 * length marks.old }
-    requires none { (s w : ℕ) → ¬ IsTaken (M.segments message.now) marks.old s w }
-    requires root { 0 < length (segment_of (M.segments message.now) 0) }
+    bits: &mut [u64],
+) -> Result<(), Overlap>
+    requires enough { let m = M.segments message.now in start_of m (length m) ≤ 64 * length bits.old }
+    requires none { (s w : ℕ) → ¬ IsTaken (M.segments message.now) bits.old s w }
+    requires accepted { let m = M.segments message.now in
+        (report : Report) × IsAccepted m (words_of limits.now) (depth_of limits.now) report }
     ensures ok { IfOk result (λ _. IsDisjoint (M.segments message.now)) }
-    ensures err { IfErr result (IsStopped (M.segments message.now) (words_of limits.now) (depth_of limits.now)) }
+    ensures err { IfErr result (OverlapsFirst (M.segments message.now)) }
 {
     if message.count() == 1 {
-        return mark_all(message, limits, &[0], marks);
+        return mark_all(message, limits, &[0], bits);
     }
-    mark_segments(message, limits, marks)
+    mark_segments(message, limits, bits)
 }
 
 // The same of a message of several segments.
 #[cold]
 #[inline(never)]
-fn mark_segments<M: Segments>(
-    message: &M,
-    limits: &Limits,
-    marks: &mut [u64],
-) -> Result<(), ExclusiveRefusal>
-    requires enough { start_of (M.segments message.now) (length (M.segments message.now)) ≤ 64 * length marks.old }
-    requires none { (s w : ℕ) → ¬ IsTaken (M.segments message.now) marks.old s w }
-    requires root { 0 < length (segment_of (M.segments message.now) 0) }
+fn mark_segments<M: Segments>(message: &M, limits: &Limits, bits: &mut [u64]) -> Result<(), Overlap>
+    requires enough { let m = M.segments message.now in start_of m (length m) ≤ 64 * length bits.old }
+    requires none { (s w : ℕ) → ¬ IsTaken (M.segments message.now) bits.old s w }
+    requires accepted { let m = M.segments message.now in
+        (report : Report) × IsAccepted m (words_of limits.now) (depth_of limits.now) report }
     ensures ok { IfOk result (λ _. IsDisjoint (M.segments message.now)) }
-    ensures err { IfErr result (IsStopped (M.segments message.now) (words_of limits.now) (depth_of limits.now)) }
+    ensures err { IfErr result (OverlapsFirst (M.segments message.now)) }
 {
     let starts = starts_in(message);
-    mark_all(message, limits, starts.as_slice(), marks)
+    mark_all(message, limits, starts.as_slice(), bits)
 }
 
 // Marks what each pointer uses, from the root on.
@@ -144,155 +164,58 @@ fn mark_all<M: Segments>(
     message: &M,
     limits: &Limits,
     starts: &[u64],
-    marks: &mut [u64],
-) -> Result<(), ExclusiveRefusal>
-    requires room { HasRoom (M.segments message.now) starts.now marks.old }
-    requires none { (s w : ℕ) → ¬ IsTaken (M.segments message.now) marks.old s w }
-    requires root { 0 < length (segment_of (M.segments message.now) 0) }
+    bits: &mut [u64],
+) -> Result<(), Overlap>
+    requires room { HasRoom (M.segments message.now) starts.now bits.old }
+    requires none { (s w : ℕ) → ¬ IsTaken (M.segments message.now) bits.old s w }
+    requires accepted { let m = M.segments message.now in
+        (report : Report) × IsAccepted m (words_of limits.now) (depth_of limits.now) report }
     ensures ok { IfOk result (λ _. IsDisjoint (M.segments message.now)) }
-    ensures err { IfErr result (IsStopped (M.segments message.now) (words_of limits.now) (depth_of limits.now)) }
+    ensures err { IfErr result (OverlapsFirst (M.segments message.now)) }
 {
-    if !mark_words(message, starts, marks, 0, 0, 1) {
+    let mut marks = Marks { starts, bits };
+    if !marks.mark_words(0, 0, 1) {
         unreachable!();
     }
-    let mut report = Report::default();
-    let near = near_use(message, 0, 0);
-    let child = match visit(message, limits, &mut report, 0, 0, 1) {
-        Ok(child) => child,
-        Err(refusal) => return Err(ExclusiveRefusal::Refused(refusal)),
-    };
-    if !mark_pointer(message, starts, marks, 0, 0, near) {
-        return Err(ExclusiveRefusal::Overlap {
-            segment: 0,
-            word: 0,
-            pointers: 1,
-        });
-    }
-    match child {
-        Some(frame) => mark_below(message, limits, starts, marks, frame, report),
-        None => Ok(()),
+    match walk(message, limits, &mut marks) {
+        Ok(_) => Ok(()),
+        Err(Stopped::ByTurn(overlap)) => Err(overlap),
+        // The message is accepted.
+        Err(Stopped::Refused(_)) => unreachable!(),
     }
 }
 
-// Goes on below the root. Each message initializes its frames, so a walk begins with few of them.
-fn mark_below<M: Segments>(
-    message: &M,
-    limits: &Limits,
-    starts: &[u64],
-    marks: &mut [u64],
-    frame: Frame,
-    mut report: Report,
-) -> Result<(), ExclusiveRefusal>
-    requires room { HasRoom (M.segments message.now) starts.now marks.old }
-    requires marking { IsMarking (M.segments message.now) (words_of limits.now) (depth_of limits.now) (frame ∷ []) report marks.old }
-    ensures ok { IfOk result (λ _. IsDisjoint (M.segments message.now)) }
-    ensures err { IfErr result (IsStopped (M.segments message.now) (words_of limits.now) (depth_of limits.now)) }
-{
-    let mut stack: Stack<8> = Stack::new();
-    match mark_on(
-        message,
-        limits,
-        starts,
-        marks,
-        &mut stack,
-        frame,
-        &mut report,
-    ) {
-        Ok(None) => Ok(()),
-        Ok(Some(frame)) => mark_deep(message, limits, starts, marks, &stack, frame, report),
-        Err(refusal) => Err(refusal),
-    }
-}
+impl Turn for Marks<'_> {
+    type Stop = Overlap;
 
-// Goes on where those few frames are full, with as many as the deepest walk can have.
-#[cold]
-#[inline(never)]
-fn mark_deep<M: Segments>(
-    message: &M,
-    limits: &Limits,
-    starts: &[u64],
-    marks: &mut [u64],
-    few: &Stack<8>,
-    frame: Frame,
-    mut report: Report,
-) -> Result<(), ExclusiveRefusal>
-    requires room { HasRoom (M.segments message.now) starts.now marks.old }
-    requires marking { IsMarking (M.segments message.now) (words_of limits.now) (depth_of limits.now) (few.now.items ++ frame ∷ []) report marks.old }
-    ensures ok { IfOk result (λ _. IsDisjoint (M.segments message.now)) }
-    ensures err { IfErr result (IsStopped (M.segments message.now) (words_of limits.now) (depth_of limits.now)) }
-{
-    let mut stack: Stack<256> = Stack::new();
-    if stack.try_extend_from_slice(few.as_slice()).is_err() {
-        unreachable!();
-    }
-    match mark_on(
-        message,
-        limits,
-        starts,
-        marks,
-        &mut stack,
-        frame,
-        &mut report,
-    ) {
-        Ok(None) => Ok(()),
-        Ok(Some(_)) => unreachable!(),
-        Err(refusal) => Err(refusal),
-    }
-}
+    ghost knows = { λ marks m seen. HasMarked m seen marks.starts.now marks.bits.now };
 
-// Goes on with the words of this frame and those of the stack until no pointer word is left, or one
-// overlaps, or the stack is full. If it is full, the result is the frame to go on with.
-fn mark_on<M: Segments, const N: usize>(
-    message: &M,
-    limits: &Limits,
-    starts: &[u64],
-    marks: &mut [u64],
-    stack: &mut Stack<N>,
-    mut frame: Frame,
-    report: &mut Report,
-) -> Result<Option<Frame>, ExclusiveRefusal>
-    requires few { (length stack.old.items < N) × (N ≤ 256) }
-    requires room { HasRoom (M.segments message.now) starts.now marks.old }
-    requires marking { IsMarking (M.segments message.now) (words_of limits.now) (depth_of limits.now) (stack.old.items ++ frame ∷ []) report.old marks.old }
-    ensures room { HasRoom (M.segments message.now) starts.now marks.new }
-    ensures done { IfOk result (λ left. IfNone left (IsDisjoint (M.segments message.now))) }
-    ensures full { IfOk result (λ left. IfSome left (λ f. (length stack.new.items ≡ N)
-        × IsMarking (M.segments message.now) (words_of limits.now) (depth_of limits.now) (stack.new.items ++ f ∷ []) report.new marks.new)) }
-    ensures err { IfErr result (IsStopped (M.segments message.now) (words_of limits.now) (depth_of limits.now)) }
-{
-    'walk: loop {
-        let (s, w, level) = (frame.segment, frame.at, frame.level);
-        let more = frame.advance();
-        // The words that the pointer uses are looked up before the visit, and marked after it. If
-        // nothing is written in between, both take its fields from the word once.
-        let near = near_use(message, s, w);
-        let child = match visit(message, limits, report, s, w, level) {
-            Ok(child) => child,
-            Err(refusal) => return Err(ExclusiveRefusal::Refused(refusal)),
-        };
-        if !mark_pointer(message, starts, marks, s, w, near) {
-            return Err(ExclusiveRefusal::Overlap {
-                segment: s,
-                word: w,
-                pointers: report.pointers,
-            });
+    ghost stops = { OverlapsFirst };
+
+    #[inline(always)]
+    fn before<M: Segments>(&self, message: &M, s: u32, w: u32) -> Option<Place> {
+        near_use(message, s, w)
+    }
+
+    #[inline(always)]
+    fn after<M: Segments>(
+        &mut self,
+        message: &M,
+        s: u32,
+        w: u32,
+        used: Option<Place>,
+        pointers: u64,
+    ) -> Result<(), Overlap> {
+        if self.mark_pointer(message, s, w, used) {
+            return Ok(());
         }
-        match child {
-            Some(below) => {
-                push_kept(stack, more, frame);
-                if stack.is_full() {
-                    return Ok(Some(below));
-                }
-                frame = below;
-            }
-            None => {
-                if !more {
-                    match stack.pop() {
-                        Some(below) => frame = below,
-                        None => return Ok(None),
-                    }
-                }
-            }
-        }
+        Err(Overlap {
+            segment: s,
+            word: w,
+            pointers,
+        })
     }
+
+    ghost passes = { λ marks m seen p level s w reached null known.
+        null_marked m seen p level s w marks.starts.now marks.bits.now reached null known };
 }

@@ -16,6 +16,7 @@ mod place;
 mod report;
 mod spot;
 mod targets;
+mod turn;
 mod uses;
 mod vetted;
 mod vetting;

@@ -2,11 +2,12 @@
 
 ghost use Rattle.cap_spec.specs.Denoting.{places};
 ghost use Rattle.cap_spec.specs.Following.{Lead, Leads};
-ghost use Rattle.cap_spec.specs.Messages.{HasWord, segment_of};
-ghost use Rattle.cap_spec.specs.Occupying.{IsPlaceOf, Occupies, pads_of};
-ghost use Rattle.cap_vet.specs.Marks.{Conflicts, MarksAll, UsesPlace};
-ghost use Rattle.cap_vet.specs.Taken.{AreStarts, HasRoom, IsTaken, bit_of, marks_of, start_of};
-ghost use Rattle.std.specs.Prelude.{◌+◌, ◌-◌, ◌*◌, ◌/◌, ◌<◌, ◌^◌, ◌≡◌, ◌≤◌, List, ℕ, IfSome, false, length, true};
+ghost use Rattle.cap_spec.specs.Messages.{HasWord};
+ghost use Rattle.cap_spec.specs.Occupying.{pads_of};
+ghost use Rattle.cap_vet.specs.Marks.{UsesPlace};
+ghost use Rattle.cap_vet.specs.MarkSteps.{HasBits, MarksPlaces, MarksUse};
+ghost use Rattle.cap_vet.specs.Taken.{AreStarts, bit_of, marks_of, start_of};
+ghost use Rattle.std.specs.Prelude.{◌+◌, ◌-◌, ◌*◌, ◌/◌, ◌<◌, ◌^◌, ◌≡◌, ◌≤◌, IfSome, IsFalse, IsTrue, List, length, ℕ};
 
 use crate::place::Place;
 use crate::uses::structs_use;
@@ -25,13 +26,21 @@ pub fn marks_for(words: u64) -> usize
 /// How many numbers of 64 bits hold a bit for each word of a message.
 pub(crate) fn numbers_for<M: Segments>(message: &M) -> usize
     ensures exact { result ≡ marks_of (M.segments message.now) }
-    ensures enough { start_of (M.segments message.now) (length (M.segments message.now)) ≤ 64 * result }
+    ensures enough { let m = M.segments message.now in start_of m (length m) ≤ 64 * result }
 {
     let mut words = 0u64;
     for s in 0..message.count() {
         words += u64::from(message.len(s));
     }
     marks_for(words)
+}
+
+/// The marks of a message's words, a bit for each.
+#[derive(Drop)]
+pub(crate) struct Marks<'a> {
+    /// Where the bits of each segment's words start.
+    pub(crate) starts: &'a [u64],
+    pub(crate) bits: &'a mut [u64],
 }
 
 /// Where the bits of each segment's words start, those of one segment after those of the other.
@@ -47,140 +56,87 @@ pub(crate) fn starts_in<M: Segments>(message: &M) -> ArrayVec<u64, 512>
     starts
 }
 
-/// Marks what following the pointer at word `w` of segment `s` uses, or answers `false` where a part of
-/// it is used twice or was marked before. A pointer that is wrong uses nothing. `near` is what
-/// `near_use` answers of the word.
-// It and what it calls for an object near by are inlined: a walk may look at millions of words.
-#[inline(always)]
-pub(crate) fn mark_pointer<M: Segments>(
-    message: &M,
-    starts: &[u64],
-    marks: &mut [u64],
-    s: u32,
-    w: u32,
-    near: Option<Place>,
-) -> bool
-    requires room { HasRoom (M.segments message.now) starts.now marks.old }
-    requires exists { s < length (M.segments message.now) }
-    requires inside { w < length (segment_of (M.segments message.now) s) }
-    requires near { IfSome near (UsesPlace (M.segments message.now) s w) }
-    ensures length { length marks.new ≡ length marks.old }
-    ensures taken { result ≡ true → (used : List (ℕ × ℕ)) → Occupies (M.segments message.now) s w used →
-        MarksAll (IsTaken (M.segments message.now) marks.old) (IsTaken (M.segments message.now) marks.new) used }
-    ensures conflict { result ≡ false → (used : List (ℕ × ℕ)) × Occupies (M.segments message.now) s w used
-        × Conflicts (IsTaken (M.segments message.now) marks.old) used }
-{
-    match near {
-        Some(place) => mark_words(
-            message,
-            starts,
-            marks,
-            place.segment,
-            place.start,
-            place.words,
-        ),
-        None => mark_far(message, starts, marks, s, w),
+impl Marks<'_> {
+    /// Marks what following the pointer at word `w` of segment `s` uses, or returns `false` if a part
+    /// of it is used twice or was marked before. A pointer that is wrong uses nothing. `near` is what
+    /// `near_use` returns for the word.
+    // It and what it calls for an object near by are inlined: a walk may look at millions of words.
+    #[inline(always)]
+    pub(crate) fn mark_pointer<M: Segments>(
+        &mut self,
+        message: &M,
+        s: u32,
+        w: u32,
+        near: Option<Place>,
+    ) -> bool
+        requires word { HasBits (M.segments message.now) self.old s w 1 }
+        requires near { IfSome near (UsesPlace (M.segments message.now) s w) }
+        ensures { MarksUse (M.segments message.now) self.old self.new s w result }
+    {
+        match near {
+            Some(place) => self.mark_words(place.segment, place.start, place.words),
+            None => self.mark_far(message, s, w),
+        }
     }
-}
 
-// The same of a word that doesn't say it alone.
-#[inline(never)]
-fn mark_far<M: Segments>(message: &M, starts: &[u64], marks: &mut [u64], s: u32, w: u32) -> bool
-    requires room { HasRoom (M.segments message.now) starts.now marks.old }
-    requires exists { s < length (M.segments message.now) }
-    requires inside { w < length (segment_of (M.segments message.now) s) }
-    ensures length { length marks.new ≡ length marks.old }
-    ensures taken { result ≡ true → (used : List (ℕ × ℕ)) → Occupies (M.segments message.now) s w used →
-        MarksAll (IsTaken (M.segments message.now) marks.old) (IsTaken (M.segments message.now) marks.new) used }
-    ensures conflict { result ≡ false → (used : List (ℕ × ℕ)) × Occupies (M.segments message.now) s w used
-        × Conflicts (IsTaken (M.segments message.now) marks.old) used }
-{
-    if let Some(list) = structs_use(message, s, w) {
-        return mark_words(message, starts, marks, list.segment, list.start, list.words);
+    // The same of a word that doesn't say it alone.
+    #[inline(never)]
+    fn mark_far<M: Segments>(&mut self, message: &M, s: u32, w: u32) -> bool
+        requires { HasBits (M.segments message.now) self.old s w 1 }
+        ensures { MarksUse (M.segments message.now) self.old self.new s w result }
+    {
+        if let Some(list) = structs_use(message, s, w) {
+            return self.mark_words(list.segment, list.start, list.words);
+        }
+        self.mark_followed(message, s, w)
     }
-    mark_followed(message, starts, marks, s, w)
-}
 
-// The same of a word that has to be followed.
-#[inline(never)]
-fn mark_followed<M: Segments>(
-    message: &M,
-    starts: &[u64],
-    marks: &mut [u64],
-    s: u32,
-    w: u32,
-) -> bool
-    requires room { HasRoom (M.segments message.now) starts.now marks.old }
-    requires exists { s < length (M.segments message.now) }
-    requires inside { w < length (segment_of (M.segments message.now) s) }
-    ensures length { length marks.new ≡ length marks.old }
-    ensures taken { result ≡ true → (used : List (ℕ × ℕ)) → Occupies (M.segments message.now) s w used →
-        MarksAll (IsTaken (M.segments message.now) marks.old) (IsTaken (M.segments message.now) marks.new) used }
-    ensures conflict { result ≡ false → (used : List (ℕ × ℕ)) × Occupies (M.segments message.now) s w used
-        × Conflicts (IsTaken (M.segments message.now) marks.old) used }
-{
-    match follow(message, s, w) {
-        Err(_) => true,
-        Ok(Followed::Null { .. }) => mark_pads(message, starts, marks, s, w),
-        Ok(Followed::Cap { .. }) => mark_pads(message, starts, marks, s, w),
-        Ok(Followed::Target(target)) => {
-            if !mark_pads(message, starts, marks, s, w) {
-                return false;
+    // The same of a word that has to be followed.
+    #[inline(never)]
+    fn mark_followed<M: Segments>(&mut self, message: &M, s: u32, w: u32) -> bool
+        requires { HasBits (M.segments message.now) self.old s w 1 }
+        ensures { MarksUse (M.segments message.now) self.old self.new s w result }
+    {
+        match follow(message, s, w) {
+            Err(_) => true,
+            Ok(Followed::Null { .. }) => self.mark_pads(message, s, w),
+            Ok(Followed::Cap { .. }) => self.mark_pads(message, s, w),
+            Ok(Followed::Target(target)) => {
+                if !self.mark_pads(message, s, w) {
+                    return false;
+                }
+                self.mark_words(target.segment, target.start, target.words)
             }
-            mark_words(
-                message,
-                starts,
-                marks,
-                target.segment,
-                target.start,
-                target.words,
-            )
         }
     }
-}
 
-// Marks the pad words of a pointer.
-fn mark_pads<M: Segments>(message: &M, starts: &[u64], marks: &mut [u64], s: u32, w: u32) -> bool
-    requires room { HasRoom (M.segments message.now) starts.now marks.old }
-    requires exists { s < length (M.segments message.now) }
-    requires inside { w < length (segment_of (M.segments message.now) s) }
-    requires leads { (k : ℕ) × (r : Lead) × Leads (M.segments message.now) s w k r }
-    ensures length { length marks.new ≡ length marks.old }
-    ensures taken { result ≡ true → (p : ℕ) → HasWord (M.segments message.now) s w p →
-        MarksAll (IsTaken (M.segments message.now) marks.old) (IsTaken (M.segments message.now) marks.new) (pads_of p) }
-    ensures conflict { result ≡ false → (p : ℕ) → HasWord (M.segments message.now) s w p →
-        (x y : ℕ) × IsPlaceOf (x, y) (pads_of p) × IsTaken (M.segments message.now) marks.old x y }
-{
-    match Pointer::of(message.word(s, w)) {
-        Pointer::Far { two, pad, segment } => {
-            let pads = if two { 2 } else { 1 };
-            mark_words(message, starts, marks, segment, pad, pads)
+    // Marks the pad words of a pointer.
+    fn mark_pads<M: Segments>(&mut self, message: &M, s: u32, w: u32) -> bool
+        requires word { HasBits (M.segments message.now) self.old s w 1 }
+        requires leads { (k : ℕ) × (r : Lead) × Leads (M.segments message.now) s w k r }
+        ensures { let m = M.segments message.now in (p : ℕ) → HasWord m s w p →
+            MarksPlaces m self.old self.new (pads_of p) result }
+    {
+        match Pointer::of(message.word(s, w)) {
+            Pointer::Far { two, pad, segment } => {
+                let pads = if two { 2 } else { 1 };
+                self.mark_words(segment, pad, pads)
+            }
+            _ => true,
         }
-        _ => true,
     }
-}
 
-/// Marks `count` words of segment `s` from word `from` on, or answers `false` where one of them was marked
-/// before.
-#[inline(always)]
-pub(crate) fn mark_words<M: Segments>(
-    _message: &M,
-    starts: &[u64],
-    marks: &mut [u64],
-    s: u32,
-    from: u32,
-    count: u32,
-) -> bool
-    requires room { HasRoom (M.segments _message.now) starts.now marks.old }
-    requires exists { s < length (M.segments _message.now) }
-    requires inside { from + count ≤ length (segment_of (M.segments _message.now) s) }
-    ensures length { length marks.new ≡ length marks.old }
-    ensures taken { result ≡ true →
-        MarksAll (IsTaken (M.segments _message.now) marks.old) (IsTaken (M.segments _message.now) marks.new) (places s from count) }
-    ensures conflict { result ≡ false → (w : ℕ) × IsPlaceOf (s, w) (places s from count) × IsTaken (M.segments _message.now) marks.old s w }
-{
-    let start = starts[s as usize] + u64::from(from);
-    set_bits(marks, start, u64::from(count))
+    /// Marks `count` words of segment `s` from word `from` on, or returns `false` if one of them was
+    /// marked before.
+    #[inline(always)]
+    pub(crate) fn mark_words(&mut self, s: u32, from: u32, count: u32) -> bool
+        requires { (m : List (List ℕ)) × HasBits m self.old s from count }
+        ensures { (m : List (List ℕ)) → HasBits m self.old s from count →
+            MarksPlaces m self.old self.new (places s from count) result }
+    {
+        let start = self.starts[s as usize] + u64::from(from);
+        set_bits(self.bits, start, u64::from(count))
+    }
 }
 
 // Sets `count` bits from bit `from` on, or answers `false` where one of them was set before.
@@ -189,11 +145,11 @@ fn set_bits(words: &mut [u64], from: u64, count: u64) -> bool
     requires inside { from + count ≤ 64 * length words.old }
     requires small { from + count < 2 ^ 63 }
     ensures length { length words.new ≡ length words.old }
-    ensures taken { result ≡ true → (i : ℕ) → from ≤ i → i < from + count → bit_of words.new i ≡ 1 }
-    ensures free { result ≡ true → (i : ℕ) → from ≤ i → i < from + count → bit_of words.old i ≡ 0 }
-    ensures below { result ≡ true → (i : ℕ) → i < from → bit_of words.new i ≡ bit_of words.old i }
-    ensures above { result ≡ true → (i : ℕ) → from + count ≤ i → bit_of words.new i ≡ bit_of words.old i }
-    ensures conflict { result ≡ false → (i : ℕ) × (from ≤ i) × (i < from + count) × (bit_of words.old i ≡ 1) }
+    ensures taken { IsTrue result → (i : ℕ) → from ≤ i → i < from + count → bit_of words.new i ≡ 1 }
+    ensures free { IsTrue result → (i : ℕ) → from ≤ i → i < from + count → bit_of words.old i ≡ 0 }
+    ensures below { IsTrue result → (i : ℕ) → i < from → bit_of words.new i ≡ bit_of words.old i }
+    ensures above { IsTrue result → (i : ℕ) → from + count ≤ i → bit_of words.new i ≡ bit_of words.old i }
+    ensures conflict { IsFalse result → (i : ℕ) × (from ≤ i) × (i < from + count) × (bit_of words.old i ≡ 1) }
 {
     let end = from + count;
     let mut at = from;

@@ -1,33 +1,190 @@
 //! The walk: one pointer word a turn, in preorder.
 
 ghost use Rattle.cap_spec.specs.Faults.{IsFirstFault};
+ghost use Rattle.cap_spec.specs.declared.Step.{Step};
 ghost use Rattle.cap_vet.specs.WalkFrames.{kept};
 ghost use Rattle.cap_vet.specs.Passing.{Passes};
 ghost use Rattle.cap_vet.specs.Limits.{depth_of, words_of};
 ghost use Rattle.cap_vet.specs.Turning.{added, frame_below};
+ghost use Rattle.cap_vet.specs.Turns.{GoesOn, IsAt, IsStopped, IsWalking};
 ghost use Rattle.cap_vet.specs.Trails.{Ahead};
-ghost use Rattle.cap_vet.specs.Walking.{IsNext, IsWalking, Walks, work_left, work_next};
+ghost use Rattle.cap_vet.specs.Walking.{IsNext, Walks, work_left, work_next};
 ghost use Rattle.std.specs.Option.{option_to_list};
-ghost use Rattle.std.specs.Prelude.{◌+◌, ◌++◌, ◌<◌, ◌≡◌, ◌≢◌, ◌≤◌, ◌^◌, [], ◌∷◌, IfErr, IfOk, List, length, ℕ};
+ghost use Rattle.std.specs.Prelude.{◌+◌, ◌++◌, ◌<◌, ◌≡◌, ◌≤◌, ◌^◌, [], ◌∷◌, IfErr, IfNone, IfOk, IfSome, List, length, ℕ};
 
 use crate::frame::Frame;
 use crate::limits::Limits;
 use crate::looking::{Looked, look, look_near};
 use crate::report::Report;
+use crate::turn::{Stopped, Turn};
 use arrayvec::ArrayVec;
 use cap_frame::Segments;
-use cap_spec::Refusal;
+use cap_spec::{Reason, Refusal};
 
 /// The pointer words still to be looked at after those of the current frame, the next ones last.
 /// Each object on the way down that has some left has one frame. 256 are enough for the deepest
 /// walk.
 pub(crate) type Stack<const N: usize> = ArrayVec<Frame, N>;
 
-/// Looks at the next pointer word, and gives the frame of its object's pointers. The error is the
-/// first fault.
-// It and what it calls are inlined: a walk may look at millions of words.
+/// Walks a message from its root, and takes a turn at each pointer word. The report is of the whole
+/// walk.
+pub(crate) fn walk<M: Segments, T: Turn>(
+    message: &M,
+    limits: &Limits,
+    turn: &mut T,
+) -> Result<Report, Stopped<T::Stop>>
+    requires { T.knows turn.old (M.segments message.now) [] }
+    ensures ok { let m = M.segments message.now in
+        IfOk result (λ report. IsWalking m limits.now [] report (T.knows turn.new m)) }
+    ensures err { let m = M.segments message.now in IfErr result (IsStopped m limits.now (T.stops m)) }
+{
+    if message.len(0) == 0 {
+        return Err(Stopped::Refused(Refusal {
+            segment: 0,
+            word: 0,
+            reason: Reason::NoRoot,
+            pointers: 0,
+        }));
+    }
+    let mut report = Report::default();
+    match turn_at(message, limits, turn, &mut report, 0, 0, 1) {
+        Ok(Some(frame)) => walk_below(message, limits, turn, frame, report),
+        Ok(None) => Ok(report),
+        Err(stopped) => Err(stopped),
+    }
+}
+
+// Goes on below the root. Each message initializes its frames, so a walk begins with few of them.
+fn walk_below<M: Segments, T: Turn>(
+    message: &M,
+    limits: &Limits,
+    turn: &mut T,
+    frame: Frame,
+    mut report: Report,
+) -> Result<Report, Stopped<T::Stop>>
+    requires { let m = M.segments message.now in IsWalking m limits.now (frame ∷ []) report (T.knows turn.old m) }
+    ensures ok { let m = M.segments message.now in
+        IfOk result (λ report. IsWalking m limits.now [] report (T.knows turn.new m)) }
+    ensures err { let m = M.segments message.now in IfErr result (IsStopped m limits.now (T.stops m)) }
+{
+    let mut stack: Stack<8> = Stack::new();
+    match walk_on(message, limits, turn, &mut stack, frame, &mut report) {
+        Ok(None) => Ok(report),
+        Ok(Some(frame)) => walk_deep(message, limits, turn, &stack, frame, report),
+        Err(stopped) => Err(stopped),
+    }
+}
+
+// Goes on where those few frames are full, with as many as the deepest walk can have.
+#[cold]
+#[inline(never)]
+fn walk_deep<M: Segments, T: Turn>(
+    message: &M,
+    limits: &Limits,
+    turn: &mut T,
+    few: &Stack<8>,
+    frame: Frame,
+    mut report: Report,
+) -> Result<Report, Stopped<T::Stop>>
+    requires { let m = M.segments message.now in
+        IsWalking m limits.now (few.now.items ++ frame ∷ []) report (T.knows turn.old m) }
+    ensures ok { let m = M.segments message.now in
+        IfOk result (λ report. IsWalking m limits.now [] report (T.knows turn.new m)) }
+    ensures err { let m = M.segments message.now in IfErr result (IsStopped m limits.now (T.stops m)) }
+{
+    let mut stack: Stack<256> = Stack::new();
+    if stack.try_extend_from_slice(few.as_slice()).is_err() {
+        unreachable!();
+    }
+    match walk_on(message, limits, turn, &mut stack, frame, &mut report) {
+        Ok(None) => Ok(report),
+        Ok(Some(_)) => unreachable!(),
+        Err(stopped) => Err(stopped),
+    }
+}
+
+// Goes on with the words of this frame and those of the stack until no pointer word is left, the
+// walk is stopped, or the stack is full. If it is full, the result is the frame to go on with. The
+// current frame is beside the stack, so that a word with nothing below it costs no push and no pop.
+fn walk_on<M: Segments, T: Turn, const N: usize>(
+    message: &M,
+    limits: &Limits,
+    turn: &mut T,
+    stack: &mut Stack<N>,
+    mut frame: Frame,
+    report: &mut Report,
+) -> Result<Option<Frame>, Stopped<T::Stop>>
+    requires room { (length stack.old.items < N) × (N ≤ 256) }
+    requires walking { let m = M.segments message.now in
+        IsWalking m limits.now (stack.old.items ++ frame ∷ []) report.old (T.knows turn.old m) }
+    ensures done { let m = M.segments message.now in
+        IfOk result (λ left. IfNone left (IsWalking m limits.now [] report.new (T.knows turn.new m))) }
+    ensures full { let m = M.segments message.now in IfOk result (λ left. IfSome left (λ f.
+        (length stack.new.items ≡ N) × IsWalking m limits.now (stack.new.items ++ f ∷ []) report.new (T.knows turn.new m))) }
+    ensures err { let m = M.segments message.now in IfErr result (IsStopped m limits.now (T.stops m)) }
+{
+    'walk: loop {
+        let (s, w, level) = (frame.segment, frame.at, frame.level);
+        let is_null = message.word(s, w) == 0;
+        let more = frame.advance();
+        match turn_at(message, limits, turn, report, s, w, level) {
+            Ok(Some(below)) => {
+                push_kept(stack, more, frame);
+                if stack.is_full() {
+                    return Ok(Some(below));
+                }
+                frame = below;
+            }
+            Ok(None) => {
+                if !more {
+                    match stack.pop() {
+                        Some(below) => frame = below,
+                        None => return Ok(None),
+                    }
+                } else if is_null {
+                    pass_nulls(message, &mut frame, report);
+                }
+            }
+            Err(stopped) => return Err(stopped),
+        }
+    }
+}
+
+// Looks at the next pointer word, and takes the turn there. Gives the frame of its object's pointers.
 #[inline(always)]
-pub(crate) fn visit<M: Segments>(
+fn turn_at<M: Segments, T: Turn>(
+    message: &M,
+    limits: &Limits,
+    turn: &mut T,
+    report: &mut Report,
+    s: u32,
+    w: u32,
+    level: u32,
+) -> Result<Option<Frame>, Stopped<T::Stop>>
+    requires { let m = M.segments message.now in
+        (frames : List Frame) × IsAt m limits.now s w level frames report.old (T.knows turn.old m) }
+    ensures ok { let m = M.segments message.now in
+        (frames : List Frame) → IsAt m limits.now s w level frames report.old (T.knows turn.old m) → IfOk result (λ below.
+        GoesOn m limits.now (frames ++ option_to_list below) report.new (T.knows turn.new m) (work_next (words_of limits.now) frames report.old)) }
+    ensures err { let m = M.segments message.now in IfErr result (IsStopped m limits.now (T.stops m)) }
+{
+    // The words that the pointer uses are looked up before the visit, and used after it. If nothing
+    // is written in between, both take its fields from the word once.
+    let used = turn.before(message, s, w);
+    let below = match visit(message, limits, report, s, w, level) {
+        Ok(below) => below,
+        Err(refusal) => return Err(Stopped::Refused(refusal)),
+    };
+    match turn.after(message, s, w, used, report.pointers) {
+        Ok(()) => Ok(below),
+        Err(stop) => Err(Stopped::ByTurn(stop)),
+    }
+}
+
+// Looks at the next pointer word, and gives the frame of its object's pointers. The error is the
+// first fault. It and what it calls are inlined: a walk may look at millions of words.
+#[inline(always)]
+fn visit<M: Segments>(
     message: &M,
     limits: &Limits,
     report: &mut Report,
@@ -35,15 +192,16 @@ pub(crate) fn visit<M: Segments>(
     w: u32,
     level: u32,
 ) -> Result<Option<Frame>, Refusal>
-    requires next { (frames : List Frame) × IsNext (M.segments message.now) (words_of limits.now) (depth_of limits.now) s w level frames report.old }
-    ensures ok { (frames : List Frame) → IsNext (M.segments message.now) (words_of limits.now) (depth_of limits.now) s w level frames report.old →
-        IfOk result (λ below. IsWalking (M.segments message.now) (words_of limits.now) (depth_of limits.now) (frames ++ option_to_list below) report.new) }
-    // And this word is the last that was looked at.
-    ensures last { (frames : List Frame) (n : IsNext (M.segments message.now) (words_of limits.now) (depth_of limits.now) s w level frames report.old) →
+    requires next { let m = M.segments message.now in
+        (frames : List Frame) × IsNext m (words_of limits.now) (depth_of limits.now) s w level frames report.old }
+    // This word is then the last that was looked at.
+    ensures ok { let m = M.segments message.now in
+        (frames : List Frame) (n : IsNext m (words_of limits.now) (depth_of limits.now) s w level frames report.old) →
         IfOk result (λ below. (later : List Ahead)
-        × Walks (M.segments message.now) (words_of limits.now) (depth_of limits.now) (frames ++ option_to_list below) report.new (n.a.path ∷ n.seen) later) }
-    ensures falls { (frames : List Frame) → IsNext (M.segments message.now) (words_of limits.now) (depth_of limits.now) s w level frames report.old →
-        IfOk result (λ below. work_left (words_of limits.now) (frames ++ option_to_list below) report.new < work_next (words_of limits.now) frames report.old) }
+        × Walks m (words_of limits.now) (depth_of limits.now) (frames ++ option_to_list below) report.new (n.a.path ∷ n.seen) later) }
+    ensures falls { let m = M.segments message.now in
+        (frames : List Frame) → IsNext m (words_of limits.now) (depth_of limits.now) s w level frames report.old → IfOk result (λ below.
+        work_left (words_of limits.now) (frames ++ option_to_list below) report.new < work_next (words_of limits.now) frames report.old) }
     ensures err { IfErr result (IsFirstFault (M.segments message.now) (words_of limits.now) (depth_of limits.now)) }
 {
     if let Some(looked) = look_near(message, limits, report.charge, s, w, level) {
@@ -60,13 +218,15 @@ pub(crate) fn visit<M: Segments>(
     }
 }
 
-/// Skips null words at the start of the others of a row, while another word follows them.
-// Most words of a list may be null, and these cost no turn.
+// Skips null words at the start of the others of a row, while another word follows them. Most words
+// of a list may be null, and these cost no turn.
 #[inline(always)]
-pub(crate) fn pass_nulls<M: Segments>(message: &M, frame: &mut Frame, report: &mut Report)
-    requires { (words : ℕ) × (depth : ℕ) × (frames : List Frame) × IsWalking (M.segments message.now) words depth (frames ++ frame.old ∷ []) report.old }
-    ensures { (words depth : ℕ) (frames : List Frame) → IsWalking (M.segments message.now) words depth (frames ++ frame.old ∷ []) report.old →
-        Passes (M.segments message.now) words depth frames frame.old report.old frame.new report.new }
+fn pass_nulls<M: Segments>(message: &M, frame: &mut Frame, report: &mut Report)
+    requires { let m = M.segments message.now in (words depth : ℕ) × (frames : List Frame) × (seen : List (List Step)) × (ahead : List Ahead)
+        × Walks m words depth (frames ++ frame.old ∷ []) report.old seen ahead }
+    ensures { let m = M.segments message.now in (words depth : ℕ) (frames : List Frame) (seen : List (List Step)) (ahead : List Ahead) →
+        Walks m words depth (frames ++ frame.old ∷ []) report.old seen ahead →
+        Passes m words depth frames seen frame.old report.old frame.new report.new }
 {
     'nulls: while frame.left > 1 && message.word(frame.segment, frame.at) == 0 {
         // The count stays below the charge, a number of 64 bits.
@@ -77,9 +237,9 @@ pub(crate) fn pass_nulls<M: Segments>(message: &M, frame: &mut Frame, report: &m
     }
 }
 
-/// One more frame, where something is left of it.
+// One more frame, where something is left of it.
 #[inline(always)]
-pub(crate) fn push_kept<const N: usize>(stack: &mut Stack<N>, more: bool, frame: Frame)
+fn push_kept<const N: usize>(stack: &mut Stack<N>, more: bool, frame: Frame)
     requires few { N ≤ 256 }
     requires room { length (stack.old.items ++ option_to_list (kept more frame)) ≤ N }
     ensures { stack.new.items ≡ stack.old.items ++ option_to_list (kept more frame) }

@@ -1,4 +1,4 @@
-use Rattle.cap_vet.proofs.Stacks.{walk_on, walks_on, work_falls}
+use Rattle.cap_vet.proofs.Stacks.{walks_on, work_falls}
 use Rattle.cap_vet.proofs.Verdicts.{first_fault}
 use Rattle.cap_vet.proofs.walking.visit.Goals as goal
 
@@ -11,20 +11,16 @@ look-requires-clause-inside g c = c.requires.next.1.within
 pub returns-in-Err-clause-err : goal.returns-in-Err-clause-err
 returns-in-Err-clause-err g c = first_fault _ _ _ _ _ _ _ _ _ c.requires.next.1 c.in-Err.ensures.err
 
-pub returns-in-Ok-clause-ok : goal.returns-in-Ok-clause-ok
-returns-in-Ok-clause-ok g c = λ frames next. rw (c.add-in-Ok.ensures.report, c.add-in-Ok.ensures.frame) (walk_on _ _ _ _ _ _ frames _ _ next c.in-Ok.ensures.ok)
-
 pub returns-in-Ok-clause-falls : goal.returns-in-Ok-clause-falls
-returns-in-Ok-clause-falls g c = λ frames next. rw (c.add-in-Ok.ensures.report, c.add-in-Ok.ensures.frame) (work_falls _ _ _ _ _ _ frames _ _ next c.in-Ok.ensures.ok)
+returns-in-Ok-clause-falls g c = λ frames next. rw (c.add-in-Ok.ensures.report, c.add-in-Ok.ensures.frame)
+    (work_falls _ _ _ _ _ _ frames _ _ next c.in-Ok.ensures.ok)
+
+pub returns-in-Ok-clause-ok : goal.returns-in-Ok-clause-ok
+returns-in-Ok-clause-ok g c = λ frames next. rw (c.add-in-Ok.ensures.report, c.add-in-Ok.ensures.frame)
+    (walks_on _ _ _ _ _ _ frames _ _ next c.in-Ok.ensures.ok)
 
 pub returns-in-Some-clause-ok : goal.returns-in-Some-clause-ok
-returns-in-Some-clause-ok g c = λ frames next. rw (c.add.ensures.report, c.add.ensures.frame) (walk_on _ _ _ _ _ _ frames _ _ next c.in-Some.ensures)
-
-pub returns-in-Ok-clause-last : goal.returns-in-Ok-clause-last
-returns-in-Ok-clause-last g c = λ frames next. rw (c.add-in-Ok.ensures.report, c.add-in-Ok.ensures.frame) (walks_on _ _ _ _ _ _ frames _ _ next c.in-Ok.ensures.ok)
-
-pub returns-in-Some-clause-last : goal.returns-in-Some-clause-last
-returns-in-Some-clause-last g c = λ frames next. rw (c.add.ensures.report, c.add.ensures.frame) (walks_on _ _ _ _ _ _ frames _ _ next c.in-Some.ensures)
+returns-in-Some-clause-ok g c = λ frames next. rw (c.add.ensures.report, c.add.ensures.frame) (walks_on _ _ _ _ _ _ frames _ _ next c.in-Some.ensures)
 
 pub returns-in-Some-clause-falls : goal.returns-in-Some-clause-falls
 returns-in-Some-clause-falls g c = λ frames next. rw (c.add.ensures.report, c.add.ensures.frame) (work_falls _ _ _ _ _ _ frames _ _ next c.in-Some.ensures)

@@ -1,0 +1,33 @@
+-- What marking the words of one pointer does to the marks (profile).
+use Rattle.std.specs.Prelude.{ℕ, ◌+◌, ◌<◌, ◌≤◌, Bool, IsFalse, IsTrue, List, length}
+use Rattle.cap_spec.specs.Messages.{segment_of}
+use Rattle.cap_spec.specs.Occupying.{IsPlaceOf, Occupies}
+use Rattle.cap_vet.specs.Marks.{Conflicts, MarksAll}
+use Rattle.cap_vet.specs.Taken.{HasRoom, IsTaken}
+use Rattle.cap_vet.specs.declared.marks.Marks.{Marks}
+
+-- there is a bit for each word of the message
+abbrev pub HaveRoom : List (List ℕ) → Marks → Type 0
+HaveRoom m marks = HasRoom m marks.starts.now marks.bits.now
+
+-- this word's bit is set
+abbrev pub IsMarkedIn : List (List ℕ) → Marks → ℕ → ℕ → Type 0
+IsMarkedIn m marks s w = IsTaken m marks.bits.now s w
+
+-- These words exist, and there are bits for them.
+pub record HasBits (m : List (List ℕ)) (marks : Marks) (s from count : ℕ) : Type 0 where
+  pub room : HaveRoom m marks
+  pub exists : s < length m
+  pub inside : from + count ≤ length (segment_of m s)
+
+-- These places are marked, or one of them was marked before.
+pub record MarksPlaces (m : List (List ℕ)) (old new : Marks) (used : List (ℕ × ℕ)) (marked : Bool) : Type 0 where
+  pub room : HaveRoom m new
+  pub taken : IsTrue marked → MarksAll (IsMarkedIn m old) (IsMarkedIn m new) used
+  pub conflict : IsFalse marked → (s w : ℕ) × IsPlaceOf (s, w) used × IsMarkedIn m old s w
+
+-- What following the pointer at s:w uses is marked, or a part of it is used twice or was marked before.
+pub record MarksUse (m : List (List ℕ)) (old new : Marks) (s w : ℕ) (marked : Bool) : Type 0 where
+  pub room : HaveRoom m new
+  pub taken : IsTrue marked → (used : List (ℕ × ℕ)) → Occupies m s w used → MarksAll (IsMarkedIn m old) (IsMarkedIn m new) used
+  pub conflict : IsFalse marked → (used : List (ℕ × ℕ)) × Occupies m s w used × Conflicts (IsMarkedIn m old) used
