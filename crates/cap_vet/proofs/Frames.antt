@@ -5,7 +5,7 @@ use Rattle.cap_spec.specs.Messages.{segment_of}
 use Rattle.cap_spec.specs.declared.Step.{Step}
 use Rattle.cap_spec.specs.declared.Step.TheVariants.{Ptr, Item}
 use Rattle.cap_vet.specs.Trails.{row, element_rows}
-use Rattle.cap_vet.specs.WalkFrames.{place_of, row_places, element_places, IsRest}
+use Rattle.cap_vet.specs.PointerRuns.{place_of, row_places, element_places, IsRest}
 
 -- behind the first of several words in a row
 pub rest_of_row : (s b n more ds ps level : ℕ) → 1 < n → IsRest record { segment = s; at = b; left = n; more = more; data_words = ds; pointers = ps; level = level } (Some record { segment = s; at = b + 1; left = n - 1; more = more; data_words = ds; pointers = ps; level = level })

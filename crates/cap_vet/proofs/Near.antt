@@ -8,9 +8,9 @@ use Rattle.cap_spec.proofs.Trees.Charges.{extent_pointers, extent_struct}
 use Rattle.cap_ptr.specs.Rows.{FindsRow, HasPointers}
 use Rattle.cap_ptr.specs.declared.near.Row.{Row}
 use Rattle.cap_ptr.proofs.NearObjects.{pointers-no_extra, pointers-plain}
-use Rattle.cap_vet.specs.WalkFrames.{LevelIs, OptionIn, option_spots, row_places}
+use Rattle.cap_vet.specs.PointerRuns.{LevelIs, OptionIn, option_spots, row_places}
 use Rattle.cap_vet.specs.Looking.{FrameRises, IsLooked, object_places}
-use Rattle.cap_vet.specs.declared.frame.Frame.{Frame}
+use Rattle.cap_vet.specs.declared.pointer_run.PointerRun.{PointerRun}
 use Rattle.cap_vet.specs.declared.looking.Looked.TheVariants.{Object}
 
 -- a list of values has no pointers, and no levels below it
@@ -37,7 +37,7 @@ near_levels q n (inl (k, e)) = rw k refl
 near_levels q n (inr (inl (k, c, e))) = rw (k, c) refl
 near_levels q n (inr (inr (k, some, few, e))) = rw (k, seven_not q few) refl
 
-near_rises : (level depth : ℕ) (frame : Option Frame) → level ≤ depth → LevelIs (level + 1) frame → FrameRises level depth frame
+near_rises : (level depth : ℕ) (frame : Option PointerRun) → level ≤ depth → LevelIs (level + 1) frame → FrameRises level depth frame
 near_rises level depth None h e = tt
 near_rises level depth (Some f) h e = (omega (arith, e), omega (arith, e))
 
@@ -46,7 +46,7 @@ pub row_inside : (m : List (List ℕ)) (s w q : ℕ) (r : Row) → FindsRow m s 
 row_inside m s w q r f = omega (arith, f.pointers_last, f.words, f.finds.sits.inside)
 
 -- such an object within the limits
-pub looks_row : (m : List (List ℕ)) (words depth spent s w level q : ℕ) (r : Row) (frame : Option Frame) → FindsRow m s w q r → level ≤ depth
+pub looks_row : (m : List (List ℕ)) (words depth spent s w level q : ℕ) (r : Row) (frame : Option PointerRun) → FindsRow m s w q r → level ≤ depth
     → r.words ≤ words - spent → spent ≤ words → option_spots frame ≡ row_places (level + 1) s r.pointers_start r.pointer_count → OptionIn m frame
     → LevelIs (level + 1) frame → IsLooked m words depth spent s w level (Object r.words level frame)
 looks_row m words depth spent s w level q r frame f shallow charge within places inside here =

@@ -7,7 +7,7 @@ use Rattle.cap_spec.specs.Following.{TagFits}
 use Rattle.cap_spec.proofs.Trees.Charges.{extent_struct, extent_structs}
 use Rattle.cap_ptr.specs.Shapes.{FindsObject}
 use Rattle.cap_ptr.specs.declared.shapes.Shape.TheVariants.{Struct, Structs}
-use Rattle.cap_vet.specs.WalkFrames.{FrameIn, Place, element_places, row_places, spots}
+use Rattle.cap_vet.specs.PointerRuns.{RunIn, Place, element_places, row_places, spots}
 use Rattle.cap_vet.specs.Looking.{object_places}
 
 -- a struct's words lie inside its segment
@@ -45,7 +45,7 @@ structs_fit m s w k t b q tag n c size count d p f =
 -- the frame of a list of structs
 pub structs_inside : (m : List (List ℕ)) (s w k t b q tag n c size count d p at left more ds ps level : ℕ) → FindsObject m s w k t b q tag n c (Structs size count d p)
     → at ≡ b + 1 + d → left ≡ p → more ≡ count - 1 → ds ≡ d → ps ≡ p → 0 < count → 0 < p
-    → FrameIn m record { segment = t; at = at; left = left; more = more; data_words = ds; pointers = ps; level = level }
+    → RunIn m record { segment = t; at = at; left = left; more = more; data_words = ds; pointers = ps; level = level }
 structs_inside m s w k t b q tag n c size zero d p at left more ds ps level f e1 e2 e3 e4 e5 some each = absurd (omega arith)
 structs_inside m s w k t b q tag n c size (suc count) d p at left more ds ps level f e1 e2 e3 e4 e5 some each =
     let e : more ≡ count = omega (arith, e3) in record {

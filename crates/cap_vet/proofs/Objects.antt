@@ -16,7 +16,7 @@ use Rattle.cap_spec.proofs.Trees.Finding.{one_object}
 use Rattle.cap_spec.proofs.Frames.Messages.{one_word}
 use Rattle.cap_vet.specs.Trails.{Ahead, row, element_rows}
 use Rattle.cap_vet.specs.Owing.{AreNear}
-use Rattle.cap_vet.specs.WalkFrames.{place_of, row_places, element_places}
+use Rattle.cap_vet.specs.PointerRuns.{place_of, row_places, element_places}
 use Rattle.cap_vet.specs.Looking.{object_places, object_children}
 use Rattle.cap_vet.proofs.Children.{no_children, pointers_children, struct_children}
 use Rattle.cap_vet.proofs.Counting.{Counts}

@@ -7,18 +7,18 @@ use Rattle.cap_spec.specs.Messages.{HasWord}
 use Rattle.cap_spec.specs.declared.Step.{Step}
 use Rattle.cap_vet.specs.Looking.{IsLooked}
 use Rattle.cap_vet.specs.Turning.{added}
-use Rattle.cap_vet.specs.WalkFrames.{FrameIn, IsRest, all_spots, element_places, place_of, row_places, spots}
+use Rattle.cap_vet.specs.PointerRuns.{RunIn, IsRest, all_spots, element_places, place_of, row_places, spots}
 use Rattle.cap_vet.specs.Passing.{Passes}
 use Rattle.cap_vet.specs.Trails.{Ahead}
 use Rattle.cap_vet.specs.Walking.{Walks, work_left}
-use Rattle.cap_vet.specs.declared.frame.Frame.{Frame}
+use Rattle.cap_vet.specs.declared.pointer_run.PointerRun.{PointerRun}
 use Rattle.cap_vet.specs.declared.looking.Looked.TheVariants.{Null}
 use Rattle.cap_vet.specs.declared.report.Report.{Report}
 use Rattle.cap_vet.proofs.Frames.{rest_of_row}
 use Rattle.cap_vet.proofs.Stacks.{next_seen, walks_on, work_smaller}
 
 -- behind the first of several words in a row
-abbrev pub behind : Frame → Frame
+abbrev pub behind : PointerRun → PointerRun
 behind f = record { segment = f.segment; at = f.at + 1; left = f.left - 1; more = f.more; data_words = f.data_words; pointers = f.pointers; level = f.level }
 
 -- with one pointer word more
@@ -26,34 +26,34 @@ abbrev pub counted : Report → Report
 counted r = record { charge = r.charge; depth = r.depth; pointers = r.pointers + 1; caps = r.caps; first_cap = r.first_cap }
 
 -- one null word is one turn
-pub passes_on : (m : List (List ℕ)) (words depth : ℕ) (frames : List Frame) (seen : List (List Step)) (old f : Frame) (before r : Report) → 1 < f.left
+pub passes_on : (m : List (List ℕ)) (words depth : ℕ) (runs : List PointerRun) (seen : List (List Step)) (old f : PointerRun) (before r : Report) → 1 < f.left
     → HasWord m f.segment f.at 0
-    → Passes m words depth frames seen old before f r → Passes m words depth frames seen old before (behind f) (counted r)
-passes_on m words depth frames seen old f before r left null passed =
+    → Passes m words depth runs seen old before f r → Passes m words depth runs seen old before (behind f) (counted r)
+passes_on m words depth runs seen old f before r left null passed =
     let rest : IsRest f (Some (behind f)) = rest_of_row f.segment f.at f.left f.more f.data_words f.pointers f.level left in
-    let (next, same_seen) = next_seen m words depth frames f (Some (behind f)) r (passed.nulls ++ seen) passed.later passed.walks rest in
+    let (next, same_seen) = next_seen m words depth runs f (Some (behind f)) r (passed.nulls ++ seen) passed.later passed.walks rest in
     let looked : IsLooked m words depth r.charge f.segment f.at f.level (Null 0) = (near 0 null (omega arith) refl refl, omega (arith, next.progress.within)) in
-    let (later, turned) = walks_on m words depth f.segment f.at f.level (frames ++ behind f ∷ []) r (Null 0) next looked in
+    let (later, turned) = walks_on m words depth f.segment f.at f.level (runs ++ behind f ∷ []) r (Null 0) next looked in
     let same : r.charge + 0 ≡ r.charge = omega arith in
     let e : added r f.segment f.at (Null 0) ≡ counted r = rw same refl in
-    let stack : (frames ++ behind f ∷ []) ++ [] ≡ frames ++ behind f ∷ [] = append-nil (frames ++ behind f ∷ []) in
-    let walks : Walks m words depth (frames ++ behind f ∷ []) (counted r) (next.a.path ∷ next.seen) later =
-    subst (λ u. Walks m words depth (frames ++ behind f ∷ []) u (next.a.path ∷ next.seen) later) e
+    let stack : (runs ++ behind f ∷ []) ++ [] ≡ runs ++ behind f ∷ [] = append-nil (runs ++ behind f ∷ []) in
+    let walks : Walks m words depth (runs ++ behind f ∷ []) (counted r) (next.a.path ∷ next.seen) later =
+    subst (λ u. Walks m words depth (runs ++ behind f ∷ []) u (next.a.path ∷ next.seen) later) e
     (subst (λ u. Walks m words depth u (added r f.segment f.at (Null 0)) (next.a.path ∷ next.seen) later) stack turned) in
-    let smaller : work_left words (frames ++ behind f ∷ []) (counted r) < work_left words (frames ++ f ∷ []) r =
-    work_smaller words frames (frames ++ behind f ∷ []) f (Some (behind f)) r (counted r) rest (omega arith) in record {
+    let smaller : work_left words (runs ++ behind f ∷ []) (counted r) < work_left words (runs ++ f ∷ []) r =
+    work_smaller words runs (runs ++ behind f ∷ []) f (Some (behind f)) r (counted r) rest (omega arith) in record {
       nulls = next.a.path ∷ passed.nulls;
       later = later;
       are_null = ((next.a.level, next.a.segment, next.a.word, next.progress.trail.ahead_reached.0, rw (next.segment, next.at) null), passed.are_null);
-      walks = subst (λ u. Walks m words depth (frames ++ behind f ∷ []) (counted r) (next.a.path ∷ u) later) same_seen walks;
+      walks = subst (λ u. Walks m words depth (runs ++ behind f ∷ []) (counted r) (next.a.path ∷ u) later) same_seen walks;
       less = omega (arith, passed.less, smaller);
     }
 
--- the topmost frame of a walk lies inside its segment
-pub topmost_in : (m : List (List ℕ)) (words depth : ℕ) (frames : List Frame) (f : Frame) (r : Report) (seen : List (List Step)) (ahead : List Ahead)
-    → Walks m words depth (frames ++ f ∷ []) r seen ahead → FrameIn m f
-topmost_in m words depth frames f r seen ahead w =
-    let inside : AllByRecursion (FrameIn m) (f ∷ reverse frames) = rw (reverse-append frames (f ∷ [])) at w.inside in
+-- the topmost run of a walk lies inside its segment
+pub topmost_in : (m : List (List ℕ)) (words depth : ℕ) (runs : List PointerRun) (f : PointerRun) (r : Report) (seen : List (List Step)) (ahead : List Ahead)
+    → Walks m words depth (runs ++ f ∷ []) r seen ahead → RunIn m f
+topmost_in m words depth runs f r seen ahead w =
+    let inside : AllByRecursion (RunIn m) (f ∷ reverse runs) = rw (reverse-append runs (f ∷ [])) at w.inside in
     inside.0
 
 row_length : (level t b n : ℕ) → length (row_places level t b n) ≡ n
@@ -61,16 +61,16 @@ row_length level t b zero = refl
 row_length level t b (suc n) = ap suc (row_length level t (b + 1) n)
 
 -- and the pointer words before its last are fewer than the words that were charged
-pub topmost_few : (m : List (List ℕ)) (words depth : ℕ) (frames : List Frame) (f : Frame) (r : Report) (seen : List (List Step)) (ahead : List Ahead)
-    → Walks m words depth (frames ++ f ∷ []) r seen ahead
+pub topmost_few : (m : List (List ℕ)) (words depth : ℕ) (runs : List PointerRun) (f : PointerRun) (r : Report) (seen : List (List Step)) (ahead : List Ahead)
+    → Walks m words depth (runs ++ f ∷ []) r seen ahead
     → r.pointers + f.left ≤ r.charge + 1
-topmost_few m words depth frames f r seen ahead w =
-    let places : map place_of ahead ≡ spots f ++ all_spots (reverse frames) = rw (reverse-append frames (f ∷ [])) at w.places in
+topmost_few m words depth runs f r seen ahead w =
+    let places : map place_of ahead ≡ spots f ++ all_spots (reverse runs) = rw (reverse-append runs (f ∷ [])) at w.places in
     let row = row_places f.level f.segment f.at f.left in
     let others = element_places f.level f.segment (f.at + f.left) f.data_words f.pointers f.more in
-    let a : length (spots f ++ all_spots (reverse frames)) ≡ length (row ++ others) + length (all_spots (reverse frames)) =
-    length-append (row ++ others) (all_spots (reverse frames)) in
+    let a : length (spots f ++ all_spots (reverse runs)) ≡ length (row ++ others) + length (all_spots (reverse runs)) =
+    length-append (row ++ others) (all_spots (reverse runs)) in
     let b : length (row ++ others) ≡ length row + length others = length-append row others in
     let n : length (map place_of ahead) ≡ length ahead = length-map ahead place_of in
-    let e : length (map place_of ahead) ≡ length (spots f ++ all_spots (reverse frames)) = ap length places in
+    let e : length (map place_of ahead) ≡ length (spots f ++ all_spots (reverse runs)) = ap length places in
     omega (arith, w.progress.bound, a, b, n, e, row_length f.level f.segment f.at f.left)

@@ -1,4 +1,4 @@
--- What one turn of a walk leaves of its frames.
+-- What one turn of a walk leaves of its runs.
 use Rattle.std.proofs.Common.{◌≡◌, ℕ, ◌+◌, ◌≤◌, List, [], ◌∷◌, ◌++◌, length, map, reverse, refl, sym, ap, ◌∙◌, subst, arith, Option, None, Some, ◌<◌, suc}
 use Rattle.std.specs.Option.{option_to_list}
 use Rattle.std.specs.List.{AllByRecursion}
@@ -11,13 +11,13 @@ use Rattle.cap_spec.specs.Denoting.{Finds}
 use Rattle.cap_spec.specs.Verdicts.{levels_below}
 use Rattle.cap_spec.specs.declared.Step.{Step}
 use Rattle.cap_vet.specs.Trails.{Ahead}
-use Rattle.cap_vet.specs.WalkFrames.{FrameIn, IsRest, LevelIs, OptionIn, all_spots, option_spots, place_of, spots}
+use Rattle.cap_vet.specs.PointerRuns.{RunIn, IsRest, LevelIs, OptionIn, all_spots, option_spots, place_of, spots}
 use Rattle.cap_vet.specs.Looking.{FrameRises, IsLooked, object_children}
-use Rattle.cap_vet.specs.Turning.{added, frame_below}
+use Rattle.cap_vet.specs.Turning.{added, run_below}
 use Rattle.cap_vet.specs.Limits.{depth_of, words_of}
 use Rattle.cap_vet.specs.Turns.{GoesOn, IsAt, IsWalking}
 use Rattle.cap_vet.specs.Walking.{AreNull, IsLookedAt, IsNext, AreStacked, Progress, Walks, work_left, work_next}
-use Rattle.cap_vet.specs.declared.frame.Frame.{Frame}
+use Rattle.cap_vet.specs.declared.pointer_run.PointerRun.{PointerRun}
 use Rattle.cap_vet.specs.declared.limits.Limits.{Limits}
 use Rattle.cap_vet.specs.declared.looking.Looked.{Looked}
 use Rattle.cap_vet.specs.declared.looking.Looked.TheVariants as looked
@@ -26,48 +26,48 @@ use Rattle.cap_spec.proofs.Paths.Walks.{one_reached}
 use Rattle.cap_vet.proofs.Objects.{object-brings, object_places-children}
 use Rattle.cap_vet.proofs.Turning.{next_ahead, turn_cap, turn_null, turn_object}
 
--- the frames with one more, where there is one
-pub reverse-more : (frames : List Frame) (r : Option Frame) → reverse (frames ++ option_to_list r) ≡ option_to_list r ++ reverse frames
-reverse-more frames None = ap reverse (append-nil frames)
-reverse-more frames (Some r) = reverse-append frames (r ∷ [])
+-- the runs with one more, where there is one
+pub reverse-more : (runs : List PointerRun) (r : Option PointerRun) → reverse (runs ++ option_to_list r) ≡ option_to_list r ++ reverse runs
+reverse-more runs None = ap reverse (append-nil runs)
+reverse-more runs (Some r) = reverse-append runs (r ∷ [])
 
-spots-more : (r : Option Frame) (frames : List Frame) → all_spots (option_to_list r ++ frames) ≡ option_spots r ++ all_spots frames
-spots-more None frames = refl
-spots-more (Some r) frames = refl
+spots-more : (r : Option PointerRun) (runs : List PointerRun) → all_spots (option_to_list r ++ runs) ≡ option_spots r ++ all_spots runs
+spots-more None runs = refl
+spots-more (Some r) runs = refl
 
-inside-more : (m : List (List ℕ)) (r : Option Frame) (frames : List Frame) → OptionIn m r → AllByRecursion (FrameIn m) frames
-    → AllByRecursion (FrameIn m) (option_to_list r ++ frames)
-inside-more m None frames h l = l
-inside-more m (Some r) frames h l = (h, l)
+inside-more : (m : List (List ℕ)) (r : Option PointerRun) (runs : List PointerRun) → OptionIn m r → AllByRecursion (RunIn m) runs
+    → AllByRecursion (RunIn m) (option_to_list r ++ runs)
+inside-more m None runs h l = l
+inside-more m (Some r) runs h l = (h, l)
 
--- what is left of a frame is as high as it
-stacked-rest : (depth level : ℕ) (r : Option Frame) (frames : List Frame) → length frames + 2 ≤ level → level ≤ depth + 1 → LevelIs level r
-    → AreStacked depth frames → AreStacked depth (option_to_list r ++ frames)
-stacked-rest depth level None frames h u k s = s
-stacked-rest depth level (Some r) frames h u k s = (omega (arith, k), omega (arith, k), s)
+-- what is left of a run is as high as it
+stacked-rest : (depth level : ℕ) (r : Option PointerRun) (runs : List PointerRun) → length runs + 2 ≤ level → level ≤ depth + 1 → LevelIs level r
+    → AreStacked depth runs → AreStacked depth (option_to_list r ++ runs)
+stacked-rest depth level None runs h u k s = s
+stacked-rest depth level (Some r) runs h u k s = (omega (arith, k), omega (arith, k), s)
 
-high-rest : (level : ℕ) (r : Option Frame) (frames : List Frame) → length frames + 2 ≤ level → length (option_to_list r ++ frames) + 1 ≤ level
-high-rest level None frames h = omega arith
-high-rest level (Some r) frames h = omega arith
+high-rest : (level : ℕ) (r : Option PointerRun) (runs : List PointerRun) → length runs + 2 ≤ level → length (option_to_list r ++ runs) + 1 ≤ level
+high-rest level None runs h = omega arith
+high-rest level (Some r) runs h = omega arith
 
 -- and what is below a word is higher
-stacked-below : (depth level : ℕ) (r : Option Frame) (frames : List Frame) → length frames + 1 ≤ level → FrameRises level depth r
-    → AreStacked depth frames → AreStacked depth (option_to_list r ++ frames)
-stacked-below depth level None frames h l s = s
-stacked-below depth level (Some r) frames h l s = (omega (arith, l.0), l.1, s)
+stacked-below : (depth level : ℕ) (r : Option PointerRun) (runs : List PointerRun) → length runs + 1 ≤ level → FrameRises level depth r
+    → AreStacked depth runs → AreStacked depth (option_to_list r ++ runs)
+stacked-below depth level None runs h l s = s
+stacked-below depth level (Some r) runs h l s = (omega (arith, l.0), l.1, s)
 
--- The first word of the topmost frame is the next to look at, and what was looked at stays.
-pub next_seen : (m : List (List ℕ)) (words depth : ℕ) (frames : List Frame) (f : Frame) (r : Option Frame) (report : Report) (seen : List (List Step))
-    (aheads : List Ahead) → Walks m words depth (frames ++ f ∷ []) report seen aheads → IsRest f r
-    → (n : IsNext m words depth f.segment f.at f.level (frames ++ option_to_list r) report) × (n.seen ≡ seen)
-next_seen m words depth frames f r report seen aheads w rest =
-    let e : reverse (frames ++ f ∷ []) ≡ f ∷ reverse frames = reverse-append frames (f ∷ []) in
-    let places : map place_of aheads ≡ spots f ++ all_spots (reverse frames) = rw e at w.places in
-    let inside : AllByRecursion (FrameIn m) (f ∷ reverse frames) = rw e at w.inside in
-    let stacked : AreStacked depth (f ∷ reverse frames) = rw e at w.stacked in
-    let more = reverse-more frames r in
-    let next = next_ahead (f.segment, f.at, f.level) (option_spots r ++ all_spots (reverse frames)) aheads
-    (places ∙ ap (λ u. u ++ all_spots (reverse frames)) rest.words) in (
+-- The first word of the topmost run is the next to look at, and what was looked at stays.
+pub next_seen : (m : List (List ℕ)) (words depth : ℕ) (runs : List PointerRun) (f : PointerRun) (r : Option PointerRun) (report : Report) (seen : List (List Step))
+    (aheads : List Ahead) → Walks m words depth (runs ++ f ∷ []) report seen aheads → IsRest f r
+    → (n : IsNext m words depth f.segment f.at f.level (runs ++ option_to_list r) report) × (n.seen ≡ seen)
+next_seen m words depth runs f r report seen aheads w rest =
+    let e : reverse (runs ++ f ∷ []) ≡ f ∷ reverse runs = reverse-append runs (f ∷ []) in
+    let places : map place_of aheads ≡ spots f ++ all_spots (reverse runs) = rw e at w.places in
+    let inside : AllByRecursion (RunIn m) (f ∷ reverse runs) = rw e at w.inside in
+    let stacked : AreStacked depth (f ∷ reverse runs) = rw e at w.stacked in
+    let more = reverse-more runs r in
+    let next = next_ahead (f.segment, f.at, f.level) (option_spots r ++ all_spots (reverse runs)) aheads
+    (places ∙ ap (λ u. u ++ all_spots (reverse runs)) rest.words) in (
       record {
         seen = seen;
         a = next.a;
@@ -78,29 +78,29 @@ next_seen m words depth frames f r report seen aheads w rest =
         leads_to = next.level;
         exists = inside.0.exists;
         within = omega (arith, inside.0.some, inside.0.inside);
-        places = rw more (next.rest ∙ sym (spots-more r (reverse frames)));
-        inside = rw more (inside-more m r (reverse frames) (rest.inside m inside.0) inside.1);
-        stacked = rw more (stacked-rest depth f.level r (reverse frames) stacked.0 stacked.1 rest.level stacked.2);
-        high = rw more (high-rest f.level r (reverse frames) stacked.0);
+        places = rw more (next.rest ∙ sym (spots-more r (reverse runs)));
+        inside = rw more (inside-more m r (reverse runs) (rest.inside m inside.0) inside.1);
+        stacked = rw more (stacked-rest depth f.level r (reverse runs) stacked.0 stacked.1 rest.level stacked.2);
+        high = rw more (high-rest f.level r (reverse runs) stacked.0);
         low = stacked.1;
       },
       refl,
     )
 
-pub next_at : (m : List (List ℕ)) (limits : Limits) (frames : List Frame) (f : Frame) (r : Option Frame) (report : Report) (K : List (List Step) → Type 0)
-    → IsWalking m limits (frames ++ f ∷ []) report K → IsRest f r → IsAt m limits f.segment f.at f.level (frames ++ option_to_list r) report K
-next_at m limits frames f r report K w rest =
-    let n = next_seen m (words_of limits) (depth_of limits) frames f r report w.seen w.ahead w.walks rest in
+pub next_at : (m : List (List ℕ)) (limits : Limits) (runs : List PointerRun) (f : PointerRun) (r : Option PointerRun) (report : Report) (K : List (List Step) → Type 0)
+    → IsWalking m limits (runs ++ f ∷ []) report K → IsRest f r → IsAt m limits f.segment f.at f.level (runs ++ option_to_list r) report K
+next_at m limits runs f r report K w rest =
+    let n = next_seen m (words_of limits) (depth_of limits) runs f r report w.seen w.ahead w.walks rest in
     record { next = n.0; known = subst K (sym n.1) w.known }
 
 -- Looking at the next word keeps the walk, and that word is the last that was looked at.
-pub walks_on : (m : List (List ℕ)) (words depth s w level : ℕ) (frames : List Frame) (report : Report) (l : Looked)
-    (t : IsNext m words depth s w level frames report)
-    → IsLooked m words depth report.charge s w level l → (later : List Ahead) × Walks m words depth (frames ++ option_to_list (frame_below l))
+pub walks_on : (m : List (List ℕ)) (words depth s w level : ℕ) (runs : List PointerRun) (report : Report) (l : Looked)
+    (t : IsNext m words depth s w level runs report)
+    → IsLooked m words depth report.charge s w level l → (later : List Ahead) × Walks m words depth (runs ++ option_to_list (run_below l))
     (added report s w l) (t.a.path ∷ t.seen) later
-walks_on m words depth s w level frames report (looked.Null cost) t (h, within) =
+walks_on m words depth s w level runs report (looked.Null cost) t (h, within) =
     let own : Leads m t.a.segment t.a.word cost to_null = rw (t.segment, t.at) h in
-    let more = reverse-more frames None in (
+    let more = reverse-more runs None in (
       t.ahead,
       record {
         progress = turn_null m words depth report.charge report.depth report.pointers report.caps cost report.first_cap t.seen t.a t.ahead t.progress own within;
@@ -109,9 +109,9 @@ walks_on m words depth s w level frames report (looked.Null cost) t (h, within) 
         stacked = rw more t.stacked;
       },
     )
-walks_on m words depth s w level frames report (looked.Cap cost) t ((i, h), within) =
+walks_on m words depth s w level runs report (looked.Cap cost) t ((i, h), within) =
     let own : Leads m t.a.segment t.a.word cost (to_cap i) = rw (t.segment, t.at) h in
-    let more = reverse-more frames None in (
+    let more = reverse-more runs None in (
       t.ahead,
       record {
         progress = rw (← t.segment, ← t.at)
@@ -121,7 +121,7 @@ walks_on m words depth s w level frames report (looked.Cap cost) t ((i, h), with
         stacked = rw more t.stacked;
       },
     )
-walks_on m words depth s w level frames report (looked.Object cost deep below) t (k, u, b, q, tag, o) =
+walks_on m words depth s w level runs report (looked.Object cost deep below) t (k, u, b, q, tag, o) =
     let own : Finds m t.a.segment t.a.word k u b q = rw (t.segment, t.at) o.finds in
     let children : List Ahead = object_children t.a.path q tag u b t.a.level in
     let within : report.charge + (k + extent q + extra q tag) ≤ words = omega (arith, o.within, o.charge) in
@@ -129,25 +129,25 @@ walks_on m words depth s w level frames report (looked.Object cost deep below) t
     let done = turn_object m words depth report.charge report.depth report.pointers report.caps k u b q tag report.first_cap t.seen t.a t.ahead t.progress own o.tagged within shallow in
     let e : k + extent q + extra q tag ≡ cost = sym o.charge in
     let g : t.a.level + levels_below q tag ≡ deep = omega (arith, o.deepest, t.leads_to) in
-    let places : map place_of (children ++ t.ahead) ≡ option_spots below ++ all_spots (reverse frames) =
+    let places : map place_of (children ++ t.ahead) ≡ option_spots below ++ all_spots (reverse runs) =
     map-append place_of children t.ahead ∙ rw (object_places-children t.a.path q tag u b t.a.level, t.leads_to, o.places, t.places) refl in
-    let more = reverse-more frames below in (
+    let more = reverse-more runs below in (
       children ++ t.ahead,
       record {
         progress = rw (e, g) at done;
-        places = rw more (places ∙ sym (spots-more below (reverse frames)));
-        inside = rw more (inside-more m below (reverse frames) o.inside t.inside);
-        stacked = rw more (stacked-below depth level below (reverse frames) t.high o.rises t.stacked);
+        places = rw more (places ∙ sym (spots-more below (reverse runs)));
+        inside = rw more (inside-more m below (reverse runs) o.inside t.inside);
+        stacked = rw more (stacked-below depth level below (reverse runs) t.high o.rises t.stacked);
       },
     )
 
 -- a word has no more words below it than it costs
-few_below : (m : List (List ℕ)) (words depth s w level : ℕ) (frames : List Frame) (report : Report) (l : Looked) → IsNext m words depth s w level frames report
-    → IsLooked m words depth report.charge s w level l → (length (option_spots (frame_below l)) + report.charge ≤ (added report s w l).charge)
+few_below : (m : List (List ℕ)) (words depth s w level : ℕ) (runs : List PointerRun) (report : Report) (l : Looked) → IsNext m words depth s w level runs report
+    → IsLooked m words depth report.charge s w level l → (length (option_spots (run_below l)) + report.charge ≤ (added report s w l).charge)
     × ((added report s w l).charge ≤ words)
-few_below m words depth s w level frames report (looked.Null cost) t (h, within) = (omega arith, within)
-few_below m words depth s w level frames report (looked.Cap cost) t (h, within) = (omega arith, within)
-few_below m words depth s w level frames report (looked.Object cost deep below) t (k, u, b, q, tag, o) =
+few_below m words depth s w level runs report (looked.Null cost) t (h, within) = (omega arith, within)
+few_below m words depth s w level runs report (looked.Cap cost) t (h, within) = (omega arith, within)
+few_below m words depth s w level runs report (looked.Object cost deep below) t (k, u, b, q, tag, o) =
     let own : Finds m t.a.segment t.a.word k u b q = rw (t.segment, t.at) o.finds in
     let brings = object-brings m t.a k u b q tag report.depth t.progress.trail.ahead_reached.0 own o.tagged in
     let e : option_spots below ≡ map place_of (object_children t.a.path q tag u b t.a.level) =
@@ -157,50 +157,50 @@ few_below m words depth s w level frames report (looked.Object cost deep below) 
     (omega (arith, n, brings.few, o.charge), o.within)
 
 -- so the work that is left falls
-pub work_falls : (m : List (List ℕ)) (words depth s w level : ℕ) (frames : List Frame) (report : Report) (l : Looked)
-    → IsNext m words depth s w level frames report
-    → IsLooked m words depth report.charge s w level l → work_left words (frames ++ option_to_list (frame_below l)) (added report s w l) < suc
-    (work_left words frames report)
-work_falls m words depth s w level frames report l t h =
-    let few = few_below m words depth s w level frames report l t h in
-    let more = reverse-more frames (frame_below l) in
-    let spot = spots-more (frame_below l) (reverse frames) in
-    let n : length (all_spots (reverse (frames ++ option_to_list (frame_below l)))) ≡ length (option_spots (frame_below l)) + length
-    (all_spots (reverse frames)) =
-    ap (λ u. length (all_spots u)) more ∙ ap length spot ∙ length-append (option_spots (frame_below l)) (all_spots (reverse frames)) in
+pub work_falls : (m : List (List ℕ)) (words depth s w level : ℕ) (runs : List PointerRun) (report : Report) (l : Looked)
+    → IsNext m words depth s w level runs report
+    → IsLooked m words depth report.charge s w level l → work_left words (runs ++ option_to_list (run_below l)) (added report s w l) < suc
+    (work_left words runs report)
+work_falls m words depth s w level runs report l t h =
+    let few = few_below m words depth s w level runs report l t h in
+    let more = reverse-more runs (run_below l) in
+    let spot = spots-more (run_below l) (reverse runs) in
+    let n : length (all_spots (reverse (runs ++ option_to_list (run_below l)))) ≡ length (option_spots (run_below l)) + length
+    (all_spots (reverse runs)) =
+    ap (λ u. length (all_spots u)) more ∙ ap length spot ∙ length-append (option_spots (run_below l)) (all_spots (reverse runs)) in
     omega (arith, n, few.0, few.1)
 
--- and a word that is taken from its frame was some of it
-pub work_rest : (words : ℕ) (frames : List Frame) (f : Frame) (r : Option Frame) (report : Report) → IsRest f r
-    → work_next words (frames ++ option_to_list r) report ≡ work_left words (frames ++ f ∷ []) report
-work_rest words frames f r report rest =
-    let a : length (all_spots (reverse (frames ++ f ∷ []))) ≡ length (spots f ++ all_spots (reverse frames)) =
-    ap (λ u. length (all_spots u)) (reverse-append frames (f ∷ [])) in
-    let b : length (spots f ++ all_spots (reverse frames)) ≡ suc (length (option_spots r ++ all_spots (reverse frames))) =
-    ap (λ u. length (u ++ all_spots (reverse frames))) rest.words in
-    let c : length (all_spots (reverse (frames ++ option_to_list r))) ≡ length (option_spots r ++ all_spots (reverse frames)) =
-    ap (λ u. length (all_spots u)) (reverse-more frames r) ∙ ap length (spots-more r (reverse frames)) in
+-- and a word that is taken from its run was some of it
+pub work_rest : (words : ℕ) (runs : List PointerRun) (f : PointerRun) (r : Option PointerRun) (report : Report) → IsRest f r
+    → work_next words (runs ++ option_to_list r) report ≡ work_left words (runs ++ f ∷ []) report
+work_rest words runs f r report rest =
+    let a : length (all_spots (reverse (runs ++ f ∷ []))) ≡ length (spots f ++ all_spots (reverse runs)) =
+    ap (λ u. length (all_spots u)) (reverse-append runs (f ∷ [])) in
+    let b : length (spots f ++ all_spots (reverse runs)) ≡ suc (length (option_spots r ++ all_spots (reverse runs))) =
+    ap (λ u. length (u ++ all_spots (reverse runs))) rest.words in
+    let c : length (all_spots (reverse (runs ++ option_to_list r))) ≡ length (option_spots r ++ all_spots (reverse runs)) =
+    ap (λ u. length (all_spots u)) (reverse-more runs r) ∙ ap length (spots-more r (reverse runs)) in
     omega (arith, a, b, c)
 
-pub work_smaller : (words : ℕ) (frames left : List Frame) (f : Frame) (r : Option Frame) (report after : Report) → IsRest f r
-    → work_left words left after < work_next words (frames ++ option_to_list r) report
-    → work_left words left after < work_left words (frames ++ f ∷ []) report
-work_smaller words frames left f r report after rest h = omega (arith, h, work_rest words frames f r report rest)
+pub work_smaller : (words : ℕ) (runs left : List PointerRun) (f : PointerRun) (r : Option PointerRun) (report after : Report) → IsRest f r
+    → work_left words left after < work_next words (runs ++ option_to_list r) report
+    → work_left words left after < work_left words (runs ++ f ∷ []) report
+work_smaller words runs left f r report after rest h = omega (arith, h, work_rest words runs f r report rest)
 
--- A turn at the first word of the topmost frame leaves less of the walk.
-pub turned : (m : List (List ℕ)) (limits : Limits) (frames left more : List Frame) (f : Frame) (r : Option Frame) (report after : Report)
+-- A turn at the first word of the topmost run leaves less of the walk.
+pub turned : (m : List (List ℕ)) (limits : Limits) (runs left more : List PointerRun) (f : PointerRun) (r : Option PointerRun) (report after : Report)
     (K : List (List Step) → Type 0)
-    → IsRest f r → left ≡ more → GoesOn m limits left after K (work_next (words_of limits) (frames ++ option_to_list r) report)
-    → GoesOn m limits more after K (work_left (words_of limits) (frames ++ f ∷ []) report)
-turned m limits frames left more f r report after K rest e h =
-    let less : work_left (words_of limits) left after < work_left (words_of limits) (frames ++ f ∷ []) report =
-    omega (arith, h.less, work_rest (words_of limits) frames f r report rest) in
-    subst (λ u. GoesOn m limits u after K (work_left (words_of limits) (frames ++ f ∷ []) report)) e (record { walking = h.walking; less = less })
+    → IsRest f r → left ≡ more → GoesOn m limits left after K (work_next (words_of limits) (runs ++ option_to_list r) report)
+    → GoesOn m limits more after K (work_left (words_of limits) (runs ++ f ∷ []) report)
+turned m limits runs left more f r report after K rest e h =
+    let less : work_left (words_of limits) left after < work_left (words_of limits) (runs ++ f ∷ []) report =
+    omega (arith, h.less, work_rest (words_of limits) runs f r report rest) in
+    subst (λ u. GoesOn m limits u after K (work_left (words_of limits) (runs ++ f ∷ []) report)) e (record { walking = h.walking; less = less })
 
 -- What a turn is told of a word that was looked at.
-pub looked_at : (m : List (List ℕ)) (words depth s w level : ℕ) (frames below : List Frame) (report after : Report) (later : List Ahead)
-    (n : IsNext m words depth s w level frames report) → Walks m words depth below after (n.a.path ∷ n.seen) later → IsLookedAt m n.seen n.a s w after.pointers
-looked_at m words depth s w level frames below report after later n r =
+pub looked_at : (m : List (List ℕ)) (words depth s w level : ℕ) (runs below : List PointerRun) (report after : Report) (later : List Ahead)
+    (n : IsNext m words depth s w level runs report) → Walks m words depth below after (n.a.path ∷ n.seen) later → IsLookedAt m n.seen n.a s w after.pointers
+looked_at m words depth s w level runs below report after later n r =
     let c = r.progress.costs in
     let same = one_reached m n.a.path n.a.level c.0 n.a.segment n.a.word c.1 c.2 n.progress.trail.ahead_reached.0 c.5 in
     let cost : Costs m n.a.segment n.a.word c.3 = rw (same.1, same.2) c.6 in record {

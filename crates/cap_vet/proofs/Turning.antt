@@ -14,7 +14,7 @@ use Rattle.cap_spec.specs.declared.Step.TheVariants.{Ptr, Item}
 use Rattle.cap_spec.proofs.Paths.Walks.{one_reached}
 use Rattle.cap_vet.specs.Trails.{Ahead, Falls}
 use Rattle.cap_vet.specs.Owing.{IsCount}
-use Rattle.cap_vet.specs.WalkFrames.{Place, place_of}
+use Rattle.cap_vet.specs.PointerRuns.{Place, place_of}
 use Rattle.cap_vet.specs.Walking.{IsFirstOf, LeadsToCap, Progress}
 use Rattle.std.proofs.lemmas.List.{append-nil}
 use Rattle.std.proofs.lemmas.Bool.Decides.{eqb_tells}

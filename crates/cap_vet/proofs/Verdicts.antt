@@ -13,11 +13,11 @@ use Rattle.cap_spec.specs.declared.Reason.{Reason}
 use Rattle.cap_spec.specs.declared.Reason.TheVariants.{NoRoot}
 use Rattle.cap_spec.specs.declared.Step.{Step}
 use Rattle.cap_vet.specs.Trails.{Ahead, IsTrail}
-use Rattle.cap_vet.specs.WalkFrames.{place_of}
+use Rattle.cap_vet.specs.PointerRuns.{place_of}
 use Rattle.cap_vet.specs.Limits.{depth_of, words_of}
 use Rattle.cap_vet.specs.Turns.{IsAt}
 use Rattle.cap_vet.specs.Walking.{IsFirstOf, IsNext, Progress, Walks}
-use Rattle.cap_vet.specs.declared.frame.Frame.{Frame}
+use Rattle.cap_vet.specs.declared.pointer_run.PointerRun.{PointerRun}
 use Rattle.cap_vet.specs.declared.limits.Limits.{Limits}
 use Rattle.cap_vet.specs.declared.report.Report.{Report}
 use Rattle.cap_vet.proofs.Tours.{in_order, in_order-IsOneOf, length-in_order, onto, tour_of}
@@ -43,8 +43,8 @@ no_root_at ([] ∷ m) some e = record { empty = refl; segment = refl; word = ref
 no_root_at ((x ∷ xs) ∷ m) some e = let f : length (x ∷ xs) ≡ 0 = e in absurd (omega (arith, f))
 
 -- The first reason that applies at the next word makes it the first fault.
-pub first_fault : (m : List (List ℕ)) (words depth s w level : ℕ) (frames : List Frame) (report : Report) (v : Reason)
-    → IsNext m words depth s w level frames report
+pub first_fault : (m : List (List ℕ)) (words depth s w level : ℕ) (runs : List PointerRun) (report : Report) (v : Reason)
+    → IsNext m words depth s w level runs report
     → IsFirstReason m words depth report.charge s w level v → IsFirstFault m words depth record {
       segment = s;
       word = w;
@@ -52,7 +52,7 @@ pub first_fault : (m : List (List ℕ)) (words depth s w level : ℕ) (frames : 
       pointers =
           report.pointers + 1;
     }
-first_fault m words depth s w level frames report v t h =
+first_fault m words depth s w level runs report v t h =
     let e : in_order (t.a.path ∷ t.seen) ≡ in_order t.seen ++ t.a.path ∷ [] = onto-append t.seen [] (t.a.path ∷ []) in
     let many : length (in_order t.seen ++ t.a.path ∷ []) ≡ report.pointers + 1 =
     omega (arith, length-append (in_order t.seen) (t.a.path ∷ []), length-in_order t.seen, t.progress.number) in record {
@@ -70,7 +70,7 @@ first_fault m words depth s w level frames report v t h =
       few = omega (arith, t.progress.bound, t.progress.within);
     }
 
--- where no word is ahead, none is left on the frames
+-- where no word is ahead, none is left on the runs
 pub none_ahead : (ahead : List Ahead) → map place_of ahead ≡ [] → ahead ≡ []
 none_ahead [] e = refl
 none_ahead (a ∷ ahead) e = absurd (let h : place_of a ∷ map place_of ahead ≡ [] = e in cc)

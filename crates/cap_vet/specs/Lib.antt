@@ -12,6 +12,7 @@ pub mod MarkSteps
 pub mod Nodes
 pub mod Owing
 pub mod Passing
+pub mod PointerRuns
 pub mod Reports
 pub mod Spots
 pub mod Taken
@@ -19,5 +20,4 @@ pub mod Trails
 pub mod Turning
 pub mod Turns
 pub mod Vettings
-pub mod WalkFrames
 pub mod Walking

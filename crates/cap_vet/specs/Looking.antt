@@ -12,8 +12,8 @@ use Rattle.cap_ptr.specs.declared.shapes.Followed.{Followed}
 use Rattle.cap_ptr.specs.declared.shapes.Followed.TheVariants as followed
 use Rattle.cap_vet.specs.Levels.{levels_of}
 use Rattle.cap_vet.specs.Trails.{Ahead, row, element_rows}
-use Rattle.cap_vet.specs.WalkFrames.{Place, row_places, element_places, option_spots, OptionIn}
-use Rattle.cap_vet.specs.declared.frame.Frame.{Frame}
+use Rattle.cap_vet.specs.PointerRuns.{Place, row_places, element_places, option_spots, OptionIn}
+use Rattle.cap_vet.specs.declared.pointer_run.PointerRun.{PointerRun}
 use Rattle.cap_vet.specs.declared.looking.Looked.{Looked}
 use Rattle.cap_vet.specs.declared.looking.Looked.TheVariants.{Null, Cap, Object}
 
@@ -32,12 +32,12 @@ object_children base q tag t b level =
     (if code q == 7 then element_rows base (level + (element_levels 1 + 1)) t (b + 1) (data_size tag) (pointer_size tag) 0 (middle tag) else []))
 
 -- the words of the frame lead to levels above this one, and to none past the limit
-abbrev pub FrameRises : ℕ → ℕ → Option Frame → Type 0
+abbrev pub FrameRises : ℕ → ℕ → Option PointerRun → Type 0
 FrameRises level depth None = ⊤
 FrameRises level depth (Some f) = (level + 1 ≤ f.level) × (f.level ≤ depth + 1)
 
 -- An object is found, which keeps to the limits. Its pointer words are those of the frame.
-pub record LooksObject (m : List (List ℕ)) (words depth spent s w level cost deep : ℕ) (frame : Option Frame) (k t b q tag : ℕ) : Type 0 where
+pub record LooksObject (m : List (List ℕ)) (words depth spent s w level cost deep : ℕ) (frame : Option PointerRun) (k t b q tag : ℕ) : Type 0 where
   pub finds : Finds m s w k t b q
   pub tagged : IsComposite q → HasWord m t b tag
   pub charge : cost ≡ k + extent q + extra q tag

@@ -3,14 +3,14 @@ use Rattle.std.specs.Prelude.{ℕ, ◌≤◌, List, [], ◌∷◌, ◌++◌}
 use Rattle.cap_spec.specs.declared.Step.{Step}
 use Rattle.cap_vet.specs.Trails.{Ahead}
 use Rattle.cap_vet.specs.Walking.{AreNull, Walks, work_left}
-use Rattle.cap_vet.specs.declared.frame.Frame.{Frame}
+use Rattle.cap_vet.specs.declared.pointer_run.PointerRun.{PointerRun}
 use Rattle.cap_vet.specs.declared.report.Report.{Report}
 
--- The walk, which had looked at these paths, goes on after null words of frame f, and g is left of that.
-pub record Passes (m : List (List ℕ)) (words depth : ℕ) (frames : List Frame) (seen : List (List Step)) (f : Frame) (report : Report) (g : Frame)
+-- The walk, which had looked at these paths, goes on after null words of run f, and g is left of that.
+pub record Passes (m : List (List ℕ)) (words depth : ℕ) (runs : List PointerRun) (seen : List (List Step)) (f : PointerRun) (report : Report) (g : PointerRun)
     (after : Report) : Type 0 where
   pub nulls : List (List Step)
   pub later : List Ahead
   pub are_null : AreNull m nulls
-  pub walks : Walks m words depth (frames ++ g ∷ []) after (nulls ++ seen) later
-  pub less : work_left words (frames ++ g ∷ []) after ≤ work_left words (frames ++ f ∷ []) report
+  pub walks : Walks m words depth (runs ++ g ∷ []) after (nulls ++ seen) later
+  pub less : work_left words (runs ++ g ∷ []) after ≤ work_left words (runs ++ f ∷ []) report

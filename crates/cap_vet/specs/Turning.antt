@@ -1,6 +1,6 @@
 -- How a report changes at one pointer word (profile).
 use Rattle.std.specs.Prelude.{ℕ, ◌+◌, max, Option, None, Some}
-use Rattle.cap_vet.specs.declared.frame.Frame.{Frame}
+use Rattle.cap_vet.specs.declared.pointer_run.PointerRun.{PointerRun}
 use Rattle.cap_vet.specs.declared.looking.Looked.{Looked}
 use Rattle.cap_vet.specs.declared.looking.Looked.TheVariants.{Null, Cap, Object}
 use Rattle.cap_vet.specs.declared.report.Report.{Report}
@@ -15,11 +15,11 @@ abbrev pub added : Report → ℕ → ℕ → Looked → Report
 added r s w (Null cost) = record { charge = r.charge + cost; depth = r.depth; pointers = r.pointers + 1; caps = r.caps; first_cap = r.first_cap }
 added r s w (Cap cost) =
     record { charge = r.charge + cost; depth = r.depth; pointers = r.pointers + 1; caps = r.caps + 1; first_cap = or_place r.first_cap s w }
-added r s w (Object cost deep frame) =
+added r s w (Object cost deep run) =
     record { charge = r.charge + cost; depth = max r.depth deep; pointers = r.pointers + 1; caps = r.caps; first_cap = r.first_cap }
 
--- the frame of the pointer words below
-abbrev pub frame_below : Looked → Option Frame
-frame_below (Null cost) = None
-frame_below (Cap cost) = None
-frame_below (Object cost deep frame) = frame
+-- the run of the pointer words below
+abbrev pub run_below : Looked → Option PointerRun
+run_below (Null cost) = None
+run_below (Cap cost) = None
+run_below (Object cost deep run) = run

@@ -5,28 +5,28 @@ use Rattle.cap_spec.specs.declared.Step.{Step}
 use Rattle.cap_vet.specs.Limits.{depth_of, words_of}
 use Rattle.cap_vet.specs.Trails.{Ahead}
 use Rattle.cap_vet.specs.Walking.{IsNext, Walks, work_left}
-use Rattle.cap_vet.specs.declared.frame.Frame.{Frame}
+use Rattle.cap_vet.specs.declared.pointer_run.PointerRun.{PointerRun}
 use Rattle.cap_vet.specs.declared.limits.Limits.{Limits}
 use Rattle.cap_vet.specs.declared.report.Report.{Report}
 use Rattle.cap_vet.specs.declared.turn.Stopped.{Stopped}
 use Rattle.cap_vet.specs.declared.turn.Stopped.TheVariants.{Refused, ByTurn}
 
 -- The walk has come this far, and K holds of the paths that it has looked at.
-pub record IsWalking (m : List (List ℕ)) (limits : Limits) (frames : List Frame) (report : Report) (K : List (List Step) → Type 0) : Type 0 where
+pub record IsWalking (m : List (List ℕ)) (limits : Limits) (runs : List PointerRun) (report : Report) (K : List (List Step) → Type 0) : Type 0 where
   pub seen : List (List Step)
   pub ahead : List Ahead
-  pub walks : Walks m (words_of limits) (depth_of limits) frames report seen ahead
+  pub walks : Walks m (words_of limits) (depth_of limits) runs report seen ahead
   pub known : K seen
 
--- The next word to look at is s:w, then those of the frames, and K holds of the paths before it.
-pub record IsAt (m : List (List ℕ)) (limits : Limits) (s w level : ℕ) (frames : List Frame) (report : Report) (K : List (List Step) → Type 0) : Type 0 where
-  pub next : IsNext m (words_of limits) (depth_of limits) s w level frames report
+-- The next word to look at is s:w, then those of the runs, and K holds of the paths before it.
+pub record IsAt (m : List (List ℕ)) (limits : Limits) (s w level : ℕ) (runs : List PointerRun) (report : Report) (K : List (List Step) → Type 0) : Type 0 where
+  pub next : IsNext m (words_of limits) (depth_of limits) s w level runs report
   pub known : K next.seen
 
 -- The walk goes on, and less than this is left of it.
-pub record GoesOn (m : List (List ℕ)) (limits : Limits) (frames : List Frame) (report : Report) (K : List (List Step) → Type 0) (left : ℕ) : Type 0 where
-  pub walking : IsWalking m limits frames report K
-  pub less : work_left (words_of limits) frames report < left
+pub record GoesOn (m : List (List ℕ)) (limits : Limits) (runs : List PointerRun) (report : Report) (K : List (List Step) → Type 0) (left : ℕ) : Type 0 where
+  pub walking : IsWalking m limits runs report K
+  pub less : work_left (words_of limits) runs report < left
 
 -- why a walk stops: at the first fault, or for a reason of its turn
 abbrev pub IsStopped : {S : Type 0} → List (List ℕ) → Limits → (S → Type 0) → Stopped S → Type 0

@@ -9,14 +9,14 @@ use Rattle.cap_spec.specs.Faults.{AreShallow}
 use Rattle.cap_spec.specs.declared.Step.{Step}
 use Rattle.cap_vet.specs.Trails.{Ahead, IsTrail}
 use Rattle.cap_vet.specs.Owing.{AreNear, IsCount}
-use Rattle.cap_vet.specs.WalkFrames.{FrameIn, all_spots, place_of}
-use Rattle.cap_vet.specs.declared.frame.Frame.{Frame}
+use Rattle.cap_vet.specs.PointerRuns.{RunIn, all_spots, place_of}
+use Rattle.cap_vet.specs.declared.pointer_run.PointerRun.{PointerRun}
 use Rattle.cap_vet.specs.declared.report.Report.{Report}
 
--- each frame's level is higher than there are frames below it
-abbrev pub AreStacked : ℕ → List Frame → Type 0
+-- each run's level is higher than there are runs below it
+abbrev pub AreStacked : ℕ → List PointerRun → Type 0
 AreStacked depth [] = ⊤
-AreStacked depth (f ∷ frames) = (length frames + 2 ≤ f.level) × (f.level ≤ depth + 1) × AreStacked depth frames
+AreStacked depth (f ∷ runs) = (length runs + 2 ≤ f.level) × (f.level ≤ depth + 1) × AreStacked depth runs
 
 -- the path leads to a capability from this word
 abbrev pub LeadsToCap : List (List ℕ) → List Step → ℕ → ℕ → Type 0
@@ -44,15 +44,15 @@ pub record Progress (m : List (List ℕ)) (words depth : ℕ) (charge deepest po
   pub few : caps ≤ pointers
   pub first_cap : IsFirstOf m seen first
 
--- The words of the frames are ahead, the topmost frame's first, and those that were looked at are in the report.
-pub record Walks (m : List (List ℕ)) (words depth : ℕ) (frames : List Frame) (report : Report) (seen : List (List Step)) (ahead : List Ahead) : Type 0 where
+-- The words of the runs are ahead, the topmost run's first, and those that were looked at are in the report.
+pub record Walks (m : List (List ℕ)) (words depth : ℕ) (runs : List PointerRun) (report : Report) (seen : List (List Step)) (ahead : List Ahead) : Type 0 where
   pub progress : Progress m words depth report.charge report.depth report.pointers report.caps report.first_cap seen ahead
-  pub places : map place_of ahead ≡ all_spots (reverse frames)
-  pub inside : AllByRecursion (FrameIn m) (reverse frames)
-  pub stacked : AreStacked depth (reverse frames)
+  pub places : map place_of ahead ≡ all_spots (reverse runs)
+  pub inside : AllByRecursion (RunIn m) (reverse runs)
+  pub stacked : AreStacked depth (reverse runs)
 
--- The next word to look at is s:w, and leads to this level; then come the words of the frames.
-pub record IsNext (m : List (List ℕ)) (words depth s w level : ℕ) (frames : List Frame) (report : Report) : Type 0 where
+-- The next word to look at is s:w, and leads to this level; then come the words of the runs.
+pub record IsNext (m : List (List ℕ)) (words depth s w level : ℕ) (runs : List PointerRun) (report : Report) : Type 0 where
   pub seen : List (List Step)
   pub a : Ahead
   pub ahead : List Ahead
@@ -62,19 +62,19 @@ pub record IsNext (m : List (List ℕ)) (words depth s w level : ℕ) (frames : 
   pub leads_to : a.level ≡ level
   pub exists : s < length m
   pub within : w < length (segment_of m s)
-  pub places : map place_of ahead ≡ all_spots (reverse frames)
-  pub inside : AllByRecursion (FrameIn m) (reverse frames)
-  pub stacked : AreStacked depth (reverse frames)
-  pub high : length (reverse frames) + 1 ≤ level
+  pub places : map place_of ahead ≡ all_spots (reverse runs)
+  pub inside : AllByRecursion (RunIn m) (reverse runs)
+  pub stacked : AreStacked depth (reverse runs)
+  pub high : length (reverse runs) + 1 ≤ level
   pub low : level ≤ depth + 1
 
 -- how much is left of a walk: it falls at each turn
-abbrev pub work_left : ℕ → List Frame → Report → ℕ
-work_left words frames report = length (all_spots (reverse frames)) + (words - report.charge)
+abbrev pub work_left : ℕ → List PointerRun → Report → ℕ
+work_left words runs report = length (all_spots (reverse runs)) + (words - report.charge)
 
 -- and with one more word to look at
-abbrev pub work_next : ℕ → List Frame → Report → ℕ
-work_next words frames report = suc (work_left words frames report)
+abbrev pub work_next : ℕ → List PointerRun → Report → ℕ
+work_next words runs report = suc (work_left words runs report)
 
 -- After these paths the walk looked at pointer word s:w, number n of them, which can be followed.
 pub record IsLookedAt (m : List (List ℕ)) (seen : List (List Step)) (a : Ahead) (s w n : ℕ) : Type 0 where

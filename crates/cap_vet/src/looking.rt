@@ -6,7 +6,7 @@ ghost use Rattle.cap_vet.specs.Limits.{depth_of, words_of};
 ghost use Rattle.cap_vet.specs.Looking.{FollowsWithin, IsLooked, deepest_of};
 ghost use Rattle.std.specs.Prelude.{◌+◌, ◌-◌, ◌<◌, ◌^◌, ◌≡◌, ◌≤◌, IfErr, IfOk, IfSome, length, ℕ};
 
-use crate::frame::Frame;
+use crate::pointer_run::PointerRun;
 use crate::limits::Limits;
 use crate::targets::{frame_of, levels_taken, row_frame};
 use cap_frame::Segments;
@@ -19,7 +19,7 @@ pub(crate) enum Looked {
     /// A capability, at this charge.
     Cap(u64),
     /// An object, at this charge: the deepest level that it takes, and its pointer words.
-    Object(u64, u32, Option<Frame>),
+    Object(u64, u32, Option<PointerRun>),
 }
 
 /// What word `w` of segment `s` leads to, where `left` words may still be charged and its target

@@ -3,12 +3,12 @@
 ghost use Rattle.cap_ptr.specs.Shapes.{FindsTargetBy};
 ghost use Rattle.cap_spec.specs.Denoting.{element_levels};
 ghost use Rattle.cap_spec.specs.Messages.{IsMessage, segment_of};
-ghost use Rattle.cap_vet.specs.WalkFrames.{LevelIs, OptionIn, option_spots, row_places};
+ghost use Rattle.cap_vet.specs.PointerRuns.{LevelIs, OptionIn, option_spots, row_places};
 ghost use Rattle.cap_vet.specs.Looking.{FrameRises, object_places};
 ghost use Rattle.cap_vet.specs.Levels.{levels_of};
 ghost use Rattle.std.specs.Prelude.{◌+◌, ◌<◌, ◌^◌, ◌≡◌, ◌≤◌, List, ℕ, length};
 
-use crate::frame::Frame;
+use crate::pointer_run::PointerRun;
 use cap_ptr::{Shape, Target};
 
 // How many levels the structs of a list of `count` elements take below their list.
@@ -31,7 +31,7 @@ pub(crate) fn levels_taken(shape: &Shape) -> u32
 }
 
 // The pointer words of an object of this level.
-pub(crate) fn frame_of(target: &Target, level: u32) -> Option<Frame>
+pub(crate) fn frame_of(target: &Target, level: u32) -> Option<PointerRun>
     requires found { (m : List (List ℕ)) × (s w q tag : ℕ) × IsMessage m
         × FindsTargetBy m s w q tag target.now }
     requires level { level < 2 ^ 31 }
@@ -62,7 +62,7 @@ pub(crate) fn frame_of(target: &Target, level: u32) -> Option<Frame>
             if count == 0 || pointers == 0 {
                 return None;
             }
-            Some(Frame {
+            Some(PointerRun {
                 segment: target.segment,
                 at: target.start + 1 + u32::from(data_words),
                 left: u32::from(pointers),
@@ -76,7 +76,7 @@ pub(crate) fn frame_of(target: &Target, level: u32) -> Option<Frame>
 }
 
 // The pointer words of a struct or of a list of pointers, which are in one row.
-pub(crate) fn row_frame(segment: u32, at: u32, left: u32, level: u32) -> Option<Frame>
+pub(crate) fn row_frame(segment: u32, at: u32, left: u32, level: u32) -> Option<PointerRun>
     ensures places { option_spots result ≡ row_places level segment at left }
     ensures inside { (m : List (List ℕ)) → segment < length m →
         at + left ≤ length (segment_of m segment) → OptionIn m result }
@@ -85,7 +85,7 @@ pub(crate) fn row_frame(segment: u32, at: u32, left: u32, level: u32) -> Option<
     if left == 0 {
         return None;
     }
-    Some(Frame {
+    Some(PointerRun {
         segment,
         at,
         left,

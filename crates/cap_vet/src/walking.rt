@@ -2,29 +2,29 @@
 
 ghost use Rattle.cap_spec.specs.Faults.{IsFirstFault};
 ghost use Rattle.cap_spec.specs.declared.Step.{Step};
-ghost use Rattle.cap_vet.specs.WalkFrames.{kept};
+ghost use Rattle.cap_vet.specs.PointerRuns.{kept};
 ghost use Rattle.cap_vet.specs.Passing.{Passes};
 ghost use Rattle.cap_vet.specs.Limits.{depth_of, words_of};
-ghost use Rattle.cap_vet.specs.Turning.{added, frame_below};
+ghost use Rattle.cap_vet.specs.Turning.{added, run_below};
 ghost use Rattle.cap_vet.specs.Turns.{GoesOn, IsAt, IsStopped, IsWalking};
 ghost use Rattle.cap_vet.specs.Trails.{Ahead};
 ghost use Rattle.cap_vet.specs.Walking.{IsNext, Walks, work_left, work_next};
 ghost use Rattle.std.specs.Option.{option_to_list};
 ghost use Rattle.std.specs.Prelude.{◌+◌, ◌++◌, ◌<◌, ◌≡◌, ◌≤◌, ◌^◌, [], ◌∷◌, IfErr, IfNone, IfOk, IfSome, List, length, ℕ};
 
-use crate::frame::Frame;
 use crate::limits::Limits;
 use crate::looking::{Looked, look, look_near};
+use crate::pointer_run::PointerRun;
 use crate::report::Report;
 use crate::turn::{Stopped, Turn};
 use arrayvec::ArrayVec;
 use cap_frame::Segments;
 use cap_spec::{Reason, Refusal};
 
-/// The pointer words still to be looked at after those of the current frame, the next ones last.
-/// Each object on the way down that has some left has one frame. 256 are enough for the deepest
+/// The pointer words still to be looked at after those of the current run, the next ones last.
+/// Each object on the way down that has some left has one run. 256 are enough for the deepest
 /// walk.
-pub(crate) type Stack<const N: usize> = ArrayVec<Frame, N>;
+pub(crate) type Stack<const N: usize> = ArrayVec<PointerRun, N>;
 
 /// Walks a message from its root, and takes a turn at each pointer word. The report is of the whole
 /// walk.
@@ -48,34 +48,34 @@ pub(crate) fn walk<M: Segments, T: Turn>(
     }
     let mut report = Report::default();
     match turn_at(message, limits, turn, &mut report, 0, 0, 1) {
-        Ok(Some(frame)) => walk_below(message, limits, turn, frame, report),
+        Ok(Some(run)) => walk_below(message, limits, turn, run, report),
         Ok(None) => Ok(report),
         Err(stopped) => Err(stopped),
     }
 }
 
-// Goes on below the root. Each message initializes its frames, so a walk begins with few of them.
+// Goes on below the root. Each message initializes its runs, so a walk begins with few of them.
 fn walk_below<M: Segments, T: Turn>(
     message: &M,
     limits: &Limits,
     turn: &mut T,
-    frame: Frame,
+    run: PointerRun,
     mut report: Report,
 ) -> Result<Report, Stopped<T::Stop>>
-    requires { let m = M.segments message.now in IsWalking m limits.now (frame ∷ []) report (T.knows turn.old m) }
+    requires { let m = M.segments message.now in IsWalking m limits.now (run ∷ []) report (T.knows turn.old m) }
     ensures ok { let m = M.segments message.now in
         IfOk result (λ report. IsWalking m limits.now [] report (T.knows turn.new m)) }
     ensures err { let m = M.segments message.now in IfErr result (IsStopped m limits.now (T.stops m)) }
 {
     let mut stack: Stack<8> = Stack::new();
-    match walk_on(message, limits, turn, &mut stack, frame, &mut report) {
+    match walk_on(message, limits, turn, &mut stack, run, &mut report) {
         Ok(None) => Ok(report),
-        Ok(Some(frame)) => walk_deep(message, limits, turn, &stack, frame, report),
+        Ok(Some(run)) => walk_deep(message, limits, turn, &stack, run, report),
         Err(stopped) => Err(stopped),
     }
 }
 
-// Goes on where those few frames are full, with as many as the deepest walk can have.
+// Goes on where those few runs are full, with as many as the deepest walk can have.
 #[cold]
 #[inline(never)]
 fn walk_deep<M: Segments, T: Turn>(
@@ -83,11 +83,11 @@ fn walk_deep<M: Segments, T: Turn>(
     limits: &Limits,
     turn: &mut T,
     few: &Stack<8>,
-    frame: Frame,
+    run: PointerRun,
     mut report: Report,
 ) -> Result<Report, Stopped<T::Stop>>
     requires { let m = M.segments message.now in
-        IsWalking m limits.now (few.now.items ++ frame ∷ []) report (T.knows turn.old m) }
+        IsWalking m limits.now (few.now.items ++ run ∷ []) report (T.knows turn.old m) }
     ensures ok { let m = M.segments message.now in
         IfOk result (λ report. IsWalking m limits.now [] report (T.knows turn.new m)) }
     ensures err { let m = M.segments message.now in IfErr result (IsStopped m limits.now (T.stops m)) }
@@ -96,27 +96,27 @@ fn walk_deep<M: Segments, T: Turn>(
     if stack.try_extend_from_slice(few.as_slice()).is_err() {
         unreachable!();
     }
-    match walk_on(message, limits, turn, &mut stack, frame, &mut report) {
+    match walk_on(message, limits, turn, &mut stack, run, &mut report) {
         Ok(None) => Ok(report),
         Ok(Some(_)) => unreachable!(),
         Err(stopped) => Err(stopped),
     }
 }
 
-// Goes on with the words of this frame and those of the stack until no pointer word is left, the
-// walk is stopped, or the stack is full. If it is full, the result is the frame to go on with. The
-// current frame is beside the stack, so that a word with nothing below it costs no push and no pop.
+// Goes on with the words of this run and those of the stack until no pointer word is left, the
+// walk is stopped, or the stack is full. If it is full, the result is the run to go on with. The
+// current run is beside the stack, so that a word with nothing below it costs no push and no pop.
 fn walk_on<M: Segments, T: Turn, const N: usize>(
     message: &M,
     limits: &Limits,
     turn: &mut T,
     stack: &mut Stack<N>,
-    mut frame: Frame,
+    mut run: PointerRun,
     report: &mut Report,
-) -> Result<Option<Frame>, Stopped<T::Stop>>
+) -> Result<Option<PointerRun>, Stopped<T::Stop>>
     requires room { (length stack.old.items < N) × (N ≤ 256) }
     requires walking { let m = M.segments message.now in
-        IsWalking m limits.now (stack.old.items ++ frame ∷ []) report.old (T.knows turn.old m) }
+        IsWalking m limits.now (stack.old.items ++ run ∷ []) report.old (T.knows turn.old m) }
     ensures done { let m = M.segments message.now in
         IfOk result (λ left. IfNone left (IsWalking m limits.now [] report.new (T.knows turn.new m))) }
     ensures full { let m = M.segments message.now in IfOk result (λ left. IfSome left (λ f.
@@ -124,25 +124,25 @@ fn walk_on<M: Segments, T: Turn, const N: usize>(
     ensures err { let m = M.segments message.now in IfErr result (IsStopped m limits.now (T.stops m)) }
 {
     'walk: loop {
-        let (s, w, level) = (frame.segment, frame.at, frame.level);
+        let (s, w, level) = (run.segment, run.at, run.level);
         let is_null = message.word(s, w) == 0;
-        let more = frame.advance();
+        let more = run.advance();
         match turn_at(message, limits, turn, report, s, w, level) {
             Ok(Some(below)) => {
-                push_kept(stack, more, frame);
+                push_kept(stack, more, run);
                 if stack.is_full() {
                     return Ok(Some(below));
                 }
-                frame = below;
+                run = below;
             }
             Ok(None) => {
                 if !more {
                     match stack.pop() {
-                        Some(below) => frame = below,
+                        Some(below) => run = below,
                         None => return Ok(None),
                     }
                 } else if is_null {
-                    pass_nulls(message, &mut frame, report);
+                    pass_nulls(message, &mut run, report);
                 }
             }
             Err(stopped) => return Err(stopped),
@@ -150,7 +150,7 @@ fn walk_on<M: Segments, T: Turn, const N: usize>(
     }
 }
 
-// Looks at the next pointer word, and takes the turn there. Gives the frame of its object's pointers.
+// Looks at the next pointer word, and takes the turn there. Gives the run of its object's pointers.
 #[inline(always)]
 fn turn_at<M: Segments, T: Turn>(
     message: &M,
@@ -160,12 +160,12 @@ fn turn_at<M: Segments, T: Turn>(
     s: u32,
     w: u32,
     level: u32,
-) -> Result<Option<Frame>, Stopped<T::Stop>>
+) -> Result<Option<PointerRun>, Stopped<T::Stop>>
     requires { let m = M.segments message.now in
-        (frames : List Frame) × IsAt m limits.now s w level frames report.old (T.knows turn.old m) }
+        (runs : List PointerRun) × IsAt m limits.now s w level runs report.old (T.knows turn.old m) }
     ensures ok { let m = M.segments message.now in
-        (frames : List Frame) → IsAt m limits.now s w level frames report.old (T.knows turn.old m) → IfOk result (λ below.
-        GoesOn m limits.now (frames ++ option_to_list below) report.new (T.knows turn.new m) (work_next (words_of limits.now) frames report.old)) }
+        (runs : List PointerRun) → IsAt m limits.now s w level runs report.old (T.knows turn.old m) → IfOk result (λ below.
+        GoesOn m limits.now (runs ++ option_to_list below) report.new (T.knows turn.new m) (work_next (words_of limits.now) runs report.old)) }
     ensures err { let m = M.segments message.now in IfErr result (IsStopped m limits.now (T.stops m)) }
 {
     // The words that the pointer uses are looked up before the visit, and used after it. If nothing
@@ -181,7 +181,7 @@ fn turn_at<M: Segments, T: Turn>(
     }
 }
 
-// Looks at the next pointer word, and gives the frame of its object's pointers. The error is the
+// Looks at the next pointer word, and gives the run of its object's pointers. The error is the
 // first fault. It and what it calls are inlined: a walk may look at millions of words.
 #[inline(always)]
 fn visit<M: Segments>(
@@ -191,17 +191,17 @@ fn visit<M: Segments>(
     s: u32,
     w: u32,
     level: u32,
-) -> Result<Option<Frame>, Refusal>
+) -> Result<Option<PointerRun>, Refusal>
     requires next { let m = M.segments message.now in
-        (frames : List Frame) × IsNext m (words_of limits.now) (depth_of limits.now) s w level frames report.old }
+        (runs : List PointerRun) × IsNext m (words_of limits.now) (depth_of limits.now) s w level runs report.old }
     // This word is then the last that was looked at.
     ensures ok { let m = M.segments message.now in
-        (frames : List Frame) (n : IsNext m (words_of limits.now) (depth_of limits.now) s w level frames report.old) →
+        (runs : List PointerRun) (n : IsNext m (words_of limits.now) (depth_of limits.now) s w level runs report.old) →
         IfOk result (λ below. (later : List Ahead)
-        × Walks m (words_of limits.now) (depth_of limits.now) (frames ++ option_to_list below) report.new (n.a.path ∷ n.seen) later) }
+        × Walks m (words_of limits.now) (depth_of limits.now) (runs ++ option_to_list below) report.new (n.a.path ∷ n.seen) later) }
     ensures falls { let m = M.segments message.now in
-        (frames : List Frame) → IsNext m (words_of limits.now) (depth_of limits.now) s w level frames report.old → IfOk result (λ below.
-        work_left (words_of limits.now) (frames ++ option_to_list below) report.new < work_next (words_of limits.now) frames report.old) }
+        (runs : List PointerRun) → IsNext m (words_of limits.now) (depth_of limits.now) s w level runs report.old → IfOk result (λ below.
+        work_left (words_of limits.now) (runs ++ option_to_list below) report.new < work_next (words_of limits.now) runs report.old) }
     ensures err { IfErr result (IsFirstFault (M.segments message.now) (words_of limits.now) (depth_of limits.now)) }
 {
     if let Some(looked) = look_near(message, limits, report.charge, s, w, level) {
@@ -221,41 +221,41 @@ fn visit<M: Segments>(
 // Skips null words at the start of the others of a row, while another word follows them. Most words
 // of a list may be null, and these cost no turn.
 #[inline(always)]
-fn pass_nulls<M: Segments>(message: &M, frame: &mut Frame, report: &mut Report)
-    requires { let m = M.segments message.now in (words depth : ℕ) × (frames : List Frame) × (seen : List (List Step)) × (ahead : List Ahead)
-        × Walks m words depth (frames ++ frame.old ∷ []) report.old seen ahead }
-    ensures { let m = M.segments message.now in (words depth : ℕ) (frames : List Frame) (seen : List (List Step)) (ahead : List Ahead) →
-        Walks m words depth (frames ++ frame.old ∷ []) report.old seen ahead →
-        Passes m words depth frames seen frame.old report.old frame.new report.new }
+fn pass_nulls<M: Segments>(message: &M, run: &mut PointerRun, report: &mut Report)
+    requires { let m = M.segments message.now in (words depth : ℕ) × (runs : List PointerRun) × (seen : List (List Step)) × (ahead : List Ahead)
+        × Walks m words depth (runs ++ run.old ∷ []) report.old seen ahead }
+    ensures { let m = M.segments message.now in (words depth : ℕ) (runs : List PointerRun) (seen : List (List Step)) (ahead : List Ahead) →
+        Walks m words depth (runs ++ run.old ∷ []) report.old seen ahead →
+        Passes m words depth runs seen run.old report.old run.new report.new }
 {
-    'nulls: while frame.left > 1 && message.word(frame.segment, frame.at) == 0 {
+    'nulls: while run.left > 1 && message.word(run.segment, run.at) == 0 {
         // The count stays below the charge, a number of 64 bits.
         let _charge = report.charge;
-        frame.at += 1;
-        frame.left -= 1;
+        run.at += 1;
+        run.left -= 1;
         report.pointers += 1;
     }
 }
 
-// One more frame, where something is left of it.
+// One more run, where something is left of it.
 #[inline(always)]
-fn push_kept<const N: usize>(stack: &mut Stack<N>, more: bool, frame: Frame)
+fn push_kept<const N: usize>(stack: &mut Stack<N>, more: bool, run: PointerRun)
     requires few { N ≤ 256 }
-    requires room { length (stack.old.items ++ option_to_list (kept more frame)) ≤ N }
-    ensures { stack.new.items ≡ stack.old.items ++ option_to_list (kept more frame) }
+    requires room { length (stack.old.items ++ option_to_list (kept more run)) ≤ N }
+    ensures { stack.new.items ≡ stack.old.items ++ option_to_list (kept more run) }
 {
     if more {
-        stack.push(frame);
+        stack.push(run);
     }
 }
 
-// Counts a pointer word, and gives the frame of its object's pointers.
+// Counts a pointer word, and gives the run of its object's pointers.
 #[inline(always)]
-fn add(report: &mut Report, s: u32, w: u32, looked: Looked) -> Option<Frame>
+fn add(report: &mut Report, s: u32, w: u32, looked: Looked) -> Option<PointerRun>
     requires room { ((added report.old s w looked).charge < 2 ^ 64) × ((added report.old s w looked).pointers < 2 ^ 64)
         × ((added report.old s w looked).caps < 2 ^ 64) }
     ensures report { report.new ≡ added report.old s w looked }
-    ensures frame { result ≡ frame_below looked }
+    ensures run { result ≡ run_below looked }
 {
     report.pointers += 1;
     match looked {
@@ -271,12 +271,12 @@ fn add(report: &mut Report, s: u32, w: u32, looked: Looked) -> Option<Frame>
             }
             None
         }
-        Looked::Object(cost, deepest, frame) => {
+        Looked::Object(cost, deepest, below) => {
             report.charge += cost;
             if report.depth < deepest {
                 report.depth = deepest;
             }
-            frame
+            below
         }
     }
 }

@@ -1,6 +1,6 @@
 use Rattle.std.proofs.Common.{ℕ, ◌+◌, ◌≡◌, ◌∙◌, max, Bool, true, false, not, Option, Some, None, is_some, refl, ap, arith}
 use Rattle.cap_vet.specs.Turning.{added, or_place}
-use Rattle.cap_vet.specs.declared.frame.Frame.{Frame}
+use Rattle.cap_vet.specs.declared.pointer_run.PointerRun.{PointerRun}
 use Rattle.cap_vet.specs.declared.looking.Looked.TheVariants.{Cap, Object}
 use Rattle.cap_vet.specs.declared.report.Report.{Report}
 use Rattle.cap_vet.proofs.walking.add.Goals as goal
@@ -18,10 +18,10 @@ cap_added : (r : Report) (s w cost : ℕ) (place : Option (ℕ × ℕ)) → plac
     (added r s w (Cap cost))
 cap_added r s w cost place e = rw e refl
 
-object_added : (r : Report) (s w cost deepest depth : ℕ) (frame : Option Frame) → depth ≡ max r.depth deepest
+object_added : (r : Report) (s w cost deepest depth : ℕ) (run : Option PointerRun) → depth ≡ max r.depth deepest
     → ◌≡◌ {A = Report} record { charge = r.charge + cost; depth = depth; pointers = r.pointers + 1; caps = r.caps; first_cap = r.first_cap }
-    (added r s w (Object cost deepest frame))
-object_added r s w cost deepest depth frame e = rw e refl
+    (added r s w (Object cost deepest run))
+object_added r s w cost deepest depth run e = rw e refl
 
 pub returns-in-Null-clause-report : goal.returns-in-Null-clause-report
 returns-in-Null-clause-report c = rw c.in-Null.is refl
@@ -40,5 +40,5 @@ returns-else-is_none-clause-report c =
 
 pub returns-then-report-deepest-clause-report : goal.returns-then-report-deepest-clause-report
 returns-then-report-deepest-clause-report c =
-    rw c.in-Object.is (object_added c.args.report.now c.args.s c.args.w c.in-Object.cost c.in-Object.deepest c.in-Object.deepest c.in-Object.frame
+    rw c.in-Object.is (object_added c.args.report.now c.args.s c.args.w c.in-Object.cost c.in-Object.deepest c.in-Object.deepest c.in-Object.below
     (omega (arith, c.if-report-deepest.true)))

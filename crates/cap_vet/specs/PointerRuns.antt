@@ -1,9 +1,9 @@
--- The pointer words of a frame, and what is left of it after the first (profile).
+-- The pointer words of a run, and what is left of it after the first (profile).
 use Rattle.std.specs.Prelude.{ℕ, zero, suc, ◌+◌, ◌*◌, ◌<◌, ◌≤◌, ◌≡◌, Bool, if◌then◌else◌, List, [], ◌∷◌, ◌++◌, length, Option, None, Some, ⊤}
 use Rattle.std.specs.List.{flat_map}
 use Rattle.cap_spec.specs.Messages.{segment_of}
 use Rattle.cap_vet.specs.Trails.{Ahead}
-use Rattle.cap_vet.specs.declared.frame.Frame.{Frame}
+use Rattle.cap_vet.specs.declared.pointer_run.PointerRun.{PointerRun}
 
 -- a pointer word: its segment, its word, and the level of what it leads to
 abbrev pub Place : Type 0
@@ -23,39 +23,39 @@ abbrev pub element_places : ℕ → ℕ → ℕ → ℕ → ℕ → ℕ → List
 element_places level t b ds ps zero = []
 element_places level t b ds ps (suc n) = row_places level t (b + ds) ps ++ element_places level t (b + ds + ps) ds ps n
 
--- the pointer words of a frame
-abbrev pub spots : Frame → List Place
+-- the pointer words of a run
+abbrev pub spots : PointerRun → List Place
 spots f = row_places f.level f.segment f.at f.left ++ element_places f.level f.segment (f.at + f.left) f.data_words f.pointers f.more
 
-abbrev pub option_spots : Option Frame → List Place
+abbrev pub option_spots : Option PointerRun → List Place
 option_spots None = []
 option_spots (Some f) = spots f
 
--- the pointer words of frames, the topmost first
-abbrev pub all_spots : List Frame → List Place
-all_spots frames = flat_map spots frames
+-- the pointer words of runs, the topmost first
+abbrev pub all_spots : List PointerRun → List Place
+all_spots runs = flat_map spots runs
 
--- the frame, where something is left of it
-abbrev pub kept : Bool → Frame → Option Frame
+-- the run, where something is left of it
+abbrev pub kept : Bool → PointerRun → Option PointerRun
 kept b f = if b then Some f else None
 
--- A frame isn't empty, and its words lie inside its segment.
-pub record FrameIn (m : List (List ℕ)) (f : Frame) : Type 0 where
+-- A run isn't empty, and its words lie inside its segment.
+pub record RunIn (m : List (List ℕ)) (f : PointerRun) : Type 0 where
   pub exists : f.segment < length m
   pub some : 0 < f.left
   pub each : 0 < f.more → 0 < f.pointers
   pub inside : f.at + f.left + f.more * (f.data_words + f.pointers) ≤ length (segment_of m f.segment)
 
-abbrev pub OptionIn : List (List ℕ) → Option Frame → Type 0
+abbrev pub OptionIn : List (List ℕ) → Option PointerRun → Type 0
 OptionIn m None = ⊤
-OptionIn m (Some f) = FrameIn m f
+OptionIn m (Some f) = RunIn m f
 
-abbrev pub LevelIs : ℕ → Option Frame → Type 0
+abbrev pub LevelIs : ℕ → Option PointerRun → Type 0
 LevelIs level None = ⊤
 LevelIs level (Some f) = f.level ≡ level
 
--- what is left of a frame after its first pointer word
-pub record IsRest (f : Frame) (rest : Option Frame) : Type 0 where
+-- what is left of a run after its first pointer word
+pub record IsRest (f : PointerRun) (rest : Option PointerRun) : Type 0 where
   pub words : spots f ≡ (f.segment, f.at, f.level) ∷ option_spots rest
-  pub inside : (m : List (List ℕ)) → FrameIn m f → OptionIn m rest
+  pub inside : (m : List (List ℕ)) → RunIn m f → OptionIn m rest
   pub level : LevelIs f.level rest

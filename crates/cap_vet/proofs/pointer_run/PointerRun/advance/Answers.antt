@@ -1,6 +1,6 @@
 use Rattle.std.proofs.Common.{arith, ◌≡◌}
 use Rattle.cap_vet.proofs.Frames.{rest_of_elements, rest_of_last, rest_of_row}
-use Rattle.cap_vet.proofs.frame.Frame.advance.Goals as goal
+use Rattle.cap_vet.proofs.pointer_run.PointerRun.advance.Goals as goal
 
 pub returns-then-self-gt1 : goal.returns-then-self-gt1
 returns-then-self-gt1 c = rest_of_row _ _ _ _ _ _ _ c.if-self-gt1.true

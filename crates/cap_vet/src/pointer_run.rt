@@ -1,13 +1,13 @@
 //! A run of pointer words that a walk still has to look at.
 
-ghost use Rattle.cap_vet.specs.WalkFrames.{FrameIn, IsRest, kept};
+ghost use Rattle.cap_vet.specs.PointerRuns.{RunIn, IsRest, kept};
 ghost use Rattle.cap_spec.specs.Messages.{IsMessage};
 ghost use Rattle.std.specs.Prelude.{List, ℕ};
 
 /// `left` pointer words from `at` on, and then those of `more` further elements. Each element has
 /// `data_words` data words and then `pointers` pointers.
 #[derive(Clone, Copy, Default)]
-pub(crate) struct Frame {
+pub(crate) struct PointerRun {
     pub(crate) segment: u32,
     pub(crate) at: u32,
     pub(crate) left: u32,
@@ -18,11 +18,11 @@ pub(crate) struct Frame {
     pub(crate) level: u32,
 }
 
-impl Frame {
+impl PointerRun {
     /// Goes on after the first pointer word. `false` if nothing is left.
     #[inline(always)]
     pub(crate) fn advance(&mut self) -> bool
-        requires { (m : List (List ℕ)) × IsMessage m × FrameIn m self.old }
+        requires { (m : List (List ℕ)) × IsMessage m × RunIn m self.old }
         ensures { IsRest self.old (kept result self.new) }
     {
         if self.left > 1 {
