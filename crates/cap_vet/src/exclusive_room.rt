@@ -85,7 +85,8 @@ pub fn vet_exclusive_in<'m, M: Segments>(
         result ≡ Err fault }
 
     // The numbers of the buffer after the call.
-    ensures rest { let n = marks_of (M.segments message.now) in drop n marks.new ≡ drop n marks.old }
+    ensures rest { let n = marks_of (M.segments message.now) in
+        drop n marks.new ≡ drop n marks.old }
     ensures kept { IfErr result (λ fault. KeepsRoom fault marks.old marks.new) }
 {
     let vetted = match vet(message, limits) {
@@ -111,7 +112,8 @@ pub fn vet_exclusive_in<'m, M: Segments>(
 
 // Clears the marks, whatever they are, and walks a message that is accepted once more.
 fn mark_cleared<M: Segments>(message: &M, limits: &Limits, bits: &mut [u64]) -> Result<(), Overlap>
-    requires enough { let m = M.segments message.now in start_of m (length m) ≤ 64 * length bits.old }
+    requires enough { let m = M.segments message.now in
+        start_of m (length m) ≤ 64 * length bits.old }
     requires accepted { let m = M.segments message.now in
         (report : Report) × IsAccepted m (words_of limits.now) (depth_of limits.now) report }
     ensures ok { IfOk result (λ _. IsDisjoint (M.segments message.now)) }

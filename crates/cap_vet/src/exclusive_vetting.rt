@@ -77,7 +77,8 @@ pub fn vet_exclusive<'m, M: Segments>(
         × (r.charge < sum (sizes_of m) + empty_count t)) }
 
     ensures refused { let m = M.segments message.now in (r : Refusal) →
-        IsErrOf result (ExclusiveRefusal.Refused r) → IsRefused m (words_of limits) (depth_of limits) r }
+        IsErrOf result (ExclusiveRefusal.Refused r) →
+        IsRefused m (words_of limits) (depth_of limits) r }
     ensures overlap { (s w n : ℕ) → IsErrOf result (ExclusiveRefusal.Overlap s w n) →
         IsFirstOverlap (M.segments message.now) s w n }
 
@@ -90,7 +91,8 @@ pub fn vet_exclusive<'m, M: Segments>(
 
     // The other direction, unless the allocation fails.
     ensures refuses { let m = M.segments message.now in (r : Refusal) →
-        IsRefused m (words_of limits) (depth_of limits) r → result ≡ Err (ExclusiveRefusal.Refused r) }
+        IsRefused m (words_of limits) (depth_of limits) r →
+        result ≡ Err (ExclusiveRefusal.Refused r) }
     ensures accepts { let m = M.segments message.now in (t : Tree) (c d : ℕ) →
         Denotes m 0 0 t c d → c ≤ words_of limits → d ≤ depth_of limits →
         IsDisjoint m → IsOk result ⊎ (result ≡ Err ExclusiveRefusal.Memory) }
@@ -131,7 +133,8 @@ pub(crate) fn mark_message<M: Segments>(
     limits: &Limits,
     bits: &mut [u64],
 ) -> Result<(), Overlap>
-    requires enough { let m = M.segments message.now in start_of m (length m) ≤ 64 * length bits.old }
+    requires enough { let m = M.segments message.now in
+        start_of m (length m) ≤ 64 * length bits.old }
     requires none { (s w : ℕ) → ¬ IsTaken (M.segments message.now) bits.old s w }
     requires accepted { let m = M.segments message.now in
         (report : Report) × IsAccepted m (words_of limits.now) (depth_of limits.now) report }
@@ -148,7 +151,8 @@ pub(crate) fn mark_message<M: Segments>(
 #[cold]
 #[inline(never)]
 fn mark_segments<M: Segments>(message: &M, limits: &Limits, bits: &mut [u64]) -> Result<(), Overlap>
-    requires enough { let m = M.segments message.now in start_of m (length m) ≤ 64 * length bits.old }
+    requires enough { let m = M.segments message.now in
+        start_of m (length m) ≤ 64 * length bits.old }
     requires none { (s w : ℕ) → ¬ IsTaken (M.segments message.now) bits.old s w }
     requires accepted { let m = M.segments message.now in
         (report : Report) × IsAccepted m (words_of limits.now) (depth_of limits.now) report }

@@ -25,7 +25,8 @@ impl Limits {
     /// than 256 levels.
     pub fn new(words: u64, depth: u32) -> Option<Limits>
         ensures some { IsSome result ↔ ((words ≤ 268435456) × (depth ≤ 256)) }
-        ensures holds { IfSome result (λ limits. (words_of limits ≡ words) × (depth_of limits ≡ depth)) }
+        ensures holds { IfSome result (λ limits.
+            (words_of limits ≡ words) × (depth_of limits ≡ depth)) }
     {
         if words > MOST_WORDS || depth > MOST_DEPTH {
             return None;

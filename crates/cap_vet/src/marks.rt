@@ -148,8 +148,10 @@ fn set_bits(words: &mut [u64], from: u64, count: u64) -> bool
     ensures taken { IsTrue result → (i : ℕ) → from ≤ i → i < from + count → bit_of words.new i ≡ 1 }
     ensures free { IsTrue result → (i : ℕ) → from ≤ i → i < from + count → bit_of words.old i ≡ 0 }
     ensures below { IsTrue result → (i : ℕ) → i < from → bit_of words.new i ≡ bit_of words.old i }
-    ensures above { IsTrue result → (i : ℕ) → from + count ≤ i → bit_of words.new i ≡ bit_of words.old i }
-    ensures conflict { IsFalse result → (i : ℕ) × (from ≤ i) × (i < from + count) × (bit_of words.old i ≡ 1) }
+    ensures above { IsTrue result → (i : ℕ) → from + count ≤ i →
+        bit_of words.new i ≡ bit_of words.old i }
+    ensures conflict { IsFalse result →
+        (i : ℕ) × (from ≤ i) × (i < from + count) × (bit_of words.old i ≡ 1) }
 {
     let end = from + count;
     let mut at = from;

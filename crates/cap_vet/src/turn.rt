@@ -53,10 +53,12 @@ pub(crate) trait Turn {
         requires known { let m = M.segments message.now in (seen : List (List Step)) × (a : Ahead)
             × IsLookedAt m seen a s w pointers × knows self.old m seen }
         ensures ok { let m = M.segments message.now in (seen : List (List Step)) (a : Ahead) →
-            IsLookedAt m seen a s w pointers → knows self.old m seen → OnOk result (knows self.new m (a.path ∷ seen)) }
+            IsLookedAt m seen a s w pointers → knows self.old m seen →
+            OnOk result (knows self.new m (a.path ∷ seen)) }
         ensures err { IfErr result (stops (M.segments message.now)) };
 
     // A null word changes nothing.
-    ghost passes: { (turn : Self) (m : List (List ℕ)) (seen : List (List Step)) (p : List Step) (level s w : ℕ) →
+    ghost passes: { (turn : Self) (m : List (List ℕ)) (seen : List (List Step)) (p : List Step)
+        (level s w : ℕ) →
         Reaches m p level s w → HasWord m s w 0 → knows turn m seen → knows turn m (p ∷ seen) };
 }

@@ -31,8 +31,10 @@ use std::convert::Infallible;
 ///
 /// - [`crate::Reason::NoRoot`]: segment 0 has no words. It is refused at 0:0, and `pointers` is 0.
 /// - `Reserved` to `CompositeOverrun`: the pointer can't be followed, see [`crate::Reason`].
-/// - [`crate::Reason::DepthLimit`]: its target is past the depth limit, or the target's structs are.
-/// - [`crate::Reason::WordLimit`]: the charges up to it, its own included, are more than the word limit.
+/// - [`crate::Reason::DepthLimit`]: its target is past the depth limit, or the structs of its target
+///   are.
+/// - [`crate::Reason::WordLimit`]: the charges up to it, its own included, are more than the word
+///   limit.
 pub fn vet<'m, M: Segments>(message: &'m M, limits: Limits) -> Result<Vetted<'m, M>, Refusal>
     ensures ok { let m = M.segments message.now in
         IfOk result (λ v. IsAccepted m (words_of limits) (depth_of limits) (report_of v)) }

@@ -36,7 +36,8 @@ pub(crate) fn walk<M: Segments, T: Turn>(
     requires { T.knows turn.old (M.segments message.now) [] }
     ensures ok { let m = M.segments message.now in
         IfOk result (λ report. IsWalking m limits.now [] report (T.knows turn.new m)) }
-    ensures err { let m = M.segments message.now in IfErr result (IsStopped m limits.now (T.stops m)) }
+    ensures err { let m = M.segments message.now in
+        IfErr result (IsStopped m limits.now (T.stops m)) }
 {
     if message.len(0) == 0 {
         return Err(Stopped::Refused(Refusal {
@@ -62,10 +63,12 @@ fn walk_below<M: Segments, T: Turn>(
     run: PointerRun,
     mut report: Report,
 ) -> Result<Report, Stopped<T::Stop>>
-    requires { let m = M.segments message.now in IsWalking m limits.now (run ∷ []) report (T.knows turn.old m) }
+    requires { let m = M.segments message.now in
+        IsWalking m limits.now (run ∷ []) report (T.knows turn.old m) }
     ensures ok { let m = M.segments message.now in
         IfOk result (λ report. IsWalking m limits.now [] report (T.knows turn.new m)) }
-    ensures err { let m = M.segments message.now in IfErr result (IsStopped m limits.now (T.stops m)) }
+    ensures err { let m = M.segments message.now in
+        IfErr result (IsStopped m limits.now (T.stops m)) }
 {
     let mut stack: Stack<8> = Stack::new();
     match walk_on(message, limits, turn, &mut stack, run, &mut report) {
@@ -90,7 +93,8 @@ fn walk_deep<M: Segments, T: Turn>(
         IsWalking m limits.now (few.now.items ++ run ∷ []) report (T.knows turn.old m) }
     ensures ok { let m = M.segments message.now in
         IfOk result (λ report. IsWalking m limits.now [] report (T.knows turn.new m)) }
-    ensures err { let m = M.segments message.now in IfErr result (IsStopped m limits.now (T.stops m)) }
+    ensures err { let m = M.segments message.now in
+        IfErr result (IsStopped m limits.now (T.stops m)) }
 {
     let mut stack: Stack<256> = Stack::new();
     if stack.try_extend_from_slice(few.as_slice()).is_err() {
@@ -118,10 +122,13 @@ fn walk_on<M: Segments, T: Turn, const N: usize>(
     requires walking { let m = M.segments message.now in
         IsWalking m limits.now (stack.old.items ++ run ∷ []) report.old (T.knows turn.old m) }
     ensures done { let m = M.segments message.now in
-        IfOk result (λ left. IfNone left (IsWalking m limits.now [] report.new (T.knows turn.new m))) }
+        IfOk result (λ left. IfNone left
+        (IsWalking m limits.now [] report.new (T.knows turn.new m))) }
     ensures full { let m = M.segments message.now in IfOk result (λ left. IfSome left (λ f.
-        (length stack.new.items ≡ N) × IsWalking m limits.now (stack.new.items ++ f ∷ []) report.new (T.knows turn.new m))) }
-    ensures err { let m = M.segments message.now in IfErr result (IsStopped m limits.now (T.stops m)) }
+        (length stack.new.items ≡ N)
+        × IsWalking m limits.now (stack.new.items ++ f ∷ []) report.new (T.knows turn.new m))) }
+    ensures err { let m = M.segments message.now in
+        IfErr result (IsStopped m limits.now (T.stops m)) }
 {
     'walk: loop {
         let (s, w, level) = (run.segment, run.at, run.level);
@@ -162,11 +169,14 @@ fn turn_at<M: Segments, T: Turn>(
     level: u32,
 ) -> Result<Option<PointerRun>, Stopped<T::Stop>>
     requires { let m = M.segments message.now in
-        (runs : List PointerRun) × IsAt m limits.now s w level runs report.old (T.knows turn.old m) }
+        (runs : List PointerRun)
+        × IsAt m limits.now s w level runs report.old (T.knows turn.old m) }
     ensures ok { let m = M.segments message.now in
-        (runs : List PointerRun) → IsAt m limits.now s w level runs report.old (T.knows turn.old m) → IfOk result (λ below.
-        GoesOn m limits.now (runs ++ option_to_list below) report.new (T.knows turn.new m) (work_next (words_of limits.now) runs report.old)) }
-    ensures err { let m = M.segments message.now in IfErr result (IsStopped m limits.now (T.stops m)) }
+        (runs : List PointerRun) → IsAt m limits.now s w level runs report.old (T.knows turn.old m) →
+        IfOk result (λ below. GoesOn m limits.now (runs ++ option_to_list below) report.new
+        (T.knows turn.new m) (work_next (words_of limits.now) runs report.old)) }
+    ensures err { let m = M.segments message.now in
+        IfErr result (IsStopped m limits.now (T.stops m)) }
 {
     // The words that the pointer uses are looked up before the visit, and used after it. If nothing
     // is written in between, both take its fields from the word once.
@@ -193,16 +203,23 @@ fn visit<M: Segments>(
     level: u32,
 ) -> Result<Option<PointerRun>, Refusal>
     requires next { let m = M.segments message.now in
-        (runs : List PointerRun) × IsNext m (words_of limits.now) (depth_of limits.now) s w level runs report.old }
+        (runs : List PointerRun)
+        × IsNext m (words_of limits.now) (depth_of limits.now) s w level runs report.old }
     // This word is then the last that was looked at.
     ensures ok { let m = M.segments message.now in
-        (runs : List PointerRun) (n : IsNext m (words_of limits.now) (depth_of limits.now) s w level runs report.old) →
+        (runs : List PointerRun)
+        (n : IsNext m (words_of limits.now) (depth_of limits.now) s w level runs report.old) →
         IfOk result (λ below. (later : List Ahead)
-        × Walks m (words_of limits.now) (depth_of limits.now) (runs ++ option_to_list below) report.new (n.a.path ∷ n.seen) later) }
+        × Walks m (words_of limits.now) (depth_of limits.now) (runs ++ option_to_list below)
+        report.new (n.a.path ∷ n.seen) later) }
     ensures falls { let m = M.segments message.now in
-        (runs : List PointerRun) → IsNext m (words_of limits.now) (depth_of limits.now) s w level runs report.old → IfOk result (λ below.
-        work_left (words_of limits.now) (runs ++ option_to_list below) report.new < work_next (words_of limits.now) runs report.old) }
-    ensures err { IfErr result (IsFirstFault (M.segments message.now) (words_of limits.now) (depth_of limits.now)) }
+        (runs : List PointerRun) →
+        IsNext m (words_of limits.now) (depth_of limits.now) s w level runs report.old →
+        IfOk result (λ below.
+        work_left (words_of limits.now) (runs ++ option_to_list below) report.new
+        < work_next (words_of limits.now) runs report.old) }
+    ensures err { IfErr result
+        (IsFirstFault (M.segments message.now) (words_of limits.now) (depth_of limits.now)) }
 {
     if let Some(looked) = look_near(message, limits, report.charge, s, w, level) {
         return Ok(add(report, s, w, looked));
@@ -222,9 +239,11 @@ fn visit<M: Segments>(
 // of a list may be null, and these cost no turn.
 #[inline(always)]
 fn pass_nulls<M: Segments>(message: &M, run: &mut PointerRun, report: &mut Report)
-    requires { let m = M.segments message.now in (words depth : ℕ) × (runs : List PointerRun) × (seen : List (List Step)) × (ahead : List Ahead)
+    requires { let m = M.segments message.now in (words depth : ℕ) × (runs : List PointerRun)
+        × (seen : List (List Step)) × (ahead : List Ahead)
         × Walks m words depth (runs ++ run.old ∷ []) report.old seen ahead }
-    ensures { let m = M.segments message.now in (words depth : ℕ) (runs : List PointerRun) (seen : List (List Step)) (ahead : List Ahead) →
+    ensures { let m = M.segments message.now in (words depth : ℕ) (runs : List PointerRun)
+        (seen : List (List Step)) (ahead : List Ahead) →
         Walks m words depth (runs ++ run.old ∷ []) report.old seen ahead →
         Passes m words depth runs seen run.old report.old run.new report.new }
 {
@@ -252,7 +271,8 @@ fn push_kept<const N: usize>(stack: &mut Stack<N>, more: bool, run: PointerRun)
 // Counts a pointer word, and gives the run of its object's pointers.
 #[inline(always)]
 fn add(report: &mut Report, s: u32, w: u32, looked: Looked) -> Option<PointerRun>
-    requires room { ((added report.old s w looked).charge < 2 ^ 64) × ((added report.old s w looked).pointers < 2 ^ 64)
+    requires room { ((added report.old s w looked).charge < 2 ^ 64)
+        × ((added report.old s w looked).pointers < 2 ^ 64)
         × ((added report.old s w looked).caps < 2 ^ 64) }
     ensures report { report.new ≡ added report.old s w looked }
     ensures run { result ≡ run_below looked }
