@@ -4,6 +4,7 @@ pub mod TreeMeasures
 pub mod TrimmedMeasures
 pub mod TrimmedTrees
 pub mod Sizes
+pub mod ElementPlaces
 pub mod Offsets
 pub mod Placing
 pub mod PointerFields

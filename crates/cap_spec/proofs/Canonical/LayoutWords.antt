@@ -17,6 +17,7 @@ use Rattle.cap_spec.proofs.Trees.DenotedTrees.{AreWords, denoted_is_tree}
 use Rattle.cap_spec.proofs.Canonical.TrimmedTrees.{trimmed_is_tree}
 use Rattle.cap_spec.proofs.Canonical.TreeMeasures.{Fits, FitEach, FitElements, Measured, measured}
 use Rattle.cap_spec.proofs.Canonical.TrimmedMeasures.{Trimmed, trimmed}
+use Rattle.cap_spec.proofs.Canonical.ElementPlaces.{children_near, elements_only, rest_near, without_tag}
 use Rattle.cap_spec.proofs.Canonical.Sizes.{trimmed_size_charged}
 
 -- values of one word fit the bits that they take together
@@ -77,13 +78,6 @@ row_is_words after none f l = tt
 row_is_words after (more t ts) f l =
     (pointer_is_word (tree_count ts + after) t f.0 (omega (arith, l)), row_is_words (after + size t) ts f.1 (omega (arith, l)))
 
--- how far an element's pointers lead at most, and those of the others
-first_near : (after n d p k s r most : ℕ) → after + suc n * (d + p) + (s + r) < most → k ≡ p → n * (d + p) + after + k + s < most
-first_near after n d p k s r most h e = omega arith
-
-others_near : (after n each s r most : ℕ) → after + suc n * each + (s + r) < most → after + s + n * each + r < most
-others_near after n each s r most h = omega arith
-
 -- elements in a row
 elements_are_words : (d p after : ℕ) (es : Trees) → AreElementTrees d p es → FitElements d p es → after + tree_count es * (d + p) + element_sizes es < 2 ^ 29
     → AllByRecursion IsWord (element_words (d + p) after es)
@@ -92,16 +86,9 @@ elements_are_words d p after (more (struct ws ts) es) a f l =
     let pw = pointer_words (tree_count es * (d + p) + after) ts in
     let ew = element_words (d + p) (after + sizes ts) es in
     all_append IsWord (ws ++ pw) ew
-    (all_append IsWord ws pw a.0 (row_is_words (tree_count es * (d + p) + after) ts f.2 (first_near after (tree_count es) d p (tree_count ts) (sizes ts) (element_sizes es) (2 ^ 29) l f.1)))
-    (elements_are_words d p (after + sizes ts) es a.4 f.3 (others_near after (tree_count es) (d + p) (sizes ts) (element_sizes es) (2 ^ 29) l))
+    (all_append IsWord ws pw a.0 (row_is_words (tree_count es * (d + p) + after) ts f.2 (children_near after (tree_count es) d p (tree_count ts) (sizes ts) (element_sizes es) (2 ^ 29) l f.1)))
+    (elements_are_words d p (after + sizes ts) es a.4 f.3 (rest_near after (tree_count es) (d + p) (sizes ts) (element_sizes es) (2 ^ 29) l))
 elements_are_words d p after (more t es) a f l = absurd a
-
--- the elements of a list, with its tag
-without_tag : (a b most : ℕ) → 1 + a + b < most → 0 + a + b < most
-without_tag a b most h = omega arith
-
-elements_only : (a b most : ℕ) → 1 + a + b < most → b < most
-elements_only a b most h = omega arith
 
 mutual
   -- the words of a tree's content

@@ -12,26 +12,8 @@ use Rattle.cap_spec.proofs.Canonical.PointerFields.{struct_fields, list_fields, 
 use Rattle.cap_spec.proofs.Canonical.TreeMeasures.{cost, costs, element_costs, height, heights, element_heights, Fits, FitEach, FitElements, Measured, measured}
 use Rattle.cap_spec.proofs.Canonical.TrimmedMeasures.{Trimmed, trimmed}
 use Rattle.cap_spec.proofs.Canonical.Sizes.{length-pointer_words, length-element_words, length-content, length-contents, trimmed_size_charged}
+use Rattle.cap_spec.proofs.Canonical.ElementPlaces.{children_begin, children_near, element_end, rest_begin, rest_near, without_tag}
 use Rattle.cap_spec.proofs.Canonical.Laying.{not_far, any_struct_laid, scalars_laid, pointers_laid, structs_laid}
-
--- where the parts of an element's words stand
-element_end : (eb d p : ℕ) (ws pw : List ℕ) (k : ℕ) → length ws ≡ d → length pw ≡ k → k ≡ p → eb + d + p ≡ eb + length (ws ++ pw)
-element_end eb d p ws pw k e f g = let a = length-append ws pw in omega (arith, a, e, f, g)
-
--- where the contents of an element's children begin
-children_begin : (cb eb n d p k after : ℕ) → cb ≡ eb + suc n * (d + p) + after → k ≡ p → cb ≡ eb + d + k + (n * (d + p) + after)
-children_begin cb eb n d p k after e f = omega arith
-
--- how far an element's pointers lead at most
-children_near : (after n d p k s r m : ℕ) → after + suc n * (d + p) + (s + r) < m → k ≡ p → n * (d + p) + after + k + s < m
-children_near after n d p k s r m h f = omega arith
-
--- and the same of the further elements
-rest_begin : (cb eb n d p after s : ℕ) → cb ≡ eb + suc n * (d + p) + after → cb + s ≡ eb + d + p + n * (d + p) + (after + s)
-rest_begin cb eb n d p after s e = omega arith
-
-rest_near : (after n d p s r m : ℕ) → after + suc n * (d + p) + (s + r) < m → after + s + n * (d + p) + r < m
-rest_near after n d p s r m h = omega arith
 
 -- where a struct list's elements end, and its children's contents begin
 elements_end : (b x n : ℕ) → x ≡ n → b + 1 + n ≡ b + 1 + x
@@ -43,10 +25,6 @@ elements_inside b x n l h e = omega arith
 -- no words between
 nothing_more : (x : ℕ) → x ≡ x + 0
 nothing_more x = omega arith
-
--- the words of elements without their tag
-without_tag : (a b m : ℕ) → 1 + a + b < m → 0 + a + b < m
-without_tag a b m h = omega arith
 
 mutual
   -- a pointer word to where a tree's content stands denotes the tree
@@ -134,7 +112,7 @@ mutual
             (stand_back seg eb (eb + d + p) (ws ++ pw) ew (element_end eb d p ws pw (tree_count ts) f.0 (length-pointer_words (tree_count es * (d + p) + after) ts) f.1) sp)
             (stand_back seg cb (cb + sizes ts) (contents ts) (element_contents es) (ap (λ n. cb + n) (sym (length-contents ts f.2))) sc)
             (rest_begin cb eb (tree_count es) d p after (sizes ts) e) f.3
-            (rest_near after (tree_count es) d p (sizes ts) (element_sizes es) (2 ^ 29) l),
+            (rest_near after (tree_count es) (d + p) (sizes ts) (element_sizes es) (2 ^ 29) l),
         refl,
         refl,
       )

@@ -7,6 +7,7 @@ use Rattle.cap_spec.specs.Canonical.{size, sizes, element_sizes, pointer_offsets
 use Rattle.cap_spec.proofs.Bytes.Lists.{all_append}
 use Rattle.cap_spec.proofs.Canonical.TreeMeasures.{Fits, FitEach, FitElements, Measured, measured}
 use Rattle.cap_spec.proofs.Canonical.TrimmedMeasures.{Trimmed, trimmed}
+use Rattle.cap_spec.proofs.Canonical.ElementPlaces.{children_near, elements_only, rest_near, without_tag}
 use Rattle.cap_spec.proofs.Canonical.Sizes.{trimmed_size_charged}
 
 -- those of pointers in a row
@@ -14,29 +15,15 @@ row_offsets : (most after : ℕ) (ts : Trees) → after + tree_count ts + sizes 
 row_offsets most after none h = tt
 row_offsets most after (more t ts) h = (omega (arith, h), row_offsets most (after + size t) ts (omega (arith, h)))
 
--- how far an element's pointers lead at most, and those of the others
-first_near : (after n d p k s r most : ℕ) → after + suc n * (d + p) + (s + r) < most → k ≡ p → n * (d + p) + after + k + s < most
-first_near after n d p k s r most h e = omega arith
-
-others_near : (after n each s r most : ℕ) → after + suc n * each + (s + r) < most → after + s + n * each + r < most
-others_near after n each s r most h = omega arith
-
 -- those of elements in a row
 elements_offsets : (most d p after : ℕ) (es : Trees) → FitElements d p es → after + tree_count es * (d + p) + element_sizes es < most
     → AllByRecursion (λ offset. offset < most) (flat_map (λ row. row) (element_offsets (d + p) after es))
 elements_offsets most d p after none f h = tt
 elements_offsets most d p after (more (struct ws ts) es) f h =
     all_append (λ offset. offset < most) (pointer_offsets (tree_count es * (d + p) + after) ts) (flat_map (λ row. row) (element_offsets (d + p) (after + sizes ts) es))
-    (row_offsets most (tree_count es * (d + p) + after) ts (first_near after (tree_count es) d p (tree_count ts) (sizes ts) (element_sizes es) most h f.1))
-    (elements_offsets most d p (after + sizes ts) es f.3 (others_near after (tree_count es) (d + p) (sizes ts) (element_sizes es) most h))
+    (row_offsets most (tree_count es * (d + p) + after) ts (children_near after (tree_count es) d p (tree_count ts) (sizes ts) (element_sizes es) most h f.1))
+    (elements_offsets most d p (after + sizes ts) es f.3 (rest_near after (tree_count es) (d + p) (sizes ts) (element_sizes es) most h))
 elements_offsets most d p after (more t es) f h = absurd f
-
--- the elements of a list, without its tag
-without_tag : (a b most : ℕ) → 1 + a + b < most → 0 + a + b < most
-without_tag a b most h = omega arith
-
-elements_only : (a b most : ℕ) → 1 + a + b < most → b < most
-elements_only a b most h = omega arith
 
 mutual
   -- at all nodes

@@ -84,7 +84,7 @@ heights-take (suc n) (more t ts) h =
     ap (max (height t)) (heights-take n ts (rest_below (children_needed ts) (if is_null t then 0 else 1) n h))
 
 -- the same of the elements of a struct list
-tree_count-cut : (d p : ℕ) (es : Trees) → tree_count (cut_elements d p es) ≡ tree_count es
+pub tree_count-cut : (d p : ℕ) (es : Trees) → tree_count (cut_elements d p es) ≡ tree_count es
 tree_count-cut d p none = refl
 tree_count-cut d p (more null es) = ap suc (tree_count-cut d p es)
 tree_count-cut d p (more (cap i) es) = ap suc (tree_count-cut d p es)

@@ -36,7 +36,7 @@ children_within d p (more (struct words ts) es) f =
 children_within d p (more t es) f = absurd f
 
 -- as many children after each is trimmed
-tree_count-trim_all : (ts : Trees) → tree_count (trim_all ts) ≡ tree_count ts
+pub tree_count-trim_all : (ts : Trees) → tree_count (trim_all ts) ≡ tree_count ts
 tree_count-trim_all none = refl
 tree_count-trim_all (more t ts) = ap suc (tree_count-trim_all ts)
 

@@ -13,7 +13,7 @@ pub record SameObject (k t b q k' t' b' q' : ℕ) : Type 0 where
   pub shape : q ≡ q'
 
 -- a lead to an object tells its parts
-object_parts : (t b q t' b' q' : ℕ) → to_object t (pos b) q ≡ to_object t' (pos b') q' → (t ≡ t') × (b ≡ b') × (q ≡ q')
+pub object_parts : (t b q t' b' q' : ℕ) → to_object t (pos b) q ≡ to_object t' (pos b') q' → (t ≡ t') × (b ≡ b') × (q ≡ q')
 object_parts t b q t' b' q' e = (cc, cc, cc)
 
 -- a pointer word finds one object

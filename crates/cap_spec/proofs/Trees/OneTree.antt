@@ -163,7 +163,7 @@ elements_same ws ws' ts ts' es es' c1 d1 c2 d2 c d c1' d1' c2' d2' c' d' e a b e
     record { part = rw (e, a.part, b.part) refl; charge = omega (arith, a.charge, b.charge); depth = omega (arith, a.depth, b.depth) }
 
 -- elements at equal places
-elements_moved : (m : List (List ℕ)) (es : Trees) (t x ds ps n c d t' x' ds' ps' n' : ℕ) → t ≡ t' → x ≡ x' → ds ≡ ds' → ps ≡ ps' → n ≡ n'
+pub elements_moved : (m : List (List ℕ)) (es : Trees) (t x ds ps n c d t' x' ds' ps' n' : ℕ) → t ≡ t' → x ≡ x' → ds ≡ ds' → ps ≡ ps' → n ≡ n'
     → AreElements m t' x' ds' ps' n' es c d → AreElements m t x ds ps n es c d
 elements_moved m es t x ds ps n c d t' x' ds' ps' n' e1 e2 e3 e4 e5 h = rw (e1, e2, e3, e4, e5) h
 
