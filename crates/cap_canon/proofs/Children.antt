@@ -39,7 +39,8 @@ row_parts m t b (suc n) x xs c d h =
     }
 
 -- the tree of the word at a place of the row
-pub child_at : (m : List (List ℕ)) (t b n : ℕ) (ts : Trees) (c d i : ℕ) → DenoteEach m (places t b n) ts c d → i < n → (u : Tree) × (c' d' : ℕ) × (tree_at ts i ≡ Some u) × Denotes m t (b + i) u c' d'
+pub child_at : (m : List (List ℕ)) (t b n : ℕ) (ts : Trees) (c d i : ℕ) → DenoteEach m (places t b n) ts c d → i < n
+    → (u : Tree) × (c' d' : ℕ) × (tree_at ts i ≡ Some u) × Denotes m t (b + i) u c' d'
 child_at m t b zero none c d i h lt = absurd (omega (arith, lt))
 child_at m t b (suc n) none c d i h lt = absurd (cc h.0)
 child_at m t b n (more x xs) c d zero h lt =
@@ -61,17 +62,20 @@ pub row_needed : (m : List (List ℕ)) (t b n : ℕ) (ts : Trees) (c d : ℕ) �
 row_needed m t b n ts c d h = omega (arith, row_count m t b n ts c d h, children_needed_le ts)
 
 -- a child that isn't null is needed
-first_child : (n : ℕ) (b : Bool) → b ≡ false → (((n == 0) ≡ true) × (n ≡ 0)) ⊎ (((n == 0) ≡ false) × (n ≡ 0 → ⊥)) → 1 ≤ (if n == 0 then (if b then 0 else 1) else suc n)
+first_child : (n : ℕ) (b : Bool) → b ≡ false → (((n == 0) ≡ true) × (n ≡ 0)) ⊎ (((n == 0) ≡ false) × (n ≡ 0 → ⊥))
+    → 1 ≤ (if n == 0 then (if b then 0 else 1) else suc n)
 first_child n b e (inl a) = rw (a.0, e) (omega arith)
 first_child n b e (inr a) = rw a.0 (omega arith)
 
 pub child_past : (ts : Trees) (i : ℕ) (u : Tree) → tree_at ts i ≡ Some u → is_null u ≡ false → suc i ≤ children_needed ts
 child_past none i u e f = absurd (cc e)
 child_past (more t ts) zero u e f = first_child (children_needed ts) (is_null t) (ap is_null (same_Some t u e) ∙ f) (eqb_tells (children_needed ts) 0)
-child_past (more t ts) (suc i) u e f = later_needed (children_needed ts) (if is_null t then 0 else 1) i (child_past ts i u e f) (eqb_tells (children_needed ts) 0)
+child_past (more t ts) (suc i) u e f = later_needed (children_needed ts) (if is_null t then 0 else 1) i (child_past ts i u e f)
+    (eqb_tells (children_needed ts) 0)
 
 -- and a null that stands last of those needed isn't
-first_null : (n : ℕ) (b : Bool) → b ≡ true → (((n == 0) ≡ true) × (n ≡ 0)) ⊎ (((n == 0) ≡ false) × (n ≡ 0 → ⊥)) → (if n == 0 then (if b then 0 else 1) else suc n) ≤ 1
+first_null : (n : ℕ) (b : Bool) → b ≡ true → (((n == 0) ≡ true) × (n ≡ 0)) ⊎ (((n == 0) ≡ false) × (n ≡ 0 → ⊥))
+    → (if n == 0 then (if b then 0 else 1) else suc n) ≤ 1
     → (if n == 0 then (if b then 0 else 1) else suc n) ≤ 0
 first_null n b e (inl a) h = rw (a.0, e) (omega arith)
 first_null n b e (inr a) h =
@@ -90,7 +94,8 @@ child_not (more t ts) (suc i) u e f h =
 
 -- the child looked at is needed, so that nothing below it is cut
 pub child_here : (m : List (List ℕ)) (t b n left least : ℕ) (z : Bool) (ts : Trees) (c d : ℕ) → least < left → left ≤ n → DenoteEach m (places t b n) ts c d
-    → ((u : Tree) (c' d' : ℕ) → Denotes m t (b + (left - 1)) u c' d' → z ≡ is_null u) → z ≡ false → children_needed ts ≤ left → left ≡ max least (children_needed ts)
+    → ((u : Tree) (c' d' : ℕ) → Denotes m t (b + (left - 1)) u c' d' → z ≡ is_null u) → z ≡ false → children_needed ts ≤ left
+    → left ≡ max least (children_needed ts)
 child_here m t b n left least z ts c d lt le h is other most =
     let k = child_at m t b n ts c d (left - 1) h (omega (arith, lt, le)) in
     let p : suc (left - 1) ≤ children_needed ts = child_past ts (left - 1) k.0 k.3 (sym (is k.0 k.1 k.2 k.4) ∙ other) in

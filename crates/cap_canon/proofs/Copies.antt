@@ -12,6 +12,7 @@ use Rattle.cap_vet.specs.Reports.{IsFirstCapOf, IsReport}
 use Rattle.cap_vet.specs.declared.report.Report.{Report}
 use Rattle.std.proofs.Common.{Result, Err}
 use Rattle.cap_canon.specs.declared.fault.CanonFault.{CanonFault}
+use Rattle.cap_canon.specs.Roots.{HasTree}
 use Rattle.cap_spec.specs.Copies.{HasCopy, IsCanonical}
 use Rattle.std.specs.Prelude.{◌==◌}
 
@@ -24,6 +25,10 @@ cap_no_copy m s w words f h =
 bool_cases : {A : Type 0} (b : _) → (b ≡ true → A) → (b ≡ false → A) → A
 bool_cases true f g = f refl
 bool_cases false f g = g refl
+
+-- an accepted message has a tree
+pub has_tree : (m : List (List ℕ)) (r : Report) (t : Tree) → IsReport m 268435456 256 r t → HasTree m r.depth
+has_tree m r t k = record { tree = t; charge = r.charge; denotes = k.denotes; few = k.within; shallow = k.shallow }
 
 -- where no path leads to one, it has
 pub has_copy : (m : List (List ℕ)) (r : Report) (t : Tree) → IsReport m 268435456 256 r t → r.first_cap ≡ None → HasCopy m (layout (trim t))
@@ -56,8 +61,17 @@ few_charged m r t u c d k h =
     omega (arith, k.within, e)
 
 -- words that are the layout of every tree that is denoted are the copy
-pub copy_of : (m : List (List ℕ)) (words made : List ℕ) → HasCopy m words → ((t : Tree) (c d : ℕ) → Denotes m 0 0 t c d → made ≡ layout (trim t)) → HasCopy m made
-copy_of m words made k f = record { tree = k.tree; charge = k.charge; depth = k.depth; denotes = k.denotes; no_caps = k.no_caps; laid = f k.tree k.charge k.depth k.denotes }
+pub copy_of : (m : List (List ℕ)) (words made : List ℕ) → HasCopy m words → ((t : Tree) (c d : ℕ) → Denotes m 0 0 t c d → made ≡ layout (trim t))
+    → HasCopy m made
+copy_of m words made k f = record {
+  tree = k.tree;
+  charge = k.charge;
+  depth = k.depth;
+  denotes = k.denotes;
+  no_caps = k.no_caps;
+  laid =
+      f k.tree k.charge k.depth k.denotes;
+}
 
 -- a message with a capability is not its own copy
 pub not_with_caps : (m : List (List ℕ)) (r : Report) (t : Tree) → IsReport m 268435456 256 r t → r.caps ≢ 0 → IsCanonical m → ⊥

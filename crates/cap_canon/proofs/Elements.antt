@@ -6,6 +6,7 @@ use Rattle.cap_spec.specs.Denoting.{DenoteEach, AreElements, places, words_from}
 use Rattle.cap_spec.specs.Tree.{null, cap, struct, scalars, pointers, structs, Trees, none, more, tree_count}
 use Rattle.cap_spec.specs.Canonical.{data_needed, children_needed, take_trees, data_of, children_of, cut_elements, trim_all, trim_elements}
 use Rattle.cap_spec.proofs.Canonical.TrimmedMeasures.{tree_count-take_le}
+use Rattle.cap_spec.proofs.Canonical.TrimmedTrees.{tree_count-trim_all}
 use Rattle.cap_canon.specs.Objects.{AreLeft, AreElementsLeft}
 use Rattle.cap_canon.specs.Trimming.{most_data}
 use Rattle.cap_canon.proofs.Children.{row_parts, row_count, row_needed}
@@ -24,7 +25,8 @@ pub record FirstElement (m : List (List ℕ)) (t b ds ps n : ℕ) (ws : List ℕ
   pub rest : AreElements m t (b + ds + ps) ds ps others es c2 d2
   pub depth : d ≡ max d1 d2
 
-pub element_parts : (m : List (List ℕ)) (t b ds ps n : ℕ) (ws : List ℕ) (ts es : Trees) (c d : ℕ) → AreElements m t b ds ps n (more (struct ws ts) es) c d → FirstElement m t b ds ps n ws ts es c d
+pub element_parts : (m : List (List ℕ)) (t b ds ps n : ℕ) (ws : List ℕ) (ts es : Trees) (c d : ℕ) → AreElements m t b ds ps n (more (struct ws ts) es) c d
+    → FirstElement m t b ds ps n ws ts es c d
 element_parts m t b ds ps n ws ts es c d h = record {
   others = h.0;
   c1 = h.1;
@@ -44,12 +46,9 @@ most_data_of m t b ds ps n none c d h = rw h.0 refl
 most_data_of m t b ds ps n (more (struct ws ts) es) c d h =
     let k = element_parts m t b ds ps n ws ts es c d h in
     let e : b + (ds + ps) ≡ b + ds + ps = omega arith in
-    ap (most_data m t b ds ps) k.many ∙ ap₂ max (ap data_needed (sym k.data_words)) (ap (λ x. most_data m t x ds ps k.others) e ∙ most_data_of m t (b + ds + ps) ds ps k.others es k.c2 k.d2 k.rest)
-most_data_of m t b ds ps n (more null es) c d h = absurd h
-most_data_of m t b ds ps n (more (cap i) es) c d h = absurd h
-most_data_of m t b ds ps n (more (scalars e vs) es) c d h = absurd h
-most_data_of m t b ds ps n (more (pointers ts) es) c d h = absurd h
-most_data_of m t b ds ps n (more (structs x y ts) es) c d h = absurd h
+    ap (most_data m t b ds ps) k.many ∙ ap₂ max (ap data_needed (sym k.data_words)) (ap (λ x. most_data m t x ds ps k.others) e
+    ∙ most_data_of m t (b + ds + ps) ds ps k.others es k.c2 k.d2 k.rest)
+most_data_of m t b ds ps n (more _ es) c d h = absurd h
 
 -- no element needs more children than it has
 pub children_within : (m : List (List ℕ)) (t b ds ps n : ℕ) (es : Trees) (c d : ℕ) → AreElements m t b ds ps n es c d → children_of es ≤ ps
@@ -57,17 +56,14 @@ children_within m t b ds ps n none c d h = omega arith
 children_within m t b ds ps n (more (struct ws ts) es) c d h =
     let k = element_parts m t b ds ps n ws ts es c d h in
     omega (arith, row_needed m t (b + ds) ps ts k.c1 k.d1 k.children, children_within m t (b + ds + ps) ds ps k.others es k.c2 k.d2 k.rest)
-children_within m t b ds ps n (more null es) c d h = absurd h
-children_within m t b ds ps n (more (cap i) es) c d h = absurd h
-children_within m t b ds ps n (more (scalars e vs) es) c d h = absurd h
-children_within m t b ds ps n (more (pointers ts) es) c d h = absurd h
-children_within m t b ds ps n (more (structs x y ts) es) c d h = absurd h
+children_within m t b ds ps n (more _ es) c d h = absurd h
 
 -- a turn of the loop over elements, at the one behind the first i
 pub record ChildrenSeen (m : List (List ℕ)) (s start at ds ps count i most : ℕ) : Type 0 where
   pub place : at ≡ start + i * (ds + ps)
   pub within : most ≤ ps
-  pub rest : (es : Trees) (c d : ℕ) → AreElements m s start ds ps count es c d → (fs : Trees) × (c' d' : ℕ) × AreElements m s at ds ps (count - i) fs c' d' × (max most (children_of fs) ≡ children_of es)
+  pub rest : (es : Trees) (c d : ℕ) → AreElements m s start ds ps count es c d
+      → (fs : Trees) × (c' d' : ℕ) × AreElements m s at ds ps (count - i) fs c' d' × (max most (children_of fs) ≡ children_of es)
 
 pub no_children_seen : (m : List (List ℕ)) (s start ds ps count : ℕ) → ChildrenSeen m s start start ds ps count 0 0
 no_children_seen m s start ds ps count =
@@ -87,14 +83,16 @@ pub record AtHand (m : List (List ℕ)) (s start at ds ps count i most : ℕ) (a
   pub parts : FirstElement m s at ds ps (count - i) words children later charge depth
   pub same : max most (max (children_needed children) (children_of later)) ≡ children_of all
 
-pub at_hand : (m : List (List ℕ)) (s start at ds ps count i most : ℕ) (es : Trees) (c d : ℕ) → i < count → ChildrenSeen m s start at ds ps count i most → AreElements m s start ds ps count es c d
+pub at_hand : (m : List (List ℕ)) (s start at ds ps count i most : ℕ) (es : Trees) (c d : ℕ) → i < count → ChildrenSeen m s start at ds ps count i most
+    → AreElements m s start ds ps count es c d
     → AtHand m s start at ds ps count i most es
 at_hand m s start at ds ps count i most es c d lt k h = go r.0 r.1 r.2 r.3 r.4
   where
     r : (fs : Trees) × (c' d' : ℕ) × AreElements m s at ds ps (count - i) fs c' d' × (max most (children_of fs) ≡ children_of es)
     r = k.rest es c d h
 
-    go : (fs : Trees) (c' d' : ℕ) → AreElements m s at ds ps (count - i) fs c' d' → max most (children_of fs) ≡ children_of es → AtHand m s start at ds ps count i most es
+    go : (fs : Trees) (c' d' : ℕ) → AreElements m s at ds ps (count - i) fs c' d' → max most (children_of fs) ≡ children_of es
+        → AtHand m s start at ds ps count i most es
     go none c' d' f e = absurd (omega (arith, lt, f.0))
     go (more (struct ws ts) fs) c' d' f e = record {
       words = ws;
@@ -105,11 +103,7 @@ at_hand m s start at ds ps count i most es c d lt k h = go r.0 r.1 r.2 r.3 r.4
       parts = element_parts m s at ds ps (count - i) ws ts fs c' d' f;
       same = e;
     }
-    go (more null fs) c' d' f e = absurd f
-    go (more (cap x) fs) c' d' f e = absurd f
-    go (more (scalars x vs) fs) c' d' f e = absurd f
-    go (more (pointers ts) fs) c' d' f e = absurd f
-    go (more (structs x y ts) fs) c' d' f e = absurd f
+    go (more _ fs) c' d' f e = absurd f
 
 pub children_seen : (m : List (List ℕ)) (s start at ds ps count i most now : ℕ) → i < count
     → ((ts : Trees) (c d : ℕ) → DenoteEach m (places s (at + ds) ps) ts c d → now ≡ max most (children_needed ts)) → now ≤ ps
@@ -120,7 +114,8 @@ children_seen m s start at ds ps count i most now lt is within k = record {
   rest = rest;
 }
   where
-    rest : (es : Trees) (c d : ℕ) → AreElements m s start ds ps count es c d → (fs : Trees) × (c' d' : ℕ) × AreElements m s (at + (ds + ps)) ds ps (count - (i + 1)) fs c' d' × (max now (children_of fs) ≡ children_of es)
+    rest : (es : Trees) (c d : ℕ) → AreElements m s start ds ps count es c d
+        → (fs : Trees) × (c' d' : ℕ) × AreElements m s (at + (ds + ps)) ds ps (count - (i + 1)) fs c' d' × (max now (children_of fs) ≡ children_of es)
     rest es c d h =
         let a = at_hand m s start at ds ps count i most es c d lt k h in
         let p = a.parts in
@@ -130,7 +125,8 @@ children_seen m s start at ds ps count i most now lt is within k = record {
           a.later,
           p.c2,
           p.d2,
-          subst (λ x. AreElements m s x ds ps (count - (i + 1)) a.later p.c2 p.d2) e (subst (λ x. AreElements m s (at + ds + ps) ds ps x a.later p.c2 p.d2) n p.rest),
+          subst (λ x. AreElements m s x ds ps (count - (i + 1)) a.later p.c2 p.d2) e
+              (subst (λ x. AreElements m s (at + ds + ps) ds ps x a.later p.c2 p.d2) n p.rest),
           most_on now (children_needed a.children) most (children_of a.later) f ∙ a.same,
         )
 
@@ -155,17 +151,13 @@ left_take m deep s w zero us h = tt
 left_take m deep s w (suc n) none h = tt
 left_take m deep s w (suc n) (more u us) h = (h.0, left_take m deep s (w + 1) n us h.1)
 
--- as many as there were
-pub trim_all_count : (ts : Trees) → tree_count (trim_all ts) ≡ tree_count ts
-trim_all_count none = refl
-trim_all_count (more t ts) = ap suc (trim_all_count ts)
-
 -- the front of words that stand in a range
 pub words_left : (m : List (List ℕ)) (t b ds d : ℕ) (ws : List ℕ) → ws ≡ words_from m t b ds → d ≤ ds → take d ws ≡ words_from m t b d
 words_left m t b ds d ws e le =
     let x : b + ds - b ≡ ds = omega arith in
     let y : d ≡ b + d - b = omega arith in
-    ap (take d) e ∙ (ap (λ n. take d (take n (drop b (segment_of m t)))) x ∙ (take-take d ds (drop b (segment_of m t)) le ∙ ap (λ n. take n (drop b (segment_of m t))) y))
+    ap (take d) e ∙ (ap (λ n. take d (take n (drop b (segment_of m t)))) x
+    ∙ (take-take d ds (drop b (segment_of m t)) le ∙ ap (λ n. take n (drop b (segment_of m t))) y))
 
 -- the elements of a list, cut to these sizes
 pub elements_left : (m : List (List ℕ)) (t b ds ps n d p deep : ℕ) (es : Trees) (c d' : ℕ) → d ≤ ds → p ≤ ps → AreElements m t b ds ps n es c d' → d' ≤ deep
@@ -173,14 +165,10 @@ pub elements_left : (m : List (List ℕ)) (t b ds ps n d p deep : ℕ) (es : Tre
 elements_left m t b ds ps n d p deep none c d' dle ple h le = tt
 elements_left m t b ds ps n d p deep (more (struct ws ts) es) c d' dle ple h le =
     let k = element_parts m t b ds ps n ws ts es c d' h in
-    let many : tree_count (trim_all ts) ≡ ps = trim_all_count ts ∙ row_count m t (b + ds) ps ts k.c1 k.d1 k.children in (
+    let many : tree_count (trim_all ts) ≡ ps = tree_count-trim_all ts ∙ row_count m t (b + ds) ps ts k.c1 k.d1 k.children in (
       words_left m t b ds d ws k.data_words dle,
       tree_count-take_le p (trim_all ts) (omega (arith, many, ple)),
       left_take m deep t (b + ds) p (trim_all ts) (row_left m t (b + ds) ps deep ts k.c1 k.d1 k.children (omega (arith, k.depth, le))),
       elements_left m t (b + ds + ps) ds ps k.others d p deep es k.c2 k.d2 dle ple k.rest (omega (arith, k.depth, le)),
     )
-elements_left m t b ds ps n d p deep (more null es) c d' dle ple h le = absurd h
-elements_left m t b ds ps n d p deep (more (cap i) es) c d' dle ple h le = absurd h
-elements_left m t b ds ps n d p deep (more (scalars e vs) es) c d' dle ple h le = absurd h
-elements_left m t b ds ps n d p deep (more (pointers ts) es) c d' dle ple h le = absurd h
-elements_left m t b ds ps n d p deep (more (structs x y ts) es) c d' dle ple h le = absurd h
+elements_left m t b ds ps n d p deep (more _ es) c d' dle ple h le = absurd h

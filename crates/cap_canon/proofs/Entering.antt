@@ -2,25 +2,38 @@
 use Rattle.std.proofs.Common.{ℕ, zero, suc, ◌+◌, ◌-◌, ◌*◌, ◌<◌, ◌≤◌, ◌^◌, ◌⊎◌, inl, inr, List, [], ◌∷◌, ◌++◌, ◌≡◌, ap, refl, sym, subst, ◌∙◌, arith, length, reverse, Option, None, Some}
 use Rattle.std.specs.Option.{option_to_list}
 use Rattle.std.proofs.lemmas.List.{length-append, length-reverse}
-use Rattle.std.proofs.lemmas.List.FromFn.{length-map-range_with_len}
 use Rattle.cap_spec.specs.Messages.{IsMessage, segment_of}
-use Rattle.cap_spec.specs.Pointers.{element_bits, list_words}
 use Rattle.cap_spec.specs.Tree.{Tree, null, cap, struct, scalars, pointers, structs, Trees, none, more, tree_count}
-use Rattle.cap_spec.specs.Denoting.{value_at}
 use Rattle.cap_spec.proofs.Trees.DenotedTrees.{range_length}
-use Rattle.cap_canon.specs.CopyFrames.{OptionFull, Place, further_places, option_places, places_of, row_places}
+use Rattle.cap_canon.specs.CopyRuns.{OptionFull, further_places, option_places, places_of, row_places}
 use Rattle.cap_canon.specs.Laying.{Due, AreBefore, below, element_slots, own_size, slots}
-use Rattle.cap_canon.specs.Objects.{AreLeft, AreElementsLeft, IsObject, IsStructObject, IsScalarsObject, IsPointersObject, IsStructsObject}
-use Rattle.cap_canon.specs.StillToLay.{AreOwed, IsNext, IsWalking, Stacked, work_left}
-use Rattle.cap_canon.specs.declared.frame.Frame.{Frame}
+use Rattle.cap_canon.specs.Objects.{AreLeft, AreElementsLeft, IsObject, IsStructObject, IsPointersObject, IsStructsObject}
+use Rattle.cap_canon.specs.StillToLay.{AreOwed, IsWalking, Meets, Stacked, work_left}
+use Rattle.cap_canon.specs.declared.run.CopyRun.{CopyRun}
+use Rattle.cap_canon.specs.declared.run.PointerPlace.{PointerPlace}
+use Rattle.cap_canon.specs.declared.objects.Part.{Part}
 use Rattle.cap_canon.specs.declared.objects.Object.{Object}
 use Rattle.cap_canon.specs.declared.objects.Object.TheVariants as object
-use Rattle.cap_canon.proofs.Frames.{count_more}
+use Rattle.cap_canon.proofs.Runs.{count_more}
 use Rattle.cap_canon.proofs.Lengths.{size_below, size_due-append}
 use Rattle.cap_canon.proofs.Owing.{before_join, before_more, owed_count, reverse-more, stacked_more}
 
+-- the run of the pointers of structs in a row
+abbrev pub structs_run_of : Part → ℕ → ℕ → CopyRun
+structs_run_of x count end = record {
+  segment = x.segment;
+  at = x.start + x.data_words;
+  slot = end + 1 + x.data_left;
+  left = x.pointers_left;
+  more = count - 1;
+  skip = x.pointers - x.pointers_left + x.data_words;
+  gap = x.data_left;
+  pointers = x.pointers_left;
+}
+
 -- a row of words, of which each child is left
-pub row_owed : (m : List (List ℕ)) (deeper depth n t b a p : ℕ) (us : Trees) → deeper + n ≤ depth → tree_count us ≡ p → AreLeft m deeper t b us → AreOwed m depth n (row_places t b a p) (slots a us)
+pub row_owed : (m : List (List ℕ)) (deeper depth n t b a p : ℕ) (us : Trees) → deeper + n ≤ depth → tree_count us ≡ p → AreLeft m deeper t b us
+    → AreOwed m depth n (row_places t b a p) (slots a us)
 row_owed m deeper depth n t b a zero none le e h = tt
 row_owed m deeper depth n t b a zero (more u us) le e h = absurd (omega (arith, e))
 row_owed m deeper depth n t b a (suc p) none le e h = absurd (omega (arith, e))
@@ -29,88 +42,91 @@ row_owed m deeper depth n t b a (suc p) (more u us) le e h =
     (refl, (l.0, l.1, l.2, l.3, l.4, omega (arith, l.5, le)), row_owed m deeper depth n t (b + 1) (a + 1) p us le (omega (arith, e)) h.1)
 
 -- words that are owed, one behind the other
-owed_join : (m : List (List ℕ)) (depth n : ℕ) (ps qs : List Place) (xs ys : List Due) → AreOwed m depth n ps xs → AreOwed m depth n qs ys → AreOwed m depth n (ps ++ qs) (xs ++ ys)
+owed_join : (m : List (List ℕ)) (depth n : ℕ) (ps qs : List PointerPlace) (xs ys : List Due) → AreOwed m depth n ps xs → AreOwed m depth n qs ys
+    → AreOwed m depth n (ps ++ qs) (xs ++ ys)
 owed_join m depth n [] qs [] ys h k = k
 owed_join m depth n [] qs (x ∷ xs) ys h k = absurd h
 owed_join m depth n (p ∷ ps) qs [] ys h k = absurd h
 owed_join m depth n (p ∷ ps) qs (x ∷ xs) ys h k = (h.0, h.1, owed_join m depth n ps qs xs ys h.2 k)
 
 -- the words of further elements
-further_owed : (m : List (List ℕ)) (deeper depth n t x b a skip ds ps d p : ℕ) (es : Trees) → deeper + n ≤ depth → x + skip ≡ b + ds → p + skip ≡ ps + ds → AreElementsLeft m deeper t b ds ps d p es
+further_owed : (m : List (List ℕ)) (deeper depth n t x b a skip ds ps d p : ℕ) (es : Trees) → deeper + n ≤ depth → x + skip ≡ b + ds → p + skip ≡ ps + ds
+    → AreElementsLeft m deeper t b ds ps d p es
     → AreOwed m depth n (further_places t x a skip d p (tree_count es)) (element_slots d p a es)
 further_owed m deeper depth n t x b a skip ds ps d p none le e f h = tt
 further_owed m deeper depth n t x b a skip ds ps d p (more (struct ws us) es) le e f h =
     let row : AreOwed m depth n (row_places t (x + skip) (a + d) p) (slots (a + d) us) =
     subst (λ i. AreOwed m depth n (row_places t i (a + d) p) (slots (a + d) us)) (sym e) (row_owed m deeper depth n t (b + ds) (a + d) p us le h.1 h.2) in
-    owed_join m depth n (row_places t (x + skip) (a + d) p) (further_places t (x + skip + p) (a + d + p) skip d p (tree_count es)) (slots (a + d) us) (element_slots d p (a + d + p) es) row
+    owed_join m depth n (row_places t (x + skip) (a + d) p) (further_places t (x + skip + p) (a + d + p) skip d p (tree_count es)) (slots (a + d) us)
+    (element_slots d p (a + d + p) es) row
     (further_owed m deeper depth n t (x + skip + p) (b + ds + ps) (a + d + p) skip ds ps d p es le (omega (arith, e, f)) f h.3)
-further_owed m deeper depth n t x b a skip ds ps d p (more null es) le e f h = absurd h
-further_owed m deeper depth n t x b a skip ds ps d p (more (cap i) es) le e f h = absurd h
-further_owed m deeper depth n t x b a skip ds ps d p (more (scalars c vs) es) le e f h = absurd h
-further_owed m deeper depth n t x b a skip ds ps d p (more (pointers ts) es) le e f h = absurd h
-further_owed m deeper depth n t x b a skip ds ps d p (more (structs y z ts) es) le e f h = absurd h
+further_owed m deeper depth n t x b a skip ds ps d p (more _ es) le e f h = absurd h
 
 -- and of the first and the others
-elements_owed : (m : List (List ℕ)) (deeper depth n t b a skip ds ps d p others : ℕ) (es : Trees) → deeper + n ≤ depth → p + skip ≡ ps + ds → tree_count es ≡ suc others → AreElementsLeft m deeper t b ds ps d p es
+elements_owed : (m : List (List ℕ)) (deeper depth n t b a skip ds ps d p others : ℕ) (es : Trees) → deeper + n ≤ depth → p + skip ≡ ps + ds
+    → tree_count es ≡ suc others → AreElementsLeft m deeper t b ds ps d p es
     → AreOwed m depth n (row_places t (b + ds) (a + d) p ++ further_places t (b + ds + p) (a + d + p) skip d p others) (element_slots d p a es)
 elements_owed m deeper depth n t b a skip ds ps d p others none le f e h = absurd (omega (arith, e))
 elements_owed m deeper depth n t b a skip ds ps d p others (more (struct ws us) es) le f e h =
     let many : tree_count es ≡ others = omega (arith, e) in
-    owed_join m depth n (row_places t (b + ds) (a + d) p) (further_places t (b + ds + p) (a + d + p) skip d p others) (slots (a + d) us) (element_slots d p (a + d + p) es) (row_owed m deeper depth n t (b + ds) (a + d) p us le h.1 h.2)
+    owed_join m depth n (row_places t (b + ds) (a + d) p) (further_places t (b + ds + p) (a + d + p) skip d p others) (slots (a + d) us)
+    (element_slots d p (a + d + p) es) (row_owed m deeper depth n t (b + ds) (a + d) p us le h.1 h.2)
     (subst (λ i. AreOwed m depth n (further_places t (b + ds + p) (a + d + p) skip d p i) (element_slots d p (a + d + p) es)) many
     (further_owed m deeper depth n t (b + ds + p) (b + ds + ps) (a + d + p) skip ds ps d p es le (omega (arith, f)) f h.3))
-elements_owed m deeper depth n t b a skip ds ps d p others (more null es) le f e h = absurd h
-elements_owed m deeper depth n t b a skip ds ps d p others (more (cap i) es) le f e h = absurd h
-elements_owed m deeper depth n t b a skip ds ps d p others (more (scalars c vs) es) le f e h = absurd h
-elements_owed m deeper depth n t b a skip ds ps d p others (more (pointers ts) es) le f e h = absurd h
-elements_owed m deeper depth n t b a skip ds ps d p others (more (structs y z ts) es) le f e h = absurd h
+elements_owed m deeper depth n t b a skip ds ps d p others (more _ es) le f e h = absurd h
 
 -- elements that aren't there, or have no pointers
-none_owed : (m : List (List ℕ)) (deeper depth n t b a ds ps d p : ℕ) (es : Trees) → (tree_count es ≡ 0) ⊎ (p ≡ 0) → AreElementsLeft m deeper t b ds ps d p es → AreOwed m depth n [] (element_slots d p a es)
+none_owed : (m : List (List ℕ)) (deeper depth n t b a ds ps d p : ℕ) (es : Trees) → (tree_count es ≡ 0) ⊎ (p ≡ 0) → AreElementsLeft m deeper t b ds ps d p es
+    → AreOwed m depth n [] (element_slots d p a es)
 none_owed m deeper depth n t b a ds ps d p none e h = tt
 none_owed m deeper depth n t b a ds ps d p (more (struct ws us) es) (inl e) h = absurd (omega (arith, e))
-none_owed m deeper depth n t b a ds ps d p (more (struct ws none) es) (inr e) h = none_owed m deeper depth n t (b + ds + ps) (a + d + p) ds ps d p es (inr e) h.3
+none_owed m deeper depth n t b a ds ps d p (more (struct ws none) es) (inr e) h =
+    none_owed m deeper depth n t (b + ds + ps) (a + d + p) ds ps d p es (inr e) h.3
 none_owed m deeper depth n t b a ds ps d p (more (struct ws (more u us)) es) (inr e) h = absurd (omega (arith, e, h.1))
-none_owed m deeper depth n t b a ds ps d p (more null es) e h = absurd h
-none_owed m deeper depth n t b a ds ps d p (more (cap i) es) e h = absurd h
-none_owed m deeper depth n t b a ds ps d p (more (scalars c vs) es) e h = absurd h
-none_owed m deeper depth n t b a ds ps d p (more (pointers ts) es) e h = absurd h
-none_owed m deeper depth n t b a ds ps d p (more (structs y z ts) es) e h = absurd h
+none_owed m deeper depth n t b a ds ps d p (more _ es) e h = absurd h
 
--- the data words that are left of a struct are as many as told
-kept_words : (m : List (List ℕ)) (deeper s w t b ds ps d p : ℕ) (u : Tree) → (k : IsStructObject m deeper s w u t b ds ps d p) → length k.words ≡ d
-kept_words m deeper s w t b ds ps d p u k = ap length k.data_words ∙ range_length m t b d (omega (arith, k.inside, k.fewer.0))
+-- how many data words are left of a struct
+kept_words : (m : List (List ℕ)) (deeper s w : ℕ) (x : Part) (u : Tree) → (k : IsStructObject m deeper s w u x) → length k.words ≡ x.data_left
+kept_words m deeper s w x u k = ap length k.data_words ∙ range_length m x.segment x.start x.data_left (omega (arith, k.found.inside, k.fewer.0))
 
-pub struct_owed : (m : List (List ℕ)) (deeper depth n end s w t b ds ps d p : ℕ) (u : Tree) (places : List Place) → IsStructObject m deeper s w u t b ds ps d p → deeper + n ≤ depth
-    → places ≡ row_places t (b + ds) (end + d) p → AreOwed m depth n places (below end u)
-struct_owed m deeper depth n end s w t b ds ps d p u places k le e =
-    let l = kept_words m deeper s w t b ds ps d p u k in
-    let row : AreOwed m depth n (row_places t (b + ds) (end + d) p) (slots (end + d) k.children) = row_owed m deeper depth n t (b + ds) (end + d) p k.children le k.many k.below in
-    let own : AreOwed m depth n (row_places t (b + ds) (end + d) p) (slots (end + length k.words) k.children) = subst (λ i. AreOwed m depth n (row_places t (b + ds) (end + d) p) (slots (end + i) k.children)) (sym l) row in
-    subst (λ x. AreOwed m depth n places (below end x)) (sym k.tree) (subst (λ ps. AreOwed m depth n ps (slots (end + length k.words) k.children)) (sym e) own)
+pub struct_owed : (m : List (List ℕ)) (deeper depth n end s w : ℕ) (x : Part) (u : Tree) (places : List PointerPlace) → IsStructObject m deeper s w u x
+    → deeper + n ≤ depth
+    → places ≡ row_places x.segment (x.start + x.data_words) (end + x.data_left) x.pointers_left → AreOwed m depth n places (below end u)
+struct_owed m deeper depth n end s w x u places k le e =
+    let own = row_places x.segment (x.start + x.data_words) (end + x.data_left) x.pointers_left in
+    let row : AreOwed m depth n own (slots (end + x.data_left) k.children) =
+    row_owed m deeper depth n x.segment (x.start + x.data_words) (end + x.data_left) x.pointers_left k.children le k.many k.below in
+    let all : AreOwed m depth n own (slots (end + length k.words) k.children) =
+    subst (λ i. AreOwed m depth n own (slots (end + i) k.children)) (sym (kept_words m deeper s w x u k)) row in
+    subst (λ v. AreOwed m depth n places (below end v)) (sym k.tree) (subst (λ ps. AreOwed m depth n ps (slots (end + length k.words) k.children)) (sym e) all)
 
-pub pointers_owed : (m : List (List ℕ)) (deeper depth n end s w t b count : ℕ) (u : Tree) (places : List Place) → IsPointersObject m deeper s w u t b count → deeper + n ≤ depth
+pub pointers_owed : (m : List (List ℕ)) (deeper depth n end s w t b count : ℕ) (u : Tree) (places : List PointerPlace)
+    → IsPointersObject m deeper s w u t b count → deeper + n ≤ depth
     → places ≡ row_places t b end count → AreOwed m depth n places (below end u)
 pointers_owed m deeper depth n end s w t b count u places k le e =
-    subst (λ x. AreOwed m depth n places (below end x)) (sym k.tree) (subst (λ ps. AreOwed m depth n ps (slots end k.children)) (sym e) (row_owed m deeper depth n t b end count k.children le k.many k.below))
+    let row = row_owed m deeper depth n t b end count k.children le k.many k.below in
+    subst (λ x. AreOwed m depth n places (below end x)) (sym k.tree) (subst (λ ps. AreOwed m depth n ps (slots end k.children)) (sym e) row)
 
-pub structs_none_owed : (m : List (List ℕ)) (deeper depth n end s w t b count ds ps d p : ℕ) (u : Tree) → IsStructsObject m deeper s w u t b count ds ps d p → (count ≡ 0) ⊎ (p ≡ 0)
+pub structs_none_owed : (m : List (List ℕ)) (deeper depth n end s w count : ℕ) (x : Part) (u : Tree) → IsStructsObject m deeper s w u count x
+    → (count ≡ 0) ⊎ (x.pointers_left ≡ 0)
     → AreOwed m depth n [] (below end u)
-structs_none_owed m deeper depth n end s w t b count ds ps d p u k z =
-    subst (λ x. AreOwed m depth n [] (below end x)) (sym k.tree) (none_owed m deeper depth n t (b + 1) (end + 1) ds ps d p k.elements (either z) k.below)
+structs_none_owed m deeper depth n end s w count x u k z =
+    subst (λ v. AreOwed m depth n [] (below end v)) (sym k.tree)
+    (none_owed m deeper depth n x.segment x.start (end + 1) x.data_words x.pointers x.data_left x.pointers_left k.elements (either z) k.below)
   where
-    either : (count ≡ 0) ⊎ (p ≡ 0) → (tree_count k.elements ≡ 0) ⊎ (p ≡ 0)
+    either : (count ≡ 0) ⊎ (x.pointers_left ≡ 0) → (tree_count k.elements ≡ 0) ⊎ (x.pointers_left ≡ 0)
     either (inl e) = inl (k.many ∙ e)
     either (inr e) = inr e
 
-pub structs_owed : (m : List (List ℕ)) (deeper depth n end s w t b count ds ps d p skip others : ℕ) (u : Tree) → IsStructsObject m deeper s w u t b count ds ps d p → deeper + n ≤ depth
-    → 0 < count → others ≡ count - 1 → skip ≡ ps - p + ds → AreOwed m depth n (places_of record { segment = t; at = b + 1 + ds; slot = end + 1 + d; left = p; more = others; skip = skip; gap = d; pointers = p }) (below end u)
-structs_owed m deeper depth n end s w t b count ds ps d p skip others u k le some e f =
-    subst (λ x. AreOwed m depth n (places_of record { segment = t; at = b + 1 + ds; slot = end + 1 + d; left = p; more = others; skip = skip; gap = d; pointers = p }) (below end x)) (sym k.tree)
-    (elements_owed m deeper depth n t (b + 1) (end + 1) skip ds ps d p others k.elements le (omega (arith, f, k.fewer.1)) (omega (arith, k.many, some, e)) k.below)
-
-pub scalars_own : (m : List (List ℕ)) (s w t b c count words : ℕ) (u : Tree) → IsScalarsObject m s w u t b c count words → words ≡ own_size u
-scalars_own m s w t b c count words u k = k.extent ∙ (ap (list_words c) (sym (length-map-range_with_len (value_at (segment_of m t) b (element_bits c)) 0 count)) ∙ sym (ap own_size k.tree))
+pub structs_owed : (m : List (List ℕ)) (deeper depth n end s w count : ℕ) (x : Part) (r : CopyRun) (u : Tree) → IsStructsObject m deeper s w u count x
+    → deeper + n ≤ depth → 0 < count
+    → r ≡ structs_run_of x count end → AreOwed m depth n (places_of r) (below end u)
+structs_owed m deeper depth n end s w count x r u k le some e =
+    let skip = x.pointers - x.pointers_left + x.data_words in
+    let row = elements_owed m deeper depth n x.segment x.start (end + 1) skip x.data_words x.pointers x.data_left x.pointers_left (count - 1) k.elements
+    le (omega (arith, k.fewer.1)) (omega (arith, k.many, some)) k.below in
+    subst (λ v. AreOwed m depth n (places_of r) (below end v)) (sym k.tree)
+    (subst (λ y. AreOwed m depth n (places_of y) (element_slots x.data_left x.pointers_left (end + 1) k.elements)) (sym e) row)
 
 -- a segment's places are numbers of 32 bits
 pub short_segment : (m : List (List ℕ)) (t : ℕ) → IsMessage m → t < length m → length (segment_of m t) < 2 ^ 32
@@ -121,54 +137,61 @@ slots_before : (a end : ℕ) (ts : Trees) → a + tree_count ts ≤ end → AreB
 slots_before a end none le = tt
 slots_before a end (more t ts) le = (omega (arith, le), slots_before (a + 1) end ts (omega (arith, le)))
 
-elements_before : (m : List (List ℕ)) (deeper t b a ds ps d p end : ℕ) (es : Trees) → AreElementsLeft m deeper t b ds ps d p es → a + tree_count es * (d + p) ≤ end → AreBefore end (element_slots d p a es)
+elements_before : (m : List (List ℕ)) (deeper t b a ds ps d p end : ℕ) (es : Trees) → AreElementsLeft m deeper t b ds ps d p es
+    → a + tree_count es * (d + p) ≤ end → AreBefore end (element_slots d p a es)
 elements_before m deeper t b a ds ps d p end none h le = tt
 elements_before m deeper t b a ds ps d p end (more (struct ws us) es) h le =
-    before_join end (slots (a + d) us) (element_slots d p (a + d + p) es) (slots_before (a + d) end us (omega (arith, le, h.1))) (elements_before m deeper t (b + ds + ps) (a + d + p) ds ps d p end es h.3 (omega (arith, le)))
-elements_before m deeper t b a ds ps d p end (more null es) h le = absurd h
-elements_before m deeper t b a ds ps d p end (more (cap i) es) h le = absurd h
-elements_before m deeper t b a ds ps d p end (more (scalars c vs) es) h le = absurd h
-elements_before m deeper t b a ds ps d p end (more (pointers ts) es) h le = absurd h
-elements_before m deeper t b a ds ps d p end (more (structs y z ts) es) h le = absurd h
+    before_join end (slots (a + d) us) (element_slots d p (a + d + p) es) (slots_before (a + d) end us (omega (arith, le, h.1)))
+    (elements_before m deeper t (b + ds + ps) (a + d + p) ds ps d p end es h.3 (omega (arith, le)))
+elements_before m deeper t b a ds ps d p end (more _ es) h le = absurd h
 
 pub below_before : (m : List (List ℕ)) (d s w end : ℕ) (u : Tree) (o : Object) → IsObject m d s w u o → AreBefore (end + own_size u) (below end u)
 below_before m d s w end u object.Null k = subst (λ x. AreBefore (end + own_size x) (below end x)) (sym k) tt
 below_before m d s w end u (object.Cap i) k = subst (λ x. AreBefore (end + own_size x) (below end x)) (sym k) tt
-below_before m d s w end u (object.Struct t b ds ps x y) (deeper, le, k) =
-    subst (λ x. AreBefore (end + own_size x) (below end x)) (sym k.tree) (slots_before (end + length k.words) (end + (length k.words + tree_count k.children)) k.children (omega arith))
+below_before m d s w end u (object.Struct x) (deeper, le, k) =
+    subst (λ x. AreBefore (end + own_size x) (below end x)) (sym k.tree)
+    (slots_before (end + length k.words) (end + (length k.words + tree_count k.children)) k.children (omega arith))
 below_before m d s w end u (object.Scalars t b c n words) (le, k) = subst (λ x. AreBefore (end + own_size x) (below end x)) (sym k.tree) tt
 below_before m d s w end u (object.Pointers t b n) (deeper, le, k) =
     subst (λ x. AreBefore (end + own_size x) (below end x)) (sym k.tree) (slots_before end (end + tree_count k.children) k.children (omega arith))
-below_before m d s w end u (object.Structs t b n ds ps x y) (deeper, le, k) =
-    subst (λ x. AreBefore (end + own_size x) (below end x)) (sym k.tree)
-    (elements_before m deeper t (b + 1) (end + 1) ds ps x y (end + (1 + tree_count k.elements * (x + y))) k.elements k.below (behind (tree_count k.elements * (x + y))))
+below_before m d s w end u (object.Structs n x) (deeper, le, k) =
+    let size = tree_count k.elements * (x.data_left + x.pointers_left) in
+    subst (λ v. AreBefore (end + own_size v) (below end v)) (sym k.tree)
+    (elements_before m deeper x.segment x.start (end + 1) x.data_words x.pointers x.data_left x.pointers_left (end + (1 + size)) k.elements k.below
+    (behind size))
   where
     behind : (n : ℕ) → end + 1 + n ≤ end + (1 + n)
     behind n = omega arith
 
 -- The walk goes on with an object's pointer words.
-pub entered : (m : List (List ℕ)) (depth s w slot d end now : ℕ) (tree : Tree) (due : List Due) (frames : List Frame) (r : Option Frame) (o : Object) → IsNext m depth s w slot frames end tree due → IsObject m d s w tree o
-    → now ≡ end + own_size tree → OptionFull r → AreOwed m depth (length frames + 1) (option_places r) (below end tree) → IsWalking m depth (frames ++ option_to_list r) now (below end tree ++ due)
-entered m depth s w slot d end now tree due frames r o next k e full owed =
-    let l : length frames + 1 ≡ length (reverse frames) + 1 = omega (arith, length-reverse frames) in record {
-      message = next.message;
-      stacked = subst (λ fs. Stacked m depth fs (below end tree ++ due)) (sym (reverse-more frames r)) (stacked_more m depth (length frames + 1) r (reverse frames) (below end tree) due l full owed next.stacked);
-      before = before_join now (below end tree) due (subst (λ n. AreBefore n (below end tree)) (sym e) (below_before m d s w end tree o k)) (before_more end now due (omega (arith, e)) next.before);
-      small = let x = size_due-append (below end tree) due in let y = size_below end tree in omega (arith, e, x, y, next.small);
+pub entered : (m : List (List ℕ)) (depth end now : ℕ) (p : PointerPlace) (tree : Tree) (due : List Due) (runs : List CopyRun) (r : Option CopyRun)
+    (o : Object) → Meets m depth p runs end tree due o
+    → now ≡ end + own_size tree → OptionFull r → AreOwed m depth (length runs + 1) (option_places r) (below end tree)
+    → IsWalking m depth (runs ++ option_to_list r) now (below end tree ++ due)
+entered m depth end now p tree due runs r o k e full owed =
+    let l : length runs + 1 ≡ length (reverse runs) + 1 = omega (arith, length-reverse runs) in
+    let all = stacked_more m depth (length runs + 1) r (reverse runs) (below end tree) due l full owed k.next.stacked in
+    let own = subst (λ n. AreBefore n (below end tree)) (sym e) (below_before m k.d p.segment p.word end tree o k.is) in record {
+      message = k.next.message;
+      stacked = subst (λ fs. Stacked m depth fs (below end tree ++ due)) (sym (reverse-more runs r)) all;
+      before = before_join now (below end tree) due own (before_more end now due (omega (arith, e)) k.next.before);
+      small = let x = size_due-append (below end tree) due in let y = size_below end tree in omega (arith, e, x, y, k.next.small);
     }
 
--- its stack has room for them
-row_deep : (m : List (List ℕ)) (depth n t b a left : ℕ) (others : List Place) (due : List Due) → 0 < left → AreOwed m depth n (row_places t b a left ++ others) due → n ≤ depth
+-- its stack has capacity for them
+row_deep : (m : List (List ℕ)) (depth n t b a left : ℕ) (others : List PointerPlace) (due : List Due) → 0 < left
+    → AreOwed m depth n (row_places t b a left ++ others) due → n ≤ depth
 row_deep m depth n t b a zero others due some h = absurd (omega (arith, some))
 row_deep m depth n t b a (suc left) others [] some h = absurd h
 row_deep m depth n t b a (suc left) others (x ∷ due) some h = omega (arith, h.1.5)
 
-pub room_below : (room : ℕ) (m : List (List ℕ)) (depth d : ℕ) (due : List Due) (frames : List Frame) (r : Option Frame) → depth ≤ room → d + length frames ≤ depth → OptionFull r → AreOwed m depth (length frames + 1) (option_places r) due
-    → length (frames ++ option_to_list r) ≤ room
-room_below room m depth d due frames None le low full h = let l = length-append frames (option_to_list {X = Frame} None) in omega (arith, l, le, low)
-room_below room m depth d due frames (Some f) le low full h =
-    let l = length-append frames (f ∷ []) in
-    let n = row_deep m depth (length frames + 1) f.segment f.at f.slot f.left _ due full.some h in
+pub room_below : (capacity : ℕ) (m : List (List ℕ)) (depth d : ℕ) (due : List Due) (runs : List CopyRun) (r : Option CopyRun) → depth ≤ capacity
+    → d + length runs ≤ depth → OptionFull r → AreOwed m depth (length runs + 1) (option_places r) due
+    → length (runs ++ option_to_list r) ≤ capacity
+room_below capacity m depth d due runs None le low full h = let l = length-append runs (option_to_list {X = CopyRun} None) in omega (arith, l, le, low)
+room_below capacity m depth d due runs (Some f) le low full h =
+    let l = length-append runs (f ∷ []) in
+    let n = row_deep m depth (length runs + 1) f.segment f.at f.slot f.left _ due full.some h in
     omega (arith, l, le, n)
 
 -- the work grows by no more than the own words
@@ -176,38 +199,40 @@ slots_count : (a : ℕ) (ts : Trees) → length (slots a ts) ≡ tree_count ts
 slots_count a none = refl
 slots_count a (more t ts) = ap suc (slots_count (a + 1) ts)
 
-elements_count : (m : List (List ℕ)) (deeper t b a ds ps d p : ℕ) (es : Trees) → AreElementsLeft m deeper t b ds ps d p es → length (element_slots d p a es) ≤ tree_count es * (d + p)
+elements_count : (m : List (List ℕ)) (deeper t b a ds ps d p : ℕ) (es : Trees) → AreElementsLeft m deeper t b ds ps d p es
+    → length (element_slots d p a es) ≤ tree_count es * (d + p)
 elements_count m deeper t b a ds ps d p none h = omega arith
 elements_count m deeper t b a ds ps d p (more (struct ws us) es) h =
     let x = length-append (slots (a + d) us) (element_slots d p (a + d + p) es) in
     let r = elements_count m deeper t (b + ds + ps) (a + d + p) ds ps d p es h.3 in
     omega (arith, x, r, slots_count (a + d) us, h.1)
-elements_count m deeper t b a ds ps d p (more null es) h = absurd h
-elements_count m deeper t b a ds ps d p (more (cap i) es) h = absurd h
-elements_count m deeper t b a ds ps d p (more (scalars c vs) es) h = absurd h
-elements_count m deeper t b a ds ps d p (more (pointers ts) es) h = absurd h
-elements_count m deeper t b a ds ps d p (more (structs y z ts) es) h = absurd h
+elements_count m deeper t b a ds ps d p (more _ es) h = absurd h
 
 below_count : (m : List (List ℕ)) (d s w end : ℕ) (u : Tree) (o : Object) → IsObject m d s w u o → length (below end u) ≤ own_size u
 below_count m d s w end u object.Null k = subst (λ x. length (below end x) ≤ own_size x) (sym k) (omega arith)
 below_count m d s w end u (object.Cap i) k = subst (λ x. length (below end x) ≤ own_size x) (sym k) (omega arith)
-below_count m d s w end u (object.Struct t b ds ps x y) (deeper, le, k) =
+below_count m d s w end u (object.Struct x) (deeper, le, k) =
     subst (λ x. length (below end x) ≤ own_size x) (sym k.tree) (let n = slots_count (end + length k.words) k.children in omega (arith, n))
 below_count m d s w end u (object.Scalars t b c n words) (le, k) = subst (λ x. length (below end x) ≤ own_size x) (sym k.tree) (omega arith)
 below_count m d s w end u (object.Pointers t b n) (deeper, le, k) =
     subst (λ x. length (below end x) ≤ own_size x) (sym k.tree) (let n = slots_count end k.children in omega (arith, n))
-below_count m d s w end u (object.Structs t b n ds ps x y) (deeper, le, k) =
-    subst (λ x. length (below end x) ≤ own_size x) (sym k.tree) (one_more (length (element_slots x y (end + 1) k.elements)) (tree_count k.elements * (x + y)) (elements_count m deeper t (b + 1) (end + 1) ds ps x y k.elements k.below))
+below_count m d s w end u (object.Structs n x) (deeper, le, k) =
+    let due = element_slots x.data_left x.pointers_left (end + 1) k.elements in
+    subst (λ v. length (below end v) ≤ own_size v) (sym k.tree)
+    (one_more (length due) (tree_count k.elements * (x.data_left + x.pointers_left))
+    (elements_count m deeper x.segment x.start (end + 1) x.data_words x.pointers x.data_left x.pointers_left k.elements k.below))
   where
     one_more : (a n : ℕ) → a ≤ n → a ≤ 1 + n
     one_more a n h = omega arith
 
-pub work_more : (m : List (List ℕ)) (d s w end : ℕ) (u : Tree) (o : Object) (frames : List Frame) (r : Option Frame) → IsObject m d s w u o → AreOwed m d 1 (option_places r) (below end u)
-    → work_left (frames ++ option_to_list r) ≤ work_left frames + own_size u
-work_more m d s w end u o frames r k owed =
-    omega (arith, count_more frames r, owed_count m d 1 (option_places r) (below end u) owed, below_count m d s w end u o k)
+pub work_more : (m : List (List ℕ)) (d s w end : ℕ) (u : Tree) (o : Object) (runs : List CopyRun) (r : Option CopyRun) → IsObject m d s w u o
+    → AreOwed m d 1 (option_places r) (below end u)
+    → work_left (runs ++ option_to_list r) ≤ work_left runs + own_size u
+work_more m d s w end u o runs r k owed =
+    omega (arith, count_more runs r, owed_count m d 1 (option_places r) (below end u) owed, below_count m d s w end u o k)
 
 -- the first pointer of the elements is a number of 32 bits
-pub structs_start : (m : List (List ℕ)) (deeper s w t b count ds ps d p : ℕ) (u : Tree) → IsMessage m → IsStructsObject m deeper s w u t b count ds ps d p → 0 < count → b + 1 + ds < 2 ^ 32
-structs_start m deeper s w t b zero ds ps d p u is k some = absurd (omega (arith, some))
-structs_start m deeper s w t b (suc count) ds ps d p u is k some = omega (arith, k.inside, short_segment m t is k.finds.sits.exists)
+pub structs_start : (m : List (List ℕ)) (deeper s w count : ℕ) (x : Part) (u : Tree) → IsMessage m → IsStructsObject m deeper s w u count x → 0 < count
+    → x.start + x.data_words < 2 ^ 32
+structs_start m deeper s w zero x u is k some = absurd (omega (arith, some))
+structs_start m deeper s w (suc count) x u is k some = omega (arith, k.start, k.found.inside, short_segment m x.segment is k.found.exists)

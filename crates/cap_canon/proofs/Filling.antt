@@ -15,8 +15,9 @@ use Rattle.cap_spec.proofs.Canonical.Placing.{stand_word}
 use Rattle.cap_spec.proofs.Trees.ReadingBack.{length-scalar_words}
 use Rattle.cap_spec.proofs.Trees.DenotedTrees.{range_length}
 use Rattle.cap_canon.specs.Laying.{Due, slots, element_slots, own_size, DataAt}
-use Rattle.cap_canon.specs.Filling.{IsDue, Fills, OwnAppended, elements_from}
+use Rattle.cap_canon.specs.Filling.{IsDue, Fills, OwnAppended, elements_from, part_words, parts_words}
 use Rattle.cap_canon.specs.Objects.{AreElementsLeft, IsStructObject, IsScalarsObject, IsPointersObject, IsStructsObject}
+use Rattle.cap_canon.specs.declared.objects.Part.{Part}
 use Rattle.cap_canon.proofs.Ranges.{length-elements_from}
 
 -- what is due in a part is due
@@ -30,13 +31,15 @@ due_right i [] ys d = d
 due_right i (x ∷ xs) ys d = inr (due_right i xs ys d)
 
 -- two parts, one behind the other
-pub fills_join : (whole : List ℕ) (b c : ℕ) (xs ys : List ℕ) (due next : List Due) → c ≡ b + length xs → Fills whole b due xs → Fills whole c next ys → Fills whole b (due ++ next) (xs ++ ys)
+pub fills_join : (whole : List ℕ) (b c : ℕ) (xs ys : List ℕ) (due next : List Due) → c ≡ b + length xs → Fills whole b due xs → Fills whole c next ys
+    → Fills whole b (due ++ next) (xs ++ ys)
 fills_join whole b c xs ys due next e f g k lt = go (sides k (length xs))
   where
     sides : (i n : ℕ) → (i < n) ⊎ (n ≤ i)
     sides i n = search arith
 
-    first : k < length xs → (IsDue (b + k) due ⊎ (get_or xs k 0 ≡ get_or whole (b + k) 0)) → IsDue (b + k) (due ++ next) ⊎ (get_or (xs ++ ys) k 0 ≡ get_or whole (b + k) 0)
+    first : k < length xs → (IsDue (b + k) due ⊎ (get_or xs k 0 ≡ get_or whole (b + k) 0))
+        → IsDue (b + k) (due ++ next) ⊎ (get_or (xs ++ ys) k 0 ≡ get_or whole (b + k) 0)
     first l (inl d) = inl (due_left (b + k) due next d)
     first l (inr s) = inr (get_or_append_left xs ys 0 k l ∙ s)
 
@@ -60,13 +63,15 @@ fills_stand whole b xs h k lt = inr (sym (stand_word whole b xs h k lt))
 slot_due : (b k : ℕ) (ts : Trees) → k < tree_count ts → IsDue (b + k) (slots b ts)
 slot_due b k none lt = absurd (omega (arith, lt))
 slot_due b zero (more t ts) lt = inl (omega arith)
-slot_due b (suc k) (more t ts) lt = let e : b + 1 + k ≡ b + suc k = omega arith in inr (subst (λ n. IsDue n (slots (b + 1) ts)) e (slot_due (b + 1) k ts (omega (arith, lt))))
+slot_due b (suc k) (more t ts) lt = let e : b + 1 + k ≡ b + suc k = omega arith in
+    inr (subst (λ n. IsDue n (slots (b + 1) ts)) e (slot_due (b + 1) k ts (omega (arith, lt))))
 
 pub fills_slots : (whole : List ℕ) (b : ℕ) (ts : Trees) (xs : List ℕ) → length xs ≡ tree_count ts → Fills whole b (slots b ts) xs
 fills_slots whole b ts xs e k lt = inl (slot_due b k ts (omega (arith, lt, e)))
 
 -- elements in a row
-elements_fill : (m : List (List ℕ)) (whole : List ℕ) (deep t b c ds ps d p : ℕ) (es : Trees) → d ≤ ds → p ≤ ps → b + tree_count es * (ds + ps) ≤ length (segment_of m t)
+elements_fill : (m : List (List ℕ)) (whole : List ℕ) (deep t b c ds ps d p : ℕ) (es : Trees) → d ≤ ds → p ≤ ps
+    → b + tree_count es * (ds + ps) ≤ length (segment_of m t)
     → AreElementsLeft m deep t b ds ps d p es → DataAt whole c d p es → Fills whole c (element_slots d p c es) (elements_from m t b ds ps d p (tree_count es))
 elements_fill m whole deep t b c ds ps d p none hd hp h a at k lt = absurd (omega (arith, lt))
 elements_fill m whole deep t b c ds ps d p (more (struct ws us) es) hd hp h a at k lt =
@@ -76,39 +81,42 @@ elements_fill m whole deep t b c ds ps d p (more (struct ws us) es) hd hp h a at
     let l = length-append (words_from m t b d) (words_from m t (b + ds) p) in
     let own : Fills whole c [] (words_from m t b d) = fills_stand whole c (words_from m t b d) (subst (λ xs. StandAt whole c xs) a.0 at.0) in
     let row : Fills whole (c + d) (slots (c + d) us) (words_from m t (b + ds) p) = fills_slots whole (c + d) us (words_from m t (b + ds) p) (y ∙ sym a.1) in
-    fills_join whole c (c + d + p) (words_from m t b d ++ words_from m t (b + ds) p) (elements_from m t (b + ds + ps) ds ps d p (tree_count es)) (slots (c + d) us) (element_slots d p (c + d + p) es)
+    fills_join whole c (c + d + p) (words_from m t b d ++ words_from m t (b + ds) p) (elements_from m t (b + ds + ps) ds ps d p (tree_count es))
+    (slots (c + d) us) (element_slots d p (c + d + p) es)
     (omega (arith, x, y, l))
     (fills_join whole c (c + d) (words_from m t b d) (words_from m t (b + ds) p) [] (slots (c + d) us) (omega (arith, x)) own row)
     (elements_fill m whole deep t (b + ds + ps) (c + d + p) ds ps d p es hd hp (omega (arith, h, e)) a.3 at.1) k lt
-elements_fill m whole deep t b c ds ps d p (more null es) hd hp h a at k lt = absurd a
-elements_fill m whole deep t b c ds ps d p (more (cap i) es) hd hp h a at k lt = absurd a
-elements_fill m whole deep t b c ds ps d p (more (scalars x vs) es) hd hp h a at k lt = absurd a
-elements_fill m whole deep t b c ds ps d p (more (pointers ts) es) hd hp h a at k lt = absurd a
-elements_fill m whole deep t b c ds ps d p (more (structs x y ts) es) hd hp h a at k lt = absurd a
+elements_fill m whole deep t b c ds ps d p (more _ es) hd hp h a at k lt = absurd a
 
 -- what is left of a struct
-pub struct_appended : (m : List (List ℕ)) (deep s w : ℕ) (u : Tree) (t b ds ps d p : ℕ) (old new : List ℕ) → IsStructObject m deep s w u t b ds ps d p
-    → new ≡ old ++ (words_from m t b d ++ words_from m t (b + ds) p) → OwnAppended old new u
-struct_appended m deep s w u t b ds ps d p old new h e = subst (λ (v : Tree). OwnAppended old new v) (sym h.tree) own
+pub struct_appended : (m : List (List ℕ)) (deep s w : ℕ) (u : Tree) (x : Part) (old new : List ℕ) → IsStructObject m deep s w u x
+    → new ≡ old ++ part_words m x → OwnAppended old new u
+struct_appended m deep s w u x old new h e = subst (λ (v : Tree). OwnAppended old new v) (sym h.tree) own
   where
-    x : length (words_from m t b d) ≡ d
-    x = range_length m t b d (omega (arith, h.fewer, h.inside))
+    front : List ℕ
+    front = words_from m x.segment x.start x.data_left
 
-    y : length (words_from m t (b + ds) p) ≡ p
-    y = range_length m t (b + ds) p (omega (arith, h.fewer, h.inside))
+    row : List ℕ
+    row = words_from m x.segment (x.start + x.data_words) x.pointers_left
 
-    z : length h.words ≡ d
-    z = ap length h.data_words ∙ x
+    y : length front ≡ x.data_left
+    y = range_length m x.segment x.start x.data_left (omega (arith, h.fewer, h.found.inside))
+
+    z : length row ≡ x.pointers_left
+    z = range_length m x.segment (x.start + x.data_words) x.pointers_left (omega (arith, h.fewer, h.found.inside))
+
+    l : length h.words ≡ x.data_left
+    l = ap length h.data_words ∙ y
 
     own : OwnAppended old new (struct h.words h.children)
     own = record {
-      words = words_from m t b d ++ words_from m t (b + ds) p;
+      words = front ++ row;
       appended = e;
-      many = let l = length-append (words_from m t b d) (words_from m t (b + ds) p) in omega (arith, l, x, y, z, h.many);
+      many = let a = length-append front row in omega (arith, a, y, z, l, h.many);
       fill = λ whole at.
-          fills_join whole (length old) (length old + length h.words) (words_from m t b d) (words_from m t (b + ds) p) [] (slots (length old + length h.words) h.children) (omega (arith, x, z))
-          (fills_stand whole (length old) (words_from m t b d) (subst (λ xs. StandAt whole (length old) xs) h.data_words at))
-          (fills_slots whole (length old + length h.words) h.children (words_from m t (b + ds) p) (y ∙ sym h.many));
+          fills_join whole (length old) (length old + length h.words) front row [] (slots (length old + length h.words) h.children) (omega (arith, y, l))
+          (fills_stand whole (length old) front (subst (λ xs. StandAt whole (length old) xs) h.data_words at))
+          (fills_slots whole (length old + length h.words) h.children row (z ∙ sym h.many));
     }
 
 -- a list of values
@@ -120,7 +128,13 @@ pub scalars_appended : (m : List (List ℕ)) (s w : ℕ) (u : Tree) (t b c n wor
     → new ≡ old ++ scalar_words c (values_of m t b c n) → OwnAppended old new u
 scalars_appended m s w u t b c n words old new h e =
     subst (λ (v : Tree). OwnAppended old new v) (sym h.tree)
-    (record { words = scalar_words c (values_of m t b c n); appended = e; many = length-scalar_words c (values_of m t b c n); fill = λ whole at. fills_stand whole (length old) (scalar_words c (values_of m t b c n)) at })
+    (record {
+      words = scalar_words c (values_of m t b c n);
+      appended = e;
+      many = length-scalar_words c (values_of m t b c n);
+      fill =
+          λ whole at. fills_stand whole (length old) (scalar_words c (values_of m t b c n)) at;
+    })
 
 -- a list of pointers
 pub pointers_appended : (m : List (List ℕ)) (deep s w : ℕ) (u : Tree) (t b n : ℕ) (old new : List ℕ) → IsPointersObject m deep s w u t b n
@@ -131,33 +145,42 @@ pointers_appended m deep s w u t b n old new h e =
     (record { words = words_from m t b n; appended = e; many = x; fill = λ whole at. fills_slots whole (length old) h.children (words_from m t b n) x })
 
 -- what is left of a list of structs
-pub structs_appended : (m : List (List ℕ)) (deep s w : ℕ) (u : Tree) (t b n ds ps d p : ℕ) (old new : List ℕ) → IsStructsObject m deep s w u t b n ds ps d p
-    → new ≡ (old ++ struct_word n d p ∷ []) ++ elements_from m t (b + 1) ds ps d p n → OwnAppended old new u
-structs_appended m deep s w u t b n ds ps d p old new h e = subst (λ (v : Tree). OwnAppended old new v) (sym h.tree) own
+pub structs_appended : (m : List (List ℕ)) (deep s w : ℕ) (u : Tree) (n : ℕ) (x : Part) (old new : List ℕ) → IsStructsObject m deep s w u n x
+    → new ≡ (old ++ struct_word n x.data_left x.pointers_left ∷ []) ++ parts_words m x n → OwnAppended old new u
+structs_appended m deep s w u n x old new h e = subst (λ (v : Tree). OwnAppended old new v) (sym h.tree) own
   where
-    count : elements_from m t (b + 1) ds ps d p (tree_count h.elements) ≡ elements_from m t (b + 1) ds ps d p n
-    count = ap (elements_from m t (b + 1) ds ps d p) h.many
+    word : List ℕ
+    word = struct_word n x.data_left x.pointers_left ∷ []
 
-    same : tree_count h.elements * (ds + ps) ≡ n * (ds + ps)
-    same = ap (λ k. k * (ds + ps)) h.many
+    count : parts_words m x (tree_count h.elements) ≡ parts_words m x n
+    count = ap (parts_words m x) h.many
 
-    size : tree_count h.elements * (d + p) ≡ n * (d + p)
-    size = ap (λ k. k * (d + p)) h.many
+    inside : x.start + n * (x.data_words + x.pointers) ≤ length (segment_of m x.segment)
+    inside = omega (arith, h.start, h.found.inside)
 
-    l : length (elements_from m t (b + 1) ds ps d p n) ≡ n * (d + p)
-    l = length-elements_from m t (b + 1) ds ps d p n h.fewer.0 h.fewer.1 h.inside
+    same : tree_count h.elements * (x.data_words + x.pointers) ≡ n * (x.data_words + x.pointers)
+    same = ap (λ k. k * (x.data_words + x.pointers)) h.many
 
-    tag : struct_word (tree_count h.elements) d p ≡ struct_word n d p
-    tag = ap (λ k. struct_word k d p) h.many
+    size : tree_count h.elements * (x.data_left + x.pointers_left) ≡ n * (x.data_left + x.pointers_left)
+    size = ap (λ k. k * (x.data_left + x.pointers_left)) h.many
 
-    own : OwnAppended old new (structs d p h.elements)
+    l : length (parts_words m x n) ≡ n * (x.data_left + x.pointers_left)
+    l = length-elements_from m x.segment x.start x.data_words x.pointers x.data_left x.pointers_left n h.fewer.0 h.fewer.1 inside
+
+    tag : struct_word (tree_count h.elements) x.data_left x.pointers_left ≡ struct_word n x.data_left x.pointers_left
+    tag = ap (λ k. struct_word k x.data_left x.pointers_left) h.many
+
+    own : OwnAppended old new (structs x.data_left x.pointers_left h.elements)
     own = record {
-      words = struct_word n d p ∷ elements_from m t (b + 1) ds ps d p n;
-      appended = e ∙ append_assoc old (struct_word n d p ∷ []) (elements_from m t (b + 1) ds ps d p n);
+      words = struct_word n x.data_left x.pointers_left ∷ parts_words m x n;
+      appended = e ∙ append_assoc old word (parts_words m x n);
       many = omega (arith, l, size);
       fill = λ whole at.
-          fills_join whole (length old) (length old + 1) (struct_word n d p ∷ []) (elements_from m t (b + 1) ds ps d p n) [] (element_slots d p (length old + 1) h.elements) (omega arith)
-          (fills_stand whole (length old) (struct_word n d p ∷ []) (subst (λ x. slice_get whole (length old) ≡ Some x) tag at.0, (let i = slice_get_within whole (length old) (struct_word (tree_count h.elements) d p) at.0 in omega (arith, i))))
-          (subst (λ xs. Fills whole (length old + 1) (element_slots d p (length old + 1) h.elements) xs) count
-          (elements_fill m whole deep t (b + 1) (length old + 1) ds ps d p h.elements h.fewer.0 h.fewer.1 (omega (arith, h.inside, same)) h.below at.1));
+          let last = slice_get_within whole (length old) (struct_word (tree_count h.elements) x.data_left x.pointers_left) at.0 in
+          let due = element_slots x.data_left x.pointers_left (length old + 1) h.elements in
+          fills_join whole (length old) (length old + 1) word (parts_words m x n) [] due (omega arith)
+          (fills_stand whole (length old) word (subst (λ y. slice_get whole (length old) ≡ Some y) tag at.0, omega (arith, last)))
+          (subst (λ xs. Fills whole (length old + 1) due xs) count
+          (elements_fill m whole deep x.segment x.start (length old + 1) x.data_words x.pointers x.data_left x.pointers_left h.elements h.fewer.0 h.fewer.1
+          (omega (arith, inside, same)) h.below at.1));
     }

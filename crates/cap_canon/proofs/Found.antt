@@ -11,21 +11,24 @@ use Rattle.cap_spec.proofs.Trees.Charges.{extent_struct, extent_pointers, extent
 use Rattle.cap_spec.proofs.Trees.Finding.{SameObject, one_object}
 use Rattle.cap_spec.proofs.Canonical.TreeMeasures.{extent_scalars}
 use Rattle.cap_spec.proofs.Frames.Messages.{one_word}
-use Rattle.cap_spec.proofs.Trees.OneTree.{HasForm, number_struct, number_list}
+use Rattle.cap_spec.proofs.Trees.OneTree.{HasForm, elements_moved, number_struct, number_list}
 use Rattle.cap_spec.proofs.Paths.Depths.{elements_depth}
-use Rattle.cap_spec.proofs.Canonical.TrimmedMeasures.{children_needed_le, tree_count-take_le}
+use Rattle.cap_spec.proofs.Canonical.TrimmedMeasures.{children_needed_le, tree_count-cut, tree_count-take_le}
+use Rattle.cap_spec.proofs.Canonical.TrimmedTrees.{tree_count-trim_all}
 use Rattle.cap_ptr.specs.Shapes.{FindsObject}
 use Rattle.cap_ptr.specs.declared.shapes.Shape.TheVariants as shape
 use Rattle.cap_canon.specs.Found.{IsStructAt, IsStructsAt}
 use Rattle.cap_canon.specs.Objects.{IsObject}
 use Rattle.cap_canon.specs.Trimming.{most_data}
 use Rattle.cap_canon.specs.declared.objects.Object.TheVariants as object
+use Rattle.cap_canon.specs.declared.objects.Part.{Part}
 use Rattle.cap_canon.proofs.Children.{row_count}
-use Rattle.cap_canon.proofs.Elements.{elements_left, left_take, most_data_of, row_left, trim_all_count, words_left}
-use Rattle.cap_canon.proofs.Trimmed.{children_needed-trim, children_of-trim, data_of-trim, tree_count-cut, tree_count-trim_elements}
+use Rattle.cap_canon.proofs.Elements.{elements_left, left_take, most_data_of, row_left, words_left}
+use Rattle.cap_canon.proofs.Trimmed.{children_needed-trim, children_of-trim, data_of-trim, tree_count-trim_elements}
 
 -- a struct
-pub struct_found : (m : List (List ℕ)) (s w : ℕ) (x : Tree) (c d k t b q tag n charge ds ps : ℕ) → Denotes m s w x c d → FindsObject m s w k t b q tag n charge (shape.Struct ds ps)
+pub struct_found : (m : List (List ℕ)) (s w : ℕ) (x : Tree) (c d k t b q tag n charge ds ps : ℕ) → Denotes m s w x c d
+    → FindsObject m s w k t b q tag n charge (shape.Struct ds ps)
     → IsStructAt m s w t b ds ps x d
 struct_found m s w x c d k t b q tag n charge ds ps h f = go x form h
   where
@@ -40,13 +43,15 @@ struct_found m s w x c d k t b q tag n charge ds ps h f = go x form h
         let x : data_size h.3 ≡ ds = ap data_size o.shape ∙ sym f.object.shape.data_words in
         let y : pointer_size h.3 ≡ ps = ap pointer_size o.shape ∙ sym f.object.shape.pointers in
         let e : places h.1 (h.2 + data_size h.3) (pointer_size h.3) ≡ places t (b + ds) ps = rw (o.segment, o.start, x, y) refl in record {
-          k = k;
-          q = q;
-          finds = f.finds;
-          kind = f.object.shape.kind;
-          sizes = (f.object.shape.data_words, f.object.shape.pointers);
-          exists = f.finds.sits.exists;
-          inside = omega (arith, f.finds.sits.inside, extent_struct q f.object.shape.kind, f.object.shape.data_words, f.object.shape.pointers);
+          found = record {
+            k = k;
+            q = q;
+            finds = f.finds;
+            kind = f.object.shape.kind;
+            sizes = (f.object.shape.data_words, f.object.shape.pointers);
+            exists = f.finds.sits.exists;
+            inside = omega (arith, f.finds.sits.inside, extent_struct q f.object.shape.kind, f.object.shape.data_words, f.object.shape.pointers);
+          };
           words = ws;
           children = ts;
           inner = h.4;
@@ -61,28 +66,26 @@ struct_found m s w x c d k t b q tag n charge ds ps h f = go x form h
     go (structs y z es) g h = absurd (omega (arith, g))
 
 -- as it is trimmed
-pub struct_object : (m : List (List ℕ)) (s w t b ds ps d kept_words kept : ℕ) (x : Tree) → IsStructAt m s w t b ds ps x d → kept_words ≡ max 0 (data_needed (words_from m t b ds)) → kept_words ≤ ds
-    → ((ts : Trees) (c d' : ℕ) → DenoteEach m (places t (b + ds) ps) ts c d' → kept ≡ max 0 (children_needed ts)) → kept ≤ ps
-    → IsObject m d s w (trim x) (object.Struct t b ds ps kept_words kept)
-struct_object m s w t b ds ps d kept_words kept x k e dle f cle =
-    let need : kept_words ≡ data_needed k.words = omega (arith, e, ap data_needed k.data_words) in
-    let left : kept ≡ children_needed (trim_all k.children) = omega (arith, f k.children k.inner k.deep k.below, children_needed-trim k.children) in (
+pub struct_object : (m : List (List ℕ)) (s w d : ℕ) (p : Part) (x : Tree) → IsStructAt m s w p.segment p.start p.data_words p.pointers x d
+    → p.data_left ≡ max 0 (data_needed (words_from m p.segment p.start p.data_words)) → p.data_left ≤ p.data_words
+    → ((ts : Trees) (c d' : ℕ) → DenoteEach m (places p.segment (p.start + p.data_words) p.pointers) ts c d' → p.pointers_left ≡ max 0 (children_needed ts))
+    → p.pointers_left ≤ p.pointers → IsObject m d s w (trim x) (object.Struct p)
+struct_object m s w d p x k e dle f cle =
+    let us = trim_all k.children in
+    let need : p.data_left ≡ data_needed k.words = omega (arith, e, ap data_needed k.data_words) in
+    let left : p.pointers_left ≡ children_needed us = omega (arith, f k.children k.inner k.deep k.below, children_needed-trim k.children) in
+    let row = row_left m p.segment (p.start + p.data_words) p.pointers k.deep k.children k.inner k.deep k.below (omega arith) in (
       k.deep,
       k.levels,
       record {
-        k = k.k;
-        q = k.q;
-        finds = k.finds;
-        kind = k.kind;
-        sizes = k.sizes;
+        found = k.found;
         words = take (data_needed k.words) k.words;
-        children = take_trees (children_needed (trim_all k.children)) (trim_all k.children);
+        children = take_trees (children_needed us) us;
         tree = ap trim k.tree;
-        data_words = ap (λ n. take n k.words) (sym need) ∙ words_left m t b ds kept_words k.words k.data_words dle;
-        many = tree_count-take_le (children_needed (trim_all k.children)) (trim_all k.children) (children_needed_le (trim_all k.children)) ∙ sym left;
+        data_words = ap (λ n. take n k.words) (sym need) ∙ words_left m p.segment p.start p.data_words p.data_left k.words k.data_words dle;
+        many = tree_count-take_le (children_needed us) us (children_needed_le us) ∙ sym left;
         fewer = (dle, cle);
-        inside = k.inside;
-        below = left_take m k.deep t (b + ds) (children_needed (trim_all k.children)) (trim_all k.children) (row_left m t (b + ds) ps k.deep k.children k.inner k.deep k.below (omega arith));
+        below = left_take m k.deep p.segment (p.start + p.data_words) (children_needed us) us row;
       },
     )
 
@@ -98,7 +101,8 @@ scalars_object m s w x c d k t b q tag words charge code' count h f = go x form 
     small = omega (arith, f.object.shape.code, f.object.shape.scalar)
 
     extent_is : words ≡ list_words code' count
-    extent_is = f.object.words ∙ (extent_scalars q code' f.object.shape.kind f.object.shape.code f.object.shape.scalar ∙ ap (list_words code') (sym f.object.shape.count))
+    extent_is = f.object.words ∙ (extent_scalars q code' f.object.shape.kind f.object.shape.code f.object.shape.scalar
+        ∙ ap (list_words code') (sym f.object.shape.count))
 
     go : (x : Tree) → HasForm x (3 + code q) → Denotes m s w x c d → IsObject m d s w (trim x) (object.Scalars t b code' count words)
     go null g h = absurd (omega (arith, g))
@@ -132,7 +136,8 @@ pub pointers_object : (m : List (List ℕ)) (s w : ℕ) (x : Tree) (c d k t b q 
 pointers_object m s w x c d k t b q tag words charge count h f = go x form h
   where
     form : HasForm x 9
-    form = subst (HasForm x) (number_list (kind q) (code q) f.object.shape.kind ∙ ap (λ n. 3 + n) f.object.shape.code) (found_form m s w x c d k t b q h f.finds)
+    form = subst (HasForm x) (number_list (kind q) (code q) f.object.shape.kind ∙ ap (λ n. 3 + n) f.object.shape.code)
+        (found_form m s w x c d k t b q h f.finds)
 
     go : (x : Tree) → HasForm x 9 → Denotes m s w x c d → IsObject m d s w (trim x) (object.Pointers t b count)
     go null g h = absurd (omega (arith, g))
@@ -155,7 +160,7 @@ pointers_object m s w x c d k t b q tag words charge count h f = go x form h
             count = f.object.shape.count;
             children = trim_all ts;
             tree = refl;
-            many = trim_all_count ts ∙ row_count m t b count ts h.4 h.5 row;
+            many = tree_count-trim_all ts ∙ row_count m t b count ts h.4 h.5 row;
             inside = omega (arith, f.finds.sits.inside, extent_pointers q f.object.shape.kind f.object.shape.code, f.object.shape.count);
             below = row_left m t b count h.5 ts h.4 h.5 row (omega arith);
           },
@@ -163,22 +168,19 @@ pointers_object m s w x c d k t b q tag words charge count h f = go x form h
     go (structs y z es) g h = absurd (omega (arith, g))
 
 -- a list of structs
-elements_there : (m : List (List ℕ)) (es : Trees) (t x ds ps n c d t' x' ds' ps' n' : ℕ) → t ≡ t' → x ≡ x' → ds ≡ ds' → ps ≡ ps' → n ≡ n'
-    → AreElements m t' x' ds' ps' n' es c d → AreElements m t x ds ps n es c d
-elements_there m es t x ds ps n c d t' x' ds' ps' n' e1 e2 e3 e4 e5 h = rw (e1, e2, e3, e4, e5) h
-
 pub structs_found : (m : List (List ℕ)) (s w : ℕ) (x : Tree) (c d k t b q tag words charge size n ds ps : ℕ) → Denotes m s w x c d
     → FindsObject m s w k t b q tag words charge (shape.Structs size n ds ps) → IsStructsAt m s w t b n ds ps x d
 structs_found m s w x c d k t b q tag words charge size n ds ps h f = go x form h
   where
     form : HasForm x 10
-    form = subst (HasForm x) (number_list (kind q) (code q) f.object.shape.kind ∙ ap (λ i. 3 + i) f.object.shape.code) (found_form m s w x c d k t b q h f.finds)
+    form = subst (HasForm x) (number_list (kind q) (code q) f.object.shape.kind ∙ ap (λ i. 3 + i) f.object.shape.code)
+        (found_form m s w x c d k t b q h f.finds)
 
     tagged : HasWord m t b tag × TagFits tag (list_size q)
     tagged = f.object.tagged (f.object.shape.kind, f.object.shape.code)
 
-    room : n * (ds + ps) ≤ list_size q
-    room = rw (f.object.shape.count, f.object.shape.data_words, f.object.shape.pointers) tagged.1.1
+    fits : n * (ds + ps) ≤ list_size q
+    fits = rw (f.object.shape.count, f.object.shape.data_words, f.object.shape.pointers) tagged.1.1
 
     go : (x : Tree) → HasForm x 10 → Denotes m s w x c d → IsStructsAt m s w t b n ds ps x d
     go null g h = absurd (omega (arith, g))
@@ -192,51 +194,53 @@ structs_found m s w x c d k t b q tag words charge size n ds ps h f = go x form 
         let dsame : ds ≡ y = f.object.shape.data_words ∙ (ap data_size same ∙ sym h.7.data_sizes) in
         let psame : ps ≡ z = f.object.shape.pointers ∙ (ap pointer_size same ∙ sym h.7.pointer_sizes) in
         let nsame : n ≡ middle h.4 = f.object.shape.count ∙ ap middle same in record {
-          k = k;
-          q = q;
-          tag = tag;
-          finds = f.finds;
-          kind = f.object.shape.kind;
-          code = f.object.shape.code;
-          has_tag = tagged.0;
-          count = f.object.shape.count;
-          sizes = (f.object.shape.data_words, f.object.shape.pointers);
-          room = room;
-          exists = f.finds.sits.exists;
-          inside = omega (arith, room, f.finds.sits.inside, extent_structs q f.object.shape.kind f.object.shape.code);
+          found = record {
+            k = k;
+            q = q;
+            tag = tag;
+            finds = f.finds;
+            kind = f.object.shape.kind;
+            code = f.object.shape.code;
+            has_tag = tagged.0;
+            count = f.object.shape.count;
+            sizes = (f.object.shape.data_words, f.object.shape.pointers);
+            fits = fits;
+            exists = f.finds.sits.exists;
+            inside = omega (arith, fits, f.finds.sits.inside, extent_structs q f.object.shape.kind f.object.shape.code);
+          };
           elements = es;
           inner = h.5;
           deep = h.6;
           tree = rw (dsame, psame) refl;
-          below = elements_there m es t (b + 1) ds ps n h.5 h.6 h.1 (h.2 + 1) y z (middle h.4) (sym o.segment) (ap (λ i. i + 1) (sym o.start)) dsame psame nsame h.8;
+          below = elements_moved m es t (b + 1) ds ps n h.5 h.6 h.1 (h.2 + 1) y z (middle h.4) (sym o.segment)
+              (ap (λ i. i + 1) (sym o.start)) dsame psame nsame h.8;
           levels = omega (arith, h.7.depth);
         }
 
-pub structs_object : (m : List (List ℕ)) (s w t b n ds ps d kept_words kept : ℕ) (x : Tree) → IsStructsAt m s w t b n ds ps x d → kept_words ≡ most_data m t (b + 1) ds ps n → kept_words ≤ ds
-    → ((es : Trees) (c d' : ℕ) → AreElements m t (b + 1) ds ps n es c d' → kept ≡ children_of es) → kept ≤ ps
-    → IsObject m d s w (trim x) (object.Structs t b n ds ps kept_words kept)
-structs_object m s w t b n ds ps d kept_words kept x k e dle f cle =
+pub structs_object : (m : List (List ℕ)) (s w b n d : ℕ) (p : Part) (x : Tree) → p.start ≡ b + 1 → IsStructsAt m s w p.segment b n p.data_words p.pointers x d
+    → p.data_left ≡ most_data m p.segment p.start p.data_words p.pointers n → p.data_left ≤ p.data_words
+    → ((es : Trees) (c d' : ℕ) → AreElements m p.segment p.start p.data_words p.pointers n es c d' → p.pointers_left ≡ children_of es)
+    → p.pointers_left ≤ p.pointers
+    → IsObject m d s w (trim x) (object.Structs n p)
+structs_object m s w b n d p x at k e dle f cle =
     let us = trim_elements k.elements in
-    let need : data_of us ≡ kept_words = data_of-trim k.elements ∙ (sym (most_data_of m t (b + 1) ds ps n k.elements k.inner k.deep k.below) ∙ sym e) in
-    let left : children_of us ≡ kept = children_of-trim k.elements ∙ sym (f k.elements k.inner k.deep k.below) in (
+    let all : AreElements m p.segment p.start p.data_words p.pointers n k.elements k.inner k.deep =
+    subst (λ i. AreElements m p.segment i p.data_words p.pointers n k.elements k.inner k.deep) (sym at) k.below in
+    let most = most_data_of m p.segment p.start p.data_words p.pointers n k.elements k.inner k.deep all in
+    let need : data_of us ≡ p.data_left = data_of-trim k.elements ∙ (sym most ∙ sym e) in
+    let left : children_of us ≡ p.pointers_left = children_of-trim k.elements ∙ sym (f k.elements k.inner k.deep all) in
+    let count = sym (elements_depth m p.segment p.start p.data_words p.pointers n k.elements k.inner k.deep all).0 in (
       k.deep,
       k.levels,
       record {
-        k = k.k;
-        q = k.q;
-        tag = k.tag;
-        finds = k.finds;
-        kind = k.kind;
-        code = k.code;
-        has_tag = k.has_tag;
-        count = k.count;
-        sizes = k.sizes;
-        room = k.room;
-        elements = cut_elements kept_words kept us;
+        b = b;
+        start = at;
+        found = k.found;
+        elements = cut_elements p.data_left p.pointers_left us;
         tree = ap trim k.tree ∙ rw (need, left) refl;
-        many = tree_count-cut kept_words kept us ∙ (tree_count-trim_elements k.elements ∙ sym (elements_depth m t (b + 1) ds ps n k.elements k.inner k.deep k.below).0);
+        many = tree_count-cut p.data_left p.pointers_left us ∙ (tree_count-trim_elements k.elements ∙ count);
         fewer = (dle, cle);
-        inside = k.inside;
-        below = elements_left m t (b + 1) ds ps n kept_words kept k.deep k.elements k.inner k.deep dle cle k.below (omega arith);
+        below = elements_left m p.segment p.start p.data_words p.pointers n p.data_left p.pointers_left k.deep k.elements k.inner k.deep dle cle all
+            (omega arith);
       },
     )

@@ -3,10 +3,11 @@ use Rattle.std.proofs.Common.{ℕ, zero, suc, ◌+◌, ◌<◌, List, [], ◌∷
 use Rattle.std.specs.List.{AllByRecursion}
 use Rattle.std.specs.Option.{option_to_list}
 use Rattle.cap_spec.proofs.Bytes.Lists.{all_append, all_back}
-use Rattle.cap_canon.specs.CopyFrames.{IsRest, Place, all_places, further_places, option_places, places_of, row_places}
+use Rattle.cap_canon.specs.CopyRuns.{IsRest, all_places, further_places, option_places, place, places_of, row_places}
 use Rattle.cap_canon.specs.InPlace.{AreInPlace, IsInPlace}
-use Rattle.cap_canon.specs.declared.frame.Frame.{Frame}
-use Rattle.cap_canon.proofs.Frames.{all_places-append, option_all_places}
+use Rattle.cap_canon.specs.declared.run.CopyRun.{CopyRun}
+use Rattle.cap_canon.specs.declared.run.PointerPlace.{PointerPlace}
+use Rattle.cap_canon.proofs.Runs.{all_places-append, option_all_places}
 
 -- words in a row
 pub row_in_place : (t b a n : ℕ) → (0 < n → (t ≡ 0) × (b ≡ a)) → AllByRecursion IsInPlace (row_places t b a n)
@@ -18,28 +19,34 @@ pub further_in_place : (t b a skip gap p n : ℕ) → t ≡ 0 → b ≡ a → sk
 further_in_place t b a skip gap p zero s e g = tt
 further_in_place t b a skip gap p (suc n) s e g =
     all_append IsInPlace (row_places t (b + skip) (a + gap) p) (further_places t (b + skip + p) (a + gap + p) skip gap p n)
-    (row_in_place t (b + skip) (a + gap) p (λ some. (s, omega (arith, e, g)))) (further_in_place t (b + skip + p) (a + gap + p) skip gap p n s (omega (arith, e, g)) g)
+    (row_in_place t (b + skip) (a + gap) p (λ some. (s, omega (arith, e, g))))
+    (further_in_place t (b + skip + p) (a + gap + p) skip gap p n s (omega (arith, e, g)) g)
 
 -- those of all elements
-pub elements_in_place : (t b a left skip gap p n : ℕ) → t ≡ 0 → b ≡ a → skip ≡ gap → AllByRecursion IsInPlace (row_places t b a left ++ further_places t (b + left) (a + left) skip gap p n)
+pub elements_in_place : (t b a left skip gap p n : ℕ) → t ≡ 0 → b ≡ a → skip ≡ gap
+    → AllByRecursion IsInPlace (row_places t b a left ++ further_places t (b + left) (a + left) skip gap p n)
 elements_in_place t b a left skip gap p n s e g =
     all_append IsInPlace (row_places t b a left) (further_places t (b + left) (a + left) skip gap p n)
     (row_in_place t b a left (λ some. (s, e))) (further_in_place t (b + left) (a + left) skip gap p n s (omega (arith, e)) g)
 
-all_front : (xs ys : List Place) → AllByRecursion IsInPlace (xs ++ ys) → AllByRecursion IsInPlace xs
+all_front : (xs ys : List PointerPlace) → AllByRecursion IsInPlace (xs ++ ys) → AllByRecursion IsInPlace xs
 all_front [] ys a = tt
 all_front (x ∷ xs) ys a = (a.0, all_front xs ys a.1)
 
--- one frame more, where there is one
-pub entered_in_place : (frames : List Frame) (r : Option Frame) → AreInPlace frames → AllByRecursion IsInPlace (option_places r) → AreInPlace (frames ++ option_to_list r)
-entered_in_place frames r a b =
-    subst (λ ps. AllByRecursion IsInPlace ps) (sym (all_places-append frames (option_to_list r)))
-    (all_append IsInPlace (all_places frames) (all_places (option_to_list r)) a (subst (λ ps. AllByRecursion IsInPlace ps) (sym (option_all_places r)) b))
+-- one run more, where there is one
+pub entered_in_place : (runs : List CopyRun) (r : Option CopyRun) → AreInPlace runs → AllByRecursion IsInPlace (option_places r)
+    → AreInPlace (runs ++ option_to_list r)
+entered_in_place runs r a b =
+    subst (λ ps. AllByRecursion IsInPlace ps) (sym (all_places-append runs (option_to_list r)))
+    (all_append IsInPlace (all_places runs) (all_places (option_to_list r)) a (subst (λ ps. AllByRecursion IsInPlace ps) (sym (option_all_places r)) b))
 
--- the first word of the topmost frame, and the rest
-pub taken_in_place : (frames : List Frame) (f : Frame) (r : Option Frame) → IsRest f r → AreInPlace (frames ++ f ∷ []) → IsInPlace (f.segment, f.at, f.slot) × AreInPlace (frames ++ option_to_list r)
-taken_in_place frames f r rest a =
-    let both : AllByRecursion IsInPlace (all_places frames ++ all_places (f ∷ [])) = subst (λ ps. AllByRecursion IsInPlace ps) (all_places-append frames (f ∷ [])) a in
-    let top : AllByRecursion IsInPlace (places_of f) = subst (λ ps. AllByRecursion IsInPlace ps) (option_all_places (Some f)) (all_back IsInPlace (all_places frames) (all_places (f ∷ [])) both) in
-    let first : AllByRecursion IsInPlace ((f.segment, f.at, f.slot) ∷ option_places r) = subst (λ ps. AllByRecursion IsInPlace ps) rest.words top in
-    (first.0, entered_in_place frames r (all_front (all_places frames) (all_places (f ∷ [])) both) first.1)
+-- the first word of the topmost run, and the rest
+pub taken_in_place : (runs : List CopyRun) (f : CopyRun) (r : Option CopyRun) → IsRest f r → AreInPlace (runs ++ f ∷ [])
+    → IsInPlace (place f.segment f.at f.slot) × AreInPlace (runs ++ option_to_list r)
+taken_in_place runs f r rest a =
+    let both : AllByRecursion IsInPlace (all_places runs ++ all_places (f ∷ [])) =
+    subst (λ ps. AllByRecursion IsInPlace ps) (all_places-append runs (f ∷ [])) a in
+    let top : AllByRecursion IsInPlace (places_of f) = subst (λ ps. AllByRecursion IsInPlace ps) (option_all_places (Some f))
+    (all_back IsInPlace (all_places runs) (all_places (f ∷ [])) both) in
+    let first : AllByRecursion IsInPlace (place f.segment f.at f.slot ∷ option_places r) = subst (λ ps. AllByRecursion IsInPlace ps) rest.words top in
+    (first.0, entered_in_place runs r (all_front (all_places runs) (all_places (f ∷ [])) both) first.1)

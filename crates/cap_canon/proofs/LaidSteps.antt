@@ -5,21 +5,12 @@ use Rattle.std.specs.Prelude.{Some, slice_get}
 use Rattle.cap_spec.specs.Tree.{Tree, null, cap, struct, scalars, pointers, structs, Trees, none, more, tree_count}
 use Rattle.cap_spec.specs.Canonical.{struct_word, size, sizes, element_sizes, contents, element_contents, pointer_words, element_words}
 use Rattle.cap_spec.specs.Placing.{StandAt}
+use Rattle.cap_spec.proofs.Canonical.ElementPlaces.{children_begin, element_end, rest_begin}
 use Rattle.cap_spec.proofs.Canonical.Placing.{stand_front, stand_back}
 use Rattle.cap_spec.proofs.Canonical.TreeMeasures.{Fits, FitElements}
 use Rattle.cap_spec.proofs.Canonical.Sizes.{length-contents, length-pointer_words, length-element_words}
 use Rattle.cap_canon.specs.Laying.{Due, Laid, IsPointed, OwnAt, slots, element_slots, DataAt, own_size, below}
 use Rattle.cap_canon.proofs.Laying.{stand_join, laid_inside, row_due, due_row}
-
--- where the contents of the first element's children stand, and those of the others
-first_after : (c b n d p k after : ℕ) → c ≡ b + suc n * (d + p) + after → k ≡ p → c ≡ b + d + k + (n * (d + p) + after)
-first_after c b n d p k after e f = omega arith
-
-others_after : (c b n d p after s : ℕ) → c ≡ b + suc n * (d + p) + after → c + s ≡ b + d + p + n * (d + p) + (after + s)
-others_after c b n d p after s e = omega arith
-
-element_ends : (b d p : ℕ) (ws pw : List ℕ) (k : ℕ) → length ws ≡ d → length pw ≡ k → k ≡ p → b + d + p ≡ b + length (ws ++ pw)
-element_ends b d p ws pw k e f g = let a = length-append ws pw in omega (arith, a, e, f, g)
 
 -- elements in a row, and the contents behind them
 pub elements_due : (words : List ℕ) (d p b c after : ℕ) (es : Trees) (due : List Due) → c ≡ b + tree_count es * (d + p) + after → FitElements d p es
@@ -34,18 +25,15 @@ elements_due words d p b c after (more (struct ws ts) es) due e f sp sc l =
     let below : StandAt words (b + d) pw = stand_back words b (b + d) ws pw (ap (λ n. b + n) (sym f.0)) front in
     let i : c + element_sizes (more (struct ws ts) es) ≡ c + sizes ts + element_sizes es = omega arith in
     let r = elements_due words d p (b + d + p) (c + sizes ts) (after + sizes ts) es due
-    (others_after c b (tree_count es) d p after (sizes ts) e) f.3
-    (stand_back words b (b + d + p) (ws ++ pw) ew (element_ends b d p ws pw (tree_count ts) f.0 (length-pointer_words (tree_count es * (d + p) + after) ts) f.1) sp)
+    (rest_begin c b (tree_count es) d p after (sizes ts) e) f.3
+    (stand_back words b (b + d + p) (ws ++ pw) ew (element_end b d p ws pw (tree_count ts) f.0
+    (length-pointer_words (tree_count es * (d + p) + after) ts) f.1) sp)
     (stand_back words c (c + sizes ts) (contents ts) (element_contents es) (ap (λ n. c + n) (sym (length-contents ts f.2))) sc)
     (subst (λ n. Laid words n due) i l) in
     let row = row_due words (b + d) c (tree_count es * (d + p) + after) ts (element_slots d p (b + d + p) es ++ due)
-    (first_after c b (tree_count es) d p (tree_count ts) after e f.1) f.2 below (stand_front words c (contents ts) (element_contents es) sc) r.1 in
+    (children_begin c b (tree_count es) d p (tree_count ts) after e f.1) f.2 below (stand_front words c (contents ts) (element_contents es) sc) r.1 in
     ((own, r.0), subst (λ xs. Laid words c xs) (sym (append_assoc (slots (b + d) ts) (element_slots d p (b + d + p) es) due)) row)
-elements_due words d p b c after (more null es) due e f sp sc l = absurd f
-elements_due words d p b c after (more (cap i) es) due e f sp sc l = absurd f
-elements_due words d p b c after (more (scalars x vs) es) due e f sp sc l = absurd f
-elements_due words d p b c after (more (pointers ts) es) due e f sp sc l = absurd f
-elements_due words d p b c after (more (structs x y ts) es) due e f sp sc l = absurd f
+elements_due words d p b c after (more _ es) due e f sp sc l = absurd f
 
 -- the parts of elements that are laid
 pub record ElementsLaid (words : List ℕ) (each b c after : ℕ) (es : Trees) (due : List Due) : Type 0 where
@@ -61,20 +49,18 @@ due_elements words d p b c after (more (struct ws ts) es) due e f da l =
     let pw = pointer_words (tree_count es * (d + p) + after) ts in
     let ew = element_words (d + p) (after + sizes ts) es in
     let first = due_row words (b + d) c (tree_count es * (d + p) + after) ts (element_slots d p (b + d + p) es ++ due)
-    (first_after c b (tree_count es) d p (tree_count ts) after e f.1) f.2
+    (children_begin c b (tree_count es) d p (tree_count ts) after e f.1) f.2
     (subst (λ xs. Laid words c xs) (append_assoc (slots (b + d) ts) (element_slots d p (b + d + p) es) due) l) in
-    let r = due_elements words d p (b + d + p) (c + sizes ts) (after + sizes ts) es due (others_after c b (tree_count es) d p after (sizes ts) e) f.3 da.1 first.rest in
+    let r = due_elements words d p (b + d + p) (c + sizes ts) (after + sizes ts) es due
+    (rest_begin c b (tree_count es) d p after (sizes ts) e) f.3 da.1 first.rest in
     let i : c + sizes ts + element_sizes es ≡ c + element_sizes (more (struct ws ts) es) = omega arith in
     let own : StandAt words b (ws ++ pw) = stand_join words b (b + d) ws pw (ap (λ n. b + n) (sym f.0)) da.0 first.row in record {
-      row = stand_join words b (b + d + p) (ws ++ pw) ew (element_ends b d p ws pw (tree_count ts) f.0 (length-pointer_words (tree_count es * (d + p) + after) ts) f.1) own r.row;
+      row = stand_join words b (b + d + p) (ws ++ pw) ew (element_end b d p ws pw (tree_count ts) f.0
+          (length-pointer_words (tree_count es * (d + p) + after) ts) f.1) own r.row;
       below = stand_join words c (c + sizes ts) (contents ts) (element_contents es) (ap (λ n. c + n) (sym (length-contents ts f.2))) first.below r.below;
       rest = subst (λ n. Laid words n due) i r.rest;
     }
-due_elements words d p b c after (more null es) due e f da l = absurd f
-due_elements words d p b c after (more (cap i) es) due e f da l = absurd f
-due_elements words d p b c after (more (scalars x vs) es) due e f da l = absurd f
-due_elements words d p b c after (more (pointers ts) es) due e f da l = absurd f
-due_elements words d p b c after (more (structs x y ts) es) due e f da l = absurd f
+due_elements words d p b c after (more _ es) due e f da l = absurd f
 
 -- A struct: its pointer, its data words, and then its children are due.
 pub struct_laid : (words : List ℕ) (end slot : ℕ) (ws : List ℕ) (ts : Trees) (due : List Due) → Fits (struct ws ts)
@@ -91,7 +77,8 @@ struct_laid words end slot ws ts due f = (to, from)
           (offset, e, p),
           stand_front words end ws pw front,
           row_due words (end + length ws) (end + length ws + tree_count ts) 0 ts due (omega arith) f.2 (stand_back words end (end + length ws) ws pw refl front)
-              (stand_back words end (end + length ws + tree_count ts) (ws ++ pw) (contents ts) (element_ends end (length ws) (tree_count ts) ws pw (tree_count ts) refl (length-pointer_words 0 ts) refl) s)
+              (stand_back words end (end + length ws + tree_count ts) (ws ++ pw) (contents ts)
+              (element_end end (length ws) (tree_count ts) ws pw (tree_count ts) refl (length-pointer_words 0 ts) refl) s)
               (subst (λ n. Laid words n due) i l),
         )
 
@@ -104,7 +91,8 @@ struct_laid words end slot ws ts due f = (to, from)
           offset,
           e,
           p,
-          stand_join words end (end + length ws + tree_count ts) (ws ++ pw) (contents ts) (element_ends end (length ws) (tree_count ts) ws pw (tree_count ts) refl (length-pointer_words 0 ts) refl)
+          stand_join words end (end + length ws + tree_count ts) (ws ++ pw) (contents ts)
+              (element_end end (length ws) (tree_count ts) ws pw (tree_count ts) refl (length-pointer_words 0 ts) refl)
               (stand_join words end (end + length ws) ws pw refl own r.row) r.below,
           subst (λ n. Laid words n due) i r.rest,
         )
@@ -133,7 +121,8 @@ structs_laid words end slot d p es due f = (to, from)
         let n : length ew ≡ tree_count es * (d + p) = length-element_words (d + p) 0 d p es f.4 in
         let r = elements_due words d p (end + 1) (end + 1 + tree_count es * (d + p)) 0 es due (no_more (end + 1 + tree_count es * (d + p))) f.4
         (stand_front words (end + 1) ew (element_contents es) s.1)
-        (stand_back words (end + 1) (end + 1 + tree_count es * (d + p)) ew (element_contents es) (structs_behind end (tree_count es * (d + p)) (length ew) n) s.1)
+        (stand_back words (end + 1) (end + 1 + tree_count es * (d + p)) ew (element_contents es)
+        (structs_behind end (tree_count es * (d + p)) (length ew) n) s.1)
         (subst (λ x. Laid words x due) (sym (structs_rest end (tree_count es * (d + p)) (element_sizes es))) l) in
         ((offset, e, q), s.0, r.0, r.1)
 
@@ -147,7 +136,11 @@ structs_laid words end slot d p es due f = (to, from)
           offset,
           e,
           q,
-          (tag, stand_join words (end + 1) (end + 1 + tree_count es * (d + p)) ew (element_contents es) (structs_behind end (tree_count es * (d + p)) (length ew) n) r.row r.below),
+          (
+            tag,
+            stand_join words (end + 1) (end + 1 + tree_count es * (d + p)) ew (element_contents es)
+                (structs_behind end (tree_count es * (d + p)) (length ew) n) r.row r.below,
+          ),
           subst (λ x. Laid words x due) (structs_rest end (tree_count es * (d + p)) (element_sizes es)) r.rest,
         )
 
@@ -160,7 +153,8 @@ pointers_laid words end slot ts due f = (to, from)
     behind : end + tree_count ts ≡ end + length (pointer_words 0 ts)
     behind = omega (arith, length-pointer_words 0 ts)
 
-    to : Laid words end (record { slot = slot; tree = pointers ts } ∷ due) → IsPointed words end slot (pointers ts) × Laid words (end + tree_count ts) (slots end ts ++ due)
+    to : Laid words end (record { slot = slot; tree = pointers ts } ∷ due)
+        → IsPointed words end slot (pointers ts) × Laid words (end + tree_count ts) (slots end ts ++ due)
     to (offset, e, p, s, l) =
         let i : end + size (pointers ts) ≡ end + tree_count ts + sizes ts = omega arith in (
           (offset, e, p),
@@ -168,11 +162,17 @@ pointers_laid words end slot ts due f = (to, from)
               (stand_back words end (end + tree_count ts) (pointer_words 0 ts) (contents ts) behind s) (subst (λ n. Laid words n due) i l),
         )
 
-    from : IsPointed words end slot (pointers ts) × Laid words (end + tree_count ts) (slots end ts ++ due) → Laid words end (record { slot = slot; tree = pointers ts } ∷ due)
+    from : IsPointed words end slot (pointers ts) × Laid words (end + tree_count ts) (slots end ts ++ due)
+        → Laid words end (record { slot = slot; tree = pointers ts } ∷ due)
     from ((offset, e, p), l) =
         let r = due_row words end (end + tree_count ts) 0 ts due (omega arith) f.1 l in
-        let i : end + tree_count ts + sizes ts ≡ end + size (pointers ts) = omega arith in
-        (offset, e, p, stand_join words end (end + tree_count ts) (pointer_words 0 ts) (contents ts) behind r.row r.below, subst (λ n. Laid words n due) i r.rest)
+        let i : end + tree_count ts + sizes ts ≡ end + size (pointers ts) = omega arith in (
+          offset,
+          e,
+          p,
+          stand_join words end (end + tree_count ts) (pointer_words 0 ts) (contents ts) behind r.row r.below,
+          subst (λ n. Laid words n due) i r.rest,
+        )
 
 -- no words more
 same_end : (words : List ℕ) (end n : ℕ) (due : List Due) → n ≡ 0 → Laid words (end + n) due → Laid words end due
@@ -186,7 +186,8 @@ sum_three end n = omega arith
 
 -- One object: its pointer, its own words, and then what is below it is due.
 pub object_laid : (words : List ℕ) (end slot : ℕ) (u : Tree) (due : List Due) → Fits u
-    → Laid words end (record { slot = slot; tree = u } ∷ due) ↔ (IsPointed words end slot u × OwnAt words end u × Laid words (end + own_size u) (below end u ++ due))
+    → Laid words end (record { slot = slot; tree = u } ∷ due) ↔
+    (IsPointed words end slot u × OwnAt words end u × Laid words (end + own_size u) (below end u ++ due))
 object_laid words end slot null due f = (
   λ h. ((h.0, h.1, h.2), tt, h.4),
   λ h. (h.0.0, h.0.1, h.0.2, laid_inside words end due (same_end words end 0 due refl h.2), h.2),

@@ -1,4 +1,5 @@
 mod Agreeing
+mod Buffers
 mod CheckWalks
 mod Children
 pub mod Copies
@@ -6,8 +7,8 @@ mod CopyWalks
 mod Elements
 mod Entering
 mod Filling
+pub mod FirstWords
 mod Found
-mod Frames
 mod InPlace
 mod Kept
 mod LaidSteps
@@ -18,9 +19,9 @@ mod Needed
 mod Owing
 mod PointerForms
 mod Ranges
-mod Rooms
-pub mod SpelledWords
+mod Runs
 mod Standing
 mod Structs
 mod Trimmed
+mod Walks
 mod Whole

@@ -12,7 +12,8 @@ use Rattle.cap_spec.proofs.Trees.DenotedTrees.{range_length}
 use Rattle.cap_canon.specs.Trimming.{most_data}
 
 -- a word that isn't zero is needed
-first_needed : (n x : ℕ) → x ≢ 0 → (((n == 0) ≡ true) × (n ≡ 0)) ⊎ (((n == 0) ≡ false) × (n ≡ 0 → ⊥)) → (((x == 0) ≡ true) × (x ≡ 0)) ⊎ (((x == 0) ≡ false) × (x ≡ 0 → ⊥))
+first_needed : (n x : ℕ) → x ≢ 0 → (((n == 0) ≡ true) × (n ≡ 0)) ⊎ (((n == 0) ≡ false) × (n ≡ 0 → ⊥))
+    → (((x == 0) ≡ true) × (x ≡ 0)) ⊎ (((x == 0) ≡ false) × (x ≡ 0 → ⊥))
     → 1 ≤ (if n == 0 then (if x == 0 then 0 else 1) else suc n)
 first_needed n x h (inl a) (inl b) = absurd (h b.1)
 first_needed n x h (inl a) (inr b) = rw (a.0, b.0) (omega arith)
@@ -36,7 +37,8 @@ first_zero n x e (inr a) h =
     let k : suc n ≤ 1 = rw a.0 at h in
     absurd (a.1 (omega (arith, k)))
 
-pub later_zero : (n y i : ℕ) → (n ≤ suc i → n ≤ i) → y ≤ 1 → (((n == 0) ≡ true) × (n ≡ 0)) ⊎ (((n == 0) ≡ false) × (n ≡ 0 → ⊥)) → (if n == 0 then y else suc n) ≤ suc (suc i) → (if n == 0 then y else suc n) ≤ suc i
+pub later_zero : (n y i : ℕ) → (n ≤ suc i → n ≤ i) → y ≤ 1 → (((n == 0) ≡ true) × (n ≡ 0)) ⊎ (((n == 0) ≡ false) × (n ≡ 0 → ⊥))
+    → (if n == 0 then y else suc n) ≤ suc (suc i) → (if n == 0 then y else suc n) ≤ suc i
 later_zero n y i r s (inl a) h = rw a.0 (omega (arith, s))
 later_zero n y i r s (inr a) h =
     let k : suc n ≤ suc (suc i) = rw a.0 at h in
@@ -50,13 +52,15 @@ one_at_most x (inr a) = rw a.0 (omega arith)
 pub not_needed : (ws : List ℕ) (i : ℕ) → get_or ws i 0 ≡ 0 → data_needed ws ≤ suc i → data_needed ws ≤ i
 not_needed [] i e h = omega arith
 not_needed (x ∷ xs) zero e h = first_zero (data_needed xs) x e (eqb_tells (data_needed xs) 0) h
-not_needed (x ∷ xs) (suc i) e h = later_zero (data_needed xs) (if x == 0 then 0 else 1) i (not_needed xs i e) (one_at_most x (eqb_tells x 0)) (eqb_tells (data_needed xs) 0) h
+not_needed (x ∷ xs) (suc i) e h = later_zero (data_needed xs) (if x == 0 then 0 else 1) i (not_needed xs i e) (one_at_most x (eqb_tells x 0))
+    (eqb_tells (data_needed xs) 0) h
 
 -- a word of a range is that of its segment
 pub word_of_range : (m : List (List ℕ)) (s b n i x : ℕ) → i < n → HasWord m s (b + i) x → get_or (words_from m s b n) i 0 ≡ x
 word_of_range m s b n i x lt h =
     let e : b + n - b ≡ n = omega arith in
-    ap (λ k. get_or (take k (drop b (segment_of m s))) i 0) e ∙ (get_or-take n (drop b (segment_of m s)) i 0 lt ∙ (get_or-drop b (segment_of m s) i 0 ∙ get_or_from_slice_get (segment_of m s) (b + i) x 0 h))
+    ap (λ k. get_or (take k (drop b (segment_of m s))) i 0) e
+    ∙ (get_or-take n (drop b (segment_of m s)) i 0 lt ∙ (get_or-drop b (segment_of m s) i 0 ∙ get_or_from_slice_get (segment_of m s) (b + i) x 0 h))
 
 -- no more are needed than there are
 pub range_needed : (m : List (List ℕ)) (s b n : ℕ) → b + n ≤ length (segment_of m s) → data_needed (words_from m s b n) ≤ n
@@ -71,7 +75,8 @@ most_within m t b ds ps (suc n) h =
     omega (arith, a, r)
 
 -- the word looked at is needed, so that nothing below it is cut
-pub needed_here : (m : List (List ℕ)) (s b n left least x : ℕ) → least < left → left ≤ n → HasWord m s (b + (left - 1)) x → x ≢ 0 → data_needed (words_from m s b n) ≤ left
+pub needed_here : (m : List (List ℕ)) (s b n left least x : ℕ) → least < left → left ≤ n → HasWord m s (b + (left - 1)) x → x ≢ 0
+    → data_needed (words_from m s b n) ≤ left
     → left ≡ max least (data_needed (words_from m s b n))
 needed_here m s b n left least x lt le h nz most =
     let i : left - 1 < n = omega (arith, lt, le) in
@@ -80,7 +85,8 @@ needed_here m s b n left least x lt le h nz most =
     omega (arith, lt, k, most)
 
 -- and one that is zero isn't
-pub needed_below : (m : List (List ℕ)) (s b n left least x : ℕ) → least < left → left ≤ n → HasWord m s (b + (left - 1)) x → x ≡ 0 → data_needed (words_from m s b n) ≤ left
+pub needed_below : (m : List (List ℕ)) (s b n left least x : ℕ) → least < left → left ≤ n → HasWord m s (b + (left - 1)) x → x ≡ 0
+    → data_needed (words_from m s b n) ≤ left
     → data_needed (words_from m s b n) ≤ left - 1
 needed_below m s b n left least x lt le h z most =
     let i : left - 1 < n = omega (arith, lt, le) in

@@ -1,4 +1,4 @@
--- What the frames of a walk owe, word by word.
+-- What the runs of a walk owe, word by word.
 use Rattle.std.proofs.Common.{ℕ, suc, ◌+◌, ◌<◌, ◌≤◌, ◌^◌, List, [], ◌∷◌, ◌++◌, ◌≡◌, ap, refl, sym, subst, ◌∙◌, arith, length, reverse, Option, None, Some}
 use Rattle.std.specs.Option.{option_to_list}
 use Rattle.std.proofs.lemmas.List.{append-nil, length-append, length-reverse, reverse-append}
@@ -8,11 +8,12 @@ use Rattle.cap_spec.specs.Tree.{Tree}
 use Rattle.cap_spec.proofs.Paths.Arrivals.{lead_word}
 use Rattle.cap_spec.proofs.Frames.Messages.{HasWord-inside, HasWord-segment}
 use Rattle.cap_spec.proofs.Trees.OneTree.{Formed, formed}
-use Rattle.cap_canon.specs.CopyFrames.{AreShort, IsFull, IsRest, OptionFull, Place, all_places, option_places, places_of}
+use Rattle.cap_canon.specs.CopyRuns.{AreShort, IsFull, IsRest, OptionFull, all_places, option_places, place, places_of}
 use Rattle.cap_canon.specs.Laying.{Due, AreBefore, size_due}
-use Rattle.cap_canon.specs.StillToLay.{AreOwed, FrameOwes, IsNext, IsWalking, Stacked, work_left}
-use Rattle.cap_canon.specs.declared.frame.Frame.{Frame}
-use Rattle.cap_canon.proofs.Frames.{count_more}
+use Rattle.cap_canon.specs.StillToLay.{AreOwed, RunOwes, IsNext, IsWalking, Stacked, work_left}
+use Rattle.cap_canon.specs.declared.run.CopyRun.{CopyRun}
+use Rattle.cap_canon.specs.declared.run.PointerPlace.{PointerPlace}
+use Rattle.cap_canon.proofs.Runs.{count_more}
 
 -- a word that denotes is a number of 32 bits
 pub word_short : (m : List (List ℕ)) (s w : ℕ) (t : Tree) (c d : ℕ) → IsMessage m → Denotes m s w t c d → w < 2 ^ 32
@@ -23,14 +24,15 @@ word_short m s w t c d is h =
     omega (arith, HasWord-inside m s w p.0 p.1, short)
 
 -- the words that are owed are
-pub owed_short : (m : List (List ℕ)) (depth n end : ℕ) (places : List Place) (due : List Due) → IsMessage m → end ≤ 268435457 → AreBefore end due → AreOwed m depth n places due → AreShort places
+pub owed_short : (m : List (List ℕ)) (depth n end : ℕ) (places : List PointerPlace) (due : List Due) → IsMessage m → end ≤ 268435457 → AreBefore end due
+    → AreOwed m depth n places due → AreShort places
 owed_short m depth n end [] due is le b h = tt
 owed_short m depth n end (p ∷ places) [] is le b h = absurd h
 owed_short m depth n end (p ∷ places) (x ∷ due) is le b h =
-    let o = h.1 in ((word_short m p.0 p.1 o.0 o.1 o.2 is o.3, omega (arith, h.0, b.0, le)), owed_short m depth n end places due is le b.1 h.2)
+    let o = h.1 in ((word_short m p.segment p.word o.0 o.1 o.2 is o.3, omega (arith, h.0, b.0, le)), owed_short m depth n end places due is le b.1 h.2)
 
 -- as many words as trees
-pub owed_count : (m : List (List ℕ)) (depth n : ℕ) (places : List Place) (due : List Due) → AreOwed m depth n places due → length places ≡ length due
+pub owed_count : (m : List (List ℕ)) (depth n : ℕ) (places : List PointerPlace) (due : List Due) → AreOwed m depth n places due → length places ≡ length due
 owed_count m depth n [] [] h = refl
 owed_count m depth n [] (x ∷ due) h = absurd h
 owed_count m depth n (p ∷ places) [] h = absurd h
@@ -49,31 +51,33 @@ pub before_more : (end now : ℕ) (xs : List Due) → end ≤ now → AreBefore 
 before_more end now [] le h = tt
 before_more end now (x ∷ xs) le h = (omega (arith, h.0, le), before_more end now xs le h.1)
 
--- the frames with one more, where there is one
-pub reverse-more : (frames : List Frame) (r : Option Frame) → reverse (frames ++ option_to_list r) ≡ option_to_list r ++ reverse frames
-reverse-more frames None = ap reverse (append-nil frames)
-reverse-more frames (Some r) = reverse-append frames (r ∷ [])
+-- the runs with one more, where there is one
+pub reverse-more : (runs : List CopyRun) (r : Option CopyRun) → reverse (runs ++ option_to_list r) ≡ option_to_list r ++ reverse runs
+reverse-more runs None = ap reverse (append-nil runs)
+reverse-more runs (Some r) = reverse-append runs (r ∷ [])
 
-pub stacked_more : (m : List (List ℕ)) (depth n : ℕ) (r : Option Frame) (frames : List Frame) (own rest : List Due) → n ≡ length frames + 1 → OptionFull r → AreOwed m depth n (option_places r) own → Stacked m depth frames rest
-    → Stacked m depth (option_to_list r ++ frames) (own ++ rest)
-stacked_more m depth n None frames [] rest e f h s = s
-stacked_more m depth n None frames (x ∷ own) rest e f h s = absurd h
-stacked_more m depth n (Some r) frames own rest e f h s = (own, rest, refl, record { full = f; owed = subst (λ k. AreOwed m depth k (places_of r) own) e h }, s)
+pub stacked_more : (m : List (List ℕ)) (depth n : ℕ) (r : Option CopyRun) (runs : List CopyRun) (own rest : List Due) → n ≡ length runs + 1 → OptionFull r
+    → AreOwed m depth n (option_places r) own → Stacked m depth runs rest
+    → Stacked m depth (option_to_list r ++ runs) (own ++ rest)
+stacked_more m depth n None runs [] rest e f h s = s
+stacked_more m depth n None runs (x ∷ own) rest e f h s = absurd h
+stacked_more m depth n (Some r) runs own rest e f h s = (own, rest, refl, record { full = f; owed = subst (λ k. AreOwed m depth k (places_of r) own) e h }, s)
 
--- The topmost frame of a walk: its first word, and the others.
-pub record Topmost (m : List (List ℕ)) (depth end : ℕ) (f : Frame) (frames : List Frame) (due : List Due) : Type 0 where
+-- The topmost run of a walk: its first word, and the others.
+pub record Topmost (m : List (List ℕ)) (depth end : ℕ) (f : CopyRun) (runs : List CopyRun) (due : List Due) : Type 0 where
   pub own : List Due
   pub rest : List Due
   pub all : due ≡ own ++ rest
-  pub owes : FrameOwes m depth (length (reverse frames) + 1) f own
-  pub stacked : Stacked m depth (reverse frames) rest
+  pub owes : RunOwes m depth (length (reverse runs) + 1) f own
+  pub stacked : Stacked m depth (reverse runs) rest
   pub before : AreBefore end own
   pub near : end ≤ 268435457
 
-pub topmost : (m : List (List ℕ)) (depth end : ℕ) (frames : List Frame) (f : Frame) (due : List Due) → IsWalking m depth (frames ++ f ∷ []) end due → Topmost m depth end f frames due
-topmost m depth end frames f due w =
-    let e : reverse (frames ++ f ∷ []) ≡ f ∷ reverse frames = reverse-append frames (f ∷ []) in
-    let s : Stacked m depth (f ∷ reverse frames) due = subst (λ fs. Stacked m depth fs due) e w.stacked in
+pub topmost : (m : List (List ℕ)) (depth end : ℕ) (runs : List CopyRun) (f : CopyRun) (due : List Due) → IsWalking m depth (runs ++ f ∷ []) end due
+    → Topmost m depth end f runs due
+topmost m depth end runs f due w =
+    let e : reverse (runs ++ f ∷ []) ≡ f ∷ reverse runs = reverse-append runs (f ∷ []) in
+    let s : Stacked m depth (f ∷ reverse runs) due = subst (λ fs. Stacked m depth fs due) e w.stacked in
     let b : AreBefore end (s.0 ++ s.1) = subst (AreBefore end) s.2 w.before in record {
       own = s.0;
       rest = s.1;
@@ -85,19 +89,24 @@ topmost m depth end frames f due w =
     }
 
 -- its words are numbers of 32 bits
-pub top_short : (m : List (List ℕ)) (depth end : ℕ) (frames : List Frame) (f : Frame) (due : List Due) → IsWalking m depth (frames ++ f ∷ []) end due → IsFull f × AreShort (places_of f)
-top_short m depth end frames f due w =
-    let k = topmost m depth end frames f due w in
-    (k.owes.full, owed_short m depth (length (reverse frames) + 1) end (places_of f) k.own w.message k.near k.before k.owes.owed)
+pub top_short : (m : List (List ℕ)) (depth end : ℕ) (runs : List CopyRun) (f : CopyRun) (due : List Due) → IsWalking m depth (runs ++ f ∷ []) end due
+    → IsFull f × AreShort (places_of f)
+top_short m depth end runs f due w =
+    let k = topmost m depth end runs f due w in
+    (k.owes.full, owed_short m depth (length (reverse runs) + 1) end (places_of f) k.own w.message k.near k.before k.owes.owed)
 
--- The first word of the topmost frame is the next to look at.
-first_owed : (m : List (List ℕ)) (depth n end : ℕ) (f : Frame) (r : Option Frame) (frames : List Frame) (own rest : List Due) → n ≡ length frames + 1 → IsRest f r → IsMessage m
-    → AreOwed m depth n ((f.segment, f.at, f.slot) ∷ option_places r) own → Stacked m depth (reverse frames) rest → AreBefore end (own ++ rest) → end + size_due (own ++ rest) ≤ 268435457
-    → (tree : Tree) × (later : List Due) × (own ++ rest ≡ record { slot = f.slot; tree = tree } ∷ later) × IsNext m depth f.segment f.at f.slot (frames ++ option_to_list r) end tree later
-first_owed m depth n end f r frames [] rest e is_rest is h s b small = absurd h
-first_owed m depth n end f r frames (x ∷ own) rest e is_rest is h s b small =
+-- The first word of the topmost run is the next to look at.
+first_owed : (m : List (List ℕ)) (depth n end : ℕ) (f : CopyRun) (r : Option CopyRun) (runs : List CopyRun) (own rest : List Due) → n ≡ length runs + 1
+    → IsRest f r → IsMessage m
+    → AreOwed m depth n (place f.segment f.at f.slot ∷ option_places r) own → Stacked m depth (reverse runs) rest → AreBefore end (own ++ rest)
+    → end + size_due (own ++ rest) ≤ 268435457
+    → (tree : Tree) × (later : List Due) × (own ++ rest ≡ record { slot = f.slot; tree = tree } ∷ later)
+    × IsNext m depth (place f.segment f.at f.slot) (runs ++ option_to_list r) end tree later
+first_owed m depth n end f r runs [] rest e is_rest is h s b small = absurd h
+first_owed m depth n end f r runs (x ∷ own) rest e is_rest is h s b small =
     let o = h.1 in
-    let same : (x ∷ own) ++ rest ≡ record { slot = f.slot; tree = x.tree } ∷ (own ++ rest) = ap (λ i. record { slot = i; tree = x.tree } ∷ (own ++ rest)) (sym h.0) in (
+    let same : (x ∷ own) ++ rest ≡ record { slot = f.slot; tree = x.tree } ∷ (own ++ rest) =
+    ap (λ i. record { slot = i; tree = x.tree } ∷ (own ++ rest)) (sym h.0) in (
       x.tree,
       own ++ rest,
       same,
@@ -105,33 +114,39 @@ first_owed m depth n end f r frames (x ∷ own) rest e is_rest is h s b small =
         owed = (o.0, o.1, o.2, o.3, o.4, low r o.2 o.5);
         inside = omega (arith, h.0, b.0);
         message = is;
-        stacked = subst (λ fs. Stacked m depth fs (own ++ rest)) (sym (reverse-more frames r)) (stacked_more m depth n r (reverse frames) own rest (omega (arith, e, length-reverse frames)) is_rest.full h.2 s);
+        stacked = subst (λ fs. Stacked m depth fs (own ++ rest)) (sym (reverse-more runs r))
+            (stacked_more m depth n r (reverse runs) own rest (omega (arith, e, length-reverse runs)) is_rest.full h.2 s);
         before = b.1;
         small = subst (λ ds. end + size_due ds ≤ 268435457) same small;
       },
     )
   where
-    low : (r : Option Frame) (d : ℕ) → d + n ≤ depth → d + length (frames ++ option_to_list r) ≤ depth
-    low None d le = let l = length-append frames (option_to_list {X = Frame} None) in omega (arith, l, le, e)
-    low (Some y) d le = let l = length-append frames (y ∷ []) in omega (arith, l, le, e)
+    low : (r : Option CopyRun) (d : ℕ) → d + n ≤ depth → d + length (runs ++ option_to_list r) ≤ depth
+    low None d le = let l = length-append runs (option_to_list {X = CopyRun} None) in omega (arith, l, le, e)
+    low (Some y) d le = let l = length-append runs (y ∷ []) in omega (arith, l, le, e)
 
-pub next_of : (m : List (List ℕ)) (depth end : ℕ) (frames : List Frame) (f : Frame) (r : Option Frame) (due : List Due) → IsWalking m depth (frames ++ f ∷ []) end due → IsRest f r
-    → (tree : Tree) × (rest : List Due) × (due ≡ record { slot = f.slot; tree = tree } ∷ rest) × IsNext m depth f.segment f.at f.slot (frames ++ option_to_list r) end tree rest
-next_of m depth end frames f r due w is_rest =
-    let k = topmost m depth end frames f due w in
-    let owed : AreOwed m depth (length (reverse frames) + 1) ((f.segment, f.at, f.slot) ∷ option_places r) k.own = subst (λ ps. AreOwed m depth (length (reverse frames) + 1) ps k.own) is_rest.words k.owes.owed in
-    let n = first_owed m depth (length (reverse frames) + 1) end f r frames k.own k.rest (omega (arith, length-reverse frames)) is_rest w.message owed k.stacked (subst (AreBefore end) k.all w.before)
+pub next_of : (m : List (List ℕ)) (depth end : ℕ) (runs : List CopyRun) (f : CopyRun) (r : Option CopyRun) (due : List Due)
+    → IsWalking m depth (runs ++ f ∷ []) end due → IsRest f r
+    → (tree : Tree) × (rest : List Due) × (due ≡ record { slot = f.slot; tree = tree } ∷ rest)
+    × IsNext m depth (place f.segment f.at f.slot) (runs ++ option_to_list r) end tree rest
+next_of m depth end runs f r due w is_rest =
+    let k = topmost m depth end runs f due w in
+    let owed : AreOwed m depth (length (reverse runs) + 1) (place f.segment f.at f.slot ∷ option_places r) k.own =
+    subst (λ ps. AreOwed m depth (length (reverse runs) + 1) ps k.own) is_rest.words k.owes.owed in
+    let n = first_owed m depth (length (reverse runs) + 1) end f r runs k.own k.rest (omega (arith, length-reverse runs)) is_rest w.message owed k.stacked
+    (subst (AreBefore end) k.all w.before)
     (subst (λ ds. end + size_due ds ≤ 268435457) k.all w.small) in
     (n.0, n.1, k.all ∙ n.2, n.3)
 
 -- one word fewer is left
-pub next_work : (frames : List Frame) (f : Frame) (r : Option Frame) → IsRest f r → work_left (frames ++ option_to_list r) + 1 ≡ work_left (frames ++ f ∷ [])
-next_work frames f r is_rest =
-    let a = count_more frames r in
-    let b : length (all_places (frames ++ f ∷ [])) ≡ length (all_places frames) + length (places_of f) = count_more frames (Some f) in
+pub next_work : (runs : List CopyRun) (f : CopyRun) (r : Option CopyRun) → IsRest f r → work_left (runs ++ option_to_list r) + 1 ≡ work_left (runs ++ f ∷ [])
+next_work runs f r is_rest =
+    let a = count_more runs r in
+    let b : length (all_places (runs ++ f ∷ [])) ≡ length (all_places runs) + length (places_of f) = count_more runs (Some f) in
     let e : length (places_of f) ≡ suc (length (option_places r)) = ap length is_rest.words in
     omega (arith, a, b, e)
 
--- the stack has room for it
-pub next_fits : (room : ℕ) (m : List (List ℕ)) (depth s w slot end : ℕ) (frames : List Frame) (tree : Tree) (due : List Due) → depth ≤ room → IsNext m depth s w slot frames end tree due → length frames ≤ room
-next_fits room m depth s w slot end frames tree due le n = omega (arith, n.owed.5, le)
+-- the stack has capacity for it
+pub next_fits : (capacity : ℕ) (m : List (List ℕ)) (depth end : ℕ) (p : PointerPlace) (runs : List CopyRun) (tree : Tree) (due : List Due) → depth ≤ capacity
+    → IsNext m depth p runs end tree due → length runs ≤ capacity
+next_fits capacity m depth end p runs tree due le n = omega (arith, n.owed.5, le)

@@ -50,11 +50,13 @@ range_stands m t b zero h = let e : b + 0 - b ≡ 0 = omega arith in rw e (omega
 range_stands m t b (suc n) h =
     let x = HasWord-at m t b (omega (arith, h)) in
     let r : StandAt (segment_of m t) (b + 1) (words_from m t (b + 1) n) = range_stands m t (b + 1) n (omega (arith, h)) in
-    let e : words_from m t b (suc n) ≡ x.0 ∷ words_from m t (b + 1) n = range_is m t b (suc n) ∙ (ap (take (suc n)) (rest_at (segment_of m t) b x.0 x.1) ∙ ap (λ xs. x.0 ∷ xs) (sym (range_is m t (b + 1) n))) in
+    let e : words_from m t b (suc n) ≡ x.0 ∷ words_from m t (b + 1) n = range_is m t b (suc n)
+    ∙ (ap (take (suc n)) (rest_at (segment_of m t) b x.0 x.1) ∙ ap (λ xs. x.0 ∷ xs) (sym (range_is m t (b + 1) n))) in
     subst (λ xs. StandAt (segment_of m t) b xs) (sym e) (x.1, r)
 
 -- elements have the words that are left of each
-pub length-elements_from : (m : List (List ℕ)) (t b ds ps d p n : ℕ) → d ≤ ds → p ≤ ps → b + n * (ds + ps) ≤ length (segment_of m t) → length (elements_from m t b ds ps d p n) ≡ n * (d + p)
+pub length-elements_from : (m : List (List ℕ)) (t b ds ps d p n : ℕ) → d ≤ ds → p ≤ ps → b + n * (ds + ps) ≤ length (segment_of m t)
+    → length (elements_from m t b ds ps d p n) ≡ n * (d + p)
 length-elements_from m t b ds ps d p zero hd hp h = omega arith
 length-elements_from m t b ds ps d p (suc n) hd hp h =
     let e : suc n * (ds + ps) ≡ ds + ps + n * (ds + ps) = omega arith in
@@ -139,4 +141,5 @@ values_laid m t b c n before x lt e inside words last = same_lists (scalar_words
 
     each : (k d : ℕ) → k < length (scalar_words c vs) → get_or (scalar_words c vs) k d ≡ get_or (front ++ end) k d
     each k d h =
-        sym (get_or_default (scalar_words c vs) k 0 d h) ∙ (go k (cases k (omega (arith, h, own))) ∙ get_or_default (front ++ end) k 0 d (omega (arith, h, own, both)))
+        sym (get_or_default (scalar_words c vs) k 0 d h) ∙ (go k (cases k (omega (arith, h, own)))
+        ∙ get_or_default (front ++ end) k 0 d (omega (arith, h, own, both)))

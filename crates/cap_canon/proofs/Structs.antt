@@ -3,58 +3,71 @@ use Rattle.std.proofs.Common.{ℕ, suc, ◌+◌, ◌-◌, ◌*◌, ◌<◌, ◌�
 use Rattle.cap_spec.specs.Messages.{segment_of}
 use Rattle.cap_spec.specs.Denoting.{words_from}
 use Rattle.cap_spec.proofs.Trees.DenotedTrees.{range_length}
-use Rattle.cap_canon.specs.Filling.{elements_from}
+use Rattle.cap_canon.specs.Filling.{elements_from, parts_words}
+use Rattle.cap_canon.specs.Objects.{IsFewer}
+use Rattle.cap_canon.specs.declared.objects.Part.{Part}
 
--- the first i were appended, and the next one stands at t:at
-pub record StructsSoFar (m : List (List ℕ)) (t start at ds ps d p count i : ℕ) (old now : List ℕ) (space : ℕ) : Type 0 where
-  pub place : at ≡ start + i * (ds + ps)
-  pub rest : now ++ elements_from m t at ds ps d p (count - i) ≡ old ++ elements_from m t start ds ps d p count
-  pub room : length now + (count - i) * (d + p) ≤ space
+-- the first i were appended, and the next one is at word b
+pub record StructsSoFar (m : List (List ℕ)) (x : Part) (b count i : ℕ) (old now : List ℕ) (space : ℕ) : Type 0 where
+  pub place : b ≡ x.start + i * (x.data_words + x.pointers)
+  pub rest : now ++ elements_from m x.segment b x.data_words x.pointers x.data_left x.pointers_left (count - i) ≡ old ++ parts_words m x count
+  pub capacity : length now + (count - i) * (x.data_left + x.pointers_left) ≤ space
 
 -- the next one lies inside
-pub struct_inside : (m : List (List ℕ)) (t start at ds ps d p count i : ℕ) (old now : List ℕ) (space : ℕ) → i < count → start + count * (ds + ps) ≤ length (segment_of m t)
-    → StructsSoFar m t start at ds ps d p count i old now space → at + (ds + ps) ≤ length (segment_of m t)
-struct_inside m t start at ds ps d p count i old now space lt h k =
+pub struct_inside : (m : List (List ℕ)) (x : Part) (b count i : ℕ) (old now : List ℕ) (space : ℕ) → i < count
+    → x.start + count * (x.data_words + x.pointers) ≤ length (segment_of m x.segment)
+    → StructsSoFar m x b count i old now space → b + (x.data_words + x.pointers) ≤ length (segment_of m x.segment)
+struct_inside m x b count i old now space lt h k =
+    let each = x.data_words + x.pointers in
     let n : (count - i - 1) + i + 1 ≡ count = omega (arith, lt) in
-    let e : ((count - i - 1) + i + 1) * (ds + ps) ≡ (count - i - 1) * (ds + ps) + i * (ds + ps) + (ds + ps) = omega arith in
-    let f : count * (ds + ps) ≡ (count - i - 1) * (ds + ps) + i * (ds + ps) + (ds + ps) = rw n at e in
+    let e : ((count - i - 1) + i + 1) * each ≡ (count - i - 1) * each + i * each + each = omega arith in
+    let f : count * each ≡ (count - i - 1) * each + i * each + each = rw n at e in
     omega (arith, k.place, f, h)
 
-pub structs_more : (m : List (List ℕ)) (t start at ds ps d p count i : ℕ) (old now next : List ℕ) (space more : ℕ) → i < count → d ≤ ds → p ≤ ps
-    → at + (ds + ps) ≤ length (segment_of m t) → next ≡ now ++ (words_from m t at d ++ words_from m t (at + ds) p) → space ≤ more
-    → StructsSoFar m t start at ds ps d p count i old now space → StructsSoFar m t start (at + (ds + ps)) ds ps d p count (i + 1) old next more
-structs_more m t start at ds ps d p count i old now next space more lt hd hp h e g k = record {
+pub structs_more : (m : List (List ℕ)) (x : Part) (b count i : ℕ) (old now next : List ℕ) (space more : ℕ) → i < count → IsFewer x
+    → b + (x.data_words + x.pointers) ≤ length (segment_of m x.segment)
+    → next ≡ now ++ (words_from m x.segment b x.data_left ++ words_from m x.segment (b + x.data_words) x.pointers_left) → space ≤ more
+    → StructsSoFar m x b count i old now space → StructsSoFar m x (b + (x.data_words + x.pointers)) count (i + 1) old next more
+structs_more m x b count i old now next space more lt fewer h e g k = record {
   place = omega (arith, k.place);
-  rest = front ∙ (ap (λ n. now ++ elements_from m t at ds ps d p n) (sym n) ∙ k.rest);
-  room = omega (arith, r, f, x, y, l, g);
+  rest = start ∙ (ap (λ n. now ++ elements b n) (sym n) ∙ k.rest);
+  capacity = omega (arith, r, f, front, row, l, g);
 }
   where
-    n : count - i ≡ suc (count - (i + 1))
+    elements : ℕ → ℕ → List ℕ
+    elements a n = elements_from m x.segment a x.data_words x.pointers x.data_left x.pointers_left n
+
+    others : ℕ
+    others = count - (i + 1)
+
+    n : count - i ≡ suc others
     n = omega (arith, lt)
 
     own : List ℕ
-    own = words_from m t at d ++ words_from m t (at + ds) p
+    own = words_from m x.segment b x.data_left ++ words_from m x.segment (b + x.data_words) x.pointers_left
 
-    place : at + (ds + ps) ≡ at + ds + ps
+    place : b + (x.data_words + x.pointers) ≡ b + x.data_words + x.pointers
     place = omega arith
 
-    front : next ++ elements_from m t (at + (ds + ps)) ds ps d p (count - (i + 1)) ≡ now ++ elements_from m t at ds ps d p (suc (count - (i + 1)))
-    front =
-        ap (λ xs. xs ++ elements_from m t (at + (ds + ps)) ds ps d p (count - (i + 1))) e
-        ∙ (append_assoc now own (elements_from m t (at + (ds + ps)) ds ps d p (count - (i + 1)))
-        ∙ ap (λ b. now ++ (own ++ elements_from m t b ds ps d p (count - (i + 1)))) place)
+    start : next ++ elements (b + (x.data_words + x.pointers)) others ≡ now ++ elements b (suc others)
+    start =
+        ap (λ xs. xs ++ elements (b + (x.data_words + x.pointers)) others) e
+        ∙ (append_assoc now own (elements (b + (x.data_words + x.pointers)) others) ∙ ap (λ a. now ++ (own ++ elements a others)) place)
 
-    f : suc (count - (i + 1)) * (d + p) ≡ (d + p) + (count - (i + 1)) * (d + p)
+    f : suc others * (x.data_left + x.pointers_left) ≡ (x.data_left + x.pointers_left) + others * (x.data_left + x.pointers_left)
     f = omega arith
 
-    r : length now + suc (count - (i + 1)) * (d + p) ≤ space
-    r = subst (λ z. length now + z * (d + p) ≤ space) n k.room
+    r : length now + suc others * (x.data_left + x.pointers_left) ≤ space
+    r = subst (λ z. length now + z * (x.data_left + x.pointers_left) ≤ space) n k.capacity
 
-    x : length (words_from m t at d) ≡ d
-    x = range_length m t at d (omega (arith, hd, h))
+    front : length (words_from m x.segment b x.data_left) ≡ x.data_left
+    front = range_length m x.segment b x.data_left (omega (arith, fewer, h))
 
-    y : length (words_from m t (at + ds) p) ≡ p
-    y = range_length m t (at + ds) p (omega (arith, hp, h))
+    row : length (words_from m x.segment (b + x.data_words) x.pointers_left) ≡ x.pointers_left
+    row = range_length m x.segment (b + x.data_words) x.pointers_left (omega (arith, fewer, h))
 
-    l : length next ≡ length now + (length (words_from m t at d) + length (words_from m t (at + ds) p))
-    l = ap length e ∙ (length-append now own ∙ ap (λ z. length now + z) (length-append (words_from m t at d) (words_from m t (at + ds) p)))
+    l : length next ≡ length now + (length (words_from m x.segment b x.data_left) + length (words_from m x.segment (b + x.data_words) x.pointers_left))
+    l =
+        ap length e
+        ∙ (length-append now own ∙ ap (λ z. length now + z) (length-append (words_from m x.segment b x.data_left)
+        (words_from m x.segment (b + x.data_words) x.pointers_left)))

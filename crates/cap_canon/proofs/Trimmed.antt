@@ -39,15 +39,6 @@ children_of-trim (more (pointers ts) es) = children_of-trim es
 children_of-trim (more (structs d p xs) es) = children_of-trim es
 
 -- as many elements as before
-pub tree_count-cut : (d p : ℕ) (es : Trees) → tree_count (cut_elements d p es) ≡ tree_count es
-tree_count-cut d p none = refl
-tree_count-cut d p (more (struct ws ts) es) = ap suc (tree_count-cut d p es)
-tree_count-cut d p (more null es) = ap suc (tree_count-cut d p es)
-tree_count-cut d p (more (cap i) es) = ap suc (tree_count-cut d p es)
-tree_count-cut d p (more (scalars c vs) es) = ap suc (tree_count-cut d p es)
-tree_count-cut d p (more (pointers ts) es) = ap suc (tree_count-cut d p es)
-tree_count-cut d p (more (structs x y xs) es) = ap suc (tree_count-cut d p es)
-
 pub tree_count-trim_elements : (es : Trees) → tree_count (trim_elements es) ≡ tree_count es
 tree_count-trim_elements none = refl
 tree_count-trim_elements (more (struct ws ts) es) = ap suc (tree_count-trim_elements es)

@@ -24,5 +24,6 @@ layout_laid words u f = (to, from)
         let o : offset ≡ 0 = omega (arith, e) in
         let root : slice_get words 0 ≡ Some (pointer_to 0 u) = subst (λ n. slice_get words 0 ≡ Some (pointer_to n u)) o p in
         let behind : take (length (content u)) (drop 1 words) ≡ content u = stand_taken words 1 (content u) s in
-        let all : take (length (content u)) (drop 1 words) ≡ drop 1 words = take_all (length (content u)) (drop 1 words) (omega (arith, length-drop 1 words, l, own)) in
+        let all : take (length (content u)) (drop 1 words) ≡ drop 1 words =
+        take_all (length (content u)) (drop 1 words) (omega (arith, length-drop 1 words, l, own)) in
         rest_at words 0 (pointer_to 0 u) root ∙ ap (λ xs. pointer_to 0 u ∷ xs) (sym all ∙ behind)

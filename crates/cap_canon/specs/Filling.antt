@@ -1,8 +1,10 @@
 -- Words of a copy beside those of the whole, whose pointer words may still be missing (profile).
-use Rattle.std.specs.Prelude.{ℕ, zero, suc, ◌+◌, ◌<◌, ◌≡◌, ◌⊎◌, List, [], ◌∷◌, ◌++◌, length, slice_index}
+use Rattle.std.specs.Prelude.{ℕ, zero, suc, ◌+◌, ◌<◌, ◌≤◌, ◌≡◌, ◌⊎◌, List, [], ◌∷◌, ◌++◌, length, slice_index}
 use Rattle.cap_spec.specs.Tree.{Tree}
+use Rattle.cap_spec.specs.Canonical.{layout}
 use Rattle.cap_spec.specs.Denoting.{words_from}
 use Rattle.cap_canon.specs.Laying.{Due, OwnAt, own_size, below}
+use Rattle.cap_canon.specs.declared.objects.Part.{Part}
 
 -- a position is that of a pointer word that is due
 abbrev pub IsDue : ℕ → List Due → Type 0
@@ -12,6 +14,12 @@ IsDue i (x ∷ due) = (i ≡ x.slot) ⊎ IsDue i due
 -- the words so far are those of the whole, but for pointer words that are due
 abbrev pub Agrees : List ℕ → List ℕ → List Due → Type 0
 Agrees words whole due = (i : ℕ) → i < length words → IsDue i due ⊎ (slice_index words i ≡ slice_index whole i)
+
+-- They are all words of the layout up to end, and the capacity is enough for the layout.
+pub record IsCopied (words : List ℕ) (capacity : ℕ) (whole : Tree) (end : ℕ) (due : List Due) : Type 0 where
+  pub ends : length words ≡ end
+  pub agrees : Agrees words (layout whole) due
+  pub space : length (layout whole) ≤ capacity
 
 -- these words are those of the whole from b on, but for pointer words that are due
 abbrev pub Fills : List ℕ → ℕ → List Due → List ℕ → Type 0
@@ -28,3 +36,10 @@ pub record OwnAppended (old new : List ℕ) (tree : Tree) : Type 0 where
 abbrev pub elements_from : List (List ℕ) → ℕ → ℕ → ℕ → ℕ → ℕ → ℕ → ℕ → List ℕ
 elements_from m t b ds ps d p zero = []
 elements_from m t b ds ps d p (suc n) = words_from m t b d ++ words_from m t (b + ds) p ++ elements_from m t (b + ds + ps) ds ps d p n
+
+-- the words that are left of a struct, and of each of n in a row
+abbrev pub part_words : List (List ℕ) → Part → List ℕ
+part_words m x = words_from m x.segment x.start x.data_left ++ words_from m x.segment (x.start + x.data_words) x.pointers_left
+
+abbrev pub parts_words : List (List ℕ) → Part → ℕ → List ℕ
+parts_words m x n = elements_from m x.segment x.start x.data_words x.pointers x.data_left x.pointers_left n

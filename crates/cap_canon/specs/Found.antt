@@ -5,8 +5,8 @@ use Rattle.cap_spec.specs.Pointers.{kind, middle, code, data_size, pointer_size,
 use Rattle.cap_spec.specs.Denoting.{AreElements, DenoteEach, Finds, places, words_from}
 use Rattle.cap_spec.specs.Tree.{Tree, struct, structs, Trees}
 
--- The word at s:w finds a struct of ds data words and ps pointers at t:b, and denotes the tree x, of d levels.
-pub record IsStructAt (m : List (List ℕ)) (s w t b ds ps : ℕ) (x : Tree) (d : ℕ) : Type 0 where
+-- The word at s:w finds a struct of ds data words and ps pointers at t:b.
+pub record FindsStruct (m : List (List ℕ)) (s w t b ds ps : ℕ) : Type 0 where
   pub k : ℕ
   pub q : ℕ
   pub finds : Finds m s w k t b q
@@ -14,6 +14,10 @@ pub record IsStructAt (m : List (List ℕ)) (s w t b ds ps : ℕ) (x : Tree) (d 
   pub sizes : (ds ≡ data_size q) × (ps ≡ pointer_size q)
   pub exists : t < length m
   pub inside : b + ds + ps ≤ length (segment_of m t)
+
+-- It denotes the tree x, of d levels.
+pub record IsStructAt (m : List (List ℕ)) (s w t b ds ps : ℕ) (x : Tree) (d : ℕ) : Type 0 where
+  pub found : FindsStruct m s w t b ds ps
   pub words : List ℕ
   pub children : Trees
   pub inner : ℕ
@@ -23,9 +27,8 @@ pub record IsStructAt (m : List (List ℕ)) (s w t b ds ps : ℕ) (x : Tree) (d 
   pub below : DenoteEach m (places t (b + ds) ps) children inner deep
   pub levels : deep + 1 ≤ d
 
--- The word at s:w finds a list of n structs of ds data words and ps pointers each, whose tag is at
--- t:b.
-pub record IsStructsAt (m : List (List ℕ)) (s w t b n ds ps : ℕ) (x : Tree) (d : ℕ) : Type 0 where
+-- The word at s:w finds a list of n structs of ds data words and ps pointers each, whose tag is at t:b.
+pub record FindsStructs (m : List (List ℕ)) (s w t b n ds ps : ℕ) : Type 0 where
   pub k : ℕ
   pub q : ℕ
   pub tag : ℕ
@@ -35,9 +38,13 @@ pub record IsStructsAt (m : List (List ℕ)) (s w t b n ds ps : ℕ) (x : Tree) 
   pub has_tag : HasWord m t b tag
   pub count : n ≡ middle tag
   pub sizes : (ds ≡ data_size tag) × (ps ≡ pointer_size tag)
-  pub room : n * (ds + ps) ≤ list_size q
+  pub fits : n * (ds + ps) ≤ list_size q
   pub exists : t < length m
   pub inside : b + 1 + n * (ds + ps) ≤ length (segment_of m t)
+
+-- It denotes the tree x, of d levels.
+pub record IsStructsAt (m : List (List ℕ)) (s w t b n ds ps : ℕ) (x : Tree) (d : ℕ) : Type 0 where
+  pub found : FindsStructs m s w t b n ds ps
   pub elements : Trees
   pub inner : ℕ
   pub deep : ℕ

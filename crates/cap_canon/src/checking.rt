@@ -1,21 +1,24 @@
 //! Whether a message is its own canonical copy.
 
-ghost use Rattle.cap_spec.specs.Canonical.{layout, trim};
+ghost use Rattle.cap_spec.specs.Canonical.{layout};
 ghost use Rattle.cap_spec.specs.Copies.{IsCanonical};
+ghost use Rattle.cap_canon.specs.Checked.{IsChecked};
 ghost use Rattle.cap_canon.specs.InPlace.{StandsIn};
 ghost use Rattle.cap_canon.specs.Laying.{IsPointed, OwnAt, own_size};
 ghost use Rattle.cap_canon.specs.Objects.{IsObject};
-ghost use Rattle.cap_spec.specs.Denoting.{Denotes, values_of};
+ghost use Rattle.cap_canon.specs.Roots.{ForTrimmed, HasTree};
+ghost use Rattle.cap_spec.specs.Denoting.{values_of};
 ghost use Rattle.cap_spec.specs.Placing.{StandAt};
 ghost use Rattle.cap_spec.specs.Pointers.{list_words};
 ghost use Rattle.cap_spec.specs.Scalars.{scalar_words};
 ghost use Rattle.cap_spec.specs.Messages.{segment_of};
 ghost use Rattle.cap_spec.specs.Tree.{Tree};
 ghost use Rattle.cap_vet.specs.Vettings.{message_of};
-ghost use Rattle.std.specs.Prelude.{◌+◌, ◌<◌, ◌^◌, ◌↔◌, ◌≡◌, ◌≤◌, IsTrue, length, ℕ};
+ghost use Rattle.std.specs.Prelude.{◌+◌, ◌<◌, ◌^◌, ◌↔◌, ◌≡◌, ◌≢◌, ◌≤◌, IsTrue, length, ⊤, ℕ};
 
-use crate::objects::{Object, object_at, read_range};
-use crate::walk::{Stack, enter, take_next};
+use crate::objects::{Object, read_range};
+use crate::run::PointerPlace;
+use crate::walk::{Pass, walk};
 use crate::words::{last_bits, last_word, pointer_word, tag_word};
 use cap_frame::Segments;
 use cap_vet::Vetted;
@@ -36,57 +39,58 @@ pub fn is_canonical<M: Segments>(v: &Vetted<'_, M>) -> bool
     is_laid(message, report.depth)
 }
 
-// Whether the words of segment 0 are the layout of a message of this depth, trimmed. Each message
-// initializes its frames, so a walk that can't be deep has few of them.
+// Whether the words of segment 0 are the layout of a message of this depth, trimmed.
 fn is_laid<M: Segments>(message: &M, depth: u32) -> bool
-    requires { (t : Tree) × (c : ℕ) × Denotes (M.segments message.now) 0 0 t c depth × (c ≤ 268435456) × (depth ≤ 256) }
-    ensures { (t : Tree) (c d : ℕ) → Denotes (M.segments message.now) 0 0 t c d → IsTrue result ↔ (segment_of (M.segments message.now) 0 ≡ layout (trim t)) }
+    requires { HasTree (M.segments message.now) depth }
+    ensures { let m = M.segments message.now in
+        ForTrimmed m (λ u. IsTrue result ↔ (segment_of m 0 ≡ layout u)) }
 {
-    if depth <= 8 {
-        return is_laid_within::<M, 8>(message, depth);
+    match walk(message, depth, &mut Checking) {
+        Some(end) => end == message.len(0),
+        None => false,
     }
-    if depth <= 64 {
-        return is_laid_within::<M, 64>(message, depth);
-    }
-    is_laid_within::<M, 256>(message, depth)
 }
 
-// The same with capacity for `N` frames.
-fn is_laid_within<M: Segments, const N: usize>(message: &M, depth: u32) -> bool
-    requires denotes { (t : Tree) × (c : ℕ) × Denotes (M.segments message.now) 0 0 t c depth × (c ≤ 268435456) }
-    requires room { (depth ≤ N) × (N ≤ 256) }
-    ensures { (t : Tree) (c d : ℕ) → Denotes (M.segments message.now) 0 0 t c d → IsTrue result ↔ (segment_of (M.segments message.now) 0 ≡ layout (trim t)) }
-{
-    let mut stack: Stack<N> = Stack::new();
-    let root = object_at(message, 0, 0);
-    if !stands_at(message, &root, 0, 1) {
-        return false;
+// Each object has to be where a copy has it.
+#[derive(Drop)]
+struct Checking;
+
+impl Pass for Checking {
+    ghost in_place = { ⊤ };
+
+    ghost state = { λ _. IsChecked };
+
+    ghost stopped = { λ m u. segment_of m 0 ≢ layout u };
+
+    ghost kept = { λ _. (0, 0, 0) };
+
+    #[inline(always)]
+    fn visit<M: Segments>(
+        &mut self,
+        message: &M,
+        object: &Object,
+        place: PointerPlace,
+        end: u32,
+    ) -> bool {
+        stands_at(message, object, place.slot, end)
     }
-    let mut end = enter(&mut stack, &root, 1);
-    while !stack.is_empty() {
-        let (s, w, slot) = take_next(&mut stack);
-        let object = object_at(message, s, w);
-        if !stands_at(message, &object, slot, end) {
-            return false;
-        }
-        end = enter(&mut stack, &object, end);
-    }
-    end == message.len(0)
 }
 
 // Whether the pointer word at `slot` is the one that a copy has there, and the own words of what is
 // left of its object are those that a copy has from `end` on.
 #[inline(always)]
 fn stands_at<M: Segments>(message: &M, object: &Object, slot: u32, end: u32) -> bool
-    requires end { (slot < end) × (end ≤ length (segment_of (M.segments message.now) 0)) × (end < 2 ^ 29) }
-    requires is { (d : ℕ) × (tree : Tree) × IsObject (M.segments message.now) d 0 slot tree object.now }
-    ensures yes { IsTrue result → (d : ℕ) (tree : Tree) → IsObject (M.segments message.now) d 0 slot tree object.now
-        → IsPointed (segment_of (M.segments message.now) 0) end slot tree
-        × OwnAt (segment_of (M.segments message.now) 0) end tree × (end + own_size tree ≤ length (segment_of (M.segments message.now) 0))
-        × StandsIn end object.now }
-    ensures no { (d : ℕ) (tree : Tree) → IsObject (M.segments message.now) d 0 slot tree object.now
-        → IsPointed (segment_of (M.segments message.now) 0) end slot tree
-        → OwnAt (segment_of (M.segments message.now) 0) end tree → IsTrue result }
+    requires end { let m = M.segments message.now in
+        (slot < end) × (end ≤ length (segment_of m 0)) × (end < 2 ^ 29) }
+    requires is { let m = M.segments message.now in
+        (d : ℕ) × (tree : Tree) × IsObject m d 0 slot tree object.now }
+    ensures yes { let m = M.segments message.now in let words = segment_of m 0 in IsTrue result
+        → (d : ℕ) (tree : Tree) → IsObject m d 0 slot tree object.now
+        → IsPointed words end slot tree × OwnAt words end tree
+        × (end + own_size tree ≤ length words) × StandsIn end object.now }
+    ensures no { let m = M.segments message.now in let words = segment_of m 0 in
+        (d : ℕ) (tree : Tree) → IsObject m d 0 slot tree object.now
+        → IsPointed words end slot tree → OwnAt words end tree → IsTrue result }
 {
     if message.word(0, slot) != pointer_word(end - slot - 1, object) {
         return false;
@@ -98,15 +102,12 @@ fn stands_at<M: Segments>(message: &M, object: &Object, slot: u32, end: u32) -> 
             words,
             ..
         } => ends_with_values(message, end, code, count, words),
-        Object::Structs {
-            count,
-            data_left,
-            pointers_left,
-            ..
-        } => message.word(0, end) == tag_word(count, data_left, pointers_left),
+        Object::Structs { count, part } => {
+            message.word(0, end) == tag_word(count, part.data_left, part.pointers_left)
+        }
         Object::Null => true,
         Object::Cap { .. } => true,
-        Object::Struct { .. } => true,
+        Object::Struct(_) => true,
         Object::Pointers { .. } => true,
     }
 }

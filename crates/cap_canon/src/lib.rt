@@ -3,24 +3,25 @@
 #![tactic(auto)]
 
 mod appending;
+mod buffer;
+mod bytes;
 mod checking;
 mod copying;
 mod fault;
-mod frame;
 mod length;
 mod near;
 mod objects;
-mod room;
-mod spelled;
-mod target;
+mod output;
+mod run;
+mod stack;
 mod trimming;
 mod walk;
 mod word_bytes;
 mod words;
 
+pub use buffer::canonical_into;
+pub use bytes::canonical_bytes;
 pub use checking::is_canonical;
 pub use copying::canonical;
 pub use fault::{CanonFault, RoomFault};
 pub use length::canonical_len;
-pub use room::canonical_into;
-pub use spelled::canonical_bytes;

@@ -15,8 +15,19 @@ use crate::trimming::{data_left, list_data_left, list_pointers_left, pointers_le
 use cap_frame::Segments;
 use cap_ptr::{Followed, Shape, Target, follow};
 
-/// What is left of an object when it is trimmed, and where it is: its segment and the word that it
-/// starts at, its sizes in the message, and those that are left.
+/// A struct, or the structs of a list: the segment and the word where the first starts, the sizes
+/// of each in the message, and those that are left when it is trimmed.
+#[derive(Clone, Copy)]
+pub(crate) struct Part {
+    pub(crate) segment: u32,
+    pub(crate) start: u32,
+    pub(crate) data_words: u32,
+    pub(crate) pointers: u32,
+    pub(crate) data_left: u32,
+    pub(crate) pointers_left: u32,
+}
+
+/// What is left of an object when it is trimmed, and where it is.
 #[derive(Clone, Copy)]
 pub(crate) enum Object {
     /// Nothing.
@@ -26,15 +37,9 @@ pub(crate) enum Object {
         index: u32,
     },
     /// A struct.
-    Struct {
-        segment: u32,
-        start: u32,
-        data_words: u32,
-        pointers: u32,
-        data_left: u32,
-        pointers_left: u32,
-    },
-    /// A list of values that aren't pointers: the code of their size, how many, and in how many words.
+    Struct(Part),
+    /// A list of values that aren't pointers: the code of their size, how many, and in how many
+    /// words.
     Scalars {
         segment: u32,
         start: u32,
@@ -48,15 +53,10 @@ pub(crate) enum Object {
         start: u32,
         count: u32,
     },
-    /// A list of structs, from its tag on, with the sizes of each.
+    /// A list of structs, whose tag is before the first of them.
     Structs {
-        segment: u32,
-        start: u32,
         count: u32,
-        data_words: u32,
-        pointers: u32,
-        data_left: u32,
-        pointers_left: u32,
+        part: Part,
     },
 }
 
@@ -65,7 +65,8 @@ pub(crate) enum Object {
 #[inline(always)]
 pub(crate) fn object_at<M: Segments>(message: &M, s: u32, w: u32) -> Object
     requires { (t : Tree) × (c d : ℕ) × Denotes (M.segments message.now) s w t c d }
-    ensures { (t : Tree) (c d : ℕ) → Denotes (M.segments message.now) s w t c d → IsObject (M.segments message.now) d s w (trim t) result }
+    ensures { let m = M.segments message.now in (t : Tree) (c d : ℕ)
+        → Denotes m s w t c d → IsObject m d s w (trim t) result }
 {
     if message.word(s, w) == 0 {
         return Object::Null;
@@ -80,7 +81,8 @@ pub(crate) fn object_at<M: Segments>(message: &M, s: u32, w: u32) -> Object
 #[inline(never)]
 fn followed_at<M: Segments>(message: &M, s: u32, w: u32) -> Object
     requires { (t : Tree) × (c d : ℕ) × Denotes (M.segments message.now) s w t c d }
-    ensures { (t : Tree) (c d : ℕ) → Denotes (M.segments message.now) s w t c d → IsObject (M.segments message.now) d s w (trim t) result }
+    ensures { let m = M.segments message.now in (t : Tree) (c d : ℕ)
+        → Denotes m s w t c d → IsObject m d s w (trim t) result }
 {
     match follow(message, s, w) {
         Err(_) => unreachable!(),
@@ -93,9 +95,10 @@ fn followed_at<M: Segments>(message: &M, s: u32, w: u32) -> Object
 // What is left of an object.
 #[inline(always)]
 fn left_of<M: Segments>(message: &M, target: &Target) -> Object
-    requires { (s w : ℕ) × (t : Tree) × (c d : ℕ) × Denotes (M.segments message.now) s w t c d × FindsTarget (M.segments message.now) s w target.now }
-    ensures { (s w : ℕ) (t : Tree) (c d : ℕ) → Denotes (M.segments message.now) s w t c d → FindsTarget (M.segments message.now) s w target.now
-        → IsObject (M.segments message.now) d s w (trim t) result }
+    requires { let m = M.segments message.now in (s w : ℕ) × (t : Tree) × (c d : ℕ)
+        × Denotes m s w t c d × FindsTarget m s w target.now }
+    ensures { let m = M.segments message.now in (s w : ℕ) (t : Tree) (c d : ℕ)
+        → Denotes m s w t c d → FindsTarget m s w target.now → IsObject m d s w (trim t) result }
 {
     let segment = target.segment;
     let start = target.start;
@@ -147,20 +150,22 @@ fn struct_left<M: Segments>(
     data_words: u32,
     pointers: u32,
 ) -> Object
-    requires { (s w d : ℕ) × (t : Tree) × IsStructAt (M.segments message.now) s w segment start data_words pointers t d }
-    ensures { (s w d : ℕ) (t : Tree) → IsStructAt (M.segments message.now) s w segment start data_words pointers t d
-        → IsObject (M.segments message.now) d s w (trim t) result }
+    requires { let m = M.segments message.now in (s w d : ℕ) × (t : Tree)
+        × IsStructAt m s w segment start data_words pointers t d }
+    ensures { let m = M.segments message.now in (s w d : ℕ) (t : Tree)
+        → IsStructAt m s w segment start data_words pointers t d
+        → IsObject m d s w (trim t) result }
 {
     let data_left = data_left(message, segment, start, data_words, 0);
     let pointers_left = pointers_left(message, segment, start + data_words, pointers, 0);
-    Object::Struct {
+    Object::Struct(Part {
         segment,
         start,
         data_words,
         pointers,
         data_left,
         pointers_left,
-    }
+    })
 }
 
 // What is left of a list of `count` structs of these sizes, whose tag is at the start.
@@ -172,22 +177,24 @@ fn structs_left<M: Segments>(
     data_words: u32,
     pointers: u32,
 ) -> Object
-    requires { (s w d : ℕ) × (t : Tree) × IsStructsAt (M.segments message.now) s w segment start count data_words pointers t d }
-    ensures { (s w d : ℕ) (t : Tree) → IsStructsAt (M.segments message.now) s w segment start count data_words pointers t d
-        → IsObject (M.segments message.now) d s w (trim t) result }
+    requires { let m = M.segments message.now in (s w d : ℕ) × (t : Tree)
+        × IsStructsAt m s w segment start count data_words pointers t d }
+    ensures { let m = M.segments message.now in (s w d : ℕ) (t : Tree)
+        → IsStructsAt m s w segment start count data_words pointers t d
+        → IsObject m d s w (trim t) result }
 {
     let first = start + 1;
     let data_left = list_data_left(message, segment, first, count, data_words, pointers);
     let pointers_left = list_pointers_left(message, segment, first, count, data_words, pointers);
-    Object::Structs {
+    let part = Part {
         segment,
-        start,
-        count,
+        start: first,
         data_words,
         pointers,
         data_left,
         pointers_left,
-    }
+    };
+    Object::Structs { count, part }
 }
 
 /// The words of a range are words: each of them is read. Nothing is done with them, so the compiler

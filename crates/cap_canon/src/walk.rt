@@ -1,189 +1,110 @@
 //! The walk over an accepted message, in preorder: one pointer word a turn.
 
-ghost use Rattle.cap_canon.specs.CopyFrames.{OptionFull, option_places, row_places};
-ghost use Rattle.cap_canon.specs.InPlace.{AreInPlace, IsInPlace, StandsIn};
+ghost use Rattle.cap_canon.specs.InPlace.{StandsIn};
 ghost use Rattle.cap_canon.specs.Laying.{Due, below, own_size};
-ghost use Rattle.cap_canon.specs.Objects.{IsObject, IsStructs};
-ghost use Rattle.cap_canon.specs.StillToLay.{AreOwed, IsNext, IsWalking, work_left};
-ghost use Rattle.cap_spec.specs.Messages.{IsMessage};
+ghost use Rattle.cap_canon.specs.Roots.{ForTrimmed, HasTree};
+ghost use Rattle.cap_canon.specs.Turns.{IsTurn};
+ghost use Rattle.cap_spec.specs.Canonical.{layout};
 ghost use Rattle.cap_spec.specs.Tree.{Tree};
-ghost use Rattle.std.specs.List.{AllByRecursion};
-ghost use Rattle.std.specs.Option.{option_to_list};
-ghost use Rattle.std.specs.Prelude.{◌+◌, ◌++◌, ◌≡◌, ◌≤◌, ◌<◌, ◌∷◌, List, length, ℕ};
+ghost use Rattle.std.specs.Prelude.{◌+◌, ◌++◌, ◌≡◌, ◌≤◌, [], ◌∷◌, IfNone, IfSome, IsTrue, List, false, length, ℕ};
 
-use crate::frame::Frame;
-use crate::objects::Object;
-use arrayvec::ArrayVec;
+use crate::objects::{Object, object_at};
+use crate::run::PointerPlace;
+use crate::stack::{Stack, enter, take_next};
+use cap_frame::Segments;
 
-/// The pointer words still to be looked at, the next ones last: one frame for each object on the
-/// way down that has some left. A walk to a depth of at most `N` has capacity for all of them.
-pub(crate) type Stack<const N: usize> = ArrayVec<Frame, N>;
+/// What a walk does at each object.
+pub(crate) trait Pass {
+    // A pass with this fact stops at each object that isn't where a copy has it.
+    ghost in_place: { Type 0 };
 
-/// Takes the next pointer word: its segment, its word, and the word of the copy that it becomes.
-#[inline(always)]
-pub(crate) fn take_next<const N: usize>(stack: &mut Stack<N>) -> (u32, u32, u32)
-    requires some { 0 < length stack.old.items }
-    requires walking { (m : List (List ℕ)) × (depth end : ℕ) × (due : List Due) × IsWalking m depth stack.old.items end due × (depth ≤ N) × (N ≤ 256) }
-    ensures next { (m : List (List ℕ)) (depth end : ℕ) (due : List Due) → IsWalking m depth stack.old.items end due →
-        (tree : Tree) × (rest : List Due) × (due ≡ record { slot = result.2; tree = tree } ∷ rest)
-        × IsNext m depth result.0 result.1 result.2 stack.new.items end tree rest }
-    ensures work { work_left stack.new.items + 1 ≡ work_left stack.old.items }
-    ensures in_place { AreInPlace stack.old.items → IsInPlace (result.0, result.1, result.2) × AreInPlace stack.new.items }
+    // Holds between two turns: of the message and the trimmed tree of its root, of the word of the
+    // copy that the contents go on from, and of the pointer words that are due.
+    ghost state: { Self → List (List ℕ) → Tree → ℕ → List Due → Type 0 };
+
+    // Holds of a message and that tree if the pass stopped.
+    ghost stopped: { List (List ℕ) → Tree → Type 0 };
+
+    // What no turn changes.
+    ghost kept: { Self → ℕ × ℕ × ℕ };
+
+    /// Takes a turn: the pointer word at `place` leads to `object`, whose own words a copy has from
+    /// `end` on. Returns whether the walk goes on.
+    fn visit<M: Segments>(
+        &mut self,
+        message: &M,
+        object: &Object,
+        place: PointerPlace,
+        end: u32,
+    ) -> bool
+        requires { let m = M.segments message.now in (whole tree : Tree) × (due : List Due)
+            × IsTurn m in_place whole object.now place end tree due
+            × state self.old m whole end (record { slot = place.slot; tree = tree } ∷ due) }
+        ensures goes_on { let m = M.segments message.now in IsTrue result
+            → (whole tree : Tree) (due : List Due)
+            → IsTurn m in_place whole object.now place end tree due
+            → state self.old m whole end (record { slot = place.slot; tree = tree } ∷ due)
+            → state self.new m whole (end + own_size tree) (below end tree ++ due) }
+        ensures in_place { IsTrue result → in_place → StandsIn end object.now }
+        ensures stops { let m = M.segments message.now in result ≡ false
+            → (whole tree : Tree) (due : List Due)
+            → IsTurn m in_place whole object.now place end tree due
+            → state self.old m whole end (record { slot = place.slot; tree = tree } ∷ due)
+            → stopped m whole }
+        ensures kept { kept self.new ≡ kept self.old };
+}
+
+/// Walks a message of this depth. Returns how many words its canonical copy has, or `None` if the
+/// pass stopped. Each message initializes its runs, so a walk that can't be deep has few of them.
+pub(crate) fn walk<M: Segments, P: Pass>(message: &M, depth: u32, pass: &mut P) -> Option<u32>
+    requires tree { HasTree (M.segments message.now) depth }
+    requires start { let m = M.segments message.now in
+        ForTrimmed m (λ u. P.state pass.old m u 1 (record { slot = 0; tree = u } ∷ [])) }
+    ensures done { let m = M.segments message.now in IfSome result (λ end.
+        ForTrimmed m (λ u. (end ≡ length (layout u)) × P.state pass.new m u end [])) }
+    ensures stopped { let m = M.segments message.now in IfNone result (ForTrimmed m (P.stopped m)) }
+    ensures kept { P.kept pass.new ≡ P.kept pass.old }
 {
-    match stack.pop() {
-        None => unreachable!(),
-        Some(frame) => {
-            push_some(stack, frame.rest());
-            (frame.segment, frame.at, frame.slot)
+    if depth <= 8 {
+        return walk_within::<M, P, 8>(message, depth, pass);
+    }
+    if depth <= 64 {
+        return walk_within::<M, P, 64>(message, depth, pass);
+    }
+    walk_within::<M, P, 256>(message, depth, pass)
+}
+
+// The same with capacity for `N` runs.
+fn walk_within<M: Segments, P: Pass, const N: usize>(
+    message: &M,
+    depth: u32,
+    pass: &mut P,
+) -> Option<u32>
+    requires capacity { (depth ≤ N) × (N ≤ 256) }
+    requires tree { HasTree (M.segments message.now) depth }
+    requires start { let m = M.segments message.now in
+        ForTrimmed m (λ u. P.state pass.old m u 1 (record { slot = 0; tree = u } ∷ [])) }
+    ensures done { let m = M.segments message.now in IfSome result (λ end.
+        ForTrimmed m (λ u. (end ≡ length (layout u)) × P.state pass.new m u end [])) }
+    ensures stopped { let m = M.segments message.now in IfNone result (ForTrimmed m (P.stopped m)) }
+    ensures kept { P.kept pass.new ≡ P.kept pass.old }
+{
+    let mut stack: Stack<N> = Stack::new();
+    let mut place = PointerPlace {
+        segment: 0,
+        word: 0,
+        slot: 0,
+    };
+    let mut end = 1;
+    'walk: loop {
+        let object = object_at(message, place.segment, place.word);
+        if !pass.visit(message, &object, place, end) {
+            return None;
         }
-    }
-}
-
-/// Pushes the pointer words of an object on the stack, and returns where its own words end. They
-/// are laid from `end` on.
-#[inline(always)]
-pub(crate) fn enter<const N: usize>(stack: &mut Stack<N>, object: &Object, end: u32) -> u32
-    requires fits { (m : List (List ℕ)) × (depth s w slot d : ℕ) × (tree : Tree) × (due : List Due) × IsNext m depth s w slot stack.old.items end tree due
-        × IsObject m d s w tree object.now
-        × (d + length stack.old.items ≤ depth) × (depth ≤ N) × (N ≤ 256) }
-    ensures walking { (m : List (List ℕ)) (depth s w slot d : ℕ) (tree : Tree) (due : List Due) → IsNext m depth s w slot stack.old.items end tree due
-        → IsObject m d s w tree object.now
-        → d + length stack.old.items ≤ depth → (result ≡ end + own_size tree) × IsWalking m depth stack.new.items result (below end tree ++ due) }
-    ensures work { (m : List (List ℕ)) (d s w : ℕ) (tree : Tree) → IsObject m d s w tree object.now
-        → work_left stack.new.items ≤ work_left stack.old.items + own_size tree }
-    ensures in_place { AreInPlace stack.old.items → StandsIn end object.now → AreInPlace stack.new.items }
-{
-    push_some(stack, frame_of(object, end));
-    end + own_words(object)
-}
-
-// One more frame, where there is one.
-#[inline(always)]
-fn push_some<const N: usize>(stack: &mut Stack<N>, frame: Option<Frame>)
-    requires few { N ≤ 256 }
-    requires room { length (stack.old.items ++ option_to_list frame) ≤ N }
-    ensures { stack.new.items ≡ stack.old.items ++ option_to_list frame }
-{
-    if let Some(frame) = frame {
-        stack.push(frame);
-    }
-}
-
-// The pointer words of an object. The object's own words are laid from `end` on.
-#[inline(always)]
-fn frame_of(object: &Object, end: u32) -> Option<Frame>
-    requires { (m : List (List ℕ)) × (d s w : ℕ) × (tree : Tree) × IsMessage m × IsObject m d s w tree object.now × (end + own_size tree ≤ 268435457) }
-    ensures owed { (m : List (List ℕ)) (d s w depth n : ℕ) (tree : Tree) → IsObject m d s w tree object.now → d + n ≤ depth
-        → AreOwed m depth (n + 1) (option_places result) (below end tree) }
-    ensures full { OptionFull result }
-    ensures in_place { StandsIn end object.now → AllByRecursion IsInPlace (option_places result) }
-{
-    match object {
-        Object::Struct {
-            segment,
-            start,
-            data_words,
-            data_left,
-            pointers_left,
-            ..
-        } => row_frame(
-            *segment,
-            *start + *data_words,
-            end + *data_left,
-            *pointers_left,
-        ),
-        Object::Pointers {
-            segment,
-            start,
-            count,
-        } => row_frame(*segment, *start, end, *count),
-        Object::Structs { .. } => structs_frame(object, end),
-        Object::Null => None,
-        Object::Cap { .. } => None,
-        Object::Scalars { .. } => None,
-    }
-}
-
-// Those of a list of structs.
-#[inline(always)]
-fn structs_frame(object: &Object, end: u32) -> Option<Frame>
-    requires structs { IsStructs object.now }
-    requires is { (m : List (List ℕ)) × (d s w : ℕ) × (tree : Tree) × IsMessage m × IsObject m d s w tree object.now × (end + own_size tree ≤ 268435457) }
-    ensures owed { (m : List (List ℕ)) (d s w depth n : ℕ) (tree : Tree) → IsObject m d s w tree object.now → d + n ≤ depth
-        → AreOwed m depth (n + 1) (option_places result) (below end tree) }
-    ensures full { OptionFull result }
-    ensures in_place { StandsIn end object.now → AllByRecursion IsInPlace (option_places result) }
-{
-    match object {
-        Object::Structs {
-            segment,
-            start,
-            count,
-            data_words,
-            pointers,
-            data_left,
-            pointers_left,
-        } => {
-            if *count == 0 || *pointers_left == 0 {
-                return None;
-            }
-            Some(Frame {
-                segment: *segment,
-                at: *start + 1 + *data_words,
-                slot: end + 1 + *data_left,
-                left: *pointers_left,
-                more: *count - 1,
-                skip: *pointers - *pointers_left + *data_words,
-                gap: *data_left,
-                pointers: *pointers_left,
-            })
+        end = enter(&mut stack, &object, end);
+        if stack.is_empty() {
+            return Some(end);
         }
-        _ => unreachable!(),
-    }
-}
-
-// Pointer words that are in one row.
-#[inline(always)]
-fn row_frame(segment: u32, at: u32, slot: u32, left: u32) -> Option<Frame>
-    ensures places { option_places result ≡ row_places segment at slot left }
-    ensures full { OptionFull result }
-{
-    if left == 0 {
-        return None;
-    }
-    Some(Frame {
-        segment,
-        at,
-        slot,
-        left,
-        more: 0,
-        skip: 0,
-        gap: 0,
-        pointers: 0,
-    })
-}
-
-// How many words an object has of its own in the copy.
-#[inline(always)]
-fn own_words(object: &Object) -> u32
-    requires { (m : List (List ℕ)) × (d s w : ℕ) × (tree : Tree) × IsObject m d s w tree object.now × (own_size tree ≤ 268435457) }
-    ensures { (m : List (List ℕ)) (d s w : ℕ) (tree : Tree) → IsObject m d s w tree object.now → result ≡ own_size tree }
-{
-    match object {
-        Object::Null => 0,
-        Object::Cap { .. } => 0,
-        Object::Struct {
-            data_left,
-            pointers_left,
-            ..
-        } => *data_left + *pointers_left,
-        Object::Scalars { words, .. } => *words,
-        Object::Pointers { count, .. } => *count,
-        Object::Structs {
-            count,
-            data_left,
-            pointers_left,
-            ..
-        } => 1 + *count * (*data_left + *pointers_left),
+        place = take_next(&mut stack);
     }
 }

@@ -19,25 +19,20 @@ use cap_words::bits;
 #[inline(always)]
 pub(crate) fn pointer_word(offset: u32, object: &Object) -> u64
     requires near { offset < 2 ^ 29 }
-    requires is { (m : List (List ℕ)) × (d s w : ℕ) × (tree : Tree) × IsObject m d s w tree object.now }
-    ensures { (m : List (List ℕ)) (d s w : ℕ) (tree : Tree) → IsObject m d s w tree object.now → result ≡ pointer_to offset tree }
+    requires is { (m : List (List ℕ)) × (d s w : ℕ) × (tree : Tree)
+        × IsObject m d s w tree object.now }
+    ensures { (m : List (List ℕ)) (d s w : ℕ) (tree : Tree) → IsObject m d s w tree object.now
+        → result ≡ pointer_to offset tree }
 {
     match *object {
         Object::Null => 0,
         Object::Cap { index } => cap_pointer(index),
-        Object::Struct {
-            data_left,
-            pointers_left,
-            ..
-        } => struct_pointer(offset, data_left, pointers_left),
+        Object::Struct(part) => struct_pointer(offset, part.data_left, part.pointers_left),
         Object::Scalars { code, count, .. } => list_pointer(offset, code, count),
         Object::Pointers { count, .. } => list_pointer(offset, 6, count),
-        Object::Structs {
-            count,
-            data_left,
-            pointers_left,
-            ..
-        } => list_pointer(offset, 7, count * (data_left + pointers_left)),
+        Object::Structs { count, part } => {
+            list_pointer(offset, 7, count * (part.data_left + part.pointers_left))
+        }
     }
 }
 
@@ -45,7 +40,8 @@ pub(crate) fn pointer_word(offset: u32, object: &Object) -> u64
 #[inline(always)]
 fn struct_pointer(offset: u32, data_words: u32, pointers: u32) -> u64
     requires { (offset < 2 ^ 29) × (data_words < 2 ^ 16) × (pointers < 2 ^ 16) }
-    ensures { result ≡ (if (data_words + pointers) == 0 then 2 ^ 32 - 4 else struct_word offset data_words pointers) }
+    ensures { result ≡ (if (data_words + pointers) == 0
+        then 2 ^ 32 - 4 else struct_word offset data_words pointers) }
 {
     if data_words + pointers == 0 {
         let empty = Pointer::Struct {

@@ -4,7 +4,7 @@ use Rattle.cap_spec.specs.Frames.{frame_text}
 use Rattle.cap_spec.specs.Plain.{plain_words}
 use Rattle.cap_words.specs.Sinks.{WasPut}
 use Rattle.cap_words.specs.declared.sinks.WordSink as sink
-use Rattle.cap_canon.proofs.SpelledWords.{word_count}
+use Rattle.cap_canon.proofs.FirstWords.{word_count}
 use Rattle.cap_run.specs.Copying.{Fills}
 use Rattle.std.proofs.Common.{◌+◌, false, sym}
 

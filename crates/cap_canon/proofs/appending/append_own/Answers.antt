@@ -2,29 +2,39 @@ use Rattle.std.proofs.Common.{arith}
 use Rattle.cap_canon.proofs.Filling.{pointers_appended, scalars_appended, scalars_size, struct_appended}
 use Rattle.cap_canon.proofs.appending.append_own.Goals as goal
 
-pub append_values-requires-clause-room : goal.append_values-requires-clause-room
-append_values-requires-clause-room g c =
+pub append_values-requires-clause-capacity : goal.append_values-requires-clause-capacity
+append_values-requires-clause-capacity g c =
     let m = g.M.Segments.segments c.args.message.now in
     let k = rw c.in-Scalars.is at c.requires.4 in
-    omega (arith, c.requires.5, scalars_size m c.requires.1 c.requires.2 c.requires.3 c.in-Scalars.segment c.in-Scalars.start c.in-Scalars.code c.in-Scalars.count c.in-Scalars.words k.1)
+    omega (
+      arith,
+      c.requires.5,
+      scalars_size m c.requires.1 c.requires.2 c.requires.3 c.in-Scalars.segment c.in-Scalars.start c.in-Scalars.code
+          c.in-Scalars.count c.in-Scalars.words k.1,
+    )
 
 pub returns-in-Struct-clause-own : goal.returns-in-Struct-clause-own
 returns-in-Struct-clause-own g c = λ d s w tree h.
     (let m = g.M.Segments.segments c.args.message.now in
     let k = rw c.in-Struct.is at h in
-    struct_appended m k.0 s w tree c.in-Struct.segment c.in-Struct.start c.in-Struct.data_words c.in-Struct.pointers c.in-Struct.data_left c.in-Struct.pointers_left
-    (g.T.Target.words c.args.copy.now) (g.T.Target.words c.append_struct.new.copy) k.2 c.append_struct.ensures.words)
+    struct_appended m k.0 s w tree c.in-Struct.part
+    (g.T.CopyOutput.words c.args.copy.now) (g.T.CopyOutput.words c.append_struct.new.copy) k.2 c.append_struct.ensures.words)
 
 pub returns-in-Scalars-clause-own : goal.returns-in-Scalars-clause-own
 returns-in-Scalars-clause-own g c = λ d s w tree h.
     (let m = g.M.Segments.segments c.args.message.now in
     let k = rw c.in-Scalars.is at h in
     scalars_appended m s w tree c.in-Scalars.segment c.in-Scalars.start c.in-Scalars.code c.in-Scalars.count c.in-Scalars.words
-    (g.T.Target.words c.args.copy.now) (g.T.Target.words c.append_values.new.copy) k.1 c.append_values.ensures.words)
+    (g.T.CopyOutput.words c.args.copy.now) (g.T.CopyOutput.words c.append_values.new.copy) k.1 c.append_values.ensures.words)
 
 pub returns-in-Pointers-clause-own : goal.returns-in-Pointers-clause-own
 returns-in-Pointers-clause-own g c = λ d s w tree h.
     (let m = g.M.Segments.segments c.args.message.now in
     let k = rw c.in-Pointers.is at h in
     pointers_appended m k.0 s w tree c.in-Pointers.segment c.in-Pointers.start c.in-Pointers.count
-    (g.T.Target.words c.args.copy.now) (g.T.Target.words c.append_from.new.self) k.2 c.append_from.ensures.words)
+    (g.T.CopyOutput.words c.args.copy.now) (g.T.CopyOutput.words c.append_from.new.self) k.2 c.append_from.ensures.words)
+
+pub returns-in-Structs-clause-own : goal.returns-in-Structs-clause-own
+returns-in-Structs-clause-own g c = λ d s w tree h.
+    (let k = rw c.in-Structs.is at h in
+    c.append_tagged.ensures.own k.0 s w tree k.2)

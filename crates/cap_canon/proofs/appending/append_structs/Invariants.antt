@@ -3,9 +3,11 @@ use Rattle.cap_canon.proofs.Structs.{StructsSoFar}
 use Rattle.cap_canon.proofs.appending.append_structs.Given as goal
 
 abbrev pub invariant-elements : goal.invariant-elements
-invariant-elements g l = record {
-  far : StructsSoFar (g.M.Segments.segments l.message) l.elements.segment l.elements.start l.start l.elements.data_words l.elements.pointers l.elements.data_left l.elements.pointers_left l.count l.counter
-      (g.T.Target.words l.initial.copy) (g.T.Target.words l.copy) (g.T.Target.room l.copy);
-  room : g.T.Target.room l.copy ≡ g.T.Target.room l.initial.copy;
-  lent : g.T.Target.lent l.copy ≡ g.T.Target.lent l.initial.copy;
-}
+invariant-elements g l =
+    let m = g.M.Segments.segments l.message in
+    let words = g.T.CopyOutput.words in
+    record {
+      far : StructsSoFar m l.part l.start l.count l.counter (words l.initial.copy) (words l.copy) (g.T.CopyOutput.capacity l.copy);
+      capacity : g.T.CopyOutput.capacity l.copy ≡ g.T.CopyOutput.capacity l.initial.copy;
+      borrow : g.T.CopyOutput.borrow l.copy ≡ g.T.CopyOutput.borrow l.initial.copy;
+    }

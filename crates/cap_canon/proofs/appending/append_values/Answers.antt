@@ -9,7 +9,9 @@ returns-clause-words g c =
     let m = g.M.Segments.segments c.args.message.now in
     let before = c.args.words - 1 in
     let some : list_words c.args.code c.args.count ≡ before + 1 = omega (arith, c.requires.words, c.if-words-eq0.false) in
-    let laid = values_laid m c.args.segment c.args.start c.args.code c.args.count before c.word-last.result c.requires.code some (omega (arith, c.requires.inside, c.if-words-eq0.false)) c.append_from.ensures.are_words c.word-last.ensures in
+    let laid = values_laid m c.args.segment c.args.start c.args.code c.args.count before c.word-last.result c.requires.code some
+    (omega (arith, c.requires.inside, c.if-words-eq0.false)) c.append_from.ensures.are_words c.word-last.ensures in
     c.push.ensures.words ∙ (ap (λ xs. xs ++ c.last_word.result ∷ []) c.append_from.ensures.words
-    ∙ (append_assoc (g.T.Target.words c.args.copy.now) (words_from m c.args.segment c.args.start before) (c.last_word.result ∷ [])
-    ∙ ap (λ xs. g.T.Target.words c.args.copy.now ++ xs) (ap (λ x. words_from m c.args.segment c.args.start before ++ x ∷ []) c.last_word.ensures ∙ sym laid)))
+    ∙ (append_assoc (g.T.CopyOutput.words c.args.copy.now) (words_from m c.args.segment c.args.start before) (c.last_word.result ∷ [])
+    ∙ ap (λ xs. g.T.CopyOutput.words c.args.copy.now ++ xs) (ap (λ x. words_from m c.args.segment c.args.start before ++ x ∷ []) c.last_word.ensures
+    ∙ sym laid)))

@@ -4,16 +4,17 @@ use Rattle.cap_vet.specs.Vettings.{message_of}
 use Rattle.cap_canon.specs.declared.fault.CanonFault.TheVariants.{HasCapability}
 use Rattle.cap_spec.proofs.Canonical.Offsets.{offsets_fit}
 use Rattle.cap_spec.proofs.Canonical.Copies.{copy_denotes, copy_only, copy_own, one_copy}
-use Rattle.cap_canon.proofs.Copies.{err_parts, cap_no_copy, copy_length, copy_of, few_charged}
+use Rattle.cap_canon.proofs.Copies.{err_parts, cap_no_copy, copy_length, copy_of, few_charged, has_tree}
 use Rattle.cap_canon.proofs.copying.canonical.Goals as goal
 
-pub copy_into-requires-clause-denotes : goal.copy_into-requires-clause-denotes
-copy_into-requires-clause-denotes g c =
+pub copy_into-requires-clause-tree : goal.copy_into-requires-clause-tree
+copy_into-requires-clause-tree g c = let k = c.report.ensures.accepted in rw c.message.ensures.value (has_tree _ c.report.result k.0 k.1)
+
+pub copy_into-requires-clause-capacity : goal.copy_into-requires-clause-capacity
+copy_into-requires-clause-capacity g c =
     let m = g.M.Segments.segments (message_of c.args.v.now) in
     let h = c.in-Ok.ensures.ok in
-    let k = c.report.ensures.accepted in
-    let e : length h.0 ≡ length (layout (trim k.0)) = copy_length m h.0 k.0 c.report.result.charge c.report.result.depth h.1 k.1.denotes in
-    rw c.message.ensures.value (k.0, c.report.result.charge, k.1.denotes, k.1.within, k.1.shallow, omega (arith, e, h.2, c.in-Ok-with_capacity.ensures.exact))
+    rw c.message.ensures.value (λ t x d f. let e = copy_length m h.0 t x d h.1 f in omega (arith, e, h.2, c.in-Ok-with_capacity.ensures.exact))
 
 pub returns-clause-capacity : goal.returns-clause-capacity
 returns-clause-capacity g c =
@@ -21,7 +22,7 @@ returns-clause-capacity g c =
     let h = c.in-Ok.ensures.ok in
     let made = copy_of m h.0 c.copy_into.new.copy.items h.1 (rw c.message.ensures.value at c.copy_into.ensures.words) in
     let e : length h.0 ≡ length c.copy_into.new.copy.items = ap length (one_copy m h.0 c.copy_into.new.copy.items h.1 made) in
-    omega (arith, e, h.2, c.in-Ok-with_capacity.ensures.exact, c.copy_into.ensures.room)
+    omega (arith, e, h.2, c.in-Ok-with_capacity.ensures.exact, c.copy_into.ensures.capacity)
 
 pub returns-clause-accepted : goal.returns-clause-accepted
 returns-clause-accepted g c =

@@ -6,14 +6,18 @@ elements-init g c = no_children_seen (g.M.Segments.segments c.args.message.now) 
 
 pub returns-then-most-pointers-clause-value : goal.returns-then-most-pointers-clause-value
 returns-then-most-pointers-clause-value g c = λ es c' d h.
-    enough_children (g.M.Segments.segments c.args.message.now) c.args.segment c.args.start c.elements.at c.args.data_words c.args.pointers c.args.count c.elements.counter c.elements.most es c' d c.if-most-pointers.true c.elements.invariant h
+    enough_children (g.M.Segments.segments c.args.message.now) c.args.segment c.args.start c.elements.at c.args.data_words c.args.pointers c.args.count
+    c.elements.counter c.elements.most es c' d c.if-most-pointers.true c.elements.invariant h
 
 pub pointers_left-most-requires-clause-denote : goal.pointers_left-most-requires-clause-denote
 pointers_left-most-requires-clause-denote g c =
     let r = c.requires.elements in
-    let k = at_hand (g.M.Segments.segments c.args.message.now) c.args.segment c.args.start c.elements.at c.args.data_words c.args.pointers c.args.count c.elements.counter c.elements.most r.0 r.1 r.2 c.elements-test.true c.elements.invariant r.3 in
+    let k = at_hand (g.M.Segments.segments c.args.message.now) c.args.segment c.args.start c.elements.at c.args.data_words c.args.pointers c.args.count
+    c.elements.counter c.elements.most r.0 r.1 r.2 c.elements-test.true c.elements.invariant r.3 in
     (k.children, k.parts.c1, k.parts.d1, k.parts.children)
 
 pub elements-preserved : goal.elements-preserved
 elements-preserved g c =
-    children_seen (g.M.Segments.segments c.args.message.now) c.args.segment c.args.start c.elements.at c.args.data_words c.args.pointers c.args.count c.elements.counter c.elements.most c.pointers_left-most.result c.elements-test.true c.pointers_left-most.ensures.value c.pointers_left-most.ensures.within c.elements.invariant
+    children_seen (g.M.Segments.segments c.args.message.now) c.args.segment c.args.start c.elements.at c.args.data_words c.args.pointers c.args.count
+    c.elements.counter c.elements.most c.pointers_left-most.result c.elements-test.true c.pointers_left-most.ensures.value
+    c.pointers_left-most.ensures.within c.elements.invariant

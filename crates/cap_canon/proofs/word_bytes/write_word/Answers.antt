@@ -1,7 +1,8 @@
 use Rattle.std.proofs.Common.{◌∙◌, arith, rules}
-use Rattle.cap_canon.proofs.SpelledWords.{words_put}
+use Rattle.cap_canon.proofs.FirstWords.{words_put}
 use Rattle.cap_canon.proofs.word_bytes.write_word.Goals as goal
 
 pub returns-clause-words : goal.returns-clause-words
 returns-clause-words c =
-    words_put c.args.number _ c.args.bytes.now c.copy_from_slice.new.self c.args.word (search rules) (omega arith) (omega arith) (c.copy_from_slice.ensures.after ∙ c.bytes_of.ensures.value)
+    words_put c.args.number _ c.args.bytes.now c.copy_from_slice.new.self c.args.word (search rules) (omega arith) (omega arith)
+    (c.copy_from_slice.ensures.after ∙ c.bytes_of.ensures.value)

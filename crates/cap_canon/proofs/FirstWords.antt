@@ -1,0 +1,76 @@
+-- Words written as bytes over bytes that are there already.
+use Rattle.std.proofs.Common.{◌≡◌, ◌+◌, ◌*◌, ◌/◌, ◌<◌, ◌≤◌, ◌∙◌, ℕ, zero, suc, List, [], ◌∷◌, ◌++◌, length, take, drop, get_or, set, drop-drop, refl, ap, sym, arith}
+use Rattle.std.specs.List.{AllByRecursion}
+use Rattle.cap_spec.specs.Plain.{plain_text, plain_words, word_bytes}
+use Rattle.cap_spec.specs.Words.{IsWord}
+use Rattle.cap_spec.proofs.Bytes.Plain.{plain_back}
+use Rattle.std.proofs.lemmas.List.{length-take-le, take-append-le, take_all}
+use Rattle.std.proofs.lemmas.Grind.{take-set_at}
+use Rattle.std.proofs.Math.Seq.{take-set-lt}
+use Rattle.cap_canon.specs.FirstWords.{first_words}
+use Rattle.cap_words.proofs.WholeWords.{whole_text}
+use borrow.Rule.Slice.PartMut.{put_mid}
+
+-- how many words bytes begin with
+pub word_count : (bytes : List ℕ) → length (plain_words bytes) ≡ length bytes / 8
+word_count [] = refl
+word_count (a ∷ []) = refl
+word_count (a ∷ b ∷ []) = refl
+word_count (a ∷ b ∷ c ∷ []) = refl
+word_count (a ∷ b ∷ c ∷ d ∷ []) = refl
+word_count (a ∷ b ∷ c ∷ d ∷ e ∷ []) = refl
+word_count (a ∷ b ∷ c ∷ d ∷ e ∷ f ∷ []) = refl
+word_count (a ∷ b ∷ c ∷ d ∷ e ∷ f ∷ g ∷ []) = refl
+word_count (a ∷ b ∷ c ∷ d ∷ e ∷ f ∷ g ∷ h ∷ rest) = let t = word_count rest in omega (arith, t)
+
+-- the bytes of a word in place of those of word p
+words_set : (p : ℕ) (bytes : List ℕ) (w : ℕ) → IsWord w → 8 * p + 8 ≤ length bytes
+    → plain_words (take (8 * p) bytes ++ (word_bytes w ++ drop (8 * p + 8) bytes)) ≡ set (plain_words bytes) p w
+words_set p [] w is h = absurd (omega (arith, h))
+words_set p (a ∷ []) w is h = absurd (omega (arith, h))
+words_set p (a ∷ b ∷ []) w is h = absurd (omega (arith, h))
+words_set p (a ∷ b ∷ c ∷ []) w is h = absurd (omega (arith, h))
+words_set p (a ∷ b ∷ c ∷ d ∷ []) w is h = absurd (omega (arith, h))
+words_set p (a ∷ b ∷ c ∷ d ∷ e ∷ []) w is h = absurd (omega (arith, h))
+words_set p (a ∷ b ∷ c ∷ d ∷ e ∷ f ∷ []) w is h = absurd (omega (arith, h))
+words_set p (a ∷ b ∷ c ∷ d ∷ e ∷ f ∷ g ∷ []) w is h = absurd (omega (arith, h))
+words_set zero (a ∷ b ∷ c ∷ d ∷ e ∷ f ∷ g ∷ x ∷ rest) w is h = plain_back (w ∷ []) rest (is, tt)
+words_set (suc p) (a ∷ b ∷ c ∷ d ∷ e ∷ f ∷ g ∷ x ∷ rest) w is h =
+    let bytes = a ∷ b ∷ c ∷ d ∷ e ∷ f ∷ g ∷ x ∷ rest in
+    let front : 8 * suc p ≡ suc (suc (suc (suc (suc (suc (suc (suc (8 * p)))))))) = omega arith in
+    let back : 8 * suc p + 8 ≡ suc (suc (suc (suc (suc (suc (suc (suc (8 * p + 8)))))))) = omega arith in
+    ap (λ k. plain_words (take k bytes ++ (word_bytes w ++ drop (8 * suc p + 8) bytes))) front
+    ∙ ap (λ k. plain_words (take (suc (suc (suc (suc (suc (suc (suc (suc (8 * p))))))))) bytes ++ (word_bytes w ++ drop k bytes))) back
+    ∙ ap (λ ws. get_or (plain_words bytes) 0 0 ∷ ws) (words_set p rest w is (omega (arith, h)))
+
+-- the same by what a part of bytes was overwritten with
+pub words_put : (p k : ℕ) (bytes given : List ℕ) (w : ℕ) → IsWord w → k ≡ 8 → 8 * p + 8 ≤ length bytes → given ≡ word_bytes w
+    → plain_words (put_mid (8 * p) k bytes given) ≡ set (plain_words bytes) p w
+words_put p k bytes given w is eight h e =
+    ap (λ n. plain_words (put_mid (8 * p) n bytes given)) eight
+    ∙ ap (λ l. plain_words (take (8 * p) bytes ++ (given ++ l))) (drop-drop 8 (8 * p) bytes)
+    ∙ ap (λ l. plain_words (take (8 * p) bytes ++ (l ++ drop (8 * p + 8) bytes))) e ∙ words_set p bytes w is h
+
+-- a vector whose slice was written over holds what the slice then held
+pub written_back : (n : ℕ) (given items : List ℕ) → length given ≡ n → take n (given ++ drop (length given) items) ≡ given
+written_back n given items e = take-append-le n given (drop (length given) items) (omega (arith, e)) ∙ take_all n given (omega (arith, e))
+
+-- so many words are there
+pub first_words_count : (n : ℕ) (bytes : List ℕ) → 8 * n ≤ length bytes → length (take n (plain_words bytes)) ≡ n
+first_words_count n bytes h = length-take-le n (plain_words bytes) (omega (arith, h, word_count bytes))
+
+-- whole words are what they spell
+pub whole_words : (bytes : List ℕ) → AllByRecursion (λ b. b < 256) bytes → length bytes ≡ 8 * (length bytes / 8) → bytes ≡ plain_text (plain_words bytes)
+whole_words bytes small h =
+    let all : take (length bytes / 8 * 8) bytes ≡ bytes = take_all (length bytes / 8 * 8) bytes (omega (arith, h)) in
+    sym all ∙ whole_text bytes small
+
+-- word n was written behind the first n
+pub word_appended : (n w : ℕ) (given items : List ℕ) → 8 * n + 8 ≤ length items → plain_words given ≡ set (plain_words items) n w
+    → first_words (n + 1) given ≡ first_words n items ++ w ∷ []
+word_appended n w given items h e = ap (take (n + 1)) e ∙ take-set_at (plain_words items) n (n + 1) w refl (omega (arith, word_count items, h))
+
+-- word p was written in place of one of the first n
+pub word_replaced : (n p w : ℕ) (given items : List ℕ) → p < n → plain_words given ≡ set (plain_words items) p w
+    → first_words n given ≡ set (first_words n items) p w
+word_replaced n p w given items h e = ap (take n) e ∙ take-set-lt n (plain_words items) p w h

@@ -1,0 +1,155 @@
+-- A walk over an accepted message, from turn to turn.
+use Rattle.std.proofs.Common.{ℕ, zero, suc, false, ◌+◌, ◌-◌, ◌<◌, ◌≤◌, List, [], ◌∷◌, ◌++◌, ◌≡◌, ap, refl, sym, subst, arith, length}
+use Rattle.std.proofs.lemmas.Bool.{false≢true}
+use Rattle.std.specs.Prelude.{◌==◌}
+use Rattle.cap_spec.specs.Messages.{IsMessage, segment_of}
+use Rattle.cap_spec.specs.Tree.{Tree}
+use Rattle.cap_spec.specs.Denoting.{Denotes}
+use Rattle.cap_spec.specs.Canonical.{content, layout, trim}
+use Rattle.cap_spec.proofs.Frames.Messages.{HasWord-inside}
+use Rattle.cap_spec.proofs.Paths.Arrivals.{lead_word}
+use Rattle.cap_spec.proofs.Trees.OneTree.{Formed, formed, one_tree}
+use Rattle.cap_spec.proofs.Canonical.TreeMeasures.{Fits, Measured, measured}
+use Rattle.cap_spec.proofs.Canonical.TrimmedMeasures.{Trimmed, trimmed}
+use Rattle.cap_spec.proofs.Canonical.Placing.{stand_inside}
+use Rattle.cap_spec.proofs.Canonical.Sizes.{length-content, trimmed_size_charged}
+use Rattle.cap_canon.specs.CopyRuns.{place}
+use Rattle.cap_canon.specs.InPlace.{AreInPlace, IsInPlace}
+use Rattle.cap_canon.specs.Laying.{Due, Laid, own_size, below}
+use Rattle.cap_canon.specs.Objects.{IsObject}
+use Rattle.cap_canon.specs.Roots.{HasTree}
+use Rattle.cap_canon.specs.StillToLay.{IsNext, IsOwed, IsWalking, Meets, Takes}
+use Rattle.cap_canon.specs.Turns.{IsTurn}
+use Rattle.cap_canon.specs.declared.objects.Object.{Object}
+use Rattle.cap_canon.specs.declared.run.CopyRun.{CopyRun}
+use Rattle.cap_canon.specs.declared.run.PointerPlace.{PointerPlace}
+use Rattle.cap_canon.proofs.LaidSteps.{object_laid}
+use Rattle.cap_canon.proofs.Lengths.{own_within, size_below}
+use Rattle.cap_canon.proofs.Whole.{layout_laid}
+
+-- what is owed fits the fields of words
+pub owed_fits : (m : List (List ℕ)) (depth n s w : ℕ) (u : Tree) → IsOwed m depth n s w u → Fits u
+owed_fits m depth n s w u o =
+    let a : Measured o.0 o.1 o.2 = measured m s w o.0 o.1 o.2 o.3 in
+    let b : Trimmed o.0 (trim o.0) = trimmed o.0 a.fits in
+    subst Fits (sym o.4) b.fits
+
+-- and so does the root
+pub root_fits : (m : List (List ℕ)) (t : Tree) (c d : ℕ) → Denotes m 0 0 t c d → Fits (trim t)
+root_fits m t c d h = owed_fits m d 0 0 0 (trim t) (t, c, d, h, refl, omega arith)
+
+-- there is a root word
+pub root_inside : (m : List (List ℕ)) (t : Tree) (c d : ℕ) → Denotes m 0 0 t c d → 1 ≤ length (segment_of m 0)
+root_inside m t c d h =
+    let f : Formed m 0 0 t = formed m 0 0 t c d h in
+    let p = lead_word m 0 0 f.k f.r f.leads in
+    omega (arith, HasWord-inside m 0 0 p.0 p.1)
+
+-- A walk at the word at p, with a state that fits what is due.
+pub record AtTurn (m : List (List ℕ)) (InPlace : Type 0) (state : List (List ℕ) → Tree → ℕ → List Due → Type 0) (depth : ℕ) (runs : List CopyRun)
+    (p : PointerPlace) (end : ℕ) : Type 0 where
+  pub root : Tree
+  pub charge : ℕ
+  pub denotes : Denotes m 0 0 root charge depth
+  pub tree : Tree
+  pub due : List Due
+  pub next : IsNext m depth p runs end tree due
+  pub laid : Laid (layout (trim root)) end (record { slot = p.slot; tree = tree } ∷ due)
+  pub in_place : InPlace → IsInPlace p × AreInPlace runs
+  pub so_far : state m (trim root) end (record { slot = p.slot; tree = tree } ∷ due)
+
+-- at the root
+pub first_turn : (m : List (List ℕ)) (InPlace : Type 0) (state : List (List ℕ) → Tree → ℕ → List Due → Type 0) (depth : ℕ) → IsMessage m → (k : HasTree m depth)
+    → state m (trim k.tree) 1 (record { slot = 0; tree = trim k.tree } ∷ []) → AtTurn m InPlace state depth [] (place 0 0 0) 1
+first_turn m InPlace state depth is k so_far = record {
+  root = k.tree;
+  charge = k.charge;
+  denotes = k.denotes;
+  tree = trim k.tree;
+  due = [];
+  next = record {
+    owed = (k.tree, k.charge, depth, k.denotes, refl, omega arith);
+    inside = omega arith;
+    message = is;
+    stacked = refl;
+    before = tt;
+    small = let e = trimmed_size_charged m 0 0 k.tree k.charge depth k.denotes in omega (arith, e, k.few);
+  };
+  laid = (layout_laid (layout (trim k.tree)) (trim k.tree) (root_fits m k.tree k.charge depth k.denotes)).0 refl;
+  in_place = λ _. ((refl, refl), tt);
+  so_far = so_far;
+}
+
+-- the object there
+pub this_met : (m : List (List ℕ)) (InPlace : Type 0) (state : List (List ℕ) → Tree → ℕ → List Due → Type 0) (depth : ℕ) (runs : List CopyRun) (p : PointerPlace) (end : ℕ)
+    (object : Object) → (k : AtTurn m InPlace state depth runs p end)
+    → ((t : Tree) (c d : ℕ) → Denotes m p.segment p.word t c d → IsObject m d p.segment p.word (trim t) object) → Meets m depth p runs end k.tree k.due object
+this_met m InPlace state depth runs p end object k f =
+    let o = k.next.owed in
+    record { next = k.next; d = o.2; is = subst (λ u. IsObject m o.2 p.segment p.word u object) (sym o.4) (f o.0 o.1 o.2 o.3); levels = o.5 }
+
+pub this_turn : (m : List (List ℕ)) (InPlace : Type 0) (state : List (List ℕ) → Tree → ℕ → List Due → Type 0) (depth : ℕ) (runs : List CopyRun) (p : PointerPlace) (end : ℕ)
+    (object : Object) → (k : AtTurn m InPlace state depth runs p end) → Meets m depth p runs end k.tree k.due object
+    → IsTurn m InPlace (trim k.root) object p end k.tree k.due
+this_turn m InPlace state depth runs p end object k met =
+    let fits = owed_fits m depth (length runs) p.segment p.word k.tree k.next.owed in
+    let parts = (object_laid (layout (trim k.root)) end p.slot k.tree k.due fits).0 k.laid in
+    let i : end + length (content k.tree) ≤ length (layout (trim k.root)) = stand_inside (layout (trim k.root)) end (content k.tree) k.laid.3 in record {
+      depth = depth;
+      runs = runs;
+      meets = met;
+      in_place = λ h. (k.in_place h).0;
+      pointed = parts.0;
+      own = parts.1;
+      inside = omega (arith, i, length-content k.tree fits, size_below end k.tree);
+    }
+
+-- what is due after it
+turn_laid : (m : List (List ℕ)) (InPlace : Type 0) (state : List (List ℕ) → Tree → ℕ → List Due → Type 0) (depth : ℕ) (runs : List CopyRun)
+    (p : PointerPlace) (end now : ℕ)
+    → (k : AtTurn m InPlace state depth runs p end) → now ≡ end + own_size k.tree → Laid (layout (trim k.root)) now (below end k.tree ++ k.due)
+turn_laid m InPlace state depth runs p end now k e =
+    let fits = owed_fits m depth (length runs) p.segment p.word k.tree k.next.owed in
+    subst (λ n. Laid (layout (trim k.root)) n (below end k.tree ++ k.due)) (sym e)
+    ((object_laid (layout (trim k.root)) end p.slot k.tree k.due fits).0 k.laid).2
+
+-- the next word
+pub next_turn : (m : List (List ℕ)) (InPlace : Type 0) (before state : List (List ℕ) → Tree → ℕ → List Due → Type 0) (depth : ℕ) (runs rest : List CopyRun)
+    (p q : PointerPlace) (end now : ℕ)
+    → (k : AtTurn m InPlace before depth runs p end) → now ≡ end + own_size k.tree → Takes m depth q rest now (below end k.tree ++ k.due)
+    → (InPlace → IsInPlace q × AreInPlace rest)
+    → state m (trim k.root) (end + own_size k.tree) (below end k.tree ++ k.due) → AtTurn m InPlace state depth rest q now
+next_turn m InPlace before state depth runs rest p q end now k e taken in_place so_far = record {
+  root = k.root;
+  charge = k.charge;
+  denotes = k.denotes;
+  tree = taken.0;
+  due = taken.1;
+  next = taken.3;
+  laid = subst (λ due. Laid (layout (trim k.root)) now due) taken.2 (turn_laid m InPlace before depth runs p end now k e);
+  in_place = in_place;
+  so_far = subst (λ due. state m (trim k.root) now due) taken.2 (subst (λ n. state m (trim k.root) n (below end k.tree ++ k.due)) (sym e) so_far);
+}
+
+-- no word is left
+pub last_turn : (m : List (List ℕ)) (InPlace : Type 0) (before state : List (List ℕ) → Tree → ℕ → List Due → Type 0) (depth : ℕ) (runs : List CopyRun)
+    (p : PointerPlace) (end now : ℕ)
+    → (k : AtTurn m InPlace before depth runs p end) → now ≡ end + own_size k.tree → IsWalking m depth [] now (below end k.tree ++ k.due)
+    → state m (trim k.root) (end + own_size k.tree) (below end k.tree ++ k.due) → (t : Tree) (c d : ℕ) → Denotes m 0 0 t c d
+    → (now ≡ length (layout (trim t))) × state m (trim t) now []
+last_turn m InPlace before state depth runs p end now k e w so_far t c d h =
+    let same = one_tree m 0 0 k.root t k.charge depth c d k.denotes h in
+    let long : now ≡ length (layout (trim k.root)) = subst (λ due. Laid (layout (trim k.root)) now due) w.stacked
+    (turn_laid m InPlace before depth runs p end now k e) in
+    let all : state m (trim k.root) now [] = subst (λ due. state m (trim k.root) now due) w.stacked
+    (subst (λ n. state m (trim k.root) n (below end k.tree ++ k.due)) (sym e) so_far) in
+    subst (λ u. (now ≡ length (layout (trim u))) × state m (trim u) now []) same.part (long, all)
+
+-- what is left of a walk falls at each turn
+pub work_falls : (old next now end full own : ℕ) → next + 1 ≡ now → now ≤ old + own → end + own ≤ full → next + (full - (end + own)) < old + (full - end)
+work_falls old next now end full own e f g = omega (arith, e, f, g)
+
+-- a stack that isn't empty has a run
+pub some_left : (n : ℕ) → false ≡ (n == 0) → 0 < n
+some_left zero e = absurd (false≢true e)
+some_left (suc n) e = omega arith

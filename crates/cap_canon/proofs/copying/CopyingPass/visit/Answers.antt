@@ -1,0 +1,23 @@
+use Rattle.std.proofs.Common.{◌+◌, ◌≤◌, ◌≡◌, ap₂, arith}
+use Rattle.cap_spec.specs.Canonical.{layout}
+use Rattle.cap_canon.proofs.copying.CopyingPass.visit.Goals as goal
+
+pub lay-requires-clause-ends : goal.lay-requires-clause-ends
+lay-requires-clause-ends g c =
+    let r = c.requires in
+    (r.4.ends, r.3.meets.next.inside, omega (arith, r.3.meets.next.small))
+
+pub lay-requires-clause-is : goal.lay-requires-clause-is
+lay-requires-clause-is g c =
+    let r = c.requires in
+    (r.3.meets.d, c.args.place.segment, c.args.place.word, r.1, r.3.meets.is, omega (arith, r.3.inside, r.4.space))
+
+pub returns-clause-goes_on : goal.returns-clause-goes_on
+returns-clause-goes_on g c = λ _ whole tree due turn k. record {
+  ends = c.lay.ensures.ends turn.meets.d c.args.place.segment c.args.place.word tree turn.meets.is;
+  agrees = c.lay.ensures.agrees turn.meets.d c.args.place.segment c.args.place.word tree (layout whole) due turn.meets.is turn.pointed turn.own k.agrees;
+  space = omega (arith, k.space, c.lay.ensures.capacity);
+}
+
+pub returns-clause-kept : goal.returns-clause-kept
+returns-clause-kept g c = ap₂ (λ a b. (a, b, c.args.self.now.output.ghost_name)) c.lay.ensures.capacity c.lay.ensures.borrow

@@ -1,0 +1,13 @@
+use Rattle.std.proofs.Common.{◌≡◌, ◌++◌}
+use Rattle.std.specs.List.{AllByRecursion}
+use Rattle.cap_spec.specs.Denoting.{words_from}
+use Rattle.cap_spec.specs.Words.{IsWord}
+use Rattle.cap_canon.proofs.output.CopyOutput.append_from.Given as goal
+
+abbrev pub invariant-words : goal.invariant-words
+invariant-words g l = record {
+  words : g.Self.CopyOutput.words l.self ≡ g.Self.CopyOutput.words l.initial.self ++ words_from (g.M.Segments.segments l.message) l.segment l.start l.k;
+  capacity : g.Self.CopyOutput.capacity l.self ≡ g.Self.CopyOutput.capacity l.initial.self;
+  borrow : g.Self.CopyOutput.borrow l.self ≡ g.Self.CopyOutput.borrow l.initial.self;
+  are_words : AllByRecursion IsWord (words_from (g.M.Segments.segments l.message) l.segment l.start l.k);
+}

@@ -1,0 +1,13 @@
+use Rattle.std.proofs.Common.{◌≡◌, ◌+◌, ◌-◌}
+use Rattle.cap_canon.specs.StillToLay.{work_left}
+use Rattle.cap_canon.proofs.Walks.{AtTurn}
+use Rattle.cap_canon.proofs.walk.walk_within.Given as goal
+
+abbrev pub invariant-walk : goal.invariant-walk
+invariant-walk g l = record {
+  turn : AtTurn (g.M.Segments.segments l.message) g.P.Pass.in_place (g.P.Pass.state l.pass) l.depth l.stack.items l.place l.end;
+  kept : g.P.Pass.kept l.pass ≡ g.P.Pass.kept l.initial.pass;
+}
+
+abbrev pub decreases-walk : goal.decreases-walk
+decreases-walk g l = work_left l.stack.items + (268435457 - l.end)

@@ -1,7 +1,0 @@
--- Words that are written as bytes over bytes that are there already (profile).
-use Rattle.std.specs.Prelude.{ℕ, List, take}
-use Rattle.cap_spec.specs.Plain.{plain_words}
-
--- the first `count` words of the bytes
-abbrev pub spelled_words : ℕ → List ℕ → List ℕ
-spelled_words count bytes = take count (plain_words bytes)

@@ -1,0 +1,22 @@
+-- A turn of the walk, at one pointer word (profile).
+use Rattle.std.specs.Prelude.{ℕ, ◌+◌, ◌≤◌, List, length}
+use Rattle.cap_spec.specs.Canonical.{layout}
+use Rattle.cap_spec.specs.Tree.{Tree}
+use Rattle.cap_canon.specs.InPlace.{IsInPlace}
+use Rattle.cap_canon.specs.Laying.{Due, IsPointed, OwnAt, own_size}
+use Rattle.cap_canon.specs.StillToLay.{Meets}
+use Rattle.cap_canon.specs.declared.objects.Object.{Object}
+use Rattle.cap_canon.specs.declared.run.CopyRun.{CopyRun}
+use Rattle.cap_canon.specs.declared.run.PointerPlace.{PointerPlace}
+
+-- The word at p leads to this object. The layout of the whole tree has the object's own words from
+-- end on. A walk that passes only what is where a copy has it found the word there.
+pub record IsTurn (m : List (List ℕ)) (InPlace : Type 0) (whole : Tree) (object : Object) (p : PointerPlace) (end : ℕ) (tree : Tree)
+    (due : List Due) : Type 0 where
+  pub depth : ℕ
+  pub runs : List CopyRun
+  pub meets : Meets m depth p runs end tree due object
+  pub in_place : InPlace → IsInPlace p
+  pub pointed : IsPointed (layout whole) end p.slot tree
+  pub own : OwnAt (layout whole) end tree
+  pub inside : end + own_size tree ≤ length (layout whole)

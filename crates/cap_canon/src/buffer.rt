@@ -1,0 +1,53 @@
+//! The canonical copy of a message, in the caller's buffer.
+
+ghost use Rattle.cap_canon.specs.CopyRooms.{TellsRoom};
+ghost use Rattle.cap_canon.specs.declared.fault.RoomFault.{RoomFault};
+ghost use Rattle.cap_vet.specs.Vettings.{message_of};
+ghost use Rattle.std.specs.Prelude.{◌≡◌, List, Result, ℕ};
+
+use crate::fault::{CanonFault, RoomFault};
+use crate::length::canonical_len;
+use crate::word_bytes::fill;
+use cap_frame::Segments;
+use cap_vet::Vetted;
+
+/// Writes the canonical copy of a message at the start of `out` as bytes, eight a word, the lowest
+/// byte first, and returns how many these are (encoding: Canonicalization, 64-bit Words). The bytes
+/// of `out` after the copy stay as they were. Allocates nothing.
+///
+/// # Errors
+///
+/// After an error `out` is as it was.
+///
+/// - [`RoomFault::HasCapability`]: a capability is reached, so there is no copy. The error names
+///   the first in preorder.
+/// - [`RoomFault::NoRoom`]: there is a copy, and `out` is shorter. The error says how many bytes
+///   the copy has.
+pub fn canonical_into<M: Segments>(v: &Vetted<'_, M>, out: &mut [u8]) -> Result<usize, RoomFault>
+    ensures tells { TellsRoom (M.segments (message_of v.now)) out.old result out.new }
+    // The message and the buffer allow no other result.
+    ensures only { let m = M.segments (message_of v.now) in
+        (other : Result ℕ RoomFault) (new : List ℕ) → TellsRoom m out.old other new → (result ≡ other) × (out.new ≡ new) }
+{
+    fill_start(v, out)
+}
+
+// The same, by the result.
+fn fill_start<M: Segments>(v: &Vetted<'_, M>, out: &mut [u8]) -> Result<usize, RoomFault>
+    ensures { TellsRoom (M.segments (message_of v.now)) out.old result out.new }
+{
+    let report = v.report();
+    let words = match canonical_len(v) {
+        Ok(words) => words,
+        Err(CanonFault::HasCapability { segment, word }) => {
+            return Err(RoomFault::HasCapability { segment, word });
+        }
+        Err(CanonFault::Memory) => unreachable!(),
+    };
+    let count = 8 * words as usize;
+    if out.len() < count {
+        return Err(RoomFault::NoRoom { needed: count });
+    }
+    fill(v.message(), report.depth, &mut out[..count]);
+    Ok(count)
+}
