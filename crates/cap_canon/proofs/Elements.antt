@@ -3,7 +3,7 @@ use Rattle.std.proofs.Common.{ℕ, zero, suc, ◌+◌, ◌-◌, ◌*◌, ◌<◌
 use Rattle.std.proofs.lemmas.List.{take-take}
 use Rattle.cap_spec.specs.Messages.{segment_of}
 use Rattle.cap_spec.specs.Denoting.{DenoteEach, AreElements, places, words_from}
-use Rattle.cap_spec.specs.Tree.{null, cap, struct, scalars, pointers, structs, Trees, none, more, tree_count}
+use Rattle.cap_spec.specs.Tree.{struct, Trees, none, more, tree_count}
 use Rattle.cap_spec.specs.Canonical.{data_needed, children_needed, take_trees, data_of, children_of, cut_elements, trim_all, trim_elements}
 use Rattle.cap_spec.proofs.Canonical.TrimmedMeasures.{tree_count-take_le}
 use Rattle.cap_spec.proofs.Canonical.TrimmedTrees.{tree_count-trim_all}

@@ -4,7 +4,7 @@ use Rattle.std.specs.Prelude.{Some, slice_get}
 use Rattle.std.proofs.lemmas.List.{get_or_append_left, get_or-append_right}
 use Rattle.std.proofs.lemmas.Option.{slice_get_within}
 use Rattle.cap_spec.specs.Messages.{segment_of}
-use Rattle.cap_spec.specs.Tree.{Tree, null, cap, struct, scalars, pointers, structs, Trees, none, more, tree_count}
+use Rattle.cap_spec.specs.Tree.{Tree, struct, structs, Trees, none, more, tree_count}
 use Rattle.cap_spec.specs.Denoting.{words_from, value_at, values_of}
 use Rattle.cap_spec.specs.Pointers.{element_bits, list_words}
 use Rattle.std.proofs.lemmas.List.FromFn.{length-map-range_with_len}

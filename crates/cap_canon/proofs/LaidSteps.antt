@@ -1,5 +1,5 @@
 -- One object more of a layout.
-use Rattle.std.proofs.Common.{ℕ, suc, ◌+◌, ◌*◌, List, ◌∷◌, ◌++◌, ◌≡◌, ◌↔◌, ap, refl, sym, subst, arith, length, length-append}
+use Rattle.std.proofs.Common.{ℕ, ◌+◌, ◌*◌, List, ◌∷◌, ◌++◌, ◌≡◌, ◌↔◌, ap, refl, sym, subst, arith, length}
 use Rattle.std.proofs.lemmas.List.{append_assoc}
 use Rattle.std.specs.Prelude.{Some, slice_get}
 use Rattle.cap_spec.specs.Tree.{Tree, null, cap, struct, scalars, pointers, structs, Trees, none, more, tree_count}

@@ -1,5 +1,5 @@
 -- When the words of a message are those that a copy has, one object at a time.
-use Rattle.std.proofs.Common.{ℕ, zero, suc, ◌+◌, ◌-◌, ◌*◌, ◌<◌, ◌≤◌, ◌^◌, List, [], ◌∷◌, ◌++◌, ◌≡◌, ◌⊎◌, inl, inr, true, false, ap, refl, sym, subst, ◌∙◌, arith, length}
+use Rattle.std.proofs.Common.{ℕ, zero, suc, ◌+◌, ◌-◌, ◌*◌, ◌<◌, ◌≤◌, ◌^◌, List, [], ◌∷◌, ◌++◌, ◌≡◌, ◌⊎◌, inl, inr, true, false, ap, sym, subst, ◌∙◌, arith, length}
 use Rattle.std.specs.Prelude.{◌==◌}
 use Rattle.std.specs.List.{AllByRecursion}
 use Rattle.std.proofs.lemmas.Bool.Decides.{eqb_tells}
@@ -8,7 +8,7 @@ use Rattle.std.proofs.lemmas.Nat.{mul-le}
 use Rattle.cap_spec.specs.Words.{IsWord, field}
 use Rattle.cap_spec.specs.Messages.{HasWord, segment_of}
 use Rattle.cap_spec.specs.Pointers.{data_size, pointer_size, list_size, element_bits, list_words}
-use Rattle.cap_spec.specs.Tree.{Tree, null, cap, struct, scalars, pointers, structs, Trees, none, more, tree_count}
+use Rattle.cap_spec.specs.Tree.{Tree, null, cap, struct, scalars, Trees, none, more, tree_count}
 use Rattle.cap_spec.specs.Denoting.{Finds, words_from, value_at, values_of}
 use Rattle.cap_spec.specs.Canonical.{pointer_to, struct_word, list_word}
 use Rattle.cap_spec.specs.Scalars.{scalar_words}

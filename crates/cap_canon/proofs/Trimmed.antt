@@ -1,8 +1,8 @@
 -- What trimming leaves, told of the tree before it.
-use Rattle.std.proofs.Common.{ℕ, suc, ◌≡◌, max, ap, ap₂, refl}
+use Rattle.std.proofs.Common.{suc, ◌≡◌, max, ap, ap₂, refl}
 use Rattle.std.specs.Prelude.{if◌then◌else◌, ◌==◌}
 use Rattle.cap_spec.specs.Tree.{Tree, null, cap, struct, scalars, pointers, structs, Trees, none, more, tree_count}
-use Rattle.cap_spec.specs.Canonical.{data_needed, is_null, children_needed, data_of, children_of, cut_elements, trim, trim_all, trim_elements}
+use Rattle.cap_spec.specs.Canonical.{data_needed, is_null, children_needed, data_of, children_of, trim, trim_all, trim_elements}
 
 -- a tree is null where it is null trimmed
 pub is_null-trim : (t : Tree) → is_null (trim t) ≡ is_null t

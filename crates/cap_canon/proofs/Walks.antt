@@ -1,5 +1,5 @@
 -- A walk over an accepted message, from turn to turn.
-use Rattle.std.proofs.Common.{ℕ, zero, suc, false, ◌+◌, ◌-◌, ◌<◌, ◌≤◌, List, [], ◌∷◌, ◌++◌, ◌≡◌, ap, refl, sym, subst, arith, length}
+use Rattle.std.proofs.Common.{ℕ, zero, suc, false, ◌+◌, ◌-◌, ◌<◌, ◌≤◌, List, [], ◌∷◌, ◌++◌, ◌≡◌, refl, sym, subst, arith, length}
 use Rattle.std.proofs.lemmas.Bool.{false≢true}
 use Rattle.std.specs.Prelude.{◌==◌}
 use Rattle.cap_spec.specs.Messages.{IsMessage, segment_of}
@@ -24,7 +24,7 @@ use Rattle.cap_canon.specs.declared.objects.Object.{Object}
 use Rattle.cap_canon.specs.declared.run.CopyRun.{CopyRun}
 use Rattle.cap_canon.specs.declared.run.PointerPlace.{PointerPlace}
 use Rattle.cap_canon.proofs.LaidSteps.{object_laid}
-use Rattle.cap_canon.proofs.Lengths.{own_within, size_below}
+use Rattle.cap_canon.proofs.Lengths.{size_below}
 use Rattle.cap_canon.proofs.Whole.{layout_laid}
 
 -- what is owed fits the fields of words

@@ -28,8 +28,8 @@ pub(crate) trait Pass {
     // What no turn changes.
     ghost kept: { Self → ℕ × ℕ × ℕ };
 
-    /// Takes a turn: the pointer word at `place` leads to `object`, whose own words a copy has from
-    /// `end` on. Returns whether the walk goes on.
+    /// Takes a turn: the pointer word at `place` leads to `object`, and a copy has the words of the
+    /// object itself from `end` on. Returns whether the walk goes on.
     fn visit<M: Segments>(
         &mut self,
         message: &M,

@@ -1,5 +1,4 @@
-use Rattle.std.proofs.Common.{◌≡◌, ◌≤◌, ◌+◌, ◌*◌, ◌∙◌, arith, length, ap, sym, subst, Err, refl}
-use Rattle.cap_spec.specs.Canonical.{layout, trim}
+use Rattle.std.proofs.Common.{◌≡◌, ◌≤◌, ◌+◌, ◌*◌, ◌∙◌, arith, length, ap, sym, subst, Err}
 use Rattle.cap_spec.specs.Copies.{HasCopy}
 use Rattle.cap_spec.specs.Plain.{plain_text, plain_words}
 use Rattle.cap_spec.proofs.Bytes.Plain.{length_plain}

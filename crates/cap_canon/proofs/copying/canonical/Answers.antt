@@ -1,5 +1,4 @@
 use Rattle.std.proofs.Common.{◌≡◌, arith, length, ap, Err}
-use Rattle.cap_spec.specs.Canonical.{layout, trim}
 use Rattle.cap_vet.specs.Vettings.{message_of}
 use Rattle.cap_canon.specs.declared.fault.CanonFault.TheVariants.{HasCapability}
 use Rattle.cap_spec.proofs.Canonical.Offsets.{offsets_fit}

@@ -1,4 +1,4 @@
-use Rattle.std.proofs.Common.{◌+◌, ◌-◌, ◌<◌, ◌^◌, arith, inl, inr, refl}
+use Rattle.std.proofs.Common.{◌+◌, ◌-◌, arith, inl, inr, refl}
 use Rattle.cap_canon.proofs.Kept.{elements_in_place}
 use Rattle.cap_canon.proofs.Entering.{structs_none_owed, structs_owed, structs_start}
 use Rattle.cap_canon.proofs.stack.structs_run.Goals as goal

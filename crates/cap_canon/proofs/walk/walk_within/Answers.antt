@@ -1,15 +1,14 @@
-use Rattle.std.proofs.Common.{rules, arith, ◌≡◌, ◌∙◌, ◌≤◌, ◌+◌, ◌++◌, List, sym, subst, length, [], refl}
+use Rattle.std.proofs.Common.{rules, ◌∙◌, ◌≤◌, ◌+◌, ◌++◌, List, sym, subst, length, [], refl}
 use Rattle.std.proofs.lemmas.Bool.{eqb-true}
 use Rattle.std.proofs.lemmas.List.{nil_from_length}
 use Rattle.cap_spec.specs.Messages.{IsMessage}
 use Rattle.cap_spec.specs.Canonical.{trim}
 use Rattle.cap_spec.proofs.Trees.OneTree.{one_tree}
-use Rattle.cap_canon.specs.InPlace.{AreInPlace, IsInPlace}
 use Rattle.cap_canon.specs.Laying.{below, own_size}
 use Rattle.cap_canon.specs.StillToLay.{IsWalking, work_left}
 use Rattle.cap_canon.specs.declared.run.CopyRun.{CopyRun}
 use Rattle.cap_canon.proofs.Lengths.{own_within}
-use Rattle.cap_canon.proofs.Walks.{AtTurn, first_turn, last_turn, next_turn, some_left, this_met, this_turn, work_falls}
+use Rattle.cap_canon.proofs.Walks.{first_turn, last_turn, next_turn, some_left, this_met, this_turn, work_falls}
 use Rattle.cap_canon.proofs.walk.walk_within.Goals as goal
 
 pub walk-init : goal.walk-init

@@ -1,4 +1,4 @@
-use Rattle.std.proofs.Common.{◌+◌, ◌≤◌, ◌≡◌, ap₂, arith}
+use Rattle.std.proofs.Common.{ap₂, arith}
 use Rattle.cap_spec.specs.Canonical.{layout}
 use Rattle.cap_canon.proofs.copying.CopyingPass.visit.Goals as goal
 
