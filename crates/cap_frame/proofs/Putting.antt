@@ -12,10 +12,8 @@ use Rattle.cap_words.specs.declared.sinks.SinkFault.{SinkFault}
 use Rattle.cap_words.specs.declared.sinks.SinkFault.TheVariants.{Device, Memory, Spent}
 use Rattle.cap_spec.specs.Frames.{paired, joined, frame_text}
 use Rattle.cap_spec.specs.Messages.{segment_of}
-use Rattle.cap_spec.specs.Plain.{plain_words}
 use Rattle.cap_frame.specs.Numbers.{numbers_of, pair_at, table_rest}
 use Rattle.cap_frame.specs.Putting.{Puts, Halts, Blames}
-use Rattle.cap_frame.proofs.Cuts.{words_exact}
 
 -- what begins the kept text begins the text
 pub begins_kept : (a b part : Option (List ℕ)) → Keeps a b → Begins b part → Begins a part
@@ -162,13 +160,6 @@ words_at (y ∷ words) (suc w) x e = words_at words w x e
 
 pub words_from : (words : List ℕ) (w x : ℕ) → slice_get words w ≡ Some x → drop w words ≡ (x ∷ []) ++ drop (w + 1) words
 words_from words w x e = let one : suc w ≡ w + 1 = omega arith in words_at words w x e ∙ ap (λ (j : ℕ). x ∷ drop j words) one
-
--- the table of one segment, whose words are these bytes
-pub segment_frame : (bytes : List ℕ) (x : ℕ) → x ≡ length bytes / 8 * 2 ^ 32 → frame_text (plain_words bytes ∷ []) ≡ (x ∷ []) ++ plain_words bytes
-segment_frame bytes x e =
-    let ws = plain_words bytes in
-    let same : 1 - 1 + 2 ^ 32 * length ws ≡ x = omega (arith, words_exact bytes, e) in
-    ap (λ (n : ℕ). n ∷ (ws ++ [])) same ∙ ap (λ (l : List ℕ). x ∷ l) (append-nil ws)
 
 -- the segment in front of segments from s on
 pub segments_from : (m : List (List ℕ)) (s : ℕ) → s < length m → joined (drop s m) ≡ segment_of m s ++ joined (drop (s + 1) m)

@@ -33,4 +33,4 @@ pub use reader::read_message;
 pub use segment_tables::SegmentTables;
 pub use segments::Segments;
 pub use view::ByteView;
-pub use writer::{write_message, write_segment};
+pub use writer::write_message;

@@ -4,8 +4,7 @@ ghost use Rattle.cap_frame.specs.Numbers.{numbers_of, pair_at, table_rest};
 ghost use Rattle.cap_frame.specs.Putting.{PutsOrHalts};
 ghost use Rattle.cap_spec.specs.Frames.{frame_text, joined};
 ghost use Rattle.cap_spec.specs.Messages.{segment_of};
-ghost use Rattle.cap_spec.specs.Plain.{plain_words};
-ghost use Rattle.std.specs.Prelude.{◌*◌, ◌<◌, ◌^◌, ◌≡◌, ◌≤◌, [], ◌∷◌, false, length, slice_index, true};
+ghost use Rattle.std.specs.Prelude.{◌*◌, ◌<◌, ◌≡◌, ◌≤◌, false, length, slice_index, true};
 
 use crate::segments::Segments;
 use cap_words::{SinkFault, WordSink};
@@ -94,29 +93,6 @@ pub fn write_message<K: WordSink, M: Segments>(sink: &mut K, message: &M) -> Res
         return Err(fault);
     }
     if let Err(fault) = put_contents(sink, message) {
-        return Err(fault);
-    }
-    Ok(())
-}
-
-/// Puts the framed message of one segment, whose words these bytes encode: its table, and then all
-/// words in one piece. Ignores less than a word at the end. It doesn't finish the sink, so that
-/// another message may follow. The bytes are fewer than 2^35, so that the table can count the words.
-///
-/// # Errors
-///
-/// Those of [`write_message`].
-pub fn write_segment<K: WordSink>(sink: &mut K, words: &[u8]) -> Result<(), SinkFault>
-    requires { length words.now < 2 ^ 35 }
-    ensures put { PutsOrHalts K.WordSink sink.old sink.new (frame_text (plain_words words.now ∷ [])) result }
-    ensures for_good { K.closed sink.old ≡ true → (result ≡ Err SinkFault.Spent)
-        × (sink.new ≡ sink.old) }
-{
-    let table = words.len() as u64 / 8 * 0x1_0000_0000;
-    if let Err(fault) = sink.put(table) {
-        return Err(fault);
-    }
-    if let Err(fault) = sink.put_bytes(words) {
         return Err(fault);
     }
     Ok(())
