@@ -6,8 +6,8 @@ ghost use Rattle.cap_vet.specs.Limits.{depth_of, words_of};
 ghost use Rattle.cap_vet.specs.Looking.{FollowsWithin, IsLooked, deepest_of};
 ghost use Rattle.std.specs.Prelude.{◌+◌, ◌-◌, ◌<◌, ◌^◌, ◌≡◌, ◌≤◌, IfErr, IfOk, IfSome, length, ℕ};
 
-use crate::pointer_run::PointerRun;
 use crate::limits::Limits;
+use crate::pointer_run::PointerRun;
 use crate::targets::{frame_of, levels_taken, row_frame};
 use cap_frame::Segments;
 use cap_ptr::{Followed, Reason, follow, near_row};
