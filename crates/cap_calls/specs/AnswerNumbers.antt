@@ -3,7 +3,11 @@ use Rattle.std.specs.Prelude.{ℕ}
 use Rattle.cap_spec.specs.declared.Reason.{Reason}
 use Rattle.cap_spec.specs.declared.Reason.TheVariants as reason
 use Rattle.cap_calls.specs.declared.answer.Answer.{Answer}
-use Rattle.cap_calls.specs.declared.answer.Answer.TheVariants.{Good, NoMessage, TooManySegments, TooLarge, Truncated, BadLimits, NoRoom, NotCanonical, HasCapability, Overlap, NoRoot, Reserved, SegmentMissing, PadOutside, PadIsFar, PadNotFar, TagKind, TagOffset, OutOfSegment, CompositeTag, CompositeOverrun, DepthLimit, WordLimit}
+use Rattle.cap_calls.specs.declared.answer.Answer.TheVariants.{Good, NoMessage, TooManySegments, TooLarge, Truncated}
+use Rattle.cap_calls.specs.declared.answer.Answer.TheVariants.{BadLimits, NoRoom, NotCanonical, HasCapability, Overlap}
+use Rattle.cap_calls.specs.declared.answer.Answer.TheVariants.{NoRoot, Reserved, SegmentMissing, PadOutside, PadIsFar}
+use Rattle.cap_calls.specs.declared.answer.Answer.TheVariants.{PadNotFar, TagKind, TagOffset, OutOfSegment}
+use Rattle.cap_calls.specs.declared.answer.Answer.TheVariants.{CompositeTag, CompositeOverrun, DepthLimit, WordLimit}
 
 -- the number of an answer
 abbrev pub number_of : Answer → ℕ

@@ -1,5 +1,6 @@
 -- How many data words are needed, from the last one down.
-use Rattle.std.proofs.Common.{ℕ, zero, suc, ◌+◌, ◌-◌, ◌*◌, ◌<◌, ◌≤◌, ◌≢◌, List, [], ◌∷◌, ◌≡◌, max, ap, refl, sym, ◌∙◌, arith, length, take, drop, get_or, inl, inr, ◌⊎◌, true, false}
+use Rattle.std.proofs.Common.{ℕ, zero, suc, ◌+◌, ◌-◌, ◌*◌, ◌<◌, ◌≤◌, ◌≢◌, List, [], ◌∷◌, ◌≡◌, max, ap, refl, sym, ◌∙◌}
+use Rattle.std.proofs.Common.{arith, length, take, drop, get_or, inl, inr, ◌⊎◌, true, false}
 use Rattle.std.specs.Prelude.{if◌then◌else◌, ◌==◌}
 use Rattle.std.proofs.lemmas.List.{get_or-take, get_or-drop}
 use Rattle.std.proofs.lemmas.Option.{get_or_from_slice_get}

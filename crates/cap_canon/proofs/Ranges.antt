@@ -1,5 +1,6 @@
 -- The words of ranges and of lists of values, as a copy appends them.
-use Rattle.std.proofs.Common.{ℕ, zero, suc, ◌+◌, ◌-◌, ◌*◌, ◌<◌, ◌≤◌, List, [], ◌∷◌, ◌++◌, ◌≡◌, ◌⊎◌, inl, inr, ap, ap₂, sym, subst, ◌∙◌, arith, length, take, drop, get_or, length-append}
+use Rattle.std.proofs.Common.{ℕ, zero, suc, ◌+◌, ◌-◌, ◌*◌, ◌<◌, ◌≤◌, List, [], ◌∷◌, ◌++◌, ◌≡◌, ◌⊎◌, inl, inr, ap, ap₂}
+use Rattle.std.proofs.Common.{sym, subst, ◌∙◌, arith, length, take, drop, get_or, length-append}
 use Rattle.std.specs.List.{AllByRecursion}
 use Rattle.std.proofs.Math.Seq.{take-add}
 use Rattle.std.proofs.lemmas.List.{drop-drop, same_lists, get_or-take, get_or-drop, get_or_append_left, get_or-append_right, get_or_default}

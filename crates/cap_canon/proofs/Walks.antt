@@ -81,14 +81,16 @@ first_turn m InPlace state depth is k so_far = record {
 }
 
 -- the object there
-pub this_met : (m : List (List ℕ)) (InPlace : Type 0) (state : List (List ℕ) → Tree → ℕ → List Due → Type 0) (depth : ℕ) (runs : List CopyRun) (p : PointerPlace) (end : ℕ)
+pub this_met : (m : List (List ℕ)) (InPlace : Type 0) (state : List (List ℕ) → Tree → ℕ → List Due → Type 0) (depth : ℕ)
+    (runs : List CopyRun) (p : PointerPlace) (end : ℕ)
     (object : Object) → (k : AtTurn m InPlace state depth runs p end)
     → ((t : Tree) (c d : ℕ) → Denotes m p.segment p.word t c d → IsObject m d p.segment p.word (trim t) object) → Meets m depth p runs end k.tree k.due object
 this_met m InPlace state depth runs p end object k f =
     let o = k.next.owed in
     record { next = k.next; d = o.2; is = subst (λ u. IsObject m o.2 p.segment p.word u object) (sym o.4) (f o.0 o.1 o.2 o.3); levels = o.5 }
 
-pub this_turn : (m : List (List ℕ)) (InPlace : Type 0) (state : List (List ℕ) → Tree → ℕ → List Due → Type 0) (depth : ℕ) (runs : List CopyRun) (p : PointerPlace) (end : ℕ)
+pub this_turn : (m : List (List ℕ)) (InPlace : Type 0) (state : List (List ℕ) → Tree → ℕ → List Due → Type 0)
+    (depth : ℕ) (runs : List CopyRun) (p : PointerPlace) (end : ℕ)
     (object : Object) → (k : AtTurn m InPlace state depth runs p end) → Meets m depth p runs end k.tree k.due object
     → IsTurn m InPlace (trim k.root) object p end k.tree k.due
 this_turn m InPlace state depth runs p end object k met =

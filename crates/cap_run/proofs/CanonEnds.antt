@@ -39,7 +39,8 @@ length-canonised : (cs : List Canonised) → length (canonised cs) ≡ length cs
 length-canonised cs = length-map cs (λ c. c.message)
 
 -- the same messages have the same copies
-same_copies : (words depth : ℕ) (cs ds : List Canonised) → AreCanonised words depth cs → AreCanonised words depth ds → canonised cs ≡ canonised ds → copies_of cs ≡ copies_of ds
+same_copies : (words depth : ℕ) (cs ds : List Canonised) → AreCanonised words depth cs → AreCanonised words depth ds
+    → canonised cs ≡ canonised ds → copies_of cs ≡ copies_of ds
 same_copies words depth [] [] a b e = refl
 same_copies words depth [] (d ∷ ds) a b e = absurd (cc)
 same_copies words depth (c ∷ cs) [] a b e = absurd (cc)
@@ -47,32 +48,40 @@ same_copies words depth (c ∷ cs) (d ∷ ds) a b e =
     let first : c.message ≡ d.message = cc in
     let rest : canonised cs ≡ canonised ds = cc in
     let same : c.copy ≡ d.copy = one_copy d.message c.copy d.copy (subst (λ (m : List (List ℕ)). HasCopy m c.copy) first a.0.has_copy) b.0.has_copy in
-    ap (λ (copy : List ℕ). frame_text (copy ∷ []) ++ copies_of cs) same ∙ ap (λ (xs : List ℕ). frame_text (d.copy ∷ []) ++ xs) (same_copies words depth cs ds a.1 b.1 rest)
+    ap (λ (copy : List ℕ). frame_text (copy ∷ []) ++ copies_of cs) same
+    ∙ ap (λ (xs : List ℕ). frame_text (d.copy ∷ []) ++ xs) (same_copies words depth cs ds a.1 b.1 rest)
 
 module _ {S K : Type 0} (gs : source.Ghosts S) (gk : sink.Ghosts K) (words depth limit most : ℕ) (old new : S) (before after : K) where
   -- what the engine's clauses say where it ended, and where it didn't
   abbrev pub SaysCopies : Result Outcome RunFault → Type 0
-  SaysCopies r = IfOk r (λ outcome. (cs : List Canonised) × ReadsAll gs limit old new (canonised cs) × AreCanonised words depth cs × Finishes gk before after (copies_of cs) × (length cs ≤ most)
+  SaysCopies r = IfOk r (λ outcome. (cs : List Canonised) × ReadsAll gs limit old new (canonised cs)
+      × AreCanonised words depth cs × Finishes gk before after (copies_of cs) × (length cs ≤ most)
       × (outcome ≡ record { messages = length cs; refused = 0; noncanonical = 0 }))
 
   abbrev pub SaysNoCopies : Result Outcome RunFault → Type 0
-  SaysNoCopies r = IfErr r (λ fault. (cs : List Canonised) × (mid : S) × (fault.message ≡ length cs) × (length cs ≤ most) × ReadsStream gs limit old mid (canonised cs) × AreCanonised words depth cs
+  SaysNoCopies r = IfErr r (λ fault. (cs : List Canonised) × (mid : S) × (fault.message ≡ length cs)
+      × (length cs ≤ most) × ReadsStream gs limit old mid (canonised cs) × AreCanonised words depth cs
       × CanonStops gs gk words depth limit most cs mid new before after fault.cause)
 
   -- a message that was read next, of a stream of messages with copies
-  next_has : (mid : S) (cs ds : List Canonised) (own : List ℕ) (m : List (List ℕ)) → gs.words old ≡ Some own → Stream own (canonised ds) → AreCanonised words depth ds
+  next_has : (mid : S) (cs ds : List Canonised) (own : List ℕ) (m : List (List ℕ)) → gs.words old ≡ Some own
+      → Stream own (canonised ds) → AreCanonised words depth ds
       → ReadsStream gs limit old mid (canonised cs) → ReadsStream gs limit mid new (m ∷ []) → HasOne words depth m
   next_has mid cs ds own m w s a reads last =
       let next = reads_next gs limit old mid new (canonised cs) own (canonised ds) m w s reads last in
       (all_back (HasOne words depth) (canonised cs) (m ∷ next.0) (subst (AllByRecursion (HasOne words depth)) next.1 (each_has words depth ds a))).0
 
   -- behind some messages of such a stream, no fault comes of the others
-  canon_behind : (mid : S) (cs ds : List Canonised) (own : List ℕ) (cause : Cause) (P : Type 0) → gs.words old ≡ Some own → gs.is_cut old ≡ false → Stream own (canonised ds)
-      → AllByRecursion (λ m. sum (sizes_of m) ≤ limit) (canonised ds) → AreCanonised words depth ds → length ds ≤ most → ReadsStream gs limit old mid (canonised cs)
+  canon_behind : (mid : S) (cs ds : List Canonised) (own : List ℕ) (cause : Cause) (P : Type 0)
+      → gs.words old ≡ Some own → gs.is_cut old ≡ false → Stream own (canonised ds)
+      → AllByRecursion (λ m. sum (sizes_of m) ≤ limit) (canonised ds) → AreCanonised words depth ds → length ds ≤ most
+      → ReadsStream gs limit old mid (canonised cs)
       → CanonStops gs gk words depth limit most cs mid new before after cause → SettledAt cause P
   canon_behind mid cs ds own TooManyMessages P w c s l a few reads stops =
-      absurd (none_over gs limit old mid new (canonised cs) own (canonised ds) stops.0.1 w s reads stops.0.2 (omega (arith, few, stops.0.0, length-canonised cs, length-canonised ds)))
-  canon_behind mid cs ds own (Frame fault) P w c s l a few reads stops = none_faulted gs limit old mid new (canonised cs) own (canonised ds) fault P w c s l reads stops.0
+      absurd (none_over gs limit old mid new (canonised cs) own (canonised ds) stops.0.1 w s reads stops.0.2
+      (omega (arith, few, stops.0.0, length-canonised cs, length-canonised ds)))
+  canon_behind mid cs ds own (Frame fault) P w c s l a few reads stops = none_faulted gs limit old mid new
+      (canonised cs) own (canonised ds) fault P w c s l reads stops.0
   canon_behind mid cs ds own (Output fault) P w c s l a few reads stops = tt
   canon_behind mid cs ds own (Refused refusal) P w c s l a few reads stops =
       let h = next_has mid cs ds own stops.0.1 w s a reads stops.0.2 in
@@ -85,7 +94,8 @@ module _ {S K : Type 0} (gs : source.Ghosts S) (gk : sink.Ghosts K) (words depth
   canon_behind mid cs ds own no_marks P w c s l a few reads stops = absurd stops
 
   -- such a stream is read to its end
-  canon_settled : (r : Result Outcome RunFault) (own : List ℕ) (ds : List Canonised) → SaysCopies r → SaysNoCopies r → gs.words old ≡ Some own → gs.is_cut old ≡ false → Stream own (canonised ds)
+  canon_settled : (r : Result Outcome RunFault) (own : List ℕ) (ds : List Canonised) → SaysCopies r → SaysNoCopies r
+      → gs.words old ≡ Some own → gs.is_cut old ≡ false → Stream own (canonised ds)
       → AllByRecursion (λ m. sum (sizes_of m) ≤ limit) (canonised ds) → AreCanonised words depth ds → length ds ≤ most
       → Settled r (Finishes gk before after (copies_of ds) × (r ≡ Ok (record { messages = length ds; refused = 0; noncanonical = 0 })))
   canon_settled (Ok outcome) own ds end fault w c s l a few =
@@ -110,7 +120,12 @@ module _ {S K : Type 0} (gs : source.Ghosts S) (gk : sink.Ghosts K) (words depth
         omega (arith, w.many, w.few),
         ap (λ (k : ℕ). record { messages = k; refused = 0; noncanonical = 0 }) (sym w.many),
       ) in
-      record { ok = ok; err = tt; whole = λ own ds wd c s l a few. canon_settled (Ok (record { messages = n; refused = 0; noncanonical = 0 })) own ds ok tt wd c s l a few }
+      record {
+        ok = ok;
+        err = tt;
+        whole = λ own ds wd c s l a few. canon_settled
+            (Ok (record { messages = n; refused = 0; noncanonical = 0 })) own ds ok tt wd c s l a few;
+      }
 
   pub makes_err : (n : ℕ) (cause : Cause) → Made gs gk words depth limit most old new before after n (Err cause)
       → MakesCopies gs gk words depth limit most old new before after (Err (record { message = n; cause = cause }))

@@ -1,5 +1,7 @@
 -- What is known of the words of a source decides how a copy of them ends, faults of devices and of the output aside.
-use Rattle.std.proofs.Common.{◌≡◌, ◌∙◌, ℕ, suc, ◌+◌, ◌<◌, ◌≤◌, true, false, Option, Some, Result, Ok, Err, List, [], ◌∷◌, ◌++◌, length, take, drop, refl, sym, ap, subst, arith, length-append, append-nil, append_assoc}
+use Rattle.std.proofs.Common.{◌≡◌, ◌∙◌, ℕ, suc, ◌+◌, ◌<◌, ◌≤◌, true, false, Option, Some, Result, Ok, Err, List, []}
+use Rattle.std.proofs.Common.{◌∷◌, ◌++◌, length, take, drop, refl, sym, ap, subst, arith, length-append, append-nil}
+use Rattle.std.proofs.Common.{append_assoc}
 use Rattle.std.specs.Io.KnownBytes.{Consumes}
 use Rattle.std.proofs.lemmas.List.{drop-drop}
 use Rattle.std.proofs.Math.Seq.{take-append_seam}
@@ -15,7 +17,8 @@ use Rattle.cap_run.proofs.Settling.{on_known}
 
 module _ {S K : Type 0} (gs : source.Ghosts S) (gk : sink.Ghosts K) (at_once most : ℕ) (old new : S) (before after : K) (own : List ℕ) where
   -- known words that were all put
-  pub all_put : (put : List ℕ) → gs.words old ≡ Some own → (c : CopiesAll gs gk most old new before after put) → (put ≡ own) × (gs.is_cut old ≡ false) × (length own ≤ most)
+  pub all_put : (put : List ℕ) → gs.words old ≡ Some own → (c : CopiesAll gs gk most old new before after put)
+      → (put ≡ own) × (gs.is_cut old ≡ false) × (length own ≤ most)
   all_put put w c =
       let all = on_known (gs.words old) own _ w c.all in
       let same = same_some own put (sym w ∙ all.0) in
@@ -24,7 +27,8 @@ module _ {S K : Type 0} (gs : source.Ghosts S) (gk : sink.Ghosts K) (at_once mos
   -- where one word too many was read, there are more of them
   pub most_put : gs.words old ≡ Some own → (c : CopiesMost gs gk most old new before after) → (most < length own) × (c.own ≡ take most own)
   most_put w c =
-      let here = known_still own (c.own ++ c.word ∷ []) (gs.words new) (subst (λ (o : Option (List ℕ)). Consumes o (gs.words new) (c.own ++ c.word ∷ [])) w c.gives.takes.words) in
+      let here = known_still own (c.own ++ c.word ∷ []) (gs.words new)
+      (subst (λ (o : Option (List ℕ)). Consumes o (gs.words new) (c.own ++ c.word ∷ [])) w c.gives.takes.words) in
       let whole : own ≡ c.own ++ (c.word ∷ here.0) = here.2 ∙ append_assoc c.own (c.word ∷ []) here.0 in (
         omega (arith, ap length whole, length-append c.own (c.word ∷ here.0), c.many),
         sym (ap (take most) whole ∙ (ap (λ (n : ℕ). take n (c.own ++ (c.word ∷ here.0))) (sym c.many) ∙ take-append_seam c.own (c.word ∷ here.0))),
@@ -44,11 +48,14 @@ module _ {S K : Type 0} (gs : source.Ghosts S) (gk : sink.Ghosts K) (at_once mos
         sym same,
         sym goes.0 ∙ none.1,
         omega (arith, c.few, ap length same),
-        ap (λ (ws : List ℕ). drop (length ws) (gs.places old)) same ∙ (ap (λ (n : ℕ). drop n (gs.place old ∷ gs.places old)) next ∙ (sym (drop-drop 1 (length c.own) (gs.place old ∷ gs.places old)) ∙ (sym at ∙ none.2))),
+        ap (λ (ws : List ℕ). drop (length ws) (gs.places old)) same
+            ∙ (ap (λ (n : ℕ). drop n (gs.place old ∷ gs.places old)) next
+            ∙ (sym (drop-drop 1 (length c.own) (gs.place old ∷ gs.places old)) ∙ (sym at ∙ none.2))),
       )
 
   -- all words, where there aren't too many and the input isn't cut
-  pub copy_whole : (r : Result ℕ CopyFault) → gs.words old ≡ Some own → gs.is_cut old ≡ false → length own ≤ most → Copied gs gk at_once most old new before after r
+  pub copy_whole : (r : Result ℕ CopyFault) → gs.words old ≡ Some own → gs.is_cut old ≡ false → length own ≤ most
+      → Copied gs gk at_once most old new before after r
       → CopySettled r ((r ≡ Ok (length own)) × Finishes gk before after own)
   copy_whole (Ok n) w i l c =
       let t = all_put c.0 w c.2 in
@@ -60,7 +67,8 @@ module _ {S K : Type 0} (gs : source.Ghosts S) (gk : sink.Ghosts K) (at_once mos
   copy_whole (Err (Output fault)) w i l c = tt
 
   -- and where it is cut, that fault behind them
-  pub copy_cut : (r : Result ℕ CopyFault) → gs.words old ≡ Some own → gs.is_cut old ≡ true → length own ≤ most → Copied gs gk at_once most old new before after r
+  pub copy_cut : (r : Result ℕ CopyFault) → gs.words old ≡ Some own → gs.is_cut old ≡ true → length own ≤ most
+      → Copied gs gk at_once most old new before after r
       → CopySettled r ((byte : ℕ) × (r ≡ Err (Source (Truncated byte))) × (drop (length own) (gs.places old) ≡ byte ∷ []) × Finishes gk before after own)
   copy_cut (Ok n) w i l c = absurd (let t = all_put c.0 w c.2 in let e = t.1 in cc)
   copy_cut (Err TooManyWords) w i l c = absurd (let t = most_put w c in omega (arith, t.0, l))
@@ -81,7 +89,8 @@ module _ {S K : Type 0} (gs : source.Ghosts S) (gk : sink.Ghosts K) (at_once mos
 
 module _ {S K : Type 0} (gs : source.Ghosts S) (gk : sink.Ghosts K) where
   -- how a copy ends says what it answers where the words are known
-  pub copies_words : (at_once most : ℕ) (old new : S) (before after : K) (r : Result ℕ CopyFault) → Copied gs gk at_once most old new before after r → CopiesWords gs gk at_once most old new before after r
+  pub copies_words : (at_once most : ℕ) (old new : S) (before after : K) (r : Result ℕ CopyFault)
+      → Copied gs gk at_once most old new before after r → CopiesWords gs gk at_once most old new before after r
   copies_words at_once most old new before after r c = record {
     copied = c;
     whole = λ own w i l. copy_whole gs gk at_once most old new before after own r w i l c;

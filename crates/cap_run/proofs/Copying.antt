@@ -1,5 +1,6 @@
 -- Words that are read and put one after the other.
-use Rattle.std.proofs.Common.{◌≡◌, ◌∙◌, ℕ, ◌+◌, ◌<◌, false, true, ◌⊎◌, inl, inr, Result, Ok, Err, List, [], ◌∷◌, ◌++◌, OnSome, refl, sym, ap, subst, arith, append_assoc, append-nil, length-append}
+use Rattle.std.proofs.Common.{◌≡◌, ◌∙◌, ℕ, ◌+◌, ◌<◌, false, true, ◌⊎◌, inl, inr, Result, Ok, Err, List, [], ◌∷◌, ◌++◌}
+use Rattle.std.proofs.Common.{OnSome, refl, sym, ap, subst, arith, append_assoc, append-nil, length-append}
 use Rattle.std.proofs.lemmas.Bool.{false≢true}
 use Rattle.std.specs.Io.KnownBytes.{Consumes, Keeps}
 use Rattle.std.proofs.KnownBytes.{Keeps-refl, Keeps-trans}
@@ -28,7 +29,13 @@ module _ {S : Type 0} (gs : source.Ghosts S) where
   pub gives_one : (old new : S) (word : ℕ) → Consumes (gs.words old) (gs.words new) (word ∷ [])
       → OnSome (gs.words old) ((gs.is_cut new ≡ gs.is_cut old) × (gs.places old ≡ gs.place new ∷ gs.places new))
       → Works (gs.spent old) (gs.spent new) (gs.failures old) (gs.failures new) → Gives gs old new (word ∷ [])
-  gives_one old new word c f w = record { takes = takes_one gs old new word c f; usable = inr w.usable; spent = w.still ∙ sym w.usable; failures = w.none_failed }
+  gives_one old new word c f w = record {
+    takes = takes_one gs old new word c f;
+    usable = inr w.usable;
+    spent = w.still
+        ∙ sym w.usable;
+    failures = w.none_failed;
+  }
 
   -- some words, and then others
   pub gives_both : (old mid new : S) (a b : List ℕ) → Gives gs old mid a → Gives gs mid new b → Gives gs old new (a ++ b)
@@ -52,7 +59,9 @@ module _ {K : Type 0} (gk : sink.Ghosts K) where
   -- some words, and then others
   pub fills_both : (old mid new : K) (a b : List ℕ) → Fills gk old mid a → Fills gk mid new b → Fills gk old new (a ++ b)
   fills_both old mid new a b p q = record {
-    put = λ ws. subst (λ (xs : List ℕ). Keeps (gk.text old xs) (gk.text new ws)) (sym (append_assoc a b ws)) (Keeps-trans (gk.text old (a ++ (b ++ ws))) (gk.text mid (b ++ ws)) (gk.text new ws) (p.put (b ++ ws)) (q.put ws));
+    put = λ ws. subst (λ (xs : List ℕ). Keeps (gk.text old xs) (gk.text new ws)) (sym (append_assoc a b ws))
+        (Keeps-trans (gk.text old (a ++ (b ++ ws))) (gk.text mid (b ++ ws)) (gk.text new ws) (p.put (b ++ ws))
+        (q.put ws));
     closed = q.closed ∙ p.closed;
     spent = q.spent ∙ p.spent;
     failures = q.failures ∙ p.failures;
@@ -70,7 +79,8 @@ module _ {K : Type 0} (gk : sink.Ghosts K) where
   pub finishes_behind : (old mid new : K) (own : List ℕ) → Fills gk old mid own → Keeps (gk.text mid []) (gk.taken new)
       → (gk.closed mid ≡ false) × (gk.closed new ≡ true) × (gk.failures new ≡ gk.failures mid) → Finishes gk old new own
   finishes_behind old mid new own f k o = record {
-    finished = subst (λ (xs : List ℕ). Keeps (gk.text old xs) (gk.taken new)) (append-nil own) (Keeps-trans (gk.text old (own ++ [])) (gk.text mid []) (gk.taken new) (f.put []) k);
+    finished = subst (λ (xs : List ℕ). Keeps (gk.text old xs) (gk.taken new)) (append-nil own)
+        (Keeps-trans (gk.text old (own ++ [])) (gk.text mid []) (gk.taken new) (f.put []) k);
     was_open = sym f.closed ∙ o.0;
     closed = o.1;
     failures = o.2 ∙ f.failures;
@@ -92,7 +102,8 @@ module _ {K : Type 0} (gk : sink.Ghosts K) where
   spoils_last old mid new own out f e b = record {
     blames = blames_later gk old mid new (sink_fault_of out) f.spent f.failures b;
     closed = e.0;
-    part = subst (λ (xs : List ℕ). Begins (gk.text old xs) (gk.taken new)) (append-nil own) (begins_kept (gk.text old (own ++ [])) (gk.text mid []) (gk.taken new) (f.put []) e.1);
+    part = subst (λ (xs : List ℕ). Begins (gk.text old xs) (gk.taken new)) (append-nil own)
+        (begins_kept (gk.text old (own ++ [])) (gk.text mid []) (gk.taken new) (f.put []) e.1);
   }
 
 module _ {S K : Type 0} (gs : source.Ghosts S) (gk : sink.Ghosts K) where
@@ -120,8 +131,10 @@ module _ {S K : Type 0} (gs : source.Ghosts S) (gk : sink.Ghosts K) where
   }
 
   -- the sink was finished behind the words that were put
-  pub copied_finished : (at_once most : ℕ) (old new : S) (before between after : K) (r : Result ℕ CopyFault) → StopsPutting gs gk at_once most old new before between r
-      → is_open r ≡ true → Keeps (gk.text between []) (gk.taken after) → (gk.closed between ≡ false) × (gk.closed after ≡ true) × (gk.failures after ≡ gk.failures between)
+  pub copied_finished : (at_once most : ℕ) (old new : S) (before between after : K) (r : Result ℕ CopyFault)
+      → StopsPutting gs gk at_once most old new before between r
+      → is_open r ≡ true → Keeps (gk.text between []) (gk.taken after) → (gk.closed between ≡ false)
+      × (gk.closed after ≡ true) × (gk.failures after ≡ gk.failures between)
       → Copied gs gk at_once most old new before after r
   copied_finished at_once most old new before between after (Ok n) s h k o =
       let c = s.2 in (
@@ -146,7 +159,15 @@ module _ {S K : Type 0} (gs : source.Ghosts S) (gk : sink.Ghosts K) where
       }
   copied_finished at_once most old new before between after (Err (Source fault)) s h k o =
       let c = s.3 in
-      record { own = c.own; mid = s.0; few = omega (arith, s.2, c.many); gives = c.gives; none = s.4; finishes = finishes_behind gk before between after c.own c.fills k o }
+      record {
+        own = c.own;
+        mid = s.0;
+        few = omega (arith, s.2, c.many);
+        gives = c.gives;
+        none = s.4;
+        finishes =
+            finishes_behind gk before between after c.own c.fills k o;
+      }
   copied_finished at_once most old new before between after (Err (Output fault)) s h k o = absurd (false≢true h)
 
   -- the output failed before the sink was finished
@@ -158,18 +179,43 @@ module _ {S K : Type 0} (gs : source.Ghosts S) (gk : sink.Ghosts K) where
   copied_failed at_once most old new before after (Err (Output fault)) e s = inl s
 
   -- the output failed as the sink was finished
-  pub copied_spoiled : (at_once most : ℕ) (old new : S) (before between after : K) (r : Result ℕ CopyFault) (out : OutFault) → StopsPutting gs gk at_once most old new before between r
+  pub copied_spoiled : (at_once most : ℕ) (old new : S) (before between after : K) (r : Result ℕ CopyFault)
+      (out : OutFault) → StopsPutting gs gk at_once most old new before between r
       → is_open r ≡ true → (gk.closed after ≡ true) × Begins (gk.text between []) (gk.taken after) → Blames gk between after (sink_fault_of out)
       → StopsFinishing gs gk most old new before after out
   copied_spoiled at_once most old new before between after (Ok n) out s h e b =
       let c = s.2 in
-      record { own = c.own; mid = s.0; few = omega (arith, s.1, c.many); gives = c.gives; spoils = spoils_last gk before between after c.own out c.fills e b; none = inl s.3 }
+      record {
+        own = c.own;
+        mid = s.0;
+        few = omega (arith, s.1, c.many);
+        gives = c.gives;
+        spoils = spoils_last gk before
+            between after c.own out c.fills e b;
+        none = inl s.3;
+      }
   copied_spoiled at_once most old new before between after (Err TooManyWords) out s h e b =
       let c = s.2 in
-      record { own = c.own; mid = s.0; few = omega (arith, c.many); gives = c.gives; spoils = spoils_last gk before between after c.own out c.fills e b; none = inr (inr (c.many, (s.1, s.3))) }
+      record {
+        own = c.own;
+        mid = s.0;
+        few = omega (arith, c.many);
+        gives = c.gives;
+        spoils = spoils_last gk before
+            between after c.own out c.fills e b;
+        none = inr (inr (c.many, (s.1, s.3)));
+      }
   copied_spoiled at_once most old new before between after (Err (Source fault)) out s h e b =
       let c = s.3 in
-      record { own = c.own; mid = s.0; few = omega (arith, s.2, c.many); gives = c.gives; spoils = spoils_last gk before between after c.own out c.fills e b; none = inr (inl (fault, s.4)) }
+      record {
+        own = c.own;
+        mid = s.0;
+        few = omega (arith, s.2, c.many);
+        gives = c.gives;
+        spoils = spoils_last gk before
+            between after c.own out c.fills e b;
+        none = inr (inl (fault, s.4));
+      }
   copied_spoiled at_once most old new before between after (Err (Output fault)) out s h e b = absurd (false≢true h)
 
   -- the output failed at a word

@@ -106,7 +106,8 @@ pub record Below (m : List (List ℕ)) (a : Spot) (t : Tree) (kind : Kind) (i : 
   pub at_i : part_at t (child_step_of kind i) ≡ Some tree
   pub denotes : DenotesAt m a tree
 
-pub below : (m m' : List (List ℕ)) (a : Spot) (t : Tree) (own : Own) (kind : Kind) (i n : ℕ) (step : Step) → own ≡ own_of t → kind ≡ kind_of own → i < n → n ≡ shown_count_of kind
+pub below : (m m' : List (List ℕ)) (a : Spot) (t : Tree) (own : Own) (kind : Kind) (i n : ℕ) (step : Step)
+    → own ≡ own_of t → kind ≡ kind_of own → i < n → n ≡ shown_count_of kind
     → step ≡ child_step_of kind i → m' ≡ m → (u : Tree) × (part_at t step ≡ Some u) × DenotesAt m a u → Below m' a t kind i
 below m m' a t own kind i n step e k lt many s same p = record {
   of_tree = k ∙ ap kind_of e;
@@ -152,7 +153,8 @@ mutual
 module _ {O : Type 0} (g : output.Ghosts O) (level : ℕ) (t : Tree) (kind : Kind) where
   -- The children before number i are put.
   abbrev pub ChildrenOut : O × List ℕ → O × List ℕ → ℕ → Type 0
-  ChildrenOut a b i = Left g a b (all_lines level (child_letter_of kind) 0 (shown_below t)) (all_lines level (child_letter_of kind) i (trees_from i (shown_below t)))
+  ChildrenOut a b i = Left g a b (all_lines level (child_letter_of kind) 0 (shown_below t))
+      (all_lines level (child_letter_of kind) i (trees_from i (shown_below t)))
 
   -- before the first none is
   pub none_out : (a : O × List ℕ) → ChildrenOut a a 0
@@ -169,7 +171,8 @@ module _ {O : Type 0} (g : output.Ghosts O) (level : ℕ) (t : Tree) (kind : Kin
       let rest = ap (all_lines level (child_letter_of kind) i) (no_tree (shown_below t) i many) in
       subst (Added g a b) lines_are (left_done g a b _ (subst (Left g a b (all_lines level (child_letter_of kind) 0 (shown_below t))) rest l))
 
-  module _ (i : ℕ) (within : i < shown_count_of kind) (u : Tree) (at_i : part_at t (child_step_of kind i) ≡ Some u) (letter : ℕ) (is : letter ≡ child_letter_of kind) (a b : O × List ℕ) where
+  module _ (i : ℕ) (within : i < shown_count_of kind) (u : Tree) (at_i : part_at t (child_step_of kind i) ≡ Some u)
+      (letter : ℕ) (is : letter ≡ child_letter_of kind) (a b : O × List ℕ) where
     -- The next child's lines, those below it, and those of the others are left.
     left_next : ChildrenOut g level t kind a b i
         → Left g a b (all_lines level (child_letter_of kind) 0 (shown_below t))
@@ -177,10 +180,12 @@ module _ {O : Type 0} (g : output.Ghosts O) (level : ℕ) (t : Tree) (kind : Kin
     left_next l =
         subst (Left g a b (all_lines level (child_letter_of kind) 0 (shown_below t)))
         (ap (all_lines level (child_letter_of kind) i) (next_tree (shown_below t) i u (child_of t kind i k within u at_i))
-        ∙ ap (λ x. own_text level (label x i) u ++ child_lines (level + 1) u ++ all_lines level (child_letter_of kind) (i + 1) (trees_from (i + 1) (shown_below t))) (sym is)) l
+        ∙ ap (λ x. own_text level (label x i) u ++ child_lines (level + 1) u ++ all_lines level (child_letter_of kind)
+        (i + 1) (trees_from (i + 1) (shown_below t))) (sym is)) l
 
     -- one more child is put
-    pub child_out : (c d : O × List ℕ) → ChildrenOut g level t kind a b i → Added g b c (own_text level (label letter i) u) → Added g c d (child_lines (level + 1) u)
+    pub child_out : (c d : O × List ℕ) → ChildrenOut g level t kind a b i
+        → Added g b c (own_text level (label letter i) u) → Added g c d (child_lines (level + 1) u)
         → ChildrenOut g level t kind a d (i + 1)
     child_out c d l v w =
         left_step g a b d (all_lines level (child_letter_of kind) 0 (shown_below t)) (own_text level (label letter i) u ++ child_lines (level + 1) u)
@@ -212,7 +217,8 @@ at_root m m' a t c d same comes h =
 
 module _ {O : Type 0} (g : output.Ghosts O) where
   -- the root's own lines, and then what is below it
-  pub adds_dump : {T : Type 0} (a b c : O × List ℕ) (r : Result T OutFault) (t : Tree) → Added g a b (own_text 0 (codes "root") t) → Adds g b c r (child_lines 1 t) → Adds g a c r (dump_text t)
+  pub adds_dump : {T : Type 0} (a b c : O × List ℕ) (r : Result T OutFault) (t : Tree)
+      → Added g a b (own_text 0 (codes "root") t) → Adds g b c r (child_lines 1 t) → Adds g a c r (dump_text t)
   adds_dump a b c r t v w = adds_then g a b c r (own_text 0 (codes "root") t) (child_lines 1 t) v w
 
   -- or a fault in its own lines

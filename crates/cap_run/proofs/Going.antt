@@ -79,14 +79,25 @@ module _ {S O : Type 0} (gs : source.Ghosts S) (go : output.Ghosts O) (tells : T
   going_none s o = record { ts = []; many = refl; counts = refl; reads = reads_none gs limit s; each = tt; appended = appended_none go o }
 
   -- one more
-  pub going_more : (old mid new : S) (before between after : O) (outcome next : Outcome) (number : ℕ) (t : Told) (counted : Counted) → t.counted ≡ counted → Going old mid before between outcome number
+  pub going_more : (old mid new : S) (before between after : O) (outcome next : Outcome) (number : ℕ) (t : Told)
+      (counted : Counted) → t.counted ≡ counted → Going old mid before between outcome number
       → tells number t.message t.text t.counted → ReadsStream gs limit mid new (t.message ∷ []) → Wrote go between after t.text
-      → next ≡ record { messages = outcome.messages + 1; refused = outcome.refused + one_refused counted; noncanonical = outcome.noncanonical + one_noncanonical counted }
+      → next ≡ record {
+        messages = outcome.messages + 1;
+        refused = outcome.refused + one_refused counted;
+        noncanonical =
+            outcome.noncanonical + one_noncanonical counted;
+      }
       → Going old new before after next (number + 1)
   going_more old mid new before between after outcome next number t counted same w told reads wrote counts = record {
     ts = w.ts ++ t ∷ [];
     many = length-append w.ts (t ∷ []) ∙ ap (λ n. n + 1) w.many;
-    counts = subst (λ (k : Counted). next ≡ record { messages = outcome.messages + 1; refused = outcome.refused + one_refused k; noncanonical = outcome.noncanonical + one_noncanonical k })
+    counts = subst (λ (k : Counted). next ≡ record {
+      messages = outcome.messages + 1;
+      refused = outcome.refused
+          + one_refused k;
+      noncanonical = outcome.noncanonical + one_noncanonical k;
+    })
         (sym same) counts
         ∙ outcome_of-snoc w.ts t outcome w.counts;
     reads = rw (messages_of-snoc w.ts t) (reads_both gs limit old mid new (messages_of w.ts) (t.message ∷ []) w.reads reads);
@@ -95,27 +106,37 @@ module _ {S O : Type 0} (gs : source.Ghosts S) (go : output.Ghosts O) (tells : T
   }
 
   -- no more were refused than there were
-  pub going_refused : (old new : S) (before after : O) (outcome : Outcome) (number : ℕ) → Going old new before after outcome number → outcome.refused ≤ outcome.messages
+  pub going_refused : (old new : S) (before after : O) (outcome : Outcome) (number : ℕ)
+      → Going old new before after outcome number → outcome.refused ≤ outcome.messages
   going_refused old new before after outcome number w = rw w.counts (refused_in_le w.ts)
 
   -- no more weren't canonical than there were
-  pub going_noncanonical : (old new : S) (before after : O) (outcome : Outcome) (number : ℕ) → Going old new before after outcome number → outcome.noncanonical ≤ outcome.messages
+  pub going_noncanonical : (old new : S) (before after : O) (outcome : Outcome) (number : ℕ)
+      → Going old new before after outcome number → outcome.noncanonical ≤ outcome.messages
   going_noncanonical old new before after outcome number w = rw w.counts (noncanonical_in_le w.ts)
 
 module _ {S O : Type 0} (gs : source.Ghosts S) (go : output.Ghosts O) (tells : Tells) (wants : List (List ℕ) → Type 0) (limit : ℕ) where
   -- it ended at the next message
-  pub going_stops : (old mid new : S) (before between after : O) (outcome : Outcome) (number most : ℕ) (cause : Cause) → (w : Going gs go tells limit old mid before between outcome number) → number < most
+  pub going_stops : (old mid new : S) (before between after : O) (outcome : Outcome) (number most : ℕ) (cause : Cause)
+      → (w : Going gs go tells limit old mid before between outcome number) → number < most
       → StepStops gs go tells wants limit number mid new between after cause → RunStops gs go tells wants limit most w.ts mid new before after cause
   going_stops old mid new before between after outcome number most TooManyMessages w h q = absurd q
   going_stops old mid new before between after outcome number most (Frame fault) w h q = (rw q.1 w.appended, q.0)
-  going_stops old mid new before between after outcome number most (Output fault) w h q =
-      (q.0, omega (arith, w.many), subst (λ k. tells k q.0.message q.0.text q.0.counted) (sym w.many) q.1, q.2, stops_in go before between after fault (texts_of w.ts) q.0.text w.appended q.3)
+  going_stops old mid new before between after outcome number most (Output fault) w h q = (
+    q.0,
+    omega (arith, w.many),
+    subst (λ k. tells k q.0.message q.0.text q.0.counted)
+        (sym w.many) q.1,
+    q.2,
+    stops_in go before between after fault (texts_of w.ts) q.0.text w.appended q.3,
+  )
   going_stops old mid new before between after outcome number most (Refused refusal) w h q = absurd q
   going_stops old mid new before between after outcome number most (Canon fault) w h q = absurd q
   going_stops old mid new before between after outcome number most no_marks w h q = (omega (arith, w.many), rw q.3 w.appended, (q.0, q.1, q.2))
 
   -- it ended behind the last message that it may read
-  pub going_over : (old mid new : S) (before after : O) (outcome : Outcome) (most : ℕ) (cause : Cause) → (w : Going gs go tells limit old mid before after outcome most)
+  pub going_over : (old mid new : S) (before after : O) (outcome : Outcome) (most : ℕ) (cause : Cause)
+      → (w : Going gs go tells limit old mid before after outcome most)
       → EndStops gs limit mid new cause → RunStops gs go tells wants limit most w.ts mid new before after cause
   going_over old mid new before after outcome most TooManyMessages w q = (w.many, w.appended, q)
   going_over old mid new before after outcome most (Frame fault) w q = (w.appended, q)

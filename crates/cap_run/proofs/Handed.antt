@@ -1,5 +1,6 @@
 -- Words that are read at once and handed to a sink.
-use Rattle.std.proofs.Common.{◌≡◌, ◌∙◌, ℕ, ◌+◌, ◌*◌, ◌≤◌, false, true, ◌⊎◌, inl, inr, List, [], ◌∷◌, ◌++◌, length, take, Some, OnSome, refl, sym, ap, arith, length-append}
+use Rattle.std.proofs.Common.{◌≡◌, ◌∙◌, ℕ, ◌+◌, ◌*◌, ◌≤◌, false, true, ◌⊎◌, inl, inr, List, [], ◌∷◌, ◌++◌, length, take}
+use Rattle.std.proofs.Common.{Some, OnSome, refl, sym, ap, arith, length-append}
 use Rattle.std.specs.Io.KnownBytes.{Keeps}
 use Rattle.std.proofs.lemmas.List.{length-take-le}
 use Rattle.cap_spec.specs.Plain.{plain_text, plain_words}
@@ -25,7 +26,8 @@ words_in n room fits text = sym (length_plain (plain_words (take n room))) ∙ (
 module _ {S : Type 0} (gs : source.Ghosts S) where
   -- the words at hand
   pub gives_ready : (old new : S) (n : ℕ) (room : List ℕ) → n ≤ length room → take n room ≡ plain_text (plain_words (take n room))
-      → TakesAll (gs.words old) (gs.words new) (gs.is_cut old) (gs.is_cut new) (gs.place old) (gs.place new) (gs.places old) (gs.places new) (plain_words (take n room))
+      → TakesAll (gs.words old) (gs.words new) (gs.is_cut old) (gs.is_cut new) (gs.place old) (gs.place new)
+      (gs.places old) (gs.places new) (plain_words (take n room))
       → (n ≡ 0) ⊎ (gs.spent old ≡ false) → gs.spent new ≡ gs.spent old → gs.failures new ≡ gs.failures old → Gives gs old new (plain_words (take n room))
   gives_ready old new n room fits text t u s f = record {
     takes = record { words = t.consumed; goes_on = t.goes_on };
@@ -43,7 +45,8 @@ module _ {S : Type 0} (gs : source.Ghosts S) where
       → ((byte : ℕ) → fault ≡ Truncated byte → OnSome (gs.words old) ((gs.words old ≡ Some []) × (gs.is_cut old ≡ true) × (gs.places old ≡ gs.place new ∷ [])))
       → ((byte : ℕ) → fault ≡ Truncated byte → (byte ≡ gs.place new) × (gs.spent old ≡ false) × (gs.spent new ≡ true) × (gs.failures new ≡ gs.failures old))
       → (fault ≡ Device → Fails (gs.spent old) (gs.failures old) (gs.failures new) × (gs.spent new ≡ true))
-      → (fault ≡ Spent → WasSpent (gs.spent old) (gs.spent new) (gs.failures old) (gs.failures new) × (gs.place new ≡ gs.place old) × Keeps (gs.unread old) (gs.unread new))
+      → (fault ≡ Spent → WasSpent (gs.spent old) (gs.spent new) (gs.failures old) (gs.failures new)
+      × (gs.place new ≡ gs.place old) × Keeps (gs.unread old) (gs.unread new))
       → GivesNone gs old new fault
   gives_no_next old new (Truncated byte) failed cut at device spent =
       let a = at byte refl in
@@ -64,7 +67,8 @@ module _ {S K : Type 0} (gs : source.Ghosts S) (gk : sink.Ghosts K) where
   copies_start s k = record { own = []; many = refl; gives = gives_none gs s; fills = fills_none gk k }
 
   -- some words, and then others
-  pub copies_both : (old now new : S) (before between after : K) (n m : ℕ) → Copies gs gk old now before between n → Copies gs gk now new between after m → Copies gs gk old new before after (n + m)
+  pub copies_both : (old now new : S) (before between after : K) (n m : ℕ) → Copies gs gk old now before between n
+      → Copies gs gk now new between after m → Copies gs gk old new before after (n + m)
   copies_both old now new before between after n m c d = record {
     own = c.own ++ d.own;
     many = let a = c.many in let b = d.many in omega (arith, length-append c.own d.own);
@@ -73,7 +77,9 @@ module _ {S K : Type 0} (gs : source.Ghosts S) (gk : sink.Ghosts K) where
   }
 
   -- the output failed behind words that were put
-  pub stops_midway : (at_once most n rest : ℕ) (old now new : S) (before between after : K) (out : OutFault) → Copies gs gk old now before between n → HandsOver gs gk rest now new between after out → rest ≤ at_once → n + rest ≤ most
+  pub stops_midway : (at_once most n rest : ℕ) (old now new : S) (before between after : K) (out : OutFault)
+      → Copies gs gk old now before between n → HandsOver gs gk rest now new between after out → rest ≤ at_once
+      → n + rest ≤ most
       → StopsMidway gs gk at_once most old new before after out
   stops_midway at_once most n rest old now new before between after out c h once room = record {
     done = c.own;

@@ -1,5 +1,6 @@
 -- Copies that are put one after the other.
-use Rattle.std.proofs.Common.{◌≡◌, ◌∙◌, ℕ, ◌+◌, ◌<◌, ◌≤◌, false, true, inl, inr, Result, Ok, Err, OnOk, IfErr, IsErrOf, List, [], ◌∷◌, ◌++◌, refl, sym, ap, subst, arith, append_assoc, append-nil, length-append}
+use Rattle.std.proofs.Common.{◌≡◌, ◌∙◌, ℕ, ◌+◌, ◌<◌, ◌≤◌, false, true, inl, inr, Result, Ok, Err, OnOk, IfErr, IsErrOf}
+use Rattle.std.proofs.Common.{List, [], ◌∷◌, ◌++◌, refl, sym, ap, subst, arith, append_assoc, append-nil, length-append}
 use Rattle.std.specs.Io.KnownBytes.{Keeps}
 use Rattle.std.proofs.lemmas.Bool.{false≢true}
 use Rattle.std.proofs.lemmas.List.{map-append}
@@ -27,7 +28,8 @@ use Rattle.cap_run.proofs.Copying.{fills_both, fills_none, finishes_behind, spoi
 use Rattle.cap_run.proofs.Streams.{reads_both, reads_none}
 
 -- what the two clauses on faults say of the one that came
-pub has_no_copy : {T : Type 0} (m : List (List ℕ)) (r : Result T CanonFault) (fault : CanonFault) → r ≡ Err fault → ((s w : ℕ) → IsErrOf r (HasCapability s w) → IsFirstCap m s w)
+pub has_no_copy : {T : Type 0} (m : List (List ℕ)) (r : Result T CanonFault) (fault : CanonFault) → r ≡ Err fault
+    → ((s w : ℕ) → IsErrOf r (HasCapability s w) → IsFirstCap m s w)
     → (IsErrOf r Memory → (s w : ℕ) → ¬ IsFirstCap m s w) → HasNoCopy m fault
 has_no_copy m r (HasCapability s w) e cap memory = cap s w e
 has_no_copy m r Memory e cap memory = memory e
@@ -52,7 +54,8 @@ copies_of-snoc cs c = flat_map-append (λ d. frame_text (d.copy ∷ [])) cs (c �
 
 module _ {S K : Type 0} (gs : source.Ghosts S) (gk : sink.Ghosts K) (words depth limit : ℕ) where
   -- a message was read, and its copy wasn't put
-  pub next_stops : (m : List (List ℕ)) (old new : S) (before after : K) (cause : Cause) → ReadsStream gs limit old new (m ∷ []) → CopyStops gk words depth m before after cause
+  pub next_stops : (m : List (List ℕ)) (old new : S) (before after : K) (cause : Cause)
+      → ReadsStream gs limit old new (m ∷ []) → CopyStops gk words depth m before after cause
       → NextStops gs gk words depth limit old new before after cause
   next_stops m old new before after TooManyMessages r s = s
   next_stops m old new before after (Frame fault) r s = absurd s
@@ -78,12 +81,15 @@ module _ {S K : Type 0} (gs : source.Ghosts S) (gk : sink.Ghosts K) (words depth
   }
 
   -- the stream ended
-  pub making_ended : (most : ℕ) (old mid new : S) (before after : K) (n : ℕ) → n ≤ most → CopiesSoFar gs gk words depth limit old mid before after n → EndsStream gs mid new
+  pub making_ended : (most : ℕ) (old mid new : S) (before after : K) (n : ℕ) → n ≤ most
+      → CopiesSoFar gs gk words depth limit old mid before after n → EndsStream gs mid new
       → Making gs gk words depth limit most old new before after n (Ok tt)
-  making_ended most old mid new before after n few w ends = record { cs = w.cs; mid = mid; many = w.many; few = few; reads = w.reads; each = w.each; stops = (ends, w.fills) }
+  making_ended most old mid new before after n few w ends =
+      record { cs = w.cs; mid = mid; many = w.many; few = few; reads = w.reads; each = w.each; stops = (ends, w.fills) }
 
   -- the run ended at the next message
-  stops_next : (most : ℕ) (old mid new : S) (before between after : K) (n : ℕ) (cause : Cause) → n < most → (w : CopiesSoFar gs gk words depth limit old mid before between n)
+  stops_next : (most : ℕ) (old mid new : S) (before between after : K) (n : ℕ) (cause : Cause) → n < most
+      → (w : CopiesSoFar gs gk words depth limit old mid before between n)
       → NextStops gs gk words depth limit mid new between after cause → StopsMaking gs gk words depth limit most w.cs mid new before after (Err cause)
   stops_next most old mid new before between after n TooManyMessages less w s = absurd s
   stops_next most old mid new before between after n (Frame fault) less w s = (s.0, rw s.1 w.fills)
@@ -98,7 +104,8 @@ module _ {S K : Type 0} (gs : source.Ghosts S) (gk : sink.Ghosts K) (words depth
   stops_next most old mid new before between after n (Canon fault) less w s = ((omega (arith, less, w.many), s.0, s.2.0, s.1, s.2.1, s.2.2), rw s.2.3 w.fills)
   stops_next most old mid new before between after n no_marks less w s = absurd s
 
-  pub making_stops : (most : ℕ) (old mid new : S) (before between after : K) (n : ℕ) (cause : Cause) → n < most → CopiesSoFar gs gk words depth limit old mid before between n
+  pub making_stops : (most : ℕ) (old mid new : S) (before between after : K) (n : ℕ) (cause : Cause) → n < most
+      → CopiesSoFar gs gk words depth limit old mid before between n
       → NextStops gs gk words depth limit mid new between after cause → Making gs gk words depth limit most old new before after n (Err cause)
   making_stops most old mid new before between after n cause less w s = record {
     cs = w.cs;
@@ -111,8 +118,10 @@ module _ {S K : Type 0} (gs : source.Ghosts S) (gk : sink.Ghosts K) (words depth
   }
 
   -- as many messages were read as may be
-  stops_last : (most : ℕ) (old mid new : S) (before after : K) (end : Result (Unit {0}) Cause) → (w : CopiesSoFar gs gk words depth limit old mid before after most)
-      → OnOk end (EndsStream gs mid new) → IfErr end (λ cause. EndStops gs limit mid new cause) → StopsMaking gs gk words depth limit most w.cs mid new before after end
+  stops_last : (most : ℕ) (old mid new : S) (before after : K) (end : Result (Unit {0}) Cause)
+      → (w : CopiesSoFar gs gk words depth limit old mid before after most)
+      → OnOk end (EndsStream gs mid new) → IfErr end (λ cause. EndStops gs limit mid new cause)
+      → StopsMaking gs gk words depth limit most w.cs mid new before after end
   stops_last most old mid new before after (Ok ended) w e s = (e, w.fills)
   stops_last most old mid new before after (Err TooManyMessages) w e s = ((w.many, s.0, s.1), w.fills)
   stops_last most old mid new before after (Err (Frame fault)) w e s = (s, w.fills)
@@ -121,10 +130,21 @@ module _ {S K : Type 0} (gs : source.Ghosts S) (gk : sink.Ghosts K) (words depth
   stops_last most old mid new before after (Err (Canon fault)) w e s = absurd s
   stops_last most old mid new before after (Err no_marks) w e s = absurd s
 
-  pub making_last : (most : ℕ) (old mid new : S) (before after : K) (end : Result (Unit {0}) Cause) → CopiesSoFar gs gk words depth limit old mid before after most
-      → OnOk end (EndsStream gs mid new) → IfErr end (λ cause. EndStops gs limit mid new cause) → Making gs gk words depth limit most old new before after most end
+  pub making_last : (most : ℕ) (old mid new : S) (before after : K) (end : Result (Unit {0}) Cause)
+      → CopiesSoFar gs gk words depth limit old mid before after most
+      → OnOk end (EndsStream gs mid new) → IfErr end (λ cause. EndStops gs limit mid new cause)
+      → Making gs gk words depth limit most old new before after most end
   making_last most old mid new before after end w e s =
-      record { cs = w.cs; mid = mid; many = w.many; few = omega arith; reads = w.reads; each = w.each; stops = stops_last most old mid new before after end w e s }
+      record {
+        cs = w.cs;
+        mid = mid;
+        many = w.many;
+        few = omega arith;
+        reads = w.reads;
+        each = w.each;
+        stops =
+            stops_last most old mid new before after end w e s;
+      }
 
   -- the output failed before the sink was finished
   ends_failed : (most : ℕ) (cs : List Canonised) (mid new : S) (before after : K) (end : Result (Unit {0}) Cause) → is_unfinished end ≡ false
@@ -140,11 +160,21 @@ module _ {S K : Type 0} (gs : source.Ghosts S) (gk : sink.Ghosts K) (words depth
   pub made_failed : (most : ℕ) (old new : S) (before after : K) (n : ℕ) (end : Result (Unit {0}) Cause) → is_unfinished end ≡ false
       → Making gs gk words depth limit most old new before after n end → Made gs gk words depth limit most old new before after n end
   made_failed most old new before after n end e w =
-      record { cs = w.cs; mid = w.mid; many = w.many; few = w.few; reads = w.reads; each = w.each; ends = ends_failed most w.cs w.mid new before after end e w.stops }
+      record {
+        cs = w.cs;
+        mid = w.mid;
+        many = w.many;
+        few = w.few;
+        reads = w.reads;
+        each = w.each;
+        ends = ends_failed
+            most w.cs w.mid new before after end e w.stops;
+      }
 
   -- what is known before the sink is finished
   ends_before : (most : ℕ) (cs : List Canonised) (mid new : S) (before after : K) (end : Result (Unit {0}) Cause) → is_unfinished end ≡ true
-      → StopsMaking gs gk words depth limit most cs mid new before after end → CanonEnds gs gk words depth limit most cs mid new end × Fills gk before after (copies_of cs)
+      → StopsMaking gs gk words depth limit most cs mid new before after end
+      → CanonEnds gs gk words depth limit most cs mid new end × Fills gk before after (copies_of cs)
   ends_before most cs mid new before after (Ok ended) e s = s
   ends_before most cs mid new before after (Err TooManyMessages) e s = s
   ends_before most cs mid new before after (Err (Frame fault)) e s = s
@@ -154,7 +184,8 @@ module _ {S K : Type 0} (gs : source.Ghosts S) (gk : sink.Ghosts K) (words depth
   ends_before most cs mid new before after (Err no_marks) e s = absurd s
 
   -- and once it is
-  ends_behind : (most : ℕ) (cs : List Canonised) (mid new : S) (before after : K) (end : Result (Unit {0}) Cause) → CanonEnds gs gk words depth limit most cs mid new end
+  ends_behind : (most : ℕ) (cs : List Canonised) (mid new : S) (before after : K) (end : Result (Unit {0}) Cause)
+      → CanonEnds gs gk words depth limit most cs mid new end
       → Finishes gk before after (copies_of cs) → CopiesEnd gs gk words depth limit most cs mid new before after end
   ends_behind most cs mid new before after (Ok ended) s f = (s, f)
   ends_behind most cs mid new before after (Err TooManyMessages) s f = (s, f)
@@ -166,7 +197,8 @@ module _ {S K : Type 0} (gs : source.Ghosts S) (gk : sink.Ghosts K) (words depth
 
   pub made_finished : (most : ℕ) (old new : S) (before between after : K) (n : ℕ) (end : Result (Unit {0}) Cause) → is_unfinished end ≡ true
       → Making gs gk words depth limit most old new before between n end → Keeps (gk.text between []) (gk.taken after)
-      → (gk.closed between ≡ false) × (gk.closed after ≡ true) × (gk.failures after ≡ gk.failures between) → Made gs gk words depth limit most old new before after n end
+      → (gk.closed between ≡ false) × (gk.closed after ≡ true) × (gk.failures after ≡ gk.failures between)
+      → Made gs gk words depth limit most old new before after n end
   made_finished most old new before between after n end e w k o =
       let s = ends_before most w.cs w.mid new before between end e w.stops in
       record {

@@ -1,5 +1,6 @@
 -- The lines of a node and of its own words.
-use Rattle.std.proofs.Common.{◌≡◌, ℕ, zero, suc, ◌+◌, ◌*◌, List, [], ◌∷◌, ◌++◌, drop, length, replicate, slice_get, Some, None, Result, refl, sym, ap, ◌∙◌, append_assoc, subst}
+use Rattle.std.proofs.Common.{◌≡◌, ℕ, zero, suc, ◌+◌, ◌*◌, List, [], ◌∷◌, ◌++◌, drop, length, replicate, slice_get}
+use Rattle.std.proofs.Common.{Some, None, Result, refl, sym, ap, ◌∙◌, append_assoc, subst}
 use Rattle.std.proofs.lemmas.Option.{slice_get_within, get_or_from_slice_get}
 use Rattle.cap_words.specs.declared.ends.ByteOut as output
 use Rattle.cap_words.specs.declared.ends.OutFault.{OutFault}
@@ -45,7 +46,8 @@ words_are level (pointers ts) = refl
 words_are level (structs d p es) = refl
 
 -- a node that is neither a struct nor a list of values has no words of its own
-pub no_words : (own : Own) (kind : Kind) → kind ≡ kind_of own → ((d p : ℕ) → kind ≡ Struct d p → ⊥) → ((c n : ℕ) → kind ≡ Scalars c n → ⊥) → words_of_own own ≡ []
+pub no_words : (own : Own) (kind : Kind) → kind ≡ kind_of own → ((d p : ℕ) → kind ≡ Struct d p → ⊥)
+    → ((c n : ℕ) → kind ≡ Scalars c n → ⊥) → words_of_own own ≡ []
 no_words own_null kind e f g = refl
 no_words (own_cap i) kind e f g = refl
 no_words (own_struct words n) kind e f g = absurd (f (length words) n e)
@@ -54,14 +56,16 @@ no_words (own_pointers n) kind e f g = refl
 no_words (own_structs n d p) kind e f g = refl
 
 -- the same of what a view shows of a tree
-pub head_shown : (t : Tree) (own : Own) (kind : Kind) (name written : List ℕ) → own ≡ own_of t → kind ≡ kind_of own → written ≡ name ++ 32 ∷ head_of kind ++ 10 ∷ []
+pub head_shown : (t : Tree) (own : Own) (kind : Kind) (name written : List ℕ) → own ≡ own_of t → kind ≡ kind_of own
+    → written ≡ name ++ 32 ∷ head_of kind ++ 10 ∷ []
     → written ≡ name ++ 32 ∷ head t ++ 10 ∷ []
 head_shown t own kind name written e k w = w ∙ ap (λ h. name ++ 32 ∷ h ++ 10 ∷ []) (ap head_of k ∙ ap (λ o. head_of (kind_of o)) e ∙ head_is t)
 
 pub words_shown : (level : ℕ) (t : Tree) (own : Own) (kind : Kind) (letter : ℕ) → own ≡ own_of t → kind ≡ kind_of own → letter ≡ word_letter_of kind
     → word_lines level letter 0 (words_of_own own) ≡ own_lines level t
 words_shown level t own kind letter e k l =
-    ap (λ x. word_lines level x 0 (words_of_own own)) (l ∙ ap word_letter_of k) ∙ ap (λ o. word_lines level (word_letter_of (kind_of o)) 0 (words_of_own o)) e ∙ words_are level t
+    ap (λ x. word_lines level x 0 (words_of_own own)) (l ∙ ap word_letter_of k)
+    ∙ ap (λ o. word_lines level (word_letter_of (kind_of o)) 0 (words_of_own o)) e ∙ words_are level t
 
 -- a line at a level, from what is written
 pub line_is : (level : ℕ) (text written : List ℕ) → written ≡ text ++ 10 ∷ [] → replicate (2 * level) 32 ++ written ≡ line level text
@@ -84,7 +88,8 @@ module _ (level letter i w : ℕ) (ws : List ℕ) (at_i : Some w ≡ slice_get w
       ≡ (replicate (2 * level) 32 ++ (label letter i ++ 32 ∷ hex w ++ 10 ∷ [])) ++ word_lines level letter (i + 1) (drop (i + 1) ws)
   lines_next =
       ap (word_lines level letter i) (drop_word ws i w at_i)
-      ∙ ap (λ l. l ++ word_lines level letter (i + 1) (drop (i + 1) ws)) (sym (line_is level (label letter i ++ 32 ∷ hex w) (label letter i ++ 32 ∷ hex w ++ 10 ∷ []) refl))
+      ∙ ap (λ l. l ++ word_lines level letter (i + 1) (drop (i + 1) ws))
+      (sym (line_is level (label letter i ++ 32 ∷ hex w) (label letter i ++ 32 ∷ hex w ++ 10 ∷ []) refl))
 
 module _ {O : Type 0} (g : output.Ghosts O) (level letter i w : ℕ) (ws : List ℕ) (at_i : Some w ≡ slice_get ws i) where
   -- one more word is put
@@ -92,7 +97,9 @@ module _ {O : Type 0} (g : output.Ghosts O) (level letter i w : ℕ) (ws : List 
       → Added g b c (replicate (2 * level) 32 ++ (label letter i ++ 32 ∷ hex w ++ 10 ∷ []))
       → Left g a c (word_lines level letter 0 ws) (word_lines level letter (i + 1) (drop (i + 1) ws))
   word_step a b c l v =
-      left_step g a b c (word_lines level letter 0 ws) (replicate (2 * level) 32 ++ (label letter i ++ 32 ∷ hex w ++ 10 ∷ [])) (word_lines level letter (i + 1) (drop (i + 1) ws))
+      left_step g a b c (word_lines level letter 0 ws)
+      (replicate (2 * level) 32 ++ (label letter i ++ 32 ∷ hex w ++ 10 ∷ []))
+      (word_lines level letter (i + 1) (drop (i + 1) ws))
       (subst (Left g a b (word_lines level letter 0 ws)) (lines_next level letter i w ws at_i) l) v
 
 module _ {O : Type 0} (g : output.Ghosts O) where
@@ -101,13 +108,15 @@ module _ {O : Type 0} (g : output.Ghosts O) where
   lines_stop a b c fault all rest l q = left_stop g a b c fault all [] rest l q
 
   -- all words are put
-  pub words_done : (level letter i : ℕ) (ws : List ℕ) (a b : O × List ℕ) → None ≡ slice_get ws i → Left g a b (word_lines level letter 0 ws) (word_lines level letter i (drop i ws))
+  pub words_done : (level letter i : ℕ) (ws : List ℕ) (a b : O × List ℕ) → None ≡ slice_get ws i
+      → Left g a b (word_lines level letter 0 ws) (word_lines level letter i (drop i ws))
       → Added g a b (word_lines level letter 0 ws)
   words_done level letter i ws a b e l =
       left_done g a b (word_lines level letter 0 ws) (subst (Left g a b (word_lines level letter 0 ws)) (ap (word_lines level letter i) (drop_last ws i e)) l)
 
   -- a node's line, and then the lines of its own words
-  pub adds_own : {T : Type 0} (a b c : O × List ℕ) (r : Result T OutFault) (level : ℕ) (name written words : List ℕ) (t : Tree) → written ≡ name ++ 32 ∷ head t ++ 10 ∷ []
+  pub adds_own : {T : Type 0} (a b c : O × List ℕ) (r : Result T OutFault) (level : ℕ) (name written words : List ℕ)
+      (t : Tree) → written ≡ name ++ 32 ∷ head t ++ 10 ∷ []
       → words ≡ own_lines (level + 1) t → Added g a b (replicate (2 * level) 32 ++ written) → Adds g b c r words → Adds g a c r (own_text level name t)
   adds_own a b c r level name written words t e f v w =
       adds_then g a b c r (line level (name ++ 32 ∷ head t)) (own_lines (level + 1) t)

@@ -26,7 +26,8 @@ pub length-decimal_few : (n : ℕ) → n < 2 ^ 64 → length (decimal n) ≤ 20
 length-decimal_few n h = length-decimal-le 20 n (omega arith) (omega arith) h
 
 -- a text that was written behind the first bytes stands behind them
-pub text_behind : (old new text rest : List ℕ) (start end : ℕ) → start + length text ≡ end → take start new ≡ take start old → drop start new ≡ text ++ rest → take end new ≡ take start old ++ text
+pub text_behind : (old new text rest : List ℕ) (start end : ℕ) → start + length text ≡ end
+    → take start new ≡ take start old → drop start new ≡ text ++ rest → take end new ≡ take start old ++ text
 text_behind old new text rest start end e before written =
     ap (λ n. take n new) (sym e) ∙ take-add start (length text) new ∙ ap (λ l. l ++ take (length text) (drop start new)) before
     ∙ ap (λ l. take start old ++ take (length text) l) written ∙ ap (λ l. take start old ++ l) (take-append_seam text rest)

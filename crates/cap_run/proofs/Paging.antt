@@ -1,5 +1,6 @@
 -- Texts that are put on a page one after the other.
-use Rattle.std.proofs.Common.{◌≡◌, ◌⊎◌, ◌<◌, ℕ, List, [], ◌∷◌, ◌++◌, length, refl, sym, ap, ◌∙◌, append_assoc, append-nil, subst, Result, Ok, Err, inl, inr, arith}
+use Rattle.std.proofs.Common.{◌≡◌, ◌⊎◌, ◌<◌, ℕ, List, [], ◌∷◌, ◌++◌, length, refl, sym, ap, ◌∙◌, append_assoc}
+use Rattle.std.proofs.Common.{append-nil, subst, Result, Ok, Err, inl, inr, arith}
 use Rattle.cap_words.specs.declared.ends.ByteOut as output
 use Rattle.cap_words.specs.declared.ends.OutFault.{OutFault}
 use Rattle.cap_run.specs.Paging.{Added, Halted, Adds}
@@ -18,7 +19,9 @@ module _ {O : Type 0} (g : output.Ghosts O) where
   gone_then : (a b c : O) (xs ys : List ℕ) → Gone a b xs → Gone b c ys → Gone a c (xs ++ ys)
   gone_then a b c xs ys (inl h) (inl k) = inl (k.0 ∙ h.0, ap (λ t. t ++ ys) h.1 ∙ k.1)
   gone_then a b c xs ys (inl h) (inr w) = inr (subst (λ t. Wrote g a c (t ++ ys)) (sym h.1) (subst (λ o. Wrote g o c ys) h.0 w))
-  gone_then a b c xs ys (inr w) (inl k) = inr (subst (λ o. Wrote g a o (xs ++ ys)) (sym k.0) (subst (Wrote g a b) (sym (ap (λ t. xs ++ t) k.1 ∙ append-nil xs)) w))
+  gone_then a b c xs ys (inr w) (inl k) = inr
+      (subst (λ o. Wrote g a o (xs ++ ys)) (sym k.0)
+      (subst (Wrote g a b) (sym (ap (λ t. xs ++ t) k.1 ∙ append-nil xs)) w))
   gone_then a b c xs ys (inr w) (inr v) = inr (wrote_then g a b c xs ys w v)
 
   -- a text that is on the page alone
@@ -29,7 +32,8 @@ module _ {O : Type 0} (g : output.Ghosts O) where
   pub added_then : (a b c : O × List ℕ) (xs ys : List ℕ) → Added g a b xs → Added g b c ys → Added g a c (xs ++ ys)
   added_then a b c xs ys p q = record {
     gone = p.gone ++ q.gone;
-    whole = sym (append_assoc a.1 xs ys) ∙ ap (λ t. t ++ ys) p.whole ∙ append_assoc p.gone b.1 ys ∙ ap (λ t. p.gone ++ t) q.whole ∙ sym (append_assoc p.gone q.gone c.1);
+    whole = sym (append_assoc a.1 xs ys) ∙ ap (λ t. t ++ ys) p.whole ∙ append_assoc p.gone b.1 ys
+        ∙ ap (λ t. p.gone ++ t) q.whole ∙ sym (append_assoc p.gone q.gone c.1);
     out = gone_then a.0 b.0 c.0 p.gone q.gone p.out q.out;
   }
 
@@ -92,11 +96,13 @@ module _ {O : Type 0} (g : output.Ghosts O) where
   pub all_gone : (a b : O) (held now text : List ℕ) → 0 < length (held ++ text) → length now ≡ 0 → Added g (a, held) (b, now) text → Wrote g a b (held ++ text)
   all_gone a b held now text h e p = gone_whole a b (held ++ text) p.gone h (p.whole ∙ ap (λ t. p.gone ++ t) (none_of now e) ∙ append-nil p.gone) p.out
 
-  gone_out : {T : Type 0} (a b c : O) (r : Result T OutFault) (all gone now : List ℕ) → all ≡ gone ++ now → Gone a b gone → Writes g b c r now → Writes g a c r all
+  gone_out : {T : Type 0} (a b c : O) (r : Result T OutFault) (all gone now : List ℕ) → all ≡ gone ++ now
+      → Gone a b gone → Writes g b c r now → Writes g a c r all
   gone_out a b c r all gone now e (inl h) w =
       subst (λ o. Writes g o c r all) h.0 (subst (Writes g b c r) (sym (e ∙ ap (λ t. t ++ now) h.1)) w)
   gone_out a b c r all gone now e (inr v) w = subst (Writes g a c r) (sym e) (writes_then g a b c r gone now v w)
 
   -- or it is written
-  pub page_out : {T : Type 0} (a b c : O) (r : Result T OutFault) (held now text : List ℕ) → Added g (a, held) (b, now) text → Writes g b c r now → Writes g a c r (held ++ text)
+  pub page_out : {T : Type 0} (a b c : O) (r : Result T OutFault) (held now text : List ℕ)
+      → Added g (a, held) (b, now) text → Writes g b c r now → Writes g a c r (held ++ text)
   page_out a b c r held now text p w = gone_out a b c r (held ++ text) p.gone now p.whole p.out w

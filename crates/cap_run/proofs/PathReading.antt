@@ -1,5 +1,7 @@
 -- The text of a path is read to its end, and a text that isn't read on begins no path.
-use Rattle.std.proofs.Common.{◌≡◌, ◌∙◌, inl, inr, ℕ, suc, ◌+◌, ◌*◌, ◌-◌, ◌<◌, ◌≤◌, ◌^◌, ◌/◌, ◌%◌, ◌==◌, nat_lt, true, false, List, [], ◌∷◌, ◌++◌, Option, Some, None, codes, decimal, length, take, drop, get_or, refl, sym, ap, subst, arith, append_assoc, append-nil, length-take}
+use Rattle.std.proofs.Common.{◌≡◌, ◌∙◌, inl, inr, ℕ, suc, ◌+◌, ◌*◌, ◌-◌, ◌<◌, ◌≤◌, ◌^◌, ◌/◌, ◌%◌, ◌==◌, nat_lt, true}
+use Rattle.std.proofs.Common.{false, List, [], ◌∷◌, ◌++◌, Option, Some, None, codes, decimal, length, take, drop}
+use Rattle.std.proofs.Common.{get_or, refl, sym, ap, subst, arith, append_assoc, append-nil, length-take}
 use Rattle.std.specs.List.{flat_map, AllByRecursion}
 use Rattle.std.specs.Option.{option_and_then}
 use Rattle.std.proofs.Math.Seq.{split_at}
@@ -73,12 +75,14 @@ next_item n ten few = rw (other_test (n % 10), digit_test (n % 10) (omega arith)
 run_ptr : (n : ℕ) → n < 2 ^ 64 → n ≤ 65535 → run (decimal n) Pointer ≡ Some (Number (Ptr n))
 run_ptr n h = decimal_by_steps (λ k ds. k ≤ 65535 → run ds Pointer ≡ Some (Number (Ptr k)))
     (λ k less few. ap (option_and_then (run [])) (first_ptr k less))
-    (λ k ds ten before few. run_both ds ((48 + k % 10) ∷ []) Pointer (Number (Ptr (k / 10))) (before (omega (arith, few))) ∙ ap (option_and_then (run [])) (next_ptr k ten few)) n h
+    (λ k ds ten before few. run_both ds ((48 + k % 10) ∷ []) Pointer (Number (Ptr (k / 10)))
+    (before (omega (arith, few))) ∙ ap (option_and_then (run [])) (next_ptr k ten few)) n h
 
 run_item : (n : ℕ) → n < 2 ^ 64 → n ≤ 4294967295 → run (decimal n) Item ≡ Some (Number (item n))
 run_item n h = decimal_by_steps (λ k ds. k ≤ 4294967295 → run ds Item ≡ Some (Number (item k)))
     (λ k less few. ap (option_and_then (run [])) (first_item k less))
-    (λ k ds ten before few. run_both ds ((48 + k % 10) ∷ []) Item (Number (item (k / 10))) (before (omega (arith, few))) ∙ ap (option_and_then (run [])) (next_item k ten few)) n h
+    (λ k ds ten before few. run_both ds ((48 + k % 10) ∷ []) Item (Number (item (k / 10))) (before (omega (arith, few)))
+    ∙ ap (option_and_then (run [])) (next_item k ten few)) n h
 
 -- and so are those of a step, where a slash may come
 run_step : (s : Step) (r : Reading) → IsStep s → next_of r 47 ≡ Some Slash → run (step_text s) r ≡ Some (Number s)
@@ -98,13 +102,16 @@ slash_last : (steps : List Step) (r : Reading) → next_of r 47 ≡ Some Slash �
 slash_last [] r e = e
 slash_last (s ∷ steps) r e = slash_last steps (Number s) (slash_after s)
 
-run_steps : (steps : List Step) (r : Reading) → AllByRecursion IsStep steps → next_of r 47 ≡ Some Slash → run (flat_map step_text steps) r ≡ Some (last_of steps r)
+run_steps : (steps : List Step) (r : Reading) → AllByRecursion IsStep steps → next_of r 47 ≡ Some Slash
+    → run (flat_map step_text steps) r ≡ Some (last_of steps r)
 run_steps [] r a e = refl
-run_steps (s ∷ steps) r a e = run_both (step_text s) (flat_map step_text steps) r (Number s) (run_step s r a.0 e) ∙ run_steps steps (Number s) a.1 (slash_after s)
+run_steps (s ∷ steps) r a e = run_both (step_text s) (flat_map step_text steps) r (Number s) (run_step s r a.0 e)
+    ∙ run_steps steps (Number s) a.1 (slash_after s)
 
 -- what was read is read
 run_read : (text : List ℕ) (done : List Step) (r : Reading) → HasRead text done r → run text Start ≡ Some r
-run_read text done r h = ap (λ t. run t Start) h.spells ∙ run_both (flat_map step_text done) (reading_text r) Start (last_of done Start) (run_steps done Start h.are refl) ∙ rest r h.fits
+run_read text done r h = ap (λ t. run t Start) h.spells ∙ run_both (flat_map step_text done) (reading_text r) Start
+    (last_of done Start) (run_steps done Start h.are refl) ∙ rest r h.fits
   where
     rest : (r : Reading) → IsReading done r → run (reading_text r) (last_of done Start) ≡ Some r
     rest Start e = ap (λ (d : List Step). Some (last_of d Start)) e
@@ -126,7 +133,9 @@ run_path (s ∷ steps) a = run_steps (s ∷ steps) Start a refl
 stuck : (text more : List ℕ) (done : List Step) (b : ℕ) (r : Reading) → HasRead text done r → next_of r b ≡ None → BeginsPath (text ++ b ∷ more) → ⊥
 stuck text more done b r h e p =
     let whole = run_path p.steps p.are in
-    let none = ap (λ t. run t Start) (p.whole ∙ append_assoc text (b ∷ more) p.rest) ∙ run_both text (b ∷ more ++ p.rest) Start r (run_read text done r h) ∙ ap (option_and_then (run (more ++ p.rest))) e in
+    let none = ap (λ t. run t Start) (p.whole ∙ append_assoc text (b ∷ more) p.rest)
+    ∙ run_both text (b ∷ more ++ p.rest) Start r (run_read text done r h)
+    ∙ ap (option_and_then (run (more ++ p.rest))) e in
     let both : None ≡ Some (end_of p.steps) = sym none ∙ whole in absurd (cc)
 
 -- the text of a path begins it
@@ -135,16 +144,20 @@ path_begins text n h p =
     record { steps = p.0; are = p.1; rest = []; whole = sym p.2 ∙ sym (take_all n text h) ∙ sym (append-nil (take n text)) }
 
 -- a text is bad where it isn't read on
-module _ (text : List ℕ) (at : ℕ) (done : List Step) (r : Reading) (h : HasRead (take at text) done r) (none : next_of r (get_or text at 0) ≡ None) (lt : at < length text) where
+module _ (text : List ℕ) (at : ℕ) (done : List Step) (r : Reading) (h : HasRead (take at text) done r)
+    (none : next_of r (get_or text at 0) ≡ None) (lt : at < length text) where
   longest : (n : ℕ) → n ≤ length text → BeginsPath (take n text) → n ≤ at
   longest n few p = elim (leb_tells n at) [
     | inl le ↦ le.1
     | inr over ↦
         let more : at < n = over.1 in
-        let cut : take n text ≡ take at (take n text) ++ get_or (take n text) at 0 ∷ drop (suc at) (take n text) = split_at (take n text) at 0 (omega (arith, length-take n text, few, more)) in
+        let cut : take n text ≡ take at (take n text) ++ get_or (take n text) at 0 ∷ drop (suc at)
+        (take n text) = split_at (take n text) at 0 (omega (arith, length-take n text, few, more)) in
         let same = take-take at n text (omega (arith, more)) in
         let here = get_or-take n text at 0 more in
-        let joined : take n text ≡ take at text ++ get_or text at 0 ∷ drop (suc at) (take n text) = cut ∙ ap (λ x. x ++ get_or (take n text) at 0 ∷ drop (suc at) (take n text)) same ∙ ap (λ x. take at text ++ x ∷ drop (suc at) (take n text)) here in
+        let joined : take n text ≡ take at text ++ get_or text at 0 ∷ drop (suc at) (take n text) = cut
+        ∙ ap (λ x. x ++ get_or (take n text) at 0 ∷ drop (suc at) (take n text)) same
+        ∙ ap (λ x. take at text ++ x ∷ drop (suc at) (take n text)) here in
         absurd (stuck (take at text) (drop (suc at) (take n text)) done (get_or text at 0) r h none (subst BeginsPath joined p))
   ]
 
@@ -173,14 +186,17 @@ longer_text [] h e = absurd (omega (arith, h))
 longer_text (Ptr i ∷ done) h e = let f = ap length e in absurd (omega (arith, f))
 longer_text (item i ∷ done) h e = let f = ap length e in absurd (omega (arith, f))
 
-unfinished : (text : List ℕ) (done : List Step) (r : Reading) (steps : List Step) → HasRead text done r → Unfinished done r → AllByRecursion IsStep steps → text ≡ path_text steps → ⊥
+unfinished : (text : List ℕ) (done : List Step) (r : Reading) (steps : List Step) → HasRead text done r
+    → Unfinished done r → AllByRecursion IsStep steps → text ≡ path_text steps → ⊥
 unfinished text done r [] h u a e =
     let same : Some r ≡ Some Slash = sym (run_read text done r h) ∙ ap (λ t. run t Start) e in
     let is : r ≡ Slash = cc in
-    longer_text done (subst (λ (x : Reading). Unfinished done x) is u) (subst (λ (x : Reading). flat_map step_text done ++ reading_text x ≡ codes "/") is (sym h.spells ∙ e))
+    longer_text done (subst (λ (x : Reading). Unfinished done x) is u)
+    (subst (λ (x : Reading). flat_map step_text done ++ reading_text x ≡ codes "/") is (sym h.spells ∙ e))
 unfinished text done r (s ∷ steps) h u a e =
     let last = last_is_step steps s in
-    let same : Some r ≡ Some (Number last.0) = sym (run_read text done r h) ∙ ap (λ t. run t Start) e ∙ run_path (s ∷ steps) a ∙ ap (λ (x : Reading). Some x) last.1 in
+    let same : Some r ≡ Some (Number last.0) = sym (run_read text done r h) ∙ ap (λ t. run t Start) e
+    ∙ run_path (s ∷ steps) a ∙ ap (λ (x : Reading). Some x) last.1 in
     let is : r ≡ Number last.0 = cc in
     subst (λ (x : Reading). Unfinished done x) is u
 
@@ -193,7 +209,8 @@ bad_end text done r h u = record {
 }
 
 -- A text whose last step has its number is that of a path.
-pub finished : (text : List ℕ) (done : List Step) (s : Step) → HasRead text done (Number s) → AllByRecursion IsStep (done ++ s ∷ []) × (text ≡ path_text (done ++ s ∷ []))
+pub finished : (text : List ℕ) (done : List Step) (s : Step) → HasRead text done (Number s)
+    → AllByRecursion IsStep (done ++ s ∷ []) × (text ≡ path_text (done ++ s ∷ []))
 finished text done s h = (are-snoc done s h.are h.fits, h.spells ∙ sym (path-snoc done s))
 
 -- what ends neither with a step nor with the first slash

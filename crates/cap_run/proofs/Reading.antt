@@ -1,5 +1,7 @@
 -- What has been read of a path's text, byte by byte.
-use Rattle.std.proofs.Common.{◌≡◌, ◌∙◌, ◌⊎◌, inl, inr, ℕ, ◌+◌, ◌*◌, ◌-◌, ◌<◌, ◌≤◌, ◌^◌, ◌/◌, ◌%◌, ◌==◌, nat_lt, true, false, Bool, if◌then◌else◌, ◌≢◌, List, [], ◌∷◌, ◌++◌, Option, Some, None, codes, decimal, refl, sym, ap, subst, arith, append_assoc, append-nil}
+use Rattle.std.proofs.Common.{◌≡◌, ◌∙◌, ◌⊎◌, inl, inr, ℕ, ◌+◌, ◌*◌, ◌-◌, ◌<◌, ◌≤◌, ◌^◌, ◌/◌, ◌%◌, ◌==◌, nat_lt, true}
+use Rattle.std.proofs.Common.{false, Bool, if◌then◌else◌, ◌≢◌, List, [], ◌∷◌, ◌++◌, Option, Some, None, codes, decimal}
+use Rattle.std.proofs.Common.{refl, sym, ap, subst, arith, append_assoc, append-nil}
 use Rattle.std.specs.List.{flat_map, AllByRecursion}
 use Rattle.std.proofs.lemmas.Bool.Decides.{nat_tests}
 use Rattle.std.proofs.lemmas.Fmt.{decimal_digit, decimal_step}
@@ -47,12 +49,14 @@ pub are-snoc : (done : List Step) (s : Step) → AllByRecursion IsStep done → 
 are-snoc done s a b = all_append IsStep done (s ∷ []) a (b, tt)
 
 -- Each text that was read begins a path.
-completes : (text rest : List ℕ) (done : List Step) (reading : Reading) (s : Step) → HasRead text done reading → IsStep s → step_text s ≡ reading_text reading ++ rest → BeginsPath text
+completes : (text rest : List ℕ) (done : List Step) (reading : Reading) (s : Step) → HasRead text done reading
+    → IsStep s → step_text s ≡ reading_text reading ++ rest → BeginsPath text
 completes text rest done reading s h fits e = record {
   steps = done ++ s ∷ [];
   are = are-snoc done s h.are fits;
   rest = rest;
-  whole = path-snoc done s ∙ ap (λ l. flat_map step_text done ++ l) e ∙ sym (append_assoc (flat_map step_text done) (reading_text reading) rest) ∙ ap (λ l. l ++ rest) (sym h.spells);
+  whole = path-snoc done s ∙ ap (λ l. flat_map step_text done ++ l) e
+      ∙ sym (append_assoc (flat_map step_text done) (reading_text reading) rest) ∙ ap (λ l. l ++ rest) (sym h.spells);
 }
 
 zero_text : decimal 0 ≡ 48 ∷ []
@@ -60,7 +64,13 @@ zero_text = decimal_digit 0 (omega arith)
 
 pub read_begins : (text : List ℕ) (done : List Step) (reading : Reading) → HasRead text done reading → BeginsPath text
 read_begins text done Start h =
-    record { steps = []; are = tt; rest = codes "/"; whole = ap (λ l. l ++ codes "/") (sym (h.spells ∙ ap (λ (d : List Step). flat_map step_text d ++ []) h.fits)) }
+    record {
+      steps = [];
+      are = tt;
+      rest = codes "/";
+      whole = ap (λ l. l ++ codes "/")
+          (sym (h.spells ∙ ap (λ (d : List Step). flat_map step_text d ++ []) h.fits));
+    }
 read_begins text done Slash h = completes text (codes "p0") done Slash (Ptr 0) h (omega arith) (ap (λ ds. 47 ∷ 112 ∷ ds) zero_text)
 read_begins text done Pointer h = completes text (codes "0") done Pointer (Ptr 0) h (omega arith) (ap (λ ds. 47 ∷ 112 ∷ ds) zero_text)
 read_begins text done Item h = completes text (codes "0") done Item (item 0) h (omega arith) (ap (λ ds. 47 ∷ 105 ∷ ds) zero_text)
@@ -108,7 +118,8 @@ longer_is n digit most k e = elim (chosen (n == 0) None (if nat_lt most (10 * n 
   | inl h ↦ let f = h.1 in absurd (cc)
   | inr h ↦ elim (chosen (nat_lt most (10 * n + digit)) None (Some (10 * n + digit)) k h.1) [
     | inl l ↦ let f = l.1 in absurd (cc)
-    | inr l ↦ let some = is_other n 0 h.0 in let few : 10 * n + digit ≤ most = let g = l.0 in grind (arith, nat_tests) in let f = l.1 in (omega (arith, some), few, cc)
+    | inr l ↦ let some = is_other n 0 h.0 in let few : 10 * n + digit ≤ most = let g = l.0 in grind (arith, nat_tests)
+        in let f = l.1 in (omega (arith, some), few, cc)
   ]
 ]
 
@@ -152,9 +163,11 @@ record Longer (n b most k : ℕ) : Type 0 where
   is : k ≡ 10 * n + (b - 48)
 
 longer : (n b most k : ℕ) → is_digit b ≡ true → longer_number n (b - 48) most ≡ Some k → Longer n b most k
-longer n b most k d e = let range = digit_range b d in let l = longer_is n (b - 48) most k e in record { low = range.0; high = range.1; some = l.0; few = l.1; is = l.2 }
+longer n b most k d e = let range = digit_range b d in let l = longer_is n (b - 48) most k e
+    in record { low = range.0; high = range.1; some = l.0; few = l.1; is = l.2 }
 
-after_ptr : (n b : ℕ) (r : Reading) → next_of (Number (Ptr n)) b ≡ Some r → (((b == 47) ≡ true) × (r ≡ Slash)) ⊎ (((b == 47) ≡ false) × (k : ℕ) × (r ≡ Number (Ptr k)) × Longer n b 65535 k)
+after_ptr : (n b : ℕ) (r : Reading) → next_of (Number (Ptr n)) b ≡ Some r → (((b == 47) ≡ true) × (r ≡ Slash))
+    ⊎ (((b == 47) ≡ false) × (k : ℕ) × (r ≡ Number (Ptr k)) × Longer n b 65535 k)
 after_ptr n b r e = elim (chosen (b == 47) (Some Slash) (if is_digit b then pointer_number (longer_number n (b - 48) 65535) else None) r e) [
   | inl h ↦ let f = h.1 in inl (h.0, cc)
   | inr h ↦ elim (chosen (is_digit b) (pointer_number (longer_number n (b - 48) 65535)) None r h.1) [
@@ -163,7 +176,8 @@ after_ptr n b r e = elim (chosen (b == 47) (Some Slash) (if is_digit b then poin
   ]
 ]
 
-after_number : (n b : ℕ) (r : Reading) → next_of (Number (item n)) b ≡ Some r → (((b == 47) ≡ true) × (r ≡ Slash)) ⊎ (((b == 47) ≡ false) × (k : ℕ) × (r ≡ Number (item k)) × Longer n b 4294967295 k)
+after_number : (n b : ℕ) (r : Reading) → next_of (Number (item n)) b ≡ Some r → (((b == 47) ≡ true) × (r ≡ Slash))
+    ⊎ (((b == 47) ≡ false) × (k : ℕ) × (r ≡ Number (item k)) × Longer n b 4294967295 k)
 after_number n b r e = elim (chosen (b == 47) (Some Slash) (if is_digit b then item_number (longer_number n (b - 48) 4294967295) else None) r e) [
   | inl h ↦ let f = h.1 in inl (h.0, cc)
   | inr h ↦ elim (chosen (is_digit b) (item_number (longer_number n (b - 48) 4294967295)) None r h.1) [
@@ -177,12 +191,14 @@ reads_as : (text : List ℕ) (done : List Step) (r r' : Reading) → r' ≡ r �
 reads_as text done r r' e h = subst (λ (x : Reading). HasRead text done x) (sym e) h
 
 -- a text with one byte more, where no step ended
-grown : (text : List ℕ) (done : List Step) (b : ℕ) (before after : Reading) → HasRead text done before → IsReading done after → reading_text before ++ b ∷ [] ≡ reading_text after → HasRead (text ++ b ∷ []) done after
+grown : (text : List ℕ) (done : List Step) (b : ℕ) (before after : Reading) → HasRead text done before
+    → IsReading done after → reading_text before ++ b ∷ [] ≡ reading_text after → HasRead (text ++ b ∷ []) done after
 grown text done b before after h fits e =
     record { are = h.are; fits = fits; spells = spells_more text (flat_map step_text done) (reading_text before) (reading_text after) b h.spells e }
 
 -- and where a slash ended one
-slashed : (text : List ℕ) (done : List Step) (b : ℕ) (s : Step) → HasRead text done (Number s) → (b == 47) ≡ true → HasRead (text ++ b ∷ []) (done ++ s ∷ []) Slash
+slashed : (text : List ℕ) (done : List Step) (b : ℕ) (s : Step) → HasRead text done (Number s) → (b == 47) ≡ true
+    → HasRead (text ++ b ∷ []) (done ++ s ∷ []) Slash
 slashed text done b s h e = record {
   are = are-snoc done s h.are h.fits;
   fits = tt;
@@ -197,25 +213,33 @@ goes_at : (done : List Step) (s : Step) (b : ℕ) → (b == 47) ≡ false → wi
 goes_at done s b e = rw e refl
 
 -- One byte more is read.
-pub read_next : (text : List ℕ) (done : List Step) (b : ℕ) (before after : Reading) → HasRead text done before → next_of before b ≡ Some after → HasRead (text ++ b ∷ []) (with_step done (ended_by before b)) after
-read_next text done b Start after h e = let a = after_start b after e in reads_as _ _ Slash after a.1 (grown text done b Start Slash h tt (ap (λ k. k ∷ []) a.0))
+pub read_next : (text : List ℕ) (done : List Step) (b : ℕ) (before after : Reading) → HasRead text done before
+    → next_of before b ≡ Some after → HasRead (text ++ b ∷ []) (with_step done (ended_by before b)) after
+read_next text done b Start after h e = let a = after_start b after e
+    in reads_as _ _ Slash after a.1 (grown text done b Start Slash h tt (ap (λ k. k ∷ []) a.0))
 read_next text done b Slash after h e = elim (after_slash b after e) [
   | inl a ↦ reads_as _ _ Pointer after a.1 (grown text done b Slash Pointer h tt (ap (λ k. 47 ∷ k ∷ []) a.0))
   | inr a ↦ reads_as _ _ Item after a.1 (grown text done b Slash Item h tt (ap (λ k. 47 ∷ k ∷ []) a.0))
 ]
 read_next text done b Pointer after h e =
     let a = after_pointer b after e in
-    reads_as _ _ (Number (Ptr (b - 48))) after a.2 (grown text done b Pointer (Number (Ptr (b - 48))) h (omega (arith, a.1)) (ap (λ ds. 47 ∷ 112 ∷ ds) (sym (digit_is b a.0 a.1))))
+    reads_as _ _ (Number (Ptr (b - 48))) after a.2
+    (grown text done b Pointer (Number (Ptr (b - 48))) h (omega (arith, a.1))
+    (ap (λ ds. 47 ∷ 112 ∷ ds) (sym (digit_is b a.0 a.1))))
 read_next text done b Item after h e =
     let a = after_item b after e in
-    reads_as _ _ (Number (item (b - 48))) after a.2 (grown text done b Item (Number (item (b - 48))) h (omega (arith, a.1)) (ap (λ ds. 47 ∷ 105 ∷ ds) (sym (digit_is b a.0 a.1))))
+    reads_as _ _ (Number (item (b - 48))) after a.2
+    (grown text done b Item (Number (item (b - 48))) h (omega (arith, a.1))
+    (ap (λ ds. 47 ∷ 105 ∷ ds) (sym (digit_is b a.0 a.1))))
 read_next text done b (Number (Ptr n)) after h e = elim (after_ptr n b after e) [
   | inl a ↦ rw (ends_at done (Ptr n) b a.0) (reads_as _ _ Slash after a.1 (slashed text done b (Ptr n) h a.0))
   | inr a ↦
       let l = a.3 in
       let fits : n < 2 ^ 16 = h.fits in
       let more : decimal n ++ b ∷ [] ≡ decimal a.1 = digit_more n b l.some (omega (arith, fits)) l.low l.high ∙ ap decimal (sym l.is) in
-      rw (goes_at done (Ptr n) b a.0) (reads_as _ _ (Number (Ptr a.1)) after a.2 (grown text done b (Number (Ptr n)) (Number (Ptr a.1)) h (omega (arith, l.few, l.is)) (ap (λ ds. 47 ∷ 112 ∷ ds) more)))
+      rw (goes_at done (Ptr n) b a.0) (reads_as _ _ (Number (Ptr a.1)) after a.2
+      (grown text done b (Number (Ptr n)) (Number (Ptr a.1)) h (omega (arith, l.few, l.is))
+      (ap (λ ds. 47 ∷ 112 ∷ ds) more)))
 ]
 read_next text done b (Number (item n)) after h e = elim (after_number n b after e) [
   | inl a ↦ rw (ends_at done (item n) b a.0) (reads_as _ _ Slash after a.1 (slashed text done b (item n) h a.0))
@@ -223,5 +247,7 @@ read_next text done b (Number (item n)) after h e = elim (after_number n b after
       let l = a.3 in
       let fits : n < 2 ^ 32 = h.fits in
       let more : decimal n ++ b ∷ [] ≡ decimal a.1 = digit_more n b l.some (omega (arith, fits)) l.low l.high ∙ ap decimal (sym l.is) in
-      rw (goes_at done (item n) b a.0) (reads_as _ _ (Number (item a.1)) after a.2 (grown text done b (Number (item n)) (Number (item a.1)) h (omega (arith, l.few, l.is)) (ap (λ ds. 47 ∷ 105 ∷ ds) more)))
+      rw (goes_at done (item n) b a.0) (reads_as _ _ (Number (item a.1)) after a.2
+      (grown text done b (Number (item n)) (Number (item a.1)) h (omega (arith, l.few, l.is))
+      (ap (λ ds. 47 ∷ 105 ∷ ds) more)))
 ]

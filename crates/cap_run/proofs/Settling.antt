@@ -1,5 +1,6 @@
 -- What is known of the words of a source decides how an engine ends, faults of devices, of the output and of memory aside.
-use Rattle.std.proofs.Common.{◌≡◌, ◌∙◌, ◌⊎◌, inl, inr, ℕ, ◌≤◌, Bool, false, Option, Some, None, Result, Ok, Err, List, [], ◌∷◌, ◌++◌, length, sum, IfErr, IfOk, OnSome, sym, ap, subst, arith, length-append}
+use Rattle.std.proofs.Common.{◌≡◌, ◌∙◌, ◌⊎◌, inl, inr, ℕ, ◌≤◌, Bool, false, Option, Some, None, Result, Ok, Err, List}
+use Rattle.std.proofs.Common.{[], ◌∷◌, ◌++◌, length, sum, IfErr, IfOk, OnSome, sym, ap, subst, arith, length-append}
 use Rattle.std.specs.Bool.{⊤}
 use Rattle.std.specs.List.{AllByRecursion}
 use Rattle.std.specs.Io.KnownBytes.{Consumes}
@@ -40,19 +41,31 @@ on_known (Some y) x P e h = h
 
 module _ {S : Type 0} (g : source.Ghosts S) (limit : ℕ) where
   -- where the words are a stream, no message within the limit is refused
-  pub no_fault : (mid new : S) (rest : List ℕ) (more : List (List (List ℕ))) (fault : FrameFault) (P : Type 0) → g.words mid ≡ Some rest → g.is_cut mid ≡ false → Stream rest more
+  pub no_fault : (mid new : S) (rest : List ℕ) (more : List (List (List ℕ))) (fault : FrameFault) (P : Type 0)
+      → g.words mid ≡ Some rest → g.is_cut mid ≡ false → Stream rest more
       → AllByRecursion (λ m. sum (sizes_of m) ≤ limit) more → Faults g limit mid new fault → Answered {A = Outcome} (Err fault) P
   no_fault mid new rest more fault P w c s l h = next (stream_next rest more s)
     where
       next : (rest ≡ []) ⊎ StreamNext rest more → Answered {A = Outcome} (Err fault) P
       next (inl e) =
           answered_absurd fault P _ (λ a. (cc))
-          (settled_by (λ m. ⊤) limit rest (g.is_cut mid) (g.places mid) (g.words new) (Err fault) none (e, c) (tells_fault g (λ m. ⊤) limit mid new fault rest w h))
+          (settled_by (λ m. ⊤) limit rest (g.is_cut mid) (g.places mid) (g.words new) (Err fault) none (e, c)
+          (tells_fault g (λ m. ⊤) limit mid new fault rest w h))
       next (inr t) =
           let within = (subst (AllByRecursion (λ m. sum (sizes_of m) ≤ limit)) t.messages l).0 in
-          let begins : BeginsMessage limit rest = record { own = t.own; rest = t.rest; message = t.message; whole = t.whole; frames = t.frames; within = within } in
+          let begins : BeginsMessage limit rest =
+          record {
+            own = t.own;
+            rest = t.rest;
+            message = t.message;
+            whole = t.whole;
+            frames = t.frames;
+            within =
+                within;
+          } in
           answered_absurd fault P _ (λ a. let e = a.0 in cc)
-          (settled_by (λ m. ⊤) limit rest (g.is_cut mid) (g.places mid) (g.words new) (Err fault) message begins (tells_fault g (λ m. ⊤) limit mid new fault rest w h))
+          (settled_by (λ m. ⊤) limit rest (g.is_cut mid) (g.places mid) (g.words new) (Err fault) message begins
+          (tells_fault g (λ m. ⊤) limit mid new fault rest w h))
 
 module _ {S : Type 0} (gs : source.Ghosts S) (limit : ℕ) (old mid new : S) (read : List (List (List ℕ))) (own : List ℕ) (ms : List (List (List ℕ))) where
   -- a stream of which some messages were read goes on with the others
@@ -72,11 +85,13 @@ module _ {S : Type 0} (gs : source.Ghosts S) (limit : ℕ) (old mid new : S) (re
       (next.0, front.2.1 ∙ ap (λ (xs : List (List (List ℕ))). read ++ xs) next.1)
 
   -- and none is one too many
-  pub none_over : (m : List (List ℕ)) → gs.words old ≡ Some own → Stream own ms → ReadsStream gs limit old mid read → ReadsStream gs limit mid new (m ∷ []) → length ms ≤ length read → ⊥
+  pub none_over : (m : List (List ℕ)) → gs.words old ≡ Some own → Stream own ms → ReadsStream gs limit old mid read
+      → ReadsStream gs limit mid new (m ∷ []) → length ms ≤ length read → ⊥
   none_over m w s reads last few = let next = reads_next m w s reads last in omega (arith, few, ap length next.1, length-append read (m ∷ next.0))
 
   -- nor is one within the limit refused
-  pub none_faulted : (fault : FrameFault) (P : Type 0) → gs.words old ≡ Some own → gs.is_cut old ≡ false → Stream own ms → AllByRecursion (λ m. sum (sizes_of m) ≤ limit) ms
+  pub none_faulted : (fault : FrameFault) (P : Type 0) → gs.words old ≡ Some own → gs.is_cut old ≡ false → Stream own ms
+      → AllByRecursion (λ m. sum (sizes_of m) ≤ limit) ms
       → ReadsStream gs limit old mid read → Faults gs limit mid new fault → Answered {A = Outcome} (Err fault) P
   none_faulted fault P w c s l reads stops =
       let front = reads_front w s reads in
@@ -90,18 +105,26 @@ module _ {S O : Type 0} (gs : source.Ghosts S) (go : output.Ghosts O) (tells_of 
   ToldEach ms r = (ts : List Told) × (messages_of ts ≡ ms) × TellsEach tells_of 0 ts × Appended go before after (texts_of ts) × (r ≡ Ok (outcome_of ts))
 
   -- behind some messages of the stream, no fault comes of the others
-  pub settled_behind : (wants : List (List ℕ) → Type 0) (mid : S) (ts : List Told) (own : List ℕ) (ms : List (List (List ℕ))) (cause : Cause) (P : Type 0) → gs.words old ≡ Some own → gs.is_cut old ≡ false → Stream own ms
-      → AllByRecursion (λ m. sum (sizes_of m) ≤ limit) ms → length ms ≤ most → ReadsStream gs limit old mid (messages_of ts) → RunStops gs go tells_of wants limit most ts mid new before after cause → SettledAt cause P
+  pub settled_behind : (wants : List (List ℕ) → Type 0) (mid : S) (ts : List Told) (own : List ℕ)
+      (ms : List (List (List ℕ))) (cause : Cause) (P : Type 0) → gs.words old ≡ Some own → gs.is_cut old ≡ false
+      → Stream own ms
+      → AllByRecursion (λ m. sum (sizes_of m) ≤ limit) ms → length ms ≤ most
+      → ReadsStream gs limit old mid (messages_of ts) → RunStops gs go tells_of wants limit most ts mid new before
+      after cause → SettledAt cause P
   settled_behind wants mid ts own ms TooManyMessages P w c s l few reads stops =
       absurd (none_over gs limit old mid new (messages_of ts) own ms stops.2.0 w s reads stops.2.1 (omega (arith, few, stops.0, length-messages_of ts)))
-  settled_behind wants mid ts own ms (Frame fault) P w c s l few reads stops = none_faulted gs limit old mid new (messages_of ts) own ms fault P w c s l reads stops.1
+  settled_behind wants mid ts own ms (Frame fault) P w c s l few reads stops = none_faulted gs limit old mid new
+      (messages_of ts) own ms fault P w c s l reads stops.1
   settled_behind wants mid ts own ms (Output fault) P w c s l few reads stops = tt
   settled_behind wants mid ts own ms (Refused refusal) P w c s l few reads stops = absurd stops
   settled_behind wants mid ts own ms (Canon fault) P w c s l few reads stops = absurd stops
   settled_behind wants mid ts own ms no_marks P w c s l few reads stops = tt
 
   -- a stream of messages within the limits is read to its end
-  pub settled : (wants : List (List ℕ) → Type 0) (r : Result Outcome RunFault) (own : List ℕ) (ms : List (List (List ℕ))) → ReachesEnd gs go tells_of limit most old new before after r → EndsEarly gs go tells_of limit most old new before after wants r → gs.words old ≡ Some own → gs.is_cut old ≡ false → Stream own ms
+  pub settled : (wants : List (List ℕ) → Type 0) (r : Result Outcome RunFault) (own : List ℕ)
+      (ms : List (List (List ℕ))) → ReachesEnd gs go tells_of limit most old new before after r
+      → EndsEarly gs go tells_of limit most old new before after wants r → gs.words old ≡ Some own
+      → gs.is_cut old ≡ false → Stream own ms
       → AllByRecursion (λ m. sum (sizes_of m) ≤ limit) ms → length ms ≤ most → Settled r (ToldEach ms r)
   settled wants (Ok outcome) own ms end fault w c s l few =
       let all = on_known (gs.words old) own _ w end.1.all in

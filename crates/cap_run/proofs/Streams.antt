@@ -28,7 +28,8 @@ module _ {S : Type 0} (g : source.Ghosts S) where
   reads_none limit s = record { own = []; takes = takes_none g s; stream = stream_none; within = tt; spent = refl; failures = refl }
 
   -- one message was read
-  pub reads_one : (limit : ℕ) (old new : S) (m : List (List ℕ)) → TakesFrame g limit old new m → Works (g.spent old) (g.spent new) (g.failures old) (g.failures new)
+  pub reads_one : (limit : ℕ) (old new : S) (m : List (List ℕ)) → TakesFrame g limit old new m
+      → Works (g.spent old) (g.spent new) (g.failures old) (g.failures new)
       → ReadsStream g limit old new (m ∷ [])
   reads_one limit old new m t w = record {
     own = t.own;
@@ -57,7 +58,8 @@ module _ {S : Type 0} (g : source.Ghosts S) where
   }
 
   -- the stream ended behind these messages
-  pub reads_all : (limit : ℕ) (old mid new : S) (ms : List (List (List ℕ))) → ReadsStream g limit old mid ms → EndsStream g mid new → ReadsAll g limit old new ms
+  pub reads_all : (limit : ℕ) (old mid new : S) (ms : List (List (List ℕ))) → ReadsStream g limit old mid ms
+      → EndsStream g mid new → ReadsAll g limit old new ms
   reads_all limit old mid new ms r e = record {
     own = r.own;
     all = all_taken (g.words old) (g.words mid) r.own (g.is_cut old) (g.is_cut mid) _ _ r.takes.words r.takes.goes_on e.none;

@@ -49,14 +49,20 @@ noncanonical_in_le (t ∷ ts) = let e = noncanonical_in_le ts in let f = one_non
 
 -- the counts with one message more
 pub outcome_of-snoc : (ts : List Told) (t : Told) (o : Outcome) → o ≡ outcome_of ts
-    → record { messages = o.messages + 1; refused = o.refused + one_refused t.counted; noncanonical = o.noncanonical + one_noncanonical t.counted } ≡ outcome_of (ts ++ t ∷ [])
+    → record {
+      messages = o.messages + 1;
+      refused = o.refused + one_refused t.counted;
+      noncanonical = o.noncanonical
+          + one_noncanonical t.counted;
+    } ≡ outcome_of (ts ++ t ∷ [])
 outcome_of-snoc ts t o e =
     let m : o.messages ≡ length ts = ap (λ p. p.messages) e in
     let r : o.refused ≡ refused_in ts = ap (λ p. p.refused) e in
     let n : o.noncanonical ≡ noncanonical_in ts = ap (λ p. p.noncanonical) e in
     let m1 : o.messages + 1 ≡ length (ts ++ t ∷ []) = omega (arith, length-append ts (t ∷ [])) in
     let r1 : o.refused + one_refused t.counted ≡ refused_in (ts ++ t ∷ []) = ap (λ k. k + one_refused t.counted) r ∙ sym (refused_in-snoc ts t) in
-    let n1 : o.noncanonical + one_noncanonical t.counted ≡ noncanonical_in (ts ++ t ∷ []) = ap (λ k. k + one_noncanonical t.counted) n ∙ sym (noncanonical_in-snoc ts t) in
+    let n1 : o.noncanonical + one_noncanonical t.counted ≡ noncanonical_in (ts ++ t ∷ []) = ap
+    (λ k. k + one_noncanonical t.counted) n ∙ sym (noncanonical_in-snoc ts t) in
     cc
 
 -- there are as many messages as were told of

@@ -35,12 +35,22 @@ module _ {O : Type 0} (g : output.Ghosts O) where
   pub stopped_then : (a b c : O) (fault : OutFault) (xs ys : List ℕ) → Wrote g a b xs → Stopped g b c fault ys
       → Stopped g a c fault (xs ++ ys)
   stopped_then a b c Device xs ys p q = (
-    record { usable = p.works.usable; failed = q.0.failed ∙ ap (λ f. f.device + 1) p.works.none_failed; memory = q.0.memory ∙ ap (λ f. f.memory) p.works.none_failed },
+    record {
+      usable = p.works.usable;
+      failed = q.0.failed ∙ ap (λ f. f.device + 1) p.works.none_failed;
+      memory =
+          q.0.memory ∙ ap (λ f. f.memory) p.works.none_failed;
+    },
     q.1,
     part_then (g.written a) (g.written b) (g.written c) xs ys p.appended q.2,
   )
   stopped_then a b c Memory xs ys p q = (
-    record { usable = p.works.usable; device = q.0.device ∙ ap (λ f. f.device) p.works.none_failed; failed = q.0.failed ∙ ap (λ f. f.memory + 1) p.works.none_failed },
+    record {
+      usable = p.works.usable;
+      device = q.0.device ∙ ap (λ f. f.device) p.works.none_failed;
+      failed = q.0.failed
+          ∙ ap (λ f. f.memory + 1) p.works.none_failed;
+    },
     part_then (g.written a) (g.written b) (g.written c) xs ys p.appended q.1,
   )
   stopped_then a b c Spent xs ys p q = let e = p.works.still in let f = q.0 in absurd (cc)
@@ -58,19 +68,32 @@ module _ {O : Type 0} (g : output.Ghosts O) where
 
   -- the output was asked to hand on what was written
   pub writes_kept : {T : Type 0} (a b c : O) (r : Result T OutFault) (text : List ℕ) → Wrote g a b text → Keeps (g.written b) (g.written c)
-      → OnOk r ((g.spent c ≡ g.spent b) × (g.failures c ≡ g.failures b)) → (IsErrOf r Device → DeviceFails (g.spent b) (g.failures b) (g.failures c) × (g.spent c ≡ true))
-      → (IsErrOf r Memory → GrowthFails (g.spent b) (g.failures b) (g.failures c)) → (IsErrOf r Spent → WasSpent (g.spent b) (g.spent c) (g.failures b) (g.failures c)) → Writes g a c r text
+      → OnOk r ((g.spent c ≡ g.spent b) × (g.failures c ≡ g.failures b))
+      → (IsErrOf r Device → DeviceFails (g.spent b) (g.failures b) (g.failures c) × (g.spent c ≡ true))
+      → (IsErrOf r Memory → GrowthFails (g.spent b) (g.failures b) (g.failures c))
+      → (IsErrOf r Spent → WasSpent (g.spent b) (g.spent c) (g.failures b) (g.failures c)) → Writes g a c r text
   writes_kept a b c (Ok x) text w k ok device memory spent = record {
     appended = Appends-kept (g.written a) (g.written b) (g.written c) text w.appended k;
     works = record { usable = w.works.usable; still = ok.0 ∙ w.works.still; none_failed = ok.1 ∙ w.works.none_failed };
   }
   writes_kept a b c (Err Device) text w k ok device memory spent = (
-    record { usable = w.works.usable; failed = (device refl).0.failed ∙ ap (λ f. f.device + 1) w.works.none_failed; memory = (device refl).0.memory ∙ ap (λ f. f.memory) w.works.none_failed },
+    record {
+      usable = w.works.usable;
+      failed = (device refl).0.failed
+          ∙ ap (λ f. f.device + 1) w.works.none_failed;
+      memory = (device refl).0.memory
+          ∙ ap (λ f. f.memory) w.works.none_failed;
+    },
     (device refl).1,
     record { part = text; rest = []; whole = sym (append-nil text); appended = Appends-kept (g.written a) (g.written b) (g.written c) text w.appended k },
   )
   writes_kept a b c (Err Memory) text w k ok device memory spent = (
-    record { usable = w.works.usable; device = (memory refl).device ∙ ap (λ f. f.device) w.works.none_failed; failed = (memory refl).failed ∙ ap (λ f. f.memory + 1) w.works.none_failed },
+    record {
+      usable = w.works.usable;
+      device = (memory refl).device ∙ ap (λ f. f.device) w.works.none_failed;
+      failed =
+          (memory refl).failed ∙ ap (λ f. f.memory + 1) w.works.none_failed;
+    },
     record { part = text; rest = []; whole = sym (append-nil text); appended = Appends-kept (g.written a) (g.written b) (g.written c) text w.appended k },
   )
   writes_kept a b c (Err Spent) text w k ok device memory spent = let e = w.works.still in let f = (spent refl).spent in absurd (cc)

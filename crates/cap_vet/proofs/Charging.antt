@@ -28,7 +28,8 @@ root_reached : (m : List (List ℕ)) (root : ℕ) → HasWord m 0 0 root → Rea
 root_reached m root has = (root, 0, has, (refl, refl), refl)
 
 -- At the root,
-pub arrives_root : (m : List (List ℕ)) (words depth root spent : ℕ) (f : Found) → HasWord m 0 0 root → IsFound m (word 0 0) f → Costs m 0 0 spent → spent ≤ words → ¬ IsDeepAt m depth 0 0 1
+pub arrives_root : (m : List (List ℕ)) (words depth root spent : ℕ) (f : Found) → HasWord m 0 0 root
+    → IsFound m (word 0 0) f → Costs m 0 0 spent → spent ≤ words → ¬ IsDeepAt m depth 0 0 1
     → Arrives m words depth [] (word 0 0) record { found = f; level = 1; spent = spent; pointers = 1 }
 arrives_root m words depth root spent f has found costs within shallow = record {
   comes = root_reached m root has;
@@ -61,12 +62,14 @@ fault_root m words depth root path v has reason = record {
 }
 
 -- where a path comes to with one step more
-pub next_comes : (m : List (List ℕ)) (words depth : ℕ) (path : List Step) (a : Spot) (at : Arrival) (step : Step) (s w : ℕ) → Arrives m words depth path a at → Goes m a step (word s w)
+pub next_comes : (m : List (List ℕ)) (words depth : ℕ) (path : List Step) (a : Spot) (at : Arrival) (step : Step)
+    (s w : ℕ) → Arrives m words depth path a at → Goes m a step (word s w)
     → Reaches m (path ++ step ∷ []) (at.level + 1) s w
 next_comes m words depth path a at step s w h g = (coming_last m path step (at.level + 1) (word s w)).1 (a, at.level, h.comes, g, refl)
 
 -- One step on at a pointer word,
-pub arrives_word : (m : List (List ℕ)) (words depth : ℕ) (path : List Step) (a : Spot) (at : Arrival) (step : Step) (s w cost : ℕ) (f : Found) → Arrives m words depth path a at → Goes m a step (word s w)
+pub arrives_word : (m : List (List ℕ)) (words depth : ℕ) (path : List Step) (a : Spot) (at : Arrival) (step : Step)
+    (s w cost : ℕ) (f : Found) → Arrives m words depth path a at → Goes m a step (word s w)
     → IsFound m (word s w) f → Costs m s w cost → cost ≤ words - at.spent → ¬ IsDeepAt m depth s w (at.level + 1)
     → Arrives m words depth (path ++ step ∷ []) (word s w) record { found = f; level = at.level + 1; spent = at.spent + cost; pointers = at.pointers + 1 }
 arrives_word m words depth path a at step s w cost f h g found costs within shallow =
@@ -85,8 +88,10 @@ arrives_word m words depth path a at step s w cost f h g found costs within shal
     }
 
 -- whose fault is the first,
-pub fault_word : (m : List (List ℕ)) (words depth : ℕ) (path : List Step) (a : Spot) (at : Arrival) (step : Step) (s w : ℕ) (v : Reason) → Arrives m words depth path a at → Goes m a step (word s w)
-    → IsFirstReason m words depth at.spent s w (at.level + 1) v → IsFaultOnPath m words depth (path ++ step ∷ []) record { segment = s; word = w; reason = v; pointers = at.pointers + 1 }
+pub fault_word : (m : List (List ℕ)) (words depth : ℕ) (path : List Step) (a : Spot) (at : Arrival) (step : Step)
+    (s w : ℕ) (v : Reason) → Arrives m words depth path a at → Goes m a step (word s w)
+    → IsFirstReason m words depth at.spent s w (at.level + 1) v → IsFaultOnPath m words depth
+    (path ++ step ∷ []) record { segment = s; word = w; reason = v; pointers = at.pointers + 1 }
 fault_word m words depth path a at step s w v h g reason =
     let r : Reaches m (path ++ step ∷ []) (at.level + 1) s w = next_comes m words depth path a at step s w h g in
     record {
@@ -105,15 +110,23 @@ fault_word m words depth path a at step s w v h g reason =
     }
 
 -- and at an element.
-pub arrives_element : (m : List (List ℕ)) (words depth : ℕ) (path : List Step) (a : Spot) (at next : Arrival) (step : Step) (t b ds ps : ℕ) → Arrives m words depth path a at
-    → Goes m a step (element t b ds ps) → t < length m → b + ds + ps ≤ length (segment_of m t) → next.found ≡ element_of t b ds ps → next.level ≡ at.level + element_levels 1
+pub arrives_element : (m : List (List ℕ)) (words depth : ℕ) (path : List Step) (a : Spot) (at next : Arrival)
+    (step : Step) (t b ds ps : ℕ) → Arrives m words depth path a at
+    → Goes m a step (element t b ds ps) → t < length m → b + ds + ps ≤ length (segment_of m t)
+    → next.found ≡ element_of t b ds ps → next.level ≡ at.level + element_levels 1
     → next.spent ≡ at.spent → next.pointers ≡ at.pointers → Arrives m words depth (path ++ step ∷ []) (element t b ds ps) next
 arrives_element m words depth path a at next step t b ds ps h g exists inside e1 e2 e3 e4 =
-    let c : Comes m (path ++ step ∷ []) next.level (element t b ds ps) = (coming_last m path step next.level (element t b ds ps)).1 (a, at.level, h.comes, g, e2) in
+    let c : Comes m (path ++ step ∷ []) next.level (element t b ds ps) =
+    (coming_last m path step next.level (element t b ds ps)).1 (a, at.level, h.comes, g, e2) in
     record {
       comes = c;
       found = subst (λ x. IsFound m (element t b ds ps) x) (sym e1)
-          record { stands = record { segment = refl; start = refl; data_words = refl; pointers = refl; words = refl }; exists = exists; inside = omega (arith, inside); own = omega arith };
+          record {
+            stands = record { segment = refl; start = refl; data_words = refl; pointers = refl; words = refl };
+            exists = exists;
+            inside = omega (arith, inside);
+            own = omega arith;
+          };
       ways = h.ways;
       on_path = on_element m path h.ways step next.level t b ds ps h.on_path c;
       some = h.some;
@@ -124,7 +137,8 @@ arrives_element m words depth path a at next step t b ds ps h g exists inside e1
     }
 
 -- The first fault on the beginning of a path is the first on the path.
-pub fault_longer : (m : List (List ℕ)) (words depth : ℕ) (done rest path : List Step) (r : Refusal) → done ++ rest ≡ path → IsFaultOnPath m words depth done r → IsFaultOnPath m words depth path r
+pub fault_longer : (m : List (List ℕ)) (words depth : ℕ) (done rest path : List Step) (r : Refusal)
+    → done ++ rest ≡ path → IsFaultOnPath m words depth done r → IsFaultOnPath m words depth path r
 fault_longer m words depth done rest path r e f = record {
   way = f.way;
   begin = subst (λ x. (on : List Step) × (x ≡ f.way ++ on)) e (begins_longer f.way done rest f.begin);
@@ -141,7 +155,8 @@ fault_longer m words depth done rest path r e f = record {
 }
 
 -- What was charged where a step leads nowhere.
-pub charges_nowhere : (m : List (List ℕ)) (words depth : ℕ) (done rest path : List Step) (step : Step) (a : Spot) (at : Arrival) → done ++ step ∷ rest ≡ path → Arrives m words depth done a at
+pub charges_nowhere : (m : List (List ℕ)) (words depth : ℕ) (done rest path : List Step) (step : Step) (a : Spot)
+    (at : Arrival) → done ++ step ∷ rest ≡ path → Arrives m words depth done a at
     → ((b : Spot) → Goes m a step b → ⊥) → Charges m words depth path (words - at.spent)
 charges_nowhere m words depth done rest path step a at e h none = record {
   ways = h.ways;
@@ -153,6 +168,8 @@ charges_nowhere m words depth done rest path step a at e h none = record {
   spent = omega (arith, h.within);
 }
 
-pub arrives_nowhere : (m : List (List ℕ)) (words depth : ℕ) (done rest path : List Step) (step : Step) (a : Spot) (at : Arrival) → path ≡ done ++ step ∷ rest → Arrives m words depth done a at
+pub arrives_nowhere : (m : List (List ℕ)) (words depth : ℕ) (done rest path : List Step) (step : Step) (a : Spot)
+    (at : Arrival) → path ≡ done ++ step ∷ rest → Arrives m words depth done a at
     → ((b : Spot) → Goes m a step b → ⊥) → (k : Kind) (t b n : ℕ) → ArrivesAt m path k t b n → ⊥
-arrives_nowhere m words depth done rest path step a at e h none k t b n (level, spot, comes, stands) = comes_nowhere m path done rest step at.level a e h.comes none level spot comes
+arrives_nowhere m words depth done rest path step a at e h none k t b n
+    (level, spot, comes, stands) = comes_nowhere m path done rest step at.level a e h.comes none level spot comes

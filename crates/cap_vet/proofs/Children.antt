@@ -29,19 +29,26 @@ reaches_on m base x v level n s w s' w' (root, k, has, walks, e) on =
 
 -- Each number below n is 0 more than it, or is below the rest.
 -- the step i + j of a row
-pub IsUnder-row : (base : List Step) (level : ℕ) (step : ℕ → Step) (t b i n j : ℕ) (v : List Step) → j < n → IsUnder (base ++ step (i + j) ∷ v) (row base level step t b i n)
+pub IsUnder-row : (base : List Step) (level : ℕ) (step : ℕ → Step) (t b i n j : ℕ) (v : List Step) → j < n
+    → IsUnder (base ++ step (i + j) ∷ v) (row base level step t b i n)
 IsUnder-row base level step t b i zero j v h = absurd (omega arith)
-IsUnder-row base level step t b i (suc n) zero v h = inl (v, subst (λ u. base ++ step u ∷ v ≡ (base ++ step i ∷ []) ++ v) (omega arith) (sym (append_assoc base (step i ∷ []) v)))
+IsUnder-row base level step t b i (suc n) zero v h = inl (
+  v,
+  subst (λ u. base ++ step u ∷ v ≡ (base ++ step i ∷ []) ++ v) (omega arith)
+      (sym (append_assoc base (step i ∷ []) v)),
+)
 IsUnder-row base level step t b i (suc n) (suc j) v h =
     let e : (i + 1) + j ≡ i + suc j = omega arith in
-    inr (subst (λ u. IsUnder (base ++ step u ∷ v) (row base level step t (b + 1) (i + 1) n)) e (IsUnder-row base level step t (b + 1) (i + 1) n j v (omega arith)))
+    inr (subst (λ u. IsUnder (base ++ step u ∷ v) (row base level step t (b + 1) (i + 1) n)) e
+    (IsUnder-row base level step t (b + 1) (i + 1) n j v (omega arith)))
 
 pub GoOnFrom-row : (base : List Step) (level : ℕ) (step : ℕ → Step) (t b i n : ℕ) → GoOnFrom base (row base level step t b i n)
 GoOnFrom-row base level step t b i zero = tt
 GoOnFrom-row base level step t b i (suc n) = ((step i, [], refl), GoOnFrom-row base level step t (b + 1) (i + 1) n)
 
 -- A row of steps whose numbers rise is apart.
-pub AreApart-row : (base : List Step) (level : ℕ) (step : ℕ → Step) → ((i : ℕ) → number_of (step i) ≡ i) → (t b i n : ℕ) → AreApart (row base level step t b i n)
+pub AreApart-row : (base : List Step) (level : ℕ) (step : ℕ → Step) → ((i : ℕ) → number_of (step i) ≡ i) → (t b i n : ℕ)
+    → AreApart (row base level step t b i n)
 AreApart-row base level step e t b i zero = tt
 AreApart-row base level step e t b i (suc zero) = tt
 AreApart-row base level step e t b i (suc (suc n)) =
@@ -52,15 +59,18 @@ pub AreReached-row : (m : List (List ℕ)) (base : List Step) (level : ℕ) (ste
     → ((j : ℕ) → j < n → Reaches m (base ++ step (i + j) ∷ []) level t (b + j)) → AreReached m (row base level step t b i n)
 AreReached-row m base level step t b i zero h = tt
 AreReached-row m base level step t b i (suc n) h = (
-  subst (λ u. Reaches m (base ++ step u ∷ []) level t b) (omega arith) (subst (λ u. Reaches m (base ++ step (i + 0) ∷ []) level t u) (omega arith) (h 0 (omega arith))),
+  subst (λ u. Reaches m (base ++ step u ∷ []) level t b) (omega arith)
+      (subst (λ u. Reaches m (base ++ step (i + 0) ∷ []) level t u) (omega arith) (h 0 (omega arith))),
   AreReached-row m base level step t (b + 1) (i + 1) n (λ j k.
       let e : i + suc j ≡ (i + 1) + j = omega arith in
       let f : b + suc j ≡ (b + 1) + j = omega arith in
-      subst (λ u. Reaches m (base ++ step u ∷ []) level t ((b + 1) + j)) e (subst (λ u. Reaches m (base ++ step (i + suc j) ∷ []) level t u) f (h (suc j) (omega arith)))),
+      subst (λ u. Reaches m (base ++ step u ∷ []) level t ((b + 1) + j)) e
+      (subst (λ u. Reaches m (base ++ step (i + suc j) ∷ []) level t u) f (h (suc j) (omega arith)))),
 )
 
 -- one step that leads to a pointer word
-pub one_step : (m : List (List ℕ)) (base : List Step) (x : Step) (level s w t v : ℕ) → Reaches m base level s w → Goes m (word s w) x (word t v) → Reaches m (base ++ x ∷ []) (level + 1) t v
+pub one_step : (m : List (List ℕ)) (base : List Step) (x : Step) (level s w t v : ℕ) → Reaches m base level s w
+    → Goes m (word s w) x (word t v) → Reaches m (base ++ x ∷ []) (level + 1) t v
 one_step m base x level s w t v h g = reaches_on m base x [] level 1 s w t v h (word t v, 0, g, (refl, refl), refl)
 
 -- what has no step to go on by has no children
@@ -91,14 +101,17 @@ struct_children m base level s w k t b q h f e = record {
   complete = λ x v level' s' w' r. let (mid, n, goes, walks) = beyond m base x v level level' s w s' w' h r in under x v mid goes;
 }
   where
-    under : (x : Step) (v : List Step) (mid : Spot) → Goes m (word s w) x mid → IsUnder (base ++ x ∷ v) (row base (level + 1) Ptr t (b + data_size q) 0 (pointer_size q))
+    under : (x : Step) (v : List Step) (mid : Spot) → Goes m (word s w) x mid
+        → IsUnder (base ++ x ∷ v) (row base (level + 1) Ptr t (b + data_size q) 0 (pointer_size q))
     under (Ptr i) v mid (k', t', b', q', f', e', l, spot) =
         let same = one_object m s w k t b q k' t' b' q' f f' in
         let inside : i < pointer_size q = subst (λ u. i < pointer_size u) (sym same.shape) l in
         subst (λ u. IsUnder (base ++ Ptr u ∷ v) (row base (level + 1) Ptr t (b + data_size q) 0 (pointer_size q))) (omega arith)
         (IsUnder-row base (level + 1) Ptr t (b + data_size q) 0 (pointer_size q) i v inside)
-    under (Item i) v mid (inl (k', t', b', q', f', e', c', l, spot)) = absurd (struct_no_list k t b q k' t' b' q' (one_object m s w k t b q k' t' b' q' f f') e e')
-    under (Item i) v mid (inr (k', t', b', q', tag, f', e', c', ht, l, spot)) = absurd (struct_no_list k t b q k' t' b' q' (one_object m s w k t b q k' t' b' q' f f') e e')
+    under (Item i) v mid (inl (k', t', b', q', f', e', c', l, spot)) =
+        absurd (struct_no_list k t b q k' t' b' q' (one_object m s w k t b q k' t' b' q' f f') e e')
+    under (Item i) v mid (inr (k', t', b', q', tag, f', e', c', ht, l, spot)) =
+        absurd (struct_no_list k t b q k' t' b' q' (one_object m s w k t b q k' t' b' q' f f') e e')
 
 -- one object isn't of two codes
 pub list_no_other : (k t b q k' t' b' q' : ℕ) → SameObject k t b q k' t' b' q' → code q ≡ 6 → code q' ≡ 7 → ⊥
@@ -107,7 +120,8 @@ list_no_other k t b q k' t' b' q' same e e' =
     omega (arith, e, e', f)
 
 -- the children of a list of pointers
-pub pointers_children : (m : List (List ℕ)) (base : List Step) (level s w k t b q : ℕ) → Reaches m base level s w → Finds m s w k t b q → kind q ≡ 1 → code q ≡ 6
+pub pointers_children : (m : List (List ℕ)) (base : List Step) (level s w k t b q : ℕ) → Reaches m base level s w
+    → Finds m s w k t b q → kind q ≡ 1 → code q ≡ 6
     → AreChildren m base (row base (level + 1) Item t b 0 (list_size q))
 pointers_children m base level s w k t b q h f e c = record {
   apart = AreApart-row base (level + 1) Item (λ i. refl) t b 0 (list_size q);
@@ -121,10 +135,13 @@ pointers_children m base level s w k t b q h f e c = record {
     under : (x : Step) (v : List Step) (mid : Spot) → Goes m (word s w) x mid → IsUnder (base ++ x ∷ v) (row base (level + 1) Item t b 0 (list_size q))
     under (Ptr i) v mid (k', t', b', q', f', e', l, spot) =
         let same = one_object m s w k t b q k' t' b' q' f f' in
-        absurd (struct_no_list k' t' b' q' k t b q record { pads = sym same.pads; segment = sym same.segment; start = sym same.start; shape = sym same.shape } e' e)
+        absurd (struct_no_list k' t' b' q' k t b q
+        record { pads = sym same.pads; segment = sym same.segment; start = sym same.start; shape = sym same.shape }
+        e' e)
     under (Item i) v mid (inl (k', t', b', q', f', e', c', l, spot)) =
         let same = one_object m s w k t b q k' t' b' q' f f' in
         let inside : i < list_size q = subst (λ u. i < list_size u) (sym same.shape) l in
         subst (λ u. IsUnder (base ++ Item u ∷ v) (row base (level + 1) Item t b 0 (list_size q))) (omega arith)
         (IsUnder-row base (level + 1) Item t b 0 (list_size q) i v inside)
-    under (Item i) v mid (inr (k', t', b', q', tag, f', e', c', ht, l, spot)) = absurd (list_no_other k t b q k' t' b' q' (one_object m s w k t b q k' t' b' q' f f') c c')
+    under (Item i) v mid (inr (k', t', b', q', tag, f', e', c', ht, l, spot)) =
+        absurd (list_no_other k t b q k' t' b' q' (one_object m s w k t b q k' t' b' q' f f') c c')

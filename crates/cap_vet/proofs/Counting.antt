@@ -29,9 +29,11 @@ complete_on : (m : List (List ℕ)) (counted : Counted) (a : Ahead) (children ah
 complete_on m counted a children ahead cost low' caps count step c top p k owe =
     let parts = append-Owe m children ahead c top p k owe in
     let b = step.build parts.c1 parts.d1 parts.p1 parts.k1 parts.first in
-    let whole : Owe m (a ∷ ahead) (cost + parts.c1 + parts.c2) (max (a.level + b.depth) parts.d2) (pointer_count b.tree + parts.p2) (cap_count b.tree + parts.k2) =
+    let whole : Owe m (a ∷ ahead) (cost + parts.c1 + parts.c2) (max (a.level + b.depth) parts.d2)
+    (pointer_count b.tree + parts.p2) (cap_count b.tree + parts.k2) =
     (b.tree, cost + parts.c1, b.depth, parts.c2, parts.d2, parts.p2, parts.k2, b.denotes, parts.second, refl, refl, refl, refl) in
-    let (t, d, all) = count.completes (cost + parts.c1 + parts.c2) (max (a.level + b.depth) parts.d2) (pointer_count b.tree + parts.p2) (cap_count b.tree + parts.k2) whole in
+    let (t, d, all) = count.completes (cost + parts.c1 + parts.c2) (max (a.level + b.depth) parts.d2)
+    (pointer_count b.tree + parts.p2) (cap_count b.tree + parts.k2) whole in
     let e : counted.charge + (cost + parts.c1 + parts.c2) ≡ counted.charge + cost + c = omega (arith, parts.charge) in (
       t,
       d,

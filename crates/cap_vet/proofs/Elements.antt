@@ -34,18 +34,26 @@ go_on-further base y [] h = tt
 go_on-further base y (a ∷ xs) h = ((y, h.0.0 ∷ h.0.1, h.0.2 ∙ append_assoc base (y ∷ []) (h.0.0 ∷ h.0.1)), go_on-further base y xs h.1)
 
 -- pointer j of element i + e
-IsUnder-elements : (base : List Step) (level t b ds ps i n e j : ℕ) (v : List Step) → e < n → j < ps → IsUnder (base ++ Item (i + e) ∷ Ptr j ∷ v) (element_rows base level t b ds ps i n)
+IsUnder-elements : (base : List Step) (level t b ds ps i n e j : ℕ) (v : List Step) → e < n → j < ps
+    → IsUnder (base ++ Item (i + e) ∷ Ptr j ∷ v) (element_rows base level t b ds ps i n)
 IsUnder-elements base level t b ds ps i zero e j v h l = absurd (omega arith)
 IsUnder-elements base level t b ds ps i (suc n) zero j v h l =
     let own = IsUnder-row (base ++ Item i ∷ []) level Ptr t (b + ds) 0 ps j v l in
-    let here : IsUnder ((base ++ Item i ∷ []) ++ Ptr j ∷ v) (row (base ++ Item i ∷ []) level Ptr t (b + ds) 0 ps) = subst (λ u. IsUnder ((base ++ Item i ∷ []) ++ Ptr u ∷ v) (row (base ++ Item i ∷ []) level Ptr t (b + ds) 0 ps)) (omega arith) own in
-    let moved : IsUnder (base ++ Item i ∷ Ptr j ∷ v) (row (base ++ Item i ∷ []) level Ptr t (b + ds) 0 ps) = subst (λ u. IsUnder u (row (base ++ Item i ∷ []) level Ptr t (b + ds) 0 ps)) (append_assoc base (Item i ∷ []) (Ptr j ∷ v)) here in
-    IsUnder-left (base ++ Item (i + 0) ∷ Ptr j ∷ v) (row (base ++ Item i ∷ []) level Ptr t (b + ds) 0 ps) (element_rows base level t (b + ds + ps) ds ps (i + 1) n)
+    let here : IsUnder ((base ++ Item i ∷ []) ++ Ptr j ∷ v) (row (base ++ Item i ∷ []) level Ptr t (b + ds) 0 ps) =
+    subst (λ u. IsUnder ((base ++ Item i ∷ []) ++ Ptr u ∷ v) (row (base ++ Item i ∷ []) level Ptr t (b + ds) 0 ps))
+    (omega arith) own in
+    let moved : IsUnder (base ++ Item i ∷ Ptr j ∷ v) (row (base ++ Item i ∷ []) level Ptr t (b + ds) 0 ps) = subst
+    (λ u. IsUnder u (row (base ++ Item i ∷ []) level Ptr t (b + ds) 0 ps))
+    (append_assoc base (Item i ∷ []) (Ptr j ∷ v)) here in
+    IsUnder-left (base ++ Item (i + 0) ∷ Ptr j ∷ v) (row (base ++ Item i ∷ []) level Ptr t (b + ds) 0 ps)
+    (element_rows base level t (b + ds + ps) ds ps (i + 1) n)
     (subst (λ u. IsUnder (base ++ Item u ∷ Ptr j ∷ v) (row (base ++ Item i ∷ []) level Ptr t (b + ds) 0 ps)) (omega arith) moved)
 IsUnder-elements base level t b ds ps i (suc n) (suc e) j v h l =
     let f : (i + 1) + e ≡ i + suc e = omega arith in
-    IsUnder-right (base ++ Item (i + suc e) ∷ Ptr j ∷ v) (row (base ++ Item i ∷ []) level Ptr t (b + ds) 0 ps) (element_rows base level t (b + ds + ps) ds ps (i + 1) n)
-    (subst (λ u. IsUnder (base ++ Item u ∷ Ptr j ∷ v) (element_rows base level t (b + ds + ps) ds ps (i + 1) n)) f (IsUnder-elements base level t (b + ds + ps) ds ps (i + 1) n e j v (omega arith) l))
+    IsUnder-right (base ++ Item (i + suc e) ∷ Ptr j ∷ v) (row (base ++ Item i ∷ []) level Ptr t (b + ds) 0 ps)
+    (element_rows base level t (b + ds + ps) ds ps (i + 1) n)
+    (subst (λ u. IsUnder (base ++ Item u ∷ Ptr j ∷ v) (element_rows base level t (b + ds + ps) ds ps (i + 1) n)) f
+    (IsUnder-elements base level t (b + ds + ps) ds ps (i + 1) n e j v (omega arith) l))
 
 go_on-elements : (base : List Step) (level t b ds ps i n : ℕ) → GoOnFrom base (element_rows base level t b ds ps i n)
 go_on-elements base level t b ds ps i zero = tt
@@ -58,7 +66,8 @@ go_on-elements base level t b ds ps i (suc n) =
 head-elements : (base : List Step) (level t b ds ps i j n : ℕ) → i < j → HeadApart (base ++ Item i ∷ []) (element_rows base level t b ds ps j n)
 head-elements base level t b ds ps i j zero h = tt
 head-elements base level t b ds zero i j (suc n) h = head-elements base level t (b + ds + 0) ds 0 i (j + 1) n (omega arith)
-head-elements base level t b ds (suc ps) i j (suc n) h = Apart-right (base ++ Item i ∷ []) (base ++ Item j ∷ []) (Ptr 0 ∷ []) (Apart-steps base (Item i) (Item j) [] [] h)
+head-elements base level t b ds (suc ps) i j (suc n) h = Apart-right (base ++ Item i ∷ []) (base ++ Item j ∷ [])
+    (Ptr 0 ∷ []) (Apart-steps base (Item i) (Item j) [] [] h)
 
 apart-elements : (base : List Step) (level t b ds ps i n : ℕ) → AreApart (element_rows base level t b ds ps i n)
 apart-elements base level t b ds ps i zero = tt
@@ -83,17 +92,22 @@ later_pointer base i e j = let f : i + suc e ≡ (i + 1) + e = omega arith in cc
 
 -- Where each pointer of each element is reached, the rows are.
 reached-elements : (m : List (List ℕ)) (base : List Step) (level t b ds ps i n : ℕ)
-    → ((e j : ℕ) → e < n → j < ps → Reaches m (base ++ Item (i + e) ∷ Ptr j ∷ []) level t (b + e * (ds + ps) + ds + j)) → AreReached m (element_rows base level t b ds ps i n)
+    → ((e j : ℕ) → e < n → j < ps → Reaches m (base ++ Item (i + e) ∷ Ptr j ∷ []) level t (b + e * (ds + ps) + ds + j))
+    → AreReached m (element_rows base level t b ds ps i n)
 reached-elements m base level t b ds ps i zero h = tt
 reached-elements m base level t b ds ps i (suc n) h =
     AreReached-append m (row (base ++ Item i ∷ []) level Ptr t (b + ds) 0 ps) (element_rows base level t (b + ds + ps) ds ps (i + 1) n)
     (AreReached-row m (base ++ Item i ∷ []) level Ptr t (b + ds) 0 ps (λ j l.
-    reached-at m level t (base ++ Item (i + 0) ∷ Ptr j ∷ []) ((base ++ Item i ∷ []) ++ Ptr (0 + j) ∷ []) (b + 0 * (ds + ps) + ds + j) (b + ds + j) (first_pointer base i j) (omega arith) (h 0 j (omega arith) l)))
+    reached-at m level t (base ++ Item (i + 0) ∷ Ptr j ∷ []) ((base ++ Item i ∷ []) ++ Ptr (0 + j) ∷ [])
+    (b + 0 * (ds + ps) + ds + j) (b + ds + j) (first_pointer base i j) (omega arith) (h 0 j (omega arith) l)))
     (reached-elements m base level t (b + ds + ps) ds ps (i + 1) n (λ e j k l.
-    reached-at m level t (base ++ Item (i + suc e) ∷ Ptr j ∷ []) (base ++ Item ((i + 1) + e) ∷ Ptr j ∷ []) (b + suc e * (ds + ps) + ds + j) (b + ds + ps + e * (ds + ps) + ds + j) (later_pointer base i e j) (omega arith) (h (suc e) j (omega arith) l)))
+    reached-at m level t (base ++ Item (i + suc e) ∷ Ptr j ∷ []) (base ++ Item ((i + 1) + e) ∷ Ptr j ∷ [])
+    (b + suc e * (ds + ps) + ds + j) (b + ds + ps + e * (ds + ps) + ds + j) (later_pointer base i e j) (omega arith)
+    (h (suc e) j (omega arith) l)))
 
 -- two steps, to an element and to a pointer of it
-two_steps : (m : List (List ℕ)) (base : List Step) (level s w k t b q tag e j : ℕ) → Reaches m base level s w → Finds m s w k t b q → kind q ≡ 1 → code q ≡ 7 → HasWord m t b tag
+two_steps : (m : List (List ℕ)) (base : List Step) (level s w k t b q tag e j : ℕ) → Reaches m base level s w
+    → Finds m s w k t b q → kind q ≡ 1 → code q ≡ 7 → HasWord m t b tag
     → e < middle tag → j < pointer_size tag
     → Reaches m (base ++ Item e ∷ Ptr j ∷ []) (level + (element_levels 1 + 1)) t (b + 1 + e * (data_size tag + pointer_size tag) + data_size tag + j)
 two_steps m base level s w k t b q tag e j h f is_list is_structs has l k' =
@@ -107,14 +121,16 @@ word_no_element : (s w t b ds ps : ℕ) → word s w ≡ element t b ds ps → �
 word_no_element s w t b ds ps e = cc
 
 -- the children of a list of structs
-pub structs_children : (m : List (List ℕ)) (base : List Step) (level s w k t b q tag : ℕ) → Reaches m base level s w → Finds m s w k t b q → kind q ≡ 1 → code q ≡ 7 → HasWord m t b tag
+pub structs_children : (m : List (List ℕ)) (base : List Step) (level s w k t b q tag : ℕ) → Reaches m base level s w
+    → Finds m s w k t b q → kind q ≡ 1 → code q ≡ 7 → HasWord m t b tag
     → AreChildren m base (element_rows base (level + (element_levels 1 + 1)) t (b + 1) (data_size tag) (pointer_size tag) 0 (middle tag))
 structs_children m base level s w k t b q tag h f is_list is_structs has = record {
   apart = apart-elements base (level + (element_levels 1 + 1)) t (b + 1) (data_size tag) (pointer_size tag) 0 (middle tag);
   go_on = go_on-elements base (level + (element_levels 1 + 1)) t (b + 1) (data_size tag) (pointer_size tag) 0 (middle tag);
   reached = reached-elements m base (level + (element_levels 1 + 1)) t (b + 1) (data_size tag) (pointer_size tag) 0 (middle tag) (λ e j l l'.
       let g : e ≡ 0 + e = omega arith in
-      subst (λ u. Reaches m (base ++ Item u ∷ Ptr j ∷ []) (level + (element_levels 1 + 1)) t (b + 1 + e * (data_size tag + pointer_size tag) + data_size tag + j)) g
+      subst (λ u. Reaches m (base ++ Item u ∷ Ptr j ∷ []) (level + (element_levels 1 + 1)) t
+      (b + 1 + e * (data_size tag + pointer_size tag) + data_size tag + j)) g
       (two_steps m base level s w k t b q tag e j h f is_list is_structs has l l'));
   complete = λ x v level' s' w' r. let (mid, n, goes, walks) = beyond m base x v level level' s w s' w' h r in under x v mid n s' w' goes walks;
 }
@@ -138,5 +154,7 @@ structs_children m base level s w k t b q tag h f is_list is_structs has = recor
         let inside : i < middle tag = subst (λ u. i < middle u) one l in
         let below : j < pointer_size tag = subst (λ u. j < pointer_size u) one here.2.0 in
         let e : 0 + i ≡ i = omega arith in
-        subst (λ u. IsUnder (base ++ Item u ∷ Ptr j ∷ v) (element_rows base (level + (element_levels 1 + 1)) t (b + 1) (data_size tag) (pointer_size tag) 0 (middle tag))) e
+        subst (λ u. IsUnder (base ++ Item u ∷ Ptr j ∷ v)
+        (element_rows base (level + (element_levels 1 + 1)) t (b + 1) (data_size tag) (pointer_size tag) 0
+        (middle tag))) e
         (IsUnder-elements base (level + (element_levels 1 + 1)) t (b + 1) (data_size tag) (pointer_size tag) 0 (middle tag) i j v inside below)

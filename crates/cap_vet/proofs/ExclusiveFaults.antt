@@ -12,7 +12,8 @@ use Rattle.cap_vet.specs.declared.report.Report.{Report}
 use Rattle.cap_vet.proofs.OneReport.{not_both, one_report}
 
 -- there is one fault,
-pub one_exclusive_fault : (m : List (List ℕ)) (words depth room : ℕ) (a b : ExclusiveFault) → IsExclusiveFault m words depth room a → IsExclusiveFault m words depth room b → a ≡ b
+pub one_exclusive_fault : (m : List (List ℕ)) (words depth room : ℕ) (a b : ExclusiveFault)
+    → IsExclusiveFault m words depth room a → IsExclusiveFault m words depth room b → a ≡ b
 one_exclusive_fault m words depth room (Refused r) (Refused q) h k = ap Refused (one_refusal m words depth r q h k)
 one_exclusive_fault m words depth room (Refused r) (NoRoom n b) h k = absurd (not_both m words depth b r k.0 h)
 one_exclusive_fault m words depth room (Refused r) (Overlap s w n) h k = absurd (not_both m words depth k.0 r k.1 h)
@@ -24,7 +25,8 @@ one_exclusive_fault m words depth room (Overlap s w n) (NoRoom n' b) h k = absur
 one_exclusive_fault m words depth room (Overlap s w n) (Overlap s' w' n') h k = (let same = one_overlap m s w n s' w' n' h.3 k.3 in cc)
 
 -- and none where it is accepted and disjoint and there is room
-pub no_exclusive_fault : (m : List (List ℕ)) (words depth room : ℕ) (report : Report) (x : ExclusiveFault) → IsAccepted m words depth report → IsDisjoint m → marks_of m ≤ room
+pub no_exclusive_fault : (m : List (List ℕ)) (words depth room : ℕ) (report : Report) (x : ExclusiveFault)
+    → IsAccepted m words depth report → IsDisjoint m → marks_of m ≤ room
     → IsExclusiveFault m words depth room x → ⊥
 no_exclusive_fault m words depth room report (Refused r) a d l h = not_both m words depth report r a h
 no_exclusive_fault m words depth room report (NoRoom n b) a d l h = omega (arith, l, h.1, h.2)

@@ -8,7 +8,9 @@ use Rattle.cap_vet.specs.Trails.{row, element_rows}
 use Rattle.cap_vet.specs.PointerRuns.{place_of, row_places, element_places, IsRest}
 
 -- behind the first of several words in a row
-pub rest_of_row : (s b n more ds ps level : ℕ) → 1 < n → IsRest record { segment = s; at = b; left = n; more = more; data_words = ds; pointers = ps; level = level } (Some record { segment = s; at = b + 1; left = n - 1; more = more; data_words = ds; pointers = ps; level = level })
+pub rest_of_row : (s b n more ds ps level : ℕ) → 1 < n → IsRest
+    record { segment = s; at = b; left = n; more = more; data_words = ds; pointers = ps; level = level }
+    (Some record { segment = s; at = b + 1; left = n - 1; more = more; data_words = ds; pointers = ps; level = level })
 rest_of_row s b zero more ds ps level h = absurd (omega arith)
 rest_of_row s b (suc n) more ds ps level h =
     let e : suc n - 1 ≡ n = omega arith in
@@ -24,7 +26,18 @@ rest_of_row s b (suc n) more ds ps level h =
     }
 
 -- behind the last of them, the next element's
-pub rest_of_elements : (s b n more ds ps level : ℕ) → n ≡ 1 → 0 < more → IsRest record { segment = s; at = b; left = n; more = more; data_words = ds; pointers = ps; level = level } (Some record { segment = s; at = b + 1 + ds; left = ps; more = more - 1; data_words = ds; pointers = ps; level = level })
+pub rest_of_elements : (s b n more ds ps level : ℕ) → n ≡ 1 → 0 < more
+    → IsRest record { segment = s; at = b; left = n; more = more; data_words = ds; pointers = ps; level = level }
+    (Some record {
+      segment = s;
+      at = b + 1 + ds;
+      left = ps;
+      more = more - 1;
+      data_words = ds;
+      pointers = ps;
+      level =
+          level;
+    })
 rest_of_elements s b n zero ds ps level e h = absurd (omega arith)
 rest_of_elements s b n (suc more) ds ps level e h =
     let f : suc more - 1 ≡ more = omega arith in record {
@@ -39,7 +52,8 @@ rest_of_elements s b n (suc more) ds ps level e h =
     }
 
 -- behind the last of them all, nothing
-pub rest_of_last : (s b n more ds ps level : ℕ) → n ≡ 1 → more ≡ 0 → IsRest record { segment = s; at = b; left = n; more = more; data_words = ds; pointers = ps; level = level } None
+pub rest_of_last : (s b n more ds ps level : ℕ) → n ≡ 1 → more ≡ 0
+    → IsRest record { segment = s; at = b; left = n; more = more; data_words = ds; pointers = ps; level = level } None
 rest_of_last s b n more ds ps level e h = record { words = rw (e, h) refl; inside = λ m i. tt; level = tt }
 
 -- where a row of words stands

@@ -30,7 +30,8 @@ pub vetted_kept : (m : List (List ℕ)) (r : Report) → ∥ IsVetted m r ∥₁
 vetted_kept m r h =
     let x : TreeWithin m 256 0 0 = tree_within m 256 0 0 (∥∥₁_map h (λ (t, a). (t, r.charge, r.depth, a.denotes, a.shallow))) in
     let t : Tree = x.0 in
-    let same : (u : Tree) → IsReport m 268435456 256 r u → Same t u x.1 r.charge x.2 r.depth = λ u a. one_tree m 0 0 t u x.1 x.2 r.charge r.depth x.3 a.denotes in
+    let same : (u : Tree) → IsReport m 268435456 256 r u → Same t u x.1 r.charge x.2 r.depth = λ u a. one_tree m 0 0 t u
+    x.1 x.2 r.charge r.depth x.3 a.denotes in
     let one : (a b : ℕ) → IsProp (a ≡ b) = λ a b. hlevel props in
     let one_le : (a b : ℕ) → IsProp (a ≤ b) = λ a b. hlevel props in
     let charge : x.1 ≡ r.charge = ∥∥₁_elim h (one x.1 r.charge) (λ (u, a). (same u a).charge) in

@@ -18,14 +18,16 @@ reached_overlap m p (on_root u) = (u.0, u.1, u.2, u.4)
 reached_overlap m p (on_earlier other x b u v) = (v.0, v.1, v.2, v.4)
 
 -- what comes before the next path was looked at
-seen_before : (m : List (List ℕ)) (seen : List (List Step)) (a : Ahead) (ahead : List Ahead) (q : List Step) (level s w : ℕ) → IsTrail m seen (a ∷ ahead) → Reaches m q level s w → Before q a.path → IsOneOf q seen
+seen_before : (m : List (List ℕ)) (seen : List (List Step)) (a : Ahead) (ahead : List Ahead) (q : List Step)
+    (level s w : ℕ) → IsTrail m seen (a ∷ ahead) → Reaches m q level s w → Before q a.path → IsOneOf q seen
 seen_before m seen a ahead q level s w t r b = elim (up_to_head a seen ahead q t.apart (t.complete q level s w r) (inr b)) [
   | inl e ↦ absurd (Before-irreflexive a.path (subst (λ (u : List Step). Before u a.path) e b))
   | inr h ↦ h
 ]
 
 -- what the path uses is what is used at its word
-uses_of : (m : List (List ℕ)) (p : List Step) (level s w : ℕ) (used : List (ℕ × ℕ)) (x : ℕ × ℕ) → Reaches m p level s w → Occupies m s w used → Uses m p x → IsPlaceOf x used
+uses_of : (m : List (List ℕ)) (p : List Step) (level s w : ℕ) (used : List (ℕ × ℕ)) (x : ℕ × ℕ) → Reaches m p level s w
+    → Occupies m s w used → Uses m p x → IsPlaceOf x used
 uses_of m p level s w used x r o (level', s', w', used', r', o', i) =
     let same = one_reached m p level level' s w s' w' r r' in
     let o2 : Occupies m s w used' = subst (λ (v : ℕ). Occupies m v w used') (sym same.1) (subst (λ (v : ℕ). Occupies m s' v used') (sym same.2) o') in
@@ -56,7 +58,8 @@ marks_on m seen a ahead T T' used t k o h = record {
     never : Overlaps m a.path → ⊥
     never (twice level s w used' r' o' n) =
         let same = one_reached m a.path a.level level a.segment a.word s w r r' in
-        let o2 : Occupies m a.segment a.word used' = subst (λ (v : ℕ). Occupies m v a.word used') (sym same.1) (subst (λ (v : ℕ). Occupies m s v used') (sym same.2) o') in
+        let o2 : Occupies m a.segment a.word used' = subst (λ (v : ℕ). Occupies m v a.word used') (sym same.1)
+        (subst (λ (v : ℕ). Occupies m s v used') (sym same.2) o') in
         n (subst (λ (v : List (ℕ × ℕ)). AreApart v) (one_used m a.segment a.word used used' o o2) h.apart)
     never (on_root u) = h.free 0 0 (uses_of m a.path a.level a.segment a.word used (0, 0) r o u) k.root
     never (on_earlier other (s, w) b u v) =
@@ -64,7 +67,8 @@ marks_on m seen a ahead T T' used t k o h = record {
 
 -- The next pointer's places weren't all free: it is the first that overlaps.
 pub first_overlap : (m : List (List ℕ)) (seen : List (List Step)) (a : Ahead) (ahead : List Ahead) (T : ℕ → ℕ → Type 0) (used : List (ℕ × ℕ)) (n : ℕ)
-    → IsTrail m seen (a ∷ ahead) → IsMarked m seen T → Occupies m a.segment a.word used → Conflicts T used → n ≡ length seen + 1 → IsFirstOverlap m a.segment a.word n
+    → IsTrail m seen (a ∷ ahead) → IsMarked m seen T → Occupies m a.segment a.word used → Conflicts T used
+    → n ≡ length seen + 1 → IsFirstOverlap m a.segment a.word n
 first_overlap m seen a ahead T used n t k o c e = record {
   path = a.path;
   level = a.level;
@@ -84,9 +88,22 @@ first_overlap m seen a ahead T used n t k o c e = record {
     over (inr (s, w, i, taken)) = by_mark s w i (k.only s w taken)
       where
         by_mark : (s w : ℕ) → IsPlaceOf (s, w) used → ((s ≡ 0) × (w ≡ 0)) ⊎ ((p : List Step) × IsOneOf p seen × Uses m p (s, w)) → Overlaps m a.path
-        by_mark s w i (inl z) = on_root (a.level, a.segment, a.word, used, r, o, subst (λ (u : ℕ). IsPlaceOf (0, u) used) z.1 (subst (λ (u : ℕ). IsPlaceOf (u, w) used) z.0 i))
-        by_mark s w i (inr (p, one, u)) = on_earlier p (s, w) (Falls-before a.path p seen (falls-step a seen ahead t.falls t.precedes) one) u (a.level, a.segment, a.word, used, r, o, i)
+        by_mark s w i (inl z) = on_root (
+          a.level,
+          a.segment,
+          a.word,
+          used,
+          r,
+          o,
+          subst
+              (λ (u : ℕ). IsPlaceOf (0, u) used) z.1 (subst (λ (u : ℕ). IsPlaceOf (u, w) used) z.0 i),
+        )
+        by_mark s w i (inr (p, one, u)) = on_earlier p (s, w)
+            (Falls-before a.path p seen (falls-step a seen ahead t.falls t.precedes) one) u
+            (a.level, a.segment, a.word, used, r, o, i)
 
 -- Where all was looked at and nothing overlaps, the tree is disjoint.
 pub all_disjoint : (m : List (List ℕ)) (seen : List (List Step)) (T : ℕ → ℕ → Type 0) → IsTrail m seen [] → IsMarked m seen T → IsDisjoint m
-all_disjoint m seen T t k = disjoint_of_none m (λ p over. let g = reached_overlap m p over in elim (t.complete p g.0 g.1 g.2 g.3) [ inl one ↦ k.clear p one over | inr none ↦ absurd none ])
+all_disjoint m seen T t k = disjoint_of_none m
+    (λ p over. let g = reached_overlap m p over in elim (t.complete p g.0 g.1 g.2 g.3)
+    [ inl one ↦ k.clear p one over | inr none ↦ absurd none ])

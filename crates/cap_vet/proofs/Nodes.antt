@@ -64,7 +64,8 @@ node_not_wrong m s w v h x =
     ∥∥₁_elim h one (λ n. reached_not_wrong m n.tree n.charge n.depth n.denotes n.path n.level s w v n.comes x)
 
 -- where a step leads, the part of the tree stands
-pub part_stands : (m : List (List ℕ)) (a b : Spot) (step : Step) (t : Tree) → Goes m a step b → DenotesAt m a t → (u : Tree) × (part_at t step ≡ Some u) × DenotesAt m b u
+pub part_stands : (m : List (List ℕ)) (a b : Spot) (step : Step) (t : Tree) → Goes m a step b → DenotesAt m a t
+    → (u : Tree) × (part_at t step ≡ Some u) × DenotesAt m b u
 part_stands m a b step t g h = step_to_part m a step b t h g
 
 -- and where it leads nowhere, there is no part
@@ -76,7 +77,8 @@ no_part m a step t none h = go (part_at t step) refl
     go (Some u) e = let r = part_to_step m a step t u h e in absurd (none r.0 r.1)
 
 -- a path that leads nowhere has no node
-pub no_node : (m : List (List ℕ)) (path : List Step) (t : Tree) (c d : ℕ) → ((level : ℕ) (a : Spot) → Comes m path level a → ⊥) → Denotes m 0 0 t c d → node_at t path ≡ None
+pub no_node : (m : List (List ℕ)) (path : List Step) (t : Tree) (c d : ℕ)
+    → ((level : ℕ) (a : Spot) → Comes m path level a → ⊥) → Denotes m 0 0 t c d → node_at t path ≡ None
 no_node m path t c d none h = go (node_at t path) refl
   where
     go : (o : Option Tree) → node_at t path ≡ o → node_at t path ≡ None
@@ -94,5 +96,6 @@ comes_nowhere m path done rest step level a e h none level' b g =
     none w.0 (subst (λ u. Goes m u step w.0) (sym same) w.2)
 
 -- one more step
-pub comes_on : (m : List (List ℕ)) (done : List Step) (step : Step) (level : ℕ) (a b : Spot) → Comes m done level a → Goes m a step b → (level' : ℕ) × Comes m (done ++ step ∷ []) level' b
+pub comes_on : (m : List (List ℕ)) (done : List Step) (step : Step) (level : ℕ) (a b : Spot) → Comes m done level a
+    → Goes m a step b → (level' : ℕ) × Comes m (done ++ step ∷ []) level' b
 comes_on m done step level a b h g = (level + level_of b, (coming_last m done step (level + level_of b) b).1 (a, level, h, g, refl))

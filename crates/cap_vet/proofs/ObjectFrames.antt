@@ -12,10 +12,19 @@ use Rattle.cap_vet.specs.Looking.{object_places}
 
 -- a struct's words lie inside its segment
 pub struct_room : (m : List (List ℕ)) (s w k t b q tag n c d p : ℕ) → FindsObject m s w k t b q tag n c (Struct d p) → b + d + p ≤ length (segment_of m t)
-struct_room m s w k t b q tag n c d p f = omega (arith, f.finds.sits.inside, extent_struct q f.object.shape.kind, f.object.shape.data_words, f.object.shape.pointers)
+struct_room m s w k t b q tag n c d p f =
+    omega (
+      arith,
+      f.finds.sits.inside,
+      extent_struct q f.object.shape.kind,
+      f.object.shape.data_words,
+      f.object.shape.pointers,
+    )
 
 -- its pointer words are those behind its data
-pub struct_places : (m : List (List ℕ)) (s w k t b q tag n c d p at left level : ℕ) → FindsObject m s w k t b q tag n c (Struct d p) → at ≡ b + d → left ≡ p → row_places (level + 1) t at left ≡ object_places q tag t b level
+pub struct_places : (m : List (List ℕ)) (s w k t b q tag n c d p at left level : ℕ)
+    → FindsObject m s w k t b q tag n c (Struct d p) → at ≡ b + d → left ≡ p
+    → row_places (level + 1) t at left ≡ object_places q tag t b level
 struct_places m s w k t b q tag n c d p at left level f e g =
     let start : at ≡ b + data_size q = omega (arith, e, f.object.shape.data_words) in
     let many : left ≡ pointer_size q = g ∙ f.object.shape.pointers in
@@ -26,7 +35,8 @@ no_pointers : (level t b ds n : ℕ) → element_places level t b ds 0 n ≡ []
 no_pointers level t b ds zero = refl
 no_pointers level t b ds (suc n) = no_pointers level t (b + ds + 0) ds n
 
-pub structs_empty : (m : List (List ℕ)) (s w k t b q tag n c size count d p level : ℕ) → FindsObject m s w k t b q tag n c (Structs size count d p) → (count ≡ 0) ⊎ (p ≡ 0)
+pub structs_empty : (m : List (List ℕ)) (s w k t b q tag n c size count d p level : ℕ)
+    → FindsObject m s w k t b q tag n c (Structs size count d p) → (count ≡ 0) ⊎ (p ≡ 0)
     → ◌≡◌ {A = List Place} [] (object_places q tag t b level)
 structs_empty m s w k t b q tag n c size count d p level f (inl e) =
     let x : middle tag ≡ 0 = sym f.object.shape.count ∙ e in
@@ -36,14 +46,16 @@ structs_empty m s w k t b q tag n c size count d p level f (inr e) =
     rw (f.object.shape.kind, f.object.shape.code, x) (sym (no_pointers (level + (element_levels 1 + 1)) t (b + 1) (data_size tag) (middle tag)))
 
 -- the elements' words fit the list
-pub structs_fit : (m : List (List ℕ)) (s w k t b q tag n c size count d p : ℕ) → FindsObject m s w k t b q tag n c (Structs size count d p) → b + 1 + count * (d + p) ≤ length (segment_of m t)
+pub structs_fit : (m : List (List ℕ)) (s w k t b q tag n c size count d p : ℕ)
+    → FindsObject m s w k t b q tag n c (Structs size count d p) → b + 1 + count * (d + p) ≤ length (segment_of m t)
 structs_fit m s w k t b q tag n c size count d p f =
     let fits : TagFits tag (list_size q) = (f.object.tagged (f.object.shape.kind, f.object.shape.code)).1 in
     let room : count * (d + p) ≤ list_size q = rw (f.object.shape.count, f.object.shape.data_words, f.object.shape.pointers) fits.1 in
     omega (arith, room, f.finds.sits.inside, extent_structs q f.object.shape.kind f.object.shape.code)
 
 -- the frame of a list of structs
-pub structs_inside : (m : List (List ℕ)) (s w k t b q tag n c size count d p at left more ds ps level : ℕ) → FindsObject m s w k t b q tag n c (Structs size count d p)
+pub structs_inside : (m : List (List ℕ)) (s w k t b q tag n c size count d p at left more ds ps level : ℕ)
+    → FindsObject m s w k t b q tag n c (Structs size count d p)
     → at ≡ b + 1 + d → left ≡ p → more ≡ count - 1 → ds ≡ d → ps ≡ p → 0 < count → 0 < p
     → RunIn m record { segment = t; at = at; left = left; more = more; data_words = ds; pointers = ps; level = level }
 structs_inside m s w k t b q tag n c size zero d p at left more ds ps level f e1 e2 e3 e4 e5 some each = absurd (omega arith)
@@ -55,7 +67,8 @@ structs_inside m s w k t b q tag n c size (suc count) d p at left more ds ps lev
       inside = rw (e, e4, e5) (omega (arith, e1, e2, structs_fit m s w k t b q tag n c size (suc count) d p f));
     }
 
-pub structs_places : (m : List (List ℕ)) (s w k t b q tag n c size count d p at left more ds ps level here : ℕ) → FindsObject m s w k t b q tag n c (Structs size count d p)
+pub structs_places : (m : List (List ℕ)) (s w k t b q tag n c size count d p at left more ds ps level here : ℕ)
+    → FindsObject m s w k t b q tag n c (Structs size count d p)
     → at ≡ b + 1 + d → left ≡ p → more ≡ count - 1 → ds ≡ d → ps ≡ p → 0 < count → here ≡ level + (element_levels 1 + 1)
     → spots record { segment = t; at = at; left = left; more = more; data_words = ds; pointers = ps; level = here } ≡ object_places q tag t b level
 structs_places m s w k t b q tag n c size zero d p at left more ds ps level here f e1 e2 e3 e4 e5 some e6 = absurd (omega arith)
@@ -71,7 +84,8 @@ pub short_segment : (m : List (List ℕ)) (t : ℕ) → IsMessage m → t < leng
 short_segment m t h l = h.lengths t [] l
 
 -- an element's start is a number of 32 bits
-pub start_fits : (m : List (List ℕ)) (s w k t b q tag n c size count d p at : ℕ) → IsMessage m → FindsObject m s w k t b q tag n c (Structs size count d p) → at ≡ d → (count ≡ 0 → ⊥)
+pub start_fits : (m : List (List ℕ)) (s w k t b q tag n c size count d p at : ℕ) → IsMessage m
+    → FindsObject m s w k t b q tag n c (Structs size count d p) → at ≡ d → (count ≡ 0 → ⊥)
     → Fits w32 (b + 1 + at)
 start_fits m s w k t b q tag n c size zero d p at h f e some = absurd (some refl)
 start_fits m s w k t b q tag n c size (suc count) d p at h f e some =

@@ -1,5 +1,6 @@
 -- What an object brings to a walk: its children, its cost, and how deep it goes.
-use Rattle.std.proofs.Common.{◌≡◌, ℕ, zero, suc, ◌+◌, ◌*◌, ◌<◌, ◌≤◌, ◌==◌, max, inl, inr, ◌⊎◌, List, [], ◌∷◌, ◌++◌, length, map, refl, ap, subst, arith, true, false}
+use Rattle.std.proofs.Common.{◌≡◌, ℕ, zero, suc, ◌+◌, ◌*◌, ◌<◌, ◌≤◌, ◌==◌, max, inl, inr, ◌⊎◌, List, [], ◌∷◌, ◌++◌}
+use Rattle.std.proofs.Common.{length, map, refl, ap, subst, arith, true, false}
 use Rattle.std.specs.Prelude.{pos}
 use Rattle.std.proofs.lemmas.List.{length-append}
 use Rattle.std.proofs.lemmas.Bool.Decides.{eqb_tells}
@@ -50,9 +51,11 @@ near-elements base depth level t b ds ps i (suc n) h k =
     (near-row (base ++ Item i ∷ []) depth level Ptr t (b + ds) 0 ps h k) (near-elements base depth level t (b + ds + ps) ds ps (i + 1) n h k)
 
 -- the pointers of the elements of a list are near where the elements are the deepest
-near-structs : (base : List Step) (low level t b ds ps n : ℕ) → AreNear (max low (level + element_levels n)) (element_rows base (level + (element_levels 1 + 1)) t b ds ps 0 n)
+near-structs : (base : List Step) (low level t b ds ps n : ℕ) → AreNear (max low (level + element_levels n))
+    (element_rows base (level + (element_levels 1 + 1)) t b ds ps 0 n)
 near-structs base low level t b ds ps zero = tt
-near-structs base low level t b ds ps (suc n) = near-elements base (max low (level + element_levels 1)) (level + (element_levels 1 + 1)) t b ds ps 0 (suc n) (omega arith) (omega arith)
+near-structs base low level t b ds ps (suc n) = near-elements base (max low (level + element_levels 1))
+    (level + (element_levels 1 + 1)) t b ds ps 0 (suc n) (omega arith) (omega arith)
 
 -- what is near stays so where the walk goes deeper
 pub near-deeper : (depth deeper : ℕ) (xs : List Ahead) → depth ≤ deeper → AreNear depth xs → AreNear deeper xs
@@ -68,10 +71,13 @@ pub record Brings (m : List (List ℕ)) (a : Ahead) (q tag t b cost low deep : �
   pub near : AreNear (max low deep) (object_children a.path q tag t b a.level)
 
 -- one cost and one depth in place of equal ones
-counts-at : (m : List (List ℕ)) (a : Ahead) (children : List Ahead) (cost cost' low low' low'' caps : ℕ) → cost ≡ cost' → low' ≡ low'' → Counts m a children cost low low' caps → Counts m a children cost' low low'' caps
-counts-at m a children cost cost' low low' low'' caps e f h = subst (λ u. Counts m a children u low low'' caps) e (subst (λ u. Counts m a children cost low u caps) f h)
+counts-at : (m : List (List ℕ)) (a : Ahead) (children : List Ahead) (cost cost' low low' low'' caps : ℕ) → cost ≡ cost'
+    → low' ≡ low'' → Counts m a children cost low low' caps → Counts m a children cost' low low'' caps
+counts-at m a children cost cost' low low' low'' caps e f h = subst (λ u. Counts m a children u low low'' caps) e
+    (subst (λ u. Counts m a children cost low u caps) f h)
 
-struct-brings : (m : List (List ℕ)) (a : Ahead) (k t b q tag low : ℕ) → Reaches m a.path a.level a.segment a.word → Finds m a.segment a.word k t b q → kind q ≡ 0
+struct-brings : (m : List (List ℕ)) (a : Ahead) (k t b q tag low : ℕ) → Reaches m a.path a.level a.segment a.word
+    → Finds m a.segment a.word k t b q → kind q ≡ 0
     → Brings m a q tag t b (k + extent q + extra q tag) low (a.level + levels_below q tag)
 struct-brings m a k t b q tag low r f e =
     let x : extra q tag ≡ 0 = rw e refl in
@@ -79,10 +85,13 @@ struct-brings m a k t b q tag low r f e =
     let ch : object_children a.path q tag t b a.level ≡ row a.path (a.level + 1) Ptr t (b + data_size q) 0 (pointer_size q) = rw e refl in
     let pl : object_places q tag t b a.level ≡ row_places (a.level + 1) t (b + data_size q) (pointer_size q) = rw e refl in record {
       children = rw ch (struct_children m a.path a.level a.segment a.word k t b q r f e);
-      counts = rw ch (counts-at m a (row a.path (a.level + 1) Ptr t (b + data_size q) 0 (pointer_size q)) (k + extent q) (k + extent q + extra q tag) low (max low a.level) (max low (a.level + levels_below q tag)) 0 (omega (arith, x)) (omega (arith, l)) (struct-counts m a k t b q low f e));
+      counts = rw ch (counts-at m a (row a.path (a.level + 1) Ptr t (b + data_size q) 0 (pointer_size q)) (k + extent q)
+          (k + extent q + extra q tag) low (max low a.level) (max low (a.level + levels_below q tag)) 0
+          (omega (arith, x)) (omega (arith, l)) (struct-counts m a k t b q low f e));
       places = rw (ch, pl) (places-row a.path (a.level + 1) Ptr t (b + data_size q) 0 (pointer_size q));
       few = rw ch (omega (arith, length-row a.path (a.level + 1) Ptr t (b + data_size q) 0 (pointer_size q), extent_struct q e));
-      near = rw ch (near-row a.path (max low (a.level + levels_below q tag)) (a.level + 1) Ptr t (b + data_size q) 0 (pointer_size q) (omega arith) (omega arith));
+      near = rw ch (near-row a.path (max low (a.level + levels_below q tag)) (a.level + 1) Ptr t (b + data_size q) 0
+          (pointer_size q) (omega arith) (omega arith));
     }
 
 -- a list of values has no step to go on by
@@ -102,7 +111,8 @@ scalars_end m s w k t b q f e no_pointers no_structs (Item i) v mid n s' w' (inr
     let x : true ≡ false = subst (λ u. (u == 7) ≡ false) c' h in
     cc
 
-scalars-brings : (m : List (List ℕ)) (a : Ahead) (k t b q tag low : ℕ) → Reaches m a.path a.level a.segment a.word → Finds m a.segment a.word k t b q → kind q ≡ 1
+scalars-brings : (m : List (List ℕ)) (a : Ahead) (k t b q tag low : ℕ) → Reaches m a.path a.level a.segment a.word
+    → Finds m a.segment a.word k t b q → kind q ≡ 1
     → (code q == 6) ≡ false → (code q == 7) ≡ false → code q < 6 → Brings m a q tag t b (k + extent q + extra q tag) low (a.level + levels_below q tag)
 scalars-brings m a k t b q tag low r f e no_pointers no_structs below =
     let x : extra q tag ≡ extra q 0 = extra_same q tag 0 (omega (arith, e)) (λ g h. absurd (omega (arith, h))) in
@@ -110,13 +120,16 @@ scalars-brings m a k t b q tag low r f e no_pointers no_structs below =
     let ch : object_children a.path q tag t b a.level ≡ [] = rw (e, no_pointers, no_structs) refl in
     let pl : object_places q tag t b a.level ≡ [] = rw (e, no_pointers, no_structs) refl in record {
       children = rw ch (no_children m a.path a.level a.segment a.word r (scalars_end m a.segment a.word k t b q f e no_pointers no_structs));
-      counts = rw ch (counts-at m a [] (k + extent q + extra q 0) (k + extent q + extra q tag) low (max low a.level) (max low (a.level + levels_below q tag)) 0 (omega (arith, x)) (omega (arith, l)) (scalars-counts m a k t b q low f e below));
+      counts = rw ch (counts-at m a [] (k + extent q + extra q 0) (k + extent q + extra q tag) low (max low a.level)
+          (max low (a.level + levels_below q tag)) 0 (omega (arith, x)) (omega (arith, l))
+          (scalars-counts m a k t b q low f e below));
       places = rw (ch, pl) refl;
       few = rw ch (omega arith);
       near = rw ch tt;
     }
 
-pointers-brings : (m : List (List ℕ)) (a : Ahead) (k t b q tag low : ℕ) → Reaches m a.path a.level a.segment a.word → Finds m a.segment a.word k t b q → kind q ≡ 1 → code q ≡ 6
+pointers-brings : (m : List (List ℕ)) (a : Ahead) (k t b q tag low : ℕ) → Reaches m a.path a.level a.segment a.word
+    → Finds m a.segment a.word k t b q → kind q ≡ 1 → code q ≡ 6
     → Brings m a q tag t b (k + extent q + extra q tag) low (a.level + levels_below q tag)
 pointers-brings m a k t b q tag low r f e c =
     let x : extra q tag ≡ 0 = rw (e, c) refl in
@@ -124,25 +137,40 @@ pointers-brings m a k t b q tag low r f e c =
     let ch : object_children a.path q tag t b a.level ≡ row a.path (a.level + 1) Item t b 0 (list_size q) = rw (e, c) refl in
     let pl : object_places q tag t b a.level ≡ row_places (a.level + 1) t b (list_size q) = rw (e, c) refl in record {
       children = rw ch (pointers_children m a.path a.level a.segment a.word k t b q r f e c);
-      counts = rw ch (counts-at m a (row a.path (a.level + 1) Item t b 0 (list_size q)) (k + extent q) (k + extent q + extra q tag) low (max low a.level) (max low (a.level + levels_below q tag)) 0 (omega (arith, x)) (omega (arith, l)) (pointers-counts m a k t b q low f e c));
+      counts = rw ch (counts-at m a (row a.path (a.level + 1) Item t b 0 (list_size q)) (k + extent q)
+          (k + extent q + extra q tag) low (max low a.level) (max low (a.level + levels_below q tag)) 0
+          (omega (arith, x)) (omega (arith, l)) (pointers-counts m a k t b q low f e c));
       places = rw (ch, pl) (places-row a.path (a.level + 1) Item t b 0 (list_size q));
       few = rw ch (omega (arith, length-row a.path (a.level + 1) Item t b 0 (list_size q), extent_pointers q e c));
       near = rw ch (near-row a.path (max low (a.level + levels_below q tag)) (a.level + 1) Item t b 0 (list_size q) (omega arith) (omega arith));
     }
 
-structs-brings : (m : List (List ℕ)) (a : Ahead) (k t b q tag low : ℕ) → Reaches m a.path a.level a.segment a.word → Finds m a.segment a.word k t b q → kind q ≡ 1 → code q ≡ 7 → HasWord m t b tag
+structs-brings : (m : List (List ℕ)) (a : Ahead) (k t b q tag low : ℕ) → Reaches m a.path a.level a.segment a.word
+    → Finds m a.segment a.word k t b q → kind q ≡ 1 → code q ≡ 7 → HasWord m t b tag
     → Brings m a q tag t b (k + extent q + extra q tag) low (a.level + levels_below q tag)
 structs-brings m a k t b q tag low r f e c has =
     let l : levels_below q tag ≡ element_levels (middle tag) = rw (e, c) refl in
-    let ch : object_children a.path q tag t b a.level ≡ element_rows a.path (a.level + (element_levels 1 + 1)) t (b + 1) (data_size tag) (pointer_size tag) 0 (middle tag) = rw (e, c) refl in
-    let pl : object_places q tag t b a.level ≡ element_places (a.level + (element_levels 1 + 1)) t (b + 1) (data_size tag) (pointer_size tag) (middle tag) = rw (e, c) refl in
+    let ch : object_children a.path q tag t b a.level ≡ element_rows a.path (a.level + (element_levels 1 + 1)) t (b + 1)
+    (data_size tag) (pointer_size tag) 0 (middle tag) = rw (e, c) refl in
+    let pl : object_places q tag t b a.level ≡ element_places (a.level + (element_levels 1 + 1)) t (b + 1)
+    (data_size tag) (pointer_size tag) (middle tag) = rw (e, c) refl in
     let fits : (tag' : ℕ) × HasWord m t b tag' × TagFits tag' (list_size q) = f.sits.composite (e, c) in
     let one : fits.0 ≡ tag = one_word m t b fits.0 tag fits.1 has in
-    let room : middle tag * (data_size tag + pointer_size tag) ≤ list_size q = subst (λ u. middle u * (data_size u + pointer_size u) ≤ list_size q) one fits.2.1 in record {
+    let room : middle tag * (data_size tag + pointer_size tag) ≤ list_size q = subst
+    (λ u. middle u * (data_size u + pointer_size u) ≤ list_size q) one fits.2.1 in record {
       children = rw ch (structs_children m a.path a.level a.segment a.word k t b q tag r f e c has);
-      counts = rw ch (counts-at m a (element_rows a.path (a.level + (element_levels 1 + 1)) t (b + 1) (data_size tag) (pointer_size tag) 0 (middle tag)) (k + extent q + extra q tag) (k + extent q + extra q tag) low (max low (a.level + element_levels (middle tag))) (max low (a.level + levels_below q tag)) 0 refl (omega (arith, l)) (structs-counts m a k t b q tag low f e c has));
+      counts = rw ch (counts-at m a (element_rows a.path (a.level + (element_levels 1 + 1)) t (b + 1) (data_size tag)
+          (pointer_size tag) 0 (middle tag)) (k + extent q + extra q tag) (k + extent q + extra q tag) low
+          (max low (a.level + element_levels (middle tag))) (max low (a.level + levels_below q tag)) 0 refl
+          (omega (arith, l)) (structs-counts m a k t b q tag low f e c has));
       places = rw (ch, pl) (places-elements a.path (a.level + (element_levels 1 + 1)) t (b + 1) (data_size tag) (pointer_size tag) 0 (middle tag));
-      few = rw ch (omega (arith, length-elements a.path (a.level + (element_levels 1 + 1)) t (b + 1) (data_size tag) (pointer_size tag) 0 (middle tag), extent_structs q e c, room));
+      few = rw ch (omega (
+        arith,
+        length-elements a.path (a.level + (element_levels 1 + 1)) t (b + 1) (data_size tag)
+            (pointer_size tag) 0 (middle tag),
+        extent_structs q e c,
+        room,
+      ));
       near = rw (ch, l) (near-structs a.path low a.level t (b + 1) (data_size tag) (pointer_size tag) (middle tag));
     }
 
@@ -168,7 +196,8 @@ cases_of m s w k t b q f = by_kind (eqb_tells (kind q) 0) (eqb_tells (code q) 6)
     by_kind (inr h) (inr i) (inr j) = values (omega (arith, h.1, below)) i.0 j.0 (omega (arith, i.1, j.1))
 
 -- what any object brings
-pub object-brings : (m : List (List ℕ)) (a : Ahead) (k t b q tag low : ℕ) → Reaches m a.path a.level a.segment a.word → Finds m a.segment a.word k t b q → (IsComposite q → HasWord m t b tag)
+pub object-brings : (m : List (List ℕ)) (a : Ahead) (k t b q tag low : ℕ) → Reaches m a.path a.level a.segment a.word
+    → Finds m a.segment a.word k t b q → (IsComposite q → HasWord m t b tag)
     → Brings m a q tag t b (k + extent q + extra q tag) low (a.level + levels_below q tag)
 object-brings m a k t b q tag low r f tagged = elim (cases_of m a.segment a.word k t b q f) [
   | a_struct e ↦ struct-brings m a k t b q tag low r f e
@@ -183,8 +212,11 @@ object_places-children base q tag t b level = by_kind (eqb_tells (kind q) 0) (eq
   where
     by_kind : (((kind q == 0) ≡ true) × (kind q ≡ 0)) ⊎ (((kind q == 0) ≡ false) × (kind q ≡ 0 → ⊥))
         → (((code q == 6) ≡ true) × (code q ≡ 6)) ⊎ (((code q == 6) ≡ false) × (code q ≡ 6 → ⊥))
-        → (((code q == 7) ≡ true) × (code q ≡ 7)) ⊎ (((code q == 7) ≡ false) × (code q ≡ 7 → ⊥)) → map place_of (object_children base q tag t b level) ≡ object_places q tag t b level
+        → (((code q == 7) ≡ true) × (code q ≡ 7)) ⊎ (((code q == 7) ≡ false) × (code q ≡ 7 → ⊥))
+        → map place_of (object_children base q tag t b level) ≡ object_places q tag t b level
     by_kind (inl h) i j = rw h.0 (places-row base (level + 1) Ptr t (b + data_size q) 0 (pointer_size q))
     by_kind (inr h) (inl i) j = rw (h.0, i.0) (places-row base (level + 1) Item t b 0 (list_size q))
-    by_kind (inr h) (inr i) (inl j) = rw (h.0, i.0, j.0) (places-elements base (level + (element_levels 1 + 1)) t (b + 1) (data_size tag) (pointer_size tag) 0 (middle tag))
+    by_kind (inr h) (inr i) (inl j) = rw (h.0, i.0, j.0)
+        (places-elements base (level + (element_levels 1 + 1)) t (b + 1) (data_size tag) (pointer_size tag) 0
+        (middle tag))
     by_kind (inr h) (inr i) (inr j) = rw (h.0, i.0, j.0) refl

@@ -44,7 +44,8 @@ pub cap_used : (m : List (List ℕ)) (s w k i : ℕ) → Leads m s w k (to_cap i
 cap_used m s w k i h = let p = lead_word m s w k (to_cap i) h in (p.0, p.1, (p.0, p.1, inr (inl (k, i, h, refl))))
 
 -- and of an object also its words.
-pub object_used : (m : List (List ℕ)) (s w k t b q n : ℕ) → Finds m s w k t b q → n ≡ extent q → (p : ℕ) × HasWord m s w p × Occupies m s w (pads_of p ++ places t b n)
+pub object_used : (m : List (List ℕ)) (s w k t b q n : ℕ) → Finds m s w k t b q → n ≡ extent q → (p : ℕ)
+    × HasWord m s w p × Occupies m s w (pads_of p ++ places t b n)
 object_used m s w k t b q n f e =
     let p = lead_word m s w k (to_object t (pos b) q) f.leads in
     (p.0, p.1, (p.0, p.1, inr (inr (k, t, b, q, f, ap (λ (u : ℕ). pads_of p.0 ++ places t b u) e))))

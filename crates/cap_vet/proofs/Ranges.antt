@@ -1,5 +1,6 @@
 -- What marking a range of bits does to the places of a message.
-use Rattle.std.proofs.Common.{ℕ, zero, suc, ◌+◌, ◌<◌, ◌≤◌, ◌≡◌, ◌-◌, ◌^◌, List, [], ◌∷◌, ◌++◌, length, sum, inl, inr, refl, sym, ap, subst, ◌∙◌, arith, slice_index, slice_index_or}
+use Rattle.std.proofs.Common.{ℕ, zero, suc, ◌+◌, ◌<◌, ◌≤◌, ◌≡◌, ◌-◌, ◌^◌, List, [], ◌∷◌, ◌++◌, length, sum, inl, inr}
+use Rattle.std.proofs.Common.{refl, sym, ap, subst, ◌∙◌, arith, slice_index, slice_index_or}
 use Rattle.std.proofs.lemmas.Bool.{cases_eq, cases_lt}
 use Rattle.std.proofs.lemmas.List.{get_or_append_left}
 use Rattle.std.proofs.Math.Seq.{get_or-append_seam}
@@ -84,7 +85,8 @@ pub start_next : (m : List (List ℕ)) (s : ℕ) → s < length m → start_of m
 start_next m s h = let e : s + 1 ≡ suc s = omega arith in ap (start_of m) e ∙ start_suc m s h
 
 -- the starts of one more segment
-pub starts_more : (m : List (List ℕ)) (starts : List ℕ) (s words k : ℕ) → length starts ≡ s → ((k : ℕ) → k < s → slice_index_or starts k 0 ≡ start_of m k) → words ≡ start_of m s → k < s + 1
+pub starts_more : (m : List (List ℕ)) (starts : List ℕ) (s words k : ℕ) → length starts ≡ s
+    → ((k : ℕ) → k < s → slice_index_or starts k 0 ≡ start_of m k) → words ≡ start_of m s → k < s + 1
     → slice_index_or (starts ++ words ∷ []) k 0 ≡ start_of m k
 starts_more m starts s words k many h e less = elim (cases_eq k s) [
   | inl f ↦ ap (λ u. slice_index_or (starts ++ words ∷ []) u 0) (f ∙ sym many) ∙ get_or-append_seam starts words [] 0 ∙ e ∙ sym (ap (start_of m) f)

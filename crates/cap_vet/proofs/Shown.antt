@@ -44,23 +44,28 @@ cap_own m s w (cap j) c d k i h l = let e : to_cap j ≡ to_cap i = (one_lead m 
 cap_own m s w (scalars e vs) c d k i h l = let f = lead_form m s w (scalars e vs) c d k (to_cap i) h l in absurd (omega (arith, f.0))
 cap_own m s w x c d k i h l = absurd (omega (arith, lead_form m s w x c d k (to_cap i) h l))
 
-struct_own : (m : List (List ℕ)) (s w : ℕ) (x : Tree) (c d k t b q : ℕ) → Denotes m s w x c d → Finds m s w k t b q → kind q ≡ 0 → own_of x ≡ own_struct (words_from m t b (data_size q)) (pointer_size q)
+struct_own : (m : List (List ℕ)) (s w : ℕ) (x : Tree) (c d k t b q : ℕ) → Denotes m s w x c d → Finds m s w k t b q
+    → kind q ≡ 0 → own_of x ≡ own_struct (words_from m t b (data_size q)) (pointer_size q)
 struct_own m s w (struct ws ts) c d k t b q h f e =
     let o : SameObject k t b q h.0 h.1 h.2 h.3 = one_object m s w k t b q h.0 h.1 h.2 h.3 f h.6.finds in
-    let n = (each_charged m (places h.1 (h.2 + data_size h.3) (pointer_size h.3)) ts h.4 h.5 h.7).0 ∙ length-places h.1 (h.2 + data_size h.3) (pointer_size h.3) in
-    same_struct ws (words_from m t b (data_size q)) (tree_count ts) (pointer_size q) (rw (o.segment, o.start, o.shape) h.6.data_words) (n ∙ ap pointer_size (sym o.shape))
+    let n = (each_charged m (places h.1 (h.2 + data_size h.3) (pointer_size h.3)) ts h.4 h.5 h.7).0
+    ∙ length-places h.1 (h.2 + data_size h.3) (pointer_size h.3) in
+    same_struct ws (words_from m t b (data_size q)) (tree_count ts) (pointer_size q)
+    (rw (o.segment, o.start, o.shape) h.6.data_words) (n ∙ ap pointer_size (sym o.shape))
 struct_own m s w (scalars g vs) c d k t b q h f e =
     let y = found_form m s w (scalars g vs) c d k t b q h f in absurd (omega (arith, number_struct (kind q) (code q) e, y.0))
 struct_own m s w x c d k t b q h f e = absurd (omega (arith, number_struct (kind q) (code q) e, found_form m s w x c d k t b q h f))
 
-scalars_own : (m : List (List ℕ)) (s w : ℕ) (x : Tree) (c d k t b q : ℕ) → Denotes m s w x c d → Finds m s w k t b q → kind q ≡ 1 → code q < 6 → own_of x ≡ own_scalars (code q) (values_of m t b (code q) (list_size q))
+scalars_own : (m : List (List ℕ)) (s w : ℕ) (x : Tree) (c d k t b q : ℕ) → Denotes m s w x c d → Finds m s w k t b q
+    → kind q ≡ 1 → code q < 6 → own_of x ≡ own_scalars (code q) (values_of m t b (code q) (list_size q))
 scalars_own m s w (scalars g vs) c d k t b q h f e lt =
     let o : SameObject k t b q h.0 h.1 h.2 h.3 = one_object m s w k t b q h.0 h.1 h.2 h.3 f h.4.finds in
     let x : g ≡ code q = h.4.code ∙ ap code (sym o.shape) in
     same_scalars g (code q) vs (values_of m t b (code q) (list_size q)) x (rw (← x, o.segment, o.start, o.shape) h.4.elements)
 scalars_own m s w x c d k t b q h f e lt = absurd (omega (arith, number_list (kind q) (code q) e, lt, found_form m s w x c d k t b q h f))
 
-pointers_own : (m : List (List ℕ)) (s w : ℕ) (x : Tree) (c d k t b q : ℕ) → Denotes m s w x c d → Finds m s w k t b q → kind q ≡ 1 → code q ≡ 6 → own_of x ≡ own_pointers (list_size q)
+pointers_own : (m : List (List ℕ)) (s w : ℕ) (x : Tree) (c d k t b q : ℕ) → Denotes m s w x c d → Finds m s w k t b q
+    → kind q ≡ 1 → code q ≡ 6 → own_of x ≡ own_pointers (list_size q)
 pointers_own m s w (pointers ts) c d k t b q h f e g =
     let o : SameObject k t b q h.0 h.1 h.2 h.3 = one_object m s w k t b q h.0 h.1 h.2 h.3 f h.6.finds in
     let n = (each_charged m (places h.1 h.2 (list_size h.3)) ts h.4 h.5 h.7).0 ∙ length-places h.1 h.2 (list_size h.3) in
@@ -69,13 +74,15 @@ pointers_own m s w (scalars z vs) c d k t b q h f e g =
     let y = found_form m s w (scalars z vs) c d k t b q h f in absurd (omega (arith, number_list (kind q) (code q) e, g, y.1))
 pointers_own m s w x c d k t b q h f e g = absurd (omega (arith, number_list (kind q) (code q) e, g, found_form m s w x c d k t b q h f))
 
-structs_own : (m : List (List ℕ)) (s w : ℕ) (x : Tree) (c d k t b q tag : ℕ) → Denotes m s w x c d → Finds m s w k t b q → kind q ≡ 1 → code q ≡ 7 → HasWord m t b tag
+structs_own : (m : List (List ℕ)) (s w : ℕ) (x : Tree) (c d k t b q tag : ℕ) → Denotes m s w x c d → Finds m s w k t b q
+    → kind q ≡ 1 → code q ≡ 7 → HasWord m t b tag
     → own_of x ≡ own_structs (middle tag) (data_size tag) (pointer_size tag)
 structs_own m s w (structs ds ps es) c d k t b q tag h f e g y =
     let o : SameObject k t b q h.0 h.1 h.2 h.3 = one_object m s w k t b q h.0 h.1 h.2 h.3 f h.7.finds in
     let z : tag ≡ h.4 = one_word m t b tag h.4 y (rw (o.segment, o.start) h.7.has_tag) in
     let n = (elements_depth m h.1 (h.2 + 1) ds ps (middle h.4) es h.5 h.6 h.8).0 in
-    same_structs (tree_count es) (middle tag) ds (data_size tag) ps (pointer_size tag) (sym n ∙ ap middle (sym z)) (h.7.data_sizes ∙ ap data_size (sym z)) (h.7.pointer_sizes ∙ ap pointer_size (sym z))
+    same_structs (tree_count es) (middle tag) ds (data_size tag) ps (pointer_size tag) (sym n ∙ ap middle (sym z))
+    (h.7.data_sizes ∙ ap data_size (sym z)) (h.7.pointer_sizes ∙ ap pointer_size (sym z))
 structs_own m s w (scalars z vs) c d k t b q tag h f e g y =
     let v = found_form m s w (scalars z vs) c d k t b q h f in absurd (omega (arith, number_list (kind q) (code q) e, g, v.1))
 structs_own m s w x c d k t b q tag h f e g y = absurd (omega (arith, number_list (kind q) (code q) e, g, found_form m s w x c d k t b q h f))
@@ -88,7 +95,8 @@ stands_own m (word s w) (Struct d p) t b n x f h = rw (f.2.data_words, f.2.point
 stands_own m (word s w) (Scalars c y) t b n x f h =
     rw (f.2.code, f.2.count) (sym (scalars_own m s w x h.0 h.1 f.0 t b f.1 h.2 f.2.finds f.2.kind (omega (arith, f.2.code, f.2.scalar))))
 stands_own m (word s w) (Pointers y) t b n x f h = rw f.2.count (sym (pointers_own m s w x h.0 h.1 f.0 t b f.1 h.2 f.2.finds f.2.kind f.2.code))
-stands_own m (word s w) (Structs y d p) t b n x f h = rw (f.3.count, f.3.data_words, f.3.pointers) (sym (structs_own m s w x h.0 h.1 f.0 t b f.1 f.2 h.2 f.3.finds f.3.kind f.3.code f.3.has_tag))
+stands_own m (word s w) (Structs y d p) t b n x f h = rw (f.3.count, f.3.data_words, f.3.pointers)
+    (sym (structs_own m s w x h.0 h.1 f.0 t b f.1 f.2 h.2 f.3.finds f.3.kind f.3.code f.3.has_tag))
 stands_own m (element t' b' ds ps) (Struct d p) t b n (struct ws ts) f h =
     let e : StandsElement t' b' ds ps d p t b n = f in
     let count = (each_charged m (places t' (b' + ds) ps) ts h.0 h.1 h.3).0 ∙ length-places t' (b' + ds) ps in

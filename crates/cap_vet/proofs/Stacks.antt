@@ -57,7 +57,8 @@ stacked-below depth level None runs h l s = s
 stacked-below depth level (Some r) runs h l s = (omega (arith, l.0), l.1, s)
 
 -- The first word of the topmost run is the next to look at, and what was looked at stays.
-pub next_seen : (m : List (List ℕ)) (words depth : ℕ) (runs : List PointerRun) (f : PointerRun) (r : Option PointerRun) (report : Report) (seen : List (List Step))
+pub next_seen : (m : List (List ℕ)) (words depth : ℕ) (runs : List PointerRun) (f : PointerRun) (r : Option PointerRun)
+    (report : Report) (seen : List (List Step))
     (aheads : List Ahead) → Walks m words depth (runs ++ f ∷ []) report seen aheads → IsRest f r
     → (n : IsNext m words depth f.segment f.at f.level (runs ++ option_to_list r) report) × (n.seen ≡ seen)
 next_seen m words depth runs f r report seen aheads w rest =
@@ -87,7 +88,8 @@ next_seen m words depth runs f r report seen aheads w rest =
       refl,
     )
 
-pub next_at : (m : List (List ℕ)) (limits : Limits) (runs : List PointerRun) (f : PointerRun) (r : Option PointerRun) (report : Report) (K : List (List Step) → Type 0)
+pub next_at : (m : List (List ℕ)) (limits : Limits) (runs : List PointerRun) (f : PointerRun) (r : Option PointerRun)
+    (report : Report) (K : List (List Step) → Type 0)
     → IsWalking m limits (runs ++ f ∷ []) report K → IsRest f r → IsAt m limits f.segment f.at f.level (runs ++ option_to_list r) report K
 next_at m limits runs f r report K w rest =
     let n = next_seen m (words_of limits) (depth_of limits) runs f r report w.seen w.ahead w.walks rest in
@@ -103,7 +105,8 @@ walks_on m words depth s w level runs report (looked.Null cost) t (h, within) =
     let more = reverse-more runs None in (
       t.ahead,
       record {
-        progress = turn_null m words depth report.charge report.depth report.pointers report.caps cost report.first_cap t.seen t.a t.ahead t.progress own within;
+        progress = turn_null m words depth report.charge report.depth report.pointers report.caps cost report.first_cap
+            t.seen t.a t.ahead t.progress own within;
         places = rw more t.places;
         inside = rw more t.inside;
         stacked = rw more t.stacked;
@@ -126,7 +129,8 @@ walks_on m words depth s w level runs report (looked.Object cost deep below) t (
     let children : List Ahead = object_children t.a.path q tag u b t.a.level in
     let within : report.charge + (k + extent q + extra q tag) ≤ words = omega (arith, o.within, o.charge) in
     let shallow : t.a.level + levels_below q tag ≤ depth = omega (arith, o.shallow, o.deepest, t.leads_to) in
-    let done = turn_object m words depth report.charge report.depth report.pointers report.caps k u b q tag report.first_cap t.seen t.a t.ahead t.progress own o.tagged within shallow in
+    let done = turn_object m words depth report.charge report.depth report.pointers report.caps k u b q tag
+    report.first_cap t.seen t.a t.ahead t.progress own o.tagged within shallow in
     let e : k + extent q + extra q tag ≡ cost = sym o.charge in
     let g : t.a.level + levels_below q tag ≡ deep = omega (arith, o.deepest, t.leads_to) in
     let places : map place_of (children ++ t.ahead) ≡ option_spots below ++ all_spots (reverse runs) =

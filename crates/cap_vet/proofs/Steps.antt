@@ -14,10 +14,12 @@ use Rattle.cap_vet.proofs.Owing.{owes-row, owes-elements}
 
 -- null is no object, and no capability is one
 pub null_no_object : (m : List (List ℕ)) (s w k k' t b q : ℕ) → Leads m s w k to_null → Finds m s w k' t b q → ⊥
-null_no_object m s w k k' t b q h f = let e = one_lead m s w k k' to_null (to_object t (pos b) q) h f.leads in let e1 : to_null ≡ to_object t (pos b) q = e.1 in cc
+null_no_object m s w k k' t b q h f = let e = one_lead m s w k k' to_null (to_object t (pos b) q) h f.leads
+    in let e1 : to_null ≡ to_object t (pos b) q = e.1 in cc
 
 pub cap_no_object : (m : List (List ℕ)) (s w k i k' t b q : ℕ) → Leads m s w k (to_cap i) → Finds m s w k' t b q → ⊥
-cap_no_object m s w k i k' t b q h f = let e = one_lead m s w k k' (to_cap i) (to_object t (pos b) q) h f.leads in let e1 : to_cap i ≡ to_object t (pos b) q = e.1 in cc
+cap_no_object m s w k i k' t b q h f = let e = one_lead m s w k k' (to_cap i) (to_object t (pos b) q) h f.leads
+    in let e1 : to_cap i ≡ to_object t (pos b) q = e.1 in cc
 
 pub null_no_cap : (m : List (List ℕ)) (s w k k' i : ℕ) → Leads m s w k to_null → Leads m s w k' (to_cap i) → ⊥
 null_no_cap m s w k k' i h f = let e = one_lead m s w k k' to_null (to_cap i) h f in let e1 : to_null ≡ to_cap i = e.1 in cc
@@ -36,7 +38,8 @@ null-counts m a k low h up near = record {
 }
 
 -- so does a capability
-pub cap-counts : (m : List (List ℕ)) (a : Ahead) (k i low : ℕ) → Leads m a.segment a.word k (to_cap i) → 1 ≤ a.level → a.level ≤ low + 1 → Counts m a [] k low low 1
+pub cap-counts : (m : List (List ℕ)) (a : Ahead) (k i low : ℕ) → Leads m a.segment a.word k (to_cap i) → 1 ≤ a.level
+    → a.level ≤ low + 1 → Counts m a [] k low low 1
 cap-counts m a k i low h up near = record {
   build = λ c top p k' (e1, e2, e3, e4). record {
     tree = cap i;
@@ -98,14 +101,35 @@ elements-level low level (suc n) top deep none h = omega (arith, h)
 
 -- a list of structs costs its pads, its words and its elements without words
 pub structs-counts : (m : List (List ℕ)) (a : Ahead) (k t b q tag low : ℕ) → Finds m a.segment a.word k t b q → kind q ≡ 1 → code q ≡ 7 → HasWord m t b tag
-    → Counts m a (element_rows a.path (a.level + (element_levels 1 + 1)) t (b + 1) (data_size tag) (pointer_size tag) 0 (middle tag)) (k + extent q + extra q tag) low (max low (a.level + element_levels (middle tag))) 0
+    → Counts m a (element_rows a.path (a.level + (element_levels 1 + 1)) t (b + 1) (data_size tag) (pointer_size tag) 0
+    (middle tag)) (k + extent q + extra q tag) low (max low (a.level + element_levels (middle tag))) 0
 structs-counts m a k t b q tag low f is_list is_structs has = record {
-  build = λ c top p k' owe. let r = owes-elements m a.path (a.level + (element_levels 1 + 1)) t (b + 1) (data_size tag) (pointer_size tag) 0 (middle tag) c top p k' owe in record {
-    tree = structs (data_size tag) (pointer_size tag) r.elements;
-    depth = 1 + element_levels (middle tag) + r.deep;
-    denotes = (k, t, b, q, tag, c, r.deep, record { finds = f; kind = is_list; code = is_structs; has_tag = has; data_sizes = refl; pointer_sizes = refl; charge = refl; depth = refl }, r.are);
-    level = elements-level low a.level (middle tag) top r.deep r.none r.depth;
-    pointers = omega (arith, r.pointers);
-    cap_total = omega (arith, r.caps);
-  };
+  build = λ c top p k' owe. let r = owes-elements m a.path (a.level + (element_levels 1 + 1)) t (b + 1) (data_size tag)
+      (pointer_size tag) 0 (middle tag) c top p k' owe in record {
+        tree = structs (data_size tag) (pointer_size tag) r.elements;
+        depth = 1 + element_levels (middle tag) + r.deep;
+        denotes = (
+          k,
+          t,
+          b,
+          q,
+          tag,
+          c,
+          r.deep,
+          record {
+            finds = f;
+            kind = is_list;
+            code = is_structs;
+            has_tag = has;
+            data_sizes = refl;
+            pointer_sizes = refl;
+            charge = refl;
+            depth = refl;
+          },
+          r.are,
+        );
+        level = elements-level low a.level (middle tag) top r.deep r.none r.depth;
+        pointers = omega (arith, r.pointers);
+        cap_total = omega (arith, r.caps);
+      };
 }

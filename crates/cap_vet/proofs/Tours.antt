@@ -95,7 +95,8 @@ none_after-head a seen q f (inl e) = inl e
 none_after-head a seen q f (inr h) = inr (Falls-before a.path q seen f h)
 
 -- What was looked at and the head of what is ahead are the tour of the head.
-pub tour_of : (m : List (List ℕ)) (seen : List (List Step)) (a : Ahead) (ahead : List Ahead) → IsTrail m seen (a ∷ ahead) → IsTour m a.path (in_order (a.path ∷ seen))
+pub tour_of : (m : List (List ℕ)) (seen : List (List Step)) (a : Ahead) (ahead : List Ahead)
+    → IsTrail m seen (a ∷ ahead) → IsTour m a.path (in_order (a.path ∷ seen))
 tour_of m seen a ahead t =
     let falls = falls-step a seen ahead t.falls t.precedes in record {
       rising = Rises-onto (a.path ∷ seen) [] falls tt tt;

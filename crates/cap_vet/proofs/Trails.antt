@@ -26,7 +26,8 @@ go_on-apart : (base : List Step) (a b : Ahead) → ((x : Step) × (v : List Step
 go_on-apart base a b (x, v, e) h = subst (λ u. Apart u b.path) (sym e) (Apart-left base b.path (x ∷ v) h)
 
 -- members that are apart and go on from a path, and then members apart from that path
-pub AreApart-append : (base : List Step) (xs : List Ahead) (b : Ahead) (ys : List Ahead) → AreApart xs → GoOnFrom base xs → Apart base b.path → AreApart (b ∷ ys) → AreApart (xs ++ b ∷ ys)
+pub AreApart-append : (base : List Step) (xs : List Ahead) (b : Ahead) (ys : List Ahead) → AreApart xs
+    → GoOnFrom base xs → Apart base b.path → AreApart (b ∷ ys) → AreApart (xs ++ b ∷ ys)
 AreApart-append base [] b ys h g k l = l
 AreApart-append base (a ∷ []) b ys h g k l = (go_on-apart base a b g.0 k, l)
 AreApart-append base (a ∷ c ∷ xs) b ys h g k l = (h.0, AreApart-append base (c ∷ xs) b ys h.1 g.1 k l)
@@ -36,7 +37,8 @@ pub apart-step : (a : Ahead) (children ahead : List Ahead) → AreApart (a ∷ a
 apart-step a children [] h k g = subst AreApart (sym (append-nil children)) k
 apart-step a children (b ∷ ahead) h k g = AreApart-append a.path children b ahead k g h.0 h.1
 
-precedes-step : (a : Ahead) (seen : List (List Step)) (children ahead : List Ahead) → AreApart (a ∷ ahead) → GoOnFrom a.path children → Precedes (a.path ∷ seen) (children ++ ahead)
+precedes-step : (a : Ahead) (seen : List (List Step)) (children ahead : List Ahead) → AreApart (a ∷ ahead)
+    → GoOnFrom a.path children → Precedes (a.path ∷ seen) (children ++ ahead)
 precedes-step a seen [] [] h g = tt
 precedes-step a seen [] (b ∷ ahead) h g = apart-before a.path b.path h.0
 precedes-step a seen (c ∷ children) ahead h g =
@@ -77,5 +79,7 @@ trail-step m seen a children ahead t c = record {
   apart = apart-step a children ahead t.apart c.apart c.go_on;
   seen_reached = reached-step m seen a ahead t;
   ahead_reached = AreReached-append m children ahead c.reached t.ahead_reached.1;
-  complete = λ q level s w h. complete-step a seen children ahead q (λ x v e. subst (λ u. IsUnder u children) (sym e) (c.complete x v level s w (subst (λ u. Reaches m u level s w) e h))) (t.complete q level s w h);
+  complete = λ q level s w h. complete-step a seen children ahead q
+      (λ x v e. subst (λ u. IsUnder u children) (sym e)
+      (c.complete x v level s w (subst (λ u. Reaches m u level s w) e h))) (t.complete q level s w h);
 }

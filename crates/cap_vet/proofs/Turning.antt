@@ -1,5 +1,6 @@
 -- What one turn of a walk keeps.
-use Rattle.std.proofs.Common.{◌≡◌, ℕ, ◌+◌, ◌<◌, ◌≤◌, max, inl, inr, ◌⊎◌, ◌==◌, true, false, List, [], ◌∷◌, ◌++◌, map, refl, sym, ap, ◌∙◌, subst, arith, Option, None, Some}
+use Rattle.std.proofs.Common.{◌≡◌, ℕ, ◌+◌, ◌<◌, ◌≤◌, max, inl, inr, ◌⊎◌, ◌==◌, true, false, List, [], ◌∷◌, ◌++◌, map}
+use Rattle.std.proofs.Common.{refl, sym, ap, ◌∙◌, subst, arith, Option, None, Some}
 use Rattle.std.specs.Prelude.{pos}
 use Rattle.std.proofs.lemmas.List.{length-append}
 use Rattle.cap_spec.specs.Messages.{HasWord}
@@ -57,29 +58,34 @@ next_ahead x places (a ∷ ahead) e =
     }
 
 -- null and capabilities lead nowhere
-pub null_ends : (m : List (List ℕ)) (s w k : ℕ) → Leads m s w k to_null → (x : Step) (v : List Step) (mid : Spot) (n s' w' : ℕ) → Goes m (word s w) x mid → Walks m mid v n (word s' w') → ⊥
+pub null_ends : (m : List (List ℕ)) (s w k : ℕ) → Leads m s w k to_null
+    → (x : Step) (v : List Step) (mid : Spot) (n s' w' : ℕ) → Goes m (word s w) x mid → Walks m mid v n (word s' w') → ⊥
 null_ends m s w k h (Ptr i) v mid n s' w' (k', t', b', q', f', e, l, spot) walks = null_no_object m s w k k' t' b' q' h f'
 null_ends m s w k h (Item i) v mid n s' w' (inl (k', t', b', q', f', e, c, l, spot)) walks = null_no_object m s w k k' t' b' q' h f'
 null_ends m s w k h (Item i) v mid n s' w' (inr (k', t', b', q', tag, f', e, c, has, l, spot)) walks = null_no_object m s w k k' t' b' q' h f'
 
-pub cap_ends : (m : List (List ℕ)) (s w k i : ℕ) → Leads m s w k (to_cap i) → (x : Step) (v : List Step) (mid : Spot) (n s' w' : ℕ) → Goes m (word s w) x mid → Walks m mid v n (word s' w') → ⊥
+pub cap_ends : (m : List (List ℕ)) (s w k i : ℕ) → Leads m s w k (to_cap i)
+    → (x : Step) (v : List Step) (mid : Spot) (n s' w' : ℕ) → Goes m (word s w) x mid → Walks m mid v n (word s' w') → ⊥
 cap_ends m s w k i h (Ptr j) v mid n s' w' (k', t', b', q', f', e, l, spot) walks = cap_no_object m s w k i k' t' b' q' h f'
 cap_ends m s w k i h (Item j) v mid n s' w' (inl (k', t', b', q', f', e, c, l, spot)) walks = cap_no_object m s w k i k' t' b' q' h f'
 cap_ends m s w k i h (Item j) v mid n s' w' (inr (k', t', b', q', tag, f', e, c, has, l, spot)) walks = cap_no_object m s w k i k' t' b' q' h f'
 
 -- one more path that costs this much
-pub costs_on : (m : List (List ℕ)) (p : List Step) (seen : List (List Step)) (level s w cost charge : ℕ) → Reaches m p level s w → Costs m s w cost → CostOf m seen charge → CostOf m (p ∷ seen) (charge + cost)
+pub costs_on : (m : List (List ℕ)) (p : List Step) (seen : List (List Step)) (level s w cost charge : ℕ)
+    → Reaches m p level s w → Costs m s w cost → CostOf m seen charge → CostOf m (p ∷ seen) (charge + cost)
 costs_on m p seen level s w cost charge r c rest = (level, s, w, cost, charge, r, c, rest, omega arith)
 
 -- one more path that isn't too deep
-pub shallow_on : (m : List (List ℕ)) (depth level s w : ℕ) (p : List Step) (seen : List (List Step)) → Reaches m p level s w → ¬ IsDeepAt m depth s w level → AreShallow m depth seen → AreShallow m depth (p ∷ seen)
+pub shallow_on : (m : List (List ℕ)) (depth level s w : ℕ) (p : List Step) (seen : List (List Step))
+    → Reaches m p level s w → ¬ IsDeepAt m depth s w level → AreShallow m depth seen → AreShallow m depth (p ∷ seen)
 shallow_on m depth level s w p seen r none others q level' s' w' (inl e) r' deep =
     let same = one_reached m p level' level s' w' s w (subst (λ u. Reaches m u level' s' w') e r') r in
     none (subst (λ u. IsDeepAt m depth s w u) same.0 (subst (λ u. IsDeepAt m depth s u level') same.2 (subst (λ u. IsDeepAt m depth u w' level') same.1 deep)))
 shallow_on m depth level s w p seen r none others q level' s' w' (inr h) r' deep = others q level' s' w' h r' deep
 
 -- a path that leads to no capability changes nothing of the first that does
-pub first_on : (m : List (List ℕ)) (p : List Step) (seen : List (List Step)) (first : Option (ℕ × ℕ)) → ((s w : ℕ) → ¬ LeadsToCap m p s w) → IsFirstOf m seen first → IsFirstOf m (p ∷ seen) first
+pub first_on : (m : List (List ℕ)) (p : List Step) (seen : List (List Step)) (first : Option (ℕ × ℕ))
+    → ((s w : ℕ) → ¬ LeadsToCap m p s w) → IsFirstOf m seen first → IsFirstOf m (p ∷ seen) first
 first_on m p seen None none h = λ q s w i lead. never q s w i lead
   where
     never : (q : List Step) (s w : ℕ) → IsOneOf q (p ∷ seen) → ¬ LeadsToCap m q s w
@@ -92,7 +98,8 @@ first_on m p seen (Some place) none (r, k, l, f) = (r, inr k, l, λ q s w i befo
     earlier q s w (inr i) before lead = f q s w i before lead
 
 -- a capability behind all that was looked at
-pub first_cap : (m : List (List ℕ)) (p : List Step) (seen : List (List Step)) (first : Option (ℕ × ℕ)) (s w : ℕ) → Falls (p ∷ seen) → LeadsToCap m p s w → IsFirstOf m seen first → IsFirstOf m (p ∷ seen) (or_place first s w)
+pub first_cap : (m : List (List ℕ)) (p : List Step) (seen : List (List Step)) (first : Option (ℕ × ℕ)) (s w : ℕ)
+    → Falls (p ∷ seen) → LeadsToCap m p s w → IsFirstOf m seen first → IsFirstOf m (p ∷ seen) (or_place first s w)
 first_cap m p seen None s w falls here h = (p, inl refl, here, λ q s' w' i before lead. earlier q s' w' i before lead)
   where
     earlier : (q : List Step) (s' w' : ℕ) → IsOneOf q (p ∷ seen) → Before q p → ¬ LeadsToCap m q s' w'
@@ -105,7 +112,8 @@ first_cap m p seen (Some place) s w falls here (r, k, l, f) = (r, inr k, l, λ q
     earlier q s' w' (inr i) before lead = f q s' w' i before lead
 
 -- a turn at null
-pub turn_null : (m : List (List ℕ)) (words depth charge deepest pointers caps cost : ℕ) (first : Option (ℕ × ℕ)) (seen : List (List Step)) (a : Ahead) (ahead : List Ahead)
+pub turn_null : (m : List (List ℕ)) (words depth charge deepest pointers caps cost : ℕ) (first : Option (ℕ × ℕ))
+    (seen : List (List Step)) (a : Ahead) (ahead : List Ahead)
     → Progress m words depth charge deepest pointers caps first seen (a ∷ ahead) → Leads m a.segment a.word cost to_null → charge + cost ≤ words
     → Progress m words depth (charge + cost) deepest (pointers + 1) caps first (a.path ∷ seen) ahead
 turn_null m words depth charge deepest pointers caps cost first seen a ahead t h within =
@@ -113,33 +121,40 @@ turn_null m words depth charge deepest pointers caps cost first seen a ahead t h
     let e : caps + 0 ≡ caps = omega arith in record {
       trail = trail-step m seen a [] ahead t.trail (no_children m a.path a.level a.segment a.word r (null_ends m a.segment a.word cost h));
       count = subst (λ u. IsCount m record { charge = charge + cost; depth = deepest; pointers = pointers + 1; caps = u } ahead) e
-          (count-step m record { charge = charge; depth = deepest; pointers = pointers; caps = caps } a [] ahead cost deepest 0 t.count (null-counts m a cost deepest h t.near.0 t.near.1));
+          (count-step m record { charge = charge; depth = deepest; pointers = pointers; caps = caps } a [] ahead cost
+          deepest 0 t.count (null-counts m a cost deepest h t.near.0 t.near.1));
       near = t.near.2;
       within = within;
       shallow = t.shallow;
       costs = costs_on m a.path seen a.level a.segment a.word cost charge r (inl h) t.costs;
-      levels = shallow_on m depth a.level a.segment a.word a.path seen r (λ deep. null_no_object m a.segment a.word cost deep.0 deep.1 deep.2 deep.3 h deep.5) t.levels;
+      levels = shallow_on m depth a.level a.segment a.word a.path seen r
+          (λ deep. null_no_object m a.segment a.word cost deep.0 deep.1 deep.2 deep.3 h deep.5) t.levels;
       number = omega (arith, t.number);
       bound = omega (arith, t.bound);
       few = omega (arith, t.few);
       first_cap = first_on m a.path seen first (λ s w lead.
           let same = one_reached m a.path a.level lead.0 a.segment a.word s w r lead.3 in
-          null_no_cap m s w cost lead.1 lead.2 (subst (λ u. Leads m s u cost to_null) same.2 (subst (λ u. Leads m u a.word cost to_null) same.1 h)) lead.4) t.first_cap;
+          null_no_cap m s w cost lead.1 lead.2
+          (subst (λ u. Leads m s u cost to_null) same.2 (subst (λ u. Leads m u a.word cost to_null) same.1 h))
+          lead.4) t.first_cap;
     }
 
 -- a turn at a capability
-pub turn_cap : (m : List (List ℕ)) (words depth charge deepest pointers caps cost i : ℕ) (first : Option (ℕ × ℕ)) (seen : List (List Step)) (a : Ahead) (ahead : List Ahead)
+pub turn_cap : (m : List (List ℕ)) (words depth charge deepest pointers caps cost i : ℕ) (first : Option (ℕ × ℕ))
+    (seen : List (List Step)) (a : Ahead) (ahead : List Ahead)
     → Progress m words depth charge deepest pointers caps first seen (a ∷ ahead) → Leads m a.segment a.word cost (to_cap i) → charge + cost ≤ words
     → Progress m words depth (charge + cost) deepest (pointers + 1) (caps + 1) (or_place first a.segment a.word) (a.path ∷ seen) ahead
 turn_cap m words depth charge deepest pointers caps cost i first seen a ahead t h within =
     let r = t.trail.ahead_reached.0 in record {
       trail = trail-step m seen a [] ahead t.trail (no_children m a.path a.level a.segment a.word r (cap_ends m a.segment a.word cost i h));
-      count = count-step m record { charge = charge; depth = deepest; pointers = pointers; caps = caps } a [] ahead cost deepest 1 t.count (cap-counts m a cost i deepest h t.near.0 t.near.1);
+      count = count-step m record { charge = charge; depth = deepest; pointers = pointers; caps = caps } a [] ahead cost
+          deepest 1 t.count (cap-counts m a cost i deepest h t.near.0 t.near.1);
       near = t.near.2;
       within = within;
       shallow = t.shallow;
       costs = costs_on m a.path seen a.level a.segment a.word cost charge r (inr (inl (i, h))) t.costs;
-      levels = shallow_on m depth a.level a.segment a.word a.path seen r (λ deep. cap_no_object m a.segment a.word cost i deep.0 deep.1 deep.2 deep.3 h deep.5) t.levels;
+      levels = shallow_on m depth a.level a.segment a.word a.path seen r
+          (λ deep. cap_no_object m a.segment a.word cost i deep.0 deep.1 deep.2 deep.3 h deep.5) t.levels;
       number = omega (arith, t.number);
       bound = omega (arith, t.bound);
       few = omega (arith, t.few);
@@ -147,8 +162,11 @@ turn_cap m words depth charge deepest pointers caps cost i first seen a ahead t 
     }
 
 -- equal objects take equal levels
-levels_same : (m : List (List ℕ)) (t b q tag t' b' q' tag' : ℕ) → kind q < 2 → t ≡ t' → b ≡ b' → q ≡ q' → (IsComposite q → HasWord m t b tag) → (IsComposite q' → HasWord m t' b' tag') → levels_below q tag ≡ levels_below q' tag'
-levels_same m t b q tag t' b' q' tag' below et eb eq tagged tagged' = subst (λ u. levels_below q tag ≡ levels_below u tag') eq (by_code (eqb_tells (kind q) 0) (eqb_tells (code q) 7))
+levels_same : (m : List (List ℕ)) (t b q tag t' b' q' tag' : ℕ) → kind q < 2 → t ≡ t' → b ≡ b' → q ≡ q'
+    → (IsComposite q → HasWord m t b tag) → (IsComposite q' → HasWord m t' b' tag')
+    → levels_below q tag ≡ levels_below q' tag'
+levels_same m t b q tag t' b' q' tag' below et eb eq tagged tagged' = subst
+    (λ u. levels_below q tag ≡ levels_below u tag') eq (by_code (eqb_tells (kind q) 0) (eqb_tells (code q) 7))
   where
     other : (IsComposite q) → HasWord m t b tag'
     other c = subst (λ u. HasWord m t u tag') (sym eb) (subst (λ u. HasWord m u b' tag') (sym et) (tagged' (subst IsComposite eq c)))
@@ -157,29 +175,43 @@ levels_same m t b q tag t' b' q' tag' below et eb eq tagged tagged' = subst (λ 
         → (((code q == 7) ≡ true) × (code q ≡ 7)) ⊎ (((code q == 7) ≡ false) × (code q ≡ 7 → ⊥)) → levels_below q tag ≡ levels_below q tag'
     by_code (inl h) j = rw h.1 refl
     by_code (inr h) (inr j) = rw (h.0, j.0) refl
-    by_code (inr h) (inl j) = rw (h.0, j.0) (ap (λ u. element_levels (middle u)) (one_word m t b tag tag' (tagged (omega (arith, h.1, below), j.1)) (other (omega (arith, h.1, below), j.1))))
+    by_code (inr h) (inl j) = rw (h.0, j.0)
+        (ap (λ u. element_levels (middle u)) (one_word m t b tag tag' (tagged (omega (arith, h.1, below), j.1))
+        (other (omega (arith, h.1, below), j.1))))
 
 -- the level of an object, whichever way it is told
-pub deep_once : (m : List (List ℕ)) (depth s w level k t b q tag : ℕ) → Finds m s w k t b q → (IsComposite q → HasWord m t b tag) → level + levels_below q tag ≤ depth → ¬ IsDeepAt m depth s w level
+pub deep_once : (m : List (List ℕ)) (depth s w level k t b q tag : ℕ) → Finds m s w k t b q
+    → (IsComposite q → HasWord m t b tag) → level + levels_below q tag ≤ depth → ¬ IsDeepAt m depth s w level
 deep_once m depth s w level k t b q tag f tagged h (k', t', b', q', tag', f', tagged', past) =
     let same = one_object m s w k t b q k' t' b' q' f f' in
-    let e : levels_below q tag ≡ levels_below q' tag' = levels_same m t b q tag t' b' q' tag' (lead_kind m s w k t (pos b) q f.leads) same.segment same.start same.shape tagged tagged' in
+    let e : levels_below q tag ≡ levels_below q' tag' = levels_same m t b q tag t' b' q' tag'
+    (lead_kind m s w k t (pos b) q f.leads) same.segment same.start same.shape tagged tagged' in
     omega (arith, e)
 
 -- a turn at an object
-pub turn_object : (m : List (List ℕ)) (words depth charge deepest pointers caps k t b q tag : ℕ) (first : Option (ℕ × ℕ)) (seen : List (List Step)) (a : Ahead) (ahead : List Ahead)
+pub turn_object : (m : List (List ℕ)) (words depth charge deepest pointers caps k t b q tag : ℕ)
+    (first : Option (ℕ × ℕ)) (seen : List (List Step)) (a : Ahead) (ahead : List Ahead)
     → Progress m words depth charge deepest pointers caps first seen (a ∷ ahead) → Finds m a.segment a.word k t b q → (IsComposite q → HasWord m t b tag)
     → charge + (k + extent q + extra q tag) ≤ words → a.level + levels_below q tag ≤ depth
-    → Progress m words depth (charge + (k + extent q + extra q tag)) (max deepest (a.level + levels_below q tag)) (pointers + 1) caps first (a.path ∷ seen) (object_children a.path q tag t b a.level ++ ahead)
+    → Progress m words depth (charge + (k + extent q + extra q tag)) (max deepest (a.level + levels_below q tag))
+    (pointers + 1) caps first (a.path ∷ seen) (object_children a.path q tag t b a.level ++ ahead)
 turn_object m words depth charge deepest pointers caps k t b q tag first seen a ahead h f tagged within shallow =
     let r = h.trail.ahead_reached.0 in
     let o = object-brings m a k t b q tag deepest r f tagged in
     let children : List Ahead = object_children a.path q tag t b a.level in
     let e : caps + 0 ≡ caps = omega arith in record {
       trail = trail-step m seen a children ahead h.trail o.children;
-      count = subst (λ u. IsCount m record { charge = charge + (k + extent q + extra q tag); depth = max deepest (a.level + levels_below q tag); pointers = pointers + 1; caps = u } (children ++ ahead)) e
-          (count-step m record { charge = charge; depth = deepest; pointers = pointers; caps = caps } a children ahead (k + extent q + extra q tag) (max deepest (a.level + levels_below q tag)) 0 h.count o.counts);
-      near = near-append (max deepest (a.level + levels_below q tag)) children ahead o.near (near-deeper deepest (max deepest (a.level + levels_below q tag)) ahead (omega arith) h.near.2);
+      count = subst (λ u. IsCount m record {
+        charge = charge + (k + extent q + extra q tag);
+        depth = max deepest
+            (a.level + levels_below q tag);
+        pointers = pointers + 1;
+        caps = u;
+      } (children ++ ahead)) e
+          (count-step m record { charge = charge; depth = deepest; pointers = pointers; caps = caps } a children ahead
+          (k + extent q + extra q tag) (max deepest (a.level + levels_below q tag)) 0 h.count o.counts);
+      near = near-append (max deepest (a.level + levels_below q tag)) children ahead o.near
+          (near-deeper deepest (max deepest (a.level + levels_below q tag)) ahead (omega arith) h.near.2);
       within = within;
       shallow = omega (arith, h.shallow, shallow);
       costs = costs_on m a.path seen a.level a.segment a.word (k + extent q + extra q tag) charge r (inr (inr (k, t, b, q, tag, f, tagged, refl))) h.costs;
@@ -189,5 +221,6 @@ turn_object m words depth charge deepest pointers caps k t b q tag first seen a 
       few = omega (arith, h.few);
       first_cap = first_on m a.path seen first (λ s w lead.
           let same = one_reached m a.path a.level lead.0 a.segment a.word s w r lead.3 in
-          cap_no_object m s w lead.1 lead.2 k t b q lead.4 (subst (λ u. Finds m s u k t b q) same.2 (subst (λ u. Finds m u a.word k t b q) same.1 f))) h.first_cap;
+          cap_no_object m s w lead.1 lead.2 k t b q lead.4
+          (subst (λ u. Finds m s u k t b q) same.2 (subst (λ u. Finds m u a.word k t b q) same.1 f))) h.first_cap;
     }

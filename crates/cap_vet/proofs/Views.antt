@@ -1,5 +1,6 @@
 -- What a view shows, by its kind.
-use Rattle.std.proofs.Common.{ℕ, ◌+◌, ◌*◌, ◌/◌, ◌%◌, ◌^◌, ◌<◌, ◌≤◌, ◌⊎◌, inl, inr, ◌-◌, min, List, length, get_or, ◌≡◌, sym, ap, refl, ◌∙◌, subst, arith, Option, Some, None}
+use Rattle.std.proofs.Common.{ℕ, ◌+◌, ◌*◌, ◌/◌, ◌%◌, ◌^◌, ◌<◌, ◌≤◌, ◌⊎◌, inl, inr, ◌-◌, min, List, length, get_or, ◌≡◌}
+use Rattle.std.proofs.Common.{sym, ap, refl, ◌∙◌, subst, arith, Option, Some, None}
 use Rattle.std.specs.Prelude.{slice_get, ◌==◌}
 use Rattle.std.specs.Option.{option_map}
 use Rattle.std.proofs.lemmas.Option.{slice_get-get_or}
@@ -13,7 +14,8 @@ use Rattle.cap_spec.specs.Arriving.{own_at}
 use Rattle.cap_spec.specs.Showing.{bit_of, byte_of, count_of, kind_of, scalar_of, words_of_own}
 use Rattle.cap_spec.specs.declared.Kind.{Kind}
 use Rattle.cap_spec.specs.declared.Kind.TheVariants.{Null, Cap, Struct, Scalars, Pointers, Structs}
-use Rattle.cap_spec.proofs.Trees.Readings.{byte_past, byte_there, length-values, length-values_words, value_past, value_there, values_word_past, values_word_there, word_past, word_within}
+use Rattle.cap_spec.proofs.Trees.Readings.{byte_past, byte_there, length-values, length-values_words, value_past}
+use Rattle.cap_spec.proofs.Trees.Readings.{value_there, values_word_past, values_word_there, word_past, word_within}
 use Rattle.cap_spec.proofs.Trees.DenotedTrees.{range_length}
 use Rattle.cap_vet.specs.Finding.{own_words}
 use Rattle.cap_vet.proofs.ObjectFrames.{short_segment}
@@ -28,13 +30,15 @@ kind_shown m (Pointers x) t b n own inside = refl
 kind_shown m (Structs x d p) t b n own inside = refl
 
 -- how many elements a list shows
-pub count_shown : (m : List (List ℕ)) (k : Kind) (t b n : ℕ) → ((c : ℕ) × (k ≡ Scalars c n)) ⊎ ((k ≡ Pointers n) ⊎ ((d p : ℕ) × (k ≡ Structs n d p))) → Some n ≡ count_of (own_at m k t b)
+pub count_shown : (m : List (List ℕ)) (k : Kind) (t b n : ℕ) → ((c : ℕ) × (k ≡ Scalars c n))
+    ⊎ ((k ≡ Pointers n) ⊎ ((d p : ℕ) × (k ≡ Structs n d p))) → Some n ≡ count_of (own_at m k t b)
 count_shown m k t b n (inl (c, e)) = rw e (ap Some (sym (length-values m t b c n)))
 count_shown m k t b n (inr (inl e)) = rw e refl
 count_shown m k t b n (inr (inr (d, p, e))) = rw e refl
 
 -- the words that a list of values shows lie inside its segment
-pub few_shown : (m : List (List ℕ)) (k : Kind) (t b c x n : ℕ) → IsMessage m → t < length m → k ≡ Scalars c x → own_words k ≤ n → b + n ≤ length (segment_of m t)
+pub few_shown : (m : List (List ℕ)) (k : Kind) (t b c x n : ℕ) → IsMessage m → t < length m → k ≡ Scalars c x
+    → own_words k ≤ n → b + n ≤ length (segment_of m t)
     → length (words_of_own (own_at m k t b)) < 2 ^ 32
 few_shown m k t b c x n message exists e own inside =
     let h : list_words c x ≤ n = subst (λ (y : Kind). own_words y ≤ n) e own in
@@ -44,7 +48,8 @@ few_shown m k t b c x n message exists e own inside =
 pub scalar_past : (m : List (List ℕ)) (k : Kind) (t b c n i : ℕ) → k ≡ Scalars c n → n ≤ i → None ≡ scalar_of (own_at m k t b) i
 scalar_past m k t b c n i e past = rw e (sym (value_past m t b c n i past))
 
-pub scalar_there : (m : List (List ℕ)) (k : Kind) (t b c n i x : ℕ) → k ≡ Scalars c n → i < n → x ≡ value_at (segment_of m t) b (element_bits c) i → Some x ≡ scalar_of (own_at m k t b) i
+pub scalar_there : (m : List (List ℕ)) (k : Kind) (t b c n i x : ℕ) → k ≡ Scalars c n → i < n
+    → x ≡ value_at (segment_of m t) b (element_bits c) i → Some x ≡ scalar_of (own_at m k t b) i
 scalar_there m k t b c n i x e lt f = rw e (ap Some f ∙ sym (value_there m t b c n i lt))
 
 -- byte i of a struct
@@ -53,27 +58,35 @@ pub shown_byte : (m : List (List ℕ)) (k : Kind) (t b d p i w : ℕ) (r : Optio
 shown_byte m k t b d p i w r e f g =
     let l : i % 8 < length (word_bytes w) = omega arith in
     let h : i / 8 * 8 + i % 8 ≡ i = omega arith in
-    rw e (sym (slice_get-get_or (word_bytes w) (i % 8) 0 l) ∙ (sym (byte_there (words_from m t b d) (i / 8) (i % 8) w (omega arith) (sym f ∙ g)) ∙ ap (λ (y : ℕ). byte_of (own_at m (Struct d p) t b) y) h))
+    rw e (sym (slice_get-get_or (word_bytes w) (i % 8) 0 l)
+    ∙ (sym (byte_there (words_from m t b d) (i / 8) (i % 8) w (omega arith) (sym f ∙ g))
+    ∙ ap (λ (y : ℕ). byte_of (own_at m (Struct d p) t b) y) h))
 
-pub shown_no_byte : (m : List (List ℕ)) (k : Kind) (t b d p i : ℕ) (r : Option ℕ) → k ≡ Struct d p → r ≡ slice_get (words_from m t b d) (i / 8) → r ≡ None → None ≡ byte_of (own_at m k t b) i
+pub shown_no_byte : (m : List (List ℕ)) (k : Kind) (t b d p i : ℕ) (r : Option ℕ) → k ≡ Struct d p
+    → r ≡ slice_get (words_from m t b d) (i / 8) → r ≡ None → None ≡ byte_of (own_at m k t b) i
 shown_no_byte m k t b d p i r e f g =
     let h : i / 8 * 8 + i % 8 ≡ i = omega arith in
     rw e (sym (byte_past (words_from m t b d) (i / 8) (i % 8) (sym f ∙ g)) ∙ ap (λ (y : ℕ). byte_of (own_at m (Struct d p) t b) y) h)
 
 -- bit i of a struct
-pub shown_bit : (m : List (List ℕ)) (k : Kind) (t b d p i w : ℕ) (r : Option ℕ) → k ≡ Struct d p → r ≡ slice_get (words_from m t b d) (i / 64) → r ≡ Some w → Some (field w (i % 64) 1 == 1) ≡ bit_of (own_at m k t b) i
+pub shown_bit : (m : List (List ℕ)) (k : Kind) (t b d p i w : ℕ) (r : Option ℕ) → k ≡ Struct d p
+    → r ≡ slice_get (words_from m t b d) (i / 64) → r ≡ Some w → Some (field w (i % 64) 1 == 1) ≡ bit_of
+    (own_at m k t b) i
 shown_bit m k t b d p i w r e f g = rw e (ap (option_map (λ (x : ℕ). field x (i % 64) 1 == 1)) (sym g ∙ f))
 
-pub shown_no_bit : (m : List (List ℕ)) (k : Kind) (t b d p i : ℕ) (r : Option ℕ) → k ≡ Struct d p → r ≡ slice_get (words_from m t b d) (i / 64) → r ≡ None → None ≡ bit_of (own_at m k t b) i
+pub shown_no_bit : (m : List (List ℕ)) (k : Kind) (t b d p i : ℕ) (r : Option ℕ) → k ≡ Struct d p
+    → r ≡ slice_get (words_from m t b d) (i / 64) → r ≡ None → None ≡ bit_of (own_at m k t b) i
 shown_no_bit m k t b d p i r e f g = rw e (ap (option_map (λ (x : ℕ). field x (i % 64) 1 == 1)) (sym g ∙ f))
 
 -- a word of a list of values, where `size` is the bits of a value, of which there are `count`
-pub shown_no_word : (m : List (List ℕ)) (t b c n i size count at : ℕ) → size ≡ element_bits c → count ≡ n → at ≡ i → size * count ≤ at * 64 → None ≡ slice_get (scalar_words c (values_of m t b c n)) i
+pub shown_no_word : (m : List (List ℕ)) (t b c n i size count at : ℕ) → size ≡ element_bits c → count ≡ n → at ≡ i
+    → size * count ≤ at * 64 → None ≡ slice_get (scalar_words c (values_of m t b c n)) i
 shown_no_word m t b c n i size count at e f g past =
     let p : element_bits c * n ≤ i * 64 = rw (← e, ← f, ← g) past in
     sym (values_word_past m t b c n i (word_past c n i p))
 
-pub shown_word : (m : List (List ℕ)) (t b c n i size count at x used y : ℕ) → size ≡ element_bits c → count ≡ n → at ≡ i → at * 64 < size * count → used ≡ min (size * count - at * 64) 64
+pub shown_word : (m : List (List ℕ)) (t b c n i size count at x used y : ℕ) → size ≡ element_bits c → count ≡ n → at ≡ i
+    → at * 64 < size * count → used ≡ min (size * count - at * 64) 64
     → HasWord m t (b + i) x → y ≡ field x 0 used → Some y ≡ slice_get (scalar_words c (values_of m t b c n)) i
 shown_word m t b c n i size count at x used y e f g lt u has h =
     let p : i * 64 < element_bits c * n = rw (← e, ← f, ← g) lt in

@@ -25,7 +25,8 @@ visit-requires g c =
     let m = g.M.Segments.segments c.args.message.now in
     let w = c.walk in
     let k = w.invariant.turn in
-    let met = this_met m g.P.Pass.in_place (g.P.Pass.state w.pass) c.args.depth w.stack.items w.place w.end c.object_at-object.result k c.object_at-object.ensures in
+    let met = this_met m g.P.Pass.in_place (g.P.Pass.state w.pass) c.args.depth w.stack.items w.place w.end
+    c.object_at-object.result k c.object_at-object.ensures in
     let turn = this_turn m g.P.Pass.in_place (g.P.Pass.state w.pass) c.args.depth w.stack.items w.place w.end c.object_at-object.result k met in
     (trim k.root, k.tree, k.due, turn, k.so_far)
 
@@ -34,7 +35,8 @@ returns-then-not-visit-clause-stopped g c =
     let m = g.M.Segments.segments c.args.message.now in
     let w = c.walk in
     let k = w.invariant.turn in
-    let met = this_met m g.P.Pass.in_place (g.P.Pass.state w.pass) c.args.depth w.stack.items w.place w.end c.object_at-object.result k c.object_at-object.ensures in
+    let met = this_met m g.P.Pass.in_place (g.P.Pass.state w.pass) c.args.depth w.stack.items w.place w.end
+    c.object_at-object.result k c.object_at-object.ensures in
     let turn = this_turn m g.P.Pass.in_place (g.P.Pass.state w.pass) c.args.depth w.stack.items w.place w.end c.object_at-object.result k met in
     λ t x d h.
     (let same = one_tree m 0 0 k.root t k.charge c.args.depth x d k.denotes h in
@@ -45,7 +47,8 @@ enter-end-requires g c =
     let m = g.M.Segments.segments c.args.message.now in
     let w = c.walk in
     let k = w.invariant.turn in
-    let met = this_met m g.P.Pass.in_place (g.P.Pass.state w.pass) c.args.depth w.stack.items w.place w.end c.object_at-object.result k c.object_at-object.ensures in
+    let met = this_met m g.P.Pass.in_place (g.P.Pass.state w.pass) c.args.depth w.stack.items w.place w.end
+    c.object_at-object.result k c.object_at-object.ensures in
     (search rules, (m, c.args.depth, w.place, k.tree, k.due, met, c.requires.capacity.0, c.requires.capacity.1))
 
 pub returns-then-is_empty-clause-done : goal.returns-then-is_empty-clause-done
@@ -53,21 +56,24 @@ returns-then-is_empty-clause-done g c =
     let m = g.M.Segments.segments c.args.message.now in
     let w = c.walk in
     let k = w.invariant.turn in
-    let met = this_met m g.P.Pass.in_place (g.P.Pass.state w.pass) c.args.depth w.stack.items w.place w.end c.object_at-object.result k c.object_at-object.ensures in
+    let met = this_met m g.P.Pass.in_place (g.P.Pass.state w.pass) c.args.depth w.stack.items w.place w.end
+    c.object_at-object.result k c.object_at-object.ensures in
     let turn = this_turn m g.P.Pass.in_place (g.P.Pass.state w.pass) c.args.depth w.stack.items w.place w.end c.object_at-object.result k met in
     let e = c.enter-end.ensures.walking m c.args.depth w.place k.tree k.due met in
     let none = nil_from_length c.enter-end.new.stack.items (eqb-true (length c.enter-end.new.stack.items) 0 (sym c.is_empty.ensures ∙ c.if-is_empty.true)) in
     let walking : IsWalking m c.args.depth [] c.enter-end.result (below w.end k.tree ++ k.due) =
     subst (λ (runs : List CopyRun). IsWalking m c.args.depth runs c.enter-end.result (below w.end k.tree ++ k.due)) none e.1 in
     let so_far = c.if-not-visit.ensures.goes_on refl (trim k.root) k.tree k.due turn k.so_far in
-    last_turn m g.P.Pass.in_place (g.P.Pass.state w.pass) (g.P.Pass.state c.visit.new.self) c.args.depth w.stack.items w.place w.end c.enter-end.result k e.0 walking so_far
+    last_turn m g.P.Pass.in_place (g.P.Pass.state w.pass) (g.P.Pass.state c.visit.new.self) c.args.depth w.stack.items
+    w.place w.end c.enter-end.result k e.0 walking so_far
 
 pub take_next-place-requires : goal.take_next-place-requires
 take_next-place-requires g c =
     let m = g.M.Segments.segments c.args.message.now in
     let w = c.walk in
     let k = w.invariant.turn in
-    let met = this_met m g.P.Pass.in_place (g.P.Pass.state w.pass) c.args.depth w.stack.items w.place w.end c.object_at-object.result k c.object_at-object.ensures in
+    let met = this_met m g.P.Pass.in_place (g.P.Pass.state w.pass) c.args.depth w.stack.items w.place w.end
+    c.object_at-object.result k c.object_at-object.ensures in
     let e = c.enter-end.ensures.walking m c.args.depth w.place k.tree k.due met in
     let some = some_left (length c.enter-end.new.stack.items) (sym c.if-is_empty.false ∙ c.is_empty.ensures) in
     (search rules, (some, (m, c.args.depth, c.enter-end.result, below w.end k.tree ++ k.due, e.1, c.requires.capacity.0, c.requires.capacity.1)))
@@ -77,11 +83,13 @@ walk-smaller g c =
     let m = g.M.Segments.segments c.args.message.now in
     let w = c.walk in
     let k = w.invariant.turn in
-    let met = this_met m g.P.Pass.in_place (g.P.Pass.state w.pass) c.args.depth w.stack.items w.place w.end c.object_at-object.result k c.object_at-object.ensures in
+    let met = this_met m g.P.Pass.in_place (g.P.Pass.state w.pass) c.args.depth w.stack.items w.place w.end
+    c.object_at-object.result k c.object_at-object.ensures in
     let e = c.enter-end.ensures.walking m c.args.depth w.place k.tree k.due met in
     let f = c.enter-end.ensures.work m met.d w.place.segment w.place.word k.tree met.is in
     let full : w.end + own_size k.tree ≤ 268435457 = own_within w.end 268435457 k.tree k.due w.place.slot k.next.small in
-    rw e.0 (work_falls (work_left w.stack.items) (work_left c.take_next-place.new.stack.items) (work_left c.enter-end.new.stack.items) w.end 268435457 (own_size k.tree)
+    rw e.0 (work_falls (work_left w.stack.items) (work_left c.take_next-place.new.stack.items)
+    (work_left c.enter-end.new.stack.items) w.end 268435457 (own_size k.tree)
     c.take_next-place.ensures.work f full)
 
 pub walk-preserved : goal.walk-preserved
@@ -95,8 +103,10 @@ walk-preserved g c =
     let e = c.enter-end.ensures.walking m c.args.depth w.place k.tree k.due met in
     let so_far = c.if-not-visit.ensures.goes_on refl (trim k.root) k.tree k.due turn k.so_far in
     let taken = c.take_next-place.ensures.next m c.args.depth c.enter-end.result (below w.end k.tree ++ k.due) e.1 in
-    let there = λ (i : in_place). c.take_next-place.ensures.in_place (c.enter-end.ensures.in_place (k.in_place i).1 (c.if-not-visit.ensures.in_place refl i)) in record {
-      turn = next_turn m in_place (g.P.Pass.state w.pass) (g.P.Pass.state c.visit.new.self) c.args.depth w.stack.items c.take_next-place.new.stack.items w.place c.take_next-place.result
+    let there = λ (i : in_place). c.take_next-place.ensures.in_place
+    (c.enter-end.ensures.in_place (k.in_place i).1 (c.if-not-visit.ensures.in_place refl i)) in record {
+      turn = next_turn m in_place (g.P.Pass.state w.pass) (g.P.Pass.state c.visit.new.self) c.args.depth w.stack.items
+          c.take_next-place.new.stack.items w.place c.take_next-place.result
           w.end c.enter-end.result k e.0 taken there so_far;
       kept = c.visit.ensures.kept ∙ w.invariant.kept;
     }

@@ -15,7 +15,8 @@ returns-in-Err-clause-accepts g c = λ ways cost on some costs shallow within.
     absurd (path_not_refused _ _ _ c.args.path.now ways cost c.in-Err.refusal on some costs shallow within (c.in-Err.ensures.err c.args.path.now))
 
 pub returns-in-Err-clause-refuses : goal.returns-in-Err-clause-refuses
-returns-in-Err-clause-refuses g c = λ r refused. ap Err (one_path_refusal _ _ _ c.args.path.now c.in-Err.refusal r (c.in-Err.ensures.err c.args.path.now) refused)
+returns-in-Err-clause-refuses g c = λ r refused. ap Err
+    (one_path_refusal _ _ _ c.args.path.now c.in-Err.refusal r (c.in-Err.ensures.err c.args.path.now) refused)
 
 pub returns-in-Ok-None-clause-ok : goal.returns-in-Ok-None-clause-ok
 returns-in-Ok-None-clause-ok g c =
@@ -50,7 +51,8 @@ returns-in-Err-step-clause-err g c =
     let step : Step = get_or path i (Ptr 0) in
     let lt : i < length path = omega (arith, c.loop-step-test.true) in
     let h = c.loop-step.invariant.arrived in
-    let whole : (take i path ++ step ∷ []) ++ drop (suc i) path ≡ path = append_assoc (take i path) (step ∷ []) (drop (suc i) path) ∙ sym (split_at path i (Ptr 0) lt) in
+    let whole : (take i path ++ step ∷ []) ++ drop (suc i) path ≡ path = append_assoc (take i path) (step ∷ [])
+    (drop (suc i) path) ∙ sym (split_at path i (Ptr 0) lt) in
     inr (fault_longer m _ _ (take i path ++ step ∷ []) (drop (suc i) path) path c.in-Err-step.fault whole (c.in-Err-step.ensures.err (take i path) h.0 h.1))
 
 pub returns-in-Err-step-clause-accepts : goal.returns-in-Err-step-clause-accepts
@@ -58,7 +60,8 @@ returns-in-Err-step-clause-accepts g c = λ ways cost on some costs shallow with
     absurd (path_not_refused _ _ _ c.args.path.now ways cost c.in-Err-step.fault on some costs shallow within (returns-in-Err-step-clause-err g c))
 
 pub returns-in-Err-step-clause-refuses : goal.returns-in-Err-step-clause-refuses
-returns-in-Err-step-clause-refuses g c = λ r refused. ap Err (one_path_refusal _ _ _ c.args.path.now c.in-Err-step.fault r (returns-in-Err-step-clause-err g c) refused)
+returns-in-Err-step-clause-refuses g c = λ r refused. ap Err
+    (one_path_refusal _ _ _ c.args.path.now c.in-Err-step.fault r (returns-in-Err-step-clause-err g c) refused)
 
 pub loop-step-preserved : goal.loop-step-preserved
 loop-step-preserved g c =

@@ -10,7 +10,8 @@ returns-then-count-eq0-clause-places c = λ m s w q tag f.
 pub overflow_add-result-in-Structs : goal.overflow_add-result-in-Structs
 overflow_add-result-in-Structs c =
     let g = rw c.in-Structs.is at c.requires.found.6 in
-    start_fits c.requires.found.0 c.requires.found.1 c.requires.found.2 _ _ _ c.requires.found.3 c.requires.found.4 _ _ _ _ _ _ c.from-in-Structs.result c.requires.found.5 g c.from-in-Structs.ensures c.if-count-eq0.false
+    start_fits c.requires.found.0 c.requires.found.1 c.requires.found.2 _ _ _ c.requires.found.3 c.requires.found.4 _ _
+    _ _ _ _ c.from-in-Structs.result c.requires.found.5 g c.from-in-Structs.ensures c.if-count-eq0.false
 
 pub returns-in-Struct-clause-places : goal.returns-in-Struct-clause-places
 returns-in-Struct-clause-places c = λ m s w q tag f.
@@ -26,13 +27,18 @@ pub returns-else-pointers-eq0-clause-places : goal.returns-else-pointers-eq0-cla
 returns-else-pointers-eq0-clause-places c = λ m s w q tag f.
     let g = rw c.in-Structs.is at f in
     let some : 0 < c.in-Structs.count = omega (arith, c.if-count-eq0.false) in
-    let at_start : c.args.target.now.start + 1 + c.from-in-Structs.result ≡ c.args.target.now.start + 1 + c.in-Structs.data_words = omega (arith, c.from-in-Structs.ensures) in
-    structs_places m s w _ _ _ q tag _ _ _ _ _ _ _ _ _ _ _ c.args.level _ g at_start c.from-in-Structs-2.ensures (omega arith) c.from-in-Structs-3.ensures c.from-in-Structs-4.ensures some (omega (arith, c.levels_of_elements.ensures.value))
+    let at_start : c.args.target.now.start + 1 + c.from-in-Structs.result ≡ c.args.target.now.start + 1
+    + c.in-Structs.data_words = omega (arith, c.from-in-Structs.ensures) in
+    structs_places m s w _ _ _ q tag _ _ _ _ _ _ _ _ _ _ _ c.args.level _ g at_start c.from-in-Structs-2.ensures
+    (omega arith) c.from-in-Structs-3.ensures c.from-in-Structs-4.ensures some
+    (omega (arith, c.levels_of_elements.ensures.value))
 
 pub returns-else-pointers-eq0-clause-inside : goal.returns-else-pointers-eq0-clause-inside
 returns-else-pointers-eq0-clause-inside c = λ m s w q tag f.
     let g = rw c.in-Structs.is at f in
     let some : 0 < c.in-Structs.count = omega (arith, c.if-count-eq0.false) in
     let each : 0 < c.in-Structs.pointers = omega (arith, c.if-pointers-eq0.false) in
-    let at_start : c.args.target.now.start + 1 + c.from-in-Structs.result ≡ c.args.target.now.start + 1 + c.in-Structs.data_words = omega (arith, c.from-in-Structs.ensures) in
-    structs_inside m s w _ _ _ q tag _ _ _ _ _ _ _ _ _ _ _ _ g at_start c.from-in-Structs-2.ensures (omega arith) c.from-in-Structs-3.ensures c.from-in-Structs-4.ensures some each
+    let at_start : c.args.target.now.start + 1 + c.from-in-Structs.result ≡ c.args.target.now.start + 1
+    + c.in-Structs.data_words = omega (arith, c.from-in-Structs.ensures) in
+    structs_inside m s w _ _ _ q tag _ _ _ _ _ _ _ _ _ _ _ _ g at_start c.from-in-Structs-2.ensures
+    (omega arith) c.from-in-Structs-3.ensures c.from-in-Structs-4.ensures some each

@@ -9,6 +9,7 @@ returns-in-Err-canonical_bytes-clause-err g c = (
   report_of c.in-Ok.vetted,
   c.in-Ok.ensures.ok,
   subst (λ m. HasNoCopy (g.M.Segments.segments m) c.in-Err-canonical_bytes.fault) c.in-Ok.ensures.message
-      (has_no_copy _ c.canonical_bytes.result c.in-Err-canonical_bytes.fault c.in-Err-canonical_bytes.is c.canonical_bytes.ensures.cap c.canonical_bytes.ensures.memory),
+      (has_no_copy _ c.canonical_bytes.result c.in-Err-canonical_bytes.fault c.in-Err-canonical_bytes.is
+      c.canonical_bytes.ensures.cap c.canonical_bytes.ensures.memory),
   refl,
 )

@@ -13,14 +13,18 @@ returns-in-Err-clause-err g c =
     let whole = frame_of_bytes c.args.copy.now c.table_of_one.result (omega (arith, c.table_of_one.ensures)) in
     subst (λ (ws : List ℕ). Halts g.K.WordSink c.args.sink.now c.put.new.self ws c.in-Err.fault) (sym whole)
     (halts_before g.K.WordSink c.args.sink.now c.put.new.self _ (plain_words c.args.copy.now) c.in-Err.fault
-    (halts_of g.K.WordSink c.args.sink.now c.put.new.self (length c.args.copy.now / 8 * 4294967296 ∷ []) c.put.result c.in-Err.fault c.in-Err.is c.in-Err.ensures.err c.put.ensures.device c.put.ensures.memory c.put.ensures.was_spent))
+    (halts_of g.K.WordSink c.args.sink.now c.put.new.self (length c.args.copy.now / 8 * 4294967296 ∷ []) c.put.result
+    c.in-Err.fault c.in-Err.is c.in-Err.ensures.err c.put.ensures.device c.put.ensures.memory
+    c.put.ensures.was_spent))
 
 pub returns-in-Err-put_bytes-clause-err : goal.returns-in-Err-put_bytes-clause-err
 returns-in-Err-put_bytes-clause-err g c =
     let ws = plain_words c.args.copy.now in
     let whole = frame_of_bytes c.args.copy.now c.table_of_one.result (omega (arith, c.table_of_one.ensures)) in
     let first = fills_of g.K.WordSink c.args.sink.now c.put.new.self (c.table_of_one.result ∷ []) c.in_default.ensures.put c.in_default.ensures.ok in
-    let halts = halts_of g.K.WordSink c.put.new.self c.put_bytes.new.self ws c.put_bytes.result c.in-Err-put_bytes.fault c.in-Err-put_bytes.is c.in-Err-put_bytes.ensures.err c.put_bytes.ensures.device c.put_bytes.ensures.memory c.put_bytes.ensures.was_spent in
+    let halts = halts_of g.K.WordSink c.put.new.self c.put_bytes.new.self ws c.put_bytes.result c.in-Err-put_bytes.fault
+    c.in-Err-put_bytes.is c.in-Err-put_bytes.ensures.err c.put_bytes.ensures.device c.put_bytes.ensures.memory
+    c.put_bytes.ensures.was_spent in
     subst (λ (xs : List ℕ). Halts g.K.WordSink c.args.sink.now c.put_bytes.new.self xs c.in-Err-put_bytes.fault) (sym whole)
     (halts_behind g.K.WordSink c.args.sink.now c.put.new.self c.put_bytes.new.self _ ws c.in-Err-put_bytes.fault first halts)
 
@@ -30,4 +34,5 @@ returns-clause-ok g c =
     let whole = frame_of_bytes c.args.copy.now c.table_of_one.result (omega (arith, c.table_of_one.ensures)) in
     let first = fills_of g.K.WordSink c.args.sink.now c.put.new.self (c.table_of_one.result ∷ []) c.in_default.ensures.put c.in_default.ensures.ok in
     let rest = fills_of g.K.WordSink c.put.new.self c.put_bytes.new.self ws c.in_default-put_bytes.ensures.put c.in_default-put_bytes.ensures.ok in
-    subst (Fills g.K.WordSink c.args.sink.now c.put_bytes.new.self) (sym whole) (fills_both g.K.WordSink c.args.sink.now c.put.new.self c.put_bytes.new.self _ ws first rest)
+    subst (Fills g.K.WordSink c.args.sink.now c.put_bytes.new.self) (sym whole)
+    (fills_both g.K.WordSink c.args.sink.now c.put.new.self c.put_bytes.new.self _ ws first rest)

@@ -18,4 +18,5 @@ returns-in-Err g c = λ t k d tree.
     let report = report_of c.args.vetted.now in
     let line = vet_text c.args.number (accepted report.charge report.depth report.pointers report.caps) in
     let is : c.accepted_line.new.page ≡ line = cc in
-    subst (λ held. Halted g.O.ByteOut (c.args.out.now, held) (c.put_dump.new.out, c.put_dump.new.page) c.in-Err.fault (dump_text t)) is (c.in-Err.ensures t k d tree)
+    subst (λ held. Halted g.O.ByteOut (c.args.out.now, held) (c.put_dump.new.out, c.put_dump.new.page) c.in-Err.fault
+    (dump_text t)) is (c.in-Err.ensures t k d tree)

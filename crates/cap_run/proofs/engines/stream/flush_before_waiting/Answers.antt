@@ -3,4 +3,5 @@ use Rattle.cap_run.proofs.engines.stream.flush_before_waiting.Goals as goal
 
 pub returns : goal.returns
 returns g c = λ before text w.
-    writes_kept g.O.ByteOut before c.args.out.now c.flush.new.self c.flush.result text w c.flush.ensures.bytes c.flush.ensures.ok c.flush.ensures.device c.flush.ensures.memory c.flush.ensures.was_spent
+    writes_kept g.O.ByteOut before c.args.out.now c.flush.new.self c.flush.result text w c.flush.ensures.bytes
+    c.flush.ensures.ok c.flush.ensures.device c.flush.ensures.memory c.flush.ensures.was_spent

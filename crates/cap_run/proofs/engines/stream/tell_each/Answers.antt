@@ -46,4 +46,5 @@ returns-in-Err-flush_before_waiting-clause-err g c =
 pub loop-number-preserved : goal.loop-number-preserved
 loop-number-preserved g c =
     let r = rw c.in-Ok-Some.field-0-is at c.in-Ok-Some.ensures.some in
-    going_more _ _ _ _ _ _ _ _ _ _ _ _ _ r.0 c.in-Ok-Some.counted r.1 c.loop-number.invariant r.2 r.3 (c.in-Ok.ensures c.loop-number.out r.0.text r.4) c.count-outcome.ensures
+    going_more _ _ _ _ _ _ _ _ _ _ _ _ _ r.0 c.in-Ok-Some.counted r.1 c.loop-number.invariant r.2 r.3
+    (c.in-Ok.ensures c.loop-number.out r.0.text r.4) c.count-outcome.ensures

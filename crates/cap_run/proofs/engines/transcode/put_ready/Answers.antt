@@ -22,7 +22,8 @@ returns-in-Ok-clause-ok g c =
     record {
       own = ws;
       many = omega (arith, many);
-      gives = gives_ready g.S.WordSource c.args.source.now c.ready-count.new.self c.ready-count.result room e.room e.words.0 e.words.1 e.usable e.spent e.failures;
+      gives = gives_ready g.S.WordSource c.args.source.now c.ready-count.new.self c.ready-count.result room e.room
+          e.words.0 e.words.1 e.usable e.spent e.failures;
       fills = fills_of g.K.WordSink c.args.sink.now c.put_bytes.new.self ws c.in-Ok.ensures.put c.in-Ok.ensures.ok;
     }
 
@@ -32,11 +33,14 @@ returns-in-Err-clause-err g c =
     let room = c.ready-count.new.out in
     let ws = plain_words (take c.ready-count.result room) in
     let many = words_in c.ready-count.result room e.room e.words.0 in
-    let halts = halts_of g.K.WordSink c.args.sink.now c.put_bytes.new.self ws c.put_bytes.result c.in-Err.fault c.in-Err.is c.in-Err.ensures.err c.put_bytes.ensures.device c.put_bytes.ensures.memory c.put_bytes.ensures.was_spent in
+    let halts = halts_of g.K.WordSink c.args.sink.now c.put_bytes.new.self ws c.put_bytes.result c.in-Err.fault
+    c.in-Err.is c.in-Err.ensures.err c.put_bytes.ensures.device c.put_bytes.ensures.memory
+    c.put_bytes.ensures.was_spent in
     record {
       piece = ws;
       some = omega (arith, many);
       few = omega (arith, many, e.room, c.ready-count.auto.out);
-      gives = gives_ready g.S.WordSource c.args.source.now c.ready-count.new.self c.ready-count.result room e.room e.words.0 e.words.1 e.usable e.spent e.failures;
+      gives = gives_ready g.S.WordSource c.args.source.now c.ready-count.new.self c.ready-count.result room e.room
+          e.words.0 e.words.1 e.usable e.spent e.failures;
       halts = subst (Halts g.K.WordSink c.args.sink.now c.put_bytes.new.self ws) (sym c.output_fault.ensures) halts;
     }

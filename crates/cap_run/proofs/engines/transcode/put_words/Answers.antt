@@ -31,15 +31,26 @@ returns-in-Err-put g c =
     let now = copies_both _ _ _ _ _ _ _ _ _ _ c.loop-put.invariant.copies c.in-Ok.ensures.ok in
     let gives = gives_one g.S.WordSource c.put_ready.new.source c.next.new.self c.in-Ok-Some.word
     (rw c.in-Ok-Some.field-0-is at c.in-Ok-Some.ensures.words) (rw c.in-Ok-Some.field-0-is at c.in-Ok-Some.ensures.word) c.in-Ok-Some.ensures.ok in
-    let halts = halts_of g.K.WordSink c.put_ready.new.sink c.put.new.self (c.in-Ok-Some.word ∷ []) c.put.result c.in-Err-put.fault c.in-Err-put.is c.in-Err-put.ensures.err c.put.ensures.device c.put.ensures.memory c.put.ensures.was_spent in
+    let halts = halts_of g.K.WordSink c.put_ready.new.sink c.put.new.self
+    (c.in-Ok-Some.word ∷ []) c.put.result c.in-Err-put.fault c.in-Err-put.is c.in-Err-put.ensures.err
+    c.put.ensures.device c.put.ensures.memory c.put.ensures.was_spent in
     copied_stopped _ _ _ _ _ _ _ _ _ (omega arith)
     (copies_stops _ _ _ _ _ _ _ _ _ (c.loop-put.put + c.in-Ok.count) c.in-Ok-Some.word _
     (omega arith) now gives (subst (Halts g.K.WordSink c.put_ready.new.sink c.put.new.self _) (sym c.output_fault.ensures) halts))
 
 pub returns-in-Ok-None : goal.returns-in-Ok-None
 returns-in-Ok-None g c =
-    let now = copies_both _ _ _ _ _ _ _ _ _ _ c.loop-put.invariant.copies c.in-Ok.ensures.ok in
-    (c.put_ready.new.source, omega arith, now, record { none = c.in-Ok-None.ensures.none (cc); ended = c.in-Ok-None.ensures.ended (cc); works = c.in-Ok-None.ensures.ok })
+    let now = copies_both _ _ _ _ _ _ _ _ _ _ c.loop-put.invariant.copies c.in-Ok.ensures.ok in (
+      c.put_ready.new.source,
+      omega arith,
+      now,
+      record {
+        none = c.in-Ok-None.ensures.none (cc);
+        ended = c.in-Ok-None.ensures.ended
+            (cc);
+        works = c.in-Ok-None.ensures.ok;
+      },
+    )
 
 pub returns-in-Err-next : goal.returns-in-Err-next
 returns-in-Err-next g c =
@@ -48,7 +59,8 @@ returns-in-Err-next g c =
       c.loop-put.put + c.in-Ok.count,
       omega arith,
       now,
-      gives_no_next g.S.WordSource c.put_ready.new.source c.next.new.self c.in-Err-next.fault c.in-Err-next.ensures.err (λ byte e. c.in-Err-next.ensures.truncated byte (cc)) (λ byte e. c.in-Err-next.ensures.at byte (cc))
+      gives_no_next g.S.WordSource c.put_ready.new.source c.next.new.self c.in-Err-next.fault c.in-Err-next.ensures.err
+          (λ byte e. c.in-Err-next.ensures.truncated byte (cc)) (λ byte e. c.in-Err-next.ensures.at byte (cc))
           (λ e. c.in-Err-next.ensures.device (cc)) (λ e. c.in-Err-next.ensures.was_spent (cc)),
     )
 
@@ -60,14 +72,17 @@ loop-put-preserved g c =
     record {
       few = omega arith;
       room = omega arith;
-      copies = copies_more _ _ _ _ _ _ _ _ (c.loop-put.put + c.in-Ok.count) c.in-Ok-Some.word now gives (fills_of g.K.WordSink c.put_ready.new.sink c.put.new.self (c.in-Ok-Some.word ∷ []) c.in_default.ensures.put c.in_default.ensures.ok);
+      copies = copies_more _ _ _ _ _ _ _ _ (c.loop-put.put + c.in-Ok.count) c.in-Ok-Some.word now gives
+          (fills_of g.K.WordSink c.put_ready.new.sink c.put.new.self (c.in-Ok-Some.word ∷ []) c.in_default.ensures.put
+          c.in_default.ensures.ok);
     }
 
 pub returns-in-Ok-Some-next : goal.returns-in-Ok-Some-next
 returns-in-Ok-Some-next g c =
     let all : c.loop-put.put ≡ c.args.words = omega arith in
     let gives = gives_one g.S.WordSource c.loop-put.source c.next-2.new.self c.in-Ok-Some-next.field-0-0
-    (rw c.in-Ok-Some-next.field-0-is at c.in-Ok-Some-next.ensures.words) (rw c.in-Ok-Some-next.field-0-is at c.in-Ok-Some-next.ensures.word) c.in-Ok-Some-next.ensures.ok in (
+    (rw c.in-Ok-Some-next.field-0-is at c.in-Ok-Some-next.ensures.words)
+    (rw c.in-Ok-Some-next.field-0-is at c.in-Ok-Some-next.ensures.word) c.in-Ok-Some-next.ensures.ok in (
       c.loop-put.source,
       c.in-Ok-Some-next.field-0-0,
       subst (Copies g.S.WordSource g.K.WordSink c.args.source.now c.loop-put.source c.args.sink.now c.loop-put.sink) all c.loop-put.invariant.copies,

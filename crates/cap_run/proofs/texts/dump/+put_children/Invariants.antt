@@ -9,4 +9,5 @@ decreases-put_children g l = l.left
 
 abbrev pub invariant-loop-i : goal.invariant-loop-i
 invariant-loop-i g l =
-    (t : Tree) → DenotesAt (g.M.Segments.segments (node_message l.node)) (node_spot l.node) t → ChildrenOut g.O.ByteOut l.level t l.kind (l.initial.out, l.initial.page) (l.out, l.page) l.i
+    (t : Tree) → DenotesAt (g.M.Segments.segments (node_message l.node)) (node_spot l.node) t
+    → ChildrenOut g.O.ByteOut l.level t l.kind (l.initial.out, l.initial.page) (l.out, l.page) l.i

@@ -15,6 +15,7 @@ returns-in-Scalars g c = rw c.in-Scalars.is c.put_words-in-Scalars.ensures
 
 pub returns-in_default : goal.returns-in_default
 returns-in_default g c =
-    subst (λ ws. Added g.O.ByteOut (c.args.out.now, c.args.page.now) (c.args.out.now, c.args.page.now) (word_lines c.args.level (word_letter_of c.args.kind) 0 ws))
+    subst (λ ws. Added g.O.ByteOut (c.args.out.now, c.args.page.now) (c.args.out.now, c.args.page.now)
+    (word_lines c.args.level (word_letter_of c.args.kind) 0 ws))
     (sym (no_words (shown c.args.view.now) c.args.kind c.requires.kind (λ d p e. c.in_default.not-Struct d p e) (λ n k e. c.in_default.not-Scalars n k e)))
     (added_here g.O.ByteOut (c.args.out.now, c.args.page.now) c.args.page.now [] (sym (append-nil c.args.page.now)))

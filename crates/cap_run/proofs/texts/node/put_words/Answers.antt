@@ -20,9 +20,11 @@ pub returns-in-Err : goal.returns-in-Err
 returns-in-Err g c =
     lines_stop g.O.ByteOut (c.args.out.now, c.args.page.now) (c.loop-word.out, c.loop-word.page) (c.make_room.new.out, c.make_room.new.page) c.in-Err.fault
     (word_lines c.args.level c.args.letter 0 (words_of_own (shown c.args.view.now)))
-    (word_lines c.args.level c.args.letter c.loop-word.i (drop c.loop-word.i (words_of_own (shown c.args.view.now)))) c.loop-word.invariant c.in-Err.ensures.adds
+    (word_lines c.args.level c.args.letter c.loop-word.i (drop c.loop-word.i (words_of_own (shown c.args.view.now))))
+    c.loop-word.invariant c.in-Err.ensures.adds
 
 pub returns : goal.returns
 returns g c =
-    words_done g.O.ByteOut c.args.level c.args.letter c.loop-word.i (words_of_own (shown c.args.view.now)) (c.args.out.now, c.args.page.now) (c.loop-word.out, c.loop-word.page)
+    words_done g.O.ByteOut c.args.level c.args.letter c.loop-word.i (words_of_own (shown c.args.view.now))
+    (c.args.out.now, c.args.page.now) (c.loop-word.out, c.loop-word.page)
     c.in_default.ensures.value c.loop-word.invariant

@@ -21,11 +21,13 @@ module _ {O T : Type 0} (g : output.Ghosts O) where
       → (IsErrOf r Memory → GrowthFails (g.spent a) (g.failures a) (g.failures b))
       → (IsErrOf r Spent → (g.spent a ≡ true) × (b ≡ a)) → Writes g a b r text
   writes_all a b (Ok x) text ok err works device memory was_spent = record { appended = ok; works = works }
-  writes_all a b (Err Device) text ok err works device memory was_spent = ((device refl).0, (device refl).1, part_of (g.written a) (g.written b) text err.0 err.2)
+  writes_all a b (Err Device) text ok err works device memory was_spent =
+      ((device refl).0, (device refl).1, part_of (g.written a) (g.written b) text err.0 err.2)
   writes_all a b (Err Memory) text ok err works device memory was_spent = (memory refl, part_of (g.written a) (g.written b) text err.0 err.2)
   writes_all a b (Err Spent) text ok err works device memory was_spent = was_spent refl
 
 pub returns : goal.returns
 returns g c =
     writes_all g.O.ByteOut c.args.out.now c.write_all.new.output c.write_all.result c.args.text.now
-    c.write_all.ensures.ok c.write_all.ensures.err (c.write_all.ensures.works (omega arith)) c.write_all.ensures.device c.write_all.ensures.memory c.write_all.ensures.was_spent
+    c.write_all.ensures.ok c.write_all.ensures.err (c.write_all.ensures.works (omega arith)) c.write_all.ensures.device
+    c.write_all.ensures.memory c.write_all.ensures.was_spent

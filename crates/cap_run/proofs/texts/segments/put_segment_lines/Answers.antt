@@ -9,7 +9,9 @@ use Rattle.cap_run.proofs.texts.segments.put_segment_lines.Goals as goal
 pub returns-in-Err : goal.returns-in-Err
 returns-in-Err g c =
     lines_stop g.O.ByteOut (c.args.out.now, c.args.page.now) (c.loop-s.out, c.loop-s.page) (c.make_room.new.out, c.make_room.new.page) c.in-Err.fault
-    (segment_lines 0 (sizes_in c.args.outline.now)) (segment_lines c.loop-s.s (drop c.loop-s.s (sizes_in c.args.outline.now))) c.loop-s.invariant c.in-Err.ensures.adds
+    (segment_lines 0 (sizes_in c.args.outline.now))
+    (segment_lines c.loop-s.s (drop c.loop-s.s (sizes_in c.args.outline.now))) c.loop-s.invariant
+    c.in-Err.ensures.adds
 
 pub loop-s-preserved : goal.loop-s-preserved
 loop-s-preserved g c =

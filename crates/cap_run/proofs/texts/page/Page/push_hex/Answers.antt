@@ -12,5 +12,6 @@ returns-clause-items c =
 pub returns-clause-len : goal.returns-clause-len
 returns-clause-len c =
     let digits = c.in-Ok.ensures.written ∙ ap encode_lower c.bytes_of.ensures.value ∙ encode_is_hex c.args.word in
-    hex_put_length c.self.inside.len (c.self.inside.len + 16 - c.self.inside.len) c.args.word c.self.inside.bytes c.encode_to_slice.new.output c.args.self.now digits
+    hex_put_length c.self.inside.len (c.self.inside.len + 16 - c.self.inside.len) c.args.word c.self.inside.bytes
+    c.encode_to_slice.new.output c.args.self.now digits
     (omega (arith, c.self.invariant)) c.self.view_is
