@@ -13,7 +13,7 @@ returns-in-Err-clause-err g c =
     let whole = frame_of_bytes c.args.copy.now c.table_of_one.result (omega (arith, c.table_of_one.ensures)) in
     subst (λ (ws : List ℕ). Halts g.K.WordSink c.args.sink.now c.put.new.self ws c.in-Err.fault) (sym whole)
     (halts_before g.K.WordSink c.args.sink.now c.put.new.self _ (plain_words c.args.copy.now) c.in-Err.fault
-    (halts_of g.K.WordSink c.args.sink.now c.put.new.self (length c.args.copy.now / 8 * 4294967296 ∷ []) c.put.result
+    (halts_of g.K.WordSink c.args.sink.now c.put.new.self (c.table_of_one.result ∷ []) c.put.result
     c.in-Err.fault c.in-Err.is c.in-Err.ensures.err c.put.ensures.device c.put.ensures.memory
     c.put.ensures.was_spent))
 
