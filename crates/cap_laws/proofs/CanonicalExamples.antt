@@ -6,10 +6,12 @@ use Rattle.cap_spec.specs.Canonical.{layout, offsets, trim}
 use Rattle.cap_spec.proofs.Canonical.TreeMeasures.{Fits}
 use Rattle.cap_spec.proofs.Canonical.Layouts.{layout_denotes, trimmed_layout_denotes}
 
--- a struct with a zero word and a null pointer at its end, which leads to a list of three bits and to a list of two structs with a null pointer each
+-- a struct with a zero word and a null pointer at its end,
+-- which leads to a list of three bits and to a list of two structs with a null pointer each
 abbrev untrimmed : Tree
 untrimmed = struct (5 ∷ 0 ∷ []) (more (scalars 1 (1 ∷ 0 ∷ 1 ∷ []))
-    (more (structs 1 1 (more (struct (7 ∷ []) (more null none)) (more (struct (0 ∷ []) (more null none)) none))) (more null none)))
+    (more (structs 1 1 (more (struct (7 ∷ []) (more null none))
+    (more (struct (0 ∷ []) (more null none)) none))) (more null none)))
 
 fits-untrimmed : Fits untrimmed
 fits-untrimmed = (
@@ -30,7 +32,8 @@ denotes-trimmed : (c' : ℕ) × Denotes (layout (trim untrimmed) ∷ []) 0 0 (tr
 denotes-trimmed = trimmed_layout_denotes (layout untrimmed ∷ []) 0 0 untrimmed 11 3 denotes-untrimmed (lit< tt)
 
 -- the zero word, the null pointer and each element's null pointer are gone
-layout-trimmed : layout (trim untrimmed) ≡ 0x0002000100000000 ∷ 5 ∷ 0x0000001900000005 ∷ 0x0000001700000005 ∷ 5 ∷ 0x0000000100000008 ∷ 7 ∷ 0 ∷ []
+layout-trimmed : layout (trim untrimmed)
+    ≡ 0x0002000100000000 ∷ 5 ∷ 0x0000001900000005 ∷ 0x0000001700000005 ∷ 5 ∷ 0x0000000100000008 ∷ 7 ∷ 0 ∷ []
 layout-trimmed = refl
 
 -- both pointers of the struct lead over one word, the first over the second and the second over the bits
@@ -38,5 +41,7 @@ offsets-trimmed : offsets (trim untrimmed) ≡ 1 ∷ 1 ∷ []
 offsets-trimmed = refl
 
 -- and so do those of elements, the first over the second and the second over what the first leads to
-offsets-elements : offsets (structs 0 1 (more (struct [] (more (struct (7 ∷ []) none) none)) (more (struct [] (more (struct (8 ∷ []) none) none)) none))) ≡ 1 ∷ 1 ∷ []
+offsets-elements : offsets (structs 0 1
+    (more (struct [] (more (struct (7 ∷ []) none) none))
+    (more (struct [] (more (struct (8 ∷ []) none) none)) none))) ≡ 1 ∷ 1 ∷ []
 offsets-elements = refl

@@ -1,4 +1,5 @@
--- Small examples: the premises of the laws of framing and packing are met, and each of the ways in which reading ends comes about.
+-- Small examples: the premises of the laws of framing and packing are met,
+-- and each of the ways in which reading ends comes about.
 use Rattle.std.proofs.Common.{List, ℕ, ◌<◌, ◌^◌, ◌≡◌, false, true, [], ◌∷◌, length, replicate, refl, arith, lit<}
 use Rattle.std.specs.List.{AllByRecursion}
 use Rattle.std.proofs.lemmas.List.Elements.{All-cons, All-nil}
@@ -38,7 +39,14 @@ stream-two = stream_cons (0x100000000 ∷ 7 ∷ []) (0x100000000 ∷ 7 ∷ []) (
 
 -- a message within the limit, with a word behind it
 ends-message : EndsIn 1 (0x100000000 ∷ 7 ∷ 9 ∷ []) false message
-ends-message = record { own = 0x100000000 ∷ 7 ∷ []; rest = 9 ∷ []; message = (7 ∷ []) ∷ []; whole = refl; frames = frame-one; within = omega arith }
+ends-message = record {
+  own = 0x100000000 ∷ 7 ∷ [];
+  rest = 9 ∷ [];
+  message = (7 ∷ []) ∷ [];
+  whole = refl;
+  frames = frame-one;
+  within = omega arith;
+}
 
 -- nothing, between words
 ends-none : EndsIn 1 [] false none
@@ -50,7 +58,14 @@ ends-too_many = record { first = 512; rest = []; whole = refl; many = omega arit
 
 -- one word past a limit of none
 ends-too_large : EndsIn 0 (0x100000000 ∷ 7 ∷ []) false too_large
-ends-too_large = record { table = 0x100000000 ∷ []; rest = 7 ∷ []; sizes = 1 ∷ []; whole = refl; is_table = table-one; past = omega arith }
+ends-too_large = record {
+  table = 0x100000000 ∷ [];
+  rest = 7 ∷ [];
+  sizes = 1 ∷ [];
+  whole = refl;
+  is_table = table-one;
+  past = omega arith;
+}
 
 -- inside a word, inside a table of two words, and inside the contents
 ends-in_word : EndsIn 1 [] true partial
@@ -78,7 +93,8 @@ message-small : IsMessage small
 message-small = record {
   some = omega arith;
   few = omega arith;
-  lengths = All-cons (λ words. length words < 2 ^ 32) (7 ∷ []) ([] ∷ []) (lit< tt) (All-cons (λ words. length words < 2 ^ 32) [] [] (lit< tt) (All-nil (λ words. length words < 2 ^ 32)));
+  lengths = All-cons (λ words. length words < 2 ^ 32) (7 ∷ []) ([] ∷ []) (lit< tt)
+      (All-cons (λ words. length words < 2 ^ 32) [] [] (lit< tt) (All-nil (λ words. length words < 2 ^ 32)));
 }
 
 frame-small : Frames (0x100000001 ∷ 0 ∷ 7 ∷ []) small

@@ -1,5 +1,6 @@
 -- Frames by their bytes: numbers of four bytes each, and words of eight.
-use Rattle.std.proofs.Common.{◌≡◌, ℕ, zero, suc, ◌+◌, ◌-◌, ◌*◌, ◌/◌, ◌%◌, ◌^◌, ◌<◌, List, [], ◌∷◌, ◌++◌, length, drop, flat_map, refl, sym, ap, ◌∙◌, arith, append_assoc, length-append}
+use Rattle.std.proofs.Common.{◌≡◌, ℕ, zero, suc, ◌+◌, ◌-◌, ◌*◌, ◌/◌, ◌%◌, ◌^◌, ◌<◌, List, [], ◌∷◌, ◌++◌, length, drop}
+use Rattle.std.proofs.Common.{flat_map, refl, sym, ap, ◌∙◌, arith, append_assoc, length-append}
 use Rattle.std.specs.List.{AllByRecursion}
 use Rattle.std.proofs.lemmas.List.{length-map}
 use Rattle.std.proofs.lemmas.List.Concat.{flat_map-append}
@@ -28,14 +29,16 @@ four_fit [] = tt
 four_fit (x ∷ xs) = all_append (λ b. b < 256) (four_bytes x) (flat_map four_bytes xs) (bytes_fit 0 4 x) (four_fit xs)
 
 -- and tell the numbers
-four_back : (xs ys : List ℕ) → AllByRecursion (λ n. n < 2 ^ 32) xs → AllByRecursion (λ n. n < 2 ^ 32) ys → flat_map four_bytes xs ≡ flat_map four_bytes ys → xs ≡ ys
+four_back : (xs ys : List ℕ) → AllByRecursion (λ n. n < 2 ^ 32) xs → AllByRecursion (λ n. n < 2 ^ 32) ys
+    → flat_map four_bytes xs ≡ flat_map four_bytes ys → xs ≡ ys
 four_back [] [] a b e = refl
 four_back [] (y ∷ ys) a b e = absurd (cc)
 four_back (x ∷ xs) [] a b e = absurd (cc)
 four_back (x ∷ xs) (y ∷ ys) a b e =
     let p : x < 2 ^ 32 = a.0 in
     let q : y < 2 ^ 32 = b.0 in
-    let h : x ≡ y = sym (little_number-reads_back 4 x (flat_map four_bytes xs) (omega arith)) ∙ (ap (little_number 4) e ∙ little_number-reads_back 4 y (flat_map four_bytes ys) (omega arith)) in
+    let h : x ≡ y = sym (little_number-reads_back 4 x (flat_map four_bytes xs) (omega arith))
+    ∙ (ap (little_number 4) e ∙ little_number-reads_back 4 y (flat_map four_bytes ys) (omega arith)) in
     let t : xs ≡ ys = four_back xs ys a.1 b.1 (ap (drop 4) e) in
     ap (λ k. k ∷ xs) h ∙ ap (λ k. y ∷ k) t
 
@@ -47,7 +50,8 @@ record NumbersIn (bytes : List ℕ) (count : ℕ) : Type 0 where
   text : flat_map four_bytes numbers ≡ bytes
 
 -- so many bytes are so many numbers
-numbers_in : (bytes : List ℕ) (count : ℕ) → AllByRecursion (λ b. b < 256) bytes → length bytes ≡ 4 * count → NumbersIn bytes count
+numbers_in : (bytes : List ℕ) (count : ℕ) → AllByRecursion (λ b. b < 256) bytes → length bytes ≡ 4 * count
+    → NumbersIn bytes count
 numbers_in [] count all l = record { numbers = []; many = omega arith; fit = tt; text = refl }
 numbers_in (a ∷ []) count all l = absurd (omega arith)
 numbers_in (a ∷ b ∷ []) count all l = absurd (omega arith)
@@ -55,7 +59,8 @@ numbers_in (a ∷ b ∷ c ∷ []) count all l = absurd (omega arith)
 numbers_in (a ∷ b ∷ c ∷ d ∷ bytes) zero all l = absurd (omega arith)
 numbers_in (a ∷ b ∷ c ∷ d ∷ bytes) (suc count) all l =
     let t = numbers_in bytes count all.1.1.1.1 (omega arith) in
-    let four : AllByRecursion (λ b. b < 256) (a ∷ b ∷ c ∷ d ∷ []) = (all.0, (all.1.0, (all.1.1.0, (all.1.1.1.0, tt)))) in
+    let four : AllByRecursion (λ b. b < 256) (a ∷ b ∷ c ∷ d ∷ []) =
+    (all.0, (all.1.0, (all.1.1.0, (all.1.1.1.0, tt)))) in
     let x = little_number 4 (a ∷ b ∷ c ∷ d ∷ []) in
     let w : four_bytes x ≡ a ∷ b ∷ c ∷ d ∷ [] = bytes_back (a ∷ b ∷ c ∷ d ∷ []) four in
     let below = bytes_below (a ∷ b ∷ c ∷ d ∷ []) four in
@@ -76,7 +81,9 @@ joined_fit [] all = tt
 joined_fit (s ∷ m) all = all_append IsWord s (joined m) all.0 (joined_fit m all.1)
 
 -- the bytes of the numbers of a table, with so many padding numbers
-number_bytes : (first : ℕ) (sizes padding : List ℕ) → flat_map four_bytes (first ∷ (sizes ++ padding)) ≡ four_bytes first ++ (flat_map four_bytes sizes ++ flat_map four_bytes padding)
+number_bytes : (first : ℕ) (sizes padding : List ℕ)
+    → flat_map four_bytes (first ∷ (sizes ++ padding))
+    ≡ four_bytes first ++ (flat_map four_bytes sizes ++ flat_map four_bytes padding)
 number_bytes first sizes padding = ap (λ k. four_bytes first ++ k) (flat_map-append four_bytes sizes padding)
 
 -- the bytes of words that frame a message do
@@ -94,7 +101,8 @@ frames_in_bytes words m f =
     let body = flat_map four_bytes (sizes_of m) in
     let table : plain_text f.table ≡ four_bytes first ++ (body ++ pad) =
     plain_halves f.table ∙ (ap (flat_map four_bytes) t.numbers ∙ number_bytes first (sizes_of m) t.padding) in
-    let split : plain_text words ≡ plain_text f.table ++ contents = ap plain_text f.whole ∙ flat_map-append word_bytes f.table (joined m) in
+    let split : plain_text words ≡ plain_text f.table ++ contents = ap plain_text f.whole
+    ∙ flat_map-append word_bytes f.table (joined m) in
     let same : first ≡ length m - 1 = ap (λ k. k - 1) n in
     record {
       some = omega (arith, some, n);
@@ -105,11 +113,13 @@ frames_in_bytes words m f =
       width = omega (arith, l, width, n);
       whole = split ∙ (ap (λ k. k ++ contents) table
           ∙ (append_assoc (four_bytes first) (body ++ pad) contents
-          ∙ (ap (λ k. four_bytes first ++ k) (append_assoc body pad contents) ∙ ap (λ k. four_bytes k ++ (body ++ (pad ++ contents))) same)));
+          ∙ (ap (λ k. four_bytes first ++ k) (append_assoc body pad contents)
+          ∙ ap (λ k. four_bytes k ++ (body ++ (pad ++ contents))) same)));
     }
 
 -- words whose bytes frame a message do
-pub bytes_frame : (words : List ℕ) (m : List (List ℕ)) → AllByRecursion IsWord words → AllByRecursion (AllByRecursion IsWord) m → FramesInBytes (plain_text words) m → Frames words m
+pub bytes_frame : (words : List ℕ) (m : List (List ℕ)) → AllByRecursion IsWord words
+    → AllByRecursion (AllByRecursion IsWord) m → FramesInBytes (plain_text words) m → Frames words m
 bytes_frame words m all contents_fit g =
     let n : length (sizes_of m) ≡ length m = length-map m length in
     let some = g.some in
@@ -124,7 +134,8 @@ bytes_frame words m all contents_fit g =
     let c = length_four (sizes_of m) in
     let l : length front ≡ 8 * (length m / 2 + 1) = omega (arith, a, b, c, n, width) in
     let bytes : AllByRecursion (λ x. x < 256) front =
-    all_append (λ x. x < 256) (four_bytes first) (body ++ g.padding) (bytes_fit 0 4 first) (all_append (λ x. x < 256) body g.padding (four_fit (sizes_of m)) g.are_bytes) in
+    all_append (λ x. x < 256) (four_bytes first) (body ++ g.padding) (bytes_fit 0 4 first)
+    (all_append (λ x. x < 256) body g.padding (four_fit (sizes_of m)) g.are_bytes) in
     let table = plain_words front in
     let text : plain_text table ≡ front = aligned_text (length m / 2 + 1) front bytes l in
     let table_fit = (plain_split front bytes).are_words in
@@ -132,10 +143,12 @@ bytes_frame words m all contents_fit g =
     let many = pad.many in
     let first_fits : length (sizes_of m) - 1 < 2 ^ 32 = omega (arith, few, n) in
     let same : first ≡ length (sizes_of m) - 1 = ap (λ k. k - 1) (sym n) in
-    let numbers : flat_map four_bytes (flat_map halves table) ≡ flat_map four_bytes ((length (sizes_of m) - 1) ∷ (sizes_of m ++ pad.numbers)) =
+    let numbers : flat_map four_bytes (flat_map halves table)
+    ≡ flat_map four_bytes ((length (sizes_of m) - 1) ∷ (sizes_of m ++ pad.numbers)) =
     sym (plain_halves table) ∙ (text
     ∙ (ap (λ k. four_bytes k ++ (body ++ g.padding)) same
-    ∙ (ap (λ k. four_bytes (length (sizes_of m) - 1) ++ (body ++ k)) (sym pad.text) ∙ sym (number_bytes (length (sizes_of m) - 1) (sizes_of m) pad.numbers)))) in
+    ∙ (ap (λ k. four_bytes (length (sizes_of m) - 1) ++ (body ++ k)) (sym pad.text)
+    ∙ sym (number_bytes (length (sizes_of m) - 1) (sizes_of m) pad.numbers)))) in
     let split : plain_text words ≡ plain_text (table ++ joined m) =
     g.whole ∙ (ap (λ k. four_bytes first ++ k) (sym (append_assoc body g.padding contents))
     ∙ (sym (append_assoc (four_bytes first) (body ++ g.padding) contents)
@@ -149,8 +162,10 @@ bytes_frame words m all contents_fit g =
         padding = pad.numbers;
         padding_fits = pad.fit;
         width = omega (arith, many, n);
-        numbers = four_back (flat_map halves table) ((length (sizes_of m) - 1) ∷ (sizes_of m ++ pad.numbers)) (halves_fit table table_fit)
+        numbers = four_back (flat_map halves table) ((length (sizes_of m) - 1) ∷ (sizes_of m ++ pad.numbers))
+            (halves_fit table table_fit)
             (first_fits, all_append (λ k. k < 2 ^ 32) (sizes_of m) pad.numbers g.fit pad.fit) numbers;
       };
-      whole = plain_tells words (table ++ joined m) all (all_append IsWord table (joined m) table_fit (joined_fit m contents_fit)) split;
+      whole = plain_tells words (table ++ joined m) all
+          (all_append IsWord table (joined m) table_fit (joined_fit m contents_fit)) split;
     }

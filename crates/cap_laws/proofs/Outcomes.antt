@@ -16,15 +16,19 @@ same m s w (cap k i) (refused v) h h' = absurd (cap-not_wrong m s w k i h v h')
 same m s w (object k t b q) (refused v) h h' = absurd (object-not_wrong m s w k t b q h v h')
 same m s w (null k) (null l) h h' = ap null (one_lead m s w l k to_null to_null h' h).0
 same m s w (null k) (cap l i) h h' = let e = (one_lead m s w l k (to_cap i) to_null h' h).1 in cc
-same m s w (null k) (object l t b q) h h' = let e = (one_lead m s w l k (to_object t (pos b) q) to_null h'.leads h).1 in cc
+same m s w (null k) (object l t b q) h h' = let e =
+    (one_lead m s w l k (to_object t (pos b) q) to_null h'.leads h).1 in cc
 same m s w (cap k i) (null l) h h' = let e = (one_lead m s w l k to_null (to_cap i) h' h).1 in cc
 same m s w (cap k i) (cap l j) h h' =
     let e = (one_lead m s w l k (to_cap j) (to_cap i) h' h).1 in
     let f = (one_lead m s w l k (to_cap j) (to_cap i) h' h).0 in
     cc
-same m s w (cap k i) (object l t b q) h h' = let e = (one_lead m s w l k (to_object t (pos b) q) (to_cap i) h'.leads h).1 in cc
-same m s w (object k t b q) (null l) h h' = let e = (one_lead m s w l k to_null (to_object t (pos b) q) h' h.leads).1 in cc
-same m s w (object k t b q) (cap l i) h h' = let e = (one_lead m s w l k (to_cap i) (to_object t (pos b) q) h' h.leads).1 in cc
+same m s w (cap k i) (object l t b q) h h' = let e =
+    (one_lead m s w l k (to_object t (pos b) q) (to_cap i) h'.leads h).1 in cc
+same m s w (object k t b q) (null l) h h' = let e =
+    (one_lead m s w l k to_null (to_object t (pos b) q) h' h.leads).1 in cc
+same m s w (object k t b q) (cap l i) h h' = let e =
+    (one_lead m s w l k (to_cap i) (to_object t (pos b) q) h' h.leads).1 in cc
 same m s w (object k t b q) (object l t' b' q') h h' =
     let e = (one_lead m s w l k (to_object t' (pos b') q') (to_object t (pos b) q) h'.leads h.leads).1 in
     let f = (one_lead m s w l k (to_object t' (pos b') q') (to_object t (pos b) q) h'.leads h.leads).0 in

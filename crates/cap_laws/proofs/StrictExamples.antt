@@ -1,4 +1,5 @@
--- Small messages: one for each form that common readers reject, one that is strict, and one with a two-word pad that is strict.
+-- Small messages: one for each form that common readers reject, one that is strict,
+-- and one with a two-word pad that is strict.
 use Rattle.std.proofs.Common.{◌≡◌, ◌⊎◌, [], ◌∷◌, List, ℕ, inl, inr, refl, sym, subst, arith, lit<, lit≤}
 use Rattle.std.specs.Prelude.{pos}
 use Rattle.cap_spec.specs.Denoting.{Denotes, Finds}
@@ -46,7 +47,11 @@ first-null_pad = first_by_tour null_pad [] 1 0 0 NullPad ([] ∷ []) root-null_p
 
 -- and one whose pad is capability 0
 lax-capability_pad : IsLaxAt ((0x0a ∷ 3 ∷ []) ∷ []) 0 0 CapabilityPad
-lax-capability_pad = (0, one_pad 0x0a 3 refl (refl, refl) refl (λ e. absurd (omega (arith, e))) ((refl, refl), refl) refl)
+lax-capability_pad = (
+  0,
+  one_pad 0x0a 3 refl (refl, refl) refl (λ e. absurd (omega (arith, e)))
+      ((refl, refl), refl) refl,
+)
 
 -- a two-word pad that leads to a struct without words in segment 2, which has no words
 lax-empty_segment : IsLaxAt ((0x0000000100000006 ∷ []) ∷ (0x0000000200000002 ∷ 0 ∷ []) ∷ [] ∷ []) 0 0 EmptySegment
@@ -56,7 +61,8 @@ lax-empty_segment = (
   0,
   0,
   record {
-    leads = two_pads 0x0000000100000006 0x0000000200000002 0 refl (refl, refl) refl refl (refl, refl) (lit< tt, refl) refl refl;
+    leads = two_pads 0x0000000100000006 0x0000000200000002 0 refl (refl, refl) refl refl (refl, refl)
+        (lit< tt, refl) refl refl;
     sits = record { exists = lit< tt; inside = lit≤ tt; composite = λ (a, b). absurd (omega (arith, a)) };
   },
   refl,
@@ -68,7 +74,14 @@ null-denoted = (near 0 refl (λ e. absurd (omega (arith, e))) refl refl, refl)
 
 strict-null : IsStrict ((0 ∷ []) ∷ []) 0 0
 strict-null = record {
-  accepted = record { tree = null; charge = 0; levels = 0; denotes = null-denoted; few_words = lit≤ tt; few_levels = lit≤ tt };
+  accepted = record {
+    tree = null;
+    charge = 0;
+    levels = 0;
+    denotes = null-denoted;
+    few_words = lit≤ tt;
+    few_levels = lit≤ tt;
+  };
   few_segments = lit≤ tt;
   none = none_lax ((0 ∷ []) ∷ []) null 0 0 null-denoted (lit≤ tt);
 }
@@ -79,17 +92,20 @@ two_words = (0x0000000100000006 ∷ []) ∷ (0x0000000100000002 ∷ 0 ∷ []) �
 
 two_words-found : Finds two_words 0 0 2 1 0 0
 two_words-found = record {
-  leads = two_pads 0x0000000100000006 0x0000000100000002 0 refl (refl, refl) refl refl (refl, refl) (lit< tt, refl) refl refl;
+  leads = two_pads 0x0000000100000006 0x0000000100000002 0 refl (refl, refl) refl refl (refl, refl)
+      (lit< tt, refl) refl refl;
   sits = record { exists = lit< tt; inside = lit≤ tt; composite = λ (a, b). absurd (omega (arith, a)) };
 }
 
 -- it has none of the forms
 two_words-not_lax : (what : Lax) → ¬ IsLaxAt two_words 0 0 what
 two_words-not_lax NullPad h =
-    let x : to_null ≡ to_object 1 (pos 0) 0 = (one_lead two_words 0 0 1 2 to_null (to_object 1 (pos 0) 0) h two_words-found.leads).1 in absurd cc
+    let x : to_null ≡ to_object 1 (pos 0) 0 =
+    (one_lead two_words 0 0 1 2 to_null (to_object 1 (pos 0) 0) h two_words-found.leads).1 in absurd cc
 two_words-not_lax EmptySegment (k, t, b, q, f, e) =
     let o = one_object two_words 0 0 2 1 0 0 k t b q two_words-found f in
     let none : segment_of two_words 1 ≡ [] = subst (λ u. segment_of two_words u ≡ []) (sym o.segment) e in
     absurd (cc none)
 two_words-not_lax CapabilityPad (i, h) =
-    let x : to_cap i ≡ to_object 1 (pos 0) 0 = (one_lead two_words 0 0 1 2 (to_cap i) (to_object 1 (pos 0) 0) h two_words-found.leads).1 in absurd cc
+    let x : to_cap i ≡ to_object 1 (pos 0) 0 =
+    (one_lead two_words 0 0 1 2 (to_cap i) (to_object 1 (pos 0) 0) h two_words-found.leads).1 in absurd cc

@@ -1,5 +1,6 @@
 -- Small messages that meet what the laws on trees, paths and verdicts ask.
-use Rattle.std.proofs.Common.{ℕ, List, [], ◌∷◌, ◌≡◌, ◌<◌, ◌⊎◌, refl, sym, ap, ◌∙◌, subst, pos, arith, lit<, lit≤, inl, inr}
+use Rattle.std.proofs.Common.{ℕ, List, [], ◌∷◌, ◌≡◌, ◌<◌, ◌⊎◌, refl, sym, ap, ◌∙◌, subst}
+use Rattle.std.proofs.Common.{pos, arith, lit<, lit≤, inl, inr}
 use Rattle.std.specs.List.{AllByRecursion}
 use Rattle.cap_spec.specs.Words.{IsWord}
 use Rattle.cap_spec.specs.Following.{near, rank, to_cap, to_null, to_object, Condition, Wrong}
@@ -34,29 +35,62 @@ two_pointers_tree = struct [] (more (struct (7 ∷ []) none) (more (cap 5) none)
 -- what the root finds
 finds_two : Finds two_pointers 0 0 0 0 1 0x0002000000000000
 finds_two = record {
-  leads = near 0x0002000000000000 refl (λ e. omega (arith, e)) (lit< tt, (λ e. omega (arith, e)), refl, refl, refl) refl;
+  leads = near 0x0002000000000000 refl (λ e. omega (arith, e))
+      (lit< tt, (λ e. omega (arith, e)), refl, refl, refl) refl;
   sits = record { exists = lit< tt; inside = lit≤ tt; composite = λ (a, b). absurd (omega (arith, a)) };
 }
 
 -- and its first pointer
 finds_seven : Finds two_pointers 0 1 0 0 3 0x0000000100000004
 finds_seven = record {
-  leads = near 0x0000000100000004 refl (λ e. omega (arith, e)) (lit< tt, (λ e. omega (arith, e)), refl, refl, refl) refl;
+  leads = near 0x0000000100000004 refl (λ e. omega (arith, e))
+      (lit< tt, (λ e. omega (arith, e)), refl, refl, refl) refl;
   sits = record { exists = lit< tt; inside = lit≤ tt; composite = λ (a, b). absurd (omega (arith, a)) };
 }
 
 denotes_seven : Denotes two_pointers 0 1 (struct (7 ∷ []) none) 1 1
-denotes_seven = (0, 0, 3, 0x0000000100000004, 0, 0, record { finds = finds_seven; kind = refl; data_words = refl; charge = refl; depth = refl }, (refl, refl, refl))
+denotes_seven = (
+  0,
+  0,
+  3,
+  0x0000000100000004,
+  0,
+  0,
+  record { finds = finds_seven; kind = refl; data_words = refl; charge = refl; depth = refl },
+  (refl, refl, refl),
+)
 
 denotes_five : Denotes two_pointers 0 2 (cap 5) 0 0
 denotes_five = (near 0x0000000500000003 refl (λ e. omega (arith, e)) ((refl, refl), refl) refl, refl)
 
 denotes_both : DenoteEach two_pointers ((0, 1) ∷ (0, 2) ∷ []) (more (struct (7 ∷ []) none) (more (cap 5) none)) 1 1
-denotes_both = (0, 1, (0, 2) ∷ [], 1, 1, 0, 0, refl, denotes_seven, (0, 2, [], 0, 0, 0, 0, refl, denotes_five, (refl, refl, refl), refl, refl), refl, refl)
+denotes_both = (
+  0,
+  1,
+  (0, 2) ∷ [],
+  1,
+  1,
+  0,
+  0,
+  refl,
+  denotes_seven,
+  (0, 2, [], 0, 0, 0, 0, refl, denotes_five, (refl, refl, refl), refl, refl),
+  refl,
+  refl,
+)
 
 -- the root denotes the tree, at a charge of 3 and a depth of 2
 denotes_two : Denotes two_pointers 0 0 two_pointers_tree 3 2
-denotes_two = (0, 0, 1, 0x0002000000000000, 1, 1, record { finds = finds_two; kind = refl; data_words = refl; charge = refl; depth = refl }, denotes_both)
+denotes_two = (
+  0,
+  0,
+  1,
+  0x0002000000000000,
+  1,
+  1,
+  record { finds = finds_two; kind = refl; data_words = refl; charge = refl; depth = refl },
+  denotes_both,
+)
 
 -- its words are words, so that it is a tree
 words_two : AllByRecursion (AllByRecursion IsWord) two_pointers
@@ -67,7 +101,13 @@ is_tree_two = denoted_is_tree two_pointers words_two 0 0 two_pointers_tree 3 2 d
 
 -- the second pointer is reached at level 2
 reaches_five : Reaches two_pointers (Ptr 1 ∷ []) 2 0 2
-reaches_five = (0x0002000000000000, 1, refl, (word 0 2, 0, (0, 0, 1, 0x0002000000000000, finds_two, refl, lit< tt, refl), (refl, refl), refl), refl)
+reaches_five = (
+  0x0002000000000000,
+  1,
+  refl,
+  (word 0 2, 0, (0, 0, 1, 0x0002000000000000, finds_two, refl, lit< tt, refl), (refl, refl), refl),
+  refl,
+)
 
 -- three pointers, one capability, and a charge that is the cost of the paths
 counts_two : (pointer_count two_pointers_tree ≡ 3) × (cap_count two_pointers_tree ≡ 1)
@@ -85,7 +125,8 @@ tour_two : IsTour two_pointers (Ptr 0 ∷ []) ([] ∷ (Ptr 0 ∷ []) ∷ [])
 tour_two = record {
   rising = (tt, tt);
   reached = λ q i. (pointer_path_reached two_pointers two_pointers_tree 3 2 denotes_two q).0 (wider q i);
-  all = λ q level s w g before. upto q before ((pointer_path_reached two_pointers two_pointers_tree 3 2 denotes_two q).1 (level, s, w, g));
+  all = λ q level s w g before. upto q before
+      ((pointer_path_reached two_pointers two_pointers_tree 3 2 denotes_two q).1 (level, s, w, g));
   none_after = after;
 }
   where
@@ -104,15 +145,28 @@ tour_two = record {
     late (inr (inl e)) = omega (arith, e)
     late (inr (inr e)) = e.1
 
-    upto : (q : List Step) → (q ≡ Ptr 0 ∷ []) ⊎ Before q (Ptr 0 ∷ []) → IsOneOf q ([] ∷ (Ptr 0 ∷ []) ∷ (Ptr 1 ∷ []) ∷ []) → IsOneOf q ([] ∷ (Ptr 0 ∷ []) ∷ [])
+    upto : (q : List Step) → (q ≡ Ptr 0 ∷ []) ⊎ Before q (Ptr 0 ∷ [])
+        → IsOneOf q ([] ∷ (Ptr 0 ∷ []) ∷ (Ptr 1 ∷ []) ∷ []) → IsOneOf q ([] ∷ (Ptr 0 ∷ []) ∷ [])
     upto q b (inl e) = inl e
     upto q b (inr (inl e)) = inr (inl e)
-    upto q b (inr (inr (inl e))) = absurd (late (subst (λ (x : List Step). (x ≡ Ptr 0 ∷ []) ⊎ Before x (Ptr 0 ∷ [])) e b))
+    upto q b (inr (inr (inl e))) = absurd (late
+        (subst (λ (x : List Step). (x ≡ Ptr 0 ∷ []) ⊎ Before x (Ptr 0 ∷ [])) e b))
     upto q b (inr (inr (inr e))) = absurd e
 
 -- the second pointer's object is the struct of one word at word 3
 place_seven : IsPlace two_pointers (Ptr 0 ∷ []) 0 3 1
-place_seven = (2, word 0 1, (0x0002000000000000, 1, refl, (word 0 1, 0, (0, 0, 1, 0x0002000000000000, finds_two, refl, lit< tt, refl), (refl, refl), refl), refl), (0, 0x0000000100000004, finds_seven, refl))
+place_seven = (
+  2,
+  word 0 1,
+  (
+    0x0002000000000000,
+    1,
+    refl,
+    (word 0 1, 0, (0, 0, 1, 0x0002000000000000, finds_two, refl, lit< tt, refl), (refl, refl), refl),
+    refl,
+  ),
+  (0, 0x0000000100000004, finds_seven, refl),
+)
 
 -- a word limit of none refuses the root, which costs two words
 abbrev no_words : Refusal
@@ -122,7 +176,12 @@ reaches_root : Reaches two_pointers [] 1 0 0
 reaches_root = (0x0002000000000000, 0, refl, (refl, refl), refl)
 
 tour_root : IsTour two_pointers [] ([] ∷ [])
-tour_root = record { rising = tt; reached = λ q i. reached q i; all = λ q level s w h before. all q before; none_after = after }
+tour_root = record {
+  rising = tt;
+  reached = λ q i. reached q i;
+  all = λ q level s w h before. all q before;
+  none_after = after;
+}
   where
     reached : (q : List Step) → IsOneOf q ([] ∷ []) → (level s w : ℕ) × Reaches two_pointers q level s w
     reached q (inl e) = (1, 0, 0, subst (λ (x : List Step). Reaches two_pointers x 1 0 0) (sym e) reaches_root)
@@ -139,7 +198,12 @@ tour_root = record { rising = tt; reached = λ q i. reached q i; all = λ q leve
 
 past_no_words : IsFirstReason two_pointers 0 2 0 0 0 1 WordLimit
 past_no_words = is_past 2 refl
-    (λ (k, t, b, q, tag, finds, tagged, past). omega (arith, paths_within_depth two_pointers two_pointers_tree 3 2 denotes_two [] 1 0 0 k t b q tag reaches_root finds tagged, past))
+    (λ (k, t, b, q, tag, finds, tagged, past). omega (
+      arith,
+      paths_within_depth two_pointers two_pointers_tree 3 2 denotes_two [] 1 0 0 k t b q tag reaches_root
+          finds tagged,
+      past,
+    ))
     (inr (inr (0, 0, 1, 0x0002000000000000, 0, finds_two, (λ (a, b). absurd (omega (arith, a))), refl))) (lit< tt)
 
 refused_no_words : IsRefused two_pointers 0 2 no_words
@@ -175,7 +239,8 @@ round = (0x00010000fffffffc ∷ []) ∷ []
 
 finds_round : Finds round 0 0 0 0 0 0x00010000fffffffc
 finds_round = record {
-  leads = near 0x00010000fffffffc refl (λ e. omega (arith, e)) (lit< tt, (λ e. omega (arith, e)), refl, refl, refl) refl;
+  leads = near 0x00010000fffffffc refl (λ e. omega (arith, e))
+      (lit< tt, (λ e. omega (arith, e)), refl, refl, refl) refl;
   sits = record { exists = lit< tt; inside = lit≤ tt; composite = λ (a, b). absurd (omega (arith, a)) };
 }
 
@@ -184,7 +249,13 @@ reaches_round : Reaches round [] 1 0 0
 reaches_round = (0x00010000fffffffc, 0, refl, (refl, refl), refl)
 
 reaches_round_again : Reaches round (Ptr 0 ∷ []) 2 0 0
-reaches_round_again = (0x00010000fffffffc, 1, refl, (word 0 0, 0, (0, 0, 0, 0x00010000fffffffc, finds_round, refl, lit< tt, refl), (refl, refl), refl), refl)
+reaches_round_again = (
+  0x00010000fffffffc,
+  1,
+  refl,
+  (word 0 0, 0, (0, 0, 0, 0x00010000fffffffc, finds_round, refl, lit< tt, refl), (refl, refl), refl),
+  refl,
+)
 
 -- a list of one struct of the word 9
 abbrev one_element : List (List ℕ)
@@ -204,8 +275,13 @@ denotes_one = (
   0,
   record {
     finds = record {
-      leads = near 0x0000000f00000001 refl (λ e. omega (arith, e)) (lit< tt, (λ e. omega (arith, e)), refl, refl, refl) refl;
-      sits = record { exists = lit< tt; inside = lit≤ tt; composite = λ x. (0x0000000100000004, refl, (refl, lit≤ tt)) };
+      leads = near 0x0000000f00000001 refl (λ e. omega (arith, e))
+          (lit< tt, (λ e. omega (arith, e)), refl, refl, refl) refl;
+      sits = record {
+        exists = lit< tt;
+        inside = lit≤ tt;
+        composite = λ x. (0x0000000100000004, refl, (refl, lit≤ tt));
+      };
     };
     kind = refl;
     code = refl;
@@ -224,39 +300,62 @@ lone = (0x0000000100000000 ∷ 7 ∷ []) ∷ []
 
 finds_lone : Finds lone 0 0 0 0 1 0x0000000100000000
 finds_lone = record {
-  leads = near 0x0000000100000000 refl (λ e. omega (arith, e)) (lit< tt, (λ e. omega (arith, e)), refl, refl, refl) refl;
+  leads = near 0x0000000100000000 refl (λ e. omega (arith, e))
+      (lit< tt, (λ e. omega (arith, e)), refl, refl, refl) refl;
   sits = record { exists = lit< tt; inside = lit≤ tt; composite = λ (a, b). absurd (omega (arith, a)) };
 }
 
 denotes_lone : Denotes lone 0 0 (struct (7 ∷ []) none) 1 1
-denotes_lone = (0, 0, 1, 0x0000000100000000, 0, 0, record { finds = finds_lone; kind = refl; data_words = refl; charge = refl; depth = refl }, (refl, refl, refl))
+denotes_lone = (
+  0,
+  0,
+  1,
+  0x0000000100000000,
+  0,
+  0,
+  record { finds = finds_lone; kind = refl; data_words = refl; charge = refl; depth = refl },
+  (refl, refl, refl),
+)
 
 -- its one path is the empty one, to the root
 root_alone : (path : List Step) (level s w : ℕ) → Reaches lone path level s w → (path ≡ []) × (s ≡ 0) × (w ≡ 0)
 root_alone path level s w r =
     elim ((pointer_path_reached lone (struct (7 ∷ []) none) 1 1 denotes_lone path).1 (level, s, w, r)) [
       | inl e ↦
-          let o = one_reached lone [] level 1 s w 0 0 (subst (λ (x : List Step). Reaches lone x level s w) e r) (0x0000000100000000, 0, refl, (refl, refl), refl) in (e, o.1, o.2)
+          let o = one_reached lone [] level 1 s w 0 0 (subst (λ (x : List Step). Reaches lone x level s w) e r)
+          (0x0000000100000000, 0, refl, (refl, refl), refl) in (e, o.1, o.2)
       | inr e ↦ absurd e
     ]
 
 -- and uses the place of the word
 used_alone : (used : List (ℕ × ℕ)) → Occupies lone 0 0 used → used ≡ (0, 1) ∷ []
-used_alone used (p, has, inl (k, leads, e)) = absurd (cc (one_lead lone 0 0 k 0 to_null (to_object 0 (pos 1) 0x0000000100000000) leads finds_lone.leads).1)
-used_alone used (p, has, inr (inl (k, i, leads, e))) = absurd (cc (one_lead lone 0 0 k 0 (to_cap i) (to_object 0 (pos 1) 0x0000000100000000) leads finds_lone.leads).1)
+used_alone used (p, has, inl (k, leads, e)) =
+    absurd (cc (one_lead lone 0 0 k 0 to_null (to_object 0 (pos 1) 0x0000000100000000) leads finds_lone.leads).1)
+used_alone used (p, has, inr (inl (k, i, leads, e))) =
+    absurd (cc (one_lead lone 0 0 k 0 (to_cap i) (to_object 0 (pos 1) 0x0000000100000000) leads finds_lone.leads).1)
 used_alone used (p, has, inr (inr (k, t, b, q, f, e))) =
-    let o : SameObject k t b q 0 0 1 0x0000000100000000 = one_object lone 0 0 k t b q 0 0 1 0x0000000100000000 f finds_lone in
+    let o : SameObject k t b q 0 0 1 0x0000000100000000 =
+    one_object lone 0 0 k t b q 0 0 1 0x0000000100000000 f finds_lone in
     let word_is : p ≡ 0x0000000100000000 = one_word lone 0 0 p 0x0000000100000000 has refl in
     rw (word_is, o.segment, o.start, o.shape) at e
 
-used_on_path : (path : List Step) (level s w : ℕ) (used : List (ℕ × ℕ)) → Reaches lone path level s w → Occupies lone s w used → used ≡ (0, 1) ∷ []
-used_on_path path level s w used r occupied = let a = root_alone path level s w r in used_alone used (rw (a.1, a.2) at occupied)
+used_on_path : (path : List Step) (level s w : ℕ) (used : List (ℕ × ℕ)) → Reaches lone path level s w
+    → Occupies lone s w used → used ≡ (0, 1) ∷ []
+used_on_path path level s w used r occupied = let a = root_alone path level s w r in
+    used_alone used (rw (a.1, a.2) at occupied)
 
 disjoint_lone : IsDisjoint lone
 disjoint_lone = record {
-  root = λ path (level, s, w, used, r, occupied, place). elim (subst (IsPlaceOf (0, 0)) (used_on_path path level s w used r occupied) place) [ inl e ↦ zero_not_one (ap (λ (x : ℕ × ℕ). x.1) e) | inr e ↦ e ];
-  each = λ path level s w used r occupied. subst AreApart (sym (used_on_path path level s w used r occupied)) ((λ h. h), tt);
-  apart = λ path other x (level, s, w, used, r, occupied, place) (level', s', w', used', r', occupied', place'). (root_alone path level s w r).0 ∙ sym (root_alone other level' s' w' r').0;
+  root = λ path (level, s, w, used, r, occupied, place).
+      elim (subst (IsPlaceOf (0, 0)) (used_on_path path level s w used r occupied) place) [
+        | inl e ↦
+            zero_not_one (ap (λ (x : ℕ × ℕ). x.1) e)
+        | inr e ↦ e
+      ];
+  each = λ path level s w used r occupied. subst AreApart
+      (sym (used_on_path path level s w used r occupied)) ((λ h. h), tt);
+  apart = λ path other x (level, s, w, used, r, occupied, place) (level', s', w', used', r', occupied', place').
+      (root_alone path level s w r).0 ∙ sym (root_alone other level' s' w' r').0;
 }
   where
     zero_not_one : ◌≡◌ {A = ℕ} 0 1 → ⊥

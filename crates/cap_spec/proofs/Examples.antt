@@ -40,14 +40,16 @@ unpacked-present_zero : unpacked (1 ∷ 0 ∷ []) ≡ 0 ∷ []
 unpacked-present_zero = refl
 
 -- a text that ends inside a run of words as they are gives the words before that
-unpacked-cut : unpacked (255 ∷ (replicate 8 0x8a ++ 2 ∷ replicate 12 0x8a)) ≡ 0x8a8a8a8a8a8a8a8a ∷ 0x8a8a8a8a8a8a8a8a ∷ []
+unpacked-cut : unpacked (255 ∷ (replicate 8 0x8a ++ 2 ∷ replicate 12 0x8a))
+    ≡ 0x8a8a8a8a8a8a8a8a ∷ 0x8a8a8a8a8a8a8a8a ∷ []
 unpacked-cut = refl
 
 cut-in_plain : packed_is_cut (255 ∷ (replicate 8 0x8a ++ 2 ∷ replicate 12 0x8a)) ≡ true
 cut-in_plain = refl
 
 -- the positions in groups of each kind, and in a part of one
-packed_ends-groups : packed_ends 0 (0x10 ∷ 1 ∷ 0 ∷ 2 ∷ 255 ∷ (replicate 8 0x8a ++ 1 ∷ (replicate 8 7 ++ 1 ∷ 0 ∷ []))) ≡ 2 ∷ 4 ∷ 4 ∷ 4 ∷ 14 ∷ 22 ∷ 24 ∷ 24 ∷ []
+packed_ends-groups : packed_ends 0 (0x10 ∷ 1 ∷ 0 ∷ 2 ∷ 255 ∷ (replicate 8 0x8a ++ 1 ∷ (replicate 8 7 ++ 1 ∷ 0 ∷ [])))
+    ≡ 2 ∷ 4 ∷ 4 ∷ 4 ∷ 14 ∷ 22 ∷ 24 ∷ 24 ∷ []
 packed_ends-groups = refl
 
 packed_ends-cut : packed_ends 0 (255 ∷ (replicate 8 0x8a ++ 2 ∷ replicate 12 0x8a)) ≡ 10 ∷ 18 ∷ 22 ∷ []
@@ -86,7 +88,8 @@ layout-structs : layout (trim (structs 1 0 (more (struct (5 ∷ []) none) (more 
 layout-structs = refl
 
 -- where the last data words and pointers of all elements are zero and null, they are cut from all
-layout-cut : layout (trim (structs 1 1 (more (struct (1 ∷ []) (more null none)) (more (struct (0 ∷ []) (more null none)) none))))
+layout-cut : layout (trim (structs 1 1
+    (more (struct (1 ∷ []) (more null none)) (more (struct (0 ∷ []) (more null none)) none))))
     ≡ 0x0000001700000001 ∷ 0x0000000100000008 ∷ 1 ∷ 0 ∷ []
 layout-cut = refl
 
@@ -99,7 +102,8 @@ words-bits : scalar_words 1 (1 ∷ 1 ∷ 1 ∷ []) ≡ 7 ∷ []
 words-bits = refl
 
 -- two landing pad words lead from segment 0 by segment 1 to a struct in segment 2, at a charge of 3
-denotes-two_pads : Denotes ((0x0000000100000006 ∷ []) ∷ (0x0000000200000002 ∷ 0x0000000100000000 ∷ []) ∷ (42 ∷ []) ∷ []) 0 0 (struct (42 ∷ []) none) 3 1
+denotes-two_pads : Denotes ((0x0000000100000006 ∷ []) ∷ (0x0000000200000002 ∷ 0x0000000100000000 ∷ []) ∷ (42 ∷ []) ∷ [])
+    0 0 (struct (42 ∷ []) none) 3 1
 denotes-two_pads = (
   2,
   2,
@@ -109,7 +113,8 @@ denotes-two_pads = (
   0,
   record {
     finds = record {
-      leads = two_pads 0x0000000100000006 0x0000000200000002 0x0000000100000000 refl (refl, refl) refl refl (refl, refl) (lit< tt, refl) refl refl;
+      leads = two_pads 0x0000000100000006 0x0000000200000002 0x0000000100000000 refl (refl, refl) refl refl (refl, refl)
+          (lit< tt, refl) refl refl;
       sits = record { exists = lit< tt; inside = lit≤ tt; composite = λ (a, b). absurd (omega (arith, a)) };
     };
     kind = refl;
@@ -122,7 +127,8 @@ denotes-two_pads = (
 
 -- the lines of a message of one segment of one zero word
 segments-null : segments_text 0 ((0 ∷ []) ∷ [])
-    ≡ codes "message 0: segments 1 words 1" ++ 10 ∷ (codes "segment 0: 1" ++ 10 ∷ (codes "root 0000000000000000" ++ 10 ∷ []))
+    ≡ codes "message 0: segments 1 words 1" ++ 10
+    ∷ (codes "segment 0: 1" ++ 10 ∷ (codes "root 0000000000000000" ++ 10 ∷ []))
 unfolding digits
 segments-null = refl
 
@@ -136,7 +142,8 @@ vet-accepted : vet_text 0 (accepted 4 2 3 0) ≡ codes "message 0: accepted char
 unfolding digits
 vet-accepted = refl
 
-dump-bits : dump_text (scalars 1 (1 ∷ 1 ∷ 1 ∷ [])) ≡ codes "root list 1 3" ++ 10 ∷ (codes "  w0 0700000000000000" ++ 10 ∷ [])
+dump-bits : dump_text (scalars 1 (1 ∷ 1 ∷ 1 ∷ []))
+    ≡ codes "root list 1 3" ++ 10 ∷ (codes "  w0 0700000000000000" ++ 10 ∷ [])
 unfolding digits
 dump-bits = refl
 

@@ -1,5 +1,6 @@
 -- Words and their plain spelling: each list of bytes splits into words and less than a word in one way.
-use Rattle.std.proofs.Common.{◌≡◌, ◌≢◌, ◌↔◌, ℕ, suc, ◌+◌, ◌*◌, ◌<◌, true, false, List, [], ◌∷◌, ◌++◌, length, drop, refl, sym, ap, ◌∙◌, subst, arith, append-nil, drop_at}
+use Rattle.std.proofs.Common.{◌≡◌, ◌≢◌, ◌↔◌, ℕ, suc, ◌+◌, ◌*◌, ◌<◌, true, false, List, [], ◌∷◌, ◌++◌, length, drop}
+use Rattle.std.proofs.Common.{refl, sym, ap, ◌∙◌, subst, arith, append-nil, drop_at}
 use Rattle.std.specs.List.{AllByRecursion}
 use Rattle.byteorder.specs.Endian.{little_number}
 use Rattle.cap_spec.specs.Words.{IsWord}
@@ -12,7 +13,8 @@ length_plain [] = refl
 length_plain (x ∷ ws) = let t = length_plain ws in omega arith
 
 -- the text of words, whatever stands behind it, begins with these words
-pub plain_back : (ws rest : List ℕ) → AllByRecursion IsWord ws → plain_words (plain_text ws ++ rest) ≡ ws ++ plain_words rest
+pub plain_back : (ws rest : List ℕ) → AllByRecursion IsWord ws
+    → plain_words (plain_text ws ++ rest) ≡ ws ++ plain_words rest
 plain_back [] rest a = refl
 plain_back (x ∷ ws) rest a =
     let h : little_number 8 (word_bytes x) ≡ x = word_back x [] a.0 in
@@ -48,15 +50,18 @@ plain_cut_short a (b ∷ c ∷ d ∷ e ∷ f ∷ g ∷ []) l = refl
 plain_cut_short a (b ∷ c ∷ d ∷ e ∷ f ∷ g ∷ h ∷ rest) l = absurd (omega arith)
 
 -- eight bytes make a word
-pub eight_word : (a b c d e f g h : ℕ) → AllByRecursion (λ x. x < 256) (a ∷ b ∷ c ∷ d ∷ e ∷ f ∷ g ∷ h ∷ []) → IsWord (little_number 8 (a ∷ b ∷ c ∷ d ∷ e ∷ f ∷ g ∷ h ∷ []))
+pub eight_word : (a b c d e f g h : ℕ) → AllByRecursion (λ x. x < 256) (a ∷ b ∷ c ∷ d ∷ e ∷ f ∷ g ∷ h ∷ [])
+    → IsWord (little_number 8 (a ∷ b ∷ c ∷ d ∷ e ∷ f ∷ g ∷ h ∷ []))
 eight_word a b c d e f g h all = let t = bytes_below (a ∷ b ∷ c ∷ d ∷ e ∷ f ∷ g ∷ h ∷ []) all in omega arith
 
 -- the bytes of that word are these
-pub eight_back : (a b c d e f g h : ℕ) → AllByRecursion (λ x. x < 256) (a ∷ b ∷ c ∷ d ∷ e ∷ f ∷ g ∷ h ∷ []) → word_bytes (little_number 8 (a ∷ b ∷ c ∷ d ∷ e ∷ f ∷ g ∷ h ∷ [])) ≡ a ∷ b ∷ c ∷ d ∷ e ∷ f ∷ g ∷ h ∷ []
+pub eight_back : (a b c d e f g h : ℕ) → AllByRecursion (λ x. x < 256) (a ∷ b ∷ c ∷ d ∷ e ∷ f ∷ g ∷ h ∷ [])
+    → word_bytes (little_number 8 (a ∷ b ∷ c ∷ d ∷ e ∷ f ∷ g ∷ h ∷ [])) ≡ a ∷ b ∷ c ∷ d ∷ e ∷ f ∷ g ∷ h ∷ []
 eight_back a b c d e f g h all = bytes_back (a ∷ b ∷ c ∷ d ∷ e ∷ f ∷ g ∷ h ∷ []) all
 
 -- bytes are the text of the words that they begin with, and less than a word behind it
-pub plain_split : (bytes : List ℕ) → AllByRecursion (λ b. b < 256) bytes → PlainSplits bytes (plain_words bytes) (drop (8 * length (plain_words bytes)) bytes)
+pub plain_split : (bytes : List ℕ) → AllByRecursion (λ b. b < 256) bytes
+    → PlainSplits bytes (plain_words bytes) (drop (8 * length (plain_words bytes)) bytes)
 plain_split [] all = record { are_words = tt; whole = refl; partial = omega arith }
 plain_split (a ∷ []) all = record { are_words = tt; whole = refl; partial = omega arith }
 plain_split (a ∷ b ∷ []) all = record { are_words = tt; whole = refl; partial = omega arith }
@@ -67,19 +72,32 @@ plain_split (a ∷ b ∷ c ∷ d ∷ e ∷ f ∷ []) all = record { are_words = 
 plain_split (a ∷ b ∷ c ∷ d ∷ e ∷ f ∷ g ∷ []) all = record { are_words = tt; whole = refl; partial = omega arith }
 plain_split (a ∷ b ∷ c ∷ d ∷ e ∷ f ∷ g ∷ h ∷ rest) all =
     let t = plain_split rest all.1.1.1.1.1.1.1.1 in
-    let eight : AllByRecursion (λ x. x < 256) (a ∷ b ∷ c ∷ d ∷ e ∷ f ∷ g ∷ h ∷ []) =
-    (all.0, (all.1.0, (all.1.1.0, (all.1.1.1.0, (all.1.1.1.1.0, (all.1.1.1.1.1.0, (all.1.1.1.1.1.1.0, (all.1.1.1.1.1.1.1.0, tt)))))))) in
+    let eight : AllByRecursion (λ x. x < 256) (a ∷ b ∷ c ∷ d ∷ e ∷ f ∷ g ∷ h ∷ []) = (
+      all.0,
+      (
+        all.1.0,
+        (
+          all.1.1.0,
+          (
+            all.1.1.1.0,
+            (all.1.1.1.1.0, (all.1.1.1.1.1.0, (all.1.1.1.1.1.1.0, (all.1.1.1.1.1.1.1.0, tt)))),
+          ),
+        ),
+      ),
+    ) in
     let u = eight_back a b c d e f g h eight in
     let n = length (plain_words rest) in
     let k : 8 * suc n ≡ 8 + 8 * n = omega arith in
     let j : 8 + 8 * n ≡ suc (suc (suc (suc (suc (suc (suc (suc (8 * n)))))))) = omega arith in
-    let i : drop (8 * suc n) (a ∷ b ∷ c ∷ d ∷ e ∷ f ∷ g ∷ h ∷ rest) ≡ drop (8 * n) rest = ap (λ m. drop m (a ∷ b ∷ c ∷ d ∷ e ∷ f ∷ g ∷ h ∷ rest)) (k ∙ j) in
+    let i : drop (8 * suc n) (a ∷ b ∷ c ∷ d ∷ e ∷ f ∷ g ∷ h ∷ rest) ≡ drop (8 * n) rest =
+    ap (λ m. drop m (a ∷ b ∷ c ∷ d ∷ e ∷ f ∷ g ∷ h ∷ rest)) (k ∙ j) in
     record {
       are_words = (eight_word a b c d e f g h eight, t.are_words);
       whole =
           ap (λ m. (a ∷ b ∷ c ∷ d ∷ e ∷ f ∷ g ∷ h ∷ []) ++ m) t.whole
           ∙ (ap (λ m. m ++ (plain_text (plain_words rest) ++ drop (8 * n) rest)) (sym u)
-          ∙ ap (λ m. (word_bytes (little_number 8 (a ∷ b ∷ c ∷ d ∷ e ∷ f ∷ g ∷ h ∷ [])) ++ plain_text (plain_words rest)) ++ m) (sym i));
+          ∙ ap (λ m. (word_bytes (little_number 8 (a ∷ b ∷ c ∷ d ∷ e ∷ f ∷ g ∷ h ∷ [])) ++ plain_text
+          (plain_words rest)) ++ m) (sym i));
       partial = subst (λ m. length m < 8) (sym i) t.partial;
     }
 
@@ -91,23 +109,28 @@ plain_words_of bytes words rest s =
     sym (ap plain_words s.whole ∙ (t ∙ (ap (λ k. words ++ k) u ∙ append-nil words)))
 
 -- and leave just this
-pub plain_rest_of : (bytes words rest : List ℕ) → PlainSplits bytes words rest → rest ≡ drop (8 * length (plain_words bytes)) bytes
+pub plain_rest_of : (bytes words rest : List ℕ) → PlainSplits bytes words rest
+    → rest ≡ drop (8 * length (plain_words bytes)) bytes
 plain_rest_of bytes words rest s =
     let t = drop_at (plain_text words) rest (8 * length words) (length_plain words) in
     let u = plain_words_of bytes words rest s in
     sym (ap (λ k. drop (8 * length k) bytes) (sym u) ∙ (ap (λ k. drop (8 * length words) k) s.whole ∙ t))
 
 -- they end inside a word where something is left
-pub plain_cut_of : (bytes words rest : List ℕ) → PlainSplits bytes words rest → (plain_is_cut bytes ≡ true) ↔ (rest ≢ [])
+pub plain_cut_of : (bytes words rest : List ℕ) → PlainSplits bytes words rest
+    → (plain_is_cut bytes ≡ true) ↔ (rest ≢ [])
 plain_cut_of bytes words [] s =
     let t : plain_is_cut bytes ≡ false = ap plain_is_cut s.whole ∙ plain_cut_back words [] in
     ((λ e. absurd (let h : true ≡ false = sym e ∙ t in cc)), (λ n. absurd (n refl)))
 plain_cut_of bytes words (x ∷ rest) s =
     let p = s.partial in
-    let t : plain_is_cut bytes ≡ true = ap plain_is_cut s.whole ∙ (plain_cut_back words (x ∷ rest) ∙ plain_cut_short x rest (omega arith)) in
+    let t : plain_is_cut bytes ≡ true = ap plain_is_cut s.whole
+    ∙ (plain_cut_back words (x ∷ rest) ∙ plain_cut_short x rest (omega arith)) in
     ((λ e h. cc), (λ n. t))
 
 -- these words and this rest are such a split
-pub plain_split_by : (bytes words rest : List ℕ) → AllByRecursion (λ b. b < 256) bytes → words ≡ plain_words bytes → rest ≡ drop (8 * length (plain_words bytes)) bytes → PlainSplits bytes words rest
+pub plain_split_by : (bytes words rest : List ℕ) → AllByRecursion (λ b. b < 256) bytes → words ≡ plain_words bytes
+    → rest ≡ drop (8 * length (plain_words bytes)) bytes → PlainSplits bytes words rest
 plain_split_by bytes words rest all w r =
-    subst (λ k. PlainSplits bytes k rest) (sym w) (subst (λ k. PlainSplits bytes (plain_words bytes) k) (sym r) (plain_split bytes all))
+    subst (λ k. PlainSplits bytes k rest) (sym w)
+    (subst (λ k. PlainSplits bytes (plain_words bytes) k) (sym r) (plain_split bytes all))

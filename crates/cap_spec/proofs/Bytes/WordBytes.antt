@@ -1,5 +1,6 @@
 -- The bytes of a word: they tell the word, and each eight bytes are those of one.
-use Rattle.std.proofs.Common.{◌≡◌, ℕ, zero, suc, ◌+◌, ◌*◌, ◌/◌, ◌%◌, ◌^◌, ◌<◌, List, [], ◌∷◌, ◌++◌, length, refl, sym, ap, ◌∙◌, arith}
+use Rattle.std.proofs.Common.{◌≡◌, ℕ, zero, suc, ◌+◌, ◌*◌, ◌/◌, ◌%◌, ◌^◌, ◌<◌, List, [], ◌∷◌, ◌++◌}
+use Rattle.std.proofs.Common.{length, refl, sym, ap, ◌∙◌, arith}
 use Rattle.std.proofs.Math.Nat.{pow-succ', div-div-eq-div-mul}
 use Rattle.std.specs.List.{AllByRecursion, flat_map}
 use Rattle.std.specs.Int.{byte_at, bytes_low_first}
@@ -15,7 +16,8 @@ byte_at_up zero a y h = omega arith
 byte_at_up (suc i) a y h =
     let q : (a + 256 * y) / 256 ≡ y = omega arith in
     let p : 256 ^ suc (suc i) ≡ 256 * 256 ^ suc i = pow-succ' 256 (suc i) in
-    ap (λ d. (a + 256 * y) / d % 256) p ∙ (ap (λ k. k % 256) (sym (div-div-eq-div-mul (a + 256 * y) 256 (256 ^ suc i))) ∙ ap (λ k. k / 256 ^ suc i % 256) q)
+    ap (λ d. (a + 256 * y) / d % 256) p ∙ (ap (λ k. k % 256) (sym (div-div-eq-div-mul (a + 256 * y) 256 (256 ^ suc i)))
+    ∙ ap (λ k. k / 256 ^ suc i % 256) q)
 
 -- so do all of them
 bytes_up : (i k a y : ℕ) → a < 256 → bytes_low_first (suc i) k (a + 256 * y) ≡ bytes_low_first i k y
@@ -26,7 +28,8 @@ bytes_up i (suc k) a y h =
     ap (λ b. b ∷ bytes_low_first (suc (suc i)) k (a + 256 * y)) p ∙ ap (λ bs. byte_at i y ∷ bs) q
 
 -- the bytes of the number that bytes make are these bytes
-pub bytes_back : (bytes : List ℕ) → AllByRecursion (λ b. b < 256) bytes → little_bytes (length bytes) (little_number (length bytes) bytes) ≡ bytes
+pub bytes_back : (bytes : List ℕ) → AllByRecursion (λ b. b < 256) bytes
+    → little_bytes (length bytes) (little_number (length bytes) bytes) ≡ bytes
 bytes_back [] a = refl
 bytes_back (b ∷ bytes) a =
     let h : b < 256 = a.0 in
@@ -36,10 +39,12 @@ bytes_back (b ∷ bytes) a =
     let low : (b + 256 * y) % 256 ≡ b = omega arith in
     let u : bytes_low_first 1 n (b + 256 * y) ≡ little_bytes n y = bytes_up 0 n b y h in
     let t : little_bytes n y ≡ bytes = bytes_back bytes a.1 in
-    ap (λ x. little_bytes (suc n) x) e ∙ (ap (λ k. k ∷ bytes_low_first 1 n (b + 256 * y)) low ∙ ap (λ bs. b ∷ bs) (u ∙ t))
+    ap (λ x. little_bytes (suc n) x) e ∙ (ap (λ k. k ∷ bytes_low_first 1 n (b + 256 * y)) low
+    ∙ ap (λ bs. b ∷ bs) (u ∙ t))
 
 -- bytes make a number that is so large at most
-pub bytes_below : (bytes : List ℕ) → AllByRecursion (λ b. b < 256) bytes → little_number (length bytes) bytes < 256 ^ length bytes
+pub bytes_below : (bytes : List ℕ) → AllByRecursion (λ b. b < 256) bytes
+    → little_number (length bytes) bytes < 256 ^ length bytes
 bytes_below [] a = omega arith
 bytes_below (b ∷ bytes) a =
     let h : b < 256 = a.0 in

@@ -2,18 +2,22 @@
 use Rattle.std.proofs.Common.{ℕ, suc, ◌+◌, ◌*◌, ◌<◌, List, ◌++◌, ◌≡◌, arith, length, length-append}
 
 -- where the parts of an element's words are
-pub element_end : (eb d p : ℕ) (ws pw : List ℕ) (k : ℕ) → length ws ≡ d → length pw ≡ k → k ≡ p → eb + d + p ≡ eb + length (ws ++ pw)
+pub element_end : (eb d p : ℕ) (ws pw : List ℕ) (k : ℕ) → length ws ≡ d → length pw ≡ k → k ≡ p
+    → eb + d + p ≡ eb + length (ws ++ pw)
 element_end eb d p ws pw k e f g = let a = length-append ws pw in omega (arith, a, e, f, g)
 
 -- where the contents of an element's children begin, and those of the further elements
-pub children_begin : (cb eb n d p k after : ℕ) → cb ≡ eb + suc n * (d + p) + after → k ≡ p → cb ≡ eb + d + k + (n * (d + p) + after)
+pub children_begin : (cb eb n d p k after : ℕ) → cb ≡ eb + suc n * (d + p) + after → k ≡ p
+    → cb ≡ eb + d + k + (n * (d + p) + after)
 children_begin cb eb n d p k after e f = omega arith
 
-pub rest_begin : (cb eb n d p after s : ℕ) → cb ≡ eb + suc n * (d + p) + after → cb + s ≡ eb + d + p + n * (d + p) + (after + s)
+pub rest_begin : (cb eb n d p after s : ℕ) → cb ≡ eb + suc n * (d + p) + after
+    → cb + s ≡ eb + d + p + n * (d + p) + (after + s)
 rest_begin cb eb n d p after s e = omega arith
 
 -- how far an element's pointers lead at most, and those of the further elements
-pub children_near : (after n d p k s r m : ℕ) → after + suc n * (d + p) + (s + r) < m → k ≡ p → n * (d + p) + after + k + s < m
+pub children_near : (after n d p k s r m : ℕ) → after + suc n * (d + p) + (s + r) < m → k ≡ p
+    → n * (d + p) + after + k + s < m
 children_near after n d p k s r m h f = omega arith
 
 pub rest_near : (after n each s r m : ℕ) → after + suc n * each + (s + r) < m → after + s + n * each + r < m

@@ -1,5 +1,6 @@
 -- The layout of a tree denotes that tree.
-use Rattle.std.proofs.Common.{ℕ, ◌+◌, ◌-◌, ◌*◌, ◌^◌, ◌<◌, ◌≤◌, List, [], ◌∷◌, ◌≡◌, ◌≢◌, sym, ap, ap₂, refl, subst, ◌∙◌, arith, length}
+use Rattle.std.proofs.Common.{ℕ, ◌+◌, ◌-◌, ◌*◌, ◌^◌, ◌<◌, ◌≤◌, List, [], ◌∷◌, ◌≡◌, ◌≢◌, sym, ap, ap₂}
+use Rattle.std.proofs.Common.{refl, subst, ◌∙◌, arith, length}
 use Rattle.std.specs.Prelude.{if◌then◌else◌, ◌==◌}
 use Rattle.std.specs.List.{AllByRecursion}
 use Rattle.std.proofs.lemmas.Bool.{ne_eqb}
@@ -8,7 +9,8 @@ use Rattle.cap_spec.specs.Messages.{HasWord}
 use Rattle.cap_spec.specs.Pointers.{kind, middle, data_size, pointer_size, list_size, extent, element_bits, list_words}
 use Rattle.cap_spec.specs.Following.{near, IsComposite, TagFits, extra}
 use Rattle.cap_spec.specs.Tree.{struct, scalars, pointers, structs, Trees, none, more, tree_count}
-use Rattle.cap_spec.specs.Denoting.{Finds, Denotes, DenoteEach, AreElements, places, words_from, values_of, element_levels}
+use Rattle.cap_spec.specs.Denoting.{Finds, Denotes, DenoteEach, AreElements, places}
+use Rattle.cap_spec.specs.Denoting.{words_from, values_of, element_levels}
 use Rattle.cap_spec.specs.Canonical.{struct_word, pointer_to}
 use Rattle.cap_spec.specs.Scalars.{scalar_words}
 use Rattle.cap_spec.proofs.Trees.Charges.{extent_struct, extent_pointers, extent_structs}
@@ -27,21 +29,35 @@ within : (b x y l : ℕ) → x ≡ y → b + y ≤ l → b + x ≤ l
 within b x y l e h = omega arith
 
 -- a struct's pointer that isn't zero leads to its object
-struct_finds : (seg : List ℕ) (a b offset q d p : ℕ) → HasWord (seg ∷ []) 0 a q → StructFields q offset d p → q ≢ 0 → b ≡ a + 1 + offset → offset < 2 ^ 29
+struct_finds : (seg : List ℕ) (a b offset q d p : ℕ) → HasWord (seg ∷ []) 0 a q → StructFields q offset d p → q ≢ 0
+    → b ≡ a + 1 + offset → offset < 2 ^ 29
     → b + d + p ≤ length seg → Finds (seg ∷ []) 0 a 0 0 b q
 struct_finds seg a b offset q d p h f some e lt le =
     let x : extent q ≡ d + p = extent_struct q f.kind ∙ ap₂ (λ i j. i + j) f.data_words f.pointers in
     record {
-      leads = near q h (λ z. absurd (omega (arith, z, f.kind))) (omega (arith, f.kind), some, refl, start_after q a b offset f.middle lt e, refl) refl;
-      sits = record { exists = omega arith; inside = omega (arith, x, le); composite = λ z. absurd (omega (arith, z.0, f.kind)) };
+      leads = near q h (λ z. absurd (omega (arith, z, f.kind)))
+          (omega (arith, f.kind), some, refl, start_after q a b offset f.middle lt e, refl) refl;
+      sits = record {
+        exists = omega arith;
+        inside = omega (arith, x, le);
+        composite = λ z. absurd (omega (arith, z.0, f.kind));
+      };
     }
 
 -- a list's pointer leads to its object
-list_finds : (seg : List ℕ) (a b offset q c n : ℕ) → HasWord (seg ∷ []) 0 a q → ListFields q offset c n → b ≡ a + 1 + offset → offset < 2 ^ 29
-    → b + extent q ≤ length seg → (IsComposite q → (tag : ℕ) × HasWord (seg ∷ []) 0 b tag × TagFits tag (list_size q)) → Finds (seg ∷ []) 0 a 0 0 b q
+list_finds : (seg : List ℕ) (a b offset q c n : ℕ) → HasWord (seg ∷ []) 0 a q → ListFields q offset c n
+    → b ≡ a + 1 + offset → offset < 2 ^ 29
+    → b + extent q ≤ length seg → (IsComposite q → (tag : ℕ) × HasWord (seg ∷ []) 0 b tag × TagFits tag (list_size q))
+    → Finds (seg ∷ []) 0 a 0 0 b q
 list_finds seg a b offset q c n h f e lt le tagged =
     record {
-      leads = near q h (λ z. absurd (omega (arith, z, f.kind))) (omega (arith, f.kind), (λ z. absurd (zero_kind q z f.kind)), refl, start_after q a b offset f.middle lt e, refl) refl;
+      leads = near q h (λ z. absurd (omega (arith, z, f.kind))) (
+        omega (arith, f.kind),
+        (λ z. absurd (zero_kind q z f.kind)),
+        refl,
+        start_after q a b offset f.middle lt e,
+        refl,
+      ) refl;
       sits = record { exists = omega arith; inside = le; composite = tagged };
     }
   where
@@ -49,12 +65,15 @@ list_finds seg a b offset q c n h f e lt le tagged =
     zero_kind q e k = omega arith
 
 -- a struct with words
-struct_laid : (seg ws : List ℕ) (ts : Trees) (a b offset q inner deep : ℕ) → HasWord (seg ∷ []) 0 a q → StructFields q offset (length ws) (tree_count ts)
-    → 0 < length ws + tree_count ts → b ≡ a + 1 + offset → offset < 2 ^ 29 → b + length ws + tree_count ts ≤ length seg → StandAt seg b ws
+struct_laid : (seg ws : List ℕ) (ts : Trees) (a b offset q inner deep : ℕ) → HasWord (seg ∷ []) 0 a q
+    → StructFields q offset (length ws) (tree_count ts)
+    → 0 < length ws + tree_count ts → b ≡ a + 1 + offset → offset < 2 ^ 29
+    → b + length ws + tree_count ts ≤ length seg → StandAt seg b ws
     → DenoteEach (seg ∷ []) (places 0 (b + length ws) (tree_count ts)) ts inner deep
     → Denotes (seg ∷ []) 0 a (struct ws ts) (length ws + tree_count ts + inner) (1 + deep)
 struct_laid seg ws ts a b offset q inner deep h f some e lt le st each =
-    let x : extent q ≡ length ws + tree_count ts = extent_struct q f.kind ∙ ap₂ (λ i j. i + j) f.data_words f.pointers in
+    let x : extent q ≡ length ws + tree_count ts = extent_struct q f.kind
+    ∙ ap₂ (λ i j. i + j) f.data_words f.pointers in
     let y : ws ≡ words_from (seg ∷ []) 0 b (data_size q) = sym (stand_read seg b (data_size q) ws f.data_words st) in (
       0,
       0,
@@ -63,7 +82,8 @@ struct_laid seg ws ts a b offset q inner deep h f some e lt le st each =
       inner,
       deep,
       record {
-        finds = struct_finds seg a b offset q (length ws) (tree_count ts) h f (λ z. absurd (has_words q (length ws) (tree_count ts) f.data_words f.pointers z some)) e lt le;
+        finds = struct_finds seg a b offset q (length ws) (tree_count ts) h f
+            (λ z. absurd (has_words q (length ws) (tree_count ts) f.data_words f.pointers z some)) e lt le;
         kind = f.kind;
         data_words = y;
         charge = omega (arith, x);
@@ -75,7 +95,8 @@ struct_laid seg ws ts a b offset q inner deep h f some e lt le st each =
     has_words : (q d p : ℕ) → data_size q ≡ d → pointer_size q ≡ p → q ≡ 0 → 0 < d + p → ⊥
     has_words q d p e g z some = omega arith
 
-    moved : (d d' p p' : ℕ) → d ≡ d' → p ≡ p' → DenoteEach (seg ∷ []) (places 0 (b + d') p') ts inner deep → DenoteEach (seg ∷ []) (places 0 (b + d) p) ts inner deep
+    moved : (d d' p p' : ℕ) → d ≡ d' → p ≡ p' → DenoteEach (seg ∷ []) (places 0 (b + d') p') ts inner deep
+        → DenoteEach (seg ∷ []) (places 0 (b + d) p) ts inner deep
     moved d d' p p' e g each = rw (e, g) each
 
 -- a struct without words
@@ -90,8 +111,13 @@ empty_laid seg a h =
       0,
       record {
         finds = record {
-          leads = near (2 ^ 32 - 4) h (λ z. absurd (omega (arith, z))) (omega arith, (λ z. absurd (omega (arith, z))), refl, start_before a, refl) refl;
-          sits = record { exists = omega arith; inside = omega (arith, l); composite = λ z. absurd (omega (arith, z.0)) };
+          leads = near (2 ^ 32 - 4) h (λ z. absurd (omega (arith, z)))
+              (omega arith, (λ z. absurd (omega (arith, z))), refl, start_before a, refl) refl;
+          sits = record {
+            exists = omega arith;
+            inside = omega (arith, l);
+            composite = λ z. absurd (omega (arith, z.0));
+          };
         };
         kind = refl;
         data_words = sym (stand_read seg a 0 [] refl (omega (arith, l)));
@@ -102,13 +128,18 @@ empty_laid seg a h =
     )
 
 -- the pointer of a struct with words
-some_words : (seg : List ℕ) (a offset d p : ℕ) → 0 < d + p → HasWord (seg ∷ []) 0 a (if (d + p) == 0 then 2 ^ 32 - 4 else struct_word offset d p) → HasWord (seg ∷ []) 0 a (struct_word offset d p)
+some_words : (seg : List ℕ) (a offset d p : ℕ) → 0 < d + p
+    → HasWord (seg ∷ []) 0 a (if (d + p) == 0 then 2 ^ 32 - 4 else struct_word offset d p)
+    → HasWord (seg ∷ []) 0 a (struct_word offset d p)
 some_words seg a offset d p some h =
-    subst (λ y. HasWord (seg ∷ []) 0 a (if y then 2 ^ 32 - 4 else struct_word offset d p)) (ne_eqb (d + p) 0 (λ z. absurd (omega (arith, z, some)))) h
+    subst (λ y. HasWord (seg ∷ []) 0 a (if y then 2 ^ 32 - 4 else struct_word offset d p))
+    (ne_eqb (d + p) 0 (λ z. absurd (omega (arith, z, some)))) h
 
 -- each struct
-pub any_struct_laid : (seg ws : List ℕ) (ts : Trees) (a b offset inner deep : ℕ) → HasWord (seg ∷ []) 0 a (pointer_to offset (struct ws ts))
-    → length ws < 2 ^ 16 → tree_count ts < 2 ^ 16 → b ≡ a + 1 + offset → offset < 2 ^ 29 → b + length ws + tree_count ts ≤ length seg → StandAt seg b ws
+pub any_struct_laid : (seg ws : List ℕ) (ts : Trees) (a b offset inner deep : ℕ)
+    → HasWord (seg ∷ []) 0 a (pointer_to offset (struct ws ts))
+    → length ws < 2 ^ 16 → tree_count ts < 2 ^ 16 → b ≡ a + 1 + offset → offset < 2 ^ 29
+    → b + length ws + tree_count ts ≤ length seg → StandAt seg b ws
     → DenoteEach (seg ∷ []) (places 0 (b + length ws) (tree_count ts)) ts inner deep
     → Denotes (seg ∷ []) 0 a (struct ws ts) (length ws + tree_count ts + inner) (1 + deep)
 any_struct_laid seg [] none a b offset inner deep h hd hp e lt le st each =
@@ -116,7 +147,8 @@ any_struct_laid seg [] none a b offset inner deep h hd hp e lt le st each =
     let d : 0 ≡ deep = sym each.2 in
     moved inner deep c d (empty_laid seg a h)
   where
-    moved : (x y : ℕ) → 0 ≡ x → 0 ≡ y → Denotes (seg ∷ []) 0 a (struct [] none) 0 1 → Denotes (seg ∷ []) 0 a (struct [] none) (0 + 0 + x) (1 + y)
+    moved : (x y : ℕ) → 0 ≡ x → 0 ≡ y → Denotes (seg ∷ []) 0 a (struct [] none) 0 1
+        → Denotes (seg ∷ []) 0 a (struct [] none) (0 + 0 + x) (1 + y)
     moved x y e g h = rw (← e, ← g) h
 any_struct_laid seg (x ∷ xs) ts a b offset inner deep h hd hp e lt le st each =
     let s : 0 < length (x ∷ xs) + tree_count ts = omega arith in
@@ -130,20 +162,28 @@ any_struct_laid seg [] (more t ts) a b offset inner deep h hd hp e lt le st each
     (struct_fields offset 0 (tree_count (more t ts)) (omega (arith, lt)) hd hp) s e lt le st each
 
 -- a list of values
-pub scalars_laid : (seg : List ℕ) (e : ℕ) (vs : List ℕ) (a b offset q : ℕ) → HasWord (seg ∷ []) 0 a q → ListFields q offset e (length vs) → e < 6
-    → AllByRecursion (λ v. v < 2 ^ element_bits e) vs → b ≡ a + 1 + offset → offset < 2 ^ 29 → StandAt seg b (scalar_words e vs)
+pub scalars_laid : (seg : List ℕ) (e : ℕ) (vs : List ℕ) (a b offset q : ℕ) → HasWord (seg ∷ []) 0 a q
+    → ListFields q offset e (length vs) → e < 6
+    → AllByRecursion (λ v. v < 2 ^ element_bits e) vs → b ≡ a + 1 + offset → offset < 2 ^ 29
+    → StandAt seg b (scalar_words e vs)
     → Denotes (seg ∷ []) 0 a (scalars e vs) (list_words e (length vs) + idle e (length vs)) 1
 scalars_laid seg e vs a b offset q h f lt fit i lo st =
-    let x : extent q ≡ list_words e (length vs) = extent_scalars q e f.kind (sym f.code) lt ∙ ap (list_words e) f.size in
+    let x : extent q ≡ list_words e (length vs) = extent_scalars q e f.kind (sym f.code) lt
+    ∙ ap (list_words e) f.size in
     let y : extra q 0 ≡ idle e (length vs) = extra_scalars q e f.kind (sym f.code) lt ∙ ap (idle e) f.size in
-    let l : b + list_words e (length vs) ≤ length seg = (let r = stand_inside seg b (scalar_words e vs) st in omega (arith, r, length-scalar_words e vs)) in
-    let v : vs ≡ values_of (seg ∷ []) 0 b e (list_size q) = sym (ap (values_of (seg ∷ []) 0 b e) f.size ∙ scalars_read seg b e vs lt fit (stand_word seg b (scalar_words e vs) st)) in (
+    let l : b + list_words e (length vs) ≤ length seg =
+    (let r = stand_inside seg b (scalar_words e vs) st in omega (arith, r, length-scalar_words e vs)) in
+    let v : vs ≡ values_of (seg ∷ []) 0 b e (list_size q) =
+    sym (ap (values_of (seg ∷ []) 0 b e) f.size
+    ∙ scalars_read seg b e vs lt fit (stand_word seg b (scalar_words e vs) st)) in (
       0,
       0,
       b,
       q,
       record {
-        finds = list_finds seg a b offset q e (length vs) h f i lo (within b (extent q) (list_words e (length vs)) (length seg) x l) (λ z. absurd (omega (arith, z.1, f.code, lt)));
+        finds = list_finds seg a b offset q e (length vs) h f i lo
+            (within b (extent q) (list_words e (length vs)) (length seg) x l)
+            (λ z. absurd (omega (arith, z.1, f.code, lt)));
         kind = f.kind;
         code = sym f.code;
         scalar = lt;
@@ -157,8 +197,10 @@ scalars_laid seg e vs a b offset q h f lt fit i lo st =
     sums a b a' b' e g = omega arith
 
 -- a list of pointers
-pub pointers_laid : (seg : List ℕ) (ts : Trees) (a b offset q inner deep : ℕ) → HasWord (seg ∷ []) 0 a q → ListFields q offset 6 (tree_count ts)
-    → b ≡ a + 1 + offset → offset < 2 ^ 29 → b + tree_count ts ≤ length seg → DenoteEach (seg ∷ []) (places 0 b (tree_count ts)) ts inner deep
+pub pointers_laid : (seg : List ℕ) (ts : Trees) (a b offset q inner deep : ℕ) → HasWord (seg ∷ []) 0 a q
+    → ListFields q offset 6 (tree_count ts)
+    → b ≡ a + 1 + offset → offset < 2 ^ 29 → b + tree_count ts ≤ length seg
+    → DenoteEach (seg ∷ []) (places 0 b (tree_count ts)) ts inner deep
     → Denotes (seg ∷ []) 0 a (pointers ts) (tree_count ts + inner) (1 + deep)
 pointers_laid seg ts a b offset q inner deep h f i lo le each =
     let x : extent q ≡ tree_count ts = extent_pointers q f.kind f.code ∙ f.size in (
@@ -169,7 +211,8 @@ pointers_laid seg ts a b offset q inner deep h f i lo le each =
       inner,
       deep,
       record {
-        finds = list_finds seg a b offset q 6 (tree_count ts) h f i lo (within b (extent q) (tree_count ts) (length seg) x le) (λ z. absurd (omega (arith, z.1, f.code)));
+        finds = list_finds seg a b offset q 6 (tree_count ts) h f i lo
+            (within b (extent q) (tree_count ts) (length seg) x le) (λ z. absurd (omega (arith, z.1, f.code)));
         kind = f.kind;
         code = f.code;
         charge = omega (arith, x);
@@ -178,18 +221,23 @@ pointers_laid seg ts a b offset q inner deep h f i lo le each =
       moved (list_size q) (tree_count ts) f.size each,
     )
   where
-    moved : (n n' : ℕ) → n ≡ n' → DenoteEach (seg ∷ []) (places 0 b n') ts inner deep → DenoteEach (seg ∷ []) (places 0 b n) ts inner deep
+    moved : (n n' : ℕ) → n ≡ n' → DenoteEach (seg ∷ []) (places 0 b n') ts inner deep
+        → DenoteEach (seg ∷ []) (places 0 b n) ts inner deep
     moved n n' e each = rw e each
 
 -- a list of structs
-pub structs_laid : (seg : List ℕ) (d p n : ℕ) (es : Trees) (a b offset q tag inner deep : ℕ) → HasWord (seg ∷ []) 0 a q → ListFields q offset 7 (n * (d + p))
-    → HasWord (seg ∷ []) 0 b tag → StructFields tag n d p → b ≡ a + 1 + offset → offset < 2 ^ 29 → b + 1 + n * (d + p) ≤ length seg
+pub structs_laid : (seg : List ℕ) (d p n : ℕ) (es : Trees) (a b offset q tag inner deep : ℕ) → HasWord (seg ∷ []) 0 a q
+    → ListFields q offset 7 (n * (d + p))
+    → HasWord (seg ∷ []) 0 b tag → StructFields tag n d p → b ≡ a + 1 + offset → offset < 2 ^ 29
+    → b + 1 + n * (d + p) ≤ length seg
     → AreElements (seg ∷ []) 0 (b + 1) d p n es inner deep
     → Denotes (seg ∷ []) 0 a (structs d p es) (1 + n * (d + p) + idle (d + p) n + inner) (1 + element_levels n + deep)
 structs_laid seg d p n es a b offset q tag inner deep h f ht g i lo le each =
     let x : extent q ≡ 1 + n * (d + p) = extent_structs q f.kind f.code ∙ ap (λ z. 1 + z) f.size in
-    let y : extra q tag ≡ idle (d + p) n = extra_structs q tag f.kind f.code ∙ ap₂ idle (ap₂ (λ i j. i + j) g.data_words g.pointers) g.middle in
-    let fit : middle tag * (data_size tag + pointer_size tag) ≡ list_size q = ap₂ (λ i j. i * j) g.middle (ap₂ (λ i j. i + j) g.data_words g.pointers) ∙ sym f.size in (
+    let y : extra q tag ≡ idle (d + p) n = extra_structs q tag f.kind f.code
+    ∙ ap₂ idle (ap₂ (λ i j. i + j) g.data_words g.pointers) g.middle in
+    let fit : middle tag * (data_size tag + pointer_size tag) ≡ list_size q =
+    ap₂ (λ i j. i * j) g.middle (ap₂ (λ i j. i + j) g.data_words g.pointers) ∙ sym f.size in (
       0,
       0,
       b,
@@ -198,7 +246,9 @@ structs_laid seg d p n es a b offset q tag inner deep h f ht g i lo le each =
       inner,
       deep,
       record {
-        finds = list_finds seg a b offset q 7 (n * (d + p)) h f i lo (within b (extent q) (1 + n * (d + p)) (length seg) x (inside b (n * (d + p)) (length seg) le)) (λ z. (tag, ht, (g.kind, at_most (middle tag * (data_size tag + pointer_size tag)) (list_size q) fit)));
+        finds = list_finds seg a b offset q 7 (n * (d + p)) h f i lo
+            (within b (extent q) (1 + n * (d + p)) (length seg) x (inside b (n * (d + p)) (length seg) le))
+            (λ z. (tag, ht, (g.kind, at_most (middle tag * (data_size tag + pointer_size tag)) (list_size q) fit)));
         kind = f.kind;
         code = f.code;
         has_tag = ht;
@@ -219,5 +269,6 @@ structs_laid seg d p n es a b offset q tag inner deep h f ht g i lo le each =
     sums : (x y a b i : ℕ) → x ≡ 1 + a → y ≡ b → 1 + a + b + i ≡ 0 + x + y + i
     sums x y a b i e g = omega arith
 
-    moved : (k k' : ℕ) → k ≡ k' → AreElements (seg ∷ []) 0 (b + 1) d p k' es inner deep → AreElements (seg ∷ []) 0 (b + 1) d p k es inner deep
+    moved : (k k' : ℕ) → k ≡ k' → AreElements (seg ∷ []) 0 (b + 1) d p k' es inner deep
+        → AreElements (seg ∷ []) 0 (b + 1) d p k es inner deep
     moved k k' e each = rw e each

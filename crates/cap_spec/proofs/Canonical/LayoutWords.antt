@@ -1,5 +1,6 @@
 -- The words of a layout are words.
-use Rattle.std.proofs.Common.{ℕ, zero, suc, ◌+◌, ◌-◌, ◌*◌, ◌/◌, ◌^◌, ◌<◌, ◌≤◌, List, [], ◌∷◌, ◌++◌, ◌≡◌, Bool, true, false, arith, subst, sym, length, take, drop}
+use Rattle.std.proofs.Common.{ℕ, zero, suc, ◌+◌, ◌-◌, ◌*◌, ◌/◌, ◌^◌, ◌<◌, ◌≤◌, List, [], ◌∷◌, ◌++◌, ◌≡◌, Bool, true}
+use Rattle.std.proofs.Common.{false, arith, subst, sym, length, take, drop}
 use Rattle.std.specs.Prelude.{map, if◌then◌else◌, ◌==◌}
 use Rattle.std.specs.List.{AllByRecursion, range_with_len}
 use Rattle.std.proofs.Math.Pow.{pow_mono}
@@ -9,9 +10,11 @@ use Rattle.std.proofs.lemmas.Nat.{mul-le, pow-add}
 use Rattle.cap_spec.specs.Words.{IsWord}
 use Rattle.cap_spec.specs.Pointers.{element_bits, list_words}
 use Rattle.cap_spec.specs.Scalars.{packed_word, scalar_words}
-use Rattle.cap_spec.specs.Tree.{Tree, null, cap, struct, scalars, pointers, structs, Trees, none, more, tree_count, IsTree, AreTrees, AreElementTrees}
+use Rattle.cap_spec.specs.Tree.{Tree, null, cap, struct, scalars, pointers, structs, Trees, none, more, tree_count}
+use Rattle.cap_spec.specs.Tree.{IsTree, AreTrees, AreElementTrees}
 use Rattle.cap_spec.specs.Denoting.{Denotes}
-use Rattle.cap_spec.specs.Canonical.{struct_word, list_word, size, sizes, element_sizes, pointer_to, pointer_words, element_words, content, contents, element_contents, layout, trim}
+use Rattle.cap_spec.specs.Canonical.{struct_word, list_word, size, sizes, element_sizes, pointer_to, pointer_words}
+use Rattle.cap_spec.specs.Canonical.{element_words, content, contents, element_contents, layout, trim}
 use Rattle.cap_spec.proofs.Bytes.Lists.{all_append, all_take, all_drop}
 use Rattle.cap_spec.proofs.Trees.DenotedTrees.{AreWords, denoted_is_tree}
 use Rattle.cap_spec.proofs.Canonical.TrimmedTrees.{trimmed_is_tree}
@@ -24,17 +27,22 @@ use Rattle.cap_spec.proofs.Canonical.Sizes.{trimmed_size_charged}
 one_more : (v b m p : ℕ) → v < b → m < p → v + b * m < b * p
 one_more v b m p h g = let e : b * suc m ≤ b * p = mul-le b (suc m) b p (omega arith) g in omega (arith, e, h)
 
-packed_below : (bits : ℕ) (vs : List ℕ) → AllByRecursion (λ v. v < 2 ^ bits) vs → packed_word bits vs < 2 ^ (length vs * bits)
+packed_below : (bits : ℕ) (vs : List ℕ) → AllByRecursion (λ v. v < 2 ^ bits) vs
+    → packed_word bits vs < 2 ^ (length vs * bits)
 packed_below bits [] a = let e : 0 * bits ≡ 0 = omega arith in subst (λ n. 0 < 2 ^ n) (sym e) (omega arith)
 packed_below bits (v ∷ vs) a =
     let s : bits + length vs * bits ≡ suc (length vs) * bits = omega arith in
-    let e : 2 ^ (suc (length vs) * bits) ≡ 2 ^ bits * 2 ^ (length vs * bits) = rw (sym s) (pow-add 2 bits (length vs * bits)) in
-    subst (λ n. v + 2 ^ bits * packed_word bits vs < n) (sym e) (one_more v (2 ^ bits) (packed_word bits vs) (2 ^ (length vs * bits)) a.0 (packed_below bits vs a.1))
+    let e : 2 ^ (suc (length vs) * bits) ≡ 2 ^ bits * 2 ^ (length vs * bits) =
+    rw (sym s) (pow-add 2 bits (length vs * bits)) in
+    subst (λ n. v + 2 ^ bits * packed_word bits vs < n) (sym e)
+    (one_more v (2 ^ bits) (packed_word bits vs) (2 ^ (length vs * bits)) a.0 (packed_below bits vs a.1))
 
 -- and so many a word fit a word
-packed_is_word : (bits per : ℕ) (vs : List ℕ) → per * bits ≤ 64 → AllByRecursion (λ v. v < 2 ^ bits) vs → packed_word bits (take per vs) < 2 ^ 64
+packed_is_word : (bits per : ℕ) (vs : List ℕ) → per * bits ≤ 64 → AllByRecursion (λ v. v < 2 ^ bits) vs
+    → packed_word bits (take per vs) < 2 ^ 64
 packed_is_word bits per vs h a =
-    let below : packed_word bits (take per vs) < 2 ^ (length (take per vs) * bits) = packed_below bits (take per vs) (all_take (λ v. v < 2 ^ bits) per vs a) in
+    let below : packed_word bits (take per vs) < 2 ^ (length (take per vs) * bits) =
+    packed_below bits (take per vs) (all_take (λ v. v < 2 ^ bits) per vs a) in
     let few : length (take per vs) ≤ per = omega (arith, length-take per vs) in
     let l : length (take per vs) * bits ≤ per * bits = mul-le (length (take per vs)) bits per bits few (omega arith) in
     let small : length (take per vs) * bits ≤ 64 = omega (arith, l, h) in
@@ -49,8 +57,10 @@ value_words_are bits per a (suc count) vs h f = (
   value_words_are bits per (a + 1) count vs h f,
 )
 
-scalar_words_are : (c : ℕ) (vs : List ℕ) → AllByRecursion (λ v. v < 2 ^ element_bits c) vs → AllByRecursion IsWord (scalar_words c vs)
-scalar_words_are c vs f = value_words_are (element_bits c) (64 / element_bits c) 0 (list_words c (length vs)) vs (div-mul-le_self 64 (element_bits c)) f
+scalar_words_are : (c : ℕ) (vs : List ℕ) → AllByRecursion (λ v. v < 2 ^ element_bits c) vs
+    → AllByRecursion IsWord (scalar_words c vs)
+scalar_words_are c vs f = value_words_are (element_bits c) (64 / element_bits c) 0 (list_words c (length vs)) vs
+    (div-mul-le_self 64 (element_bits c)) f
 
 -- the pointer to a tree that fits
 either_word : (b : Bool) (x y : ℕ) → x < 2 ^ 64 → y < 2 ^ 64 → (if b then x else y) < 2 ^ 64
@@ -67,27 +77,34 @@ pub pointer_is_word : (offset : ℕ) (t : Tree) → Fits t → offset < 2 ^ 30 �
 pointer_is_word offset null f l = omega arith
 pointer_is_word offset (cap i) f l = omega (arith, f)
 pointer_is_word offset (struct ws ts) f l =
-    either_word ((length ws + tree_count ts) == 0) (2 ^ 32 - 4) (struct_word offset (length ws) (tree_count ts)) (omega arith) (struct_is_word offset (length ws) (tree_count ts) l f.0 f.1)
+    either_word ((length ws + tree_count ts) == 0) (2 ^ 32 - 4) (struct_word offset (length ws) (tree_count ts))
+    (omega arith) (struct_is_word offset (length ws) (tree_count ts) l f.0 f.1)
 pointer_is_word offset (scalars c vs) f l = list_is_word offset c (length vs) l (omega (arith, f.0)) f.1
 pointer_is_word offset (pointers ts) f l = list_is_word offset 6 (tree_count ts) l (omega arith) f.0
 pointer_is_word offset (structs d p es) f l = list_is_word offset 7 (tree_count es * (d + p)) l (omega arith) f.3
 
 -- pointers in a row
-row_is_words : (after : ℕ) (ts : Trees) → FitEach ts → after + tree_count ts + sizes ts < 2 ^ 29 → AllByRecursion IsWord (pointer_words after ts)
+row_is_words : (after : ℕ) (ts : Trees) → FitEach ts → after + tree_count ts + sizes ts < 2 ^ 29
+    → AllByRecursion IsWord (pointer_words after ts)
 row_is_words after none f l = tt
-row_is_words after (more t ts) f l =
-    (pointer_is_word (tree_count ts + after) t f.0 (omega (arith, l)), row_is_words (after + size t) ts f.1 (omega (arith, l)))
+row_is_words after (more t ts) f l = (
+  pointer_is_word (tree_count ts + after) t f.0 (omega (arith, l)),
+  row_is_words (after + size t) ts f.1 (omega (arith, l)),
+)
 
 -- elements in a row
-elements_are_words : (d p after : ℕ) (es : Trees) → AreElementTrees d p es → FitElements d p es → after + tree_count es * (d + p) + element_sizes es < 2 ^ 29
+elements_are_words : (d p after : ℕ) (es : Trees) → AreElementTrees d p es → FitElements d p es
+    → after + tree_count es * (d + p) + element_sizes es < 2 ^ 29
     → AllByRecursion IsWord (element_words (d + p) after es)
 elements_are_words d p after none a f l = tt
 elements_are_words d p after (more (struct ws ts) es) a f l =
     let pw = pointer_words (tree_count es * (d + p) + after) ts in
     let ew = element_words (d + p) (after + sizes ts) es in
     all_append IsWord (ws ++ pw) ew
-    (all_append IsWord ws pw a.0 (row_is_words (tree_count es * (d + p) + after) ts f.2 (children_near after (tree_count es) d p (tree_count ts) (sizes ts) (element_sizes es) (2 ^ 29) l f.1)))
-    (elements_are_words d p (after + sizes ts) es a.4 f.3 (rest_near after (tree_count es) (d + p) (sizes ts) (element_sizes es) (2 ^ 29) l))
+    (all_append IsWord ws pw a.0 (row_is_words (tree_count es * (d + p) + after) ts f.2
+    (children_near after (tree_count es) d p (tree_count ts) (sizes ts) (element_sizes es) (2 ^ 29) l f.1)))
+    (elements_are_words d p (after + sizes ts) es a.4 f.3
+    (rest_near after (tree_count es) (d + p) (sizes ts) (element_sizes es) (2 ^ 29) l))
 elements_are_words d p after (more t es) a f l = absurd a
 
 mutual
@@ -101,29 +118,38 @@ mutual
       (contents_are_words ts a.1 f.2 (omega (arith, l)))
   content_is_words (scalars c vs) a f l = scalar_words_are c vs f.2
   content_is_words (pointers ts) a f l =
-      all_append IsWord (pointer_words 0 ts) (contents ts) (row_is_words 0 ts f.1 (omega (arith, l))) (contents_are_words ts a f.1 (omega (arith, l)))
+      all_append IsWord (pointer_words 0 ts) (contents ts) (row_is_words 0 ts f.1 (omega (arith, l)))
+      (contents_are_words ts a f.1 (omega (arith, l)))
   content_is_words (structs d p es) a f l = (
     struct_is_word (tree_count es) d p f.2 f.0 f.1,
     all_append IsWord (element_words (d + p) 0 es) (element_contents es)
         (elements_are_words d p 0 es a f.4 (without_tag (tree_count es * (d + p)) (element_sizes es) (2 ^ 29) l))
-        (element_contents_are_words d p es a f.4 (elements_only (tree_count es * (d + p)) (element_sizes es) (2 ^ 29) l)),
+        (element_contents_are_words d p es a f.4
+        (elements_only (tree_count es * (d + p)) (element_sizes es) (2 ^ 29) l)),
   )
 
-  pub contents_are_words : (ts : Trees) → AreTrees ts → FitEach ts → sizes ts < 2 ^ 29 → AllByRecursion IsWord (contents ts)
+  pub contents_are_words : (ts : Trees) → AreTrees ts → FitEach ts → sizes ts < 2 ^ 29
+      → AllByRecursion IsWord (contents ts)
   contents_are_words none a f l = tt
   contents_are_words (more t ts) a f l =
-      all_append IsWord (content t) (contents ts) (content_is_words t a.0 f.0 (omega (arith, l))) (contents_are_words ts a.1 f.1 (omega (arith, l)))
+      all_append IsWord (content t) (contents ts) (content_is_words t a.0 f.0 (omega (arith, l)))
+      (contents_are_words ts a.1 f.1 (omega (arith, l)))
 
-  pub element_contents_are_words : (d p : ℕ) (es : Trees) → AreElementTrees d p es → FitElements d p es → element_sizes es < 2 ^ 29 → AllByRecursion IsWord (element_contents es)
+  pub element_contents_are_words : (d p : ℕ) (es : Trees) → AreElementTrees d p es → FitElements d p es
+      → element_sizes es < 2 ^ 29 → AllByRecursion IsWord (element_contents es)
   element_contents_are_words d p none a f l = tt
   element_contents_are_words d p (more (struct ws ts) es) a f l =
-      all_append IsWord (contents ts) (element_contents es) (contents_are_words ts a.3 f.2 (omega (arith, l))) (element_contents_are_words d p es a.4 f.3 (omega (arith, l)))
+      all_append IsWord (contents ts) (element_contents es) (contents_are_words ts a.3 f.2 (omega (arith, l)))
+      (element_contents_are_words d p es a.4 f.3 (omega (arith, l)))
   element_contents_are_words d p (more t es) a f l = absurd a
 
 -- the layout of what a message of words denotes, trimmed
-pub layout_is_words : (m : List (List ℕ)) (s w : ℕ) (t : Tree) (c d : ℕ) → AreWords m → Denotes m s w t c d → c < 2 ^ 29 → AllByRecursion IsWord (layout (trim t))
+pub layout_is_words : (m : List (List ℕ)) (s w : ℕ) (t : Tree) (c d : ℕ) → AreWords m → Denotes m s w t c d → c < 2 ^ 29
+    → AllByRecursion IsWord (layout (trim t))
 layout_is_words m s w t c d a h l =
     let k : Measured t c d = measured m s w t c d h in
     let b : Trimmed t (trim t) = trimmed t k.fits in
-    let e : size (trim t) ≤ c = trimmed_size_charged m s w t c d h in
-    (pointer_is_word 0 (trim t) b.fits (omega arith), content_is_words (trim t) (trimmed_is_tree t (denoted_is_tree m a s w t c d h)) b.fits (omega arith))
+    let e : size (trim t) ≤ c = trimmed_size_charged m s w t c d h in (
+      pointer_is_word 0 (trim t) b.fits (omega arith),
+      content_is_words (trim t) (trimmed_is_tree t (denoted_is_tree m a s w t c d h)) b.fits (omega arith),
+    )

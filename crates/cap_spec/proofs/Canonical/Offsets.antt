@@ -3,7 +3,8 @@ use Rattle.std.proofs.Common.{ℕ, suc, ◌+◌, ◌*◌, ◌^◌, ◌<◌, ◌�
 use Rattle.std.specs.List.{AllByRecursion, flat_map}
 use Rattle.cap_spec.specs.Tree.{Tree, null, cap, struct, scalars, pointers, structs, Trees, none, more, tree_count}
 use Rattle.cap_spec.specs.Denoting.{Denotes}
-use Rattle.cap_spec.specs.Canonical.{size, sizes, element_sizes, pointer_offsets, element_offsets, offsets, offsets_below, element_offsets_below, trim}
+use Rattle.cap_spec.specs.Canonical.{size, sizes, element_sizes, pointer_offsets, element_offsets, offsets}
+use Rattle.cap_spec.specs.Canonical.{offsets_below, element_offsets_below, trim}
 use Rattle.cap_spec.proofs.Bytes.Lists.{all_append}
 use Rattle.cap_spec.proofs.Canonical.TreeMeasures.{Fits, FitEach, FitElements, Measured, measured}
 use Rattle.cap_spec.proofs.Canonical.TrimmedMeasures.{Trimmed, trimmed}
@@ -11,48 +12,63 @@ use Rattle.cap_spec.proofs.Canonical.ElementPlaces.{children_near, elements_only
 use Rattle.cap_spec.proofs.Canonical.Sizes.{trimmed_size_charged}
 
 -- those of pointers in a row
-row_offsets : (most after : ℕ) (ts : Trees) → after + tree_count ts + sizes ts < most → AllByRecursion (λ offset. offset < most) (pointer_offsets after ts)
+row_offsets : (most after : ℕ) (ts : Trees) → after + tree_count ts + sizes ts < most
+    → AllByRecursion (λ offset. offset < most) (pointer_offsets after ts)
 row_offsets most after none h = tt
 row_offsets most after (more t ts) h = (omega (arith, h), row_offsets most (after + size t) ts (omega (arith, h)))
 
 -- those of elements in a row
-elements_offsets : (most d p after : ℕ) (es : Trees) → FitElements d p es → after + tree_count es * (d + p) + element_sizes es < most
+elements_offsets : (most d p after : ℕ) (es : Trees) → FitElements d p es
+    → after + tree_count es * (d + p) + element_sizes es < most
     → AllByRecursion (λ offset. offset < most) (flat_map (λ row. row) (element_offsets (d + p) after es))
 elements_offsets most d p after none f h = tt
 elements_offsets most d p after (more (struct ws ts) es) f h =
-    all_append (λ offset. offset < most) (pointer_offsets (tree_count es * (d + p) + after) ts) (flat_map (λ row. row) (element_offsets (d + p) (after + sizes ts) es))
-    (row_offsets most (tree_count es * (d + p) + after) ts (children_near after (tree_count es) d p (tree_count ts) (sizes ts) (element_sizes es) most h f.1))
-    (elements_offsets most d p (after + sizes ts) es f.3 (rest_near after (tree_count es) (d + p) (sizes ts) (element_sizes es) most h))
+    all_append (λ offset. offset < most) (pointer_offsets (tree_count es * (d + p) + after) ts)
+    (flat_map (λ row. row) (element_offsets (d + p) (after + sizes ts) es))
+    (row_offsets most (tree_count es * (d + p) + after) ts
+    (children_near after (tree_count es) d p (tree_count ts) (sizes ts) (element_sizes es) most h f.1))
+    (elements_offsets most d p (after + sizes ts) es f.3
+    (rest_near after (tree_count es) (d + p) (sizes ts) (element_sizes es) most h))
 elements_offsets most d p after (more t es) f h = absurd f
 
 mutual
   -- at all nodes
-  pub offsets_within : (most : ℕ) (t : Tree) → Fits t → size t < most → AllByRecursion (λ offset. offset < most) (offsets t)
+  pub offsets_within : (most : ℕ) (t : Tree) → Fits t → size t < most
+      → AllByRecursion (λ offset. offset < most) (offsets t)
   offsets_within most null f h = tt
   offsets_within most (cap i) f h = tt
   offsets_within most (struct ws ts) f h =
-      all_append (λ offset. offset < most) (pointer_offsets 0 ts) (offsets_below ts) (row_offsets most 0 ts (omega (arith, h))) (offsets_below_within most ts f.2 (omega (arith, h)))
+      all_append (λ offset. offset < most) (pointer_offsets 0 ts) (offsets_below ts)
+      (row_offsets most 0 ts (omega (arith, h))) (offsets_below_within most ts f.2 (omega (arith, h)))
   offsets_within most (scalars c vs) f h = tt
   offsets_within most (pointers ts) f h =
-      all_append (λ offset. offset < most) (pointer_offsets 0 ts) (offsets_below ts) (row_offsets most 0 ts (omega (arith, h))) (offsets_below_within most ts f.1 (omega (arith, h)))
+      all_append (λ offset. offset < most) (pointer_offsets 0 ts) (offsets_below ts)
+      (row_offsets most 0 ts (omega (arith, h))) (offsets_below_within most ts f.1 (omega (arith, h)))
   offsets_within most (structs d p es) f h =
-      all_append (λ offset. offset < most) (flat_map (λ row. row) (element_offsets (d + p) 0 es)) (element_offsets_below es)
+      all_append (λ offset. offset < most) (flat_map (λ row. row) (element_offsets (d + p) 0 es))
+      (element_offsets_below es)
       (elements_offsets most d p 0 es f.4 (without_tag (tree_count es * (d + p)) (element_sizes es) most h))
       (element_offsets_within most d p es f.4 (elements_only (tree_count es * (d + p)) (element_sizes es) most h))
 
-  pub offsets_below_within : (most : ℕ) (ts : Trees) → FitEach ts → sizes ts < most → AllByRecursion (λ offset. offset < most) (offsets_below ts)
+  pub offsets_below_within : (most : ℕ) (ts : Trees) → FitEach ts → sizes ts < most
+      → AllByRecursion (λ offset. offset < most) (offsets_below ts)
   offsets_below_within most none f h = tt
   offsets_below_within most (more t ts) f h =
-      all_append (λ offset. offset < most) (offsets t) (offsets_below ts) (offsets_within most t f.0 (omega (arith, h))) (offsets_below_within most ts f.1 (omega (arith, h)))
+      all_append (λ offset. offset < most) (offsets t) (offsets_below ts) (offsets_within most t f.0 (omega (arith, h)))
+      (offsets_below_within most ts f.1 (omega (arith, h)))
 
-  pub element_offsets_within : (most d p : ℕ) (es : Trees) → FitElements d p es → element_sizes es < most → AllByRecursion (λ offset. offset < most) (element_offsets_below es)
+  pub element_offsets_within : (most d p : ℕ) (es : Trees) → FitElements d p es → element_sizes es < most
+      → AllByRecursion (λ offset. offset < most) (element_offsets_below es)
   element_offsets_within most d p none f h = tt
   element_offsets_within most d p (more (struct ws ts) es) f h =
-      all_append (λ offset. offset < most) (offsets_below ts) (element_offsets_below es) (offsets_below_within most ts f.2 (omega (arith, h))) (element_offsets_within most d p es f.3 (omega (arith, h)))
+      all_append (λ offset. offset < most) (offsets_below ts) (element_offsets_below es)
+      (offsets_below_within most ts f.2 (omega (arith, h)))
+      (element_offsets_within most d p es f.3 (omega (arith, h)))
   element_offsets_within most d p (more t es) f h = absurd f
 
 -- the offsets in the layout of what is denoted, trimmed, are below 2 ^ 29
-pub offsets_fit : (m : List (List ℕ)) (s w : ℕ) (t : Tree) (c d : ℕ) → Denotes m s w t c d → c < 2 ^ 29 → AllByRecursion (λ offset. offset < 2 ^ 29) (offsets (trim t))
+pub offsets_fit : (m : List (List ℕ)) (s w : ℕ) (t : Tree) (c d : ℕ) → Denotes m s w t c d → c < 2 ^ 29
+    → AllByRecursion (λ offset. offset < 2 ^ 29) (offsets (trim t))
 offsets_fit m s w t c d h l =
     let a : Measured t c d = measured m s w t c d h in
     let b : Trimmed t (trim t) = trimmed t a.fits in

@@ -1,5 +1,6 @@
 -- Words that stand in a segment, addressed by their positions.
-use Rattle.std.proofs.Common.{ℕ, zero, suc, ◌+◌, ◌-◌, ◌<◌, ◌≤◌, List, [], ◌∷◌, ◌++◌, ◌≡◌, ap, refl, subst, ◌∙◌, arith, length, take, drop, get_or, append_assoc, append-nil}
+use Rattle.std.proofs.Common.{ℕ, zero, suc, ◌+◌, ◌-◌, ◌<◌, ◌≤◌, List, [], ◌∷◌, ◌++◌, ◌≡◌, ap, refl, subst, ◌∙◌, arith}
+use Rattle.std.proofs.Common.{length, take, drop, get_or, append_assoc, append-nil}
 use Rattle.std.specs.Prelude.{Some, slice_get}
 use Rattle.std.proofs.lemmas.List.{length_push}
 use Rattle.std.proofs.lemmas.Option.{slice_get_within, get_or_from_slice_get, same_Some}
@@ -13,14 +14,16 @@ stand_front words b [] [] h = h
 stand_front words b [] (y ∷ ys) h = let l : b < length words = slice_get_within words b y h.0 in omega arith
 stand_front words b (x ∷ xs) ys h = (h.0, stand_front words (b + 1) xs ys h.1)
 
-pub stand_back : (words : List ℕ) (b c : ℕ) (xs ys : List ℕ) → c ≡ b + length xs → StandAt words b (xs ++ ys) → StandAt words c ys
+pub stand_back : (words : List ℕ) (b c : ℕ) (xs ys : List ℕ) → c ≡ b + length xs → StandAt words b (xs ++ ys)
+    → StandAt words c ys
 stand_back words b c [] ys e h = let i : b ≡ c = omega arith in subst (λ x. StandAt words x ys) i h
 stand_back words b c (x ∷ xs) ys e h = stand_back words (b + 1) c xs ys (omega arith) h.1
 
 -- words lie inside the segment that they stand in
 pub stand_inside : (words : List ℕ) (b : ℕ) (xs : List ℕ) → StandAt words b xs → b + length xs ≤ length words
 stand_inside words b [] h = omega (arith, h)
-stand_inside words b (x ∷ xs) h = let r : b + 1 + length xs ≤ length words = stand_inside words (b + 1) xs h.1 in omega arith
+stand_inside words b (x ∷ xs) h = let r : b + 1 + length xs ≤ length words =
+    stand_inside words (b + 1) xs h.1 in omega arith
 
 -- the word at a position
 pub stand_word : (words : List ℕ) (b : ℕ) (xs : List ℕ) → StandAt words b xs → WordsAt words b xs
@@ -44,7 +47,8 @@ stand_taken words b [] h = refl
 stand_taken words b (x ∷ xs) h =
     ap (take (suc (length xs))) (rest_at words b x h.0) ∙ ap (λ ys. x ∷ ys) (stand_taken words (b + 1) xs h.1)
 
-pub stand_read : (words : List ℕ) (b n : ℕ) (xs : List ℕ) → n ≡ length xs → StandAt words b xs → words_from (words ∷ []) 0 b n ≡ xs
+pub stand_read : (words : List ℕ) (b n : ℕ) (xs : List ℕ) → n ≡ length xs → StandAt words b xs
+    → words_from (words ∷ []) 0 b n ≡ xs
 stand_read words b n xs e h =
     let l : b + n - b ≡ length xs = omega arith in
     ap (λ k. take k (drop b words)) l ∙ stand_taken words b xs h
@@ -59,8 +63,11 @@ stand_behind : (front xs : List ℕ) → StandAt (front ++ xs) (length front) xs
 stand_behind front [] = let e : length (front ++ []) ≡ length front = ap length (append-nil front) in omega arith
 stand_behind front (x ∷ xs) =
     let r : StandAt ((front ++ x ∷ []) ++ xs) (length (front ++ x ∷ [])) xs = stand_behind (front ++ x ∷ []) xs in
-    let e : (front ++ x ∷ []) ++ xs ≡ front ++ x ∷ xs = append_assoc front (x ∷ []) xs in
-    (word_behind front x xs, subst (λ n. StandAt (front ++ x ∷ xs) n xs) (length_push front x) (subst (λ ws. StandAt ws (length (front ++ x ∷ [])) xs) e r))
+    let e : (front ++ x ∷ []) ++ xs ≡ front ++ x ∷ xs = append_assoc front (x ∷ []) xs in (
+      word_behind front x xs,
+      subst (λ n. StandAt (front ++ x ∷ xs) n xs) (length_push front x)
+          (subst (λ ws. StandAt ws (length (front ++ x ∷ [])) xs) e r),
+    )
 
 -- a list stands at the beginning of itself
 pub stand_whole : (xs : List ℕ) → StandAt xs 0 xs

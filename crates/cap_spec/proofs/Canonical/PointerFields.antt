@@ -13,8 +13,14 @@ pub record StructFields (q offset d p : ℕ) : Type 0 where
   pub data_words : data_size q ≡ d
   pub pointers : pointer_size q ≡ p
 
-pub struct_fields : (offset d p : ℕ) → offset < 2 ^ 30 → d < 2 ^ 16 → p < 2 ^ 16 → StructFields (struct_word offset d p) offset d p
-struct_fields offset d p ho hd hp = record { kind = omega arith; middle = omega arith; data_words = omega arith; pointers = omega arith }
+pub struct_fields : (offset d p : ℕ) → offset < 2 ^ 30 → d < 2 ^ 16 → p < 2 ^ 16
+    → StructFields (struct_word offset d p) offset d p
+struct_fields offset d p ho hd hp = record {
+  kind = omega arith;
+  middle = omega arith;
+  data_words = omega arith;
+  pointers = omega arith;
+}
 
 -- of a list's pointer
 pub record ListFields (q offset c n : ℕ) : Type 0 where
@@ -24,7 +30,12 @@ pub record ListFields (q offset c n : ℕ) : Type 0 where
   pub size : list_size q ≡ n
 
 pub list_fields : (offset c n : ℕ) → offset < 2 ^ 30 → c < 8 → n < 2 ^ 29 → ListFields (list_word offset c n) offset c n
-list_fields offset c n ho hc hn = record { kind = omega arith; middle = omega arith; code = omega arith; size = omega arith }
+list_fields offset c n ho hc hn = record {
+  kind = omega arith;
+  middle = omega arith;
+  code = omega arith;
+  size = omega arith;
+}
 
 -- of a capability's pointer
 pub record CapFields (q i : ℕ) : Type 0 where
@@ -40,7 +51,8 @@ signed_below : (x : ℕ) → x < 2 ^ 29 → (if nat_lt x (2 ^ 29) then pos x els
 signed_below x h = ap (λ y. if y then pos x else (pos x -ℤ pos (2 ^ 30))) (lt-ltb x (2 ^ 29) h)
 
 -- where an object begins whose offset stands in these bits
-pub start_after : (q a b offset : ℕ) → middle q ≡ offset → offset < 2 ^ 29 → b ≡ a + 1 + offset → pos b ≡ pos (a + 1) +ℤ signed_offset_of q
+pub start_after : (q a b offset : ℕ) → middle q ≡ offset → offset < 2 ^ 29 → b ≡ a + 1 + offset
+    → pos b ≡ pos (a + 1) +ℤ signed_offset_of q
 start_after q a b offset e h f =
     let l : middle q < 2 ^ 29 = rw e h in
     let i : b ≡ a + 1 + middle q = rw e f in

@@ -2,9 +2,11 @@
 use Rattle.std.proofs.Common.{ℕ, suc, ◌+◌, ◌*◌, ◌≤◌, List, ◌++◌, ◌≡◌, ap, refl, ◌∙◌, arith, length, length-append}
 use Rattle.cap_spec.specs.Tree.{Tree, null, cap, struct, scalars, pointers, structs, Trees, none, more, tree_count}
 use Rattle.cap_spec.specs.Denoting.{Denotes}
-use Rattle.cap_spec.specs.Canonical.{size, sizes, element_sizes, pointer_words, element_words, content, contents, element_contents, layout, trim}
+use Rattle.cap_spec.specs.Canonical.{size, sizes, element_sizes, pointer_words, element_words, content, contents}
+use Rattle.cap_spec.specs.Canonical.{element_contents, layout, trim}
 use Rattle.cap_spec.proofs.Trees.ReadingBack.{length-scalar_words}
-use Rattle.cap_spec.proofs.Canonical.TreeMeasures.{idle, cost, costs, element_costs, Fits, FitEach, FitElements, Measured, measured}
+use Rattle.cap_spec.proofs.Canonical.TreeMeasures.{idle, cost, costs, element_costs, Fits, FitEach}
+use Rattle.cap_spec.proofs.Canonical.TreeMeasures.{FitElements, Measured, measured}
 use Rattle.cap_spec.proofs.Canonical.TrimmedMeasures.{Trimmed, trimmed}
 
 -- one pointer word for each tree
@@ -13,7 +15,8 @@ length-pointer_words after none = refl
 length-pointer_words after (more t ts) = ap suc (length-pointer_words (after + size t) ts)
 
 -- elements of one size
-pub length-element_words : (each after d p : ℕ) (es : Trees) → FitElements d p es → length (element_words each after es) ≡ tree_count es * (d + p)
+pub length-element_words : (each after d p : ℕ) (es : Trees) → FitElements d p es
+    → length (element_words each after es) ≡ tree_count es * (d + p)
 length-element_words each after d p none f = omega arith
 length-element_words each after d p (more (struct words ts) es) f =
     let pw = pointer_words (tree_count es * each + after) ts in
@@ -22,7 +25,8 @@ length-element_words each after d p (more (struct words ts) es) f =
     let b : length (words ++ pw) ≡ length words + length pw = length-append words pw in
     let c : length pw ≡ tree_count ts = length-pointer_words (tree_count es * each + after) ts in
     let r : length ew ≡ tree_count es * (d + p) = length-element_words each (after + sizes ts) d p es f.3 in
-    a ∙ joined (length (words ++ pw)) (length words) (length pw) (tree_count ts) (length ew) (tree_count es) d p b c r f.0 f.1
+    a ∙ joined (length (words ++ pw)) (length words) (length pw) (tree_count ts) (length ew)
+    (tree_count es) d p b c r f.0 f.1
   where
     joined : (x w q c e n d p : ℕ) → x ≡ w + q → q ≡ c → e ≡ n * (d + p) → w ≡ d → c ≡ p → x + e ≡ suc n * (d + p)
     joined x w q c e n d p e1 e2 e3 e4 e5 = omega arith
@@ -51,7 +55,8 @@ mutual
       omega (arith, a, length-pointer_words 0 ts, length-contents ts f.1)
   length-content (structs d p es) f =
       let a = length-append (element_words (d + p) 0 es) (element_contents es) in
-      total (length (element_words (d + p) 0 es ++ element_contents es)) (length (element_words (d + p) 0 es)) (length (element_contents es)) (tree_count es * (d + p)) (element_sizes es)
+      total (length (element_words (d + p) 0 es ++ element_contents es)) (length (element_words (d + p) 0 es))
+      (length (element_contents es)) (tree_count es * (d + p)) (element_sizes es)
       a (length-element_words (d + p) 0 d p es f.4) (length-element_contents d p es f.4)
 
   pub length-contents : (ts : Trees) → FitEach ts → length (contents ts) ≡ sizes ts
@@ -60,7 +65,8 @@ mutual
       let a = length-append (content t) (contents ts) in
       omega (arith, a, length-content t f.0, length-contents ts f.1)
 
-  pub length-element_contents : (d p : ℕ) (es : Trees) → FitElements d p es → length (element_contents es) ≡ element_sizes es
+  pub length-element_contents : (d p : ℕ) (es : Trees) → FitElements d p es
+      → length (element_contents es) ≡ element_sizes es
   length-element_contents d p none f = refl
   length-element_contents d p (more (struct words ts) es) f =
       let a = length-append (contents ts) (element_contents es) in
@@ -75,7 +81,8 @@ mutual
   size_charged (struct words ts) = let r = sizes_charged ts in omega (arith, r)
   size_charged (scalars c vs) = omega arith
   size_charged (pointers ts) = let r = sizes_charged ts in omega (arith, r)
-  size_charged (structs d p es) = with_idle (tree_count es * (d + p)) (element_sizes es) (idle (d + p) (tree_count es)) (element_costs es) (element_sizes_charged es)
+  size_charged (structs d p es) = with_idle (tree_count es * (d + p)) (element_sizes es) (idle (d + p) (tree_count es))
+      (element_costs es) (element_sizes_charged es)
 
   pub sizes_charged : (ts : Trees) → sizes ts ≤ costs ts
   sizes_charged none = omega arith
@@ -83,7 +90,8 @@ mutual
 
   pub element_sizes_charged : (es : Trees) → element_sizes es ≤ element_costs es
   element_sizes_charged none = omega arith
-  element_sizes_charged (more (struct words ts) es) = let a = sizes_charged ts in let r = element_sizes_charged es in omega (arith, a, r)
+  element_sizes_charged (more (struct words ts) es) = let a = sizes_charged ts in let r = element_sizes_charged es in
+      omega (arith, a, r)
   element_sizes_charged (more null es) = element_sizes_charged es
   element_sizes_charged (more (cap i) es) = element_sizes_charged es
   element_sizes_charged (more (scalars c vs) es) = element_sizes_charged es
@@ -99,7 +107,8 @@ trimmed_size_charged m s w t c d h =
     omega (arith, a.charged, b.charged, e)
 
 -- the layout of what is denoted, trimmed, has at most one word more than the charge
-pub layout_charged : (m : List (List ℕ)) (s w : ℕ) (t : Tree) (c d : ℕ) → Denotes m s w t c d → length (layout (trim t)) ≤ c + 1
+pub layout_charged : (m : List (List ℕ)) (s w : ℕ) (t : Tree) (c d : ℕ) → Denotes m s w t c d
+    → length (layout (trim t)) ≤ c + 1
 layout_charged m s w t c d h =
     let a : Measured t c d = measured m s w t c d h in
     let b : Trimmed t (trim t) = trimmed t a.fits in

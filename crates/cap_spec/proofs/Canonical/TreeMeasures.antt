@@ -1,15 +1,19 @@
--- How much a tree is charged without pads, how deep it is, and that its sizes fit the fields of pointer words: of what is denoted, and of the trimmed tree.
+-- How much a tree is charged without pads, how deep it is, and that its sizes fit the fields of pointer words:
+-- of what is denoted, and of the trimmed tree.
 use Rattle.std.proofs.Common.{ℕ, suc, ◌+◌, ◌*◌, ◌^◌, ◌<◌, ◌≤◌, List, ◌≡◌, max, sym, ap, ap₂, refl, ◌∙◌, arith, length}
 use Rattle.std.specs.Prelude.{⊤, if◌then◌else◌, ◌==◌}
 use Rattle.std.specs.List.{AllByRecursion}
 use Rattle.std.proofs.lemmas.Bool.{ne_eqb}
 use Rattle.std.proofs.lemmas.List.FromFn.{length-map-range_with_len}
-use Rattle.cap_spec.specs.Pointers.{kind, middle, code, data_size, pointer_size, list_size, extent, element_bits, list_words}
+use Rattle.cap_spec.specs.Pointers.{kind, middle, code, data_size, pointer_size, list_size}
+use Rattle.cap_spec.specs.Pointers.{extent, element_bits, list_words}
 use Rattle.cap_spec.specs.Following.{extra}
 use Rattle.cap_spec.specs.Tree.{Tree, null, cap, struct, scalars, pointers, structs, Trees, none, more, tree_count}
-use Rattle.cap_spec.specs.Denoting.{FindsStruct, FindsScalars, FindsPointers, FindsStructs, Denotes, DenoteEach, AreElements, places, values_of, value_at, element_levels}
+use Rattle.cap_spec.specs.Denoting.{FindsStruct, FindsScalars, FindsPointers, FindsStructs, Denotes, DenoteEach}
+use Rattle.cap_spec.specs.Denoting.{AreElements, places, values_of, value_at, element_levels}
 use Rattle.cap_spec.specs.Messages.{segment_of}
-use Rattle.cap_spec.proofs.Trees.Charges.{extent_struct, extent_pointers, extent_structs, length-places, elements_fit, each_charged}
+use Rattle.cap_spec.proofs.Trees.Charges.{extent_struct, extent_pointers, extent_structs}
+use Rattle.cap_spec.proofs.Trees.Charges.{length-places, elements_fit, each_charged}
 use Rattle.cap_spec.proofs.Trees.DenotedTrees.{range_length, elements_inside, values_fit, cap_fits}
 
 -- one for each element that takes no words
@@ -62,7 +66,8 @@ abbrev mutual
   Fits (struct words ts) = (length words < 2 ^ 16) × (tree_count ts < 2 ^ 16) × FitEach ts
   Fits (scalars c vs) = (c < 6) × (length vs < 2 ^ 29) × AllByRecursion (λ v. v < 2 ^ element_bits c) vs
   Fits (pointers ts) = (tree_count ts < 2 ^ 29) × FitEach ts
-  Fits (structs d p es) = (d < 2 ^ 16) × (p < 2 ^ 16) × (tree_count es < 2 ^ 30) × (tree_count es * (d + p) < 2 ^ 29) × FitElements d p es
+  Fits (structs d p es) = (d < 2 ^ 16) × (p < 2 ^ 16) × (tree_count es < 2 ^ 30) × (tree_count es * (d + p) < 2 ^ 29)
+      × FitElements d p es
 
   pub FitEach : Trees → Type 0
   FitEach none = ⊤
@@ -70,7 +75,8 @@ abbrev mutual
 
   pub FitElements : ℕ → ℕ → Trees → Type 0
   FitElements d p none = ⊤
-  FitElements d p (more (struct words ts) es) = (length words ≡ d) × (tree_count ts ≡ p) × FitEach ts × FitElements d p es
+  FitElements d p (more (struct words ts) es) = (length words ≡ d) × (tree_count ts ≡ p) × FitEach ts
+      × FitElements d p es
   FitElements d p (more t es) = ⊥
 
 -- what is known of a tree that a word denotes
@@ -98,7 +104,8 @@ pub extra_scalars : (q e : ℕ) → kind q ≡ 1 → e ≡ code q → e < 6 → 
 extra_scalars q e k f lt = rw (k, ne_eqb (code q) 7 (λ z. absurd (omega (arith, f, lt, z))), f) refl
 
 -- what a composite list costs beside its words
-pub extra_structs : (q tag : ℕ) → kind q ≡ 1 → code q ≡ 7 → extra q tag ≡ idle (data_size tag + pointer_size tag) (middle tag)
+pub extra_structs : (q tag : ℕ) → kind q ≡ 1 → code q ≡ 7
+    → extra q tag ≡ idle (data_size tag + pointer_size tag) (middle tag)
 extra_structs q tag k f = rw (k, f) refl
 
 -- the values of a list are as many as it tells
@@ -113,11 +120,13 @@ long_fits : (q : ℕ) → (list_size q < 2 ^ 29) × (middle q < 2 ^ 30)
 long_fits q = (omega arith, omega arith)
 
 -- a struct that is found, with its measured children
-struct_measured : (m : List (List ℕ)) (s w : ℕ) (words : List ℕ) (ts : Trees) (k t b q inner deep c d : ℕ) → FindsStruct m s w words k t b q inner deep c d
+struct_measured : (m : List (List ℕ)) (s w : ℕ) (words : List ℕ) (ts : Trees) (k t b q inner deep c d : ℕ)
+    → FindsStruct m s w words k t b q inner deep c d
     → tree_count ts ≡ pointer_size q → EachMeasured ts inner deep → Measured (struct words ts) c d
 struct_measured m s w words ts k t b q inner deep c d f n each =
     let x : extent q ≡ data_size q + pointer_size q = extent_struct q f.kind in
-    let l : length words ≡ data_size q = ap length f.data_words ∙ range_length m t b (data_size q) (omega (arith, f.finds.sits.inside, x)) in
+    let l : length words ≡ data_size q = ap length f.data_words
+    ∙ range_length m t b (data_size q) (omega (arith, f.finds.sits.inside, x)) in
     let y = short_fits q in
     record {
       fits = (omega (arith, l, y.0), omega (arith, n, y.1), each.fits);
@@ -126,14 +135,20 @@ struct_measured m s w words ts k t b q inner deep c d f n each =
     }
 
 -- a list of values that is found
-scalars_measured : (m : List (List ℕ)) (s w e : ℕ) (vs : List ℕ) (k t b q c d : ℕ) → FindsScalars m s w e vs k t b q c d → Measured (scalars e vs) c d
+scalars_measured : (m : List (List ℕ)) (s w e : ℕ) (vs : List ℕ) (k t b q c d : ℕ) → FindsScalars m s w e vs k t b q c d
+    → Measured (scalars e vs) c d
 scalars_measured m s w e vs k t b q c d f =
     let l : length vs ≡ list_size q = ap length f.elements ∙ length-values m t b e (list_size q) in
-    let x : extent q ≡ list_words e (length vs) = extent_scalars q e f.kind f.code f.scalar ∙ ap (list_words e) (sym l) in
+    let x : extent q ≡ list_words e (length vs) = extent_scalars q e f.kind f.code f.scalar
+    ∙ ap (list_words e) (sym l) in
     let y : extra q 0 ≡ idle e (length vs) = extra_scalars q e f.kind f.code f.scalar ∙ ap (idle e) (sym l) in
     let z = long_fits q in
     record {
-      fits = (f.scalar, omega (arith, l, z.0), rw f.elements (values_fit (segment_of m t) b (element_bits e) 0 (list_size q)));
+      fits = (
+        f.scalar,
+        omega (arith, l, z.0),
+        rw f.elements (values_fit (segment_of m t) b (element_bits e) 0 (list_size q)),
+      );
       charged = sum_above k (extent q) (extra q 0) (list_words e (length vs)) (idle e (length vs)) c f.charge x y;
       deep = sym f.depth;
     }
@@ -142,7 +157,8 @@ scalars_measured m s w e vs k t b q c d f =
     sum_above k a b a' b' c e1 e2 e3 = omega arith
 
 -- a list of pointers that is found, with its measured entries
-pointers_measured : (m : List (List ℕ)) (s w : ℕ) (ts : Trees) (k t b q inner deep c d : ℕ) → FindsPointers m s w k t b q inner deep c d
+pointers_measured : (m : List (List ℕ)) (s w : ℕ) (ts : Trees) (k t b q inner deep c d : ℕ)
+    → FindsPointers m s w k t b q inner deep c d
     → tree_count ts ≡ list_size q → EachMeasured ts inner deep → Measured (pointers ts) c d
 pointers_measured m s w ts k t b q inner deep c d f n each =
     let x : extent q ≡ list_size q = extent_pointers q f.kind f.code in
@@ -154,19 +170,28 @@ pointers_measured m s w ts k t b q inner deep c d f n each =
     }
 
 -- a list of structs that is found, with its measured elements
-structs_measured : (m : List (List ℕ)) (s w ds ps : ℕ) (es : Trees) (k t b q tag inner deep c d : ℕ) → FindsStructs m s w ds ps k t b q tag inner deep c d
+structs_measured : (m : List (List ℕ)) (s w ds ps : ℕ) (es : Trees) (k t b q tag inner deep c d : ℕ)
+    → FindsStructs m s w ds ps k t b q tag inner deep c d
     → ElementsMeasured ds ps (middle tag) es inner deep → Measured (structs ds ps es) c d
 structs_measured m s w ds ps es k t b q tag inner deep c d f each =
     let x : extent q ≡ 1 + list_size q = extent_structs q f.kind f.code in
     let i : middle tag * ds + middle tag * ps ≤ list_size q = elements_fit m s w ds ps k t b q tag inner deep c d f in
     let j : tree_count es * (ds + ps) ≤ list_size q = rw each.count (omega (arith, i)) in
-    let y : idle (ds + ps) (tree_count es) ≡ extra q tag = rw (f.data_sizes, f.pointer_sizes, each.count) (sym (extra_structs q tag f.kind f.code)) in
+    let y : idle (ds + ps) (tree_count es) ≡ extra q tag =
+    rw (f.data_sizes, f.pointer_sizes, each.count) (sym (extra_structs q tag f.kind f.code)) in
     let z = short_fits tag in
     let u = long_fits q in
     let v = long_fits tag in
     record {
-      fits = (omega (arith, f.data_sizes, z.0), omega (arith, f.pointer_sizes, z.1), omega (arith, each.count, v.1), below (tree_count es * (ds + ps)) (list_size q) (2 ^ 29) j u.0, each.fits);
-      charged = sum_above k (extent q) (extra q tag) inner (tree_count es * (ds + ps)) (idle (ds + ps) (tree_count es)) (element_costs es) (list_size q) c f.charge x y j each.charged;
+      fits = (
+        omega (arith, f.data_sizes, z.0),
+        omega (arith, f.pointer_sizes, z.1),
+        omega (arith, each.count, v.1),
+        below (tree_count es * (ds + ps)) (list_size q) (2 ^ 29) j u.0,
+        each.fits,
+      );
+      charged = sum_above k (extent q) (extra q tag) inner (tree_count es * (ds + ps)) (idle (ds + ps) (tree_count es))
+          (element_costs es) (list_size q) c f.charge x y j each.charged;
       deep = sym (f.depth ∙ ap₂ (λ n e. 1 + element_levels n + e) (sym each.count) (sym each.deep));
     }
   where
@@ -183,7 +208,8 @@ mutual
   measured m s w (cap i) c d h = record { fits = cap_fits m s w c i h.0; charged = omega arith; deep = sym h.1 }
   measured m s w (struct words ts) c d h =
       struct_measured m s w words ts h.0 h.1 h.2 h.3 h.4 h.5 c d h.6
-      ((each_charged m (places h.1 (h.2 + data_size h.3) (pointer_size h.3)) ts h.4 h.5 h.7).0 ∙ length-places h.1 (h.2 + data_size h.3) (pointer_size h.3))
+      ((each_charged m (places h.1 (h.2 + data_size h.3) (pointer_size h.3)) ts h.4 h.5 h.7).0
+      ∙ length-places h.1 (h.2 + data_size h.3) (pointer_size h.3))
       (each_measured m (places h.1 (h.2 + data_size h.3) (pointer_size h.3)) ts h.4 h.5 h.7)
   measured m s w (scalars e vs) c d h = scalars_measured m s w e vs h.0 h.1 h.2 h.3 c d h.4
   measured m s w (pointers ts) c d h =
@@ -195,24 +221,38 @@ mutual
       (elements_measured m h.1 (h.2 + 1) ds ps (middle h.4) es h.5 h.6
       (elements_inside m s w ds ps h.0 h.1 h.2 h.3 h.4 h.5 h.6 c d h.7) h.8)
 
-  pub each_measured : (m : List (List ℕ)) (ps : List (ℕ × ℕ)) (ts : Trees) (c d : ℕ) → DenoteEach m ps ts c d → EachMeasured ts c d
+  pub each_measured : (m : List (List ℕ)) (ps : List (ℕ × ℕ)) (ts : Trees) (c d : ℕ) → DenoteEach m ps ts c d
+      → EachMeasured ts c d
   each_measured m ps none c d h = record { fits = tt; charged = omega arith; deep = sym h.2 }
   each_measured m ps (more t ts) c d h =
       let a : Measured t h.3 h.4 = measured m h.0 h.1 t h.3 h.4 h.8 in
       let b : EachMeasured ts h.5 h.6 = each_measured m h.2 ts h.5 h.6 h.9 in
-      record { fits = (a.fits, b.fits); charged = omega (arith, a.charged, b.charged, h.10); deep = ap₂ max a.deep b.deep ∙ sym h.11 }
+      record {
+        fits = (a.fits, b.fits);
+        charged = omega (arith, a.charged, b.charged, h.10);
+        deep = ap₂ max a.deep b.deep ∙ sym h.11;
+      }
 
-  pub elements_measured : (m : List (List ℕ)) (t b ds ps n : ℕ) (es : Trees) (c d : ℕ) → b + n * ds + n * ps ≤ length (segment_of m t)
+  pub elements_measured : (m : List (List ℕ)) (t b ds ps n : ℕ) (es : Trees) (c d : ℕ)
+      → b + n * ds + n * ps ≤ length (segment_of m t)
       → AreElements m t b ds ps n es c d → ElementsMeasured ds ps n es c d
-  elements_measured m t b ds ps n none c d le h = record { fits = tt; count = sym h.0; charged = omega arith; deep = sym h.2 }
+  elements_measured m t b ds ps n none c d le h =
+      record { fits = tt; count = sym h.0; charged = omega arith; deep = sym h.2 }
   elements_measured m t b ds ps n (more (struct words ts) es) c d le h =
       let x : n * ds ≡ ds + h.0 * ds = rw h.5 (omega arith) in
       let y : n * ps ≡ ps + h.0 * ps = rw h.5 (omega arith) in
       let l : length words ≡ ds = ap length h.6 ∙ range_length m t b ds (omega (arith, le, x, y)) in
       let a : EachMeasured ts h.1 h.2 = each_measured m (places t (b + ds) ps) ts h.1 h.2 h.7 in
-      let e : ElementsMeasured ds ps h.0 es h.3 h.4 = elements_measured m t (b + ds + ps) ds ps h.0 es h.3 h.4 (omega (arith, le, x, y)) h.8 in
+      let e : ElementsMeasured ds ps h.0 es h.3 h.4 =
+      elements_measured m t (b + ds + ps) ds ps h.0 es h.3 h.4 (omega (arith, le, x, y)) h.8 in
       record {
-        fits = (l, (each_charged m (places t (b + ds) ps) ts h.1 h.2 h.7).0 ∙ length-places t (b + ds) ps, a.fits, e.fits);
+        fits = (
+          l,
+          (each_charged m (places t (b + ds) ps) ts h.1 h.2 h.7).0
+              ∙ length-places t (b + ds) ps,
+          a.fits,
+          e.fits,
+        );
         count = ap suc e.count ∙ sym h.5;
         charged = omega (arith, a.charged, e.charged, h.9);
         deep = ap₂ max a.deep e.deep ∙ sym h.10;

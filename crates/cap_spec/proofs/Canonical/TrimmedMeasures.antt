@@ -1,14 +1,17 @@
 -- A trimmed tree costs no more, is as deep, and fits where the tree fits.
-use Rattle.std.proofs.Common.{ℕ, zero, suc, ◌+◌, ◌*◌, ◌^◌, ◌<◌, ◌≤◌, List, [], ◌∷◌, ◌≡◌, max, sym, ap, ap₂, refl, ◌∙◌, arith, length}
+use Rattle.std.proofs.Common.{ℕ, zero, suc, ◌+◌, ◌*◌, ◌^◌, ◌<◌, ◌≤◌, List, [], ◌∷◌, ◌≡◌, max, sym}
+use Rattle.std.proofs.Common.{ap, ap₂, refl, ◌∙◌, arith, length}
 use Rattle.std.specs.Prelude.{if◌then◌else◌, ◌==◌}
 use Rattle.std.proofs.Math.Dec.{eqb-suc-zero}
 use Rattle.std.proofs.lemmas.List.{length-take, length-take-le}
 use Rattle.std.proofs.lemmas.Nat.{mul-le}
 use Rattle.cap_spec.specs.Tree.{Tree, null, cap, struct, scalars, pointers, structs, Trees, none, more, tree_count}
 use Rattle.cap_spec.specs.Denoting.{element_levels}
-use Rattle.cap_spec.specs.Canonical.{data_needed, is_null, children_needed, take_trees, data_of, children_of, cut_elements, trim_struct, trim_structs, trim, trim_all, trim_elements}
+use Rattle.cap_spec.specs.Canonical.{data_needed, is_null, children_needed, take_trees, data_of, children_of}
+use Rattle.cap_spec.specs.Canonical.{cut_elements, trim_struct, trim_structs, trim, trim_all, trim_elements}
 use Rattle.cap_spec.proofs.Canonical.Trimming.{rest_below}
-use Rattle.cap_spec.proofs.Canonical.TreeMeasures.{idle, cost, costs, element_costs, height, heights, element_heights, Fits, FitEach, FitElements}
+use Rattle.cap_spec.proofs.Canonical.TreeMeasures.{idle, cost, costs, element_costs, height, heights}
+use Rattle.cap_spec.proofs.Canonical.TreeMeasures.{element_heights, Fits, FitEach, FitElements}
 
 -- none are needed where none are needed of the rest and the first isn't
 pub none_left : (n x : ℕ) → (if n == 0 then x else suc n) ≤ 0 → (n ≤ 0) × (x ≤ 0)
@@ -69,7 +72,8 @@ fits-take (suc n) (more t ts) f = (f.0, fits-take n ts f.1)
 -- trees of which none are needed are as flat as none
 flat : (ts : Trees) → children_needed ts ≤ 0 → heights ts ≡ 0
 flat none h = refl
-flat (more null ts) h = let n = none_left (children_needed ts) 0 h in let r : heights ts ≡ 0 = flat ts n.0 in omega arith
+flat (more null ts) h = let n = none_left (children_needed ts) 0 h in
+    let r : heights ts ≡ 0 = flat ts n.0 in omega arith
 flat (more (cap i) ts) h = let n = none_left (children_needed ts) 1 h in absurd (omega (arith, n.1))
 flat (more (struct words us) ts) h = let n = none_left (children_needed ts) 1 h in absurd (omega (arith, n.1))
 flat (more (scalars c vs) ts) h = let n = none_left (children_needed ts) 1 h in absurd (omega (arith, n.1))
@@ -102,11 +106,16 @@ cut_costs d p x y (more t es) f = absurd f
 
 cut_fits : (d p x y : ℕ) (es : Trees) → d ≤ x → p ≤ y → FitElements x y es → FitElements d p (cut_elements d p es)
 cut_fits d p x y none hd hp f = tt
-cut_fits d p x y (more (struct words ts) es) hd hp f =
-    (length-take-le d words (omega (arith, f.0)), tree_count-take_le p ts (omega (arith, f.1)), fits-take p ts f.2, cut_fits d p x y es hd hp f.3)
+cut_fits d p x y (more (struct words ts) es) hd hp f = (
+  length-take-le d words (omega (arith, f.0)),
+  tree_count-take_le p ts (omega (arith, f.1)),
+  fits-take p ts f.2,
+  cut_fits d p x y es hd hp f.3,
+)
 cut_fits d p x y (more t es) hd hp f = absurd f
 
-cut_heights : (d p x y : ℕ) (es : Trees) → children_of es ≤ p → FitElements x y es → element_heights (cut_elements d p es) ≡ element_heights es
+cut_heights : (d p x y : ℕ) (es : Trees) → children_of es ≤ p → FitElements x y es
+    → element_heights (cut_elements d p es) ≡ element_heights es
 cut_heights d p x y none h f = refl
 cut_heights d p x y (more (struct words ts) es) h f =
     ap₂ max (heights-take p ts (omega (arith, h))) (cut_heights d p x y es (omega (arith, h)) f.3)
@@ -130,7 +139,8 @@ smaller : (n a b : ℕ) → a ≤ b → n * a + idle a n ≤ n * b + idle b n
 smaller n zero zero h = omega arith
 smaller n (suc a) zero h = absurd (omega (arith, h))
 smaller n zero (suc b) h = rw (eqb-suc-zero b) (omega arith)
-smaller n (suc a) (suc b) h = rw (eqb-suc-zero a, eqb-suc-zero b) (let r = mul-le n (suc a) n (suc b) (omega arith) h in omega (arith, r))
+smaller n (suc a) (suc b) h = rw (eqb-suc-zero a, eqb-suc-zero b)
+    (let r = mul-le n (suc a) n (suc b) (omega arith) h in omega (arith, r))
 
 -- a trimmed tree, or trees, beside what it was
 pub record Trimmed (t u : Tree) : Type 0 where
@@ -151,7 +161,8 @@ pub record ElementsTrimmed (d p : ℕ) (es us : Trees) : Type 0 where
   pub deep : element_heights us ≡ element_heights es
 
 -- a struct of trimmed children
-struct_trimmed : (words : List ℕ) (ts us : Trees) → Fits (struct words ts) → AllTrimmed ts us → Trimmed (struct words ts) (trim_struct words us)
+struct_trimmed : (words : List ℕ) (ts us : Trees) → Fits (struct words ts) → AllTrimmed ts us
+    → Trimmed (struct words ts) (trim_struct words us)
 struct_trimmed words ts us f r =
     let a = length-take (data_needed words) words in
     let b = tree_count-take (children_needed us) us in
@@ -163,13 +174,17 @@ struct_trimmed words ts us f r =
     }
 
 -- a struct list of elements with trimmed children
-structs_trimmed : (d p : ℕ) (es us : Trees) → Fits (structs d p es) → ElementsTrimmed d p es us → Trimmed (structs d p es) (trim_structs us)
+structs_trimmed : (d p : ℕ) (es us : Trees) → Fits (structs d p es) → ElementsTrimmed d p es us
+    → Trimmed (structs d p es) (trim_structs us)
 structs_trimmed d p es us f r =
     let x : data_of us ≤ d = data_of_le d p us r.fits in
     let y : children_of us ≤ p = children_of_le d p us r.fits in
-    let n : tree_count (cut_elements (data_of us) (children_of us) us) ≡ tree_count es = tree_count-cut (data_of us) (children_of us) us ∙ r.count in
-    let c : element_costs (cut_elements (data_of us) (children_of us) us) ≤ element_costs es = (let g = cut_costs (data_of us) (children_of us) d p us r.fits in omega (arith, g, r.charged)) in
-    let h : element_heights (cut_elements (data_of us) (children_of us) us) ≡ element_heights es = cut_heights (data_of us) (children_of us) d p us (omega arith) r.fits ∙ r.deep in
+    let n : tree_count (cut_elements (data_of us) (children_of us) us) ≡ tree_count es =
+    tree_count-cut (data_of us) (children_of us) us ∙ r.count in
+    let c : element_costs (cut_elements (data_of us) (children_of us) us) ≤ element_costs es =
+    (let g = cut_costs (data_of us) (children_of us) d p us r.fits in omega (arith, g, r.charged)) in
+    let h : element_heights (cut_elements (data_of us) (children_of us) us) ≡ element_heights es =
+    cut_heights (data_of us) (children_of us) d p us (omega arith) r.fits ∙ r.deep in
     structs_beside d p es (data_of us) (children_of us) (cut_elements (data_of us) (children_of us) us) x y n c h f
     (cut_fits (data_of us) (children_of us) d p us x y r.fits)
   where
@@ -179,14 +194,23 @@ structs_trimmed d p es us f r =
     sums : (a b e a' b' e' : ℕ) → a + b ≤ a' + b' → e ≤ e' → 1 + a + b + e ≤ 1 + a' + b' + e'
     sums a b e a' b' e' h g = omega arith
 
-    structs_beside : (d p : ℕ) (es : Trees) (d' p' : ℕ) (us : Trees) → d' ≤ d → p' ≤ p → tree_count us ≡ tree_count es → element_costs us ≤ element_costs es
-        → element_heights us ≡ element_heights es → Fits (structs d p es) → FitElements d' p' us → Trimmed (structs d p es) (structs d' p' us)
+    structs_beside : (d p : ℕ) (es : Trees) (d' p' : ℕ) (us : Trees) → d' ≤ d → p' ≤ p → tree_count us ≡ tree_count es
+        → element_costs us ≤ element_costs es
+        → element_heights us ≡ element_heights es → Fits (structs d p es) → FitElements d' p' us
+        → Trimmed (structs d p es) (structs d' p' us)
     structs_beside d p es d' p' us x y n c h f g =
         let l = smaller (tree_count es) (d' + p') (d + p) (omega arith) in
         let i = mul-le (tree_count es) (d' + p') (tree_count es) (d + p) (omega arith) (omega arith) in
         record {
-          fits = (omega (arith, x, f.0), omega (arith, y, f.1), omega (arith, n, f.2), rw n (below (tree_count es * (d' + p')) (tree_count es * (d + p)) (2 ^ 29) i f.3), g);
-          charged = rw n (sums (tree_count es * (d' + p')) (idle (d' + p') (tree_count es)) (element_costs us) (tree_count es * (d + p)) (idle (d + p) (tree_count es)) (element_costs es) l c);
+          fits = (
+            omega (arith, x, f.0),
+            omega (arith, y, f.1),
+            omega (arith, n, f.2),
+            rw n (below (tree_count es * (d' + p')) (tree_count es * (d + p)) (2 ^ 29) i f.3),
+            g,
+          );
+          charged = rw n (sums (tree_count es * (d' + p')) (idle (d' + p') (tree_count es)) (element_costs us)
+              (tree_count es * (d + p)) (idle (d + p) (tree_count es)) (element_costs es) l c);
           deep = ap₂ (λ k e. 1 + element_levels k + e) n h;
         }
 
@@ -199,7 +223,11 @@ mutual
   trimmed (scalars c vs) f = record { fits = f; charged = omega arith; deep = refl }
   trimmed (pointers ts) f =
       let r : AllTrimmed ts (trim_all ts) = all_trimmed ts f.1 in
-      record { fits = (rw r.count f.0, r.fits); charged = omega (arith, r.count, r.charged); deep = ap (λ n. 1 + n) r.deep }
+      record {
+        fits = (rw r.count f.0, r.fits);
+        charged = omega (arith, r.count, r.charged);
+        deep = ap (λ n. 1 + n) r.deep;
+      }
   trimmed (structs d p es) f = structs_trimmed d p es (trim_elements es) f (elements_trimmed d p es f.4)
 
   pub all_trimmed : (ts : Trees) → FitEach ts → AllTrimmed ts (trim_all ts)
@@ -207,12 +235,22 @@ mutual
   all_trimmed (more t ts) f =
       let a : Trimmed t (trim t) = trimmed t f.0 in
       let r : AllTrimmed ts (trim_all ts) = all_trimmed ts f.1 in
-      record { count = ap suc r.count; fits = (a.fits, r.fits); charged = omega (arith, a.charged, r.charged); deep = ap₂ max a.deep r.deep }
+      record {
+        count = ap suc r.count;
+        fits = (a.fits, r.fits);
+        charged = omega (arith, a.charged, r.charged);
+        deep = ap₂ max a.deep r.deep;
+      }
 
   pub elements_trimmed : (d p : ℕ) (es : Trees) → FitElements d p es → ElementsTrimmed d p es (trim_elements es)
   elements_trimmed d p none f = record { count = refl; fits = tt; charged = omega arith; deep = refl }
   elements_trimmed d p (more (struct words ts) es) f =
       let a : AllTrimmed ts (trim_all ts) = all_trimmed ts f.2 in
       let r : ElementsTrimmed d p es (trim_elements es) = elements_trimmed d p es f.3 in
-      record { count = ap suc r.count; fits = (f.0, a.count ∙ f.1, a.fits, r.fits); charged = omega (arith, a.charged, r.charged); deep = ap₂ max a.deep r.deep }
+      record {
+        count = ap suc r.count;
+        fits = (f.0, a.count ∙ f.1, a.fits, r.fits);
+        charged = omega (arith, a.charged, r.charged);
+        deep = ap₂ max a.deep r.deep;
+      }
   elements_trimmed d p (more t es) f = absurd f

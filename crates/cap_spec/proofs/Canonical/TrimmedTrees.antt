@@ -3,8 +3,10 @@ use Rattle.std.proofs.Common.{ℕ, zero, suc, ◌+◌, ◌≤◌, ◌≡◌, sym
 use Rattle.std.specs.Prelude.{if◌then◌else◌, ◌==◌, not}
 use Rattle.std.proofs.lemmas.List.{length-take-le}
 use Rattle.cap_spec.specs.Words.{IsWord}
-use Rattle.cap_spec.specs.Tree.{Tree, null, cap, struct, scalars, pointers, structs, Trees, none, more, tree_count, cap_count, cap_counts, has_cap, IsTree, AreTrees, AreElementTrees}
-use Rattle.cap_spec.specs.Canonical.{data_needed, is_null, children_needed, take_trees, data_of, children_of, cut_elements, trim, trim_all, trim_elements}
+use Rattle.cap_spec.specs.Tree.{Tree, null, cap, struct, scalars, pointers, structs, Trees, none, more, tree_count}
+use Rattle.cap_spec.specs.Tree.{cap_count, cap_counts, has_cap, IsTree, AreTrees, AreElementTrees}
+use Rattle.cap_spec.specs.Canonical.{data_needed, is_null, children_needed, take_trees, data_of, children_of}
+use Rattle.cap_spec.specs.Canonical.{cut_elements, trim, trim_all, trim_elements}
 use Rattle.cap_spec.proofs.Bytes.Lists.{all_take}
 use Rattle.cap_spec.proofs.Canonical.Trimming.{rest_below}
 use Rattle.cap_spec.proofs.Canonical.TrimmedMeasures.{none_left, data_needed_le, children_needed_le, tree_count-take_le}
@@ -16,10 +18,16 @@ trees-take (suc n) none f = tt
 trees-take (suc n) (more t ts) f = (f.0, trees-take n ts f.1)
 
 -- elements cut to sizes that each of them has
-cut_trees : (d p x y : ℕ) (es : Trees) → d ≤ x → p ≤ y → AreElementTrees x y es → AreElementTrees d p (cut_elements d p es)
+cut_trees : (d p x y : ℕ) (es : Trees) → d ≤ x → p ≤ y → AreElementTrees x y es
+    → AreElementTrees d p (cut_elements d p es)
 cut_trees d p x y none hd hp f = tt
-cut_trees d p x y (more (struct words ts) es) hd hp f =
-    (all_take IsWord d words f.0, length-take-le d words (omega (arith, f.1)), tree_count-take_le p ts (omega (arith, f.2)), trees-take p ts f.3, cut_trees d p x y es hd hp f.4)
+cut_trees d p x y (more (struct words ts) es) hd hp f = (
+  all_take IsWord d words f.0,
+  length-take-le d words (omega (arith, f.1)),
+  tree_count-take_le p ts (omega (arith, f.2)),
+  trees-take p ts f.3,
+  cut_trees d p x y es hd hp f.4,
+)
 cut_trees d p x y (more t es) hd hp f = absurd f
 
 -- no element needs more than its size
@@ -45,8 +53,10 @@ mutual
   pub trimmed_is_tree : (t : Tree) → IsTree t → IsTree (trim t)
   trimmed_is_tree null f = tt
   trimmed_is_tree (cap i) f = f
-  trimmed_is_tree (struct words ts) f =
-      (all_take IsWord (data_needed words) words f.0, trees-take (children_needed (trim_all ts)) (trim_all ts) (trimmed_are_trees ts f.1))
+  trimmed_is_tree (struct words ts) f = (
+    all_take IsWord (data_needed words) words f.0,
+    trees-take (children_needed (trim_all ts)) (trim_all ts) (trimmed_are_trees ts f.1),
+  )
   trimmed_is_tree (scalars c vs) f = f
   trimmed_is_tree (pointers ts) f = trimmed_are_trees ts f
   trimmed_is_tree (structs d p es) f =
@@ -67,7 +77,8 @@ mutual
 -- trees of which none are needed have no capabilities
 no_caps : (ts : Trees) → children_needed ts ≤ 0 → cap_counts ts ≡ 0
 no_caps none h = refl
-no_caps (more null ts) h = let n = none_left (children_needed ts) 0 h in let r : cap_counts ts ≡ 0 = no_caps ts n.0 in omega arith
+no_caps (more null ts) h = let n = none_left (children_needed ts) 0 h in
+    let r : cap_counts ts ≡ 0 = no_caps ts n.0 in omega arith
 no_caps (more (cap i) ts) h = let n = none_left (children_needed ts) 1 h in absurd (omega (arith, n.1))
 no_caps (more (struct words us) ts) h = let n = none_left (children_needed ts) 1 h in absurd (omega (arith, n.1))
 no_caps (more (scalars c vs) ts) h = let n = none_left (children_needed ts) 1 h in absurd (omega (arith, n.1))
@@ -83,7 +94,8 @@ caps-take (suc n) (more t ts) h =
 
 caps-cut : (d p : ℕ) (es : Trees) → children_of es ≤ p → cap_counts (cut_elements d p es) ≡ cap_counts es
 caps-cut d p none h = refl
-caps-cut d p (more (struct words ts) es) h = ap₂ (λ x y. x + y) (caps-take p ts (omega (arith, h))) (caps-cut d p es (omega (arith, h)))
+caps-cut d p (more (struct words ts) es) h =
+    ap₂ (λ x y. x + y) (caps-take p ts (omega (arith, h))) (caps-cut d p es (omega (arith, h)))
 caps-cut d p (more null es) h = ap (λ x. 0 + x) (caps-cut d p es h)
 caps-cut d p (more (cap i) es) h = ap (λ x. 1 + x) (caps-cut d p es h)
 caps-cut d p (more (scalars c vs) es) h = ap (λ x. 0 + x) (caps-cut d p es h)
@@ -95,11 +107,13 @@ mutual
   pub cap_count-trim : (t : Tree) → cap_count (trim t) ≡ cap_count t
   cap_count-trim null = refl
   cap_count-trim (cap i) = refl
-  cap_count-trim (struct words ts) = caps-take (children_needed (trim_all ts)) (trim_all ts) (omega arith) ∙ cap_counts-trim_all ts
+  cap_count-trim (struct words ts) = caps-take (children_needed (trim_all ts)) (trim_all ts) (omega arith)
+      ∙ cap_counts-trim_all ts
   cap_count-trim (scalars c vs) = refl
   cap_count-trim (pointers ts) = cap_counts-trim_all ts
   cap_count-trim (structs d p es) =
-      caps-cut (data_of (trim_elements es)) (children_of (trim_elements es)) (trim_elements es) (omega arith) ∙ cap_counts-trim_elements es
+      caps-cut (data_of (trim_elements es)) (children_of (trim_elements es)) (trim_elements es) (omega arith)
+      ∙ cap_counts-trim_elements es
 
   pub cap_counts-trim_all : (ts : Trees) → cap_counts (trim_all ts) ≡ cap_counts ts
   cap_counts-trim_all none = refl
@@ -107,7 +121,8 @@ mutual
 
   pub cap_counts-trim_elements : (es : Trees) → cap_counts (trim_elements es) ≡ cap_counts es
   cap_counts-trim_elements none = refl
-  cap_counts-trim_elements (more (struct words ts) es) = ap₂ (λ x y. x + y) (cap_counts-trim_all ts) (cap_counts-trim_elements es)
+  cap_counts-trim_elements (more (struct words ts) es) =
+      ap₂ (λ x y. x + y) (cap_counts-trim_all ts) (cap_counts-trim_elements es)
   cap_counts-trim_elements (more null es) = ap (λ x. 0 + x) (cap_counts-trim_elements es)
   cap_counts-trim_elements (more (cap i) es) = ap (λ x. 1 + x) (cap_counts-trim_elements es)
   cap_counts-trim_elements (more (scalars c vs) es) = ap (λ x. 0 + x) (cap_counts-trim_elements es)

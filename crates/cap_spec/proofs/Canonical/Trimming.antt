@@ -4,7 +4,8 @@ use Rattle.std.specs.Prelude.{if◌then◌else◌, ◌==◌}
 use Rattle.std.proofs.Math.Dec.{eqb-suc-zero}
 use Rattle.std.proofs.lemmas.List.{take-take}
 use Rattle.cap_spec.specs.Tree.{Tree, null, cap, struct, scalars, pointers, structs, Trees, none, more}
-use Rattle.cap_spec.specs.Canonical.{data_needed, is_null, children_needed, take_trees, data_of, children_of, cut_elements, trim_struct, trim_structs, trim, trim_all, trim_elements}
+use Rattle.cap_spec.specs.Canonical.{data_needed, is_null, children_needed, take_trees, data_of, children_of}
+use Rattle.cap_spec.specs.Canonical.{cut_elements, trim_struct, trim_structs, trim, trim_all, trim_elements}
 
 -- a front that is long enough for the whole is long enough for the rest
 pub rest_below : (n x d : ℕ) → (if n == 0 then x else suc n) ≤ suc d → n ≤ d
@@ -21,15 +22,18 @@ data_needed-take zero [] h = refl
 data_needed-take (suc d) [] h = refl
 data_needed-take zero (x ∷ xs) h = sym (none_needed (data_needed xs) (if x == 0 then 0 else 1) h)
 data_needed-take (suc d) (x ∷ xs) h =
-    ap (λ n. if n == 0 then (if x == 0 then 0 else 1) else suc n) (data_needed-take d xs (rest_below (data_needed xs) (if x == 0 then 0 else 1) d h))
+    ap (λ n. if n == 0 then (if x == 0 then 0 else 1) else suc n)
+    (data_needed-take d xs (rest_below (data_needed xs) (if x == 0 then 0 else 1) d h))
 
 -- the same of children
-pub children_needed-take : (p : ℕ) (ts : Trees) → children_needed ts ≤ p → children_needed (take_trees p ts) ≡ children_needed ts
+pub children_needed-take : (p : ℕ) (ts : Trees) → children_needed ts ≤ p
+    → children_needed (take_trees p ts) ≡ children_needed ts
 children_needed-take zero none h = refl
 children_needed-take (suc p) none h = refl
 children_needed-take zero (more t ts) h = sym (none_needed (children_needed ts) (if is_null t then 0 else 1) h)
 children_needed-take (suc p) (more t ts) h =
-    ap (λ n. if n == 0 then (if is_null t then 0 else 1) else suc n) (children_needed-take p ts (rest_below (children_needed ts) (if is_null t then 0 else 1) p h))
+    ap (λ n. if n == 0 then (if is_null t then 0 else 1) else suc n)
+    (children_needed-take p ts (rest_below (children_needed ts) (if is_null t then 0 else 1) p h))
 
 -- children cut twice to one length are cut once
 pub take_trees-take_trees : (n : ℕ) (ts : Trees) → take_trees n (take_trees n ts) ≡ take_trees n ts
@@ -43,9 +47,11 @@ trim_all-take zero ts = refl
 trim_all-take (suc n) none = refl
 trim_all-take (suc n) (more t ts) = ap (more (trim t)) (trim_all-take n ts)
 
-pub trim_elements-cut : (d p : ℕ) (es : Trees) → trim_elements (cut_elements d p es) ≡ cut_elements d p (trim_elements es)
+pub trim_elements-cut : (d p : ℕ) (es : Trees)
+    → trim_elements (cut_elements d p es) ≡ cut_elements d p (trim_elements es)
 trim_elements-cut d p none = refl
-trim_elements-cut d p (more (struct words ts) es) = ap₂ (λ us rest. more (struct (take d words) us) rest) (trim_all-take p ts) (trim_elements-cut d p es)
+trim_elements-cut d p (more (struct words ts) es) =
+    ap₂ (λ us rest. more (struct (take d words) us) rest) (trim_all-take p ts) (trim_elements-cut d p es)
 trim_elements-cut d p (more null es) = ap (more null) (trim_elements-cut d p es)
 trim_elements-cut d p (more (cap i) es) = ap (more (cap i)) (trim_elements-cut d p es)
 trim_elements-cut d p (more (scalars c vs) es) = ap (more (scalars c vs)) (trim_elements-cut d p es)
@@ -56,7 +62,8 @@ trim_elements-cut d p (more (structs x y ts) es) = ap (more (structs x y ts)) (t
 pub cut_elements-cut : (d p : ℕ) (es : Trees) → cut_elements d p (cut_elements d p es) ≡ cut_elements d p es
 cut_elements-cut d p none = refl
 cut_elements-cut d p (more (struct words ts) es) =
-    ap₂ (λ (ws : List ℕ) (f : Trees × Trees). more (struct ws f.0) f.1) (take-take d d words (omega arith)) (ap₂ (λ (us : Trees) (rest : Trees). (us, rest)) (take_trees-take_trees p ts) (cut_elements-cut d p es))
+    ap₂ (λ (ws : List ℕ) (f : Trees × Trees). more (struct ws f.0) f.1) (take-take d d words (omega arith))
+    (ap₂ (λ (us : Trees) (rest : Trees). (us, rest)) (take_trees-take_trees p ts) (cut_elements-cut d p es))
 cut_elements-cut d p (more null es) = ap (more null) (cut_elements-cut d p es)
 cut_elements-cut d p (more (cap i) es) = ap (more (cap i)) (cut_elements-cut d p es)
 cut_elements-cut d p (more (scalars c vs) es) = ap (more (scalars c vs)) (cut_elements-cut d p es)
@@ -66,7 +73,8 @@ cut_elements-cut d p (more (structs x y ts) es) = ap (more (structs x y ts)) (cu
 -- cut elements need as many data words as before, where that many are left
 pub data_of-cut : (d p : ℕ) (es : Trees) → data_of es ≤ d → data_of (cut_elements d p es) ≡ data_of es
 data_of-cut d p none h = refl
-data_of-cut d p (more (struct words ts) es) h = ap₂ max (data_needed-take d words (omega (arith, h))) (data_of-cut d p es (omega (arith, h)))
+data_of-cut d p (more (struct words ts) es) h =
+    ap₂ max (data_needed-take d words (omega (arith, h))) (data_of-cut d p es (omega (arith, h)))
 data_of-cut d p (more null es) h = data_of-cut d p es h
 data_of-cut d p (more (cap i) es) h = data_of-cut d p es h
 data_of-cut d p (more (scalars c vs) es) h = data_of-cut d p es h
@@ -76,7 +84,8 @@ data_of-cut d p (more (structs x y ts) es) h = data_of-cut d p es h
 -- the same of their children
 pub children_of-cut : (d p : ℕ) (es : Trees) → children_of es ≤ p → children_of (cut_elements d p es) ≡ children_of es
 children_of-cut d p none h = refl
-children_of-cut d p (more (struct words ts) es) h = ap₂ max (children_needed-take p ts (omega (arith, h))) (children_of-cut d p es (omega (arith, h)))
+children_of-cut d p (more (struct words ts) es) h =
+    ap₂ max (children_needed-take p ts (omega (arith, h))) (children_of-cut d p es (omega (arith, h)))
 children_of-cut d p (more null es) h = children_of-cut d p es h
 children_of-cut d p (more (cap i) es) h = children_of-cut d p es h
 children_of-cut d p (more (scalars c vs) es) h = children_of-cut d p es h
@@ -86,20 +95,27 @@ children_of-cut d p (more (structs x y ts) es) h = children_of-cut d p es h
 -- a trimmed struct of trimmed children, trimmed again
 trim_struct-again : (ws : List ℕ) (us : Trees) → trim_all us ≡ us → trim (trim_struct ws us) ≡ trim_struct ws us
 trim_struct-again ws us e =
-    let a : trim_all (take_trees (children_needed us) us) ≡ take_trees (children_needed us) us = trim_all-take (children_needed us) us ∙ ap (take_trees (children_needed us)) e in
-    let b : data_needed (take (data_needed ws) ws) ≡ data_needed ws = data_needed-take (data_needed ws) ws (omega arith) in
-    let c : children_needed (take_trees (children_needed us) us) ≡ children_needed us = children_needed-take (children_needed us) us (omega arith) in
+    let a : trim_all (take_trees (children_needed us) us) ≡ take_trees (children_needed us) us =
+    trim_all-take (children_needed us) us ∙ ap (take_trees (children_needed us)) e in
+    let b : data_needed (take (data_needed ws) ws) ≡ data_needed ws =
+    data_needed-take (data_needed ws) ws (omega arith) in
+    let c : children_needed (take_trees (children_needed us) us) ≡ children_needed us =
+    children_needed-take (children_needed us) us (omega arith) in
     ap (trim_struct (take (data_needed ws) ws)) a
-    ∙ ap₂ struct (ap (λ x. take x (take (data_needed ws) ws)) b ∙ take-take (data_needed ws) (data_needed ws) ws (omega arith))
+    ∙ ap₂ struct (ap (λ x. take x (take (data_needed ws) ws)) b
+    ∙ take-take (data_needed ws) (data_needed ws) ws (omega arith))
     (ap (λ x. take_trees x (take_trees (children_needed us) us)) c ∙ take_trees-take_trees (children_needed us) us)
 
 -- trimmed elements of trimmed children, trimmed again
 trim_structs-again : (es : Trees) → trim_elements es ≡ es → trim (trim_structs es) ≡ trim_structs es
 trim_structs-again es e =
-    let a : trim_elements (cut_elements (data_of es) (children_of es) es) ≡ cut_elements (data_of es) (children_of es) es =
+    let a : trim_elements (cut_elements (data_of es) (children_of es) es)
+    ≡ cut_elements (data_of es) (children_of es) es =
     trim_elements-cut (data_of es) (children_of es) es ∙ ap (cut_elements (data_of es) (children_of es)) e in
-    let b : data_of (cut_elements (data_of es) (children_of es) es) ≡ data_of es = data_of-cut (data_of es) (children_of es) es (omega arith) in
-    let c : children_of (cut_elements (data_of es) (children_of es) es) ≡ children_of es = children_of-cut (data_of es) (children_of es) es (omega arith) in
+    let b : data_of (cut_elements (data_of es) (children_of es) es) ≡ data_of es =
+    data_of-cut (data_of es) (children_of es) es (omega arith) in
+    let c : children_of (cut_elements (data_of es) (children_of es) es) ≡ children_of es =
+    children_of-cut (data_of es) (children_of es) es (omega arith) in
     ap trim_structs a
     ∙ (ap₂ (λ x y. structs x y (cut_elements x y (cut_elements (data_of es) (children_of es) es))) b c
     ∙ ap (structs (data_of es) (children_of es)) (cut_elements-cut (data_of es) (children_of es) es))
@@ -122,7 +138,8 @@ mutual
   -- and the elements of a struct list
   pub trim_elements-trim_elements : (es : Trees) → trim_elements (trim_elements es) ≡ trim_elements es
   trim_elements-trim_elements none = refl
-  trim_elements-trim_elements (more (struct words ts) es) = ap₂ (λ us rest. more (struct words us) rest) (trim_all-trim_all ts) (trim_elements-trim_elements es)
+  trim_elements-trim_elements (more (struct words ts) es) =
+      ap₂ (λ us rest. more (struct words us) rest) (trim_all-trim_all ts) (trim_elements-trim_elements es)
   trim_elements-trim_elements (more null es) = ap (more null) (trim_elements-trim_elements es)
   trim_elements-trim_elements (more (cap i) es) = ap (more (cap i)) (trim_elements-trim_elements es)
   trim_elements-trim_elements (more (scalars c vs) es) = ap (more (scalars c vs)) (trim_elements-trim_elements es)

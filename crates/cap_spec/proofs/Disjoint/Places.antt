@@ -1,5 +1,6 @@
 -- The places of a range of words, those of landing pads, and of how many words distinct places are.
-use Rattle.std.proofs.Common.{ℕ, zero, suc, ◌+◌, ◌<◌, ◌≤◌, ◌≡◌, ◌≢◌, ◌⊎◌, List, [], ◌∷◌, ◌++◌, length, sum, false, inl, inr, refl, sym, ap, subst, ◌∙◌, arith, eqb, ne_eqb}
+use Rattle.std.proofs.Common.{ℕ, zero, suc, ◌+◌, ◌<◌, ◌≤◌, ◌≡◌, ◌≢◌, ◌⊎◌, List, [], ◌∷◌, ◌++◌, length, sum, false, inl}
+use Rattle.std.proofs.Common.{inr, refl, sym, ap, subst, ◌∙◌, arith, eqb, ne_eqb}
 use Rattle.std.proofs.lemmas.Bool.{cases_eq}
 use Rattle.std.specs.List.{sum_by}
 use Rattle.std.proofs.lemmas.List.{length-append}
@@ -16,7 +17,11 @@ use Rattle.cap_spec.proofs.Frames.Messages.{HasWord-inside, HasWord-segment, one
 -- the places of a range
 pub in_places : (t b n s w : ℕ) → IsPlaceOf (s, w) (places t b n) → (s ≡ t) × (b ≤ w) × (w < b + n)
 in_places t b zero s w h = absurd h
-in_places t b (suc n) s w (inl e) = (ap (λ u. u.0) e, (let f : w ≡ b = ap (λ u. u.1) e in omega arith), (let f : w ≡ b = ap (λ u. u.1) e in omega arith))
+in_places t b (suc n) s w (inl e) = (
+  ap (λ u. u.0) e,
+  (let f : w ≡ b = ap (λ u. u.1) e in omega arith),
+  (let f : w ≡ b = ap (λ u. u.1) e in omega arith),
+)
 in_places t b (suc n) s w (inr h) = let r = in_places t (b + 1) n s w h in (r.0, omega (arith, r.1), omega (arith, r.2))
 
 pub at_place : (t b n w : ℕ) → b ≤ w → w < b + n → IsPlaceOf (t, w) (places t b n)
@@ -46,7 +51,8 @@ place_either x (z ∷ xs) ys (inl e) = inl (inl e)
 place_either x (z ∷ xs) ys (inr h) = elim (place_either x xs ys h) [ inl k ↦ inl (inr k) | inr k ↦ inr k ]
 
 -- two lists of places without a common one
-pub apart_append : (xs ys : List (ℕ × ℕ)) → AreApart xs → AreApart ys → ((x : ℕ × ℕ) → IsPlaceOf x xs → IsPlaceOf x ys → ⊥) → AreApart (xs ++ ys)
+pub apart_append : (xs ys : List (ℕ × ℕ)) → AreApart xs → AreApart ys
+    → ((x : ℕ × ℕ) → IsPlaceOf x xs → IsPlaceOf x ys → ⊥) → AreApart (xs ++ ys)
 apart_append [] ys h k none = k
 apart_append (x ∷ xs) ys h k none = (
   (λ p. elim (place_either x xs ys p) [ inl q ↦ h.0 q | inr q ↦ none x (inl refl) q ]),
@@ -73,28 +79,38 @@ pads_inside m s w k p r (near p' has n says e) h far = absurd (n (ap kind (one_w
 pads_inside m s w k p r (one_pad p' q has (f, one) hasq n says e) h far =
     let same : p' ≡ p = one_word m s w p' p has h in
     let own : HasWord m (far_segment p) (pad p) q = subst (λ (u : ℕ). HasWord m (far_segment u) (pad u) q) same hasq in
-    let one' : two p ≡ 0 = ap two (sym same) ∙ one in
-    (HasWord-segment m (far_segment p) (pad p) q own, omega (arith, one', HasWord-inside m (far_segment p) (pad p) q own))
+    let one' : two p ≡ 0 = ap two (sym same) ∙ one in (
+      HasWord-segment m (far_segment p) (pad p) q own,
+      omega (arith, one', HasWord-inside m (far_segment p) (pad p) q own),
+    )
 pads_inside m s w k p r (two_pads p' f q has (far', both) hasf hasq one tag e e') h far =
     let same : p' ≡ p = one_word m s w p' p has h in
-    let own : HasWord m (far_segment p) (pad p + 1) q = subst (λ (u : ℕ). HasWord m (far_segment u) (pad u + 1) q) same hasq in
-    let both' : two p ≡ 1 = ap two (sym same) ∙ both in
-    (HasWord-segment m (far_segment p) (pad p + 1) q own, omega (arith, both', HasWord-inside m (far_segment p) (pad p + 1) q own))
+    let own : HasWord m (far_segment p) (pad p + 1) q =
+    subst (λ (u : ℕ). HasWord m (far_segment u) (pad u + 1) q) same hasq in
+    let both' : two p ≡ 1 = ap two (sym same) ∙ both in (
+      HasWord-segment m (far_segment p) (pad p + 1) q own,
+      omega (arith, both', HasWord-inside m (far_segment p) (pad p + 1) q own),
+    )
 
-pub pad_inside : (m : List (List ℕ)) (s w k p : ℕ) (r : Lead) (t x : ℕ) → Leads m s w k r → HasWord m s w p → IsPlaceOf (t, x) (pads_of p)
+pub pad_inside : (m : List (List ℕ)) (s w k p : ℕ) (r : Lead) (t x : ℕ) → Leads m s w k r → HasWord m s w p
+    → IsPlaceOf (t, x) (pads_of p)
     → (t < length m) × (x < length (segment_of m t))
 pad_inside m s w k p r t x leads has i = elim (cases_eq (kind p) 2) [
   | inl far ↦
-      let c = in_places (far_segment p) (pad p) (1 + two p) t x (subst (λ (u : List (ℕ × ℕ)). IsPlaceOf (t, x) u) (pads_in_a_row p far) i) in
+      let c = in_places (far_segment p) (pad p) (1 + two p) t x
+      (subst (λ (u : List (ℕ × ℕ)). IsPlaceOf (t, x) u) (pads_in_a_row p far) i) in
       let y = pads_inside m s w k p r leads has far in
-      let l : length (segment_of m t) ≡ length (segment_of m (far_segment p)) = ap (λ (u : ℕ). length (segment_of m u)) c.0 in
+      let l : length (segment_of m t) ≡ length (segment_of m (far_segment p)) =
+      ap (λ (u : ℕ). length (segment_of m u)) c.0 in
       (omega (arith, c.0, y.0), omega (arith, c.2, y.1, l))
   | inr n ↦ absurd (subst (λ (u : List (ℕ × ℕ)). IsPlaceOf (t, x) u) (no_pads p n) i)
 ]
 
 -- they are as many as the pointer leads over
-pub pads_number : (m : List (List ℕ)) (s w k p : ℕ) (r : Lead) → Leads m s w k r → HasWord m s w p → length (pads_of p) ≡ k
-pads_number m s w k p r (near p' has n says e) h = ap length (no_pads p (λ far. n (ap kind (one_word m s w p' p has h) ∙ far))) ∙ sym e
+pub pads_number : (m : List (List ℕ)) (s w k p : ℕ) (r : Lead) → Leads m s w k r → HasWord m s w p
+    → length (pads_of p) ≡ k
+pads_number m s w k p r (near p' has n says e) h =
+    ap length (no_pads p (λ far. n (ap kind (one_word m s w p' p has h) ∙ far))) ∙ sym e
 pads_number m s w k p r (one_pad p' q has (f, one) hasq n says e) h =
     let same : p' ≡ p = one_word m s w p' p has h in
     let far : kind p ≡ 2 = ap kind (sym same) ∙ f in
@@ -110,13 +126,16 @@ pads_number m s w k p r (two_pads p' f q has (far', both) hasf hasq one tag e e'
 
 -- a list of places without one of them
 remove : (x : ℕ × ℕ) (ys : List (ℕ × ℕ)) → IsPlaceOf x ys
-    → (zs : List (ℕ × ℕ)) × (length ys ≡ suc (length zs)) × ((y : ℕ × ℕ) → IsPlaceOf y ys → (y ≡ x → ⊥) → IsPlaceOf y zs)
+    → (zs : List (ℕ × ℕ)) × (length ys ≡ suc (length zs))
+    × ((y : ℕ × ℕ) → IsPlaceOf y ys → (y ≡ x → ⊥) → IsPlaceOf y zs)
 remove x [] h = absurd h
 remove x (y ∷ ys) (inl e) = (ys, refl, λ z i n. elim i [ inl f ↦ absurd (n (f ∙ sym e)) | inr j ↦ j ])
-remove x (y ∷ ys) (inr h) = let r = remove x ys h in (y ∷ r.0, ap suc r.1, λ z i n. elim i [ inl f ↦ inl f | inr j ↦ inr (r.2 z j n) ])
+remove x (y ∷ ys) (inr h) = let r = remove x ys h in
+    (y ∷ r.0, ap suc r.1, λ z i n. elim i [ inl f ↦ inl f | inr j ↦ inr (r.2 z j n) ])
 
 -- distinct places of a list are at most as many as it has
-pub few_places : (xs ys : List (ℕ × ℕ)) → AreApart xs → ((x : ℕ × ℕ) → IsPlaceOf x xs → IsPlaceOf x ys) → length xs ≤ length ys
+pub few_places : (xs ys : List (ℕ × ℕ)) → AreApart xs → ((x : ℕ × ℕ) → IsPlaceOf x xs → IsPlaceOf x ys)
+    → length xs ≤ length ys
 few_places [] ys a h = omega arith
 few_places (x ∷ xs) ys a h =
     let r = remove x ys (h x (inl refl)) in
@@ -133,15 +152,20 @@ length_all s [] = refl
 length_all s (segment ∷ m) =
     let e = length_all (suc s) m in
     let l = length-places s 0 (length segment) in
-    let f : sum (sizes_of (segment ∷ m)) ≡ (0 + length segment) + sum_by (λ (x : ℕ). x) (sizes_of m) = sum_by_from (λ (x : ℕ). x) (0 + length segment) (sizes_of m) in
+    let f : sum (sizes_of (segment ∷ m)) ≡ (0 + length segment) + sum_by (λ (x : ℕ). x) (sizes_of m) =
+    sum_by_from (λ (x : ℕ). x) (0 + length segment) (sizes_of m) in
     let g : sum (sizes_of m) ≡ 0 + sum_by (λ (x : ℕ). x) (sizes_of m) = sum_by_from (λ (x : ℕ). x) 0 (sizes_of m) in
     length-append (places s 0 (length segment)) (all_places (suc s) m) ∙ omega (arith, e, l, f, g)
 
-pub in_all : (s : ℕ) (m : List (List ℕ)) (t w : ℕ) → t < length m → w < length (segment_of m t) → IsPlaceOf (s + t, w) (all_places s m)
+pub in_all : (s : ℕ) (m : List (List ℕ)) (t w : ℕ) → t < length m → w < length (segment_of m t)
+    → IsPlaceOf (s + t, w) (all_places s m)
 in_all s [] t w h k = absurd (omega arith)
 in_all s (segment ∷ m) zero w h k =
     let e : s + 0 ≡ s = omega arith in
-    place_left (s + 0, w) (places s 0 (length segment)) (all_places (suc s) m) (subst (λ (u : ℕ). IsPlaceOf (u, w) (places s 0 (length segment))) (sym e) (at_place s 0 (length segment) w (omega arith) (omega arith)))
+    place_left (s + 0, w) (places s 0 (length segment)) (all_places (suc s) m)
+    (subst (λ (u : ℕ). IsPlaceOf (u, w) (places s 0 (length segment))) (sym e)
+    (at_place s 0 (length segment) w (omega arith) (omega arith)))
 in_all s (segment ∷ m) (suc t) w h k =
     let e : suc s + t ≡ s + suc t = omega arith in
-    place_right (s + suc t, w) (places s 0 (length segment)) (all_places (suc s) m) (subst (λ (u : ℕ). IsPlaceOf (u, w) (all_places (suc s) m)) e (in_all (suc s) m t w (omega arith) k))
+    place_right (s + suc t, w) (places s 0 (length segment)) (all_places (suc s) m)
+    (subst (λ (u : ℕ). IsPlaceOf (u, w) (all_places (suc s) m)) e (in_all (suc s) m t w (omega arith) k))

@@ -1,5 +1,6 @@
 -- The five ways in which reading a message ends: no two of them hold of the same words.
-use Rattle.std.proofs.Common.{◌≡◌, ℕ, ◌+◌, ◌/◌, ◌%◌, ◌^◌, ◌<◌, ◌≤◌, Bool, false, List, [], ◌∷◌, ◌++◌, length, sum, refl, sym, ap, ◌∙◌, arith, append_assoc, length-append}
+use Rattle.std.proofs.Common.{◌≡◌, ℕ, ◌+◌, ◌/◌, ◌%◌, ◌^◌, ◌<◌, ◌≤◌, Bool, false, List, [], ◌∷◌, ◌++◌, length, sum, refl}
+use Rattle.std.proofs.Common.{sym, ap, ◌∙◌, arith, append_assoc, length-append}
 use Rattle.std.proofs.lemmas.List.Sums.{sum_by-cons}
 use Rattle.cap_spec.specs.Frames.{joined, sizes_of, IsTable, Frames, IsPartial, in_word, in_table, in_contents}
 use Rattle.cap_spec.proofs.Frames.Framing.{table_some, table_count, table_length, same_table}
@@ -27,7 +28,8 @@ no_table [] rest sizes t e = absurd (let h = table_some [] sizes t in omega arit
 no_table (p ∷ table) rest sizes t e = absurd (cc)
 
 -- what begins with a table tells of at most 512 segments
-pub table_few : (table rest sizes : List ℕ) (first : ℕ) (more : List ℕ) → IsTable table sizes → first ∷ more ≡ table ++ rest → first % 2 ^ 32 < 512
+pub table_few : (table rest sizes : List ℕ) (first : ℕ) (more : List ℕ) → IsTable table sizes
+    → first ∷ more ≡ table ++ rest → first % 2 ^ 32 < 512
 table_few [] rest sizes first more t e = absurd (let h = table_some [] sizes t in omega arith)
 table_few (p ∷ table) rest sizes first more t e =
     let h : first ≡ p = cc in
@@ -37,7 +39,8 @@ table_few (p ∷ table) rest sizes first more t e =
     omega arith
 
 -- what begins with a table isn't cut short inside one
-pub table_whole : (table rest sizes : List ℕ) (first : ℕ) (more : List ℕ) → IsTable table sizes → first ∷ more ≡ table ++ rest → length more < (first % 2 ^ 32 + 1) / 2 → ⊥
+pub table_whole : (table rest sizes : List ℕ) (first : ℕ) (more : List ℕ) → IsTable table sizes
+    → first ∷ more ≡ table ++ rest → length more < (first % 2 ^ 32 + 1) / 2 → ⊥
 table_whole [] rest sizes first more t e l = absurd (let h = table_some [] sizes t in omega arith)
 table_whole (p ∷ table) rest sizes first more t e l =
     let h : first ≡ p = cc in
@@ -50,7 +53,8 @@ table_whole (p ∷ table) rest sizes first more t e l =
     omega arith
 
 -- the table in front of a frame
-pub frame_table : (own rest : List ℕ) (m : List (List ℕ)) → (f : Frames own m) → own ++ rest ≡ f.table ++ (joined m ++ rest)
+pub frame_table : (own rest : List ℕ) (m : List (List ℕ)) → (f : Frames own m)
+    → own ++ rest ≡ f.table ++ (joined m ++ rest)
 frame_table own rest m f = ap (λ w. w ++ rest) f.whole ∙ append_assoc f.table (joined m) rest
 
 -- what begins with a frame, no words: not both
@@ -62,26 +66,33 @@ message_not_none own rest m f e =
     absurd (omega arith)
 
 -- what begins with a frame, a first word that tells of too many segments: not both
-pub message_not_too_many : (own rest : List ℕ) (m : List (List ℕ)) (first : ℕ) (more : List ℕ) → Frames own m → own ++ rest ≡ first ∷ more → 512 < first % 2 ^ 32 + 1 → ⊥
+pub message_not_too_many : (own rest : List ℕ) (m : List (List ℕ)) (first : ℕ) (more : List ℕ) → Frames own m
+    → own ++ rest ≡ first ∷ more → 512 < first % 2 ^ 32 + 1 → ⊥
 message_not_too_many own rest m first more f e n =
-    let h = table_few f.table (joined m ++ rest) (sizes_of m) first more f.is_table (sym e ∙ frame_table own rest m f) in
+    let h = table_few f.table (joined m ++ rest) (sizes_of m) first more f.is_table
+    (sym e ∙ frame_table own rest m f) in
     absurd (omega arith)
 
 -- what begins with a frame, a table: they have the same sizes
-pub message_table : (own rest : List ℕ) (m : List (List ℕ)) (table more sizes : List ℕ) → Frames own m → IsTable table sizes → own ++ rest ≡ table ++ more → (sizes_of m ≡ sizes) × (joined m ++ rest ≡ more)
+pub message_table : (own rest : List ℕ) (m : List (List ℕ)) (table more sizes : List ℕ) → Frames own m
+    → IsTable table sizes → own ++ rest ≡ table ++ more → (sizes_of m ≡ sizes) × (joined m ++ rest ≡ more)
 message_table own rest m table more sizes f t e =
-    let s = same_table f.table table (joined m ++ rest) more (sizes_of m) sizes f.is_table t (sym (frame_table own rest m f) ∙ e) in
+    let s = same_table f.table table (joined m ++ rest) more (sizes_of m) sizes f.is_table t
+    (sym (frame_table own rest m f) ∙ e) in
     (s.1, s.2)
 
 -- what begins with a frame within the limit, a table past the limit: not both
-pub message_not_too_large : (limit : ℕ) (own rest : List ℕ) (m : List (List ℕ)) (table more sizes : List ℕ) → Frames own m → sum (sizes_of m) ≤ limit → IsTable table sizes → own ++ rest ≡ table ++ more → limit < sum sizes → ⊥
+pub message_not_too_large : (limit : ℕ) (own rest : List ℕ) (m : List (List ℕ)) (table more sizes : List ℕ)
+    → Frames own m → sum (sizes_of m) ≤ limit → IsTable table sizes → own ++ rest ≡ table ++ more
+    → limit < sum sizes → ⊥
 message_not_too_large limit own rest m table more sizes f w t e p =
     let s = message_table own rest m table more sizes f t e in
     let u : sum (sizes_of m) ≡ sum sizes = ap sum s.0 in
     absurd (omega arith)
 
 -- what begins with a frame is no part of one
-pub message_not_partial : (limit : ℕ) (own rest : List ℕ) (m : List (List ℕ)) (cut : Bool) → Frames own m → IsPartial limit (own ++ rest) cut → ⊥
+pub message_not_partial : (limit : ℕ) (own rest : List ℕ) (m : List (List ℕ)) (cut : Bool) → Frames own m
+    → IsPartial limit (own ++ rest) cut → ⊥
 message_not_partial limit own rest m cut f (in_word e c) = message_not_none own rest m f e
 message_not_partial limit own rest m cut f (in_table first more e n l) =
     table_whole f.table (joined m ++ rest) (sizes_of m) first more f.is_table (sym e ∙ frame_table own rest m f) l
@@ -94,24 +105,29 @@ message_not_partial limit own rest m cut f (in_contents table sizes more e t n l
     absurd (omega arith)
 
 -- a table and a first word that tells of too many segments: not both
-pub too_many_not_too_large : (first : ℕ) (more table rest sizes : List ℕ) → 512 < first % 2 ^ 32 + 1 → IsTable table sizes → first ∷ more ≡ table ++ rest → ⊥
+pub too_many_not_too_large : (first : ℕ) (more table rest sizes : List ℕ) → 512 < first % 2 ^ 32 + 1
+    → IsTable table sizes → first ∷ more ≡ table ++ rest → ⊥
 too_many_not_too_large first more table rest sizes n t e =
     let h = table_few table rest sizes first more t e in
     absurd (omega arith)
 
 -- a first word that tells of too many segments, a part of a frame: not both
-pub too_many_not_partial : (limit first : ℕ) (more : List ℕ) (cut : Bool) → 512 < first % 2 ^ 32 + 1 → IsPartial limit (first ∷ more) cut → ⊥
+pub too_many_not_partial : (limit first : ℕ) (more : List ℕ) (cut : Bool) → 512 < first % 2 ^ 32 + 1
+    → IsPartial limit (first ∷ more) cut → ⊥
 too_many_not_partial limit first more cut n (in_word e c) = absurd (cc)
 too_many_not_partial limit first more cut n (in_table second rest e m l) =
     let h : first ≡ second = cc in
     let d : first % 2 ^ 32 ≡ second % 2 ^ 32 = ap (λ k. k % 2 ^ 32) h in
     absurd (omega arith)
-too_many_not_partial limit first more cut n (in_contents table sizes rest e t m l) = too_many_not_too_large first more table rest sizes n t e
+too_many_not_partial limit first more cut n (in_contents table sizes rest e t m l) =
+    too_many_not_too_large first more table rest sizes n t e
 
 -- a table past the limit, a part of a frame: not both
-pub too_large_not_partial : (limit : ℕ) (table rest sizes : List ℕ) (cut : Bool) → IsTable table sizes → limit < sum sizes → IsPartial limit (table ++ rest) cut → ⊥
+pub too_large_not_partial : (limit : ℕ) (table rest sizes : List ℕ) (cut : Bool) → IsTable table sizes
+    → limit < sum sizes → IsPartial limit (table ++ rest) cut → ⊥
 too_large_not_partial limit table rest sizes cut t p (in_word e c) = no_table table rest sizes t (sym e)
-too_large_not_partial limit table rest sizes cut t p (in_table first more e n l) = table_whole table rest sizes first more t (sym e) l
+too_large_not_partial limit table rest sizes cut t p (in_table first more e n l) =
+    table_whole table rest sizes first more t (sym e) l
 too_large_not_partial limit table rest sizes cut t p (in_contents other counts more e s n l) =
     let q = same_table table other rest more sizes counts t s e in
     let u : sum sizes ≡ sum counts = ap sum q.1 in

@@ -1,5 +1,6 @@
 -- The frame with zero padding is one, and a list of frames splits in one way.
-use Rattle.std.proofs.Common.{◌≡◌, ℕ, zero, suc, ◌+◌, ◌-◌, ◌*◌, ◌/◌, ◌%◌, ◌^◌, ◌<◌, List, [], ◌∷◌, ◌++◌, length, map, replicate, flat_map, drop, get_or, refl, sym, ap, ◌∙◌, arith, length-append}
+use Rattle.std.proofs.Common.{◌≡◌, ℕ, zero, suc, ◌+◌, ◌-◌, ◌*◌, ◌/◌, ◌%◌, ◌^◌, ◌<◌, List, [], ◌∷◌, ◌++◌, length, map}
+use Rattle.std.proofs.Common.{replicate, flat_map, drop, get_or, refl, sym, ap, ◌∙◌, arith, length-append}
 use Rattle.std.specs.List.{AllByRecursion}
 use Rattle.std.proofs.lemmas.List.{length-replicate, length-map}
 use Rattle.std.proofs.lemmas.List.Elements.{recursion_from_All}
@@ -17,7 +18,8 @@ plain_halves [] = refl
 plain_halves (x ∷ words) =
     let h = word_halves x in
     let t = plain_halves words in
-    ap (λ k. k ++ plain_text words) h ∙ (ap (λ k. flat_map four_bytes (halves x) ++ k) t ∙ sym (flat_map-append four_bytes (halves x) (flat_map halves words)))
+    ap (λ k. k ++ plain_text words) h ∙ (ap (λ k. flat_map four_bytes (halves x) ++ k) t
+    ∙ sym (flat_map-append four_bytes (halves x) (flat_map halves words)))
 
 -- two numbers as halves of a word
 pair_halves : (a b : ℕ) → a < 2 ^ 32 → b < 2 ^ 32 → halves (a + 2 ^ 32 * b) ≡ a ∷ b ∷ []
@@ -27,7 +29,8 @@ pair_halves a b h i =
     ap (λ k. k ∷ (a + 2 ^ 32 * b) / 2 ^ 32 ∷ []) low ∙ ap (λ k. a ∷ k ∷ []) high
 
 -- numbers in pairs have these numbers as halves, and zero behind an odd one
-pub paired_halves : (xs : List ℕ) → AllByRecursion (λ n. n < 2 ^ 32) xs → flat_map halves (paired xs) ≡ xs ++ replicate (length xs % 2) 0
+pub paired_halves : (xs : List ℕ) → AllByRecursion (λ n. n < 2 ^ 32) xs
+    → flat_map halves (paired xs) ≡ xs ++ replicate (length xs % 2) 0
 paired_halves [] all = refl
 paired_halves (a ∷ []) all =
     let h : a < 2 ^ 32 = all.0 in
@@ -41,7 +44,8 @@ paired_halves (a ∷ b ∷ rest) all =
     ∙ (ap (λ k. a ∷ b ∷ k) t ∙ ap (λ n. a ∷ b ∷ (rest ++ replicate n 0)) p)
 
 -- the sizes of a message fit
-sizes_fit : (m : List (List ℕ)) → AllByRecursion (λ segment. length segment < 2 ^ 32) m → AllByRecursion (λ n. n < 2 ^ 32) (sizes_of m)
+sizes_fit : (m : List (List ℕ)) → AllByRecursion (λ segment. length segment < 2 ^ 32) m
+    → AllByRecursion (λ n. n < 2 ^ 32) (sizes_of m)
 sizes_fit [] all = tt
 sizes_fit (s ∷ m) all = (all.0, sizes_fit m all.1)
 
@@ -59,7 +63,8 @@ frame_text_frames m is =
     let fit = sizes_fit m (recursion_from_All (λ segment. length segment < 2 ^ 32) m is.lengths) in
     let first : length m - 1 < 2 ^ 32 = omega arith in
     let h = paired_halves ((length m - 1) ∷ sizes_of m) (first, fit) in
-    let r : length (replicate {A = ℕ} (suc (length (sizes_of m)) % 2) 0) ≡ suc (length (sizes_of m)) % 2 = length-replicate {A = ℕ} (suc (length (sizes_of m)) % 2) 0 in
+    let r : length (replicate {A = ℕ} (suc (length (sizes_of m)) % 2) 0) ≡ suc (length (sizes_of m)) % 2 =
+    length-replicate {A = ℕ} (suc (length (sizes_of m)) % 2) 0 in
     let q : suc (length (sizes_of m)) % 2 ≡ (1 + length (sizes_of m)) % 2 = omega arith in
     let n : length m - 1 ≡ length (sizes_of m) - 1 = omega arith in
     record {
@@ -102,7 +107,10 @@ halves_back (x ∷ a) (y ∷ b) e =
 -- The words with zero padding are the only ones that frame the message with zero padding.
 pub frame_text_zero : (m : List (List ℕ)) → IsMessage m → FramesZero (frame_text m) m
 unfolding frame_text_frames
-frame_text_zero m is = record { frames = frame_text_frames m is; zero_padding = zeros_zero (suc (length (sizes_of m)) % 2) }
+frame_text_zero m is = record {
+  frames = frame_text_frames m is;
+  zero_padding = zeros_zero (suc (length (sizes_of m)) % 2);
+}
 
 -- so many zeros
 zeros : (xs : List ℕ) (n : ℕ) → AllByRecursion (λ (k : ℕ). k ≡ 0) xs → length xs ≡ n → xs ≡ replicate n 0
@@ -113,7 +121,8 @@ one_zero_frame a b m h g =
     let t = h.frames.is_table in
     let u = g.frames.is_table in
     let n = (1 + length (sizes_of m)) % 2 in
-    let same : t.padding ≡ u.padding = zeros t.padding n h.zero_padding t.width ∙ sym (zeros u.padding n g.zero_padding u.width) in
+    let same : t.padding ≡ u.padding = zeros t.padding n h.zero_padding t.width
+    ∙ sym (zeros u.padding n g.zero_padding u.width) in
     let numbers = t.numbers ∙ ap (λ l. (length (sizes_of m) - 1) ∷ (sizes_of m ++ l)) same ∙ sym u.numbers in
     h.frames.whole ∙ ap (λ l. l ++ joined m) (halves_back h.frames.table g.frames.table numbers) ∙ sym g.frames.whole
 
@@ -121,7 +130,8 @@ pub zero_frame_is_text : (words : List ℕ) (m : List (List ℕ)) → IsMessage 
 zero_frame_is_text words m is h = one_zero_frame words (frame_text m) m h (frame_text_zero m is)
 
 -- frames one after the other that make the same words frame the same messages
-pub same_stream : (fs gs : List (List ℕ × List (List ℕ))) → AllByRecursion (λ f. Frames f.0 f.1) fs → AllByRecursion (λ f. Frames f.0 f.1) gs →
+pub same_stream : (fs gs : List (List ℕ × List (List ℕ))) → AllByRecursion (λ f. Frames f.0 f.1) fs
+    → AllByRecursion (λ f. Frames f.0 f.1) gs →
     flat_map (λ f. f.0) fs ≡ flat_map (λ f. f.0) gs → map (λ f. f.1) fs ≡ map (λ f. f.1) gs
 same_stream [] [] a b e = refl
 same_stream [] (g ∷ gs) a b e =
@@ -141,4 +151,5 @@ same_stream (f ∷ fs) (g ∷ gs) a b e =
 
 -- words are frames of one list of messages at most
 pub one_stream : (words : List ℕ) (ms ns : List (List (List ℕ))) → Stream words ms → Stream words ns → ms ≡ ns
-one_stream words ms ns s t = s.messages ∙ (same_stream s.frames t.frames s.each t.each (sym s.whole ∙ t.whole) ∙ sym t.messages)
+one_stream words ms ns s t = s.messages
+    ∙ (same_stream s.frames t.frames s.each t.each (sym s.whole ∙ t.whole) ∙ sym t.messages)

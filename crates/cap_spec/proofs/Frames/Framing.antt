@@ -1,5 +1,6 @@
 -- Tables and frames: words begin with at most one of each, and what that one is.
-use Rattle.std.proofs.Common.{◌≡◌, ℕ, ◌+◌, ◌-◌, ◌*◌, ◌/◌, ◌%◌, ◌^◌, ◌<◌, List, [], ◌∷◌, ◌++◌, length, flat_map, refl, sym, ap, ◌∙◌, arith, append_assoc, length-append}
+use Rattle.std.proofs.Common.{◌≡◌, ℕ, ◌+◌, ◌-◌, ◌*◌, ◌/◌, ◌%◌, ◌^◌, ◌<◌, List, [], ◌∷◌, ◌++◌, length, flat_map, refl}
+use Rattle.std.proofs.Common.{sym, ap, ◌∙◌, arith, append_assoc, length-append}
 use Rattle.cap_spec.specs.Frames.{halves, joined, sizes_of, IsTable, Frames}
 
 -- two lists of one length, each with more behind it, that make the same list are the same, and so is what is behind
@@ -49,29 +50,34 @@ same_table (p ∷ a) (q ∷ b) x y m n s t e =
     let c : p % 2 ^ 32 + 1 ≡ length m = table_count p a m s in
     let d : q % 2 ^ 32 + 1 ≡ length n = table_count q b n t in
     let l : length m ≡ length n = (let r = ap (λ k. k % 2 ^ 32 + 1) h in cc) in
-    let k : length (p ∷ a) ≡ length (q ∷ b) = (let u = table_length (p ∷ a) m s in let v = table_length (q ∷ b) n t in omega arith) in
+    let k : length (p ∷ a) ≡ length (q ∷ b) =
+    (let u = table_length (p ∷ a) m s in let v = table_length (q ∷ b) n t in omega arith) in
     let r : (p ∷ a ≡ q ∷ b) × (x ≡ y) = same_parts (p ∷ a) (q ∷ b) x y k e in
     let g : flat_map halves (p ∷ a) ≡ flat_map halves (q ∷ b) = ap (flat_map halves) r.0 in
     let f : m ++ s.padding ≡ n ++ t.padding = (let i = s.numbers in let j = t.numbers in cc) in
     (r.0, (same_parts m n s.padding t.padding l f).0, r.1)
 
 -- the sizes of segments tell how words are cut into them
-pub same_joined : (m n : List (List ℕ)) (x y : List ℕ) → sizes_of m ≡ sizes_of n → joined m ++ x ≡ joined n ++ y → (m ≡ n) × (x ≡ y)
+pub same_joined : (m n : List (List ℕ)) (x y : List ℕ) → sizes_of m ≡ sizes_of n → joined m ++ x ≡ joined n ++ y
+    → (m ≡ n) × (x ≡ y)
 same_joined [] [] x y l e = (refl, e)
 same_joined [] (t ∷ n) x y l e = absurd (cc)
 same_joined (s ∷ m) [] x y l e = absurd (cc)
 same_joined (s ∷ m) (t ∷ n) x y l e =
-    let h : s ++ (joined m ++ x) ≡ t ++ (joined n ++ y) = sym (append_assoc s (joined m) x) ∙ (e ∙ append_assoc t (joined n) y) in
+    let h : s ++ (joined m ++ x) ≡ t ++ (joined n ++ y) = sym (append_assoc s (joined m) x)
+    ∙ (e ∙ append_assoc t (joined n) y) in
     let k : length s ≡ length t = cc in
     let p : (s ≡ t) × (joined m ++ x ≡ joined n ++ y) = same_parts s t (joined m ++ x) (joined n ++ y) k h in
     let q : (m ≡ n) × (x ≡ y) = same_joined m n x y (cc) p.1 in
     ((cc), q.1)
 
 -- words begin with at most one frame
-pub one_frame : (a b x y : List ℕ) (m n : List (List ℕ)) → Frames a m → Frames b n → a ++ x ≡ b ++ y → (a ≡ b) × (m ≡ n) × (x ≡ y)
+pub one_frame : (a b x y : List ℕ) (m n : List (List ℕ)) → Frames a m → Frames b n → a ++ x ≡ b ++ y
+    → (a ≡ b) × (m ≡ n) × (x ≡ y)
 one_frame a b x y m n f g e =
     let h : f.table ++ (joined m ++ x) ≡ g.table ++ (joined n ++ y) =
-    sym (append_assoc f.table (joined m) x) ∙ (ap (λ w. w ++ x) (sym f.whole) ∙ (e ∙ (ap (λ w. w ++ y) g.whole ∙ append_assoc g.table (joined n) y))) in
+    sym (append_assoc f.table (joined m) x)
+    ∙ (ap (λ w. w ++ x) (sym f.whole) ∙ (e ∙ (ap (λ w. w ++ y) g.whole ∙ append_assoc g.table (joined n) y))) in
     let t : (f.table ≡ g.table) × (sizes_of m ≡ sizes_of n) × (joined m ++ x ≡ joined n ++ y) =
     same_table f.table g.table (joined m ++ x) (joined n ++ y) (sizes_of m) (sizes_of n) f.is_table g.is_table h in
     let j : (m ≡ n) × (x ≡ y) = same_joined m n x y t.1 t.2 in

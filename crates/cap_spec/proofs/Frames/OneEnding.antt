@@ -1,14 +1,19 @@
 -- Of the five ways in which reading a message ends exactly one holds of every list of words.
-use Rattle.std.proofs.Common.{◌≡◌, ℕ, ◌+◌, ◌-◌, ◌*◌, ◌/◌, ◌%◌, ◌^◌, ◌<◌, ◌≤◌, Bool, true, false, List, [], ◌∷◌, ◌++◌, length, take, drop, sum, flat_map, refl, sym, ap, ◌∙◌, subst, arith, append_assoc, length-drop, length-take-le, take-append-drop, drop-drop, inl, inr}
+use Rattle.std.proofs.Common.{◌≡◌, ℕ, ◌+◌, ◌-◌, ◌*◌, ◌/◌, ◌%◌, ◌^◌, ◌<◌, ◌≤◌, Bool, true, false, List, [], ◌∷◌, ◌++◌}
+use Rattle.std.proofs.Common.{length, take, drop, sum, flat_map, refl, sym, ap, ◌∙◌, subst, arith, append_assoc}
+use Rattle.std.proofs.Common.{length-drop, length-take-le, take-append-drop, drop-drop, inl, inr}
 use Rattle.std.specs.List.{AllByRecursion}
 use Rattle.std.proofs.lemmas.Bool.{cases_lt}
 use Rattle.std.proofs.lemmas.List.Sums.{sum_by-cons}
 use Rattle.cap_spec.specs.Words.{IsWord}
 use Rattle.cap_spec.specs.Frames.{halves, joined, sizes_of, IsTable, IsPartial, in_word, in_table, in_contents}
-use Rattle.cap_spec.specs.Endings.{BeginsMessage, TellsTooMany, TellsTooMuch, Ending, message, none, too_many, too_large, partial, EndsIn}
+use Rattle.cap_spec.specs.Endings.{BeginsMessage, TellsTooMany, TellsTooMuch, Ending, message, none}
+use Rattle.cap_spec.specs.Endings.{too_many, too_large, partial, EndsIn}
 use Rattle.cap_spec.proofs.Bytes.Lists.{all_take, all_drop}
 use Rattle.cap_spec.proofs.Frames.Framing.{length_halves}
-use Rattle.cap_spec.proofs.Frames.Endings.{message_not_none, message_not_too_many, message_not_too_large, message_not_partial, too_many_not_too_large, too_many_not_partial, too_large_not_partial, none_not_partial, no_table}
+use Rattle.cap_spec.proofs.Frames.Endings.{message_not_none, message_not_too_many, message_not_too_large}
+use Rattle.cap_spec.proofs.Frames.Endings.{message_not_partial, too_many_not_too_large, too_many_not_partial}
+use Rattle.cap_spec.proofs.Frames.Endings.{too_large_not_partial, none_not_partial, no_table}
 
 -- words cut into segments of these sizes
 abbrev pub split : List ℕ → List ℕ → List (List ℕ)
@@ -31,14 +36,17 @@ split_joined [] words = refl
 split_joined (n ∷ sizes) words =
     let c : sum (n ∷ sizes) ≡ n + sum sizes = sum_by-cons (λ x. x) n sizes in
     let t = split_joined sizes (drop n words) in
-    let d : drop (sum sizes) (drop n words) ≡ drop (sum (n ∷ sizes)) words = drop-drop (sum sizes) n words ∙ ap (λ k. drop k words) (sym c) in
+    let d : drop (sum sizes) (drop n words) ≡ drop (sum (n ∷ sizes)) words = drop-drop (sum sizes) n words
+    ∙ ap (λ k. drop k words) (sym c) in
     let a = append_assoc (take n words) (joined (split sizes (drop n words))) (drop (sum (n ∷ sizes)) words) in
     let w = take-append-drop n words in
-    let u : drop n words ≡ joined (split sizes (drop n words)) ++ drop (sum (n ∷ sizes)) words = t ∙ ap (λ k. joined (split sizes (drop n words)) ++ k) d in
+    let u : drop n words ≡ joined (split sizes (drop n words)) ++ drop (sum (n ∷ sizes)) words = t
+    ∙ ap (λ k. joined (split sizes (drop n words)) ++ k) d in
     sym w ∙ (ap (λ k. take n words ++ k) u ∙ sym a)
 
 -- the halves of a word are below 2 ^ 32
-pub halves_fit : (words : List ℕ) → AllByRecursion IsWord words → AllByRecursion (λ n. n < 2 ^ 32) (flat_map halves words)
+pub halves_fit : (words : List ℕ) → AllByRecursion IsWord words
+    → AllByRecursion (λ n. n < 2 ^ 32) (flat_map halves words)
 halves_fit [] a = tt
 halves_fit (x ∷ words) a =
     let h : x < 2 ^ 64 = a.0 in
@@ -49,11 +57,13 @@ abbrev pub sizes_in : ℕ → List ℕ → List ℕ
 sizes_in first more = take (first % 2 ^ 32 + 1) (first / 2 ^ 32 ∷ flat_map halves more)
 
 -- as many words as the first one tells are a table
-pub makes_table : (first : ℕ) (more : List ℕ) → AllByRecursion IsWord (first ∷ more) → first % 2 ^ 32 < 512 → length more ≡ (first % 2 ^ 32 + 1) / 2 → IsTable (first ∷ more) (sizes_in first more)
+pub makes_table : (first : ℕ) (more : List ℕ) → AllByRecursion IsWord (first ∷ more) → first % 2 ^ 32 < 512
+    → length more ≡ (first % 2 ^ 32 + 1) / 2 → IsTable (first ∷ more) (sizes_in first more)
 makes_table first more a n l =
     let h = length_halves more in
     let k : length (first / 2 ^ 32 ∷ flat_map halves more) ≡ 1 + 2 * length more = omega arith in
-    let s : length (sizes_in first more) ≡ first % 2 ^ 32 + 1 = length-take-le (first % 2 ^ 32 + 1) (first / 2 ^ 32 ∷ flat_map halves more) (omega arith) in
+    let s : length (sizes_in first more) ≡ first % 2 ^ 32 + 1 =
+    length-take-le (first % 2 ^ 32 + 1) (first / 2 ^ 32 ∷ flat_map halves more) (omega arith) in
     let d = length-drop (first % 2 ^ 32 + 1) (first / 2 ^ 32 ∷ flat_map halves more) in
     let f = halves_fit (first ∷ more) a in
     let t = take-append-drop (first % 2 ^ 32 + 1) (first / 2 ^ 32 ∷ flat_map halves more) in
@@ -69,7 +79,8 @@ makes_table first more a n l =
     }
 
 -- behind a table one of three is the case
-pub behind_table : (limit : ℕ) (words table rest sizes : List ℕ) (cut : Bool) → IsTable table sizes → words ≡ table ++ rest → (e : Ending) × EndsIn limit words cut e
+pub behind_table : (limit : ℕ) (words table rest sizes : List ℕ) (cut : Bool) → IsTable table sizes
+    → words ≡ table ++ rest → (e : Ending) × EndsIn limit words cut e
 behind_table limit words table rest sizes cut t w = elim (cases_lt limit (sum sizes)) [
   | inl past ↦ (too_large, record { table = table; rest = rest; sizes = sizes; whole = w; is_table = t; past = past })
   | inr within ↦ elim (cases_lt (length rest) (sum sizes)) [
@@ -92,7 +103,8 @@ behind_table limit words table rest sizes cut t w = elim (cases_lt limit (sum si
 ]
 
 -- one of the five is the case
-pub some_ending : (limit : ℕ) (words : List ℕ) (cut : Bool) → AllByRecursion IsWord words → (e : Ending) × EndsIn limit words cut e
+pub some_ending : (limit : ℕ) (words : List ℕ) (cut : Bool) → AllByRecursion IsWord words
+    → (e : Ending) × EndsIn limit words cut e
 some_ending limit [] true a = (partial, in_word refl refl)
 some_ending limit [] false a = (none, (refl, refl))
 some_ending limit (first ∷ rest) cut a = elim (cases_lt 512 (first % 2 ^ 32 + 1)) [
@@ -103,44 +115,57 @@ some_ending limit (first ∷ rest) cut a = elim (cases_lt 512 (first % 2 ^ 32 + 
         let k = (first % 2 ^ 32 + 1) / 2 in
         let more = take k rest in
         let t = makes_table first more (a.0, all_take IsWord k rest a.1) (omega arith) (length-take-le k rest long) in
-        behind_table limit (first ∷ rest) (first ∷ more) (drop k rest) (sizes_in first more) cut t (ap (λ x. first ∷ x) (sym (take-append-drop k rest)))
+        behind_table limit (first ∷ rest) (first ∷ more) (drop k rest) (sizes_in first more) cut t
+        (ap (λ x. first ∷ x) (sym (take-append-drop k rest)))
   ]
 ]
 
 -- a message and a first word that tells of too many segments: not both
 pub message_too_many : (limit : ℕ) (words : List ℕ) → BeginsMessage limit words → TellsTooMany words → ⊥
-message_too_many limit words b c = message_not_too_many b.own b.rest b.message c.first c.rest b.frames (sym b.whole ∙ c.whole) c.many
+message_too_many limit words b c = message_not_too_many b.own b.rest b.message c.first c.rest b.frames
+    (sym b.whole ∙ c.whole) c.many
 
 -- a message and a table past the limit: not both
 pub message_too_large : (limit : ℕ) (words : List ℕ) → BeginsMessage limit words → TellsTooMuch limit words → ⊥
-message_too_large limit words b c = message_not_too_large limit b.own b.rest b.message c.table c.rest c.sizes b.frames b.within c.is_table (sym b.whole ∙ c.whole) c.past
+message_too_large limit words b c = message_not_too_large limit b.own b.rest b.message c.table c.rest c.sizes b.frames
+    b.within c.is_table (sym b.whole ∙ c.whole) c.past
 
 -- a message and a part of one: not both
-pub message_partial : (limit : ℕ) (words : List ℕ) (cut : Bool) → BeginsMessage limit words → IsPartial limit words cut → ⊥
-message_partial limit words cut b p = message_not_partial limit b.own b.rest b.message cut b.frames (subst (λ w. IsPartial limit w cut) b.whole p)
+pub message_partial : (limit : ℕ) (words : List ℕ) (cut : Bool) → BeginsMessage limit words
+    → IsPartial limit words cut → ⊥
+message_partial limit words cut b p = message_not_partial limit b.own b.rest b.message cut b.frames
+    (subst (λ w. IsPartial limit w cut) b.whole p)
 
 -- too many segments and a table past the limit: not both
 pub too_many_too_large : (limit : ℕ) (words : List ℕ) → TellsTooMany words → TellsTooMuch limit words → ⊥
-too_many_too_large limit words b c = too_many_not_too_large b.first b.rest c.table c.rest c.sizes b.many c.is_table (sym b.whole ∙ c.whole)
+too_many_too_large limit words b c = too_many_not_too_large b.first b.rest c.table c.rest c.sizes b.many c.is_table
+    (sym b.whole ∙ c.whole)
 
 -- too many segments and a part of a frame: not both
 pub too_many_partial : (limit : ℕ) (words : List ℕ) (cut : Bool) → TellsTooMany words → IsPartial limit words cut → ⊥
-too_many_partial limit words cut b p = too_many_not_partial limit b.first b.rest cut b.many (subst (λ w. IsPartial limit w cut) b.whole p)
+too_many_partial limit words cut b p =
+    too_many_not_partial limit b.first b.rest cut b.many (subst (λ w. IsPartial limit w cut) b.whole p)
 
 -- a table past the limit and a part of a frame: not both
-pub too_large_partial : (limit : ℕ) (words : List ℕ) (cut : Bool) → TellsTooMuch limit words → IsPartial limit words cut → ⊥
-too_large_partial limit words cut b p = too_large_not_partial limit b.table b.rest b.sizes cut b.is_table b.past (subst (λ w. IsPartial limit w cut) b.whole p)
+pub too_large_partial : (limit : ℕ) (words : List ℕ) (cut : Bool) → TellsTooMuch limit words
+    → IsPartial limit words cut → ⊥
+too_large_partial limit words cut b p =
+    too_large_not_partial limit b.table b.rest b.sizes cut b.is_table b.past
+    (subst (λ w. IsPartial limit w cut) b.whole p)
 
 -- no words at the end of an input: none of the other four
-pub none_alone : (limit : ℕ) (words : List ℕ) (cut : Bool) (e : Ending) → words ≡ [] → cut ≡ false → EndsIn limit words cut e → e ≡ none
+pub none_alone : (limit : ℕ) (words : List ℕ) (cut : Bool) (e : Ending) → words ≡ [] → cut ≡ false
+    → EndsIn limit words cut e → e ≡ none
 none_alone limit words cut message w c b = absurd (message_not_none b.own b.rest b.message b.frames (sym b.whole ∙ w))
 none_alone limit words cut none w c b = refl
 none_alone limit words cut too_many w c b = absurd (let h = b.whole in cc)
 none_alone limit words cut too_large w c b = absurd (no_table b.table b.rest b.sizes b.is_table (sym w ∙ b.whole))
-none_alone limit words cut partial w c b = absurd (none_not_partial limit (subst (λ x. IsPartial limit [] x) c (subst (λ x. IsPartial limit x cut) w b)))
+none_alone limit words cut partial w c b =
+    absurd (none_not_partial limit (subst (λ x. IsPartial limit [] x) c (subst (λ x. IsPartial limit x cut) w b)))
 
 -- no two of the five are the case
-pub one_ending : (limit : ℕ) (words : List ℕ) (cut : Bool) (e f : Ending) → EndsIn limit words cut e → EndsIn limit words cut f → f ≡ e
+pub one_ending : (limit : ℕ) (words : List ℕ) (cut : Bool) (e f : Ending) → EndsIn limit words cut e
+    → EndsIn limit words cut f → f ≡ e
 one_ending limit words cut none f a b = none_alone limit words cut f a.0 a.1 b
 one_ending limit words cut message none a b = sym (none_alone limit words cut message b.0 b.1 a)
 one_ending limit words cut too_many none a b = sym (none_alone limit words cut too_many b.0 b.1 a)
@@ -165,7 +190,8 @@ one_ending limit words cut partial too_large a b = absurd (too_large_partial lim
 
 -- words that end in none of the other four ways are part of a frame
 pub partial_else : (limit : ℕ) (words : List ℕ) (cut : Bool) → AllByRecursion IsWord words →
-    (BeginsMessage limit words → ⊥) → ((words ≡ []) × (cut ≡ false) → ⊥) → (TellsTooMany words → ⊥) → (TellsTooMuch limit words → ⊥) → IsPartial limit words cut
+    (BeginsMessage limit words → ⊥) → ((words ≡ []) × (cut ≡ false) → ⊥) → (TellsTooMany words → ⊥)
+    → (TellsTooMuch limit words → ⊥) → IsPartial limit words cut
 partial_else limit words cut all a b c d = (let e = some_ending limit words cut all in pick e.0 e.1)
   where
     pick : (e : Ending) → EndsIn limit words cut e → IsPartial limit words cut

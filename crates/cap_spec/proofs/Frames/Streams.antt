@@ -1,5 +1,6 @@
 -- Streams of frames: none, one more in front, one more behind, and two joined.
-use Rattle.std.proofs.Common.{◌≡◌, ◌⊎◌, inl, inr, ℕ, List, [], ◌∷◌, ◌++◌, length, map, flat_map, refl, sym, ap, ◌∙◌, append-nil, append_assoc, length-append, arith}
+use Rattle.std.proofs.Common.{◌≡◌, ◌⊎◌, inl, inr, ℕ, List, [], ◌∷◌, ◌++◌, length, map, flat_map, refl, sym, ap, ◌∙◌}
+use Rattle.std.proofs.Common.{append-nil, append_assoc, length-append, arith}
 use Rattle.std.specs.List.{AllByRecursion}
 use Rattle.std.proofs.lemmas.List.{map-append}
 use Rattle.std.proofs.lemmas.List.Concat.{flat_map-append}
@@ -17,7 +18,8 @@ pub stream_one : (own : List ℕ) (m : List (List ℕ)) → Frames own m → Str
 stream_one own m f = record { frames = (own, m) ∷ []; each = (f, tt); whole = sym (append-nil own); messages = refl }
 
 -- with a frame in front of a stream
-pub stream_cons : (own rest : List ℕ) (m : List (List ℕ)) (ms : List (List (List ℕ))) → Frames own m → Stream rest ms → Stream (own ++ rest) (m ∷ ms)
+pub stream_cons : (own rest : List ℕ) (m : List (List ℕ)) (ms : List (List (List ℕ))) → Frames own m → Stream rest ms
+    → Stream (own ++ rest) (m ∷ ms)
 stream_cons own rest m ms f s = record {
   frames = (own, m) ∷ s.frames;
   each = (f, s.each);
@@ -26,23 +28,35 @@ stream_cons own rest m ms f s = record {
 }
 
 -- two streams, one behind the other
-pub stream_append : (words rest : List ℕ) (ms ns : List (List (List ℕ))) → Stream words ms → Stream rest ns → Stream (words ++ rest) (ms ++ ns)
+pub stream_append : (words rest : List ℕ) (ms ns : List (List (List ℕ))) → Stream words ms → Stream rest ns
+    → Stream (words ++ rest) (ms ++ ns)
 stream_append words rest ms ns s t = record {
   frames = s.frames ++ t.frames;
   each = all_append (λ f. Frames f.0 f.1) s.frames t.frames s.each t.each;
-  whole = ap (λ k. k ++ rest) s.whole ∙ (ap (λ k. flat_map (λ f. f.0) s.frames ++ k) t.whole ∙ sym (flat_map-append (λ f. f.0) s.frames t.frames));
-  messages = ap (λ k. k ++ ns) s.messages ∙ (ap (λ k. map (λ f. f.1) s.frames ++ k) t.messages ∙ sym (map-append (λ f. f.1) s.frames t.frames));
+  whole = ap (λ k. k ++ rest) s.whole ∙ (ap (λ k. flat_map (λ f. f.0) s.frames ++ k) t.whole
+      ∙ sym (flat_map-append (λ f. f.0) s.frames t.frames));
+  messages = ap (λ k. k ++ ns) s.messages
+      ∙ (ap (λ k. map (λ f. f.1) s.frames ++ k) t.messages ∙ sym (map-append (λ f. f.1) s.frames t.frames));
 }
 
 -- frames in front of others, in front of any words: the others go on from there
-pub frames_front : (fs hs : List (List ℕ × List (List ℕ))) (back : List ℕ) → AllByRecursion (λ f. Frames f.0 f.1) fs → AllByRecursion (λ f. Frames f.0 f.1) hs
+pub frames_front : (fs hs : List (List ℕ × List (List ℕ))) (back : List ℕ) → AllByRecursion (λ f. Frames f.0 f.1) fs
+    → AllByRecursion (λ f. Frames f.0 f.1) hs
     → flat_map (λ f. f.0) hs ≡ flat_map (λ f. f.0) fs ++ back
-    → (more : List (List ℕ × List (List ℕ))) × (map (λ f. f.1) hs ≡ map (λ f. f.1) fs ++ map (λ f. f.1) more) × AllByRecursion (λ f. Frames f.0 f.1) more × (back ≡ flat_map (λ f. f.0) more)
+    → (more : List (List ℕ × List (List ℕ))) × (map (λ f. f.1) hs ≡ map (λ f. f.1) fs ++ map (λ f. f.1) more)
+    × AllByRecursion (λ f. Frames f.0 f.1) more × (back ≡ flat_map (λ f. f.0) more)
 frames_front [] hs back a b e = (hs, refl, b, sym e)
 frames_front (f ∷ fs) [] back a b e =
-    absurd (omega (arith, frame_some f.0 f.1 a.0, ap length e, length-append (f.0 ++ flat_map (λ f. f.0) fs) back, length-append f.0 (flat_map (λ f. f.0) fs)))
+    absurd (omega (
+      arith,
+      frame_some f.0 f.1 a.0,
+      ap length e,
+      length-append (f.0 ++ flat_map (λ f. f.0) fs) back,
+      length-append f.0 (flat_map (λ f. f.0) fs),
+    ))
 frames_front (f ∷ fs) (h ∷ hs) back a b e =
-    let one = one_frame h.0 f.0 (flat_map (λ f. f.0) hs) (flat_map (λ f. f.0) fs ++ back) h.1 f.1 b.0 a.0 (e ∙ append_assoc f.0 (flat_map (λ f. f.0) fs) back) in
+    let one = one_frame h.0 f.0 (flat_map (λ f. f.0) hs) (flat_map (λ f. f.0) fs ++ back) h.1 f.1 b.0 a.0
+    (e ∙ append_assoc f.0 (flat_map (λ f. f.0) fs) back) in
     let rest = frames_front fs hs back a.1 b.1 one.2 in
     (rest.0, (let same = one.1 in let tail = rest.1 in cc), rest.2, rest.3)
 
@@ -69,6 +83,15 @@ pub record StreamNext (words : List ℕ) (ms : List (List (List ℕ))) : Type 0 
 pub stream_next : (words : List ℕ) (ms : List (List (List ℕ))) → Stream words ms → (words ≡ []) ⊎ StreamNext words ms
 stream_next words ms s = next s.frames s.each s.whole s.messages
   where
-    next : (fs : List (List ℕ × List (List ℕ))) → AllByRecursion (λ f. Frames f.0 f.1) fs → words ≡ flat_map (λ f. f.0) fs → ms ≡ map (λ f. f.1) fs → (words ≡ []) ⊎ StreamNext words ms
+    next : (fs : List (List ℕ × List (List ℕ))) → AllByRecursion (λ f. Frames f.0 f.1) fs
+        → words ≡ flat_map (λ f. f.0) fs → ms ≡ map (λ f. f.1) fs → (words ≡ []) ⊎ StreamNext words ms
     next [] a e m = inl e
-    next (f ∷ fs) a e m = inr (record { own = f.0; rest = flat_map (λ f. f.0) fs; message = f.1; more = map (λ f. f.1) fs; whole = e; messages = m; frames = a.0 })
+    next (f ∷ fs) a e m = inr (record {
+      own = f.0;
+      rest = flat_map (λ f. f.0) fs;
+      message = f.1;
+      more = map (λ f. f.1) fs;
+      whole = e;
+      messages = m;
+      frames = a.0;
+    })

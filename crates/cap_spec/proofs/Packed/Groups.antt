@@ -1,13 +1,17 @@
 -- Packed text as groups: bytes that are groups, or groups and the beginning of one, give just their words.
-use Rattle.std.proofs.Common.{◌≡◌, ◌≢◌, ℕ, ◌+◌, ◌*◌, ◌<◌, true, false, List, [], ◌∷◌, ◌++◌, length, take, drop, slice_index, refl, sym, ap, ◌∙◌, subst, inl, inr, arith, append_assoc, append-nil, length-append, take_at, drop_at}
+use Rattle.std.proofs.Common.{◌≡◌, ◌≢◌, ℕ, ◌+◌, ◌*◌, ◌<◌, true, false, List, [], ◌∷◌, ◌++◌, length, take, drop}
+use Rattle.std.proofs.Common.{slice_index, refl, sym, ap, ◌∙◌, subst, inl, inr, arith, append_assoc, append-nil}
+use Rattle.std.proofs.Common.{length-append, take_at, drop_at}
 use Rattle.std.specs.List.{AllByRecursion}
 use Rattle.std.proofs.lemmas.Bool.{cases_lt}
 use Rattle.std.proofs.lemmas.List.{get_or_append_left}
 use Rattle.cap_spec.specs.Words.{IsWord}
 use Rattle.cap_spec.specs.Plain.{word_bytes, plain_text, plain_words}
-use Rattle.cap_spec.specs.Unpacking.{marks, IsGroup, zeros, plain, marked, Groups, text_of, words_of, Unpacks, given_of, Cut, group_length, group_words, unpacked, packed_is_cut}
+use Rattle.cap_spec.specs.Unpacking.{marks, IsGroup, zeros, plain, marked, Groups, text_of, words_of, Unpacks, given_of}
+use Rattle.cap_spec.specs.Unpacking.{Cut, group_length, group_words, unpacked, packed_is_cut}
 use Rattle.cap_spec.proofs.Bytes.Plain.{length_plain}
-use Rattle.cap_spec.proofs.Packed.Unpacking.{unpacked_front, cut_front, unpacked_short, cut_short, spread_append, plain_reads, length_marked, words_marked}
+use Rattle.cap_spec.proofs.Packed.Unpacking.{unpacked_front, cut_front, unpacked_short, cut_short, spread_append}
+use Rattle.cap_spec.proofs.Packed.Unpacking.{plain_reads, length_marked, words_marked}
 
 -- a group, whatever stands behind it: it is as long as its head says, and stands for its words
 pub record InFront (bytes words rest : List ℕ) : Type 0 where
@@ -20,10 +24,12 @@ abbrev pub plain_group : ℕ → List ℕ → List ℕ
 plain_group x more = 255 ∷ (word_bytes x ++ length more ∷ plain_text more)
 
 -- of a plain group
-in_front_plain : (x : ℕ) (more rest : List ℕ) → IsWord x → AllByRecursion IsWord more → InFront (plain_group x more) (x ∷ more) rest
+in_front_plain : (x : ℕ) (more rest : List ℕ) → IsWord x → AllByRecursion IsWord more
+    → InFront (plain_group x more) (x ∷ more) rest
 in_front_plain x more rest h a =
     let l : length (plain_text more) ≡ 8 * length more = length_plain more in
-    let t : take (8 * length more) (plain_text more ++ rest) ≡ plain_text more = take_at (plain_text more) rest (8 * length more) l in
+    let t : take (8 * length more) (plain_text more ++ rest) ≡ plain_text more =
+    take_at (plain_text more) rest (8 * length more) l in
     record {
       some = omega arith;
       long = omega arith;
@@ -35,7 +41,8 @@ pub in_front : (bytes words rest : List ℕ) → IsGroup bytes words → InFront
 in_front bytes words rest (zeros n h e w) =
     subst (λ k. InFront k words rest) (sym e) (record { some = omega arith; long = refl; spells = sym w })
 in_front bytes words rest (plain x more h a l e w) =
-    subst (λ k. InFront k words rest) (sym e) (subst (λ k. InFront (plain_group x more) k rest) (sym w) (in_front_plain x more rest h a))
+    subst (λ k. InFront k words rest) (sym e)
+    (subst (λ k. InFront (plain_group x more) k rest) (sym w) (in_front_plain x more rest h a))
 in_front bytes words rest (marked tag present p q a l e w) =
     subst (λ k. InFront k words rest) (sym e) (record {
       some = omega arith;
@@ -51,8 +58,10 @@ group_off bytes words rest g =
     let k : group_length (bytes ++ rest) ≡ length bytes = f.long in
     let l = length-append bytes rest in
     let u = unpacked_front (bytes ++ rest) (omega (arith, s, l)) (omega (arith, k, l)) in
-    let d : drop (group_length (bytes ++ rest)) (bytes ++ rest) ≡ rest = ap (λ n. drop n (bytes ++ rest)) k ∙ drop_at bytes rest (length bytes) refl in
-    u ∙ (ap (λ n. n ++ unpacked (drop (group_length (bytes ++ rest)) (bytes ++ rest))) f.spells ∙ ap (λ n. words ++ unpacked n) d)
+    let d : drop (group_length (bytes ++ rest)) (bytes ++ rest) ≡ rest = ap (λ n. drop n (bytes ++ rest)) k
+    ∙ drop_at bytes rest (length bytes) refl in
+    u ∙ (ap (λ n. n ++ unpacked (drop (group_length (bytes ++ rest)) (bytes ++ rest))) f.spells
+    ∙ ap (λ n. words ++ unpacked n) d)
 
 -- and the bytes are cut where those behind it are
 pub cut_off : (bytes words rest : List ℕ) → IsGroup bytes words → packed_is_cut (bytes ++ rest) ≡ packed_is_cut rest
@@ -62,11 +71,13 @@ cut_off bytes words rest g =
     let k : group_length (bytes ++ rest) ≡ length bytes = f.long in
     let l = length-append bytes rest in
     let u = cut_front (bytes ++ rest) (omega (arith, s, l)) (omega (arith, k, l)) in
-    let d : drop (group_length (bytes ++ rest)) (bytes ++ rest) ≡ rest = ap (λ n. drop n (bytes ++ rest)) k ∙ drop_at bytes rest (length bytes) refl in
+    let d : drop (group_length (bytes ++ rest)) (bytes ++ rest) ≡ rest = ap (λ n. drop n (bytes ++ rest)) k
+    ∙ drop_at bytes rest (length bytes) refl in
     u ∙ ap packed_is_cut d
 
 -- so do groups one after the other
-pub groups_off : (groups : Groups) (rest : List ℕ) → AllByRecursion (λ g. IsGroup g.0 g.1) groups → unpacked (text_of groups ++ rest) ≡ words_of groups ++ unpacked rest
+pub groups_off : (groups : Groups) (rest : List ℕ) → AllByRecursion (λ g. IsGroup g.0 g.1) groups
+    → unpacked (text_of groups ++ rest) ≡ words_of groups ++ unpacked rest
 groups_off [] rest a = refl
 groups_off (g ∷ groups) rest a =
     ap unpacked (append_assoc g.0 (text_of groups) rest)
@@ -74,16 +85,19 @@ groups_off (g ∷ groups) rest a =
     ∙ (ap (λ k. g.1 ++ k) (groups_off groups rest a.1) ∙ sym (append_assoc g.1 (words_of groups) (unpacked rest))))
 
 -- and the bytes are cut where those behind them are
-pub groups_cut_off : (groups : Groups) (rest : List ℕ) → AllByRecursion (λ g. IsGroup g.0 g.1) groups → packed_is_cut (text_of groups ++ rest) ≡ packed_is_cut rest
+pub groups_cut_off : (groups : Groups) (rest : List ℕ) → AllByRecursion (λ g. IsGroup g.0 g.1) groups
+    → packed_is_cut (text_of groups ++ rest) ≡ packed_is_cut rest
 groups_cut_off [] rest a = refl
 groups_cut_off (g ∷ groups) rest a =
-    ap packed_is_cut (append_assoc g.0 (text_of groups) rest) ∙ (cut_off g.0 g.1 (text_of groups ++ rest) a.0 ∙ groups_cut_off groups rest a.1)
+    ap packed_is_cut (append_assoc g.0 (text_of groups) rest)
+    ∙ (cut_off g.0 g.1 (text_of groups ++ rest) a.0 ∙ groups_cut_off groups rest a.1)
 
 -- bytes that unpack to words give just these words
 pub unpacks_words : (bytes words : List ℕ) → Unpacks bytes words → words ≡ unpacked bytes
 unpacks_words bytes words u =
     let t : unpacked (text_of u.groups ++ []) ≡ words_of u.groups ++ [] = groups_off u.groups [] u.each in
-    u.spelled ∙ (sym (append-nil (words_of u.groups)) ∙ (sym t ∙ (ap unpacked (append-nil (text_of u.groups)) ∙ ap unpacked (sym u.text))))
+    u.spelled ∙ (sym (append-nil (words_of u.groups))
+    ∙ (sym t ∙ (ap unpacked (append-nil (text_of u.groups)) ∙ ap unpacked (sym u.text))))
 
 -- and aren't cut
 pub unpacks_whole : (bytes words : List ℕ) → Unpacks bytes words → packed_is_cut bytes ≡ false
@@ -92,7 +106,8 @@ unpacks_whole bytes words u =
     ap packed_is_cut (u.text ∙ sym (append-nil (text_of u.groups))) ∙ t
 
 -- the beginning of a group is shorter than its head says
-pub part_short : (tag : ℕ) (part lacking spelled : List ℕ) → IsGroup (tag ∷ (part ++ lacking)) spelled → 0 < length lacking → length (tag ∷ part) < group_length (tag ∷ part)
+pub part_short : (tag : ℕ) (part lacking spelled : List ℕ) → IsGroup (tag ∷ (part ++ lacking)) spelled
+    → 0 < length lacking → length (tag ∷ part) < group_length (tag ∷ part)
 part_short tag part lacking spelled (zeros n h e w) some =
     let t : tag ≡ 0 = cc in
     let l = ap length e in
@@ -109,7 +124,8 @@ part_short tag part lacking spelled (plain x more h all few e w) some =
     let g : group_length (tag ∷ part) ≡ 10 + 8 * slice_index part 8 = ap (λ k. group_length (k ∷ part)) t in
     elim (cases_lt 8 (length part)) [
       | inl long ↦
-          let i : slice_index part 8 ≡ length more = sym (get_or_append_left part lacking 0 8 long) ∙ ap (λ k. slice_index k 8) r in
+          let i : slice_index part 8 ≡ length more = sym (get_or_append_left part lacking 0 8 long)
+          ∙ ap (λ k. slice_index k 8) r in
           omega (arith, g, i, l, a, m)
       | inr short ↦ omega (arith, g, short)
     ]
@@ -118,7 +134,8 @@ part_short tag part lacking spelled (marked mark present p q all l e w) some =
     let r : part ++ lacking ≡ present = cc in
     let n = ap length r in
     let a = length-append part lacking in
-    let g : group_length (tag ∷ part) ≡ 1 + marks 8 mark = ap (λ k. group_length (k ∷ part)) t ∙ length_marked mark part p q in
+    let g : group_length (tag ∷ part) ≡ 1 + marks 8 mark = ap (λ k. group_length (k ∷ part)) t
+    ∙ length_marked mark part p q in
     omega (arith, g, n, a, l)
 
 -- a list that isn't empty has a member
@@ -127,7 +144,8 @@ some_member [] n = absurd (n refl)
 some_member (x ∷ xs) n = omega arith
 
 -- the beginning of a group that isn't the whole of it
-pub part_is_short : (part lacking spelled : List ℕ) → part ≢ [] → lacking ≢ [] → IsGroup (part ++ lacking) spelled → length part < group_length part
+pub part_is_short : (part lacking spelled : List ℕ) → part ≢ [] → lacking ≢ [] → IsGroup (part ++ lacking) spelled
+    → length part < group_length part
 part_is_short [] lacking spelled n m g = absurd (n refl)
 part_is_short (tag ∷ part) lacking spelled n m g = part_short tag part lacking spelled g (some_member lacking m)
 
@@ -137,12 +155,15 @@ cut_words bytes words c =
     let s = part_is_short c.part c.lacking c.spelled c.begun c.proper c.group in
     let u = c.unpacks in
     let t = groups_off u.groups c.part u.each in
-    let v : unpacked bytes ≡ words_of u.groups ++ unpacked c.part = ap unpacked (c.text ∙ ap (λ k. k ++ c.part) u.text) ∙ t in
-    sym (v ∙ (ap (λ k. words_of u.groups ++ k) (unpacked_short c.part s) ∙ (ap (λ k. k ++ given_of c.part) (sym u.spelled) ∙ sym c.given)))
+    let v : unpacked bytes ≡ words_of u.groups ++ unpacked c.part =
+    ap unpacked (c.text ∙ ap (λ k. k ++ c.part) u.text) ∙ t in
+    sym (v ∙ (ap (λ k. words_of u.groups ++ k) (unpacked_short c.part s)
+    ∙ (ap (λ k. k ++ given_of c.part) (sym u.spelled) ∙ sym c.given)))
 
 -- and are cut
 pub cut_is_cut : (bytes words : List ℕ) → Cut bytes words → packed_is_cut bytes ≡ true
 cut_is_cut bytes words c =
     let s = part_is_short c.part c.lacking c.spelled c.begun c.proper c.group in
     let u = c.unpacks in
-    ap packed_is_cut (c.text ∙ ap (λ k. k ++ c.part) u.text) ∙ (groups_cut_off u.groups c.part u.each ∙ cut_short c.part s)
+    ap packed_is_cut (c.text ∙ ap (λ k. k ++ c.part) u.text)
+    ∙ (groups_cut_off u.groups c.part u.each ∙ cut_short c.part s)

@@ -1,8 +1,10 @@
 -- Every list of bytes either unpacks to words or is cut behind words, and just to those that it gives.
-use Rattle.std.proofs.Common.{◌≡◌, ℕ, zero, suc, ◌<◌, ◌≤◌, true, false, List, [], ◌∷◌, ◌++◌, length, take, drop, ◌⊎◌, refl, sym, ap, ◌∙◌, subst, inl, inr, arith, append_assoc, length-drop, take-append-drop}
+use Rattle.std.proofs.Common.{◌≡◌, ℕ, zero, suc, ◌<◌, ◌≤◌, true, false, List, [], ◌∷◌, ◌++◌, length, take, drop, ◌⊎◌}
+use Rattle.std.proofs.Common.{refl, sym, ap, ◌∙◌, subst, inl, inr, arith, append_assoc, length-drop, take-append-drop}
 use Rattle.std.specs.List.{AllByRecursion}
 use Rattle.std.proofs.lemmas.Bool.{cases_lt}
-use Rattle.cap_spec.specs.Unpacking.{IsGroup, Unpacks, Cut, given_of, group_length, group_words, unpacked, packed_is_cut}
+use Rattle.cap_spec.specs.Unpacking.{IsGroup, Unpacks, Cut, given_of, group_length}
+use Rattle.cap_spec.specs.Unpacking.{group_words, unpacked, packed_is_cut}
 use Rattle.cap_spec.proofs.Bytes.Lists.{all_drop}
 use Rattle.cap_spec.proofs.Packed.Unpacking.{group_some, unpacked_front, cut_front, unpacked_short, cut_short}
 use Rattle.cap_spec.proofs.Packed.MakingGroups.{begins_group, whole_group}
@@ -14,7 +16,8 @@ pub data Becomes (bytes : List ℕ) : Type 0 where
   part : packed_is_cut bytes ≡ true → Cut bytes (unpacked bytes) → Becomes bytes
 
 -- bytes that are shorter than their head says are cut
-becomes_part : (tag : ℕ) (bytes : List ℕ) → AllByRecursion (λ b. b < 256) (tag ∷ bytes) → length (tag ∷ bytes) < group_length (tag ∷ bytes) → Becomes (tag ∷ bytes)
+becomes_part : (tag : ℕ) (bytes : List ℕ) → AllByRecursion (λ b. b < 256) (tag ∷ bytes)
+    → length (tag ∷ bytes) < group_length (tag ∷ bytes) → Becomes (tag ∷ bytes)
 becomes_part tag bytes all h =
     let c = begins_group tag bytes all h in
     part (cut_short (tag ∷ bytes) h) (record {
@@ -32,7 +35,8 @@ becomes_part tag bytes all h =
     })
 
 -- with a group in front of words that unpack, so do they together
-pub unpacks_with : (own words rest more : List ℕ) → IsGroup own words → Unpacks rest more → Unpacks (own ++ rest) (words ++ more)
+pub unpacks_with : (own words rest more : List ℕ) → IsGroup own words → Unpacks rest more
+    → Unpacks (own ++ rest) (words ++ more)
 unpacks_with own words rest more g u = record {
   groups = (own, words) ∷ u.groups;
   each = (g, u.each);
@@ -57,11 +61,14 @@ cut_with own words rest more g c = record {
 }
 
 -- with a whole group in front, bytes become what those behind it do
-becomes_with : (bytes own words rest : List ℕ) → IsGroup own words → own ++ rest ≡ bytes → unpacked bytes ≡ words ++ unpacked rest → packed_is_cut bytes ≡ packed_is_cut rest → Becomes rest → Becomes bytes
+becomes_with : (bytes own words rest : List ℕ) → IsGroup own words → own ++ rest ≡ bytes
+    → unpacked bytes ≡ words ++ unpacked rest → packed_is_cut bytes ≡ packed_is_cut rest → Becomes rest → Becomes bytes
 becomes_with bytes own words rest g e u c (whole k r) =
-    whole (c ∙ k) (subst (λ b. Unpacks b (unpacked bytes)) e (subst (λ w. Unpacks (own ++ rest) w) (sym u) (unpacks_with own words rest (unpacked rest) g r)))
+    whole (c ∙ k) (subst (λ b. Unpacks b (unpacked bytes)) e
+    (subst (λ w. Unpacks (own ++ rest) w) (sym u) (unpacks_with own words rest (unpacked rest) g r)))
 becomes_with bytes own words rest g e u c (part k r) =
-    part (c ∙ k) (subst (λ b. Cut b (unpacked bytes)) e (subst (λ w. Cut (own ++ rest) w) (sym u) (cut_with own words rest (unpacked rest) g r)))
+    part (c ∙ k) (subst (λ b. Cut b (unpacked bytes)) e
+    (subst (λ w. Cut (own ++ rest) w) (sym u) (cut_with own words rest (unpacked rest) g r)))
 
 -- each list of bytes, in so many groups at most
 becomes_in : (n : ℕ) (bytes : List ℕ) → length bytes ≤ n → AllByRecursion (λ b. b < 256) bytes → Becomes bytes
@@ -74,7 +81,8 @@ becomes_in (suc n) (tag ∷ bytes) l all = elim (cases_lt (length (tag ∷ bytes
       let s = group_some tag bytes in
       let d = length-drop k (tag ∷ bytes) in
       becomes_with (tag ∷ bytes) (take k (tag ∷ bytes)) (group_words (tag ∷ bytes)) (drop k (tag ∷ bytes))
-      (whole_group tag bytes all long) (take-append-drop k (tag ∷ bytes)) (unpacked_front (tag ∷ bytes) (omega arith) long) (cut_front (tag ∷ bytes) (omega arith) long)
+      (whole_group tag bytes all long) (take-append-drop k (tag ∷ bytes))
+      (unpacked_front (tag ∷ bytes) (omega arith) long) (cut_front (tag ∷ bytes) (omega arith) long)
       (becomes_in n (drop k (tag ∷ bytes)) (omega (arith, l, s, d)) (all_drop (λ b. b < 256) k (tag ∷ bytes) all))
 ]
 
@@ -93,16 +101,19 @@ cut_from bytes c (whole k u) = absurd (let h : true ≡ false = sym c ∙ k in c
 cut_from bytes c (part k u) = u
 
 -- bytes that aren't cut unpack to what they give, for bytes below 256
-pub unpacks_unless_cut : (bytes : List ℕ) → AllByRecursion (λ b. b < 256) bytes → packed_is_cut bytes ≡ false → Unpacks bytes (unpacked bytes)
+pub unpacks_unless_cut : (bytes : List ℕ) → AllByRecursion (λ b. b < 256) bytes → packed_is_cut bytes ≡ false
+    → Unpacks bytes (unpacked bytes)
 unpacks_unless_cut bytes all c = unpacks_from bytes c (becomes bytes all)
 
 -- bytes that are cut are so behind what they give, for bytes below 256
-pub cut_if_cut : (bytes : List ℕ) → AllByRecursion (λ b. b < 256) bytes → packed_is_cut bytes ≡ true → Cut bytes (unpacked bytes)
+pub cut_if_cut : (bytes : List ℕ) → AllByRecursion (λ b. b < 256) bytes → packed_is_cut bytes ≡ true
+    → Cut bytes (unpacked bytes)
 cut_if_cut bytes all c = cut_from bytes c (becomes bytes all)
 
 -- bytes don't unpack and are cut
 pub unpacks_not_cut : (bytes words other : List ℕ) → Unpacks bytes words → Cut bytes other → ⊥
-unpacks_not_cut bytes words other u c = absurd (let h : true ≡ false = sym (cut_is_cut bytes other c) ∙ unpacks_whole bytes words u in cc)
+unpacks_not_cut bytes words other u c =
+    absurd (let h : true ≡ false = sym (cut_is_cut bytes other c) ∙ unpacks_whole bytes words u in cc)
 
 -- whether they unpack or are cut: the words are those that they give
 pub words_of_either : (bytes words : List ℕ) → Unpacks bytes words ⊎ Cut bytes words → words ≡ unpacked bytes

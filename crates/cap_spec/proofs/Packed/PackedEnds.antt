@@ -1,5 +1,7 @@
 -- Positions in packed bytes: those of the group in front come first, and then those behind it.
-use Rattle.std.proofs.Common.{◌≡◌, ◌≢◌, ℕ, zero, suc, ◌+◌, ◌<◌, ◌≤◌, false, if◌then◌else◌, nat_lt, ◌==◌, List, [], ◌∷◌, ◌++◌, length, take, drop, replicate, slice_index, refl, sym, ap, ◌∙◌, inl, inr, arith, length-append, drop_at, le-ltb, lt-ltb}
+use Rattle.std.proofs.Common.{◌≡◌, ◌≢◌, ℕ, zero, suc, ◌+◌, ◌<◌, ◌≤◌, false, if◌then◌else◌, nat_lt, ◌==◌, List, [], ◌∷◌}
+use Rattle.std.proofs.Common.{◌++◌, length, take, drop, replicate, slice_index, refl, sym, ap, ◌∙◌, inl, inr, arith}
+use Rattle.std.proofs.Common.{length-append, drop_at, le-ltb, lt-ltb}
 use Rattle.std.proofs.lemmas.Bool.{cases_lt, ne_eqb}
 use Rattle.std.proofs.lemmas.List.{get_or_append_left, length-replicate}
 use Rattle.cap_spec.specs.Plain.{word_bytes, plain_text, plain_words, capped}
@@ -17,55 +19,75 @@ pub ends_none : (at : ℕ) → packed_ends at [] ≡ capped at ∷ []
 ends_none at = refl
 
 -- with room for all the groups, more room makes no difference
-ends_stable : (n m at : ℕ) (bytes : List ℕ) → length bytes ≤ n → length bytes ≤ m → ends_in n at bytes ≡ ends_in m at bytes
+ends_stable : (n m at : ℕ) (bytes : List ℕ) → length bytes ≤ n → length bytes ≤ m
+    → ends_in n at bytes ≡ ends_in m at bytes
 ends_stable n m at [] p q = ends_nil n at ∙ sym (ends_nil m at)
 ends_stable zero m at (x ∷ bytes) p q = absurd (omega arith)
 ends_stable (suc n) zero at (x ∷ bytes) p q = absurd (omega arith)
 ends_stable (suc n) (suc m) at (x ∷ bytes) p q =
     let k = group_length (x ∷ bytes) in
     let s = group_some x bytes in
-    ap (λ r. if nat_lt (length (x ∷ bytes)) k then (take (length (given_of (x ∷ bytes))) (front_ends at (x ∷ bytes)) ++ capped (at + length (x ∷ bytes)) ∷ []) else (front_ends at (x ∷ bytes) ++ r))
-    (ends_stable n m (at + k) (drop k (x ∷ bytes)) (drop_less k n x bytes s (omega (arith, p))) (drop_less k m x bytes s (omega (arith, q))))
+    ap (λ r. if nat_lt (length (x ∷ bytes)) k
+    then (take (length (given_of (x ∷ bytes))) (front_ends at (x ∷ bytes)) ++ capped (at + length (x ∷ bytes)) ∷ [])
+    else (front_ends at (x ∷ bytes) ++ r))
+    (ends_stable n m (at + k) (drop k (x ∷ bytes)) (drop_less k n x bytes s (omega (arith, p)))
+    (drop_less k m x bytes s (omega (arith, q))))
 
 -- where the group in front is whole
 ends_front : (at : ℕ) (bytes : List ℕ) → 0 < length bytes → group_length bytes ≤ length bytes →
-    packed_ends at bytes ≡ front_ends at bytes ++ packed_ends (at + group_length bytes) (drop (group_length bytes) bytes)
+    packed_ends at bytes ≡ front_ends at bytes ++ packed_ends (at + group_length bytes)
+    (drop (group_length bytes) bytes)
 ends_front at [] s h = absurd (omega arith)
 ends_front at (x ∷ bytes) s h =
     let k = group_length (x ∷ bytes) in
     let rest = drop k (x ∷ bytes) in
-    ap (λ t. if t then (take (length (given_of (x ∷ bytes))) (front_ends at (x ∷ bytes)) ++ capped (at + length (x ∷ bytes)) ∷ []) else (front_ends at (x ∷ bytes) ++ ends_in (length bytes) (at + k) rest)) (le-ltb (length (x ∷ bytes)) (group_length (x ∷ bytes)) h)
-    ∙ ap (λ r. front_ends at (x ∷ bytes) ++ r) (ends_stable (length bytes) (length rest) (at + k) rest (drop_less k (length bytes) x bytes (group_some x bytes) (omega arith)) (omega arith))
+    ap (λ t. if t then (take (length (given_of (x ∷ bytes))) (front_ends at (x ∷ bytes)) ++ capped
+    (at + length (x ∷ bytes)) ∷ []) else (front_ends at (x ∷ bytes) ++ ends_in (length bytes) (at + k) rest))
+    (le-ltb (length (x ∷ bytes)) (group_length (x ∷ bytes)) h)
+    ∙ ap (λ r. front_ends at (x ∷ bytes) ++ r)
+    (ends_stable (length bytes) (length rest) (at + k) rest
+    (drop_less k (length bytes) x bytes (group_some x bytes) (omega arith)) (omega arith))
 
 -- where it isn't
-ends_short : (at : ℕ) (bytes : List ℕ) → length bytes < group_length bytes → packed_ends at bytes ≡ take (length (given_of bytes)) (front_ends at bytes) ++ capped (at + length bytes) ∷ []
+ends_short : (at : ℕ) (bytes : List ℕ) → length bytes < group_length bytes
+    → packed_ends at bytes ≡ take (length (given_of bytes)) (front_ends at bytes) ++ capped (at + length bytes) ∷ []
 ends_short at [] h = absurd (omega arith)
 ends_short at (x ∷ bytes) h =
-    ap (λ t. if t then (take (length (given_of (x ∷ bytes))) (front_ends at (x ∷ bytes)) ++ capped (at + length (x ∷ bytes)) ∷ []) else (front_ends at (x ∷ bytes) ++ ends_in (length bytes) (at + group_length (x ∷ bytes)) (drop (group_length (x ∷ bytes)) (x ∷ bytes)))) (lt-ltb (length (x ∷ bytes)) (group_length (x ∷ bytes)) h)
+    ap (λ t. if t then (take (length (given_of (x ∷ bytes))) (front_ends at (x ∷ bytes)) ++ capped
+    (at + length (x ∷ bytes)) ∷ []) else (front_ends at (x ∷ bytes) ++ ends_in (length bytes)
+    (at + group_length (x ∷ bytes)) (drop (group_length (x ∷ bytes)) (x ∷ bytes))))
+    (lt-ltb (length (x ∷ bytes)) (group_length (x ∷ bytes)) h)
 
 -- at a tag that is neither 0 nor 255
-ends_marked : (at tag : ℕ) (bytes : List ℕ) → 0 < tag → tag < 255 → front_ends at (tag ∷ bytes) ≡ capped (at + (1 + marks 8 tag)) ∷ []
+ends_marked : (at tag : ℕ) (bytes : List ℕ) → 0 < tag → tag < 255
+    → front_ends at (tag ∷ bytes) ≡ capped (at + (1 + marks 8 tag)) ∷ []
 ends_marked at tag bytes p q =
     ap (λ t. if t then replicate (1 + slice_index bytes 0) (capped (at + 2)) else
-    (if tag == 255 then (capped (at + 10) ∷ word_ends (at + 10) (slice_index bytes 8)) else (capped (at + (1 + marks 8 tag)) ∷ []))) (ne_eqb tag 0 (λ e. absurd (omega arith)))
-    ∙ ap (λ t. if t then (capped (at + 10) ∷ word_ends (at + 10) (slice_index bytes 8)) else (capped (at + (1 + marks 8 tag)) ∷ [])) (ne_eqb tag 255 (λ e. absurd (omega arith)))
+    (if tag == 255 then (capped (at + 10) ∷ word_ends (at + 10) (slice_index bytes 8))
+    else (capped (at + (1 + marks 8 tag)) ∷ []))) (ne_eqb tag 0 (λ e. absurd (omega arith)))
+    ∙ ap (λ t. if t then (capped (at + 10) ∷ word_ends (at + 10) (slice_index bytes 8))
+    else (capped (at + (1 + marks 8 tag)) ∷ [])) (ne_eqb tag 255 (λ e. absurd (omega arith)))
 
 -- the head of a group tells the positions of its words
-front_as_group : {bytes words : List ℕ} (at : ℕ) (rest : List ℕ) (g : IsGroup bytes words) → front_ends at (bytes ++ rest) ≡ group_ends at g
+front_as_group : {bytes words : List ℕ} (at : ℕ) (rest : List ℕ) (g : IsGroup bytes words)
+    → front_ends at (bytes ++ rest) ≡ group_ends at g
 front_as_group at rest (zeros n h e w) = ap (λ k. front_ends at (k ++ rest)) e
 front_as_group at rest (plain x more h a l e w) = ap (λ k. front_ends at (k ++ rest)) e
 front_as_group at rest (marked tag present p q a l e w) =
-    ap (λ k. front_ends at (k ++ rest)) e ∙ (ends_marked at tag (present ++ rest) p q ∙ ap (λ n. capped (at + (1 + n)) ∷ []) (sym l))
+    ap (λ k. front_ends at (k ++ rest)) e ∙ (ends_marked at tag (present ++ rest) p q
+    ∙ ap (λ n. capped (at + (1 + n)) ∷ []) (sym l))
 
 -- a group in front comes off, with the positions of its words
-pub ends_off : (at : ℕ) (bytes words rest : List ℕ) (g : IsGroup bytes words) → packed_ends at (bytes ++ rest) ≡ group_ends at g ++ packed_ends (at + length bytes) rest
+pub ends_off : (at : ℕ) (bytes words rest : List ℕ) (g : IsGroup bytes words)
+    → packed_ends at (bytes ++ rest) ≡ group_ends at g ++ packed_ends (at + length bytes) rest
 ends_off at bytes words rest g =
     let f = in_front bytes words rest g in
     let s = f.some in
     let k : group_length (bytes ++ rest) ≡ length bytes = f.long in
     let l = length-append bytes rest in
     let u = ends_front at (bytes ++ rest) (omega (arith, s, l)) (omega (arith, k, l)) in
-    u ∙ (ap (λ n. n ++ packed_ends (at + group_length (bytes ++ rest)) (drop (group_length (bytes ++ rest)) (bytes ++ rest))) (front_as_group at rest g)
+    u ∙ (ap (λ n. n ++ packed_ends (at + group_length (bytes ++ rest))
+    (drop (group_length (bytes ++ rest)) (bytes ++ rest))) (front_as_group at rest g)
     ∙ (ap (λ n. group_ends at g ++ packed_ends (at + n) (drop n (bytes ++ rest))) k
     ∙ ap (λ n. group_ends at g ++ packed_ends (at + length bytes) n) (drop_at bytes rest (length bytes) refl)))
 
@@ -75,7 +97,8 @@ none_taken words xs ys e = ap (λ l. take (length l) xs) e ∙ sym (ap (λ l. ta
 
 -- the words that the beginning of a group gives have the positions that they have in the whole group
 part_as_group : (at tag : ℕ) (part lacking words : List ℕ) (g : IsGroup (tag ∷ (part ++ lacking)) words) →
-    take (length (given_of (tag ∷ part))) (front_ends at (tag ∷ part)) ≡ take (length (given_of (tag ∷ part))) (group_ends at g)
+    take (length (given_of (tag ∷ part))) (front_ends at (tag ∷ part))
+    ≡ take (length (given_of (tag ∷ part))) (group_ends at g)
 part_as_group at tag part lacking words (zeros n h e w) =
     let t : tag ≡ 0 = cc in
     none_taken (given_of (tag ∷ part)) _ _ (ap (λ k. given_of (k ∷ part)) t)
@@ -84,22 +107,30 @@ part_as_group at tag part lacking words (plain x more h all few e w) =
     let r : part ++ lacking ≡ word_bytes x ++ length more ∷ plain_text more = cc in
     elim (cases_lt 8 (length part)) [
       | inl long ↦
-          let i : slice_index part 8 ≡ length more = sym (get_or_append_left part lacking 0 8 long) ∙ ap (λ k. slice_index k 8) r in
-          ap (λ l. take (length (given_of (tag ∷ part))) l) (ap (λ k. front_ends at (k ∷ part)) t ∙ ap (λ n. capped (at + 10) ∷ word_ends (at + 10) n) i)
+          let i : slice_index part 8 ≡ length more = sym (get_or_append_left part lacking 0 8 long)
+          ∙ ap (λ k. slice_index k 8) r in
+          ap (λ l. take (length (given_of (tag ∷ part))) l)
+          (ap (λ k. front_ends at (k ∷ part)) t ∙ ap (λ n. capped (at + 10) ∷ word_ends (at + 10) n) i)
       | inr short ↦
-          none_taken (given_of (tag ∷ part)) _ _ (ap (λ k. given_of (k ∷ part)) t ∙ ap (λ b. if b then [] else plain_words (take 8 part ++ drop 9 part)) (lt-ltb (length part) 9 (omega (arith, short))))
+          none_taken (given_of (tag ∷ part)) _ _ (ap (λ k. given_of (k ∷ part)) t
+          ∙ ap (λ b. if b then [] else plain_words (take 8 part ++ drop 9 part))
+          (lt-ltb (length part) 9 (omega (arith, short))))
     ]
 part_as_group at tag part lacking words (marked mark present p q all l e w) =
     let t : tag ≡ mark = cc in
     let not_full : (tag == 255) ≡ false = ne_eqb tag 255 (λ h. absurd (omega (arith, t, q))) in
-    none_taken (given_of (tag ∷ part)) _ _ (ap (λ b. if b then (if nat_lt (length part) 9 then [] else plain_words (take 8 part ++ drop 9 part)) else []) not_full)
+    none_taken (given_of (tag ∷ part)) _ _ (ap
+    (λ b. if b then (if nat_lt (length part) 9 then [] else plain_words
+    (take 8 part ++ drop 9 part)) else []) not_full)
 
 -- the beginning of a group that isn't the whole of it: the words that it gives, and the end
-pub ends_cut : (at : ℕ) (part lacking words : List ℕ) → part ≢ [] → lacking ≢ [] → (g : IsGroup (part ++ lacking) words) →
+pub ends_cut : (at : ℕ) (part lacking words : List ℕ) → part ≢ [] → lacking ≢ []
+    → (g : IsGroup (part ++ lacking) words) →
     packed_ends at part ≡ take (length (given_of part)) (group_ends at g) ++ capped (at + length part) ∷ []
 ends_cut at [] lacking words n m g = absurd (n refl)
 ends_cut at (tag ∷ part) lacking words n m g =
-    ends_short at (tag ∷ part) (part_is_short (tag ∷ part) lacking words n m g) ∙ ap (λ l. l ++ capped (at + length (tag ∷ part)) ∷ []) (part_as_group at tag part lacking words g)
+    ends_short at (tag ∷ part) (part_is_short (tag ∷ part) lacking words n m g)
+    ∙ ap (λ l. l ++ capped (at + length (tag ∷ part)) ∷ []) (part_as_group at tag part lacking words g)
 
 word_ends_each : (at n : ℕ) → length (word_ends at n) ≡ n
 word_ends_each at zero = refl
@@ -107,6 +138,8 @@ word_ends_each at (suc n) = ap suc (word_ends_each (at + 8) n)
 
 -- each word of a group has its position
 pub ends_each : (at : ℕ) (bytes words : List ℕ) (g : IsGroup bytes words) → length (group_ends at g) ≡ length words
-ends_each at bytes words (zeros n h e w) = length-replicate (1 + n) (capped (at + 2)) ∙ (sym (length-replicate {A = ℕ} (1 + n) 0) ∙ sym (ap length w))
-ends_each at bytes words (plain x more h all few e w) = ap suc (word_ends_each (at + 10) (length more)) ∙ sym (ap length w)
+ends_each at bytes words (zeros n h e w) = length-replicate (1 + n) (capped (at + 2))
+    ∙ (sym (length-replicate {A = ℕ} (1 + n) 0) ∙ sym (ap length w))
+ends_each at bytes words (plain x more h all few e w) = ap suc (word_ends_each (at + 10) (length more))
+    ∙ sym (ap length w)
 ends_each at bytes words (marked tag present p q all l e w) = sym (ap length w)

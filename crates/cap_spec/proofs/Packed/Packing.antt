@@ -1,5 +1,6 @@
 -- How the packed text that is written splits into its groups.
-use Rattle.std.proofs.Common.{◌≡◌, ◌≢◌, ℕ, zero, suc, ◌+◌, ◌-◌, ◌≤◌, ◌<◌, min, Bool, true, false, List, [], ◌∷◌, ◌++◌, length, take, drop, replicate, cond, refl, ap, ◌∙◌, ⊎_elim, arith, length-drop}
+use Rattle.std.proofs.Common.{◌≡◌, ◌≢◌, ℕ, zero, suc, ◌+◌, ◌-◌, ◌≤◌, ◌<◌, min, Bool, true, false, List, [], ◌∷◌, ◌++◌}
+use Rattle.std.proofs.Common.{length, take, drop, replicate, cond, refl, ap, ◌∙◌, ⊎_elim, arith, length-drop}
 use Rattle.std.proofs.lemmas.Bool.{ne_eqb, cases_lt}
 use Rattle.std.proofs.lemmas.Bool.Decides.{leb_tells}
 use Rattle.std.proofs.lemmas.List.{length-take, length-replicate}
@@ -19,14 +20,17 @@ pack_in-enough (suc n) zero (w ∷ ws) p q = absurd (omega (arith, q))
 pack_in-enough (suc n) (suc m) [] p q = refl
 pack_in-enough (suc n) (suc m) (w ∷ ws) p q =
     let k = group_size (w ∷ ws) - 1 in
-    ap (λ t. group_text w k (take k ws) ++ t) (pack_in-enough n m (drop k ws) (omega (arith, p, length-drop k ws)) (omega (arith, q, length-drop k ws)))
+    ap (λ t. group_text w k (take k ws) ++ t)
+    (pack_in-enough n m (drop k ws) (omega (arith, p, length-drop k ws)) (omega (arith, q, length-drop k ws)))
 
 -- the text of the group in front, and then that of the other words
 pub pack_text-front : (w : ℕ) (ws : List ℕ) →
-    pack_text (w ∷ ws) ≡ group_text w (group_size (w ∷ ws) - 1) (take (group_size (w ∷ ws) - 1) ws) ++ pack_text (drop (group_size (w ∷ ws) - 1) ws)
+    pack_text (w ∷ ws) ≡ group_text w (group_size (w ∷ ws) - 1) (take (group_size (w ∷ ws) - 1) ws) ++ pack_text
+    (drop (group_size (w ∷ ws) - 1) ws)
 pack_text-front w ws =
     let k = group_size (w ∷ ws) - 1 in
-    ap (λ t. group_text w k (take k ws) ++ t) (pack_in-enough (length ws) (length (drop k ws)) (drop k ws) (omega (arith, length-drop k ws)) (omega arith))
+    ap (λ t. group_text w k (take k ws) ++ t)
+    (pack_in-enough (length ws) (length (drop k ws)) (drop k ws) (omega (arith, length-drop k ws)) (omega arith))
 
 take-front : (more rest : List ℕ) → take (length more) (more ++ rest) ≡ more
 take-front [] rest = refl
@@ -46,7 +50,8 @@ pack_text-group w more rest e =
     ∙ ap (λ t. group_text w (length more) t ++ pack_text (drop (length more) (more ++ rest))) (take-front more rest)
     ∙ ap (λ t. group_text w (length more) more ++ pack_text t) (drop-front more rest)
 
-front-pass : (p : ℕ → Bool) (x : ℕ) (xs : List ℕ) → p x ≡ true → length (take_while p (x ∷ xs)) ≡ 1 + length (take_while p xs)
+front-pass : (p : ℕ → Bool) (x : ℕ) (xs : List ℕ) → p x ≡ true
+    → length (take_while p (x ∷ xs)) ≡ 1 + length (take_while p xs)
 front-pass p x xs e = omega (arith, ap length (take_while-cons p x xs ∙ ap (λ b. cond b (x ∷ take_while p xs) []) e))
 
 front-stop : (p : ℕ → Bool) (x : ℕ) (xs : List ℕ) → p x ≡ false → length (take_while p (x ∷ xs)) ≡ 0
@@ -58,8 +63,10 @@ front-le p xs = omega (arith, length-take (prefix_len p xs) xs)
 
 front-more : (p : ℕ → Bool) (x : ℕ) (xs ys : List ℕ) →
     (length (take_while p xs) ≡ length xs → length (take_while p (xs ++ ys)) ≡ length xs + length (take_while p ys)) →
-    (b : Bool) → p x ≡ b → length (take_while p (x ∷ xs)) ≡ 1 + length xs → length (take_while p (x ∷ (xs ++ ys))) ≡ 1 + length xs + length (take_while p ys)
-front-more p x xs ys more true e h = omega (arith, more (omega (arith, h, front-pass p x xs e)), front-pass p x (xs ++ ys) e)
+    (b : Bool) → p x ≡ b → length (take_while p (x ∷ xs)) ≡ 1 + length xs
+    → length (take_while p (x ∷ (xs ++ ys))) ≡ 1 + length xs + length (take_while p ys)
+front-more p x xs ys more true e h = omega
+    (arith, more (omega (arith, h, front-pass p x xs e)), front-pass p x (xs ++ ys) e)
 front-more p x xs ys more false e h = absurd (omega (arith, h, front-stop p x xs e))
 
 -- where all of a list passes, the front that passes goes on behind it
@@ -73,7 +80,11 @@ front-append p (x ∷ xs) ys h =
 -- a run of zero words, and what goes on behind it
 pub zero_run-append : (n : ℕ) (rest : List ℕ) → zero_run (replicate n 0 ++ rest) ≡ n + zero_run rest
 zero_run-append zero rest = omega arith
-zero_run-append (suc n) rest = omega (arith, front-pass (λ x. x == 0) 0 (replicate n 0 ++ rest) refl, zero_run-append n rest)
+zero_run-append (suc n) rest = omega (
+  arith,
+  front-pass (λ x. x == 0) 0 (replicate n 0 ++ rest) refl,
+  zero_run-append n rest,
+)
 
 -- another word than zero ends a run of zero words
 pub zero_run-ends : (w : ℕ) (ws : List ℕ) → w ≢ 0 → zero_run (w ∷ ws) ≡ 0
@@ -81,30 +92,41 @@ zero_run-ends w ws h = front-stop (λ x. x == 0) w ws (ne_eqb w 0 h)
 
 -- a word with more than one zero byte ends a run of words as they are
 pub full_run-ends : (w : ℕ) (ws : List ℕ) → 1 < zero_bytes w → full_run (w ∷ ws) ≡ 0
-full_run-ends w ws h = front-stop (λ x. nat_le (zero_bytes x) 1) w ws (⊎_elim (λ (t, k). absurd (omega (arith, h, k))) (λ (t, k). t) (leb_tells (zero_bytes w) 1))
+full_run-ends w ws h = front-stop (λ x. nat_le (zero_bytes x) 1) w ws
+    (⊎_elim (λ (t, k). absurd (omega (arith, h, k))) (λ (t, k). t) (leb_tells (zero_bytes w) 1))
 
 -- a word with at most one goes on with it
-pub full_run-push : (more : List ℕ) (w : ℕ) → full_run more ≡ length more → zero_bytes w ≤ 1 → full_run (more ++ w ∷ []) ≡ length more + 1
+pub full_run-push : (more : List ℕ) (w : ℕ) → full_run more ≡ length more → zero_bytes w ≤ 1
+    → full_run (more ++ w ∷ []) ≡ length more + 1
 full_run-push more w e h =
-    let passes : nat_le (zero_bytes w) 1 ≡ true = ⊎_elim (λ (t, k). t) (λ (t, k). absurd (omega (arith, h, k))) (leb_tells (zero_bytes w) 1) in
-    omega (arith, front-append (λ x. nat_le (zero_bytes x) 1) more (w ∷ []) e, front-pass (λ x. nat_le (zero_bytes x) 1) w [] passes)
+    let passes : nat_le (zero_bytes w) 1 ≡ true =
+    ⊎_elim (λ (t, k). t) (λ (t, k). absurd (omega (arith, h, k))) (leb_tells (zero_bytes w) 1) in
+    omega (
+      arith,
+      front-append (λ x. nat_le (zero_bytes x) 1) more (w ∷ []) e,
+      front-pass (λ x. nat_le (zero_bytes x) 1) w [] passes,
+    )
 
 -- a word with a byte that isn't zero isn't zero
 pub nonzero_word : (w : ℕ) → zero_bytes w < 8 → w ≢ 0
 nonzero_word w h e = absurd (omega (arith, ap zero_bytes e))
 
 -- how many words a group of zero words takes
-pub group_size-zeros : (n : ℕ) (rest : List ℕ) → n ≤ 255 → (n < 255 → zero_run rest ≡ 0) → group_size (0 ∷ (replicate n 0 ++ rest)) ≡ 1 + n
+pub group_size-zeros : (n : ℕ) (rest : List ℕ) → n ≤ 255 → (n < 255 → zero_run rest ≡ 0)
+    → group_size (0 ∷ (replicate n 0 ++ rest)) ≡ 1 + n
 group_size-zeros n rest h closes =
     let run = zero_run-append (suc n) rest in
     ⊎_elim (λ less. omega (arith, run, closes less)) (λ full. omega (arith, run, full)) (cases_lt n 255)
 
 -- how many words a group of words as they are takes
-pub group_size-plain : (x : ℕ) (more rest : List ℕ) → zero_bytes x ≡ 0 → full_run more ≡ length more → length more ≤ 255 →
+pub group_size-plain : (x : ℕ) (more rest : List ℕ) → zero_bytes x ≡ 0 → full_run more ≡ length more
+    → length more ≤ 255 →
     (length more < 255 → full_run rest ≡ 0) → group_size (x ∷ (more ++ rest)) ≡ 1 + length more
 group_size-plain x more rest z e h closes =
     let run = front-append (λ w. nat_le (zero_bytes w) 1) more rest e in
-    let size : min 255 (full_run (more ++ rest)) ≡ length more = ⊎_elim (λ less. omega (arith, run, closes less)) (λ full. omega (arith, run, full)) (cases_lt (length more) 255) in
+    let size : min 255 (full_run (more ++ rest)) ≡ length more =
+    ⊎_elim (λ less. omega (arith, run, closes less)) (λ full. omega (arith, run, full))
+    (cases_lt (length more) 255) in
     rw (ne_eqb x 0 (nonzero_word x (omega (arith, z))), z, size) refl
 
 -- any other word is a group by itself
@@ -116,17 +138,20 @@ pub pack_text-zeros : (n : ℕ) (rest : List ℕ) → n ≤ 255 → (n < 255 →
     pack_text (0 ∷ (replicate n 0 ++ rest)) ≡ 0 ∷ n ∷ pack_text rest
 pack_text-zeros n rest h closes =
     let long = length-replicate n 0 in
-    pack_text-group 0 (replicate n 0) rest (omega (arith, group_size-zeros n rest h closes, long)) ∙ ap (λ k. 0 ∷ k ∷ pack_text rest) long
+    pack_text-group 0 (replicate n 0) rest (omega (arith, group_size-zeros n rest h closes, long))
+    ∙ ap (λ k. 0 ∷ k ∷ pack_text rest) long
 
 -- the text of a run of words as they are that the next word ends
-pub pack_text-plain : (x : ℕ) (more rest : List ℕ) → zero_bytes x ≡ 0 → full_run more ≡ length more → length more ≤ 255 →
+pub pack_text-plain : (x : ℕ) (more rest : List ℕ) → zero_bytes x ≡ 0 → full_run more ≡ length more
+    → length more ≤ 255 →
     (length more < 255 → full_run rest ≡ 0) →
     pack_text (x ∷ (more ++ rest)) ≡ 255 ∷ (word_bytes x ++ length more ∷ plain_text more) ++ pack_text rest
 pack_text-plain x more rest z e h closes =
     pack_text-group x more rest (group_size-plain x more rest z e h closes)
     ∙ ap (λ t. t ++ pack_text rest) (plain_group x more z)
   where
-    plain_group : (x : ℕ) (more : List ℕ) → zero_bytes x ≡ 0 → group_text x (length more) more ≡ 255 ∷ (word_bytes x ++ length more ∷ plain_text more)
+    plain_group : (x : ℕ) (more : List ℕ) → zero_bytes x ≡ 0
+        → group_text x (length more) more ≡ 255 ∷ (word_bytes x ++ length more ∷ plain_text more)
     plain_group x more z = rw (ne_eqb x 0 (nonzero_word x (omega (arith, z))), z) refl
 
 -- the text of any other word
@@ -136,12 +161,15 @@ pack_text-marked x rest h z =
     pack_text-group x [] rest (group_size-marked x rest h z)
     ∙ ap (λ t. t ++ pack_text rest) (marked_group x h z)
   where
-    marked_group : (x : ℕ) → x ≢ 0 → zero_bytes x ≢ 0 → group_text x 0 [] ≡ tag_of (word_bytes x) ∷ filter (λ b. not (b == 0)) (word_bytes x)
+    marked_group : (x : ℕ) → x ≢ 0 → zero_bytes x ≢ 0
+        → group_text x 0 [] ≡ tag_of (word_bytes x) ∷ filter (λ b. not (b == 0)) (word_bytes x)
     marked_group x h z = rw (ne_eqb x 0 h, ne_eqb (zero_bytes x) 0 z) refl
 
 -- a group of words as they are has at most 255 behind the first, each with at most one zero byte
-pub plain_full : (x : ℕ) (more : List ℕ) → zero_bytes x ≡ 0 → group_size (x ∷ more) ≡ 1 + length more → (full_run more ≡ length more) × (length more ≤ 255)
+pub plain_full : (x : ℕ) (more : List ℕ) → zero_bytes x ≡ 0 → group_size (x ∷ more) ≡ 1 + length more
+    → (full_run more ≡ length more) × (length more ≤ 255)
 plain_full x more z e =
-    let size : group_size (x ∷ more) ≡ 1 + min 255 (full_run more) = rw (ne_eqb x 0 (nonzero_word x (omega (arith, z))), z) refl in
+    let size : group_size (x ∷ more) ≡ 1 + min 255 (full_run more) =
+    rw (ne_eqb x 0 (nonzero_word x (omega (arith, z))), z) refl in
     let le = front-le (λ w. nat_le (zero_bytes w) 1) more in
     (omega (arith, size, e, le), omega (arith, size, e, le))

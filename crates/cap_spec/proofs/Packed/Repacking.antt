@@ -1,5 +1,7 @@
 -- The packed text that is written unpacks to the words that it is written for.
-use Rattle.std.proofs.Common.{◌≡◌, ◌≢◌, ℕ, zero, suc, ◌+◌, ◌-◌, ◌*◌, ◌/◌, ◌%◌, ◌^◌, ◌<◌, ◌≤◌, min, false, cond, not, nat_le, if◌then◌else◌, ◌==◌, List, [], ◌∷◌, ◌++◌, length, take, drop, replicate, filter, refl, sym, ap, ◌∙◌, subst, inl, inr, arith, length-take-le, length-drop, take-append-drop}
+use Rattle.std.proofs.Common.{◌≡◌, ◌≢◌, ℕ, zero, suc, ◌+◌, ◌-◌, ◌*◌, ◌/◌, ◌%◌, ◌^◌, ◌<◌, ◌≤◌, min, false, cond, not}
+use Rattle.std.proofs.Common.{nat_le, if◌then◌else◌, ◌==◌, List, [], ◌∷◌, ◌++◌, length, take, drop, replicate, filter}
+use Rattle.std.proofs.Common.{refl, sym, ap, ◌∙◌, subst, inl, inr, arith, length-take-le, length-drop, take-append-drop}
 use Rattle.std.specs.List.{AllByRecursion}
 use Rattle.std.proofs.Math.Nat.{pow-succ'}
 use Rattle.std.proofs.lemmas.Bool.{cases_eq, ne_eqb}
@@ -7,7 +9,8 @@ use Rattle.byteorder.specs.Endian.{little_number}
 use Rattle.byteorder.specs.Numbers.{little_from-cons}
 use Rattle.cap_spec.specs.Words.{IsWord}
 use Rattle.cap_spec.specs.Plain.{word_bytes, plain_text}
-use Rattle.cap_spec.specs.Packing.{zeros_in, zero_bytes, zero_run, full_run, tag_of, group_size, group_text, pack_in, pack_text}
+use Rattle.cap_spec.specs.Packing.{zeros_in, zero_bytes, zero_run, full_run, tag_of, group_size}
+use Rattle.cap_spec.specs.Packing.{group_text, pack_in, pack_text}
 use Rattle.cap_spec.specs.Unpacking.{marks, spread, IsGroup, zeros, plain, marked, Unpacks, unpacked, packed_is_cut}
 use Rattle.cap_spec.proofs.Packed.Packing.{zero_run-append, zero_run-ends, front-le, nonzero_word, group_size-marked}
 use Rattle.cap_spec.proofs.Bytes.Lists.{all_take, all_drop}
@@ -49,14 +52,16 @@ marks_tag (b ∷ bytes) = elim (cases_eq b 0) [
       let p = ap length (present_zero b bytes none) in
       let low : tag_of (b ∷ bytes) % 2 ≡ 0 = omega (arith, t) in
       let high : tag_of (b ∷ bytes) / 2 ≡ tag_of bytes = omega (arith, t) in
-      let m : marks (length bytes) (tag_of (b ∷ bytes) / 2) ≡ length (present_of bytes) = ap (marks (length bytes)) high ∙ marks_tag bytes in
+      let m : marks (length bytes) (tag_of (b ∷ bytes) / 2) ≡ length (present_of bytes) = ap (marks (length bytes)) high
+      ∙ marks_tag bytes in
       omega (arith, low, m, p)
   | inr some ↦
       let t = tag_more b bytes some in
       let p = ap length (present_more b bytes some) in
       let low : tag_of (b ∷ bytes) % 2 ≡ 1 = omega (arith, t) in
       let high : tag_of (b ∷ bytes) / 2 ≡ tag_of bytes = omega (arith, t) in
-      let m : marks (length bytes) (tag_of (b ∷ bytes) / 2) ≡ length (present_of bytes) = ap (marks (length bytes)) high ∙ marks_tag bytes in
+      let m : marks (length bytes) (tag_of (b ∷ bytes) / 2) ≡ length (present_of bytes) = ap (marks (length bytes)) high
+      ∙ marks_tag bytes in
       omega (arith, low, m, p)
 ]
 
@@ -66,12 +71,14 @@ spread_empty zero tag = refl
 spread_empty (suc n) tag = refl
 
 -- a clear bit takes no byte, where there may be none
-spread_even : (n tag : ℕ) (present : List ℕ) → tag % 2 ≡ 0 → spread (suc n) tag present ≡ 256 * spread n (tag / 2) present
+spread_even : (n tag : ℕ) (present : List ℕ) → tag % 2 ≡ 0
+    → spread (suc n) tag present ≡ 256 * spread n (tag / 2) present
 spread_even n tag [] e = let s = spread_empty n (tag / 2) in omega (arith, s)
 spread_even n tag (b ∷ present) e = spread_clear n tag b present e
 
 -- the bytes that aren't zero, by the tag that marks them, make the number of all
-spread_tag : (bytes : List ℕ) → spread (length bytes) (tag_of bytes) (present_of bytes) ≡ little_number (length bytes) bytes
+spread_tag : (bytes : List ℕ) → spread (length bytes) (tag_of bytes) (present_of bytes)
+    ≡ little_number (length bytes) bytes
 spread_tag [] = refl
 spread_tag (b ∷ bytes) = elim (cases_eq b 0) [
   | inl none ↦
@@ -81,9 +88,11 @@ spread_tag (b ∷ bytes) = elim (cases_eq b 0) [
       let high : tag_of (b ∷ bytes) / 2 ≡ tag_of bytes = omega (arith, t) in
       let c = little_from-cons 0 n b bytes in
       let s : spread n (tag_of bytes) (present_of bytes) ≡ little_number n bytes = spread_tag bytes in
-      let e : spread (suc n) (tag_of (b ∷ bytes)) (present_of (b ∷ bytes)) ≡ 256 * spread n (tag_of bytes) (present_of bytes) =
+      let e : spread (suc n) (tag_of (b ∷ bytes)) (present_of (b ∷ bytes))
+      ≡ 256 * spread n (tag_of bytes) (present_of bytes) =
       ap (spread (suc n) (tag_of (b ∷ bytes))) (present_zero b bytes none)
-      ∙ (spread_even n (tag_of (b ∷ bytes)) (present_of bytes) low ∙ ap (λ k. 256 * spread n k (present_of bytes)) high) in
+      ∙ (spread_even n (tag_of (b ∷ bytes)) (present_of bytes) low
+      ∙ ap (λ k. 256 * spread n k (present_of bytes)) high) in
       omega (arith, none, c, s, e)
   | inr some ↦
       let t = tag_more b bytes some in
@@ -92,9 +101,11 @@ spread_tag (b ∷ bytes) = elim (cases_eq b 0) [
       let high : tag_of (b ∷ bytes) / 2 ≡ tag_of bytes = omega (arith, t) in
       let c = little_from-cons 0 n b bytes in
       let s : spread n (tag_of bytes) (present_of bytes) ≡ little_number n bytes = spread_tag bytes in
-      let e : spread (suc n) (tag_of (b ∷ bytes)) (present_of (b ∷ bytes)) ≡ b + 256 * spread n (tag_of bytes) (present_of bytes) =
+      let e : spread (suc n) (tag_of (b ∷ bytes)) (present_of (b ∷ bytes))
+      ≡ b + 256 * spread n (tag_of bytes) (present_of bytes) =
       ap (spread (suc n) (tag_of (b ∷ bytes))) (present_more b bytes some)
-      ∙ (spread_set n (tag_of (b ∷ bytes)) b (present_of bytes) low ∙ ap (λ k. b + 256 * spread n k (present_of bytes)) high) in
+      ∙ (spread_set n (tag_of (b ∷ bytes)) b (present_of bytes) low
+      ∙ ap (λ k. b + 256 * spread n k (present_of bytes)) high) in
       omega (arith, c, s, e)
 ]
 
@@ -132,7 +143,8 @@ present_fit P (b ∷ bytes) all = elim (cases_eq b 0) [
 ]
 
 -- a word with a zero byte that isn't zero, by the bytes that aren't
-pub marked_group : (x : ℕ) → IsWord x → x ≢ 0 → 0 < zero_bytes x → IsGroup (tag_of (word_bytes x) ∷ present_of (word_bytes x)) (x ∷ [])
+pub marked_group : (x : ℕ) → IsWord x → x ≢ 0 → 0 < zero_bytes x
+    → IsGroup (tag_of (word_bytes x) ∷ present_of (word_bytes x)) (x ∷ [])
 marked_group x h n z =
     let tag = tag_of (word_bytes x) in
     let present = present_of (word_bytes x) in
@@ -140,8 +152,12 @@ marked_group x h n z =
     let s : spread 8 tag present ≡ x = spread_tag (word_bytes x) ∙ word_back x [] h in
     let full : tag + 1 < 2 ^ 8 = tag_not_full (word_bytes x) z in
     let none : tag ≡ 0 → x ≡ 0 = λ e. sym s ∙ spread_none 8 tag present (ap (marks 8) e) in
-    let some : 0 < tag = elim (cases_eq tag 0) [ inl e ↦ absurd (n (none e)) | inr e ↦ (let no : tag ≡ 0 → ⊥ = e in omega (arith, no)) ] in
-    marked tag present some (omega (arith, full)) (present_fit (λ b. b < 256) (word_bytes x) (bytes_fit 0 8 x)) (sym m) refl (ap (λ k. k ∷ []) (sym s))
+    let some : 0 < tag = elim (cases_eq tag 0) [
+      | inl e ↦ absurd (n (none e))
+      | inr e ↦ (let no : tag ≡ 0 → ⊥ = e in omega (arith, no))
+    ] in
+    marked tag present some (omega (arith, full)) (present_fit (λ b. b < 256) (word_bytes x) (bytes_fit 0 8 x)) (sym m)
+    refl (ap (λ k. k ∷ []) (sym s))
 
 -- a front of a run of zero words
 zero_front : (k : ℕ) (words : List ℕ) → k ≤ zero_run words → take k words ≡ replicate k 0
@@ -160,13 +176,15 @@ abbrev behind : ℕ → List ℕ → ℕ
 behind x words = group_size (x ∷ words) - 1
 
 -- a run of zero words is a group
-zeros_group : (words : List ℕ) → IsGroup (group_text 0 (behind 0 words) (take (behind 0 words) words)) (0 ∷ take (behind 0 words) words)
+zeros_group : (words : List ℕ) → IsGroup (group_text 0 (behind 0 words) (take (behind 0 words) words))
+    (0 ∷ take (behind 0 words) words)
 zeros_group words =
     let k = behind 0 words in
     let r : zero_run (0 ∷ words) ≡ 1 + zero_run words = zero_run-append 1 words in
     let size : group_size (0 ∷ words) ≡ min 256 (zero_run (0 ∷ words)) = refl in
     let e : suc k ≡ 1 + k = omega arith in
-    zeros k (omega (arith, r, size)) refl (ap (λ t. 0 ∷ t) (zero_front k words (omega (arith, r, size))) ∙ ap (λ n. replicate n 0) e)
+    zeros k (omega (arith, r, size)) refl (ap (λ t. 0 ∷ t) (zero_front k words (omega (arith, r, size)))
+    ∙ ap (λ n. replicate n 0) e)
 
 -- a word without a zero byte and those that go on with it are a group
 plain_group_of : (x : ℕ) (words : List ℕ) → IsWord x → AllByRecursion IsWord words → zero_bytes x ≡ 0 →
@@ -177,8 +195,10 @@ plain_group_of x words h all z =
     let size : group_size (x ∷ words) ≡ 1 + min 255 (full_run words) = rw (ne_eqb x 0 n, z) refl in
     let le = front-le (λ w. nat_le (zero_bytes w) 1) words in
     let l : length (take k words) ≡ k = length-take-le k words (omega (arith, size, le)) in
-    let text : group_text x k (take k words) ≡ 255 ∷ (word_bytes x ++ k ∷ plain_text (take k words)) = rw (ne_eqb x 0 n, z) refl in
-    plain x (take k words) h (all_take IsWord k words all) (omega (arith, l, size)) (text ∙ ap (λ c. 255 ∷ (word_bytes x ++ c ∷ plain_text (take k words))) (sym l)) refl
+    let text : group_text x k (take k words) ≡ 255 ∷ (word_bytes x ++ k ∷ plain_text (take k words)) =
+    rw (ne_eqb x 0 n, z) refl in
+    plain x (take k words) h (all_take IsWord k words all) (omega (arith, l, size))
+    (text ∙ ap (λ c. 255 ∷ (word_bytes x ++ c ∷ plain_text (take k words))) (sym l)) refl
 
 -- any other word is a group by itself
 marked_group_of : (x : ℕ) (words : List ℕ) → IsWord x → x ≢ 0 → zero_bytes x ≢ 0 →
@@ -187,14 +207,18 @@ marked_group_of x words h n z =
     let size = group_size-marked x words n z in
     let k : behind x words ≡ 0 = omega (arith, size) in
     let some : 0 < zero_bytes x = (let no : zero_bytes x ≡ 0 → ⊥ = z in omega (arith, no)) in
-    let text : group_text x 0 [] ≡ tag_of (word_bytes x) ∷ present_of (word_bytes x) = rw (ne_eqb x 0 n, ne_eqb (zero_bytes x) 0 z) refl in
-    subst (λ j. IsGroup (group_text x j (take j words)) (x ∷ take j words)) (sym k) (subst (λ t. IsGroup t (x ∷ [])) (sym text) (marked_group x h n some))
+    let text : group_text x 0 [] ≡ tag_of (word_bytes x) ∷ present_of (word_bytes x) =
+    rw (ne_eqb x 0 n, ne_eqb (zero_bytes x) 0 z) refl in
+    subst (λ j. IsGroup (group_text x j (take j words)) (x ∷ take j words)) (sym k)
+    (subst (λ t. IsGroup t (x ∷ [])) (sym text) (marked_group x h n some))
 
 -- the text of the group in front is a group, which stands for the words that it takes
 pub front_group : (x : ℕ) (words : List ℕ) → IsWord x → AllByRecursion IsWord words →
-    IsGroup (group_text x (group_size (x ∷ words) - 1) (take (group_size (x ∷ words) - 1) words)) (x ∷ take (group_size (x ∷ words) - 1) words)
+    IsGroup (group_text x (group_size (x ∷ words) - 1) (take (group_size (x ∷ words) - 1) words))
+    (x ∷ take (group_size (x ∷ words) - 1) words)
 front_group x words h all = elim (cases_eq x 0) [
-  | inl e ↦ subst (λ y. IsGroup (group_text y (behind y words) (take (behind y words) words)) (y ∷ take (behind y words) words)) (sym e) (zeros_group words)
+  | inl e ↦ subst (λ y. IsGroup (group_text y (behind y words) (take (behind y words) words))
+      (y ∷ take (behind y words) words)) (sym e) (zeros_group words)
   | inr n ↦ elim (cases_eq (zero_bytes x) 0) [
     | inl z ↦ plain_group_of x words h all z
     | inr z ↦ marked_group_of x words h n z
@@ -202,15 +226,18 @@ front_group x words h all = elim (cases_eq x 0) [
 ]
 
 -- in so many groups at most
-pack_in_unpacks : (n : ℕ) (words : List ℕ) → length words ≤ n → AllByRecursion IsWord words → Unpacks (pack_in n words) words
+pack_in_unpacks : (n : ℕ) (words : List ℕ) → length words ≤ n → AllByRecursion IsWord words
+    → Unpacks (pack_in n words) words
 pack_in_unpacks zero [] l all = record { groups = []; each = tt; text = refl; spelled = refl }
 pack_in_unpacks zero (x ∷ words) l all = absurd (omega arith)
 pack_in_unpacks (suc n) [] l all = record { groups = []; each = tt; text = refl; spelled = refl }
 pack_in_unpacks (suc n) (x ∷ words) l all =
     let k = group_size (x ∷ words) - 1 in
     let d = length-drop k words in
-    subst (λ w. Unpacks (group_text x k (take k words) ++ pack_in n (drop k words)) w) (ap (λ w. x ∷ w) (take-append-drop k words))
-    (unpacks_with (group_text x k (take k words)) (x ∷ take k words) (pack_in n (drop k words)) (drop k words) (front_group x words all.0 all.1)
+    subst (λ w. Unpacks (group_text x k (take k words) ++ pack_in n (drop k words)) w)
+    (ap (λ w. x ∷ w) (take-append-drop k words))
+    (unpacks_with (group_text x k (take k words)) (x ∷ take k words) (pack_in n (drop k words)) (drop k words)
+    (front_group x words all.0 all.1)
     (pack_in_unpacks n (drop k words) (omega (arith, l, d)) (all_drop IsWord k words all.1)))
 
 -- the packed text of words unpacks to these words
@@ -218,7 +245,8 @@ pub pack_text_unpacks : (words : List ℕ) → AllByRecursion IsWord words → U
 pack_text_unpacks words all = pack_in_unpacks (length words) words (omega arith) all
 
 -- and gives them, to the end
-pub pack_text_reads : (words : List ℕ) → AllByRecursion IsWord words → (unpacked (pack_text words) ≡ words) × (packed_is_cut (pack_text words) ≡ false)
+pub pack_text_reads : (words : List ℕ) → AllByRecursion IsWord words
+    → (unpacked (pack_text words) ≡ words) × (packed_is_cut (pack_text words) ≡ false)
 pack_text_reads words all =
     let u = pack_text_unpacks words all in
     (sym (unpacks_words (pack_text words) words u), unpacks_whole (pack_text words) words u)

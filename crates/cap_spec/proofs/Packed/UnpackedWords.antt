@@ -1,5 +1,7 @@
 -- What bytes give are words: numbers below 2 ^ 64.
-use Rattle.std.proofs.Common.{◌≡◌, ℕ, zero, suc, ◌+◌, ◌/◌, ◌%◌, ◌^◌, ◌<◌, Bool, true, false, if◌then◌else◌, ◌==◌, nat_lt, List, [], ◌∷◌, ◌++◌, length, take, drop, replicate, slice_index, sym, subst, inl, inr, arith}
+use Rattle.std.proofs.Common.{◌≡◌, ℕ, zero, suc, ◌+◌, ◌/◌, ◌%◌, ◌^◌, ◌<◌, Bool, true, false}
+use Rattle.std.proofs.Common.{if◌then◌else◌, ◌==◌, nat_lt, List, [], ◌∷◌, ◌++◌, length, take, drop}
+use Rattle.std.proofs.Common.{replicate, slice_index, sym, subst, inl, inr, arith}
 use Rattle.std.specs.List.{AllByRecursion}
 use Rattle.std.proofs.Math.Nat.{pow-succ'}
 use Rattle.std.proofs.lemmas.Bool.{cases_eq}
@@ -7,14 +9,16 @@ use Rattle.byteorder.specs.Endian.{little_from, little_number}
 use Rattle.cap_spec.specs.Words.{IsWord}
 use Rattle.cap_spec.specs.Plain.{word_bytes, plain_text, plain_words}
 use Rattle.cap_spec.proofs.Bytes.WordBytes.{bytes_fit}
-use Rattle.cap_spec.specs.Unpacking.{spread, IsGroup, zeros, plain, marked, Groups, text_of, words_of, Unpacks, given_of, unpacked}
+use Rattle.cap_spec.specs.Unpacking.{spread, IsGroup, zeros, plain, marked, Groups, text_of}
+use Rattle.cap_spec.specs.Unpacking.{words_of, Unpacks, given_of, unpacked}
 use Rattle.cap_spec.proofs.Bytes.Lists.{all_take, all_drop, all_append, all_back}
 use Rattle.cap_spec.proofs.Bytes.Plain.{plain_split}
 use Rattle.cap_spec.proofs.Packed.Unpacking.{spread_clear, spread_set}
 use Rattle.cap_spec.proofs.Packed.OneUnpacking.{Becomes, whole, part, becomes}
 
 -- bytes by a tag make a number of so many bytes
-pub spread_below : (n tag : ℕ) (present : List ℕ) → AllByRecursion (λ b. b < 256) present → spread n tag present < 256 ^ n
+pub spread_below : (n tag : ℕ) (present : List ℕ) → AllByRecursion (λ b. b < 256) present
+    → spread n tag present < 256 ^ n
 spread_below zero tag present all = omega arith
 spread_below (suc n) tag [] all = let p = pow-succ' 256 n in let q = spread_below n tag [] tt in omega (arith, p, q)
 spread_below (suc n) tag (b ∷ present) all = elim (cases_eq (tag % 2) 0) [
@@ -63,9 +67,11 @@ group_are_words bytes words (marked tag present p q all l e w) =
     subst (AllByRecursion IsWord) (sym w) (t, tt)
 
 -- so do groups
-groups_are_words : (groups : Groups) → AllByRecursion (λ g. IsGroup g.0 g.1) groups → AllByRecursion IsWord (words_of groups)
+groups_are_words : (groups : Groups) → AllByRecursion (λ g. IsGroup g.0 g.1) groups
+    → AllByRecursion IsWord (words_of groups)
 groups_are_words [] all = tt
-groups_are_words (g ∷ groups) all = all_append IsWord g.1 (words_of groups) (group_are_words g.0 g.1 all.0) (groups_are_words groups all.1)
+groups_are_words (g ∷ groups) all = all_append IsWord g.1 (words_of groups) (group_are_words g.0 g.1 all.0)
+    (groups_are_words groups all.1)
 
 -- bytes unpack to words
 pub unpacks_are_words : (bytes words : List ℕ) → Unpacks bytes words → AllByRecursion IsWord words
@@ -77,19 +83,25 @@ given_are_words [] all = tt
 given_are_words (tag ∷ bytes) all =
     chosen (tag == 255) (if nat_lt (length bytes) 9 then [] else plain_words (take 8 bytes ++ drop 9 bytes)) []
     (chosen (nat_lt (length bytes) 9) [] (plain_words (take 8 bytes ++ drop 9 bytes)) tt
-    (plain_split (take 8 bytes ++ drop 9 bytes) (all_append (λ b. b < 256) (take 8 bytes) (drop 9 bytes) (all_take (λ b. b < 256) 8 bytes all.1) (all_drop (λ b. b < 256) 9 bytes all.1))).are_words)
+    (plain_split (take 8 bytes ++ drop 9 bytes)
+    (all_append (λ b. b < 256) (take 8 bytes) (drop 9 bytes) (all_take (λ b. b < 256) 8 bytes all.1)
+    (all_drop (λ b. b < 256) 9 bytes all.1))).are_words)
     tt
   where
-    chosen : (c : Bool) (a b : List ℕ) → AllByRecursion IsWord a → AllByRecursion IsWord b → AllByRecursion IsWord (if c then a else b)
+    chosen : (c : Bool) (a b : List ℕ) → AllByRecursion IsWord a → AllByRecursion IsWord b
+        → AllByRecursion IsWord (if c then a else b)
     chosen true a b p q = p
     chosen false a b p q = q
 
 -- of bytes that become something
-unpacked_by : (bytes : List ℕ) → AllByRecursion (λ b. b < 256) bytes → Becomes bytes → AllByRecursion IsWord (unpacked bytes)
+unpacked_by : (bytes : List ℕ) → AllByRecursion (λ b. b < 256) bytes → Becomes bytes
+    → AllByRecursion IsWord (unpacked bytes)
 unpacked_by bytes all (whole k u) = unpacks_are_words bytes (unpacked bytes) u
 unpacked_by bytes all (part k c) =
     let behind = all_back (λ b. b < 256) c.whole c.part (subst (AllByRecursion (λ b. b < 256)) c.text all) in
-    subst (AllByRecursion IsWord) (sym c.given) (all_append IsWord c.before (given_of c.part) (unpacks_are_words c.whole c.before c.unpacks) (given_are_words c.part behind))
+    subst (AllByRecursion IsWord) (sym c.given)
+    (all_append IsWord c.before (given_of c.part) (unpacks_are_words c.whole c.before c.unpacks)
+    (given_are_words c.part behind))
 
 -- packed bytes give words
 pub unpacked_are_words : (bytes : List ℕ) → AllByRecursion (λ b. b < 256) bytes → AllByRecursion IsWord (unpacked bytes)
@@ -98,20 +110,27 @@ unpacked_are_words bytes all = unpacked_by bytes all (becomes bytes all)
 -- the plain text of words is bytes
 pub plain_are_bytes : (words : List ℕ) → AllByRecursion (λ b. b < 256) (plain_text words)
 plain_are_bytes [] = tt
-plain_are_bytes (x ∷ words) = all_append (λ b. b < 256) (word_bytes x) (plain_text words) (bytes_fit 0 8 x) (plain_are_bytes words)
+plain_are_bytes (x ∷ words) = all_append (λ b. b < 256) (word_bytes x) (plain_text words) (bytes_fit 0 8 x)
+    (plain_are_bytes words)
 
 -- a group is bytes
 pub group_are_bytes : (bytes words : List ℕ) → IsGroup bytes words → AllByRecursion (λ b. b < 256) bytes
 group_are_bytes bytes words (zeros n h e w) = subst (AllByRecursion (λ b. b < 256)) (sym e) ((omega arith), (h, tt))
 group_are_bytes bytes words (plain x more h all l e w) =
-    subst (AllByRecursion (λ b. b < 256)) (sym e)
-    ((omega arith), all_append (λ b. b < 256) (word_bytes x) (length more ∷ plain_text more) (bytes_fit 0 8 x) (l, plain_are_bytes more))
-group_are_bytes bytes words (marked tag present p q all l e w) = subst (AllByRecursion (λ b. b < 256)) (sym e) ((omega (arith, q)), all)
+    subst (AllByRecursion (λ b. b < 256)) (sym e) (
+      (omega arith),
+      all_append (λ b. b < 256) (word_bytes x) (length more ∷ plain_text more) (bytes_fit 0 8 x)
+          (l, plain_are_bytes more),
+    )
+group_are_bytes bytes words (marked tag present p q all l e w) =
+    subst (AllByRecursion (λ b. b < 256)) (sym e) ((omega (arith, q)), all)
 
 -- so are groups
-groups_are_bytes : (groups : Groups) → AllByRecursion (λ g. IsGroup g.0 g.1) groups → AllByRecursion (λ b. b < 256) (text_of groups)
+groups_are_bytes : (groups : Groups) → AllByRecursion (λ g. IsGroup g.0 g.1) groups
+    → AllByRecursion (λ b. b < 256) (text_of groups)
 groups_are_bytes [] all = tt
-groups_are_bytes (g ∷ groups) all = all_append (λ b. b < 256) g.0 (text_of groups) (group_are_bytes g.0 g.1 all.0) (groups_are_bytes groups all.1)
+groups_are_bytes (g ∷ groups) all = all_append (λ b. b < 256) g.0 (text_of groups) (group_are_bytes g.0 g.1 all.0)
+    (groups_are_bytes groups all.1)
 
 -- what unpacks to words is bytes
 pub unpacks_are_bytes : (bytes words : List ℕ) → Unpacks bytes words → AllByRecursion (λ b. b < 256) bytes

@@ -1,10 +1,14 @@
--- Packed text as it is read: how many groups are looked for makes no difference, and the group in front comes off whole.
-use Rattle.std.proofs.Common.{◌≡◌, ℕ, zero, suc, ◌+◌, ◌*◌, ◌/◌, ◌%◌, ◌<◌, ◌≤◌, Bool, true, false, if◌then◌else◌, nat_lt, ◌==◌, List, [], ◌∷◌, ◌++◌, length, take, drop, replicate, slice_index, refl, sym, ap, ◌∙◌, inl, inr, arith, append-nil, length-drop, le-ltb, lt-ltb}
+-- Packed text as it is read: how many groups are looked for makes no difference,
+-- and the group in front comes off whole.
+use Rattle.std.proofs.Common.{◌≡◌, ℕ, zero, suc, ◌+◌, ◌*◌, ◌/◌, ◌%◌, ◌<◌, ◌≤◌, Bool, true, false, if◌then◌else◌, nat_lt}
+use Rattle.std.proofs.Common.{◌==◌, List, [], ◌∷◌, ◌++◌, length, take, drop, replicate, slice_index, refl, sym, ap, ◌∙◌}
+use Rattle.std.proofs.Common.{inl, inr, arith, append-nil, length-drop, le-ltb, lt-ltb}
 use Rattle.std.specs.List.{AllByRecursion}
 use Rattle.std.proofs.lemmas.Bool.{cases_eq, ne_eqb}
 use Rattle.cap_spec.specs.Words.{IsWord}
 use Rattle.cap_spec.specs.Plain.{plain_text, plain_words}
-use Rattle.cap_spec.specs.Unpacking.{marks, spread, given_of, group_length, group_words, given_in, is_cut_in, unpacked, packed_is_cut}
+use Rattle.cap_spec.specs.Unpacking.{marks, spread, given_of, group_length, group_words, given_in}
+use Rattle.cap_spec.specs.Unpacking.{is_cut_in, unpacked, packed_is_cut}
 use Rattle.cap_spec.proofs.Bytes.Plain.{plain_back}
 
 -- two numbers above zero: so is the one chosen
@@ -31,7 +35,8 @@ cut_nil zero = refl
 cut_nil (suc n) = cut_nil n
 
 -- with room for all the groups, more room makes no difference to the words
-pub given_stable : (n m : ℕ) (bytes : List ℕ) → length bytes ≤ n → length bytes ≤ m → given_in n bytes ≡ given_in m bytes
+pub given_stable : (n m : ℕ) (bytes : List ℕ) → length bytes ≤ n → length bytes ≤ m
+    → given_in n bytes ≡ given_in m bytes
 given_stable n m [] p q = given_nil n ∙ sym (given_nil m)
 given_stable zero m (x ∷ bytes) p q = absurd (omega arith)
 given_stable (suc n) zero (x ∷ bytes) p q = absurd (omega arith)
@@ -39,10 +44,12 @@ given_stable (suc n) (suc m) (x ∷ bytes) p q =
     let k = group_length (x ∷ bytes) in
     let s = group_some x bytes in
     ap (λ r. if nat_lt (length (x ∷ bytes)) k then given_of (x ∷ bytes) else (group_words (x ∷ bytes) ++ r))
-    (given_stable n m (drop k (x ∷ bytes)) (drop_less k n x bytes s (omega (arith, p))) (drop_less k m x bytes s (omega (arith, q))))
+    (given_stable n m (drop k (x ∷ bytes)) (drop_less k n x bytes s (omega (arith, p)))
+    (drop_less k m x bytes s (omega (arith, q))))
 
 -- nor to whether they are cut
-pub cut_stable : (n m : ℕ) (bytes : List ℕ) → length bytes ≤ n → length bytes ≤ m → is_cut_in n bytes ≡ is_cut_in m bytes
+pub cut_stable : (n m : ℕ) (bytes : List ℕ) → length bytes ≤ n → length bytes ≤ m
+    → is_cut_in n bytes ≡ is_cut_in m bytes
 cut_stable n m [] p q = cut_nil n ∙ sym (cut_nil m)
 cut_stable zero m (x ∷ bytes) p q = absurd (omega arith)
 cut_stable (suc n) zero (x ∷ bytes) p q = absurd (omega arith)
@@ -50,44 +57,59 @@ cut_stable (suc n) (suc m) (x ∷ bytes) p q =
     let k = group_length (x ∷ bytes) in
     let s = group_some x bytes in
     ap (λ r. if nat_lt (length (x ∷ bytes)) k then true else r)
-    (cut_stable n m (drop k (x ∷ bytes)) (drop_less k n x bytes s (omega (arith, p))) (drop_less k m x bytes s (omega (arith, q))))
+    (cut_stable n m (drop k (x ∷ bytes)) (drop_less k n x bytes s (omega (arith, p)))
+    (drop_less k m x bytes s (omega (arith, q))))
 
 -- where the group in front is whole, its words come first, and then those of what is behind it
-pub unpacked_front : (bytes : List ℕ) → 0 < length bytes → group_length bytes ≤ length bytes → unpacked bytes ≡ group_words bytes ++ unpacked (drop (group_length bytes) bytes)
+pub unpacked_front : (bytes : List ℕ) → 0 < length bytes → group_length bytes ≤ length bytes
+    → unpacked bytes ≡ group_words bytes ++ unpacked (drop (group_length bytes) bytes)
 unpacked_front [] s h = absurd (omega arith)
 unpacked_front (x ∷ bytes) s h =
     let k = group_length (x ∷ bytes) in
     let rest = drop k (x ∷ bytes) in
-    ap (λ t. if t then given_of (x ∷ bytes) else (group_words (x ∷ bytes) ++ given_in (length bytes) rest)) (le-ltb (length (x ∷ bytes)) (group_length (x ∷ bytes)) h)
-    ∙ ap (λ r. group_words (x ∷ bytes) ++ r) (given_stable (length bytes) (length rest) rest (drop_less k (length bytes) x bytes (group_some x bytes) (omega arith)) (omega arith))
+    ap (λ t. if t then given_of (x ∷ bytes) else (group_words (x ∷ bytes) ++ given_in (length bytes) rest))
+    (le-ltb (length (x ∷ bytes)) (group_length (x ∷ bytes)) h)
+    ∙ ap (λ r. group_words (x ∷ bytes) ++ r)
+    (given_stable (length bytes) (length rest) rest
+    (drop_less k (length bytes) x bytes (group_some x bytes) (omega arith)) (omega arith))
 
 -- and the bytes are cut where those behind it are
-pub cut_front : (bytes : List ℕ) → 0 < length bytes → group_length bytes ≤ length bytes → packed_is_cut bytes ≡ packed_is_cut (drop (group_length bytes) bytes)
+pub cut_front : (bytes : List ℕ) → 0 < length bytes → group_length bytes ≤ length bytes
+    → packed_is_cut bytes ≡ packed_is_cut (drop (group_length bytes) bytes)
 cut_front [] s h = absurd (omega arith)
 cut_front (x ∷ bytes) s h =
     let k = group_length (x ∷ bytes) in
     let rest = drop k (x ∷ bytes) in
-    ap (λ t. if t then true else is_cut_in (length bytes) rest) (le-ltb (length (x ∷ bytes)) (group_length (x ∷ bytes)) h)
-    ∙ cut_stable (length bytes) (length rest) rest (drop_less k (length bytes) x bytes (group_some x bytes) (omega arith)) (omega arith)
+    ap (λ t. if t then true else is_cut_in (length bytes) rest)
+    (le-ltb (length (x ∷ bytes)) (group_length (x ∷ bytes)) h)
+    ∙ cut_stable (length bytes) (length rest) rest
+    (drop_less k (length bytes) x bytes (group_some x bytes) (omega arith)) (omega arith)
 
 -- where it isn't whole, its whole words are all that is given
 pub unpacked_short : (bytes : List ℕ) → length bytes < group_length bytes → unpacked bytes ≡ given_of bytes
 unpacked_short [] h = absurd (omega arith)
 unpacked_short (x ∷ bytes) h =
-    ap (λ t. if t then given_of (x ∷ bytes) else (group_words (x ∷ bytes) ++ given_in (length bytes) (drop (group_length (x ∷ bytes)) (x ∷ bytes)))) (lt-ltb (length (x ∷ bytes)) (group_length (x ∷ bytes)) h)
+    ap (λ t. if t then given_of (x ∷ bytes)
+    else (group_words (x ∷ bytes) ++ given_in (length bytes) (drop (group_length (x ∷ bytes)) (x ∷ bytes))))
+    (lt-ltb (length (x ∷ bytes)) (group_length (x ∷ bytes)) h)
 
 -- and the bytes are cut
 pub cut_short : (bytes : List ℕ) → length bytes < group_length bytes → packed_is_cut bytes ≡ true
 cut_short [] h = absurd (omega arith)
-cut_short (x ∷ bytes) h = ap (λ t. if t then true else is_cut_in (length bytes) (drop (group_length (x ∷ bytes)) (x ∷ bytes))) (lt-ltb (length (x ∷ bytes)) (group_length (x ∷ bytes)) h)
+cut_short (x ∷ bytes) h = ap (λ t. if t then true else is_cut_in (length bytes)
+    (drop (group_length (x ∷ bytes)) (x ∷ bytes))) (lt-ltb (length (x ∷ bytes)) (group_length (x ∷ bytes)) h)
 
 -- a clear bit takes no byte
-pub spread_clear : (n tag b : ℕ) (present : List ℕ) → tag % 2 ≡ 0 → spread (suc n) tag (b ∷ present) ≡ 256 * spread n (tag / 2) (b ∷ present)
-spread_clear n tag b present e = ap (λ t. if t == 0 then 256 * spread n (tag / 2) (b ∷ present) else (b + 256 * spread n (tag / 2) present)) e
+pub spread_clear : (n tag b : ℕ) (present : List ℕ) → tag % 2 ≡ 0
+    → spread (suc n) tag (b ∷ present) ≡ 256 * spread n (tag / 2) (b ∷ present)
+spread_clear n tag b present e = ap (λ t. if t == 0 then 256 * spread n (tag / 2) (b ∷ present)
+    else (b + 256 * spread n (tag / 2) present)) e
 
 -- a set bit takes one
-pub spread_set : (n tag b : ℕ) (present : List ℕ) → tag % 2 ≡ 1 → spread (suc n) tag (b ∷ present) ≡ b + 256 * spread n (tag / 2) present
-spread_set n tag b present e = ap (λ t. if t == 0 then 256 * spread n (tag / 2) (b ∷ present) else (b + 256 * spread n (tag / 2) present)) e
+pub spread_set : (n tag b : ℕ) (present : List ℕ) → tag % 2 ≡ 1
+    → spread (suc n) tag (b ∷ present) ≡ b + 256 * spread n (tag / 2) present
+spread_set n tag b present e = ap (λ t. if t == 0 then 256 * spread n (tag / 2) (b ∷ present)
+    else (b + 256 * spread n (tag / 2) present)) e
 
 -- no bits set, no byte taken
 pub spread_none : (n tag : ℕ) (present : List ℕ) → marks n tag ≡ 0 → spread n tag present ≡ 0
@@ -99,7 +121,8 @@ spread_none (suc n) tag (b ∷ present) e =
     omega (arith, c, t)
 
 -- what stands behind the bytes that a tag marks makes no difference to its word
-pub spread_append : (n tag : ℕ) (present rest : List ℕ) → length present ≡ marks n tag → spread n tag (present ++ rest) ≡ spread n tag present
+pub spread_append : (n tag : ℕ) (present rest : List ℕ) → length present ≡ marks n tag
+    → spread n tag (present ++ rest) ≡ spread n tag present
 spread_append zero tag present rest e = refl
 spread_append (suc n) tag [] rest e = spread_none (suc n) tag rest (omega arith)
 spread_append (suc n) tag (b ∷ present) rest e = elim (cases_eq (tag % 2) 0) [
@@ -123,12 +146,17 @@ plain_reads ws a = ap plain_words (sym (append-nil (plain_text ws))) ∙ (plain_
 -- how long the group in front is, at a tag that is neither 0 nor 255
 pub length_marked : (tag : ℕ) (bytes : List ℕ) → 0 < tag → tag < 255 → group_length (tag ∷ bytes) ≡ 1 + marks 8 tag
 length_marked tag bytes p q =
-    ap (λ t. if t then 2 else (if tag == 255 then (10 + 8 * slice_index bytes 8) else (1 + marks 8 tag))) (ne_eqb tag 0 (λ e. absurd (omega arith)))
-    ∙ ap (λ t. if t then (10 + 8 * slice_index bytes 8) else (1 + marks 8 tag)) (ne_eqb tag 255 (λ e. absurd (omega arith)))
+    ap (λ t. if t then 2 else (if tag == 255 then (10 + 8 * slice_index bytes 8) else (1 + marks 8 tag)))
+    (ne_eqb tag 0 (λ e. absurd (omega arith)))
+    ∙ ap (λ t. if t then (10 + 8 * slice_index bytes 8) else (1 + marks 8 tag))
+    (ne_eqb tag 255 (λ e. absurd (omega arith)))
 
 -- its word there
-pub words_marked : (tag : ℕ) (bytes : List ℕ) → 0 < tag → tag < 255 → group_words (tag ∷ bytes) ≡ spread 8 tag bytes ∷ []
+pub words_marked : (tag : ℕ) (bytes : List ℕ) → 0 < tag → tag < 255
+    → group_words (tag ∷ bytes) ≡ spread 8 tag bytes ∷ []
 words_marked tag bytes p q =
     ap (λ t. if t then replicate (1 + slice_index bytes 0) 0 else
-    (if tag == 255 then plain_words (take 8 bytes ++ take (8 * slice_index bytes 8) (drop 9 bytes)) else (spread 8 tag bytes ∷ []))) (ne_eqb tag 0 (λ e. absurd (omega arith)))
-    ∙ ap (λ t. if t then plain_words (take 8 bytes ++ take (8 * slice_index bytes 8) (drop 9 bytes)) else (spread 8 tag bytes ∷ [])) (ne_eqb tag 255 (λ e. absurd (omega arith)))
+    (if tag == 255 then plain_words (take 8 bytes ++ take (8 * slice_index bytes 8) (drop 9 bytes))
+    else (spread 8 tag bytes ∷ []))) (ne_eqb tag 0 (λ e. absurd (omega arith)))
+    ∙ ap (λ t. if t then plain_words (take 8 bytes ++ take (8 * slice_index bytes 8) (drop 9 bytes))
+    else (spread 8 tag bytes ∷ [])) (ne_eqb tag 255 (λ e. absurd (omega arith)))

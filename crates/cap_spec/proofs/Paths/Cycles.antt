@@ -1,6 +1,7 @@
 -- A pointer word that a longer path reaches again denotes no tree.
 use Rattle.std.proofs.Common.{ℕ, zero, suc, ◌+◌, ◌<◌, ◌≤◌, List, [], ◌∷◌, ◌++◌, ◌≡◌, ap, subst, arith, Some}
-use Rattle.cap_spec.specs.Tree.{Tree, null, cap, struct, scalars, pointers, structs, Trees, none, more, tree_at, part_at, node_at}
+use Rattle.cap_spec.specs.Tree.{Tree, null, cap, struct, scalars, pointers, structs, Trees, none}
+use Rattle.cap_spec.specs.Tree.{more, tree_at, part_at, node_at}
 use Rattle.cap_spec.specs.Denoting.{Denotes}
 use Rattle.cap_spec.specs.Paths.{Spot, word, Walks, Reaches}
 use Rattle.cap_spec.specs.declared.Step.{Step}
@@ -44,13 +45,15 @@ node_below t (step ∷ path) u e =
     omega (arith, part_below t step r.0 r.1, node_below r.0 path u r.2)
 
 -- and fewer where it is another
-pub proper_node_below : (t : Tree) (step : Step) (path : List Step) (u : Tree) → node_at t (step ∷ path) ≡ Some u → weight u < weight t
+pub proper_node_below : (t : Tree) (step : Step) (path : List Step) (u : Tree) → node_at t (step ∷ path) ≡ Some u
+    → weight u < weight t
 proper_node_below t step path u e =
     let r = node_parts t u step path e in
     omega (arith, part_below t step r.0 r.1, node_below r.0 path u r.2)
 
 -- A pointer word from which some steps lead back to it denotes no tree.
-pub no_tree_in_cycle : (m : List (List ℕ)) (s w : ℕ) (step : Step) (path : List Step) (n : ℕ) → Walks m (word s w) (step ∷ path) n (word s w)
+pub no_tree_in_cycle : (m : List (List ℕ)) (s w : ℕ) (step : Step) (path : List Step) (n : ℕ)
+    → Walks m (word s w) (step ∷ path) n (word s w)
     → (t : Tree) (c d : ℕ) → Denotes m s w t c d → ⊥
 no_tree_in_cycle m s w step path n g t c d h =
     let r = path_to_node m (word s w) (step ∷ path) n (word s w) t (c, d, h) g in

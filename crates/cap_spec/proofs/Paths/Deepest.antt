@@ -1,5 +1,6 @@
 -- Some path leads as deep as the root's tree is.
-use Rattle.std.proofs.Common.{ℕ, zero, suc, ◌+◌, ◌*◌, ◌<◌, ◌≤◌, List, [], ◌∷◌, ◌≡◌, ◌⊎◌, max, sym, refl, subst, arith, inl, inr}
+use Rattle.std.proofs.Common.{ℕ, zero, suc, ◌+◌, ◌*◌, ◌<◌, ◌≤◌, List, [], ◌∷◌, ◌≡◌, ◌⊎◌, max}
+use Rattle.std.proofs.Common.{sym, refl, subst, arith, inl, inr}
 use Rattle.cap_spec.specs.Messages.{HasWord}
 use Rattle.cap_spec.specs.Pointers.{middle, data_size, pointer_size, list_size}
 use Rattle.cap_spec.specs.Following.{IsComposite}
@@ -30,7 +31,8 @@ pub record Deep (m : List (List ℕ)) (a : Spot) (d : ℕ) : Type 0 where
   pub depth : d ≡ n + 1 + levels_below q tag
 
 -- behind one step
-deeper : (m : List (List ℕ)) (a b : Spot) (step : Step) (d : ℕ) → Goes m a step b → Deep m b d → Deep m a (level_of b + d)
+deeper : (m : List (List ℕ)) (a b : Spot) (step : Step) (d : ℕ) → Goes m a step b → Deep m b d
+    → Deep m a (level_of b + d)
 deeper m a b step d g h = record {
   path = step ∷ h.path;
   n = level_of b + h.n;
@@ -48,7 +50,8 @@ deeper m a b step d g h = record {
 }
 
 -- the object of a word itself
-own_depth : (m : List (List ℕ)) (s w k t b q tag d : ℕ) → Finds m s w k t b q → (IsComposite q → HasWord m t b tag) → d ≡ 1 + levels_below q tag → Deep m (word s w) d
+own_depth : (m : List (List ℕ)) (s w k t b q tag d : ℕ) → Finds m s w k t b q → (IsComposite q → HasWord m t b tag)
+    → d ≡ 1 + levels_below q tag → Deep m (word s w) d
 own_depth m s w k t b q tag d f has e = record {
   path = [];
   n = 0;
@@ -85,9 +88,11 @@ mutual
   tree_deepest m s w (cap i) c d h lt = absurd (omega (arith, h.1))
   tree_deepest m s w (struct ws ts) c d h lt =
       elim (none_or_more h.5) [
-        | inl e ↦ own_depth m s w h.0 h.1 h.2 h.3 0 d h.6.finds (λ z. absurd (omega (arith, h.6.kind, z.0))) (omega (arith, h.6.depth, e, below_struct h.3 0 h.6.kind))
+        | inl e ↦ own_depth m s w h.0 h.1 h.2 h.3 0 d h.6.finds (λ z. absurd (omega (arith, h.6.kind, z.0)))
+            (omega (arith, h.6.depth, e, below_struct h.3 0 h.6.kind))
         | inr e ↦ deep_moved m (word s w) (1 + h.5) d (sym h.6.depth)
-            (each_deepest m (word s w) Ptr h.1 (h.2 + data_size h.3) (pointer_size h.3) 0 (pointer_size h.3) (h.2 + data_size h.3) ts h.4 h.5
+            (each_deepest m (word s w) Ptr h.1 (h.2 + data_size h.3) (pointer_size h.3) 0 (pointer_size h.3)
+            (h.2 + data_size h.3) ts h.4 h.5
             (λ j less. (h.0, h.1, h.2, h.3, h.6.finds, h.6.kind, less, refl)) (omega arith) (omega arith) h.7 e)
       ]
   tree_deepest m s w (scalars e vs) c d h lt =
@@ -95,17 +100,32 @@ mutual
       (omega (arith, h.4.depth, below_scalars h.3 0 h.4.kind (omega (arith, h.4.code, h.4.scalar))))
   tree_deepest m s w (pointers ts) c d h lt =
       elim (none_or_more h.5) [
-        | inl e ↦ own_depth m s w h.0 h.1 h.2 h.3 0 d h.6.finds (λ z. absurd (omega (arith, h.6.code, z.1))) (omega (arith, h.6.depth, e, below_pointers h.3 0 h.6.kind h.6.code))
+        | inl e ↦ own_depth m s w h.0 h.1 h.2 h.3 0 d h.6.finds (λ z. absurd (omega (arith, h.6.code, z.1)))
+            (omega (arith, h.6.depth, e, below_pointers h.3 0 h.6.kind h.6.code))
         | inr e ↦ deep_moved m (word s w) (1 + h.5) d (sym h.6.depth)
             (each_deepest m (word s w) Item h.1 h.2 (list_size h.3) 0 (list_size h.3) h.2 ts h.4 h.5
-            (λ j less. inl (h.0, h.1, h.2, h.3, h.6.finds, h.6.kind, h.6.code, less, refl)) (omega arith) (omega arith) h.7 e)
+            (λ j less. inl (h.0, h.1, h.2, h.3, h.6.finds, h.6.kind, h.6.code, less, refl)) (omega arith)
+            (omega arith) h.7 e)
       ]
   tree_deepest m s w (structs ds ps es) c d h lt =
       elim (none_or_more h.6) [
-        | inl e ↦ own_depth m s w h.0 h.1 h.2 h.3 h.4 d h.7.finds (λ z. h.7.has_tag) (omega (arith, h.7.depth, e, below_structs h.3 h.4 h.7.kind h.7.code))
+        | inl e ↦ own_depth m s w h.0 h.1 h.2 h.3 h.4 d h.7.finds (λ z. h.7.has_tag)
+            (omega (arith, h.7.depth, e, below_structs h.3 h.4 h.7.kind h.7.code))
         | inr e ↦ deep_moved m (word s w) (element_levels (middle h.4) + (1 + h.6)) d (omega (arith, h.7.depth))
             (elements_deepest m (word s w) h.1 (h.2 + 1) ds ps (middle h.4) 0 (middle h.4) (h.2 + 1) es h.5 h.6
-            (λ j less. inr (h.0, h.1, h.2, h.3, h.4, h.7.finds, h.7.kind, h.7.code, h.7.has_tag, less, rw (h.7.data_sizes, h.7.pointer_sizes) refl))
+            (λ j less. inr (
+              h.0,
+              h.1,
+              h.2,
+              h.3,
+              h.4,
+              h.7.finds,
+              h.7.kind,
+              h.7.code,
+              h.7.has_tag,
+              less,
+              rw (h.7.data_sizes, h.7.pointer_sizes) refl,
+            ))
             (omega arith) (omega arith) h.8 e)
       ]
 
@@ -120,36 +140,58 @@ mutual
       elim (greater h.4 h.6) [
         | inl x ↦
             let g : Denotes m t b u h.3 h.4 = subst (λ (y : ℕ × ℕ). Denotes m y.0 y.1 u h.3 h.4) (sym p.0) h.8 in
-            let y : Goes m a (step i) (word t b) = subst (λ (v : ℕ). Goes m a (step i) (word t v)) (sym f) (goes i (omega arith)) in
-            deep_moved m a (1 + h.4) (1 + d) (omega (arith, x, h.11)) (deeper m a (word t b) (step i) h.4 y (tree_deepest m t b u h.3 h.4 g (omega (arith, x, h.11))))
+            let y : Goes m a (step i) (word t b) =
+            subst (λ (v : ℕ). Goes m a (step i) (word t v)) (sym f) (goes i (omega arith)) in
+            deep_moved m a (1 + h.4) (1 + d) (omega (arith, x, h.11))
+            (deeper m a (word t b) (step i) h.4 y (tree_deepest m t b u h.3 h.4 g (omega (arith, x, h.11))))
         | inr x ↦
             deep_moved m a (1 + h.6) (1 + d) (omega (arith, x.0, h.11))
-            (each_deepest m a step t (b + 1) n (suc i) all start ts h.5 h.6 goes (omega arith) (omega arith) (rw p.1 h.9) (omega (arith, x.0, h.11)))
+            (each_deepest m a step t (b + 1) n (suc i) all start ts h.5 h.6 goes (omega arith) (omega arith)
+            (rw p.1 h.9) (omega (arith, x.0, h.11)))
       ]
 
   -- and of the elements of a struct list
   elements_deepest : (m : List (List ℕ)) (a : Spot) (t b ds ps n i all start : ℕ) (es : Trees) (c d : ℕ)
-      → ((j : ℕ) → j < all → Goes m a (Item j) (element t (start + j * (ds + ps)) ds ps)) → i + n ≡ all → b ≡ start + i * (ds + ps)
+      → ((j : ℕ) → j < all → Goes m a (Item j) (element t (start + j * (ds + ps)) ds ps)) → i + n ≡ all
+      → b ≡ start + i * (ds + ps)
       → AreElements m t b ds ps n es c d → 0 < d → Deep m a (element_levels all + (1 + d))
   elements_deepest m a t b ds ps n i all start none c d goes e f h lt = absurd (omega (arith, h.2))
   elements_deepest m a t b ds ps n i all start (more (struct ws ts) es) c d goes e f h lt =
       elim (greater h.2 h.4) [
         | inl x ↦
-            let y : Goes m a (Item i) (element t b ds ps) = subst (λ (v : ℕ). Goes m a (Item i) (element t v ds ps)) (sym f) (goes i (omega (arith, h.5))) in
-            deep_moved m a (element_levels 1 + (1 + h.2)) (element_levels all + (1 + d)) (omega (arith, x, h.10, levels_of_some all (omega (arith, h.5))))
+            let y : Goes m a (Item i) (element t b ds ps) =
+            subst (λ (v : ℕ). Goes m a (Item i) (element t v ds ps)) (sym f) (goes i (omega (arith, h.5))) in
+            deep_moved m a (element_levels 1 + (1 + h.2)) (element_levels all + (1 + d))
+            (omega (arith, x, h.10, levels_of_some all (omega (arith, h.5))))
             (deeper m a (element t b ds ps) (Item i) (1 + h.2) y
-            (each_deepest m (element t b ds ps) Ptr t (b + ds) ps 0 ps (b + ds) ts h.1 h.2 (λ j less. (less, refl)) (omega arith) (omega arith) h.7 (omega (arith, x, h.10))))
+            (each_deepest m (element t b ds ps) Ptr t (b + ds) ps 0 ps (b + ds) ts h.1 h.2 (λ j less. (less, refl))
+            (omega arith) (omega arith) h.7 (omega (arith, x, h.10))))
         | inr x ↦
             deep_moved m a (element_levels all + (1 + h.4)) (element_levels all + (1 + d)) (omega (arith, x.0, h.10))
-            (elements_deepest m a t (b + ds + ps) ds ps h.0 (suc i) all start es h.3 h.4 goes (omega (arith, h.5)) (omega arith) h.8 (omega (arith, x.0, h.10)))
+            (elements_deepest m a t (b + ds + ps) ds ps h.0 (suc i) all start es h.3 h.4 goes (omega (arith, h.5))
+            (omega arith) h.8 (omega (arith, x.0, h.10)))
       ]
   elements_deepest m a t b ds ps n i all start (more x es) c d goes e f h lt = absurd h
 
 -- Where the root denotes a tree of some depth, a path reaches an object that is as deep.
 pub deepest_reached : (m : List (List ℕ)) (t : Tree) (c d : ℕ) → Denotes m 0 0 t c d → 0 < d
-    → (p : List Step) × (level s w k u b q tag : ℕ) × Reaches m p level s w × Finds m s w k u b q × (IsComposite q → HasWord m u b tag) × (d ≡ level + levels_below q tag)
+    → (p : List Step) × (level s w k u b q tag : ℕ) × Reaches m p level s w × Finds m s w k u b q
+    × (IsComposite q → HasWord m u b tag) × (d ≡ level + levels_below q tag)
 deepest_reached m t c d h lt =
     let f : Formed m 0 0 t = formed m 0 0 t c d h in
     let r = lead_word m 0 0 f.k f.r f.leads in
-    let x : Deep m (word 0 0) d = tree_deepest m 0 0 t c d h lt in
-    (x.path, 1 + x.n, x.s, x.w, x.k, x.t, x.b, x.q, x.tag, (r.0, x.n, r.1, x.walks, refl), x.finds, x.has_tag, omega (arith, x.depth))
+    let x : Deep m (word 0 0) d = tree_deepest m 0 0 t c d h lt in (
+      x.path,
+      1 + x.n,
+      x.s,
+      x.w,
+      x.k,
+      x.t,
+      x.b,
+      x.q,
+      x.tag,
+      (r.0, x.n, r.1, x.walks, refl),
+      x.finds,
+      x.has_tag,
+      omega (arith, x.depth),
+    )

@@ -1,10 +1,12 @@
 -- No path leads deeper than the depth of the root's tree.
-use Rattle.std.proofs.Common.{ℕ, zero, suc, ◌+◌, ◌<◌, ◌≤◌, List, [], ◌∷◌, ◌≡◌, max, sym, ap, refl, subst, ◌∙◌, arith, Bool, true, false, Some, eqb, ne_eqb}
+use Rattle.std.proofs.Common.{ℕ, zero, suc, ◌+◌, ◌<◌, ◌≤◌, List, [], ◌∷◌, ◌≡◌, max, sym, ap, refl, subst, ◌∙◌, arith}
+use Rattle.std.proofs.Common.{Bool, true, false, Some, eqb, ne_eqb}
 use Rattle.std.specs.Prelude.{pos}
 use Rattle.cap_spec.specs.Messages.{HasWord}
 use Rattle.cap_spec.specs.Pointers.{kind, code, middle, data_size, pointer_size, list_size}
 use Rattle.cap_spec.specs.Following.{to_null, to_cap, to_object, IsComposite}
-use Rattle.cap_spec.specs.Tree.{Tree, null, cap, struct, scalars, pointers, structs, Trees, none, more, tree_count, tree_at, part_at}
+use Rattle.cap_spec.specs.Tree.{Tree, null, cap, struct, scalars, pointers, structs, Trees, none}
+use Rattle.cap_spec.specs.Tree.{more, tree_count, tree_at, part_at}
 use Rattle.cap_spec.specs.Denoting.{Finds, Denotes, DenoteEach, AreElements, places, element_levels}
 use Rattle.cap_spec.specs.Paths.{Spot, word, element, Walks, level_of}
 use Rattle.cap_spec.specs.Verdicts.{levels_below}
@@ -47,19 +49,22 @@ mutual
   denoted_depth m s w (struct ws ts) c d h =
       h.6.depth ∙ ap (λ x. 1 + x) (each_depth m (places h.1 (h.2 + data_size h.3) (pointer_size h.3)) ts h.4 h.5 h.7)
   denoted_depth m s w (scalars e vs) c d h = h.4.depth
-  denoted_depth m s w (pointers ts) c d h = h.6.depth ∙ ap (λ x. 1 + x) (each_depth m (places h.1 h.2 (list_size h.3)) ts h.4 h.5 h.7)
+  denoted_depth m s w (pointers ts) c d h = h.6.depth
+      ∙ ap (λ x. 1 + x) (each_depth m (places h.1 h.2 (list_size h.3)) ts h.4 h.5 h.7)
   denoted_depth m s w (structs ds ps es) c d h =
       let r = elements_depth m h.1 (h.2 + 1) ds ps (middle h.4) es h.5 h.6 h.8 in
       h.7.depth ∙ ap (λ x. 1 + element_levels x + h.6) r.0 ∙ ap (λ x. 1 + element_levels (tree_count es) + x) r.1
 
-  pub each_depth : (m : List (List ℕ)) (ps : List (ℕ × ℕ)) (ts : Trees) (c d : ℕ) → DenoteEach m ps ts c d → d ≡ depth_each ts
+  pub each_depth : (m : List (List ℕ)) (ps : List (ℕ × ℕ)) (ts : Trees) (c d : ℕ) → DenoteEach m ps ts c d
+      → d ≡ depth_each ts
   each_depth m ps none c d h = h.2
   each_depth m ps (more t ts) c d h =
       let a = denoted_depth m h.0 h.1 t h.3 h.4 h.8 in
       let b = each_depth m h.2 ts h.5 h.6 h.9 in
       h.11 ∙ ap (λ x. max x h.6) a ∙ ap (λ x. max (depth_of t) x) b
 
-  pub elements_depth : (m : List (List ℕ)) (t b ds ps n : ℕ) (es : Trees) (c d : ℕ) → AreElements m t b ds ps n es c d → (n ≡ tree_count es) × (d ≡ depth_elements es)
+  pub elements_depth : (m : List (List ℕ)) (t b ds ps n : ℕ) (es : Trees) (c d : ℕ) → AreElements m t b ds ps n es c d
+      → (n ≡ tree_count es) × (d ≡ depth_elements es)
   elements_depth m t b ds ps n none c d h = (h.0, h.2)
   elements_depth m t b ds ps n (more (struct ws ts) es) c d h =
       let a = each_depth m (places t (b + ds) ps) ts h.1 h.2 h.7 in
@@ -89,19 +94,24 @@ AreStructs none = Unit {0}
 AreStructs (more (struct words ts) es) = AreStructs es
 AreStructs (more x es) = ⊥
 
-element_depth : (es : Trees) (i : ℕ) (u : Tree) → AreStructs es → tree_at es i ≡ Some u → (depth_of u ≤ 1 + depth_elements es) × (0 < tree_count es)
+element_depth : (es : Trees) (i : ℕ) (u : Tree) → AreStructs es → tree_at es i ≡ Some u
+    → (depth_of u ≤ 1 + depth_elements es) × (0 < tree_count es)
 element_depth none i u a e = absurd (cc e)
-element_depth (more (struct ws ts) es) zero u a e = let f : struct ws ts ≡ u = cc e in (omega (arith, ap depth_of f), omega arith)
+element_depth (more (struct ws ts) es) zero u a e = let f : struct ws ts ≡ u = cc e in
+    (omega (arith, ap depth_of f), omega arith)
 element_depth (more (struct ws ts) es) (suc i) u a e = (omega (arith, element_depth es i u a e), omega arith)
 element_depth (more x es) i u a e = absurd a
 
-elements_are_structs : (m : List (List ℕ)) (t b ds ps n : ℕ) (es : Trees) (c d : ℕ) → AreElements m t b ds ps n es c d → AreStructs es
+elements_are_structs : (m : List (List ℕ)) (t b ds ps n : ℕ) (es : Trees) (c d : ℕ)
+    → AreElements m t b ds ps n es c d → AreStructs es
 elements_are_structs m t b ds ps n none c d h = tt
-elements_are_structs m t b ds ps n (more (struct ws ts) es) c d h = elements_are_structs m t (b + ds + ps) ds ps h.0 es h.3 h.4 h.8
+elements_are_structs m t b ds ps n (more (struct ws ts) es) c d h =
+    elements_are_structs m t (b + ds + ps) ds ps h.0 es h.3 h.4 h.8
 elements_are_structs m t b ds ps n (more x es) c d h = absurd h
 
 -- a part is less deep than its tree by the levels of the step
-part_depth : (m : List (List ℕ)) (a : Spot) (t : Tree) (step : Step) (u : Tree) → DenotesAt m a t → part_at t step ≡ Some u → level_if (is_structs t) + depth_of u ≤ depth_of t
+part_depth : (m : List (List ℕ)) (a : Spot) (t : Tree) (step : Step) (u : Tree) → DenotesAt m a t
+    → part_at t step ≡ Some u → level_if (is_structs t) + depth_of u ≤ depth_of t
 part_depth m a (struct ws ts) (Ptr i) u h e = omega (arith, tree_depth ts i u e)
 part_depth m a (pointers ts) (Item i) u h e = omega (arith, tree_depth ts i u e)
 part_depth m (word s w) (structs d p es) (Item i) u h e =
@@ -117,7 +127,8 @@ spot_level (word s w) = refl
 spot_level (element t b ds ps) = refl
 
 -- What stands where a path leads is less deep than the tree of its first spot by the levels on the way.
-pub walk_depth : (m : List (List ℕ)) (a : Spot) (path : List Step) (n : ℕ) (b : Spot) (t : Tree) → DenotesAt m a t → Walks m a path n b
+pub walk_depth : (m : List (List ℕ)) (a : Spot) (path : List Step) (n : ℕ) (b : Spot) (t : Tree) → DenotesAt m a t
+    → Walks m a path n b
     → (u : Tree) × DenotesAt m b u × (n + depth_of u ≤ depth_of t)
 walk_depth m a [] n b t h g = (t, subst (λ (y : Spot). DenotesAt m y t) (sym g.1) h, omega (arith, g.0))
 walk_depth m a (step ∷ path) n b t h g =
@@ -142,16 +153,24 @@ pub below_scalars : (q tag : ℕ) → kind q ≡ 1 → code q < 6 → levels_bel
 below_scalars q tag e f = let g : eqb (code q) 7 ≡ false = ne_eqb (code q) 7 (omega arith) in rw (e, g) refl
 
 -- an object and the levels of what stands in it are within the depth of what its pointer denotes
-pub object_depth : (m : List (List ℕ)) (s w : ℕ) (x : Tree) (c d k t b q tag : ℕ) → Denotes m s w x c d → Finds m s w k t b q → (IsComposite q → HasWord m t b tag)
+pub object_depth : (m : List (List ℕ)) (s w : ℕ) (x : Tree) (c d k t b q tag : ℕ) → Denotes m s w x c d
+    → Finds m s w k t b q → (IsComposite q → HasWord m t b tag)
     → 1 + levels_below q tag ≤ d
-object_depth m s w null c d k t b q tag h f has = absurd (cc (one_lead m s w c k to_null (to_object t (pos b) q) h.0 f.leads).1)
-object_depth m s w (cap i) c d k t b q tag h f has = absurd (cc (one_lead m s w c k (to_cap i) (to_object t (pos b) q) h.0 f.leads).1)
+object_depth m s w null c d k t b q tag h f has =
+    absurd (cc (one_lead m s w c k to_null (to_object t (pos b) q) h.0 f.leads).1)
+object_depth m s w (cap i) c d k t b q tag h f has =
+    absurd (cc (one_lead m s w c k (to_cap i) (to_object t (pos b) q) h.0 f.leads).1)
 object_depth m s w (struct ws ts) c d k t b q tag h f has =
     let o : SameObject k t b q h.0 h.1 h.2 h.3 = one_object m s w k t b q h.0 h.1 h.2 h.3 f h.6.finds in
     omega (arith, below_struct q tag (ap kind o.shape ∙ h.6.kind), h.6.depth)
 object_depth m s w (scalars e vs) c d k t b q tag h f has =
     let o : SameObject k t b q h.0 h.1 h.2 h.3 = one_object m s w k t b q h.0 h.1 h.2 h.3 f h.4.finds in
-    omega (arith, below_scalars q tag (ap kind o.shape ∙ h.4.kind) (omega (arith, ap code o.shape, h.4.code, h.4.scalar)), h.4.depth)
+    omega (
+      arith,
+      below_scalars q tag (ap kind o.shape ∙ h.4.kind)
+          (omega (arith, ap code o.shape, h.4.code, h.4.scalar)),
+      h.4.depth,
+    )
 object_depth m s w (pointers ts) c d k t b q tag h f has =
     let o : SameObject k t b q h.0 h.1 h.2 h.3 = one_object m s w k t b q h.0 h.1 h.2 h.3 f h.6.finds in
     omega (arith, below_pointers q tag (ap kind o.shape ∙ h.6.kind) (ap code o.shape ∙ h.6.code), h.6.depth)

@@ -1,10 +1,12 @@
 -- The pointers and the capabilities of the tree that the root denotes are as many as the paths that reach them.
-use Rattle.std.proofs.Common.{ℕ, zero, suc, ◌+◌, ◌*◌, ◌<◌, List, [], ◌∷◌, ◌≡◌, ◌↔◌, sym, ap, refl, subst, ◌∙◌, arith, inl, inr, Bool, true, false, not, length, eqb, ne_eqb}
+use Rattle.std.proofs.Common.{ℕ, zero, suc, ◌+◌, ◌*◌, ◌<◌, List, [], ◌∷◌, ◌≡◌, ◌↔◌, sym, ap, refl, subst, ◌∙◌, arith}
+use Rattle.std.proofs.Common.{inl, inr, Bool, true, false, not, length, eqb, ne_eqb}
 use Rattle.cap_spec.specs.Pointers.{kind, code}
 use Rattle.cap_spec.specs.Following.{Lead, Leads, to_cap}
 use Rattle.cap_spec.specs.Tree.{Tree, null, cap, struct, scalars, pointers, structs, pointer_count, cap_count, has_cap}
 use Rattle.cap_spec.specs.Denoting.{Denotes}
-use Rattle.cap_spec.specs.Paths.{Spot, word, element, Goes, Walks, Reaches, Before, Rises, IsOneOf, IsFirstCap, level_of}
+use Rattle.cap_spec.specs.Paths.{Spot, word, element, Goes, Walks, Reaches, Before}
+use Rattle.cap_spec.specs.Paths.{Rises, IsOneOf, IsFirstCap, level_of}
 use Rattle.cap_spec.specs.Standing.{DenotesAt}
 use Rattle.cap_spec.specs.declared.Step.{Step}
 use Rattle.cap_spec.specs.declared.Step.TheVariants.{Ptr, Item}
@@ -12,7 +14,8 @@ use Rattle.cap_spec.proofs.Pointers.Following.{one_lead}
 use Rattle.cap_spec.proofs.Trees.OneTree.{Formed, HasForm, form_of, formed, number_struct, number_list}
 use Rattle.cap_spec.proofs.Paths.Arrivals.{found_form, lead_word, step_to_part, part_to_step}
 use Rattle.cap_spec.proofs.Paths.Preorder.{Before-irreflexive, Before-asymmetric, Rises-first}
-use Rattle.cap_spec.proofs.Paths.PathLists.{with_own, paths_below, Wants, is_structs, is_pointer, is_cap, wants_cap, listed_wanted, wanted_listed, listed_rise, pointers_listed, caps_listed}
+use Rattle.cap_spec.proofs.Paths.PathLists.{with_own, paths_below, Wants, is_structs, is_pointer, is_cap, wants_cap}
+use Rattle.cap_spec.proofs.Paths.PathLists.{listed_wanted, wanted_listed, listed_rise, pointers_listed, caps_listed}
 
 abbrev pub is_element : Spot → Bool
 is_element (word s w) = false
@@ -33,13 +36,16 @@ all_structs (pointers ts) f = absurd (omega arith)
 all_structs (structs d p es) f = refl
 
 -- a step leads to an element where the tree of the spot is a struct list
-pub step_kind : (m : List (List ℕ)) (a : Spot) (step : Step) (b : Spot) (t : Tree) → DenotesAt m a t → Goes m a step b → is_element b ≡ is_structs t
+pub step_kind : (m : List (List ℕ)) (a : Spot) (step : Step) (b : Spot) (t : Tree) → DenotesAt m a t → Goes m a step b
+    → is_element b ≡ is_structs t
 step_kind m (word s w) (Ptr i) b t h g =
     let f = found_form m s w t h.0 h.1 g.0 g.1 g.2 g.3 h.2 g.4 in
-    ap is_element g.7 ∙ sym (no_structs t (2 + kind g.3 * (1 + code g.3)) f (omega (arith, number_struct (kind g.3) (code g.3) g.5)))
+    ap is_element g.7 ∙ sym (no_structs t (2 + kind g.3 * (1 + code g.3)) f
+    (omega (arith, number_struct (kind g.3) (code g.3) g.5)))
 step_kind m (word s w) (Item i) b t h (inl g) =
     let f = found_form m s w t h.0 h.1 g.0 g.1 g.2 g.3 h.2 g.4 in
-    ap is_element g.8 ∙ sym (no_structs t (2 + kind g.3 * (1 + code g.3)) f (omega (arith, number_list (kind g.3) (code g.3) g.5, g.6)))
+    ap is_element g.8 ∙ sym (no_structs t (2 + kind g.3 * (1 + code g.3)) f
+    (omega (arith, number_list (kind g.3) (code g.3) g.5, g.6)))
 step_kind m (word s w) (Item i) b t h (inr g) =
     let f = found_form m s w t h.0 h.1 g.0 g.1 g.2 g.3 h.2 g.5 in
     let e : 2 + kind g.3 * (1 + code g.3) ≡ 10 = omega (arith, number_list (kind g.3) (code g.3) g.6, g.7) in
@@ -48,10 +54,12 @@ step_kind m (element x y ds ps) (Ptr i) b (struct words ts) h g = ap is_element 
 step_kind m (element x y ds ps) (Ptr i) b t h g = absurd h
 step_kind m (element x y ds ps) (Item i) b t h g = absurd g
 
--- The nodes that a test wants are where walks end, of which the spot's own test tells the same of each spot and its tree.
+-- The nodes that a test wants are where walks end,
+-- of which the spot's own test tells the same of each spot and its tree.
 pub wanted_walk : (m : List (List ℕ)) (test : Bool → Tree → Bool) (P : Spot → Type 0)
     → ((a : Spot) (t : Tree) → DenotesAt m a t → test (is_element a) t ≡ true → P a)
-    → (a : Spot) (t : Tree) (q : List Step) → DenotesAt m a t → Wants test (is_element a) t q → (n : ℕ) × (b : Spot) × Walks m a q n b × P b
+    → (a : Spot) (t : Tree) (q : List Step) → DenotesAt m a t → Wants test (is_element a) t q
+    → (n : ℕ) × (b : Spot) × Walks m a q n b × P b
 wanted_walk m test P own a t [] h g = (0, a, (refl, refl), own a t h g)
 wanted_walk m test P own a t (step ∷ path) h g =
     let r = part_to_step m a step t g.0 h g.1 in
@@ -61,7 +69,8 @@ wanted_walk m test P own a t (step ∷ path) h g =
 
 pub walk_wanted : (m : List (List ℕ)) (test : Bool → Tree → Bool) (P : Spot → Type 0)
     → ((a : Spot) (t : Tree) → DenotesAt m a t → P a → test (is_element a) t ≡ true)
-    → (a : Spot) (t : Tree) (q : List Step) → DenotesAt m a t → (n : ℕ) (b : Spot) → Walks m a q n b → P b → Wants test (is_element a) t q
+    → (a : Spot) (t : Tree) (q : List Step) → DenotesAt m a t → (n : ℕ) (b : Spot) → Walks m a q n b → P b
+    → Wants test (is_element a) t q
 walk_wanted m test P own a t [] h n b g p = own a t h (subst P g.1 p)
 walk_wanted m test P own a t (step ∷ path) h n b g p =
     let r = step_to_part m a step g.0 t h g.2 in
@@ -76,14 +85,17 @@ IsWordSpot a = (s w : ℕ) × (a ≡ word s w)
 abbrev pub IsCapSpot : List (List ℕ) → Spot → Type 0
 IsCapSpot m a = (s w k i : ℕ) × (a ≡ word s w) × Leads m s w k (to_cap i)
 
-wanted_word : (m : List (List ℕ)) (a : Spot) (t : Tree) → DenotesAt m a t → is_pointer (is_element a) t ≡ true → IsWordSpot a
+wanted_word : (m : List (List ℕ)) (a : Spot) (t : Tree) → DenotesAt m a t
+    → is_pointer (is_element a) t ≡ true → IsWordSpot a
 wanted_word m (word s w) t h e = (s, w, refl)
 wanted_word m (element x b ds ps) t h e = absurd (cc e)
 
-word_wanted : (m : List (List ℕ)) (a : Spot) (t : Tree) → DenotesAt m a t → IsWordSpot a → is_pointer (is_element a) t ≡ true
+word_wanted : (m : List (List ℕ)) (a : Spot) (t : Tree) → DenotesAt m a t → IsWordSpot a
+    → is_pointer (is_element a) t ≡ true
 word_wanted m a t h p = rw p.2 refl
 
-wanted_cap : (m : List (List ℕ)) (a : Spot) (t : Tree) → DenotesAt m a t → wants_cap (is_element a) t ≡ true → IsCapSpot m a
+wanted_cap : (m : List (List ℕ)) (a : Spot) (t : Tree) → DenotesAt m a t
+    → wants_cap (is_element a) t ≡ true → IsCapSpot m a
 wanted_cap m (word s w) (cap i) h e = (s, w, h.0, i, refl, h.2.0)
 wanted_cap m (element x b ds ps) (struct words ts) h e = absurd (cc e)
 wanted_cap m (word s w) t h e = absurd (cc e)
@@ -103,7 +115,8 @@ abbrev LeadsAt : List (List ℕ) → Spot → ℕ → Lead → Type 0
 LeadsAt m (word s w) k r = Leads m s w k r
 LeadsAt m (element t b ds ps) k r = ⊥
 
-cap_wanted : (m : List (List ℕ)) (a : Spot) (t : Tree) → DenotesAt m a t → IsCapSpot m a → wants_cap (is_element a) t ≡ true
+cap_wanted : (m : List (List ℕ)) (a : Spot) (t : Tree) → DenotesAt m a t → IsCapSpot m a
+    → wants_cap (is_element a) t ≡ true
 cap_wanted m (word s w) t h p =
     let f : Formed m s w t = formed m s w t h.0 h.1 h.2 in
     let e : word s w ≡ word p.0 p.1 = p.4 in
@@ -128,11 +141,14 @@ pointer_path_reached m t c d h q = (to, from)
     to g =
         let f : Formed m 0 0 t = formed m 0 0 t c d h in
         let p = lead_word m 0 0 f.k f.r f.leads in
-        let r = wanted_walk m is_pointer IsWordSpot (wanted_word m) (word 0 0) t q (c, d, h) (listed_wanted is_pointer false t q g) in
+        let r = wanted_walk m is_pointer IsWordSpot (wanted_word m) (word 0 0) t q (c, d, h)
+        (listed_wanted is_pointer false t q g) in
         (1 + r.0, r.3.0, r.3.1, (p.0, r.0, p.1, subst (λ (z : Spot). Walks m (word 0 0) q r.0 z) r.3.2 r.2, refl))
 
     from : (level s w : ℕ) × Reaches m q level s w → IsOneOf q (pointer_paths t)
-    from g = wanted_listed is_pointer false t q (walk_wanted m is_pointer IsWordSpot (word_wanted m) (word 0 0) t q (c, d, h) g.3.1 (word g.1 g.2) g.3.3 (g.1, g.2, refl))
+    from g = wanted_listed is_pointer false t q
+        (walk_wanted m is_pointer IsWordSpot (word_wanted m) (word 0 0) t q (c, d, h) g.3.1 (word g.1 g.2)
+        g.3.3 (g.1, g.2, refl))
 
 -- The paths that reach a capability are exactly the listed ones.
 pub cap_path_reached : (m : List (List ℕ)) (t : Tree) (c d : ℕ) → Denotes m 0 0 t c d → (q : List Step)
@@ -143,25 +159,49 @@ cap_path_reached m t c d h q = (to, from)
     to g =
         let f : Formed m 0 0 t = formed m 0 0 t c d h in
         let p = lead_word m 0 0 f.k f.r f.leads in
-        let r = wanted_walk m wants_cap (IsCapSpot m) (wanted_cap m) (word 0 0) t q (c, d, h) (listed_wanted wants_cap false t q g) in
-        (1 + r.0, r.3.0, r.3.1, r.3.2, r.3.3, (p.0, r.0, p.1, subst (λ (z : Spot). Walks m (word 0 0) q r.0 z) r.3.4 r.2, refl), r.3.5)
+        let r = wanted_walk m wants_cap (IsCapSpot m) (wanted_cap m) (word 0 0) t q (c, d, h)
+        (listed_wanted wants_cap false t q g) in (
+          1 + r.0,
+          r.3.0,
+          r.3.1,
+          r.3.2,
+          r.3.3,
+          (
+            p.0,
+            r.0,
+            p.1,
+            subst (λ (z : Spot). Walks m (word 0 0) q r.0 z) r.3.4 r.2,
+            refl,
+          ),
+          r.3.5,
+        )
 
     from : (level s w k i : ℕ) × Reaches m q level s w × Leads m s w k (to_cap i) → IsOneOf q (cap_paths t)
-    from g = wanted_listed wants_cap false t q (walk_wanted m wants_cap (IsCapSpot m) (cap_wanted m) (word 0 0) t q (c, d, h) g.5.1 (word g.1 g.2) g.5.3 (g.1, g.2, g.3, g.4, refl, g.6))
+    from g = wanted_listed wants_cap false t q
+        (walk_wanted m wants_cap (IsCapSpot m) (cap_wanted m) (word 0 0) t q (c, d, h) g.5.1 (word g.1 g.2) g.5.3
+        (g.1, g.2, g.3, g.4, refl, g.6))
 
 -- There is a rising list of exactly the paths that reach a pointer word, of as many as the tree's pointers,
 pub pointers_counted : (m : List (List ℕ)) (t : Tree) (c d : ℕ) → Denotes m 0 0 t c d
-    → (paths : List (List Step)) × Rises paths × (length paths ≡ pointer_count t) × ((q : List Step) → IsOneOf q paths ↔ ((level s w : ℕ) × Reaches m q level s w))
-pointers_counted m t c d h = (pointer_paths t, listed_rise is_pointer false t, pointers_listed t, pointer_path_reached m t c d h)
+    → (paths : List (List Step)) × Rises paths × (length paths ≡ pointer_count t)
+    × ((q : List Step) → IsOneOf q paths ↔ ((level s w : ℕ) × Reaches m q level s w))
+pointers_counted m t c d h = (
+  pointer_paths t,
+  listed_rise is_pointer false t,
+  pointers_listed t,
+  pointer_path_reached m t c d h,
+)
 
 -- and one of exactly those that reach a capability, of as many as its capabilities.
 pub caps_counted : (m : List (List ℕ)) (t : Tree) (c d : ℕ) → Denotes m 0 0 t c d
-    → (paths : List (List Step)) × Rises paths × (length paths ≡ cap_count t) × ((q : List Step) → IsOneOf q paths ↔ ((level s w k i : ℕ) × Reaches m q level s w × Leads m s w k (to_cap i)))
+    → (paths : List (List Step)) × Rises paths × (length paths ≡ cap_count t)
+    × ((q : List Step) → IsOneOf q paths ↔ ((level s w k i : ℕ) × Reaches m q level s w × Leads m s w k (to_cap i)))
 caps_counted m t c d h = (cap_paths t, listed_rise wants_cap false t, caps_listed false t, cap_path_reached m t c d h)
 
 -- The first of the paths to capabilities is the first in preorder.
 first_of : (m : List (List ℕ)) (t : Tree) (c d : ℕ) → Denotes m 0 0 t c d → (paths : List (List Step)) → Rises paths
-    → ((q : List Step) → IsOneOf q paths ↔ ((level s w k i : ℕ) × Reaches m q level s w × Leads m s w k (to_cap i))) → 0 < length paths
+    → ((q : List Step) → IsOneOf q paths ↔ ((level s w k i : ℕ) × Reaches m q level s w
+    × Leads m s w k (to_cap i))) → 0 < length paths
     → (s w : ℕ) × IsFirstCap m s w
 first_of m t c d h [] rises exact some = absurd (omega arith)
 first_of m t c d h (p ∷ ps) rises exact some =
@@ -197,11 +237,13 @@ member_some q [] i = absurd i
 member_some q (p ∷ ps) i = omega arith
 
 -- A tree has a capability where some word is the first in preorder that leads to one, and nowhere else.
-pub first_cap : (m : List (List ℕ)) (t : Tree) (c d : ℕ) → Denotes m 0 0 t c d → (has_cap t ≡ true) ↔ ((s w : ℕ) × IsFirstCap m s w)
+pub first_cap : (m : List (List ℕ)) (t : Tree) (c d : ℕ) → Denotes m 0 0 t c d → (has_cap t ≡ true)
+    ↔ ((s w : ℕ) × IsFirstCap m s w)
 first_cap m t c d h = (to, from)
   where
     to : has_cap t ≡ true → (s w : ℕ) × IsFirstCap m s w
-    to e = first_of m t c d h (cap_paths t) (listed_rise wants_cap false t) (cap_path_reached m t c d h) (omega (arith, caps_listed false t, more_than_none (cap_count t) e))
+    to e = first_of m t c d h (cap_paths t) (listed_rise wants_cap false t) (cap_path_reached m t c d h)
+        (omega (arith, caps_listed false t, more_than_none (cap_count t) e))
 
     from : (s w : ℕ) × IsFirstCap m s w → has_cap t ≡ true
     from g =

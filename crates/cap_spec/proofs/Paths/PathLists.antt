@@ -1,6 +1,8 @@
 -- The paths to some of a tree's nodes, in preorder: they rise, they are exactly those, and how many they are.
-use Rattle.std.proofs.Common.{ℕ, zero, suc, ◌+◌, ◌<◌, List, [], ◌∷◌, ◌++◌, ◌≡◌, ◌⊎◌, sym, ap, refl, subst, ◌∙◌, arith, inl, inr, Some, Bool, true, false, not, length, length-append}
-use Rattle.cap_spec.specs.Tree.{Tree, null, cap, struct, scalars, pointers, structs, Trees, none, more, tree_at, part_at, tree_count, child_count, child_counts, cap_count, cap_counts}
+use Rattle.std.proofs.Common.{ℕ, zero, suc, ◌+◌, ◌<◌, List, [], ◌∷◌, ◌++◌, ◌≡◌, ◌⊎◌, sym, ap, refl, subst, ◌∙◌, arith}
+use Rattle.std.proofs.Common.{inl, inr, Some, Bool, true, false, not, length, length-append}
+use Rattle.cap_spec.specs.Tree.{Tree, null, cap, struct, scalars, pointers, structs, Trees, none, more, tree_at}
+use Rattle.cap_spec.specs.Tree.{part_at, tree_count, child_count, child_counts, cap_count, cap_counts}
 use Rattle.cap_spec.specs.Paths.{number_of, Before, Rises, IsOneOf}
 use Rattle.cap_spec.specs.declared.Step.{Step}
 use Rattle.cap_spec.specs.declared.Step.TheVariants.{Ptr, Item}
@@ -34,7 +36,8 @@ abbrev mutual
   -- of the parts from i on
   pub paths_from : (Bool → Tree → Bool) → Bool → (ℕ → Step) → ℕ → Trees → List (List Step)
   paths_from test is_element step i none = []
-  paths_from test is_element step i (more t ts) = behind (step i) (with_own (test is_element t) (paths_below test t)) ++ paths_from test is_element step (suc i) ts
+  paths_from test is_element step i (more t ts) =
+      behind (step i) (with_own (test is_element t) (paths_below test t)) ++ paths_from test is_element step (suc i) ts
 
 -- the test wants the node at the path
 abbrev pub Wants : (Bool → Tree → Bool) → Bool → Tree → List Step → Type 0
@@ -62,27 +65,36 @@ member_back p [] ys h = h
 member_back p (x ∷ xs) ys h = inr (member_back p xs ys h)
 
 -- what stands behind a step
-member_behind : (step : Step) (q : List Step) (ps : List (List Step)) → IsOneOf q (behind step ps) → (p : List Step) × (q ≡ step ∷ p) × IsOneOf p ps
+member_behind : (step : Step) (q : List Step) (ps : List (List Step)) → IsOneOf q (behind step ps)
+    → (p : List Step) × (q ≡ step ∷ p) × IsOneOf p ps
 member_behind step q [] h = absurd h
 member_behind step q (p ∷ ps) (inl e) = (p, e, inl refl)
 member_behind step q (p ∷ ps) (inr h) = let r = member_behind step q ps h in (r.0, r.1, inr r.2)
 
-behind_member : (step : Step) (p : List Step) (ps : List (List Step)) → IsOneOf p ps → IsOneOf (step ∷ p) (behind step ps)
+behind_member : (step : Step) (p : List Step) (ps : List (List Step)) → IsOneOf p ps
+    → IsOneOf (step ∷ p) (behind step ps)
 behind_member step p [] h = absurd h
 behind_member step p (q ∷ qs) (inl e) = inl (ap (λ x. step ∷ x) e)
 behind_member step p (q ∷ qs) (inr h) = inr (behind_member step p qs h)
 
 -- each of these paths goes into one of the parts
-from_to_part : (test : Bool → Tree → Bool) (e : Bool) (step : ℕ → Step) (i : ℕ) (ts : Trees) (q : List Step) → IsOneOf q (paths_from test e step i ts)
-    → (j : ℕ) × (u : Tree) × (p : List Step) × (q ≡ step (i + j) ∷ p) × (tree_at ts j ≡ Some u) × IsOneOf p (with_own (test e u) (paths_below test u))
+from_to_part : (test : Bool → Tree → Bool) (e : Bool) (step : ℕ → Step) (i : ℕ) (ts : Trees) (q : List Step)
+    → IsOneOf q (paths_from test e step i ts)
+    → (j : ℕ) × (u : Tree) × (p : List Step) × (q ≡ step (i + j) ∷ p) × (tree_at ts j ≡ Some u)
+    × IsOneOf p (with_own (test e u) (paths_below test u))
 from_to_part test e step i none q h = absurd h
 from_to_part test e step i (more t ts) q h =
-    go (λ g. from_to_part test e step (suc i) ts q g) (member_append q (behind (step i) (with_own (test e t) (paths_below test t))) (paths_from test e step (suc i) ts) h)
+    go (λ g. from_to_part test e step (suc i) ts q g)
+    (member_append q (behind (step i) (with_own (test e t) (paths_below test t)))
+    (paths_from test e step (suc i) ts) h)
   where
     go : (IsOneOf q (paths_from test e step (suc i) ts)
-        → (j : ℕ) × (u : Tree) × (p : List Step) × (q ≡ step (suc i + j) ∷ p) × (tree_at ts j ≡ Some u) × IsOneOf p (with_own (test e u) (paths_below test u)))
-        → IsOneOf q (behind (step i) (with_own (test e t) (paths_below test t))) ⊎ IsOneOf q (paths_from test e step (suc i) ts)
-        → (j : ℕ) × (u : Tree) × (p : List Step) × (q ≡ step (i + j) ∷ p) × (tree_at (more t ts) j ≡ Some u) × IsOneOf p (with_own (test e u) (paths_below test u))
+        → (j : ℕ) × (u : Tree) × (p : List Step) × (q ≡ step (suc i + j) ∷ p) × (tree_at ts j ≡ Some u)
+        × IsOneOf p (with_own (test e u) (paths_below test u)))
+        → IsOneOf q (behind (step i) (with_own (test e t) (paths_below test t)))
+        ⊎ IsOneOf q (paths_from test e step (suc i) ts)
+        → (j : ℕ) × (u : Tree) × (p : List Step) × (q ≡ step (i + j) ∷ p) × (tree_at (more t ts) j ≡ Some u)
+        × IsOneOf p (with_own (test e u) (paths_below test u))
     go later (inl g) =
         let r = member_behind (step i) q (with_own (test e t) (paths_below test t)) g in
         let k : i ≡ i + 0 = omega arith in
@@ -93,28 +105,37 @@ from_to_part test e step i (more t ts) q h =
         (suc r.0, r.1, r.2, subst (λ (x : ℕ). q ≡ step x ∷ r.2) k r.3, r.4, r.5)
 
 -- and each path that the test wants in a part is one of them
-part_to_from : (test : Bool → Tree → Bool) (e : Bool) (step : ℕ → Step) (i : ℕ) (ts : Trees) (j x : ℕ) (u : Tree) (p : List Step) → tree_at ts j ≡ Some u → x ≡ i + j
+part_to_from : (test : Bool → Tree → Bool) (e : Bool) (step : ℕ → Step) (i : ℕ) (ts : Trees) (j x : ℕ) (u : Tree)
+    (p : List Step) → tree_at ts j ≡ Some u → x ≡ i + j
     → IsOneOf p (with_own (test e u) (paths_below test u)) → IsOneOf (step x ∷ p) (paths_from test e step i ts)
 part_to_from test e step i none j x u p f k h = absurd (cc f)
 part_to_from test e step i (more t ts) zero x u p f k h =
     let y : x ≡ i = omega arith in
     let z : u ≡ t = cc f in
-    member_front (step x ∷ p) (behind (step i) (with_own (test e t) (paths_below test t))) (paths_from test e step (suc i) ts)
+    member_front (step x ∷ p) (behind (step i) (with_own (test e t) (paths_below test t)))
+    (paths_from test e step (suc i) ts)
     (subst (λ (v : ℕ). IsOneOf (step v ∷ p) (behind (step i) (with_own (test e t) (paths_below test t)))) (sym y)
-    (behind_member (step i) p (with_own (test e t) (paths_below test t)) (subst (λ (v : Tree). IsOneOf p (with_own (test e v) (paths_below test v))) z h)))
+    (behind_member (step i) p (with_own (test e t) (paths_below test t))
+    (subst (λ (v : Tree). IsOneOf p (with_own (test e v) (paths_below test v))) z h)))
 part_to_from test e step i (more t ts) (suc j) x u p f k h =
-    member_back (step x ∷ p) (behind (step i) (with_own (test e t) (paths_below test t))) (paths_from test e step (suc i) ts)
+    member_back (step x ∷ p) (behind (step i) (with_own (test e t) (paths_below test t)))
+    (paths_from test e step (suc i) ts)
     (part_to_from test e step (suc i) ts j x u p f (omega arith) h)
 
 -- the same of the paths below a tree
 below_to_part : (test : Bool → Tree → Bool) (t : Tree) (q : List Step) → IsOneOf q (paths_below test t)
-    → (step : Step) × (u : Tree) × (p : List Step) × (q ≡ step ∷ p) × (part_at t step ≡ Some u) × IsOneOf p (with_own (test (is_structs t) u) (paths_below test u))
-below_to_part test (struct words ts) q h = let r = from_to_part test false Ptr 0 ts q h in (Ptr r.0, r.1, r.2, r.3 ∙ ap (λ x. Ptr x ∷ r.2) (omega arith), r.4, r.5)
-below_to_part test (pointers ts) q h = let r = from_to_part test false Item 0 ts q h in (Item r.0, r.1, r.2, r.3 ∙ ap (λ x. Item x ∷ r.2) (omega arith), r.4, r.5)
-below_to_part test (structs d ps es) q h = let r = from_to_part test true Item 0 es q h in (Item r.0, r.1, r.2, r.3 ∙ ap (λ x. Item x ∷ r.2) (omega arith), r.4, r.5)
+    → (step : Step) × (u : Tree) × (p : List Step) × (q ≡ step ∷ p) × (part_at t step ≡ Some u)
+    × IsOneOf p (with_own (test (is_structs t) u) (paths_below test u))
+below_to_part test (struct words ts) q h = let r = from_to_part test false Ptr 0 ts q h in
+    (Ptr r.0, r.1, r.2, r.3 ∙ ap (λ x. Ptr x ∷ r.2) (omega arith), r.4, r.5)
+below_to_part test (pointers ts) q h = let r = from_to_part test false Item 0 ts q h in
+    (Item r.0, r.1, r.2, r.3 ∙ ap (λ x. Item x ∷ r.2) (omega arith), r.4, r.5)
+below_to_part test (structs d ps es) q h = let r = from_to_part test true Item 0 es q h in
+    (Item r.0, r.1, r.2, r.3 ∙ ap (λ x. Item x ∷ r.2) (omega arith), r.4, r.5)
 below_to_part test t q h = absurd h
 
-part_to_below : (test : Bool → Tree → Bool) (t : Tree) (step : Step) (u : Tree) (p : List Step) → part_at t step ≡ Some u
+part_to_below : (test : Bool → Tree → Bool) (t : Tree) (step : Step) (u : Tree) (p : List Step)
+    → part_at t step ≡ Some u
     → IsOneOf p (with_own (test (is_structs t) u) (paths_below test u)) → IsOneOf (step ∷ p) (paths_below test t)
 part_to_below test (struct words ts) (Ptr i) u p f h = part_to_from test false Ptr 0 ts i i u p f (omega arith) h
 part_to_below test (pointers ts) (Item i) u p f h = part_to_from test false Item 0 ts i i u p f (omega arith) h
@@ -126,7 +147,8 @@ empty_not_below : (test : Bool → Tree → Bool) (t : Tree) → IsOneOf [] (pat
 empty_not_below test t h = let r = below_to_part test t [] h in absurd (cc r.3)
 
 -- The listed paths are those to the nodes that the test wants,
-pub listed_wanted : (test : Bool → Tree → Bool) (e : Bool) (t : Tree) (q : List Step) → IsOneOf q (with_own (test e t) (paths_below test t)) → Wants test e t q
+pub listed_wanted : (test : Bool → Tree → Bool) (e : Bool) (t : Tree) (q : List Step)
+    → IsOneOf q (with_own (test e t) (paths_below test t)) → Wants test e t q
 listed_wanted test e t [] h = go (test e t) h
   where
     go : (b : Bool) → IsOneOf [] (with_own b (paths_below test t)) → b ≡ true
@@ -138,25 +160,32 @@ listed_wanted test e t (step ∷ path) h =
     let y : path ≡ r.2 = cc r.3 in (
       r.1,
       subst (λ (z : Step). part_at t z ≡ Some r.1) (sym x) r.4,
-      listed_wanted test (is_structs t) r.1 path (subst (λ (z : List Step). IsOneOf z (with_own (test (is_structs t) r.1) (paths_below test r.1))) (sym y) r.5),
+      listed_wanted test (is_structs t) r.1 path
+          (subst (λ (z : List Step). IsOneOf z (with_own (test (is_structs t) r.1)
+          (paths_below test r.1))) (sym y) r.5),
     )
   where
-    go : (b : Bool) → IsOneOf (step ∷ path) (with_own b (paths_below test t)) → IsOneOf (step ∷ path) (paths_below test t)
+    go : (b : Bool) → IsOneOf (step ∷ path) (with_own b (paths_below test t))
+        → IsOneOf (step ∷ path) (paths_below test t)
     go true (inl g) = absurd (cc g)
     go true (inr g) = g
     go false g = g
 
 -- and each path to such a node is listed.
-pub wanted_listed : (test : Bool → Tree → Bool) (e : Bool) (t : Tree) (q : List Step) → Wants test e t q → IsOneOf q (with_own (test e t) (paths_below test t))
+pub wanted_listed : (test : Bool → Tree → Bool) (e : Bool) (t : Tree) (q : List Step) → Wants test e t q
+    → IsOneOf q (with_own (test e t) (paths_below test t))
 wanted_listed test e t [] h = subst (λ (b : Bool). IsOneOf [] (with_own b (paths_below test t))) (sym h) (inl refl)
-wanted_listed test e t (step ∷ path) h = go (test e t) (part_to_below test t step h.0 path h.1 (wanted_listed test (is_structs t) h.0 path h.2))
+wanted_listed test e t (step ∷ path) h =
+    go (test e t) (part_to_below test t step h.0 path h.1 (wanted_listed test (is_structs t) h.0 path h.2))
   where
-    go : (b : Bool) → IsOneOf (step ∷ path) (paths_below test t) → IsOneOf (step ∷ path) (with_own b (paths_below test t))
+    go : (b : Bool) → IsOneOf (step ∷ path) (paths_below test t)
+        → IsOneOf (step ∷ path) (with_own b (paths_below test t))
     go true g = inr g
     go false g = g
 
 -- two rising lists joined rise, where each path of the first comes before each of the second
-Rises-append : (xs ys : List (List Step)) → Rises xs → Rises ys → ((x y : List Step) → IsOneOf x xs → IsOneOf y ys → Before x y) → Rises (xs ++ ys)
+Rises-append : (xs ys : List (List Step)) → Rises xs → Rises ys
+    → ((x y : List Step) → IsOneOf x xs → IsOneOf y ys → Before x y) → Rises (xs ++ ys)
 Rises-append [] ys g h k = h
 Rises-append (x ∷ []) [] g h k = tt
 Rises-append (x ∷ []) (y ∷ ys) g h k = (k x y (inl refl) (inl refl), h)
@@ -169,22 +198,31 @@ Rises-behind step (p ∷ []) h = tt
 Rises-behind step (p ∷ q ∷ ps) h = (inr (refl, h.0), Rises-behind step (q ∷ ps) h.1)
 
 -- and rises with the empty path before it
-Rises-own : (test : Bool → Tree → Bool) (t : Tree) (b : Bool) (ps : List (List Step)) → ps ≡ paths_below test t → Rises ps → Rises (with_own b ps)
+Rises-own : (test : Bool → Tree → Bool) (t : Tree) (b : Bool) (ps : List (List Step)) → ps ≡ paths_below test t
+    → Rises ps → Rises (with_own b ps)
 Rises-own test t false ps e h = h
 Rises-own test t true [] e h = tt
-Rises-own test t true (p ∷ ps) e h = (first p (below_to_part test t p (subst (λ (x : List (List Step)). IsOneOf p x) e (inl refl))), h)
+Rises-own test t true (p ∷ ps) e h = (
+  first p
+      (below_to_part test t p (subst (λ (x : List (List Step)). IsOneOf p x) e (inl refl))),
+  h,
+)
   where
-    first : (q : List Step) → (step : Step) × (u : Tree) × (r : List Step) × (q ≡ step ∷ r) × (part_at t step ≡ Some u) × IsOneOf r (with_own (test (is_structs t) u) (paths_below test u)) → Before [] q
+    first : (q : List Step) → (step : Step) × (u : Tree) × (r : List Step) × (q ≡ step ∷ r) × (part_at t step ≡ Some u)
+        × IsOneOf r (with_own (test (is_structs t) u) (paths_below test u)) → Before [] q
     first q r = subst (λ (x : List Step). Before [] x) (sym r.3) tt
 
 -- a path into one part comes before those into later parts
-steps_before : (test : Bool → Tree → Bool) (e : Bool) (step : ℕ → Step) → ((i : ℕ) → number_of (step i) ≡ i) → (i : ℕ) (t : Tree) (ts : Trees) (x y : List Step)
-    → IsOneOf x (behind (step i) (with_own (test e t) (paths_below test t))) → IsOneOf y (paths_from test e step (suc i) ts) → Before x y
+steps_before : (test : Bool → Tree → Bool) (e : Bool) (step : ℕ → Step) → ((i : ℕ) → number_of (step i) ≡ i)
+    → (i : ℕ) (t : Tree) (ts : Trees) (x y : List Step)
+    → IsOneOf x (behind (step i) (with_own (test e t) (paths_below test t)))
+    → IsOneOf y (paths_from test e step (suc i) ts) → Before x y
 steps_before test e step numbers i t ts x y f g =
     let a = member_behind (step i) x (with_own (test e t) (paths_below test t)) f in
     let b = from_to_part test e step (suc i) ts y g in
     let lt : number_of (step i) < number_of (step (suc i + b.0)) = omega (arith, numbers i, numbers (suc i + b.0)) in
-    subst (λ (z : List Step). Before z y) (sym a.1) (subst (λ (z : List Step). Before (step i ∷ a.0) z) (sym b.3) (inl lt))
+    subst (λ (z : List Step). Before z y) (sym a.1)
+    (subst (λ (z : List Step). Before (step i ∷ a.0) z) (sym b.3) (inl lt))
 
 mutual
   -- The listed paths rise,
@@ -197,11 +235,13 @@ mutual
   below_rises test (structs d p es) = from_rises test true Item (λ i. refl) 0 es
 
   -- where the step to a part has the part's number
-  pub from_rises : (test : Bool → Tree → Bool) (e : Bool) (step : ℕ → Step) → ((i : ℕ) → number_of (step i) ≡ i) → (i : ℕ) (ts : Trees) → Rises (paths_from test e step i ts)
+  pub from_rises : (test : Bool → Tree → Bool) (e : Bool) (step : ℕ → Step) → ((i : ℕ) → number_of (step i) ≡ i)
+      → (i : ℕ) (ts : Trees) → Rises (paths_from test e step i ts)
   from_rises test e step numbers i none = tt
   from_rises test e step numbers i (more t ts) =
       Rises-append (behind (step i) (with_own (test e t) (paths_below test t))) (paths_from test e step (suc i) ts)
-      (Rises-behind (step i) (with_own (test e t) (paths_below test t)) (Rises-own test t (test e t) (paths_below test t) refl (below_rises test t)))
+      (Rises-behind (step i) (with_own (test e t) (paths_below test t))
+      (Rises-own test t (test e t) (paths_below test t) refl (below_rises test t)))
       (from_rises test e step numbers (suc i) ts)
       (λ x y f g. steps_before test e step numbers i t ts x y f g)
 
@@ -228,17 +268,29 @@ mutual
   below_pointers (pointers ts) = from_pointers Item 0 ts
   below_pointers (structs d p es) = from_elements Item 0 es
 
-  from_pointers : (step : ℕ → Step) (i : ℕ) (ts : Trees) → length (paths_from is_pointer false step i ts) ≡ tree_count ts + child_counts ts
+  from_pointers : (step : ℕ → Step) (i : ℕ) (ts : Trees)
+      → length (paths_from is_pointer false step i ts) ≡ tree_count ts + child_counts ts
   from_pointers step i none = refl
   from_pointers step i (more t ts) =
       length-append (behind (step i) ([] ∷ paths_below is_pointer t)) (paths_from is_pointer false step (suc i) ts)
-      ∙ omega (arith, length-behind (step i) ([] ∷ paths_below is_pointer t), below_pointers t, from_pointers step (suc i) ts)
+      ∙ omega (
+        arith,
+        length-behind (step i) ([] ∷ paths_below is_pointer t),
+        below_pointers t,
+        from_pointers step (suc i) ts,
+      )
 
-  from_elements : (step : ℕ → Step) (i : ℕ) (es : Trees) → length (paths_from is_pointer true step i es) ≡ child_counts es
+  from_elements : (step : ℕ → Step) (i : ℕ) (es : Trees)
+      → length (paths_from is_pointer true step i es) ≡ child_counts es
   from_elements step i none = refl
   from_elements step i (more t ts) =
       length-append (behind (step i) (paths_below is_pointer t)) (paths_from is_pointer true step (suc i) ts)
-      ∙ omega (arith, length-behind (step i) (paths_below is_pointer t), below_pointers t, from_elements step (suc i) ts)
+      ∙ omega (
+        arith,
+        length-behind (step i) (paths_below is_pointer t),
+        below_pointers t,
+        from_elements step (suc i) ts,
+      )
 
 -- The pointers of a tree are as many as the paths to nodes that aren't elements.
 pub pointers_listed : (t : Tree) → length (with_own true (paths_below is_pointer t)) ≡ 1 + child_count t
@@ -262,8 +314,15 @@ mutual
   caps_listed e (pointers ts) = from_caps false Item 0 ts
   caps_listed e (structs d p es) = from_caps true Item 0 es
 
-  pub from_caps : (e : Bool) (step : ℕ → Step) (i : ℕ) (ts : Trees) → length (paths_from wants_cap e step i ts) ≡ cap_counts ts
+  pub from_caps : (e : Bool) (step : ℕ → Step) (i : ℕ) (ts : Trees)
+      → length (paths_from wants_cap e step i ts) ≡ cap_counts ts
   from_caps e step i none = refl
   from_caps e step i (more t ts) =
-      length-append (behind (step i) (with_own (is_cap t) (paths_below wants_cap t))) (paths_from wants_cap e step (suc i) ts)
-      ∙ omega (arith, length-behind (step i) (with_own (is_cap t) (paths_below wants_cap t)), caps_listed e t, from_caps e step (suc i) ts)
+      length-append (behind (step i) (with_own (is_cap t) (paths_below wants_cap t)))
+      (paths_from wants_cap e step (suc i) ts)
+      ∙ omega (
+        arith,
+        length-behind (step i) (with_own (is_cap t) (paths_below wants_cap t)),
+        caps_listed e t,
+        from_caps e step (suc i) ts,
+      )

@@ -1,5 +1,6 @@
 -- The steps of a path are read back from its text.
-use Rattle.std.proofs.Common.{◌≡◌, inl, inr, ℕ, zero, suc, ◌+◌, ◌<◌, ◌≤◌, ◌^◌, ◌%◌, List, [], ◌∷◌, ◌++◌, codes, decimal, get_or, length, take, refl, ap, arith}
+use Rattle.std.proofs.Common.{◌≡◌, inl, inr, ℕ, zero, suc, ◌+◌, ◌<◌, ◌≤◌, ◌^◌, ◌%◌, List, [], ◌∷◌, ◌++◌, codes, decimal}
+use Rattle.std.proofs.Common.{get_or, length, take, refl, ap, arith}
 use Rattle.std.specs.List.{flat_map, AllByRecursion}
 use Rattle.std.proofs.lemmas.Bool.Decides.{leb_tells}
 use Rattle.std.proofs.lemmas.Fmt.{decimal_by_steps, decimal_injective}
@@ -23,7 +24,8 @@ EndsNumber [] = Unit {0}
 EndsNumber (b ∷ bs) = b ≡ 47
 
 -- digits and what stands behind them, told apart
-one_number : (xs ys r s : List ℕ) → AllByRecursion IsDigit xs → AllByRecursion IsDigit ys → EndsNumber r → EndsNumber s → xs ++ r ≡ ys ++ s → (xs ≡ ys) × (r ≡ s)
+one_number : (xs ys r s : List ℕ) → AllByRecursion IsDigit xs → AllByRecursion IsDigit ys → EndsNumber r → EndsNumber s
+    → xs ++ r ≡ ys ++ s → (xs ≡ ys) × (r ≡ s)
 one_number [] [] r s a b p q e = (refl, e)
 one_number [] (y ∷ ys) [] s a b p q e = absurd (cc)
 one_number [] (y ∷ ys) (c ∷ r) s a b p q e = let f : c ≡ y = cc in absurd (omega (arith, f, p, b.0.0))
@@ -42,21 +44,26 @@ ends_number (Ptr i ∷ steps) = refl
 ends_number (Item i ∷ steps) = refl
 
 -- two texts of steps, one after the other
-one_numbered : (i j : ℕ) (xs ys : List Step) → i < 2 ^ 64 → j < 2 ^ 64 → decimal i ++ flat_map step_text xs ≡ decimal j ++ flat_map step_text ys
+one_numbered : (i j : ℕ) (xs ys : List Step) → i < 2 ^ 64 → j < 2 ^ 64
+    → decimal i ++ flat_map step_text xs ≡ decimal j ++ flat_map step_text ys
     → (i ≡ j) × (flat_map step_text xs ≡ flat_map step_text ys)
 one_numbered i j xs ys hi hj e =
-    let both = one_number (decimal i) (decimal j) (flat_map step_text xs) (flat_map step_text ys) (all_digits i hi) (all_digits j hj) (ends_number xs) (ends_number ys) e in
+    let both = one_number (decimal i) (decimal j) (flat_map step_text xs) (flat_map step_text ys) (all_digits i hi)
+    (all_digits j hj) (ends_number xs) (ends_number ys) e in
     (decimal_injective i j hi hj both.0, both.1)
 
 -- the number of the step at the front, and the texts behind it
-ptr_front : (i j : ℕ) (xs ys : List Step) → flat_map step_text (Ptr i ∷ xs) ≡ flat_map step_text (Ptr j ∷ ys) → decimal i ++ flat_map step_text xs ≡ decimal j ++ flat_map step_text ys
+ptr_front : (i j : ℕ) (xs ys : List Step) → flat_map step_text (Ptr i ∷ xs) ≡ flat_map step_text (Ptr j ∷ ys)
+    → decimal i ++ flat_map step_text xs ≡ decimal j ++ flat_map step_text ys
 ptr_front i j xs ys e = cc
 
-item_front : (i j : ℕ) (xs ys : List Step) → flat_map step_text (Item i ∷ xs) ≡ flat_map step_text (Item j ∷ ys) → decimal i ++ flat_map step_text xs ≡ decimal j ++ flat_map step_text ys
+item_front : (i j : ℕ) (xs ys : List Step) → flat_map step_text (Item i ∷ xs) ≡ flat_map step_text (Item j ∷ ys)
+    → decimal i ++ flat_map step_text xs ≡ decimal j ++ flat_map step_text ys
 item_front i j xs ys e = cc
 
 -- steps are read back from their texts
-pub one_steps : (xs ys : List Step) → AllByRecursion IsStep xs → AllByRecursion IsStep ys → flat_map step_text xs ≡ flat_map step_text ys → xs ≡ ys
+pub one_steps : (xs ys : List Step) → AllByRecursion IsStep xs → AllByRecursion IsStep ys
+    → flat_map step_text xs ≡ flat_map step_text ys → xs ≡ ys
 one_steps [] [] a b e = refl
 one_steps [] (Ptr j ∷ ys) a b e = absurd (cc)
 one_steps [] (Item j ∷ ys) a b e = absurd (cc)
@@ -74,7 +81,8 @@ one_steps (Item i ∷ xs) (Item j ∷ ys) a b e =
     let rest = one_steps xs ys a.1 b.1 both.1 in cc
 
 -- a path is read back from its text
-pub one_path_text : (xs ys : List Step) → AllByRecursion IsStep xs → AllByRecursion IsStep ys → path_text xs ≡ path_text ys → xs ≡ ys
+pub one_path_text : (xs ys : List Step) → AllByRecursion IsStep xs → AllByRecursion IsStep ys
+    → path_text xs ≡ path_text ys → xs ≡ ys
 one_path_text [] [] a b e = refl
 one_path_text [] (Ptr j ∷ ys) a b e = absurd (cc)
 one_path_text [] (Item j ∷ ys) a b e = absurd (cc)
@@ -90,11 +98,13 @@ one_bad_place text at at' p q =
     omega (arith, le, ge)
 
 -- where it is bad at no place, none of its beginnings that are so long begins a path
-none_from : (text : List ℕ) → (IsPath text → ⊥) → ((at : ℕ) → IsBadAt text at → ⊥) → (k n : ℕ) → n ≤ length text → length text ≤ n + k → BeginsPath (take n text) → ⊥
+none_from : (text : List ℕ) → (IsPath text → ⊥) → ((at : ℕ) → IsBadAt text at → ⊥) → (k n : ℕ) → n ≤ length text
+    → length text ≤ n + k → BeginsPath (take n text) → ⊥
 none_from text none nowhere zero n few long p =
     nowhere n (record { none = none; within = few; begins = p; longest = λ n' less q. omega (arith, less, long) })
 none_from text none nowhere (suc k) n few long p =
-    let longest : (n' : ℕ) → n' ≤ length text → BeginsPath (take n' text) → n' ≤ n = λ n' less q. elim (leb_tells n' n) [
+    let longest : (n' : ℕ) → n' ≤ length text → BeginsPath (take n' text)
+    → n' ≤ n = λ n' less q. elim (leb_tells n' n) [
       | inl le ↦ le.1
       | inr over ↦ let more = over.1 in absurd (none_from text none nowhere k n' less (omega (arith, more, long)) q)
     ] in
@@ -103,7 +113,8 @@ none_from text none nowhere (suc k) n few long p =
 -- so it is bad somewhere
 pub bad_somewhere : (text : List ℕ) → (IsPath text → ⊥) → ((at : ℕ) → IsBadAt text at → ⊥) → ⊥
 bad_somewhere text none nowhere =
-    none_from text none nowhere (length text) 0 (omega arith) (omega arith) (record { steps = []; are = tt; rest = codes "/"; whole = refl })
+    none_from text none nowhere (length text) 0 (omega arith) (omega arith)
+    (record { steps = []; are = tt; rest = codes "/"; whole = refl })
 
 -- a text of a path is bad nowhere
 pub path_not_bad : (text : List ℕ) (at : ℕ) → IsPath text → IsBadAt text at → ⊥

@@ -1,6 +1,7 @@
 -- Preorder is a strict total order on the paths of one message, and a tour is one list.
 use Rattle.std.proofs.Common.{ℕ, ◌<◌, List, [], ◌∷◌, ◌++◌, ◌≡◌, ◌≢◌, ◌⊎◌, sym, ap, refl, subst, ◌∙◌, arith, inl, inr}
-use Rattle.cap_spec.specs.Paths.{Spot, Goes, Walks, Comes, Reaches, word, number_of, Before, Rises, IsOneOf, IsTour, IsFirstCap}
+use Rattle.cap_spec.specs.Paths.{Spot, Goes, Walks, Comes, Reaches, word, number_of, Before}
+use Rattle.cap_spec.specs.Paths.{Rises, IsOneOf, IsTour, IsFirstCap}
 use Rattle.cap_spec.specs.Verdicts.{IsNoneOf, AreDistinct}
 use Rattle.cap_spec.specs.declared.Step.{Step}
 use Rattle.cap_spec.specs.declared.Step.TheVariants.{Ptr, Item}
@@ -32,7 +33,8 @@ Before-longer [] step q = tt
 Before-longer (x ∷ xs) step q = inr (refl, Before-longer xs step q)
 
 -- steps from one spot that have one number are one step
-pub same_number : (m : List (List ℕ)) (a : Spot) (x y : Step) (b c : Spot) → Goes m a x b → Goes m a y c → number_of x ≡ number_of y → x ≡ y
+pub same_number : (m : List (List ℕ)) (a : Spot) (x y : Step) (b c : Spot) → Goes m a x b → Goes m a y c
+    → number_of x ≡ number_of y → x ≡ y
 same_number m a (Ptr i) (Ptr j) b c g h e = ap Ptr e
 same_number m a (Ptr i) (Item j) b c g h e = absurd (one_kind_of_step m a i j b c g h)
 same_number m a (Item i) (Ptr j) b c g h e = absurd (one_kind_of_step m a j i c b h g)
@@ -43,19 +45,22 @@ three_ways : (x y : ℕ) → (x ≡ y) ⊎ (x < y) ⊎ (y < x)
 three_ways x y = grind arith
 
 -- of two paths that lead somewhere from one spot, they are one, or one comes before the other
-pub Before-total : (m : List (List ℕ)) (a : Spot) (p q : List Step) (n n' : ℕ) (b c : Spot) → Walks m a p n b → Walks m a q n' c → (p ≡ q) ⊎ Before p q ⊎ Before q p
+pub Before-total : (m : List (List ℕ)) (a : Spot) (p q : List Step) (n n' : ℕ) (b c : Spot) → Walks m a p n b
+    → Walks m a q n' c → (p ≡ q) ⊎ Before p q ⊎ Before q p
 Before-total m a [] [] n n' b c g h = inl refl
 Before-total m a [] (y ∷ q) n n' b c g h = inr (inl tt)
 Before-total m a (x ∷ p) [] n n' b c g h = inr (inr tt)
 Before-total m a (x ∷ p) (y ∷ q) n n' b c g h =
-    go (λ k. Before-total m h.0 p q g.1 h.1 b c (subst (λ (z : Spot). Walks m z p g.1 b) k g.3) h.3) (three_ways (number_of x) (number_of y))
+    go (λ k. Before-total m h.0 p q g.1 h.1 b c (subst (λ (z : Spot). Walks m z p g.1 b) k g.3) h.3)
+    (three_ways (number_of x) (number_of y))
   where
     one : x ≡ y → (p ≡ q) ⊎ Before p q ⊎ Before q p → (x ∷ p ≡ y ∷ q) ⊎ Before (x ∷ p) (y ∷ q) ⊎ Before (y ∷ q) (x ∷ p)
     one e (inl f) = inl cc
     one e (inr (inl f)) = inr (inl (inr (e, f)))
     one e (inr (inr f)) = inr (inr (inr (sym e, f)))
 
-    go : (g.0 ≡ h.0 → (p ≡ q) ⊎ Before p q ⊎ Before q p) → (number_of x ≡ number_of y) ⊎ (number_of x < number_of y) ⊎ (number_of y < number_of x)
+    go : (g.0 ≡ h.0 → (p ≡ q) ⊎ Before p q ⊎ Before q p)
+        → (number_of x ≡ number_of y) ⊎ (number_of x < number_of y) ⊎ (number_of y < number_of x)
         → (x ∷ p ≡ y ∷ q) ⊎ Before (x ∷ p) (y ∷ q) ⊎ Before (y ∷ q) (x ∷ p)
     go r (inl e) =
         let f : x ≡ y = same_number m a x y g.0 h.0 g.2 h.2 e in
@@ -64,7 +69,8 @@ Before-total m a (x ∷ p) (y ∷ q) n n' b c g h =
     go r (inr (inr e)) = inr (inr (inl e))
 
 -- so it is of two paths that come to spots of one message
-pub Before-total_coming : (m : List (List ℕ)) (p q : List Step) (l l' : ℕ) (b c : Spot) → Comes m p l b → Comes m q l' c → (p ≡ q) ⊎ Before p q ⊎ Before q p
+pub Before-total_coming : (m : List (List ℕ)) (p q : List Step) (l l' : ℕ) (b c : Spot) → Comes m p l b → Comes m q l' c
+    → (p ≡ q) ⊎ Before p q ⊎ Before q p
 Before-total_coming m p q l l' b c g h = Before-total m (word 0 0) p q g.1 h.1 b c g.3 h.3
 
 -- the first of a rising list comes before the others
@@ -79,7 +85,8 @@ Rises-rest p [] h = tt
 Rises-rest p (x ∷ xs) h = h.1
 
 -- two rising lists of the same paths are one
-pub Rises-same : (ps qs : List (List Step)) → Rises ps → Rises qs → ((x : List Step) → IsOneOf x ps → IsOneOf x qs) → ((x : List Step) → IsOneOf x qs → IsOneOf x ps) → ps ≡ qs
+pub Rises-same : (ps qs : List (List Step)) → Rises ps → Rises qs → ((x : List Step) → IsOneOf x ps → IsOneOf x qs)
+    → ((x : List Step) → IsOneOf x qs → IsOneOf x ps) → ps ≡ qs
 Rises-same [] [] g h to from = refl
 Rises-same [] (q ∷ qs) g h to from = absurd (from q (inl refl))
 Rises-same (p ∷ ps) [] g h to from = absurd (to p (inl refl))
@@ -94,22 +101,29 @@ Rises-same (p ∷ ps) (q ∷ qs) g h to from =
     first (inr e) (inl i) = sym i
     first (inr e) (inr i) = absurd (Before-asymmetric p q (Rises-first p ps q g i) (Rises-first q qs p h e))
 
-    rest : (y : List Step) (ys : List (List Step)) (z : List Step) (zs : List (List Step)) (x : List Step) → Rises (y ∷ ys) → y ≡ z → IsOneOf x ys
+    rest : (y : List Step) (ys : List (List Step)) (z : List Step) (zs : List (List Step)) (x : List Step)
+        → Rises (y ∷ ys) → y ≡ z → IsOneOf x ys
         → (x ≡ z) ⊎ IsOneOf x zs → IsOneOf x zs
-    rest y ys z zs x k e i (inl f) = absurd (Before-irreflexive y (subst (λ (v : List Step). Before y v) (f ∙ sym e) (Rises-first y ys x k i)))
+    rest y ys z zs x k e i (inl f) = absurd (Before-irreflexive y
+        (subst (λ (v : List Step). Before y v) (f ∙ sym e) (Rises-first y ys x k i)))
     rest y ys z zs x k e i (inr f) = f
 
 -- no path is twice in a rising list
 pub Rises-distinct : (ps : List (List Step)) → Rises ps → AreDistinct ps
 Rises-distinct [] h = tt
-Rises-distinct (p ∷ ps) h = (none_of ps (λ q i e. Before-irreflexive p (subst (λ (v : List Step). Before p v) (sym e) (Rises-first p ps q h i))), Rises-distinct ps (Rises-rest p ps h))
+Rises-distinct (p ∷ ps) h = (
+  none_of ps
+      (λ q i e. Before-irreflexive p (subst (λ (v : List Step). Before p v) (sym e) (Rises-first p ps q h i))),
+  Rises-distinct ps (Rises-rest p ps h),
+)
   where
     none_of : (qs : List (List Step)) → ((q : List Step) → IsOneOf q qs → p ≢ q) → IsNoneOf p qs
     none_of [] k = tt
     none_of (q ∷ qs) k = (k q (inl refl), none_of qs (λ r i. k r (inr i)))
 
 -- the tour up to a path is one list
-pub one_tour : (m : List (List ℕ)) (p : List Step) (tour tour' : List (List Step)) → IsTour m p tour → IsTour m p tour' → tour ≡ tour'
+pub one_tour : (m : List (List ℕ)) (p : List Step) (tour tour' : List (List Step)) → IsTour m p tour
+    → IsTour m p tour' → tour ≡ tour'
 one_tour m p tour tour' g h =
     Rises-same tour tour' g.rising h.rising
     (λ q i. let r = g.reached q i in h.all q r.0 r.1 r.2 r.3 (g.none_after q i))
@@ -117,10 +131,12 @@ one_tour m p tour tour' g h =
 
 -- the first capability in preorder is one pointer word
 pub one_first_cap : (m : List (List ℕ)) (s w s' w' : ℕ) → IsFirstCap m s w → IsFirstCap m s' w' → (s ≡ s') × (w ≡ w')
-one_first_cap m s w s' w' g h = go (Before-total_coming m g.path h.path g.level h.level (word s w) (word s' w') g.reached h.reached)
+one_first_cap m s w s' w' g h = go (Before-total_coming m g.path h.path g.level h.level (word s w) (word s' w')
+    g.reached h.reached)
   where
     go : (g.path ≡ h.path) ⊎ Before g.path h.path ⊎ Before h.path g.path → (s ≡ s') × (w ≡ w')
     go (inl e) =
-        let r = one_reached m h.path g.level h.level s w s' w' (subst (λ (v : List Step). Reaches m v g.level s w) e g.reached) h.reached in (r.1, r.2)
+        let r = one_reached m h.path g.level h.level s w s' w'
+        (subst (λ (v : List Step). Reaches m v g.level s w) e g.reached) h.reached in (r.1, r.2)
     go (inr (inl b)) = absurd (h.first g.path g.level s w g.k g.index b g.reached g.leads)
     go (inr (inr b)) = absurd (g.first h.path h.level s' w' h.k h.index b h.reached h.leads)

@@ -1,11 +1,14 @@
 -- The conditions of the reasons at a word, and their order.
-use Rattle.std.proofs.Common.{if◌then◌else◌, ◌==◌, ◌≡◌, ◌≢◌, ℕ, ◌+◌, ◌<◌, ◌≤◌, inl, inr, List, length, refl, sym, ap, ◌∙◌, subst, arith}
+use Rattle.std.proofs.Common.{if◌then◌else◌, ◌==◌, ◌≡◌, ◌≢◌, ℕ, ◌+◌, ◌<◌, ◌≤◌, inl, inr, List, length}
+use Rattle.std.proofs.Common.{refl, sym, ap, ◌∙◌, subst, arith}
 use Rattle.std.proofs.lemmas.Bool.{cases_lt}
 use Rattle.cap_spec.specs.Messages.{HasWord, segment_of}
 use Rattle.cap_spec.specs.Pointers.{kind, middle, two, pad, far_segment, IsFar, IsReserved}
 use Rattle.cap_spec.specs.Following.{IsOnePad, IsTwoPad, Condition, rank}
 use Rattle.cap_spec.specs.declared.Reason.{Reason}
-use Rattle.cap_spec.specs.declared.Reason.TheVariants.{NoRoot, Reserved, SegmentMissing, PadOutside, PadIsFar, PadNotFar, TagKind, TagOffset, OutOfSegment, CompositeTag, CompositeOverrun, DepthLimit, WordLimit}
+use Rattle.cap_spec.specs.declared.Reason.TheVariants.{NoRoot, Reserved, SegmentMissing, PadOutside, PadIsFar}
+use Rattle.cap_spec.specs.declared.Reason.TheVariants.{PadNotFar, TagKind, TagOffset, OutOfSegment, CompositeTag}
+use Rattle.cap_spec.specs.declared.Reason.TheVariants.{CompositeOverrun, DepthLimit, WordLimit}
 use Rattle.cap_spec.proofs.Frames.Messages.{one_word, HasWord-inside, HasWord-segment, at_word}
 
 -- Which conditions don't hold, by the form of the word. It isn't far:
@@ -37,7 +40,8 @@ module _ (m : List (List ℕ)) (s w p : ℕ) (h : HasWord m s w p) (not_far : ki
 
 -- it is far, and the segment of its pad is missing, or the pad is outside of it:
 module _ (m : List (List ℕ)) (s w p : ℕ) (h : HasWord m s w p) (far : IsFar p) where
-  far-not_reserved : ((x q : ℕ) → HasWord m s w x → IsOnePad x → HasWord m (far_segment x) (pad x) q → ⊥) → ¬ Condition m s w Reserved
+  far-not_reserved : ((x q : ℕ) → HasWord m s w x → IsOnePad x → HasWord m (far_segment x) (pad x) q → ⊥)
+      → ¬ Condition m s w Reserved
   far-not_reserved n (x, hx, inl r) =
       let k : kind p ≡ 3 = (at_word IsReserved m s w x p hx h r).0 in
       absurd (omega arith)
@@ -57,10 +61,12 @@ module _ (m : List (List ℕ)) (s w p : ℕ) (h : HasWord m s w p) (far : IsFar 
       let e : x ≡ p = one_word m s w x p hx h in
       let t : two p ≡ 0 = subst (λ y. two y ≡ 0) e one.1 in
       let i : pad x < length (segment_of m (far_segment x)) = HasWord-inside m (far_segment x) (pad x) q hq in
-      let j : pad p < length (segment_of m (far_segment p)) = subst (λ y. pad y < length (segment_of m (far_segment y))) e i in
+      let j : pad p < length (segment_of m (far_segment p)) =
+      subst (λ y. pad y < length (segment_of m (far_segment y))) e i in
       absurd (omega arith))
 
-  pub outside-not_missing : far_segment p < length m → length (segment_of m (far_segment p)) < pad p + (two p + 1) → ¬ Condition m s w SegmentMissing
+  pub outside-not_missing : far_segment p < length m → length (segment_of m (far_segment p)) < pad p + (two p + 1)
+      → ¬ Condition m s w SegmentMissing
   outside-not_missing exists past (x, hx, f, inl missing) =
       let e : x ≡ p = one_word m s w x p hx h in
       let j : length m ≤ far_segment p = subst (λ y. length m ≤ far_segment y) e missing in
@@ -68,12 +74,14 @@ module _ (m : List (List ℕ)) (s w p : ℕ) (h : HasWord m s w p) (far : IsFar 
   outside-not_missing exists past (x, hx, f, inr (both, u, v, hu, hv, one, missing)) =
       let e : x ≡ p = one_word m s w x p hx h in
       let i : pad x + 1 < length (segment_of m (far_segment x)) = HasWord-inside m (far_segment x) (pad x + 1) v hv in
-      let j : pad p + 1 < length (segment_of m (far_segment p)) = subst (λ y. pad y + 1 < length (segment_of m (far_segment y))) e i in
+      let j : pad p + 1 < length (segment_of m (far_segment p)) =
+      subst (λ y. pad y + 1 < length (segment_of m (far_segment y))) e i in
       let t : two p ≡ 1 = subst (λ y. two y ≡ 1) e both in
       absurd (omega arith)
 
 -- it has a one-word pad inside its segment:
-module _ (m : List (List ℕ)) (s w p q : ℕ) (h : HasWord m s w p) (one : IsOnePad p) (hq : HasWord m (far_segment p) (pad p) q) where
+module _ (m : List (List ℕ)) (s w p q : ℕ) (h : HasWord m s w p) (one : IsOnePad p)
+    (hq : HasWord m (far_segment p) (pad p) q) where
   one-same : (x y : ℕ) → HasWord m s w x → HasWord m (far_segment x) (pad x) y → y ≡ q
   one-same x y hx hy =
       let e : x ≡ p = one_word m s w x p hx h in
@@ -102,7 +110,8 @@ module _ (m : List (List ℕ)) (s w p q : ℕ) (h : HasWord m s w p) (one : IsOn
 
   pub one-not_outside : ¬ Condition m s w PadOutside
   one-not_outside (x, hx, f, past) =
-      let j : length (segment_of m (far_segment p)) < pad p + (two p + 1) = at_word (λ y. length (segment_of m (far_segment y)) < pad y + (two y + 1)) m s w x p hx h past.1 in
+      let j : length (segment_of m (far_segment p)) < pad p + (two p + 1) =
+      at_word (λ y. length (segment_of m (far_segment y)) < pad y + (two y + 1)) m s w x p hx h past.1 in
       let i : pad p < length (segment_of m (far_segment p)) = HasWord-inside m (far_segment p) (pad p) q hq in
       let z : two p ≡ 0 = one.1 in
       absurd (omega arith)
@@ -120,7 +129,8 @@ module _ (m : List (List ℕ)) (s w p q : ℕ) (h : HasWord m s w p) (one : IsOn
   one-not_tag_offset (x, f, y, hx, both, hf, hy, n) = one-not_two x hx both.1
 
 -- it has a two-word pad inside its segment:
-module _ (m : List (List ℕ)) (s w p f q : ℕ) (h : HasWord m s w p) (both : IsTwoPad p) (hf : HasWord m (far_segment p) (pad p) f) (hq : HasWord m (far_segment p) (pad p + 1) q) where
+module _ (m : List (List ℕ)) (s w p f q : ℕ) (h : HasWord m s w p) (both : IsTwoPad p)
+    (hf : HasWord m (far_segment p) (pad p) f) (hq : HasWord m (far_segment p) (pad p + 1) q) where
   two-same_far : (x y : ℕ) → HasWord m s w x → HasWord m (far_segment x) (pad x) y → y ≡ f
   two-same_far x y hx hy =
       let e : x ≡ p = one_word m s w x p hx h in
@@ -159,7 +169,8 @@ module _ (m : List (List ℕ)) (s w p f q : ℕ) (h : HasWord m s w p) (both : I
 
   pub two-not_outside : ¬ Condition m s w PadOutside
   two-not_outside (x, hx, far, past) =
-      let j : length (segment_of m (far_segment p)) < pad p + (two p + 1) = at_word (λ y. length (segment_of m (far_segment y)) < pad y + (two y + 1)) m s w x p hx h past.1 in
+      let j : length (segment_of m (far_segment p)) < pad p + (two p + 1) =
+      at_word (λ y. length (segment_of m (far_segment y)) < pad y + (two y + 1)) m s w x p hx h past.1 in
       let i : pad p + 1 < length (segment_of m (far_segment p)) = HasWord-inside m (far_segment p) (pad p + 1) q hq in
       let z : two p ≡ 1 = both.1 in
       absurd (omega arith)
@@ -176,14 +187,18 @@ module _ (m : List (List ℕ)) (s w p f q : ℕ) (h : HasWord m s w p) (both : I
       absurd (omega arith)
 
   pub two-not_tag_offset : middle q ≡ 0 → ¬ Condition m s w TagOffset
-  two-not_tag_offset none (x, u, v, hx, t, hu, hv, n) = n (subst (λ y. middle y ≡ 0) (sym (two-same_tag x v hx hv)) none)
+  two-not_tag_offset none (x, u, v, hx, t, hu, hv, n) =
+      n (subst (λ y. middle y ≡ 0) (sym (two-same_tag x v hx hv)) none)
 
 -- a reason is known by its place in the order
 abbrev reason_at : ℕ → Reason
 reason_at n =
-    if n == 1 then NoRoot else (if n == 2 then Reserved else (if n == 3 then SegmentMissing else (if n == 4 then PadOutside else
-    (if n == 5 then PadIsFar else (if n == 6 then PadNotFar else (if n == 7 then TagKind else (if n == 8 then TagOffset else
-    (if n == 9 then OutOfSegment else (if n == 10 then CompositeTag else (if n == 11 then CompositeOverrun else (if n == 12 then DepthLimit else WordLimit)))))))))))
+    if n == 1 then NoRoot else (if n == 2 then Reserved
+    else (if n == 3 then SegmentMissing else (if n == 4 then PadOutside else
+    (if n == 5 then PadIsFar else (if n == 6 then PadNotFar
+    else (if n == 7 then TagKind else (if n == 8 then TagOffset else
+    (if n == 9 then OutOfSegment else (if n == 10 then CompositeTag
+    else (if n == 11 then CompositeOverrun else (if n == 12 then DepthLimit else WordLimit)))))))))))
 
 reason_at-rank : (v : Reason) → reason_at (rank v) ≡ v
 reason_at-rank NoRoot = refl
@@ -213,7 +228,8 @@ none_below_reserved m s w NoRoot lt c = c
 none_below_reserved m s w u lt c = absurd (omega arith)
 
 -- one more condition that doesn't hold
-pub and_not : (m : List (List ℕ)) (s w : ℕ) (v : Reason) → NoneBelow m s w (rank v) → ¬ Condition m s w v → NoneBelow m s w (rank v + 1)
+pub and_not : (m : List (List ℕ)) (s w : ℕ) (v : Reason) → NoneBelow m s w (rank v) → ¬ Condition m s w v
+    → NoneBelow m s w (rank v + 1)
 and_not m s w v below n u lt c =
     elim (cases_lt (rank u) (rank v)) [
       | inl less ↦ below u less c
@@ -221,7 +237,8 @@ and_not m s w v below n u lt c =
     ]
 
 -- With a two-word pad inside its segment, nothing is wrong up to the first word of the pad, or up to its tag.
-module _ (m : List (List ℕ)) (s w p f q : ℕ) (h : HasWord m s w p) (both : IsTwoPad p) (hf : HasWord m (far_segment p) (pad p) f) (hq : HasWord m (far_segment p) (pad p + 1) q) where
+module _ (m : List (List ℕ)) (s w p f q : ℕ) (h : HasWord m s w p) (both : IsTwoPad p)
+    (hf : HasWord m (far_segment p) (pad p) f) (hq : HasWord m (far_segment p) (pad p + 1) q) where
   pub two-none_below_far : (IsOnePad f → far_segment f < length m) → NoneBelow m s w (rank PadNotFar)
   two-none_below_far n =
       let c2 = and_not m s w Reserved (none_below_reserved m s w) (two-not_reserved m s w p f q h both hf hq) in

@@ -1,15 +1,27 @@
--- A pointer word leads to one thing. Either that is null, a capability or an object that sits, or exactly one reason is wrong there.
-use Rattle.std.proofs.Common.{◌≡◌, ◌≢◌, ℕ, ◌+◌, ◌*◌, ◌<◌, ◌≤◌, inl, inr, List, length, ℤ, pos, negsuc, refl, sym, ap, ◌∙◌, subst, arith}
+-- A pointer word leads to one thing. Either that is null, a capability or an object that sits,
+-- or exactly one reason is wrong there.
+use Rattle.std.proofs.Common.{◌≡◌, ◌≢◌, ℕ, ◌+◌, ◌*◌, ◌<◌, ◌≤◌, inl, inr, List, length, ℤ, pos, negsuc}
+use Rattle.std.proofs.Common.{refl, sym, ap, ◌∙◌, subst, arith}
 use Rattle.std.proofs.lemmas.Bool.{cases_lt}
 use Rattle.std.proofs.lemmas.Int.{ints}
 use Rattle.cap_spec.specs.Messages.{HasWord, segment_of}
-use Rattle.cap_spec.specs.Pointers.{kind, middle, two, pad, far_segment, data_size, pointer_size, list_size, extent, IsFar, IsReserved}
-use Rattle.cap_spec.specs.Following.{Lead, to_null, to_cap, to_object, Says, IsOnePad, IsTwoPad, Leads, near, one_pad, two_pads, IsComposite, Outside, Condition, rank, Wrong}
+use Rattle.cap_spec.specs.Pointers.{kind, middle, two, pad, far_segment, data_size, pointer_size}
+use Rattle.cap_spec.specs.Pointers.{list_size, extent, IsFar, IsReserved}
+use Rattle.cap_spec.specs.Following.{Lead, to_null, to_cap, to_object, Says, IsOnePad, IsTwoPad, Leads, near, one_pad}
+use Rattle.cap_spec.specs.Following.{two_pads, IsComposite, Outside, Condition, rank, Wrong}
 use Rattle.cap_spec.specs.Denoting.{Finds}
 use Rattle.cap_spec.specs.declared.Reason.{Reason}
-use Rattle.cap_spec.specs.declared.Reason.TheVariants.{Reserved, SegmentMissing, PadOutside, PadIsFar, PadNotFar, TagKind, TagOffset, OutOfSegment, CompositeTag, CompositeOverrun, DepthLimit, WordLimit}
+use Rattle.cap_spec.specs.declared.Reason.TheVariants.{Reserved, SegmentMissing, PadOutside, PadIsFar, PadNotFar}
+use Rattle.cap_spec.specs.declared.Reason.TheVariants.{TagKind, TagOffset, OutOfSegment, CompositeTag}
+use Rattle.cap_spec.specs.declared.Reason.TheVariants.{CompositeOverrun, DepthLimit, WordLimit}
 use Rattle.cap_spec.proofs.Frames.Messages.{one_word, at_word}
-use Rattle.cap_spec.proofs.Pointers.Conditions.{rank-injective, near-not_reserved, near-not_missing, near-not_outside, near-not_pad_far, near-not_pad_near, near-not_tag_kind, near-not_tag_offset, missing-not_reserved, outside-not_reserved, outside-not_missing, one-not_reserved, one-not_missing, one-not_outside, one-not_pad_far, one-not_pad_near, one-not_tag_kind, one-not_tag_offset, two-not_reserved, two-not_tag_kind, two-not_tag_offset, NoneBelow, none_below_reserved, and_not, two-none_below_far, two-none_below_tag}
+use Rattle.cap_spec.proofs.Pointers.Conditions.{rank-injective, near-not_reserved, near-not_missing, near-not_outside}
+use Rattle.cap_spec.proofs.Pointers.Conditions.{near-not_pad_far, near-not_pad_near, near-not_tag_kind}
+use Rattle.cap_spec.proofs.Pointers.Conditions.{near-not_tag_offset, missing-not_reserved, outside-not_reserved}
+use Rattle.cap_spec.proofs.Pointers.Conditions.{outside-not_missing, one-not_reserved, one-not_missing, one-not_outside}
+use Rattle.cap_spec.proofs.Pointers.Conditions.{one-not_pad_far, one-not_pad_near, one-not_tag_kind, one-not_tag_offset}
+use Rattle.cap_spec.proofs.Pointers.Conditions.{two-not_reserved, two-not_tag_kind, two-not_tag_offset, NoneBelow}
+use Rattle.cap_spec.proofs.Pointers.Conditions.{none_below_reserved, and_not, two-none_below_far, two-none_below_tag}
 
 -- a word by itself says one thing
 Says-unique : (t w q : ℕ) (r r' : Lead) → Says t w q r → Says t w q r' → r ≡ r'
@@ -42,9 +54,11 @@ module _ (m : List (List ℕ)) (s w k : ℕ) (r : Lead) where
   pub leads-near : Leads m s w k r → (p : ℕ) → HasWord m s w p → kind p ≢ 2 → (k ≡ 0) × Says s w p r
   leads-near (near x hx n says e) p h not_far = (e, at_word (λ y. Says s w y r) m s w x p hx h says)
   leads-near (one_pad x q hx one hq n says e) p h not_far = absurd (not_far (at_word IsFar m s w x p hx h one.0))
-  leads-near (two_pads x f q hx both hf hq one tag says e) p h not_far = absurd (not_far (at_word IsFar m s w x p hx h both.0))
+  leads-near (two_pads x f q hx both hf hq one tag says e) p h not_far =
+      absurd (not_far (at_word IsFar m s w x p hx h both.0))
 
-  pub leads-one : Leads m s w k r → (p q : ℕ) → HasWord m s w p → IsOnePad p → HasWord m (far_segment p) (pad p) q → (k ≡ 1) × Says (far_segment p) (pad p) q r
+  pub leads-one : Leads m s w k r → (p q : ℕ) → HasWord m s w p → IsOnePad p → HasWord m (far_segment p) (pad p) q
+      → (k ≡ 1) × Says (far_segment p) (pad p) q r
   leads-one (near x hx n says e) p q h one hq = absurd (n (at_word IsFar m s w p x h hx one.0))
   leads-one (one_pad x y hx single hy n says e) p q h one hq =
       let a : x ≡ p = one_word m s w x p hx h in
@@ -56,7 +70,8 @@ module _ (m : List (List ℕ)) (s w k : ℕ) (r : Lead) where
       let b : two p ≡ 0 = one.1 in
       absurd (omega arith)
 
-  pub leads-two : Leads m s w k r → (p f q : ℕ) → HasWord m s w p → IsTwoPad p → HasWord m (far_segment p) (pad p) f → HasWord m (far_segment p) (pad p + 1) q → (k ≡ 2) × (r ≡ to_object (far_segment f) (pos (pad f)) q)
+  pub leads-two : Leads m s w k r → (p f q : ℕ) → HasWord m s w p → IsTwoPad p → HasWord m (far_segment p) (pad p) f
+      → HasWord m (far_segment p) (pad p + 1) q → (k ≡ 2) × (r ≡ to_object (far_segment f) (pos (pad f)) q)
   leads-two (near x hx n says e) p f q h both hf hq = absurd (n (at_word IsFar m s w p x h hx both.0))
   leads-two (one_pad x y hx single hy n says e) p f q h both hf hq =
       let a : two p ≡ 0 = at_word (λ z. two z ≡ 0) m s w x p hx h single.1 in
@@ -71,7 +86,8 @@ module _ (m : List (List ℕ)) (s w k : ℕ) (r : Lead) where
       (e, cc)
 
 -- a pointer word leads to one thing, with one number of pads
-pub one_lead : (m : List (List ℕ)) (s w k k' : ℕ) (r r' : Lead) → Leads m s w k r → Leads m s w k' r' → (k ≡ k') × (r ≡ r')
+pub one_lead : (m : List (List ℕ)) (s w k k' : ℕ) (r r' : Lead) → Leads m s w k r → Leads m s w k' r'
+    → (k ≡ k') × (r ≡ r')
 one_lead m s w k k' r r' (near p h n says e) h' =
     let g = leads-near m s w k' r' h' p h n in
     (e ∙ sym g.0, Says-unique s w p r r' says g.1)
@@ -108,9 +124,11 @@ HasSegment m (to_cap i) = Unit {0}
 HasSegment m (to_object t b q) = t < length m
 
 -- none of the conditions on pads holds at a word that leads somewhere
-pub leads_clean : (m : List (List ℕ)) (s w k : ℕ) (r : Lead) → Leads m s w k r → HasSegment m r → NoneBelow m s w (rank OutOfSegment)
+pub leads_clean : (m : List (List ℕ)) (s w k : ℕ) (r : Lead) → Leads m s w k r → HasSegment m r
+    → NoneBelow m s w (rank OutOfSegment)
 leads_clean m s w k r (near p h n says e) exists =
-    let c2 = and_not m s w Reserved (none_below_reserved m s w) (near-not_reserved m s w p h n (not_reserved s w p r says)) in
+    let c2 = and_not m s w Reserved (none_below_reserved m s w)
+    (near-not_reserved m s w p h n (not_reserved s w p r says)) in
     let c3 = and_not m s w SegmentMissing c2 (near-not_missing m s w p h n) in
     let c4 = and_not m s w PadOutside c3 (near-not_outside m s w p h n) in
     let c5 = and_not m s w PadIsFar c4 (near-not_pad_far m s w p h n) in
@@ -118,7 +136,8 @@ leads_clean m s w k r (near p h n says e) exists =
     let c7 = and_not m s w TagKind c6 (near-not_tag_kind m s w p h n) in
     and_not m s w TagOffset c7 (near-not_tag_offset m s w p h n)
 leads_clean m s w k r (one_pad p q h one hq n says e) exists =
-    let c2 = and_not m s w Reserved (none_below_reserved m s w) (one-not_reserved m s w p q h one hq (not_reserved (far_segment p) (pad p) q r says)) in
+    let c2 = and_not m s w Reserved (none_below_reserved m s w)
+    (one-not_reserved m s w p q h one hq (not_reserved (far_segment p) (pad p) q r says)) in
     let c3 = and_not m s w SegmentMissing c2 (one-not_missing m s w p q h one hq) in
     let c4 = and_not m s w PadOutside c3 (one-not_outside m s w p q h one hq) in
     let c5 = and_not m s w PadIsFar c4 (one-not_pad_far m s w p q h one hq n) in
@@ -137,18 +156,22 @@ pub wrong-reserved : (m : List (List ℕ)) (s w p : ℕ) → HasWord m s w p →
 wrong-reserved m s w p h r = record { holds = (p, h, inl r); first = none_below_reserved m s w }
 
 -- the word of its one-word pad is reserved
-pub wrong-pad_reserved : (m : List (List ℕ)) (s w p q : ℕ) → HasWord m s w p → IsOnePad p → HasWord m (far_segment p) (pad p) q → IsReserved q → Wrong m s w Reserved
-wrong-pad_reserved m s w p q h one hq r = record { holds = (p, h, inr (one, q, hq, r)); first = none_below_reserved m s w }
+pub wrong-pad_reserved : (m : List (List ℕ)) (s w p q : ℕ) → HasWord m s w p → IsOnePad p
+    → HasWord m (far_segment p) (pad p) q → IsReserved q → Wrong m s w Reserved
+wrong-pad_reserved m s w p q h one hq r =
+    record { holds = (p, h, inr (one, q, hq, r)); first = none_below_reserved m s w }
 
 -- the segment of its pad is missing
-pub wrong-missing : (m : List (List ℕ)) (s w p : ℕ) → HasWord m s w p → IsFar p → length m ≤ far_segment p → Wrong m s w SegmentMissing
+pub wrong-missing : (m : List (List ℕ)) (s w p : ℕ) → HasWord m s w p → IsFar p → length m ≤ far_segment p
+    → Wrong m s w SegmentMissing
 wrong-missing m s w p h far past = record {
   holds = (p, h, far, inl past);
   first = and_not m s w Reserved (none_below_reserved m s w) (missing-not_reserved m s w p h far past);
 }
 
 -- its pad is outside of its segment
-pub wrong-outside : (m : List (List ℕ)) (s w p : ℕ) → HasWord m s w p → IsFar p → far_segment p < length m → length (segment_of m (far_segment p)) < pad p + (two p + 1) → Wrong m s w PadOutside
+pub wrong-outside : (m : List (List ℕ)) (s w p : ℕ) → HasWord m s w p → IsFar p → far_segment p < length m
+    → length (segment_of m (far_segment p)) < pad p + (two p + 1) → Wrong m s w PadOutside
 wrong-outside m s w p h far there past =
     let c2 = and_not m s w Reserved (none_below_reserved m s w) (outside-not_reserved m s w p h far past) in
     record {
@@ -157,9 +180,11 @@ wrong-outside m s w p h far there past =
     }
 
 -- the word of its one-word pad is far
-pub wrong-pad_far : (m : List (List ℕ)) (s w p q : ℕ) → HasWord m s w p → IsOnePad p → HasWord m (far_segment p) (pad p) q → IsFar q → Wrong m s w PadIsFar
+pub wrong-pad_far : (m : List (List ℕ)) (s w p q : ℕ) → HasWord m s w p → IsOnePad p
+    → HasWord m (far_segment p) (pad p) q → IsFar q → Wrong m s w PadIsFar
 wrong-pad_far m s w p q h one hq far =
-    let c2 = and_not m s w Reserved (none_below_reserved m s w) (one-not_reserved m s w p q h one hq (λ r. far_reserved q far r)) in
+    let c2 = and_not m s w Reserved (none_below_reserved m s w)
+    (one-not_reserved m s w p q h one hq (λ r. far_reserved q far r)) in
     let c3 = and_not m s w SegmentMissing c2 (one-not_missing m s w p q h one hq) in
     record {
       holds = (p, q, h, one, hq, far);
@@ -170,7 +195,8 @@ wrong-pad_far m s w p q h one hq far =
     far_reserved x a (b, n) = absurd (omega arith)
 
 -- It has a two-word pad inside its segment.
-module _ (m : List (List ℕ)) (s w p f q : ℕ) (h : HasWord m s w p) (both : IsTwoPad p) (hf : HasWord m (far_segment p) (pad p) f) (hq : HasWord m (far_segment p) (pad p + 1) q) where
+module _ (m : List (List ℕ)) (s w p f q : ℕ) (h : HasWord m s w p) (both : IsTwoPad p)
+    (hf : HasWord m (far_segment p) (pad p) f) (hq : HasWord m (far_segment p) (pad p + 1) q) where
   -- the first word of the pad isn't a far pointer to one word
   pub wrong-pad_near : ¬ IsOnePad f → Wrong m s w PadNotFar
   wrong-pad_near n = record {
@@ -196,7 +222,8 @@ module _ (m : List (List ℕ)) (s w p f q : ℕ) (h : HasWord m s w p) (both : I
   pub wrong-tag_offset : IsOnePad f → far_segment f < length m → kind q < 2 → middle q ≢ 0 → Wrong m s w TagOffset
   wrong-tag_offset one there k n = record {
     holds = (p, f, q, h, both, hf, hq, n);
-    first = and_not m s w TagKind (two-none_below_tag m s w p f q h both hf hq one there) (two-not_tag_kind m s w p f q h both hf hq k);
+    first = and_not m s w TagKind (two-none_below_tag m s w p f q h both hf hq one there)
+        (two-not_tag_kind m s w p f q h both hf hq k);
   }
 
 -- It leads to an object.
@@ -232,15 +259,23 @@ module _ (m : List (List ℕ)) (s w k : ℕ) (r : Lead) (leads : Leads m s w k r
       subst (OutsideOf m) (one_lead m s w k' k (to_object t b q) r leads' leads).1 out
 
   tag-lead : Condition m s w CompositeTag → (tag : ℕ) × TagOf m (λ q x. kind x ≢ 0) tag r
-  tag-lead (k', t, b, q, tag, leads', composite, has, n) =
-      (tag, subst (TagOf m (λ q x. kind x ≢ 0) tag) (one_lead m s w k' k (to_object t (pos b) q) r leads' leads).1 (composite, has, n))
+  tag-lead (k', t, b, q, tag, leads', composite, has, n) = (
+    tag,
+    subst (TagOf m (λ q x. kind x ≢ 0) tag) (one_lead m s w k' k (to_object t (pos b) q) r leads' leads).1
+        (composite, has, n),
+  )
 
-  overrun-lead : Condition m s w CompositeOverrun → (tag : ℕ) × TagOf m (λ q x. list_size q < middle x * (data_size x + pointer_size x)) tag r
-  overrun-lead (k', t, b, q, tag, leads', composite, has, n) =
-      (tag, subst (TagOf m (λ q x. list_size q < middle x * (data_size x + pointer_size x)) tag) (one_lead m s w k' k (to_object t (pos b) q) r leads' leads).1 (composite, has, n))
+  overrun-lead : Condition m s w CompositeOverrun
+      → (tag : ℕ) × TagOf m (λ q x. list_size q < middle x * (data_size x + pointer_size x)) tag r
+  overrun-lead (k', t, b, q, tag, leads', composite, has, n) = (
+    tag,
+    subst (TagOf m (λ q x. list_size q < middle x * (data_size x + pointer_size x)) tag)
+        (one_lead m s w k' k (to_object t (pos b) q) r leads' leads).1 (composite, has, n),
+  )
 
   -- where it leads somewhere, in a segment that exists, and none of these conditions holds, nothing is wrong
-  clean-not_wrong : HasSegment m r → ¬ Condition m s w OutOfSegment → ¬ Condition m s w CompositeTag → ¬ Condition m s w CompositeOverrun → (v : Reason) → ¬ Wrong m s w v
+  clean-not_wrong : HasSegment m r → ¬ Condition m s w OutOfSegment → ¬ Condition m s w CompositeTag
+      → ¬ Condition m s w CompositeOverrun → (v : Reason) → ¬ Wrong m s w v
   clean-not_wrong exists n9 n10 n11 OutOfSegment x = n9 x.holds
   clean-not_wrong exists n9 n10 n11 CompositeTag x = n10 x.holds
   clean-not_wrong exists n9 n10 n11 CompositeOverrun x = n11 x.holds
@@ -251,12 +286,14 @@ module _ (m : List (List ℕ)) (s w k : ℕ) (r : Lead) (leads : Leads m s w k r
 -- nothing is wrong with a word that leads to null
 pub null-not_wrong : (m : List (List ℕ)) (s w k : ℕ) → Leads m s w k to_null → (v : Reason) → ¬ Wrong m s w v
 null-not_wrong m s w k leads =
-    clean-not_wrong m s w k to_null leads tt (out-lead m s w k to_null leads) (λ c. (tag-lead m s w k to_null leads c).1) (λ c. (overrun-lead m s w k to_null leads c).1)
+    clean-not_wrong m s w k to_null leads tt (out-lead m s w k to_null leads)
+    (λ c. (tag-lead m s w k to_null leads c).1) (λ c. (overrun-lead m s w k to_null leads c).1)
 
 -- nothing is wrong with a word that leads to a capability
 pub cap-not_wrong : (m : List (List ℕ)) (s w k i : ℕ) → Leads m s w k (to_cap i) → (v : Reason) → ¬ Wrong m s w v
 cap-not_wrong m s w k i leads =
-    clean-not_wrong m s w k (to_cap i) leads tt (out-lead m s w k (to_cap i) leads) (λ c. (tag-lead m s w k (to_cap i) leads c).1) (λ c. (overrun-lead m s w k (to_cap i) leads c).1)
+    clean-not_wrong m s w k (to_cap i) leads tt (out-lead m s w k (to_cap i) leads)
+    (λ c. (tag-lead m s w k (to_cap i) leads c).1) (λ c. (overrun-lead m s w k (to_cap i) leads c).1)
 
 -- nothing is wrong with a word that leads to an object that sits
 pub object-not_wrong : (m : List (List ℕ)) (s w k t b q : ℕ) → Finds m s w k t b q → (v : Reason) → ¬ Wrong m s w v
@@ -271,14 +308,18 @@ object-not_wrong m s w k t b q f =
         let c = f.sits.composite composite in
         n (subst (λ x. kind x ≡ 0) (one_word m t b c.0 tag c.1 has) c.2.0)
 
-    overrun : (tag : ℕ) × TagOf m (λ q x. list_size q < middle x * (data_size x + pointer_size x)) tag (to_object t (pos b) q) → ⊥
+    overrun : (tag : ℕ) × TagOf m (λ q x. list_size q < middle x * (data_size x + pointer_size x)) tag
+        (to_object t (pos b) q) → ⊥
     overrun (tag, (composite, has, n)) =
         let c = f.sits.composite composite in
-        let fits : middle tag * (data_size tag + pointer_size tag) ≤ list_size q = subst (λ x. middle x * (data_size x + pointer_size x) ≤ list_size q) (one_word m t b c.0 tag c.1 has) c.2.1 in
+        let fits : middle tag * (data_size tag + pointer_size tag) ≤ list_size q =
+        subst (λ x. middle x * (data_size x + pointer_size x) ≤ list_size q) (one_word m t b c.0 tag c.1 has) c.2.1 in
         absurd (omega arith)
 
 -- It leads to a composite list inside its segment.
-module _ (m : List (List ℕ)) (s w k t b q tag : ℕ) (leads : Leads m s w k (to_object t (pos b) q)) (exists : t < length m) (inside : b + extent q ≤ length (segment_of m t)) (composite : IsComposite q) (has : HasWord m t b tag) where
+module _ (m : List (List ℕ)) (s w k t b q tag : ℕ) (leads : Leads m s w k (to_object t (pos b) q))
+    (exists : t < length m) (inside : b + extent q ≤ length (segment_of m t)) (composite : IsComposite q)
+    (has : HasWord m t b tag) where
   none_below_composite_tag : NoneBelow m s w (rank CompositeTag)
   none_below_composite_tag =
       and_not m s w OutOfSegment (leads_clean m s w k (to_object t (pos b) q) leads exists)
@@ -292,10 +333,12 @@ module _ (m : List (List ℕ)) (s w k t b q tag : ℕ) (leads : Leads m s w k (t
   }
 
   -- whose elements are past its words
-  pub wrong-overrun : kind tag ≡ 0 → list_size q < middle tag * (data_size tag + pointer_size tag) → Wrong m s w CompositeOverrun
+  pub wrong-overrun : kind tag ≡ 0 → list_size q < middle tag * (data_size tag + pointer_size tag)
+      → Wrong m s w CompositeOverrun
   wrong-overrun z n = record {
     holds = (k, t, b, q, tag, leads, composite, has, n);
-    first = and_not m s w CompositeTag none_below_composite_tag (λ c. same (tag-lead m s w k (to_object t (pos b) q) leads c));
+    first = and_not m s w CompositeTag none_below_composite_tag
+        (λ c. same (tag-lead m s w k (to_object t (pos b) q) leads c));
   }
     where
       same : (x : ℕ) × TagOf m (λ q x. kind x ≢ 0) x (to_object t (pos b) q) → ⊥

@@ -1,8 +1,10 @@
--- A message within its unamplified limit, of which the canonical copy isn't within its own: a list of structs whose words are all zero.
+-- A message within its unamplified limit, of which the canonical copy isn't within its own:
+-- a list of structs whose words are all zero.
 use Rattle.std.proofs.Common.{ℕ, zero, suc, ◌+◌, ◌^◌, ◌<◌, ◌≤◌, ◌≡◌, List, [], ◌∷◌, sum, false, refl, sym, ap, arith}
 use Rattle.cap_spec.specs.Tree.{Tree, struct, structs, Trees, none, more, tree_count, cap_counts, has_cap}
 use Rattle.cap_spec.specs.Denoting.{Denotes}
-use Rattle.cap_spec.specs.Canonical.{children_of, cut_elements, data_of, element_sizes, layout, size, trim, trim_elements}
+use Rattle.cap_spec.specs.Canonical.{children_of, cut_elements, data_of, element_sizes}
+use Rattle.cap_spec.specs.Canonical.{layout, size, trim, trim_elements}
 use Rattle.cap_spec.specs.Copies.{HasCopy}
 use Rattle.cap_spec.specs.Frames.{sizes_of}
 use Rattle.cap_spec.specs.Unamplified.{unamplified}
@@ -103,11 +105,23 @@ trim-wide n = trimmed-zeros n
 
 fits-wide : (n : ℕ) → n < 2 ^ 29 → Fits (wide n)
 unfolding wide
-fits-wide n h = (omega arith, omega arith, omega (arith, h, count-zeros n), omega (arith, h, count-zeros n), fit-zeros n)
+fits-wide n h = (
+  omega arith,
+  omega arith,
+  omega (arith, h, count-zeros n),
+  omega (arith, h, count-zeros n),
+  fit-zeros n,
+)
 
 fits-bare : (n : ℕ) → n < 2 ^ 29 → Fits (bare n)
 unfolding bare
-fits-bare n h = (omega arith, omega arith, omega (arith, h, count-empties n), omega (arith, count-empties n), fit-empties n)
+fits-bare n h = (
+  omega arith,
+  omega arith,
+  omega (arith, h, count-empties n),
+  omega (arith, count-empties n),
+  fit-empties n,
+)
 
 size-wide : (n : ℕ) → size (wide n) ≡ 1 + n
 unfolding wide

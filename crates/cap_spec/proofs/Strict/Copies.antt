@@ -15,14 +15,16 @@ use Rattle.cap_spec.proofs.Strict.LaxForms.{lax_pads}
 use Rattle.cap_spec.proofs.Strict.Padless.{own_padless, walk_tight}
 
 -- where the root is charged no more than its tree's cost, no path reaches a pointer that common readers reject
-pub none_lax : (m : List (List ℕ)) (t : Tree) (c d : ℕ) → Denotes m 0 0 t c d → c ≤ cost t → (path : List Step) → ¬ IsLax m path
+pub none_lax : (m : List (List ℕ)) (t : Tree) (c d : ℕ) → Denotes m 0 0 t c d → c ≤ cost t
+    → (path : List Step) → ¬ IsLax m path
 none_lax m t c d h le path (level, s, w, what, reached, x) =
     let r = walk_tight m (word 0 0) path reached.1 (word s w) t (c, d, h, le) reached.3 in
     let p = lax_pads m s w what x in
     absurd (omega (arith, p.3, own_padless m s w r.0 r.1.0 r.1.1 p.0 p.1 r.1.2 r.1.3 p.2))
 
 -- the copy is strict
-pub copy_strict : (m : List (List ℕ)) (words : List ℕ) (limit depth : ℕ) → (k : HasCopy m words) → k.charge < 2 ^ 29 → k.charge ≤ limit → k.depth ≤ depth
+pub copy_strict : (m : List (List ℕ)) (words : List ℕ) (limit depth : ℕ) → (k : HasCopy m words) → k.charge < 2 ^ 29
+    → k.charge ≤ limit → k.depth ≤ depth
     → IsStrict (words ∷ []) limit depth
 copy_strict m words limit depth k few within shallow =
     let a : Measured k.tree k.charge k.depth = measured m 0 0 k.tree k.charge k.depth k.denotes in

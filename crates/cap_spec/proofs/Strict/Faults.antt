@@ -15,8 +15,10 @@ use Rattle.cap_spec.proofs.Verdicts.Refusals.{tree_not_refused}
 use Rattle.cap_spec.proofs.Strict.FirstLax.{first_is_lax, first_lax_or_none, one_first_lax}
 
 -- an accepted message isn't refused
-pub within_not_refused : (m : List (List ℕ)) (words depth : ℕ) (refusal : Refusal) → IsWithin m words depth → ¬ IsRefused m words depth refusal
-within_not_refused m words depth refusal a h = tree_not_refused m a.tree a.charge a.levels words depth refusal a.denotes a.few_words a.few_levels h
+pub within_not_refused : (m : List (List ℕ)) (words depth : ℕ) (refusal : Refusal) → IsWithin m words depth
+    → ¬ IsRefused m words depth refusal
+within_not_refused m words depth refusal a h =
+    tree_not_refused m a.tree a.charge a.levels words depth refusal a.denotes a.few_words a.few_levels h
 
 -- An accepted message is strict, or has a fault.
 pub strict_or_fault : (m : List (List ℕ)) (words depth : ℕ) → IsWithin m words depth → length m ≤ 512
@@ -30,17 +32,20 @@ strict_or_fault m words depth a few = elim (cases_lt 511 (length m)) [
 ]
 
 -- It isn't both.
-pub strict_not_fault : (m : List (List ℕ)) (words depth : ℕ) (fault : StrictRefusal) → IsStrict m words depth → ¬ IsStrictFault m words depth fault
+pub strict_not_fault : (m : List (List ℕ)) (words depth : ℕ) (fault : StrictRefusal) → IsStrict m words depth
+    → ¬ IsStrictFault m words depth fault
 strict_not_fault m words depth (Refused refusal) h f = within_not_refused m words depth refusal h.accepted f
 strict_not_fault m words depth ManySegments h f = absurd (omega (arith, h.few_segments, f.1))
 strict_not_fault m words depth (Pointer what s w pointers) h f = h.none f.2.path (first_is_lax m s w what pointers f.2)
 
 -- faults of equal parts are equal
-same_pointer : (u v : Lax) (s w n s' w' n' : ℕ) → s ≡ s' → w ≡ w' → u ≡ v → n ≡ n' → Pointer u s w n ≡ Pointer v s' w' n'
+same_pointer : (u v : Lax) (s w n s' w' n' : ℕ) → s ≡ s' → w ≡ w' → u ≡ v → n ≡ n'
+    → Pointer u s w n ≡ Pointer v s' w' n'
 same_pointer u v s w n s' w' n' e1 e2 e3 e4 = cc
 
 -- It has one fault.
-pub one_strict_fault : (m : List (List ℕ)) (words depth : ℕ) (f g : StrictRefusal) → IsStrictFault m words depth f → IsStrictFault m words depth g → f ≡ g
+pub one_strict_fault : (m : List (List ℕ)) (words depth : ℕ) (f g : StrictRefusal) → IsStrictFault m words depth f
+    → IsStrictFault m words depth g → f ≡ g
 one_strict_fault m words depth (Refused r) (Refused r') h k = ap Refused (one_refusal m words depth r r' h k)
 one_strict_fault m words depth (Refused r) ManySegments h k = absurd (within_not_refused m words depth r k.0 h)
 one_strict_fault m words depth (Refused r) (Pointer v s' w' n') h k = absurd (within_not_refused m words depth r k.0 h)
@@ -54,7 +59,8 @@ one_strict_fault m words depth (Pointer u s w n) (Pointer v s' w' n') h k =
     same_pointer u v s w n s' w' n' e.0 e.1 e.2 e.3
 
 -- What is strict within limits is strict within wider ones.
-pub strict_wider : (m : List (List ℕ)) (words depth words' depth' : ℕ) → IsStrict m words depth → words ≤ words' → depth ≤ depth' → IsStrict m words' depth'
+pub strict_wider : (m : List (List ℕ)) (words depth words' depth' : ℕ) → IsStrict m words depth → words ≤ words'
+    → depth ≤ depth' → IsStrict m words' depth'
 strict_wider m words depth words' depth' h w d = record {
   accepted = record {
     tree = h.accepted.tree;
@@ -69,7 +75,8 @@ strict_wider m words depth words' depth' h w d = record {
 }
 
 -- Of what may be strict it is known that it has few segments and no such pointer.
-pub strict_kept : (m : List (List ℕ)) (words depth : ℕ) → ∥ IsStrict m words depth ∥₁ → (length m ≤ 511) × ((path : List Step) → ¬ IsLax m path)
+pub strict_kept : (m : List (List ℕ)) (words depth : ℕ) → ∥ IsStrict m words depth ∥₁
+    → (length m ≤ 511) × ((path : List Step) → ¬ IsLax m path)
 strict_kept m words depth h =
     let one : IsProp ⊥ = hlevel props in
     let one_le : IsProp (length m ≤ 511) = hlevel props in

@@ -10,7 +10,8 @@ use Rattle.cap_spec.proofs.Trees.OneTree.{Formed, formed}
 use Rattle.cap_spec.proofs.Paths.Arrivals.{coming_to_node, lead_word}
 use Rattle.cap_spec.proofs.Paths.PathCounts.{pointer_paths, pointer_path_reached}
 use Rattle.cap_spec.proofs.Paths.PathLists.{is_pointer, listed_rise}
-use Rattle.cap_spec.proofs.Paths.Preorder.{Before-asymmetric, Before-irreflexive, Before-total_coming, Rises-first, Rises-rest, one_tour}
+use Rattle.cap_spec.proofs.Paths.Preorder.{Before-asymmetric, Before-irreflexive, Before-total_coming}
+use Rattle.cap_spec.proofs.Paths.Preorder.{Rises-first, Rises-rest, one_tour}
 use Rattle.cap_spec.proofs.Paths.Walks.{one_reached}
 use Rattle.cap_spec.proofs.Verdicts.OneFault.{one_of_last}
 use Rattle.cap_spec.proofs.Strict.LaxForms.{lax_decided, one_lax}
@@ -26,24 +27,29 @@ front_is_one q p [] ys (inr h) = absurd h
 front_is_one q p (x ∷ xs) ys (inl e) = inl e
 front_is_one q p (x ∷ xs) ys (inr h) = inr (front_is_one q p xs ys h)
 
-front_or_back : (q p : List Step) (xs ys : List (List Step)) → IsOneOf q (xs ++ p ∷ ys) → IsOneOf q (xs ++ p ∷ []) ⊎ IsOneOf q ys
+front_or_back : (q p : List Step) (xs ys : List (List Step)) → IsOneOf q (xs ++ p ∷ ys)
+    → IsOneOf q (xs ++ p ∷ []) ⊎ IsOneOf q ys
 front_or_back q p [] ys (inl e) = inl (inl e)
 front_or_back q p [] ys (inr h) = inr h
 front_or_back q p (x ∷ xs) ys (inl e) = inl (inl e)
 front_or_back q p (x ∷ xs) ys (inr h) = elim (front_or_back q p xs ys h) [ inl i ↦ inl (inr i) | inr i ↦ inr i ]
 
 -- where the lists rise, the first rises up to it, comes before it, and the second comes after it
-Rises-front : (xs : List (List Step)) (p : List Step) (ys : List (List Step)) → Rises (xs ++ p ∷ ys) → Rises (xs ++ p ∷ [])
+Rises-front : (xs : List (List Step)) (p : List Step) (ys : List (List Step)) → Rises (xs ++ p ∷ ys)
+    → Rises (xs ++ p ∷ [])
 Rises-front [] p ys h = tt
 Rises-front (x ∷ []) p ys h = (h.0, tt)
 Rises-front (x ∷ z ∷ xs) p ys h = (h.0, Rises-front (z ∷ xs) p ys h.1)
 
-before_middle : (xs : List (List Step)) (p : List Step) (ys : List (List Step)) (q : List Step) → Rises (xs ++ p ∷ ys) → IsOneOf q xs → Before q p
+before_middle : (xs : List (List Step)) (p : List Step) (ys : List (List Step)) (q : List Step) → Rises (xs ++ p ∷ ys)
+    → IsOneOf q xs → Before q p
 before_middle [] p ys q h i = absurd i
-before_middle (x ∷ xs) p ys q h (inl e) = subst (λ (u : List Step). Before u p) (sym e) (Rises-first x (xs ++ p ∷ ys) p h (middle_is_one p xs ys))
+before_middle (x ∷ xs) p ys q h (inl e) =
+    subst (λ (u : List Step). Before u p) (sym e) (Rises-first x (xs ++ p ∷ ys) p h (middle_is_one p xs ys))
 before_middle (x ∷ xs) p ys q h (inr i) = before_middle xs p ys q (Rises-rest x (xs ++ p ∷ ys) h) i
 
-after_middle : (xs : List (List Step)) (p : List Step) (ys : List (List Step)) (q : List Step) → Rises (xs ++ p ∷ ys) → IsOneOf q ys → Before p q
+after_middle : (xs : List (List Step)) (p : List Step) (ys : List (List Step)) (q : List Step) → Rises (xs ++ p ∷ ys)
+    → IsOneOf q ys → Before p q
 after_middle [] p ys q h i = Rises-first p ys q h i
 after_middle (x ∷ xs) p ys q h i = after_middle xs p ys q (Rises-rest x (xs ++ p ∷ ys) h) i
 
@@ -62,12 +68,21 @@ first_of_list : (P : List Step → Type 0) (ps : List (List Step)) → ((q : Lis
 first_of_list P [] decided = inr (λ q i. absurd i)
 first_of_list P (p ∷ ps) decided = by_head (decided p (inl refl)) (first_of_list P ps (λ q i. decided q (inr i)))
   where
-    none_of : ¬ P p → (qs : List (List Step)) → ((q : List Step) → IsOneOf q qs → ¬ P q) → (q : List Step) → IsOneOf q (p ∷ qs) → ¬ P q
+    none_of : ¬ P p → (qs : List (List Step)) → ((q : List Step) → IsOneOf q qs → ¬ P q) → (q : List Step)
+        → IsOneOf q (p ∷ qs) → ¬ P q
     none_of n qs k q (inl e) h = n (subst P e h)
     none_of n qs k q (inr i) h = k q i h
 
-    by_head : P p ⊎ ¬ P p → FirstOf P ps ⊎ ((q : List Step) → IsOneOf q ps → ¬ P q) → FirstOf P (p ∷ ps) ⊎ ((q : List Step) → IsOneOf q (p ∷ ps) → ¬ P q)
-    by_head (inl h) r = inl (record { before = []; path = p; after = ps; whole = refl; holds = h; none = λ q i. absurd i })
+    by_head : P p ⊎ ¬ P p → FirstOf P ps ⊎ ((q : List Step) → IsOneOf q ps → ¬ P q)
+        → FirstOf P (p ∷ ps) ⊎ ((q : List Step) → IsOneOf q (p ∷ ps) → ¬ P q)
+    by_head (inl h) r = inl (record {
+      before = [];
+      path = p;
+      after = ps;
+      whole = refl;
+      holds = h;
+      none = λ q i. absurd i;
+    })
     by_head (inr n) (inl f) =
         inl (record {
           before = p ∷ f.before;
@@ -80,8 +95,10 @@ first_of_list P (p ∷ ps) decided = by_head (decided p (inl refl)) (first_of_li
     by_head (inr n) (inr k) = inr (none_of n ps k)
 
 -- A pointer of one of these forms is the first where the tour up to it has none before it.
-pub first_by_tour : (m : List (List ℕ)) (path : List Step) (level s w : ℕ) (what : Lax) (tour : List (List Step)) → Reaches m path level s w → IsTour m path tour
-    → IsLaxAt m s w what → ((q : List Step) → IsOneOf q tour → Before q path → ¬ IsLax m q) → IsFirstLax m s w what (length tour)
+pub first_by_tour : (m : List (List ℕ)) (path : List Step) (level s w : ℕ) (what : Lax) (tour : List (List Step))
+    → Reaches m path level s w → IsTour m path tour
+    → IsLaxAt m s w what → ((q : List Step) → IsOneOf q tour → Before q path → ¬ IsLax m q)
+    → IsFirstLax m s w what (length tour)
 first_by_tour m path level s w what tour reached is_tour lax none = record {
   path = path;
   level = level;
@@ -110,7 +127,8 @@ module _ (m : List (List ℕ)) (t : Tree) (c d : ℕ) (denotes : Denotes m 0 0 t
       ]
 
   -- the first of its paths that reaches one is the first in preorder
-  first_of_tree : FirstOf (IsLax m) (pointer_paths t) → (s w : ℕ) × (what : Lax) × (pointers : ℕ) × IsFirstLax m s w what pointers
+  first_of_tree : FirstOf (IsLax m) (pointer_paths t)
+      → (s w : ℕ) × (what : Lax) × (pointers : ℕ) × IsFirstLax m s w what pointers
   first_of_tree f =
       let l = f.holds in (
         l.1,
@@ -129,9 +147,11 @@ module _ (m : List (List ℕ)) (t : Tree) (c d : ℕ) (denotes : Denotes m 0 0 t
         | inr j ↦ f.none q j x
       ]
 
-      upto : (q : List Step) (level s w : ℕ) → Reaches m q level s w → (q ≡ f.path) ⊎ Before q f.path → IsOneOf q (f.before ++ f.path ∷ [])
+      upto : (q : List Step) (level s w : ℕ) → Reaches m q level s w → (q ≡ f.path) ⊎ Before q f.path
+          → IsOneOf q (f.before ++ f.path ∷ [])
       upto q level s w r k =
-          elim (front_or_back q f.path f.before f.after (subst (IsOneOf q) f.whole ((pointer_path_reached m t c d denotes q).1 (level, s, w, r)))) [
+          elim (front_or_back q f.path f.before f.after
+          (subst (IsOneOf q) f.whole ((pointer_path_reached m t c d denotes q).1 (level, s, w, r)))) [
             | inl i ↦ i
             | inr i ↦ absurd (late q (after_middle f.before f.path f.after q rises i) k)
           ]
@@ -143,30 +163,39 @@ module _ (m : List (List ℕ)) (t : Tree) (c d : ℕ) (denotes : Denotes m 0 0 t
       is_tour : IsTour m f.path (f.before ++ f.path ∷ [])
       is_tour = record {
         rising = Rises-front f.before f.path f.after rises;
-        reached = λ q i. (pointer_path_reached m t c d denotes q).0 (subst (IsOneOf q) (sym f.whole) (front_is_one q f.path f.before f.after i));
+        reached = λ q i. (pointer_path_reached m t c d denotes q).0
+            (subst (IsOneOf q) (sym f.whole) (front_is_one q f.path f.before f.after i));
         all = λ q level s w r k. upto q level s w r k;
-        none_after = λ q i. elim (one_of_last q f.path f.before i) [ inl e ↦ inl e | inr j ↦ inr (before_middle f.before f.path f.after q rises j) ];
+        none_after = λ q i. elim (one_of_last q f.path f.before i) [
+          | inl e ↦ inl e
+          | inr j ↦ inr (before_middle f.before f.path f.after q rises j)
+        ];
       }
 
   -- There is a first pointer in preorder that common readers reject, or no path reaches one.
-  pub first_lax_or_none : ((s w : ℕ) × (what : Lax) × (pointers : ℕ) × IsFirstLax m s w what pointers) ⊎ ((path : List Step) → ¬ IsLax m path)
+  pub first_lax_or_none : ((s w : ℕ) × (what : Lax) × (pointers : ℕ) × IsFirstLax m s w what pointers)
+      ⊎ ((path : List Step) → ¬ IsLax m path)
   first_lax_or_none = elim (first_of_list (IsLax m) (pointer_paths t) path_decided) [
     | inl f ↦ inl (first_of_tree f)
     | inr none ↦ inr (λ path x. none path ((pointer_path_reached m t c d denotes path).1 (x.0, x.1, x.2, x.4)) x)
   ]
 
 -- It is one pointer, of one form, and the count up to it is one number.
-pub one_first_lax : (m : List (List ℕ)) (s w : ℕ) (u : Lax) (n s' w' : ℕ) (v : Lax) (n' : ℕ) → IsFirstLax m s w u n → IsFirstLax m s' w' v n'
+pub one_first_lax : (m : List (List ℕ)) (s w : ℕ) (u : Lax) (n s' w' : ℕ) (v : Lax) (n' : ℕ) → IsFirstLax m s w u n
+    → IsFirstLax m s' w' v n'
     → (s ≡ s') × (w ≡ w') × (u ≡ v) × (n ≡ n')
 one_first_lax m s w u n s' w' v n' f g =
     elim (Before-total_coming m f.path g.path f.level g.level (word s w) (word s' w') f.reached g.reached) [
       | inl e ↦
-          let r = one_reached m f.path f.level g.level s w s' w' f.reached (subst (λ (x : List Step). Reaches m x g.level s' w') (sym e) g.reached) in
-          let x : IsLaxAt m s w v = subst (λ y. IsLaxAt m s y v) (sym r.2) (subst (λ y. IsLaxAt m y w' v) (sym r.1) g.lax) in (
+          let r = one_reached m f.path f.level g.level s w s' w' f.reached
+          (subst (λ (x : List Step). Reaches m x g.level s' w') (sym e) g.reached) in
+          let x : IsLaxAt m s w v = subst (λ y. IsLaxAt m s y v) (sym r.2)
+          (subst (λ y. IsLaxAt m y w' v) (sym r.1) g.lax) in (
             r.1,
             r.2,
             one_lax m s w u v f.lax x,
-            f.number ∙ ap length (one_tour m f.path f.tour g.tour f.is_tour (subst (λ (y : List Step). IsTour m y g.tour) (sym e) g.is_tour)) ∙ sym g.number,
+            f.number ∙ ap length (one_tour m f.path f.tour g.tour f.is_tour
+                (subst (λ (y : List Step). IsTour m y g.tour) (sym e) g.is_tour)) ∙ sym g.number,
           )
       | inr (inl b) ↦ absurd (g.first f.path b (f.level, s, w, u, f.reached, f.lax))
       | inr (inr b) ↦ absurd (f.first g.path b (g.level, s', w', v, g.reached, g.lax))

@@ -1,4 +1,5 @@
--- A pointer has at most one form that common readers reject, has a landing pad there, and whether it has one is decided.
+-- A pointer has at most one form that common readers reject, has a landing pad there,
+-- and whether it has one is decided.
 use Rattle.std.proofs.Common.{ℕ, ◌≤◌, ◌≡◌, ◌≢◌, ◌⊎◌, List, [], ◌∷◌, length, inl, inr, refl, sym, ap, subst, arith}
 use Rattle.std.specs.Prelude.{pos}
 use Rattle.std.proofs.lemmas.Bool.Decides.{eqb_tells}
@@ -30,15 +31,18 @@ two_words m s w k t b q (one_pad p x has one hasx n says single) e =
 two_words m s w k t b q (two_pads p f x has both hasf hasx one tag says two) e = two
 
 -- so has one that is found there, and the object has no words
-pub empty_by_two : (m : List (List ℕ)) (s w k t b q : ℕ) → Finds m s w k t b q → segment_of m t ≡ [] → (k ≡ 2) × (b ≡ 0) × (extent q ≡ 0)
+pub empty_by_two : (m : List (List ℕ)) (s w k t b q : ℕ) → Finds m s w k t b q → segment_of m t ≡ []
+    → (k ≡ 2) × (b ≡ 0) × (extent q ≡ 0)
 empty_by_two m s w k t b q f e =
     let l : length (segment_of m t) ≡ 0 = ap length e in
     (two_words m s w k t b q f.leads e, omega (arith, l, f.sits.inside), omega (arith, l, f.sits.inside))
 
 -- a pointer of one of these forms has a landing pad
-pub lax_pads : (m : List (List ℕ)) (s w : ℕ) (what : Lax) → IsLaxAt m s w what → (k : ℕ) × (r : Lead) × Leads m s w k r × (1 ≤ k)
+pub lax_pads : (m : List (List ℕ)) (s w : ℕ) (what : Lax) → IsLaxAt m s w what
+    → (k : ℕ) × (r : Lead) × Leads m s w k r × (1 ≤ k)
 lax_pads m s w NullPad h = (1, to_null, h, omega arith)
-lax_pads m s w EmptySegment (k, t, b, q, f, e) = (k, to_object t (pos b) q, f.leads, omega (arith, (empty_by_two m s w k t b q f e).0))
+lax_pads m s w EmptySegment (k, t, b, q, f, e) =
+    (k, to_object t (pos b) q, f.leads, omega (arith, (empty_by_two m s w k t b q f e).0))
 lax_pads m s w CapabilityPad (i, h) = (1, to_cap i, h, omega arith)
 
 -- what a pointer leads to in each form
@@ -50,15 +54,19 @@ pub one_lax : (m : List (List ℕ)) (s w : ℕ) (u v : Lax) → IsLaxAt m s w u 
 one_lax m s w NullPad NullPad h g = refl
 one_lax m s w NullPad EmptySegment h (k, t, b, q, f, e) =
     let x : to_null ≡ to_object t (pos b) q = same_lead m s w 1 k to_null (to_object t (pos b) q) h f.leads in absurd cc
-one_lax m s w NullPad CapabilityPad h (i, g) = let x : to_null ≡ to_cap i = same_lead m s w 1 1 to_null (to_cap i) h g in absurd cc
+one_lax m s w NullPad CapabilityPad h (i, g) = let x : to_null ≡ to_cap i =
+    same_lead m s w 1 1 to_null (to_cap i) h g in absurd cc
 one_lax m s w EmptySegment NullPad (k, t, b, q, f, e) g =
     let x : to_object t (pos b) q ≡ to_null = same_lead m s w k 1 (to_object t (pos b) q) to_null f.leads g in absurd cc
 one_lax m s w EmptySegment EmptySegment h g = refl
 one_lax m s w EmptySegment CapabilityPad (k, t, b, q, f, e) (i, g) =
-    let x : to_object t (pos b) q ≡ to_cap i = same_lead m s w k 1 (to_object t (pos b) q) (to_cap i) f.leads g in absurd cc
-one_lax m s w CapabilityPad NullPad (i, h) g = let x : to_cap i ≡ to_null = same_lead m s w 1 1 (to_cap i) to_null h g in absurd cc
+    let x : to_object t (pos b) q ≡ to_cap i =
+    same_lead m s w k 1 (to_object t (pos b) q) (to_cap i) f.leads g in absurd cc
+one_lax m s w CapabilityPad NullPad (i, h) g = let x : to_cap i ≡ to_null =
+    same_lead m s w 1 1 (to_cap i) to_null h g in absurd cc
 one_lax m s w CapabilityPad EmptySegment (i, h) (k, t, b, q, f, e) =
-    let x : to_cap i ≡ to_object t (pos b) q = same_lead m s w 1 k (to_cap i) (to_object t (pos b) q) h f.leads in absurd cc
+    let x : to_cap i ≡ to_object t (pos b) q =
+    same_lead m s w 1 k (to_cap i) (to_object t (pos b) q) h f.leads in absurd cc
 one_lax m s w CapabilityPad CapabilityPad h g = refl
 
 -- what is wrong has none of these forms
@@ -81,8 +89,10 @@ null_decided m s w k leads = elim (eqb_tells k 1) [
     none : k ≢ 1 → (what : Lax) → ¬ IsLaxAt m s w what
     none other NullPad h = other (sym (one_lead m s w 1 k to_null to_null h leads).0)
     none other EmptySegment (k', t, b, q, f, e) =
-        let x : to_object t (pos b) q ≡ to_null = same_lead m s w k' k (to_object t (pos b) q) to_null f.leads leads in absurd cc
-    none other CapabilityPad (i, h) = let x : to_cap i ≡ to_null = same_lead m s w 1 k (to_cap i) to_null h leads in absurd cc
+        let x : to_object t (pos b) q ≡ to_null =
+        same_lead m s w k' k (to_object t (pos b) q) to_null f.leads leads in absurd cc
+    none other CapabilityPad (i, h) = let x : to_cap i ≡ to_null =
+        same_lead m s w 1 k (to_cap i) to_null h leads in absurd cc
 
 -- what leads to a capability
 cap_decided : (m : List (List ℕ)) (s w k i : ℕ) → Leads m s w k (to_cap i) → LaxOrNot m s w
@@ -94,7 +104,8 @@ cap_decided m s w k i leads = elim (eqb_tells k 1) [
     none : k ≢ 1 → (what : Lax) → ¬ IsLaxAt m s w what
     none other NullPad h = let x : to_null ≡ to_cap i = same_lead m s w 1 k to_null (to_cap i) h leads in absurd cc
     none other EmptySegment (k', t, b, q, f, e) =
-        let x : to_object t (pos b) q ≡ to_cap i = same_lead m s w k' k (to_object t (pos b) q) (to_cap i) f.leads leads in absurd cc
+        let x : to_object t (pos b) q ≡ to_cap i =
+        same_lead m s w k' k (to_object t (pos b) q) (to_cap i) f.leads leads in absurd cc
     none other CapabilityPad (j, h) = other (sym (one_lead m s w 1 k (to_cap j) (to_cap i) h leads).0)
 
 -- a list is empty, or isn't
@@ -110,12 +121,14 @@ object_decided m s w k t b q f = elim (empty_decided (segment_of m t)) [
 ]
   where
     none : segment_of m t ≢ [] → (what : Lax) → ¬ IsLaxAt m s w what
-    none some NullPad h = let x : to_null ≡ to_object t (pos b) q = same_lead m s w 1 k to_null (to_object t (pos b) q) h f.leads in absurd cc
+    none some NullPad h = let x : to_null ≡ to_object t (pos b) q =
+        same_lead m s w 1 k to_null (to_object t (pos b) q) h f.leads in absurd cc
     none some EmptySegment (k', t', b', q', f', e) =
         let o = one_object m s w k' t' b' q' k t b q f' f in
         some (subst (λ u. segment_of m u ≡ []) o.segment e)
     none some CapabilityPad (i, h) =
-        let x : to_cap i ≡ to_object t (pos b) q = same_lead m s w 1 k (to_cap i) (to_object t (pos b) q) h f.leads in absurd cc
+        let x : to_cap i ≡ to_object t (pos b) q =
+        same_lead m s w 1 k (to_cap i) (to_object t (pos b) q) h f.leads in absurd cc
 
 -- Whether a word of a message has one of these forms is decided.
 pub lax_decided : (m : List (List ℕ)) (s w p : ℕ) → HasWord m s w p → LaxOrNot m s w

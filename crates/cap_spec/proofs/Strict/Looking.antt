@@ -18,7 +18,8 @@ near_has_none m s w p has n what x =
     absurd (omega (arith, l.3, leads-near m s w l.0 l.1 l.2 p has n))
 
 -- It has a one-word pad.
-module _ (m : List (List ℕ)) (s w p q : ℕ) (has : HasWord m s w p) (one : IsOnePad p) (hasq : HasWord m (far_segment p) (pad p) q) where
+module _ (m : List (List ℕ)) (s w p q : ℕ) (has : HasWord m s w p) (one : IsOnePad p)
+    (hasq : HasWord m (far_segment p) (pad p) q) where
   -- of zeros
   pub zero_pad : q ≡ 0 → IsLaxAt m s w NullPad
   zero_pad e = one_pad p q has one hasq (λ f. absurd (omega (arith, e, f))) e refl
@@ -43,13 +44,16 @@ module _ (m : List (List ℕ)) (s w p q : ℕ) (has : HasWord m s w p) (one : Is
   other_pad some n CapabilityPad (i, h) = n (leads-one m s w 1 (to_cap i) h p q has one hasq).1.0.0
 
 -- It has a two-word pad.
-module _ (m : List (List ℕ)) (s w p f q : ℕ) (has : HasWord m s w p) (both : IsTwoPad p) (hasf : HasWord m (far_segment p) (pad p) f) (hasq : HasWord m (far_segment p) (pad p + 1) q) where
+module _ (m : List (List ℕ)) (s w p f q : ℕ) (has : HasWord m s w p) (both : IsTwoPad p)
+    (hasf : HasWord m (far_segment p) (pad p) f) (hasq : HasWord m (far_segment p) (pad p + 1) q) where
   -- into a segment without words
   pub empty_pad : (cost : ℕ) → Costs m s w cost → segment_of m (far_segment f) ≡ [] → IsLaxAt m s w EmptySegment
   empty_pad cost (inl h) e =
-      let x : to_null ≡ to_object (far_segment f) (pos (pad f)) q = (leads-two m s w cost to_null h p f q has both hasf hasq).1 in absurd cc
+      let x : to_null ≡ to_object (far_segment f) (pos (pad f)) q =
+      (leads-two m s w cost to_null h p f q has both hasf hasq).1 in absurd cc
   empty_pad cost (inr (inl (i, h))) e =
-      let x : to_cap i ≡ to_object (far_segment f) (pos (pad f)) q = (leads-two m s w cost (to_cap i) h p f q has both hasf hasq).1 in absurd cc
+      let x : to_cap i ≡ to_object (far_segment f) (pos (pad f)) q =
+      (leads-two m s w cost (to_cap i) h p f q has both hasf hasq).1 in absurd cc
   empty_pad cost (inr (inr (k, t, b, y, tag, finds, tagged, sum))) e =
       let x : to_object t (pos b) y ≡ to_object (far_segment f) (pos (pad f)) q =
       (leads-two m s w k (to_object t (pos b) y) finds.leads p f q has both hasf hasq).1 in

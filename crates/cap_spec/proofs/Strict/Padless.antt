@@ -1,11 +1,13 @@
 -- Where a tree is charged its cost alone, no pointer has a landing pad.
-use Rattle.std.proofs.Common.{ℕ, zero, suc, ◌+◌, ◌*◌, ◌<◌, ◌≤◌, List, [], ◌∷◌, ◌≡◌, sym, ap, refl, subst, ◌∙◌, arith, length, inl, inr}
+use Rattle.std.proofs.Common.{ℕ, zero, suc, ◌+◌, ◌*◌, ◌<◌, ◌≤◌, List, [], ◌∷◌, ◌≡◌, sym, ap, refl}
+use Rattle.std.proofs.Common.{subst, ◌∙◌, arith, length, inl, inr}
 use Rattle.std.specs.Prelude.{pos}
 use Rattle.cap_spec.specs.Messages.{HasWord, segment_of}
 use Rattle.cap_spec.specs.Pointers.{kind, code, middle, data_size, pointer_size, list_size, list_words, extent}
 use Rattle.cap_spec.specs.Following.{Lead, Leads, extra, to_null, to_cap, to_object}
 use Rattle.cap_spec.specs.Tree.{Tree, null, cap, struct, scalars, pointers, structs, Trees, none, more, tree_count}
-use Rattle.cap_spec.specs.Denoting.{Finds, FindsStruct, FindsPointers, FindsStructs, Denotes, DenoteEach, AreElements, places}
+use Rattle.cap_spec.specs.Denoting.{Finds, FindsStruct, FindsPointers, FindsStructs, Denotes}
+use Rattle.cap_spec.specs.Denoting.{DenoteEach, AreElements, places}
 use Rattle.cap_spec.specs.Paths.{Spot, word, element, Goes, Walks}
 use Rattle.cap_spec.specs.declared.Step.{Step}
 use Rattle.cap_spec.specs.declared.Step.TheVariants.{Ptr, Item}
@@ -13,10 +15,13 @@ use Rattle.cap_spec.proofs.Pointers.Following.{one_lead}
 use Rattle.cap_spec.proofs.Frames.Messages.{one_word}
 use Rattle.cap_spec.proofs.Trees.Finding.{SameObject, one_object}
 use Rattle.cap_spec.proofs.Trees.OneTree.{number_struct, number_list, cons_parts}
-use Rattle.cap_spec.proofs.Trees.Charges.{each_charged, elements_fit, extent_pointers, extent_struct, extent_structs, length-places}
+use Rattle.cap_spec.proofs.Trees.Charges.{each_charged, elements_fit, extent_pointers}
+use Rattle.cap_spec.proofs.Trees.Charges.{extent_struct, extent_structs, length-places}
 use Rattle.cap_spec.proofs.Trees.DenotedTrees.{elements_inside, range_length}
 use Rattle.cap_spec.proofs.Paths.Arrivals.{found_form}
-use Rattle.cap_spec.proofs.Canonical.TreeMeasures.{cost, costs, element_costs, each_measured, elements_measured, extent_scalars, extra_scalars, extra_structs, idle, length-values, measured}
+use Rattle.cap_spec.proofs.Canonical.TreeMeasures.{cost, costs, element_costs, each_measured}
+use Rattle.cap_spec.proofs.Canonical.TreeMeasures.{elements_measured, extent_scalars, extra_scalars}
+use Rattle.cap_spec.proofs.Canonical.TreeMeasures.{extra_structs, idle, length-values, measured}
 
 -- what is at a spot is charged no more than its cost
 abbrev pub Tight : List (List ℕ) → Spot → Tree → Type 0
@@ -32,60 +37,84 @@ no_pads_left k x i x' e c e1 e2 e3 e4 = (omega arith, omega arith)
 no_pads_scalars : (k x y x' y' c : ℕ) → c ≡ k + x + y → x ≡ x' → y ≡ y' → c ≤ x' + y' → k ≡ 0
 no_pads_scalars k x y x' y' c e1 e2 e3 e4 = omega arith
 
-no_pads_structs : (k x y i l a y' e c : ℕ) → c ≡ k + x + y + i → x ≡ 1 + l → y ≡ y' → a ≤ l → e ≤ i → c ≤ 1 + a + y' + e → (k ≡ 0) × (i ≤ e)
+no_pads_structs : (k x y i l a y' e c : ℕ) → c ≡ k + x + y + i → x ≡ 1 + l → y ≡ y' → a ≤ l → e ≤ i → c ≤ 1 + a + y' + e
+    → (k ≡ 0) × (i ≤ e)
 no_pads_structs k x y i l a y' e c e1 e2 e3 e4 e5 e6 = (omega arith, omega arith)
 
 -- a struct that is charged no more than its cost has no pads, and nor have its children
-struct_tight : (m : List (List ℕ)) (s w : ℕ) (words : List ℕ) (ts : Trees) (k t b q inner deep c d : ℕ) → FindsStruct m s w words k t b q inner deep c d
-    → DenoteEach m (places t (b + data_size q) (pointer_size q)) ts inner deep → c ≤ cost (struct words ts) → (k ≡ 0) × (inner ≤ costs ts)
+struct_tight : (m : List (List ℕ)) (s w : ℕ) (words : List ℕ) (ts : Trees) (k t b q inner deep c d : ℕ)
+    → FindsStruct m s w words k t b q inner deep c d
+    → DenoteEach m (places t (b + data_size q) (pointer_size q)) ts inner deep → c ≤ cost (struct words ts)
+    → (k ≡ 0) × (inner ≤ costs ts)
 struct_tight m s w words ts k t b q inner deep c d f each le =
     let x : extent q ≡ data_size q + pointer_size q = extent_struct q f.kind in
-    let l : length words ≡ data_size q = ap length f.data_words ∙ range_length m t b (data_size q) (omega (arith, f.finds.sits.inside, x)) in
+    let l : length words ≡ data_size q = ap length f.data_words
+    ∙ range_length m t b (data_size q) (omega (arith, f.finds.sits.inside, x)) in
     let n : tree_count ts ≡ pointer_size q =
-    (each_charged m (places t (b + data_size q) (pointer_size q)) ts inner deep each).0 ∙ length-places t (b + data_size q) (pointer_size q) in
+    (each_charged m (places t (b + data_size q) (pointer_size q)) ts inner deep each).0
+    ∙ length-places t (b + data_size q) (pointer_size q) in
     let a = each_measured m (places t (b + data_size q) (pointer_size q)) ts inner deep each in
-    no_pads_left k (extent q) inner (length words + tree_count ts) (costs ts) c f.charge (omega (arith, x, l, n)) a.charged le
+    no_pads_left k (extent q) inner (length words + tree_count ts) (costs ts) c f.charge
+    (omega (arith, x, l, n)) a.charged le
 
-pointers_tight : (m : List (List ℕ)) (s w : ℕ) (ts : Trees) (k t b q inner deep c d : ℕ) → FindsPointers m s w k t b q inner deep c d
+pointers_tight : (m : List (List ℕ)) (s w : ℕ) (ts : Trees) (k t b q inner deep c d : ℕ)
+    → FindsPointers m s w k t b q inner deep c d
     → DenoteEach m (places t b (list_size q)) ts inner deep → c ≤ cost (pointers ts) → (k ≡ 0) × (inner ≤ costs ts)
 pointers_tight m s w ts k t b q inner deep c d f each le =
     let x : extent q ≡ list_size q = extent_pointers q f.kind f.code in
-    let n : tree_count ts ≡ list_size q = (each_charged m (places t b (list_size q)) ts inner deep each).0 ∙ length-places t b (list_size q) in
+    let n : tree_count ts ≡ list_size q = (each_charged m (places t b (list_size q)) ts inner deep each).0
+    ∙ length-places t b (list_size q) in
     let a = each_measured m (places t b (list_size q)) ts inner deep each in
     no_pads_left k (extent q) inner (tree_count ts) (costs ts) c f.charge (omega (arith, x, n)) a.charged le
 
-structs_tight : (m : List (List ℕ)) (s w ds ps : ℕ) (es : Trees) (k t b q tag inner deep c d : ℕ) → FindsStructs m s w ds ps k t b q tag inner deep c d
-    → AreElements m t (b + 1) ds ps (middle tag) es inner deep → c ≤ cost (structs ds ps es) → (k ≡ 0) × (inner ≤ element_costs es)
+structs_tight : (m : List (List ℕ)) (s w ds ps : ℕ) (es : Trees) (k t b q tag inner deep c d : ℕ)
+    → FindsStructs m s w ds ps k t b q tag inner deep c d
+    → AreElements m t (b + 1) ds ps (middle tag) es inner deep → c ≤ cost (structs ds ps es)
+    → (k ≡ 0) × (inner ≤ element_costs es)
 structs_tight m s w ds ps es k t b q tag inner deep c d f each le =
-    let a = elements_measured m t (b + 1) ds ps (middle tag) es inner deep (elements_inside m s w ds ps k t b q tag inner deep c d f) each in
+    let a = elements_measured m t (b + 1) ds ps (middle tag) es inner deep
+    (elements_inside m s w ds ps k t b q tag inner deep c d f) each in
     let x : extent q ≡ 1 + list_size q = extent_structs q f.kind f.code in
     let i : middle tag * ds + middle tag * ps ≤ list_size q = elements_fit m s w ds ps k t b q tag inner deep c d f in
     let j : tree_count es * (ds + ps) ≤ list_size q = rw a.count (omega (arith, i)) in
-    let y : extra q tag ≡ idle (ds + ps) (tree_count es) = rw (f.data_sizes, f.pointer_sizes, a.count) (extra_structs q tag f.kind f.code) in
-    no_pads_structs k (extent q) (extra q tag) inner (list_size q) (tree_count es * (ds + ps)) (idle (ds + ps) (tree_count es)) (element_costs es) c
+    let y : extra q tag ≡ idle (ds + ps) (tree_count es) =
+    rw (f.data_sizes, f.pointer_sizes, a.count) (extra_structs q tag f.kind f.code) in
+    no_pads_structs k (extent q) (extra q tag) inner (list_size q) (tree_count es * (ds + ps))
+    (idle (ds + ps) (tree_count es)) (element_costs es) c
     f.charge x y j a.charged le
 
 -- a word whose tree is charged no more than its cost leads there without pads
-pub own_padless : (m : List (List ℕ)) (s w : ℕ) (t : Tree) (c d k : ℕ) (r : Lead) → Denotes m s w t c d → c ≤ cost t → Leads m s w k r → k ≡ 0
+pub own_padless : (m : List (List ℕ)) (s w : ℕ) (t : Tree) (c d k : ℕ) (r : Lead) → Denotes m s w t c d → c ≤ cost t
+    → Leads m s w k r → k ≡ 0
 own_padless m s w null c d k r h le l = omega (arith, le, one_lead m s w c k to_null r h.0 l)
 own_padless m s w (cap i) c d k r h le l = omega (arith, le, one_lead m s w c k (to_cap i) r h.0 l)
 own_padless m s w (struct words ts) c d k r h le l =
-    omega (arith, one_lead m s w h.0 k (to_object h.1 (pos h.2) h.3) r h.6.finds.leads l, struct_tight m s w words ts h.0 h.1 h.2 h.3 h.4 h.5 c d h.6 h.7 le)
+    omega (
+      arith,
+      one_lead m s w h.0 k (to_object h.1 (pos h.2) h.3) r h.6.finds.leads l,
+      struct_tight m s w words ts h.0 h.1 h.2 h.3 h.4 h.5 c d h.6 h.7 le,
+    )
 own_padless m s w (scalars e vs) c d k r h le l =
     let f = h.4 in
     let n : length vs ≡ list_size h.3 = ap length f.elements ∙ length-values m h.1 h.2 e (list_size h.3) in
     let x = extent_scalars h.3 e f.kind f.code f.scalar ∙ ap (list_words e) (sym n) in
     let y = extra_scalars h.3 e f.kind f.code f.scalar ∙ ap (idle e) (sym n) in
-    let z : h.0 ≡ 0 = no_pads_scalars h.0 (extent h.3) (extra h.3 0) (list_words e (length vs)) (idle e (length vs)) c f.charge x y le in
+    let z : h.0 ≡ 0 = no_pads_scalars h.0 (extent h.3) (extra h.3 0) (list_words e (length vs)) (idle e (length vs))
+    c f.charge x y le in
     omega (arith, one_lead m s w h.0 k (to_object h.1 (pos h.2) h.3) r f.finds.leads l, z)
 own_padless m s w (pointers ts) c d k r h le l =
-    omega (arith, one_lead m s w h.0 k (to_object h.1 (pos h.2) h.3) r h.6.finds.leads l, pointers_tight m s w ts h.0 h.1 h.2 h.3 h.4 h.5 c d h.6 h.7 le)
+    omega (
+      arith,
+      one_lead m s w h.0 k (to_object h.1 (pos h.2) h.3) r h.6.finds.leads l,
+      pointers_tight m s w ts h.0 h.1 h.2 h.3 h.4 h.5 c d h.6 h.7 le,
+    )
 own_padless m s w (structs ds ps es) c d k r h le l =
     let a = structs_tight m s w ds ps es h.0 h.1 h.2 h.3 h.4 h.5 h.6 c d h.7 h.8 le in
     omega (arith, one_lead m s w h.0 k (to_object h.1 (pos h.2) h.3) r h.7.finds.leads l, a)
 
 -- a word of a row, where the row is charged no more than its cost
-each_tight : (m : List (List ℕ)) (t b n : ℕ) (ts : Trees) (c d i x : ℕ) → DenoteEach m (places t b n) ts c d → c ≤ costs ts → i < n → x ≡ b + i
+each_tight : (m : List (List ℕ)) (t b n : ℕ) (ts : Trees) (c d i x : ℕ) → DenoteEach m (places t b n) ts c d
+    → c ≤ costs ts → i < n → x ≡ b + i
     → (u : Tree) × Tight m (word t x) u
 each_tight m t b zero none c d i x h le lt e = absurd (omega arith)
 each_tight m t b (suc n) none c d i x h le lt e = absurd (cc h.0)
@@ -93,12 +122,20 @@ each_tight m t b zero (more u ts) c d i x h le lt e = absurd (omega arith)
 each_tight m t b (suc n) (more u ts) c d zero x h le lt e =
     let p = cons_parts (t, b) (h.0, h.1) (places t (b + 1) n) h.2 h.7 in
     let f : x ≡ b = omega arith in
-    let a = each_measured m h.2 ts h.5 h.6 h.9 in
-    (u, (h.3, h.4, rw f (subst (λ (y : ℕ × ℕ). Denotes m y.0 y.1 u h.3 h.4) (sym p.0) h.8), omega (arith, h.10, le, a.charged)))
+    let a = each_measured m h.2 ts h.5 h.6 h.9 in (
+      u,
+      (
+        h.3,
+        h.4,
+        rw f (subst (λ (y : ℕ × ℕ). Denotes m y.0 y.1 u h.3 h.4) (sym p.0) h.8),
+        omega (arith, h.10, le, a.charged),
+      ),
+    )
 each_tight m t b (suc n) (more u ts) c d (suc i) x h le lt e =
     let p = cons_parts (t, b) (h.0, h.1) (places t (b + 1) n) h.2 h.7 in
     let a = measured m h.0 h.1 u h.3 h.4 h.8 in
-    each_tight m t (b + 1) n ts h.5 h.6 i x (rw p.1 h.9) (omega (arith, h.10, le, a.charged)) (omega arith) (omega arith)
+    each_tight m t (b + 1) n ts h.5 h.6 i x (rw p.1 h.9) (omega (arith, h.10, le, a.charged))
+    (omega arith) (omega arith)
 
 -- the elements after the first lie inside too
 elements_after : (b ds ps n n' l : ℕ) → b + n * ds + n * ps ≤ l → n ≡ suc n' → b + ds + ps + n' * ds + n' * ps ≤ l
@@ -108,21 +145,26 @@ elements_after b ds ps n n' l h e =
     omega (arith, h, y, z)
 
 -- an element, where the elements are charged no more than their cost
-elements_tight : (m : List (List ℕ)) (t b ds ps n : ℕ) (es : Trees) (c d i x : ℕ) → b + n * ds + n * ps ≤ length (segment_of m t)
-    → AreElements m t b ds ps n es c d → c ≤ element_costs es → i < n → x ≡ b + i * (ds + ps) → (u : Tree) × Tight m (element t x ds ps) u
+elements_tight : (m : List (List ℕ)) (t b ds ps n : ℕ) (es : Trees) (c d i x : ℕ)
+    → b + n * ds + n * ps ≤ length (segment_of m t)
+    → AreElements m t b ds ps n es c d → c ≤ element_costs es → i < n → x ≡ b + i * (ds + ps)
+    → (u : Tree) × Tight m (element t x ds ps) u
 elements_tight m t b ds ps n none c d i x inside h le lt e = absurd (omega (arith, h.0))
 elements_tight m t b ds ps n (more (struct ws ts) es) c d zero x inside h le lt e =
     let f : x ≡ b = omega arith in
-    let later = elements_measured m t (b + ds + ps) ds ps h.0 es h.3 h.4 (elements_after b ds ps n h.0 (length (segment_of m t)) inside h.5) h.8 in
+    let later = elements_measured m t (b + ds + ps) ds ps h.0 es h.3 h.4
+    (elements_after b ds ps n h.0 (length (segment_of m t)) inside h.5) h.8 in
     (struct ws ts, (h.1, h.2, rw f h.7, omega (arith, h.9, le, later.charged)))
 elements_tight m t b ds ps n (more (struct ws ts) es) c d (suc i) x inside h le lt e =
     let own = each_measured m (places t (b + ds) ps) ts h.1 h.2 h.7 in
-    elements_tight m t (b + ds + ps) ds ps h.0 es h.3 h.4 i x (elements_after b ds ps n h.0 (length (segment_of m t)) inside h.5) h.8
+    elements_tight m t (b + ds + ps) ds ps h.0 es h.3 h.4 i x
+    (elements_after b ds ps n h.0 (length (segment_of m t)) inside h.5) h.8
     (omega (arith, h.9, le, own.charged)) (omega (arith, lt, h.5)) (omega (arith, e))
 elements_tight m t b ds ps n (more y es) c d i x inside h le lt e = absurd h
 
 -- a step from a word to a struct's pointer, to an entry of a list of pointers, and to an element
-to_pointer : (m : List (List ℕ)) (s w : ℕ) (x : Tree) (c d k t b q i : ℕ) → Denotes m s w x c d → c ≤ cost x → Finds m s w k t b q
+to_pointer : (m : List (List ℕ)) (s w : ℕ) (x : Tree) (c d k t b q i : ℕ) → Denotes m s w x c d → c ≤ cost x
+    → Finds m s w k t b q
     → kind q ≡ 0 → i < pointer_size q → (u : Tree) × Tight m (word t (b + data_size q + i)) u
 to_pointer m s w (struct ws ts) c d k t b q i h le f e lt =
     let o : SameObject k t b q h.0 h.1 h.2 h.3 = one_object m s w k t b q h.0 h.1 h.2 h.3 f h.6.finds in
@@ -130,38 +172,50 @@ to_pointer m s w (struct ws ts) c d k t b q i h le f e lt =
     let r = each_tight m h.1 (h.2 + data_size h.3) (pointer_size h.3) ts h.4 h.5 i (b + data_size q + i) h.7 a.1
     (rw (← o.shape) lt) (rw (o.start, o.shape) refl) in
     (r.0, subst (λ (y : ℕ). Tight m (word y (b + data_size q + i)) r.0) (sym o.segment) r.1)
-to_pointer m s w x c d k t b q i h le f e lt = absurd (omega (arith, number_struct (kind q) (code q) e, found_form m s w x c d k t b q h f))
+to_pointer m s w x c d k t b q i h le f e lt =
+    absurd (omega (arith, number_struct (kind q) (code q) e, found_form m s w x c d k t b q h f))
 
-to_entry : (m : List (List ℕ)) (s w : ℕ) (x : Tree) (c d k t b q i : ℕ) → Denotes m s w x c d → c ≤ cost x → Finds m s w k t b q
+to_entry : (m : List (List ℕ)) (s w : ℕ) (x : Tree) (c d k t b q i : ℕ) → Denotes m s w x c d → c ≤ cost x
+    → Finds m s w k t b q
     → kind q ≡ 1 → code q ≡ 6 → i < list_size q → (u : Tree) × Tight m (word t (b + i)) u
 to_entry m s w (pointers ts) c d k t b q i h le f e g lt =
     let o : SameObject k t b q h.0 h.1 h.2 h.3 = one_object m s w k t b q h.0 h.1 h.2 h.3 f h.6.finds in
     let a = pointers_tight m s w ts h.0 h.1 h.2 h.3 h.4 h.5 c d h.6 h.7 le in
     let r = each_tight m h.1 h.2 (list_size h.3) ts h.4 h.5 i (b + i) h.7 a.1 (rw (← o.shape) lt) (rw o.start refl) in
     (r.0, subst (λ (y : ℕ). Tight m (word y (b + i)) r.0) (sym o.segment) r.1)
-to_entry m s w x c d k t b q i h le f e g lt = absurd (omega (arith, number_list (kind q) (code q) e, g, found_form m s w x c d k t b q h f))
+to_entry m s w x c d k t b q i h le f e g lt =
+    absurd (omega (arith, number_list (kind q) (code q) e, g, found_form m s w x c d k t b q h f))
 
 -- an element by equal places
 tight_moved : (m : List (List ℕ)) (t t' x ds ds' ps ps' : ℕ) (u : Tree) → t ≡ t' → ds ≡ ds' → ps ≡ ps'
     → Tight m (element t x ds ps) u → Tight m (element t' x ds' ps') u
 tight_moved m t t' x ds ds' ps ps' u e f g h = rw (← e, ← f, ← g) h
 
-to_element : (m : List (List ℕ)) (s w : ℕ) (x : Tree) (c d k t b q tag i : ℕ) → Denotes m s w x c d → c ≤ cost x → Finds m s w k t b q
+to_element : (m : List (List ℕ)) (s w : ℕ) (x : Tree) (c d k t b q tag i : ℕ) → Denotes m s w x c d → c ≤ cost x
+    → Finds m s w k t b q
     → kind q ≡ 1 → code q ≡ 7 → HasWord m t b tag → i < middle tag
-    → (u : Tree) × Tight m (element t (b + 1 + i * (data_size tag + pointer_size tag)) (data_size tag) (pointer_size tag)) u
+    → (u : Tree) × Tight m (element t (b + 1 + i * (data_size tag + pointer_size tag)) (data_size tag)
+    (pointer_size tag)) u
 to_element m s w (structs ds ps es) c d k t b q tag i h le f e g y lt =
     let o : SameObject k t b q h.0 h.1 h.2 h.3 = one_object m s w k t b q h.0 h.1 h.2 h.3 f h.7.finds in
     let z : tag ≡ h.4 = one_word m t b tag h.4 y (rw (o.segment, o.start) h.7.has_tag) in
     let a = structs_tight m s w ds ps es h.0 h.1 h.2 h.3 h.4 h.5 h.6 c d h.7 h.8 le in
-    let r = elements_tight m h.1 (h.2 + 1) ds ps (middle h.4) es h.5 h.6 i (b + 1 + i * (data_size tag + pointer_size tag))
-    (elements_inside m s w ds ps h.0 h.1 h.2 h.3 h.4 h.5 h.6 c d h.7) h.8 a.1 (rw (← z) lt) (rw (o.start, z, h.7.data_sizes, h.7.pointer_sizes) refl) in
+    let r = elements_tight m h.1 (h.2 + 1) ds ps (middle h.4) es h.5 h.6 i
+    (b + 1 + i * (data_size tag + pointer_size tag))
+    (elements_inside m s w ds ps h.0 h.1 h.2 h.3 h.4 h.5 h.6 c d h.7) h.8 a.1 (rw (← z) lt)
+    (rw (o.start, z, h.7.data_sizes, h.7.pointer_sizes) refl) in
     let y1 : ds ≡ data_size tag = h.7.data_sizes ∙ ap data_size (sym z) in
-    let y2 : ps ≡ pointer_size tag = h.7.pointer_sizes ∙ ap pointer_size (sym z) in
-    (r.0, tight_moved m h.1 t (b + 1 + i * (data_size tag + pointer_size tag)) ds (data_size tag) ps (pointer_size tag) r.0 (sym o.segment) y1 y2 r.1)
-to_element m s w x c d k t b q tag i h le f e g y lt = absurd (omega (arith, number_list (kind q) (code q) e, g, found_form m s w x c d k t b q h f))
+    let y2 : ps ≡ pointer_size tag = h.7.pointer_sizes ∙ ap pointer_size (sym z) in (
+      r.0,
+      tight_moved m h.1 t (b + 1 + i * (data_size tag + pointer_size tag)) ds (data_size tag) ps (pointer_size tag)
+          r.0 (sym o.segment) y1 y2 r.1,
+    )
+to_element m s w x c d k t b q tag i h le f e g y lt =
+    absurd (omega (arith, number_list (kind q) (code q) e, g, found_form m s w x c d k t b q h f))
 
 -- a step from a spot that is charged no more than its cost leads to another one
-step_tight : (m : List (List ℕ)) (a : Spot) (step : Step) (b : Spot) (x : Tree) → Tight m a x → Goes m a step b → (u : Tree) × Tight m b u
+step_tight : (m : List (List ℕ)) (a : Spot) (step : Step) (b : Spot) (x : Tree) → Tight m a x → Goes m a step b
+    → (u : Tree) × Tight m b u
 step_tight m (word s w) (Ptr i) b x h g =
     let r = to_pointer m s w x h.0 h.1 g.0 g.1 g.2 g.3 i h.2 h.3 g.4 g.5 g.6 in
     (r.0, subst (λ (y : Spot). Tight m y r.0) (sym g.7) r.1)
@@ -178,7 +232,8 @@ step_tight m (element t b ds ps) (Ptr i) y x h g = absurd h
 step_tight m (element t b ds ps) (Item i) y x h g = absurd g
 
 -- and so does a path
-pub walk_tight : (m : List (List ℕ)) (a : Spot) (path : List Step) (n : ℕ) (b : Spot) (x : Tree) → Tight m a x → Walks m a path n b → (u : Tree) × Tight m b u
+pub walk_tight : (m : List (List ℕ)) (a : Spot) (path : List Step) (n : ℕ) (b : Spot) (x : Tree) → Tight m a x
+    → Walks m a path n b → (u : Tree) × Tight m b u
 walk_tight m a [] n b x h g = (x, subst (λ (y : Spot). Tight m y x) (sym g.1) h)
 walk_tight m a (step ∷ path) n b x h g =
     let r = step_tight m a step g.0 x h g.2 in

@@ -1,5 +1,7 @@
--- The word limit that follows from what was sent: what it bounds, which refusals it adds, and that a copy may be past it.
-use Rattle.std.proofs.Common.{ℕ, ◌+◌, ◌-◌, ◌≤◌, ◌≡◌, ◌⊎◌, ◌↔◌, List, [], ◌∷◌, length, sum, inl, inr, ap, arith, length-append}
+-- The word limit that follows from what was sent: what it bounds, which refusals it adds,
+-- and that a copy may be past it.
+use Rattle.std.proofs.Common.{ℕ, ◌+◌, ◌-◌, ◌≤◌, ◌≡◌, ◌⊎◌, ◌↔◌, List, [], ◌∷◌, length, sum}
+use Rattle.std.proofs.Common.{inl, inr, ap, arith, length-append}
 use Rattle.cap_spec.specs.Canonical.{layout, trim}
 use Rattle.cap_spec.specs.Copies.{HasCopy}
 use Rattle.cap_spec.specs.Denoting.{Denotes}
@@ -15,16 +17,20 @@ use Rattle.cap_spec.proofs.Disjoint.Bounds.{charge_below_words}
 use Rattle.cap_spec.proofs.Frames.Endings.{length_joined}
 
 -- a charge is within the limit where it is within the words given, and within the words of the segments with the slack
-pub within_both : (m : List (List ℕ)) (words c : ℕ) → c ≤ unamplified m words ↔ (c ≤ words) × (c ≤ sum (sizes_of m) + 4096)
+pub within_both : (m : List (List ℕ)) (words c : ℕ) → c ≤ unamplified m words
+    ↔ (c ≤ words) × (c ≤ sum (sizes_of m) + 4096)
 within_both m words c = ((λ h. (omega (arith, h), omega (arith, h))), (λ h. omega (arith, h.0, h.1)))
 
 -- A message that uses no word twice is charged its words at most, but for elements without bits or words.
-pub disjoint_unamplified : (m : List (List ℕ)) (t : Tree) (c d words : ℕ) → Denotes m 0 0 t c d → IsDisjoint m → empty_count t ≤ 4097 → c ≤ words
+pub disjoint_unamplified : (m : List (List ℕ)) (t : Tree) (c d words : ℕ) → Denotes m 0 0 t c d → IsDisjoint m
+    → empty_count t ≤ 4097 → c ≤ words
     → c ≤ unamplified m words
-disjoint_unamplified m t c d words h apart few le = (within_both m words c).1 (le, omega (arith, charge_below_words m t c d h apart, few))
+disjoint_unamplified m t c d words h apart few le =
+    (within_both m words c).1 (le, omega (arith, charge_below_words m t c d h apart, few))
 
 -- a copy has at most one word more than is charged
-pub copy_length : (m : List (List ℕ)) (words : List ℕ) (limit : ℕ) → (k : HasCopy m words) → k.charge ≤ unamplified m limit
+pub copy_length : (m : List (List ℕ)) (words : List ℕ) (limit : ℕ) → (k : HasCopy m words)
+    → k.charge ≤ unamplified m limit
     → length words ≤ sum (sizes_of m) + 4097
 copy_length m words limit k h =
     let l : length words ≡ length (layout (trim k.tree)) = ap length k.laid in
@@ -38,21 +44,33 @@ paired_some x [] = omega arith
 paired_some x (y ∷ ys) = omega arith
 
 -- and so is its frame longer than the message's
-pub copy_frame_length : (m : List (List ℕ)) (words : List ℕ) (limit : ℕ) → (k : HasCopy m words) → k.charge ≤ unamplified m limit
+pub copy_frame_length : (m : List (List ℕ)) (words : List ℕ) (limit : ℕ) → (k : HasCopy m words)
+    → k.charge ≤ unamplified m limit
     → length (frame_text (words ∷ [])) ≤ length (frame_text m) + 4097
 copy_frame_length m words limit k h =
-    let a : length (frame_text (words ∷ [])) ≡ 1 + length (joined (words ∷ [])) = length-append (paired (0 ∷ length words ∷ [])) (joined (words ∷ [])) in
+    let a : length (frame_text (words ∷ [])) ≡ 1 + length (joined (words ∷ [])) =
+    length-append (paired (0 ∷ length words ∷ [])) (joined (words ∷ [])) in
     let b : length (frame_text m) ≡ length (paired ((length m - 1) ∷ sizes_of m)) + length (joined m) =
     length-append (paired ((length m - 1) ∷ sizes_of m)) (joined m) in
-    omega (arith, a, b, length_joined (words ∷ []), length_joined m, paired_some (length m - 1) (sizes_of m), copy_length m words limit k h)
+    omega (
+      arith,
+      a,
+      b,
+      length_joined (words ∷ []),
+      length_joined m,
+      paired_some (length m - 1) (sizes_of m),
+      copy_length m words limit k h,
+    )
 
 -- The refusals that a smaller word limit adds are by this limit.
-pub added_refusals : (m : List (List ℕ)) (few words depth : ℕ) (refusal : Refusal) → few ≤ words → IsRefused m few depth refusal
+pub added_refusals : (m : List (List ℕ)) (few words depth : ℕ) (refusal : Refusal) → few ≤ words
+    → IsRefused m few depth refusal
     → IsRefused m words depth refusal ⊎ (refusal.reason ≡ WordLimit)
 added_refusals m few words depth refusal le (inl h) = inl (inl h)
 added_refusals m few words depth refusal le (inr f) = by_reason f.reason
   where
-    whole : IsFirstReason m words depth f.charge refusal.segment refusal.word f.level refusal.reason → IsRefused m words depth refusal
+    whole : IsFirstReason m words depth f.charge refusal.segment refusal.word f.level refusal.reason
+        → IsRefused m words depth refusal
     whole reason = inr (record {
       path = f.path;
       before = f.before;

@@ -1,10 +1,13 @@
--- What a pointer word denotes is charged at least what following it costs, and one for each of its pointers but the root.
-use Rattle.std.proofs.Common.{ℕ, zero, suc, ◌+◌, ◌*◌, ◌<◌, ◌≤◌, List, ◌≡◌, sym, ap, refl, subst, ◌∙◌, arith, length, inl, inr, ap₂, Bool, true, false, eqb, eqb-true, ◌≢◌, le_of_eq}
+-- What a pointer word denotes is charged at least what following it costs,
+-- and one for each of its pointers but the root.
+use Rattle.std.proofs.Common.{ℕ, zero, suc, ◌+◌, ◌*◌, ◌<◌, ◌≤◌, List, ◌≡◌, sym, ap, refl, subst, ◌∙◌, arith, length}
+use Rattle.std.proofs.Common.{inl, inr, ap₂, Bool, true, false, eqb, eqb-true, ◌≢◌, le_of_eq}
 use Rattle.std.specs.Prelude.{ℤ, pos}
 use Rattle.std.proofs.lemmas.Bool.{eqb-false}
 use Rattle.cap_spec.specs.Pointers.{kind, middle, code, data_size, pointer_size, list_size, extent}
 use Rattle.cap_spec.specs.Following.{Lead, Leads, near, one_pad, two_pads, to_null, to_cap, to_object, extra}
-use Rattle.cap_spec.specs.Tree.{Tree, null, cap, struct, scalars, pointers, structs, Trees, none, more, tree_count, child_count, child_counts, pointer_count}
+use Rattle.cap_spec.specs.Tree.{Tree, null, cap, struct, scalars, pointers, structs, Trees, none, more, tree_count}
+use Rattle.cap_spec.specs.Tree.{child_count, child_counts, pointer_count}
 use Rattle.cap_spec.specs.Denoting.{FindsStructs, Denotes, DenoteEach, AreElements, places}
 use Rattle.cap_spec.specs.Paths.{Costs}
 use Rattle.cap_spec.proofs.Pointers.Following.{one_lead}
@@ -22,13 +25,18 @@ pub extent_structs : (q : ℕ) → kind q ≡ 1 → code q ≡ 7 → extent q �
 extent_structs q e f = rw (e, f) refl
 
 -- no pads are charged beside what a word denotes, at least
-pub pads_charged : (m : List (List ℕ)) (s w : ℕ) (t : Tree) (c d k : ℕ) (r : Lead) → Denotes m s w t c d → Leads m s w k r → k ≤ c
+pub pads_charged : (m : List (List ℕ)) (s w : ℕ) (t : Tree) (c d k : ℕ) (r : Lead) → Denotes m s w t c d
+    → Leads m s w k r → k ≤ c
 pads_charged m s w null c d k r h l = omega (arith, one_lead m s w c k to_null r h.0 l)
 pads_charged m s w (cap i) c d k r h l = omega (arith, one_lead m s w c k (to_cap i) r h.0 l)
-pads_charged m s w (struct words ts) c d k r h l = omega (arith, one_lead m s w h.0 k (to_object h.1 (pos h.2) h.3) r h.6.finds.leads l, h.6.charge)
-pads_charged m s w (scalars e values) c d k r h l = omega (arith, one_lead m s w h.0 k (to_object h.1 (pos h.2) h.3) r h.4.finds.leads l, h.4.charge)
-pads_charged m s w (pointers ts) c d k r h l = omega (arith, one_lead m s w h.0 k (to_object h.1 (pos h.2) h.3) r h.6.finds.leads l, h.6.charge)
-pads_charged m s w (structs ds ps es) c d k r h l = omega (arith, one_lead m s w h.0 k (to_object h.1 (pos h.2) h.3) r h.7.finds.leads l, h.7.charge)
+pads_charged m s w (struct words ts) c d k r h l =
+    omega (arith, one_lead m s w h.0 k (to_object h.1 (pos h.2) h.3) r h.6.finds.leads l, h.6.charge)
+pads_charged m s w (scalars e values) c d k r h l =
+    omega (arith, one_lead m s w h.0 k (to_object h.1 (pos h.2) h.3) r h.4.finds.leads l, h.4.charge)
+pads_charged m s w (pointers ts) c d k r h l =
+    omega (arith, one_lead m s w h.0 k (to_object h.1 (pos h.2) h.3) r h.6.finds.leads l, h.6.charge)
+pads_charged m s w (structs ds ps es) c d k r h l =
+    omega (arith, one_lead m s w h.0 k (to_object h.1 (pos h.2) h.3) r h.7.finds.leads l, h.7.charge)
 
 -- as many places as pointers
 pub length-places : (t b n : ℕ) → length (places t b n) ≡ n
@@ -36,11 +44,13 @@ length-places t b zero = refl
 length-places t b (suc n) = ap suc (length-places t (b + 1) n)
 
 -- the elements that the tag tells lie inside the list
-pub elements_fit : (m : List (List ℕ)) (s w ds ps k t b q tag inner deep c d : ℕ) → FindsStructs m s w ds ps k t b q tag inner deep c d → middle tag * ds + middle tag * ps ≤ list_size q
+pub elements_fit : (m : List (List ℕ)) (s w ds ps k t b q tag inner deep c d : ℕ)
+    → FindsStructs m s w ds ps k t b q tag inner deep c d → middle tag * ds + middle tag * ps ≤ list_size q
 elements_fit m s w ds ps k t b q tag inner deep c d f =
     let x = f.finds.sits.composite (f.kind, f.code) in
     let e : x.0 ≡ tag = one_word m t b x.0 tag x.1 f.has_tag in
-    let g : middle tag * (data_size tag + pointer_size tag) ≤ list_size q = subst (λ y. middle y * (data_size y + pointer_size y) ≤ list_size q) e x.2.1 in
+    let g : middle tag * (data_size tag + pointer_size tag) ≤ list_size q =
+    subst (λ y. middle y * (data_size y + pointer_size y) ≤ list_size q) e x.2.1 in
     rw (f.data_sizes, f.pointer_sizes) (omega (arith, g))
 
 mutual
@@ -50,17 +60,30 @@ mutual
   children_charged m s w (cap i) c d h = omega arith
   children_charged m s w (struct words ts) c d h =
       let a = each_charged m (places h.1 (h.2 + data_size h.3) (pointer_size h.3)) ts h.4 h.5 h.7 in
-      omega (arith, a, length-places h.1 (h.2 + data_size h.3) (pointer_size h.3), extent_struct h.3 h.6.kind, h.6.charge)
+      omega (
+        arith,
+        a,
+        length-places h.1 (h.2 + data_size h.3) (pointer_size h.3),
+        extent_struct h.3 h.6.kind,
+        h.6.charge,
+      )
   children_charged m s w (scalars e values) c d h = omega arith
   children_charged m s w (pointers ts) c d h =
       let a = each_charged m (places h.1 h.2 (list_size h.3)) ts h.4 h.5 h.7 in
       omega (arith, a, length-places h.1 h.2 (list_size h.3), extent_pointers h.3 h.6.kind h.6.code, h.6.charge)
   children_charged m s w (structs ds ps es) c d h =
       let a = elements_charged m h.1 (h.2 + 1) ds ps (middle h.4) es h.5 h.6 h.8 in
-      omega (arith, a, elements_fit m s w ds ps h.0 h.1 h.2 h.3 h.4 h.5 h.6 c d h.7, extent_structs h.3 h.7.kind h.7.code, h.7.charge)
+      omega (
+        arith,
+        a,
+        elements_fit m s w ds ps h.0 h.1 h.2 h.3 h.4 h.5 h.6 c d h.7,
+        extent_structs h.3 h.7.kind h.7.code,
+        h.7.charge,
+      )
 
   -- the trees are as many as the places, and their children are charged
-  pub each_charged : (m : List (List ℕ)) (ps : List (ℕ × ℕ)) (ts : Trees) (c d : ℕ) → DenoteEach m ps ts c d → (tree_count ts ≡ length ps) × (child_counts ts ≤ c)
+  pub each_charged : (m : List (List ℕ)) (ps : List (ℕ × ℕ)) (ts : Trees) (c d : ℕ) → DenoteEach m ps ts c d
+      → (tree_count ts ≡ length ps) × (child_counts ts ≤ c)
   each_charged m ps none c d h = (rw h.0 refl, omega arith)
   each_charged m ps (more t ts) c d h =
       let a = children_charged m h.0 h.1 t h.3 h.4 h.8 in
@@ -68,7 +91,8 @@ mutual
       (rw h.7 (ap suc b.0), omega (arith, a, b.1, h.10))
 
   -- the pointers of n elements are n times those of one, and those below them are charged
-  pub elements_charged : (m : List (List ℕ)) (t b ds ps n : ℕ) (es : Trees) (c d : ℕ) → AreElements m t b ds ps n es c d → child_counts es ≤ n * ps + c
+  pub elements_charged : (m : List (List ℕ)) (t b ds ps n : ℕ) (es : Trees) (c d : ℕ) → AreElements m t b ds ps n es c d
+      → child_counts es ≤ n * ps + c
   elements_charged m t b ds ps n none c d h = omega arith
   elements_charged m t b ds ps n (more (struct words ts) es) c d h =
       let a = each_charged m (places t (b + ds) ps) ts h.1 h.2 h.7 in
@@ -98,14 +122,19 @@ lead_kind m s w k t b q (two_pads p f x has two first second one tag r pads) = l
 pub one_cost : (m : List (List ℕ)) (s w x y : ℕ) → Costs m s w x → Costs m s w y → x ≡ y
 one_cost m s w x y (inl h) (inl h') = (one_lead m s w x y to_null to_null h h').0
 one_cost m s w x y (inl h) (inr (inl h')) = (one_lead m s w x y to_null (to_cap h'.0) h h'.1).0
-one_cost m s w x y (inl h) (inr (inr h')) = absurd (cc (one_lead m s w x h'.0 to_null (to_object h'.1 (pos h'.2) h'.3) h h'.5.leads).1)
+one_cost m s w x y (inl h) (inr (inr h')) =
+    absurd (cc (one_lead m s w x h'.0 to_null (to_object h'.1 (pos h'.2) h'.3) h h'.5.leads).1)
 one_cost m s w x y (inr (inl h)) (inl h') = (one_lead m s w x y (to_cap h.0) to_null h.1 h').0
 one_cost m s w x y (inr (inl h)) (inr (inl h')) = (one_lead m s w x y (to_cap h.0) (to_cap h'.0) h.1 h'.1).0
-one_cost m s w x y (inr (inl h)) (inr (inr h')) = absurd (cc (one_lead m s w x h'.0 (to_cap h.0) (to_object h'.1 (pos h'.2) h'.3) h.1 h'.5.leads).1)
-one_cost m s w x y (inr (inr h)) (inl h') = absurd (cc (one_lead m s w h.0 y (to_object h.1 (pos h.2) h.3) to_null h.5.leads h').1)
-one_cost m s w x y (inr (inr h)) (inr (inl h')) = absurd (cc (one_lead m s w h.0 y (to_object h.1 (pos h.2) h.3) (to_cap h'.0) h.5.leads h'.1).1)
+one_cost m s w x y (inr (inl h)) (inr (inr h')) =
+    absurd (cc (one_lead m s w x h'.0 (to_cap h.0) (to_object h'.1 (pos h'.2) h'.3) h.1 h'.5.leads).1)
+one_cost m s w x y (inr (inr h)) (inl h') =
+    absurd (cc (one_lead m s w h.0 y (to_object h.1 (pos h.2) h.3) to_null h.5.leads h').1)
+one_cost m s w x y (inr (inr h)) (inr (inl h')) =
+    absurd (cc (one_lead m s w h.0 y (to_object h.1 (pos h.2) h.3) (to_cap h'.0) h.5.leads h'.1).1)
 one_cost m s w x y (inr (inr h)) (inr (inr h')) =
-    let o : SameObject h.0 h.1 h.2 h.3 h'.0 h'.1 h'.2 h'.3 = one_object m s w h.0 h.1 h.2 h.3 h'.0 h'.1 h'.2 h'.3 h.5 h'.5 in
+    let o : SameObject h.0 h.1 h.2 h.3 h'.0 h'.1 h'.2 h'.3 =
+    one_object m s w h.0 h.1 h.2 h.3 h'.0 h'.1 h'.2 h'.3 h.5 h'.5 in
     let e : extra h.3 h.4 ≡ extra h.3 h'.4 = extra_same h.3 h.4 h'.4 (lead_kind m s w h.0 h.1 (pos h.2) h.3 h.5.leads)
     (λ a b. one_word m h.1 h.2 h.4 h'.4 (h.6 (a, b)) (rw (o.segment, o.start) (h'.6 (rw (← o.shape) (a, b))))) in
     h.7 ∙ ap (λ z. h.0 + extent h.3 + z) e ∙ ap₂ (λ u z. u + extent z + extra z h'.4) o.pads o.shape ∙ sym h'.7
@@ -125,18 +154,35 @@ own_below_alone : (a x b c : ℕ) → x ≡ 0 → c ≡ a + b → a + x ≤ c
 own_below_alone a x b c e f = omega arith
 
 -- What a word denotes costs something of its own, which its charge has in it.
-pub own_cost : (m : List (List ℕ)) (s w : ℕ) (t : Tree) (c d : ℕ) → Denotes m s w t c d → (x : ℕ) × Costs m s w x × (x ≤ c)
+pub own_cost : (m : List (List ℕ)) (s w : ℕ) (t : Tree) (c d : ℕ) → Denotes m s w t c d
+    → (x : ℕ) × Costs m s w x × (x ≤ c)
 own_cost m s w null c d h = (c, inl h.0, omega arith)
 own_cost m s w (cap i) c d h = (c, inr (inl (i, h.0)), omega arith)
-own_cost m s w (struct words ts) c d h =
-    (h.0 + extent h.3 + extra h.3 0, inr (inr (h.0, h.1, h.2, h.3, 0, h.6.finds, λ z. absurd (omega (arith, h.6.kind, z.0)), refl)), own_below_alone (h.0 + extent h.3) (extra h.3 0) h.4 c (extra_struct h.3 h.6.kind) h.6.charge)
-own_cost m s w (scalars e values) c d h =
-    (h.0 + extent h.3 + extra h.3 0, inr (inr (h.0, h.1, h.2, h.3, 0, h.4.finds, λ z. absurd (omega (arith, h.4.code, h.4.scalar, z.1)), refl)), le_of_eq (sym h.4.charge))
-own_cost m s w (pointers ts) c d h =
-    (h.0 + extent h.3 + extra h.3 0, inr (inr (h.0, h.1, h.2, h.3, 0, h.6.finds, λ z. absurd (omega (arith, h.6.code, z.1)), refl)), own_below_alone (h.0 + extent h.3) (extra h.3 0) h.4 c (extra_pointers h.3 h.6.kind h.6.code) h.6.charge)
-own_cost m s w (structs ds ps es) c d h =
-    (h.0 + extent h.3 + extra h.3 h.4, inr (inr (h.0, h.1, h.2, h.3, h.4, h.7.finds, λ z. h.7.has_tag, refl)), own_below (h.0 + extent h.3 + extra h.3 h.4) h.5 c h.7.charge)
+own_cost m s w (struct words ts) c d h = (
+  h.0 + extent h.3 + extra h.3 0,
+  inr (inr
+      (h.0, h.1, h.2, h.3, 0, h.6.finds, λ z. absurd (omega (arith, h.6.kind, z.0)), refl)),
+  own_below_alone (h.0 + extent h.3) (extra h.3 0) h.4 c (extra_struct h.3 h.6.kind) h.6.charge,
+)
+own_cost m s w (scalars e values) c d h = (
+  h.0 + extent h.3 + extra h.3 0,
+  inr (inr
+      (h.0, h.1, h.2, h.3, 0, h.4.finds, λ z. absurd (omega (arith, h.4.code, h.4.scalar, z.1)), refl)),
+  le_of_eq (sym h.4.charge),
+)
+own_cost m s w (pointers ts) c d h = (
+  h.0 + extent h.3 + extra h.3 0,
+  inr (inr
+      (h.0, h.1, h.2, h.3, 0, h.6.finds, λ z. absurd (omega (arith, h.6.code, z.1)), refl)),
+  own_below_alone (h.0 + extent h.3) (extra h.3 0) h.4 c (extra_pointers h.3 h.6.kind h.6.code) h.6.charge,
+)
+own_cost m s w (structs ds ps es) c d h = (
+  h.0 + extent h.3 + extra h.3 h.4,
+  inr (inr (h.0, h.1, h.2, h.3, h.4, h.7.finds, λ z. h.7.has_tag, refl)),
+  own_below (h.0 + extent h.3 + extra h.3 h.4) h.5 c h.7.charge,
+)
 
 -- The pointers of what a word denotes are at most its charge and one.
-pub pointers_charged : (m : List (List ℕ)) (s w : ℕ) (t : Tree) (c d : ℕ) → Denotes m s w t c d → pointer_count t ≤ c + 1
+pub pointers_charged : (m : List (List ℕ)) (s w : ℕ) (t : Tree) (c d : ℕ) → Denotes m s w t c d
+    → pointer_count t ≤ c + 1
 pointers_charged m s w t c d h = omega (arith, children_charged m s w t c d h)

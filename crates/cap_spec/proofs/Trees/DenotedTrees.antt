@@ -1,12 +1,14 @@
 -- What a message of words denotes is a tree: its words are words, its values fit, its elements have their sizes.
-use Rattle.std.proofs.Common.{ℕ, zero, suc, ◌+◌, ◌-◌, ◌*◌, ◌^◌, ◌<◌, ◌≤◌, List, [], ◌∷◌, ◌≡◌, ap, ◌∙◌, arith, length, drop, mod-lt, pow_pos, length-drop, length-take-le}
+use Rattle.std.proofs.Common.{ℕ, zero, suc, ◌+◌, ◌-◌, ◌*◌, ◌^◌, ◌<◌, ◌≤◌, List, [], ◌∷◌, ◌≡◌, ap, ◌∙◌, arith, length}
+use Rattle.std.proofs.Common.{drop, mod-lt, pow_pos, length-drop, length-take-le}
 use Rattle.std.specs.Prelude.{map, slice_index_or, ◌%◌, ◌/◌}
 use Rattle.std.specs.List.{range_with_len, AllByRecursion}
 use Rattle.cap_spec.specs.Words.{IsWord, field}
 use Rattle.cap_spec.specs.Messages.{segment_of}
 use Rattle.cap_spec.specs.Pointers.{middle, data_size, pointer_size, list_size, element_bits}
 use Rattle.cap_spec.specs.Following.{Leads, near, one_pad, two_pads, to_cap}
-use Rattle.cap_spec.specs.Tree.{Tree, null, cap, struct, scalars, pointers, structs, Trees, none, more, IsTree, AreTrees, AreElementTrees}
+use Rattle.cap_spec.specs.Tree.{Tree, null, cap, struct, scalars, pointers, structs, Trees, none, more}
+use Rattle.cap_spec.specs.Tree.{IsTree, AreTrees, AreElementTrees}
 use Rattle.cap_spec.specs.Denoting.{FindsStructs, Denotes, DenoteEach, AreElements, places, words_from, value_at}
 use Rattle.cap_spec.proofs.Bytes.Lists.{all_take, all_drop}
 use Rattle.cap_spec.proofs.Trees.Charges.{each_charged, elements_fit, extent_structs, length-places}
@@ -23,16 +25,21 @@ segment_words (x ∷ xs) (suc s) h = segment_words xs s h.1
 
 -- and so are those of a range of it
 range_words : (m : List (List ℕ)) (t b n : ℕ) → AreWords m → AllByRecursion IsWord (words_from m t b n)
-range_words m t b n h = all_take IsWord (b + n - b) (drop b (segment_of m t)) (all_drop IsWord b (segment_of m t) (segment_words m t h))
+range_words m t b n h = all_take IsWord (b + n - b) (drop b (segment_of m t))
+    (all_drop IsWord b (segment_of m t) (segment_words m t h))
 
 -- a field of n bits is below 2 ^ n
 field_below : (x a n : ℕ) → field x a n < 2 ^ n
 field_below x a n = mod-lt (x / 2 ^ a) (pow_pos n)
 
 -- each value of a list fits its element
-pub values_fit : (words : List ℕ) (b bits i n : ℕ) → AllByRecursion (λ v. v < 2 ^ bits) (map (value_at words b bits) (range_with_len i n))
+pub values_fit : (words : List ℕ) (b bits i n : ℕ)
+    → AllByRecursion (λ v. v < 2 ^ bits) (map (value_at words b bits) (range_with_len i n))
 values_fit words b bits i zero = tt
-values_fit words b bits i (suc n) = (field_below (slice_index_or words (b + (i * bits) / 64) 0) ((i * bits) % 64) bits, values_fit words b bits (i + 1) n)
+values_fit words b bits i (suc n) = (
+  field_below (slice_index_or words (b + (i * bits) / 64) 0) ((i * bits) % 64) bits,
+  values_fit words b bits (i + 1) n,
+)
 
 -- a range inside its segment has as many words as are asked for
 pub range_length : (m : List (List ℕ)) (t b n : ℕ) → b + n ≤ length (segment_of m t) → length (words_from m t b n) ≡ n
@@ -46,18 +53,27 @@ cap_fits m s w k i (one_pad p x has one pad_word far says pads) = rw says.1 (fie
 cap_fits m s w k i (two_pads p f x has two first second one tag r pads) = absurd (cc r)
 
 -- the elements of a struct list lie inside its segment
-pub elements_inside : (m : List (List ℕ)) (s w ds ps k t b q tag inner deep c d : ℕ) → FindsStructs m s w ds ps k t b q tag inner deep c d
+pub elements_inside : (m : List (List ℕ)) (s w ds ps k t b q tag inner deep c d : ℕ)
+    → FindsStructs m s w ds ps k t b q tag inner deep c d
     → b + 1 + middle tag * ds + middle tag * ps ≤ length (segment_of m t)
 elements_inside m s w ds ps k t b q tag inner deep c d f =
-    omega (arith, elements_fit m s w ds ps k t b q tag inner deep c d f, extent_structs q f.kind f.code, f.finds.sits.inside)
+    omega (
+      arith,
+      elements_fit m s w ds ps k t b q tag inner deep c d f,
+      extent_structs q f.kind f.code,
+      f.finds.sits.inside,
+    )
 
 mutual
   -- what a message of words denotes is a tree
-  pub denoted_is_tree : (m : List (List ℕ)) → AreWords m → (s w : ℕ) (t : Tree) (c d : ℕ) → Denotes m s w t c d → IsTree t
+  pub denoted_is_tree : (m : List (List ℕ)) → AreWords m → (s w : ℕ) (t : Tree) (c d : ℕ)
+      → Denotes m s w t c d → IsTree t
   denoted_is_tree m a s w null c d h = tt
   denoted_is_tree m a s w (cap i) c d h = cap_fits m s w c i h.0
-  denoted_is_tree m a s w (struct words ts) c d h =
-      (rw h.6.data_words (range_words m h.1 h.2 (data_size h.3) a), each_is_tree m a (places h.1 (h.2 + data_size h.3) (pointer_size h.3)) ts h.4 h.5 h.7)
+  denoted_is_tree m a s w (struct words ts) c d h = (
+    rw h.6.data_words (range_words m h.1 h.2 (data_size h.3) a),
+    each_is_tree m a (places h.1 (h.2 + data_size h.3) (pointer_size h.3)) ts h.4 h.5 h.7,
+  )
   denoted_is_tree m a s w (scalars e values) c d h =
       (h.4.scalar, rw h.4.elements (values_fit (segment_of m h.1) h.2 (element_bits e) 0 (list_size h.3)))
   denoted_is_tree m a s w (pointers ts) c d h = each_is_tree m a (places h.1 h.2 (list_size h.3)) ts h.4 h.5 h.7
@@ -66,9 +82,11 @@ mutual
       (elements_inside m s w ds ps h.0 h.1 h.2 h.3 h.4 h.5 h.6 c d h.7) h.8
 
   -- and what words at places denote are trees
-  pub each_is_tree : (m : List (List ℕ)) → AreWords m → (ps : List (ℕ × ℕ)) (ts : Trees) (c d : ℕ) → DenoteEach m ps ts c d → AreTrees ts
+  pub each_is_tree : (m : List (List ℕ)) → AreWords m → (ps : List (ℕ × ℕ)) (ts : Trees) (c d : ℕ)
+      → DenoteEach m ps ts c d → AreTrees ts
   each_is_tree m a ps none c d h = tt
-  each_is_tree m a ps (more t ts) c d h = (denoted_is_tree m a h.0 h.1 t h.3 h.4 h.8, each_is_tree m a h.2 ts h.5 h.6 h.9)
+  each_is_tree m a ps (more t ts) c d h =
+      (denoted_is_tree m a h.0 h.1 t h.3 h.4 h.8, each_is_tree m a h.2 ts h.5 h.6 h.9)
 
   -- the elements of a list that lies inside its segment are structs of its sizes
   pub elements_are_trees : (m : List (List ℕ)) → AreWords m → (t b ds ps n : ℕ) (es : Trees) (c d : ℕ)

@@ -4,7 +4,8 @@ use Rattle.std.specs.Prelude.{pos}
 use Rattle.cap_spec.specs.Pointers.{kind, middle, code, data_size, pointer_size, list_size, extent}
 use Rattle.cap_spec.specs.Following.{Lead, Leads, to_null, to_cap, to_object, extra}
 use Rattle.cap_spec.specs.Tree.{Tree, null, cap, struct, scalars, pointers, structs, Trees, none, more}
-use Rattle.cap_spec.specs.Denoting.{FindsStruct, FindsScalars, FindsPointers, FindsStructs, Denotes, DenoteEach, AreElements, places, words_from, values_of, element_levels}
+use Rattle.cap_spec.specs.Denoting.{FindsStruct, FindsScalars, FindsPointers, FindsStructs, Denotes, DenoteEach}
+use Rattle.cap_spec.specs.Denoting.{AreElements, places, words_from, values_of, element_levels}
 use Rattle.cap_spec.proofs.Pointers.Following.{one_lead}
 use Rattle.cap_spec.proofs.Trees.Finding.{SameObject, one_object}
 use Rattle.cap_spec.proofs.Frames.Messages.{one_word}
@@ -48,11 +49,22 @@ number_list x y e = rw e (omega arith)
 pub formed : (m : List (List ℕ)) (s w : ℕ) (t : Tree) (c d : ℕ) → Denotes m s w t c d → Formed m s w t
 formed m s w null c d h = record { k = c; r = to_null; leads = h.0; form = refl }
 formed m s w (cap i) c d h = record { k = c; r = to_cap i; leads = h.0; form = refl }
-formed m s w (struct words ts) c d h = record { k = h.0; r = to_object h.1 (pos h.2) h.3; leads = h.6.finds.leads; form = number_struct (kind h.3) (code h.3) h.6.kind }
+formed m s w (struct words ts) c d h =
+    record {
+      k = h.0;
+      r = to_object h.1 (pos h.2) h.3;
+      leads = h.6.finds.leads;
+      form = number_struct (kind h.3) (code h.3) h.6.kind;
+    }
 formed m s w (scalars e values) c d h =
     let n : 2 + kind h.3 * (1 + code h.3) ≡ 3 + code h.3 = number_list (kind h.3) (code h.3) h.4.kind in
     let f = h.4 in
-    record { k = h.0; r = to_object h.1 (pos h.2) h.3; leads = f.finds.leads; form = (omega (arith, n, f.scalar, f.code), omega (arith, n, f.scalar, f.code)) }
+    record {
+      k = h.0;
+      r = to_object h.1 (pos h.2) h.3;
+      leads = f.finds.leads;
+      form = (omega (arith, n, f.scalar, f.code), omega (arith, n, f.scalar, f.code));
+    }
 formed m s w (pointers ts) c d h =
     let n : 2 + kind h.3 * (1 + code h.3) ≡ 3 + code h.3 = number_list (kind h.3) (code h.3) h.6.kind in
     record { k = h.0; r = to_object h.1 (pos h.2) h.3; leads = h.6.finds.leads; form = n ∙ ap (λ x. 3 + x) h.6.code }
@@ -61,7 +73,8 @@ formed m s w (structs ds ps es) c d h =
     record { k = h.0; r = to_object h.1 (pos h.2) h.3; leads = h.7.finds.leads; form = n ∙ ap (λ x. 3 + x) h.7.code }
 
 -- two trees of one word have one number
-same_form : (m : List (List ℕ)) (s w : ℕ) (t t' : Tree) (c d c' d' : ℕ) → Denotes m s w t c d → Denotes m s w t' c' d' → (n : ℕ) × HasForm t n × HasForm t' n
+same_form : (m : List (List ℕ)) (s w : ℕ) (t t' : Tree) (c d c' d' : ℕ) → Denotes m s w t c d → Denotes m s w t' c' d'
+    → (n : ℕ) × HasForm t n × HasForm t' n
 same_form m s w t t' c d c' d' h h' =
     let f : Formed m s w t = formed m s w t c d h in
     let g : Formed m s w t' = formed m s w t' c' d' h' in
@@ -77,7 +90,8 @@ sums : (f : ℕ → ℕ) (k k' q q' i i' c c' : ℕ) → k ≡ k' → q ≡ q' �
 sums f k k' q q' i i' c c' e1 e2 e3 e4 e5 = cc
 
 -- the same of one more part
-more_sums : (f : ℕ → ℕ) (g : ℕ → ℕ → ℕ) (k k' q q' x x' i i' c c' : ℕ) → k ≡ k' → q ≡ q' → x ≡ x' → i ≡ i' → c ≡ k + f q + g q x + i → c' ≡ k' + f q' + g q' x' + i' → c ≡ c'
+more_sums : (f : ℕ → ℕ) (g : ℕ → ℕ → ℕ) (k k' q q' x x' i i' c c' : ℕ) → k ≡ k' → q ≡ q' → x ≡ x' → i ≡ i'
+    → c ≡ k + f q + g q x + i → c' ≡ k' + f q' + g q' x' + i' → c ≡ c'
 more_sums f g k k' q q' x x' i i' c c' e1 e2 e3 e4 e5 e6 = cc
 
 -- the same without a rest
@@ -85,16 +99,19 @@ two_sums : (f g : ℕ → ℕ) (k k' q q' c c' : ℕ) → k ≡ k' → q ≡ q' 
 two_sums f g k k' q q' c c' e1 e2 e4 e5 = cc
 
 -- words read from equal places are equal
-same_read : (f : ℕ → ℕ → ℕ → List ℕ) (t t' b b' q q' : ℕ) (xs ys : List ℕ) → t ≡ t' → b ≡ b' → q ≡ q' → xs ≡ f t b q → ys ≡ f t' b' q' → xs ≡ ys
+same_read : (f : ℕ → ℕ → ℕ → List ℕ) (t t' b b' q q' : ℕ) (xs ys : List ℕ) → t ≡ t' → b ≡ b' → q ≡ q' → xs ≡ f t b q
+    → ys ≡ f t' b' q' → xs ≡ ys
 same_read f t t' b b' q q' xs ys e1 e2 e3 e4 e5 = cc
 
 -- two structs found by one word, with equal children
-struct_same : (m : List (List ℕ)) (s w : ℕ) (ws ws' : List ℕ) (ts ts' : Trees) (k t b q inner deep c d k' t' b' q' inner' deep' c' d' : ℕ)
+struct_same : (m : List (List ℕ)) (s w : ℕ) (ws ws' : List ℕ) (ts ts' : Trees)
+    (k t b q inner deep c d k' t' b' q' inner' deep' c' d' : ℕ)
     → FindsStruct m s w ws k t b q inner deep c d → FindsStruct m s w ws' k' t' b' q' inner' deep' c' d'
     → Same ts ts' inner inner' deep deep' → Same (struct ws ts) (struct ws' ts') c c' d d'
 struct_same m s w ws ws' ts ts' k t b q inner deep c d k' t' b' q' inner' deep' c' d' f g same =
     let o : SameObject k t b q k' t' b' q' = one_object m s w k t b q k' t' b' q' f.finds g.finds in
-    let e : ws ≡ ws' = same_read (λ x y z. words_from m x y (data_size z)) t t' b b' q q' ws ws' o.segment o.start o.shape f.data_words g.data_words in
+    let e : ws ≡ ws' = same_read (λ x y z. words_from m x y (data_size z)) t t' b b' q q' ws ws' o.segment o.start
+    o.shape f.data_words g.data_words in
     record {
       part = rw (e, same.part) refl;
       charge = sums extent k k' q q' inner inner' c c' o.pads o.shape same.charge f.charge g.charge;
@@ -108,7 +125,8 @@ scalars_same : (m : List (List ℕ)) (s w e e' : ℕ) (vs vs' : List ℕ) (k t b
 scalars_same m s w e e' vs vs' k t b q c d k' t' b' q' c' d' f g =
     let o : SameObject k t b q k' t' b' q' = one_object m s w k t b q k' t' b' q' f.finds g.finds in
     let x : e ≡ e' = f.code ∙ ap code o.shape ∙ sym g.code in
-    let y : vs ≡ vs' = same_read (λ i j z. values_of m i j (code z) (list_size z)) t t' b b' q q' vs vs' o.segment o.start o.shape (rw (← f.code) f.elements) (rw (← g.code) g.elements) in
+    let y : vs ≡ vs' = same_read (λ i j z. values_of m i j (code z) (list_size z)) t t' b b' q q' vs vs' o.segment
+    o.start o.shape (rw (← f.code) f.elements) (rw (← g.code) g.elements) in
     record {
       part = rw (x, y) refl;
       charge = two_sums extent (λ z. extra z 0) k k' q q' c c' o.pads o.shape f.charge g.charge;
@@ -116,7 +134,8 @@ scalars_same m s w e e' vs vs' k t b q c d k' t' b' q' c' d' f g =
     }
 
 -- two lists of pointers found by one word, with equal entries
-pointers_same : (m : List (List ℕ)) (s w : ℕ) (ts ts' : Trees) (k t b q inner deep c d k' t' b' q' inner' deep' c' d' : ℕ)
+pointers_same : (m : List (List ℕ)) (s w : ℕ) (ts ts' : Trees)
+    (k t b q inner deep c d k' t' b' q' inner' deep' c' d' : ℕ)
     → FindsPointers m s w k t b q inner deep c d → FindsPointers m s w k' t' b' q' inner' deep' c' d'
     → Same ts ts' inner inner' deep deep' → Same (pointers ts) (pointers ts') c c' d d'
 pointers_same m s w ts ts' k t b q inner deep c d k' t' b' q' inner' deep' c' d' f g same =
@@ -129,41 +148,59 @@ pointers_same m s w ts ts' k t b q inner deep c d k' t' b' q' inner' deep' c' d'
 
 -- the tag of a struct list that a word finds is one word
 one_tag : (m : List (List ℕ)) (s w ds ps k t b q tag inner deep c d ds' ps' k' t' b' q' tag' inner' deep' c' d' : ℕ)
-    → FindsStructs m s w ds ps k t b q tag inner deep c d → FindsStructs m s w ds' ps' k' t' b' q' tag' inner' deep' c' d'
+    → FindsStructs m s w ds ps k t b q tag inner deep c d
+    → FindsStructs m s w ds' ps' k' t' b' q' tag' inner' deep' c' d'
     → tag ≡ tag'
 one_tag m s w ds ps k t b q tag inner deep c d ds' ps' k' t' b' q' tag' inner' deep' c' d' f g =
     let o : SameObject k t b q k' t' b' q' = one_object m s w k t b q k' t' b' q' f.finds g.finds in
     one_word m t b tag tag' f.has_tag (rw (o.segment, o.start) g.has_tag)
 
 -- two struct lists found by one word, with equal elements
-structs_same : (m : List (List ℕ)) (s w ds ps : ℕ) (es es' : Trees) (k t b q tag inner deep c d ds' ps' k' t' b' q' tag' inner' deep' c' d' : ℕ)
-    → FindsStructs m s w ds ps k t b q tag inner deep c d → FindsStructs m s w ds' ps' k' t' b' q' tag' inner' deep' c' d'
+structs_same : (m : List (List ℕ)) (s w ds ps : ℕ) (es es' : Trees)
+    (k t b q tag inner deep c d ds' ps' k' t' b' q' tag' inner' deep' c' d' : ℕ)
+    → FindsStructs m s w ds ps k t b q tag inner deep c d
+    → FindsStructs m s w ds' ps' k' t' b' q' tag' inner' deep' c' d'
     → Same es es' inner inner' deep deep' → Same (structs ds ps es) (structs ds' ps' es') c c' d d'
 structs_same m s w ds ps es es' k t b q tag inner deep c d ds' ps' k' t' b' q' tag' inner' deep' c' d' f g same =
     let o : SameObject k t b q k' t' b' q' = one_object m s w k t b q k' t' b' q' f.finds g.finds in
-    let x : tag ≡ tag' = one_tag m s w ds ps k t b q tag inner deep c d ds' ps' k' t' b' q' tag' inner' deep' c' d' f g in
+    let x : tag ≡ tag' = one_tag m s w ds ps k t b q tag inner deep c d ds' ps' k' t' b' q' tag'
+    inner' deep' c' d' f g in
     let y : ds ≡ ds' = f.data_sizes ∙ ap data_size x ∙ sym g.data_sizes in
     let z : ps ≡ ps' = f.pointer_sizes ∙ ap pointer_size x ∙ sym g.pointer_sizes in
     record {
       part = rw (y, z, same.part) refl;
-      charge = more_sums extent extra k k' q q' tag tag' inner inner' c c' o.pads o.shape x same.charge f.charge g.charge;
-      depth = sums element_levels 1 1 (middle tag) (middle tag') deep deep' d d' refl (ap middle x) same.depth f.depth g.depth;
+      charge = more_sums extent extra k k' q q' tag tag' inner inner' c c' o.pads o.shape x
+          same.charge f.charge g.charge;
+      depth = sums element_levels 1 1 (middle tag) (middle tag') deep deep' d d' refl (ap middle x)
+          same.depth f.depth g.depth;
     }
 
 -- what one more tree adds
-each_same : (t t' : Tree) (ts ts' : Trees) (c1 d1 c2 d2 c d c1' d1' c2' d2' c' d' : ℕ) → Same t t' c1 c1' d1 d1' → Same ts ts' c2 c2' d2 d2'
+each_same : (t t' : Tree) (ts ts' : Trees) (c1 d1 c2 d2 c d c1' d1' c2' d2' c' d' : ℕ) → Same t t' c1 c1' d1 d1'
+    → Same ts ts' c2 c2' d2 d2'
     → c ≡ c1 + c2 → d ≡ max d1 d2 → c' ≡ c1' + c2' → d' ≡ max d1' d2' → Same (more t ts) (more t' ts') c c' d d'
 each_same t t' ts ts' c1 d1 c2 d2 c d c1' d1' c2' d2' c' d' a b e1 e2 e3 e4 =
-    record { part = rw (a.part, b.part) refl; charge = omega (arith, a.charge, b.charge); depth = omega (arith, a.depth, b.depth) }
+    record {
+      part = rw (a.part, b.part) refl;
+      charge = omega (arith, a.charge, b.charge);
+      depth = omega (arith, a.depth, b.depth);
+    }
 
 -- what one more element adds
-elements_same : (ws ws' : List ℕ) (ts ts' es es' : Trees) (c1 d1 c2 d2 c d c1' d1' c2' d2' c' d' : ℕ) → ws ≡ ws' → Same ts ts' c1 c1' d1 d1' → Same es es' c2 c2' d2 d2'
-    → c ≡ c1 + c2 → d ≡ max d1 d2 → c' ≡ c1' + c2' → d' ≡ max d1' d2' → Same (more (struct ws ts) es) (more (struct ws' ts') es') c c' d d'
+elements_same : (ws ws' : List ℕ) (ts ts' es es' : Trees) (c1 d1 c2 d2 c d c1' d1' c2' d2' c' d' : ℕ) → ws ≡ ws'
+    → Same ts ts' c1 c1' d1 d1' → Same es es' c2 c2' d2 d2'
+    → c ≡ c1 + c2 → d ≡ max d1 d2 → c' ≡ c1' + c2' → d' ≡ max d1' d2'
+    → Same (more (struct ws ts) es) (more (struct ws' ts') es') c c' d d'
 elements_same ws ws' ts ts' es es' c1 d1 c2 d2 c d c1' d1' c2' d2' c' d' e a b e1 e2 e3 e4 =
-    record { part = rw (e, a.part, b.part) refl; charge = omega (arith, a.charge, b.charge); depth = omega (arith, a.depth, b.depth) }
+    record {
+      part = rw (e, a.part, b.part) refl;
+      charge = omega (arith, a.charge, b.charge);
+      depth = omega (arith, a.depth, b.depth);
+    }
 
 -- elements at equal places
-pub elements_moved : (m : List (List ℕ)) (es : Trees) (t x ds ps n c d t' x' ds' ps' n' : ℕ) → t ≡ t' → x ≡ x' → ds ≡ ds' → ps ≡ ps' → n ≡ n'
+pub elements_moved : (m : List (List ℕ)) (es : Trees) (t x ds ps n c d t' x' ds' ps' n' : ℕ) → t ≡ t' → x ≡ x'
+    → ds ≡ ds' → ps ≡ ps' → n ≡ n'
     → AreElements m t' x' ds' ps' n' es c d → AreElements m t x ds ps n es c d
 elements_moved m es t x ds ps n c d t' x' ds' ps' n' e1 e2 e3 e4 e5 h = rw (e1, e2, e3, e4, e5) h
 
@@ -173,58 +210,77 @@ places_same f t b q t' b' q' e1 e2 e3 = rw (e1, e2, e3) refl
 
 mutual
   -- what a pointer word denotes is one tree, with one charge and one depth
-  pub one_tree : (m : List (List ℕ)) (s w : ℕ) (t t' : Tree) (c d c' d' : ℕ) → Denotes m s w t c d → Denotes m s w t' c' d' → Same t t' c c' d d'
+  pub one_tree : (m : List (List ℕ)) (s w : ℕ) (t t' : Tree) (c d c' d' : ℕ) → Denotes m s w t c d
+      → Denotes m s w t' c' d' → Same t t' c c' d d'
   one_tree m s w null null c d c' d' h h' =
-      record { part = refl; charge = (one_lead m s w c c' to_null to_null h.0 h'.0).0; depth = omega (arith, h.1, h'.1) }
+      record {
+        part = refl;
+        charge = (one_lead m s w c c' to_null to_null h.0 h'.0).0;
+        depth = omega (arith, h.1, h'.1);
+      }
   one_tree m s w (cap i) (cap i') c d c' d' h h' =
       let o = one_lead m s w c c' (to_cap i) (to_cap i') h.0 h'.0 in
       let e : i ≡ i' = cc o.1 in
       record { part = ap cap e; charge = o.0; depth = omega (arith, h.1, h'.1) }
   one_tree m s w (struct ws ts) (struct ws' ts') c d c' d' h h' =
-      let o : SameObject h.0 h.1 h.2 h.3 h'.0 h'.1 h'.2 h'.3 = one_object m s w h.0 h.1 h.2 h.3 h'.0 h'.1 h'.2 h'.3 h.6.finds h'.6.finds in
+      let o : SameObject h.0 h.1 h.2 h.3 h'.0 h'.1 h'.2 h'.3 =
+      one_object m s w h.0 h.1 h.2 h.3 h'.0 h'.1 h'.2 h'.3 h.6.finds h'.6.finds in
       struct_same m s w ws ws' ts ts' h.0 h.1 h.2 h.3 h.4 h.5 c d h'.0 h'.1 h'.2 h'.3 h'.4 h'.5 c' d' h.6 h'.6
-      (one_each m (places h.1 (h.2 + data_size h.3) (pointer_size h.3)) (places h'.1 (h'.2 + data_size h'.3) (pointer_size h'.3))
-      (places_same (λ x y z. places x (y + data_size z) (pointer_size z)) h.1 h.2 h.3 h'.1 h'.2 h'.3 o.segment o.start o.shape)
+      (one_each m (places h.1 (h.2 + data_size h.3) (pointer_size h.3))
+      (places h'.1 (h'.2 + data_size h'.3) (pointer_size h'.3))
+      (places_same (λ x y z. places x (y + data_size z) (pointer_size z)) h.1 h.2 h.3 h'.1 h'.2 h'.3
+      o.segment o.start o.shape)
       ts ts' h.4 h.5 h'.4 h'.5 h.7 h'.7)
   one_tree m s w (scalars e vs) (scalars e' vs') c d c' d' h h' =
       scalars_same m s w e e' vs vs' h.0 h.1 h.2 h.3 c d h'.0 h'.1 h'.2 h'.3 c' d' h.4 h'.4
   one_tree m s w (pointers ts) (pointers ts') c d c' d' h h' =
-      let o : SameObject h.0 h.1 h.2 h.3 h'.0 h'.1 h'.2 h'.3 = one_object m s w h.0 h.1 h.2 h.3 h'.0 h'.1 h'.2 h'.3 h.6.finds h'.6.finds in
+      let o : SameObject h.0 h.1 h.2 h.3 h'.0 h'.1 h'.2 h'.3 =
+      one_object m s w h.0 h.1 h.2 h.3 h'.0 h'.1 h'.2 h'.3 h.6.finds h'.6.finds in
       pointers_same m s w ts ts' h.0 h.1 h.2 h.3 h.4 h.5 c d h'.0 h'.1 h'.2 h'.3 h'.4 h'.5 c' d' h.6 h'.6
       (one_each m (places h.1 h.2 (list_size h.3)) (places h'.1 h'.2 (list_size h'.3))
       (places_same (λ x y z. places x y (list_size z)) h.1 h.2 h.3 h'.1 h'.2 h'.3 o.segment o.start o.shape)
       ts ts' h.4 h.5 h'.4 h'.5 h.7 h'.7)
   one_tree m s w (structs ds ps es) (structs ds' ps' es') c d c' d' h h' =
-      let o : SameObject h.0 h.1 h.2 h.3 h'.0 h'.1 h'.2 h'.3 = one_object m s w h.0 h.1 h.2 h.3 h'.0 h'.1 h'.2 h'.3 h.7.finds h'.7.finds in
-      let x : h.4 ≡ h'.4 = one_tag m s w ds ps h.0 h.1 h.2 h.3 h.4 h.5 h.6 c d ds' ps' h'.0 h'.1 h'.2 h'.3 h'.4 h'.5 h'.6 c' d' h.7 h'.7 in
-      structs_same m s w ds ps es es' h.0 h.1 h.2 h.3 h.4 h.5 h.6 c d ds' ps' h'.0 h'.1 h'.2 h'.3 h'.4 h'.5 h'.6 c' d' h.7 h'.7
+      let o : SameObject h.0 h.1 h.2 h.3 h'.0 h'.1 h'.2 h'.3 =
+      one_object m s w h.0 h.1 h.2 h.3 h'.0 h'.1 h'.2 h'.3 h.7.finds h'.7.finds in
+      let x : h.4 ≡ h'.4 = one_tag m s w ds ps h.0 h.1 h.2 h.3 h.4 h.5 h.6 c d ds' ps' h'.0 h'.1 h'.2 h'.3 h'.4 h'.5
+      h'.6 c' d' h.7 h'.7 in
+      structs_same m s w ds ps es es' h.0 h.1 h.2 h.3 h.4 h.5 h.6 c d ds' ps' h'.0 h'.1 h'.2 h'.3 h'.4 h'.5
+      h'.6 c' d' h.7 h'.7
       (one_elements m h.1 (h.2 + 1) ds ps (middle h.4) (middle h.4) refl es es' h.5 h.6 h'.5 h'.6 h.8
-      (elements_moved m es' h.1 (h.2 + 1) ds ps (middle h.4) h'.5 h'.6 h'.1 (h'.2 + 1) ds' ps' (middle h'.4) o.segment (ap (λ y. y + 1) o.start)
-      (h.7.data_sizes ∙ ap data_size x ∙ sym h'.7.data_sizes) (h.7.pointer_sizes ∙ ap pointer_size x ∙ sym h'.7.pointer_sizes) (ap middle x) h'.8))
+      (elements_moved m es' h.1 (h.2 + 1) ds ps (middle h.4) h'.5 h'.6 h'.1 (h'.2 + 1) ds' ps' (middle h'.4) o.segment
+      (ap (λ y. y + 1) o.start)
+      (h.7.data_sizes ∙ ap data_size x ∙ sym h'.7.data_sizes)
+      (h.7.pointer_sizes ∙ ap pointer_size x ∙ sym h'.7.pointer_sizes) (ap middle x) h'.8))
   one_tree m s w t t' c d c' d' h h' =
       let f = same_form m s w t t' c d c' d' h h' in absurd (omega (arith, f.1, f.2))
 
   -- what the pointer words at places denote
-  pub one_each : (m : List (List ℕ)) (ps ps' : List (ℕ × ℕ)) → ps ≡ ps' → (ts ts' : Trees) (c d c' d' : ℕ) → DenoteEach m ps ts c d → DenoteEach m ps' ts' c' d' → Same ts ts' c c' d d'
-  one_each m ps ps' e none none c d c' d' h h' = record { part = refl; charge = omega (arith, h.1, h'.1); depth = omega (arith, h.2, h'.2) }
+  pub one_each : (m : List (List ℕ)) (ps ps' : List (ℕ × ℕ)) → ps ≡ ps' → (ts ts' : Trees) (c d c' d' : ℕ)
+      → DenoteEach m ps ts c d → DenoteEach m ps' ts' c' d' → Same ts ts' c c' d d'
+  one_each m ps ps' e none none c d c' d' h h' =
+      record { part = refl; charge = omega (arith, h.1, h'.1); depth = omega (arith, h.2, h'.2) }
   one_each m ps ps' e none (more t' ts') c d c' d' h h' = absurd (cc (h.0, h'.7))
   one_each m ps ps' e (more t ts) none c d c' d' h h' = absurd (cc (h.7, h'.0))
   one_each m ps ps' e (more t ts) (more t' ts') c d c' d' h h' =
       let p = cons_parts (h.0, h.1) (h'.0, h'.1) h.2 h'.2 (sym h.7 ∙ e ∙ h'.7) in
       each_same t t' ts ts' h.3 h.4 h.5 h.6 c d h'.3 h'.4 h'.5 h'.6 c' d'
-      (one_tree m h.0 h.1 t t' h.3 h.4 h'.3 h'.4 h.8 (subst (λ (x : ℕ × ℕ). Denotes m x.0 x.1 t' h'.3 h'.4) (sym p.0) h'.8))
+      (one_tree m h.0 h.1 t t' h.3 h.4 h'.3 h'.4 h.8
+      (subst (λ (x : ℕ × ℕ). Denotes m x.0 x.1 t' h'.3 h'.4) (sym p.0) h'.8))
       (one_each m h.2 h'.2 p.1 ts ts' h.5 h.6 h'.5 h'.6 h.9 h'.9) h.10 h.11 h'.10 h'.11
 
   -- the elements of a struct list
   pub one_elements : (m : List (List ℕ)) (t b ds ps n n' : ℕ) → n ≡ n' → (es es' : Trees) (c d c' d' : ℕ)
       → AreElements m t b ds ps n es c d → AreElements m t b ds ps n' es' c' d' → Same es es' c c' d d'
-  one_elements m t b ds ps n n' e none none c d c' d' h h' = record { part = refl; charge = omega (arith, h.1, h'.1); depth = omega (arith, h.2, h'.2) }
+  one_elements m t b ds ps n n' e none none c d c' d' h h' =
+      record { part = refl; charge = omega (arith, h.1, h'.1); depth = omega (arith, h.2, h'.2) }
   one_elements m t b ds ps n n' e none (more (struct ws' ts') es') c d c' d' h h' = absurd (omega (arith, h.0, h'.5))
   one_elements m t b ds ps n n' e (more (struct ws ts) es) none c d c' d' h h' = absurd (omega (arith, h.5, h'.0))
   one_elements m t b ds ps n n' e (more (struct ws ts) es) (more (struct ws' ts') es') c d c' d' h h' =
       elements_same ws ws' ts ts' es es' h.1 h.2 h.3 h.4 c d h'.1 h'.2 h'.3 h'.4 c' d' (h.6 ∙ sym h'.6)
       (one_each m (places t (b + ds) ps) (places t (b + ds) ps) refl ts ts' h.1 h.2 h'.1 h'.2 h.7 h'.7)
-      (one_elements m t (b + ds + ps) ds ps h.0 h'.0 (omega (arith, h.5, h'.5)) es es' h.3 h.4 h'.3 h'.4 h.8 h'.8) h.9 h.10 h'.9 h'.10
+      (one_elements m t (b + ds + ps) ds ps h.0 h'.0 (omega (arith, h.5, h'.5)) es es' h.3 h.4 h'.3 h'.4 h.8 h'.8)
+      h.9 h.10 h'.9 h'.10
   one_elements m t b ds ps n n' e none (more x es') c d c' d' h h' = absurd h'
   one_elements m t b ds ps n n' e (more (struct ws ts) es) (more x es') c d c' d' h h' = absurd h'
   one_elements m t b ds ps n n' e (more x es) es' c d c' d' h h' = absurd h

@@ -1,33 +1,72 @@
--- Every word of a message has a fate: a reason is wrong there, or it leads to null, to a capability or to an object that sits.
-use Rattle.std.proofs.Common.{◌≡◌, ◌≢◌, ℕ, ◌+◌, ◌*◌, ◌<◌, ◌≤◌, ◌⊎◌, inl, inr, List, length, ℤ, pos, negsuc, ◌+ℤ◌, refl, arith}
+-- Every word of a message has a fate: a reason is wrong there, or it leads to null,
+-- to a capability or to an object that sits.
+use Rattle.std.proofs.Common.{◌≡◌, ◌≢◌, ℕ, ◌+◌, ◌*◌, ◌<◌, ◌≤◌, ◌⊎◌, inl, inr, List, length, ℤ}
+use Rattle.std.proofs.Common.{pos, negsuc, ◌+ℤ◌, refl, arith}
 use Rattle.std.proofs.lemmas.Bool.{cases_lt}
 use Rattle.std.proofs.lemmas.Bool.Decides.{eqb_tells}
 use Rattle.std.proofs.lemmas.Int.{ints}
 use Rattle.cap_spec.specs.Words.{signed_offset_of}
 use Rattle.cap_spec.specs.Messages.{HasWord, segment_of}
-use Rattle.cap_spec.specs.Pointers.{kind, middle, code, two, pad, far_segment, cap_index, data_size, pointer_size, list_size, extent, IsFar, IsReserved}
-use Rattle.cap_spec.specs.Following.{Lead, to_null, to_cap, to_object, Says, IsOnePad, IsTwoPad, Leads, near, one_pad, two_pads, IsComposite, Wrong}
+use Rattle.cap_spec.specs.Pointers.{kind, middle, code, two, pad, far_segment, cap_index, data_size, pointer_size}
+use Rattle.cap_spec.specs.Pointers.{list_size, extent, IsFar, IsReserved}
+use Rattle.cap_spec.specs.Following.{Lead, to_null, to_cap, to_object, Says, IsOnePad, IsTwoPad, Leads, near}
+use Rattle.cap_spec.specs.Following.{one_pad, two_pads, IsComposite, Wrong}
 use Rattle.cap_spec.specs.Denoting.{Finds}
 use Rattle.cap_spec.specs.declared.Reason.{Reason}
-use Rattle.cap_spec.specs.declared.Reason.TheVariants.{Reserved, SegmentMissing, PadOutside, PadIsFar, PadNotFar, TagKind, TagOffset, OutOfSegment, CompositeTag, CompositeOverrun}
+use Rattle.cap_spec.specs.declared.Reason.TheVariants.{Reserved, SegmentMissing, PadOutside, PadIsFar, PadNotFar}
+use Rattle.cap_spec.specs.declared.Reason.TheVariants.{TagKind, TagOffset, OutOfSegment, CompositeTag, CompositeOverrun}
 use Rattle.cap_spec.proofs.Trees.Charges.{extent_structs}
 use Rattle.cap_spec.proofs.Frames.Messages.{HasWord-at, HasWord-segment}
-use Rattle.cap_spec.proofs.Pointers.Following.{HasSegment, wrong-reserved, wrong-pad_reserved, wrong-missing, wrong-outside, wrong-pad_far, wrong-pad_near, wrong-content_missing, wrong-tag_kind, wrong-tag_offset, wrong-out, wrong-composite_tag, wrong-overrun}
+use Rattle.cap_spec.proofs.Pointers.Following.{HasSegment, wrong-reserved, wrong-pad_reserved, wrong-missing}
+use Rattle.cap_spec.proofs.Pointers.Following.{wrong-outside, wrong-pad_far, wrong-pad_near}
+use Rattle.cap_spec.proofs.Pointers.Following.{wrong-content_missing, wrong-tag_kind, wrong-tag_offset}
+use Rattle.cap_spec.proofs.Pointers.Following.{wrong-out, wrong-composite_tag, wrong-overrun}
 
--- Every word of a message has a fate: a reason is wrong there, or it leads to null, to a capability or to an object that sits.
+-- Every word of a message has a fate: a reason is wrong there, or it leads to null,
+-- to a capability or to an object that sits.
 abbrev pub Fate : List (List ℕ) → ℕ → ℕ → Type 0
-Fate m s w = ((v : Reason) × Wrong m s w v) ⊎ (((k : ℕ) × Leads m s w k to_null) ⊎ (((k i : ℕ) × Leads m s w k (to_cap i)) ⊎ ((k t b q : ℕ) × Finds m s w k t b q)))
+Fate m s w = ((v : Reason) × Wrong m s w v)
+    ⊎ (((k : ℕ) × Leads m s w k to_null) ⊎ (((k i : ℕ) × Leads m s w k (to_cap i))
+    ⊎ ((k t b q : ℕ) × Finds m s w k t b q)))
 
 -- a lead to an object, whose segment exists
-object-fate : (m : List (List ℕ)) (s w k t : ℕ) (b : ℤ) (q : ℕ) → Leads m s w k (to_object t b q) → t < length m → Fate m s w
-object-fate m s w k t (negsuc b) q leads there = inl (OutOfSegment, wrong-out m s w k t (negsuc b) q leads (there, inl (omega (arith, ints))))
+object-fate : (m : List (List ℕ)) (s w k t : ℕ) (b : ℤ) (q : ℕ) → Leads m s w k (to_object t b q)
+    → t < length m → Fate m s w
+object-fate m s w k t (negsuc b) q leads there =
+    inl (OutOfSegment, wrong-out m s w k t (negsuc b) q leads (there, inl (omega (arith, ints))))
 object-fate m s w k t (pos b) q leads there =
     elim (cases_lt (length (segment_of m t)) (b + extent q)) [
       | inl past ↦ inl (OutOfSegment, wrong-out m s w k t (pos b) q leads (there, inr (omega (arith, ints))))
       | inr inside ↦ elim (eqb_tells (kind q) 1) [
-        | inr (x, other) ↦ inr (inr (inr (k, t, b, q, record { leads = leads; sits = record { exists = there; inside = inside; composite = λ c. absurd (other c.0) } })))
+        | inr (x, other) ↦ inr (inr (inr (
+          k,
+          t,
+          b,
+          q,
+          record {
+            leads = leads;
+            sits = record {
+              exists = there;
+              inside = inside;
+              composite = λ c. absurd (other c.0);
+            };
+          },
+        )))
         | inl (x, list) ↦ elim (eqb_tells (code q) 7) [
-          | inr (y, other) ↦ inr (inr (inr (k, t, b, q, record { leads = leads; sits = record { exists = there; inside = inside; composite = λ c. absurd (other c.1) } })))
+          | inr (y, other) ↦ inr (inr (inr (
+            k,
+            t,
+            b,
+            q,
+            record {
+              leads = leads;
+              sits = record {
+                exists = there;
+                inside = inside;
+                composite = λ c. absurd (other c.1);
+              };
+            },
+          )))
           | inl (y, seven) ↦ composite-fate inside (list, seven)
         ]
       ]
@@ -36,10 +75,31 @@ object-fate m s w k t (pos b) q leads there =
     tagged : (b + extent q ≤ length (segment_of m t)) → IsComposite q → (tag : ℕ) → HasWord m t b tag → Fate m s w
     tagged inside composite tag has =
         elim (eqb_tells (kind tag) 0) [
-          | inr (x, other) ↦ inl (CompositeTag, wrong-composite_tag m s w k t b q tag leads there inside composite has other)
+          | inr (x, other) ↦ inl (
+            CompositeTag,
+            wrong-composite_tag m s w k t b q tag leads there inside
+                composite has other,
+          )
           | inl (x, struct) ↦ elim (cases_lt (list_size q) (middle tag * (data_size tag + pointer_size tag))) [
-            | inl past ↦ inl (CompositeOverrun, wrong-overrun m s w k t b q tag leads there inside composite has struct past)
-            | inr fits ↦ inr (inr (inr (k, t, b, q, record { leads = leads; sits = record { exists = there; inside = inside; composite = λ c. (tag, has, (struct, fits)) } })))
+            | inl past ↦ inl (
+              CompositeOverrun,
+              wrong-overrun m s w k t b q tag leads there inside
+                  composite has struct past,
+            )
+            | inr fits ↦ inr (inr (inr (
+              k,
+              t,
+              b,
+              q,
+              record {
+                leads = leads;
+                sits = record {
+                  exists = there;
+                  inside = inside;
+                  composite = λ c. (tag, has, (struct, fits));
+                };
+              },
+            )))
           ]
         ]
 
@@ -49,7 +109,8 @@ object-fate m s w k t (pos b) q leads there =
         tagged inside composite has.0 has.1
 
 -- what a word that isn't far says
-said : (t w q : ℕ) → kind q ≢ 2 → IsReserved q ⊎ ((r : Lead) × Says t w q r × ((m : List (List ℕ)) → t < length m → HasSegment m r))
+said : (t w q : ℕ) → kind q ≢ 2 → IsReserved q
+    ⊎ ((r : Lead) × Says t w q r × ((m : List (List ℕ)) → t < length m → HasSegment m r))
 said t w q n =
     elim (eqb_tells (kind q) 3) [
       | inl (x, three) ↦ elim (eqb_tells (middle q) 0) [
@@ -58,7 +119,11 @@ said t w q n =
       ]
       | inr (x, other) ↦ elim (eqb_tells q 0) [
         | inl (y, zero_word) ↦ inr (to_null, zero_word, λ m there. tt)
-        | inr (y, some) ↦ inr (to_object t (pos (w + 1) +ℤ signed_offset_of q) q, (omega arith, some, refl, refl, refl), λ m there. there)
+        | inr (y, some) ↦ inr (
+          to_object t (pos (w + 1) +ℤ signed_offset_of q) q,
+          (omega arith, some, refl, refl, refl),
+          λ m there. there,
+        )
       ]
     ]
 
@@ -76,25 +141,29 @@ near-fate m s w p h n =
     ]
 
 -- it has a one-word pad,
-one-fate : (m : List (List ℕ)) (s w p q : ℕ) → HasWord m s w p → IsOnePad p → HasWord m (far_segment p) (pad p) q → Fate m s w
+one-fate : (m : List (List ℕ)) (s w p q : ℕ) → HasWord m s w p → IsOnePad p
+    → HasWord m (far_segment p) (pad p) q → Fate m s w
 one-fate m s w p q h one hq =
     elim (eqb_tells (kind q) 2) [
       | inl (x, far) ↦ inl (PadIsFar, wrong-pad_far m s w p q h one hq far)
       | inr (x, n) ↦ elim (said (far_segment p) (pad p) q n) [
         | inl reserved ↦ inl (Reserved, wrong-pad_reserved m s w p q h one hq reserved)
-        | inr (r, says, exists) ↦ lead-fate m s w 1 r (one_pad p q h one hq n says refl) (exists m (HasWord-segment m (far_segment p) (pad p) q hq))
+        | inr (r, says, exists) ↦ lead-fate m s w 1 r (one_pad p q h one hq n says refl)
+            (exists m (HasWord-segment m (far_segment p) (pad p) q hq))
       ]
     ]
 
 -- it has a two-word pad,
-module _ (m : List (List ℕ)) (s w p f q : ℕ) (h : HasWord m s w p) (both : IsTwoPad p) (hf : HasWord m (far_segment p) (pad p) f) (hq : HasWord m (far_segment p) (pad p + 1) q) where
+module _ (m : List (List ℕ)) (s w p f q : ℕ) (h : HasWord m s w p) (both : IsTwoPad p)
+    (hf : HasWord m (far_segment p) (pad p) f) (hq : HasWord m (far_segment p) (pad p + 1) q) where
   tag-fate : IsOnePad f → far_segment f < length m → Fate m s w
   tag-fate one there =
       elim (cases_lt (kind q) 2) [
         | inr other ↦ inl (TagKind, wrong-tag_kind m s w p f q h both hf hq one there other)
         | inl object ↦ elim (eqb_tells (middle q) 0) [
           | inr (x, some) ↦ inl (TagOffset, wrong-tag_offset m s w p f q h both hf hq one there object some)
-          | inl (x, none) ↦ object-fate m s w 2 (far_segment f) (pos (pad f)) q (two_pads p f q h both hf hq one (object, none) refl refl) there
+          | inl (x, none) ↦ object-fate m s w 2 (far_segment f) (pos (pad f)) q
+              (two_pads p f q h both hf hq one (object, none) refl refl) there
         ]
       ]
 
@@ -116,7 +185,8 @@ module _ (m : List (List ℕ)) (s w p f q : ℕ) (h : HasWord m s w p) (both : I
       ]
 
 -- its pad lies inside its segment, or it doesn't
-far-fate : (m : List (List ℕ)) (s w p : ℕ) → HasWord m s w p → IsFar p → far_segment p < length m → pad p + (two p + 1) ≤ length (segment_of m (far_segment p)) → Fate m s w
+far-fate : (m : List (List ℕ)) (s w p : ℕ) → HasWord m s w p → IsFar p → far_segment p < length m
+    → pad p + (two p + 1) ≤ length (segment_of m (far_segment p)) → Fate m s w
 far-fate m s w p h far there inside =
     let first = HasWord-at m (far_segment p) (pad p) (omega arith) in
     elim (eqb_tells (two p) 0) [

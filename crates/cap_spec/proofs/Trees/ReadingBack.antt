@@ -1,5 +1,6 @@
 -- Values that were packed into words are read back from them.
-use Rattle.std.proofs.Common.{ℕ, zero, suc, ◌+◌, ◌*◌, ◌/◌, ◌%◌, ◌^◌, ◌<◌, List, [], ◌∷◌, ◌≡◌, sym, ap, ap₂, refl, ◌∙◌, arith, length, take, drop, get_or}
+use Rattle.std.proofs.Common.{ℕ, zero, suc, ◌+◌, ◌*◌, ◌/◌, ◌%◌, ◌^◌, ◌<◌, List, [], ◌∷◌, ◌≡◌, sym, ap, ap₂, refl, ◌∙◌}
+use Rattle.std.proofs.Common.{arith, length, take, drop, get_or}
 use Rattle.std.specs.Prelude.{map}
 use Rattle.std.specs.List.{range_with_len, AllByRecursion}
 use Rattle.std.proofs.Math.Nat.{mul_comm}
@@ -24,24 +25,30 @@ low_value bits v r h =
 
 high_values : (bits v r low : ℕ) → v < 2 ^ bits → field (v + 2 ^ bits * r) (bits + low) bits ≡ field r low bits
 high_values bits v r low h =
-    ap (λ x. x % 2 ^ bits) (sym (shr-shr (v + 2 ^ bits * r) bits low) ∙ ap (λ x. x / 2 ^ low) (ap (λ x. x / 2 ^ bits) (turned v (2 ^ bits) r) ∙ shr_high r bits v h))
+    ap (λ x. x % 2 ^ bits) (sym (shr-shr (v + 2 ^ bits * r) bits low)
+    ∙ ap (λ x. x / 2 ^ low) (ap (λ x. x / 2 ^ bits) (turned v (2 ^ bits) r) ∙ shr_high r bits v h))
 
 -- value j of a word of values
-pub packed_field : (bits : ℕ) (vs : List ℕ) (j : ℕ) → AllByRecursion (λ v. v < 2 ^ bits) vs → j < length vs → field (packed_word bits vs) (j * bits) bits ≡ get_or vs j 0
+pub packed_field : (bits : ℕ) (vs : List ℕ) (j : ℕ) → AllByRecursion (λ v. v < 2 ^ bits) vs → j < length vs
+    → field (packed_word bits vs) (j * bits) bits ≡ get_or vs j 0
 packed_field bits [] j a h = absurd (omega (arith, h))
 packed_field bits (v ∷ vs) zero a h =
     let e : 0 * bits ≡ 0 = omega arith in
     ap (λ x. field (v + 2 ^ bits * packed_word bits vs) x bits) e ∙ low_value bits v (packed_word bits vs) a.0
 packed_field bits (v ∷ vs) (suc j) a h =
     let e : suc j * bits ≡ bits + j * bits = omega arith in
-    ap (λ x. field (v + 2 ^ bits * packed_word bits vs) x bits) e ∙ (high_values bits v (packed_word bits vs) (j * bits) a.0 ∙ packed_field bits vs j a.1 (omega (arith, h)))
+    ap (λ x. field (v + 2 ^ bits * packed_word bits vs) x bits) e
+    ∙ (high_values bits v (packed_word bits vs) (j * bits) a.0 ∙ packed_field bits vs j a.1 (omega (arith, h)))
 
 -- value i of a list, by its word and its place there
-pub listed_field : (bits per : ℕ) (vs : List ℕ) (i k j : ℕ) → AllByRecursion (λ v. v < 2 ^ bits) vs → j < per → k * per + j ≡ i → i < length vs
+pub listed_field : (bits per : ℕ) (vs : List ℕ) (i k j : ℕ) → AllByRecursion (λ v. v < 2 ^ bits) vs → j < per
+    → k * per + j ≡ i → i < length vs
     → field (packed_word bits (take per (drop (k * per) vs))) (j * bits) bits ≡ get_or vs i 0
 listed_field bits per vs i k j a lt e h =
-    let l : j < length (take per (drop (k * per) vs)) = omega (arith, length-take per (drop (k * per) vs), length-drop (k * per) vs, e, h, lt) in
-    packed_field bits (take per (drop (k * per) vs)) j (all_take (λ v. v < 2 ^ bits) per (drop (k * per) vs) (all_drop (λ v. v < 2 ^ bits) (k * per) vs a)) l
+    let l : j < length (take per (drop (k * per) vs)) =
+    omega (arith, length-take per (drop (k * per) vs), length-drop (k * per) vs, e, h, lt) in
+    packed_field bits (take per (drop (k * per) vs)) j
+    (all_take (λ v. v < 2 ^ bits) per (drop (k * per) vs) (all_drop (λ v. v < 2 ^ bits) (k * per) vs a)) l
     ∙ (get_or-take per (drop (k * per) vs) j 0 lt ∙ (get_or-drop (k * per) vs j 0 ∙ ap (λ x. get_or vs x 0) e))
 
 -- where in a list of this many words of so many values each the value i of this many bits stands: the place in its word
@@ -58,7 +65,8 @@ pub values_read : (words : List ℕ) (b bits per count : ℕ) (vs : List ℕ) �
     → ((i : ℕ) → i < length vs → Placed bits per count i)
     → map (value_at words b bits) (range_with_len 0 (length vs)) ≡ vs
 values_read words b bits per count vs a stand placed =
-    same_lists (map (value_at words b bits) (range_with_len 0 (length vs))) vs (length-map-range_with_len (value_at words b bits) 0 (length vs))
+    same_lists (map (value_at words b bits) (range_with_len 0 (length vs))) vs
+    (length-map-range_with_len (value_at words b bits) 0 (length vs))
     (λ i d lt. each i d (rw (length-map-range_with_len (value_at words b bits) 0 (length vs)) at lt))
   where
     at_place : (i : ℕ) → i < length vs → value_at words b bits i ≡ get_or vs i 0
@@ -67,8 +75,10 @@ values_read words b bits per count vs a stand placed =
         ap₂ (λ x y. field x y bits) (stand ((i * bits) / 64) p.inside) p.low
         ∙ listed_field bits per vs i ((i * bits) / 64) p.place a p.below p.index h
 
-    each : (i d : ℕ) → i < length vs → get_or (map (value_at words b bits) (range_with_len 0 (length vs))) i d ≡ get_or vs i d
-    each i d h = get_or-map-range_with_len (value_at words b bits) 0 (length vs) i i d h (omega arith) ∙ (at_place i h ∙ get_or_default vs i 0 d h)
+    each : (i d : ℕ) → i < length vs → get_or (map (value_at words b bits) (range_with_len 0 (length vs)))
+        i d ≡ get_or vs i d
+    each i d h = get_or-map-range_with_len (value_at words b bits) 0 (length vs) i i d h (omega arith)
+        ∙ (at_place i h ∙ get_or_default vs i 0 d h)
 
 -- values without bits are zeros
 no_bits : (vs : List ℕ) (i : ℕ) → AllByRecursion (λ v. v < 2 ^ 0) vs → get_or vs i 0 ≡ 0
@@ -76,64 +86,110 @@ no_bits [] i a = refl
 no_bits (v ∷ vs) zero a = let h : v < 1 = a.0 in omega arith
 no_bits (v ∷ vs) (suc i) a = no_bits vs i a.1
 
-voids_read : (words : List ℕ) (b : ℕ) (vs : List ℕ) → AllByRecursion (λ v. v < 2 ^ 0) vs → map (value_at words b 0) (range_with_len 0 (length vs)) ≡ vs
+voids_read : (words : List ℕ) (b : ℕ) (vs : List ℕ) → AllByRecursion (λ v. v < 2 ^ 0) vs
+    → map (value_at words b 0) (range_with_len 0 (length vs)) ≡ vs
 voids_read words b vs a =
-    same_lists (map (value_at words b 0) (range_with_len 0 (length vs))) vs (length-map-range_with_len (value_at words b 0) 0 (length vs))
+    same_lists (map (value_at words b 0) (range_with_len 0 (length vs))) vs
+    (length-map-range_with_len (value_at words b 0) 0 (length vs))
     (λ i d lt. each i d (rw (length-map-range_with_len (value_at words b 0) 0 (length vs)) at lt))
   where
     nothing : (x : ℕ) → x % 1 ≡ 0
     nothing x = omega arith
 
-    each : (i d : ℕ) → i < length vs → get_or (map (value_at words b 0) (range_with_len 0 (length vs))) i d ≡ get_or vs i d
+    each : (i d : ℕ) → i < length vs → get_or (map (value_at words b 0) (range_with_len 0 (length vs)))
+        i d ≡ get_or vs i d
     each i d h =
         get_or-map-range_with_len (value_at words b 0) 0 (length vs) i i d h (omega arith)
-        ∙ (nothing (get_or words (b + (i * 0) / 64) 0 / 2 ^ ((i * 0) % 64)) ∙ (sym (no_bits vs i a) ∙ get_or_default vs i 0 d h))
+        ∙ (nothing (get_or words (b + (i * 0) / 64) 0 / 2 ^ ((i * 0) % 64))
+        ∙ (sym (no_bits vs i a) ∙ get_or_default vs i 0 d h))
 
 -- the places of values of each width
 placed-1 : (n i : ℕ) → i < n → Placed 1 64 ((1 * n + 63) / 64) i
-placed-1 n i h = record { place = i % 64; below = omega arith; index = omega arith; low = omega arith; inside = omega arith }
+placed-1 n i h = record {
+  place = i % 64;
+  below = omega arith;
+  index = omega arith;
+  low = omega arith;
+  inside = omega arith;
+}
 
 placed-8 : (n i : ℕ) → i < n → Placed 8 8 ((8 * n + 63) / 64) i
-placed-8 n i h = record { place = i % 8; below = omega arith; index = omega arith; low = omega arith; inside = omega arith }
+placed-8 n i h = record {
+  place = i % 8;
+  below = omega arith;
+  index = omega arith;
+  low = omega arith;
+  inside = omega arith;
+}
 
 placed-16 : (n i : ℕ) → i < n → Placed 16 4 ((16 * n + 63) / 64) i
-placed-16 n i h = record { place = i % 4; below = omega arith; index = omega arith; low = omega arith; inside = omega arith }
+placed-16 n i h = record {
+  place = i % 4;
+  below = omega arith;
+  index = omega arith;
+  low = omega arith;
+  inside = omega arith;
+}
 
 placed-32 : (n i : ℕ) → i < n → Placed 32 2 ((32 * n + 63) / 64) i
-placed-32 n i h = record { place = i % 2; below = omega arith; index = omega arith; low = omega arith; inside = omega arith }
+placed-32 n i h = record {
+  place = i % 2;
+  below = omega arith;
+  index = omega arith;
+  low = omega arith;
+  inside = omega arith;
+}
 
 placed-64 : (n i : ℕ) → i < n → Placed 64 1 ((64 * n + 63) / 64) i
-placed-64 n i h = record { place = 0; below = omega arith; index = omega arith; low = omega arith; inside = omega arith }
+placed-64 n i h = record {
+  place = 0;
+  below = omega arith;
+  index = omega arith;
+  low = omega arith;
+  inside = omega arith;
+}
 
 -- as many words as the list takes
 pub length-scalar_words : (c : ℕ) (vs : List ℕ) → length (scalar_words c vs) ≡ list_words c (length vs)
 length-scalar_words c vs =
-    length-map-range_with_len (λ k. packed_word (element_bits c) (take (64 / element_bits c) (drop (k * (64 / element_bits c)) vs))) 0 (list_words c (length vs))
+    length-map-range_with_len (λ k. packed_word (element_bits c)
+    (take (64 / element_bits c) (drop (k * (64 / element_bits c)) vs))) 0 (list_words c (length vs))
 
 -- word k of a list of values
-pub word_of_values : (bits count : ℕ) (vs : List ℕ) (k : ℕ) → k < count → get_or (value_words bits count vs) k 0 ≡ packed_word bits (take (64 / bits) (drop (k * (64 / bits)) vs))
+pub word_of_values : (bits count : ℕ) (vs : List ℕ) (k : ℕ) → k < count
+    → get_or (value_words bits count vs) k 0 ≡ packed_word bits (take (64 / bits) (drop (k * (64 / bits)) vs))
 word_of_values bits count vs k h =
-    get_or-map-range_with_len (λ x. packed_word bits (take (64 / bits) (drop (x * (64 / bits)) vs))) 0 count k k 0 h (omega arith)
+    get_or-map-range_with_len (λ x. packed_word bits (take (64 / bits) (drop (x * (64 / bits)) vs))) 0 count k
+    k 0 h (omega arith)
 
 -- the words of a list stand here
 abbrev pub WordsAt : List ℕ → ℕ → List ℕ → Type 0
 WordsAt words b xs = (k : ℕ) → k < length xs → get_or words (b + k) 0 ≡ get_or xs k 0
 
 -- a list of values, each of which takes bits, is read back from its words
-bits_read : (words : List ℕ) (b bits count : ℕ) (vs : List ℕ) → AllByRecursion (λ v. v < 2 ^ bits) vs → WordsAt words b (value_words bits count vs)
+bits_read : (words : List ℕ) (b bits count : ℕ) (vs : List ℕ) → AllByRecursion (λ v. v < 2 ^ bits) vs
+    → WordsAt words b (value_words bits count vs)
     → ((i : ℕ) → i < length vs → Placed bits (64 / bits) count i)
     → map (value_at words b bits) (range_with_len 0 (length vs)) ≡ vs
 bits_read words b bits count vs a stand placed =
     values_read words b bits (64 / bits) count vs a
-    (λ k h. stand k (rw (length-map-range_with_len (λ x. packed_word bits (take (64 / bits) (drop (x * (64 / bits)) vs))) 0 count) h) ∙ word_of_values bits count vs k h) placed
+    (λ k h. stand k (rw (length-map-range_with_len
+    (λ x. packed_word bits (take (64 / bits) (drop (x * (64 / bits)) vs))) 0 count) h)
+    ∙ word_of_values bits count vs k h) placed
 
 -- a list of values is read back from its words
-pub scalars_read : (words : List ℕ) (b c : ℕ) (vs : List ℕ) → c < 6 → AllByRecursion (λ v. v < 2 ^ element_bits c) vs → WordsAt words b (scalar_words c vs)
+pub scalars_read : (words : List ℕ) (b c : ℕ) (vs : List ℕ) → c < 6 → AllByRecursion (λ v. v < 2 ^ element_bits c) vs
+    → WordsAt words b (scalar_words c vs)
     → map (value_at words b (element_bits c)) (range_with_len 0 (length vs)) ≡ vs
 scalars_read words b zero vs lt a stand = voids_read words b vs a
-scalars_read words b (suc zero) vs lt a stand = bits_read words b 1 (list_words 1 (length vs)) vs a stand (placed-1 (length vs))
-scalars_read words b (suc (suc zero)) vs lt a stand = bits_read words b 8 (list_words 2 (length vs)) vs a stand (placed-8 (length vs))
-scalars_read words b (suc (suc (suc zero))) vs lt a stand = bits_read words b 16 (list_words 3 (length vs)) vs a stand (placed-16 (length vs))
-scalars_read words b (suc (suc (suc (suc zero)))) vs lt a stand = bits_read words b 32 (list_words 4 (length vs)) vs a stand (placed-32 (length vs))
-scalars_read words b (suc (suc (suc (suc (suc zero))))) vs lt a stand = bits_read words b 64 (list_words 5 (length vs)) vs a stand (placed-64 (length vs))
+scalars_read words b (suc zero) vs lt a stand =
+    bits_read words b 1 (list_words 1 (length vs)) vs a stand (placed-1 (length vs))
+scalars_read words b (suc (suc zero)) vs lt a stand =
+    bits_read words b 8 (list_words 2 (length vs)) vs a stand (placed-8 (length vs))
+scalars_read words b (suc (suc (suc zero))) vs lt a stand =
+    bits_read words b 16 (list_words 3 (length vs)) vs a stand (placed-16 (length vs))
+scalars_read words b (suc (suc (suc (suc zero)))) vs lt a stand =
+    bits_read words b 32 (list_words 4 (length vs)) vs a stand (placed-32 (length vs))
+scalars_read words b (suc (suc (suc (suc (suc zero))))) vs lt a stand =
+    bits_read words b 64 (list_words 5 (length vs)) vs a stand (placed-64 (length vs))
 scalars_read words b (suc (suc (suc (suc (suc (suc c)))))) vs lt a stand = absurd (omega (arith, lt))

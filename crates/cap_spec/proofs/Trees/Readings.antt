@@ -1,5 +1,6 @@
 -- What is read of the words of a message, one word, value or byte at a time.
-use Rattle.std.proofs.Common.{ℕ, zero, suc, ◌+◌, ◌-◌, ◌*◌, ◌<◌, ◌≤◌, min, List, [], ◌∷◌, ◌≡◌, ap, refl, ◌∙◌, arith, length, get_or, Some, None}
+use Rattle.std.proofs.Common.{ℕ, zero, suc, ◌+◌, ◌-◌, ◌*◌, ◌<◌, ◌≤◌, min, List, [], ◌∷◌, ◌≡◌, ap, refl, ◌∙◌}
+use Rattle.std.proofs.Common.{arith, length, get_or, Some, None}
 use Rattle.std.specs.Prelude.{slice_get}
 use Rattle.std.proofs.lemmas.List.FromFn.{length-map-range_with_len, get_or-map-range_with_len}
 use Rattle.std.proofs.lemmas.Option.{slice_get-get_or, slice_get_past, get_or_from_slice_get}
@@ -21,7 +22,8 @@ pub length-values : (m : List (List ℕ)) (t b c n : ℕ) → length (values_of 
 length-values m t b c n = length-map-range_with_len (value_at (segment_of m t) b (element_bits c)) 0 n
 
 -- value i of a list of values
-pub value_there : (m : List (List ℕ)) (t b c n i : ℕ) → i < n → slice_get (values_of m t b c n) i ≡ Some (value_at (segment_of m t) b (element_bits c) i)
+pub value_there : (m : List (List ℕ)) (t b c n i : ℕ) → i < n
+    → slice_get (values_of m t b c n) i ≡ Some (value_at (segment_of m t) b (element_bits c) i)
 value_there m t b c n i lt =
     slice_get-get_or (values_of m t b c n) i 0 (omega (arith, length-values m t b c n))
     ∙ ap Some (get_or-map-range_with_len (value_at (segment_of m t) b (element_bits c)) 0 n i i 0 lt (omega arith))
@@ -31,19 +33,24 @@ pub value_past : (m : List (List ℕ)) (t b c n i : ℕ) → n ≤ i → slice_g
 value_past m t b c n i past = slice_get_past (values_of m t b c n) i (omega (arith, length-values m t b c n))
 
 -- how many words the values of a list take
-pub length-values_words : (m : List (List ℕ)) (t b c n : ℕ) → length (scalar_words c (values_of m t b c n)) ≡ list_words c n
-length-values_words m t b c n = length-scalar_words c (values_of m t b c n) ∙ ap (list_words c) (length-values m t b c n)
+pub length-values_words : (m : List (List ℕ)) (t b c n : ℕ)
+    → length (scalar_words c (values_of m t b c n)) ≡ list_words c n
+length-values_words m t b c n = length-scalar_words c (values_of m t b c n)
+    ∙ ap (list_words c) (length-values m t b c n)
 
 -- word i of a list of values: the word that stands there, its bits past the last value cut
 pub values_word_there : (m : List (List ℕ)) (t b c n i x : ℕ) → i < list_words c n → HasWord m t (b + i) x
     → slice_get (scalar_words c (values_of m t b c n)) i ≡ Some (field x 0 (min 64 (element_bits c * n - i * 64)))
 values_word_there m t b c n i x lt h =
     slice_get-get_or (scalar_words c (values_of m t b c n)) i 0 (omega (arith, length-values_words m t b c n))
-    ∙ ap Some (word_read (segment_of m t) b c n i lt ∙ ap (λ y. field y 0 (min 64 (element_bits c * n - i * 64))) (word_there m t (b + i) x h))
+    ∙ ap Some (word_read (segment_of m t) b c n i lt
+    ∙ ap (λ y. field y 0 (min 64 (element_bits c * n - i * 64))) (word_there m t (b + i) x h))
 
 -- and none past them
-pub values_word_past : (m : List (List ℕ)) (t b c n i : ℕ) → list_words c n ≤ i → slice_get (scalar_words c (values_of m t b c n)) i ≡ None
-values_word_past m t b c n i past = slice_get_past (scalar_words c (values_of m t b c n)) i (omega (arith, length-values_words m t b c n))
+pub values_word_past : (m : List (List ℕ)) (t b c n i : ℕ) → list_words c n ≤ i
+    → slice_get (scalar_words c (values_of m t b c n)) i ≡ None
+values_word_past m t b c n i past = slice_get_past (scalar_words c (values_of m t b c n)) i
+    (omega (arith, length-values_words m t b c n))
 
 -- whether a list of values has a word i, by bits
 pub word_within : (c n i : ℕ) → i * 64 < element_bits c * n → i < list_words c n
@@ -69,7 +76,8 @@ word_past (suc (suc (suc (suc (suc c))))) n i h =
     omega (arith, h, e, as_many_words x n (omega arith))
 
 -- byte i of words: that of the word where it stands
-pub byte_there : (words : List ℕ) (i j x : ℕ) → j < 8 → slice_get words i ≡ Some x → slice_get (plain_text words) (i * 8 + j) ≡ slice_get (word_bytes x) j
+pub byte_there : (words : List ℕ) (i j x : ℕ) → j < 8 → slice_get words i ≡ Some x
+    → slice_get (plain_text words) (i * 8 + j) ≡ slice_get (word_bytes x) j
 byte_there [] i j x lt h = absurd (cc h)
 byte_there (w ∷ ws) zero j x lt h = go j lt (cc h)
   where

@@ -1,5 +1,6 @@
 -- The words of a list of values that were read from words: those words, the bits past the last value zero.
-use Rattle.std.proofs.Common.{ℕ, zero, suc, ◌+◌, ◌-◌, ◌*◌, ◌/◌, ◌%◌, ◌^◌, ◌<◌, ◌≤◌, ◌==◌, ◌⊎◌, inl, inr, true, false, min, List, ◌∷◌, ◌≡◌, sym, subst, ap, ap₂, refl, ◌∙◌, arith, length, take, drop, get_or}
+use Rattle.std.proofs.Common.{ℕ, zero, suc, ◌+◌, ◌-◌, ◌*◌, ◌/◌, ◌%◌, ◌^◌, ◌<◌, ◌≤◌, ◌==◌, ◌⊎◌, inl, inr, true, false}
+use Rattle.std.proofs.Common.{min, List, ◌∷◌, ◌≡◌, sym, subst, ap, ap₂, refl, ◌∙◌, arith, length, take, drop, get_or}
 use Rattle.std.specs.Prelude.{map}
 use Rattle.std.specs.List.{range_with_len}
 use Rattle.std.proofs.lemmas.List.{take-map, drop-map}
@@ -17,10 +18,13 @@ use Rattle.cap_spec.proofs.Trees.ReadingBack.{word_of_values}
 -- a field and the one above it
 two_fields : (x p bits more : ℕ) → field x p bits + 2 ^ bits * field x (p + bits) more ≡ field x p (more + bits)
 two_fields x p bits more =
-    let a : x / 2 ^ p % 2 ^ (more + bits) ≡ (x / 2 ^ p / 2 ^ bits % 2 ^ more) * 2 ^ bits + x / 2 ^ p % 2 ^ bits = mod-pow-add (x / 2 ^ p) more bits in
+    let a : x / 2 ^ p % 2 ^ (more + bits) ≡ (x / 2 ^ p / 2 ^ bits % 2 ^ more) * 2 ^ bits + x / 2 ^ p % 2 ^ bits =
+    mod-pow-add (x / 2 ^ p) more bits in
     let b : x / 2 ^ p / 2 ^ bits ≡ x / 2 ^ (p + bits) = shr-shr x p bits in
-    let c : field x (p + bits) more * 2 ^ bits ≡ 2 ^ bits * field x (p + bits) more = mul_comm (field x (p + bits) more) (2 ^ bits) in
-    let d : (x / 2 ^ p / 2 ^ bits % 2 ^ more) * 2 ^ bits ≡ 2 ^ bits * field x (p + bits) more = ap (λ y. (y % 2 ^ more) * 2 ^ bits) b ∙ c in
+    let c : field x (p + bits) more * 2 ^ bits ≡ 2 ^ bits * field x (p + bits) more =
+    mul_comm (field x (p + bits) more) (2 ^ bits) in
+    let d : (x / 2 ^ p / 2 ^ bits % 2 ^ more) * 2 ^ bits ≡ 2 ^ bits * field x (p + bits) more =
+    ap (λ y. (y % 2 ^ more) * 2 ^ bits) b ∙ c in
     omega (arith, a, d)
 
 -- fields in a row, packed, are one field
@@ -50,65 +54,97 @@ fields_packed x bits f a p (suc n) h =
 pub drop-range : (a n k : ℕ) → drop k (range_with_len a n) ≡ range_with_len (a + k) (n - k)
 drop-range a n zero = let e : a ≡ a + 0 = omega arith in let f : n ≡ n - 0 = omega arith in ap₂ range_with_len e f
 drop-range a zero (suc k) = let e : 0 ≡ 0 - suc k = omega arith in ap (range_with_len (a + suc k)) e
-drop-range a (suc n) (suc k) = let e : a + 1 + k ≡ a + suc k = omega arith in let f : n - k ≡ suc n - suc k = omega arith in drop-range (a + 1) n k ∙ ap₂ range_with_len e f
+drop-range a (suc n) (suc k) = let e : a + 1 + k ≡ a + suc k = omega arith in
+    let f : n - k ≡ suc n - suc k = omega arith in drop-range (a + 1) n k ∙ ap₂ range_with_len e f
 
 pub take-range : (a n k : ℕ) → take k (range_with_len a n) ≡ range_with_len a (min k n)
 take-range a n zero = let e : 0 ≡ min 0 n = omega arith in ap (range_with_len a) e
 take-range a zero (suc k) = let e : 0 ≡ min (suc k) 0 = omega arith in ap (range_with_len a) e
-take-range a (suc n) (suc k) = let e : suc (min k n) ≡ min (suc k) (suc n) = omega arith in ap (λ xs. a ∷ xs) (take-range (a + 1) n k) ∙ ap (range_with_len a) e
+take-range a (suc n) (suc k) = let e : suc (min k n) ≡ min (suc k) (suc n) = omega arith in
+    ap (λ xs. a ∷ xs) (take-range (a + 1) n k) ∙ ap (range_with_len a) e
 
 -- word k of values of one width, where so many of them fill a word
-width_read : (words : List ℕ) (b bits per n k : ℕ) → ((j : ℕ) → j < per → value_at words b bits (k * per + j) ≡ field (get_or words (b + k) 0) (0 + j * bits) bits)
-    → packed_word bits (take per (drop (k * per) (map (value_at words b bits) (range_with_len 0 n)))) ≡ field (get_or words (b + k) 0) 0 (min per (n - k * per) * bits)
+width_read : (words : List ℕ) (b bits per n k : ℕ)
+    → ((j : ℕ) → j < per → value_at words b bits (k * per + j) ≡ field (get_or words (b + k) 0) (0 + j * bits) bits)
+    → packed_word bits (take per (drop (k * per) (map (value_at words b bits) (range_with_len 0 n))))
+    ≡ field (get_or words (b + k) 0) 0 (min per (n - k * per) * bits)
 width_read words b bits per n k h =
-    let a : drop (k * per) (map (value_at words b bits) (range_with_len 0 n)) ≡ map (value_at words b bits) (range_with_len (0 + k * per) (n - k * per)) =
-    drop-map (value_at words b bits) (k * per) (range_with_len 0 n) ∙ ap (map (value_at words b bits)) (drop-range 0 n (k * per)) in
-    let c : take per (map (value_at words b bits) (range_with_len (0 + k * per) (n - k * per))) ≡ map (value_at words b bits) (range_with_len (0 + k * per) (min per (n - k * per))) =
-    take-map (value_at words b bits) per (range_with_len (0 + k * per) (n - k * per)) ∙ ap (map (value_at words b bits)) (take-range (0 + k * per) (n - k * per) per) in
+    let a : drop (k * per) (map (value_at words b bits) (range_with_len 0 n))
+    ≡ map (value_at words b bits) (range_with_len (0 + k * per) (n - k * per)) =
+    drop-map (value_at words b bits) (k * per) (range_with_len 0 n)
+    ∙ ap (map (value_at words b bits)) (drop-range 0 n (k * per)) in
+    let c : take per (map (value_at words b bits) (range_with_len (0 + k * per) (n - k * per)))
+    ≡ map (value_at words b bits) (range_with_len (0 + k * per) (min per (n - k * per))) =
+    take-map (value_at words b bits) per (range_with_len (0 + k * per) (n - k * per))
+    ∙ ap (map (value_at words b bits)) (take-range (0 + k * per) (n - k * per) per) in
     ap (packed_word bits) (ap (take per) a ∙ c)
-    ∙ fields_packed (get_or words (b + k) 0) bits (value_at words b bits) (0 + k * per) 0 (min per (n - k * per)) (λ j lt. each j lt)
+    ∙ fields_packed (get_or words (b + k) 0) bits (value_at words b bits) (0 + k * per) 0 (min per (n - k * per))
+    (λ j lt. each j lt)
   where
-    each : (j : ℕ) → j < min per (n - k * per) → value_at words b bits (0 + k * per + j) ≡ field (get_or words (b + k) 0) (0 + j * bits) bits
-    each j lt = let z : 0 + k * per + j ≡ k * per + j = omega arith in ap (value_at words b bits) z ∙ h j (omega (arith, lt))
+    each : (j : ℕ) → j < min per (n - k * per)
+        → value_at words b bits (0 + k * per + j) ≡ field (get_or words (b + k) 0) (0 + j * bits) bits
+    each j lt = let z : 0 + k * per + j ≡ k * per + j = omega arith in
+        ap (value_at words b bits) z ∙ h j (omega (arith, lt))
 
 -- from code 5 on a value is a word
 pub whole_words : (c : ℕ) → 5 ≤ c → element_bits c ≡ 64
 whole_words c h =
-    rw (ne_eqb c 0 (λ e. omega (arith, e, h)), ne_eqb c 1 (λ e. omega (arith, e, h)), ne_eqb c 2 (λ e. omega (arith, e, h)), ne_eqb c 3 (λ e. omega (arith, e, h)), ne_eqb c 4 (λ e. omega (arith, e, h))) refl
+    rw (
+      ne_eqb c 0 (λ e. omega (arith, e, h)),
+      ne_eqb c 1 (λ e. omega (arith, e, h)),
+      ne_eqb c 2 (λ e. omega (arith, e, h)),
+      ne_eqb c 3 (λ e. omega (arith, e, h)),
+      ne_eqb c 4 (λ e. omega (arith, e, h)),
+    ) refl
 
 pub as_many_words : (c n : ℕ) → 5 ≤ c → list_words c n ≡ n
 as_many_words c n h = by_tests (eqb_tells c 7) (eqb_tells c 6)
   where
-    by_tests : (((c == 7) ≡ true) × (c ≡ 7)) ⊎ (((c == 7) ≡ false) × (c ≡ 7 → ⊥)) → (((c == 6) ≡ true) × (c ≡ 6)) ⊎ (((c == 6) ≡ false) × (c ≡ 6 → ⊥)) → list_words c n ≡ n
+    by_tests : (((c == 7) ≡ true) × (c ≡ 7)) ⊎ (((c == 7) ≡ false) × (c ≡ 7 → ⊥))
+        → (((c == 6) ≡ true) × (c ≡ 6)) ⊎ (((c == 6) ≡ false) × (c ≡ 6 → ⊥)) → list_words c n ≡ n
     by_tests (inl e) f = rw e.0 refl
     by_tests (inr e) (inl f) = rw (e.0, f.0) refl
     by_tests (inr e) (inr f) = rw (e.0, f.0, whole_words c h) (omega arith)
 
 -- word k of a list of values: the word that it was read from, without the bits past the last value
 pub word_read : (words : List ℕ) (b c n k : ℕ) → k < list_words c n
-    → get_or (scalar_words c (map (value_at words b (element_bits c)) (range_with_len 0 n))) k 0 ≡ field (get_or words (b + k) 0) 0 (min 64 (element_bits c * n - k * 64))
+    → get_or (scalar_words c (map (value_at words b (element_bits c)) (range_with_len 0 n))) k 0
+    ≡ field (get_or words (b + k) 0) 0 (min 64 (element_bits c * n - k * 64))
 word_read words b c n k h =
     let vs : List ℕ = map (value_at words b (element_bits c)) (range_with_len 0 n) in
     let l : length vs ≡ n = length-map-range_with_len (value_at words b (element_bits c)) 0 n in
     let h' : k < list_words c (length vs) = rw l h in
     word_of_values (element_bits c) (list_words c (length vs)) vs k h' ∙ go c h
   where
-    at : (bits per j : ℕ) → (k * per + j) * bits / 64 ≡ k → (k * per + j) * bits % 64 ≡ j * bits → value_at words b bits (k * per + j) ≡ field (get_or words (b + k) 0) (0 + j * bits) bits
-    at bits per j e f = let z : j * bits ≡ 0 + j * bits = omega arith in ap₂ (λ x y. field (get_or words (b + x) 0) y bits) e (f ∙ z)
+    at : (bits per j : ℕ) → (k * per + j) * bits / 64 ≡ k → (k * per + j) * bits % 64 ≡ j * bits
+        → value_at words b bits (k * per + j) ≡ field (get_or words (b + k) 0) (0 + j * bits) bits
+    at bits per j e f = let z : j * bits ≡ 0 + j * bits = omega arith in
+        ap₂ (λ x y. field (get_or words (b + x) 0) y bits) e (f ∙ z)
 
-    same : (bits per : ℕ) → min per (n - k * per) * bits ≡ min 64 (bits * n - k * 64) → field (get_or words (b + k) 0) 0 (min per (n - k * per) * bits) ≡ field (get_or words (b + k) 0) 0 (min 64 (bits * n - k * 64))
+    same : (bits per : ℕ) → min per (n - k * per) * bits ≡ min 64 (bits * n - k * 64)
+        → field (get_or words (b + k) 0) 0 (min per (n - k * per) * bits)
+        ≡ field (get_or words (b + k) 0) 0 (min 64 (bits * n - k * 64))
     same bits per e = ap (field (get_or words (b + k) 0) 0) e
 
-    go : (c : ℕ) → k < list_words c n → packed_word (element_bits c) (take (64 / element_bits c) (drop (k * (64 / element_bits c)) (map (value_at words b (element_bits c)) (range_with_len 0 n))))
+    go : (c : ℕ) → k < list_words c n → packed_word (element_bits c)
+        (take (64 / element_bits c) (drop (k * (64 / element_bits c))
+        (map (value_at words b (element_bits c)) (range_with_len 0 n))))
         ≡ field (get_or words (b + k) 0) 0 (min 64 (element_bits c * n - k * 64))
     go zero h = absurd (omega (arith, h))
-    go (suc zero) h = width_read words b 1 64 n k (λ j l. at 1 64 j (omega (arith, l)) (omega (arith, l))) ∙ same 1 64 (omega arith)
-    go (suc (suc zero)) h = width_read words b 8 8 n k (λ j l. at 8 8 j (omega (arith, l)) (omega (arith, l))) ∙ same 8 8 (omega arith)
-    go (suc (suc (suc zero))) h = width_read words b 16 4 n k (λ j l. at 16 4 j (omega (arith, l)) (omega (arith, l))) ∙ same 16 4 (omega arith)
-    go (suc (suc (suc (suc zero)))) h = width_read words b 32 2 n k (λ j l. at 32 2 j (omega (arith, l)) (omega (arith, l))) ∙ same 32 2 (omega arith)
+    go (suc zero) h = width_read words b 1 64 n k (λ j l. at 1 64 j (omega (arith, l)) (omega (arith, l)))
+        ∙ same 1 64 (omega arith)
+    go (suc (suc zero)) h = width_read words b 8 8 n k (λ j l. at 8 8 j (omega (arith, l)) (omega (arith, l)))
+        ∙ same 8 8 (omega arith)
+    go (suc (suc (suc zero))) h = width_read words b 16 4 n k (λ j l. at 16 4 j (omega (arith, l)) (omega (arith, l)))
+        ∙ same 16 4 (omega arith)
+    go (suc (suc (suc (suc zero)))) h = width_read words b 32 2 n k
+        (λ j l. at 32 2 j (omega (arith, l)) (omega (arith, l))) ∙ same 32 2 (omega arith)
     go (suc (suc (suc (suc (suc c))))) h =
-        let e : element_bits (suc (suc (suc (suc (suc c))))) ≡ 64 = whole_words (suc (suc (suc (suc (suc c))))) (omega arith) in
-        subst (λ (x : ℕ). packed_word x (take (64 / x) (drop (k * (64 / x)) (map (value_at words b x) (range_with_len 0 n)))) ≡ field (get_or words (b + k) 0) 0 (min 64 (x * n - k * 64))) (sym e)
+        let e : element_bits (suc (suc (suc (suc (suc c))))) ≡ 64 =
+        whole_words (suc (suc (suc (suc (suc c))))) (omega arith) in
+        subst (λ (x : ℕ). packed_word x (take (64 / x)
+        (drop (k * (64 / x)) (map (value_at words b x) (range_with_len 0 n))))
+        ≡ field (get_or words (b + k) 0) 0 (min 64 (x * n - k * 64))) (sym e)
         (width_read words b 64 1 n k (λ j l. at 64 1 j (omega (arith, l)) (omega (arith, l))) ∙ same 64 1 (omega arith))
 
 -- the same by how many values the word has
@@ -117,7 +153,9 @@ pub values_read : (words : List ℕ) (b c n k : ℕ) → c < 6 → k < list_word
     ≡ field (get_or words (b + k) 0) 0 (min (64 / element_bits c) (n - k * (64 / element_bits c)) * element_bits c)
 values_read words b c n k lt h = word_read words b c n k h ∙ ap (field (get_or words (b + k) 0) 0) (many c lt h)
   where
-    many : (c : ℕ) → c < 6 → k < list_words c n → min 64 (element_bits c * n - k * 64) ≡ min (64 / element_bits c) (n - k * (64 / element_bits c)) * element_bits c
+    many : (c : ℕ) → c < 6 → k < list_words c n
+        → min 64 (element_bits c * n - k * 64)
+        ≡ min (64 / element_bits c) (n - k * (64 / element_bits c)) * element_bits c
     many zero lt h = absurd (omega (arith, h))
     many (suc zero) lt h = omega arith
     many (suc (suc zero)) lt h = omega arith

@@ -1,5 +1,6 @@
 -- Whether a word denotes a tree of at most so many levels is decided: so where it isn't known which one, there is one.
-use Rattle.std.proofs.Common.{ℕ, zero, suc, ◌+◌, ◌-◌, ◌<◌, ◌≤◌, ◌⊎◌, List, [], ◌∷◌, ◌≡◌, max, length, refl, sym, ap, subst, inl, inr, arith}
+use Rattle.std.proofs.Common.{ℕ, zero, suc, ◌+◌, ◌-◌, ◌<◌, ◌≤◌, ◌⊎◌, List, [], ◌∷◌, ◌≡◌, max, length, refl}
+use Rattle.std.proofs.Common.{sym, ap, subst, inl, inr, arith}
 use Rattle.std.proofs.Math.Logic.{∥∥₁_elim}
 use Rattle.std.proofs.lemmas.Bool.{cases_lt}
 use Rattle.std.proofs.lemmas.Bool.Decides.{eqb_tells}
@@ -8,7 +9,8 @@ use Rattle.cap_spec.specs.Messages.{HasWord, segment_of}
 use Rattle.cap_spec.specs.Pointers.{kind, middle, code, data_size, pointer_size, list_size, extent}
 use Rattle.cap_spec.specs.Following.{extra}
 use Rattle.cap_spec.specs.Tree.{Tree, null, cap, struct, scalars, pointers, structs, Trees, none, more}
-use Rattle.cap_spec.specs.Denoting.{Finds, Denotes, DenoteEach, AreElements, places, words_from, values_of, element_levels}
+use Rattle.cap_spec.specs.Denoting.{Finds, Denotes, DenoteEach, AreElements, places}
+use Rattle.cap_spec.specs.Denoting.{words_from, values_of, element_levels}
 use Rattle.cap_spec.proofs.Paths.Arrivals.{found_form, lead_word}
 use Rattle.cap_spec.proofs.Trees.Charges.{lead_kind}
 use Rattle.cap_spec.proofs.Trees.Outcomes.{Fate, fate}
@@ -47,7 +49,8 @@ rest_each m n s w ps (more t ts, c, d, h, le) =
     (ts, h.5, h.6, subst (λ (y : List (ℕ × ℕ)). DenoteEach m y ts h.5 h.6) (sym p.1) h.9, omega (arith, h.11, le))
 
 -- Where it is decided of each word, it is decided of all.
-each_decided : (m : List (List ℕ)) (n : ℕ) → ((s w : ℕ) → Decided (TreeWithin m n s w)) → (ps : List (ℕ × ℕ)) → Decided (EachWithin m n ps)
+each_decided : (m : List (List ℕ)) (n : ℕ) → ((s w : ℕ) → Decided (TreeWithin m n s w)) → (ps : List (ℕ × ℕ))
+    → Decided (EachWithin m n ps)
 each_decided m n one [] = inl (none, 0, 0, (refl, refl, refl), omega arith)
 each_decided m n one ((s, w) ∷ ps) = both (one s w) (each_decided m n one ps)
   where
@@ -58,12 +61,14 @@ each_decided m n one ((s, w) ∷ ps) = both (one s w) (each_decided m n one ps)
     both (inr never) rest = inr (λ e. never (first_each m n s w ps e))
 
 -- the first of some elements, and the others
-first_element : (m : List (List ℕ)) (n t b ds ps k : ℕ) → ElementsWithin m n t b ds ps (suc k) → EachWithin m n (places t (b + ds) ps)
+first_element : (m : List (List ℕ)) (n t b ds ps k : ℕ) → ElementsWithin m n t b ds ps (suc k)
+    → EachWithin m n (places t (b + ds) ps)
 first_element m n t b ds ps k (none, c, d, h, le) = absurd (omega (arith, h.0))
 first_element m n t b ds ps k (more (struct ws ts) es, c, d, h, le) = (ts, h.1, h.2, h.7, omega (arith, h.10, le))
 first_element m n t b ds ps k (more x es, c, d, h, le) = absurd h
 
-rest_elements : (m : List (List ℕ)) (n t b ds ps k : ℕ) → ElementsWithin m n t b ds ps (suc k) → ElementsWithin m n t (b + ds + ps) ds ps k
+rest_elements : (m : List (List ℕ)) (n t b ds ps k : ℕ) → ElementsWithin m n t b ds ps (suc k)
+    → ElementsWithin m n t (b + ds + ps) ds ps k
 rest_elements m n t b ds ps k (none, c, d, h, le) = absurd (omega (arith, h.0))
 rest_elements m n t b ds ps k (more (struct ws ts) es, c, d, h, le) =
     let e : h.0 ≡ k = omega (arith, h.5) in
@@ -71,13 +76,22 @@ rest_elements m n t b ds ps k (more (struct ws ts) es, c, d, h, le) =
 rest_elements m n t b ds ps k (more x es, c, d, h, le) = absurd h
 
 -- The same of elements.
-elements_decided : (m : List (List ℕ)) (n : ℕ) → ((s w : ℕ) → Decided (TreeWithin m n s w)) → (t b ds ps k : ℕ) → Decided (ElementsWithin m n t b ds ps k)
+elements_decided : (m : List (List ℕ)) (n : ℕ) → ((s w : ℕ) → Decided (TreeWithin m n s w)) → (t b ds ps k : ℕ)
+    → Decided (ElementsWithin m n t b ds ps k)
 elements_decided m n one t b ds ps zero = inl (none, 0, 0, (refl, refl, refl), omega arith)
-elements_decided m n one t b ds ps (suc k) = both (each_decided m n one (places t (b + ds) ps)) (elements_decided m n one t (b + ds + ps) ds ps k)
+elements_decided m n one t b ds ps (suc k) =
+    both (each_decided m n one (places t (b + ds) ps)) (elements_decided m n one t (b + ds + ps) ds ps k)
   where
-    both : Decided (EachWithin m n (places t (b + ds) ps)) → Decided (ElementsWithin m n t (b + ds + ps) ds ps k) → Decided (ElementsWithin m n t b ds ps (suc k))
+    both : Decided (EachWithin m n (places t (b + ds) ps)) → Decided (ElementsWithin m n t (b + ds + ps) ds ps k)
+        → Decided (ElementsWithin m n t b ds ps (suc k))
     both (inl (ts, c, d, h, le)) (inl (es, c', d', hs, les)) =
-        inl (more (struct (words_from m t b ds) ts) es, c + c', max d d', (k, c, d, c', d', refl, refl, h, hs, refl, refl), omega (arith, le, les))
+        inl (
+          more (struct (words_from m t b ds) ts) es,
+          c + c',
+          max d d',
+          (k, c, d, c', d', refl, refl, h, hs, refl, refl),
+          omega (arith, le, les),
+        )
     both (inl x) (inr never) = inr (λ e. never (rest_elements m n t b ds ps k e))
     both (inr never) rest = inr (λ e. never (first_element m n t b ds ps k e))
 
@@ -88,29 +102,45 @@ module _ (m : List (List ℕ)) (n s w k t b q : ℕ) (f : Finds m s w k t b q) w
   in_struct e (struct ws ts, c, d, h, le) =
       let o : SameObject k t b q h.0 h.1 h.2 h.3 = one_object m s w k t b q h.0 h.1 h.2 h.3 f h.6.finds in
       (ts, h.4, h.5, rw (o.segment, o.start, o.shape) h.7, omega (arith, h.6.depth, le))
-  in_struct e (x, c, d, h, le) = absurd (omega (arith, number_struct (kind q) (code q) e, found_form m s w x c d k t b q h f))
+  in_struct e (x, c, d, h, le) = absurd (omega
+      (arith, number_struct (kind q) (code q) e, found_form m s w x c d k t b q h f))
 
   -- what the entries of a list of pointers denote
   in_pointers : kind q ≡ 1 → code q ≡ 6 → TreeWithin m (suc n) s w → EachWithin m n (places t b (list_size q))
   in_pointers e g (pointers ts, c, d, h, le) =
       let o : SameObject k t b q h.0 h.1 h.2 h.3 = one_object m s w k t b q h.0 h.1 h.2 h.3 f h.6.finds in
       (ts, h.4, h.5, rw (o.segment, o.start, o.shape) h.7, omega (arith, h.6.depth, le))
-  in_pointers e g (x, c, d, h, le) = absurd (omega (arith, number_list (kind q) (code q) e, g, found_form m s w x c d k t b q h f))
+  in_pointers e g (x, c, d, h, le) = absurd (omega
+      (arith, number_list (kind q) (code q) e, g, found_form m s w x c d k t b q h f))
 
   -- the elements of a list of structs
   in_structs : (tag : ℕ) → kind q ≡ 1 → code q ≡ 7 → HasWord m t b tag → TreeWithin m (suc n) s w
-      → ElementsWithin m (n - element_levels (middle tag)) t (b + 1) (data_size tag) (pointer_size tag) (middle tag) × (element_levels (middle tag) ≤ n)
+      → ElementsWithin m (n - element_levels (middle tag)) t (b + 1) (data_size tag) (pointer_size tag) (middle tag)
+      × (element_levels (middle tag) ≤ n)
   in_structs tag e g y (structs ds ps es, c, d, h, le) =
       let o : SameObject k t b q h.0 h.1 h.2 h.3 = one_object m s w k t b q h.0 h.1 h.2 h.3 f h.7.finds in
       let z : tag ≡ h.4 = one_word m t b tag h.4 y (rw (o.segment, o.start) h.7.has_tag) in
-      let levels : element_levels (middle tag) ≡ element_levels (middle h.4) = ap (λ u. element_levels (middle u)) z in
-      ((es, h.5, h.6, rw (o.segment, o.start, z, ← h.7.data_sizes, ← h.7.pointer_sizes) h.8, omega (arith, h.7.depth, le, levels)), omega (arith, h.7.depth, le, levels))
-  in_structs tag e g y (x, c, d, h, le) = absurd (omega (arith, number_list (kind q) (code q) e, g, found_form m s w x c d k t b q h f))
+      let levels : element_levels (middle tag) ≡ element_levels (middle h.4) = ap (λ u. element_levels (middle u)) z in (
+        (
+          es,
+          h.5,
+          h.6,
+          rw (o.segment, o.start, z, ← h.7.data_sizes, ← h.7.pointer_sizes) h.8,
+          omega (arith, h.7.depth, le, levels),
+        ),
+        omega (arith, h.7.depth, le, levels),
+      )
+  in_structs tag e g y (x, c, d, h, le) =
+      absurd (omega (arith, number_list (kind q) (code q) e, g, found_form m s w x c d k t b q h f))
 
   -- an object has a level
   no_level : TreeWithin m 0 s w → ⊥
   no_level (null, c, d, h, le) = omega (arith, found_form m s w null c d k t b q h f)
-  no_level (cap i, c, d, h, le) = omega (arith, lead_kind m s w k t (pos b) q f.leads, found_form m s w (cap i) c d k t b q h f)
+  no_level (cap i, c, d, h, le) = omega (
+    arith,
+    lead_kind m s w k t (pos b) q f.leads,
+    found_form m s w (cap i) c d k t b q h f,
+  )
   no_level (struct ws ts, c, d, h, le) = omega (arith, h.6.depth, le)
   no_level (scalars e vs, c, d, h, le) = omega (arith, h.4.depth, le)
   no_level (pointers ts, c, d, h, le) = omega (arith, h.6.depth, le)
@@ -137,14 +167,43 @@ module _ (m : List (List ℕ)) (n s w k t b q : ℕ) (f : Finds m s w k t b q) w
           scalars (code q) (values_of m t b (code q) (list_size q)),
           k + extent q + extra q 0,
           1,
-          (k, t, b, q, record { finds = f; kind = e; code = refl; scalar = lt; elements = refl; charge = refl; depth = refl }),
+          (
+            k,
+            t,
+            b,
+            q,
+            record {
+              finds = f;
+              kind = e;
+              code = refl;
+              scalar = lt;
+              elements = refl;
+              charge = refl;
+              depth = refl;
+            },
+          ),
           omega arith,
         )
 
     pointers_decided : kind q ≡ 1 → code q ≡ 6 → Decided (TreeWithin m (suc n) s w)
     pointers_decided e g =
         elim (each_decided m n (one n (omega arith)) (places t b (list_size q))) [
-          | inl (ts, c, d, h, le) ↦ inl (pointers ts, k + extent q + c, 1 + d, (k, t, b, q, c, d, record { finds = f; kind = e; code = g; charge = refl; depth = refl }, h), omega (arith, le))
+          | inl (ts, c, d, h, le) ↦ inl (
+            pointers ts,
+            k + extent q + c,
+            1 + d,
+            (
+              k,
+              t,
+              b,
+              q,
+              c,
+              d,
+              record { finds = f; kind = e; code = g; charge = refl; depth = refl },
+              h,
+            ),
+            omega (arith, le),
+          )
           | inr never ↦ inr (λ x. never (in_pointers e g x))
         ]
 
@@ -152,16 +211,37 @@ module _ (m : List (List ℕ)) (n s w k t b q : ℕ) (f : Finds m s w k t b q) w
     structs_decided tag e g y =
         elim (cases_lt n (element_levels (middle tag))) [
           | inl past ↦ inr (λ x. omega (arith, past, (in_structs tag e g y x).1))
-          | inr fits ↦ elim (elements_decided m (n - element_levels (middle tag)) (one (n - element_levels (middle tag)) (omega arith)) t (b + 1) (data_size tag) (pointer_size tag) (middle tag)) [
-            | inl (es, c, d, h, le) ↦ inl (
-              structs (data_size tag) (pointer_size tag) es,
-              k + extent q + extra q tag + c,
-              1 + element_levels (middle tag) + d,
-              (k, t, b, q, tag, c, d, record { finds = f; kind = e; code = g; has_tag = y; data_sizes = refl; pointer_sizes = refl; charge = refl; depth = refl }, h),
-              omega (arith, le, fits),
-            )
-            | inr never ↦ inr (λ x. never (in_structs tag e g y x).0)
-          ]
+          | inr fits ↦ elim (elements_decided m (n - element_levels (middle tag))
+              (one (n - element_levels (middle tag)) (omega arith)) t (b + 1) (data_size tag)
+              (pointer_size tag) (middle tag)) [
+                | inl (es, c, d, h, le) ↦ inl (
+                  structs (data_size tag) (pointer_size tag) es,
+                  k + extent q + extra q tag + c,
+                  1 + element_levels (middle tag) + d,
+                  (
+                    k,
+                    t,
+                    b,
+                    q,
+                    tag,
+                    c,
+                    d,
+                    record {
+                      finds = f;
+                      kind = e;
+                      code = g;
+                      has_tag = y;
+                      data_sizes = refl;
+                      pointer_sizes = refl;
+                      charge = refl;
+                      depth = refl;
+                    },
+                    h,
+                  ),
+                  omega (arith, le, fits),
+                )
+                | inr never ↦ inr (λ x. never (in_structs tag e g y x).0)
+              ]
         ]
 
     object_decided : Decided (TreeWithin m (suc n) s w)
@@ -184,7 +264,8 @@ module _ (m : List (List ℕ)) (n s w k t b q : ℕ) (f : Finds m s w k t b q) w
             ]
 
 -- Where it is decided of each object, it is decided of a word.
-word_decided : (m : List (List ℕ)) (n s w : ℕ) → ((k t b q : ℕ) → Finds m s w k t b q → Decided (TreeWithin m n s w)) → Decided (TreeWithin m n s w)
+word_decided : (m : List (List ℕ)) (n s w : ℕ) → ((k t b q : ℕ) → Finds m s w k t b q → Decided (TreeWithin m n s w))
+    → Decided (TreeWithin m n s w)
 word_decided m n s w object =
     elim (cases_lt w (length (segment_of m s))) [
       | inr past ↦ inr (none_there past)
@@ -207,7 +288,9 @@ word_decided m n s w object =
 up_to_decided : (m : List (List ℕ)) (n j : ℕ) → j ≤ n → (s w : ℕ) → Decided (TreeWithin m j s w)
 up_to_decided m n zero le s w = word_decided m zero s w (λ k t b q f. inr (no_level m 0 s w k t b q f))
 up_to_decided m zero (suc j) le s w = absurd (omega (arith, le))
-up_to_decided m (suc n) (suc j) le s w = word_decided m (suc j) s w (λ k t b q f. object_decided m j s w k t b q f (λ i li. up_to_decided m n i (omega (arith, le, li))))
+up_to_decided m (suc n) (suc j) le s w =
+    word_decided m (suc j) s w (λ k t b q f. object_decided m j s w k t b q f
+    (λ i li. up_to_decided m n i (omega (arith, le, li))))
 
 -- It is decided whether a word denotes a tree of at most n levels.
 pub tree_decided : (m : List (List ℕ)) (n s w : ℕ) → Decided (TreeWithin m n s w)

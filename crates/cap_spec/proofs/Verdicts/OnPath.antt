@@ -1,5 +1,6 @@
 -- The pointers on a path: they are one list, which grows with the path, and they aren't both charged and refused.
-use Rattle.std.proofs.Common.{ℕ, ◌+◌, ◌<◌, ◌≤◌, List, [], ◌∷◌, ◌++◌, ◌≡◌, ◌⊎◌, sym, ap, refl, subst, ◌∙◌, arith, inl, inr, length, length-append, append_assoc}
+use Rattle.std.proofs.Common.{ℕ, ◌+◌, ◌<◌, ◌≤◌, List, [], ◌∷◌, ◌++◌, ◌≡◌, ◌⊎◌, sym, ap, refl, subst, ◌∙◌, arith, inl}
+use Rattle.std.proofs.Common.{inr, length, length-append, append_assoc}
 use Rattle.std.proofs.lemmas.List.{append-nil}
 use Rattle.cap_spec.specs.Messages.{HasWord}
 use Rattle.cap_spec.specs.Faults.{AreShallow, IsDeepAt}
@@ -8,7 +9,8 @@ use Rattle.cap_spec.specs.Paths.{Before, Comes, Costs, Goes, IsOneOf, Reaches, R
 use Rattle.cap_spec.specs.Verdicts.{CostOf}
 use Rattle.cap_spec.specs.declared.Refusal.{Refusal}
 use Rattle.cap_spec.specs.declared.Step.{Step}
-use Rattle.cap_spec.proofs.Verdicts.OneFault.{distinct_last, kept_without_fault, last_is_one, one_of_last, one_rootless, rootless, same_fault}
+use Rattle.cap_spec.proofs.Verdicts.OneFault.{distinct_last, kept_without_fault, last_is_one, one_of_last}
+use Rattle.cap_spec.proofs.Verdicts.OneFault.{one_rootless, rootless, same_fault}
 use Rattle.cap_spec.proofs.Verdicts.OneVerdict.{cost_reached}
 use Rattle.cap_spec.proofs.Paths.Preorder.{Before-longer, Rises-distinct, Rises-same}
 use Rattle.cap_spec.proofs.Paths.Walks.{one_coming, one_reached, one_walk, walk_parts}
@@ -21,9 +23,11 @@ pub begins_itself : (p : List Step) → Begins p p
 begins_itself p = ([], sym (append-nil p))
 
 -- what begins a path that goes on from another begins that one, or goes on from it too
-begins_either : (q done rest r : List Step) (step : Step) → done ++ step ∷ rest ≡ q ++ r → Begins q done ⊎ ((more : List Step) × (q ≡ done ++ step ∷ more) × (rest ≡ more ++ r))
+begins_either : (q done rest r : List Step) (step : Step) → done ++ step ∷ rest ≡ q ++ r
+    → Begins q done ⊎ ((more : List Step) × (q ≡ done ++ step ∷ more) × (rest ≡ more ++ r))
 begins_either [] done rest r step e = inl (done, refl)
-begins_either (x ∷ q) [] rest r step e = let f : x ≡ step = cc in let g : rest ≡ q ++ r = cc in inr (q, ap (λ y. y ∷ q) f, g)
+begins_either (x ∷ q) [] rest r step e = let f : x ≡ step = cc in let g : rest ≡ q ++ r = cc in
+    inr (q, ap (λ y. y ∷ q) f, g)
 begins_either (x ∷ q) (y ∷ done) rest r step e = go (begins_either q done rest r step cc) cc
   where
     go : Begins q done ⊎ ((more : List Step) × (q ≡ done ++ step ∷ more) × (rest ≡ more ++ r)) → x ≡ y
@@ -32,37 +36,45 @@ begins_either (x ∷ q) (y ∷ done) rest r step e = go (begins_either q done re
     go (inr (more, f, h)) g = let k : x ∷ q ≡ y ∷ (done ++ step ∷ more) = cc in inr (more, k, h)
 
 -- with one step more, the longer path itself is added
-begins_last : (q done : List Step) (step : Step) → Begins q (done ++ step ∷ []) → (q ≡ done ++ step ∷ []) ⊎ Begins q done
+begins_last : (q done : List Step) (step : Step) → Begins q (done ++ step ∷ [])
+    → (q ≡ done ++ step ∷ []) ⊎ Begins q done
 begins_last q done step (r, e) = go (begins_either q done [] r step e)
   where
     none : (more : List Step) → [] ≡ more ++ r → more ≡ []
     none [] f = refl
     none (x ∷ more) f = absurd (cc f)
 
-    go : Begins q done ⊎ ((more : List Step) × (q ≡ done ++ step ∷ more) × ([] ≡ more ++ r)) → (q ≡ done ++ step ∷ []) ⊎ Begins q done
+    go : Begins q done ⊎ ((more : List Step) × (q ≡ done ++ step ∷ more) × ([] ≡ more ++ r))
+        → (q ≡ done ++ step ∷ []) ⊎ Begins q done
     go (inl h) = inr h
     go (inr (more, f, g)) = inl (f ∙ ap (λ x. done ++ step ∷ x) (none more g))
 
 -- and comes behind what begins the shorter one
 before_last : (q done : List Step) (step : Step) → Begins q done → Before q (done ++ step ∷ [])
-before_last q done step ([], e) = subst (λ x. Before q (x ++ step ∷ [])) (sym (e ∙ append-nil q)) (Before-longer q step [])
+before_last q done step ([], e) = subst (λ x. Before q (x ++ step ∷ [])) (sym (e ∙ append-nil q))
+    (Before-longer q step [])
 before_last q done step (x ∷ rest, e) =
-    let f : q ++ x ∷ (rest ++ step ∷ []) ≡ done ++ step ∷ [] = sym (ap (λ y. y ++ step ∷ []) e ∙ append_assoc q (x ∷ rest) (step ∷ [])) in
+    let f : q ++ x ∷ (rest ++ step ∷ []) ≡ done ++ step ∷ [] =
+    sym (ap (λ y. y ++ step ∷ []) e ∙ append_assoc q (x ∷ rest) (step ∷ [])) in
     subst (λ y. Before q y) f (Before-longer q x (rest ++ step ∷ []))
 
 -- a rising list with a last path behind all of them
-rises_last : (ps : List (List Step)) (p : List Step) → Rises ps → ((q : List Step) → IsOneOf q ps → Before q p) → Rises (ps ++ p ∷ [])
+rises_last : (ps : List (List Step)) (p : List Step) → Rises ps → ((q : List Step) → IsOneOf q ps → Before q p)
+    → Rises (ps ++ p ∷ [])
 rises_last [] p h k = tt
 rises_last (q ∷ []) p h k = (k q (inl refl), tt)
 rises_last (q ∷ r ∷ ps) p h k = (h.0, rises_last (r ∷ ps) p h.1 (λ x i. k x (inr i)))
 
 -- the cost with a last path
-pub cost_last : (m : List (List ℕ)) (ps : List (List Step)) (p : List Step) (level s w one x : ℕ) → CostOf m ps x → Reaches m p level s w → Costs m s w one → CostOf m (ps ++ p ∷ []) (x + one)
+pub cost_last : (m : List (List ℕ)) (ps : List (List Step)) (p : List Step) (level s w one x : ℕ) → CostOf m ps x
+    → Reaches m p level s w → Costs m s w one → CostOf m (ps ++ p ∷ []) (x + one)
 cost_last m [] p level s w one x h r c = (level, s, w, one, 0, r, c, refl, omega (arith, h))
-cost_last m (q ∷ ps) p level s w one x h r c = (h.0, h.1, h.2, h.3, h.4 + one, h.5, h.6, cost_last m ps p level s w one h.4 h.7 r c, omega (arith, h.8))
+cost_last m (q ∷ ps) p level s w one x h r c =
+    (h.0, h.1, h.2, h.3, h.4 + one, h.5, h.6, cost_last m ps p level s w one h.4 h.7 r c, omega (arith, h.8))
 
 -- none too deep, a last path neither
-pub shallow_last : (m : List (List ℕ)) (depth : ℕ) (ps : List (List Step)) (p : List Step) (level s w : ℕ) → AreShallow m depth ps → Reaches m p level s w → ¬ IsDeepAt m depth s w level
+pub shallow_last : (m : List (List ℕ)) (depth : ℕ) (ps : List (List Step)) (p : List Step) (level s w : ℕ)
+    → AreShallow m depth ps → Reaches m p level s w → ¬ IsDeepAt m depth s w level
     → AreShallow m depth (ps ++ p ∷ [])
 shallow_last m depth ps p level s w h r none q level' s' w' i r' deep = go (one_of_last q p ps i)
   where
@@ -96,7 +108,8 @@ on_root m root has = record {
     nothing (x ∷ q) rest e = absurd (cc e)
 
 -- With one step more to a pointer word, the longer path is added,
-pub on_word : (m : List (List ℕ)) (done : List Step) (ways : List (List Step)) (step : Step) (level s w : ℕ) → AreOnPath m done ways → Reaches m (done ++ step ∷ []) level s w
+pub on_word : (m : List (List ℕ)) (done : List Step) (ways : List (List Step)) (step : Step) (level s w : ℕ)
+    → AreOnPath m done ways → Reaches m (done ++ step ∷ []) level s w
     → AreOnPath m (done ++ step ∷ []) (ways ++ (done ++ step ∷ []) ∷ [])
 on_word m done ways step level s w h r = record {
   rising = rises_last ways (done ++ step ∷ []) h.rising (λ q i. before_last q done step (h.begin q i));
@@ -113,7 +126,8 @@ on_word m done ways step level s w h r = record {
     reached q (inl e) = (level, s, w, subst (λ x. Reaches m x level s w) (sym e) r)
     reached q (inr i) = h.reached q i
 
-    all : (q : List Step) (level' s' w' : ℕ) → Reaches m q level' s' w' → (q ≡ done ++ step ∷ []) ⊎ Begins q done → IsOneOf q (ways ++ (done ++ step ∷ []) ∷ [])
+    all : (q : List Step) (level' s' w' : ℕ) → Reaches m q level' s' w' → (q ≡ done ++ step ∷ []) ⊎ Begins q done
+        → IsOneOf q (ways ++ (done ++ step ∷ []) ∷ [])
     all q level' s' w' r' (inl e) = subst (λ x. IsOneOf x (ways ++ (done ++ step ∷ []) ∷ [])) (sym e) (is_last ways)
       where
         is_last : (ps : List (List Step)) → IsOneOf (done ++ step ∷ []) (ps ++ (done ++ step ∷ []) ∷ [])
@@ -122,7 +136,8 @@ on_word m done ways step level s w h r = record {
     all q level' s' w' r' (inr b) = last_is_one (done ++ step ∷ []) q ways (h.all q level' s' w' b r')
 
 -- with one to an element nothing is added,
-pub on_element : (m : List (List ℕ)) (done : List Step) (ways : List (List Step)) (step : Step) (level t b ds ps : ℕ) → AreOnPath m done ways → Comes m (done ++ step ∷ []) level (element t b ds ps)
+pub on_element : (m : List (List ℕ)) (done : List Step) (ways : List (List Step)) (step : Step) (level t b ds ps : ℕ)
+    → AreOnPath m done ways → Comes m (done ++ step ∷ []) level (element t b ds ps)
     → AreOnPath m (done ++ step ∷ []) ways
 on_element m done ways step level t b ds ps h c = record {
   rising = h.rising;
@@ -131,14 +146,18 @@ on_element m done ways step level t b ds ps h c = record {
   all = λ q level' s' w' x r. all q level' s' w' r (begins_last q done step x);
 }
   where
-    all : (q : List Step) (level' s' w' : ℕ) → Reaches m q level' s' w' → (q ≡ done ++ step ∷ []) ⊎ Begins q done → IsOneOf q ways
+    all : (q : List Step) (level' s' w' : ℕ) → Reaches m q level' s' w'
+        → (q ≡ done ++ step ∷ []) ⊎ Begins q done → IsOneOf q ways
     all q level' s' w' r (inl e) =
-        let f : word s' w' ≡ element t b ds ps = (one_coming m (done ++ step ∷ []) level' level (word s' w') (element t b ds ps) (subst (λ x. Reaches m x level' s' w') e r) c).1 in
+        let f : word s' w' ≡ element t b ds ps =
+        (one_coming m (done ++ step ∷ []) level' level (word s' w') (element t b ds ps)
+        (subst (λ x. Reaches m x level' s' w') e r) c).1 in
         absurd (cc f)
     all q level' s' w' r (inr x) = h.all q level' s' w' x r
 
 -- and where a step leads nowhere, neither.
-pub on_nowhere : (m : List (List ℕ)) (done rest : List Step) (ways : List (List Step)) (step : Step) (level : ℕ) (a : Spot) → AreOnPath m done ways → Comes m done level a
+pub on_nowhere : (m : List (List ℕ)) (done rest : List Step) (ways : List (List Step)) (step : Step) (level : ℕ)
+    (a : Spot) → AreOnPath m done ways → Comes m done level a
     → ((b : Spot) → Goes m a step b → ⊥) → AreOnPath m (done ++ step ∷ rest) ways
 on_nowhere m done rest ways step level a h c none = record {
   rising = h.rising;
@@ -155,19 +174,22 @@ on_nowhere m done rest ways step level a h c none = record {
         let w : Walks m p.0 (step ∷ more) p.2 (word s' w') = p.4 in
         none w.0 (subst (λ x. Goes m x step w.0) (sym same) w.2)
 
-    all : (q on : List Step) (level' s' w' : ℕ) → Reaches m q level' s' w' → Begins q done ⊎ ((more : List Step) × (q ≡ done ++ step ∷ more) × (rest ≡ more ++ on)) → IsOneOf q ways
+    all : (q on : List Step) (level' s' w' : ℕ) → Reaches m q level' s' w'
+        → Begins q done ⊎ ((more : List Step) × (q ≡ done ++ step ∷ more) × (rest ≡ more ++ on)) → IsOneOf q ways
     all q on level' s' w' r (inl b) = h.all q level' s' w' b r
     all q on level' s' w' r (inr (more, e, f)) = absurd (past q more level' s' w' r e)
 
 -- The pointers on a path are one list.
-pub one_path_list : (m : List (List ℕ)) (path : List Step) (ways ways' : List (List Step)) → AreOnPath m path ways → AreOnPath m path ways' → ways ≡ ways'
+pub one_path_list : (m : List (List ℕ)) (path : List Step) (ways ways' : List (List Step)) → AreOnPath m path ways
+    → AreOnPath m path ways' → ways ≡ ways'
 one_path_list m path ways ways' g h =
     Rises-same ways ways' g.rising h.rising
     (λ q i. let r = g.reached q i in h.all q r.0 r.1 r.2 (g.begin q i) r.3)
     (λ q i. let r = h.reached q i in g.all q r.0 r.1 r.2 (h.begin q i) r.3)
 
 -- A path whose pointers keep to the limits isn't refused.
-pub path_not_refused : (m : List (List ℕ)) (words depth : ℕ) (path : List Step) (ways : List (List Step)) (cost : ℕ) (r : Refusal) → AreOnPath m path ways → 0 < length ways → CostOf m ways cost
+pub path_not_refused : (m : List (List ℕ)) (words depth : ℕ) (path : List Step) (ways : List (List Step)) (cost : ℕ)
+    (r : Refusal) → AreOnPath m path ways → 0 < length ways → CostOf m ways cost
     → AreShallow m depth ways → cost ≤ words → IsRefusedOnPath m words depth path r → ⊥
 path_not_refused m words depth path [] cost r on some costs shallow within (inl h) = omega (arith, some)
 path_not_refused m words depth path (q ∷ qs) cost r on some costs shallow within (inl h) =
@@ -188,58 +210,75 @@ path_not_refused m words depth path ways cost r on some costs shallow within (in
     all q (inr i) = earlier q i
 
 -- of two beginnings of one path, each is the other or goes on from it
-begins_one : (p q path : List Step) → Begins p path → Begins q path → (p ≡ q) ⊎ ((x : Step) × (more : List Step) × (q ≡ p ++ x ∷ more)) ⊎ ((x : Step) × (more : List Step) × (p ≡ q ++ x ∷ more))
+begins_one : (p q path : List Step) → Begins p path → Begins q path
+    → (p ≡ q) ⊎ ((x : Step) × (more : List Step) × (q ≡ p ++ x ∷ more))
+    ⊎ ((x : Step) × (more : List Step) × (p ≡ q ++ x ∷ more))
 begins_one p q path ([], e) (s, f) = all s (sym (append-nil p) ∙ (sym e ∙ f))
   where
-    all : (s : List Step) → p ≡ q ++ s → (p ≡ q) ⊎ ((x : Step) × (more : List Step) × (q ≡ p ++ x ∷ more)) ⊎ ((x : Step) × (more : List Step) × (p ≡ q ++ x ∷ more))
+    all : (s : List Step) → p ≡ q ++ s → (p ≡ q) ⊎ ((x : Step) × (more : List Step) × (q ≡ p ++ x ∷ more))
+        ⊎ ((x : Step) × (more : List Step) × (p ≡ q ++ x ∷ more))
     all [] h = inl (h ∙ append-nil q)
     all (x ∷ s) h = inr (inr (x, s, h))
 begins_one p q path (x ∷ rest, e) (s, f) = part (begins_either q p rest s x (sym e ∙ f))
   where
-    all : (t : List Step) → p ≡ q ++ t → (p ≡ q) ⊎ ((x : Step) × (more : List Step) × (q ≡ p ++ x ∷ more)) ⊎ ((x : Step) × (more : List Step) × (p ≡ q ++ x ∷ more))
+    all : (t : List Step) → p ≡ q ++ t → (p ≡ q) ⊎ ((x : Step) × (more : List Step) × (q ≡ p ++ x ∷ more))
+        ⊎ ((x : Step) × (more : List Step) × (p ≡ q ++ x ∷ more))
     all [] h = inl (h ∙ append-nil q)
     all (y ∷ t) h = inr (inr (y, t, h))
 
-    part : Begins q p ⊎ ((more : List Step) × (q ≡ p ++ x ∷ more) × (rest ≡ more ++ s)) → (p ≡ q) ⊎ ((x : Step) × (more : List Step) × (q ≡ p ++ x ∷ more)) ⊎ ((x : Step) × (more : List Step) × (p ≡ q ++ x ∷ more))
+    part : Begins q p ⊎ ((more : List Step) × (q ≡ p ++ x ∷ more) × (rest ≡ more ++ s))
+        → (p ≡ q) ⊎ ((x : Step) × (more : List Step) × (q ≡ p ++ x ∷ more))
+        ⊎ ((x : Step) × (more : List Step) × (p ≡ q ++ x ∷ more))
     part (inl (t, h)) = all t h
     part (inr (more, h, k)) = inr (inl (x, more, h))
 
 -- No fault on a path comes before another.
-no_earlier_on : (m : List (List ℕ)) (words depth : ℕ) (path : List Step) (r r' : Refusal) (f : IsFaultOnPath m words depth path r) (f' : IsFaultOnPath m words depth path r') (x : Step) (more : List Step)
+no_earlier_on : (m : List (List ℕ)) (words depth : ℕ) (path : List Step) (r r' : Refusal)
+    (f : IsFaultOnPath m words depth path r) (f' : IsFaultOnPath m words depth path r') (x : Step) (more : List Step)
     → f'.way ≡ f.way ++ x ∷ more → ⊥
 no_earlier_on m words depth path r r' f f' x more e =
     kept_without_fault m words depth f.level f.charge f'.charge r f.way f.before f'.before f.reached f.costs f.reason
-    (distinct_last f.before f.way (Rises-distinct (f.before ++ f.way ∷ []) f.on_path.rising)) all f'.costs f'.shallow f'.within
+    (distinct_last f.before f.way (Rises-distinct (f.before ++ f.way ∷ []) f.on_path.rising)) all f'.costs
+    f'.shallow f'.within
   where
     -- what begins the shorter one is among those before the longer one
     kept : (q : List Step) (level s w : ℕ) → Reaches m q level s w → Begins q f.way → IsOneOf q f'.before
-    kept q level s w h (rest, k) = elim (one_of_last q f'.way f'.before (f'.on_path.all q level s w (subst (λ y. Begins q y) (sym e) (begins_longer q f.way (x ∷ more) (rest, k))) h)) [
-      | inl same ↦
-          let whole : q ≡ (q ++ rest) ++ x ∷ more = same ∙ e ∙ ap (λ y. y ++ x ∷ more) k in
-          let long = ap length whole in
-          absurd (omega (arith, long, length-append (q ++ rest) (x ∷ more), length-append q rest))
-      | inr i ↦ i
-    ]
+    kept q level s w h (rest, k) = elim (one_of_last q f'.way f'.before
+        (f'.on_path.all q level s w (subst (λ y. Begins q y) (sym e) (begins_longer q f.way (x ∷ more) (rest, k))) h)) [
+          | inl same ↦
+              let whole : q ≡ (q ++ rest) ++ x ∷ more = same ∙ e ∙ ap (λ y. y ++ x ∷ more) k in
+              let long = ap length whole in
+              absurd (omega (arith, long, length-append (q ++ rest) (x ∷ more), length-append q rest))
+          | inr i ↦ i
+        ]
 
     all : (q : List Step) → IsOneOf q (f.way ∷ f.before) → IsOneOf q f'.before
-    all q (inl same) = subst (λ y. IsOneOf y f'.before) (sym same) (kept f.way f.level r.segment r.word f.reached (begins_itself f.way))
-    all q (inr i) = let c = cost_reached m f.before f.charge q f.costs i in kept q c.0 c.1 c.2 c.3 (f.on_path.begin q (last_is_one f.way q f.before i))
+    all q (inl same) = subst (λ y. IsOneOf y f'.before) (sym same)
+        (kept f.way f.level r.segment r.word f.reached (begins_itself f.way))
+    all q (inr i) = let c = cost_reached m f.before f.charge q f.costs i in
+        kept q c.0 c.1 c.2 c.3 (f.on_path.begin q (last_is_one f.way q f.before i))
 
 -- A path is refused in one way.
-pub one_path_refusal : (m : List (List ℕ)) (words depth : ℕ) (path : List Step) (r r' : Refusal) → IsRefusedOnPath m words depth path r → IsRefusedOnPath m words depth path r' → r ≡ r'
+pub one_path_refusal : (m : List (List ℕ)) (words depth : ℕ) (path : List Step) (r r' : Refusal)
+    → IsRefusedOnPath m words depth path r → IsRefusedOnPath m words depth path r' → r ≡ r'
 one_path_refusal m words depth path r r' (inl h) (inl k) = one_rootless m r r' h k
-one_path_refusal m words depth path r r' (inl h) (inr f) = absurd (rootless m f.way f.level r'.segment r'.word h.empty f.reached)
-one_path_refusal m words depth path r r' (inr f) (inl h) = absurd (rootless m f.way f.level r.segment r.word h.empty f.reached)
+one_path_refusal m words depth path r r' (inl h) (inr f) =
+    absurd (rootless m f.way f.level r'.segment r'.word h.empty f.reached)
+one_path_refusal m words depth path r r' (inr f) (inl h) =
+    absurd (rootless m f.way f.level r.segment r.word h.empty f.reached)
 one_path_refusal m words depth path r r' (inr f) (inr f') = by_order (begins_one f.way f'.way path f.begin f'.begin)
   where
     same : f'.way ≡ f.way → r ≡ r'
     same e =
-        let on : AreOnPath m f.way (f'.before ++ f.way ∷ []) = subst (λ u. AreOnPath m u (f'.before ++ u ∷ [])) e f'.on_path in
+        let on : AreOnPath m f.way (f'.before ++ f.way ∷ []) =
+        subst (λ u. AreOnPath m u (f'.before ++ u ∷ [])) e f'.on_path in
         let lists = one_path_list m f.way (f.before ++ f.way ∷ []) (f'.before ++ f.way ∷ []) f.on_path on in
-        same_fault m words depth f.level f'.level f.charge f'.charge r r' f.way f.before f'.before lists f.on_path.rising f.reached (subst (λ u. Reaches m u f'.level r'.segment r'.word) e f'.reached)
+        same_fault m words depth f.level f'.level f.charge f'.charge r r' f.way f.before f'.before lists
+        f.on_path.rising f.reached (subst (λ u. Reaches m u f'.level r'.segment r'.word) e f'.reached)
         f.costs f'.costs f.reason f'.reason f.pointers (f'.pointers ∙ ap (λ u. length (f'.before ++ u ∷ [])) e)
 
-    by_order : (f.way ≡ f'.way) ⊎ ((x : Step) × (more : List Step) × (f'.way ≡ f.way ++ x ∷ more)) ⊎ ((x : Step) × (more : List Step) × (f.way ≡ f'.way ++ x ∷ more)) → r ≡ r'
+    by_order : (f.way ≡ f'.way) ⊎ ((x : Step) × (more : List Step) × (f'.way ≡ f.way ++ x ∷ more))
+        ⊎ ((x : Step) × (more : List Step) × (f.way ≡ f'.way ++ x ∷ more)) → r ≡ r'
     by_order (inl e) = same (sym e)
     by_order (inr (inl (x, more, e))) = absurd (no_earlier_on m words depth path r r' f f' x more e)
     by_order (inr (inr (x, more, e))) = absurd (no_earlier_on m words depth path r' r f' f x more e)

@@ -1,9 +1,11 @@
 -- A message is refused in one way: it has one first fault.
-use Rattle.std.proofs.Common.{ℕ, ◌+◌, ◌≤◌, ◌≡◌, ◌⊎◌, List, [], ◌∷◌, ◌++◌, length, Some, inl, inr, refl, sym, ap, ◌∙◌, subst, arith}
+use Rattle.std.proofs.Common.{ℕ, ◌+◌, ◌≤◌, ◌≡◌, ◌⊎◌, List, [], ◌∷◌, ◌++◌, length, Some, inl, inr}
+use Rattle.std.proofs.Common.{refl, sym, ap, ◌∙◌, subst, arith}
 use Rattle.std.specs.Prelude.{slice_get}
 use Rattle.std.proofs.lemmas.List.{append_cancel_right}
 use Rattle.cap_spec.specs.Following.{Wrong}
-use Rattle.cap_spec.specs.Faults.{AreShallow, HasNoRoot, IsFirstFault, IsFirstReason, IsRefused, is_deep, is_past, is_wrong}
+use Rattle.cap_spec.specs.Faults.{AreShallow, HasNoRoot, IsFirstFault, IsFirstReason}
+use Rattle.cap_spec.specs.Faults.{IsRefused, is_deep, is_past, is_wrong}
 use Rattle.cap_spec.specs.Paths.{Before, Costs, IsOneOf, IsTour, Reaches, Rises}
 use Rattle.cap_spec.specs.Verdicts.{AreDistinct, CostOf, IsNoneOf}
 use Rattle.cap_spec.specs.declared.Reason.{Reason}
@@ -11,7 +13,8 @@ use Rattle.cap_spec.specs.declared.Refusal.{Refusal}
 use Rattle.cap_spec.specs.declared.Step.{Step}
 use Rattle.cap_spec.proofs.Pointers.Following.{cap-not_wrong, null-not_wrong, object-not_wrong, one_wrong}
 use Rattle.cap_spec.proofs.Verdicts.OneVerdict.{cost_reached, distinct_cost, take_out}
-use Rattle.cap_spec.proofs.Paths.Preorder.{Before-irreflexive, Before-total_coming, Before-trans, Rises-distinct, one_tour}
+use Rattle.cap_spec.proofs.Paths.Preorder.{Before-irreflexive, Before-total_coming}
+use Rattle.cap_spec.proofs.Paths.Preorder.{Before-trans, Rises-distinct, one_tour}
 use Rattle.cap_spec.proofs.Paths.Walks.{one_reached}
 
 -- distinct paths without the last one, and the last one
@@ -49,36 +52,51 @@ costs_not_wrong m s w c v (inr (inl (i, h))) k = cap-not_wrong m s w c i h v k
 costs_not_wrong m s w c v (inr (inr (k, t, b, q, tag, f, tagged, e))) h = object-not_wrong m s w k t b q f v h
 
 -- one reason is the first
-one_reason : (m : List (List ℕ)) (words depth before s w level : ℕ) (u v : Reason) → IsFirstReason m words depth before s w level u → IsFirstReason m words depth before s w level v → u ≡ v
+one_reason : (m : List (List ℕ)) (words depth before s w level : ℕ) (u v : Reason)
+    → IsFirstReason m words depth before s w level u → IsFirstReason m words depth before s w level v → u ≡ v
 one_reason m words depth before s w level u v (is_wrong h) (is_wrong k) = one_wrong m s w u v h k
-one_reason m words depth before s w level u v (is_wrong h) (is_deep e (k, t, b, q, tag, f, tagged, past)) = absurd (object-not_wrong m s w k t b q f u h)
-one_reason m words depth before s w level u v (is_wrong h) (is_past cost e none costs past) = absurd (costs_not_wrong m s w cost u costs h)
-one_reason m words depth before s w level u v (is_deep e (k, t, b, q, tag, f, tagged, past)) (is_wrong h) = absurd (object-not_wrong m s w k t b q f v h)
+one_reason m words depth before s w level u v (is_wrong h) (is_deep e (k, t, b, q, tag, f, tagged, past)) =
+    absurd (object-not_wrong m s w k t b q f u h)
+one_reason m words depth before s w level u v (is_wrong h) (is_past cost e none costs past) =
+    absurd (costs_not_wrong m s w cost u costs h)
+one_reason m words depth before s w level u v (is_deep e (k, t, b, q, tag, f, tagged, past)) (is_wrong h) =
+    absurd (object-not_wrong m s w k t b q f v h)
 one_reason m words depth before s w level u v (is_deep e deep) (is_deep e' deep') = e ∙ sym e'
 one_reason m words depth before s w level u v (is_deep e deep) (is_past cost e' none costs past) = absurd (none deep)
-one_reason m words depth before s w level u v (is_past cost e none costs past) (is_wrong h) = absurd (costs_not_wrong m s w cost v costs h)
+one_reason m words depth before s w level u v (is_past cost e none costs past) (is_wrong h) =
+    absurd (costs_not_wrong m s w cost v costs h)
 one_reason m words depth before s w level u v (is_past cost e none costs past) (is_deep e' deep) = absurd (none deep)
-one_reason m words depth before s w level u v (is_past cost e none costs past) (is_past cost' e' none' costs' past') = e ∙ sym e'
+one_reason m words depth before s w level u v (is_past cost e none costs past)
+    (is_past cost' e' none' costs' past') = e ∙ sym e'
 
 -- Where some paths keep to the limits, there is no fault at one of them behind others of them.
-pub kept_without_fault : (m : List (List ℕ)) (words depth level charge cost : ℕ) (r : Refusal) (way : List Step) (before kept : List (List Step)) → Reaches m way level r.segment r.word → CostOf m before charge
-    → IsFirstReason m words depth charge r.segment r.word level r.reason → AreDistinct (way ∷ before) → ((q : List Step) → IsOneOf q (way ∷ before) → IsOneOf q kept)
+pub kept_without_fault : (m : List (List ℕ)) (words depth level charge cost : ℕ) (r : Refusal) (way : List Step)
+    (before kept : List (List Step)) → Reaches m way level r.segment r.word → CostOf m before charge
+    → IsFirstReason m words depth charge r.segment r.word level r.reason → AreDistinct (way ∷ before)
+    → ((q : List Step) → IsOneOf q (way ∷ before) → IsOneOf q kept)
     → CostOf m kept cost → AreShallow m depth kept → cost ≤ words → ⊥
-kept_without_fault m words depth level charge cost r way before kept reached costs (is_wrong h) distinct all whole shallow within =
+kept_without_fault m words depth level charge cost r way before kept reached costs (is_wrong h) distinct all
+    whole shallow within =
     let t = take_out m way kept cost (all way (inl refl)) whole in
     let o = one_reached m way level t.level r.segment r.word t.s t.w reached t.reached in
-    let one : Costs m r.segment r.word t.one = subst (λ u. Costs m u r.word t.one) (sym o.1) (subst (λ u. Costs m t.s u t.one) (sym o.2) t.costs) in
+    let one : Costs m r.segment r.word t.one =
+    subst (λ u. Costs m u r.word t.one) (sym o.1) (subst (λ u. Costs m t.s u t.one) (sym o.2) t.costs) in
     costs_not_wrong m r.segment r.word t.one r.reason one h
-kept_without_fault m words depth level charge cost r way before kept reached costs (is_deep e deep) distinct all whole shallow within = shallow way level r.segment r.word (all way (inl refl)) reached deep
-kept_without_fault m words depth level charge cost r way before kept reached costs (is_past one e none own past) distinct all whole shallow within =
-    let both : CostOf m (way ∷ before) (one + charge) = (level, r.segment, r.word, one, charge, reached, own, costs, refl) in
+kept_without_fault m words depth level charge cost r way before kept reached costs (is_deep e deep) distinct all whole
+    shallow within = shallow way level r.segment r.word (all way (inl refl)) reached deep
+kept_without_fault m words depth level charge cost r way before kept reached costs (is_past one e none own past)
+    distinct all whole shallow within =
+    let both : CostOf m (way ∷ before) (one + charge) =
+    (level, r.segment, r.word, one, charge, reached, own, costs, refl) in
     omega (arith, past, within, distinct_cost m (way ∷ before) kept (one + charge) cost distinct all both whole)
 
 -- No first fault comes before another.
-no_earlier : (m : List (List ℕ)) (words depth : ℕ) (r r' : Refusal) (f : IsFirstFault m words depth r) (f' : IsFirstFault m words depth r') → Before f.path f'.path → ⊥
+no_earlier : (m : List (List ℕ)) (words depth : ℕ) (r r' : Refusal) (f : IsFirstFault m words depth r)
+    (f' : IsFirstFault m words depth r') → Before f.path f'.path → ⊥
 no_earlier m words depth r r' f f' b =
     kept_without_fault m words depth f.level f.charge f'.charge r f.path f.before f'.before f.reached f.costs f.reason
-    (distinct_last f.before f.path (Rises-distinct (f.before ++ f.path ∷ []) f.tour.rising)) all f'.costs f'.shallow f'.within
+    (distinct_last f.before f.path (Rises-distinct (f.before ++ f.path ∷ []) f.tour.rising)) all f'.costs
+    f'.shallow f'.within
   where
     kept : (q : List Step) (level s w : ℕ) → Reaches m q level s w → Before q f'.path → IsOneOf q f'.before
     kept q level s w h k = elim (one_of_last q f'.path f'.before (f'.tour.all q level s w h (inr k))) [
@@ -102,17 +120,24 @@ no_earlier m words depth r r' f f' b =
     all q (inr i) = earlier q i
 
 -- refusals of equal parts are equal
-same_refusal : (a b : Refusal) → a.segment ≡ b.segment → a.word ≡ b.word → a.reason ≡ b.reason → a.pointers ≡ b.pointers → a ≡ b
+same_refusal : (a b : Refusal) → a.segment ≡ b.segment → a.word ≡ b.word → a.reason ≡ b.reason
+    → a.pointers ≡ b.pointers → a ≡ b
 same_refusal a b e1 e2 e3 e4 =
     let make : ℕ → ℕ → Reason → ℕ → Refusal = λ s w v n. record { segment = s; word = w; reason = v; pointers = n } in
-    ap (λ s. make s a.word a.reason a.pointers) e1 ∙ (ap (λ w. make b.segment w a.reason a.pointers) e2 ∙ (ap (λ v. make b.segment b.word v a.pointers) e3 ∙ ap (λ n. make b.segment b.word b.reason n) e4))
+    ap (λ s. make s a.word a.reason a.pointers) e1
+    ∙ (ap (λ w. make b.segment w a.reason a.pointers) e2
+    ∙ (ap (λ v. make b.segment b.word v a.pointers) e3 ∙ ap (λ n. make b.segment b.word b.reason n) e4))
 
 -- Faults at one path behind the same paths are one refusal.
-pub same_fault : (m : List (List ℕ)) (words depth level level' charge charge' : ℕ) (r r' : Refusal) (way : List Step) (before before' : List (List Step)) → before ++ way ∷ [] ≡ before' ++ way ∷ []
-    → Rises (before ++ way ∷ []) → Reaches m way level r.segment r.word → Reaches m way level' r'.segment r'.word → CostOf m before charge → CostOf m before' charge'
-    → IsFirstReason m words depth charge r.segment r.word level r.reason → IsFirstReason m words depth charge' r'.segment r'.word level' r'.reason
+pub same_fault : (m : List (List ℕ)) (words depth level level' charge charge' : ℕ) (r r' : Refusal) (way : List Step)
+    (before before' : List (List Step)) → before ++ way ∷ [] ≡ before' ++ way ∷ []
+    → Rises (before ++ way ∷ []) → Reaches m way level r.segment r.word → Reaches m way level' r'.segment r'.word
+    → CostOf m before charge → CostOf m before' charge'
+    → IsFirstReason m words depth charge r.segment r.word level r.reason
+    → IsFirstReason m words depth charge' r'.segment r'.word level' r'.reason
     → r.pointers ≡ length (before ++ way ∷ []) → r'.pointers ≡ length (before' ++ way ∷ []) → r ≡ r'
-same_fault m words depth level level' charge charge' r r' way before before' lists rising reached reached' costs costs' reason reason' pointers pointers' =
+same_fault m words depth level level' charge charge' r r' way before before' lists rising reached reached' costs costs'
+    reason reason' pointers pointers' =
     let same : before ≡ before' = append_cancel_right before before' (way ∷ []) lists in
     let at = one_reached m way level level' r.segment r.word r'.segment r'.word reached reached' in
     let distinct : AreDistinct before = (distinct_last before way (Rises-distinct (before ++ way ∷ []) rising)).1 in
@@ -120,20 +145,26 @@ same_fault m words depth level level' charge charge' r r' way before before' lis
     let le = distinct_cost m before before charge charge' distinct (λ q i. i) costs other in
     let ge = distinct_cost m before before charge' charge distinct (λ q i. i) other costs in
     let total : charge ≡ charge' = omega arith in
-    let first : IsFirstReason m words depth charge r.segment r.word level r'.reason = rw (total, at.0, at.1, at.2) reason' in
-    same_refusal r r' at.1 at.2 (one_reason m words depth charge r.segment r.word level r.reason r'.reason reason first) (pointers ∙ ap length lists ∙ sym pointers')
+    let first : IsFirstReason m words depth charge r.segment r.word level r'.reason =
+    rw (total, at.0, at.1, at.2) reason' in
+    same_refusal r r' at.1 at.2 (one_reason m words depth charge r.segment r.word level r.reason r'.reason reason first)
+    (pointers ∙ ap length lists ∙ sym pointers')
 
 -- First faults at one path are one refusal.
-same_first_fault : (m : List (List ℕ)) (words depth : ℕ) (r r' : Refusal) (f : IsFirstFault m words depth r) (f' : IsFirstFault m words depth r') → f'.path ≡ f.path → r ≡ r'
+same_first_fault : (m : List (List ℕ)) (words depth : ℕ) (r r' : Refusal) (f : IsFirstFault m words depth r)
+    (f' : IsFirstFault m words depth r') → f'.path ≡ f.path → r ≡ r'
 same_first_fault m words depth r r' f f' e =
     let tour : IsTour m f.path (f'.before ++ f.path ∷ []) = subst (λ u. IsTour m u (f'.before ++ u ∷ [])) e f'.tour in
-    let lists : f.before ++ f.path ∷ [] ≡ f'.before ++ f.path ∷ [] = one_tour m f.path (f.before ++ f.path ∷ []) (f'.before ++ f.path ∷ []) f.tour tour in
-    same_fault m words depth f.level f'.level f.charge f'.charge r r' f.path f.before f'.before lists f.tour.rising f.reached (subst (λ u. Reaches m u f'.level r'.segment r'.word) e f'.reached)
+    let lists : f.before ++ f.path ∷ [] ≡ f'.before ++ f.path ∷ [] =
+    one_tour m f.path (f.before ++ f.path ∷ []) (f'.before ++ f.path ∷ []) f.tour tour in
+    same_fault m words depth f.level f'.level f.charge f'.charge r r' f.path f.before f'.before lists f.tour.rising
+    f.reached (subst (λ u. Reaches m u f'.level r'.segment r'.word) e f'.reached)
     f.costs f'.costs f.reason f'.reason f.pointers (f'.pointers ∙ ap (λ u. length (f'.before ++ u ∷ [])) e)
 
 -- Refusals of a message without a root are one.
 pub one_rootless : (m : List (List ℕ)) (r r' : Refusal) → HasNoRoot m r → HasNoRoot m r' → r ≡ r'
-one_rootless m r r' h k = same_refusal r r' (h.segment ∙ sym k.segment) (h.word ∙ sym k.word) (h.reason ∙ sym k.reason) (h.pointers ∙ sym k.pointers)
+one_rootless m r r' h k = same_refusal r r' (h.segment ∙ sym k.segment) (h.word ∙ sym k.word) (h.reason ∙ sym k.reason)
+    (h.pointers ∙ sym k.pointers)
 
 -- a message without a root has no pointer that a path reaches
 pub rootless : (m : List (List ℕ)) (p : List Step) (level s w : ℕ) → slice_get m 0 ≡ Some [] → Reaches m p level s w → ⊥
@@ -145,11 +176,13 @@ rootless (x ∷ m) p level s w e (root, n, has, walks, up) =
     cc
 
 -- A message is refused in one way.
-pub one_refusal : (m : List (List ℕ)) (words depth : ℕ) (r r' : Refusal) → IsRefused m words depth r → IsRefused m words depth r' → r ≡ r'
+pub one_refusal : (m : List (List ℕ)) (words depth : ℕ) (r r' : Refusal) → IsRefused m words depth r
+    → IsRefused m words depth r' → r ≡ r'
 one_refusal m words depth r r' (inl h) (inl k) = one_rootless m r r' h k
 one_refusal m words depth r r' (inl h) (inr f) = absurd (rootless m f.path f.level r'.segment r'.word h.empty f.reached)
 one_refusal m words depth r r' (inr f) (inl h) = absurd (rootless m f.path f.level r.segment r.word h.empty f.reached)
-one_refusal m words depth r r' (inr f) (inr f') = by_order (Before-total_coming m f.path f'.path f.level f'.level _ _ f.reached f'.reached)
+one_refusal m words depth r r' (inr f) (inr f') =
+    by_order (Before-total_coming m f.path f'.path f.level f'.level _ _ f.reached f'.reached)
   where
     by_order : (f.path ≡ f'.path) ⊎ Before f.path f'.path ⊎ Before f'.path f.path → r ≡ r'
     by_order (inl e) = same_first_fault m words depth r r' f f' (sym e)

@@ -7,7 +7,8 @@ use Rattle.cap_spec.specs.Tree.{Tree, null, cap, struct, scalars, pointers, stru
 use Rattle.cap_spec.specs.Denoting.{Finds, Denotes}
 use Rattle.cap_spec.specs.Following.{Wrong}
 use Rattle.cap_spec.specs.Paths.{word, Reaches, Costs, IsOneOf}
-use Rattle.cap_spec.specs.Verdicts.{CostOf, IsNoneOf, AreDistinct, JustifiedBy, no_root, is_wrong, too_deep, past_limit, levels_below}
+use Rattle.cap_spec.specs.Verdicts.{CostOf, IsNoneOf, AreDistinct, JustifiedBy, no_root, is_wrong}
+use Rattle.cap_spec.specs.Verdicts.{too_deep, past_limit, levels_below}
 use Rattle.cap_spec.specs.declared.Step.{Step}
 use Rattle.cap_spec.specs.declared.Reason.{Reason}
 use Rattle.cap_spec.proofs.Pointers.Following.{null-not_wrong, cap-not_wrong, object-not_wrong}
@@ -33,7 +34,8 @@ pub record TakenOut (m : List (List ℕ)) (p : List Step) (qs : List (List Step)
   pub sum : y ≡ one + rest
   pub left : (q : List Step) → IsOneOf q qs → p ≢ q → IsOneOf q others
 
-pub take_out : (m : List (List ℕ)) (p : List Step) (qs : List (List Step)) (y : ℕ) → IsOneOf p qs → CostOf m qs y → TakenOut m p qs y
+pub take_out : (m : List (List ℕ)) (p : List Step) (qs : List (List Step)) (y : ℕ) → IsOneOf p qs → CostOf m qs y
+    → TakenOut m p qs y
 take_out m p [] y i h = absurd i
 take_out m p (q ∷ qs) y (inl e) h =
     record {
@@ -69,7 +71,8 @@ take_out m p (q ∷ qs) y (inr i) h =
       left = λ r j n. other t.others t.left r j n;
     }
   where
-    other : (os : List (List Step)) → ((r : List Step) → IsOneOf r qs → p ≢ r → IsOneOf r os) → (r : List Step) → (r ≡ q) ⊎ IsOneOf r qs → p ≢ r → (r ≡ q) ⊎ IsOneOf r os
+    other : (os : List (List Step)) → ((r : List Step) → IsOneOf r qs → p ≢ r → IsOneOf r os) → (r : List Step)
+        → (r ≡ q) ⊎ IsOneOf r qs → p ≢ r → (r ≡ q) ⊎ IsOneOf r os
     other os k r (inl f) n = inl f
     other os k r (inr f) n = inr (k r f n)
 
@@ -80,29 +83,40 @@ apart p q (r ∷ rs) n (inl e) = λ f. n.0 (f ∙ e)
 apart p q (r ∷ rs) n (inr i) = apart p q rs n.1 i
 
 -- distinct paths among others cost at most what those cost
-pub distinct_cost : (m : List (List ℕ)) (ps qs : List (List Step)) (x y : ℕ) → AreDistinct ps → ((p : List Step) → IsOneOf p ps → IsOneOf p qs) → CostOf m ps x → CostOf m qs y → x ≤ y
+pub distinct_cost : (m : List (List ℕ)) (ps qs : List (List Step)) (x y : ℕ) → AreDistinct ps
+    → ((p : List Step) → IsOneOf p ps → IsOneOf p qs) → CostOf m ps x → CostOf m qs y → x ≤ y
 distinct_cost m [] qs x y d k g h = omega (arith, g)
 distinct_cost m (p ∷ ps) qs x y d k g h =
     let t : TakenOut m p qs y = take_out m p qs y (k p (inl refl)) h in
     let o = one_reached m p g.0 t.level g.1 g.2 t.s t.w g.5 t.reached in
     let c : g.3 ≡ t.one = one_cost m g.1 g.2 g.3 t.one g.6 (rw (o.1, o.2) t.costs) in
-    omega (arith, c, t.sum, g.8, distinct_cost m ps t.others g.4 t.rest d.1 (λ q i. t.left q (k q (inr i)) (apart p q ps d.0 i)) g.7 t.cost)
+    omega (
+      arith,
+      c,
+      t.sum,
+      g.8,
+      distinct_cost m ps t.others g.4 t.rest d.1
+          (λ q i. t.left q (k q (inr i)) (apart p q ps d.0 i)) g.7 t.cost,
+    )
 
 -- paths that have a cost reach words
-pub cost_reached : (m : List (List ℕ)) (ps : List (List Step)) (x : ℕ) (p : List Step) → CostOf m ps x → IsOneOf p ps → (level s w : ℕ) × Reaches m p level s w
+pub cost_reached : (m : List (List ℕ)) (ps : List (List Step)) (x : ℕ) (p : List Step) → CostOf m ps x → IsOneOf p ps
+    → (level s w : ℕ) × Reaches m p level s w
 cost_reached m [] x p h i = absurd i
 cost_reached m (q ∷ qs) x p h (inl e) = (h.0, h.1, h.2, subst (λ (v : List Step). Reaches m v h.0 h.1 h.2) (sym e) h.5)
 cost_reached m (q ∷ qs) x p h (inr i) = cost_reached m qs h.4 p h.7 i
 
 -- Distinct paths cost at most the charge of the root's tree.
-pub paths_cost_charge : (m : List (List ℕ)) (t : Tree) (c d : ℕ) → Denotes m 0 0 t c d → (ps : List (List Step)) (x : ℕ) → AreDistinct ps → CostOf m ps x → x ≤ c
+pub paths_cost_charge : (m : List (List ℕ)) (t : Tree) (c d : ℕ) → Denotes m 0 0 t c d → (ps : List (List Step)) (x : ℕ)
+    → AreDistinct ps → CostOf m ps x → x ≤ c
 paths_cost_charge m t c d h ps x a g =
     distinct_cost m ps (pointer_paths t) x c a
     (λ p i. let r = cost_reached m ps x p g i in (pointer_path_reached m t c d h p).1 r)
     g (charge_is_cost m t c d h)
 
 -- No path leads deeper than the root's tree.
-pub paths_within_depth : (m : List (List ℕ)) (t : Tree) (c d : ℕ) → Denotes m 0 0 t c d → (p : List Step) (level s w k t' b q tag : ℕ) → Reaches m p level s w
+pub paths_within_depth : (m : List (List ℕ)) (t : Tree) (c d : ℕ) → Denotes m 0 0 t c d
+    → (p : List Step) (level s w k t' b q tag : ℕ) → Reaches m p level s w
     → Finds m s w k t' b q → ((kind q ≡ 1) × (code q ≡ 7) → HasWord m t' b tag) → level + levels_below q tag ≤ d
 paths_within_depth m t c d h p level s w k t' b q tag g f has =
     let r = walk_depth m (word 0 0) p g.1 (word s w) t (c, d, h) g.3 in
@@ -110,7 +124,8 @@ paths_within_depth m t c d h p level s w k t' b q tag g f has =
     omega (arith, o, r.2, g.4, denoted_depth m 0 0 t c d h, denoted_depth m s w r.0 r.1.0 r.1.1 r.1.2)
 
 -- nothing is wrong where a tree is denoted
-pub denoted_not_wrong : (m : List (List ℕ)) (s w : ℕ) (t : Tree) (c d : ℕ) → Denotes m s w t c d → (v : Reason) → Wrong m s w v → ⊥
+pub denoted_not_wrong : (m : List (List ℕ)) (s w : ℕ) (t : Tree) (c d : ℕ) → Denotes m s w t c d → (v : Reason)
+    → Wrong m s w v → ⊥
 denoted_not_wrong m s w null c d h v g = null-not_wrong m s w c h.0 v g
 denoted_not_wrong m s w (cap i) c d h v g = cap-not_wrong m s w c i h.0 v g
 denoted_not_wrong m s w (struct ws ts) c d h v g = object-not_wrong m s w h.0 h.1 h.2 h.3 h.6.finds v g
@@ -119,7 +134,8 @@ denoted_not_wrong m s w (pointers ts) c d h v g = object-not_wrong m s w h.0 h.1
 denoted_not_wrong m s w (structs ds ps es) c d h v g = object-not_wrong m s w h.0 h.1 h.2 h.3 h.7.finds v g
 
 -- Where the root denotes a tree, nothing is wrong at a pointer word that a path reaches.
-pub reached_not_wrong : (m : List (List ℕ)) (t : Tree) (c d : ℕ) → Denotes m 0 0 t c d → (p : List Step) (level s w : ℕ) (v : Reason) → Reaches m p level s w → Wrong m s w v → ⊥
+pub reached_not_wrong : (m : List (List ℕ)) (t : Tree) (c d : ℕ) → Denotes m 0 0 t c d
+    → (p : List Step) (level s w : ℕ) (v : Reason) → Reaches m p level s w → Wrong m s w v → ⊥
 reached_not_wrong m t c d h p level s w v g x =
     let r = coming_to_node m t c d h p level (word s w) g in denoted_not_wrong m s w r.0 r.2.0 r.2.1 r.2.2 v x
 
@@ -129,7 +145,8 @@ rootless [] p e h = cc e
 rootless (x ∷ xs) p e h = let f : x ≡ [] = cc e in let g : slice_get [] 0 ≡ Some p = rw f at h in cc g
 
 -- A message whose root denotes a tree within the limits has no justified refusal.
-pub no_refusal_of_tree : (m : List (List ℕ)) (t : Tree) (c d words depth s w : ℕ) (v : Reason) → Denotes m 0 0 t c d → c ≤ words → d ≤ depth → JustifiedBy m words depth s w v → ⊥
+pub no_refusal_of_tree : (m : List (List ℕ)) (t : Tree) (c d words depth s w : ℕ) (v : Reason) → Denotes m 0 0 t c d
+    → c ≤ words → d ≤ depth → JustifiedBy m words depth s w v → ⊥
 no_refusal_of_tree m t c d words depth s w v h a b (no_root e f g x) =
     let r : Formed m 0 0 t = formed m 0 0 t c d h in
     let p = lead_word m 0 0 r.k r.r r.leads in rootless m p.0 f p.1
@@ -137,4 +154,9 @@ no_refusal_of_tree m t c d words depth s w v h a b (is_wrong g) = reached_not_wr
 no_refusal_of_tree m t c d words depth s w v h a b (too_deep e g) =
     omega (arith, paths_within_depth m t c d h g.0 g.1 s w g.2 g.3 g.4 g.5 g.6 g.7 g.8 g.9, g.10)
 no_refusal_of_tree m t c d words depth s w v h a b (past_limit e g) =
-    omega (arith, paths_cost_charge m t c d h (g.last ∷ g.paths) (g.one + g.before) g.distinct (g.level, s, w, g.one, g.before, g.reached, g.costs, g.others, refl), g.past)
+    omega (
+      arith,
+      paths_cost_charge m t c d h (g.last ∷ g.paths) (g.one + g.before) g.distinct
+          (g.level, s, w, g.one, g.before, g.reached, g.costs, g.others, refl),
+      g.past,
+    )
