@@ -3,7 +3,7 @@
 ghost use Rattle.cap_words.specs.Counting.{Reads};
 ghost use Rattle.cap_words.specs.Ends.{InputFails, NoFault};
 ghost use Rattle.std.specs.Io.KnownBytes.{IsAtEnd};
-ghost use Rattle.std.specs.Prelude.{◌<◌, ◌≡◌, ◌≤◌, IfOk, IsErrOf, List, OnOk, length, take, true, ℕ};
+ghost use Rattle.std.specs.Prelude.{◌<◌, ◌≡◌, ◌≤◌, [], IfOk, IsErrOf, List, OnOk, length, take, true, ℕ};
 
 use super::ends::{ByteIn, InFault};
 use super::transfer::fill;
@@ -19,7 +19,7 @@ pub struct Counted<I: ByteIn> {
 
 impl<I: ByteIn> Counted<I> {
     /// Fills a buffer with the next bytes as far as there are any, and returns how many came. An
-    /// empty buffer is full, and then nothing is read.
+    /// empty buffer is full, and then nothing is read and nothing changes.
     ///
     /// # Errors
     ///
@@ -31,6 +31,7 @@ impl<I: ByteIn> Counted<I> {
     pub fn fill(&mut self, buf: &mut [u8]) -> Result<usize, InFault>
         ensures len { IfOk result (λ n. n ≤ length buf.new) }
         ensures took { IfOk result (λ n. Reads I.to_come self.old self.new (take n buf.new)) }
+        ensures empty { buf.old ≡ [] → (result ≡ Ok 0) × (self.new ≡ self.old) }
         ensures end { IfOk result (λ n. n < length buf.new → IsAtEnd (I.to_come self.new.input)) }
         ensures still { result ≡ Ok 0 → self.new.read ≡ self.old.read }
         ensures works { 0 < length buf.old →
