@@ -1,5 +1,6 @@
 -- An end over the turns of a loop that moves bytes.
-use Rattle.std.proofs.Common.{◌≡◌, ◌+◌, ◌-◌, ◌<◌, ◌≤◌, ◌∙◌, ℕ, zero, suc, Bool, List, ◌++◌, Option, length, take, drop, refl, ap, sym, subst, arith, length-append, length-drop}
+use Rattle.std.proofs.Common.{◌≡◌, ◌+◌, ◌-◌, ◌<◌, ◌≤◌, ◌∙◌, ℕ, zero, suc, Bool, List, ◌++◌, Option, length, take, drop}
+use Rattle.std.proofs.Common.{refl, ap, sym, subst, arith, length-append, length-drop}
 use Rattle.std.proofs.KnownBytes.{Appends-trans, Consumes-trans}
 use Rattle.std.proofs.Math.Seq.{take-append-add, take-add}
 use Rattle.std.proofs.lemmas.List.{length-take-le, take-append-le, take_rest}

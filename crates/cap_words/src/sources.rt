@@ -9,7 +9,8 @@ ghost use Rattle.cap_words.specs.declared.sources.SourceFault.TheVariants.{Devic
 ghost use Rattle.std.specs.Io.KnownBytes.{Consumes, Keeps};
 ghost use Rattle.std.specs.List.{AllByRecursion};
 ghost use Rattle.std.specs.Option.{option_to_list};
-ghost use Rattle.std.specs.Prelude.{◌*◌, ◌+◌, ◌++◌, ◌-◌, ◌/◌, ◌<◌, ◌^◌, ◌≡◌, ◌≤◌, ◌⊎◌, [], ◌∷◌, Bool, IfOk, IfSome, IsErrOf, List, OnErr, OnOk, OnSome, Option, drop, false, length, min, take, true, ℕ};
+ghost use Rattle.std.specs.Prelude.{◌*◌, ◌+◌, ◌++◌, ◌-◌, ◌/◌, ◌<◌, ◌^◌, ◌≡◌, ◌≤◌, ◌⊎◌, [], ◌∷◌, Bool, IfOk};
+ghost use Rattle.std.specs.Prelude.{IfSome, IsErrOf, List, OnErr, OnOk, OnSome, Option, drop, false, length, min, take, true, ℕ};
 ghost use Rattle.std.specs.Vec.{vec_capacity, vec_len};
 
 use super::ends::InFault;

@@ -14,7 +14,8 @@ returns-clause-bytes g c =
     let given = c.copy_front-count in
     let held = c.deref.result.now in
     let split = rw c.deref.ensures.value at (given_off held given.new.to s.start s.end given.result given.ensures.within given.ensures.copied) in
-    let kept : Keeps (prepend_known (slice_range old.buffer.items old.start old.end) (g.R.Read.remaining old.reader)) (prepend_known (slice_range s.buffer.items s.start s.end) (g.R.Read.remaining s.reader)) = elim c.if-self.branch [
+    let kept : Keeps (prepend_known (slice_range old.buffer.items old.start old.end) (g.R.Read.remaining old.reader))
+    (prepend_known (slice_range s.buffer.items s.start s.end) (g.R.Read.remaining s.reader)) = elim c.if-self.branch [
       | then-self+else-buf-ge-BUFFER+in_default w ↦ rw w.self-is w.refill.ensures.bytes
       | else-self w ↦ rw w.self-is (Keeps-refl _)
     ] in
