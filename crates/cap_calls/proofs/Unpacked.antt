@@ -6,7 +6,7 @@ use lib.Count.{ones}
 use Rattle.cap_spec.specs.Plain.{plain_words}
 use Rattle.cap_spec.specs.Unpacking.{group_length, group_words, marks, packed_is_cut, unpacked}
 use Rattle.cap_spec.proofs.Packed.Unpacking.{cut_front, length_marked, unpacked_front, words_marked}
-use Rattle.cap_frame.proofs.Cuts.{words_exact}
+use Rattle.cap_spec.proofs.Bytes.Plain.{words_exact}
 use Rattle.cap_pack.proofs.Heads.{head_rest-marked, head_rest-ones}
 
 -- a run of zero words has two bytes, the second of which tells how many follow the first
@@ -34,7 +34,7 @@ plain_count (tag ∷ rest) e l =
     let first : length (take 8 rest) ≡ 8 = length-take-le 8 rest (omega (arith, room)) in
     let others : length (take (8 * more) (drop 9 rest)) ≡ 8 * more = length-take-le (8 * more) (drop 9 rest) (omega (arith, length-drop 9 rest, room)) in
     let both : length all ≡ length (take 8 rest) + length (take (8 * more) (drop 9 rest)) = length-append (take 8 rest) (take (8 * more) (drop 9 rest)) in
-    let exact : length all / 8 ≡ length (plain_words all) = words_exact all in
+    let exact : length (plain_words all) ≡ length all / 8 = words_exact all in
     let count : length (plain_words all) ≡ 1 + more = omega (arith, first, others, both, exact) in
     ap (λ (x : ℕ). length (group_words (x ∷ rest))) t ∙ count
 

@@ -1,5 +1,6 @@
 -- Words of segments whose bytes stand one behind the other.
-use Rattle.std.proofs.Common.{◌≡◌, ℕ, zero, suc, ◌+◌, ◌-◌, ◌*◌, ◌/◌, ◌^◌, ◌<◌, ◌≤◌, List, [], ◌∷◌, length, drop, take, sum, get_or, refl, sym, ap, ◌∙◌, subst, arith, zero-add, Some, slice_get}
+use Rattle.std.proofs.Common.{◌≡◌, ℕ, zero, suc, ◌+◌, ◌-◌, ◌*◌, ◌^◌, ◌<◌, ◌≤◌, List, [], ◌∷◌, length, drop, take}
+use Rattle.std.proofs.Common.{sum, get_or, refl, sym, ap, ◌∙◌, subst, arith, zero-add, Some, slice_get}
 use Rattle.std.specs.List.{All}
 use Rattle.std.proofs.lemmas.List.{drop-drop, drop-take, get_or_default, length-drop, length-take-le, get_or-take, take_more}
 use Rattle.std.proofs.lemmas.List.Sums.{sum_by-append, sum_by-cons, sum_by-take-le}
@@ -7,19 +8,9 @@ use Rattle.byteorder.specs.Endian.{little_from, little_number}
 use Rattle.cap_spec.specs.Messages.{IsMessage}
 use Rattle.cap_frame.specs.Bytes.{cut, starts_of}
 use Rattle.cap_spec.specs.Plain.{plain_words}
+use Rattle.cap_spec.proofs.Bytes.Plain.{words_exact}
 
--- a word is eight bytes
-pub words_exact : (bs : List ℕ) → length bs / 8 ≡ length (plain_words bs)
-words_exact (a ∷ b ∷ c ∷ d ∷ e ∷ f ∷ g ∷ h ∷ rest) = let t = words_exact rest in omega arith
-words_exact [] = refl
-words_exact (a ∷ []) = refl
-words_exact (a ∷ b ∷ []) = refl
-words_exact (a ∷ b ∷ c ∷ []) = refl
-words_exact (a ∷ b ∷ c ∷ d ∷ []) = refl
-words_exact (a ∷ b ∷ c ∷ d ∷ e ∷ []) = refl
-words_exact (a ∷ b ∷ c ∷ d ∷ e ∷ f ∷ []) = refl
-words_exact (a ∷ b ∷ c ∷ d ∷ e ∷ f ∷ g ∷ []) = refl
-
+-- whole words are eight bytes each
 pub words_inside : (bs : List ℕ) → 8 * length (plain_words bs) ≤ length bs
 words_inside bs = omega (arith, words_exact bs)
 

@@ -1,5 +1,6 @@
 -- What holds of the bytes decides what is found at their start.
-use Rattle.std.proofs.Common.{◌≡◌, ◌∙◌, ℕ, ◌+◌, ◌*◌, ◌%◌, ◌^◌, false, Option, Some, None, Result, Ok, Err, List, [], length, sum, IsOkAnd, IsSomeAnd, refl, sym, ap, subst}
+use Rattle.std.proofs.Common.{◌≡◌, ◌∙◌, ℕ, ◌+◌, ◌*◌, ◌%◌, ◌^◌, false, Option, Some, None, Result, Ok, Err, List, []}
+use Rattle.std.proofs.Common.{length, sum, IsOkAnd, IsSomeAnd, refl, sym, ap, subst}
 use Rattle.cap_spec.specs.Endings.{BeginsMessage, EndsIn, Ending, message, none, partial, too_large, too_many}
 use Rattle.cap_spec.specs.Frames.{IsPartial}
 use Rattle.cap_spec.specs.Plain.{plain_words, plain_is_cut}

@@ -1,5 +1,6 @@
 -- Words that are read into one buffer, piece by piece.
-use Rattle.std.proofs.Common.{◌≡◌, ◌∙◌, ℕ, ◌+◌, ◌-◌, ◌*◌, ◌/◌, ◌%◌, ◌≤◌, false, List, [], ◌∷◌, ◌++◌, length, take, drop, sum, refl, sym, ap, arith, append-nil, append_assoc, length-append, length-drop}
+use Rattle.std.proofs.Common.{◌≡◌, ◌∙◌, ℕ, ◌+◌, ◌-◌, ◌*◌, ◌/◌, ◌%◌, ◌≤◌, false, List, [], ◌∷◌, ◌++◌, length, take, drop}
+use Rattle.std.proofs.Common.{sum, refl, sym, ap, arith, append-nil, append_assoc, length-append, length-drop}
 use Rattle.std.proofs.Math.Seq.{take-add, take-append_seam}
 use Rattle.std.proofs.lemmas.List.{length-take-le, take-append-le, take-take, take_all}
 use Rattle.std.proofs.lemmas.List.Sums.{sum_by-cons}
@@ -10,7 +11,8 @@ use Rattle.cap_spec.specs.Frames.{joined, sizes_of}
 use Rattle.cap_spec.specs.Plain.{plain_words}
 use Rattle.cap_frame.specs.Bytes.{cut}
 use Rattle.cap_frame.specs.Taking.{Takes, Reads, IsUsable, Stops}
-use Rattle.cap_frame.proofs.Cuts.{words_exact, words_inside}
+use Rattle.cap_frame.proofs.Cuts.{words_inside}
+use Rattle.cap_spec.proofs.Bytes.Plain.{words_exact}
 use Rattle.cap_frame.proofs.Taking.{Took, took_more, took_none, took_stop}
 
 -- what stands in a buffer up to the end of a piece that was written over it

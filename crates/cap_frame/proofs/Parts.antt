@@ -1,11 +1,12 @@
 -- The bytes of some words of a segment, where the segments stand one behind the other.
-use Rattle.std.proofs.Common.{◌≡◌, inl, inr, ℕ, ◌+◌, ◌-◌, ◌*◌, ◌<◌, ◌≤◌, List, [], length, drop, take, sum, get_or, slice_range, ◌++◌, Fits, w8, sym, ap, ◌∙◌, arith, append-nil}
+use Rattle.std.proofs.Common.{◌≡◌, inl, inr, ℕ, ◌+◌, ◌-◌, ◌*◌, ◌<◌, ◌≤◌, List, [], length, drop, take, sum, get_or}
+use Rattle.std.proofs.Common.{slice_range, ◌++◌, Fits, w8, sym, ap, ◌∙◌, arith, append-nil}
 use Rattle.std.specs.List.{AllByRecursion}
 use Rattle.std.proofs.lemmas.List.{drop-drop, drop-take, drop_all, length-drop, length-take-le, take-append-drop, take-take, take_all}
 use Rattle.cap_frame.specs.Bytes.{cut, starts_of}
-use Rattle.cap_frame.proofs.Cuts.{cut_at, cut_length, cut_words, front_sum, start_is, words_exact, words_inside}
+use Rattle.cap_frame.proofs.Cuts.{cut_at, cut_length, cut_words, front_sum, start_is, words_inside}
 use Rattle.cap_spec.proofs.Bytes.Lists.{all_drop}
-use Rattle.cap_spec.proofs.Bytes.Plain.{plain_split}
+use Rattle.cap_spec.proofs.Bytes.Plain.{plain_split, words_exact}
 use Rattle.cap_words.proofs.AtHand.{bytes_small, front_small}
 use Rattle.cap_words.proofs.Filling.{plain_join}
 use Rattle.std.proofs.Math.Seq.{drop-append_seam, take-append_seam}
@@ -45,7 +46,7 @@ drop_words k bs = elim (cases_lt (length bs) (8 * k)) [
 whole_text : (bs : List ℕ) (n : ℕ) → AllByRecursion (λ b. b < 256) bs → length bs ≡ 8 * n → bs ≡ plain_text (plain_words bs)
 whole_text bs n all e =
     let s = plain_split bs all in
-    let k : length (plain_words bs) ≡ n = sym (words_exact bs) ∙ omega (arith, e) in
+    let k : length (plain_words bs) ≡ n = words_exact bs ∙ omega (arith, e) in
     let r : drop (8 * length (plain_words bs)) bs ≡ [] = drop_all (8 * length (plain_words bs)) bs (omega (arith, e, k)) in
     s.whole ∙ (ap (λ xs. plain_text (plain_words bs) ++ xs) r ∙ append-nil (plain_text (plain_words bs)))
 

@@ -1,5 +1,6 @@
 -- What reading a message says, put together from what its steps say.
-use Rattle.std.proofs.Common.{◌≡◌, ℕ, ◌+◌, ◌-◌, ◌^◌, ◌≤◌, Bool, true, false, Option, Some, None, Result, Ok, Err, List, [], ◌∷◌, length, min, sum, IfErr, IfOk, IfSome, OnOk, OnSome, subst, sym}
+use Rattle.std.proofs.Common.{◌≡◌, ℕ, ◌+◌, ◌-◌, ◌^◌, ◌≤◌, Bool, true, false, Option, Some, None, Result, Ok, Err, List}
+use Rattle.std.proofs.Common.{[], ◌∷◌, length, min, sum, IfErr, IfOk, IfSome, OnOk, OnSome, subst, sym}
 use Rattle.std.specs.Io.KnownBytes.{Consumes}
 use Rattle.std.specs.Option.{option_to_list}
 use Rattle.cap_words.specs.declared.sources.WordSource as source

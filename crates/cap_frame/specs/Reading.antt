@@ -1,6 +1,7 @@
 -- What reading a message of a source says of the source before and after, and of the result (profile). g has the
 -- members of the source's type.
-use Rattle.std.specs.Prelude.{ℕ, ◌+◌, ◌*◌, ◌%◌, ◌^◌, ◌≡◌, ◌<◌, ◌≤◌, Bool, true, false, List, [], ◌∷◌, length, drop, sum, IfErr, IsOkAnd, IsSomeAnd, OnOk, OnSome, Option, Some, None, Result, Ok, Err}
+use Rattle.std.specs.Prelude.{ℕ, ◌+◌, ◌*◌, ◌%◌, ◌^◌, ◌≡◌, ◌<◌, ◌≤◌, Bool, true, false, List, [], ◌∷◌, length, drop, sum}
+use Rattle.std.specs.Prelude.{IfErr, IsOkAnd, IsSomeAnd, OnOk, OnSome, Option, Some, None, Result, Ok, Err}
 use Rattle.cap_spec.specs.Endings.{BeginsMessage, TellsTooMany, TellsTooMuch}
 use Rattle.cap_spec.specs.Frames.{Frames, IsPartial, sizes_of}
 use Rattle.cap_words.specs.declared.sources.WordSource as source

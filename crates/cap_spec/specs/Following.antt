@@ -5,7 +5,9 @@ use Rattle.cap_spec.specs.Words.{signed_offset_of}
 use Rattle.cap_spec.specs.Messages.{HasWord, segment_of}
 use Rattle.cap_spec.specs.Pointers.{kind, middle, code, two, pad, far_segment, cap_index, data_size, pointer_size, list_size, extent, IsFar, IsReserved, IsCap}
 use Rattle.cap_spec.specs.declared.Reason.{Reason}
-use Rattle.cap_spec.specs.declared.Reason.TheVariants.{NoRoot, Reserved, SegmentMissing, PadOutside, PadIsFar, PadNotFar, TagKind, TagOffset, OutOfSegment, CompositeTag, CompositeOverrun, DepthLimit, WordLimit}
+use Rattle.cap_spec.specs.declared.Reason.TheVariants.{NoRoot, Reserved, SegmentMissing, PadOutside, PadIsFar}
+use Rattle.cap_spec.specs.declared.Reason.TheVariants.{PadNotFar, TagKind, TagOffset, OutOfSegment, CompositeTag}
+use Rattle.cap_spec.specs.declared.Reason.TheVariants.{CompositeOverrun, DepthLimit, WordLimit}
 
 -- null, a capability, or an object: its segment, its start, and the word that gives its shape
 pub data Lead : Type 0 where

@@ -1,5 +1,7 @@
--- What holds of each member of a list holds of each member of its parts.
-use Rattle.std.proofs.Common.{ℕ, zero, suc, List, [], ◌∷◌, ◌++◌, take, drop}
+-- What holds of each member of a list holds of each member of its parts. A list with one more member, reversed.
+use Rattle.std.proofs.Common.{◌≡◌, ap, ℕ, zero, suc, List, [], ◌∷◌, ◌++◌, take, drop, reverse, Option, None, Some}
+use Rattle.std.specs.Option.{option_to_list}
+use Rattle.std.proofs.lemmas.List.{append-nil, reverse-append}
 use Rattle.std.specs.List.{AllByRecursion}
 
 -- of a front
@@ -24,3 +26,9 @@ all_append P (x ∷ xs) ys a b = (a.0, all_append P xs ys a.1 b)
 pub all_back : {A : Type 0} (P : A → Type 0) (xs ys : List A) → AllByRecursion P (xs ++ ys) → AllByRecursion P ys
 all_back P [] ys a = a
 all_back P (x ∷ xs) ys a = all_back P xs ys a.1
+
+-- a list with one more member, where there is one
+pub reverse-more : {A : Type 0} (xs : List A) (x : Option A)
+    → reverse (xs ++ option_to_list x) ≡ option_to_list x ++ reverse xs
+reverse-more xs None = ap reverse (append-nil xs)
+reverse-more xs (Some x) = reverse-append xs (x ∷ [])

@@ -1,5 +1,5 @@
 -- Words and their plain spelling: each list of bytes splits into words and less than a word in one way.
-use Rattle.std.proofs.Common.{◌≡◌, ◌≢◌, ◌↔◌, ℕ, suc, ◌+◌, ◌*◌, ◌<◌, true, false, List, [], ◌∷◌, ◌++◌, length, drop}
+use Rattle.std.proofs.Common.{◌≡◌, ◌≢◌, ◌↔◌, ℕ, suc, ◌+◌, ◌*◌, ◌/◌, ◌<◌, true, false, List, [], ◌∷◌, ◌++◌, length, drop}
 use Rattle.std.proofs.Common.{refl, sym, ap, ◌∙◌, subst, arith, append-nil, drop_at}
 use Rattle.std.specs.List.{AllByRecursion}
 use Rattle.byteorder.specs.Endian.{little_number}
@@ -11,6 +11,18 @@ use Rattle.cap_spec.proofs.Bytes.WordBytes.{bytes_back, bytes_below, word_back}
 pub length_plain : (ws : List ℕ) → length (plain_text ws) ≡ 8 * length ws
 length_plain [] = refl
 length_plain (x ∷ ws) = let t = length_plain ws in omega arith
+
+-- bytes have as many words as they have eights
+pub words_exact : (bs : List ℕ) → length (plain_words bs) ≡ length bs / 8
+words_exact [] = refl
+words_exact (a ∷ []) = refl
+words_exact (a ∷ b ∷ []) = refl
+words_exact (a ∷ b ∷ c ∷ []) = refl
+words_exact (a ∷ b ∷ c ∷ d ∷ []) = refl
+words_exact (a ∷ b ∷ c ∷ d ∷ e ∷ []) = refl
+words_exact (a ∷ b ∷ c ∷ d ∷ e ∷ f ∷ []) = refl
+words_exact (a ∷ b ∷ c ∷ d ∷ e ∷ f ∷ g ∷ []) = refl
+words_exact (a ∷ b ∷ c ∷ d ∷ e ∷ f ∷ g ∷ h ∷ rest) = let t = words_exact rest in omega (arith, t)
 
 -- the text of words, whatever stands behind it, begins with these words
 pub plain_back : (ws rest : List ℕ) → AllByRecursion IsWord ws

@@ -1,5 +1,5 @@
 -- The layout of a tree denotes that tree: wherever its content stands, and a pointer with the offset to there.
-use Rattle.std.proofs.Common.{ℕ, suc, ◌+◌, ◌*◌, ◌^◌, ◌<◌, ◌≤◌, List, [], ◌∷◌, ◌++◌, ◌≡◌, ◌↔◌, sym, ap, refl, subst}
+use Rattle.std.proofs.Common.{ℕ, ◌+◌, ◌*◌, ◌^◌, ◌<◌, ◌≤◌, List, [], ◌∷◌, ◌++◌, ◌≡◌, ◌↔◌, sym, ap, refl, subst}
 use Rattle.std.proofs.Common.{◌∙◌, arith, length, length-append}
 use Rattle.cap_spec.specs.Messages.{HasWord}
 use Rattle.cap_spec.specs.Following.{near}

@@ -4,17 +4,17 @@ use Rattle.std.proofs.Common.{ℕ, suc, ◌+◌, ◌*◌, ◌^◌, ◌<◌, ◌�
 use Rattle.std.specs.Prelude.{⊤, if◌then◌else◌, ◌==◌}
 use Rattle.std.specs.List.{AllByRecursion}
 use Rattle.std.proofs.lemmas.Bool.{ne_eqb}
-use Rattle.std.proofs.lemmas.List.FromFn.{length-map-range_with_len}
 use Rattle.cap_spec.specs.Pointers.{kind, middle, code, data_size, pointer_size, list_size}
 use Rattle.cap_spec.specs.Pointers.{extent, element_bits, list_words}
 use Rattle.cap_spec.specs.Following.{extra}
 use Rattle.cap_spec.specs.Tree.{Tree, null, cap, struct, scalars, pointers, structs, Trees, none, more, tree_count}
 use Rattle.cap_spec.specs.Denoting.{FindsStruct, FindsScalars, FindsPointers, FindsStructs, Denotes, DenoteEach}
-use Rattle.cap_spec.specs.Denoting.{AreElements, places, values_of, value_at, element_levels}
+use Rattle.cap_spec.specs.Denoting.{AreElements, places, element_levels}
 use Rattle.cap_spec.specs.Messages.{segment_of}
 use Rattle.cap_spec.proofs.Trees.Charges.{extent_struct, extent_pointers, extent_structs}
 use Rattle.cap_spec.proofs.Trees.Charges.{length-places, elements_fit, each_charged}
 use Rattle.cap_spec.proofs.Trees.DenotedTrees.{range_length, elements_inside, values_fit, cap_fits}
+use Rattle.cap_spec.proofs.Trees.Readings.{length-values}
 
 -- one for each element that takes no words
 abbrev pub idle : ℕ → ℕ → ℕ
@@ -107,10 +107,6 @@ extra_scalars q e k f lt = rw (k, ne_eqb (code q) 7 (λ z. absurd (omega (arith,
 pub extra_structs : (q tag : ℕ) → kind q ≡ 1 → code q ≡ 7
     → extra q tag ≡ idle (data_size tag + pointer_size tag) (middle tag)
 extra_structs q tag k f = rw (k, f) refl
-
--- the values of a list are as many as it tells
-pub length-values : (m : List (List ℕ)) (t b e n : ℕ) → length (values_of m t b e n) ≡ n
-length-values m t b e n = length-map-range_with_len (value_at (segment_of m t) b (element_bits e)) 0 n
 
 -- fields fit their bits
 short_fits : (q : ℕ) → (data_size q < 2 ^ 16) × (pointer_size q < 2 ^ 16)

@@ -1,5 +1,5 @@
 -- What a disjoint message is charged, but for its empty elements, is less than its words.
-use Rattle.std.proofs.Common.{ℕ, zero, suc, ◌+◌, ◌*◌, ◌<◌, List, [], ◌∷◌, ◌++◌, ◌≡◌, ◌≢◌, sym, ap, refl, subst, ◌∙◌}
+use Rattle.std.proofs.Common.{ℕ, zero, suc, ◌+◌, ◌*◌, ◌<◌, List, [], ◌∷◌, ◌++◌, ◌≡◌, sym, ap, refl, subst, ◌∙◌}
 use Rattle.std.proofs.Common.{arith, inl, inr, length, sum, true, false}
 use Rattle.std.specs.Prelude.{pos}
 use Rattle.std.proofs.lemmas.List.{append_assoc, length-append}
@@ -12,13 +12,14 @@ use Rattle.cap_spec.specs.Denoting.{Finds, Denotes, DenoteEach, AreElements, pla
 use Rattle.cap_spec.specs.Occupying.{AreApart, IsDisjoint, IsPlaceOf, Occupies, Uses}
 use Rattle.cap_spec.specs.Occupying.{empty_count, empty_counts, pads_of}
 use Rattle.cap_spec.specs.Paths.{Spot, word, element, Goes, IsOneOf, Walks, level_of}
-use Rattle.cap_spec.specs.Verdicts.{AreDistinct, IsNoneOf}
+use Rattle.cap_spec.specs.Verdicts.{AreDistinct}
 use Rattle.cap_spec.specs.declared.Step.{Step}
 use Rattle.cap_spec.specs.declared.Step.TheVariants.{Ptr, Item}
 use Rattle.cap_spec.proofs.Trees.OneTree.{Formed, formed, cons_parts}
 use Rattle.cap_spec.proofs.Trees.Charges.{length-places}
+use Rattle.cap_spec.proofs.Trees.Readings.{length-values}
 use Rattle.cap_spec.proofs.Paths.Depths.{elements_depth}
-use Rattle.cap_spec.proofs.Canonical.TreeMeasures.{extra_scalars, extra_structs, idle, length-values}
+use Rattle.cap_spec.proofs.Canonical.TreeMeasures.{extra_scalars, extra_structs, idle}
 use Rattle.cap_spec.proofs.Paths.Arrivals.{lead_word}
 use Rattle.cap_spec.proofs.Paths.PathLists.{behind, listed_rise, paths_below, paths_from, is_pointer}
 use Rattle.cap_spec.proofs.Paths.PathCounts.{pointer_paths}
@@ -26,6 +27,7 @@ use Rattle.cap_spec.proofs.Frames.Messages.{HasWord-inside, HasWord-segment}
 use Rattle.cap_spec.proofs.Disjoint.Places.{all_places, apart_append, few_places, in_all, in_places, length_all}
 use Rattle.cap_spec.proofs.Disjoint.Places.{pad_inside, pads_number, place_either}
 use Rattle.cap_spec.proofs.Paths.Preorder.{Rises-distinct}
+use Rattle.cap_spec.proofs.Verdicts.OneVerdict.{not_one_of}
 
 -- following the pointer at s:w costs the words that it uses, and x beside them
 abbrev Owns : List (List ℕ) → ℕ → ℕ → ℕ → ℕ → Type 0
@@ -210,12 +212,6 @@ place_used m root has (p ∷ ps) us g x i =
       | inl j ↦ (p, inl refl, (1 + g.0, g.1, g.2, g.3, (root, g.0, has, g.5, refl), g.6, j))
       | inr j ↦ let r = place_used m root has ps g.4 g.7 x j in (r.0, inr r.1, r.2)
     ]
-
--- a path that is none of a list differs from each of them
-not_one_of : (p q : List Step) (ps : List (List Step)) → IsNoneOf p ps → IsOneOf q ps → p ≢ q
-not_one_of p q [] n i = absurd i
-not_one_of p q (r ∷ rs) n (inl e) = λ f. n.0 (f ∙ e)
-not_one_of p q (r ∷ rs) n (inr i) = not_one_of p q rs n.1 i
 
 -- the places that distinct paths of a disjoint message use are distinct
 used_apart : (m : List (List ℕ)) → IsDisjoint m → (root : ℕ) → HasWord m 0 0 root → (ps : List (List Step))

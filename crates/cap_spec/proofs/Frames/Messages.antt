@@ -1,9 +1,9 @@
 -- The words of a message at their places.
-use Rattle.std.proofs.Common.{◌≡◌, ℕ, ◌<◌, ◌≤◌, inl, inr, List, [], length, get_or, sym, ap, ◌∙◌, subst, arith}
+use Rattle.std.proofs.Common.{◌≡◌, ℕ, ◌^◌, ◌<◌, ◌≤◌, inl, inr, List, [], length, get_or, sym, ap, ◌∙◌, subst, arith}
 use Rattle.std.proofs.lemmas.Option.{same_Some, slice_get_within, slice_get-get_or}
 use Rattle.std.proofs.lemmas.List.{get_or_past}
 use Rattle.std.proofs.lemmas.Bool.{cases_lt}
-use Rattle.cap_spec.specs.Messages.{HasWord, segment_of}
+use Rattle.cap_spec.specs.Messages.{HasWord, IsMessage, segment_of}
 
 -- the word at a place is one word
 pub one_word : (m : List (List ℕ)) (s w x y : ℕ) → HasWord m s w x → HasWord m s w y → x ≡ y
@@ -26,6 +26,10 @@ pub HasWord-segment : (m : List (List ℕ)) (s w x : ℕ) → HasWord m s w x �
 HasWord-segment m s w x h =
     let i : w < length (segment_of m s) = HasWord-inside m s w x h in
     elim (cases_lt s (length m)) [ inl y ↦ y | inr y ↦ absurd (omega (arith, length-segment_of-past m s y)) ]
+
+-- a segment's places are numbers of 32 bits
+pub short_segment : (m : List (List ℕ)) (s : ℕ) → IsMessage m → s < length m → length (segment_of m s) < 2 ^ 32
+short_segment m s h l = h.lengths s [] l
 
 -- what is so of the word at a place is so of each name of that word
 pub at_word : (P : ℕ → Type 0) (m : List (List ℕ)) (s w x y : ℕ) → HasWord m s w x → HasWord m s w y → P x → P y

@@ -21,7 +21,8 @@ use Rattle.cap_spec.proofs.Trees.DenotedTrees.{elements_inside, range_length}
 use Rattle.cap_spec.proofs.Paths.Arrivals.{found_form}
 use Rattle.cap_spec.proofs.Canonical.TreeMeasures.{cost, costs, element_costs, each_measured}
 use Rattle.cap_spec.proofs.Canonical.TreeMeasures.{elements_measured, extent_scalars, extra_scalars}
-use Rattle.cap_spec.proofs.Canonical.TreeMeasures.{extra_structs, idle, length-values, measured}
+use Rattle.cap_spec.proofs.Canonical.TreeMeasures.{extra_structs, idle, measured}
+use Rattle.cap_spec.proofs.Trees.Readings.{length-values}
 
 -- what is at a spot is charged no more than its cost
 abbrev pub Tight : List (List ℕ) → Spot → Tree → Type 0

@@ -77,10 +77,10 @@ take_out m p (q ∷ qs) y (inr i) h =
     other os k r (inr f) n = inr (k r f n)
 
 -- a path that is none of a list differs from each of them
-apart : (p q : List Step) (ps : List (List Step)) → IsNoneOf p ps → IsOneOf q ps → p ≢ q
-apart p q [] n i = absurd i
-apart p q (r ∷ rs) n (inl e) = λ f. n.0 (f ∙ e)
-apart p q (r ∷ rs) n (inr i) = apart p q rs n.1 i
+pub not_one_of : (p q : List Step) (ps : List (List Step)) → IsNoneOf p ps → IsOneOf q ps → p ≢ q
+not_one_of p q [] n i = absurd i
+not_one_of p q (r ∷ rs) n (inl e) = λ f. n.0 (f ∙ e)
+not_one_of p q (r ∷ rs) n (inr i) = not_one_of p q rs n.1 i
 
 -- distinct paths among others cost at most what those cost
 pub distinct_cost : (m : List (List ℕ)) (ps qs : List (List Step)) (x y : ℕ) → AreDistinct ps
@@ -96,7 +96,7 @@ distinct_cost m (p ∷ ps) qs x y d k g h =
       t.sum,
       g.8,
       distinct_cost m ps t.others g.4 t.rest d.1
-          (λ q i. t.left q (k q (inr i)) (apart p q ps d.0 i)) g.7 t.cost,
+          (λ q i. t.left q (k q (inr i)) (not_one_of p q ps d.0 i)) g.7 t.cost,
     )
 
 -- paths that have a cost reach words
