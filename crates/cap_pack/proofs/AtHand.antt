@@ -1,5 +1,8 @@
 -- What bytes at hand give, one part after the other.
-use Rattle.std.proofs.Common.{◌≡◌, ◌+◌, Bool, false, lit<, ◌*◌, ◌%◌, ◌^◌, ◌<◌, ◌≤◌, ◌∙◌, ℕ, zero, suc, List, [], ◌∷◌, ◌++◌, length, take, drop, get_or, replicate, Option, None, Some, refl, sym, ap, subst, arith, unwrap_or, append-nil, append_assoc, length-append, drop-drop, length-drop, length-take, take-take}
+use Rattle.std.proofs.Common.{◌≡◌, ◌+◌, Bool, false, lit<, ◌*◌, ◌%◌, ◌^◌, ◌<◌, ◌≤◌, ◌∙◌, ℕ, zero, suc, List, []}
+use Rattle.std.proofs.Common.{◌∷◌, ◌++◌, length, take, drop, get_or, replicate, Option, None, Some, refl, sym, ap}
+use Rattle.std.proofs.Common.{subst, arith, unwrap_or, append-nil, append_assoc, length-append, drop-drop}
+use Rattle.std.proofs.Common.{length-drop, length-take, take-take}
 use Rattle.std.proofs.lemmas.List.{length-take-le, take-append-drop}
 use Rattle.std.proofs.Math.Seq.{take-add}
 use Rattle.std.specs.List.{AllByRecursion}

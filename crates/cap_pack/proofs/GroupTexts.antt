@@ -1,5 +1,7 @@
 -- The group in front of words that stand in bytes, and what is written of it.
-use Rattle.std.proofs.Common.{◌≡◌, ◌≢◌, ◌≤◌, ◌<◌, ◌+◌, ◌-◌, ◌*◌, ◌/◌, ◌%◌, ◌∙◌, ℕ, zero, suc, List, [], ◌∷◌, ◌++◌, length, take, drop, set, get_or, min, refl, sym, ap, arith, append-nil, append_assoc, drop-drop, length-append, length-drop, length-set, take-append-drop}
+use Rattle.std.proofs.Common.{◌≡◌, ◌≢◌, ◌≤◌, ◌<◌, ◌+◌, ◌-◌, ◌*◌, ◌/◌, ◌%◌, ◌∙◌, ℕ, zero, suc, List, [], ◌∷◌, ◌++◌}
+use Rattle.std.proofs.Common.{length, take, drop, set, get_or, min, refl, sym, ap, arith, append-nil, append_assoc}
+use Rattle.std.proofs.Common.{drop-drop, length-append, length-drop, length-set, take-append-drop}
 use Rattle.std.specs.Prelude.{◌==◌, filter, nat_le, not}
 use Rattle.std.proofs.lemmas.Bool.{ne_eqb}
 use Rattle.std.proofs.lemmas.List.{drop_all, length-take-le, take_all, take_at, take_rest}
@@ -11,7 +13,7 @@ use lib.Count.{ones}
 use Rattle.cap_spec.specs.Packing.{full_run, group_size, group_text, pack_text, tag_of, zero_bytes, zero_run}
 use Rattle.cap_spec.specs.Plain.{plain_text, plain_words, word_bytes}
 use Rattle.cap_spec.proofs.Bytes.Lists.{all_drop}
-use Rattle.cap_spec.proofs.Bytes.Plain.{length_plain}
+use Rattle.cap_spec.proofs.Bytes.Plain.{length_plain, words_exact}
 use Rattle.cap_spec.proofs.Packed.Packing.{front-le, group_size-marked, nonzero_word, pack_text-group, zero_run-append}
 use Rattle.cap_words.proofs.Filling.{plain_join}
 use Rattle.cap_words.proofs.WholeWords.{whole_text}
@@ -20,18 +22,6 @@ use Rattle.cap_pack.proofs.FullWords.{full_word, word_tag, zero_word}
 use Rattle.cap_pack.proofs.PuttingEach.{word_first}
 use Rattle.cap_pack.proofs.Shuffles.{ones_of_tag}
 use Rattle.cap_pack.proofs.Written.{take-first, take-pushed}
-
--- as many words as there are whole ones
-pub words_exact : (bs : List ℕ) → length (plain_words bs) ≡ length bs / 8
-words_exact [] = omega arith
-words_exact (a ∷ []) = omega arith
-words_exact (a ∷ b ∷ []) = omega arith
-words_exact (a ∷ b ∷ c ∷ []) = omega arith
-words_exact (a ∷ b ∷ c ∷ d ∷ []) = omega arith
-words_exact (a ∷ b ∷ c ∷ d ∷ e ∷ []) = omega arith
-words_exact (a ∷ b ∷ c ∷ d ∷ e ∷ f ∷ []) = omega arith
-words_exact (a ∷ b ∷ c ∷ d ∷ e ∷ f ∷ g ∷ []) = omega arith
-words_exact (a ∷ b ∷ c ∷ d ∷ e ∷ f ∷ g ∷ h ∷ rest) = let t = words_exact rest in omega arith
 
 -- the word at a place
 pub word_placed : (bs : List ℕ) (k : ℕ) → 8 * k + 8 ≤ length bs → little_number 8 (drop (8 * k) bs) ≡ get_or (plain_words bs) k 0

@@ -1,41 +1,21 @@
 -- The head of a group by its bytes alone, whatever comes behind them.
-use Rattle.std.proofs.Common.{◌≡◌, ◌≢◌, subst, ℕ, zero, suc, ◌+◌, ◌*◌, ◌/◌, ◌%◌, ◌<◌, ◌≤◌, ◌^◌, eqb, cond, Bool, true, false, List, [], ◌∷◌, ◌++◌, length, take, drop, length-take, refl, sym, ap, ◌∙◌, arith, get_or, ⊎_elim}
-use Rattle.std.proofs.lemmas.Bool.{eqb-true, eqb-false, eq-eqb, ne_eqb, cond-true, cond-false, cases_lt}
+use Rattle.std.proofs.Common.{◌≡◌, ◌≢◌, subst, ℕ, zero, suc, ◌+◌, ◌*◌, ◌/◌, ◌%◌, ◌<◌, ◌≤◌, ◌^◌, eqb, cond}
+use Rattle.std.proofs.Common.{Bool, true, false, List, [], ◌∷◌, ◌++◌, length, take, drop, length-take, refl}
+use Rattle.std.proofs.Common.{sym, ap, ◌∙◌, arith, get_or, ⊎_elim}
+use Rattle.std.proofs.lemmas.Bool.{eqb-true, eq-eqb, ne_eqb, cond-true, cond-false, cases_lt}
 use Rattle.std.proofs.lemmas.List.{take-append-drop}
 use Rattle.std.proofs.Math.Nat.{pow-succ'}
 use lib.Count.{ones, ones_step}
 use Rattle.std.proofs.Math.ListN.{get_or-append}
 use Rattle.byteorder.specs.Endian.{little_number}
 use Rattle.cap_spec.specs.Unpacking.{marks, spread}
+use Rattle.cap_spec.proofs.Packed.Unpacking.{spread_append}
 use Rattle.cap_pack.specs.Course.{head_rest, first_word, zeros_of, plain_of}
 
 -- two choices are the same where both their branches are
 pub both_same : {A : Type 0} (b : Bool) (x y v w : A) → (b ≡ true → x ≡ v) → (b ≡ false → y ≡ w) → cond b x y ≡ cond b v w
 both_same true x y v w h k = h refl
 both_same false x y v w h k = k refl
-
--- a tag with no bit set spreads to zero
-spread_none : (n tag : ℕ) (bytes : List ℕ) → marks n tag ≡ 0 → spread n tag bytes ≡ 0
-spread_none zero tag bytes e = refl
-spread_none (suc n) tag [] e = refl
-spread_none (suc n) tag (b ∷ bytes) e =
-    let rest : marks n (tag / 2) ≡ 0 = omega arith in
-    let low : tag % 2 ≡ 0 = omega arith in
-    cond-true (eqb (tag % 2) 0) _ _ (eq-eqb (tag % 2) 0 low) ∙ ap (λ x. 256 * x) (spread_none n (tag / 2) (b ∷ bytes) rest)
-
--- a tag spreads only the bytes that it marks
-pub spread-append : (n tag : ℕ) (bs ys : List ℕ) → length bs ≡ marks n tag → spread n tag (bs ++ ys) ≡ spread n tag bs
-spread-append zero tag bs ys e = refl
-spread-append (suc n) tag [] ys e = spread_none (suc n) tag ys (sym e)
-spread-append (suc n) tag (b ∷ bs) ys e =
-    both_same (eqb (tag % 2) 0) _ _ _ _
-    (λ t. let low = eqb-true (tag % 2) 0 t in
-    let rest : length (b ∷ bs) ≡ marks n (tag / 2) = omega arith in
-    ap (λ x. 256 * x) (spread-append n (tag / 2) (b ∷ bs) ys rest))
-    (λ t. let low = eqb-false (tag % 2) 0 t in
-    let one : tag % 2 ≡ 1 = omega arith in
-    let rest : length bs ≡ marks n (tag / 2) = omega arith in
-    ap (λ x. b + 256 * x) (spread-append n (tag / 2) bs ys rest))
 
 -- a tag has no bits for more bytes than these
 pub spread_front : (n tag : ℕ) (bs ys : List ℕ) → n ≤ length bs → spread n tag (bs ++ ys) ≡ spread n tag bs
@@ -71,7 +51,7 @@ first_same : (zero_run plain_run : Bool) (tag : ℕ) (bs ys : List ℕ) → leng
     ≡ cond zero_run 0 (cond plain_run (little_number 8 bs) (spread 8 tag bs))
 first_same true q tag bs ys e = refl
 first_same false true tag bs ys e = little-append bs ys (omega arith)
-first_same false false tag bs ys e = spread-append 8 tag bs ys e
+first_same false false tag bs ys e = spread_append 8 tag bs ys e
 
 -- what a head says goes by its own bytes
 pub first_word-append : (tag : ℕ) (bs ys : List ℕ) → length bs ≡ head_rest tag → first_word tag (bs ++ ys) ≡ first_word tag bs

@@ -1,5 +1,7 @@
 -- How long the front of a list is whose elements pass a test.
-use Rattle.std.proofs.Common.{◌≡◌, ℕ, zero, suc, ◌+◌, ◌≤◌, ◌<◌, ◌%◌, eqb, cond, not, Bool, true, false, List, [], ◌∷◌, length, get_or, map, take, leb, ◌&&◌, ◌-◌, ◌*◌, ◌/◌, bit_and, w8, replicate, refl, sym, ap, ⊎_elim, ◌∙◌, arith, length-take-le, w64}
+use Rattle.std.proofs.Common.{◌≡◌, ℕ, zero, suc, ◌+◌, ◌≤◌, ◌<◌, ◌%◌, eqb, cond, not, Bool, true, false, List, [], ◌∷◌}
+use Rattle.std.proofs.Common.{length, get_or, map, take, leb, ◌&&◌, ◌-◌, ◌*◌, ◌/◌, bit_and, w8, replicate, refl, sym}
+use Rattle.std.proofs.Common.{ap, ⊎_elim, ◌∙◌, arith, length-take-le, w64}
 use Rattle.std.specs.Prelude.{◌==◌, if◌then◌else◌, take_while}
 use Rattle.std.specs.List.{prefix_len}
 use Rattle.std.specs.Int.Count.{count_trailing_zeros}
@@ -137,11 +139,11 @@ unfolding same_test each_below
 few_clear t l = same_from_test _ _ (one_below (λ t. same_test (eqb (above t) 0) (leb (8 - marks 8 t) 1)) 256 refl t l)
 
 -- a byte is zero, or its bit is set
-low_bit : (z : Bool) (t : ℕ) → (cond z 0 1 + 2 * t) % 2 ≡ cond z 0 1
+pub low_bit : (z : Bool) (t : ℕ) → (cond z 0 1 + 2 * t) % 2 ≡ cond z 0 1
 low_bit true t = omega arith
 low_bit false t = omega arith
 
-bits_behind : (z : Bool) (t : ℕ) → (cond z 0 1 + 2 * t) / 2 ≡ t
+pub bits_behind : (z : Bool) (t : ℕ) → (cond z 0 1 + 2 * t) / 2 ≡ t
 bits_behind true t = omega arith
 bits_behind false t = omega arith
 

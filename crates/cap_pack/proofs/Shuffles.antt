@@ -1,5 +1,7 @@
 -- Shuffles of bytes, by places that stand for the bits of a tag.
-use Rattle.std.proofs.Common.{◌≡◌, ℕ, zero, suc, ◌+◌, ◌-◌, ◌*◌, ◌/◌, ◌%◌, ◌<◌, ◌≤◌, eqb, leb, cond, not, Bool, true, false, ◌&&◌, List, [], ◌∷◌, ◌++◌, length, get_or, map, take, drop, replicate, refl, sym, ap, subst, ◌∙◌, arith, w8, T, ltb, ◌||◌, get_or-drop, add-zero, add-one, zero-add}
+use Rattle.std.proofs.Common.{◌≡◌, ℕ, zero, suc, ◌+◌, ◌-◌, ◌*◌, ◌/◌, ◌%◌, ◌<◌, ◌≤◌, eqb, leb, cond, not, Bool, true}
+use Rattle.std.proofs.Common.{false, ◌&&◌, List, [], ◌∷◌, ◌++◌, length, get_or, map, take, drop, replicate, refl, sym}
+use Rattle.std.proofs.Common.{ap, subst, ◌∙◌, arith, w8, T, ltb, ◌||◌, get_or-drop, add-zero, add-one, zero-add}
 use Rattle.std.specs.Prelude.{◌==◌, filter, if◌then◌else◌}
 use Rattle.std.specs.Simd.Lanes.{Each1, number_l}
 use Rattle.std.proofs.lemmas.Bool.{false≢true, and_parts, eqb-true, lt-leb, lt-ltb}
@@ -13,6 +15,7 @@ use Rattle.byteorder.specs.Endian.{little_number}
 use Rattle.cap_spec.specs.Packing.{tag_of, zero_bytes, zeros_in}
 use Rattle.cap_spec.specs.Unpacking.{marks, spread}
 use Rattle.cap_pack.specs.Places.{spread_from, marked_from, spread_row, squeeze_row}
+use Rattle.cap_pack.proofs.Runs.{bits_behind, low_bit}
 use Rattle.cap_pack.proofs.Tags.{eight_number, word_tag, mask_is_tag}
 
 -- a tag marks no more bytes than it has bits
@@ -160,15 +163,6 @@ spread_with_zeros (suc n) tag m [] = zeros_spread (suc n) tag m
 spread_with_zeros (suc n) tag m (b ∷ bs) =
     ap (λ x. cond (eqb (tag % 2) 0) (256 * x) (b + 256 * spread n (tag / 2) (bs ++ replicate m 0))) (spread_with_zeros n (tag / 2) m (b ∷ bs))
     ∙ ap (λ x. cond (eqb (tag % 2) 0) (256 * spread n (tag / 2) (b ∷ bs)) (b + 256 * x)) (spread_with_zeros n (tag / 2) m bs)
-
--- the lowest bit of a tag is that of the first byte
-low_bit : (z : Bool) (t : ℕ) → (cond z 0 1 + 2 * t) % 2 ≡ cond z 0 1
-low_bit true t = omega arith
-low_bit false t = omega arith
-
-bits_behind : (z : Bool) (t : ℕ) → (cond z 0 1 + 2 * t) / 2 ≡ t
-bits_behind true t = omega arith
-bits_behind false t = omega arith
 
 clear_bit : (z : Bool) → eqb (cond z 0 1) 0 ≡ z
 clear_bit true = refl

@@ -1,5 +1,6 @@
 -- The tags of words, as the bits of one comparison of all their bytes.
-use Rattle.std.proofs.Common.{◌≡◌, ℕ, suc, ◌+◌, ◌*◌, ◌/◌, ◌%◌, ◌^◌, ◌<◌, eqb, cond, not, Bool, true, false, List, [], ◌∷◌, ◌++◌, length, map, take, ◌≤◌, replicate, refl, sym, ap, subst, ◌∙◌, arith, w8}
+use Rattle.std.proofs.Common.{◌≡◌, ℕ, suc, ◌+◌, ◌*◌, ◌/◌, ◌%◌, ◌^◌, ◌<◌, eqb, cond, not, Bool, true, false, List, []}
+use Rattle.std.proofs.Common.{◌∷◌, ◌++◌, length, map, take, ◌≤◌, replicate, refl, sym, ap, subst, ◌∙◌, arith, w8}
 use Rattle.std.specs.Prelude.{◌==◌, if◌then◌else◌}
 use Rattle.std.specs.List.{flat_map, AllByRecursion}
 use Rattle.std.specs.Simd.Lanes.{Each1, zip2, top, mask_l, number_l, digits_l, chunk, put_chunk}

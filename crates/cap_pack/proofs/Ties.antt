@@ -1,5 +1,7 @@
 -- The words that the course of packed bytes gives, their positions and how it ends are those of the published functions.
-use Rattle.std.proofs.Common.{◌≡◌, ◌≢◌, ℕ, zero, suc, ◌+◌, ◌*◌, ◌<◌, ◌≤◌, eqb, ltb, cond, Bool, true, false, List, [], ◌∷◌, ◌++◌, length, drop, take, replicate, refl, sym, ap, ◌∙◌, arith, lit<, length-drop, length-take, take-append-drop, ⊎_elim}
+use Rattle.std.proofs.Common.{◌≡◌, ◌≢◌, ℕ, zero, suc, ◌+◌, ◌*◌, ◌<◌, ◌≤◌, eqb, ltb, cond, Bool, true, false, List, []}
+use Rattle.std.proofs.Common.{◌∷◌, ◌++◌, length, drop, take, replicate, refl, sym, ap, ◌∙◌, arith, lit<, length-drop}
+use Rattle.std.proofs.Common.{length-take, take-append-drop, ⊎_elim}
 use Rattle.std.specs.Prelude.{slice_index}
 use Rattle.std.proofs.lemmas.Bool.{cond-true, cond-false, lt-ltb, le-ltb, ne_eqb, cases_eq, cases_lt}
 use Rattle.std.proofs.Math.Numerals.{one-add}
@@ -8,7 +10,7 @@ use Rattle.cap_spec.specs.Plain.{capped, plain_words}
 use Rattle.cap_spec.specs.PackedEnds.{word_ends, front_ends, ends_in, packed_ends}
 use Rattle.cap_spec.specs.Unpacking.{marks, spread, given_of, group_length, group_words, given_in, is_cut_in, unpacked, packed_is_cut}
 use Rattle.cap_pack.specs.Course.{Course, gives, stops, words_of, is_cut_of, places_of, course, head_rest, first_word, zeros_of, plain_of, zeros_then}
-use Rattle.cap_pack.proofs.Heads.{spread-append}
+use Rattle.cap_spec.proofs.Packed.Unpacking.{spread_append}
 use Rattle.cap_pack.proofs.Courses.{course_plain, course_plain_stops, course_head, course_head_stops, course_none}
 
 -- a course gives these words, ends so, and is at these positions
@@ -213,7 +215,7 @@ marked_in k t at tag m x bytes p r e z o = ⊎_elim
 spread-take : (tag m : ℕ) (bytes : List ℕ) → m ≡ marks 8 tag → m ≤ length bytes → spread 8 tag (take m bytes) ≡ spread 8 tag bytes
 spread-take tag m bytes e q =
     let size : length (take m bytes) ≡ m = omega (arith, length-take m bytes, q) in
-    sym (spread-append 8 tag (take m bytes) (drop m bytes) (size ∙ e)) ∙ ap (spread 8 tag) (take-append-drop m bytes)
+    sym (spread_append 8 tag (take m bytes) (drop m bytes) (size ∙ e)) ∙ ap (spread 8 tag) (take-append-drop m bytes)
 
 pick : {A : Type 0} (x y : Bool) (a b c : A) → x ≡ false → y ≡ false → cond x a (cond y b c) ≡ c
 pick x y a b c p q = cond-false x _ _ p ∙ cond-false y _ _ q

@@ -5,7 +5,7 @@ use Rattle.std.proofs.lemmas.Bool.{ne_eqb}
 use Rattle.cap_spec.specs.Packing.{zero_run}
 use Rattle.cap_spec.specs.Plain.{plain_words}
 use Rattle.cap_spec.proofs.Packed.Packing.{front-le}
-use Rattle.cap_pack.proofs.GroupTexts.{words_exact}
+use Rattle.cap_spec.proofs.Bytes.Plain.{words_exact}
 use Rattle.cap_pack.proofs.Runs.{run_ends, run_more}
 use Rattle.cap_pack.proofs.buffers.zero_words.Goals as goal
 
