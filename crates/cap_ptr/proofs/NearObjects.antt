@@ -15,7 +15,7 @@ use Rattle.cap_ptr.specs.declared.shapes.Shape.{Shape}
 use Rattle.cap_ptr.proofs.Pads.{object-lead, stands-near}
 
 -- an offset that isn't negative
-offset-behind : (q : ℕ) → middle q < 2 ^ 29 → signed_offset_of q ≡ pos (middle q)
+pub offset-behind : (q : ℕ) → middle q < 2 ^ 29 → signed_offset_of q ≡ pos (middle q)
 offset-behind q h = rw (lt-ltb (middle q) (2 ^ 29) h) refl
 
 -- a word that describes its object alone has no tag,

@@ -3,19 +3,14 @@ use Rattle.std.proofs.Common.{ℕ, ◌+◌, ◌*◌, ◌^◌, ◌<◌, ◌≤◌
 use Rattle.std.specs.Prelude.{pos}
 use Rattle.cap_spec.specs.Messages.{HasWord, segment_of}
 use Rattle.cap_spec.specs.Pointers.{code, data_size, kind, list_size, middle, pointer_size}
-use Rattle.cap_spec.specs.Words.{signed_offset_of}
 use Rattle.cap_spec.specs.Denoting.{Finds}
 use Rattle.cap_spec.proofs.Trees.Charges.{extent_structs}
-use Rattle.std.proofs.lemmas.Bool.{lt-ltb}
-use Rattle.std.proofs.Common.{refl}
+use Rattle.cap_ptr.proofs.NearObjects.{offset-behind}
 use Rattle.cap_ptr.proofs.Pads.{object-lead, stands-near}
 use Rattle.cap_ptr.specs.Shapes.{FindsTarget}
 use Rattle.cap_ptr.specs.declared.shapes.Target.{Target}
 use Rattle.cap_vet.specs.Marks.{UsesPlace}
 use Rattle.cap_vet.proofs.Pads.{found_used, zero_used}
-
-offset-behind : (q : ℕ) → middle q < 2 ^ 29 → signed_offset_of q ≡ pos (middle q)
-offset-behind q h = rw (lt-ltb (middle q) (2 ^ 29) h) refl
 
 -- null uses nothing,
 pub null_place : (m : List (List ℕ)) (s w q : ℕ) → HasWord m s w q → q ≡ 0 → s < length m → UsesPlace m s w record { segment = 0; start = 0; words = 0 }

@@ -1,9 +1,10 @@
 -- The frames of objects: their words, and that they lie inside their segments.
-use Rattle.std.proofs.Common.{◌≡◌, ℕ, zero, suc, ◌+◌, ◌-◌, ◌*◌, ◌^◌, ◌<◌, ◌≤◌, ◌⊎◌, Fits, w32, inl, inr, List, [], length, refl, sym, ◌∙◌, arith}
+use Rattle.std.proofs.Common.{◌≡◌, ℕ, zero, suc, ◌+◌, ◌-◌, ◌*◌, ◌<◌, ◌≤◌, ◌⊎◌, Fits, w32, inl, inr, List, [], length, refl, sym, ◌∙◌, arith}
 use Rattle.cap_spec.specs.Messages.{IsMessage, segment_of}
 use Rattle.cap_spec.specs.Pointers.{middle, data_size, pointer_size, list_size}
 use Rattle.cap_spec.specs.Denoting.{element_levels}
 use Rattle.cap_spec.specs.Following.{TagFits}
+use Rattle.cap_spec.proofs.Frames.Messages.{short_segment}
 use Rattle.cap_spec.proofs.Trees.Charges.{extent_struct, extent_structs}
 use Rattle.cap_ptr.specs.Shapes.{FindsObject}
 use Rattle.cap_ptr.specs.declared.shapes.Shape.TheVariants.{Struct, Structs}
@@ -78,10 +79,6 @@ structs_places m s w k t b q tag n c size (suc count) d p at left more ds ps lev
     let y : data_size tag ≡ d = sym f.object.shape.data_words in
     let z : pointer_size tag ≡ p = sym f.object.shape.pointers in
     rw (f.object.shape.kind, f.object.shape.code, x, y, z, e, e1, e2, e4, e5, e6) refl
-
--- a segment's places are numbers of 32 bits
-pub short_segment : (m : List (List ℕ)) (t : ℕ) → IsMessage m → t < length m → length (segment_of m t) < 2 ^ 32
-short_segment m t h l = h.lengths t [] l
 
 -- an element's start is a number of 32 bits
 pub start_fits : (m : List (List ℕ)) (s w k t b q tag n c size count d p at : ℕ) → IsMessage m

@@ -2,7 +2,7 @@
 use Rattle.std.proofs.Common.{◌≡◌, ℕ, ◌+◌, ◌≤◌, List, [], ◌∷◌, ◌++◌, length, map, reverse, refl, sym, ap, ◌∙◌, subst, arith, Option, None, Some, ◌<◌, suc}
 use Rattle.std.specs.Option.{option_to_list}
 use Rattle.std.specs.List.{AllByRecursion}
-use Rattle.std.proofs.lemmas.List.{append-nil, map-append, reverse-append, length-append, length-map}
+use Rattle.std.proofs.lemmas.List.{map-append, reverse-append, length-append, length-map}
 use Rattle.cap_spec.specs.Following.{Leads, extra, to_cap, to_null}
 use Rattle.cap_spec.specs.Messages.{HasWord}
 use Rattle.cap_spec.specs.Paths.{Costs, Reaches}
@@ -22,14 +22,10 @@ use Rattle.cap_vet.specs.declared.limits.Limits.{Limits}
 use Rattle.cap_vet.specs.declared.looking.Looked.{Looked}
 use Rattle.cap_vet.specs.declared.looking.Looked.TheVariants as looked
 use Rattle.cap_vet.specs.declared.report.Report.{Report}
+use Rattle.cap_spec.proofs.Bytes.Lists.{reverse-more}
 use Rattle.cap_spec.proofs.Paths.Walks.{one_reached}
 use Rattle.cap_vet.proofs.Objects.{object-brings, object_places-children}
 use Rattle.cap_vet.proofs.Turning.{next_ahead, turn_cap, turn_null, turn_object}
-
--- the runs with one more, where there is one
-pub reverse-more : (runs : List PointerRun) (r : Option PointerRun) → reverse (runs ++ option_to_list r) ≡ option_to_list r ++ reverse runs
-reverse-more runs None = ap reverse (append-nil runs)
-reverse-more runs (Some r) = reverse-append runs (r ∷ [])
 
 spots-more : (r : Option PointerRun) (runs : List PointerRun) → all_spots (option_to_list r ++ runs) ≡ option_spots r ++ all_spots runs
 spots-more None runs = refl

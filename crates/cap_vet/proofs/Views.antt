@@ -18,7 +18,7 @@ use Rattle.cap_spec.proofs.Trees.Readings.{byte_past, byte_there, length-values,
 use Rattle.cap_spec.proofs.Trees.Readings.{value_there, values_word_past, values_word_there, word_past, word_within}
 use Rattle.cap_spec.proofs.Trees.DenotedTrees.{range_length}
 use Rattle.cap_vet.specs.Finding.{own_words}
-use Rattle.cap_vet.proofs.ObjectFrames.{short_segment}
+use Rattle.cap_spec.proofs.Frames.Messages.{short_segment}
 
 -- the kind of what is shown
 pub kind_shown : (m : List (List ℕ)) (k : Kind) (t b n : ℕ) → own_words k ≤ n → b + n ≤ length (segment_of m t) → k ≡ kind_of (own_at m k t b)

@@ -3,13 +3,13 @@ pub mod Charging
 pub mod Exclusives
 pub mod Finding
 pub mod Handles
-pub mod Laws
 pub mod Levels
 pub mod Limits
 pub mod Looking
 pub mod Marks
 pub mod MarkSteps
 pub mod Nodes
+pub mod NullMarks
 pub mod Owing
 pub mod Passing
 pub mod PointerRuns

@@ -1,15 +1,14 @@
 -- A null word leaves the marks as they are: the law of the turn that marks words (profile).
-use Rattle.std.specs.Prelude.{ℕ, ◌+◌, ◌≡◌, ◌⊎◌, List, [], ◌∷◌, refl}
+use Rattle.std.specs.Prelude.{ℕ, ◌≡◌, List, [], ◌∷◌, refl}
 use Rattle.std.proofs.Common.{arith, inl, inr, subst, sym}
 use Rattle.cap_spec.specs.Following.{near}
 use Rattle.cap_spec.specs.Messages.{HasWord}
 use Rattle.cap_spec.specs.Occupying.{AreApart, IsPlaceOf, Occupies, Overlaps, Uses, twice, on_root, on_earlier}
-use Rattle.cap_spec.specs.Paths.{IsOneOf, Reaches}
+use Rattle.cap_spec.specs.Paths.{Reaches}
 use Rattle.cap_spec.specs.declared.Step.{Step}
 use Rattle.cap_spec.proofs.Disjoint.Overlaps.{one_used}
 use Rattle.cap_spec.proofs.Paths.Walks.{one_reached}
-use Rattle.cap_vet.specs.Marks.{IsMarked}
-use Rattle.cap_vet.specs.Taken.{HasMarked, IsTaken}
+use Rattle.cap_vet.specs.Taken.{HasMarked}
 
 -- a null word uses nothing
 null_used : (m : List (List ℕ)) (s w : ℕ) → HasWord m s w 0 → Occupies m s w []

@@ -8,7 +8,7 @@ ghost use Rattle.cap_spec.specs.Occupying.{IsDisjoint, IsFirstOverlap, empty_cou
 ghost use Rattle.cap_spec.specs.Tree.{Tree};
 ghost use Rattle.cap_spec.specs.declared.Refusal.{Refusal};
 ghost use Rattle.cap_vet.specs.Exclusives.{OverlapsFirst, vetted_of};
-ghost use Rattle.cap_vet.specs.Laws.{null_marked};
+ghost use Rattle.cap_vet.specs.NullMarks.{null_marked};
 ghost use Rattle.cap_vet.specs.Limits.{depth_of, words_of};
 ghost use Rattle.cap_vet.specs.Reports.{IsAccepted, IsReport};
 ghost use Rattle.cap_vet.specs.Taken.{HasMarked, HasRoom, IsTaken, start_of};
