@@ -11,7 +11,8 @@ use Rattle.cap_canon.specs.declared.fault.CanonFault.TheVariants as canon
 use Rattle.cap_canon.specs.declared.fault.RoomFault.{RoomFault}
 use Rattle.cap_canon.specs.declared.fault.RoomFault.TheVariants.{HasCapability, NoRoom}
 use Rattle.cap_canon.proofs.Copies.{cap_no_copy}
-use Rattle.cap_canon.proofs.FirstWords.{first_words_count, word_count}
+use Rattle.cap_canon.proofs.FirstWords.{first_words_count}
+use Rattle.cap_spec.proofs.Bytes.Plain.{words_exact}
 
 -- one thing is told
 pub one_room : (m : List (List ℕ)) (old : List ℕ) (a b : Result ℕ RoomFault) (xs ys : List ℕ) → TellsRoom m old a xs → TellsRoom m old b ys
@@ -45,7 +46,7 @@ counted count bytes words inside e = ap (λ (n : ℕ). first_words n bytes) (sym
 
 -- capacity of just the length of the words in front holds nothing else
 pub filled : (bytes words : List ℕ) → first_words (length words) bytes ≡ words → length bytes ≡ 8 * length words → plain_words bytes ≡ words
-filled bytes words e long = sym (take_all (length words) (plain_words bytes) (omega (arith, long, word_count bytes))) ∙ e
+filled bytes words e long = sym (take_all (length words) (plain_words bytes) (omega (arith, long, words_exact bytes))) ∙ e
 
 -- a fault of the length as one of capacity, where it names a capability
 abbrev pub room_fault : CanonFault → RoomFault

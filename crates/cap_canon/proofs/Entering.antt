@@ -3,8 +3,10 @@ use Rattle.std.proofs.Common.{ℕ, zero, suc, ◌+◌, ◌-◌, ◌*◌, ◌<◌
 use Rattle.std.proofs.Common.{refl, sym, subst, ◌∙◌, arith, length, reverse, Option, None, Some}
 use Rattle.std.specs.Option.{option_to_list}
 use Rattle.std.proofs.lemmas.List.{length-append, length-reverse}
-use Rattle.cap_spec.specs.Messages.{IsMessage, segment_of}
+use Rattle.cap_spec.specs.Messages.{IsMessage}
 use Rattle.cap_spec.specs.Tree.{Tree, struct, Trees, none, more, tree_count}
+use Rattle.cap_spec.proofs.Bytes.Lists.{reverse-more}
+use Rattle.cap_spec.proofs.Frames.Messages.{short_segment}
 use Rattle.cap_spec.proofs.Trees.DenotedTrees.{range_length}
 use Rattle.cap_canon.specs.CopyRuns.{OptionFull, further_places, option_places, places_of, row_places}
 use Rattle.cap_canon.specs.Laying.{Due, AreBefore, below, element_slots, own_size, slots}
@@ -17,7 +19,7 @@ use Rattle.cap_canon.specs.declared.objects.Object.{Object}
 use Rattle.cap_canon.specs.declared.objects.Object.TheVariants as object
 use Rattle.cap_canon.proofs.Runs.{count_more}
 use Rattle.cap_canon.proofs.Lengths.{size_below, size_due-append}
-use Rattle.cap_canon.proofs.Owing.{before_join, before_more, owed_count, reverse-more, stacked_more}
+use Rattle.cap_canon.proofs.Owing.{before_join, before_more, owed_count, stacked_more}
 
 -- the run of the pointers of structs in a row
 abbrev pub structs_run_of : Part → ℕ → ℕ → CopyRun
@@ -128,10 +130,6 @@ structs_owed m deeper depth n end s w count x r u k le some e =
     le (omega (arith, k.fewer.1)) (omega (arith, k.many, some)) k.below in
     subst (λ v. AreOwed m depth n (places_of r) (below end v)) (sym k.tree)
     (subst (λ y. AreOwed m depth n (places_of y) (element_slots x.data_left x.pointers_left (end + 1) k.elements)) (sym e) row)
-
--- a segment's places are numbers of 32 bits
-pub short_segment : (m : List (List ℕ)) (t : ℕ) → IsMessage m → t < length m → length (segment_of m t) < 2 ^ 32
-short_segment m t h l = h.lengths t [] l
 
 -- what becomes due stands before the end of the own words
 slots_before : (a end : ℕ) (ts : Trees) → a + tree_count ts ≤ end → AreBefore end (slots a ts)

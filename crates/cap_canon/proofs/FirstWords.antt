@@ -4,25 +4,13 @@ use Rattle.std.proofs.Common.{get_or, set, drop-drop, refl, ap, sym, arith}
 use Rattle.std.specs.List.{AllByRecursion}
 use Rattle.cap_spec.specs.Plain.{plain_text, plain_words, word_bytes}
 use Rattle.cap_spec.specs.Words.{IsWord}
-use Rattle.cap_spec.proofs.Bytes.Plain.{plain_back}
+use Rattle.cap_spec.proofs.Bytes.Plain.{plain_back, words_exact}
 use Rattle.std.proofs.lemmas.List.{length-take-le, take-append-le, take_all}
 use Rattle.std.proofs.lemmas.Grind.{take-set_at}
 use Rattle.std.proofs.Math.Seq.{take-set-lt}
 use Rattle.cap_canon.specs.FirstWords.{first_words}
 use Rattle.cap_words.proofs.WholeWords.{whole_text}
 use borrow.Rule.Slice.PartMut.{put_mid}
-
--- how many words bytes begin with
-pub word_count : (bytes : List ℕ) → length (plain_words bytes) ≡ length bytes / 8
-word_count [] = refl
-word_count (a ∷ []) = refl
-word_count (a ∷ b ∷ []) = refl
-word_count (a ∷ b ∷ c ∷ []) = refl
-word_count (a ∷ b ∷ c ∷ d ∷ []) = refl
-word_count (a ∷ b ∷ c ∷ d ∷ e ∷ []) = refl
-word_count (a ∷ b ∷ c ∷ d ∷ e ∷ f ∷ []) = refl
-word_count (a ∷ b ∷ c ∷ d ∷ e ∷ f ∷ g ∷ []) = refl
-word_count (a ∷ b ∷ c ∷ d ∷ e ∷ f ∷ g ∷ h ∷ rest) = let t = word_count rest in omega (arith, t)
 
 -- the bytes of a word in place of those of word p
 words_set : (p : ℕ) (bytes : List ℕ) (w : ℕ) → IsWord w → 8 * p + 8 ≤ length bytes
@@ -58,7 +46,7 @@ written_back n given items e = take-append-le n given (drop (length given) items
 
 -- so many words are there
 pub first_words_count : (n : ℕ) (bytes : List ℕ) → 8 * n ≤ length bytes → length (take n (plain_words bytes)) ≡ n
-first_words_count n bytes h = length-take-le n (plain_words bytes) (omega (arith, h, word_count bytes))
+first_words_count n bytes h = length-take-le n (plain_words bytes) (omega (arith, h, words_exact bytes))
 
 -- whole words are what they spell
 pub whole_words : (bytes : List ℕ) → AllByRecursion (λ b. b < 256) bytes → length bytes ≡ 8 * (length bytes / 8) → bytes ≡ plain_text (plain_words bytes)
@@ -69,7 +57,7 @@ whole_words bytes small h =
 -- word n was written behind the first n
 pub word_appended : (n w : ℕ) (given items : List ℕ) → 8 * n + 8 ≤ length items → plain_words given ≡ set (plain_words items) n w
     → first_words (n + 1) given ≡ first_words n items ++ w ∷ []
-word_appended n w given items h e = ap (take (n + 1)) e ∙ take-set_at (plain_words items) n (n + 1) w refl (omega (arith, word_count items, h))
+word_appended n w given items h e = ap (take (n + 1)) e ∙ take-set_at (plain_words items) n (n + 1) w refl (omega (arith, words_exact items, h))
 
 -- word p was written in place of one of the first n
 pub word_replaced : (n p w : ℕ) (given items : List ℕ) → p < n → plain_words given ≡ set (plain_words items) p w

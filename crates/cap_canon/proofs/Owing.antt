@@ -1,10 +1,11 @@
 -- What the runs of a walk owe, word by word.
 use Rattle.std.proofs.Common.{ℕ, suc, ◌+◌, ◌<◌, ◌≤◌, ◌^◌, List, [], ◌∷◌, ◌++◌, ◌≡◌, ap, refl, sym, subst, ◌∙◌, arith, length, reverse, Option, None, Some}
 use Rattle.std.specs.Option.{option_to_list}
-use Rattle.std.proofs.lemmas.List.{append-nil, length-append, length-reverse, reverse-append}
+use Rattle.std.proofs.lemmas.List.{length-append, length-reverse, reverse-append}
 use Rattle.cap_spec.specs.Messages.{IsMessage, segment_of}
 use Rattle.cap_spec.specs.Denoting.{Denotes}
 use Rattle.cap_spec.specs.Tree.{Tree}
+use Rattle.cap_spec.proofs.Bytes.Lists.{reverse-more}
 use Rattle.cap_spec.proofs.Paths.Arrivals.{lead_word}
 use Rattle.cap_spec.proofs.Frames.Messages.{HasWord-inside, HasWord-segment}
 use Rattle.cap_spec.proofs.Trees.OneTree.{Formed, formed}
@@ -50,11 +51,6 @@ before_join end (x ∷ xs) ys h k = (h.0, before_join end xs ys h.1 k)
 pub before_more : (end now : ℕ) (xs : List Due) → end ≤ now → AreBefore end xs → AreBefore now xs
 before_more end now [] le h = tt
 before_more end now (x ∷ xs) le h = (omega (arith, h.0, le), before_more end now xs le h.1)
-
--- the runs with one more, where there is one
-pub reverse-more : (runs : List CopyRun) (r : Option CopyRun) → reverse (runs ++ option_to_list r) ≡ option_to_list r ++ reverse runs
-reverse-more runs None = ap reverse (append-nil runs)
-reverse-more runs (Some r) = reverse-append runs (r ∷ [])
 
 pub stacked_more : (m : List (List ℕ)) (depth n : ℕ) (r : Option CopyRun) (runs : List CopyRun) (own rest : List Due) → n ≡ length runs + 1 → OptionFull r
     → AreOwed m depth n (option_places r) own → Stacked m depth runs rest

@@ -19,7 +19,7 @@ use Rattle.cap_canon.specs.Laying.{Due, Laid, own_size, below}
 use Rattle.cap_canon.specs.Objects.{IsObject}
 use Rattle.cap_canon.specs.Roots.{HasTree}
 use Rattle.cap_canon.specs.StillToLay.{IsNext, IsOwed, IsWalking, Meets, Takes}
-use Rattle.cap_canon.specs.Turns.{IsTurn}
+use Rattle.cap_canon.specs.CopyTurns.{IsTurn}
 use Rattle.cap_canon.specs.declared.objects.Object.{Object}
 use Rattle.cap_canon.specs.declared.run.CopyRun.{CopyRun}
 use Rattle.cap_canon.specs.declared.run.PointerPlace.{PointerPlace}

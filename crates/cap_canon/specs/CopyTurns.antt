@@ -1,9 +1,9 @@
 -- A turn of the walk, at one pointer word (profile).
-use Rattle.std.specs.Prelude.{ℕ, ◌+◌, ◌≤◌, List, length}
+use Rattle.std.specs.Prelude.{ℕ, ◌+◌, ◌++◌, ◌≤◌, List, ◌∷◌, length}
 use Rattle.cap_spec.specs.Canonical.{layout}
 use Rattle.cap_spec.specs.Tree.{Tree}
 use Rattle.cap_canon.specs.InPlace.{IsInPlace}
-use Rattle.cap_canon.specs.Laying.{Due, IsPointed, OwnAt, own_size}
+use Rattle.cap_canon.specs.Laying.{Due, IsPointed, OwnAt, below, own_size}
 use Rattle.cap_canon.specs.StillToLay.{Meets}
 use Rattle.cap_canon.specs.declared.objects.Object.{Object}
 use Rattle.cap_canon.specs.declared.run.CopyRun.{CopyRun}
@@ -20,3 +20,17 @@ pub record IsTurn (m : List (List ℕ)) (InPlace : Type 0) (whole : Tree) (objec
   pub pointed : IsPointed (layout whole) end p.slot tree
   pub own : OwnAt (layout whole) end tree
   pub inside : end + own_size tree ≤ length (layout whole)
+
+-- A turn at this object makes the state after it from the one before: its own words are laid, and its pointers are due.
+abbrev pub TurnKeeps : List (List ℕ) → Type 0 → Object → PointerPlace → ℕ → (Tree → ℕ → List Due → Type 0)
+    → (Tree → ℕ → List Due → Type 0) → Type 0
+TurnKeeps m InPlace object p end before after = (whole tree : Tree) (due : List Due)
+    → IsTurn m InPlace whole object p end tree due → before whole end (record { slot = p.slot; tree = tree } ∷ due)
+    → after whole (end + own_size tree) (below end tree ++ due)
+
+-- a turn at this object stops for a reason that holds of the whole tree
+abbrev pub TurnStops : List (List ℕ) → Type 0 → Object → PointerPlace → ℕ → (Tree → ℕ → List Due → Type 0)
+    → (Tree → Type 0) → Type 0
+TurnStops m InPlace object p end before stopped = (whole tree : Tree) (due : List Due)
+    → IsTurn m InPlace whole object p end tree due → before whole end (record { slot = p.slot; tree = tree } ∷ due)
+    → stopped whole

@@ -3,7 +3,9 @@ use Rattle.std.specs.Prelude.{ℕ, zero, suc, ◌+◌, ◌<◌, ◌≤◌, ◌�
 use Rattle.cap_spec.specs.Tree.{Tree}
 use Rattle.cap_spec.specs.Canonical.{layout}
 use Rattle.cap_spec.specs.Denoting.{words_from}
-use Rattle.cap_canon.specs.Laying.{Due, OwnAt, own_size, below}
+use Rattle.cap_canon.specs.Laying.{Due, IsPointed, OwnAt, own_size, below}
+use Rattle.cap_canon.specs.Objects.{IsObject}
+use Rattle.cap_canon.specs.declared.objects.Object.{Object}
 use Rattle.cap_canon.specs.declared.objects.Part.{Part}
 
 -- a position is that of a pointer word that is due
@@ -14,6 +16,12 @@ IsDue i (x ∷ due) = (i ≡ x.slot) ⊎ IsDue i due
 -- the words so far are those of the whole, but for pointer words that are due
 abbrev pub Agrees : List ℕ → List ℕ → List Due → Type 0
 Agrees words whole due = (i : ℕ) → i < length words → IsDue i due ⊎ (slice_index words i ≡ slice_index whole i)
+
+-- The copy before has a pointer word due at slot, and the one after has its object's own words from end on.
+abbrev pub LaysObject : List (List ℕ) → Object → ℕ → ℕ → List ℕ → List ℕ → Type 0
+LaysObject m object slot end old new = (d s w : ℕ) (tree : Tree) (whole : List ℕ) (due : List Due)
+    → IsObject m d s w tree object → IsPointed whole end slot tree → OwnAt whole end tree
+    → Agrees old whole (record { slot = slot; tree = tree } ∷ due) → Agrees new whole (below end tree ++ due)
 
 -- They are all words of the layout up to end, and the capacity is enough for the layout.
 pub record IsCopied (words : List ℕ) (capacity : ℕ) (whole : Tree) (end : ℕ) (due : List Due) : Type 0 where

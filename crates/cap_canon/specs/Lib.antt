@@ -1,6 +1,7 @@
 pub mod Checked
 pub mod CopyRooms
 pub mod CopyRuns
+pub mod CopyTurns
 pub mod Filling
 pub mod FirstWords
 pub mod Found
@@ -11,5 +12,4 @@ pub mod Objects
 pub mod Roots
 pub mod StillToLay
 pub mod Trimming
-pub mod Turns
 pub mod Values

@@ -5,7 +5,7 @@ use Rattle.cap_spec.specs.Denoting.{Denotes}
 use Rattle.cap_spec.specs.Tree.{Tree}
 use Rattle.cap_spec.specs.Canonical.{trim}
 use Rattle.cap_canon.specs.CopyRuns.{IsFull, places_of, all_places}
-use Rattle.cap_canon.specs.Laying.{Due, AreBefore, size_due}
+use Rattle.cap_canon.specs.Laying.{Due, AreBefore, below, own_size, size_due}
 use Rattle.cap_canon.specs.Objects.{IsObject}
 use Rattle.cap_canon.specs.declared.objects.Object.{Object}
 use Rattle.cap_canon.specs.declared.run.CopyRun.{CopyRun}
@@ -59,6 +59,12 @@ pub record Meets (m : List (List ℕ)) (depth : ℕ) (p : PointerPlace) (runs : 
   pub d : ℕ
   pub is : IsObject m d p.segment p.word tree object
   pub levels : d + length runs ≤ depth
+
+-- Runs with the pointer words of an object on top, whose own words end there.
+abbrev pub Enters : List CopyRun → Object → ℕ → ℕ → List CopyRun → Type 0
+Enters old object end result new = (m : List (List ℕ)) (depth : ℕ) (p : PointerPlace) (tree : Tree) (due : List Due)
+    → Meets m depth p old end tree due object
+    → (result ≡ end + own_size tree) × IsWalking m depth new result (below end tree ++ due)
 
 -- how many pointer words the runs still have
 abbrev pub work_left : List CopyRun → ℕ

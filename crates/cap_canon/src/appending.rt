@@ -18,9 +18,11 @@ use cap_frame::Segments;
 /// Appends the own words of what is left of an object: its data words, values, tag and pointer
 /// words, of which the last hold anything until their turn.
 pub(crate) fn append_own<M: Segments, T: CopyOutput>(message: &M, object: &Object, copy: &mut T)
-    requires { (d s w : ℕ) × (tree : Tree) × IsObject (M.segments message.now) d s w tree object.now
+    requires { let m = M.segments message.now in
+        (d s w : ℕ) × (tree : Tree) × IsObject m d s w tree object.now
         × (length (T.words copy.old) + own_size tree ≤ T.capacity copy.old) }
-    ensures own { let m = M.segments message.now in (d s w : ℕ) (tree : Tree) → IsObject m d s w tree object.now
+    ensures own { let m = M.segments message.now in
+        (d s w : ℕ) (tree : Tree) → IsObject m d s w tree object.now
         → OwnAppended (T.words copy.old) (T.words copy.new) tree }
     ensures capacity { T.capacity copy.new ≡ T.capacity copy.old }
     ensures borrow { T.borrow copy.new ≡ T.borrow copy.old }

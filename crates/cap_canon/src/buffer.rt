@@ -27,7 +27,8 @@ pub fn canonical_into<M: Segments>(v: &Vetted<'_, M>, out: &mut [u8]) -> Result<
     ensures tells { TellsRoom (M.segments (message_of v.now)) out.old result out.new }
     // The message and the buffer allow no other result.
     ensures only { let m = M.segments (message_of v.now) in
-        (other : Result ℕ RoomFault) (new : List ℕ) → TellsRoom m out.old other new → (result ≡ other) × (out.new ≡ new) }
+        (other : Result ℕ RoomFault) (new : List ℕ) → TellsRoom m out.old other new
+        → (result ≡ other) × (out.new ≡ new) }
 {
     fill_start(v, out)
 }

@@ -25,7 +25,8 @@ use std::alloc::Global;
 pub fn canonical_bytes<M: Segments>(alloc: Global, v: &Vetted<'_, M>) -> Result<Vec<u8>, CanonFault>
     ensures ok { let m = M.segments (message_of v.now) in IfOk result (λ bytes.
         let copy = plain_words bytes.items in HasCopy m copy × (bytes.items ≡ plain_text copy)) }
-    ensures few { IfOk result (λ bytes. length bytes.items ≤ 8 * ((report_of v.now).charge + 1)) }
+    ensures few { IfOk result (λ bytes.
+        length bytes.items ≤ 8 * ((report_of v.now).charge + 1)) }
     ensures cap { let m = M.segments (message_of v.now) in
         (s w : ℕ) → IsErrOf result (CanonFault.HasCapability s w) → IsFirstCap m s w }
     ensures memory { let m = M.segments (message_of v.now) in

@@ -2,9 +2,8 @@
 
 ghost use Rattle.cap_spec.specs.Canonical.{layout};
 ghost use Rattle.cap_spec.specs.Copies.{IsCanonical};
-ghost use Rattle.cap_canon.specs.Checked.{IsChecked};
-ghost use Rattle.cap_canon.specs.InPlace.{StandsIn};
-ghost use Rattle.cap_canon.specs.Laying.{IsPointed, OwnAt, own_size};
+ghost use Rattle.cap_canon.specs.Checked.{HasOwn, IsChecked};
+ghost use Rattle.cap_canon.specs.Laying.{IsPointed, OwnAt};
 ghost use Rattle.cap_canon.specs.Objects.{IsObject};
 ghost use Rattle.cap_canon.specs.Roots.{ForTrimmed, HasTree};
 ghost use Rattle.cap_spec.specs.Denoting.{values_of};
@@ -86,8 +85,7 @@ fn stands_at<M: Segments>(message: &M, object: &Object, slot: u32, end: u32) -> 
         (d : ℕ) × (tree : Tree) × IsObject m d 0 slot tree object.now }
     ensures yes { let m = M.segments message.now in let words = segment_of m 0 in IsTrue result
         → (d : ℕ) (tree : Tree) → IsObject m d 0 slot tree object.now
-        → IsPointed words end slot tree × OwnAt words end tree
-        × (end + own_size tree ≤ length words) × StandsIn end object.now }
+        → HasOwn words end slot tree object.now }
     ensures no { let m = M.segments message.now in let words = segment_of m 0 in
         (d : ℕ) (tree : Tree) → IsObject m d 0 slot tree object.now
         → IsPointed words end slot tree → OwnAt words end tree → IsTrue result }

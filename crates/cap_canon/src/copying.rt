@@ -1,9 +1,9 @@
 //! The canonical copy of a message.
 
-ghost use Rattle.cap_canon.specs.Filling.{Agrees, IsCopied};
-ghost use Rattle.cap_canon.specs.Laying.{Due, IsPointed, OwnAt, below, own_size};
+ghost use Rattle.cap_canon.specs.Filling.{IsCopied, LaysObject};
+ghost use Rattle.cap_canon.specs.Laying.{own_size};
 ghost use Rattle.cap_canon.specs.Objects.{IsObject};
-ghost use Rattle.cap_canon.specs.Roots.{ForTrimmed, HasTree};
+ghost use Rattle.cap_canon.specs.Roots.{ForTrimmed, HasTree, IdentifiesTree};
 ghost use Rattle.cap_spec.specs.Copies.{HasCopy};
 ghost use Rattle.cap_spec.specs.Canonical.{layout, offsets, trim};
 ghost use Rattle.cap_spec.specs.Denoting.{Denotes};
@@ -11,7 +11,7 @@ ghost use Rattle.cap_spec.specs.Paths.{IsFirstCap};
 ghost use Rattle.cap_spec.specs.Tree.{Tree};
 ghost use Rattle.cap_vet.specs.Vettings.{message_of, report_of};
 ghost use Rattle.std.specs.List.{AllByRecursion};
-ghost use Rattle.std.specs.Prelude.{◌+◌, ◌++◌, ◌≡◌, ◌≤◌, ◌<◌, ◌^◌, ◌↔◌, [], ◌∷◌, IfOk, IsErrOf, List, MatchResult, length, vec_capacity, ℕ};
+ghost use Rattle.std.specs.Prelude.{◌+◌, ◌≡◌, ◌≤◌, ◌<◌, ◌^◌, [], ◌∷◌, IfOk, IsErrOf, List, MatchResult, length, vec_capacity, ℕ};
 
 use crate::appending::append_own;
 use crate::fault::CanonFault;
@@ -44,7 +44,8 @@ pub fn canonical<M: Segments>(alloc: Global, v: &Vetted<'_, M>) -> Result<Vec<u6
 
     // The other direction, unless the call is out of memory.
     ensures copy { (words : List ℕ) → HasCopy (M.segments (message_of v.now)) words
-        → MatchResult result (λ copied. copied.items ≡ words) (λ fault. fault ≡ CanonFault.Memory) }
+        → MatchResult result
+        (λ copied. copied.items ≡ words) (λ fault. fault ≡ CanonFault.Memory) }
     ensures first_cap { let m = M.segments (message_of v.now) in
         (s w : ℕ) → IsFirstCap m s w → result ≡ Err (CanonFault.HasCapability s w) }
 
@@ -57,14 +58,13 @@ pub fn canonical<M: Segments>(alloc: Global, v: &Vetted<'_, M>) -> Result<Vec<u6
 
     // Its words are a layout, and each offset that the pointer words of this are made from fits 30
     // bits, one of which is the sign.
-    ensures near { let m = M.segments (message_of v.now) in IfOk result (λ words. ForTrimmed m (λ u.
+    ensures near { let m = M.segments (message_of v.now) in
+        IfOk result (λ words. ForTrimmed m (λ u.
         (words.items ≡ layout u) × AllByRecursion (λ offset. offset < 2 ^ 29) (offsets u))) }
 
     // Other messages have these words for their copy exactly if the trimmed trees are equal.
-    ensures only { let m = M.segments (message_of v.now) in IfOk result (λ words.
-        (t u : Tree) (c d c' d' : ℕ) (other : List (List ℕ)) → Denotes m 0 0 t c d
-        → Denotes other 0 0 u c' d' → c' < 2 ^ 29
-        → (layout (trim u) ≡ words.items) ↔ (trim u ≡ trim t)) }
+    ensures only { let m = M.segments (message_of v.now) in
+        IfOk result (λ words. IdentifiesTree m words.items) }
 {
     let length = match canonical_len(v) {
         Ok(length) => length,
@@ -128,14 +128,13 @@ impl<T: CopyOutput> Pass for Copying<'_, T> {
 // where the copy ends so far.
 fn lay<M: Segments, T: CopyOutput>(message: &M, object: &Object, slot: u32, end: u32, copy: &mut T)
     requires ends { (length (T.words copy.old) ≡ end) × (slot < end) × (end < 2 ^ 29) }
-    requires is { let m = M.segments message.now in (d s w : ℕ) × (tree : Tree) × IsObject m d s w tree object.now
+    requires is { let m = M.segments message.now in
+        (d s w : ℕ) × (tree : Tree) × IsObject m d s w tree object.now
         × (end + own_size tree ≤ T.capacity copy.old) }
-    ensures agrees { (d s w : ℕ) (tree : Tree) (whole : List ℕ) (due : List Due)
-        → IsObject (M.segments message.now) d s w tree object.now
-        → IsPointed whole end slot tree → OwnAt whole end tree
-        → Agrees (T.words copy.old) whole (record { slot = slot; tree = tree } ∷ due)
-        → Agrees (T.words copy.new) whole (below end tree ++ due) }
-    ensures ends { let m = M.segments message.now in (d s w : ℕ) (tree : Tree) → IsObject m d s w tree object.now
+    ensures agrees { let m = M.segments message.now in
+        LaysObject m object.now slot end (T.words copy.old) (T.words copy.new) }
+    ensures ends { let m = M.segments message.now in
+        (d s w : ℕ) (tree : Tree) → IsObject m d s w tree object.now
         → length (T.words copy.new) ≡ end + own_size tree }
     ensures capacity { T.capacity copy.new ≡ T.capacity copy.old }
     ensures borrow { T.borrow copy.new ≡ T.borrow copy.old }

@@ -98,7 +98,8 @@ fn left_of<M: Segments>(message: &M, target: &Target) -> Object
     requires { let m = M.segments message.now in (s w : ℕ) × (t : Tree) × (c d : ℕ)
         × Denotes m s w t c d × FindsTarget m s w target.now }
     ensures { let m = M.segments message.now in (s w : ℕ) (t : Tree) (c d : ℕ)
-        → Denotes m s w t c d → FindsTarget m s w target.now → IsObject m d s w (trim t) result }
+        → Denotes m s w t c d → FindsTarget m s w target.now
+        → IsObject m d s w (trim t) result }
 {
     let segment = target.segment;
     let start = target.start;
@@ -202,7 +203,8 @@ fn structs_left<M: Segments>(
 pub(crate) fn read_range<M: Segments>(message: &M, segment: u32, start: u32, count: u32)
     requires exists { segment < length (M.segments message.now) }
     requires inside { start + count ≤ length (segment_of (M.segments message.now) segment) }
-    ensures { (k : ℕ) → k < count → (x : ℕ) × HasWord (M.segments message.now) segment (start + k) x × IsWord x }
+    ensures { let m = M.segments message.now in
+        (k : ℕ) → k < count → (x : ℕ) × HasWord m segment (start + k) x × IsWord x }
 {
     'words: for k in 0..count {
         let _word = message.word(segment, start + k);

@@ -4,7 +4,7 @@ ghost use Rattle.cap_canon.specs.CopyRuns.{OptionFull, option_places, row_places
 ghost use Rattle.cap_canon.specs.InPlace.{AreInPlace, IsInPlace, StandsIn};
 ghost use Rattle.cap_canon.specs.Laying.{Due, below, own_size};
 ghost use Rattle.cap_canon.specs.Objects.{IsObject, IsStructsObject};
-ghost use Rattle.cap_canon.specs.StillToLay.{AreOwed, IsWalking, Meets, Takes, work_left};
+ghost use Rattle.cap_canon.specs.StillToLay.{AreOwed, Enters, IsWalking, Meets, Takes, work_left};
 ghost use Rattle.cap_canon.specs.declared.run.PointerPlace.{PointerPlace};
 ghost use Rattle.cap_spec.specs.Messages.{IsMessage};
 ghost use Rattle.cap_spec.specs.Tree.{Tree};
@@ -30,7 +30,8 @@ pub(crate) fn take_next<const N: usize>(stack: &mut Stack<N>) -> PointerPlace
         → IsWalking m depth stack.old.items end due
         → Takes m depth result stack.new.items end due }
     ensures work { work_left stack.new.items + 1 ≡ work_left stack.old.items }
-    ensures in_place { AreInPlace stack.old.items → IsInPlace result × AreInPlace stack.new.items }
+    ensures in_place { AreInPlace stack.old.items
+        → IsInPlace result × AreInPlace stack.new.items }
 {
     match stack.pop() {
         None => unreachable!(),
@@ -50,13 +51,11 @@ pub(crate) fn take_next<const N: usize>(stack: &mut Stack<N>) -> PointerPlace
 #[inline(always)]
 pub(crate) fn enter<const N: usize>(stack: &mut Stack<N>, object: &Object, end: u32) -> u32
     requires fits { (m : List (List ℕ)) × (depth : ℕ) × (p : PointerPlace) × (tree : Tree)
-        × (due : List Due) × Meets m depth p stack.old.items end tree due object.now × (depth ≤ N) × (N ≤ 256) }
-    ensures walking { (m : List (List ℕ)) (depth : ℕ) (p : PointerPlace) (tree : Tree)
-        (due : List Due)
-        → Meets m depth p stack.old.items end tree due object.now
-        → (result ≡ end + own_size tree)
-        × IsWalking m depth stack.new.items result (below end tree ++ due) }
-    ensures work { (m : List (List ℕ)) (d s w : ℕ) (tree : Tree) → IsObject m d s w tree object.now
+        × (due : List Due) × Meets m depth p stack.old.items end tree due object.now
+        × (depth ≤ N) × (N ≤ 256) }
+    ensures walking { Enters stack.old.items object.now end result stack.new.items }
+    ensures work { (m : List (List ℕ)) (d s w : ℕ) (tree : Tree)
+        → IsObject m d s w tree object.now
         → work_left stack.new.items ≤ work_left stack.old.items + own_size tree }
     ensures in_place { AreInPlace stack.old.items → StandsIn end object.now
         → AreInPlace stack.new.items }
@@ -159,10 +158,10 @@ fn row_run(segment: u32, at: u32, slot: u32, left: u32) -> Option<CopyRun>
 // How many words an object has of its own in the copy.
 #[inline(always)]
 fn own_words(object: &Object) -> u32
-    requires { (m : List (List ℕ)) × (d s w : ℕ) × (tree : Tree) × IsObject m d s w tree object.now
-        × (own_size tree ≤ 268435457) }
-    ensures { (m : List (List ℕ)) (d s w : ℕ) (tree : Tree) → IsObject m d s w tree object.now
-        → result ≡ own_size tree }
+    requires { (m : List (List ℕ)) × (d s w : ℕ) × (tree : Tree)
+        × IsObject m d s w tree object.now × (own_size tree ≤ 268435457) }
+    ensures { (m : List (List ℕ)) (d s w : ℕ) (tree : Tree)
+        → IsObject m d s w tree object.now → result ≡ own_size tree }
 {
     match *object {
         Object::Null => 0,

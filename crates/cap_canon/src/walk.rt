@@ -1,12 +1,12 @@
 //! The walk over an accepted message, in preorder: one pointer word a turn.
 
+ghost use Rattle.cap_canon.specs.CopyTurns.{IsTurn, TurnKeeps, TurnStops};
 ghost use Rattle.cap_canon.specs.InPlace.{StandsIn};
-ghost use Rattle.cap_canon.specs.Laying.{Due, below, own_size};
+ghost use Rattle.cap_canon.specs.Laying.{Due};
 ghost use Rattle.cap_canon.specs.Roots.{ForTrimmed, HasTree};
-ghost use Rattle.cap_canon.specs.Turns.{IsTurn};
 ghost use Rattle.cap_spec.specs.Canonical.{layout};
 ghost use Rattle.cap_spec.specs.Tree.{Tree};
-ghost use Rattle.std.specs.Prelude.{◌+◌, ◌++◌, ◌≡◌, ◌≤◌, [], ◌∷◌, IfNone, IfSome, IsTrue, List, false, length, ℕ};
+ghost use Rattle.std.specs.Prelude.{◌≡◌, ◌≤◌, [], ◌∷◌, IfNone, IfSome, IsTrue, List, false, length, ℕ};
 
 use crate::objects::{Object, object_at};
 use crate::run::PointerPlace;
@@ -41,16 +41,10 @@ pub(crate) trait Pass {
             × IsTurn m in_place whole object.now place end tree due
             × state self.old m whole end (record { slot = place.slot; tree = tree } ∷ due) }
         ensures goes_on { let m = M.segments message.now in IsTrue result
-            → (whole tree : Tree) (due : List Due)
-            → IsTurn m in_place whole object.now place end tree due
-            → state self.old m whole end (record { slot = place.slot; tree = tree } ∷ due)
-            → state self.new m whole (end + own_size tree) (below end tree ++ due) }
+            → TurnKeeps m in_place object.now place end (state self.old m) (state self.new m) }
         ensures in_place { IsTrue result → in_place → StandsIn end object.now }
         ensures stops { let m = M.segments message.now in result ≡ false
-            → (whole tree : Tree) (due : List Due)
-            → IsTurn m in_place whole object.now place end tree due
-            → state self.old m whole end (record { slot = place.slot; tree = tree } ∷ due)
-            → stopped m whole }
+            → TurnStops m in_place object.now place end (state self.old m) (stopped m) }
         ensures kept { kept self.new ≡ kept self.old };
 }
 

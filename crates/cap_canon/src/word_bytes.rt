@@ -47,8 +47,10 @@ impl<'b> WordBytes<'b> {
     // None is written yet.
     fn over(bytes: &'b mut [u8]) -> WordBytes<'b>
         ensures words { ⟦<WordBytes<'b> as CopyOutput>⟧.words result ≡ [] }
-        ensures capacity { ⟦<WordBytes<'b> as CopyOutput>⟧.capacity result ≡ length bytes.old / 8 }
-        ensures borrow { ⟦<WordBytes<'b> as CopyOutput>⟧.borrow result ≡ bytes.entry.ghost_name }
+        ensures capacity { ⟦<WordBytes<'b> as CopyOutput>⟧.capacity result
+            ≡ length bytes.old / 8 }
+        ensures borrow { ⟦<WordBytes<'b> as CopyOutput>⟧.borrow result
+            ≡ bytes.entry.ghost_name }
     {
         WordBytes { bytes, count: 0 }
     }
