@@ -19,7 +19,7 @@ use Rattle.cap_vet.specs.Handles.{bytes_of_place}
 use Rattle.cap_vet.specs.Reports.{IsReport}
 use Rattle.cap_vet.specs.declared.place.Place.{Place}
 use Rattle.cap_vet.specs.declared.report.Report.{Report}
-use Rattle.cap_read.specs.Reading.{IsPlaceInside, IsRead}
+use Rattle.cap_read.specs.ReadNodes.{IsPlaceInside, IsRead}
 
 -- nothing has a place where a path doesn't come to a spot,
 pub no_place : (m : List (List ℕ)) (path : List Step) → ((level : ℕ) (a : Spot) → Comes m path level a → ⊥) → (t b n : ℕ) → IsPlace m path t b n → ⊥

@@ -1,6 +1,6 @@
 //! A message is vetted, and the node at a path is read.
 
-ghost use Rattle.cap_read.specs.Reading.{IsRead};
+ghost use Rattle.cap_read.specs.ReadNodes.{IsRead};
 ghost use Rattle.cap_spec.specs.Denoting.{Denotes};
 ghost use Rattle.cap_spec.specs.Faults.{IsRefused};
 ghost use Rattle.cap_spec.specs.Tree.{Tree};
