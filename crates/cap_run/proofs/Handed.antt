@@ -1,10 +1,8 @@
 -- Words that are read at once and handed to a sink.
-use Rattle.std.proofs.Common.{◌≡◌, ◌∙◌, ℕ, ◌+◌, ◌*◌, ◌≤◌, false, true, ◌⊎◌, inl, inr, List, [], ◌∷◌, ◌++◌, length, take}
-use Rattle.std.proofs.Common.{Some, OnSome, refl, sym, ap, arith, length-append}
+use Rattle.std.proofs.Common.{◌≡◌, ℕ, ◌+◌, ◌≤◌, false, true, ◌⊎◌, inl, inr, List, [], ◌∷◌, ◌++◌, length, take}
+use Rattle.std.proofs.Common.{Some, OnSome, refl, ap, arith, length-append}
 use Rattle.std.specs.Io.KnownBytes.{Keeps}
-use Rattle.std.proofs.lemmas.List.{length-take-le}
 use Rattle.cap_spec.specs.Plain.{plain_text, plain_words}
-use Rattle.cap_spec.proofs.Bytes.Plain.{length_plain}
 use Rattle.cap_words.specs.Ends.{Fails, WasSpent}
 use Rattle.cap_words.specs.Sinks.{sink_fault_of}
 use Rattle.cap_words.specs.TakingMany.{TakesAll}
@@ -18,10 +16,6 @@ use Rattle.cap_run.specs.Handed.{HandsOver}
 use Rattle.cap_run.specs.PuttingEnds.{Copies}
 use Rattle.cap_run.proofs.Copying.{fills_both, fills_none, gives_both, gives_none}
 use Rattle.cap_run.proofs.Making.{halts_behind}
-
--- so many words are that many bytes
-pub words_in : (n : ℕ) (room : List ℕ) → n ≤ length room → take n room ≡ plain_text (plain_words (take n room)) → 8 * length (plain_words (take n room)) ≡ n
-words_in n room fits text = sym (length_plain (plain_words (take n room))) ∙ (sym (ap length text) ∙ length-take-le n room fits)
 
 module _ {S : Type 0} (gs : source.Ghosts S) where
   -- the words at hand

@@ -4,7 +4,7 @@ use Rattle.cap_spec.specs.Frames.{frame_text}
 use Rattle.cap_spec.specs.Plain.{plain_words}
 use Rattle.cap_words.specs.Sinks.{WasPut}
 use Rattle.cap_words.specs.declared.sinks.WordSink as sink
-use Rattle.cap_canon.proofs.FirstWords.{word_count}
+use Rattle.cap_spec.proofs.Bytes.Plain.{words_exact}
 use Rattle.cap_run.specs.Copying.{Fills}
 use Rattle.std.proofs.Common.{◌+◌, false, sym}
 
@@ -12,7 +12,7 @@ use Rattle.std.proofs.Common.{◌+◌, false, sym}
 pub frame_of_bytes : (bytes : List ℕ) (x : ℕ) → x ≡ length bytes / 8 * 2 ^ 32 → frame_text (plain_words bytes ∷ []) ≡ (x ∷ []) ++ plain_words bytes
 frame_of_bytes bytes x e =
     let ws = plain_words bytes in
-    let same : 1 - 1 + 2 ^ 32 * length ws ≡ x = omega (arith, word_count bytes, e) in
+    let same : 1 - 1 + 2 ^ 32 * length ws ≡ x = omega (arith, words_exact bytes, e) in
     ap (λ n. n ∷ (ws ++ [])) same ∙ ap (λ l. x ∷ l) (append-nil ws)
 
 module _ {K : Type 0} (gk : sink.Ghosts K) where
