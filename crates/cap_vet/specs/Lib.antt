@@ -1,8 +1,10 @@
 pub mod Budgets
 pub mod Charging
+pub mod Demands
 pub mod Exclusives
 pub mod Finding
 pub mod Handles
+pub mod LaxLaws
 pub mod Levels
 pub mod Limits
 pub mod Looking
@@ -15,6 +17,7 @@ pub mod Passing
 pub mod PointerRuns
 pub mod Reports
 pub mod Spots
+pub mod Stricts
 pub mod Taken
 pub mod Trails
 pub mod Turning

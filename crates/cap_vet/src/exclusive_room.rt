@@ -18,6 +18,7 @@ use crate::exclusive_vetting::{Overlap, mark_message};
 use crate::limits::Limits;
 use crate::marks::numbers_for;
 use crate::report::Report;
+use crate::vetted::Vetted;
 use crate::vetting::vet;
 use cap_frame::Segments;
 use cap_spec::Refusal;
@@ -89,24 +90,56 @@ pub fn vet_exclusive_in<'m, M: Segments>(
         drop n marks.new ≡ drop n marks.old }
     ensures kept { IfErr result (λ fault. KeepsRoom fault marks.old marks.new) }
 {
-    let vetted = match vet(message, limits) {
-        Ok(vetted) => vetted,
-        Err(refusal) => return Err(ExclusiveFault::Refused(refusal)),
-    };
-    let needed = numbers_for(message);
-    if marks.len() < needed {
-        return Err(ExclusiveFault::NoRoom {
-            needed,
-            report: vetted.report(),
-        });
+    match vet(message, limits) {
+        Ok(vetted) => vetted.into_exclusive_in(marks),
+        Err(refusal) => Err(ExclusiveFault::Refused(refusal)),
     }
-    match mark_cleared(message, &limits, &mut marks[..needed]) {
-        Ok(()) => Ok(Exclusive { vetted }),
-        Err(overlap) => Err(ExclusiveFault::Overlap {
-            segment: overlap.segment,
-            word: overlap.word,
-            pointers: overlap.pointers,
-        }),
+}
+
+impl<'m, M: Segments> Vetted<'m, M> {
+    /// As [`into_exclusive`](Vetted::into_exclusive), with the marks in the caller's buffer, as for
+    /// [`crate::vet_exclusive_in`]. Walks the message once more. Allocates nothing.
+    ///
+    /// # Errors
+    ///
+    /// [`ExclusiveFault::Refused`] is never returned, since the message is accepted.
+    ///
+    /// - [`ExclusiveFault::NoRoom`]: the buffer has fewer numbers than the marks take. It is as it was.
+    /// - [`ExclusiveFault::Overlap`]: a pointer overlaps. It is the first in preorder that uses a word
+    ///   which is used already.
+    pub fn into_exclusive_in(self, marks: &mut [u64]) -> Result<Exclusive<'m, M>, ExclusiveFault>
+        ensures ok { let m = M.segments (message_of self.entry) in
+            IfOk result (λ e. IsDisjoint m × (marks_of m ≤ length marks.old)) }
+        ensures value { IfOk result (λ e. vetted_of e ≡ self.entry) }
+        ensures err { let m = M.segments (message_of self.entry) in
+            IfErr result (IsExclusiveFault m 268435456 256 (length marks.old)) }
+
+        // The other direction.
+        ensures accepts { let m = M.segments (message_of self.entry) in
+            IsDisjoint m → marks_of m ≤ length marks.old → IsOk result }
+        ensures refuses { let m = M.segments (message_of self.entry) in (fault : ExclusiveFault) →
+            IsExclusiveFault m 268435456 256 (length marks.old) fault → result ≡ Err fault }
+
+        // The numbers of the buffer after the call.
+        ensures rest { let n = marks_of (M.segments (message_of self.entry)) in
+            drop n marks.new ≡ drop n marks.old }
+        ensures kept { IfErr result (λ fault. KeepsRoom fault marks.old marks.new) }
+    {
+        let needed = numbers_for(self.message);
+        if marks.len() < needed {
+            return Err(ExclusiveFault::NoRoom {
+                needed,
+                report: self.report,
+            });
+        }
+        match mark_cleared(self.message, &Limits::greatest(), &mut marks[..needed]) {
+            Ok(()) => Ok(Exclusive { vetted: self }),
+            Err(overlap) => Err(ExclusiveFault::Overlap {
+                segment: overlap.segment,
+                word: overlap.word,
+                pointers: overlap.pointers,
+            }),
+        }
     }
 }
 

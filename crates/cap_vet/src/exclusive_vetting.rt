@@ -22,6 +22,7 @@ use crate::marks::{Marks, numbers_for, starts_in};
 use crate::place::Place;
 use crate::turn::{Stopped, Turn};
 use crate::uses::near_use;
+use crate::vetted::Vetted;
 use crate::vetting::vet;
 use crate::walking::walk;
 use cap_frame::Segments;
@@ -100,20 +101,49 @@ pub fn vet_exclusive<'m, M: Segments>(
         Denotes m 0 0 t c d → c ≤ words_of limits → d ≤ depth_of limits → IsFirstOverlap m s w n →
         (result ≡ Err (ExclusiveRefusal.Overlap s w n)) ⊎ (result ≡ Err ExclusiveRefusal.Memory) }
 {
-    let vetted = match vet(message, limits) {
-        Ok(vetted) => vetted,
-        Err(fault) => return Err(ExclusiveRefusal::Refused(fault)),
-    };
-    let Ok(mut marks) = Vec::from_elem(alloc, 0u64, numbers_for(message)) else {
-        return Err(ExclusiveRefusal::Memory);
-    };
-    match mark_message(message, &limits, marks.as_mut_slice()) {
-        Ok(()) => Ok(Exclusive { vetted }),
-        Err(overlap) => Err(ExclusiveRefusal::Overlap {
-            segment: overlap.segment,
-            word: overlap.word,
-            pointers: overlap.pointers,
-        }),
+    match vet(message, limits) {
+        Ok(vetted) => vetted.into_exclusive(alloc),
+        Err(refusal) => Err(ExclusiveRefusal::Refused(refusal)),
+    }
+}
+
+impl<'m, M: Segments> Vetted<'m, M> {
+    /// The same message as one of which no word is used twice (profile), see [`crate::vet_exclusive`].
+    /// Walks the message once more. Allocates once: one bit for each word of the message, and at most
+    /// 64 bits more.
+    ///
+    /// # Errors
+    ///
+    /// [`ExclusiveRefusal::Refused`] is never returned.
+    ///
+    /// - [`ExclusiveRefusal::Memory`]: the allocation failed.
+    /// - [`ExclusiveRefusal::Overlap`]: a pointer overlaps. It is the first in preorder that uses a word
+    ///   which is used already.
+    pub fn into_exclusive(self, alloc: Global) -> Result<Exclusive<'m, M>, ExclusiveRefusal>
+        ensures ok { IfOk result (λ e. IsDisjoint (M.segments (message_of self.entry))) }
+        ensures value { IfOk result (λ e. vetted_of e ≡ self.entry) }
+        ensures overlap { (s w n : ℕ) → IsErrOf result (ExclusiveRefusal.Overlap s w n) →
+            IsFirstOverlap (M.segments (message_of self.entry)) s w n }
+        ensures not_refused { (r : Refusal) → ¬ IsErrOf result (ExclusiveRefusal.Refused r) }
+
+        // The other direction, unless the allocation fails.
+        ensures accepts { IsDisjoint (M.segments (message_of self.entry)) →
+            IsOk result ⊎ (result ≡ Err ExclusiveRefusal.Memory) }
+        ensures names { let m = M.segments (message_of self.entry) in (s w n : ℕ) →
+            IsFirstOverlap m s w n → (result ≡ Err (ExclusiveRefusal.Overlap s w n))
+            ⊎ (result ≡ Err ExclusiveRefusal.Memory) }
+    {
+        let Ok(mut marks) = Vec::from_elem(alloc, 0u64, numbers_for(self.message)) else {
+            return Err(ExclusiveRefusal::Memory);
+        };
+        match mark_message(self.message, &Limits::greatest(), marks.as_mut_slice()) {
+            Ok(()) => Ok(Exclusive { vetted: self }),
+            Err(overlap) => Err(ExclusiveRefusal::Overlap {
+                segment: overlap.segment,
+                word: overlap.word,
+                pointers: overlap.pointers,
+            }),
+        }
     }
 }
 

@@ -1,6 +1,6 @@
 //! The limits of a walk through a message.
 
-ghost use Rattle.std.specs.Prelude.{◌≡◌, ◌≤◌, ◌↔◌, IfSome, IsSome};
+ghost use Rattle.std.specs.Prelude.{◌≡◌, ◌≤◌, ◌↔◌, IfSome, IsSome, min};
 
 /// The most words that a word limit may have.
 const MOST_WORDS: u64 = 268435456;
@@ -48,5 +48,27 @@ impl Limits {
         ensures shallow { result ≤ 256 }
     {
         self.depth
+    }
+
+    /// Limits of the most words and of the deepest level that limits may have.
+    pub(crate) fn greatest() -> Limits
+        ensures words { words_of result ≡ 268435456 }
+        ensures depth { depth_of result ≡ 256 }
+    {
+        Limits {
+            words: MOST_WORDS,
+            depth: MOST_DEPTH,
+        }
+    }
+
+    /// The same depth limit, with a word limit of at most `words`.
+    pub(crate) fn lowered(self, words: u64) -> Limits
+        ensures words { words_of result ≡ min (words_of self.entry) words }
+        ensures depth { depth_of result ≡ depth_of self.entry }
+    {
+        Limits {
+            words: self.words.min(words),
+            depth: self.depth,
+        }
     }
 }

@@ -9,6 +9,7 @@ ghost use Rattle.cap_vet.specs.MarkSteps.{HasBits, MarksPlaces, MarksUse};
 ghost use Rattle.cap_vet.specs.Taken.{AreStarts, bit_of, marks_of, start_of};
 ghost use Rattle.std.specs.Prelude.{◌+◌, ◌-◌, ◌*◌, ◌/◌, ◌<◌, ◌^◌, ◌≡◌, ◌≤◌, IfSome, IsFalse, IsTrue, List, length, ℕ};
 
+use crate::lengths::message_words;
 use crate::place::Place;
 use crate::uses::structs_use;
 use arrayvec::ArrayVec;
@@ -28,11 +29,7 @@ pub(crate) fn numbers_for<M: Segments>(message: &M) -> usize
     ensures exact { result ≡ marks_of (M.segments message.now) }
     ensures enough { let m = M.segments message.now in start_of m (length m) ≤ 64 * result }
 {
-    let mut words = 0u64;
-    for s in 0..message.count() {
-        words += u64::from(message.len(s));
-    }
-    marks_for(words)
+    marks_for(message_words(message))
 }
 
 /// The marks of a message's words, a bit for each.

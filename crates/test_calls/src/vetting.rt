@@ -5,6 +5,7 @@ mod charges;
 mod exclusives;
 mod nodes;
 mod pads;
+mod stricts;
 
 use self::Verdict::{Accepted, Refused, WithCaps};
 use super::held::{Forms, cloned};

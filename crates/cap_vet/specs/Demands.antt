@@ -1,0 +1,26 @@
+-- What may be demanded of a message beside the limits (profile).
+use Rattle.std.specs.Prelude.{ℕ, List, IsTrue, if◌then◌else◌}
+use Rattle.cap_spec.specs.Faults.{IsRefused}
+use Rattle.cap_spec.specs.Strict.{IsStrict, IsStrictFault, IsWithin}
+use Rattle.cap_spec.specs.Unamplified.{unamplified}
+use Rattle.cap_spec.specs.declared.StrictRefusal.{StrictRefusal}
+use Rattle.cap_spec.specs.declared.StrictRefusal.TheVariants.{Refused, ManySegments, Pointer}
+use Rattle.cap_vet.specs.declared.demands.Demands.{Demands}
+
+-- the word limit under the demands: that of an unamplified message where this is demanded
+abbrev pub words_under : Demands → List (List ℕ) → ℕ → ℕ
+words_under demands m words = if demands.unamplified then unamplified m words else words
+
+-- The message is accepted within this limit, and strict where this is demanded.
+pub record Meets (demands : Demands) (m : List (List ℕ)) (words depth : ℕ) : Type 0 where
+  pub within : IsWithin m (words_under demands m words) depth
+  pub strict : IsTrue demands.strict → IsStrict m (words_under demands m words) depth
+
+-- why a message doesn't meet the demands: it is refused within this limit, or it is accepted, and isn't
+-- strict where this is demanded
+abbrev pub IsDemandFault : Demands → List (List ℕ) → ℕ → ℕ → StrictRefusal → Type 0
+IsDemandFault demands m words depth (Refused refusal) = IsRefused m (words_under demands m words) depth refusal
+IsDemandFault demands m words depth ManySegments =
+    IsTrue demands.strict × IsStrictFault m (words_under demands m words) depth ManySegments
+IsDemandFault demands m words depth (Pointer what s w pointers) =
+    IsTrue demands.strict × IsStrictFault m (words_under demands m words) depth (Pointer what s w pointers)
