@@ -63,8 +63,8 @@ impl Limits {
 
     /// The same depth limit, with a word limit of at most `words`.
     pub(crate) fn lowered(self, words: u64) -> Limits
-        ensures words { words_of result ≡ min (words_of self.entry) words }
-        ensures depth { depth_of result ≡ depth_of self.entry }
+        ensures words { words_of result ≡ min (words_of self) words }
+        ensures depth { depth_of result ≡ depth_of self }
     {
         Limits {
             words: self.words.min(words),
