@@ -31,5 +31,8 @@ mod Ranges
 mod SecondWalk
 pub mod OneReport
 pub mod ExclusiveFaults
+pub mod Laxness
+mod Splitting
+mod Demanding
 mod Pads
 mod NearUses

@@ -1,0 +1,155 @@
+-- What a walk knows of lax pointers, and which messages are strict.
+use Rattle.std.proofs.Common.{ℕ, ◌+◌, ◌<◌, ◌≤◌, ◌≡◌, ◌≢◌, List, [], ◌∷◌, length, inl, inr, refl, sym, ap, subst, arith, Option, None, Some}
+use Rattle.std.specs.Prelude.{false, is_some, pos}
+use Rattle.cap_spec.specs.Denoting.{Denotes}
+use Rattle.cap_spec.specs.Following.{Lead, Leads, to_cap, to_null, to_object}
+use Rattle.cap_spec.specs.Messages.{HasWord, segment_of}
+use Rattle.cap_spec.specs.Paths.{Before, Costs, IsOneOf}
+use Rattle.cap_spec.specs.Pointers.{far_segment, kind, pad, two}
+use Rattle.cap_spec.specs.Strict.{IsFirstLax, IsLax, IsLaxAt, IsStrict, IsWithin}
+use Rattle.cap_spec.specs.declared.Lax.{Lax}
+use Rattle.cap_spec.specs.declared.Lax.TheVariants.{CapabilityPad, EmptySegment, NullPad}
+use Rattle.cap_spec.specs.declared.Step.{Step}
+use Rattle.cap_spec.proofs.Disjoint.Places.{pads_inside}
+use Rattle.cap_spec.proofs.Frames.Messages.{HasWord-at}
+use Rattle.cap_spec.proofs.Paths.Preorder.{Before-irreflexive}
+use Rattle.cap_spec.proofs.Pointers.Following.{leads-two}
+use Rattle.cap_spec.proofs.Strict.Faults.{strict_kept, strict_wider}
+use Rattle.cap_spec.proofs.Strict.FirstLax.{first_by_tour, first_is_lax}
+use Rattle.cap_spec.proofs.Strict.Looking.{cap_pad, empty_pad, filled_pad, zero_pad}
+use Rattle.cap_vet.specs.LaxLaws.{not_lax_path, still_knows}
+use Rattle.cap_vet.specs.Limits.{depth_of, words_of}
+use Rattle.cap_vet.specs.Reports.{IsAccepted, IsVetted}
+use Rattle.cap_vet.specs.Stricts.{KnowsLax}
+use Rattle.cap_vet.specs.Trails.{Ahead, IsTrail}
+use Rattle.cap_vet.specs.Walking.{IsLookedAt, Walks}
+use Rattle.cap_vet.specs.declared.limits.Limits.{Limits}
+use Rattle.cap_vet.specs.declared.report.Report.{Report}
+use Rattle.cap_vet.specs.declared.strict_turn.LaxPointer.{LaxPointer}
+use Rattle.cap_vet.proofs.Keeping.{vetted_kept}
+use Rattle.cap_vet.proofs.Tours.{in_order, in_order-IsOneOf, length-in_order, tour_of}
+use Rattle.cap_vet.proofs.Verdicts.{accepted_at_end, none_ahead}
+
+-- a pointer that can be followed leads somewhere
+leads_of : (m : List (List ℕ)) (s w cost : ℕ) → Costs m s w cost → (k : ℕ) × (r : Lead) × Leads m s w k r
+leads_of m s w cost (inl h) = (cost, to_null, h)
+leads_of m s w cost (inr (inl (i, h))) = (cost, to_cap i, h)
+leads_of m s w cost (inr (inr (k, t, b, q, tag, f, has, e))) = (k, to_object t (pos b) q, f.leads)
+
+-- its landing pad is inside its segment
+pub pad_there : (m : List (List ℕ)) (s w p cost : ℕ) → Costs m s w cost → HasWord m s w p → kind p ≡ 2
+    → (far_segment p < length m) × (pad p + (1 + two p) ≤ length (segment_of m (far_segment p)))
+pad_there m s w p cost h has far = let l = leads_of m s w cost h in pads_inside m s w l.0 p l.1 l.2 has far
+
+-- It has a one-word pad q, at t:b.
+module _ (m : List (List ℕ)) (s w p t b q : ℕ) (has : HasWord m s w p) (far : kind p ≡ 2) (one : two p ≡ 0) (segment : t ≡ far_segment p) (at : b ≡ pad p) (hasq : HasWord m t b q) where
+  own : HasWord m (far_segment p) (pad p) q
+  own = subst (λ u. HasWord m (far_segment p) u q) at (subst (λ u. HasWord m u b q) segment hasq)
+
+  pub null_form : q ≡ 0 → IsLaxAt m s w NullPad
+  null_form e = zero_pad m s w p q has (far, one) own e
+
+  pub cap_form : (cost : ℕ) → Costs m s w cost → kind q ≡ 3 → IsLaxAt m s w CapabilityPad
+  cap_form cost costs e = cap_pad m s w p q has (far, one) own cost costs e
+
+no_words : (xs : List ℕ) → length xs ≡ 0 → xs ≡ []
+no_words [] e = refl
+no_words (x ∷ xs) e = absurd (omega arith)
+
+-- It has a two-word pad, whose first word is f.
+module _ (m : List (List ℕ)) (s w p f cost : ℕ) (costs : Costs m s w cost) (has : HasWord m s w p) (far : kind p ≡ 2) (both : two p ≡ 1) (hasf : HasWord m (far_segment p) (pad p) f) where
+  second : (q : ℕ) × HasWord m (far_segment p) (pad p + 1) q
+  second = HasWord-at m (far_segment p) (pad p + 1) (omega (arith, both, (pad_there m s w p cost costs has far).1))
+
+  -- its object's segment exists
+  pub object_segment : far_segment f < length m
+  object_segment = by costs
+    where
+      by : Costs m s w cost → far_segment f < length m
+      by (inl h) =
+          let x : to_null ≡ to_object (far_segment f) (pos (pad f)) second.0 =
+          (leads-two m s w cost to_null h p f second.0 has (far, both) hasf second.1).1 in absurd cc
+      by (inr (inl (i, h))) =
+          let x : to_cap i ≡ to_object (far_segment f) (pos (pad f)) second.0 =
+          (leads-two m s w cost (to_cap i) h p f second.0 has (far, both) hasf second.1).1 in absurd cc
+      by (inr (inr (k, t, b, y, tag, finds, tagged, sum))) =
+          let x : to_object t (pos b) y ≡ to_object (far_segment f) (pos (pad f)) second.0 =
+          (leads-two m s w k (to_object t (pos b) y) finds.leads p f second.0 has (far, both) hasf second.1).1 in
+          let z : t ≡ far_segment f = cc x in
+          subst (λ u. u < length m) z finds.sits.exists
+
+  -- it has words, or it hasn't
+  pub into_empty : length (segment_of m (far_segment f)) ≡ 0 → IsLaxAt m s w EmptySegment
+  into_empty e = empty_pad m s w p f second.0 has (far, both) hasf second.1 cost costs (no_words (segment_of m (far_segment f)) e)
+
+  pub into_filled : length (segment_of m (far_segment f)) ≢ 0 → (what : Lax) → ¬ IsLaxAt m s w what
+  into_filled n = filled_pad m s w p f second.0 has (far, both) hasf second.1 (λ e. n (ap length e))
+
+-- The next pointer isn't lax,
+pub knows_on : (m : List (List ℕ)) (seen : List (List Step)) (a : Ahead) (s w n : ℕ) (found : Option LaxPointer) → IsLookedAt m seen a s w n
+    → ((what : Lax) → ¬ IsLaxAt m s w what) → KnowsLax m seen found → KnowsLax m (a.path ∷ seen) found
+knows_on m seen a s w n found l none k =
+    let r = rw (l.segment, l.word) at l.trail.ahead_reached.0 in
+    still_knows m seen a.path found (not_lax_path m a.path a.level s w r none) k
+
+-- or it is the first that is.
+pub finds_first : (m : List (List ℕ)) (seen : List (List Step)) (a : Ahead) (s w n : ℕ) (what : Lax) → IsLookedAt m seen a s w n
+    → IsLaxAt m s w what → KnowsLax m seen None → IsFirstLax m s w what n
+finds_first m seen a s w n what l x k =
+    let r = rw (l.segment, l.word) at l.trail.ahead_reached.0 in
+    let many : length (in_order (a.path ∷ seen)) ≡ n = omega (arith, l.number, length-in_order (a.path ∷ seen)) in
+    subst (IsFirstLax m s w what) many
+    (first_by_tour m a.path a.level s w what (in_order (a.path ∷ seen)) r (tour_of m seen a l.later l.trail) x
+    (λ q i b y. elim (in_order-IsOneOf q (a.path ∷ seen) i) [
+      | inl e ↦ Before-irreflexive a.path (subst (λ (u : List Step). Before u a.path) e b)
+      | inr j ↦ k q j y
+    ]))
+
+-- nothing is found yet
+pub knows_none : (m : List (List ℕ)) (seen : List (List Step)) (found : Option LaxPointer) → is_some found ≡ false → KnowsLax m seen found → KnowsLax m seen None
+knows_none m seen None e k = k
+knows_none m seen (Some x) e k = absurd (cc e)
+
+-- at the end of a walk that has found none there is none
+pub none_at_end : (m : List (List ℕ)) (words depth : ℕ) (report : Report) (seen : List (List Step)) (ahead : List Ahead)
+    → Walks m words depth [] report seen ahead → KnowsLax m seen None → (path : List Step) → ¬ IsLax m path
+none_at_end m words depth report seen ahead w k path x =
+    let t : IsTrail m seen [] = subst (λ (u : List Ahead). IsTrail m seen u) (none_ahead ahead w.places) w.progress.trail in
+    elim (t.complete path x.0 x.1 x.2 x.4) [ inl one ↦ k path one x | inr none ↦ absurd none ]
+
+-- what is accepted is within the limits
+pub within_of : (m : List (List ℕ)) (words depth : ℕ) (report : Report) → IsAccepted m words depth report → IsWithin m words depth
+within_of m words depth report (t, a) = record {
+  tree = t;
+  charge = report.charge;
+  levels = report.depth;
+  denotes = a.denotes;
+  few_words = a.within;
+  few_levels = a.shallow;
+}
+
+-- what may be strict is strict, where it is accepted
+pub strict_held : (m : List (List ℕ)) (report : Report) → ∥ IsVetted m report ∥₁ → ∥ IsStrict m 268435456 256 ∥₁ → IsStrict m 268435456 256
+strict_held m report vetted h =
+    let k = strict_kept m 268435456 256 h in record {
+      accepted = within_of m 268435456 256 report (vetted_kept m report vetted);
+      few_segments = k.0;
+      none = k.1;
+    }
+
+-- A walk that has found none is through a strict message.
+pub strict_at_end : (m : List (List ℕ)) (words depth : ℕ) (report : Report) (seen : List (List Step)) (ahead : List Ahead)
+    → Walks m words depth [] report seen ahead → KnowsLax m seen None → length m ≤ 511 → IsStrict m words depth
+strict_at_end m words depth report seen ahead w k few = record {
+  accepted = within_of m words depth report (accepted_at_end m words depth report seen ahead w);
+  few_segments = few;
+  none = none_at_end m words depth report seen ahead w k;
+}
+
+-- What is strict within limits is so within the greatest.
+pub strict_within : (m : List (List ℕ)) (limits : Limits) → IsStrict m (words_of limits) (depth_of limits) → IsStrict m 268435456 256
+strict_within m limits h = strict_wider m (words_of limits) (depth_of limits) 268435456 256 h limits.few limits.shallow
+
+-- Where there is a first lax pointer, the message isn't strict.
+pub first_not_strict : (m : List (List ℕ)) (words depth s w : ℕ) (what : Lax) (n : ℕ) → IsStrict m words depth → IsFirstLax m s w what n → ⊥
+first_not_strict m words depth s w what n h f = h.none f.path (first_is_lax m s w what n f)

@@ -1,0 +1,1 @@
+use Rattle.cap_vet.proofs.demands.vet_with.Goals as goal
