@@ -1,5 +1,5 @@
 -- Which faults a message has under demands.
-use Rattle.std.proofs.Common.{ℕ, ◌≡◌, List}
+use Rattle.std.proofs.Common.{ℕ, ◌≡◌, List, subst}
 use Rattle.cap_spec.specs.Strict.{IsStrict, IsStrictFault}
 use Rattle.cap_spec.specs.declared.StrictRefusal.{StrictRefusal}
 use Rattle.cap_spec.specs.declared.StrictRefusal.TheVariants.{Refused, ManySegments, Pointer}
@@ -14,14 +14,16 @@ fault_of demands m words depth (Refused refusal) h = h
 fault_of demands m words depth ManySegments h = h.1
 fault_of demands m words depth (Pointer what s w pointers) h = h.1
 
--- so there is one,
-pub one_demand_fault : (demands : Demands) (m : List (List ℕ)) (words depth : ℕ) (a b : StrictRefusal) → IsStrictFault m (words_under demands m words) depth a
-    → IsDemandFault demands m words depth b → a ≡ b
-one_demand_fault demands m words depth a b h k =
-    one_strict_fault m (words_under demands m words) depth a b h (fault_of demands m words depth b k)
+-- The limits are those under the demands.
+module _ (demands : Demands) (m : List (List ℕ)) (words depth limit levels : ℕ) (same : limit ≡ words_under demands m words) (deep : levels ≡ depth) where
+  -- So there is one fault,
+  pub one_demand_fault : (a b : StrictRefusal) → IsStrictFault m limit levels a → IsDemandFault demands m words depth b → a ≡ b
+  one_demand_fault a b h k =
+      one_strict_fault m (words_under demands m words) depth a b
+      (subst (λ u. IsStrictFault m u depth a) same (subst (λ u. IsStrictFault m limit u a) deep h)) (fault_of demands m words depth b k)
 
--- and none of a strict message
-pub strict_meets : (demands : Demands) (m : List (List ℕ)) (words depth : ℕ) (fault : StrictRefusal) → IsStrict m (words_under demands m words) depth
-    → IsDemandFault demands m words depth fault → ⊥
-strict_meets demands m words depth fault h k =
-    strict_not_fault m (words_under demands m words) depth fault h (fault_of demands m words depth fault k)
+  -- and none of a strict message.
+  pub strict_meets : (fault : StrictRefusal) → IsStrict m limit levels → IsDemandFault demands m words depth fault → ⊥
+  strict_meets fault h k =
+      strict_not_fault m (words_under demands m words) depth fault
+      (subst (λ u. IsStrict m u depth) same (subst (λ u. IsStrict m limit u) deep h)) (fault_of demands m words depth fault k)

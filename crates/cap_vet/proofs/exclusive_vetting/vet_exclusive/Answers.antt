@@ -1,15 +1,29 @@
 use Rattle.std.proofs.Common.{◌≡◌, ap, subst, sym, Err}
 use Rattle.cap_spec.specs.Faults.{IsRefused}
-use Rattle.cap_spec.specs.Occupying.{IsDisjoint, IsFirstOverlap}
+use Rattle.cap_spec.specs.Occupying.{IsFirstOverlap}
 use Rattle.cap_spec.specs.declared.Refusal.{Refusal}
-use Rattle.cap_spec.proofs.Disjoint.Bounds.{charge_below_words}
 use Rattle.cap_spec.proofs.Verdicts.OneFault.{one_refusal}
 use Rattle.cap_spec.proofs.Verdicts.Refusals.{tree_not_refused}
 use Rattle.cap_vet.specs.Limits.{depth_of, words_of}
 use Rattle.cap_vet.specs.declared.exclusive_vetting.ExclusiveRefusal.TheVariants.{Refused}
 use Rattle.cap_vet.proofs.OneReport.{not_both}
-use Rattle.cap_vet.proofs.Splitting.{on_ok}
+use Rattle.cap_vet.proofs.Splitting.{exclusive_bound, exclusive_ok}
 use Rattle.cap_vet.proofs.exclusive_vetting.vet_exclusive.Goals as goal
+
+pub returns-in-Ok-clause-ok : goal.returns-in-Ok-clause-ok
+returns-in-Ok-clause-ok g c =
+    exclusive_ok c.args.message.now (words_of c.args.limits) (depth_of c.args.limits) c.in-Ok.vetted c.in-Ok.ensures.message c.in-Ok.ensures.ok
+    c.into_exclusive.result c.into_exclusive.ensures.value c.into_exclusive.ensures.ok
+
+pub returns-in-Ok-clause-bound : goal.returns-in-Ok-clause-bound
+returns-in-Ok-clause-bound g c =
+    exclusive_bound c.args.message.now (words_of c.args.limits) (depth_of c.args.limits) c.in-Ok.vetted c.in-Ok.ensures.message c.in-Ok.ensures.ok
+    c.into_exclusive.result c.into_exclusive.ensures.value c.into_exclusive.ensures.ok
+
+pub returns-in-Ok-clause-names : goal.returns-in-Ok-clause-names
+returns-in-Ok-clause-names g c = λ t charge d s w n h e f first.
+    c.into_exclusive.ensures.names s w n
+    (subst (λ u. IsFirstOverlap (g.M.Segments.segments u) s w n) (sym c.in-Ok.ensures.message) first)
 
 pub returns-in-Ok-clause-refused : goal.returns-in-Ok-clause-refused
 returns-in-Ok-clause-refused g c = λ r e. absurd (c.into_exclusive.ensures.not_refused r e)

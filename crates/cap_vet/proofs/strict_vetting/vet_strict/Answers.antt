@@ -16,7 +16,8 @@ returns-in-Err-Refused-clause-accepts g c = λ strict. absurd
 
 pub returns-in-Err-Refused-clause-refuses : goal.returns-in-Err-Refused-clause-refuses
 returns-in-Err-Refused-clause-refuses g c = λ r h.
-    ap Err (one_strict_fault _ _ _ (Refused c.in-Err-Refused.refusal) r (rw c.in-Err-Refused.field-0-is at c.in-Err-Refused.ensures.err) h)
+    ap Err (rw c.in-Err-Refused.field-0-is (one_strict_fault _ _ _ (Refused c.in-Err-Refused.refusal) r
+    (rw c.in-Err-Refused.field-0-is at c.in-Err-Refused.ensures.err) h))
 
 pub returns-then-count-eq512-clause-err : goal.returns-then-count-eq512-clause-err
 returns-then-count-eq512-clause-err g c =

@@ -13,8 +13,8 @@ returns-in-Ok-mark_message-clause-names g c = λ s w n first. absurd
 
 pub returns-clause-accepts : goal.returns-clause-accepts
 returns-clause-accepts g c = λ disjoint. absurd
-    (none_of_disjoint _ disjoint c.in-Err-mark_message.ensures.err.path c.in-Err-mark_message.ensures.err.overlaps)
+    (none_of_disjoint _ disjoint c.in-Err.ensures.err.path c.in-Err.ensures.err.overlaps)
 
 pub returns-clause-names : goal.returns-clause-names
 returns-clause-names g c = λ s w n first.
-    (let same = one_overlap (g.M.Segments.segments c.args.self.message.now) _ _ _ s w n c.in-Err-mark_message.ensures.err first in inl (cc))
+    (let same = one_overlap (g.M.Segments.segments c.args.self.message.now) _ _ _ s w n c.in-Err.ensures.err first in inl (cc))
