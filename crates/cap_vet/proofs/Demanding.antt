@@ -8,22 +8,27 @@ use Rattle.cap_vet.specs.Demands.{IsDemandFault, words_under}
 use Rattle.cap_vet.specs.declared.demands.Demands.{Demands}
 
 -- each is a reason not to be strict
-fault_of : (demands : Demands) (m : List (List ℕ)) (words depth : ℕ) (fault : StrictRefusal) → IsDemandFault demands m words depth fault
+fault_of : (demands : Demands) (m : List (List ℕ)) (words depth : ℕ) (fault : StrictRefusal)
+    → IsDemandFault demands m words depth fault
     → IsStrictFault m (words_under demands m words) depth fault
 fault_of demands m words depth (Refused refusal) h = h
 fault_of demands m words depth ManySegments h = h.1
 fault_of demands m words depth (Pointer what s w pointers) h = h.1
 
 -- The limits are those under the demands.
-module _ (demands : Demands) (m : List (List ℕ)) (words depth limit levels : ℕ) (same : limit ≡ words_under demands m words) (deep : levels ≡ depth) where
+module _ (demands : Demands) (m : List (List ℕ)) (words depth limit levels : ℕ)
+    (same : limit ≡ words_under demands m words) (deep : levels ≡ depth) where
   -- So there is one fault,
-  pub one_demand_fault : (a b : StrictRefusal) → IsStrictFault m limit levels a → IsDemandFault demands m words depth b → a ≡ b
+  pub one_demand_fault : (a b : StrictRefusal) → IsStrictFault m limit levels a
+      → IsDemandFault demands m words depth b → a ≡ b
   one_demand_fault a b h k =
       one_strict_fault m (words_under demands m words) depth a b
-      (subst (λ u. IsStrictFault m u depth a) same (subst (λ u. IsStrictFault m limit u a) deep h)) (fault_of demands m words depth b k)
+      (subst (λ u. IsStrictFault m u depth a) same (subst (λ u. IsStrictFault m limit u a) deep h))
+      (fault_of demands m words depth b k)
 
   -- and none of a strict message.
   pub strict_meets : (fault : StrictRefusal) → IsStrict m limit levels → IsDemandFault demands m words depth fault → ⊥
   strict_meets fault h k =
       strict_not_fault m (words_under demands m words) depth fault
-      (subst (λ u. IsStrict m u depth) same (subst (λ u. IsStrict m limit u) deep h)) (fault_of demands m words depth fault k)
+      (subst (λ u. IsStrict m u depth) same (subst (λ u. IsStrict m limit u) deep h))
+      (fault_of demands m words depth fault k)

@@ -1,5 +1,6 @@
 -- What a walk knows of lax pointers, and which messages are strict.
-use Rattle.std.proofs.Common.{ℕ, ◌+◌, ◌<◌, ◌≤◌, ◌≡◌, ◌≢◌, List, [], ◌∷◌, length, inl, inr, refl, sym, ap, subst, arith, Option, None, Some}
+use Rattle.std.proofs.Common.{ℕ, ◌+◌, ◌<◌, ◌≤◌, ◌≡◌, ◌≢◌, List, [], ◌∷◌, length, inl, inr, refl, sym, ap}
+use Rattle.std.proofs.Common.{subst, arith, Option, None, Some}
 use Rattle.std.specs.Prelude.{false, is_some, pos}
 use Rattle.cap_spec.specs.Denoting.{Denotes}
 use Rattle.cap_spec.specs.Following.{Lead, Leads, to_cap, to_null, to_object}
@@ -42,7 +43,8 @@ pub pad_there : (m : List (List ℕ)) (s w p cost : ℕ) → Costs m s w cost �
 pad_there m s w p cost h has far = let l = leads_of m s w cost h in pads_inside m s w l.0 p l.1 l.2 has far
 
 -- It has a one-word pad q, at t:b.
-module _ (m : List (List ℕ)) (s w p t b q : ℕ) (has : HasWord m s w p) (far : kind p ≡ 2) (one : two p ≡ 0) (segment : t ≡ far_segment p) (at : b ≡ pad p) (hasq : HasWord m t b q) where
+module _ (m : List (List ℕ)) (s w p t b q : ℕ) (has : HasWord m s w p) (far : kind p ≡ 2) (one : two p ≡ 0)
+    (segment : t ≡ far_segment p) (at : b ≡ pad p) (hasq : HasWord m t b q) where
   own : HasWord m (far_segment p) (pad p) q
   own = subst (λ u. HasWord m (far_segment p) u q) at (subst (λ u. HasWord m u b q) segment hasq)
 
@@ -57,7 +59,8 @@ no_words [] e = refl
 no_words (x ∷ xs) e = absurd (omega arith)
 
 -- It has a two-word pad, whose first word is f.
-module _ (m : List (List ℕ)) (s w p f cost : ℕ) (costs : Costs m s w cost) (has : HasWord m s w p) (far : kind p ≡ 2) (both : two p ≡ 1) (hasf : HasWord m (far_segment p) (pad p) f) where
+module _ (m : List (List ℕ)) (s w p f cost : ℕ) (costs : Costs m s w cost) (has : HasWord m s w p) (far : kind p ≡ 2)
+    (both : two p ≡ 1) (hasf : HasWord m (far_segment p) (pad p) f) where
   second : (q : ℕ) × HasWord m (far_segment p) (pad p + 1) q
   second = HasWord-at m (far_segment p) (pad p + 1) (omega (arith, both, (pad_there m s w p cost costs has far).1))
 
@@ -80,20 +83,23 @@ module _ (m : List (List ℕ)) (s w p f cost : ℕ) (costs : Costs m s w cost) (
 
   -- it has words, or it hasn't
   pub into_empty : length (segment_of m (far_segment f)) ≡ 0 → IsLaxAt m s w EmptySegment
-  into_empty e = empty_pad m s w p f second.0 has (far, both) hasf second.1 cost costs (no_words (segment_of m (far_segment f)) e)
+  into_empty e = empty_pad m s w p f second.0 has (far, both) hasf second.1 cost costs
+      (no_words (segment_of m (far_segment f)) e)
 
   pub into_filled : length (segment_of m (far_segment f)) ≢ 0 → (what : Lax) → ¬ IsLaxAt m s w what
   into_filled n = filled_pad m s w p f second.0 has (far, both) hasf second.1 (λ e. n (ap length e))
 
 -- The next pointer isn't lax,
-pub knows_on : (m : List (List ℕ)) (seen : List (List Step)) (a : Ahead) (s w n : ℕ) (found : Option LaxPointer) → IsLookedAt m seen a s w n
+pub knows_on : (m : List (List ℕ)) (seen : List (List Step)) (a : Ahead) (s w n : ℕ) (found : Option LaxPointer)
+    → IsLookedAt m seen a s w n
     → ((what : Lax) → ¬ IsLaxAt m s w what) → KnowsLax m seen found → KnowsLax m (a.path ∷ seen) found
 knows_on m seen a s w n found l none k =
     let r = rw (l.segment, l.word) at l.trail.ahead_reached.0 in
     still_knows m seen a.path found (not_lax_path m a.path a.level s w r none) k
 
 -- or it is the first that is.
-pub finds_first : (m : List (List ℕ)) (seen : List (List Step)) (a : Ahead) (s w n : ℕ) (what : Lax) → IsLookedAt m seen a s w n
+pub finds_first : (m : List (List ℕ)) (seen : List (List Step)) (a : Ahead) (s w n : ℕ) (what : Lax)
+    → IsLookedAt m seen a s w n
     → IsLaxAt m s w what → KnowsLax m seen None → IsFirstLax m s w what n
 finds_first m seen a s w n what l x k =
     let r = rw (l.segment, l.word) at l.trail.ahead_reached.0 in
@@ -106,7 +112,8 @@ finds_first m seen a s w n what l x k =
     ]))
 
 -- nothing is found yet
-pub knows_none : (m : List (List ℕ)) (seen : List (List Step)) (found : Option LaxPointer) → is_some found ≡ false → KnowsLax m seen found → KnowsLax m seen None
+pub knows_none : (m : List (List ℕ)) (seen : List (List Step)) (found : Option LaxPointer) → is_some found ≡ false
+    → KnowsLax m seen found → KnowsLax m seen None
 knows_none m seen None e k = k
 knows_none m seen (Some x) e k = absurd (cc e)
 
@@ -114,11 +121,13 @@ knows_none m seen (Some x) e k = absurd (cc e)
 pub none_at_end : (m : List (List ℕ)) (words depth : ℕ) (report : Report) (seen : List (List Step)) (ahead : List Ahead)
     → Walks m words depth [] report seen ahead → KnowsLax m seen None → (path : List Step) → ¬ IsLax m path
 none_at_end m words depth report seen ahead w k path x =
-    let t : IsTrail m seen [] = subst (λ (u : List Ahead). IsTrail m seen u) (none_ahead ahead w.places) w.progress.trail in
+    let t : IsTrail m seen [] = subst (λ (u : List Ahead). IsTrail m seen u) (none_ahead ahead w.places)
+    w.progress.trail in
     elim (t.complete path x.0 x.1 x.2 x.4) [ inl one ↦ k path one x | inr none ↦ absurd none ]
 
 -- what is accepted is within the limits
-pub within_of : (m : List (List ℕ)) (words depth : ℕ) (report : Report) → IsAccepted m words depth report → IsWithin m words depth
+pub within_of : (m : List (List ℕ)) (words depth : ℕ) (report : Report) → IsAccepted m words depth report
+    → IsWithin m words depth
 within_of m words depth report (t, a) = record {
   tree = t;
   charge = report.charge;
@@ -129,7 +138,8 @@ within_of m words depth report (t, a) = record {
 }
 
 -- what may be strict is strict, where it is accepted
-pub strict_held : (m : List (List ℕ)) (report : Report) → ∥ IsVetted m report ∥₁ → ∥ IsStrict m 268435456 256 ∥₁ → IsStrict m 268435456 256
+pub strict_held : (m : List (List ℕ)) (report : Report) → ∥ IsVetted m report ∥₁ → ∥ IsStrict m 268435456 256 ∥₁
+    → IsStrict m 268435456 256
 strict_held m report vetted h =
     let k = strict_kept m 268435456 256 h in record {
       accepted = within_of m 268435456 256 report (vetted_kept m report vetted);
@@ -138,7 +148,8 @@ strict_held m report vetted h =
     }
 
 -- A walk that has found none is through a strict message.
-pub strict_at_end : (m : List (List ℕ)) (words depth : ℕ) (report : Report) (seen : List (List Step)) (ahead : List Ahead)
+pub strict_at_end : (m : List (List ℕ)) (words depth : ℕ) (report : Report) (seen : List (List Step))
+    (ahead : List Ahead)
     → Walks m words depth [] report seen ahead → KnowsLax m seen None → length m ≤ 511 → IsStrict m words depth
 strict_at_end m words depth report seen ahead w k few = record {
   accepted = within_of m words depth report (accepted_at_end m words depth report seen ahead w);
@@ -147,9 +158,11 @@ strict_at_end m words depth report seen ahead w k few = record {
 }
 
 -- What is strict within limits is so within the greatest.
-pub strict_within : (m : List (List ℕ)) (limits : Limits) → IsStrict m (words_of limits) (depth_of limits) → IsStrict m 268435456 256
+pub strict_within : (m : List (List ℕ)) (limits : Limits) → IsStrict m (words_of limits) (depth_of limits)
+    → IsStrict m 268435456 256
 strict_within m limits h = strict_wider m (words_of limits) (depth_of limits) 268435456 256 h limits.few limits.shallow
 
 -- Where there is a first lax pointer, the message isn't strict.
-pub first_not_strict : (m : List (List ℕ)) (words depth s w : ℕ) (what : Lax) (n : ℕ) → IsStrict m words depth → IsFirstLax m s w what n → ⊥
+pub first_not_strict : (m : List (List ℕ)) (words depth s w : ℕ) (what : Lax) (n : ℕ) → IsStrict m words depth
+    → IsFirstLax m s w what n → ⊥
 first_not_strict m words depth s w what n h f = h.none f.path (first_is_lax m s w what n f)

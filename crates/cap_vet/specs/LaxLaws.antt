@@ -19,7 +19,8 @@ not_lax_path m p level s w r none (level', s', w', what, r', x) =
     none what (subst (λ u. IsLaxAt m s u what) o.2 (subst (λ u. IsLaxAt m u w' what) o.1 x))
 
 -- where one more path isn't lax, the same is known
-pub still_knows : (m : List (List ℕ)) (seen : List (List Step)) (p : List Step) (found : Option LaxPointer) → ¬ IsLax m p
+pub still_knows : (m : List (List ℕ)) (seen : List (List Step)) (p : List Step)
+    (found : Option LaxPointer) → ¬ IsLax m p
     → KnowsLax m seen found → KnowsLax m (p ∷ seen) found
 still_knows m seen p None none k = λ q one x. elim one [
   | inl e ↦ none (subst (λ (u : List Step). IsLax m u) e x)
@@ -28,7 +29,8 @@ still_knows m seen p None none k = λ q one x. elim one [
 still_knows m seen p (Some first) none k = k
 
 -- a null word isn't lax
-pub null_known : (m : List (List ℕ)) (seen : List (List Step)) (p : List Step) (level s w : ℕ) (found : Option LaxPointer) → Reaches m p level s w
+pub null_known : (m : List (List ℕ)) (seen : List (List Step)) (p : List Step) (level s w : ℕ)
+    (found : Option LaxPointer) → Reaches m p level s w
     → HasWord m s w 0 → KnowsLax m seen found → KnowsLax m (p ∷ seen) found
 null_known m seen p level s w found r has k =
     still_knows m seen p found (not_lax_path m p level s w r (near_has_none m s w 0 has (omega arith))) k

@@ -104,9 +104,10 @@ impl<'m, M: Segments> Vetted<'m, M> {
     ///
     /// [`ExclusiveFault::Refused`] is never returned, since the message is accepted.
     ///
-    /// - [`ExclusiveFault::NoRoom`]: the buffer has fewer numbers than the marks take. It is as it was.
-    /// - [`ExclusiveFault::Overlap`]: a pointer overlaps. It is the first in preorder that uses a word
-    ///   which is used already.
+    /// - [`ExclusiveFault::NoRoom`]: the buffer has fewer numbers than the marks take. It is as it
+    ///   was.
+    /// - [`ExclusiveFault::Overlap`]: a pointer overlaps. It is the first in preorder that uses a
+    ///   word which is used already.
     pub fn into_exclusive_in(self, marks: &mut [u64]) -> Result<Exclusive<'m, M>, ExclusiveFault>
         ensures ok { let m = M.segments (message_of self.entry) in
             IfOk result (λ e. IsDisjoint m × (marks_of m ≤ length marks.old)) }

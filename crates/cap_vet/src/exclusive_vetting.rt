@@ -108,17 +108,17 @@ pub fn vet_exclusive<'m, M: Segments>(
 }
 
 impl<'m, M: Segments> Vetted<'m, M> {
-    /// The same message as one of which no word is used twice (profile), see [`crate::vet_exclusive`].
-    /// Walks the message once more. Allocates once: one bit for each word of the message, and at most
-    /// 64 bits more.
+    /// The same message as one of which no word is used twice (profile), as for
+    /// [`crate::vet_exclusive`]. Walks the message once more. Allocates once: one bit for each word
+    /// of the message, and at most 64 bits more.
     ///
     /// # Errors
     ///
     /// [`ExclusiveRefusal::Refused`] is never returned.
     ///
     /// - [`ExclusiveRefusal::Memory`]: the allocation failed.
-    /// - [`ExclusiveRefusal::Overlap`]: a pointer overlaps. It is the first in preorder that uses a word
-    ///   which is used already.
+    /// - [`ExclusiveRefusal::Overlap`]: a pointer overlaps. It is the first in preorder that uses a
+    ///   word which is used already.
     pub fn into_exclusive(self, alloc: Global) -> Result<Exclusive<'m, M>, ExclusiveRefusal>
         ensures ok { IfOk result (λ e. IsDisjoint (M.segments (message_of self.entry))) }
         ensures value { IfOk result (λ e. vetted_of e ≡ self.entry) }

@@ -12,9 +12,6 @@ use cap_spec::Lax;
 
 /// Which of these forms the pointer at word `w` of segment `s` has, if any. The pointer can be
 /// followed. Reads at most one word of its landing pad.
-// Few pointers are far, so a walk that looks here keeps this out of its loop.
-#[cold]
-#[inline(never)]
 pub(crate) fn lax_form<M: Segments>(message: &M, s: u32, w: u32) -> Option<Lax>
     requires exists { s < length (M.segments message.now) }
     requires inside { w < length (segment_of (M.segments message.now) s) }

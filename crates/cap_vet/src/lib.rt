@@ -1,4 +1,4 @@
-//! Vetted and exclusive messages, their nodes and views, and getters with a budget.
+//! Vetted, strict and exclusive messages, their nodes and views, and getters with a budget.
 #![tactic(auto)]
 
 mod budget;

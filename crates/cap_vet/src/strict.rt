@@ -8,9 +8,9 @@ use crate::vetted::Vetted;
 use cap_frame::Segments;
 use std::alloc::AllocError;
 
-/// An accepted message of at most 511 segments, without the pointers that common readers reject: none
-/// has a landing pad of one word that is zero or a capability, and none leads to an object in a
-/// segment without words (profile).
+/// An accepted message of at most 511 segments, without the pointers that common readers reject. So
+/// none has a landing pad of one word that is zero or a capability, and none leads to an object in
+/// a segment without words (profile).
 pub struct Strict<'m, M: Segments> {
     pub(crate) vetted: Vetted<'m, M>,
     ghost strict: { ∥ IsStrict (M.segments (message_of vetted)) 268435456 256 ∥₁ },

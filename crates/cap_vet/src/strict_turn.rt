@@ -34,7 +34,8 @@ pub(crate) struct LaxSearch {
 }
 
 impl LaxSearch {
-    // Looks at a pointer that may be the first.
+    // Looks at a pointer that may be the first. Few pointers are far, so this and `lax_form` stay out
+    // of the loop of the walk.
     #[cold]
     #[inline(never)]
     fn look_at<M: Segments>(&mut self, message: &M, s: u32, w: u32, pointers: u64)

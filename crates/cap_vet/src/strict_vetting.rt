@@ -17,14 +17,14 @@ use crate::walking::walk;
 use cap_frame::Segments;
 use cap_spec::StrictRefusal;
 
-/// Vets a message, and accepts it if also it is strict (profile): it has at most 511 segments, and no
-/// path reaches a pointer of a form in [`crate::Lax`]. Walks once. Allocates nothing.
+/// Vets a message, and accepts it if it is also strict (profile). Then it has at most 511 segments,
+/// and no path reaches a pointer of a form in [`crate::Lax`]. Walks once. Allocates nothing.
 ///
 /// # Errors
 ///
 /// - [`StrictRefusal::Refused`]: `vet` refuses the message.
 /// - [`StrictRefusal::ManySegments`]: the message is accepted, and has 512 segments.
-/// - [`StrictRefusal::Pointer`]: the message is accepted and has at most 511 segments, and a pointer
+/// - [`StrictRefusal::Pointer`]: the message is accepted, has at most 511 segments, and a pointer
 ///   has one of these forms. The first in preorder is named. Its `pointers` counts the pointer words
 ///   that were looked at, that one included.
 pub fn vet_strict<'m, M: Segments>(

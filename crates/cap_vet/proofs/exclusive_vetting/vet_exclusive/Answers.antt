@@ -12,12 +12,14 @@ use Rattle.cap_vet.proofs.exclusive_vetting.vet_exclusive.Goals as goal
 
 pub returns-in-Ok-clause-ok : goal.returns-in-Ok-clause-ok
 returns-in-Ok-clause-ok g c =
-    exclusive_ok c.args.message.now (words_of c.args.limits) (depth_of c.args.limits) c.in-Ok.vetted c.in-Ok.ensures.message c.in-Ok.ensures.ok
+    exclusive_ok c.args.message.now (words_of c.args.limits) (depth_of c.args.limits) c.in-Ok.vetted
+    c.in-Ok.ensures.message c.in-Ok.ensures.ok
     c.into_exclusive.result c.into_exclusive.ensures.value c.into_exclusive.ensures.ok
 
 pub returns-in-Ok-clause-bound : goal.returns-in-Ok-clause-bound
 returns-in-Ok-clause-bound g c =
-    exclusive_bound c.args.message.now (words_of c.args.limits) (depth_of c.args.limits) c.in-Ok.vetted c.in-Ok.ensures.message c.in-Ok.ensures.ok
+    exclusive_bound c.args.message.now (words_of c.args.limits) (depth_of c.args.limits) c.in-Ok.vetted
+    c.in-Ok.ensures.message c.in-Ok.ensures.ok
     c.into_exclusive.result c.into_exclusive.ensures.value c.into_exclusive.ensures.ok
 
 pub returns-in-Ok-clause-names : goal.returns-in-Ok-clause-names
@@ -38,18 +40,21 @@ returns-in-Err-clause-refuses g c =
 
 pub returns-in-Err-clause-accepts : goal.returns-in-Err-clause-accepts
 returns-in-Err-clause-accepts g c =
-    λ t charge d h e f disjoint. absurd (tree_not_refused (g.M.Segments.segments c.args.message.now) t charge d (words_of c.args.limits)
+    λ t charge d h e f disjoint. absurd (tree_not_refused (g.M.Segments.segments c.args.message.now) t charge d
+    (words_of c.args.limits)
     (depth_of c.args.limits) c.in-Err.refusal h e f c.in-Err.ensures.err)
 
 pub returns-in-Err-clause-names : goal.returns-in-Err-clause-names
 returns-in-Err-clause-names g c =
-    λ t charge d s w n h e f first. absurd (tree_not_refused (g.M.Segments.segments c.args.message.now) t charge d (words_of c.args.limits)
+    λ t charge d s w n h e f first. absurd (tree_not_refused (g.M.Segments.segments c.args.message.now) t charge d
+    (words_of c.args.limits)
     (depth_of c.args.limits) c.in-Err.refusal h e f c.in-Err.ensures.err)
 
 pub returns-in-Err-clause-refused : goal.returns-in-Err-clause-refused
 returns-in-Err-clause-refused g c = λ r e.
     (let same : c.in-Err.refusal ≡ r = cc in
-    subst (λ (x : Refusal). IsRefused (g.M.Segments.segments c.args.message.now) (words_of c.args.limits) (depth_of c.args.limits) x) same c.in-Err.ensures.err)
+    subst (λ (x : Refusal). IsRefused (g.M.Segments.segments c.args.message.now) (words_of c.args.limits)
+    (depth_of c.args.limits) x) same c.in-Err.ensures.err)
 
 pub returns-in-Err-clause-memory : goal.returns-in-Err-clause-memory
 returns-in-Err-clause-memory g c = λ e. absurd (cc)

@@ -5,7 +5,8 @@ use Rattle.cap_vet.proofs.lengths.message_words.Goals as goal
 
 pub loop-s-preserved : goal.loop-s-preserved
 loop-s-preserved g c =
-    let inside : c.loop-s.s < length (g.M.Segments.segments c.args.message.now) = omega (arith, c.loop-s-test.true, c.count-s-end.ensures) in
+    let inside : c.loop-s.s < length (g.M.Segments.segments c.args.message.now) =
+    omega (arith, c.loop-s-test.true, c.count-s-end.ensures) in
     let next = start_next (g.M.Segments.segments c.args.message.now) c.loop-s.s inside in record {
       words = omega (arith, next, c.loop-s.invariant.words, c.len.ensures, c.from-words.ensures);
       few = omega (arith, c.loop-s.invariant.few, c.from-words.ensures, c.len.type_inv);

@@ -7,4 +7,9 @@ returns-clause-exact g c = c.marks_for.ensures ∙ ap (λ n. n / 64 + 1) c.messa
 
 pub returns-clause-enough : goal.returns-clause-enough
 returns-clause-enough g c =
-    omega (arith, c.marks_for.ensures, c.message_words.ensures.exact, all_words (g.M.Segments.segments c.args.message.now))
+    omega (
+      arith,
+      c.marks_for.ensures,
+      c.message_words.ensures.exact,
+      all_words (g.M.Segments.segments c.args.message.now),
+    )

@@ -12,7 +12,8 @@ use Rattle.cap_vet.proofs.strict_vetting.vet_strict.Goals as goal
 
 pub returns-in-Err-Refused-clause-accepts : goal.returns-in-Err-Refused-clause-accepts
 returns-in-Err-Refused-clause-accepts g c = λ strict. absurd
-    (strict_not_fault _ _ _ (Refused c.in-Err-Refused.refusal) strict (rw c.in-Err-Refused.field-0-is at c.in-Err-Refused.ensures.err))
+    (strict_not_fault _ _ _ (Refused c.in-Err-Refused.refusal) strict
+    (rw c.in-Err-Refused.field-0-is at c.in-Err-Refused.ensures.err))
 
 pub returns-in-Err-Refused-clause-refuses : goal.returns-in-Err-Refused-clause-refuses
 returns-in-Err-Refused-clause-refuses g c = λ r h.
@@ -21,14 +22,18 @@ returns-in-Err-Refused-clause-refuses g c = λ r h.
 
 pub returns-then-count-eq512-clause-err : goal.returns-then-count-eq512-clause-err
 returns-then-count-eq512-clause-err g c =
-    let w = c.in-Ok.ensures.ok in
-    (within_of _ _ _ _ (accepted_at_end _ _ _ _ w.seen w.ahead w.walks), omega (arith, c.count.ensures, c.if-count-eq512.true))
+    let w = c.in-Ok.ensures.ok in (
+      within_of _ _ _ _ (accepted_at_end _ _ _ _ w.seen w.ahead w.walks),
+      omega (arith, c.count.ensures, c.if-count-eq512.true),
+    )
 
 pub returns-then-count-eq512-clause-refuses : goal.returns-then-count-eq512-clause-refuses
 returns-then-count-eq512-clause-refuses g c = λ r h.
     let w = c.in-Ok.ensures.ok in
-    ap Err (one_strict_fault _ _ _ ManySegments r
-    (within_of _ _ _ _ (accepted_at_end _ _ _ _ w.seen w.ahead w.walks), omega (arith, c.count.ensures, c.if-count-eq512.true)) h)
+    ap Err (one_strict_fault _ _ _ ManySegments r (
+      within_of _ _ _ _ (accepted_at_end _ _ _ _ w.seen w.ahead w.walks),
+      omega (arith, c.count.ensures, c.if-count-eq512.true),
+    ) h)
 
 pub invariant_of-result : goal.invariant_of-result
 invariant_of-result g c =
@@ -40,7 +45,8 @@ invariant_of-result-in-None g c =
     let message : IsMessage (g.M.Segments.segments c.args.message.now) = search rules in
     let w = c.in-Ok.ensures.ok in
     record {
-      strict = ∣ strict_within _ c.args.limits (strict_at_end _ _ _ _ w.seen w.ahead w.walks (rw c.in-None.is at w.known)
+      strict = ∣ strict_within _ c.args.limits
+          (strict_at_end _ _ _ _ w.seen w.ahead w.walks (rw c.in-None.is at w.known)
           (omega (arith, message.few, c.count.ensures, c.if-count-eq512.false))) ∣₁;
     }
 
@@ -78,7 +84,8 @@ pub returns-in-Some-clause-refuses : goal.returns-in-Some-clause-refuses
 returns-in-Some-clause-refuses g c = λ r h.
     let message : IsMessage (g.M.Segments.segments c.args.message.now) = search rules in
     let w = c.in-Ok.ensures.ok in
-    ap Err (one_strict_fault _ _ _ (Pointer c.in-Some.first.what c.in-Some.first.segment c.in-Some.first.word c.in-Some.first.pointers) r (
+    ap Err (one_strict_fault _ _ _ (Pointer c.in-Some.first.what c.in-Some.first.segment c.in-Some.first.word
+    c.in-Some.first.pointers) r (
       within_of _ _ _ _ (accepted_at_end _ _ _ _ w.seen w.ahead w.walks),
       omega (arith, message.few, c.count.ensures, c.if-count-eq512.false),
       rw c.in-Some.is at w.known,

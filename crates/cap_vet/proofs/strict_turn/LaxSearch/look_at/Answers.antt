@@ -8,4 +8,5 @@ returns-in-Some g c = λ seen a l k.
     (knows_none _ seen c.args.self.now.first (sym c.is_some.ensures ∙ c.if-is_some.false) k)
 
 pub returns-in_default : goal.returns-in_default
-returns-in_default g c = λ seen a l k. knows_on _ seen a c.args.s c.args.w c.args.pointers _ l c.in_default.ensures.none k
+returns-in_default g c = λ seen a l k. knows_on _ seen a c.args.s c.args.w c.args.pointers _ l
+    c.in_default.ensures.none k

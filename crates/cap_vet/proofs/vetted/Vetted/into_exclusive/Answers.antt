@@ -17,4 +17,5 @@ returns-clause-accepts g c = λ disjoint. absurd
 
 pub returns-clause-names : goal.returns-clause-names
 returns-clause-names g c = λ s w n first.
-    (let same = one_overlap (g.M.Segments.segments c.args.self.message.now) _ _ _ s w n c.in-Err.ensures.err first in inl (cc))
+    (let same = one_overlap (g.M.Segments.segments c.args.self.message.now) _ _ _ s w n
+    c.in-Err.ensures.err first in inl (cc))

@@ -27,7 +27,8 @@ pub returns-in-Ok-clause-refuses : goal.returns-in-Ok-clause-refuses
 returns-in-Ok-clause-refuses g c =
     let room : marks_of (g.M.Segments.segments c.args.self.message.now) ≤ length c.args.marks.now =
     omega (arith, c.numbers_for-needed.ensures.exact, c.if-marks-needed.false) in
-    λ x h. absurd (no_exclusive_fault _ _ _ _ c.args.self.report x (vetted_kept _ _ c.args.self.accepted) c.in-Ok.ensures.ok room h)
+    λ x h. absurd (no_exclusive_fault _ _ _ _ c.args.self.report x (vetted_kept _ _ c.args.self.accepted)
+    c.in-Ok.ensures.ok room h)
 
 pub returns-in-Err-clause-err : goal.returns-in-Err-clause-err
 returns-in-Err-clause-err g c = (
@@ -45,6 +46,7 @@ pub returns-in-Err-clause-refuses : goal.returns-in-Err-clause-refuses
 returns-in-Err-clause-refuses g c =
     let room : marks_of (g.M.Segments.segments c.args.self.message.now) ≤ length c.args.marks.now =
     omega (arith, c.numbers_for-needed.ensures.exact, c.if-marks-needed.false) in
-    λ x h. ap Err (one_exclusive_fault (g.M.Segments.segments c.args.self.message.now) 268435456 256 (length c.args.marks.now)
+    λ x h. ap Err (one_exclusive_fault (g.M.Segments.segments c.args.self.message.now) 268435456 256
+    (length c.args.marks.now)
     (Overlap c.in-Err.overlap.segment c.in-Err.overlap.word c.in-Err.overlap.pointers) x
     (c.args.self.report, vetted_kept _ _ c.args.self.accepted, room, c.in-Err.ensures.err) h)
