@@ -18,7 +18,7 @@ use Rattle.cap_spec.proofs.Pointers.Following.{leads-two}
 use Rattle.cap_spec.proofs.Strict.Faults.{strict_kept, strict_wider}
 use Rattle.cap_spec.proofs.Strict.FirstLax.{first_by_tour, first_is_lax}
 use Rattle.cap_spec.proofs.Strict.Looking.{cap_pad, empty_pad, filled_pad, zero_pad}
-use Rattle.cap_vet.specs.LaxLaws.{not_lax_path, still_knows}
+use Rattle.cap_vet.specs.StrictNulls.{not_lax_path, still_knows}
 use Rattle.cap_vet.specs.Limits.{depth_of, words_of}
 use Rattle.cap_vet.specs.Reports.{IsAccepted, IsVetted}
 use Rattle.cap_vet.specs.Stricts.{KnowsLax}

@@ -4,7 +4,6 @@ pub mod Demands
 pub mod Exclusives
 pub mod Finding
 pub mod Handles
-pub mod LaxLaws
 pub mod Levels
 pub mod Limits
 pub mod Looking
@@ -17,6 +16,7 @@ pub mod Passing
 pub mod PointerRuns
 pub mod Reports
 pub mod Spots
+pub mod StrictNulls
 pub mod Stricts
 pub mod Taken
 pub mod Trails

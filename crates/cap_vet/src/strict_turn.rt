@@ -2,7 +2,7 @@
 
 ghost use Rattle.cap_spec.specs.Messages.{segment_of};
 ghost use Rattle.cap_spec.specs.declared.Step.{Step};
-ghost use Rattle.cap_vet.specs.LaxLaws.{null_known};
+ghost use Rattle.cap_vet.specs.StrictNulls.{null_known};
 ghost use Rattle.cap_vet.specs.Stricts.{KnowsLax};
 ghost use Rattle.cap_vet.specs.Trails.{Ahead};
 ghost use Rattle.cap_vet.specs.Walking.{IsLookedAt};
