@@ -1,11 +1,10 @@
 -- What a walk knows of lax pointers, and which messages are strict.
-use Rattle.std.proofs.Common.{ℕ, ◌+◌, ◌<◌, ◌≤◌, ◌≡◌, ◌≢◌, List, [], ◌∷◌, length, inl, inr, refl, sym, ap}
+use Rattle.std.proofs.Common.{ℕ, ◌+◌, ◌<◌, ◌≤◌, ◌≡◌, ◌≢◌, List, [], ◌∷◌, length, inl, inr, refl, ap}
 use Rattle.std.proofs.Common.{subst, arith, Option, None, Some}
 use Rattle.std.specs.Prelude.{false, is_some, pos}
-use Rattle.cap_spec.specs.Denoting.{Denotes}
 use Rattle.cap_spec.specs.Following.{Lead, Leads, to_cap, to_null, to_object}
 use Rattle.cap_spec.specs.Messages.{HasWord, segment_of}
-use Rattle.cap_spec.specs.Paths.{Before, Costs, IsOneOf}
+use Rattle.cap_spec.specs.Paths.{Before, Costs}
 use Rattle.cap_spec.specs.Pointers.{far_segment, kind, pad, two}
 use Rattle.cap_spec.specs.Strict.{IsFirstLax, IsLax, IsLaxAt, IsStrict, IsWithin}
 use Rattle.cap_spec.specs.declared.Lax.{Lax}

@@ -1,5 +1,5 @@
 -- A null word isn't lax: the law of the turn that looks for lax pointers (profile).
-use Rattle.std.specs.Prelude.{ℕ, ◌≡◌, List, ◌∷◌, Option, None, Some}
+use Rattle.std.specs.Prelude.{ℕ, List, ◌∷◌, Option, None, Some}
 use Rattle.std.proofs.Common.{arith, inl, inr, subst}
 use Rattle.cap_spec.specs.Messages.{HasWord}
 use Rattle.cap_spec.specs.Paths.{Reaches}

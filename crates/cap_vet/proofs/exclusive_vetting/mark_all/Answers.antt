@@ -1,5 +1,4 @@
 use Rattle.std.proofs.Common.{arith, rules}
-use Rattle.cap_vet.specs.MarkSteps.{HasBits}
 use Rattle.cap_vet.proofs.OneReport.{not_both}
 use Rattle.cap_vet.proofs.SecondWalk.{ends_disjoint, root_marked, root_there}
 use Rattle.cap_vet.proofs.exclusive_vetting.mark_all.Goals as goal

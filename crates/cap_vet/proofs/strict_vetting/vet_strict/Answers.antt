@@ -1,11 +1,8 @@
 -- One fault, or none.
-use Rattle.std.proofs.Common.{◌≡◌, ◌≤◌, Err, List, [], ap, arith, length, ℕ, rules}
-use Rattle.std.proofs.Common.{Option, None, Some}
+use Rattle.std.proofs.Common.{Err, ap, arith, rules}
 use Rattle.cap_spec.specs.Messages.{IsMessage}
-use Rattle.cap_spec.specs.Strict.{IsStrictFault}
 use Rattle.cap_spec.specs.declared.StrictRefusal.TheVariants.{Refused, ManySegments, Pointer}
 use Rattle.cap_spec.proofs.Strict.Faults.{one_strict_fault, strict_not_fault}
-use Rattle.cap_vet.specs.Limits.{depth_of, words_of}
 use Rattle.cap_vet.proofs.Laxness.{first_not_strict, strict_at_end, strict_within, within_of}
 use Rattle.cap_vet.proofs.Verdicts.{accepted_at_end, vetted_within}
 use Rattle.cap_vet.proofs.strict_vetting.vet_strict.Goals as goal

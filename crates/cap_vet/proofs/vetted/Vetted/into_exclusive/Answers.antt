@@ -1,4 +1,4 @@
-use Rattle.std.proofs.Common.{inl, Err}
+use Rattle.std.proofs.Common.{inl}
 use Rattle.cap_spec.proofs.Disjoint.Overlaps.{none_of_disjoint, one_overlap}
 use Rattle.cap_vet.proofs.Keeping.{vetted_kept}
 use Rattle.cap_vet.proofs.vetted.Vetted.into_exclusive.Goals as goal
