@@ -3,66 +3,90 @@
 
     all.py [--edits]
 
-With --edits the prover also has to refuse each must-fail edit. Each step ends with a line 'N passed, M failed'. A table of
-the steps follows them, with the time that each took and the processor time of all its processes. The last line sums up the
-cases, and the status is 1 where one failed. Where the proofs fail, nothing else is run.
+With --edits the prover also has to refuse each must-fail edit. The scripts after the proofs run side by side, one for each
+core. What each of them writes is shown at its end, in the order of SCRIPTS. Each step ends with a line 'N passed, M failed'.
+A table of the steps follows them, with the time that each took and the processor time of all its processes. The last line
+sums up the cases, and the status is 1 where one failed. Where the proofs fail, nothing else is run.
 """
+import os
 import re
-import resource
 import subprocess
 import sys
 import time
+from concurrent.futures import ThreadPoolExecutor
+from dataclasses import dataclass
 from pathlib import Path
 
 TOP = Path(__file__).resolve().parent.parent
 PROGRAM, ARCHIVE = "build/capvet", "build/libcapvet.a"
 COUNTED = re.compile(r"(\d+) passed, (\d+) failed")
+# (those that take longest come first, so that none of them is left over at the end)
 SCRIPTS = (
-    ("which messages are strict", ["strict.py"]),
-    ("the built program", ["program.py", PROGRAM]),
-    ("what is installed", ["install.py", PROGRAM, ARCHIVE]),
-    ("the library from C, C++ and Rust", ["library.py", PROGRAM, ARCHIVE]),
-    ("the pages", ["pages.py", PROGRAM]),
-    ("the header", ["header.py"]),
     ("the calls from C", ["calls.py", ARCHIVE, PROGRAM]),
+    ("the built program", ["program.py", PROGRAM]),
     ("strict messages by other readers", ["readers.py", PROGRAM]),
+    ("the library from C, C++ and Rust", ["library.py", PROGRAM, ARCHIVE]),
+    ("what is installed", ["install.py", PROGRAM, ARCHIVE]),
+    ("the pages", ["pages.py", PROGRAM]),
+    ("which messages are strict", ["strict.py"]),
+    ("the header", ["header.py"]),
 )
 
 
-def processor_time():
-    used = resource.getrusage(resource.RUSAGE_CHILDREN)
-    return used.ru_utime + used.ru_stime
+@dataclass
+class Step:
+    """A step that has run: its line of the table, how many cases passed and failed, and the text that wasn't shown yet."""
+    line: str
+    passed: int
+    failed: int
+    text: str = ""
 
 
 def minutes(seconds):
-    return f"{seconds // 60:.0f} min {seconds % 60:2.0f} s"
+    whole = round(seconds)
+    return f"{whole // 60} min {whole % 60:2} s"
 
 
-def run(name, words):
-    """Runs a step and shows what it writes. Returns its line of the table, how many cases passed, and how many failed."""
-    print(f"== {name}", flush=True)
-    begin, used, counted = time.monotonic(), processor_time(), None
-    step = subprocess.Popen([sys.executable, f"tests/{words[0]}", *words[1:]], cwd=TOP, stdin=subprocess.DEVNULL,
-                            stdout=subprocess.PIPE, stderr=subprocess.STDOUT, text=True, errors="replace")
-    for line in step.stdout:
-        print(line, end="", flush=True)
+def run(name, words, show):
+    """Runs a script. `show` gets each line as it comes."""
+    begin, counted = time.monotonic(), None
+    script = subprocess.Popen([sys.executable, f"tests/{words[0]}", *words[1:]], cwd=TOP, stdin=subprocess.DEVNULL,
+                              stdout=subprocess.PIPE, stderr=subprocess.STDOUT, text=True, errors="replace")
+    show(f"== {name}\n")
+    for line in script.stdout:
+        show(line)
         counted = COUNTED.match(line) or counted
+    _, status, used = os.wait4(script.pid, 0)
+    script.returncode = os.waitstatus_to_exitcode(status)
     passed, failed = (int(number) for number in counted.groups()) if counted else (0, 0)
-    # (a step that counts nothing has failed too)
-    if step.wait() or not counted:
+    # (a script that counts nothing has failed too, and so has one that was killed)
+    if script.returncode or not counted:
+        show(f"FAILED: {words[0]} ended with status {script.returncode}\n")
         failed = max(failed, 1)
-    took = f"{minutes(time.monotonic() - begin):>14}, {minutes(processor_time() - used):>14} of processor time"
-    return f"{name:34}{took}: {passed} passed, {failed} failed", passed, failed
+    took = f"{minutes(time.monotonic() - begin):>14}, {minutes(used.ru_utime + used.ru_stime):>14} of processor time"
+    return Step(f"{name:34}{took}: {passed} passed, {failed} failed", passed, failed)
+
+
+def run_apart(name, words):
+    """Runs a script beside others, and keeps what it writes."""
+    lines = []
+    step = run(name, words, lines.append)
+    step.text = "".join(lines)
+    return step
 
 
 def main(words):
     if words not in ([], ["--edits"]):
         sys.exit(__doc__)
-    steps = [run("proofs and must-fail edits" if words else "proofs", ["prove.py", *words])]
-    if not steps[0][2]:
-        steps += [run(name, command) for name, command in SCRIPTS]
-    print("\n" + "\n".join(line for line, _, _ in steps))
-    passed, failed = (sum(step[at] for step in steps) for at in (1, 2))
+    steps = [run("proofs and must-fail edits" if words else "proofs", ["prove.py", *words],
+                 lambda line: print(line, end="", flush=True))]
+    if not steps[0].failed:
+        with ThreadPoolExecutor(len(os.sched_getaffinity(0))) as cores:
+            for step in cores.map(run_apart, *zip(*SCRIPTS)):
+                print(step.text, end="", flush=True)
+                steps.append(step)
+    print("\n" + "\n".join(step.line for step in steps))
+    passed, failed = sum(step.passed for step in steps), sum(step.failed for step in steps)
     print(f"{passed} passed, {failed} failed")
     return failed > 0
 
