@@ -69,7 +69,9 @@ growths:
 	python3 tests/refusals.py build/capvet
 
 # Times the built program beside plain copying of the same bytes. Where Cap'n Proto's own C++ library and Rust
-# crate are installed, it times them too. Then it times the library's calls beside the C++ library, in one process.
+# crate are installed, it times them too. Then it times the library's calls beside the C++ library, in one process, and
+# the program over small messages that take long.
 bench:
 	python3 bench/bench.py
 	python3 bench/in_process.py
+	python3 bench/amplified.py

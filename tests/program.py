@@ -22,6 +22,7 @@ import threading
 import time
 from pathlib import Path
 
+import demands
 import tables
 from helps import HELPS
 from trees import dump_text, get_text
@@ -226,6 +227,8 @@ def samples():
             texts = {"vet": verdicts, "vet --exclusive": verdicts, "segments": segments_text(stream), "dump": dump_text(stream, verdicts)}
             texts["check"] = CHECKS[name]
             texts |= {f"get {path}": get_text(stream, path) for path in PATHS}
+            # (samples are strict and unamplified)
+            texts |= {f"{command} --strict --unamplified": text for command, text in texts.items() if command != "segments"}
             shell_case(f"capvet pack {file} > {packed}", "")
             text = Path(packed).read_bytes()
             for command, wanted in texts.items():
@@ -344,6 +347,7 @@ def large_messages():
     stream, accepted = large_message(64 << 17)
     resident("vet", "a message of 64 MiB", stream, accepted, (64 + 2) << 10)
     resident("vet --exclusive", "a message of 64 MiB", stream, accepted, (64 + 1 + 2) << 10)
+    resident("vet --strict --unamplified", "a message of 64 MiB", stream, accepted, (64 + 2) << 10)
     resident("canon", "a message of 64 MiB", stream, stream, (64 + 64 + 2) << 10)
     words = 96 << 17
     limits = f"--size {words} --words {words}"
@@ -365,6 +369,8 @@ case("unpack", bytes(32), stdin=word("0003"))
 case("vet", CYCLE_REFUSED, status=1, stdin=CYCLE)
 case("dump", CYCLE_REFUSED, status=1, stdin=CYCLE)
 case("get /p0", CYCLE_REFUSED, status=1, stdin=CYCLE)
+case("vet --strict --unamplified examples/cycle.bin", CYCLE_REFUSED, status=1)
+case("vet --strict --unamplified examples/shared.bin", "message 0: accepted charge 4 depth 2 pointers 3 caps 0\n")
 case("vet --exclusive", NULL_ACCEPTED + OVERLAP + CYCLE_REFUSED.replace("0", "2", 1), status=1, stdin=NULL + SHARED + CYCLE)
 case("vet --words 100 examples/contacts.bin", "message 0: refused WordLimit at 0:21 pointers 22\n", status=1)
 case("vet --size 391 examples/contacts.bin", err="capvet: message 0: TooLarge 392\n", status=1)
@@ -406,7 +412,7 @@ for table in (tables.VERDICTS, tables.OTHER_LIMITS, tables.ENDS, tables.MESSAGES
               tables.WORDS):
     rows(table)
 for table in (tables.LEVELS, tables.NESTED, tables.LEVELS_WITH_A_POINTER_LEFT, tables.OVERLAPS, tables.DUMPS, tables.GETS, tables.LADDER,
-              tables.BEHIND_A_REFUSAL, tables.COPY_ENDS):
+              tables.BEHIND_A_REFUSAL, tables.COPY_ENDS, demands.ROWS):
     rows(table, also_packed=True)
 for stream, exclusive, plain in tables.EXCLUSIVES:
     for command, verdict in ("vet", plain), ("vet --exclusive", exclusive):

@@ -9,7 +9,8 @@ is read under the limits that the guide gives for a reader. No reading may fail.
 pointers and the capabilities that a model here finds, and to make the canonical copy that the program makes.
 
 Messages of the C++ library's own encoder, and those under examples/, have to be strict and unamplified. What is not strict
-has to be refused by the option --strict, with the reason, the place and the count of the model.
+has to be refused by the option --strict, with the reason, the place and the count of the model. The option --unamplified has
+to do what the word limit of each message by itself does.
 
 What isn't installed is said in a line of its own. The last line is 'N passed, M failed', and the status is 1 if a case failed.
 """
@@ -19,18 +20,19 @@ import struct
 import subprocess
 import sys
 import tempfile
-from collections import Counter
+from collections import Counter, defaultdict
 from dataclasses import dataclass
 from itertools import zip_longest
 from pathlib import Path
 
 import trees
-from calls import TOP, made_up, samples
+from calls import TOP, made_up
+from strict import SLACK, unamplified
 
 HERE = TOP / "tests/readers"
 BITS = (0, 1, 8, 16, 32, 64)
 MANY = 200_000
-BATCH = 10_000
+BATCH = 50_000
 CONTENTS = 30
 # The limit of the charge, which a reader goes through word by word.
 WORDS = 65536
@@ -295,9 +297,10 @@ class Tests:
         """Those of the messages that are accepted. The model and the program have to agree about them."""
         messages = [(segments, framed(segments)) for segments in messages]
         stream = b"".join(message for _, message in messages)
-        verdicts, accepted, faults = self.vet(stream), [], []
-        told(f"{name}: a verdict for each", [len(verdicts)] if len(verdicts) != len(messages) else [])
-        for number, ((segments, message), verdict) in enumerate(zip(messages, verdicts)):
+        plain, accepted, faults = self.vet(stream), [], []
+        told(f"{name}: a verdict for each", [len(plain)] if len(plain) != len(messages) else [])
+        verdicts = list(plain)
+        for number, ((segments, message), verdict) in enumerate(zip(messages, plain)):
             _, _, word, *numbers = verdict.split()
             if word == "accepted":
                 charge, depth, pointers, caps = map(int, numbers[1::2])
@@ -309,9 +312,24 @@ class Tests:
                     verdicts[number] = f"message {number}: refused {tree.lax}"
         told(f"{name}: the counts of the model", faults)
         if self.has_strict:
-            strict = self.vet(stream, "--strict")
-            told(f"{name}: strict verdicts", [both for both in zip_longest(strict, verdicts) if both[0] != both[1]])
+            bounded = self.bounded(messages)
+            self.counts["amplified"] += sum(" accepted " in line and line != bounded[n] for n, line in enumerate(plain))
+            # (where both apply, the word limit is what is named)
+            both = [strict if " accepted " in line else line for strict, line in zip(verdicts, bounded)]
+            for options, lines in (("--strict", verdicts), ("--unamplified", bounded), ("--strict --unamplified", both)):
+                got = self.vet(stream, *options.split())
+                told(f"{name}: verdicts by {options}", [pair for pair in zip_longest(got, lines) if pair[0] != pair[1]])
         return accepted
+
+    def bounded(self, messages):
+        """The verdicts of messages, each under the word limit of an unamplified message, by runs with that limit."""
+        by_limit, verdicts = defaultdict(list), {}
+        for number, (segments, message) in enumerate(messages):
+            by_limit[unamplified(segments, WORDS)].append((number, message))
+        for words, group in by_limit.items():
+            lines = self.lines([self.program, "vet", "--words", words], b"".join(message for _, message in group))
+            verdicts |= {number: f"message {number}:{line.partition(':')[2]}" for (number, _), line in zip(group, lines)}
+        return [verdicts.get(number, "") for number in range(len(messages))]
 
     def read(self, accepted):
         """The lines that readers should write for accepted messages, and for each reader those that it writes."""
@@ -345,8 +363,9 @@ class Tests:
                 told(f"{name}: {reader} reads it", [got] if (got == right) == (reader in failing) else [])
 
     def of_encoders(self):
-        """The messages under examples/ and those of the library's encoder. All are strict and unamplified."""
-        messages = [next(trees.messages(message)) for message in samples()]
+        """The messages under examples/ but the cycle, and those of the library's encoder. All are strict and unamplified."""
+        files = [path for path in sorted((TOP / "examples").glob("*.bin")) if path.name != "cycle.bin"]
+        messages = [message for path in files for message in trees.messages(path.read_bytes())]
         if self.encoder:
             encoded = list(trees.messages(subprocess.run([self.encoder, str(CONTENTS)], capture_output=True).stdout))
             told("messages of the encoder", [len(encoded)] if len(encoded) < 200 else [])
@@ -354,10 +373,7 @@ class Tests:
             messages += encoded
         strict = self.compare("messages of encoders", messages)
         told("messages of encoders that aren't strict", [len(strict)] if len(strict) != len(messages) else [])
-        told("messages of encoders that are amplified", (it.message.hex() for it in strict if it.charge > it.words() + 4096))
-        if self.has_strict:
-            stream = b"".join(it.message for it in strict)
-            told("both options", [0] if self.vet(stream, "--strict", "--unamplified") != self.vet(stream) else [])
+        told("messages of encoders that are amplified", (it.message.hex() for it in strict if it.charge > it.words() + SLACK))
         return [it.tree for it in strict]
 
     def many(self, bases, count):
@@ -373,6 +389,8 @@ class Tests:
         for name in CONSTRUCTS:
             told(f"{name} occurs", [self.counts[name]] if 2000 * self.counts[name] < count else [])
         told("strict messages occur", [self.counts["strict"]] if 4 * self.counts["strict"] < count else [])
+        if self.has_strict:
+            told("amplified messages occur", [self.counts["amplified"]] if 2000 * self.counts["amplified"] < count else [])
         print(f"readers: {dict(self.counts)}, the strict ones read by {', '.join(self.readers) or 'none'}")
 
 
@@ -382,7 +400,7 @@ def main():
     with tempfile.TemporaryDirectory() as folder:
         tests = Tests(program, build(Path(folder)), Path(folder))
         if not tests.has_strict:
-            print("not tested, without the option --strict: what it refuses")
+            print("not tested, without the options --strict and --unamplified: what they refuse")
         tests.constructs()
         bases = tests.of_encoders()
         if tests.readers or tests.has_strict:

@@ -748,6 +748,9 @@ MISTAKE_BEGINNINGS = (
     ("segments one two", "error: unexpected argument 'two' found"),
     ("dump --exclusive", "error: unexpected argument '--exclusive' found"),
     ("vet --exclusive=1", "error: unexpected value '1' for '--exclusive' found"),
+    ("canon --strict=1", "error: unexpected value '1' for '--strict' found"),
+    ("segments --strict", "error: unexpected argument '--strict' found"),
+    ("pack --unamplified", "error: unexpected argument '--unamplified' found"),
     ("unpack --size 1", "error: unexpected argument '--size' found"),
 )
 
@@ -784,6 +787,8 @@ NAMES = (
     ("vet --depth=3 --size=1 some.bin --words=2", "some.bin"),
     ("vet a --packed", "a"),
     ("vet --exclusive a", "a"),
+    ("vet --strict --exclusive --unamplified a", "a"),
+    ("canon a --unamplified --packed --strict", "a"),
     ("get /p65535 some.bin --packed", "some.bin"),
     ("get --size=1 --words=2 --depth=3 /i4294967295 -", "-"),
     ("pack a", "a"),

@@ -4,7 +4,8 @@
 //
 // FILE has for each message its traversal limit (8 bytes), its nesting limit and its length in bytes (4 bytes each), the
 // lowest byte first, and then its bytes. Each message is read four times by the flat reader and four times by the stream
-// reader, each time under these limits:
+// reader, each time by a reader of its own under these limits. Then one reader does the four readings, under four times the
+// traversal limit:
 //
 // - `walk` asks each pointer for its kind and then for what it is, a null pointer for every kind, and reads every byte;
 // - `upgraded` does so too, and asks for each list but those of bits as a list of structs, as a newer schema may;
@@ -127,9 +128,11 @@ struct Message {
   kj::Array<capnp::word> words;
 };
 
-// Does a job on the root of a message, by the flat reader or by the stream reader.
+// Does a job on the root of a message, by the flat reader or by the stream reader, under limits for a number of readings.
 template <typename Job>
-auto read(const Message &message, bool stream, EveryCapability &caps, Job job) {
+auto read(const Message &message, bool stream, EveryCapability &caps, Job job, uint readings = 1) {
+  auto limits = message.limits;
+  limits.traversalLimitInWords *= readings;
   auto rootOf = [&](capnp::MessageReader &reader) {
     now.getter = "getRoot";
     return capnp::AnyPointer::Reader(internal(reader.getRoot<capnp::AnyPointer>()).imbue(&caps));
@@ -137,10 +140,10 @@ auto read(const Message &message, bool stream, EveryCapability &caps, Job job) {
   now.getter = "constructor";
   if (stream) {
     kj::ArrayInputStream in(message.words.asBytes());
-    capnp::InputStreamMessageReader reader(in, message.limits);
+    capnp::InputStreamMessageReader reader(in, limits);
     return job(rootOf(reader));
   }
-  capnp::FlatArrayMessageReader reader(message.words, message.limits);
+  capnp::FlatArrayMessageReader reader(message.words, limits);
   return job(rootOf(reader));
 }
 
@@ -178,7 +181,14 @@ std::string lineBy(const Message &message, bool stream, EveryCapability &caps) {
   auto size = read(message, stream, caps, [](auto root) { return now.getter = "targetSize", root.targetSize(); });
   if (size.capCount != walk.caps) return "targetSize counts other capabilities";
   now.reading = "copy";
-  return walk.caps > 0 ? walk.text() : walk.text() + " copy " + read(message, stream, caps, copyOf);
+  auto copy = walk.caps > 0 ? "" : " copy " + read(message, stream, caps, copyOf);
+  now.reading = "all four";
+  auto again = read(message, stream, caps, [&](auto root) {
+    auto text = walkOf(root, true).text() == walk.text() ? walkOf(root, false).text() : "differs";
+    root.targetSize();
+    return walk.caps > 0 ? text : text + " copy " + copyOf(root);
+  }, 4);
+  return again == walk.text() + copy ? again : "one reader and several differ: " + again;
 }
 
 std::string lineOf(const Message &message, EveryCapability &caps) {

@@ -106,7 +106,7 @@ fn null(pointer: PointerReader<'_>) -> Result<()> {
 }
 
 /// What one of the readings finds.
-fn found(reading: &str, message: Reader<impl ReaderSegments>) -> Result<String> {
+fn found(reading: &str, message: &Reader<impl ReaderSegments>) -> Result<String> {
     Ok(match reading {
         "size" => message
             .get_root::<any_pointer::Reader>()?
@@ -114,6 +114,14 @@ fn found(reading: &str, message: Reader<impl ReaderSegments>) -> Result<String> 
             .cap_count
             .to_string(),
         "copy" => hexadecimal(Word::words_to_bytes(&message.canonicalize()?)),
+        "all four" => {
+            let walk = found("walk", message)?;
+            found("upgraded", message)?;
+            match found("size", message)?.as_str() {
+                "0" => walk + " copy " + &found("copy", message)?,
+                _ => walk,
+            }
+        }
         _ => {
             let mut walk = Walk::default();
             walk.upgrades = reading == "upgraded";
@@ -146,12 +154,15 @@ struct Message {
 /// What one of the readings finds, by the flat reader or by the stream reader. An error is the line of the message.
 fn read(message: &Message, stream: bool, reading: &str) -> std::result::Result<String, String> {
     let mut bytes = Word::words_to_bytes(&message.words);
+    let mut limits = message.limits;
+    if reading == "all four" {
+        limits.traversal_limit_in_words = limits.traversal_limit_in_words.map(|words| 4 * words);
+    }
     let found = if stream {
-        serialize::read_message(&mut bytes, message.limits)
-            .and_then(|message| found(reading, message))
+        serialize::read_message(&mut bytes, limits).and_then(|message| found(reading, &message))
     } else {
-        serialize::read_message_from_flat_slice(&mut bytes, message.limits)
-            .and_then(|message| found(reading, message))
+        serialize::read_message_from_flat_slice(&mut bytes, limits)
+            .and_then(|message| found(reading, &message))
     };
     let reader = if stream { "stream" } else { "flat" };
     found.map_err(|error| format!("threw {reader} {reading}: {error}"))
@@ -168,11 +179,17 @@ fn line_by(message: &Message, stream: bool) -> std::result::Result<String, Strin
     if !walk.ends_with(&format!(" caps {caps}")) {
         return Err("target_size counts other capabilities".into());
     }
-    Ok(if caps == "0" {
+    let line = if caps == "0" {
         format!("{walk} copy {}", read(message, stream, "copy")?)
     } else {
         walk
-    })
+    };
+    let again = read(message, stream, "all four")?;
+    if again == line {
+        Ok(line)
+    } else {
+        Err(format!("one reader and several differ: {line} | {again}"))
+    }
 }
 
 fn line(message: &Message) -> std::result::Result<String, String> {

@@ -1,0 +1,75 @@
+#!/usr/bin/env python3
+"""Times small messages that take long to vet, with and without --unamplified, and prints a table.
+
+    amplified.py [--rounds N] [--program PATH]
+
+The times are microseconds for one message: those of a run over copies of it, without those of a run over an empty input. In
+each round every run takes place once, in turn, and the table has the median of the rounds. With the option there are 100
+copies, since a single message takes less than the start of a program varies.
+"""
+import argparse
+import statistics
+import sys
+import tempfile
+from pathlib import Path
+
+import bench
+from bench import framed, list_pointer, struct_pointer, word
+
+FAR, COPIES = 1000, 100
+
+
+def doubling(levels, end):
+    """Structs of two pointers, each pair of which leads to the next struct, and the words after them."""
+    return framed(struct_pointer(0, 0, 2) + (levels - 1) * (struct_pointer(1, 0, 2) + struct_pointer(0, 0, 2)) + end)
+
+
+def far_pointer(place):
+    return word(2 | place << 3)
+
+
+def far_lists():
+    """A list of 1,000 far pointers to one pad, which leads to such a list. Its pad leads to a struct without words."""
+    first, second = 1 + FAR, 2 + 2 * FAR
+    return framed(list_pointer(0, 6, FAR) + FAR * far_pointer(first) + list_pointer(0, 6, FAR) + FAR * far_pointer(second)
+                  + struct_pointer(-1, 0, 0))
+
+
+MESSAGES = {
+    "doubling, 22 levels": doubling(22, bytes(16)),
+    "lists of far pointers": far_lists(),
+    "doubling, 10 levels": doubling(10, struct_pointer(1, 1, 0) + struct_pointer(0, 1, 0) + word(7)),
+}
+# (a refusal ends `canon`, so it would not come to the copies)
+COMMANDS = ("vet", "vet --strict", "vet --exclusive", "check")
+
+
+def main():
+    parser = argparse.ArgumentParser()
+    parser.add_argument("--rounds", type=int, default=11)
+    parser.add_argument("--program", default=str(bench.TOP / "build/capvet"))
+    args = parser.parse_args()
+    if not Path(args.program).is_file():
+        sys.exit(f"{args.program} isn't there: build it by `make run`")
+    with tempfile.TemporaryDirectory() as scratch:
+        folder, rows = Path(scratch), []
+        (folder / "empty").write_bytes(b"")
+        for at, (name, message) in enumerate(MESSAGES.items()):
+            (folder / f"{at}-1").write_bytes(message)
+            (folder / f"{at}-{COPIES}").write_bytes(COPIES * message)
+            rows += [(name, len(message), command, copies, bench.Timed(name, f"PROGRAM {command} {options} FILE", statuses=(0, 1)), at)
+                     for command in COMMANDS for options, copies in (("", 1), ("--unamplified", COPIES))]
+        programs, seconds = {"PROGRAM": args.program}, [[] for _ in rows]
+        for _ in range(args.rounds):
+            for taken, (*_, copies, timed, at) in zip(seconds, rows):
+                empty, _ = bench.run(timed, programs, folder / "empty")
+                whole, _ = bench.run(timed, programs, folder / f"{at}-{copies}")
+                taken.append((whole - empty) / copies)
+        print(f"{'message':22} {'bytes':>6} {'command':16} {'us':>10} {'unamplified':>12}")
+        for row, plain, bounded in zip(rows[::2], seconds[::2], seconds[1::2]):
+            name, size, command, *_ = row
+            print(f"{name:22} {size:6} {command:16} {1e6 * statistics.median(plain):10.0f} {1e6 * statistics.median(bounded):12.1f}")
+
+
+if __name__ == "__main__":
+    main()
