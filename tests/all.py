@@ -22,8 +22,9 @@ PROGRAM, ARCHIVE = "build/capvet", "build/libcapvet.a"
 COUNTED = re.compile(r"(\d+) passed, (\d+) failed")
 # (those that take longest come first, so that none of them is left over at the end)
 SCRIPTS = (
-    ("the calls from C", ["calls.py", ARCHIVE, PROGRAM]),
     ("the built program", ["program.py", PROGRAM]),
+    ("the calls from C, packed bytes", ["calls.py", ARCHIVE, PROGRAM, "packed"]),
+    ("the calls from C, messages", ["calls.py", ARCHIVE, PROGRAM, "messages"]),
     ("strict messages by other readers", ["readers.py", PROGRAM]),
     ("the library from C, C++ and Rust", ["library.py", PROGRAM, ARCHIVE]),
     ("what is installed", ["install.py", PROGRAM, ARCHIVE]),

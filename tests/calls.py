@@ -1,7 +1,9 @@
 #!/usr/bin/env python3
 """Builds the C programs of tests/c over the built archive, and runs them, beside the built program.
 
-    calls.py ARCHIVE PROGRAM
+    calls.py ARCHIVE PROGRAM [messages | packed]
+
+With a word only that half is tested: what is about messages, or what is about packed bytes.
 
 The header alone is compiled in each standard of C and C++ that it is promised for. `calls` looks at known
 buffers, and `allocations` counts how often memory is taken.
@@ -362,6 +364,45 @@ def compare_texts(texts, watched, program):
     print(f"calls: {len(many) - cut} packed texts unpacked as the program does, and {cut} that are cut")
 
 
+def test_messages(folder, compilers, archive, program):
+    """The header, known buffers, and the lines and copies of many messages."""
+    for compiler in compilers:
+        for standard in ("c99", "c11", "c++98", "c++11"):
+            header_alone(folder, compiler, standard)
+    for compiler in compilers:
+        built = compiled(folder, "calls", compiler, "c99", archive)
+        if built is not None:
+            ran = run([built])
+            told(f"calls, by {compiler}", ran.returncode == 0, ran.stderr)
+            if shutil.which("valgrind"):
+                ran = run(["valgrind", "-q", "--error-exitcode=9", "--leak-check=full", built])
+                told(f"calls, by {compiler}, under valgrind", ran.returncode == 0, ran.stderr)
+        takes_no_memory(folder, compiler, archive)
+        checked = compiled(folder, "calls", compiler, "c11", archive, *CHECKS)
+        if checked is not None:
+            ran = run([checked])
+            told(f"calls, by {compiler}, with its checks", ran.returncode == 0, ran.stderr)
+    lines = compiled(folder, "lines", compilers[0], "c99", archive, "-O1", *CHECKS)
+    if lines is not None:
+        compare(lines, program)
+        compare_copies(lines, program)
+
+
+def test_packed(folder, compilers, archive, program):
+    """Packing and unpacking."""
+    test_packing(folder, compilers[0], archive, program)
+    lines = compiled(folder, "lines", compilers[0], "c99", archive, "-O1", *CHECKS)
+    if lines is not None:
+        compare_words(lines, program)
+    watched = compiled(folder, "texts", compilers[0], "c99", archive)
+    texts = compiled(folder, "texts", compilers[0], "c11", archive, "-O1", *CHECKS)
+    if texts is not None:
+        compare_texts(texts, watched, program)
+
+
+HALVES = {"messages": test_messages, "packed": test_packed}
+
+
 def main():
     archive, program = (Path(word).resolve() for word in sys.argv[1:3])
     compilers = [name for name in ("gcc", "clang") if shutil.which(name)] or [name for name in ("cc",) if shutil.which(name)]
@@ -369,34 +410,9 @@ def main():
         print("The calls from C weren't tested: no C compiler is on the path.\n0 passed, 0 failed")
         return 0
     wanted_symbols(archive)
-    with tempfile.TemporaryDirectory() as folder:
-        folder = Path(folder)
-        for compiler in compilers:
-            for standard in ("c99", "c11", "c++98", "c++11"):
-                header_alone(folder, compiler, standard)
-        for compiler in compilers:
-            built = compiled(folder, "calls", compiler, "c99", archive)
-            if built is not None:
-                ran = run([built])
-                told(f"calls, by {compiler}", ran.returncode == 0, ran.stderr)
-                if shutil.which("valgrind"):
-                    ran = run(["valgrind", "-q", "--error-exitcode=9", "--leak-check=full", built])
-                    told(f"calls, by {compiler}, under valgrind", ran.returncode == 0, ran.stderr)
-            takes_no_memory(folder, compiler, archive)
-            checked = compiled(folder, "calls", compiler, "c11", archive, *CHECKS)
-            if checked is not None:
-                ran = run([checked])
-                told(f"calls, by {compiler}, with its checks", ran.returncode == 0, ran.stderr)
-        test_packing(folder, compilers[0], archive, program)
-        lines = compiled(folder, "lines", compilers[0], "c99", archive, "-O1", *CHECKS)
-        if lines is not None:
-            compare(lines, program)
-            compare_words(lines, program)
-            compare_copies(lines, program)
-        watched = compiled(folder, "texts", compilers[0], "c99", archive)
-        texts = compiled(folder, "texts", compilers[0], "c11", archive, "-O1", *CHECKS)
-        if texts is not None:
-            compare_texts(texts, watched, program)
+    for half in sys.argv[3:] or HALVES:
+        with tempfile.TemporaryDirectory() as folder:
+            HALVES[half](Path(folder), compilers, archive, program)
     print(f"{passed} passed, {failed} failed")
     return 1 if failed else 0
 

@@ -14,6 +14,10 @@
 #include <stdlib.h>
 #include <string.h>
 
+/* It runs thousands of times, and looking for leaks takes longer than all else. `calls` and `texts` are run
+ * with that. */
+const char *__asan_default_options(void) { return "detect_leaks=0"; }
+
 static const char *reason(uint32_t answer) {
   static const char *const names[] = {
       "NoRoot",   "Reserved",  "SegmentMissing", "PadOutside",   "PadIsFar",         "PadNotFar", "TagKind",
