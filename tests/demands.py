@@ -76,8 +76,8 @@ STRICT = (
     (STRUCT, "charge 1 depth 1 pointers 1 caps 0", "struct 1 0", STRUCT, "  d0 2a00000000000000\n"),
 )
 
-# A struct of pointers, the last words of which are a pad of zeros: a pad and a reserved pointer; the pad twice; a struct
-# twice and then the pad; a capability and then the pad.
+# Structs of pointers, each with a pad of zeros at its end. Its pointers lead to the pad and are reserved, lead to the pad
+# twice, to a struct twice and then the pad, or are a capability and lead to the pad.
 PAD_AND_RESERVED = "0000000004000000 0000000000000200 1a00000000000000 0700000000000000 0000000000000000"
 PAD_TWICE = "0000000004000000 0000000000000200 1a00000000000000 1a00000000000000 0000000000000000"
 STRUCT_TWICE_AND_PAD = ("0000000006000000 0000000000000300 0800000001000000 0400000001000000 2a00000000000000 "
