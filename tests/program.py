@@ -108,7 +108,7 @@ def framed(*words):
 def packed(stream):
     """The packed encoding of a stream of words, as the encoding specification and Cap'n Proto's own packer have it."""
     words = [stream[at:at + 8] for at in range(0, len(stream), 8)]
-    text, at = b"", 0
+    text, at = bytearray(), 0
     while at < len(words):
         first = words[at]
         tag = sum((byte != 0) << place for place, byte in enumerate(first))
@@ -120,7 +120,7 @@ def packed(stream):
             while at < len(words) and at - start < 255 and words[at].count(0) in zeros:
                 at += 1
             text += bytes([at - start]) + (b"".join(words[start:at]) if tag else b"")
-    return text
+    return bytes(text)
 
 
 def rows(table, also_packed=False):
