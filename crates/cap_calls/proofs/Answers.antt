@@ -1,8 +1,11 @@
 -- The bytes decide what each call finds.
 use Rattle.std.proofs.Common.{ℕ, ap₂, List, [], ◌≡◌, ◌∙◌, ◌<◌, ◌≤◌, ◌+◌, ◌*◌, ap, sym, subst, refl, length, Option, None, Result, Ok, Err}
-use Rattle.std.specs.Prelude.{⊤}
+use Rattle.std.specs.Prelude.{◌-◌, Bool, ⊤, not, true}
 use Rattle.cap_spec.proofs.Frames.Framing.{one_frame}
-use Rattle.cap_spec.proofs.Verdicts.OneFault.{one_refusal}
+use Rattle.cap_spec.specs.Strict.{IsStrictFault}
+use Rattle.cap_spec.specs.declared.StrictRefusal.{StrictRefusal}
+use Rattle.cap_spec.specs.declared.StrictRefusal.TheVariants.{Refused, ManySegments, Pointer}
+use Rattle.cap_spec.proofs.Strict.Faults.{one_strict_fault, strict_not_fault, within_not_refused}
 use Rattle.cap_frame.specs.Framed.{TellsFront}
 use Rattle.cap_frame.specs.Fronts.{TellsLarge, TellsMany, Wants}
 use Rattle.cap_spec.specs.Frames.{IsPartial}
@@ -11,11 +14,16 @@ use Rattle.cap_frame.specs.declared.fault.FrontFault.{FrontFault}
 use Rattle.cap_frame.specs.declared.fault.FrontFault.TheVariants.{TooManySegments, TooLarge, Truncated}
 use Rattle.cap_frame.specs.declared.framed.Framed.{Framed}
 use Rattle.cap_frame.proofs.FrontAnswers.{empty_answer, large_answer, many_answer, short_answer, whole_answer}
-use Rattle.cap_vet.proofs.OneReport.{not_both, one_report}
+use Rattle.cap_vet.specs.Demands.{IsDemandFault, Meets, words_under}
+use Rattle.cap_vet.specs.Reports.{IsAccepted}
+use Rattle.cap_vet.specs.declared.demands.Demands.{Demands}
+use Rattle.cap_vet.proofs.OneReport.{one_report}
 use Rattle.cap_vet.specs.declared.report.Report.{Report}
+use Rattle.cap_calls.specs.CallFindings.{Judges, Returns, Tells, TellsWhole, accepted, framed, framed_found}
+use Rattle.cap_calls.specs.CallFindings.{none_found, refused, refused_found, tells, trailing, trailing_found, without}
+use Rattle.cap_calls.specs.CallFlags.{allows_trailing, demands_of}
 use Rattle.cap_calls.specs.CallFrames.{HasFrame, HasNoFrame}
 use Rattle.cap_calls.specs.Calls.{IsCheck, TellsCheck, TellsFrame, TellsVet, canonical, not_canonical}
-use Rattle.cap_calls.specs.Finding.{Judges, Returns, Tells, accepted, framed, framed_found, none_found, refused, refused_found, without}
 use Rattle.cap_calls.specs.declared.answer.Answer.{Answer}
 use Rattle.cap_calls.specs.declared.found.Found.{Found}
 use Rattle.cap_calls.specs.declared.front.NoFrame.{NoFrame}
@@ -54,16 +62,16 @@ module _ (l : CallLimits) (bs : List ℕ) where
   one_cause BadLimits (Fault b) h k = absurd (h k.0)
   one_cause NoMessage BadLimits h k = absurd (k h.0)
   one_cause NoMessage NoMessage h k = refl
-  one_cause NoMessage (Fault b) h k = absurd (no_fault l.size bs b h.1 k.1)
+  one_cause NoMessage (Fault b) h k = absurd (no_fault l.message_words bs b h.1 k.1)
   one_cause (Fault a) BadLimits h k = absurd (k h.0)
-  one_cause (Fault a) NoMessage h k = absurd (no_fault l.size bs a k.1 h.1)
-  one_cause (Fault a) (Fault b) h k = ap Fault (one_fault l.size bs a b h.1 k.1)
+  one_cause (Fault a) NoMessage h k = absurd (no_fault l.message_words bs a k.1 h.1)
+  one_cause (Fault a) (Fault b) h k = ap Fault (one_fault l.message_words bs a b h.1 k.1)
 
   -- where there is a frame, there is no cause for none
   pub no_cause : (a : NoFrame) (frame segments : ℕ) (m : List (List ℕ)) → HasNoFrame l bs a → HasFrame l bs frame segments m → ⊥
   no_cause BadLimits frame segments m h f = h f.are_limits
-  no_cause NoMessage frame segments m h f = whole_answer l.size bs (Ok None) m frame f.front h.1
-  no_cause (Fault a) frame segments m h f = whole_answer l.size bs (Without-fault a) m frame f.front h.1
+  no_cause NoMessage frame segments m h f = whole_answer l.message_words bs (Ok None) m frame f.front h.1
+  no_cause (Fault a) frame segments m h f = whole_answer l.message_words bs (Without-fault a) m frame f.front h.1
 
   -- there is one frame
   pub one_extent : (a b x y : ℕ) (m n : List (List ℕ)) → HasFrame l bs a x m → HasFrame l bs b y n → (a ≡ b) × (x ≡ y) × (m ≡ n)
@@ -72,31 +80,65 @@ module _ (l : CallLimits) (bs : List ℕ) where
       (f.front.long ∙ (ap (λ (ws : List ℕ). 8 * length ws) same.0 ∙ sym g.front.long), f.count ∙ (ap length same.1 ∙ sym g.count), same.1)
 
 -- What is found in one way is found in a weaker one.
-pub tells_less : {K L : Type 0} {P Q : List (List ℕ) → ℕ → ℕ → Found → Type 0} (l : CallLimits) (bs : List ℕ) (f : Found) → (K → L)
-    → ((m : List (List ℕ)) (w d : ℕ) (g : Found) → P m w d g → Q m w d g) → Tells K P l bs f → Tells L Q l bs f
-tells_less l bs f k p (without c h e x) = without c h e (k x)
-tells_less l bs f k p (framed m x y g h i e) = framed m x y g h (p m l.words l.depth g i) e
+pub tells_less : {K L : Type 0} {P Q : List (List ℕ) → ℕ → ℕ → Found → Type 0} (whole : Bool) (l : CallLimits) (bs : List ℕ) (f : Found)
+    → (K → L) → ((m : List (List ℕ)) (w d : ℕ) (g : Found) → P m w d g → Q m w d g) → TellsWhole whole K P l bs f → TellsWhole whole L Q l bs f
+tells_less whole l bs f k p (trailing m x y t h more e i) = trailing m x y t h more e (k i)
+tells_less whole l bs f k p (tells none (without c h e x)) = tells none (without c h e (k x))
+tells_less whole l bs f k p (tells none (framed m x y g h i e)) = tells none (framed m x y g h (p m l.charge l.depth g i) e)
 
 -- There is one thing to be found, if there is one of each message.
 pub one_told : {K L S : Type 0} {P Q : List (List ℕ) → ℕ → ℕ → Found → Type 0} (l : CallLimits) (bs : List ℕ) (f g : Found) → (K → L → S)
-    → ((m : List (List ℕ)) (h k : Found) → P m l.words l.depth h → Q m l.words l.depth k → (h ≡ k) × S)
+    → ((m : List (List ℕ)) (h k : Found) → P m l.charge l.depth h → Q m l.charge l.depth k → (h ≡ k) × S)
     → Tells K P l bs f → Tells L Q l bs g → (f ≡ g) × S
 one_told l bs f g both same (without c h e x) (without d k i y) = (e ∙ (ap none_found (one_cause l bs c d h k) ∙ sym i), both x y)
 one_told l bs f g both same (without c h e x) (framed m a b v k q i) = absurd (no_cause l bs c a b m h k)
 one_told l bs f g both same (framed m a b u h p e) (without c k i y) = absurd (no_cause l bs c a b m k h)
 one_told {Q = Q} l bs f g both same (framed m a b u h p e) (framed n x y v k q i) =
     let one = one_extent l bs a x b y m n h k in
-    let s = same m u v p (subst (λ (z : List (List ℕ)). Q z l.words l.depth v) (sym one.2) q) in
+    let s = same m u v p (subst (λ (z : List (List ℕ)). Q z l.charge l.depth v) (sym one.2) q) in
     (e ∙ (ap₂ (λ (j t : ℕ). framed_found j t u) one.0 one.1 ∙ (ap (framed_found x y) s.0 ∙ sym i)), s.1)
 
--- So is there of a message, if there is of an accepted one.
-pub one_judged : {K L S : Type 0} {P Q : List (List ℕ) → Report → Found → Type 0} (m : List (List ℕ)) (w d : ℕ) (f g : Found) → (K → L → S)
-    → ((r : Report) → P m r f → Q m r g → (f ≡ g) × S) → Judges K P m w d f → Judges L Q m w d g → (f ≡ g) × S
-one_judged m w d f g both same (refused r h e x) (refused q k i y) = (e ∙ (ap refused_found (one_refusal m w d r q h k) ∙ sym i), both x y)
-one_judged m w d f g both same (refused r h e x) (accepted q k i) = absurd (not_both m w d q r k h)
-one_judged m w d f g both same (accepted r h p) (refused q k i y) = absurd (not_both m w d r q h k)
-one_judged {Q = Q} m w d f g both same (accepted r h p) (accepted q k i) =
-    same r p (subst (λ (z : Report). Q m z g) (sym (one_report m w d r q h k)) i)
+-- So is there where bytes after the message are an answer of their own.
+pub one_whole_told : {K L S : Type 0} {P Q : List (List ℕ) → ℕ → ℕ → Found → Type 0} (whole : Bool) (l : CallLimits) (bs : List ℕ) (f g : Found)
+    → (K → L → S) → ((m : List (List ℕ)) (h k : Found) → P m l.charge l.depth h → Q m l.charge l.depth k → (h ≡ k) × S)
+    → TellsWhole whole K P l bs f → TellsWhole whole L Q l bs g → (f ≡ g) × S
+one_whole_told whole l bs f g both same (tells none t) (tells also u) = one_told l bs f g both same t u
+one_whole_told whole l bs f g both same (trailing m a b t h more e x) (tells none u) = absurd (none t (m, a, b, h, more))
+one_whole_told whole l bs f g both same (tells none u) (trailing m a b t h more e x) = absurd (none t (m, a, b, h, more))
+one_whole_told whole l bs f g both same (trailing m a b t h more e x) (trailing n c d u k less i y) =
+    let one = one_extent l bs a c b d m n h k in
+    let known : ℕ → ℕ → Found = λ (j s : ℕ). framed_found j s (trailing_found (length bs - j)) in
+    (e ∙ (ap₂ known one.0 one.1 ∙ sym i), both x y)
+
+-- A message has one fault under demands.
+as_strict_fault : (demands : Demands) (m : List (List ℕ)) (w d : ℕ) (r : StrictRefusal) → IsDemandFault demands m w d r
+    → IsStrictFault m (words_under demands m w) d r
+as_strict_fault demands m w d (Refused r) h = h
+as_strict_fault demands m w d ManySegments h = h.1
+as_strict_fault demands m w d (Pointer what s v n) h = h.1
+
+pub one_demand_fault : (demands : Demands) (m : List (List ℕ)) (w d : ℕ) (r q : StrictRefusal) → IsDemandFault demands m w d r
+    → IsDemandFault demands m w d q → r ≡ q
+one_demand_fault demands m w d r q h k =
+    one_strict_fault m (words_under demands m w) d r q (as_strict_fault demands m w d r h) (as_strict_fault demands m w d q k)
+
+-- No message meets the demands and has a fault.
+pub meets_no_fault : (demands : Demands) (m : List (List ℕ)) (w d : ℕ) (r : StrictRefusal) → Meets demands m w d → IsDemandFault demands m w d r → ⊥
+meets_no_fault demands m w d (Refused r) h k = within_not_refused m (words_under demands m w) d r h.within k
+meets_no_fault demands m w d ManySegments h k = strict_not_fault m (words_under demands m w) d ManySegments (h.strict k.0) k.1
+meets_no_fault demands m w d (Pointer what s v n) h k =
+    strict_not_fault m (words_under demands m w) d (Pointer what s v n) (h.strict k.0) k.1
+
+-- So there is one thing to be found of a message, if there is of an accepted one.
+pub one_judged : {K L S : Type 0} {P Q : List (List ℕ) → Report → Found → Type 0} (demands : Demands) (m : List (List ℕ)) (w d : ℕ) (f g : Found)
+    → (K → L → S) → ((r : Report) → IsAccepted m (words_under demands m w) d r → P m r f → Q m r g → (f ≡ g) × S)
+    → Judges demands K P m w d f → Judges demands L Q m w d g → (f ≡ g) × S
+one_judged demands m w d f g both same (refused r h e x) (refused q k i y) =
+    (e ∙ (ap refused_found (one_demand_fault demands m w d r q h k) ∙ sym i), both x y)
+one_judged demands m w d f g both same (refused r h e x) (accepted q k n i) = absurd (meets_no_fault demands m w d r n h)
+one_judged demands m w d f g both same (accepted r h n p) (refused q k i y) = absurd (meets_no_fault demands m w d q n k)
+one_judged {Q = Q} demands m w d f g both same (accepted r h n p) (accepted q k o i) =
+    same r h p (subst (λ (z : Report). Q m z g) (sym (one_report m (words_under demands m w) d r q h k)) i)
 
 -- And so it is returned and reported.
 pub one_returned : (f g : Found) (a b : Answer) (r q : CallReport) → f ≡ g → Returns f a r → Returns g b q → (a ≡ b) × (r ≡ q)
@@ -106,10 +148,18 @@ pub one_frame_told : (l : CallLimits) (bs : List ℕ) (a b : Answer) (r q : Call
 one_frame_told l bs a b r q (f, t, h) (g, u, k) =
     one_returned f g a b r q (one_told {S = ⊤} l bs f g (λ _ _. tt) (λ m x y p s. (p ∙ sym s, tt)) t u).0 h k
 
-pub one_vet_told : (l : CallLimits) (bs : List ℕ) (a b : Answer) (r q : CallReport) → TellsVet l bs a r → TellsVet l bs b q → (a ≡ b) × (r ≡ q)
-one_vet_told l bs a b r q (f, t, h) (g, u, k) =
+-- What is found of an accepted message is found of the bytes.
+one_message_told : {P : List (List ℕ) → Report → Found → Type 0} (whole : Bool) (l : CallLimits) (bs : List ℕ) (a b : Answer) (r q : CallReport)
+    → ((m : List (List ℕ)) (z : Report) (x y : Found) → P m z x → P m z y → x ≡ y)
+    → (f : Found) × TellsWhole whole ⊤ (Judges (demands_of l) ⊤ P) l bs f × Returns f a r
+    → (g : Found) × TellsWhole whole ⊤ (Judges (demands_of l) ⊤ P) l bs g × Returns g b q → (a ≡ b) × (r ≡ q)
+one_message_told whole l bs a b r q one (f, t, h) (g, u, k) =
     one_returned f g a b r q
-    (one_told {S = ⊤} l bs f g (λ _ _. tt) (λ m x y p s. one_judged {S = ⊤} m l.words l.depth x y (λ _ _. tt) (λ _ e i. (e ∙ sym i, tt)) p s) t u).0 h k
+    (one_whole_told {S = ⊤} whole l bs f g (λ _ _. tt)
+    (λ m x y p s. one_judged {S = ⊤} (demands_of l) m l.charge l.depth x y (λ _ _. tt) (λ z _ e i. (one m z x y e i, tt)) p s) t u).0 h k
+
+pub one_vet_told : (l : CallLimits) (bs : List ℕ) (a b : Answer) (r q : CallReport) → TellsVet l bs a r → TellsVet l bs b q → (a ≡ b) × (r ≡ q)
+one_vet_told l bs a b r q t u = one_message_told (not (allows_trailing l)) l bs a b r q (λ _ _ _ _ e i. e ∙ sym i) t u
 
 one_check : (m : List (List ℕ)) (r : Report) (f g : Found) → IsCheck m r f → IsCheck m r g → f ≡ g
 one_check m r f g (canonical i e) (canonical j k) = e ∙ sym k
@@ -118,7 +168,4 @@ one_check m r f g (canonical i e) (not_canonical j k) = absurd (j i)
 one_check m r f g (not_canonical i e) (canonical j k) = absurd (i j)
 
 pub one_check_told : (l : CallLimits) (bs : List ℕ) (a b : Answer) (r q : CallReport) → TellsCheck l bs a r → TellsCheck l bs b q → (a ≡ b) × (r ≡ q)
-one_check_told l bs a b r q (f, t, h) (g, u, k) =
-    one_returned f g a b r q
-    (one_told {S = ⊤} l bs f g (λ _ _. tt)
-    (λ m x y p s. one_judged {S = ⊤} m l.words l.depth x y (λ _ _. tt) (λ z e i. (one_check m z x y e i, tt)) p s) t u).0 h k
+one_check_told l bs a b r q t u = one_message_told true l bs a b r q one_check t u

@@ -1,6 +1,11 @@
 -- The bytes and the buffer decide what the call for a canonical copy finds and writes.
-use Rattle.std.proofs.Common.{ℕ, List, ◌≡◌, ◌∙◌, ◌≤◌, ◌+◌, ◌*◌, ap, ap₂, subst, sym, length, arith}
-use Rattle.std.specs.Prelude.{Option, None, Some, Result, unwrap_or}
+use Rattle.std.proofs.Common.{ℕ, List, ◌≡◌, ◌∙◌, ◌≤◌, ◌+◌, ◌*◌, ap, ap₂, subst, sym, length, length-append, sum, arith}
+use Rattle.std.specs.Prelude.{Bool, true, false, not, if◌then◌else◌, Option, None, Some, Result, unwrap_or}
+use Rattle.cap_spec.specs.Frames.{joined, sizes_of}
+use Rattle.cap_spec.specs.Unamplified.{unamplified}
+use Rattle.cap_spec.proofs.Frames.Endings.{length_joined}
+use Rattle.cap_spec.proofs.Strict.Unamplified.{within_both}
+use Rattle.cap_vet.specs.declared.demands.Demands.{Demands}
 use Rattle.cap_spec.specs.Paths.{IsFirstCap}
 use Rattle.cap_spec.specs.Plain.{plain_text}
 use Rattle.cap_spec.proofs.Bytes.Plain.{length_plain}
@@ -11,15 +16,17 @@ use Rattle.cap_canon.specs.CopyRooms as room
 use Rattle.cap_canon.specs.declared.fault.RoomFault.{RoomFault}
 use Rattle.cap_vet.specs.Reports.{IsFirstCapOf}
 use Rattle.cap_vet.specs.declared.report.Report.{Report}
-use Rattle.cap_calls.specs.CanonicalCalls.{Copies, IsCopied, TellsCopy, has_capability, copied, room_found}
-use Rattle.cap_calls.specs.Finding.{Tells, accepted, accepted_found, framed, refused, without}
-use Rattle.cap_calls.specs.PackCalls.{TellsText, no_room, written}
+use Rattle.cap_calls.specs.CanonicalCalls.{Copies, IsCopied, TellsCopy, has_capability, copied, size_found}
+use Rattle.cap_calls.specs.CallFindings.{TellsWhole, accepted, accepted_found, framed, refused, tells, trailing, without}
+use Rattle.cap_calls.specs.CallFlags.{allows_amplified, allows_trailing, demands_of}
+use Rattle.cap_calls.specs.CallFrames.{HasFrame}
+use Rattle.cap_calls.specs.PackCalls.{TellsText, too_small, written}
 use Rattle.cap_calls.specs.declared.answer.Answer.{Answer}
 use Rattle.cap_calls.specs.declared.answer.Answer.TheVariants as answer
 use Rattle.cap_calls.specs.declared.found.Found.{Found}
 use Rattle.cap_calls.specs.declared.limits.CallLimits.{CallLimits}
 use Rattle.cap_calls.specs.declared.report.CallReport.{CallReport}
-use Rattle.cap_calls.proofs.Answers.{one_judged, one_returned, one_told}
+use Rattle.cap_calls.proofs.Answers.{one_judged, one_returned, one_whole_told}
 use Rattle.cap_calls.proofs.Texts.{one_text}
 
 abbrev found : Answer → ℕ → CallReport → Found
@@ -44,8 +51,9 @@ one_copied old xs ys m r f g (copied ws h t e) (copied us j u i) =
 pub one_copy_told : (l : CallLimits) (bs old : List ℕ) (a b : Answer) (n k : ℕ) (xs ys : List ℕ) (r q : CallReport)
     → TellsCopy l bs old a n xs r → TellsCopy l bs old b k ys q → (a ≡ b) × (n ≡ k) × (xs ≡ ys) × (r ≡ q)
 one_copy_told l bs old a b n k xs ys r q (f, t, h, e) (g, u, i, j) =
-    let same = one_told {S = xs ≡ ys} l bs f g (λ x y. x ∙ sym y)
-    (λ m x y p s. one_judged {S = xs ≡ ys} m l.words l.depth x y (λ v w. v ∙ sym w) (λ z c d. one_copied old xs ys m z x y c d) p s) t u in
+    let same = one_whole_told {S = xs ≡ ys} (not (allows_trailing l)) l bs f g (λ x y. x ∙ sym y)
+    (λ m x y p s. one_judged {S = xs ≡ ys} (demands_of l) m l.charge l.depth x y (λ v w. v ∙ sym w) (λ z _ c d. one_copied old xs ys m z x y c d) p s)
+    t u in
     let one = one_returned f g a b r q same.0 h i in
     (one.0, e ∙ (ap (λ (x : Found). x.count) same.0 ∙ sym j), same.1, one.1)
 
@@ -57,36 +65,69 @@ cap_named m (Some (t, x)) s w h k = h
 
 -- What is found of the capacity is what the call finds.
 pub copy_found : (m : List (List ℕ)) (old new : List ℕ) (report : Report) (told : Result ℕ RoomFault) (f : Found) → IsFirstCapOf m report.first_cap
-    → TellsRoom m old told new → f ≡ room_found told report → IsCopied old new m report f
+    → TellsRoom m old told new → f ≡ size_found told report → IsCopied old new m report f
 copy_found m old new report told f first (room.has_capability s w k e g) i =
-    let same : f ≡ accepted_found answer.HasCapability 0 report = i ∙ ap (λ (t : Result ℕ RoomFault). room_found t report) e in
+    let same : f ≡ accepted_found answer.HasCapability 0 report = i ∙ ap (λ (t : Result ℕ RoomFault). size_found t report) e in
     has_capability (subst (λ (z : Found). IsFirstCap m z.report.segment z.report.word) (sym same) (cap_named m report.first_cap s w first k)) same g
 copy_found m old new report told f first (room.no_room ws k few e g) i =
-    let same : f ≡ accepted_found answer.NoRoom (length (plain_text ws)) report = i ∙ ap (λ (t : Result ℕ RoomFault). room_found t report) e in
-    copied ws k (no_room few (ap (λ (x : Found). x.answer) same) (ap (λ (x : Found). x.count) same) g) (ap (λ (x : Found). x.report) same)
+    let same : f ≡ accepted_found answer.BufferTooSmall (length (plain_text ws)) report = i ∙ ap (λ (t : Result ℕ RoomFault). size_found t report) e in
+    copied ws k (too_small few (ap (λ (x : Found). x.answer) same) (ap (λ (x : Found). x.count) same) g) (ap (λ (x : Found). x.report) same)
 copy_found m old new report told f first (room.written ws k few e g) i =
-    let same : f ≡ accepted_found answer.Good (length (plain_text ws)) report = i ∙ ap (λ (t : Result ℕ RoomFault). room_found t report) e in
+    let same : f ≡ accepted_found answer.Good (length (plain_text ws)) report = i ∙ ap (λ (t : Result ℕ RoomFault). size_found t report) e in
     copied ws k (written few (ap (λ (x : Found). x.answer) same) (ap (λ (x : Found). x.count) same) g) (ap (λ (x : Found). x.report) same)
 
--- how many bytes a text has is told whether there is room or not
+-- how many bytes a text has, whether they fit or not
 text_told : (text old : List ℕ) (a : Answer) (n : ℕ) (new : List ℕ) → TellsText text old a n new → n ≡ length text
-text_told text old a n new (no_room l e f g) = f
+text_told text old a n new (too_small l e f g) = f
 text_told text old a n new (written l e f g) = f
 
 -- a copy has few bytes beside the charge
-few_copied : (old new : List ℕ) (m : List (List ℕ)) (w d : ℕ) (f : Found) → Copies old new m w d f → f.count ≤ 8 * (f.report.charge + 1)
-few_copied old new m w d f (refused q h e k) = let none = ap (λ (x : Found). x.count) e in omega (arith, none)
-few_copied old new m w d f (accepted q h (has_capability c e k)) = let none = ap (λ (x : Found). x.count) e in omega (arith, none)
-few_copied old new m w d f (accepted q (t, h) (copied ws j u i)) =
+few_copied : (demands : Demands) (old new : List ℕ) (m : List (List ℕ)) (w d : ℕ) (f : Found) → Copies old new demands m w d f
+    → f.count ≤ 8 * (f.report.charge + 1)
+few_copied demands old new m w d f (refused q h e k) = let none = ap (λ (x : Found). x.count) e in omega (arith, none)
+few_copied demands old new m w d f (accepted q h n (has_capability c e k)) = let none = ap (λ (x : Found). x.count) e in omega (arith, none)
+few_copied demands old new m w d f (accepted q (t, h) n (copied ws j u i)) =
     let few = copy_charged m t q.charge q.depth ws h.denotes j in
     let long = text_told (plain_text ws) old f.answer f.count new u in
     let same : f.report.charge ≡ q.charge = ap (λ (z : CallReport). z.charge) i in
     omega (arith, few, long, length_plain ws, same)
 
-pub few_told : (l : CallLimits) (bs old new : List ℕ) (f : Found) → Tells (new ≡ old) (Copies old new) l bs f → f.count ≤ 8 * (f.report.charge + 1)
-few_told l bs old new f (without c h e k) = let none = ap (λ (x : Found). x.count) e in omega (arith, none)
-few_told l bs old new f (framed m x y g h p e) =
-    let few = few_copied old new m l.words l.depth g p in
+pub few_told : (whole : Bool) (demands : Demands) (l : CallLimits) (bs old new : List ℕ) (f : Found)
+    → TellsWhole whole (new ≡ old) (Copies old new demands) l bs f → f.count ≤ 8 * (f.report.charge + 1)
+few_told whole demands l bs old new f (trailing m x y t h more e k) = let none = ap (λ (x : Found). x.count) e in omega (arith, none)
+few_told whole demands l bs old new f (tells none (without c h e k)) = let none = ap (λ (x : Found). x.count) e in omega (arith, none)
+few_told whole demands l bs old new f (tells none (framed m x y g h p e)) =
+    let few = few_copied demands old new m l.charge l.depth g p in
     let count = ap (λ (x : Found). x.count) e in
     let charge : f.report.charge ≡ g.report.charge = ap (λ (x : Found). x.report.charge) e in
     omega (arith, few, count, charge)
+
+-- and if it is unamplified, beside the words of the message
+short_copied : (demands : Demands) (old new : List ℕ) (m : List (List ℕ)) (w d : ℕ) (f : Found) → demands.unamplified ≡ true
+    → Copies old new demands m w d f → f.count ≤ 8 * (sum (sizes_of m) + 4097)
+short_copied demands old new m w d f un (refused q h e k) = let none = ap (λ (x : Found). x.count) e in omega (arith, none)
+short_copied demands old new m w d f un (accepted q h n (has_capability c e k)) = let none = ap (λ (x : Found). x.count) e in omega (arith, none)
+short_copied demands old new m w d f un (accepted q (t, h) n (copied ws j u i)) =
+    let few = copy_charged m t q.charge q.depth ws h.denotes j in
+    let long = text_told (plain_text ws) old f.answer f.count new u in
+    let within : q.charge ≤ unamplified m w = subst (λ (z : Bool). q.charge ≤ (if z then unamplified m w else w)) un h.within in
+    let most : q.charge ≤ sum (sizes_of m) + 4096 = ((within_both m w q.charge).0 within).1 in
+    omega (arith, few, long, length_plain ws, most)
+
+-- a frame has the words of its segments, and its table
+frame_words : (l : CallLimits) (bs : List ℕ) (frame segments : ℕ) (m : List (List ℕ)) → HasFrame l bs frame segments m
+    → 8 * sum (sizes_of m) ≤ frame
+frame_words l bs frame segments m h =
+    let table = h.front.frames.table in
+    let words = ap length h.front.frames.whole ∙ length-append table (joined m) in
+    omega (arith, h.front.long, words, length_joined m)
+
+pub short_told : (whole : Bool) (l : CallLimits) (bs old new : List ℕ) (f : Found) → allows_amplified l ≡ false
+    → TellsWhole whole (new ≡ old) (Copies old new (demands_of l)) l bs f → f.count ≤ f.report.length + 8 * 4097
+short_told whole l bs old new f un (trailing m x y t h more e k) = let none = ap (λ (x : Found). x.count) e in omega (arith, none)
+short_told whole l bs old new f un (tells none (without c h e k)) = let none = ap (λ (x : Found). x.count) e in omega (arith, none)
+short_told whole l bs old new f un (tells none (framed m x y g h p e)) =
+    let short = short_copied (demands_of l) old new m l.charge l.depth g (ap not un) p in
+    let count = ap (λ (x : Found). x.count) e in
+    let long : f.report.length ≡ x = ap (λ (x : Found). x.report.length) e in
+    omega (arith, short, count, long, frame_words l bs x y m h)

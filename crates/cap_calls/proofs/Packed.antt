@@ -4,12 +4,12 @@ use Rattle.std.proofs.lemmas.Bool.{false≢true}
 use Rattle.cap_spec.specs.Packing.{pack_text}
 use Rattle.cap_spec.specs.Plain.{plain_is_cut, plain_words}
 use Rattle.cap_words.proofs.Pieces.{plain_end}
-use Rattle.cap_calls.specs.PackCalls.{no_room, written, TellsPack, cut, whole}
+use Rattle.cap_calls.specs.PackCalls.{too_small, written, TellsPack, cut, whole}
 use Rattle.cap_calls.specs.declared.answer.Answer.{Answer}
-use Rattle.cap_calls.specs.declared.answer.Answer.TheVariants.{Good, NoRoom}
+use Rattle.cap_calls.specs.declared.answer.Answer.TheVariants.{Good, BufferTooSmall}
 use Rattle.cap_calls.proofs.Texts.{one_text}
 
--- bytes and a room tell one thing
+-- Bytes and a buffer allow one answer.
 pub one_pack_told : (bs old : List ℕ) (a b : Answer) (n k : ℕ) (xs ys : List ℕ) → TellsPack bs old a n xs → TellsPack bs old b k ys →
     (a ≡ b) × (n ≡ k) × (xs ≡ ys)
 one_pack_told bs old a b n k xs ys (cut c e f g) (cut d h i j) = (e ∙ sym h, f ∙ sym i, g ∙ sym j)
@@ -17,20 +17,20 @@ one_pack_told bs old a b n k xs ys (whole c t) (whole d u) = one_text (pack_text
 one_pack_told bs old a b n k xs ys (cut c e f g) (whole d u) = absurd (false≢true (sym d ∙ c))
 one_pack_told bs old a b n k xs ys (whole c t) (cut d h i j) = absurd (false≢true (sym c ∙ d))
 
--- their length tells whether they are words
+-- Their length decides whether they are words.
 pub cut_by_length : (bs : List ℕ) → 0 < length bs % 8 → plain_is_cut bs ≡ true
 cut_by_length bs some = (plain_end 0 bs (omega arith)).cut some
 
 pub whole_by_length : (bs : List ℕ) → length bs % 8 ≡ 0 → plain_is_cut bs ≡ false
 whole_by_length bs none = (plain_end 0 bs (omega arith)).whole none
 
--- the text fills the front of the room, and what stands behind it stays
+-- The text is at the start of the buffer, and the bytes after it stay.
 pub pack_written : (bs old new : List ℕ) (n : ℕ) → length bs % 8 ≡ 0 → n ≡ length (pack_text (plain_words bs)) → n ≤ length old →
     new ≡ pack_text (plain_words bs) ++ drop n old → TellsPack bs old Good n new
 pack_written bs old new n w e r h =
     whole (whole_by_length bs w) (written (omega (arith, e, r)) refl e (h ∙ ap (λ (k : ℕ). pack_text (plain_words bs) ++ drop k old) e))
 
--- or it is too long for it
-pub pack_no_room : (bs old new : List ℕ) (n : ℕ) → length bs % 8 ≡ 0 → n ≡ length (pack_text (plain_words bs)) → length old < n → new ≡ old →
-    TellsPack bs old NoRoom n new
-pack_no_room bs old new n w e r h = whole (whole_by_length bs w) (no_room (omega (arith, e, r)) refl e h)
+-- Or it does not fit.
+pub pack_too_small : (bs old new : List ℕ) (n : ℕ) → length bs % 8 ≡ 0 → n ≡ length (pack_text (plain_words bs)) → length old < n → new ≡ old →
+    TellsPack bs old BufferTooSmall n new
+pack_too_small bs old new n w e r h = whole (whole_by_length bs w) (too_small (omega (arith, e, r)) refl e h)

@@ -1,22 +1,22 @@
--- The bytes decide what the calls between spellings answer and write.
+-- The bytes decide what the calls that pack and unpack answer and write.
 use Rattle.std.proofs.Common.{ℕ, List, ◌≡◌, ◌∙◌, ◌<◌, ◌≤◌, ◌*◌, ◌^◌, ◌++◌, ap, refl, sym, length, drop, false, arith}
 use Rattle.std.proofs.lemmas.Bool.{false≢true}
 use Rattle.cap_spec.specs.Plain.{plain_text}
 use Rattle.cap_spec.specs.Unpacking.{packed_is_cut, unpacked}
 use Rattle.cap_spec.proofs.Bytes.Plain.{length_plain}
-use Rattle.cap_calls.specs.PackCalls.{TellsText, no_room, written, TellsUnpack, too_large, cut, whole}
+use Rattle.cap_calls.specs.PackCalls.{TellsText, too_small, written, TellsUnpack, too_large, cut, whole}
 use Rattle.cap_calls.specs.declared.answer.Answer.{Answer}
-use Rattle.cap_calls.specs.declared.answer.Answer.TheVariants.{Good, NoRoom}
+use Rattle.cap_calls.specs.declared.answer.Answer.TheVariants.{Good, BufferTooSmall}
 
--- a text and a room tell one thing
+-- A text and a buffer allow one answer.
 pub one_text : (text old : List ℕ) (a b : Answer) (n k : ℕ) (xs ys : List ℕ) → TellsText text old a n xs → TellsText text old b k ys →
     (a ≡ b) × (n ≡ k) × (xs ≡ ys)
-one_text text old a b n k xs ys (no_room l e f g) (no_room m h i j) = (e ∙ sym h, f ∙ sym i, g ∙ sym j)
+one_text text old a b n k xs ys (too_small l e f g) (too_small m h i j) = (e ∙ sym h, f ∙ sym i, g ∙ sym j)
 one_text text old a b n k xs ys (written l e f g) (written m h i j) = (e ∙ sym h, f ∙ sym i, g ∙ sym j)
-one_text text old a b n k xs ys (no_room l e f g) (written m h i j) = absurd (omega (arith, l, m))
-one_text text old a b n k xs ys (written l e f g) (no_room m h i j) = absurd (omega (arith, l, m))
+one_text text old a b n k xs ys (too_small l e f g) (written m h i j) = absurd (omega (arith, l, m))
+one_text text old a b n k xs ys (written l e f g) (too_small m h i j) = absurd (omega (arith, l, m))
 
--- So do packed bytes.
+-- So do packed bytes and a buffer.
 pub one_unpack_told : (bs old : List ℕ) (a b : Answer) (n k : ℕ) (xs ys : List ℕ) → TellsUnpack bs old a n xs → TellsUnpack bs old b k ys →
     (a ≡ b) × (n ≡ k) × (xs ≡ ys)
 one_unpack_told bs old a b n k xs ys (too_large l e f g) (too_large m h i j) = (e ∙ sym h, f ∙ sym i, g ∙ sym j)
@@ -29,16 +29,16 @@ one_unpack_told bs old a b n k xs ys (whole l c t) (too_large m h i j) = absurd 
 one_unpack_told bs old a b n k xs ys (cut l c e f g) (whole m d u) = absurd (false≢true (sym d ∙ c))
 one_unpack_told bs old a b n k xs ys (whole l c t) (cut m d h i j) = absurd (false≢true (sym c ∙ d))
 
--- the words fill the front of the room, and what stands behind them stays
+-- The words are at the start of the buffer, and the bytes after them stay.
 pub unpack_written : (bs old : List ℕ) (n : ℕ) → length bs ≤ 2 ^ 53 → packed_is_cut bs ≡ false → n ≡ 8 * length (unpacked bs) → n ≤ length old →
     TellsUnpack bs old Good n (plain_text (unpacked bs) ++ drop n old)
 unpack_written bs old n l w e r =
     let long : n ≡ length (plain_text (unpacked bs)) = e ∙ sym (length_plain (unpacked bs)) in
     whole l w (written (omega (arith, long, r)) refl long (ap (λ (k : ℕ). plain_text (unpacked bs) ++ drop k old) long))
 
--- or there are too many of them for it
-pub unpack_no_room : (bs old : List ℕ) (n : ℕ) → length bs ≤ 2 ^ 53 → packed_is_cut bs ≡ false → n ≡ 8 * length (unpacked bs) → length old < n →
-    TellsUnpack bs old NoRoom n old
-unpack_no_room bs old n l w e r =
+-- Or they do not fit.
+pub unpack_too_small : (bs old : List ℕ) (n : ℕ) → length bs ≤ 2 ^ 53 → packed_is_cut bs ≡ false → n ≡ 8 * length (unpacked bs) → length old < n →
+    TellsUnpack bs old BufferTooSmall n old
+unpack_too_small bs old n l w e r =
     let long : n ≡ length (plain_text (unpacked bs)) = e ∙ sym (length_plain (unpacked bs)) in
-    whole l w (no_room (omega (arith, long, r)) refl long refl)
+    whole l w (too_small (omega (arith, long, r)) refl long refl)

@@ -1,10 +1,15 @@
 -- The numbers of a call's answers (profile).
 use Rattle.std.specs.Prelude.{ℕ}
+use Rattle.cap_spec.specs.declared.Lax.{Lax}
+use Rattle.cap_spec.specs.declared.Lax.TheVariants as lax
 use Rattle.cap_spec.specs.declared.Reason.{Reason}
 use Rattle.cap_spec.specs.declared.Reason.TheVariants as reason
+use Rattle.cap_spec.specs.declared.StrictRefusal.{StrictRefusal}
+use Rattle.cap_spec.specs.declared.StrictRefusal.TheVariants as strict
 use Rattle.cap_calls.specs.declared.answer.Answer.{Answer}
-use Rattle.cap_calls.specs.declared.answer.Answer.TheVariants.{Good, NoMessage, TooManySegments, TooLarge, Truncated}
-use Rattle.cap_calls.specs.declared.answer.Answer.TheVariants.{BadLimits, NoRoom, NotCanonical, HasCapability, Overlap}
+use Rattle.cap_calls.specs.declared.answer.Answer.TheVariants.{Good, NoMessage, TooManySegments, TooLarge, Truncated, Trailing}
+use Rattle.cap_calls.specs.declared.answer.Answer.TheVariants.{BadLimits, BufferTooSmall, NotCanonical, HasCapability, Overlap}
+use Rattle.cap_calls.specs.declared.answer.Answer.TheVariants.{NullPad, EmptySegment, CapabilityPad, ManySegments}
 use Rattle.cap_calls.specs.declared.answer.Answer.TheVariants.{NoRoot, Reserved, SegmentMissing, PadOutside, PadIsFar}
 use Rattle.cap_calls.specs.declared.answer.Answer.TheVariants.{PadNotFar, TagKind, TagOffset, OutOfSegment}
 use Rattle.cap_calls.specs.declared.answer.Answer.TheVariants.{CompositeTag, CompositeOverrun, DepthLimit, WordLimit}
@@ -16,11 +21,16 @@ number_of NoMessage = 1
 number_of TooManySegments = 2
 number_of TooLarge = 3
 number_of Truncated = 4
+number_of Trailing = 5
 number_of BadLimits = 8
-number_of NoRoom = 9
+number_of BufferTooSmall = 9
 number_of NotCanonical = 16
 number_of HasCapability = 17
 number_of Overlap = 18
+number_of NullPad = 19
+number_of EmptySegment = 20
+number_of CapabilityPad = 22
+number_of ManySegments = 23
 number_of NoRoot = 32
 number_of Reserved = 33
 number_of SegmentMissing = 34
@@ -50,3 +60,15 @@ reason_answer reason.CompositeTag = CompositeTag
 reason_answer reason.CompositeOverrun = CompositeOverrun
 reason_answer reason.DepthLimit = DepthLimit
 reason_answer reason.WordLimit = WordLimit
+
+-- the answer of the name of this form
+abbrev pub lax_answer : Lax → Answer
+lax_answer lax.NullPad = NullPad
+lax_answer lax.EmptySegment = EmptySegment
+lax_answer lax.CapabilityPad = CapabilityPad
+
+-- the answer for a message that is refused
+abbrev pub refusal_answer : StrictRefusal → Answer
+refusal_answer (strict.Refused refusal) = reason_answer refusal.reason
+refusal_answer strict.ManySegments = ManySegments
+refusal_answer (strict.Pointer what s w n) = lax_answer what

@@ -1,26 +1,32 @@
 -- The frame at the start of bytes, within the limits of a call, or why there is none
 -- (profile; standard: Serialization Over a Stream).
-use Rattle.std.specs.Prelude.{ℕ, ◌≡◌, ◌≤◌, List, [], length, Err}
+use Rattle.std.specs.Prelude.{ℕ, ◌≡◌, ◌≤◌, ◌<◌, List, [], length, Err}
 use Rattle.cap_frame.specs.Framed.{TellsFront}
 use Rattle.cap_frame.specs.Fronts.{IsFront}
+use Rattle.cap_calls.specs.CallFlags.{HasKnownFlags}
 use Rattle.cap_calls.specs.declared.front.NoFrame.{NoFrame}
 use Rattle.cap_calls.specs.declared.front.NoFrame.TheVariants.{BadLimits, NoMessage, Fault}
 use Rattle.cap_calls.specs.declared.limits.CallLimits.{CallLimits}
 
--- no limit is above its most
+-- no limit is above its maximum, no flag is unknown, and the reserved fields are 0
 pub record AreLimits (l : CallLimits) : Type 0 where
-  pub small : l.size ≤ 268435456
-  pub few : l.words ≤ 268435456
+  pub small : l.message_words ≤ 268435456
+  pub few : l.charge ≤ 268435456
   pub shallow : l.depth ≤ 256
+  pub flags : HasKnownFlags l
 
 -- why the bytes begin with no frame within the limits
 abbrev pub HasNoFrame : CallLimits → List ℕ → NoFrame → Type 0
 HasNoFrame l bytes BadLimits = ¬ AreLimits l
 HasNoFrame l bytes NoMessage = AreLimits l × (bytes ≡ [])
-HasNoFrame l bytes (Fault fault) = AreLimits l × TellsFront l.size bytes (Err fault)
+HasNoFrame l bytes (Fault fault) = AreLimits l × TellsFront l.message_words bytes (Err fault)
 
--- The first `size` bytes frame a message of this number of segments, within the limits.
-pub record HasFrame (l : CallLimits) (bytes : List ℕ) (size segments : ℕ) (m : List (List ℕ)) : Type 0 where
+-- The first `frame` bytes frame a message of this number of segments, within the limits.
+pub record HasFrame (l : CallLimits) (bytes : List ℕ) (frame segments : ℕ) (m : List (List ℕ)) : Type 0 where
   pub are_limits : AreLimits l
-  pub front : IsFront l.size bytes m size
+  pub front : IsFront l.message_words bytes m frame
   pub count : segments ≡ length m
+
+-- The bytes frame a message within the limits, and more bytes follow it.
+abbrev pub HasTrailing : CallLimits → List ℕ → Type 0
+HasTrailing l bytes = (m : List (List ℕ)) × (frame segments : ℕ) × HasFrame l bytes frame segments m × (frame < length bytes)

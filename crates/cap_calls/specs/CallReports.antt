@@ -1,7 +1,8 @@
 -- What a call reports beside its answer, and what it returns for bytes without a frame (profile).
-use Rattle.std.specs.Prelude.{ℕ, unwrap_or}
+use Rattle.std.specs.Prelude.{ℕ, replicate, unwrap_or}
 use Rattle.cap_frame.specs.declared.fault.FrontFault.TheVariants as fault
-use Rattle.cap_spec.specs.declared.Refusal.{Refusal}
+use Rattle.cap_spec.specs.declared.StrictRefusal.{StrictRefusal}
+use Rattle.cap_spec.specs.declared.StrictRefusal.TheVariants.{Refused, ManySegments, Pointer}
 use Rattle.cap_vet.specs.declared.report.Report.{Report}
 use Rattle.cap_calls.specs.declared.answer.Answer.{Answer}
 use Rattle.cap_calls.specs.declared.answer.Answer.TheVariants as answer
@@ -11,24 +12,54 @@ use Rattle.cap_calls.specs.declared.report.CallReport.{CallReport}
 
 -- nothing is reported
 abbrev pub none_report : CallReport
-none_report = record { length = 0; number = 0; charge = 0; pointers = 0; caps = 0; depth = 0; segment = 0; word = 0; segments = 0 }
+none_report =
+    record {
+      length = 0;
+      required = 0;
+      detail = 0;
+      charge = 0;
+      pointers = 0;
+      capabilities = 0;
+      depth = 0;
+      segments = 0;
+      segment = 0;
+      word = 0;
+      reserved = replicate 4 0;
+    }
 
--- the number that is reported of bytes without a frame: how many segments, words or bytes
-abbrev pub cause_number : NoFrame → ℕ
-cause_number BadLimits = 0
-cause_number NoMessage = 8
-cause_number (Fault (fault.TooManySegments count)) = count
-cause_number (Fault (fault.TooLarge words)) = words
-cause_number (Fault (fault.Truncated wanted)) = wanted
+-- of bytes without a frame: how many segments or words it would have
+abbrev pub cause_detail : NoFrame → ℕ
+cause_detail BadLimits = 0
+cause_detail NoMessage = 0
+cause_detail (Fault (fault.TooManySegments count)) = count
+cause_detail (Fault (fault.TooLarge words)) = words
+cause_detail (Fault (fault.Truncated wanted)) = 0
+
+-- how many bytes the input needs at least
+abbrev pub cause_required : NoFrame → ℕ
+cause_required BadLimits = 0
+cause_required NoMessage = 8
+cause_required (Fault (fault.TooManySegments count)) = 0
+cause_required (Fault (fault.TooLarge words)) = 0
+cause_required (Fault (fault.Truncated wanted)) = wanted
 
 -- of bytes without a frame
 abbrev pub no_frame_report : NoFrame → CallReport
-no_frame_report cause = record none_report { number = cause_number cause }
+no_frame_report cause = record none_report { required = cause_required cause; detail = cause_detail cause }
+
+-- of a message that this many bytes follow, apart from its frame
+abbrev pub trailing_report : ℕ → CallReport
+trailing_report bytes = record none_report { detail = bytes }
+
+-- of a pointer of a message, and how many were checked
+abbrev pub place_report : ℕ → ℕ → ℕ → CallReport
+place_report s w n = record none_report { pointers = n; segment = s; word = w }
 
 -- of a message that is refused, apart from its frame
-abbrev pub refused_report : Refusal → CallReport
-refused_report refusal =
-    record none_report { pointers = refusal.pointers; segment = refusal.segment; word = refusal.word }
+abbrev pub refused_report : StrictRefusal → CallReport
+refused_report (Refused refusal) = place_report refusal.segment refusal.word refusal.pointers
+refused_report ManySegments = none_report
+refused_report (Pointer what s w n) = place_report s w n
 
 -- of one that is accepted, with its first capability
 abbrev pub accepted_report : Report → CallReport
@@ -37,7 +68,7 @@ accepted_report report =
     record none_report {
       charge = report.charge;
       pointers = report.pointers;
-      caps = report.caps;
+      capabilities = report.caps;
       depth = report.depth;
       segment = first.0;
       word = first.1;

@@ -6,9 +6,12 @@ use Rattle.cap_spec.specs.Paths.{IsFirstCap}
 use Rattle.cap_spec.specs.Plain.{plain_text}
 use Rattle.cap_canon.specs.declared.fault.RoomFault.{RoomFault}
 use Rattle.cap_canon.specs.declared.fault.RoomFault.TheVariants as fault
+use Rattle.cap_vet.specs.declared.demands.Demands.{Demands}
 use Rattle.cap_vet.specs.declared.report.Report.{Report}
 use Rattle.cap_calls.specs.CallReports.{accepted_report}
-use Rattle.cap_calls.specs.Finding.{Judges, Returns, Tells, accepted_found}
+use Rattle.cap_calls.specs.CallFindings.{Judges, Returns, accepted_found}
+use Rattle.cap_calls.specs.CallFlags.{demands_of}
+use Rattle.cap_calls.specs.Calls.{TellsMessage}
 use Rattle.cap_calls.specs.PackCalls.{TellsText}
 use Rattle.cap_calls.specs.declared.answer.Answer.{Answer}
 use Rattle.cap_calls.specs.declared.answer.Answer.TheVariants as answer
@@ -25,16 +28,16 @@ pub data IsCopied (old new : List ℕ) (m : List (List ℕ)) (report : Report) (
   copied : (words : List ℕ) → HasCopy m words → TellsText (plain_text words) old f.answer f.count new → f.report ≡ accepted_report report
       → IsCopied old new m report f
 
-abbrev pub Copies : List ℕ → List ℕ → List (List ℕ) → ℕ → ℕ → Found → Type 0
-Copies old new = Judges (new ≡ old) (IsCopied old new)
+abbrev pub Copies : List ℕ → List ℕ → Demands → List (List ℕ) → ℕ → ℕ → Found → Type 0
+Copies old new demands = Judges demands (new ≡ old) (IsCopied old new)
 
--- Of the message at the start of the bytes: the call returns n as the number of bytes.
+-- Of the message that the bytes are or start with: n bytes are the length of its copy.
 abbrev pub TellsCopy : CallLimits → List ℕ → List ℕ → Answer → ℕ → List ℕ → CallReport → Type 0
 TellsCopy l bytes old a n new r =
-    (f : Found) × Tells (new ≡ old) (Copies old new) l bytes f × Returns f a r × (n ≡ f.count)
+    (f : Found) × TellsMessage (new ≡ old) (Copies old new (demands_of l)) l bytes f × Returns f a r × (n ≡ f.count)
 
--- what is found of a message that is accepted, by what is found of the buffer's capacity
-abbrev pub room_found : Result ℕ RoomFault → Report → Found
-room_found (Ok count) report = accepted_found answer.Good count report
-room_found (Err (fault.NoRoom needed)) report = accepted_found answer.NoRoom needed report
-room_found (Err (fault.HasCapability segment word)) report = accepted_found answer.HasCapability 0 report
+-- what is found of a message that is accepted, by the result of its copy
+abbrev pub size_found : Result ℕ RoomFault → Report → Found
+size_found (Ok count) report = accepted_found answer.Good count report
+size_found (Err (fault.NoRoom needed)) report = accepted_found answer.BufferTooSmall needed report
+size_found (Err (fault.HasCapability segment word)) report = accepted_found answer.HasCapability 0 report

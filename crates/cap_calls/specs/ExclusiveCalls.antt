@@ -1,46 +1,67 @@
 -- What the call that vets exclusively returns and reports, from the bytes and the capacity alone
 -- (profile).
-use Rattle.std.specs.Prelude.{ℕ, ◌≡◌, ◌≤◌, ◌⊎◌, List, drop, length, ⊤}
-use Rattle.cap_spec.specs.Occupying.{IsDisjoint}
+use Rattle.std.specs.Prelude.{ℕ, ◌<◌, ◌≡◌, ◌≤◌, ◌⊎◌, List, drop, length, ⊤}
+use Rattle.cap_spec.specs.Occupying.{IsDisjoint, IsFirstOverlap}
+use Rattle.cap_spec.specs.declared.StrictRefusal.TheVariants.{Refused}
 use Rattle.cap_vet.specs.Exclusives.{IsExclusiveFault}
 use Rattle.cap_vet.specs.Reports.{IsAccepted}
 use Rattle.cap_vet.specs.Taken.{marks_of}
+use Rattle.cap_vet.specs.declared.demands.Demands.{Demands}
 use Rattle.cap_vet.specs.declared.exclusive_room.ExclusiveFault.{ExclusiveFault}
 use Rattle.cap_vet.specs.declared.exclusive_room.ExclusiveFault.TheVariants as fault
 use Rattle.cap_vet.specs.declared.report.Report.{Report}
-use Rattle.cap_calls.specs.CallReports.{none_report}
-use Rattle.cap_calls.specs.Finding.{Returns, Tells, accepted_found, refused_found}
+use Rattle.cap_calls.specs.CallFindings.{Judges, Returns, accepted_found, refused_found}
+use Rattle.cap_calls.specs.CallFlags.{demands_of}
+use Rattle.cap_calls.specs.CallReports.{place_report}
+use Rattle.cap_calls.specs.Calls.{TellsMessage}
 use Rattle.cap_calls.specs.declared.answer.Answer.{Answer}
 use Rattle.cap_calls.specs.declared.answer.Answer.TheVariants as answer
 use Rattle.cap_calls.specs.declared.found.Found.{Found}
 use Rattle.cap_calls.specs.declared.limits.CallLimits.{CallLimits}
 use Rattle.cap_calls.specs.declared.report.CallReport.{CallReport}
 
--- of a message that isn't exclusive, whose marks take this number of numbers; of an overlap the
--- report has its pointer, and how many were looked at
-abbrev pub fault_found : ℕ → ExclusiveFault → Found
-fault_found numbers (fault.Refused refusal) = refused_found refusal
-fault_found numbers (fault.NoRoom needed report) = accepted_found answer.NoRoom numbers report
-fault_found numbers (fault.Overlap s w k) =
-    record { answer = answer.Overlap; count = numbers; report = record none_report { pointers = k; segment = s; word = w } }
+-- of an accepted message whose marks take n numbers, and that uses a word twice: the pointer, and how
+-- many were checked
+abbrev pub overlap_found : ℕ → ℕ → ℕ → ℕ → Found
+overlap_found n s w pointers = record { answer = answer.Overlap; count = n; report = place_report s w pointers }
 
--- Of a message, for a buffer of `room` numbers.
-pub data Marks (room : ℕ) (m : List (List ℕ)) (words depth : ℕ) (f : Found) : Type 0 where
-  -- it is refused, the buffer is too small, or a word is used twice
-  faulted : (fault : ExclusiveFault) → IsExclusiveFault m words depth room fault → f ≡ fault_found (marks_of m) fault → Marks room m words depth f
-  -- it is accepted, and no word is used twice
-  exclusive : (report : Report) → IsAccepted m words depth report → IsDisjoint m → marks_of m ≤ room
-      → f ≡ accepted_found answer.Good (marks_of m) report → Marks room m words depth f
+-- Of an accepted message, for a buffer of `size` numbers.
+pub data IsMarked (size : ℕ) (m : List (List ℕ)) (report : Report) (f : Found) : Type 0 where
+  -- the buffer is too small
+  too_small : size < marks_of m → f ≡ accepted_found answer.BufferTooSmall (marks_of m) report → IsMarked size m report f
+  -- a word is used twice
+  overlap : (s w pointers : ℕ) → marks_of m ≤ size → IsFirstOverlap m s w pointers → f ≡ overlap_found (marks_of m) s w pointers
+      → IsMarked size m report f
+  -- no word is used twice
+  exclusive : marks_of m ≤ size → IsDisjoint m → f ≡ accepted_found answer.Good (marks_of m) report → IsMarked size m report f
 
--- the marks are in the numbers that are needed, and are there only with these answers
+-- of a message
+abbrev pub Marks : ℕ → Demands → List (List ℕ) → ℕ → ℕ → Found → Type 0
+Marks size demands = Judges demands ⊤ (IsMarked size)
+
+-- the marks are in the numbers that are required, and are there only with these answers
 pub record KeepsMarks (old new : List ℕ) (f : Found) : Type 0 where
   pub rest : drop f.count new ≡ drop f.count old
   pub kept : (f.answer ≡ answer.Good) ⊎ ((f.answer ≡ answer.Overlap) ⊎ (new ≡ old))
 
 -- of a message, for a buffer that held `old`, and then holds `new`
-abbrev pub MarksIn : List ℕ → List ℕ → List (List ℕ) → ℕ → ℕ → Found → Type 0
-MarksIn old new m words depth f = Marks (length old) m words depth f × KeepsMarks old new f
+abbrev pub MarksIn : List ℕ → List ℕ → Demands → List (List ℕ) → ℕ → ℕ → Found → Type 0
+MarksIn old new demands m words depth f = Marks (length old) demands m words depth f × KeepsMarks old new f
 
--- Of the message at the start of the bytes: the call returns n as needed.
+-- Of the message that the bytes are or start with: n numbers are required for its marks.
 abbrev pub TellsExclusive : CallLimits → List ℕ → ℕ → Answer → ℕ → CallReport → Type 0
-TellsExclusive l bytes room a n r = (f : Found) × Tells ⊤ (Marks room) l bytes f × Returns f a r × (n ≡ f.count)
+TellsExclusive l bytes size a n r =
+    (f : Found) × TellsMessage ⊤ (Marks size (demands_of l)) l bytes f × Returns f a r × (n ≡ f.count)
+
+-- what is found of a message that isn't exclusive, whose marks take n numbers
+abbrev pub fault_found : ℕ → ExclusiveFault → Found
+fault_found n (fault.Refused refusal) = refused_found (Refused refusal)
+fault_found n (fault.NoRoom needed report) = accepted_found answer.BufferTooSmall n report
+fault_found n (fault.Overlap s w pointers) = overlap_found n s w pointers
+
+-- The message isn't exclusive, or it is accepted and exclusive. So a call finds with all three flags.
+abbrev pub MarksAny : ℕ → List (List ℕ) → ℕ → ℕ → Found → Type 0
+MarksAny size m words depth f =
+    ((fault : ExclusiveFault) × IsExclusiveFault m words depth size fault × (f ≡ fault_found (marks_of m) fault))
+    ⊎ ((report : Report) × IsAccepted m words depth report × IsDisjoint m × (marks_of m ≤ size)
+    × (f ≡ accepted_found answer.Good (marks_of m) report))

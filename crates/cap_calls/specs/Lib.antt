@@ -1,8 +1,9 @@
 pub mod AnswerNumbers
+pub mod CallFindings
+pub mod CallFlags
 pub mod CallFrames
 pub mod CallReports
 pub mod Calls
 pub mod CanonicalCalls
 pub mod ExclusiveCalls
-pub mod Finding
 pub mod PackCalls

@@ -5,12 +5,12 @@ use Rattle.cap_spec.specs.Packing.{pack_text}
 use Rattle.cap_spec.specs.Plain.{plain_is_cut, plain_text, plain_words}
 use Rattle.cap_spec.specs.Unpacking.{packed_is_cut, unpacked}
 use Rattle.cap_calls.specs.declared.answer.Answer.{Answer}
-use Rattle.cap_calls.specs.declared.answer.Answer.TheVariants.{Good, TooLarge, Truncated, NoRoom}
+use Rattle.cap_calls.specs.declared.answer.Answer.TheVariants.{Good, TooLarge, Truncated, BufferTooSmall}
 
 -- A text of bytes for this buffer, which held these: whether it fits, how many bytes it takes, and
 -- what the buffer holds then.
 pub data TellsText (text old : List ℕ) (a : Answer) (n : ℕ) (new : List ℕ) : Type 0 where
-  no_room : length old < length text → a ≡ NoRoom → n ≡ length text → new ≡ old → TellsText text old a n new
+  too_small : length old < length text → a ≡ BufferTooSmall → n ≡ length text → new ≡ old → TellsText text old a n new
   written : length text ≤ length old → a ≡ Good → n ≡ length text → new ≡ text ++ drop (length text) old → TellsText text old a n new
 
 -- of the words that the bytes encode

@@ -4,7 +4,7 @@ ghost use Rattle.std.specs.Prelude.{◌≡◌};
 
 use crate::front::NoFrame;
 use cap_frame::FrontFault;
-use cap_spec::Reason;
+use cap_spec::{Lax, Reason, StrictRefusal};
 
 /// What a call answers. The numbers are those of `include/capvet.h` and never change.
 #[derive(Clone, Copy, Debug, PartialEq, Eq, Drop)]
@@ -19,17 +19,27 @@ pub enum Answer {
     TooLarge = 3,
     /// The bytes end inside the message, packed ones inside a group, or those of words inside a word.
     Truncated = 4,
-    /// A limit is above its most.
+    /// The bytes are a message and more bytes, which the call doesn't allow.
+    Trailing = 5,
+    /// A limit is above its maximum, a flag is unknown, or a reserved field isn't 0.
     BadLimits = 8,
-    /// The buffer given is too small.
-    NoRoom = 9,
+    /// The output buffer is too small.
+    BufferTooSmall = 9,
     /// The message is accepted, and isn't its own canonical copy.
     NotCanonical = 16,
     /// The message is accepted, and has a capability, so that it has no canonical copy.
     HasCapability = 17,
     /// The message is accepted, and a word of it is used twice.
     Overlap = 18,
-    /// The message is refused for [`Reason::NoRoot`]. Those after it are for the reasons of their
+    /// The message is valid, and isn't strict, for [`Lax::NullPad`].
+    NullPad = 19,
+    /// The same for [`Lax::EmptySegment`].
+    EmptySegment = 20,
+    /// The same for [`Lax::CapabilityPad`].
+    CapabilityPad = 22,
+    /// The message is valid, and isn't strict: it has 512 segments.
+    ManySegments = 23,
+    /// The message isn't valid, for [`Reason::NoRoot`]. Those after it are for the reasons of their
     /// names.
     NoRoot = 32,
     Reserved = 33,
@@ -47,7 +57,7 @@ pub enum Answer {
 }
 
 impl Answer {
-    ghost use Rattle.cap_calls.specs.AnswerNumbers.{number_of, reason_answer};
+    ghost use Rattle.cap_calls.specs.AnswerNumbers.{lax_answer, number_of, reason_answer, refusal_answer};
     ghost use Rattle.cap_calls.specs.CallReports.{cause_answer};
 
     /// Its number in the header.
@@ -71,9 +81,32 @@ impl Answer {
         }
     }
 
-    // The answer for a message that is refused for this reason.
+    // The answer for a message that is refused.
     #[inline]
-    pub(crate) fn of_reason(reason: Reason) -> Answer
+    pub(crate) fn of_refusal(refusal: StrictRefusal) -> Answer
+        ensures { result ≡ refusal_answer refusal }
+    {
+        match refusal {
+            StrictRefusal::Refused(refusal) => Answer::of_reason(refusal.reason),
+            StrictRefusal::ManySegments => Answer::ManySegments,
+            StrictRefusal::Pointer { what, .. } => Answer::of_lax(what),
+        }
+    }
+
+    // The answer for a pointer of this form.
+    fn of_lax(what: Lax) -> Answer
+        ensures { result ≡ lax_answer what }
+    {
+        match what {
+            Lax::NullPad => Answer::NullPad,
+            Lax::EmptySegment => Answer::EmptySegment,
+            Lax::CapabilityPad => Answer::CapabilityPad,
+        }
+    }
+
+    // The answer for a message that isn't valid for this reason.
+    #[inline]
+    fn of_reason(reason: Reason) -> Answer
         ensures { result ≡ reason_answer reason }
     {
         match reason {

@@ -4,10 +4,10 @@ use crate::answer::Answer;
 use crate::front::NoFrame;
 use crate::report::CallReport;
 use cap_frame::Framed;
-use cap_spec::Refusal;
+use cap_spec::StrictRefusal;
 use cap_vet::Report;
 
-/// What a call finds: its answer, how many bytes or numbers its output has or needs, and what it
+/// What a call finds: its answer, how many bytes or numbers its output takes, and what it
 /// reports.
 #[derive(Clone, Copy)]
 pub(crate) struct Found {
@@ -17,7 +17,7 @@ pub(crate) struct Found {
 }
 
 impl Found {
-    ghost use Rattle.cap_calls.specs.Finding.{accepted_found, framed_found, none_found, refused_found};
+    ghost use Rattle.cap_calls.specs.CallFindings.{accepted_found, framed_found, none_found, refused_found, trailing_found};
     ghost use Rattle.cap_frame.specs.Framed.{frame_bytes, framed_segments};
     ghost use Rattle.std.specs.Prelude.{◌≡◌, length};
 
@@ -32,12 +32,23 @@ impl Found {
         }
     }
 
+    // Of a message that this many bytes follow.
+    pub(crate) fn trailing(bytes: u64) -> Found
+        ensures { result ≡ trailing_found bytes }
+    {
+        Found {
+            answer: Answer::Trailing,
+            count: 0,
+            report: CallReport::of_trailing(bytes),
+        }
+    }
+
     // Of a message that is refused.
-    pub(crate) fn refused(refusal: Refusal) -> Found
+    pub(crate) fn refused(refusal: StrictRefusal) -> Found
         ensures { result ≡ refused_found refusal }
     {
         Found {
-            answer: Answer::of_reason(refusal.reason),
+            answer: Answer::of_refusal(refusal),
             count: 0,
             report: CallReport::of_refused(refusal),
         }

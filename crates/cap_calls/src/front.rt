@@ -13,7 +13,7 @@ use cap_vet::Limits;
 /// Why there is no frame to report.
 #[derive(Clone, Copy, Debug, PartialEq, Eq, Drop)]
 pub enum NoFrame {
-    /// A limit is above its maximum.
+    /// A limit is above its maximum, a flag is unknown, or a reserved field isn't 0.
     BadLimits,
     /// There are no bytes.
     NoMessage,
@@ -27,15 +27,18 @@ pub(crate) fn front<'b>(
     limits: &CallLimits,
 ) -> Result<(Framed<'b>, Limits), NoFrame>
     ensures limits { IfOk result (λ f. AreLimits limits.now
-        × (words_of f.1 ≡ limits.now.words) × (depth_of f.1 ≡ limits.now.depth)) }
+        × (words_of f.1 ≡ limits.now.charge) × (depth_of f.1 ≡ limits.now.depth)) }
     ensures front { IfOk result (λ f.
-        IsFront limits.now.size bytes.now (framed_segments f.0) (frame_bytes f.0)) }
+        IsFront limits.now.message_words bytes.now (framed_segments f.0) (frame_bytes f.0)) }
     ensures none { IfErr result (HasNoFrame limits.now bytes.now) }
 {
-    let Some(size) = SizeLimit::new(limits.size) else {
+    if !limits.has_known_flags() {
+        return Err(NoFrame::BadLimits);
+    }
+    let Some(size) = SizeLimit::new(limits.message_words) else {
         return Err(NoFrame::BadLimits);
     };
-    let Some(walk) = Limits::new(limits.words, limits.depth) else {
+    let Some(walk) = Limits::new(limits.charge, limits.depth) else {
         return Err(NoFrame::BadLimits);
     };
     match front_of(bytes, size) {

@@ -1,14 +1,57 @@
 //! The limits of a call.
 
-/// The limits of a call, laid out as C has them. Any numbers make one; a call returns
-/// [`crate::Answer::BadLimits`] for those that are above their maximum.
+use cap_vet::Demands;
+
+/// The highest sum of flags that a call knows: 1, 2 and 4.
+const ALL_FLAGS: u32 = 7;
+
+/// The limits of a call, laid out as C has them. Any numbers make one. A call returns
+/// [`crate::Answer::BadLimits`] for a number above its maximum, an unknown flag, or a reserved field
+/// that isn't 0.
 #[repr(C)]
 #[derive(Clone, Copy, Debug, PartialEq, Eq)]
 pub struct CallLimits {
-    /// Most words of a message, its table not counted: at most 268435456.
-    pub size: u64,
-    /// Most words that a walk is charged: at most 268435456.
-    pub words: u64,
-    /// Most levels of objects: at most 256.
+    /// Most words in all segments: at most 268435456.
+    pub message_words: u64,
+    /// Highest charge in words: at most 268435456.
+    pub charge: u64,
+    /// Deepest level of an object: at most 256.
     pub depth: u32,
+    /// What else is allowed, as a sum. 1: bytes after the message. 2: a message that isn't strict.
+    /// 4: a charge of more than 4096 words above the words of the segments.
+    pub flags: u32,
+    /// They have to be 0.
+    pub reserved: [u64; 2],
+}
+
+impl CallLimits {
+    ghost use Rattle.cap_calls.specs.CallFlags.{HasKnownFlags, allows_trailing, demands_of};
+    ghost use Rattle.std.specs.Prelude.{◌≡◌, Decides};
+
+    // Whether it has no flag that is unknown, and its reserved fields are 0.
+    #[inline]
+    pub(crate) fn has_known_flags(&self) -> bool
+        ensures { Decides result (HasKnownFlags self.now) }
+    {
+        self.flags <= ALL_FLAGS && self.reserved[0] == 0 && self.reserved[1] == 0
+    }
+
+    // Whether bytes may follow the message.
+    #[inline]
+    pub(crate) fn allows_trailing(&self) -> bool
+        ensures { result ≡ allows_trailing self.now }
+    {
+        self.flags % 2 == 1
+    }
+
+    // What else a message has to meet.
+    #[inline]
+    pub(crate) fn demands(&self) -> Demands
+        ensures { result ≡ demands_of self.now }
+    {
+        Demands {
+            strict: self.flags / 2 % 2 == 0,
+            unamplified: self.flags / 4 % 2 == 0,
+        }
+    }
 }

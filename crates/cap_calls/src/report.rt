@@ -2,35 +2,40 @@
 
 use crate::front::NoFrame;
 use cap_frame::FrontFault;
-use cap_spec::Refusal;
+use cap_spec::{Refusal, StrictRefusal};
 use cap_vet::Report;
 
 /// What a call reports beside its answer, laid out as C has it. A field that doesn't apply is 0.
 #[repr(C)]
 #[derive(Clone, Copy, Debug, PartialEq, Eq)]
 pub struct CallReport {
-    /// Bytes of the frame with its table, also of a refused message; 0 where there is none.
+    /// Bytes of the frame with its table, also of a refused message; 0 if there is no frame.
     pub length: u64,
-    /// Of a fault of the frame: how many segments, words or bytes.
-    pub number: u64,
+    /// Of bytes that end before the frame does: how many bytes the input needs at least.
+    pub required: u64,
+    /// How many segments, words or trailing bytes the answer is about.
+    pub detail: u64,
     /// Of an accepted message: the charge of all followings, in words.
     pub charge: u64,
-    /// Of an accepted message its pointer words, null ones too; of a refused one those looked at.
+    /// Of an accepted message its pointer words, null ones too. Of a refused one those that were
+    /// checked.
     pub pointers: u64,
     /// Of an accepted message: its capabilities.
-    pub caps: u64,
+    pub capabilities: u64,
     /// Of an accepted message: the deepest level of an object.
     pub depth: u32,
+    /// How many segments the message has, if there is a frame.
+    pub segments: u32,
     /// The segment of the pointer that is named: that of the refusal, or of the first capability.
     pub segment: u32,
     /// That pointer's word in its segment.
     pub word: u32,
-    /// How many segments the message has, where there is a frame.
-    pub segments: u32,
+    /// They are 0.
+    pub reserved: [u64; 4],
 }
 
 impl CallReport {
-    ghost use Rattle.cap_calls.specs.CallReports.{accepted_report, no_frame_report, none_report, refused_report};
+    ghost use Rattle.cap_calls.specs.CallReports.{accepted_report, no_frame_report, none_report, refused_report, trailing_report};
     ghost use Rattle.std.specs.Prelude.{◌≡◌};
 
     // With nothing in it.
@@ -39,14 +44,16 @@ impl CallReport {
     {
         CallReport {
             length: 0,
-            number: 0,
+            required: 0,
+            detail: 0,
             charge: 0,
             pointers: 0,
-            caps: 0,
+            capabilities: 0,
             depth: 0,
+            segments: 0,
             segment: 0,
             word: 0,
-            segments: 0,
+            reserved: [0; 4],
         }
     }
 
@@ -54,28 +61,53 @@ impl CallReport {
     pub(crate) fn of_no_frame(cause: NoFrame) -> CallReport
         ensures { result ≡ no_frame_report cause }
     {
-        let number = match cause {
-            NoFrame::BadLimits => 0,
-            NoFrame::NoMessage => 8,
-            NoFrame::Fault(FrontFault::TooManySegments { count }) => count,
-            NoFrame::Fault(FrontFault::TooLarge { words }) => words,
-            NoFrame::Fault(FrontFault::Truncated { wanted }) => wanted,
+        let (required, detail) = match cause {
+            NoFrame::BadLimits => (0, 0),
+            NoFrame::NoMessage => (8, 0),
+            NoFrame::Fault(FrontFault::TooManySegments { count }) => (0, count),
+            NoFrame::Fault(FrontFault::TooLarge { words }) => (0, words),
+            NoFrame::Fault(FrontFault::Truncated { wanted }) => (wanted, 0),
         };
         CallReport {
-            number,
+            required,
+            detail,
+            ..CallReport::none()
+        }
+    }
+
+    // Of a message that this many bytes follow, apart from its frame.
+    pub(crate) fn of_trailing(bytes: u64) -> CallReport
+        ensures { result ≡ trailing_report bytes }
+    {
+        CallReport {
+            detail: bytes,
             ..CallReport::none()
         }
     }
 
     // Of a message that is refused, apart from its frame.
-    pub(crate) fn of_refused(refusal: Refusal) -> CallReport
+    pub(crate) fn of_refused(refusal: StrictRefusal) -> CallReport
         ensures { result ≡ refused_report refusal }
     {
-        CallReport {
-            pointers: refusal.pointers,
-            segment: refusal.segment,
-            word: refusal.word,
-            ..CallReport::none()
+        match refusal {
+            StrictRefusal::Refused(Refusal {
+                segment,
+                word,
+                pointers,
+                ..
+            })
+            | StrictRefusal::Pointer {
+                segment,
+                word,
+                pointers,
+                ..
+            } => CallReport {
+                pointers,
+                segment,
+                word,
+                ..CallReport::none()
+            },
+            StrictRefusal::ManySegments => CallReport::none(),
         }
     }
 
@@ -87,7 +119,7 @@ impl CallReport {
         CallReport {
             charge: report.charge,
             pointers: report.pointers,
-            caps: report.caps,
+            capabilities: report.caps,
             depth: report.depth,
             segment,
             word,

@@ -1,7 +1,7 @@
 //! The call that reports the length of a frame.
 
 ghost use Rattle.cap_calls.specs.Calls.{TellsFrame, Frames};
-ghost use Rattle.cap_calls.specs.Finding.{Tells};
+ghost use Rattle.cap_calls.specs.CallFindings.{Tells};
 ghost use Rattle.cap_calls.specs.declared.answer.Answer.{Answer};
 ghost use Rattle.cap_calls.specs.declared.report.CallReport.{CallReport};
 ghost use Rattle.std.specs.Prelude.{◌≡◌, ⊤};

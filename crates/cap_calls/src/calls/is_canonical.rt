@@ -1,9 +1,10 @@
 //! The call that checks whether a message is canonical.
 
-ghost use Rattle.cap_calls.specs.Calls.{Checks, TellsCheck};
+ghost use Rattle.cap_calls.specs.CallFindings.{Judges};
+ghost use Rattle.cap_calls.specs.Calls.{IsCheck, TellsCheck};
 ghost use Rattle.cap_calls.specs.declared.answer.Answer.{Answer};
 ghost use Rattle.cap_calls.specs.declared.report.CallReport.{CallReport};
-ghost use Rattle.std.specs.Prelude.{◌≡◌};
+ghost use Rattle.std.specs.Prelude.{◌≡◌, ⊤};
 
 use crate::answer::Answer;
 use crate::found::Found;
@@ -12,21 +13,21 @@ use crate::over::{Call, over};
 use crate::report::CallReport;
 use cap_canon::is_canonical as is_copy;
 use cap_frame::ByteView;
-use cap_vet::{Limits, vet};
+use cap_vet::{Demands, Limits, vet_with};
 
-/// Whether the message that bytes start with has one segment, and its words are its own canonical
-/// copy (encoding: Canonicalization). Allocates nothing, and makes no copy.
+/// Whether the message that bytes are has one segment, and its words are its own canonical copy
+/// (encoding: Canonicalization). Allocates nothing, and makes no copy.
 ///
 /// It returns [`Answer::Good`] if so, and [`Answer::NotCanonical`] for another accepted message,
-/// also for one with a capability. Otherwise it returns what [`crate::vet`] does. The report is
-/// written whole.
+/// also for one with a capability. Otherwise it returns what [`crate::vet`] does without flag 1: bytes
+/// after the message always give [`Answer::Trailing`]. The report is written whole.
 pub fn is_canonical(bytes: &[u8], limits: &CallLimits, report: &mut CallReport) -> Answer
     ensures tells { TellsCheck limits.now bytes.now result report.new }
     // The bytes allow no other result.
     ensures only { (a : Answer) (r : CallReport) → TellsCheck limits.now bytes.now a r →
         (result ≡ a) × (report.new ≡ r) }
 {
-    let found = over(&Checking, bytes, limits, &mut []);
+    let found = over(&Checking, true, bytes, limits, &mut []);
     *report = found.report;
     found.answer
 }
@@ -37,12 +38,19 @@ struct Checking;
 impl Call for Checking {
     type Item = u8;
 
-    ghost finds = { λ _ m words depth _ f _. Checks m words depth f };
+    ghost finds = { λ _ demands m words depth _ f _. Judges demands ⊤ IsCheck m words depth f };
 
     // Inlined: a small message pays for a call more than for the check.
     #[inline(always)]
-    fn on<'b>(&self, view: &ByteView<'b>, _words: u64, limits: Limits, _out: &mut [u8]) -> Found {
-        match vet(view, limits) {
+    fn on<'b>(
+        &self,
+        view: &ByteView<'b>,
+        _words: u64,
+        limits: Limits,
+        demands: Demands,
+        _out: &mut [u8],
+    ) -> Found {
+        match vet_with(view, limits, demands) {
             Ok(vetted) => {
                 let report = vetted.report();
                 if is_copy(&vetted) {

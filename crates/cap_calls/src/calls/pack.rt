@@ -11,34 +11,34 @@ use cap_pack::pack_into;
 /// `out` (encoding: Packing, 64-bit Words). It looks at no framing. Allocates nothing.
 ///
 /// The first of these that applies is returned:
-/// - [`Answer::Truncated`], if the bytes end inside a word; `written` is 0;
-/// - [`Answer::NoRoom`], if `out` is too small; `written` is then how many bytes the packed text
+/// - [`Answer::Truncated`], if the bytes end inside a word; `required` is 0;
+/// - [`Answer::BufferTooSmall`], if `out` is too small; `required` is then how many bytes the packed text
 ///   has;
-/// - [`Answer::Good`], and `written` is how many bytes were written.
+/// - [`Answer::Good`], and `required` is how many bytes were written.
 ///
 /// Without [`Answer::Good`], `out` is unchanged; with it, the bytes after the text are.
-pub fn pack(bytes: &[u8], out: &mut [u8], written: &mut usize) -> Answer
-    ensures tells { TellsPack bytes.now out.old result written.new out.new }
+pub fn pack(bytes: &[u8], out: &mut [u8], required: &mut usize) -> Answer
+    ensures tells { TellsPack bytes.now out.old result required.new out.new }
     // The bytes and the capacity allow no other result.
     ensures only { (a : Answer) (n : ℕ) (new : List ℕ) → TellsPack bytes.now out.old a n new →
-        (result ≡ a) × (written.new ≡ n) × (out.new ≡ new) }
+        (result ≡ a) × (required.new ≡ n) × (out.new ≡ new) }
 {
-    pack_all(bytes, out, written)
+    pack_all(bytes, out, required)
 }
 
 // The same, without the clause `only`.
-fn pack_all(bytes: &[u8], out: &mut [u8], written: &mut usize) -> Answer
-    ensures { TellsPack bytes.now out.old result written.new out.new }
+fn pack_all(bytes: &[u8], out: &mut [u8], required: &mut usize) -> Answer
+    ensures { TellsPack bytes.now out.old result required.new out.new }
 {
-    *written = 0;
+    *required = 0;
     if bytes.len() % 8 != 0 {
         return Answer::Truncated;
     }
-    let room = out.len();
+    let size = out.len();
     let count = pack_into(bytes, out);
-    *written = count;
-    if room < count {
-        return Answer::NoRoom;
+    *required = count;
+    if size < count {
+        return Answer::BufferTooSmall;
     }
     Answer::Good
 }

@@ -17,26 +17,26 @@ const MOST_PACKED: usize = 9007199254740992;
 /// Packing, 64-bit Words). It looks at no framing. Allocates nothing.
 ///
 /// The first of these that applies is returned:
-/// - [`Answer::TooLarge`], if there are more than 2^53 bytes; `written` is 0;
-/// - [`Answer::Truncated`], if they end inside a group; `written` is 0;
-/// - [`Answer::NoRoom`], if `out` is too small; `written` is then how many bytes the words take;
-/// - [`Answer::Good`], and `written` is how many bytes were written.
+/// - [`Answer::TooLarge`], if there are more than 2^53 bytes; `required` is 0;
+/// - [`Answer::Truncated`], if they end inside a group; `required` is 0;
+/// - [`Answer::BufferTooSmall`], if `out` is too small; `required` is then how many bytes the words take;
+/// - [`Answer::Good`], and `required` is how many bytes were written.
 ///
 /// Without [`Answer::Good`], `out` is unchanged; with it, the bytes after the words are.
-pub fn unpack(bytes: &[u8], out: &mut [u8], written: &mut usize) -> Answer
-    ensures tells { TellsUnpack bytes.now out.old result written.new out.new }
+pub fn unpack(bytes: &[u8], out: &mut [u8], required: &mut usize) -> Answer
+    ensures tells { TellsUnpack bytes.now out.old result required.new out.new }
     // The bytes and the capacity allow no other result.
     ensures only { (a : Answer) (n : ℕ) (new : List ℕ) → TellsUnpack bytes.now out.old a n new →
-        (result ≡ a) × (written.new ≡ n) × (out.new ≡ new) }
+        (result ≡ a) × (required.new ≡ n) × (out.new ≡ new) }
 {
-    unpack_all(bytes, out, written)
+    unpack_all(bytes, out, required)
 }
 
 // The same, without the clause `only`.
-fn unpack_all(bytes: &[u8], out: &mut [u8], written: &mut usize) -> Answer
-    ensures { TellsUnpack bytes.now out.old result written.new out.new }
+fn unpack_all(bytes: &[u8], out: &mut [u8], required: &mut usize) -> Answer
+    ensures { TellsUnpack bytes.now out.old result required.new out.new }
 {
-    *written = 0;
+    *required = 0;
     if bytes.len() > MOST_PACKED {
         return Answer::TooLarge;
     }
@@ -44,9 +44,9 @@ fn unpack_all(bytes: &[u8], out: &mut [u8], written: &mut usize) -> Answer
         return Answer::Truncated;
     };
     let count = 8 * words as usize;
-    *written = count;
+    *required = count;
     if out.len() < count {
-        return Answer::NoRoom;
+        return Answer::BufferTooSmall;
     }
     write_unpacked(bytes, &mut out[..count]);
     Answer::Good
@@ -109,7 +109,7 @@ fn front_group(bytes: &[u8]) -> Option<(usize, u64)>
 // Writes the words that the bytes encode, which fill the buffer.
 fn write_unpacked(bytes: &[u8], out: &mut [u8])
     requires whole { packed_is_cut bytes.now ≡ false }
-    requires room { length out.old ≡ 8 * length (unpacked bytes.now) }
+    requires size { length out.old ≡ 8 * length (unpacked bytes.now) }
     ensures { out.new ≡ plain_text (unpacked bytes.now) }
 {
     let mut source = Unpacker::new(SliceIn::new(bytes));

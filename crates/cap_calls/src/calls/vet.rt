@@ -1,9 +1,10 @@
 //! The call that vets a message.
 
-ghost use Rattle.cap_calls.specs.Calls.{TellsVet, Vets};
+ghost use Rattle.cap_calls.specs.CallFindings.{Judges};
+ghost use Rattle.cap_calls.specs.Calls.{IsGood, TellsVet};
 ghost use Rattle.cap_calls.specs.declared.answer.Answer.{Answer};
 ghost use Rattle.cap_calls.specs.declared.report.CallReport.{CallReport};
-ghost use Rattle.std.specs.Prelude.{◌≡◌};
+ghost use Rattle.std.specs.Prelude.{◌≡◌, ⊤};
 
 use crate::answer::Answer;
 use crate::found::Found;
@@ -11,21 +12,25 @@ use crate::limits::CallLimits;
 use crate::over::{Call, over};
 use crate::report::CallReport;
 use cap_frame::ByteView;
-use cap_vet::{Limits, vet as walk};
+use cap_vet::{Demands, Limits, vet_with};
 
-/// Vets the message that bytes start with, within limits. Allocates nothing, and doesn't look at
-/// the bytes after the message (encoding: Security Considerations).
+/// Vets the message that bytes are, within limits. With the flag 1 the bytes may start with it, and
+/// those after it are never looked at. Allocates nothing (encoding: Security Considerations).
 ///
 /// It returns [`Answer::Good`] if the message is accepted: its root denotes a finite tree within
-/// the limits. Otherwise it returns why there is no frame, or the reason of the refusal. The report
-/// is written whole.
+/// the limits, it is strict or flag 2 is set, and its charge is at most 4096 words above the words of
+/// its segments or flag 4 is set.
+///
+/// Otherwise it returns the first of these that applies: why there is no frame,
+/// [`Answer::Trailing`], the reason of a refusal, [`Answer::ManySegments`], the form of the first
+/// pointer that isn't strict. The report is written whole.
 pub fn vet(bytes: &[u8], limits: &CallLimits, report: &mut CallReport) -> Answer
     ensures tells { TellsVet limits.now bytes.now result report.new }
     // The bytes allow no other result.
     ensures only { (a : Answer) (r : CallReport) → TellsVet limits.now bytes.now a r →
         (result ≡ a) × (report.new ≡ r) }
 {
-    let found = over(&Vetting, bytes, limits, &mut []);
+    let found = over(&Vetting, !limits.allows_trailing(), bytes, limits, &mut []);
     *report = found.report;
     found.answer
 }
@@ -36,11 +41,18 @@ struct Vetting;
 impl Call for Vetting {
     type Item = u8;
 
-    ghost finds = { λ _ m words depth _ f _. Vets m words depth f };
+    ghost finds = { λ _ demands m words depth _ f _. Judges demands ⊤ IsGood m words depth f };
 
     #[inline(never)]
-    fn on<'b>(&self, view: &ByteView<'b>, _words: u64, limits: Limits, _out: &mut [u8]) -> Found {
-        match walk(view, limits) {
+    fn on<'b>(
+        &self,
+        view: &ByteView<'b>,
+        _words: u64,
+        limits: Limits,
+        demands: Demands,
+        _out: &mut [u8],
+    ) -> Found {
+        match vet_with(view, limits, demands) {
             Ok(vetted) => Found::accepted(Answer::Good, 0, vetted.report()),
             Err(refusal) => Found::refused(refusal),
         }

@@ -12,43 +12,43 @@ use crate::limits::CallLimits;
 use crate::over::{Call, over};
 use crate::report::CallReport;
 use cap_frame::ByteView;
-use cap_vet::{ExclusiveFault, Limits, marks_for, vet_exclusive_in};
+use cap_spec::StrictRefusal;
+use cap_vet::{Demands, ExclusiveFault, Limits, marks_for, vet_with};
 
-/// Vets the message that bytes start with as [`crate::vet`] does, and also refuses one that uses a
-/// word twice: by two pointers that paths reach, by one pointer, or by the root (profile). It marks
-/// a bit for each word in `marks`, which may hold anything before. Allocates nothing, and doesn't
-/// look at the bytes after the message.
+/// Vets the message that bytes are as [`crate::vet`] does, and also refuses one that uses a word
+/// twice: by two pointers that paths reach, by one pointer, or by the root (profile). It marks a bit
+/// for each word in `marks`, which may hold anything before. Allocates nothing.
 ///
 /// The first of these that applies is returned:
-/// - the answers of [`crate::vet`], if the message isn't accepted; `needed` is 0;
-/// - [`Answer::NoRoom`], if `marks` has fewer numbers than are needed; the report is that of
+/// - the answers of [`crate::vet`], if the message isn't accepted; `required` is 0;
+/// - [`Answer::BufferTooSmall`], if `marks` has fewer than `required` numbers; the report is that of
 ///   [`crate::vet`];
 /// - [`Answer::Overlap`], if a word is used twice; the report names the first pointer in preorder
-///   that uses one, and how many were looked at;
+///   that uses one, and how many were checked;
 /// - [`Answer::Good`]; the report is that of [`crate::vet`].
 ///
-/// With the last two, the first `needed` numbers hold marks and the others are unchanged. With any
+/// With the last two, the first `required` numbers hold marks and the others are unchanged. With any
 /// other answer all are unchanged. The report is written whole.
 pub fn vet_exclusive(
     bytes: &[u8],
     limits: &CallLimits,
     marks: &mut [u64],
-    needed: &mut usize,
+    required: &mut usize,
     report: &mut CallReport,
 ) -> Answer
-    ensures tells { TellsExclusive limits.now bytes.now (length marks.old) result needed.new
+    ensures tells { TellsExclusive limits.now bytes.now (length marks.old) result required.new
         report.new }
     // The bytes and the capacity allow no other result.
     ensures only { (a : Answer) (n : ℕ) (r : CallReport) →
         TellsExclusive limits.now bytes.now (length marks.old) a n r →
-        (result ≡ a) × (needed.new ≡ n) × (report.new ≡ r) }
+        (result ≡ a) × (required.new ≡ n) × (report.new ≡ r) }
     // This capacity is always enough.
-    ensures few { needed.new ≤ report.new.length / 512 + 1 }
-    ensures rest { drop needed.new marks.new ≡ drop needed.new marks.old }
+    ensures few { required.new ≤ report.new.length / 512 + 1 }
+    ensures rest { drop required.new marks.new ≡ drop required.new marks.old }
     ensures kept { (result ≡ Good) ⊎ ((result ≡ Overlap) ⊎ (marks.new ≡ marks.old)) }
 {
-    let found = over(&Marking, bytes, limits, marks);
-    *needed = found.count;
+    let found = over(&Marking, !limits.allows_trailing(), bytes, limits, marks);
+    *required = found.count;
     *report = found.report;
     found.answer
 }
@@ -59,12 +59,23 @@ struct Marking;
 impl Call for Marking {
     type Item = u64;
 
-    ghost finds = { λ _ m words depth old f new. MarksIn old new m words depth f };
+    ghost finds = { λ _ demands m words depth old f new. MarksIn old new demands m words depth f };
 
     #[inline(never)]
-    fn on<'b>(&self, view: &ByteView<'b>, words: u64, limits: Limits, marks: &mut [u64]) -> Found {
+    fn on<'b>(
+        &self,
+        view: &ByteView<'b>,
+        words: u64,
+        limits: Limits,
+        demands: Demands,
+        marks: &mut [u64],
+    ) -> Found {
+        let vetted = match vet_with(view, limits, demands) {
+            Ok(vetted) => vetted,
+            Err(refusal) => return Found::refused(refusal),
+        };
         let numbers = marks_for(words);
-        match vet_exclusive_in(view, limits, marks) {
+        match vetted.into_exclusive_in(marks) {
             Ok(exclusive) => {
                 Found::accepted(Answer::Good, numbers, exclusive.into_vetted().report())
             }
@@ -78,8 +89,10 @@ fn found_of_fault(fault: ExclusiveFault, numbers: usize) -> Found
     ensures { result ≡ fault_found numbers fault }
 {
     match fault {
-        ExclusiveFault::Refused(refusal) => Found::refused(refusal),
-        ExclusiveFault::NoRoom { report, .. } => Found::accepted(Answer::NoRoom, numbers, report),
+        ExclusiveFault::Refused(refusal) => Found::refused(StrictRefusal::Refused(refusal)),
+        ExclusiveFault::NoRoom { report, .. } => {
+            Found::accepted(Answer::BufferTooSmall, numbers, report)
+        }
         ExclusiveFault::Overlap {
             segment,
             word,

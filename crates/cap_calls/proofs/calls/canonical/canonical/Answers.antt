@@ -1,6 +1,6 @@
 -- Nothing else is told of the bytes and the buffer.
 use Rattle.std.proofs.Common.{refl}
-use Rattle.cap_calls.proofs.Copied.{few_told, one_copy_told}
+use Rattle.cap_calls.proofs.Copied.{few_told, one_copy_told, short_told}
 use Rattle.cap_calls.proofs.calls.canonical.canonical.Goals as goal
 
 pub returns-clause-tells : goal.returns-clause-tells
@@ -11,4 +11,7 @@ returns-clause-only c = λ a n new r h.
     one_copy_told c.args.limits.now c.args.bytes.now c.args.out.now _ a _ n _ new _ r (c.over-found.result, c.over-found.ensures, (refl, refl), refl) h
 
 pub returns-clause-few : goal.returns-clause-few
-returns-clause-few c = few_told c.args.limits.now c.args.bytes.now c.args.out.now _ _ c.over-found.ensures
+returns-clause-few c = few_told _ _ c.args.limits.now c.args.bytes.now c.args.out.now _ _ c.over-found.ensures
+
+pub returns-clause-short : goal.returns-clause-short
+returns-clause-short c = λ un. short_told _ c.args.limits.now c.args.bytes.now c.args.out.now _ _ un c.over-found.ensures

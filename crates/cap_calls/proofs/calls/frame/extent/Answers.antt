@@ -1,7 +1,7 @@
 -- What was found is what is told.
 use Rattle.std.proofs.Common.{ap, length, refl}
 use Rattle.cap_frame.specs.Framed.{frame_bytes, framed_segments}
-use Rattle.cap_calls.specs.Finding.{framed, without}
+use Rattle.cap_calls.specs.CallFindings.{framed, without}
 use Rattle.cap_calls.specs.declared.answer.Answer.TheVariants.{Good}
 use Rattle.cap_calls.specs.declared.found.Found.{Found}
 use Rattle.cap_calls.specs.declared.report.CallReport.{CallReport}

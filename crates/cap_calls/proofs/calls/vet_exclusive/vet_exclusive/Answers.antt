@@ -1,24 +1,25 @@
 -- Nothing else is told of the bytes and the capacity.
 use Rattle.std.proofs.Common.{refl}
 use Rattle.cap_calls.proofs.Answers.{tells_less}
-use Rattle.cap_calls.proofs.Marked.{few_needed, marks_kept, one_exclusive_told}
+use Rattle.cap_calls.proofs.Marked.{few_required, marks_kept, one_exclusive_told}
 use Rattle.cap_calls.proofs.calls.vet_exclusive.vet_exclusive.Goals as goal
 
 pub returns-clause-tells : goal.returns-clause-tells
 returns-clause-tells c =
-    (c.over-found.result, tells_less c.args.limits.now c.args.bytes.now _ (λ _. tt) (λ _ _ _ _ p. p.0) c.over-found.ensures, (refl, refl), refl)
+    (c.over-found.result, tells_less _ c.args.limits.now c.args.bytes.now _ (λ _. tt) (λ _ _ _ _ p. p.0) c.over-found.ensures, (refl, refl), refl)
 
 pub returns-clause-only : goal.returns-clause-only
 returns-clause-only c = λ a n r h.
     one_exclusive_told c.args.limits.now c.args.bytes.now _ _ a _ n _ r
-    (c.over-found.result, tells_less c.args.limits.now c.args.bytes.now _ (λ _. tt) (λ _ _ _ _ p. p.0) c.over-found.ensures, (refl, refl), refl) h
+    (c.over-found.result, tells_less _ c.args.limits.now c.args.bytes.now _ (λ _. tt) (λ _ _ _ _ p. p.0) c.over-found.ensures, (refl, refl), refl) h
 
 pub returns-clause-few : goal.returns-clause-few
 returns-clause-few c =
-    few_needed c.args.limits.now c.args.bytes.now _ _ (tells_less c.args.limits.now c.args.bytes.now _ (λ _. tt) (λ _ _ _ _ p. p.0) c.over-found.ensures)
+    few_required _ c.args.limits.now c.args.bytes.now _ _ _
+    (tells_less _ c.args.limits.now c.args.bytes.now _ (λ _. tt) (λ _ _ _ _ p. p.0) c.over-found.ensures)
 
 pub returns-clause-rest : goal.returns-clause-rest
-returns-clause-rest c = (marks_kept c.args.limits.now c.args.bytes.now _ _ _ c.over-found.ensures).rest
+returns-clause-rest c = (marks_kept _ _ c.args.limits.now c.args.bytes.now _ _ _ c.over-found.ensures).rest
 
 pub returns-clause-kept : goal.returns-clause-kept
-returns-clause-kept c = (marks_kept c.args.limits.now c.args.bytes.now _ _ _ c.over-found.ensures).kept
+returns-clause-kept c = (marks_kept _ _ c.args.limits.now c.args.bytes.now _ _ _ c.over-found.ensures).kept

@@ -3,8 +3,8 @@ use Rattle.std.proofs.Common.{◌∙◌, ap, refl, subst}
 use Rattle.cap_canon.specs.CopyRooms.{TellsRoom}
 use Rattle.cap_frame.specs.Bytes.{cut}
 use Rattle.cap_frame.specs.declared.view.ByteView.{ByteView}
-use Rattle.cap_calls.specs.CanonicalCalls.{room_found}
-use Rattle.cap_calls.specs.Finding.{accepted, refused}
+use Rattle.cap_calls.specs.CanonicalCalls.{size_found}
+use Rattle.cap_calls.specs.CallFindings.{accepted, refused}
 use Rattle.cap_calls.proofs.Copied.{copy_found}
 use Rattle.cap_calls.proofs.calls.canonical.CopyingCall.on.Goals as goal
 
@@ -15,9 +15,9 @@ returns-in-Ok c =
     let told = c.canonical_into.result in
     let tells = subst (λ (u : ByteView). TellsRoom (cut u.sizes.now u.bytes.now) c.args.out.now told c.canonical_into.new.out) c.in-Ok.ensures.message
     c.canonical_into.ensures.tells in
-    accepted report c.in-Ok.ensures.ok
-    (copy_found (cut v.sizes.now v.bytes.now) c.args.out.now c.canonical_into.new.out report told c.found_of_room.result c.in-Ok.ensures.ok.1.first_cap
-    tells (c.found_of_room.ensures ∙ ap (room_found told) c.report.ensures.value))
+    accepted report c.in-Ok.ensures.ok.0 c.in-Ok.ensures.ok.1
+    (copy_found (cut v.sizes.now v.bytes.now) c.args.out.now c.canonical_into.new.out report told c.found_of_size.result c.in-Ok.ensures.ok.0.1.first_cap
+    tells (c.found_of_size.ensures ∙ ap (size_found told) c.report.ensures.value))
 
 pub returns-in-Err : goal.returns-in-Err
 returns-in-Err c = refused c.in-Err.refusal c.in-Err.ensures.err c.refused.ensures refl

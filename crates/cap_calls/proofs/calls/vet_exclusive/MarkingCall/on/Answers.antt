@@ -3,7 +3,7 @@ use Rattle.std.proofs.Common.{◌∙◌, ◌≡◌, ◌+◌, ◌/◌, ap, ap₂,
 use Rattle.cap_frame.specs.Bytes.{cut}
 use Rattle.cap_vet.specs.Taken.{marks_of}
 use Rattle.cap_calls.specs.ExclusiveCalls.{exclusive, fault_found, faulted}
-use Rattle.cap_calls.specs.Finding.{accepted_found}
+use Rattle.cap_calls.specs.CallFindings.{accepted_found}
 use Rattle.cap_calls.specs.declared.answer.Answer.TheVariants.{Good}
 use Rattle.cap_calls.specs.declared.found.Found.{Found}
 use Rattle.cap_calls.proofs.Marked.{fault_kept}

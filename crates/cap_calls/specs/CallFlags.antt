@@ -1,0 +1,26 @@
+-- What the flags of a call allow (profile).
+use Rattle.std.specs.Prelude.{ℕ, ◌≡◌, ◌≤◌, ◌/◌, ◌%◌, ◌==◌, Bool, not, slice_index}
+use Rattle.cap_vet.specs.declared.demands.Demands.{Demands}
+use Rattle.cap_calls.specs.declared.limits.CallLimits.{CallLimits}
+
+-- no other flag is set than 1, 2 and 4, and the reserved fields are 0
+pub record HasKnownFlags (l : CallLimits) : Type 0 where
+  pub known : l.flags ≤ 7
+  pub first : slice_index l.reserved 0 ≡ 0
+  pub second : slice_index l.reserved 1 ≡ 0
+
+-- bytes may follow the message
+abbrev pub allows_trailing : CallLimits → Bool
+allows_trailing l = l.flags % 2 == 1
+
+-- the message need not be strict
+abbrev pub allows_nonstrict : CallLimits → Bool
+allows_nonstrict l = l.flags / 2 % 2 == 1
+
+-- the charge may be more than 4096 words above the words of the segments
+abbrev pub allows_amplified : CallLimits → Bool
+allows_amplified l = l.flags / 4 % 2 == 1
+
+-- what else a message has to meet
+abbrev pub demands_of : CallLimits → Demands
+demands_of l = record { strict = not (allows_nonstrict l); unamplified = not (allows_amplified l) }
