@@ -1,30 +1,90 @@
-/* capvet: checks untrusted Cap'n Proto messages without a schema.
+/* capvet.h -- checks Cap'n Proto messages from untrusted sources, without a schema.
  *
- * Every function reads and writes only the buffers that it is passed. It allocates nothing, keeps no state
- * between calls, leaves errno alone, always returns, and may be called from any number of threads at once.
- * It uses at most 24 KiB of stack. capvet_vet takes at most about 10 ns for each word of `words`, and
- * capvet_canonical up to four times as much. (These figures are measured, not proved.) The library needs an
- * x86-64 processor with SSE4.1, SSSE3 and POPCNT (x86-64-v2), and does not test for them.
+ * QUICK START
  *
- * Buffers: a pointer and a length in bytes. Bytes need no alignment; structs and numbers have the
- * alignment that C gives them. No pointer may be NULL, not even with length 0. For an empty buffer pass
- * the address of any byte of yours (the data() of an empty C++ vector may be NULL). No buffer may be
- * larger than PTRDIFF_MAX bytes. A `const` argument is only read: other threads may read it during the
- * call, and nobody may write it. An argument without `const` belongs to the call until it returns, and
- * may not overlap another argument. If the caller breaks one of these rules, the behavior is undefined.
+ *     capvet_limits limits = CAPVET_LIMITS_INIT;
+ *     capvet_report report;
+ *     uint32_t answer = capvet_vet(bytes, length, &limits, &report);
+ *     if (answer != CAPVET_OK) {
+ *       fprintf(stderr, "refused: answer %u\n", answer);
+ *     }
  *
- * A result is about the bytes as they were during the call. Never vet bytes that the sender can still
- * write (shared memory, a mapped file): copy them first, and vet and use the copy.
+ * CAPVET_OK means that `bytes` are one message and nothing else, and that a reader can follow every pointer
+ * without leaving its segments or looping. A full traversal reads at most 4,096 words (CAPVET_SLACK) more
+ * than its segments have. It says nothing about the schema. The program that reads the message still checks
+ * the values.
  *
- * A message begins at the first byte of the buffer, and the bytes after the message are ignored. If the
- * buffer should be one message and nothing else, compare report->length with its length.
+ * In a buffer of several messages set CAPVET_ALLOW_TRAILING, go on by report.length after each message,
+ * refused ones too, and stop where it is 0.
  *
- * Output buffers: `out` is a buffer of `room` bytes, and *written is the length of the result. With
- * CAPVET_OK the result is in the first *written bytes. With CAPVET_NO_ROOM it does not fit, and *written
- * is the capacity that it needs: so a call with `room` 0 returns the length. With any other result
- * *written is 0. Without CAPVET_OK, `out` is unchanged; with it, the bytes after the result are.
+ * CALLS
  *
- * A word is eight bytes. A place is the number of a segment and a word in it, both from 0. */
+ *   check        capvet_vet, capvet_vet_exclusive
+ *   frames       capvet_frame
+ *   canonical    capvet_canonical, capvet_is_canonical
+ *   packing      capvet_pack, capvet_unpack
+ *   other        capvet_version
+ *
+ * TERMS
+ *
+ *   word       8 bytes. Numbers in a message are little-endian.
+ *   segment    a run of words. A message has 1 to 512 segments.
+ *   frame      a message as it is sent over a stream: a table of segment sizes, then the segments.
+ *   place      a segment number and a word in that segment, both counted from 0.
+ *   far        a pointer into another segment, which goes through a landing pad of one or two words there.
+ *   level      the nesting depth of an object. The root object has level 1.
+ *   charge     the words that a full traversal reads, landing pads included. An object that two pointers
+ *              reach counts twice. An element of no bits (Void, a struct without words) counts as one.
+ *   preorder   the order in which pointers are checked: each one before those it leads to.
+ *   valid      the root leads to a finite tree inside the segments, within the limits. Unless
+ *              CAPVET_ALLOW_AMPLIFIED is set, the charge may be at most CAPVET_SLACK above the words of the
+ *              segments.
+ *   strict     valid, and without four forms that common readers reject, at least in part:
+ *              CAPVET_NULL_PAD, CAPVET_EMPTY_SEGMENT, CAPVET_CAPABILITY_PAD, CAPVET_MANY_SEGMENTS.
+ *   accepted   valid, and strict unless CAPVET_ALLOW_NONSTRICT is set: what capvet_vet requires.
+ *
+ * RULES FOR ALL CALLS
+ *
+ * Buffers. A buffer is a pointer and a length, size or count. A `length` is the bytes of an input. A `size`
+ * is the capacity of an output buffer in bytes. A `count` is a number of elements. Bytes need no alignment;
+ * structs and uint64_t have their usual alignment. No pointer may be NULL, not even with length 0: for an
+ * empty buffer pass the address of any byte of yours (the data() of an empty C++ vector may be NULL). No
+ * buffer may be larger than PTRDIFF_MAX bytes.
+ *
+ * Overlap. What is passed without `const` must not overlap any other argument.
+ *
+ * Threads. Calls keep no state and take no locks: any thread may call at any time. Several threads may read
+ * one `const` buffer together. Writing it during a call is undefined behaviour. So copy shared memory and
+ * mapped files first; then check and use the copy.
+ *
+ * Memory. Calls allocate nothing, use at most 24 KiB of stack, do not recurse, and leave errno alone.
+ *
+ * Failure. If a call does not return CAPVET_OK, output buffers are unchanged. capvet_vet_exclusive has an
+ * exception. Structs and numbers that are passed to be filled in are always written, and are 0 where they do
+ * not apply.
+ *
+ * Required size. Calls that fill a buffer have a parameter `required`. It is how much of the buffer the
+ * result takes, in the units of the buffer's size or count. It is set on CAPVET_OK, where it is the length of
+ * the result. It is set on CAPVET_BUFFER_TOO_SMALL, where nothing was written. So a call with a size of 0
+ * asks for the size.
+ *
+ * Order. If more than one answer applies, the first of these is returned:
+ *   1. CAPVET_BAD_LIMITS
+ *   2. the frame: CAPVET_NO_MESSAGE, CAPVET_TRUNCATED (less than 8 bytes), CAPVET_TOO_MANY_SEGMENTS,
+ *      CAPVET_TRUNCATED (the table), CAPVET_TOO_LARGE, CAPVET_TRUNCATED (the segments), CAPVET_TRAILING
+ *   3. the answers from CAPVET_NO_ROOT on: of the first such pointer in preorder the lowest number
+ *   4. CAPVET_MANY_SEGMENTS; then CAPVET_NULL_PAD, CAPVET_EMPTY_SEGMENT or CAPVET_CAPABILITY_PAD, whichever
+ *      pointer comes first in preorder
+ *   5. CAPVET_HAS_CAPABILITY
+ *   6. CAPVET_BUFFER_TOO_SMALL
+ *   7. CAPVET_NOT_CANONICAL, CAPVET_OVERLAP
+ * For capvet_pack and capvet_unpack see there.
+ *
+ * Cost. A walk is one pass over all pointers. A step takes about 10 ns on a current machine. By default a walk
+ * takes at most the words of the segments + CAPVET_SLACK + 1 steps, and with CAPVET_ALLOW_AMPLIFIED
+ * limits->charge + 1. (Times are measured, not proved.)
+ *
+ * Machines. 64-bit only. The archive for x86-64 needs SSSE3, SSE4.1 and POPCNT (x86-64-v2). */
 #ifndef CAPVET_H
 #define CAPVET_H
 
@@ -44,158 +104,267 @@ extern "C" {
 #define CAPVET_VERSION_MAJOR 1
 #define CAPVET_VERSION_MINOR 0
 
-/* The library is built for 64-bit machines only. */
 typedef char capvet_needs_64_bits[sizeof(size_t) == 8 ? 1 : -1];
 
-/* The result of a call. Numbers from 1 to 15 are about the frame or the call, and those from 16 to 31
- * about an accepted message. Those from 32 on are the reasons of a refusal. Numbers never change. New
- * ones may come, so treat any result except CAPVET_OK as a no.
- *
- * If more than one applies, the first in this order is returned. First CAPVET_BAD_LIMITS. Then the
- * frame: empty, fewer than 8 bytes, too many segments, the table cut, too large, the contents cut. Then
- * the refusal. Then CAPVET_HAS_CAPABILITY, then CAPVET_NO_ROOM, then CAPVET_NOT_CANONICAL or
- * CAPVET_OVERLAP. For capvet_pack and capvet_unpack see there. */
+/* ------------------------------------------------------------------------------------------------------
+ * Answers
+ * ------------------------------------------------------------------------------------------------------ */
+
+/* What a call returns. Numbers never change. Later versions may add some, so treat unknown answers as
+ * refusals.
+ *   1 to 7    the bytes hold no complete frame, or more than the frame
+ *   8 to 15   the call was made wrongly, or with too small a buffer
+ *   16 to 31  not what the call asks for
+ *   from 32   the message is not valid */
 enum {
   CAPVET_OK = 0,
-  CAPVET_NO_MESSAGE = 1, /* the buffer is empty, as at the end of a stream; `number` is 8 */
 
-  /* The buffer does not begin with a frame of at most `size` words. */
-  CAPVET_TOO_MANY_SEGMENTS = 2, /* `number`: how many, above 512 */
-  CAPVET_TOO_LARGE = 3,         /* `number`: how many words, above `size` */
-  CAPVET_TRUNCATED = 4,         /* `number`: how many bytes the next call needs at least: 8, then
-                                   the bytes of the table, then those of the whole frame */
+  CAPVET_NO_MESSAGE = 1,        /* the input is empty: the regular end of a stream */
+  CAPVET_TOO_MANY_SEGMENTS = 2, /* more than 512; report->detail: how many */
+  CAPVET_TOO_LARGE = 3,         /* more words than limits->message_words; report->detail: how many */
+  CAPVET_TRUNCATED = 4,         /* more input is required; report->required: its least length */
+  CAPVET_TRAILING = 5,          /* trailing bytes after the message; report->detail: how many */
 
-  /* The arguments of the call do not allow a result. */
-  CAPVET_BAD_LIMITS = 8, /* a limit is above its maximum; every call with limits checks all three */
-  CAPVET_NO_ROOM = 9,    /* a buffer is too small; the call returns the capacity that it needs */
+  CAPVET_BAD_LIMITS = 8,       /* a limit above its maximum, an unknown flag, a reserved field not 0 */
+  CAPVET_BUFFER_TOO_SMALL = 9, /* the output buffer is too small; the required size was reported */
 
-  /* The message is accepted, but is not what the call asks for. */
   CAPVET_NOT_CANONICAL = 16,
-  CAPVET_HAS_CAPABILITY = 17, /* `segment`, `word`: the first one; there is no canonical copy */
-  CAPVET_OVERLAP = 18,        /* a word is used twice; `segment`, `word`, `pointers`: the first pointer
-                                 in preorder that uses a word which is already in use */
+  CAPVET_HAS_CAPABILITY = 17, /* there is no canonical form; the place is the first capability's */
+  CAPVET_OVERLAP = 18,        /* a word is used twice; the place is the pointer's that uses it again */
+  CAPVET_NULL_PAD = 19,       /* not strict: a one-word landing pad of zeros */
+  CAPVET_EMPTY_SEGMENT = 20,  /* not strict: a two-word landing pad leads into a segment without words */
+  CAPVET_CAPABILITY_PAD = 22, /* not strict: a one-word landing pad that is a capability */
+  CAPVET_MANY_SEGMENTS = 23,  /* not strict: 512 segments, one more than common readers take */
 
-  /* The message is refused. `segment`, `word`, `pointers`: the first pointer in preorder that is wrong;
-     the number is the reason. */
-  CAPVET_NO_ROOT = 32,
-  CAPVET_RESERVED = 33,
-  CAPVET_SEGMENT_MISSING = 34,
-  CAPVET_PAD_OUTSIDE = 35,
-  CAPVET_PAD_IS_FAR = 36,
-  CAPVET_PAD_NOT_FAR = 37,
-  CAPVET_TAG_KIND = 38,
-  CAPVET_TAG_OFFSET = 39,
-  CAPVET_OUT_OF_SEGMENT = 40,
-  CAPVET_COMPOSITE_TAG = 41,
-  CAPVET_COMPOSITE_OVERRUN = 42,
-  CAPVET_DEPTH_LIMIT = 43,
-  CAPVET_WORD_LIMIT = 44
+  CAPVET_NO_ROOT = 32,           /* the first segment has no words */
+  CAPVET_RESERVED = 33,          /* a pointer of a kind that the format reserves */
+  CAPVET_SEGMENT_MISSING = 34,   /* a far pointer to a segment that does not exist */
+  CAPVET_PAD_OUTSIDE = 35,       /* a landing pad outside its segment */
+  CAPVET_PAD_IS_FAR = 36,        /* a one-word landing pad that is a far pointer */
+  CAPVET_PAD_NOT_FAR = 37,       /* a two-word landing pad that does not start with a far pointer */
+  CAPVET_TAG_KIND = 38,          /* the tag of a two-word landing pad is no struct and no list */
+  CAPVET_TAG_OFFSET = 39,        /* the offset in that tag is not 0 */
+  CAPVET_OUT_OF_SEGMENT = 40,    /* an object that is not inside its segment */
+  CAPVET_COMPOSITE_TAG = 41,     /* the tag of a list of structs is not a struct's */
+  CAPVET_COMPOSITE_OVERRUN = 42, /* the elements of a list of structs exceed the list's size */
+  CAPVET_DEPTH_LIMIT = 43,       /* an object with a level above limits->depth */
+  CAPVET_WORD_LIMIT = 44         /* the charge exceeds limits->charge, or the words of the segments +
+                                    CAPVET_SLACK; pointers in a loop end here or at the depth limit */
 };
 
-#define CAPVET_MOST_WORDS 268435456
-#define CAPVET_MOST_DEPTH 256
-#define CAPVET_MOST_SEGMENTS 512
+/* ------------------------------------------------------------------------------------------------------
+ * Limits and reports
+ * ------------------------------------------------------------------------------------------------------ */
 
-/* All zero is a valid value, and refuses nearly everything. */
+#define CAPVET_MAX_MESSAGE_WORDS UINT64_C(268435456)
+#define CAPVET_MAX_CHARGE UINT64_C(268435456)
+#define CAPVET_MAX_DEPTH 256
+#define CAPVET_MAX_SEGMENTS 512
+
+/* Flags. Each allows something that is refused without it, so 0 is the strictest value. */
+#define CAPVET_ALLOW_TRAILING 0x1u  /* trailing bytes may follow the message: for a buffer of messages */
+#define CAPVET_ALLOW_NONSTRICT 0x2u /* the message need not be strict */
+#define CAPVET_ALLOW_AMPLIFIED 0x4u /* the charge may be above the words of the segments + CAPVET_SLACK */
+
+/* How many words the charge may be above the words of the segments, unless CAPVET_ALLOW_AMPLIFIED is set. */
+#define CAPVET_SLACK 4096
+
+/* What a call accepts. All zero is valid, and refuses nearly everything. Begin with CAPVET_LIMITS_INIT and
+ * change fields.
+ *
+ * A higher limit or an additional flag never refuses more. A value above its maximum, a flag that the library
+ * does not know, or a reserved field that is not 0 gives CAPVET_BAD_LIMITS, in every call with limits. */
 typedef struct capvet_limits {
-  uint64_t size;  /* maximum words of a message, without its table: at most CAPVET_MOST_WORDS */
-  uint64_t words; /* maximum charge of a message in words: at most CAPVET_MOST_WORDS */
-  uint32_t depth; /* maximum level of an object: at most CAPVET_MOST_DEPTH */
+  uint64_t message_words; /* most words in all segments: at most CAPVET_MAX_MESSAGE_WORDS */
+  uint64_t charge;        /* highest charge: at most CAPVET_MAX_CHARGE */
+  uint32_t depth;         /* deepest level: at most CAPVET_MAX_DEPTH */
+  uint32_t flags;         /* 0, or flags combined by | */
+  uint64_t reserved[2];   /* must be 0 */
 } capvet_limits;
 
-/* An initializer with the defaults of the program: capvet_limits l = CAPVET_LIMITS_INIT; */
-#define CAPVET_LIMITS_INIT { 8388608, 8388608, 64 }
+/* The default limits: 64 MiB, as many words of charge, 64 levels, no flags. */
+#define CAPVET_LIMITS_INIT { 8388608, 8388608, 64, 0, { 0, 0 } }
 
-/* Every call with a report writes all of it, whatever it returns: a field that does not apply is 0.
- * `Accepted` means CAPVET_OK of any call except capvet_frame, CAPVET_NOT_CANONICAL,
- * CAPVET_HAS_CAPABILITY and CAPVET_NO_ROOM. */
+/* What a call reports besides its answer. A field is 0 where its comment does not apply.
+ *
+ * The tree numbers (charge, pointers, capabilities, depth) are set if the call checked the whole message and
+ * accepted it: CAPVET_OK, CAPVET_NOT_CANONICAL, CAPVET_HAS_CAPABILITY, CAPVET_BUFFER_TOO_SMALL.
+ * capvet_frame checks no message, so it sets none.
+ *
+ * A library of a later minor version may set reserved fields: do not compare reports by memcmp. */
 typedef struct capvet_report {
-  uint64_t length;   /* bytes of the frame, table included, also of a refused message; 0: no frame */
-  uint64_t number;   /* of a fault of the frame: see there */
-  uint64_t charge;   /* accepted: the words that a full traversal reads; a shared target counts twice */
-  uint64_t pointers; /* accepted: pointer words, null ones too; refused or CAPVET_OVERLAP: those
-                        that were looked at, the named one included */
-  uint64_t caps;     /* accepted: capabilities */
-  uint32_t depth;    /* accepted: the deepest level of an object */
-  uint32_t segment;  /* the named pointer; accepted with caps > 0: the first capability */
-  uint32_t word;
-  uint32_t segments; /* how many segments, if there is a frame */
+  uint64_t length;       /* bytes of the frame, table included, also of a refused message; 0 after the
+                            answers 1 to 4 and 8: the next message of a buffer starts after them */
+  uint64_t required;     /* CAPVET_NO_MESSAGE, CAPVET_TRUNCATED: the least length of the input that gets
+                            further: 8, then the bytes of the table, then those of the whole frame */
+  uint64_t detail;       /* the number that the answer's comment names */
+  uint64_t charge;       /* a tree number */
+  uint64_t pointers;     /* a tree number, null pointers included; answers with a place: how many pointers
+                            were checked, the named one included (0 after CAPVET_NO_ROOT) */
+  uint64_t capabilities; /* a tree number */
+  uint32_t depth;        /* a tree number: the deepest level */
+  uint32_t segments;     /* how many segments, whenever `length` is set */
+  uint32_t segment;      /* the place of the pointer that the answer is about: CAPVET_OVERLAP, */
+  uint32_t word;         /* CAPVET_NULL_PAD, CAPVET_EMPTY_SEGMENT, CAPVET_CAPABILITY_PAD, and from
+                            CAPVET_NO_ROOT on; else the place of the first capability, if
+                            `capabilities` is not 0 */
+  uint64_t reserved[4];  /* 0 */
 } capvet_report;
 
-/* Returns in report->length the length in bytes of the frame at the start of `bytes`. Reads only the
- * table, and vets nothing. Only the limit `size` matters, though all three are checked.
- *
- * To read a message from a connection: while the result is CAPVET_NO_MESSAGE or CAPVET_TRUNCATED, read
- * until there are report->number bytes, and call again. The number is a claim of the sender, at most
- * 8 * size + 2056: choose `size` as what you would hold for a stranger, or grow as bytes arrive.
- * To go through a buffer of messages: go on by report->length after each, refused ones too, and stop
- * when it is 0. */
-CAPVET_CHECKED
-uint32_t capvet_frame(const uint8_t *bytes, size_t length, const capvet_limits *limits,
-                      capvet_report *report);
+/* ------------------------------------------------------------------------------------------------------
+ * Checking
+ * ------------------------------------------------------------------------------------------------------ */
 
-/* Vets the message at the start of `bytes`. CAPVET_OK: its root denotes a finite tree that lies inside
- * its segments and is within the limits. Every such message is accepted. */
+/* capvet_vet -- checks one message.
+ *
+ *   bytes, length  the message; with CAPVET_ALLOW_TRAILING, a buffer that starts with it
+ *   limits         what to accept
+ *   report         filled in
+ *
+ * Returns CAPVET_OK for every message that is accepted by the definition above, and for no other. Otherwise
+ * the answer is about the first pointer in preorder at which something is wrong, and the report has its
+ * place. A pointer that makes the message invalid comes before one that is only not strict.
+ * CAPVET_MANY_SEGMENTS has no place.
+ *
+ * Limits for a reader. Readers count in other ways. For a strict message, libcapnp and the Rust crate capnp
+ * need at most these limits. Traversal: the larger of 3 * report->charge + 2 and the words of the segments,
+ * for each reading. Nesting: 2 * report->depth + 1. Catch their exceptions all the same: this is tested, not
+ * proved. libcapnp needs words at addresses that are multiples of 8.
+ *
+ * Amplification. By default the charge may be at most CAPVET_SLACK words above the words of the segments, so
+ * a small message cannot make a reader work for long. Messages of known encoders pass. The exceptions are
+ * messages with more than CAPVET_SLACK elements without words in all: Void, structs without fields, and in
+ * canonical form structs whose fields are all default. CAPVET_WORD_LIMIT may then mean that
+ * CAPVET_ALLOW_AMPLIFIED is required.
+ *
+ * Cost: one walk. */
 CAPVET_CHECKED
 uint32_t capvet_vet(const uint8_t *bytes, size_t length, const capvet_limits *limits,
                     capvet_report *report);
 
-/* Vets the message as capvet_vet does, and also refuses one that uses a word twice. Otherwise the root
- * word, the landing pads of each pointer that a path reaches, and the words of each object are all
- * distinct. (An object without words uses none.) The charge is then less than the words of all segments,
- * apart from elements of lists that have no bits or no words.
+/* capvet_vet_exclusive -- checks one message, and that no word of it is used twice.
  *
- * `marks` is a buffer of `room` numbers (not bytes), and may hold anything before. For an accepted
- * message, *needed is how many numbers the call needs, whatever `room` is: the words of all segments / 64
- * + 1. For any other message it is 0. A buffer of report->length / 512 + 1 numbers is always enough: ask
- * capvet_frame for the length, or pass `room` 0 first.
+ *   marks, marks_count  scratch memory, one bit for each word: length / 512 + 1 elements suffice
+ *   required            how many elements it takes; set for every accepted message
  *
- * CAPVET_OK: the report is that of capvet_vet.
- * CAPVET_NO_ROOM: the message is accepted and `room` is less than *needed; the report is that of
- * capvet_vet, and it is not known whether a word is used twice.
- * CAPVET_OVERLAP: a word is used twice. The report has the pointer, `length` and `segments`; `charge`,
- * `caps` and `depth` are 0.
- * With CAPVET_OK and CAPVET_OVERLAP the first *needed numbers hold marks, and the others are unchanged.
- * With any other result all are unchanged. */
+ * Returns CAPVET_OK if the message is accepted, and the root word, all landing pads and all objects that
+ * a path reaches are distinct words. Then a write to one object changes no other. Returns
+ * CAPVET_OVERLAP if a word is used twice. Objects without words use none.
+ *
+ * On CAPVET_OK and CAPVET_OVERLAP the first *required elements of `marks` have been overwritten, and the
+ * others are unchanged. On CAPVET_OVERLAP the report has the place, `length` and `segments`.
+ * CAPVET_BUFFER_TOO_SMALL comes with the report of capvet_vet: overlaps were not looked for.
+ *
+ * Cost: two walks, and marking each word. */
 CAPVET_CHECKED
 uint32_t capvet_vet_exclusive(const uint8_t *bytes, size_t length, const capvet_limits *limits,
-                              uint64_t *marks, size_t room, size_t *needed, capvet_report *report);
+                              uint64_t *marks, size_t marks_count, size_t *required, capvet_report *report);
 
-/* Writes the canonical copy of the message: the bytes of its words, without a table. (See `Output
- * buffers` above.) A buffer of 8 * (report->charge + 1) bytes is always enough. The copy is longer than
- * the message only if the message shares words. So try with the length of the message first: to ask for
- * the length first takes half as long again.
+/* ------------------------------------------------------------------------------------------------------
+ * Frames
+ * ------------------------------------------------------------------------------------------------------ */
+
+/* capvet_frame -- the length of the frame that a buffer starts with.
  *
- * CAPVET_HAS_CAPABILITY: a capability is reached; it comes before CAPVET_NO_ROOM. */
+ *   bytes, length  what has been received so far; trailing bytes are always allowed
+ *   limits         only `message_words` has an effect
+ *   report         on CAPVET_OK, `length` and `segments`
+ *
+ * Reads the table only, and checks no pointer. Returns CAPVET_OK if the whole frame is there.
+ *
+ * To read one message from a connection, receive until the buffer has report->required bytes, and repeat
+ * while the answer is CAPVET_NO_MESSAGE or CAPVET_TRUNCATED. The number is the sender's claim, and is
+ * never more than limits->message_words * 8 + 2056. So set message_words to what you would hold for a
+ * stranger. If the connection ends, CAPVET_NO_MESSAGE means between two messages, and CAPVET_TRUNCATED in
+ * the middle of one.
+ *
+ * Cost: one step for each segment, at most 512. */
+CAPVET_CHECKED
+uint32_t capvet_frame(const uint8_t *bytes, size_t length, const capvet_limits *limits,
+                      capvet_report *report);
+
+/* ------------------------------------------------------------------------------------------------------
+ * Canonical form
+ * ------------------------------------------------------------------------------------------------------ */
+
+/* capvet_canonical -- writes the canonical form of a message: equal content gives equal bytes.
+ *
+ *   bytes, length  the message, as for capvet_vet
+ *   out, out_size  where to write the words of the canonical form, without a table
+ *   required       their length in bytes
+ *
+ * These are the bytes to hash or sign. To send them as a message, write a table before them: 4 bytes of 0,
+ * then *required / 8 in 4 bytes, little-endian. Returns CAPVET_HAS_CAPABILITY if there is no canonical
+ * form, or the answer of capvet_vet if the message is not accepted. On CAPVET_OK the bytes after the result
+ * are unchanged.
+ *
+ * An `out_size` of CAPVET_CANONICAL_BOUND(length) always suffices without CAPVET_ALLOW_AMPLIFIED, so one call
+ * is enough.
+ *
+ * Cost: about three walks. Asking for the size first costs two more. */
 CAPVET_CHECKED
 uint32_t capvet_canonical(const uint8_t *bytes, size_t length, const capvet_limits *limits, uint8_t *out,
-                          size_t room, size_t *written, capvet_report *report);
+                          size_t out_size, size_t *required, capvet_report *report);
 
-/* Checks that the message is canonical: it has one segment, and is its own canonical copy. CAPVET_OK if
- * it is. CAPVET_NOT_CANONICAL if it is accepted and is not, for example if it has a capability.
- * Otherwise the reason why it is not accepted. */
+/* The most bytes of a canonical form, for an input of this length, without CAPVET_ALLOW_AMPLIFIED. With
+ * that flag it is 8 * (report.charge + 1), and so at most 8 * (limits.charge + 1). */
+#define CAPVET_CANONICAL_BOUND(length) ((length) + UINT64_C(8) * (CAPVET_SLACK + 1))
+
+/* capvet_is_canonical -- whether a message is its own canonical form.
+ *
+ * Returns CAPVET_OK if the message has one segment that is exactly its canonical form, and
+ * CAPVET_NOT_CANONICAL otherwise, also if it has a capability. Other answers: it is not accepted. Trailing
+ * bytes give CAPVET_TRAILING even with CAPVET_ALLOW_TRAILING, so what is hashed cannot be extended unnoticed.
+ *
+ * For a message that capvet_canonical wrote, set CAPVET_ALLOW_AMPLIFIED: structs whose fields are all
+ * default lose their words and are still charged. With the same limits it then gives CAPVET_OK.
+ *
+ * Cost: two walks. */
 CAPVET_CHECKED
 uint32_t capvet_is_canonical(const uint8_t *bytes, size_t length, const capvet_limits *limits,
                              capvet_report *report);
 
-/* Packs the words of `bytes`, all of them; they need be no message. (See `Output buffers` above.)
- * A buffer of length / 8 * 10 bytes is always enough.
- *
- * CAPVET_TRUNCATED: `length` is not a multiple of 8; it comes before CAPVET_NO_ROOM. */
-CAPVET_CHECKED
-uint32_t capvet_pack(const uint8_t *bytes, size_t length, uint8_t *out, size_t room, size_t *written);
+/* ------------------------------------------------------------------------------------------------------
+ * Packing
+ * ------------------------------------------------------------------------------------------------------ */
 
-/* Unpacks `bytes`, all of them, into words; they need be no message. (See `Output buffers` above.) The
- * words may have 1024 times the length of the packed bytes: compare *written with a limit of your own
- * before you allocate.
+/* capvet_pack -- packs words.
  *
- * CAPVET_TOO_LARGE: `length` is above 2^53; it comes before all others.
- * CAPVET_TRUNCATED: the packed bytes end inside a group; it comes before CAPVET_NO_ROOM. */
+ *   bytes, length  the words; they need not be a message
+ *   out, out_size  where to write the packed bytes: length / 8 * 10 bytes always suffice
+ *   required       how many they are
+ *
+ * Returns CAPVET_TRUNCATED if `length` is not a multiple of 8, else CAPVET_BUFFER_TOO_SMALL or CAPVET_OK.
+ * On CAPVET_OK the bytes after the result are unchanged.
+ *
+ * Cost: proportional to `length`. */
 CAPVET_CHECKED
-uint32_t capvet_unpack(const uint8_t *bytes, size_t length, uint8_t *out, size_t room, size_t *written);
+uint32_t capvet_pack(const uint8_t *bytes, size_t length, uint8_t *out, size_t out_size, size_t *required);
 
-/* Returns CAPVET_VERSION_MAJOR * 65536 + CAPVET_VERSION_MINOR of the library. It is compatible with this
- * header if its major is equal and its minor is equal or higher. */
+/* capvet_unpack -- unpacks packed words, all of them.
+ *
+ *   bytes, length  the packed bytes; the words need not be a message
+ *   out, out_size  where to write the words
+ *   required       their length in bytes
+ *
+ * The result can be 1024 times as long as the input. Ask for *required with a size of 0. Compare it with
+ * your own limit before you allocate. Returns the first that applies: CAPVET_TOO_LARGE if `length` is above
+ * 2^53, CAPVET_TRUNCATED if the input ends inside a group, CAPVET_BUFFER_TOO_SMALL, CAPVET_OK. On CAPVET_OK
+ * the bytes after the result are unchanged.
+ *
+ * Cost: proportional to `length`, and to the words that are written. */
+CAPVET_CHECKED
+uint32_t capvet_unpack(const uint8_t *bytes, size_t length, uint8_t *out, size_t out_size, size_t *required);
+
+/* ------------------------------------------------------------------------------------------------------
+ * Version
+ * ------------------------------------------------------------------------------------------------------ */
+
+/* capvet_version -- the version of the library: its major version * 65536 + its minor version.
+ *
+ * A library is compatible if its major version is equal to this header's and its minor version is equal or
+ * higher. Within a major version, numbers and structs keep their values and layout. Calls, answers and
+ * flags may be added, and reserved fields may get a meaning. */
 uint32_t capvet_version(void);
 
 #ifdef __cplusplus

@@ -1,8 +1,15 @@
 //! Checks untrusted Cap'n Proto messages without a schema, before a reader touches them.
 //!
 //! This is safe Rust over `libcapvet.a`. The library is proved: it accepts a message exactly if its root denotes a finite
-//! tree that lies inside the message's segments and is within the limits. It allocates nothing, keeps no state between
-//! calls, and may be called from any thread. The few lines of this crate that call it are not proved.
+//! tree that is inside the message's segments and within the limits, and the bytes also are:
+//!
+//! - whole: one message and nothing else, unless [`Limits::allow_trailing`] is set;
+//! - strict: without four forms that common readers reject, unless [`Limits::allow_nonstrict`] is set;
+//! - unamplified: a traversal reads at most 4,096 words more than the segments have, unless [`Limits::allow_amplified`] is
+//!   set.
+//!
+//! It allocates nothing, keeps no state between calls, and may be called from any thread. The few lines of this crate that
+//! call it are not proved.
 //!
 //! # A message from a peer
 //!
@@ -12,10 +19,8 @@
 //! // One segment of one word, which is the null pointer.
 //! let received = [0, 0, 0, 0, 1, 0, 0, 0, 0, 0, 0, 0, 0, 0, 0, 0];
 //! let report = capvet::vet(&received, Limits::DEFAULT)?;
-//! // The message is at the start of the bytes. Here it has to be all of them.
-//! assert_eq!(report.length, received.len());
-//! assert_eq!(report.pointers, 1);
-//! # Ok::<(), capvet::Refusal>(())
+//! assert_eq!((report.length, report.pointers), (16, 1));
+//! # Ok::<(), capvet::VetError>(())
 //! ```
 //!
 //! # Bytes that change
@@ -62,7 +67,7 @@ mod tests;
 
 #[cfg(feature = "alloc")]
 pub use canonical::canonical;
-pub use canonical::{canonical_into, NoCopy};
+pub use canonical::{canonical_into, CanonicalError};
 #[cfg(feature = "alloc")]
 pub use exclusive::vet_exclusive_alloc;
 pub use exclusive::{vet_exclusive, ExclusiveError};
@@ -74,49 +79,64 @@ pub use packed::{unpack_into, UnpackError};
 #[cfg(feature = "alloc")]
 pub use packing::pack;
 pub use packing::{pack_into, PackError};
-pub use refusal::{Reason, Refusal};
-pub use report::Report;
+pub use refusal::{FrameError, Reason, Refusal, VetError};
+pub use report::{Position, Report};
 
 use sys::Answer;
 
-/// Vets the message that `bytes` begin with.
+/// Vets the message that `bytes` are.
 ///
-/// It accepts a message exactly if the root denotes a finite tree that lies inside the segments and is within the limits
-/// (encoding: Security Considerations). The bytes after the message are ignored. If the bytes should be one message and
-/// nothing else, compare [`Report::length`] with their length.
+/// It accepts a message exactly if the root denotes a finite tree that is inside the segments and within the limits, and the
+/// bytes are whole, strict and unamplified, each unless the limits allow more (encoding: Security Considerations).
 ///
 /// # Errors
 ///
-/// - [`Refusal::Pointer`]: the message is refused. It names the first pointer in preorder at which anything is wrong or a
-///   limit is exceeded.
-/// - Any other [`Refusal`]: the bytes don't begin with a frame within the limits.
+/// The first of these that applies.
+///
+/// - [`VetError::Frame`]: the bytes hold no complete frame within the limits, or trailing bytes follow the message.
+/// - [`VetError::Refused`]: it names the first pointer in preorder at which anything is wrong or a limit is exceeded.
+/// - [`VetError::ManySegments`]: the message has 512 segments.
+/// - [`VetError::Refused`] for [`Reason::NullPad`], [`Reason::EmptySegment`] or [`Reason::CapabilityPad`]: it names the first
+///   pointer that isn't strict.
 ///
 /// # Examples
 ///
 /// ```
-/// use capvet::{Limits, Reason, Refusal};
+/// use capvet::{FrameError, Limits, Reason, VetError};
 ///
 /// // A struct whose pointer leads back to itself.
 /// let cycle = [0, 0, 0, 0, 1, 0, 0, 0, 0xfc, 0xff, 0xff, 0xff, 0, 0, 1, 0];
-/// let refusal = capvet::vet(&cycle, Limits::DEFAULT).unwrap_err();
-/// assert_eq!(refusal, Refusal::Pointer { reason: Reason::DepthLimit, segment: 0, word: 0, pointers: 65 });
-/// assert_eq!(refusal.to_string(), "refused DepthLimit at 0:0 pointers 65");
+/// match capvet::vet(&cycle, Limits::DEFAULT) {
+///     Err(VetError::Refused(refusal)) => {
+///         assert_eq!((refusal.reason, refusal.length), (Reason::DepthLimit, 16));
+///         assert_eq!(refusal.to_string(), "refused DepthLimit at 0:0 pointers 65");
+///     }
+///     other => panic!("{other:?}"),
+/// }
+///
+/// // The null pointer, and a byte after the message.
+/// let more = [0, 0, 0, 0, 1, 0, 0, 0, 0, 0, 0, 0, 0, 0, 0, 0, 7];
+/// let error = capvet::vet(&more, Limits::DEFAULT).unwrap_err();
+/// assert!(matches!(error, VetError::Frame(FrameError::Trailing { bytes: 1, .. })));
+/// let report = capvet::vet(&more, Limits::DEFAULT.allow_trailing(true))?;
+/// assert_eq!(report.length, 16);
+/// # Ok::<(), VetError>(())
 /// ```
-pub fn vet(bytes: &[u8], limits: Limits) -> Result<Report, Refusal> {
-    let (answer, told) = sys::vet(bytes, &limits);
+pub fn vet(bytes: &[u8], limits: Limits) -> Result<Report, VetError> {
+    let (answer, raw) = sys::vet(bytes, &limits);
     match answer {
-        Answer::OK => Ok(Report::of(&told)),
-        fault => Err(Refusal::of(fault, &told)),
+        Answer::OK => Ok(Report::of(&raw)),
+        fault => Err(VetError::of(fault, &raw)),
     }
 }
 
-/// Checks that the message that `bytes` begin with is canonical: it has one segment, and this segment is its canonical
-/// form (encoding: Canonicalization). A message with a capability is not. The bytes after the message are ignored: compare
-/// [`frame_len`] with their length.
+/// Checks that the message that `bytes` are is canonical: it has one segment, and this segment is its canonical form
+/// (encoding: Canonicalization). A message with a capability is not.
 ///
 /// # Errors
 ///
-/// The errors of [`vet`], if the message isn't accepted.
+/// The errors of [`vet`], if the message isn't accepted. Trailing bytes are an error even if the limits allow them, so what
+/// is hashed can't be extended unnoticed.
 ///
 /// # Examples
 ///
@@ -129,39 +149,42 @@ pub fn vet(bytes: &[u8], limits: Limits) -> Result<Report, Refusal> {
 /// let short = [0, 0, 0, 0, 1, 0, 0, 0, 0xfc, 0xff, 0xff, 0xff, 0, 0, 0, 0];
 /// assert_eq!(capvet::is_canonical(&short, Limits::DEFAULT), Ok(true));
 /// ```
-pub fn is_canonical(bytes: &[u8], limits: Limits) -> Result<bool, Refusal> {
-    let (answer, told) = sys::is_canonical(bytes, &limits);
+pub fn is_canonical(bytes: &[u8], limits: Limits) -> Result<bool, VetError> {
+    let (answer, raw) = sys::is_canonical(bytes, &limits);
     match answer {
         Answer::OK => Ok(true),
         Answer::NOT_CANONICAL => Ok(false),
-        fault => Err(Refusal::of(fault, &told)),
+        fault => Err(VetError::of(fault, &raw)),
     }
 }
 
 /// Returns the length in bytes of the frame that `bytes` begin with, its table included. It reads only the table, and
-/// vets nothing. Only the limit [`Limits::size`] matters.
+/// checks no pointer. Bytes may follow the frame. Only [`Limits::message_words`] has an effect.
 ///
 /// # Errors
 ///
-/// A [`Refusal`] other than [`Refusal::Pointer`], if the bytes don't begin with a frame within the limits. To read a
-/// message from a connection, call it again with more bytes while the error is [`Refusal::Empty`] or
-/// [`Refusal::Truncated`].
+/// A [`VetError::Frame`], if the bytes don't begin with a frame within the limits. To read a message from a connection, call
+/// it again with more bytes while the error is [`FrameError::Empty`] or [`FrameError::Truncated`].
 ///
 /// # Examples
 ///
 /// ```
-/// use capvet::{Limits, Refusal};
+/// use capvet::{FrameError, Limits, VetError};
 ///
 /// let message = [0, 0, 0, 0, 1, 0, 0, 0, 0, 0, 0, 0, 0, 0, 0, 0];
-/// assert_eq!(capvet::frame_len(&message, Limits::DEFAULT), Ok(16));
-/// assert_eq!(capvet::frame_len(&message[..9], Limits::DEFAULT), Err(Refusal::Truncated { wanted: 16 }));
-/// assert_eq!(capvet::frame_len(&message[..7], Limits::DEFAULT), Err(Refusal::Truncated { wanted: 8 }));
+/// assert_eq!(capvet::frame_length(&message, Limits::DEFAULT), Ok(16));
+/// for (received, least) in [(7, 8), (9, 16)] {
+///     match capvet::frame_length(&message[..received], Limits::DEFAULT) {
+///         Err(VetError::Frame(FrameError::Truncated { required, .. })) => assert_eq!(required, least),
+///         other => panic!("{other:?}"),
+///     }
+/// }
 /// ```
-pub fn frame_len(bytes: &[u8], limits: Limits) -> Result<usize, Refusal> {
-    let (answer, told) = sys::frame(bytes, &limits);
+pub fn frame_length(bytes: &[u8], limits: Limits) -> Result<usize, VetError> {
+    let (answer, raw) = sys::frame(bytes, &limits);
     match answer {
-        Answer::OK => Ok(told.length()),
-        fault => Err(Refusal::of(fault, &told)),
+        Answer::OK => Ok(raw.length()),
+        fault => Err(VetError::of(fault, &raw)),
     }
 }
 

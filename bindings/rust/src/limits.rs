@@ -1,86 +1,163 @@
 //! The limits of a call.
 
-/// Limits on a message. A value is always within [`MOST_WORDS`](Limits::MOST_WORDS) and
-/// [`MOST_DEPTH`](Limits::MOST_DEPTH).
+/// What a call accepts. A value is always within [`MAX_MESSAGE_WORDS`](Limits::MAX_MESSAGE_WORDS),
+/// [`MAX_CHARGE`](Limits::MAX_CHARGE) and [`MAX_DEPTH`](Limits::MAX_DEPTH).
+///
+/// Each of the three flags allows something that is refused without it. A higher limit or an additional flag never refuses
+/// more.
 ///
 /// # Examples
 ///
 /// ```
 /// use capvet::Limits;
 ///
-/// let limits = Limits::new(4096, 65_536, 32).expect("these are within the greatest limits");
-/// assert_eq!(limits.words(), 65_536);
-/// assert_eq!(Limits::DEFAULT.with_depth(257), None);
+/// const LIMITS: Limits = match Limits::DEFAULT.with_message_words(4096) {
+///     Some(limits) => limits,
+///     None => panic!("this is within the greatest limits"),
+/// };
+/// assert_eq!(LIMITS.message_words(), 4096);
+/// assert_eq!(LIMITS.with_depth(257), None);
+/// assert!(LIMITS.allow_trailing(true).allows_trailing());
 /// ```
 #[derive(Clone, Copy, Debug, PartialEq, Eq, Hash)]
 pub struct Limits {
-    size: u64,
-    words: u64,
+    message_words: u64,
+    charge: u64,
     depth: u32,
+    flags: u32,
 }
 
+// The flags of the header.
+const ALLOW_TRAILING: u32 = 1;
+const ALLOW_NONSTRICT: u32 = 2;
+const ALLOW_AMPLIFIED: u32 = 4;
+
 impl Limits {
-    /// The greatest limit on the words of a message, and on its charge.
-    pub const MOST_WORDS: u64 = 268_435_456;
+    /// The greatest limit on the words of a message.
+    pub const MAX_MESSAGE_WORDS: u64 = 268_435_456;
+
+    /// The greatest limit on the charge.
+    pub const MAX_CHARGE: u64 = 268_435_456;
 
     /// The greatest limit on levels.
-    pub const MOST_DEPTH: u32 = 256;
+    pub const MAX_DEPTH: u32 = 256;
 
-    /// The limits of the program: a size and a charge of 8,388,608 words (64 MiB), and 64 levels.
+    /// How many words the charge may be above the words of the segments, unless more is allowed.
+    pub const SLACK: u64 = 4096;
+
+    /// A message and a charge of 8,388,608 words (64 MiB), 64 levels, and no flags: the bytes have to be one message and
+    /// nothing else, which is strict and has a charge of at most [`SLACK`](Limits::SLACK) words above those of its segments.
     pub const DEFAULT: Self = Self {
-        size: 8_388_608,
-        words: 8_388_608,
+        message_words: 8_388_608,
+        charge: 8_388_608,
         depth: 64,
+        flags: 0,
     };
 
-    /// Returns limits, or `None` if one is above the greatest.
-    ///
-    /// - `size`: the words of a message, without its table.
-    /// - `words`: the charge, that is the words that a full traversal reads; a target that is reached twice counts twice.
-    /// - `depth`: the level of an object; the root object has level 1.
+    /// Returns the same limits with another limit on the words in all segments, or `None` if it is above the greatest.
     #[must_use]
-    pub const fn new(size: u64, words: u64, depth: u32) -> Option<Self> {
-        if size > Self::MOST_WORDS || words > Self::MOST_WORDS || depth > Self::MOST_DEPTH {
+    pub const fn with_message_words(mut self, message_words: u64) -> Option<Self> {
+        self.message_words = message_words;
+        if message_words > Self::MAX_MESSAGE_WORDS {
             None
         } else {
-            Some(Self { size, words, depth })
+            Some(self)
         }
     }
 
-    /// Returns the same limits with another `size`, or `None` if it is above the greatest.
+    /// Returns the same limits with another limit on the charge, or `None` if it is above the greatest. The charge is the
+    /// words that a full traversal reads. An object that two pointers reach counts twice.
     #[must_use]
-    pub const fn with_size(self, size: u64) -> Option<Self> {
-        Self::new(size, self.words, self.depth)
+    pub const fn with_charge(mut self, charge: u64) -> Option<Self> {
+        self.charge = charge;
+        if charge > Self::MAX_CHARGE {
+            None
+        } else {
+            Some(self)
+        }
     }
 
-    /// Returns the same limits with another `words`, or `None` if it is above the greatest.
+    /// Returns the same limits with another limit on the level of an object, or `None` if it is above the greatest. The root
+    /// object has level 1.
     #[must_use]
-    pub const fn with_words(self, words: u64) -> Option<Self> {
-        Self::new(self.size, words, self.depth)
+    pub const fn with_depth(mut self, depth: u32) -> Option<Self> {
+        self.depth = depth;
+        if depth > Self::MAX_DEPTH {
+            None
+        } else {
+            Some(self)
+        }
     }
 
-    /// Returns the same limits with another `depth`, or `None` if it is above the greatest.
+    /// Returns the same limits with trailing bytes allowed after the message, for a buffer of messages, or not allowed.
     #[must_use]
-    pub const fn with_depth(self, depth: u32) -> Option<Self> {
-        Self::new(self.size, self.words, depth)
+    pub const fn allow_trailing(self, allow: bool) -> Self {
+        self.with(ALLOW_TRAILING, allow)
     }
 
-    /// The maximum words of a message, without its table.
+    /// Returns the same limits with messages allowed that aren't strict, or not allowed. Common readers reject such
+    /// messages, at least in part: see [`Reason::NullPad`](crate::Reason::NullPad) and those after it, and
+    /// [`VetError::ManySegments`](crate::VetError::ManySegments).
     #[must_use]
-    pub const fn size(&self) -> u64 {
-        self.size
+    pub const fn allow_nonstrict(self, allow: bool) -> Self {
+        self.with(ALLOW_NONSTRICT, allow)
     }
 
-    /// The maximum charge of a message, in words.
+    /// Returns the same limits with a charge allowed of more than [`SLACK`](Limits::SLACK) words above those of the
+    /// segments, or not allowed. With it a small message can make a reader work for long.
     #[must_use]
-    pub const fn words(&self) -> u64 {
-        self.words
+    pub const fn allow_amplified(self, allow: bool) -> Self {
+        self.with(ALLOW_AMPLIFIED, allow)
     }
 
-    /// The maximum level of an object.
+    const fn with(mut self, flag: u32, is_set: bool) -> Self {
+        self.flags = if is_set {
+            self.flags | flag
+        } else {
+            self.flags & !flag
+        };
+        self
+    }
+
+    /// Most words in all segments.
+    #[must_use]
+    pub const fn message_words(&self) -> u64 {
+        self.message_words
+    }
+
+    /// The highest charge, in words.
+    #[must_use]
+    pub const fn charge(&self) -> u64 {
+        self.charge
+    }
+
+    /// The deepest level of an object.
     #[must_use]
     pub const fn depth(&self) -> u32 {
         self.depth
+    }
+
+    /// Whether trailing bytes may follow the message.
+    #[must_use]
+    pub const fn allows_trailing(&self) -> bool {
+        self.flags & ALLOW_TRAILING != 0
+    }
+
+    /// Whether the message need not be strict.
+    #[must_use]
+    pub const fn allows_nonstrict(&self) -> bool {
+        self.flags & ALLOW_NONSTRICT != 0
+    }
+
+    /// Whether the charge may be more than [`SLACK`](Limits::SLACK) words above those of the segments.
+    #[must_use]
+    pub const fn allows_amplified(&self) -> bool {
+        self.flags & ALLOW_AMPLIFIED != 0
+    }
+
+    // The flags, as the header has them.
+    pub(crate) const fn flags(&self) -> u32 {
+        self.flags
     }
 }
 

@@ -1,7 +1,7 @@
 //! The messages of a stream in one buffer.
 
 use crate::sys::{self, Answer};
-use crate::{Limits, Refusal, Report};
+use crate::{Limits, Report, VetError};
 use core::iter::FusedIterator;
 
 /// An accepted message of a stream.
@@ -34,16 +34,17 @@ pub struct Messages<'b> {
     is_over: bool,
 }
 
-/// Returns an iterator over the messages in `bytes`, one after the other. It vets each message as it reaches it.
+/// Returns an iterator over the messages in `bytes`, one after the other. It vets each message as it reaches it, and allows
+/// trailing bytes after each, whatever `limits` say.
 ///
-/// A refused message gives a [`Refusal::Pointer`], and the iterator goes on. With any other [`Refusal`] the rest of the
-/// bytes doesn't begin with a frame within the limits, and this is the last item. If the bytes end between two messages,
-/// the iterator ends without an error. So for no bytes there is no item.
+/// A message that isn't accepted gives an error with its [length](VetError::length), and the iterator goes on. A
+/// [`VetError::Frame`] means that the rest of the bytes doesn't begin with a frame within the limits, and is the last item.
+/// If the bytes end between two messages, the iterator ends without an error. So for no bytes there is no item.
 ///
 /// # Examples
 ///
 /// ```
-/// use capvet::{Limits, Refusal};
+/// use capvet::{FrameError, Limits, VetError};
 ///
 /// let null = [0, 0, 0, 0, 1, 0, 0, 0, 0, 0, 0, 0, 0, 0, 0, 0];
 /// let cycle = [0, 0, 0, 0, 1, 0, 0, 0, 0xfc, 0xff, 0xff, 0xff, 0, 0, 1, 0];
@@ -51,18 +52,19 @@ pub struct Messages<'b> {
 ///
 /// let mut messages = capvet::messages(&received, Limits::DEFAULT);
 /// assert_eq!(messages.next().unwrap()?.bytes(), null);
-/// assert!(matches!(messages.next(), Some(Err(Refusal::Pointer { .. }))));
+/// assert!(matches!(messages.next(), Some(Err(VetError::Refused(_)))));
 /// assert_eq!(messages.next().unwrap()?.report().pointers, 1);
 /// // A part of a fourth message: keep it, and go on with more bytes from the connection.
-/// assert_eq!(messages.next(), Some(Err(Refusal::Truncated { wanted: 16 })));
+/// let cut = messages.next().unwrap().unwrap_err();
+/// assert!(matches!(cut, VetError::Frame(FrameError::Truncated { required: 16, .. })));
 /// assert_eq!(messages.rest(), &null[..10]);
 /// assert_eq!(messages.next(), None);
-/// # Ok::<(), Refusal>(())
+/// # Ok::<(), VetError>(())
 /// ```
 pub const fn messages(bytes: &[u8], limits: Limits) -> Messages<'_> {
     Messages {
         rest: bytes,
-        limits,
+        limits: limits.allow_trailing(true),
         is_over: false,
     }
 }
@@ -76,14 +78,14 @@ impl<'b> Messages<'b> {
 }
 
 impl<'b> Iterator for Messages<'b> {
-    type Item = Result<Message<'b>, Refusal>;
+    type Item = Result<Message<'b>, VetError>;
 
     fn next(&mut self) -> Option<Self::Item> {
         if self.is_over || self.rest.is_empty() {
             return None;
         }
-        let (answer, told) = sys::vet(self.rest, &self.limits);
-        let frame = told.length();
+        let (answer, raw) = sys::vet(self.rest, &self.limits);
+        let frame = raw.length();
         // (without a frame the start of the next message is unknown)
         self.is_over = frame == 0;
         let (bytes, rest) = self.rest.split_at(frame);
@@ -91,9 +93,9 @@ impl<'b> Iterator for Messages<'b> {
         Some(match answer {
             Answer::OK => Ok(Message {
                 bytes,
-                report: Report::of(&told),
+                report: Report::of(&raw),
             }),
-            fault => Err(Refusal::of(fault, &told)),
+            fault => Err(VetError::of(fault, &raw)),
         })
     }
 }

@@ -12,9 +12,9 @@ pub enum UnpackError {
     /// The packed bytes end inside a group.
     Truncated,
     /// The words have more bytes than the caller allows.
-    NoRoom {
+    BufferTooSmall {
         /// Their number.
-        needed: usize,
+        required: usize,
     },
     /// There are more than 2^53 packed bytes.
     TooLarge,
@@ -27,10 +27,10 @@ pub enum UnpackError {
 
 impl UnpackError {
     // The error of an answer other than that of unpacked words.
-    fn of(answer: Answer, written: usize) -> Self {
+    fn of(answer: Answer, required: usize) -> Self {
         match answer {
             Answer::TRUNCATED => Self::Truncated,
-            Answer::NO_ROOM => Self::NoRoom { needed: written },
+            Answer::BUFFER_TOO_SMALL => Self::BufferTooSmall { required },
             Answer::TOO_LARGE => Self::TooLarge,
             other => Self::Other(other.0),
         }
@@ -41,7 +41,9 @@ impl fmt::Display for UnpackError {
     fn fmt(&self, f: &mut fmt::Formatter<'_>) -> fmt::Result {
         match self {
             Self::Truncated => f.write_str("Truncated"),
-            Self::NoRoom { needed } => write!(f, "NoRoom, {needed} bytes are wanted"),
+            Self::BufferTooSmall { required } => {
+                write!(f, "BufferTooSmall, {required} bytes are required")
+            }
             Self::TooLarge => f.write_str("TooLarge"),
             Self::Other(answer) => write!(f, "unknown answer {answer}"),
         }
@@ -60,7 +62,7 @@ impl std::error::Error for UnpackError {}
 ///
 /// - [`UnpackError::TooLarge`]: there are more than 2^53 packed bytes.
 /// - [`UnpackError::Truncated`]: they end inside a group.
-/// - [`UnpackError::NoRoom`]: the words have more than `most` bytes.
+/// - [`UnpackError::BufferTooSmall`]: the words have more than `most` bytes.
 ///
 /// # Examples
 ///
@@ -69,22 +71,22 @@ impl std::error::Error for UnpackError {}
 ///
 /// let received = [0x10, 1, 0, 0];
 /// // The greatest length in bytes of a message within the limits, table included.
-/// let most = 8 * Limits::DEFAULT.size() as usize + 2056;
+/// let most = 8 * Limits::DEFAULT.message_words() as usize + 2056;
 /// let message = capvet::unpack(&received, most)?;
 /// assert_eq!(message, [0, 0, 0, 0, 1, 0, 0, 0, 0, 0, 0, 0, 0, 0, 0, 0]);
 /// assert!(capvet::vet(&message, Limits::DEFAULT).is_ok());
 ///
-/// assert_eq!(capvet::unpack(&[0, 255], 1024), Err(UnpackError::NoRoom { needed: 2048 }));
+/// assert_eq!(capvet::unpack(&[0, 255], 1024), Err(UnpackError::BufferTooSmall { required: 2048 }));
 /// # Ok::<(), UnpackError>(())
 /// ```
 #[cfg(feature = "alloc")]
 pub fn unpack(packed: &[u8], most: usize) -> Result<Vec<u8>, UnpackError> {
-    let needed = match unpack_into(packed, &mut []) {
+    let required = match unpack_into(packed, &mut []) {
         Ok(_) => return Ok(Vec::new()),
-        Err(UnpackError::NoRoom { needed }) if needed <= most => needed,
+        Err(UnpackError::BufferTooSmall { required }) if required <= most => required,
         Err(fault) => return Err(fault),
     };
-    let mut words = vec![0; needed];
+    let mut words = vec![0; required];
     unpack_into(packed, &mut words)?;
     Ok(words)
 }
@@ -93,7 +95,7 @@ pub fn unpack(packed: &[u8], most: usize) -> Result<Vec<u8>, UnpackError> {
 ///
 /// # Errors
 ///
-/// The errors of `unpack`, with [`UnpackError::NoRoom`] if `out` is too short. `out` is then unchanged.
+/// The errors of `unpack`, with [`UnpackError::BufferTooSmall`] if `out` is too short. `out` is then unchanged.
 ///
 /// # Examples
 ///
@@ -105,13 +107,13 @@ pub fn unpack(packed: &[u8], most: usize) -> Result<Vec<u8>, UnpackError> {
 /// assert_eq!(out[..16], [0, 0, 0, 0, 1, 0, 0, 0, 0, 0, 0, 0, 0, 0, 0, 0]);
 /// assert_eq!(out[16..], [7; 8]);
 /// // An empty buffer returns the length.
-/// assert_eq!(capvet::unpack_into(&[0, 255], &mut []), Err(UnpackError::NoRoom { needed: 2048 }));
+/// assert_eq!(capvet::unpack_into(&[0, 255], &mut []), Err(UnpackError::BufferTooSmall { required: 2048 }));
 /// ```
 pub fn unpack_into(packed: &[u8], out: &mut [u8]) -> Result<usize, UnpackError> {
-    let (answer, written) = sys::unpack(packed, out);
+    let (answer, required) = sys::unpack(packed, out);
     match answer {
-        Answer::OK => Ok(written),
-        fault => Err(UnpackError::of(fault, written)),
+        Answer::OK => Ok(required),
+        fault => Err(UnpackError::of(fault, required)),
     }
 }
 
@@ -126,10 +128,10 @@ mod tests {
     fn the_packed_sample_is_its_words() {
         assert_eq!(unpack(PACKED, CONTACTS.len()).as_deref(), Ok(CONTACTS));
         assert_eq!(unpack(&[], 0), Ok(Vec::new()));
-        let needed = CONTACTS.len();
+        let required = CONTACTS.len();
         assert_eq!(
-            unpack(PACKED, needed - 1),
-            Err(UnpackError::NoRoom { needed })
+            unpack(PACKED, required - 1),
+            Err(UnpackError::BufferTooSmall { required })
         );
     }
 
@@ -157,10 +159,10 @@ mod tests {
     fn a_room_that_is_too_small_stays_as_it_was() {
         for room in 0..CONTACTS.len() {
             let mut out = vec![0xee; room];
-            let needed = CONTACTS.len();
+            let required = CONTACTS.len();
             assert_eq!(
                 unpack_into(PACKED, &mut out),
-                Err(UnpackError::NoRoom { needed })
+                Err(UnpackError::BufferTooSmall { required })
             );
             assert!(out.iter().all(|byte| *byte == 0xee), "room {room}");
         }
@@ -172,13 +174,16 @@ mod tests {
 
     #[test]
     fn faults_say_what_they_are() {
-        for (answer, told) in [
+        for (answer, text) in [
             (Answer::TRUNCATED, "Truncated"),
-            (Answer::NO_ROOM, "NoRoom, 77 bytes are wanted"),
+            (
+                Answer::BUFFER_TOO_SMALL,
+                "BufferTooSmall, 77 bytes are required",
+            ),
             (Answer::TOO_LARGE, "TooLarge"),
             (Answer(99), "unknown answer 99"),
         ] {
-            assert_eq!(UnpackError::of(answer, 77).to_string(), told);
+            assert_eq!(UnpackError::of(answer, 77).to_string(), text);
         }
     }
 }

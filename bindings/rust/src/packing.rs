@@ -12,9 +12,9 @@ pub enum PackError {
     /// The bytes end inside a word.
     Truncated,
     /// The packed bytes are longer than the buffer.
-    NoRoom {
+    BufferTooSmall {
         /// Their number.
-        needed: usize,
+        required: usize,
     },
     /// A result of a later library that this crate doesn't know. Nothing is packed.
     Other(
@@ -25,10 +25,10 @@ pub enum PackError {
 
 impl PackError {
     // The error of an answer other than that of packed words.
-    fn of(answer: Answer, written: usize) -> Self {
+    fn of(answer: Answer, required: usize) -> Self {
         match answer {
             Answer::TRUNCATED => Self::Truncated,
-            Answer::NO_ROOM => Self::NoRoom { needed: written },
+            Answer::BUFFER_TOO_SMALL => Self::BufferTooSmall { required },
             other => Self::Other(other.0),
         }
     }
@@ -38,7 +38,9 @@ impl fmt::Display for PackError {
     fn fmt(&self, f: &mut fmt::Formatter<'_>) -> fmt::Result {
         match self {
             Self::Truncated => f.write_str("Truncated"),
-            Self::NoRoom { needed } => write!(f, "no room, {needed} bytes are needed"),
+            Self::BufferTooSmall { required } => {
+                write!(f, "BufferTooSmall, {required} bytes are required")
+            }
             Self::Other(answer) => write!(f, "unknown answer {answer}"),
         }
     }
@@ -66,12 +68,12 @@ impl std::error::Error for PackError {}
 /// ```
 #[cfg(feature = "alloc")]
 pub fn pack(words: &[u8]) -> Result<Vec<u8>, PackError> {
-    let needed = match pack_into(words, &mut []) {
+    let required = match pack_into(words, &mut []) {
         Ok(_) => return Ok(Vec::new()),
-        Err(PackError::NoRoom { needed }) => needed,
+        Err(PackError::BufferTooSmall { required }) => required,
         Err(fault) => return Err(fault),
     };
-    let mut packed = vec![0; needed];
+    let mut packed = vec![0; required];
     pack_into(words, &mut packed)?;
     Ok(packed)
 }
@@ -83,7 +85,7 @@ pub fn pack(words: &[u8]) -> Result<Vec<u8>, PackError> {
 /// `out` is then unchanged.
 ///
 /// - [`PackError::Truncated`]: the bytes end inside a word.
-/// - [`PackError::NoRoom`]: `out` is too short.
+/// - [`PackError::BufferTooSmall`]: `out` is too short.
 ///
 /// # Examples
 ///
@@ -94,13 +96,13 @@ pub fn pack(words: &[u8]) -> Result<Vec<u8>, PackError> {
 /// assert_eq!(capvet::pack_into(&[0; 2048], &mut out), Ok(2));
 /// assert_eq!(out, [0, 255, 7, 7, 7, 7]);
 /// // An empty buffer returns the length.
-/// assert_eq!(capvet::pack_into(&[1; 8], &mut []), Err(PackError::NoRoom { needed: 10 }));
+/// assert_eq!(capvet::pack_into(&[1; 8], &mut []), Err(PackError::BufferTooSmall { required: 10 }));
 /// ```
 pub fn pack_into(words: &[u8], out: &mut [u8]) -> Result<usize, PackError> {
-    let (answer, written) = sys::pack(words, out);
+    let (answer, required) = sys::pack(words, out);
     match answer {
-        Answer::OK => Ok(written),
-        fault => Err(PackError::of(fault, written)),
+        Answer::OK => Ok(required),
+        fault => Err(PackError::of(fault, required)),
     }
 }
 
@@ -134,29 +136,32 @@ mod tests {
 
     #[test]
     fn a_room_that_is_too_small_stays_as_it_was() {
-        let needed = PACKED.len();
-        for room in 0..needed {
+        let required = PACKED.len();
+        for room in 0..required {
             let mut out = vec![0xee; room];
             assert_eq!(
                 pack_into(CONTACTS, &mut out),
-                Err(PackError::NoRoom { needed })
+                Err(PackError::BufferTooSmall { required })
             );
             assert!(out.iter().all(|byte| *byte == 0xee), "room {room}");
         }
-        let mut out = vec![0xee; needed + 9];
-        assert_eq!(pack_into(CONTACTS, &mut out), Ok(needed));
-        assert_eq!(out[..needed], *PACKED);
-        assert_eq!(out[needed..], [0xee; 9]);
+        let mut out = vec![0xee; required + 9];
+        assert_eq!(pack_into(CONTACTS, &mut out), Ok(required));
+        assert_eq!(out[..required], *PACKED);
+        assert_eq!(out[required..], [0xee; 9]);
     }
 
     #[test]
     fn faults_say_what_they_are() {
-        for (answer, told) in [
+        for (answer, text) in [
             (Answer::TRUNCATED, "Truncated"),
-            (Answer::NO_ROOM, "no room, 77 bytes are needed"),
+            (
+                Answer::BUFFER_TOO_SMALL,
+                "BufferTooSmall, 77 bytes are required",
+            ),
             (Answer(99), "unknown answer 99"),
         ] {
-            assert_eq!(PackError::of(answer, 77).to_string(), told);
+            assert_eq!(PackError::of(answer, 77).to_string(), text);
         }
     }
 }

@@ -1,6 +1,7 @@
 //! The reasons why a message isn't accepted.
 
-use crate::sys::{Answer, Told};
+use crate::sys::{Answer, RawReport};
+use crate::Position;
 use core::fmt;
 
 /// The reason of a refusal, by its name in the lines of the program.
@@ -23,7 +24,7 @@ pub enum Reason {
     TagKind,
     /// This tag has an offset.
     TagOffset,
-    /// The target is not all inside its segment.
+    /// The object is not all inside its segment.
     OutOfSegment,
     /// The tag of a list of structs is not a struct pointer.
     CompositeTag,
@@ -31,32 +32,54 @@ pub enum Reason {
     CompositeOverrun,
     /// The pointer leads deeper than the limit. Pointers that lead in a circle are refused so, or as `WordLimit`.
     DepthLimit,
-    /// The charge up to this pointer is more than the limit.
+    /// The charge up to this pointer is more than the limit, or more than [`Limits::SLACK`](crate::Limits::SLACK) words
+    /// above those of the segments.
     WordLimit,
+    /// Not strict: a landing pad of one word is zero.
+    NullPad,
+    /// Not strict: a landing pad of two words leads into a segment without words.
+    EmptySegment,
+    /// Not strict: a landing pad of one word is a capability.
+    CapabilityPad,
+    /// The pointer uses a word that is already in use. Only [`vet_exclusive`](crate::vet_exclusive) looks for it.
+    Overlap,
+    /// A reason of a later library that this crate doesn't know.
+    Other(
+        /// The number of the answer.
+        u32,
+    ),
 }
 
 impl Reason {
-    // Each with the number of its answer, in order.
-    pub(crate) const ALL: [Self; 13] = [
-        Self::NoRoot,
-        Self::Reserved,
-        Self::SegmentMissing,
-        Self::PadOutside,
-        Self::PadIsFar,
-        Self::PadNotFar,
-        Self::TagKind,
-        Self::TagOffset,
-        Self::OutOfSegment,
-        Self::CompositeTag,
-        Self::CompositeOverrun,
-        Self::DepthLimit,
-        Self::WordLimit,
+    // Those that the header has, each with the number of its answer.
+    pub(crate) const ALL: [(Self, u32); 17] = [
+        (Self::Overlap, 18),
+        (Self::NullPad, 19),
+        (Self::EmptySegment, 20),
+        (Self::CapabilityPad, 22),
+        (Self::NoRoot, 32),
+        (Self::Reserved, 33),
+        (Self::SegmentMissing, 34),
+        (Self::PadOutside, 35),
+        (Self::PadIsFar, 36),
+        (Self::PadNotFar, 37),
+        (Self::TagKind, 38),
+        (Self::TagOffset, 39),
+        (Self::OutOfSegment, 40),
+        (Self::CompositeTag, 41),
+        (Self::CompositeOverrun, 42),
+        (Self::DepthLimit, 43),
+        (Self::WordLimit, 44),
     ];
 
     // The reason of an answer, if it is that of a refused message.
     fn of(answer: Answer) -> Option<Self> {
-        let at = answer.0.checked_sub(Answer::FIRST_REASON)?;
-        Self::ALL.get(at as usize).copied()
+        let known = Self::ALL.iter().find(|(_, number)| *number == answer.0);
+        match known {
+            Some((reason, _)) => Some(*reason),
+            None if answer.0 >= Answer::FIRST_REASON => Some(Self::Other(answer.0)),
+            None => None,
+        }
     }
 
     /// The name that the program prints, which is that of the variant.
@@ -76,6 +99,11 @@ impl Reason {
             Self::CompositeOverrun => "CompositeOverrun",
             Self::DepthLimit => "DepthLimit",
             Self::WordLimit => "WordLimit",
+            Self::NullPad => "NullPad",
+            Self::EmptySegment => "EmptySegment",
+            Self::CapabilityPad => "CapabilityPad",
+            Self::Overlap => "Overlap",
+            Self::Other(_) => "Unknown",
         }
     }
 }
@@ -86,93 +114,174 @@ impl fmt::Display for Reason {
     }
 }
 
-/// The error of a message that isn't accepted: the bytes don't begin with a frame within the limits, or the message is
-/// refused at a pointer.
+/// A message that is refused at a pointer.
 #[derive(Clone, Copy, Debug, PartialEq, Eq, Hash)]
 #[non_exhaustive]
-pub enum Refusal {
+pub struct Refusal {
+    /// The first reason that applies at the pointer.
+    pub reason: Reason,
+    /// The place of the first pointer in preorder at which anything is wrong, or a limit is exceeded.
+    pub position: Position,
+    /// The number of pointers that were checked, this one included.
+    pub pointers: u64,
+    /// The length of the frame in bytes, table included.
+    pub length: usize,
+    /// The number of its segments.
+    pub segments: u32,
+}
+
+/// As in the lines of the program.
+impl fmt::Display for Refusal {
+    fn fmt(&self, f: &mut fmt::Formatter<'_>) -> fmt::Result {
+        let Self {
+            reason,
+            position,
+            pointers,
+            ..
+        } = self;
+        write!(f, "refused {reason} at {position} pointers {pointers}")
+    }
+}
+
+#[cfg(feature = "std")]
+impl std::error::Error for Refusal {}
+
+/// Bytes that hold no complete frame within the limits, or more than the frame.
+#[derive(Clone, Copy, Debug, PartialEq, Eq, Hash)]
+#[non_exhaustive]
+pub enum FrameError {
     /// There are no bytes, as at the end of a stream.
     Empty,
     /// The segment table says more than 512 segments.
+    #[non_exhaustive]
     TooManySegments {
         /// Their number.
         count: u64,
     },
-    /// The segments together have more words than [`Limits::size`](crate::Limits::size).
+    /// The segments together have more words than [`Limits::message_words`](crate::Limits::message_words).
+    #[non_exhaustive]
     TooLarge {
         /// Their number.
         words: u64,
     },
     /// The bytes end inside the frame.
+    #[non_exhaustive]
     Truncated {
-        /// The number of bytes that the next call needs at least: 8, then those of the table, then those of the whole
-        /// frame. It is a claim of the sender, at most `8 * size + 2056`.
-        wanted: usize,
+        /// The least number of bytes that gets further: 8, then those of the table, then those of the whole frame. It is a
+        /// claim of the sender, at most `8 * message_words + 2056`.
+        required: usize,
     },
-    /// The message is refused.
-    Pointer {
-        /// The first reason that applies at the pointer.
-        reason: Reason,
-        /// The segment of the first pointer in preorder at which anything is wrong, or a limit is exceeded.
-        segment: u32,
-        /// Its word in that segment.
-        word: u32,
-        /// The number of pointers that were looked at, this one included.
-        pointers: u64,
+    /// Trailing bytes follow the message, which isn't allowed.
+    #[non_exhaustive]
+    Trailing {
+        /// Their number.
+        bytes: u64,
+        /// The length of the frame before them, table included.
+        length: usize,
+        /// The number of its segments.
+        segments: u32,
     },
-    /// A result of a later library that this crate doesn't know. It is never an acceptance.
+}
+
+/// As in the lines of the program, where it has one.
+impl fmt::Display for FrameError {
+    fn fmt(&self, f: &mut fmt::Formatter<'_>) -> fmt::Result {
+        match self {
+            Self::Empty => f.write_str("NoMessage"),
+            Self::TooManySegments { count } => write!(f, "TooManySegments {count}"),
+            Self::TooLarge { words } => write!(f, "TooLarge {words}"),
+            Self::Truncated { required } => write!(f, "Truncated, {required} bytes are required"),
+            Self::Trailing { bytes, .. } => write!(f, "Trailing {bytes}"),
+        }
+    }
+}
+
+#[cfg(feature = "std")]
+impl std::error::Error for FrameError {}
+
+/// The error of a message that isn't accepted.
+#[derive(Clone, Copy, Debug, PartialEq, Eq, Hash)]
+#[non_exhaustive]
+pub enum VetError {
+    /// The bytes hold no complete frame within the limits, or more than the frame.
+    Frame(
+        /// What is wrong with it.
+        FrameError,
+    ),
+    /// The message is refused at a pointer.
+    Refused(
+        /// The pointer, and why.
+        Refusal,
+    ),
+    /// Not strict: the message has 512 segments, one more than common readers take.
+    #[non_exhaustive]
+    ManySegments {
+        /// The length of the frame in bytes, table included.
+        length: usize,
+    },
+    /// An answer of a later library that this crate doesn't know. It is never an acceptance.
     Other(
         /// The number.
         u32,
     ),
 }
 
-impl Refusal {
-    // The refusal of an answer other than that of an accepted message.
-    pub(crate) fn of(answer: Answer, told: &Told) -> Self {
+impl VetError {
+    // The error of an answer other than that of an accepted message.
+    pub(crate) fn of(answer: Answer, raw: &RawReport) -> Self {
         match answer {
-            Answer::NO_MESSAGE => Self::Empty,
-            Answer::TOO_MANY_SEGMENTS => Self::TooManySegments { count: told.number },
-            Answer::TOO_LARGE => Self::TooLarge { words: told.number },
-            Answer::TRUNCATED => Self::Truncated {
-                wanted: told.number as usize,
+            Answer::NO_MESSAGE => Self::Frame(FrameError::Empty),
+            Answer::TOO_MANY_SEGMENTS => {
+                Self::Frame(FrameError::TooManySegments { count: raw.detail })
+            }
+            Answer::TOO_LARGE => Self::Frame(FrameError::TooLarge { words: raw.detail }),
+            Answer::TRUNCATED => Self::Frame(FrameError::Truncated {
+                required: raw.required as usize,
+            }),
+            Answer::TRAILING => Self::Frame(FrameError::Trailing {
+                bytes: raw.detail,
+                length: raw.length(),
+                segments: raw.segments,
+            }),
+            Answer::MANY_SEGMENTS => Self::ManySegments {
+                length: raw.length(),
             },
             other => match Reason::of(other) {
-                Some(reason) => Self::Pointer {
+                Some(reason) => Self::Refused(Refusal {
                     reason,
-                    segment: told.segment,
-                    word: told.word,
-                    pointers: told.pointers,
-                },
+                    position: Position::of(raw),
+                    pointers: raw.pointers,
+                    length: raw.length(),
+                    segments: raw.segments,
+                }),
                 None => Self::Other(other.0),
             },
+        }
+    }
+
+    /// The length of the frame in bytes, table included, or 0 if there is no complete frame.
+    #[must_use]
+    pub const fn length(&self) -> usize {
+        match self {
+            Self::Frame(FrameError::Trailing { length, .. })
+            | Self::Refused(Refusal { length, .. })
+            | Self::ManySegments { length } => *length,
+            Self::Frame(_) | Self::Other(_) => 0,
         }
     }
 }
 
 /// As in the lines of the program, where it has one.
-impl fmt::Display for Refusal {
+impl fmt::Display for VetError {
     fn fmt(&self, f: &mut fmt::Formatter<'_>) -> fmt::Result {
         match self {
-            Self::Empty => f.write_str("no message"),
-            Self::TooManySegments { count } => write!(f, "TooManySegments {count}"),
-            Self::TooLarge { words } => write!(f, "TooLarge {words}"),
-            Self::Truncated { wanted } => write!(f, "Truncated, {wanted} bytes are wanted"),
-            Self::Pointer {
-                reason,
-                segment,
-                word,
-                pointers,
-            } => {
-                write!(
-                    f,
-                    "refused {reason} at {segment}:{word} pointers {pointers}"
-                )
-            }
+            Self::Frame(fault) => fault.fmt(f),
+            Self::Refused(refusal) => refusal.fmt(f),
+            Self::ManySegments { .. } => f.write_str("refused ManySegments at 0:0 pointers 0"),
             Self::Other(answer) => write!(f, "unknown answer {answer}"),
         }
     }
 }
 
 #[cfg(feature = "std")]
-impl std::error::Error for Refusal {}
+impl std::error::Error for VetError {}

@@ -1,7 +1,32 @@
 //! The report of an accepted message.
 
-use crate::sys::Told;
+use crate::sys::RawReport;
 use core::fmt;
+
+/// The place of a pointer in a message.
+#[derive(Clone, Copy, Debug, PartialEq, Eq, Hash)]
+pub struct Position {
+    /// The number of its segment, from 0.
+    pub segment: u32,
+    /// Its word in that segment, from 0.
+    pub word: u32,
+}
+
+/// As in the lines of the program: the two numbers with a colon between them.
+impl fmt::Display for Position {
+    fn fmt(&self, f: &mut fmt::Formatter<'_>) -> fmt::Result {
+        write!(f, "{}:{}", self.segment, self.word)
+    }
+}
+
+impl Position {
+    pub(crate) const fn of(raw: &RawReport) -> Self {
+        Self {
+            segment: raw.segment,
+            word: raw.word,
+        }
+    }
+}
 
 /// The numbers of an accepted message.
 #[derive(Clone, Copy, Debug, PartialEq, Eq, Hash)]
@@ -11,7 +36,7 @@ pub struct Report {
     pub length: usize,
     /// The number of its segments.
     pub segments: u32,
-    /// The words that a full traversal reads. A target that two pointers share counts twice, landing pads count, and a list
+    /// The words that a full traversal reads. An object that two pointers reach counts twice, landing pads count, and a list
     /// element without bits or words counts as one.
     pub charge: u64,
     /// The deepest level of an object. The root object has level 1; a null root gives 0.
@@ -19,25 +44,25 @@ pub struct Report {
     /// The number of pointers, null ones included.
     pub pointers: u64,
     /// The number of capabilities.
-    pub caps: u64,
-    /// The segment and word of the first capability in preorder, if there is one.
-    pub first_cap: Option<(u32, u32)>,
+    pub capabilities: u64,
+    /// The place of the first capability in preorder, if there is one.
+    pub first_capability: Option<Position>,
 }
 
 impl Report {
     // The report of a call on an accepted message.
-    pub(crate) fn of(told: &Told) -> Self {
+    pub(crate) fn of(raw: &RawReport) -> Self {
         Self {
-            length: told.length(),
-            segments: told.segments,
-            charge: told.charge,
-            depth: told.depth,
-            pointers: told.pointers,
-            caps: told.caps,
-            first_cap: if told.caps == 0 {
+            length: raw.length(),
+            segments: raw.segments,
+            charge: raw.charge,
+            depth: raw.depth,
+            pointers: raw.pointers,
+            capabilities: raw.capabilities,
+            first_capability: if raw.capabilities == 0 {
                 None
             } else {
-                Some((told.segment, told.word))
+                Some(Position::of(raw))
             },
         }
     }
@@ -50,12 +75,12 @@ impl fmt::Display for Report {
             charge,
             depth,
             pointers,
-            caps,
+            capabilities,
             ..
         } = self;
         write!(
             f,
-            "accepted charge {charge} depth {depth} pointers {pointers} caps {caps}"
+            "accepted charge {charge} depth {depth} pointers {pointers} caps {capabilities}"
         )
     }
 }

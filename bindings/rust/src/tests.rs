@@ -1,9 +1,9 @@
 //! The declarations against the header, and what the archive answers against what is known of the samples.
 
-use crate::sys::{Answer, Told};
+use crate::sys::{Answer, RawReport};
 use crate::{
-    canonical_into, frame_len, is_canonical, messages, vet, vet_exclusive, ExclusiveError, Limits,
-    NoCopy, Reason, Refusal,
+    canonical_into, frame_length, is_canonical, messages, vet, vet_exclusive, CanonicalError,
+    ExclusiveError, FrameError, Limits, Position, Reason, VetError,
 };
 use core::mem::size_of;
 
@@ -42,84 +42,138 @@ fn variant(name: &str) -> String {
         .collect()
 }
 
+// The answers that are no reason of a refusal at a pointer.
+const OTHERS: [(&str, Answer); 11] = [
+    ("OK", Answer::OK),
+    ("NO_MESSAGE", Answer::NO_MESSAGE),
+    ("TOO_MANY_SEGMENTS", Answer::TOO_MANY_SEGMENTS),
+    ("TOO_LARGE", Answer::TOO_LARGE),
+    ("TRUNCATED", Answer::TRUNCATED),
+    ("TRAILING", Answer::TRAILING),
+    ("BAD_LIMITS", Answer(8)),
+    ("BUFFER_TOO_SMALL", Answer::BUFFER_TOO_SMALL),
+    ("NOT_CANONICAL", Answer::NOT_CANONICAL),
+    ("HAS_CAPABILITY", Answer::HAS_CAPABILITY),
+    ("MANY_SEGMENTS", Answer::MANY_SEGMENTS),
+];
+
 #[test]
-fn reasons_are_those_of_the_header() {
-    let of_header: Vec<_> = answers()
+fn answers_are_those_of_the_header() {
+    let mut here: Vec<_> = OTHERS
+        .iter()
+        .map(|(name, answer)| (variant(name), answer.0))
+        .chain(
+            Reason::ALL
+                .iter()
+                .map(|(reason, number)| (reason.name().to_owned(), *number)),
+        )
+        .collect();
+    here.sort_by_key(|(_, number)| *number);
+    let mut of_header: Vec<_> = answers()
         .into_iter()
-        .filter(|(_, number)| *number >= Answer::FIRST_REASON)
         .map(|(name, number)| (variant(&name), number))
         .collect();
-    let here: Vec<_> = Reason::ALL
-        .iter()
-        .zip(Answer::FIRST_REASON..)
-        .map(|(reason, number)| (reason.name().to_owned(), number))
-        .collect();
+    of_header.sort_by_key(|(_, number)| *number);
     assert_eq!(here, of_header);
-    for reason in Reason::ALL {
+    for (reason, _) in Reason::ALL {
         assert_eq!(format!("{reason:?}"), reason.to_string());
     }
 }
 
 #[test]
-fn answers_are_those_of_the_header() {
-    let of_header = answers();
-    for (name, answer) in [
-        ("OK", Answer::OK),
-        ("NO_MESSAGE", Answer::NO_MESSAGE),
-        ("TOO_MANY_SEGMENTS", Answer::TOO_MANY_SEGMENTS),
-        ("TOO_LARGE", Answer::TOO_LARGE),
-        ("TRUNCATED", Answer::TRUNCATED),
-        ("NO_ROOM", Answer::NO_ROOM),
-        ("NOT_CANONICAL", Answer::NOT_CANONICAL),
-        ("HAS_CAPABILITY", Answer::HAS_CAPABILITY),
-        ("OVERLAP", Answer::OVERLAP),
-    ] {
-        assert!(of_header.contains(&(name.to_owned(), answer.0)), "{name}");
-    }
-}
-
-#[test]
 fn every_other_answer_is_no_acceptance() {
-    let known = answers();
     for number in 1..100 {
-        let refusal = Refusal::of(Answer(number), &Told::default());
-        let is_known = known.iter().any(|(name, it)| {
-            *it == number
-                && !matches!(
-                    &name[..],
-                    "BAD_LIMITS" | "NO_ROOM" | "NOT_CANONICAL" | "HAS_CAPABILITY" | "OVERLAP"
-                )
-        });
-        assert_eq!(refusal == Refusal::Other(number), !is_known, "{number}");
+        let error = VetError::of(Answer(number), &RawReport::default());
+        let known = Reason::ALL.iter().find(|(_, it)| *it == number);
+        match error {
+            VetError::Frame(_) => assert!((1..=5).contains(&number), "{number}"),
+            VetError::ManySegments { .. } => assert_eq!(number, 23),
+            VetError::Refused(refusal) => match known {
+                Some((reason, _)) => assert_eq!(refusal.reason, *reason),
+                None => assert_eq!(
+                    (refusal.reason, number >= 32),
+                    (Reason::Other(number), true)
+                ),
+            },
+            VetError::Other(it) => assert_eq!((it, known), (number, None)),
+        }
     }
 }
 
 #[test]
 fn limits_are_those_of_the_header() {
     for line in [
-        format!("#define CAPVET_MOST_WORDS {}", Limits::MOST_WORDS),
-        format!("#define CAPVET_MOST_DEPTH {}", Limits::MOST_DEPTH),
         format!(
-            "#define CAPVET_LIMITS_INIT {{ {}, {}, {} }}",
-            Limits::DEFAULT.size(),
-            Limits::DEFAULT.words(),
-            Limits::DEFAULT.depth()
+            "#define CAPVET_MAX_MESSAGE_WORDS UINT64_C({})",
+            Limits::MAX_MESSAGE_WORDS
+        ),
+        format!("#define CAPVET_MAX_CHARGE UINT64_C({})", Limits::MAX_CHARGE),
+        format!("#define CAPVET_MAX_DEPTH {}", Limits::MAX_DEPTH),
+        format!("#define CAPVET_SLACK {}", Limits::SLACK),
+        format!(
+            "#define CAPVET_ALLOW_TRAILING {:#x}u",
+            Limits::DEFAULT.allow_trailing(true).flags()
+        ),
+        format!(
+            "#define CAPVET_ALLOW_NONSTRICT {:#x}u",
+            Limits::DEFAULT.allow_nonstrict(true).flags()
+        ),
+        format!(
+            "#define CAPVET_ALLOW_AMPLIFIED {:#x}u",
+            Limits::DEFAULT.allow_amplified(true).flags()
+        ),
+        format!(
+            "#define CAPVET_LIMITS_INIT {{ {}, {}, {}, {}, {{ 0, 0 }} }}",
+            Limits::DEFAULT.message_words(),
+            Limits::DEFAULT.charge(),
+            Limits::DEFAULT.depth(),
+            Limits::DEFAULT.flags()
         ),
     ] {
         assert!(HEADER.contains(&line), "{line}");
     }
     assert_eq!(Limits::default(), Limits::DEFAULT);
-    let most = Limits::new(Limits::MOST_WORDS, Limits::MOST_WORDS, Limits::MOST_DEPTH)
-        .expect("the greatest");
-    assert_eq!(frame_len(&NULL, most), Ok(16));
-    assert_eq!(most.with_size(Limits::MOST_WORDS + 1), None);
-    assert_eq!(most.with_words(Limits::MOST_WORDS + 1), None);
-    assert_eq!(most.with_depth(Limits::MOST_DEPTH + 1), None);
+    let most = Limits::DEFAULT
+        .with_message_words(Limits::MAX_MESSAGE_WORDS)
+        .and_then(|it| it.with_charge(Limits::MAX_CHARGE))
+        .and_then(|it| it.with_depth(Limits::MAX_DEPTH))
+        .expect("the greatest")
+        .allow_trailing(true)
+        .allow_nonstrict(true)
+        .allow_amplified(true);
+    assert_eq!(frame_length(&NULL, most), Ok(16));
+    assert_eq!(vet(&NULL, most).map(|report| report.length), Ok(16));
+    assert_eq!(most.with_message_words(Limits::MAX_MESSAGE_WORDS + 1), None);
+    assert_eq!(most.with_charge(Limits::MAX_CHARGE + 1), None);
+    assert_eq!(most.with_depth(Limits::MAX_DEPTH + 1), None);
+}
+
+#[test]
+fn flags_are_set_one_by_one() {
+    let none = Limits::DEFAULT;
+    for (one, trailing, nonstrict, amplified) in [
+        (none, false, false, false),
+        (none.allow_trailing(true), true, false, false),
+        (none.allow_nonstrict(true), false, true, false),
+        (none.allow_amplified(true), false, false, true),
+    ] {
+        let has = (
+            one.allows_trailing(),
+            one.allows_nonstrict(),
+            one.allows_amplified(),
+        );
+        assert_eq!(has, (trailing, nonstrict, amplified));
+        let back = one
+            .allow_trailing(false)
+            .allow_nonstrict(false)
+            .allow_amplified(false);
+        assert_eq!(back, none);
+    }
 }
 
 #[test]
 fn the_report_has_the_size_of_its_fields() {
-    assert_eq!(size_of::<Told>(), 5 * 8 + 4 * 4);
+    assert_eq!(size_of::<RawReport>(), 6 * 8 + 4 * 4 + 4 * 8);
     let fields = HEADER
         .split("typedef struct capvet_report {")
         .nth(1)
@@ -132,12 +186,22 @@ fn the_report_has_the_size_of_its_fields() {
                 .strip_prefix("uint")?
                 .split_once("_t ")?
                 .1
-                .split(';')
+                .split([';', '['])
                 .next()
         })
         .collect();
     let here = [
-        "length", "number", "charge", "pointers", "caps", "depth", "segment", "word", "segments",
+        "length",
+        "required",
+        "detail",
+        "charge",
+        "pointers",
+        "capabilities",
+        "depth",
+        "segments",
+        "segment",
+        "word",
+        "reserved",
     ];
     assert_eq!(names, here);
 }
@@ -166,8 +230,11 @@ fn samples_are_accepted() {
             (report.to_string(), report.segments),
             (line.to_owned(), segments)
         );
-        assert_eq!((report.length, report.first_cap), (bytes.len(), None));
-        assert_eq!(frame_len(bytes, Limits::DEFAULT), Ok(bytes.len()));
+        assert_eq!(
+            (report.length, report.first_capability),
+            (bytes.len(), None)
+        );
+        assert_eq!(frame_length(bytes, Limits::DEFAULT), Ok(bytes.len()));
         assert_eq!(is_canonical(bytes, Limits::DEFAULT), Ok(false));
     }
 }
@@ -178,13 +245,17 @@ fn samples_use_no_word_twice() {
     for bytes in [CONTACTS, MANY_SEGMENTS, TELEMETRY] {
         let report = vet(bytes, Limits::DEFAULT).expect("the sample is accepted");
         let needed = match vet_exclusive(bytes, Limits::DEFAULT, &mut []) {
-            Err(ExclusiveError::NoRoom { needed }) => needed,
-            answer => panic!("marks take room: {answer:?}"),
+            Err(ExclusiveError::BufferTooSmall { required, .. }) => required,
+            answer => panic!("marks take a buffer: {answer:?}"),
         };
         assert!(needed <= report.length / 512 + 1);
         let mut marks = vec![u64::MAX; needed + 1];
         let short = vet_exclusive(bytes, Limits::DEFAULT, &mut marks[..needed - 1]);
-        assert_eq!(short, Err(ExclusiveError::NoRoom { needed }));
+        let required = needed;
+        assert_eq!(
+            short,
+            Err(ExclusiveError::BufferTooSmall { required, report })
+        );
         assert!(marks.iter().all(|it| *it == u64::MAX));
         assert_eq!(
             vet_exclusive(bytes, Limits::DEFAULT, &mut marks),
@@ -196,14 +267,14 @@ fn samples_use_no_word_twice() {
             Ok(report)
         );
     }
-    for bytes in [&CYCLE[..], &NULL[..9], &[]] {
-        let refusal = vet(bytes, Limits::DEFAULT).expect_err("it is refused");
-        let told = [
+    for bytes in [&CYCLE[..], &NULL[..9], &[], &[&NULL[..], &[7]].concat()] {
+        let error = vet(bytes, Limits::DEFAULT).expect_err("it is refused");
+        let reported = [
             vet_exclusive(bytes, Limits::DEFAULT, &mut []),
             vet_exclusive(bytes, Limits::DEFAULT, &mut [u64::MAX]),
             crate::vet_exclusive_alloc(bytes, Limits::DEFAULT),
         ];
-        assert_eq!(told, [Err(ExclusiveError::Refused(refusal)); 3]);
+        assert_eq!(reported, [Err(ExclusiveError::NotAccepted(error)); 3]);
     }
 }
 
@@ -215,41 +286,51 @@ fn copies_are_those_of_the_samples() {
         (MANY_SEGMENTS, CONTACTS_COPY),
         (TELEMETRY, TELEMETRY_COPY),
     ] {
+        let report = vet(bytes, Limits::DEFAULT).expect("the sample is accepted");
         assert_eq!(
-            crate::canonical(bytes, Limits::DEFAULT).as_deref(),
-            Ok(copy)
+            crate::canonical(bytes, Limits::DEFAULT),
+            Ok((copy.to_vec(), report))
         );
-        let mut room = vec![0xee; copy.len() + 1];
+        let mut out = vec![0xee; copy.len() + 1];
+        let required = copy.len();
         for length in 0..copy.len() {
             assert_eq!(
-                canonical_into(bytes, Limits::DEFAULT, &mut room[..length]),
-                Err(NoCopy::NoRoom { needed: copy.len() })
+                canonical_into(bytes, Limits::DEFAULT, &mut out[..length]),
+                Err(CanonicalError::BufferTooSmall { required, report })
             );
         }
-        assert!(room.iter().all(|it| *it == 0xee));
-        let written = canonical_into(bytes, Limits::DEFAULT, &mut room);
-        assert_eq!(written, Ok(copy.len()));
-        assert_eq!(room, [copy, &[0xee]].concat());
+        assert!(out.iter().all(|it| *it == 0xee));
+        let written = canonical_into(bytes, Limits::DEFAULT, &mut out);
+        assert_eq!(written, Ok((copy.len(), report)));
+        assert_eq!(out, [copy, &[0xee]].concat());
     }
     assert_eq!(
         crate::canonical(&CYCLE, Limits::DEFAULT),
-        Err(NoCopy::Refused(
-            vet(&CYCLE, Limits::DEFAULT).expect_err("it is refused")
-        ))
+        Err(vet(&CYCLE, Limits::DEFAULT)
+            .expect_err("it is refused")
+            .into())
     );
 }
 
 #[test]
-fn the_first_capability_is_told() {
+fn the_first_capability_is_reported() {
     // A struct of two pointers, the second of them a capability.
     let mut message = [0; 32];
     message[4] = 3;
     message[14] = 2;
     message[24] = 3;
+    let position = Position {
+        segment: 0,
+        word: 2,
+    };
     let report = vet(&message, Limits::DEFAULT).expect("the message is accepted");
     assert_eq!(
-        (report.caps, report.pointers, report.first_cap),
-        (1, 3, Some((0, 2)))
+        (
+            report.capabilities,
+            report.pointers,
+            report.first_capability
+        ),
+        (1, 3, Some(position))
     );
     assert_eq!(is_canonical(&message, Limits::DEFAULT), Ok(false));
     let none = canonical_into(&message, Limits::DEFAULT, &mut []).expect_err("no copy");
@@ -257,39 +338,112 @@ fn the_first_capability_is_told() {
 }
 
 #[test]
-fn refusals_are_told_as_the_program_tells_them() {
-    let told = |bytes: &[u8], limits: Option<Limits>| {
+fn refusals_read_as_in_the_program() {
+    let line = |bytes: &[u8], limits: Option<Limits>| {
         vet(bytes, limits.expect("limits are within the greatest"))
             .expect_err("it is refused")
             .to_string()
     };
     let limits = Limits::DEFAULT;
     assert_eq!(
-        told(CONTACTS, limits.with_words(100)),
+        line(CONTACTS, limits.with_charge(100)),
         "refused WordLimit at 0:21 pointers 22"
     );
     assert_eq!(
-        told(CONTACTS, limits.with_depth(3)),
+        line(CONTACTS, limits.with_depth(3)),
         "refused DepthLimit at 0:7 pointers 3"
     );
-    assert_eq!(told(CONTACTS, limits.with_size(391)), "TooLarge 392");
     assert_eq!(
-        told(&CYCLE, Some(limits)),
+        line(CONTACTS, limits.with_message_words(391)),
+        "TooLarge 392"
+    );
+    assert_eq!(
+        line(&CYCLE, Some(limits)),
         "refused DepthLimit at 0:0 pointers 65"
     );
     assert_eq!(
-        told(&[0, 2, 0, 0, 0, 0, 0, 0], Some(limits)),
+        line(&[0, 2, 0, 0, 0, 0, 0, 0], Some(limits)),
         "TooManySegments 513"
     );
-    assert_eq!(told(&[], Some(limits)), "no message");
+    assert_eq!(line(&[], Some(limits)), "NoMessage");
     assert_eq!(
-        told(&NULL[..9], Some(limits)),
-        "Truncated, 16 bytes are wanted"
+        line(&NULL[..9], Some(limits)),
+        "Truncated, 16 bytes are required"
     );
     assert_eq!(
-        told(&[0; 8], Some(limits)),
+        line(&[0; 8], Some(limits)),
         "refused NoRoot at 0:0 pointers 0"
     );
+}
+
+// A message of these segments, each a list of words.
+fn framed(segments: &[&[u64]]) -> Vec<u8> {
+    let mut numbers = vec![segments.len() as u32 - 1];
+    numbers.extend(segments.iter().map(|it| it.len() as u32));
+    numbers.resize(numbers.len() / 2 * 2 + numbers.len() % 2 * 2, 0);
+    let mut bytes: Vec<u8> = numbers.iter().flat_map(|it| it.to_le_bytes()).collect();
+    for word in segments.iter().flat_map(|it| it.iter()) {
+        bytes.extend(word.to_le_bytes());
+    }
+    bytes
+}
+
+#[test]
+fn what_is_not_strict_is_refused_without_its_flag() {
+    let far = 0xa; // to a pad of one word at word 1 of segment 0
+    for (message, line) in [
+        (framed(&[&[far, 0]]), "refused NullPad at 0:0 pointers 1"),
+        (
+            framed(&[&[far, 3]]),
+            "refused CapabilityPad at 0:0 pointers 1",
+        ),
+        (
+            framed(&[&[6 | 1 << 32], &[2 | 2 << 32, 0], &[]]),
+            "refused EmptySegment at 0:0 pointers 1",
+        ),
+        (
+            framed(&[&[&[0][..]], &[&[][..]; 511][..]].concat()),
+            "refused ManySegments at 0:0 pointers 0",
+        ),
+    ] {
+        let error = vet(&message, Limits::DEFAULT).expect_err("it is not strict");
+        assert_eq!(
+            (error.to_string(), error.length()),
+            (line.to_owned(), message.len())
+        );
+        let limits = Limits::DEFAULT.allow_nonstrict(true);
+        assert_eq!(vet(&message, limits).map(|it| it.length), Ok(message.len()));
+    }
+}
+
+#[test]
+fn an_amplified_message_is_refused_without_its_flag() {
+    // A list of Void: 4,097 elements and the root word are charged 4,097 words, and 4,098 are one too many.
+    let list = |count: u64| framed(&[&[1 | count << 35]]);
+    let least = vet(&list(4097), Limits::DEFAULT).expect("at the limit");
+    assert_eq!(least.charge, 4097);
+    let error = vet(&list(4098), Limits::DEFAULT).expect_err("above the limit");
+    assert_eq!(error.to_string(), "refused WordLimit at 0:0 pointers 1");
+    let limits = Limits::DEFAULT.allow_amplified(true);
+    assert_eq!(vet(&list(4098), limits).map(|it| it.charge), Ok(4098));
+}
+
+#[test]
+fn trailing_bytes_are_refused_without_their_flag() {
+    for more in [1, 7, 8] {
+        let bytes = [&NULL[..], &[7; 8][..more]].concat();
+        let error = vet(&bytes, Limits::DEFAULT).expect_err("bytes follow");
+        let trailing = FrameError::Trailing {
+            bytes: more as u64,
+            length: 16,
+            segments: 1,
+        };
+        assert_eq!((error, error.length()), (VetError::Frame(trailing), 16));
+        let limits = Limits::DEFAULT.allow_trailing(true);
+        assert_eq!(vet(&bytes, limits).map(|it| it.length), Ok(16));
+        assert_eq!(frame_length(&bytes, Limits::DEFAULT), Ok(16));
+        assert_eq!(is_canonical(&bytes, limits), Err(error));
+    }
 }
 
 #[test]
@@ -315,7 +469,7 @@ fn a_stream_is_its_messages() {
 }
 
 #[test]
-fn every_cut_of_a_stream_tells_what_is_wanted() {
+fn every_cut_of_a_stream_says_what_is_required() {
     let stream = [NULL, CYCLE, NULL].concat();
     for length in 0..=stream.len() {
         let mut iterator = messages(&stream[..length], Limits::DEFAULT);
@@ -325,11 +479,11 @@ fn every_cut_of_a_stream_tells_what_is_wanted() {
         for (at, item) in items.iter().enumerate() {
             match (at, item) {
                 (0 | 2, Ok(message)) => assert_eq!(message.bytes(), NULL),
-                (1, Err(Refusal::Pointer { reason, .. })) => {
-                    assert_eq!(*reason, Reason::DepthLimit);
+                (1, Err(VetError::Refused(refusal))) => {
+                    assert_eq!((refusal.reason, refusal.length), (Reason::DepthLimit, 16));
                 }
-                (_, Err(Refusal::Truncated { wanted })) => {
-                    assert_eq!((at, *wanted), (whole, if cut < 8 { 8 } else { 16 }));
+                (_, Err(VetError::Frame(FrameError::Truncated { required }))) => {
+                    assert_eq!((at, *required), (whole, if cut < 8 { 8 } else { 16 }));
                 }
                 other => panic!("{other:?}"),
             }

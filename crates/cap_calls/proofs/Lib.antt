@@ -1,3 +1,4 @@
+pub mod AllFlags
 pub mod Answers
 pub mod Copied
 pub mod Marked

@@ -1,13 +1,13 @@
 //! A call over the message at the start of bytes.
 
-ghost use Rattle.cap_calls.specs.CallFindings.{Tells, TellsWhole};
+ghost use Rattle.cap_calls.specs.CallFindings.{TellsWhole};
 ghost use Rattle.cap_calls.specs.CallFlags.{demands_of};
 ghost use Rattle.cap_calls.specs.declared.found.Found.{Found};
-ghost use Rattle.cap_frame.specs.Framed.{framed_segments};
+ghost use Rattle.cap_frame.specs.Framed.{frame_bytes, framed_segments};
 ghost use Rattle.cap_spec.specs.Frames.{sizes_of};
 ghost use Rattle.cap_vet.specs.Limits.{depth_of, words_of};
 ghost use Rattle.cap_vet.specs.declared.demands.Demands.{Demands};
-ghost use Rattle.std.specs.Prelude.{◌≡◌, List, sum, ℕ};
+ghost use Rattle.std.specs.Prelude.{◌≡◌, ◌-◌, if◌then◌else◌, List, length, sum, ℕ};
 
 use crate::found::Found;
 use crate::front::front;
@@ -55,13 +55,25 @@ pub(crate) fn over<C: Call>(
 {
     match front(bytes, limits) {
         Ok((framed, walk)) => {
-            if whole && framed.length() < bytes.len() {
-                let more = bytes.len() - framed.length();
+            let more = bytes_after(whole, bytes, &framed);
+            if more > 0 {
                 return Found::trailing(more as u64).framed(&framed);
             }
             over_framed(call, &framed, walk, limits.demands(), out).framed(&framed)
         }
         Err(cause) => Found::without(cause),
+    }
+}
+
+// How many bytes follow the frame, or 0 where they may.
+#[inline]
+fn bytes_after(whole: bool, bytes: &[u8], framed: &Framed<'_>) -> usize
+    ensures { result ≡ (if whole then (length bytes.now - frame_bytes framed.now) else 0) }
+{
+    if whole {
+        bytes.len().saturating_sub(framed.length())
+    } else {
+        0
     }
 }
 

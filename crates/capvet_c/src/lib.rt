@@ -3,13 +3,14 @@
 
 ghost use Rattle.cap_calls.specs.Calls.{TellsCheck, TellsFrame, TellsVet};
 ghost use Rattle.cap_calls.specs.AnswerNumbers.{number_of};
+ghost use Rattle.cap_calls.specs.CallFlags.{allows_amplified};
 ghost use Rattle.cap_calls.specs.CanonicalCalls.{TellsCopy};
 ghost use Rattle.cap_calls.specs.ExclusiveCalls.{TellsExclusive};
 ghost use Rattle.cap_calls.specs.PackCalls.{TellsPack, TellsUnpack};
 ghost use Rattle.cap_calls.specs.declared.answer.Answer.{Answer};
 ghost use Rattle.cap_calls.specs.declared.answer.Answer.TheVariants.{Good, Overlap};
 ghost use Rattle.cap_calls.specs.declared.report.CallReport.{CallReport};
-ghost use Rattle.std.specs.Prelude.{◌*◌, ◌+◌, ◌/◌, ◌≡◌, ◌≤◌, ◌⊎◌, List, drop, length, ℕ};
+ghost use Rattle.std.specs.Prelude.{◌*◌, ◌+◌, ◌/◌, ◌≡◌, ◌≤◌, ◌⊎◌, IsFalse, List, drop, length, ℕ};
 
 use cap_calls::{
     CallLimits, CallReport, canonical, frame, is_canonical, pack, unpack, version, vet,
@@ -24,11 +25,12 @@ pub extern "C" fn capvet_version() -> u32
     version()
 }
 
-/// Returns in `report.length` the length in bytes of the frame at the start of `bytes`. Reads only
-/// the table, and vets nothing. Only the limit `size` matters, though all three are checked.
+/// Returns in `report.length` the length in bytes of the frame that `bytes` start with. Reads only
+/// the table, and checks no pointer. Bytes may follow the frame, whatever the flags are. Only
+/// `message_words` has an effect, though all limits are checked.
 ///
-/// If the result is `CAPVET_NO_MESSAGE` or `CAPVET_TRUNCATED`, `report.number` is how many bytes the
-/// next call needs at least. The result is the number of what [`frame`] returns. The report is
+/// If the result is `CAPVET_NO_MESSAGE` or `CAPVET_TRUNCATED`, `report.required` is how many bytes
+/// the next call needs at least. The result is the number of what [`frame`] returns. The report is
 /// written whole. Allocates nothing.
 #[unsafe(no_mangle)]
 pub extern "C" fn capvet_frame(bytes: &[u8], limits: &CallLimits, report: &mut CallReport) -> u32
@@ -41,9 +43,10 @@ pub extern "C" fn capvet_frame(bytes: &[u8], limits: &CallLimits, report: &mut C
     frame(bytes, limits, report).number()
 }
 
-/// Vets the message at the start of `bytes`. `CAPVET_OK`: its root denotes a finite tree that lies
-/// inside its segments and is within the limits. Every such message is accepted. The result is the
-/// number of what [`vet`] returns. The report is written whole. Allocates nothing.
+/// Vets the message that `bytes` are. `CAPVET_OK`: its root denotes a finite tree that is inside its
+/// segments and within the limits. It is also strict, unamplified and the whole of `bytes`, each
+/// unless a flag allows more. Every such message is accepted. The result is the number of what
+/// [`vet`] returns. The report is written whole. Allocates nothing.
 #[unsafe(no_mangle)]
 pub extern "C" fn capvet_vet(bytes: &[u8], limits: &CallLimits, report: &mut CallReport) -> u32
     ensures tells { (a : Answer) × TellsVet limits.now bytes.now a report.new
@@ -56,10 +59,10 @@ pub extern "C" fn capvet_vet(bytes: &[u8], limits: &CallLimits, report: &mut Cal
 }
 
 /// Vets the message as [`capvet_vet`] does, and also refuses one that uses a word twice. `marks` is
-/// a buffer of numbers, not bytes, and may hold anything before. For an accepted message `needed` is
+/// a buffer of numbers, not bytes, and may hold anything before. For an accepted message `required` is
 /// how many numbers the call needs, whatever the buffer has. For any other message it is 0.
 ///
-/// With `CAPVET_OK` and `CAPVET_OVERLAP` the first `needed` numbers hold marks, and the others are
+/// With `CAPVET_OK` and `CAPVET_OVERLAP` the first `required` numbers hold marks, and the others are
 /// unchanged. With any other result all are unchanged. The result is the number of what
 /// [`vet_exclusive`] returns. The report is written whole. Allocates nothing.
 #[unsafe(no_mangle)]
@@ -67,30 +70,31 @@ pub extern "C" fn capvet_vet_exclusive(
     bytes: &[u8],
     limits: &CallLimits,
     marks: &mut [u64],
-    needed: &mut usize,
+    required: &mut usize,
     report: &mut CallReport,
 ) -> u32
     ensures tells { (a : Answer)
-        × TellsExclusive limits.now bytes.now (length marks.old) a needed.new report.new
+        × TellsExclusive limits.now bytes.now (length marks.old) a required.new report.new
         × (result ≡ number_of a) }
     // The bytes and the capacity allow no other result.
     ensures only { (a : Answer) (n : ℕ) (r : CallReport) →
         TellsExclusive limits.now bytes.now (length marks.old) a n r →
-        (result ≡ number_of a) × (needed.new ≡ n) × (report.new ≡ r) }
+        (result ≡ number_of a) × (required.new ≡ n) × (report.new ≡ r) }
     // This capacity is always enough.
-    ensures few { needed.new ≤ report.new.length / 512 + 1 }
-    ensures rest { drop needed.new marks.new ≡ drop needed.new marks.old }
+    ensures few { required.new ≤ report.new.length / 512 + 1 }
+    ensures rest { drop required.new marks.new ≡ drop required.new marks.old }
     ensures kept { (result ≡ number_of Good)
         ⊎ ((result ≡ number_of Overlap) ⊎ (marks.new ≡ marks.old)) }
 {
-    vet_exclusive(bytes, limits, marks, needed, report).number()
+    vet_exclusive(bytes, limits, marks, required, report).number()
 }
 
 /// Writes the canonical copy of the message to the start of `out`: the bytes of its words, without
-/// a table. `CAPVET_HAS_CAPABILITY`: a capability is reached; it comes before `CAPVET_NO_ROOM`.
+/// a table. `CAPVET_HAS_CAPABILITY`: a capability is reached; it comes before
+/// `CAPVET_BUFFER_TOO_SMALL`.
 ///
-/// With `CAPVET_OK`, `written` is the length of the copy in bytes, and the bytes after it are
-/// unchanged. With `CAPVET_NO_ROOM` it is the capacity that is needed, and with any other result 0.
+/// With `CAPVET_OK`, `required` is the length of the copy in bytes, and the bytes after it are
+/// unchanged. With `CAPVET_BUFFER_TOO_SMALL` it is that length too, and with any other result 0.
 /// Without `CAPVET_OK`, `out` is unchanged. The result is the number of what [`canonical`] returns.
 /// The report is written whole. Allocates nothing.
 #[unsafe(no_mangle)]
@@ -98,25 +102,28 @@ pub extern "C" fn capvet_canonical(
     bytes: &[u8],
     limits: &CallLimits,
     out: &mut [u8],
-    written: &mut usize,
+    required: &mut usize,
     report: &mut CallReport,
 ) -> u32
     ensures tells { (a : Answer)
-        × TellsCopy limits.now bytes.now out.old a written.new out.new report.new
+        × TellsCopy limits.now bytes.now out.old a required.new out.new report.new
         × (result ≡ number_of a) }
     // The bytes and the capacity allow no other result.
     ensures only { (a : Answer) (n : ℕ) (new : List ℕ) (r : CallReport) →
         TellsCopy limits.now bytes.now out.old a n new r →
-        (result ≡ number_of a) × (written.new ≡ n) × (out.new ≡ new) × (report.new ≡ r) }
-    // This capacity is always enough.
-    ensures few { written.new ≤ 8 * (report.new.charge + 1) }
+        (result ≡ number_of a) × (required.new ≡ n) × (out.new ≡ new) × (report.new ≡ r) }
+    // These capacities are always enough.
+    ensures few { required.new ≤ 8 * (report.new.charge + 1) }
+    ensures short { IsFalse (allows_amplified limits.now) →
+        required.new ≤ report.new.length + 8 * 4097 }
 {
-    canonical(bytes, limits, out, written, report).number()
+    canonical(bytes, limits, out, required, report).number()
 }
 
 /// Checks that the message is canonical: it has one segment, and is its own canonical copy.
 /// `CAPVET_OK` if it is, and `CAPVET_NOT_CANONICAL` if it is accepted and is not, for example if it
-/// has a capability. Otherwise the result is the reason why it is not accepted. It is the number of
+/// has a capability. Otherwise the result is the reason why it is not accepted. Bytes after the
+/// message give `CAPVET_TRAILING`, whatever the flags are. It is the number of
 /// what [`is_canonical`] returns. The report is written whole. Allocates nothing.
 #[unsafe(no_mangle)]
 pub extern "C" fn capvet_is_canonical(
@@ -134,38 +141,38 @@ pub extern "C" fn capvet_is_canonical(
 }
 
 /// Packs the words of `bytes`, all of them, to the start of `out`; they need be no message.
-/// `CAPVET_TRUNCATED`: they are no whole words; it comes before `CAPVET_NO_ROOM`.
+/// `CAPVET_TRUNCATED`: they are no whole words; it comes before `CAPVET_BUFFER_TOO_SMALL`.
 ///
-/// With `CAPVET_OK`, `written` is the length in bytes, and the bytes after it are unchanged. With
-/// `CAPVET_NO_ROOM` it is the capacity that is needed, and with any other result 0. Without
+/// With `CAPVET_OK`, `required` is the length in bytes, and the bytes after it are unchanged. With
+/// `CAPVET_BUFFER_TOO_SMALL` it is that length too, and with any other result 0. Without
 /// `CAPVET_OK`, `out` is unchanged. The result is the number of what [`pack`] returns. Allocates
 /// nothing.
 #[unsafe(no_mangle)]
-pub extern "C" fn capvet_pack(bytes: &[u8], out: &mut [u8], written: &mut usize) -> u32
-    ensures tells { (a : Answer) × TellsPack bytes.now out.old a written.new out.new
+pub extern "C" fn capvet_pack(bytes: &[u8], out: &mut [u8], required: &mut usize) -> u32
+    ensures tells { (a : Answer) × TellsPack bytes.now out.old a required.new out.new
         × (result ≡ number_of a) }
     // The bytes and the capacity allow no other result.
     ensures only { (a : Answer) (n : ℕ) (new : List ℕ) → TellsPack bytes.now out.old a n new →
-        (result ≡ number_of a) × (written.new ≡ n) × (out.new ≡ new) }
+        (result ≡ number_of a) × (required.new ≡ n) × (out.new ≡ new) }
 {
-    pack(bytes, out, written).number()
+    pack(bytes, out, required).number()
 }
 
 /// Unpacks `bytes`, all of them, into words at the start of `out`; they need be no message.
 /// `CAPVET_TOO_LARGE`: there are more than 2^53 bytes; it comes before all others.
-/// `CAPVET_TRUNCATED`: they end inside a group; it comes before `CAPVET_NO_ROOM`.
+/// `CAPVET_TRUNCATED`: they end inside a group; it comes before `CAPVET_BUFFER_TOO_SMALL`.
 ///
-/// With `CAPVET_OK`, `written` is the length in bytes, and the bytes after it are unchanged. With
-/// `CAPVET_NO_ROOM` it is the capacity that is needed, and with any other result 0. Without
+/// With `CAPVET_OK`, `required` is the length in bytes, and the bytes after it are unchanged. With
+/// `CAPVET_BUFFER_TOO_SMALL` it is that length too, and with any other result 0. Without
 /// `CAPVET_OK`, `out` is unchanged. The result is the number of what [`unpack`] returns. Allocates
 /// nothing.
 #[unsafe(no_mangle)]
-pub extern "C" fn capvet_unpack(bytes: &[u8], out: &mut [u8], written: &mut usize) -> u32
-    ensures tells { (a : Answer) × TellsUnpack bytes.now out.old a written.new out.new
+pub extern "C" fn capvet_unpack(bytes: &[u8], out: &mut [u8], required: &mut usize) -> u32
+    ensures tells { (a : Answer) × TellsUnpack bytes.now out.old a required.new out.new
         × (result ≡ number_of a) }
     // The bytes and the capacity allow no other result.
     ensures only { (a : Answer) (n : ℕ) (new : List ℕ) → TellsUnpack bytes.now out.old a n new →
-        (result ≡ number_of a) × (written.new ≡ n) × (out.new ≡ new) }
+        (result ≡ number_of a) × (required.new ≡ n) × (out.new ≡ new) }
 {
-    unpack(bytes, out, written).number()
+    unpack(bytes, out, required).number()
 }

@@ -1,31 +1,57 @@
 -- What is marked is the view.
-use Rattle.std.proofs.Common.{◌∙◌, ◌≡◌, ◌+◌, ◌/◌, ap, ap₂, inl}
+use Rattle.std.proofs.Common.{◌∙◌, ◌≡◌, ◌≤◌, ◌+◌, ◌/◌, List, ℕ, ap, ap₂, drop, inl, length, refl, subst}
 use Rattle.cap_frame.specs.Bytes.{cut}
+use Rattle.cap_frame.specs.declared.view.ByteView.{ByteView}
+use Rattle.cap_spec.specs.Occupying.{IsDisjoint}
+use Rattle.cap_vet.specs.Exclusives.{IsExclusiveFault}
+use Rattle.cap_vet.specs.Reports.{IsVetted}
 use Rattle.cap_vet.specs.Taken.{marks_of}
-use Rattle.cap_calls.specs.ExclusiveCalls.{exclusive, fault_found, faulted}
-use Rattle.cap_calls.specs.CallFindings.{accepted_found}
+use Rattle.cap_vet.proofs.Keeping.{vetted_kept}
+use Rattle.cap_calls.specs.CallFindings.{accepted, accepted_found, refused}
+use Rattle.cap_calls.specs.ExclusiveCalls.{exclusive, fault_found}
 use Rattle.cap_calls.specs.declared.answer.Answer.TheVariants.{Good}
 use Rattle.cap_calls.specs.declared.found.Found.{Found}
-use Rattle.cap_calls.proofs.Marked.{fault_kept}
+use Rattle.cap_calls.proofs.Marked.{fault_kept, marked_fault, refused_kept}
 use Rattle.cap_calls.proofs.calls.vet_exclusive.MarkingCall.on.Goals as goal
 
-pub returns-in-Ok : goal.returns-in-Ok
-returns-in-Ok c =
+pub returns-in-Ok-into_exclusive_in : goal.returns-in-Ok-into_exclusive_in
+returns-in-Ok-into_exclusive_in c =
     let v = c.args.view.now in
-    let ok = c.in-Ok.ensures.ok in
+    let old = c.args.marks.now in
+    let new = c.into_exclusive_in.new.marks in
+    let ok = c.in-Ok-into_exclusive_in.ensures.ok in
+    let message = c.in-Ok.ensures.message in
+    let disjoint = subst (λ (u : ByteView). IsDisjoint (cut u.sizes.now u.bytes.now)) message ok.0 in
+    let enough = subst (λ (u : ByteView). marks_of (cut u.sizes.now u.bytes.now) ≤ length old) message ok.1 in
+    let rest = subst (λ (u : ByteView). drop (marks_of (cut u.sizes.now u.bytes.now)) new ≡ drop (marks_of (cut u.sizes.now u.bytes.now)) old) message
+    c.in-Ok-into_exclusive_in.ensures.rest in
     let numbers : c.marks_for-numbers.result ≡ marks_of (cut v.sizes.now v.bytes.now) = c.marks_for-numbers.ensures ∙ ap (λ n. n / 64 + 1) c.requires in
-    let same : c.report.result ≡ c.in-Ok.exclusive.vetted.report = cc in
+    let same : c.report.result ≡ c.in-Ok.vetted.report = cc in
     let found = c.accepted.ensures ∙ ap₂ (accepted_found Good) numbers same in
     let count = ap (λ (z : Found). z.count) found in (
-      exclusive c.in-Ok.exclusive.vetted.report ok.0 ok.1 ok.2 found,
-      record { rest = rw count c.in-Ok.ensures.rest; kept = inl (ap (λ (z : Found). z.answer) found) },
+      accepted c.in-Ok.vetted.report c.in-Ok.ensures.ok.0 c.in-Ok.ensures.ok.1 (exclusive enough disjoint found),
+      record { rest = rw count rest; kept = inl (ap (λ (z : Found). z.answer) found) },
+    )
+
+pub returns-in-Err-into_exclusive_in : goal.returns-in-Err-into_exclusive_in
+returns-in-Err-into_exclusive_in c =
+    let v = c.args.view.now in
+    let m = cut v.sizes.now v.bytes.now in
+    let old = c.args.marks.now in
+    let new = c.into_exclusive_in.new.marks in
+    let fault = c.in-Err-into_exclusive_in.fault in
+    let report = c.in-Ok.vetted.report in
+    let message = c.in-Ok.ensures.message in
+    let vetted = subst (λ (u : ByteView). IsVetted (cut u.sizes.now u.bytes.now) report) message (vetted_kept _ report c.in-Ok.vetted.accepted) in
+    let err = subst (λ (u : ByteView). IsExclusiveFault (cut u.sizes.now u.bytes.now) 268435456 256 (length old) fault) message
+    c.in-Err-into_exclusive_in.ensures.err in
+    let rest = subst (λ (u : ByteView). drop (marks_of (cut u.sizes.now u.bytes.now)) new ≡ drop (marks_of (cut u.sizes.now u.bytes.now)) old) message
+    c.in-Err-into_exclusive_in.ensures.rest in
+    let numbers : c.marks_for-numbers.result ≡ marks_of m = c.marks_for-numbers.ensures ∙ ap (λ n. n / 64 + 1) c.requires in
+    let same = c.found_of_fault.ensures ∙ ap (λ n. fault_found n fault) numbers in (
+      accepted report c.in-Ok.ensures.ok.0 c.in-Ok.ensures.ok.1 (marked_fault (length old) m report fault c.found_of_fault.result vetted err same),
+      fault_kept old new m fault c.found_of_fault.result same c.in-Err-into_exclusive_in.ensures.kept rest,
     )
 
 pub returns-in-Err : goal.returns-in-Err
-returns-in-Err c =
-    let v = c.args.view.now in
-    let numbers : c.marks_for-numbers.result ≡ marks_of (cut v.sizes.now v.bytes.now) = c.marks_for-numbers.ensures ∙ ap (λ n. n / 64 + 1) c.requires in
-    let same = c.found_of_fault.ensures ∙ ap (λ n. fault_found n c.in-Err.fault) numbers in (
-      faulted c.in-Err.fault c.in-Err.ensures.err same,
-      fault_kept _ _ (cut v.sizes.now v.bytes.now) c.in-Err.fault _ same c.in-Err.ensures.kept c.in-Err.ensures.rest,
-    )
+returns-in-Err c = (refused c.in-Err.refusal c.in-Err.ensures.err c.refused.ensures tt, refused_kept _ _ _ refl)

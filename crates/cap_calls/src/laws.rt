@@ -1,0 +1,30 @@
+//! What the flags mean: with all three a call accepts what [`cap_vet::vet`] does.
+
+ghost use Rattle.cap_calls.specs.CallFindings.{JudgesAny, Returns, Tells, TellsWhole};
+ghost use Rattle.cap_calls.specs.Calls.{IsCheck, IsGood, TellsCheck, TellsVet};
+ghost use Rattle.cap_calls.specs.CanonicalCalls.{IsCopied, TellsCopy};
+ghost use Rattle.cap_calls.specs.ExclusiveCalls.{MarksAny, TellsExclusive};
+ghost use Rattle.cap_calls.specs.declared.answer.Answer.{Answer};
+ghost use Rattle.cap_calls.specs.declared.found.Found.{Found};
+ghost use Rattle.cap_calls.specs.declared.limits.CallLimits.{CallLimits};
+ghost use Rattle.cap_calls.specs.declared.report.CallReport.{CallReport};
+ghost use Rattle.std.specs.Prelude.{◌≡◌, ◌↔◌, List, true, ℕ, ⊤};
+
+/// With all three flags a call judges the message that bytes start with as `vet` of the crate
+/// `cap_vet` does, within the limits of charge and depth, and demands nothing else of it. For
+/// [`crate::is_canonical`] no bytes may follow the message all the same.
+pub fn all_flags_demand_nothing()
+    ensures vet { (l : CallLimits) (bytes : List ℕ) (a : Answer) (r : CallReport) → l.flags ≡ 7 →
+        TellsVet l bytes a r ↔
+        ((f : Found) × Tells ⊤ (JudgesAny ⊤ IsGood) l bytes f × Returns f a r) }
+    ensures exclusive { (l : CallLimits) (bytes : List ℕ) (size : ℕ) (a : Answer) (n : ℕ)
+        (r : CallReport) → l.flags ≡ 7 → TellsExclusive l bytes size a n r ↔
+        ((f : Found) × Tells ⊤ (MarksAny size) l bytes f × Returns f a r × (n ≡ f.count)) }
+    ensures canonical { (l : CallLimits) (bytes old : List ℕ) (a : Answer) (n : ℕ) (new : List ℕ)
+        (r : CallReport) → l.flags ≡ 7 → TellsCopy l bytes old a n new r ↔
+        ((f : Found) × Tells (new ≡ old) (JudgesAny (new ≡ old) (IsCopied old new)) l bytes f
+        × Returns f a r × (n ≡ f.count)) }
+    ensures is_canonical { (l : CallLimits) (bytes : List ℕ) (a : Answer) (r : CallReport) →
+        l.flags ≡ 7 → TellsCheck l bytes a r ↔
+        ((f : Found) × TellsWhole true ⊤ (JudgesAny ⊤ IsCheck) l bytes f × Returns f a r) }
+{}
