@@ -13,6 +13,8 @@ prefix of one of them, and 100,000 messages of a fixed seed, most of which are s
 copies of as many messages are compared too, with the line of some that have none. So are the words of packed texts: of
 the samples, of each prefix of one, and of 1,000 that are made up. `texts` unpacks 100,000 texts, many with changed bytes.
 
+`flags` makes calls with flags, and each field of their reports is compared with tests/model.py: see tests/flags.py.
+
 `packing` looks at known words, and packs 100,000 lists of words, as the program does. They are the samples, each prefix
 of one, changed ones, runs of about the greatest length of a group, and words of few kinds.
 
@@ -26,6 +28,8 @@ import subprocess
 import sys
 import tempfile
 from pathlib import Path
+
+import flags
 
 TOP = Path(__file__).resolve().parent.parent
 WARN = ["-Wall", "-Wextra", "-pedantic", "-Werror", f"-I{TOP / 'include'}"]
@@ -48,13 +52,13 @@ def run(command):
     return subprocess.run([str(word) for word in command], capture_output=True, text=True, errors="replace", cwd=TOP)
 
 
-def compiled(folder, name, compiler, standard, archive, *flags):
+def compiled(folder, name, compiler, standard, archive, *options):
     """The program that a compiler makes of a file of tests/c, or nothing where it refuses the file."""
     out = folder / f"{name}-{compiler}-{standard}"
     language = ["-x", "c++"] if standard.startswith("c++") else []
     source = [*language, TOP / f"tests/c/{name}.c", *(["-x", "none"] if language else [])]
-    ran = run([compiler, f"-std={standard}", "-g", *WARN, *flags, *source, archive, "-o", out])
-    told(f"{compiler} -std={standard} {' '.join(flags)} {name}.c", ran.returncode == 0, ran.stderr)
+    ran = run([compiler, f"-std={standard}", "-g", *WARN, *options, *source, archive, "-o", out])
+    told(f"{compiler} -std={standard} {' '.join(options)} {name}.c", ran.returncode == 0, ran.stderr)
     return out if ran.returncode == 0 else None
 
 
@@ -400,7 +404,14 @@ def test_packed(folder, compilers, archive, program):
         compare_texts(texts, watched, program)
 
 
-HALVES = {"messages": test_messages, "packed": test_packed}
+def test_flags(folder, compilers, archive, program):
+    """Limits, flags and reports, field by field."""
+    asking = compiled(folder, "flags", compilers[0], "c11", archive, "-O1", *CHECKS)
+    if asking is not None:
+        flags.test(told, asking, samples(), made_up, changed, random.Random(SEED))
+
+
+PARTS = {"messages": test_messages, "packed": test_packed, "flags": test_flags}
 
 
 def main():
@@ -410,9 +421,9 @@ def main():
         print("The calls from C weren't tested: no C compiler is on the path.\n0 passed, 0 failed")
         return 0
     wanted_symbols(archive)
-    for half in sys.argv[3:] or HALVES:
+    for part in sys.argv[3:] or PARTS:
         with tempfile.TemporaryDirectory() as folder:
-            HALVES[half](Path(folder), compilers, archive, program)
+            PARTS[part](Path(folder), compilers, archive, program)
     print(f"{passed} passed, {failed} failed")
     return 1 if failed else 0
 

@@ -25,7 +25,9 @@ static uint8_t *block(const uint8_t *bytes, size_t length, size_t odd) {
   return whole;
 }
 
-static const capvet_limits LIMITS = CAPVET_LIMITS_INIT;
+/* The default limits, and bytes may follow the message. */
+static const capvet_limits LIMITS = {8388608, 8388608, 64, CAPVET_ALLOW_TRAILING, {0, 0}};
+static const capvet_limits WHOLE = CAPVET_LIMITS_INIT;
 
 /* A report that no call has written. */
 static capvet_report unwritten(void) {
@@ -41,13 +43,16 @@ static const uint8_t TWO[64] = {
 
 /* The places of the fields, by numbers. */
 static void layout(void) {
-  EXPECT(sizeof(capvet_limits) == 24, "size of limits", sizeof(capvet_limits));
-  EXPECT(offsetof(capvet_limits, words) == 8, "limits.words", offsetof(capvet_limits, words));
+  EXPECT(sizeof(capvet_limits) == 40, "size of limits", sizeof(capvet_limits));
+  EXPECT(offsetof(capvet_limits, charge) == 8, "limits.charge", offsetof(capvet_limits, charge));
   EXPECT(offsetof(capvet_limits, depth) == 16, "limits.depth", offsetof(capvet_limits, depth));
-  EXPECT(sizeof(capvet_report) == 56, "size of a report", sizeof(capvet_report));
-  EXPECT(offsetof(capvet_report, caps) == 32, "report.caps", offsetof(capvet_report, caps));
-  EXPECT(offsetof(capvet_report, depth) == 40, "report.depth", offsetof(capvet_report, depth));
-  EXPECT(offsetof(capvet_report, segments) == 52, "report.segments", offsetof(capvet_report, segments));
+  EXPECT(offsetof(capvet_limits, flags) == 20, "limits.flags", offsetof(capvet_limits, flags));
+  EXPECT(offsetof(capvet_limits, reserved) == 24, "limits.reserved", offsetof(capvet_limits, reserved));
+  EXPECT(sizeof(capvet_report) == 96, "size of a report", sizeof(capvet_report));
+  EXPECT(offsetof(capvet_report, capabilities) == 40, "report.capabilities", offsetof(capvet_report, capabilities));
+  EXPECT(offsetof(capvet_report, depth) == 48, "report.depth", offsetof(capvet_report, depth));
+  EXPECT(offsetof(capvet_report, word) == 60, "report.word", offsetof(capvet_report, word));
+  EXPECT(offsetof(capvet_report, reserved) == 64, "report.reserved", offsetof(capvet_report, reserved));
 }
 
 /* Each field of an accepted message's report, at each alignment. */
@@ -58,14 +63,15 @@ static void fields(void) {
     capvet_report r = unwritten();
     EXPECT(capvet_vet(whole + odd, sizeof TWO, &LIMITS, &r) == CAPVET_OK, "vet", odd);
     EXPECT(r.length == 56, "length", r.length);
-    EXPECT(r.number == 0, "number", r.number);
+    EXPECT(r.required == 0 && r.detail == 0, "required and detail", r.required);
     EXPECT(r.charge == 4, "charge", r.charge);
     EXPECT(r.pointers == 3, "pointers", r.pointers);
-    EXPECT(r.caps == 1, "caps", r.caps);
+    EXPECT(r.capabilities == 1, "capabilities", r.capabilities);
     EXPECT(r.depth == 1, "depth", r.depth);
     EXPECT(r.segment == 1, "segment", r.segment);
     EXPECT(r.word == 3, "word", r.word);
     EXPECT(r.segments == 2, "segments", r.segments);
+    EXPECT((r.reserved[0] | r.reserved[1] | r.reserved[2] | r.reserved[3]) == 0, "reserved", r.reserved[0]);
     EXPECT(memcmp(whole + odd, TWO, sizeof TWO) == 0, "the bytes stay", odd);
     free(whole);
   }
@@ -85,48 +91,60 @@ static void arriving(void) {
     uint32_t answer = length == 0 ? CAPVET_NO_MESSAGE : length < 56 ? CAPVET_TRUNCATED : CAPVET_OK;
     EXPECT(f == answer, "frame of a front", length);
     EXPECT(v == answer, "vet of a front", length);
-    EXPECT(framed.number == (length < 56 ? wanted(length) : 0), "wanted", framed.number);
-    EXPECT(vetted.number == framed.number, "wanted by vet", vetted.number);
+    EXPECT(framed.required == (length < 56 ? wanted(length) : 0), "required", framed.required);
+    EXPECT(vetted.required == framed.required && vetted.detail == 0, "required by vet", vetted.required);
     EXPECT(framed.length == (length < 56 ? 0u : 56u), "length of a frame", framed.length);
     EXPECT(framed.segments == (length < 56 ? 0u : 2u), "segments of a frame", framed.segments);
-    EXPECT(framed.charge == 0 && framed.pointers == 0 && framed.caps == 0, "a frame vets nothing", 1);
+    EXPECT(framed.charge == 0 && framed.pointers == 0 && framed.capabilities == 0, "a frame vets nothing", 1);
     free(whole);
   }
 }
 
-/* What is answered for a buffer, where the report has this number. */
-static void answers(const uint8_t *bytes, size_t length, capvet_limits limits, uint32_t answer, uint64_t number) {
+/* What is answered for a buffer, where the report has these numbers. */
+static void answers(const uint8_t *bytes, size_t length, capvet_limits limits, uint32_t answer, uint64_t required,
+                    uint64_t detail) {
   uint8_t *whole = block(bytes, length, 0);
   capvet_report r = unwritten();
   uint32_t got = capvet_vet(whole, length, &limits, &r);
   EXPECT(got == answer, "answer", got);
-  EXPECT(r.number == number, "number", r.number);
+  EXPECT(r.required == required, "required", r.required);
+  EXPECT(r.detail == detail, "detail", r.detail);
   free(whole);
 }
 
-/* Limits above their most, and faults of the frame. */
+/* Limits above their maximum, unknown flags, reserved fields, and faults of the frame. */
 static void faults(void) {
   capvet_limits l = LIMITS;
   uint8_t many[8] = {0, 2, 0, 0, 0, 0, 0, 0};
-  l.size = CAPVET_MOST_WORDS;
-  l.words = CAPVET_MOST_WORDS;
-  l.depth = CAPVET_MOST_DEPTH;
-  answers(TWO, sizeof TWO, l, CAPVET_OK, 0);
-  l.size++;
-  answers(TWO, sizeof TWO, l, CAPVET_BAD_LIMITS, 0);
-  l.size--;
-  l.words++;
-  answers(TWO, sizeof TWO, l, CAPVET_BAD_LIMITS, 0);
-  l.words--;
+  l.message_words = CAPVET_MAX_MESSAGE_WORDS;
+  l.charge = CAPVET_MAX_CHARGE;
+  l.depth = CAPVET_MAX_DEPTH;
+  l.flags = CAPVET_ALLOW_TRAILING | CAPVET_ALLOW_NONSTRICT | CAPVET_ALLOW_AMPLIFIED;
+  answers(TWO, sizeof TWO, l, CAPVET_OK, 0, 0);
+  l.message_words++;
+  answers(TWO, sizeof TWO, l, CAPVET_BAD_LIMITS, 0, 0);
+  l.message_words--;
+  l.charge++;
+  answers(TWO, sizeof TWO, l, CAPVET_BAD_LIMITS, 0, 0);
+  l.charge--;
+  l.flags++;
+  answers(TWO, sizeof TWO, l, CAPVET_BAD_LIMITS, 0, 0);
+  l.flags--;
+  l.reserved[1] = 1;
+  answers(TWO, sizeof TWO, l, CAPVET_BAD_LIMITS, 0, 0);
+  l.reserved[1] = 0;
   l.depth++;
-  answers(many, 0, l, CAPVET_BAD_LIMITS, 0);
-  answers(many, 0, LIMITS, CAPVET_NO_MESSAGE, 8);
-  answers(many, 8, LIMITS, CAPVET_TOO_MANY_SEGMENTS, 513);
+  answers(many, 0, l, CAPVET_BAD_LIMITS, 0, 0);
+  answers(many, 0, LIMITS, CAPVET_NO_MESSAGE, 8, 0);
+  answers(many, 8, LIMITS, CAPVET_TOO_MANY_SEGMENTS, 0, 513);
   l = LIMITS;
-  l.size = 4;
-  answers(TWO, sizeof TWO, l, CAPVET_TOO_LARGE, 5);
-  l.size = 5;
-  answers(TWO, sizeof TWO, l, CAPVET_OK, 0);
+  l.message_words = 4;
+  answers(TWO, sizeof TWO, l, CAPVET_TOO_LARGE, 0, 5);
+  l.message_words = 5;
+  answers(TWO, sizeof TWO, l, CAPVET_OK, 0, 0);
+  answers(TWO, sizeof TWO, WHOLE, CAPVET_TRAILING, 0, 8);
+  answers(TWO, 57, WHOLE, CAPVET_TRAILING, 0, 1);
+  answers(TWO, 56, WHOLE, CAPVET_OK, 0, 0);
 }
 
 /* A message of one segment. */
@@ -166,13 +184,13 @@ static void refusals(void) {
     bytes[4] = (uint8_t)m->words;
     for (w = 0; w < m->words; w++)
       for (b = 0; b < 8; b++) bytes[8 + 8 * w + b] = (uint8_t)(m->word[w] >> (8 * b));
-    if (m->answer == CAPVET_WORD_LIMIT) l.words = 1;
+    if (m->answer == CAPVET_WORD_LIMIT) l.charge = 1;
     whole = block(bytes, length, 1);
     got = capvet_vet(whole + 1, length, &l, &r);
     EXPECT(got == m->answer, "a refusal", got);
     EXPECT(r.length == length, "length of a refused message", r.length);
     EXPECT(r.segments == 1, "segments of a refused message", r.segments);
-    EXPECT(r.charge == 0 && r.caps == 0 && r.depth == 0, "nothing else of a refused message", i);
+    EXPECT(r.charge == 0 && r.capabilities == 0 && r.depth == 0, "nothing else of a refused message", i);
     EXPECT(r.pointers == (m->answer == CAPVET_NO_ROOT ? 0u : m->answer == CAPVET_DEPTH_LIMIT ? 65u : 1u),
            "pointers that were looked at", r.pointers);
     free(whole);
@@ -222,7 +240,7 @@ static void unpacking(void) {
   }
   for (room = 0; room <= 48; room++) {
     uint32_t answer = unpacked(sizeof PACKED, room, &written, got);
-    EXPECT(answer == (room < 48 ? (uint32_t)CAPVET_NO_ROOM : (uint32_t)CAPVET_OK), "too little room", room);
+    EXPECT(answer == (room < 48 ? (uint32_t)CAPVET_BUFFER_TOO_SMALL : (uint32_t)CAPVET_OK), "too little room", room);
     EXPECT(written == 48, "the room that it takes", written);
     for (k = 0; room < 48 && k < room; k++) EXPECT(got[k] == 0xee, "the room stays", k);
   }
@@ -263,13 +281,13 @@ static void copying(void) {
   for (room = 0; room <= sizeof got; room++) {
     uint32_t answer = copied(LOOSE, sizeof LOOSE, room, &written, got, &r);
     size_t from = room < sizeof COPIED ? 0 : sizeof COPIED;
-    EXPECT(answer == (from == 0 ? (uint32_t)CAPVET_NO_ROOM : (uint32_t)CAPVET_OK), "the room of a copy", room);
+    EXPECT(answer == (from == 0 ? (uint32_t)CAPVET_BUFFER_TOO_SMALL : (uint32_t)CAPVET_OK), "the room of a copy", room);
     EXPECT(written == sizeof COPIED, "the room that a copy takes", written);
     EXPECT(memcmp(got, COPIED, from) == 0, "the words of a copy", room);
     for (k = from; k < room; k++) EXPECT(got[k] == 0xee, "what stands behind a copy", k);
-    EXPECT(r.length == 64 && r.segments == 2 && r.number == 0, "the frame of a copied message", r.length);
+    EXPECT(r.length == 64 && r.segments == 2 && r.detail == 0, "the frame of a copied message", r.length);
     EXPECT(r.charge == 5 && r.pointers == 2 && r.depth == 2, "the tree of a copied message", r.charge);
-    EXPECT(r.caps == 0 && r.segment == 0 && r.word == 0, "no capability", r.caps);
+    EXPECT(r.capabilities == 0 && r.segment == 0 && r.word == 0, "no capability", r.capabilities);
   }
   for (length = 0; length < 64; length++) {
     uint32_t answer = copied(LOOSE, length, sizeof got, &written, got, &r);
@@ -281,7 +299,7 @@ static void copying(void) {
   for (room = 0; room <= sizeof got; room++) {
     uint32_t answer = copied(TWO, sizeof TWO, room, &written, got, &r);
     EXPECT(answer == CAPVET_HAS_CAPABILITY, "a copy of a capability", answer);
-    EXPECT(written == 0 && r.caps == 1 && r.segment == 1 && r.word == 3, "the first capability", r.word);
+    EXPECT(written == 0 && r.capabilities == 1 && r.segment == 1 && r.word == 3, "the first capability", r.word);
     for (k = 0; k < room; k++) EXPECT(got[k] == 0xee, "the room stays of a capability", k);
   }
 }
@@ -297,7 +315,7 @@ static void checks(const uint8_t *bytes, size_t length, uint32_t answer, uint64_
   capvet_report r = unwritten();
   uint32_t got = capvet_is_canonical(from + 1, length, &LIMITS, &r);
   EXPECT(got == answer, "whether a message is canonical", got);
-  EXPECT(r.length == whole && r.number == 0, "the frame of a checked message", r.length);
+  EXPECT(r.length == whole && r.detail == 0, "the frame of a checked message", r.length);
   EXPECT(r.charge == charge && r.segments == segments, "the tree of a checked message", r.charge);
   free(from);
 }
@@ -305,7 +323,7 @@ static void checks(const uint8_t *bytes, size_t length, uint32_t answer, uint64_
 static void checking(void) {
   checks(OWN_COPY, sizeof OWN_COPY, CAPVET_OK, 24, 1, 1);
   checks(ZERO_WORD, sizeof ZERO_WORD, CAPVET_NOT_CANONICAL, 24, 1, 1);
-  checks(TWO, sizeof TWO, CAPVET_NOT_CANONICAL, 56, 4, 2);
+  checks(TWO, 56, CAPVET_NOT_CANONICAL, 56, 4, 2);
 }
 
 /* A struct whose pointer leads back to itself: a message that is refused. */
@@ -341,22 +359,22 @@ static void marking(void) {
   capvet_report r;
   size_t room, needed, kept, length, words;
   for (room = 0; room <= 3; room++) {
-    uint32_t enough = room == 0 ? CAPVET_NO_ROOM : CAPVET_OK;
+    uint32_t enough = room == 0 ? CAPVET_BUFFER_TOO_SMALL : CAPVET_OK;
     size_t used = room == 0 ? 0 : 1;
     EXPECT(marked(TWO, sizeof TWO, room, &needed, &kept, &r) == enough, "an exclusive message", room);
     EXPECT(needed == 1 && kept == room + 1 - used, "the numbers that it takes", needed);
-    EXPECT(r.length == 56 && r.segments == 2 && r.number == 0, "its frame", r.length);
+    EXPECT(r.length == 56 && r.segments == 2 && r.detail == 0, "its frame", r.length);
     EXPECT(r.charge == 4 && r.pointers == 3 && r.depth == 1, "its tree", r.charge);
-    EXPECT(r.caps == 1 && r.segment == 1 && r.word == 3, "its capability", r.word);
-    enough = room == 0 ? CAPVET_NO_ROOM : CAPVET_OVERLAP;
+    EXPECT(r.capabilities == 1 && r.segment == 1 && r.word == 3, "its capability", r.word);
+    enough = room == 0 ? CAPVET_BUFFER_TOO_SMALL : CAPVET_OVERLAP;
     EXPECT(marked(SHARED, sizeof SHARED, room, &needed, &kept, &r) == enough, "words that are used twice", room);
     EXPECT(needed == 1 && kept == room + 1 - used, "the numbers that their marks take", needed);
-    EXPECT(r.length == 40 && r.segments == 1 && r.number == 0, "the frame of an overlap", r.length);
-    EXPECT(r.charge == (room == 0 ? 4u : 0u) && r.caps == 0, "the charge of an overlap", r.charge);
+    EXPECT(r.length == 40 && r.segments == 1 && r.detail == 0, "the frame of an overlap", r.length);
+    EXPECT(r.charge == (room == 0 ? 4u : 0u) && r.capabilities == 0, "the charge of an overlap", r.charge);
     EXPECT(r.depth == (room == 0 ? 2u : 0u), "the depth of an overlap", r.depth);
     EXPECT(r.pointers == 3 && r.segment == 0 && r.word == (room == 0 ? 0u : 2u), "the pointer that overlaps", r.word);
     EXPECT(marked(SHARED, 32, room, &needed, &kept, &r) == CAPVET_TRUNCATED, "marks of a cut message", room);
-    EXPECT(needed == 0 && kept == room + 1 && r.number == 40, "no marks of a cut message", needed);
+    EXPECT(needed == 0 && kept == room + 1 && r.required == 40, "no marks of a cut message", needed);
     enough = marked(REFUSING, sizeof REFUSING, room, &needed, &kept, &r);
     EXPECT(enough == CAPVET_DEPTH_LIMIT, "marks of a refused message", enough);
     EXPECT(needed == 0 && kept == room + 1 && r.length == 16, "no marks of a refused message", needed);
@@ -370,7 +388,7 @@ static void marking(void) {
     wide[4] = (uint8_t)words;
     for (room = 0; room <= 3; room++) {
       size_t takes = words == 63 ? 1 : 2;
-      uint32_t answer = room < takes ? CAPVET_NO_ROOM : CAPVET_OK;
+      uint32_t answer = room < takes ? CAPVET_BUFFER_TOO_SMALL : CAPVET_OK;
       EXPECT(marked(wide, 8 + 8 * words, room, &needed, &kept, &r) == answer, "a number that is full", room);
       EXPECT(needed == takes && kept == room + 1 - (room < takes ? 0 : takes), "the numbers that are told", needed);
     }

@@ -1,6 +1,6 @@
 /* lines vet FILE, lines exclusive FILE, lines check FILE: the lines that the program writes for a stream of
  * messages, and that of its fault. They come from the calls of capvet.h, and the stream is in a buffer. The
- * lines of `exclusive` are those of `vet --exclusive`. Each message is vetted in a block of its own, which ends
+ * lines of `exclusive` are those of `vet --exclusive`. The calls allow what the program does. Each message is vetted in a block of its own, which ends
  * with the message, so that a tool that watches memory sees a read after it. A cut message takes all bytes left.
  *
  * lines canon FILE: the canonical copies of the messages, each after its table, up to the first message that
@@ -35,15 +35,15 @@ static void line(int check, unsigned long n, uint32_t answer, const capvet_repor
     printf("message %lu: %s\n", n, answer == CAPVET_OK ? "canonical" : "not canonical");
   else
     printf("message %lu: accepted charge %llu depth %lu pointers %llu caps %llu\n", n, (unsigned long long)r->charge,
-           (unsigned long)r->depth, (unsigned long long)r->pointers, (unsigned long long)r->caps);
+           (unsigned long)r->depth, (unsigned long long)r->pointers, (unsigned long long)r->capabilities);
 }
 
 /* The line of a fault of the frame, where the stream has `length` bytes. */
 static void fault(unsigned long n, uint32_t answer, const capvet_report *r, size_t length) {
   if (answer == CAPVET_TOO_MANY_SEGMENTS)
-    fprintf(stderr, "capvet: message %lu: TooManySegments %llu\n", n, (unsigned long long)r->number);
+    fprintf(stderr, "capvet: message %lu: TooManySegments %llu\n", n, (unsigned long long)r->detail);
   else if (answer == CAPVET_TOO_LARGE)
-    fprintf(stderr, "capvet: message %lu: TooLarge %llu\n", n, (unsigned long long)r->number);
+    fprintf(stderr, "capvet: message %lu: TooLarge %llu\n", n, (unsigned long long)r->detail);
   else if (answer == CAPVET_TRUNCATED)
     fprintf(stderr, "capvet: message %lu: Truncated at byte %llu\n", n, (unsigned long long)length);
   else
@@ -77,7 +77,7 @@ static int unpack(const uint8_t *bytes, size_t length) {
     fprintf(stderr, "capvet: Truncated at byte %lu\n", (unsigned long)length);
     return 1;
   }
-  if (answer != (needed == 0 ? (uint32_t)CAPVET_OK : (uint32_t)CAPVET_NO_ROOM)) return 4;
+  if (answer != (needed == 0 ? (uint32_t)CAPVET_OK : (uint32_t)CAPVET_BUFFER_TOO_SMALL)) return 4;
   out = malloc(needed + 1);
   if (out == NULL) return 3;
   if (capvet_unpack(block + 1, length, out + 1, needed, &written) != CAPVET_OK || written != needed) return 4;
@@ -95,7 +95,7 @@ static int copy(unsigned long n, const uint8_t *bytes, size_t length, const capv
   size_t needed = 77, written = 77, k;
   capvet_report again;
   uint32_t answer = capvet_canonical(bytes, length, limits, &none, 0, &needed, report);
-  if (answer != CAPVET_NO_ROOM) {
+  if (answer != CAPVET_BUFFER_TOO_SMALL) {
     if (needed != 0) return 4;
     if (report->length == 0) return 1;
     if (answer == CAPVET_HAS_CAPABILITY)
@@ -144,13 +144,13 @@ static uint32_t exclusive(const uint8_t *bytes, size_t length, const capvet_limi
   size_t none, needed, short_of, again;
   uint32_t answer, other = capvet_vet(bytes, length, limits, &vetted);
   answer = marked(bytes, length, limits, 0, &none, report);
-  if (answer != CAPVET_NO_ROOM) {
+  if (answer != CAPVET_BUFFER_TOO_SMALL) {
     if (other == CAPVET_OK || answer != other || none != 0 || memcmp(report, &vetted, sizeof vetted) != 0) exit(4);
     return answer;
   }
   if (other != CAPVET_OK || none == 0 || none > report->length / 512 + 1) exit(4);
   if (memcmp(report, &vetted, sizeof vetted) != 0) exit(4);
-  if (marked(bytes, length, limits, none - 1, &short_of, &less) != CAPVET_NO_ROOM) exit(4);
+  if (marked(bytes, length, limits, none - 1, &short_of, &less) != CAPVET_BUFFER_TOO_SMALL) exit(4);
   answer = marked(bytes, length, limits, none, &needed, report);
   if (marked(bytes, length, limits, none + 2, &again, &more) != answer) exit(4);
   if (short_of != none || needed != none || again != none) exit(4);
@@ -160,12 +160,13 @@ static uint32_t exclusive(const uint8_t *bytes, size_t length, const capvet_limi
 }
 
 int main(int count, char **words) {
-  const capvet_limits limits = CAPVET_LIMITS_INIT;
+  capvet_limits limits = CAPVET_LIMITS_INIT;
   size_t length = 0, at = 0;
   unsigned long n;
   int status = 0, check, canon, twice;
   uint8_t *bytes;
   if (count != 3) return 2;
+  limits.flags = CAPVET_ALLOW_NONSTRICT | CAPVET_ALLOW_AMPLIFIED;
   check = strcmp(words[1], "check") == 0;
   canon = strcmp(words[1], "canon") == 0;
   twice = strcmp(words[1], "exclusive") == 0;
@@ -197,7 +198,7 @@ int main(int count, char **words) {
     }
     free(block);
     if (status > 1) return status;
-    if (report.length != framed.length || report.number != framed.number || report.segments != framed.segments)
+    if (report.length != framed.length || report.detail != framed.detail || report.required != framed.required || report.segments != framed.segments)
       return 4;
     if (report.length == 0) {
       fault(n, answer, &report, length);

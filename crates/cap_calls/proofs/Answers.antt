@@ -23,7 +23,7 @@ use Rattle.cap_calls.specs.CallFindings.{Judges, Returns, Tells, TellsWhole, acc
 use Rattle.cap_calls.specs.CallFindings.{none_found, refused, refused_found, tells, trailing, trailing_found, without}
 use Rattle.cap_calls.specs.CallFlags.{allows_trailing, demands_of}
 use Rattle.cap_calls.specs.CallFrames.{HasFrame, HasNoFrame}
-use Rattle.cap_calls.specs.Calls.{IsCheck, TellsCheck, TellsFrame, TellsVet, canonical, not_canonical}
+use Rattle.cap_calls.specs.Calls.{IsCheck, TellsCheck, TellsFrame, TellsMessage, TellsVet, canonical, not_canonical}
 use Rattle.cap_calls.specs.declared.answer.Answer.{Answer}
 use Rattle.cap_calls.specs.declared.found.Found.{Found}
 use Rattle.cap_calls.specs.declared.front.NoFrame.{NoFrame}
@@ -85,6 +85,11 @@ pub tells_less : {K L : Type 0} {P Q : List (List ℕ) → ℕ → ℕ → Found
 tells_less whole l bs f k p (trailing m x y t h more e i) = trailing m x y t h more e (k i)
 tells_less whole l bs f k p (tells none (without c h e x)) = tells none (without c h e (k x))
 tells_less whole l bs f k p (tells none (framed m x y g h i e)) = tells none (framed m x y g h (p m l.charge l.depth g i) e)
+
+-- What the flag allows is what the call asked for.
+pub by_flag : {K : Type 0} {P : List (List ℕ) → ℕ → ℕ → Found → Type 0} (l : CallLimits) (bs : List ℕ) (f : Found) (w : Bool)
+    → w ≡ allows_trailing l → TellsWhole (not w) K P l bs f → TellsMessage K P l bs f
+by_flag {K} {P} l bs f w e t = subst (λ (z : Bool). TellsWhole (not z) K P l bs f) e t
 
 -- There is one thing to be found, if there is one of each message.
 pub one_told : {K L S : Type 0} {P Q : List (List ℕ) → ℕ → ℕ → Found → Type 0} (l : CallLimits) (bs : List ℕ) (f g : Found) → (K → L → S)

@@ -74,11 +74,10 @@ impl Call for Marking {
             Ok(vetted) => vetted,
             Err(refusal) => return Found::refused(refusal),
         };
+        let report = vetted.report();
         let numbers = marks_for(words);
         match vetted.into_exclusive_in(marks) {
-            Ok(exclusive) => {
-                Found::accepted(Answer::Good, numbers, exclusive.into_vetted().report())
-            }
+            Ok(_) => Found::accepted(Answer::Good, numbers, report),
             Err(fault) => found_of_fault(fault, numbers),
         }
     }

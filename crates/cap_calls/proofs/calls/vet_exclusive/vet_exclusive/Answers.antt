@@ -1,17 +1,22 @@
 -- Nothing else is told of the bytes and the capacity.
 use Rattle.std.proofs.Common.{refl}
-use Rattle.cap_calls.proofs.Answers.{tells_less}
+use Rattle.cap_calls.proofs.Answers.{by_flag, tells_less}
 use Rattle.cap_calls.proofs.Marked.{few_required, marks_kept, one_exclusive_told}
 use Rattle.cap_calls.proofs.calls.vet_exclusive.vet_exclusive.Goals as goal
 
 pub returns-clause-tells : goal.returns-clause-tells
 returns-clause-tells c =
-    (c.over-found.result, tells_less _ c.args.limits.now c.args.bytes.now _ (λ _. tt) (λ _ _ _ _ p. p.0) c.over-found.ensures, (refl, refl), refl)
+    let l = c.args.limits.now in
+    let bs = c.args.bytes.now in
+    let told = tells_less _ l bs c.over-found.result (λ _. tt) (λ _ _ _ _ p. p.0) c.over-found.ensures in
+    (c.over-found.result, by_flag l bs c.over-found.result _ c.allows_trailing.ensures told, (refl, refl), refl)
 
 pub returns-clause-only : goal.returns-clause-only
 returns-clause-only c = λ a n r h.
-    one_exclusive_told c.args.limits.now c.args.bytes.now _ _ a _ n _ r
-    (c.over-found.result, tells_less _ c.args.limits.now c.args.bytes.now _ (λ _. tt) (λ _ _ _ _ p. p.0) c.over-found.ensures, (refl, refl), refl) h
+    let l = c.args.limits.now in
+    let bs = c.args.bytes.now in
+    let told = tells_less _ l bs c.over-found.result (λ _. tt) (λ _ _ _ _ p. p.0) c.over-found.ensures in
+    one_exclusive_told l bs _ _ a _ n _ r (c.over-found.result, by_flag l bs c.over-found.result _ c.allows_trailing.ensures told, (refl, refl), refl) h
 
 pub returns-clause-few : goal.returns-clause-few
 returns-clause-few c =

@@ -6,7 +6,7 @@ use Rattle.cap_spec.specs.Occupying.{IsDisjoint}
 use Rattle.cap_vet.specs.Exclusives.{IsExclusiveFault}
 use Rattle.cap_vet.specs.Reports.{IsVetted}
 use Rattle.cap_vet.specs.Taken.{marks_of}
-use Rattle.cap_vet.proofs.Keeping.{vetted_kept}
+use Rattle.cap_vet.specs.declared.report.Report.{Report}
 use Rattle.cap_calls.specs.CallFindings.{accepted, accepted_found, refused}
 use Rattle.cap_calls.specs.ExclusiveCalls.{exclusive, fault_found}
 use Rattle.cap_calls.specs.declared.answer.Answer.TheVariants.{Good}
@@ -26,8 +26,7 @@ returns-in-Ok-into_exclusive_in c =
     let rest = subst (λ (u : ByteView). drop (marks_of (cut u.sizes.now u.bytes.now)) new ≡ drop (marks_of (cut u.sizes.now u.bytes.now)) old) message
     c.in-Ok-into_exclusive_in.ensures.rest in
     let numbers : c.marks_for-numbers.result ≡ marks_of (cut v.sizes.now v.bytes.now) = c.marks_for-numbers.ensures ∙ ap (λ n. n / 64 + 1) c.requires in
-    let same : c.report.result ≡ c.in-Ok.vetted.report = cc in
-    let found = c.accepted.ensures ∙ ap₂ (accepted_found Good) numbers same in
+    let found = c.accepted.ensures ∙ ap₂ (accepted_found Good) numbers c.report-report.ensures.value in
     let count = ap (λ (z : Found). z.count) found in (
       accepted c.in-Ok.vetted.report c.in-Ok.ensures.ok.0 c.in-Ok.ensures.ok.1 (exclusive enough disjoint found),
       record { rest = rw count rest; kept = inl (ap (λ (z : Found). z.answer) found) },
@@ -42,7 +41,8 @@ returns-in-Err-into_exclusive_in c =
     let fault = c.in-Err-into_exclusive_in.fault in
     let report = c.in-Ok.vetted.report in
     let message = c.in-Ok.ensures.message in
-    let vetted = subst (λ (u : ByteView). IsVetted (cut u.sizes.now u.bytes.now) report) message (vetted_kept _ report c.in-Ok.vetted.accepted) in
+    let vetted = subst (λ (u : ByteView). IsVetted (cut u.sizes.now u.bytes.now) report) message
+    (subst (λ (r : Report). IsVetted _ r) c.report-report.ensures.value c.report-report.ensures.accepted) in
     let err = subst (λ (u : ByteView). IsExclusiveFault (cut u.sizes.now u.bytes.now) 268435456 256 (length old) fault) message
     c.in-Err-into_exclusive_in.ensures.err in
     let rest = subst (λ (u : ByteView). drop (marks_of (cut u.sizes.now u.bytes.now)) new ≡ drop (marks_of (cut u.sizes.now u.bytes.now)) old) message

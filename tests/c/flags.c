@@ -1,0 +1,70 @@
+/* flags REQUESTS: makes the calls that a file asks for, and writes what each of them answers and reports.
+ *
+ * A request is the number of a call (0 capvet_frame, 1 capvet_vet, 2 capvet_vet_exclusive, 3 capvet_canonical,
+ * 4 capvet_is_canonical), the size or count of its output buffer, the limits, the length of the input and the
+ * input. A reply is the answer, `required` in 8 bytes, the report, and the bytes that capvet_canonical wrote.
+ * The other numbers have four bytes. Each buffer is a block of its own of exactly its length. The status is 4
+ * if a call changed anything of an output buffer that it may not. */
+#include <capvet.h>
+
+#include <stdio.h>
+#include <stdlib.h>
+#include <string.h>
+
+enum { FRAME, VET, EXCLUSIVE, CANONICAL, IS_CANONICAL };
+
+/* Reads a part of a request. */
+static int take(FILE *file, void *to, size_t length) { return length == 0 || fread(to, 1, length, file) == length; }
+
+static void put(const void *from, size_t length) {
+  if (length != 0 && fwrite(from, 1, length, stdout) != length) exit(3);
+}
+
+/* Stops if one of these bytes isn't as it was before the call. */
+static void are_kept(const uint8_t *bytes, size_t from, size_t to) {
+  for (; from < to; from++)
+    if (bytes[from] != 0xee) exit(4);
+}
+
+int main(int count, char **words) {
+  FILE *file = count == 2 ? fopen(words[1], "rb") : NULL;
+  uint32_t head[2], length;
+  if (file == NULL) return 2;
+  while (take(file, head, sizeof head)) {
+    capvet_limits limits;
+    capvet_report report;
+    size_t required = 77, item = head[0] == EXCLUSIVE ? 8 : 1, size = head[1] * item, written = 0;
+    uint8_t *bytes, *out = malloc(size + item);
+    uint64_t told;
+    uint32_t answer;
+    if (!take(file, &limits, sizeof limits) || !take(file, &length, sizeof length)) return 3;
+    bytes = malloc(length + 1);
+    if (bytes == NULL || out == NULL || !take(file, bytes + 1, length)) return 3;
+    memset(out, 0xee, size + item);
+    memset(&report, 0xa5, sizeof report);
+    switch (head[0]) {
+      case FRAME: answer = capvet_frame(bytes + 1, length, &limits, &report); break;
+      case VET: answer = capvet_vet(bytes + 1, length, &limits, &report); break;
+      case EXCLUSIVE:
+        answer = capvet_vet_exclusive(bytes + 1, length, &limits, (uint64_t *)(void *)out, head[1], &required, &report);
+        if (answer == CAPVET_OK || answer == CAPVET_OVERLAP) written = 8 * required;
+        break;
+      case CANONICAL:
+        answer = capvet_canonical(bytes + 1, length, &limits, out, size, &required, &report);
+        if (answer == CAPVET_OK) written = required;
+        break;
+      default: answer = capvet_is_canonical(bytes + 1, length, &limits, &report); break;
+    }
+    if (written > size) return 4;
+    are_kept(out, written, size + item);
+    told = head[0] == EXCLUSIVE || head[0] == CANONICAL ? required : 0;
+    put(&answer, sizeof answer);
+    put(&told, sizeof told);
+    put(&report, sizeof report);
+    if (head[0] == CANONICAL && answer == CAPVET_OK) put(out, written);
+    free(bytes);
+    free(out);
+  }
+  fclose(file);
+  return 0;
+}

@@ -1,0 +1,113 @@
+"""Compares the calls with flags, from C, field by field with tests/model.py. tests/calls.py runs it.
+
+The messages are the samples, the ones that tests/strict.py knows, made ones and changed ones, amplified ones at the bound
+and one past it, each with and without trailing bytes. The flags are in all combinations, and some limits are bad."""
+import struct
+import subprocess
+import tempfile
+from collections import Counter
+from pathlib import Path
+
+import model
+import strict
+from model import ANSWERS, CANONICAL, EXCLUSIVE, FIELDS, Limits
+
+MANY = 20_000
+# `required` of a call that has none, and a report's fields with the reserved ones
+REPLY = struct.Struct("<IQ6Q4I4Q")
+CALLS = ("capvet_frame", "capvet_vet", "capvet_vet_exclusive", "capvet_canonical", "capvet_is_canonical")
+
+
+def framed(*segments):
+    sizes = [len(segments) - 1, *map(len, segments)]
+    sizes += [0] * (len(sizes) % 2)
+    return struct.pack(f"<{len(sizes)}I", *sizes) + b"".join(struct.pack(f"<{len(it)}Q", *it) for it in segments)
+
+
+def amplified():
+    """Messages at the bound of unamplified ones and one past it: lists of Void, of empty structs and of shared structs."""
+    for more in (4096, 4097, 4098):
+        yield framed([1 | more << 35])
+        yield framed([], [1 | more << 35])
+        yield framed([2 | 1 << 32], [1 | more << 35])
+        yield framed([1 | 7 << 32, more << 2])
+    # (a struct of pointers to one struct: each costs a word; the words are 1 + count + own)
+    for own in (1, 7, 64):
+        most = (4096 + 2 + own) // own
+        for count in (most - 2, most - 1, most, most + 1):
+            if 0 < count < 65536:
+                yield framed([count << 48, *((count - 1 - i) << 2 | own << 32 for i in range(count)), *range(1, own + 1)])
+
+
+def requests(small, made_up, changed, chance):
+    """Calls, each with its input, its limits and the size of its output buffer."""
+    known = [bytes.fromhex(text) for text, _ in strict.CASES] + [strict.many(count) for count in (511, 512)]
+    cycle = framed([0x00010000FFFFFFFC])
+    shared = framed([2 << 48, 4 | 1 << 32, 1 << 32, 7])
+    for message in [*small, *known, *amplified(), cycle, shared, framed([0]), framed([]), b"", struct.pack("<II", 512, 0)]:
+        for flags in range(8):
+            for call in range(5):
+                # (each one for small messages, and one of them for others)
+                more = (0, 1, 7, 8) if len(message) < 200 else (chance.choice((0, 0, 1, 7, 8)),)
+                for count in more:
+                    yield call, message + bytes(count), Limits(flags=flags), chance.choice((0, 1, 1 << 16))
+    for limits in (Limits(flags=8), Limits(flags=1 << 31), Limits(flags=15), Limits(reserved=(1, 0)), Limits(reserved=(0, 1 << 63)),
+                   Limits(message_words=(1 << 28) + 1), Limits(charge=(1 << 28) + 1), Limits(depth=257),
+                   Limits(message_words=1 << 28, charge=1 << 28, depth=256, flags=7)):
+        for call in range(5):
+            for message in (shared, b""):
+                yield call, message, limits, 100
+    few = [message for message in small if len(message) < 1000] + known
+    for _ in range(MANY):
+        message = made_up(chance) if chance.randrange(3) == 0 else changed(chance.choice(few), chance)
+        message = message[:chance.randrange(len(message) + 1)] if chance.randrange(16) == 0 else message
+        message += bytes(chance.choice((0, 0, 0, 0, 1, 7, 8, 24)))
+        limits = Limits(chance.choice((8388608, 8388608, 8388608, 3, 60)), chance.choice((30000, 30000, 6, 40)), chance.choice((64, 64, 2, 5)),
+                        chance.randrange(8))
+        call, size = chance.randrange(5), chance.choice((0, 1 << 12))
+        if call in (EXCLUSIVE, CANONICAL) and chance.randrange(2):
+            # a buffer that just suffices, or is one too small
+            least = model.called(call, message, limits, 1 << 20)[1]
+            size = max(0, least - chance.randrange(2))
+        yield call, message, limits, size
+
+
+def compare(told, program, many):
+    """Makes all calls in one run of tests/c/flags.c, and compares what each replies with the model."""
+    with tempfile.TemporaryDirectory() as folder:
+        path = Path(folder) / "requests"
+        with path.open("wb") as file:
+            for call, data, limits, size in many:
+                file.write(struct.pack("<II", call, size) + limits.packed() + struct.pack("<I", len(data)) + data)
+        ran = subprocess.run([program, path], capture_output=True)
+    told("the calls with flags, with the compiler's checks", (ran.returncode, ran.stderr) == (0, b""), ran.stderr)
+    at, answers = 0, Counter()
+    for call, data, limits, size in many:
+        if len(ran.stdout) < at + REPLY.size:
+            told("a reply for each call with flags", False)
+            return answers
+        answer, required, *fields = REPLY.unpack_from(ran.stdout, at)
+        at += REPLY.size
+        wanted, least, report, out = model.called(call, data, limits, size)
+        got = ran.stdout[at:at + required] if call == CANONICAL and answer == ANSWERS["OK"] else b""
+        at += len(got)
+        answers[call, answer] += 1
+        # the report as the header has it, and its reserved fields
+        wanted_fields = [*report, 0, 0, 0, 0]
+        told(f"{CALLS[call]} of {data.hex()} with {limits} and {size}",
+             (answer, required, fields, got) == (wanted, least, wanted_fields, out),
+             f"  wanted {wanted} {least} {dict(zip(FIELDS, report))} {out.hex()}\n  got {answer} {required} {fields} {got.hex()}")
+    told("no more replies", at == len(ran.stdout))
+    return answers
+
+
+def test(told, program, samples, made_up, changed, chance):
+    many = list(requests(samples, made_up, changed, chance))
+    answers = compare(told, program, many)
+    by_answer = Counter()
+    for (call, answer), count in answers.items():
+        by_answer[answer] += count
+    for name, number in ANSWERS.items():
+        told(f"calls that answer {name}", by_answer[number] >= 10, f"{by_answer[number]}")
+    refused = sum(count for answer, count in by_answer.items() if answer)
+    print(f"calls: {len(many)} calls with flags compared with the model, {refused} of them with an answer other than OK")

@@ -1,0 +1,315 @@
+"""What the calls from C answer and report for bytes, as docs/format.md and include/capvet.h define it, field by field.
+It shares no code with the library, and only the forms that aren't strict with tests/strict.py."""
+import struct
+from dataclasses import dataclass
+
+from strict import SLACK, lax_form
+from trees import bits, offset
+
+ANSWERS = dict(
+    OK=0, NO_MESSAGE=1, TOO_MANY_SEGMENTS=2, TOO_LARGE=3, TRUNCATED=4, TRAILING=5, BAD_LIMITS=8, BUFFER_TOO_SMALL=9,
+    NOT_CANONICAL=16, HAS_CAPABILITY=17, OVERLAP=18, NullPad=19, EmptySegment=20, CapabilityPad=22, MANY_SEGMENTS=23,
+    NO_ROOT=32, RESERVED=33, SEGMENT_MISSING=34, PAD_OUTSIDE=35, PAD_IS_FAR=36, PAD_NOT_FAR=37, TAG_KIND=38,
+    TAG_OFFSET=39, OUT_OF_SEGMENT=40, COMPOSITE_TAG=41, COMPOSITE_OVERRUN=42, DEPTH_LIMIT=43, WORD_LIMIT=44)
+FRAME, VET, EXCLUSIVE, CANONICAL, IS_CANONICAL = range(5)
+TRAILING, NONSTRICT, AMPLIFIED = 1, 2, 4
+FIELDS = ("length", "required", "detail", "charge", "pointers", "capabilities", "depth", "segments", "segment", "word")
+ELEMENT_BITS = (0, 1, 8, 16, 32, 64, 64)
+
+
+@dataclass(frozen=True)
+class Limits:
+    message_words: int = 8388608
+    charge: int = 8388608
+    depth: int = 64
+    flags: int = 0
+    reserved: tuple = (0, 0)
+
+    def packed(self):
+        return struct.pack("<QQII2Q", self.message_words, self.charge, self.depth, self.flags, *self.reserved)
+
+    def are_good(self):
+        return (self.message_words <= 1 << 28 and self.charge <= 1 << 28 and self.depth <= 256 and self.flags <= 7
+                and self.reserved == (0, 0))
+
+
+class Refused(Exception):
+    """The message isn't accepted, for this answer at this place, after this many pointers."""
+
+
+@dataclass
+class Object:
+    """What a pointer leads to: its kind ('null', 'cap', 'struct', 'list', 'pointers', 'structs'), where it starts, the
+    words that it has, its sizes, the charge of following it, and the words that following it uses."""
+    kind: str
+    segment: int = 0
+    start: int = 0
+    words: int = 0
+    sizes: tuple = ()
+    charge: int = 0
+    used: tuple = ()
+
+
+def described(message, segment, start, word, pads):
+    """The object of a struct's or list's word, which starts here."""
+    if bits(word, 0, 2) == 0:
+        data, pointers = bits(word, 32, 16), bits(word, 48, 16)
+        kind, sizes, words, more = "struct", (data, pointers), data + pointers, 0
+    else:
+        code, count = bits(word, 32, 3), bits(word, 35, 29)
+        kind, sizes, more = ("pointers" if code == 6 else "list"), (code, count), 0 if code else count
+        words = 1 + count if code == 7 else (ELEMENT_BITS[code] * count + 63) // 64
+    if not 0 <= start <= start + words <= len(message[segment]):
+        raise Refused("OUT_OF_SEGMENT")
+    if kind == "list" and sizes[0] == 7:
+        tag = message[segment][start]
+        elements, data, pointers = bits(tag, 2, 30), bits(tag, 32, 16), bits(tag, 48, 16)
+        if bits(tag, 0, 2) != 0:
+            raise Refused("COMPOSITE_TAG")
+        if elements * (data + pointers) > words - 1:
+            raise Refused("COMPOSITE_OVERRUN")
+        kind, sizes, more = "structs", (elements, data, pointers), elements if data + pointers == 0 else 0
+    used = pads + tuple((segment, at) for at in range(start, start + words))
+    return Object(kind, segment, start, words, sizes, len(pads) + words + more, used)
+
+
+def near(message, segment, at, word, pads):
+    """What a word that isn't far leads to, from this place."""
+    if word == 0:
+        return Object("null", charge=len(pads), used=pads)
+    if bits(word, 0, 2) == 3:
+        if bits(word, 2, 30):
+            raise Refused("RESERVED")
+        return Object("cap", charge=len(pads), used=pads)
+    return described(message, segment, at + 1 + offset(word), word, pads)
+
+
+def followed(message, segment, at):
+    word = message[segment][at]
+    if bits(word, 0, 2) != 2:
+        return near(message, segment, at, word, ())
+    segment, at, two = bits(word, 32, 32), bits(word, 3, 29), bits(word, 2, 1)
+    if segment >= len(message):
+        raise Refused("SEGMENT_MISSING")
+    if at + 1 + two > len(message[segment]):
+        raise Refused("PAD_OUTSIDE")
+    pad = message[segment][at]
+    if not two:
+        if bits(pad, 0, 2) == 2:
+            raise Refused("PAD_IS_FAR")
+        return near(message, segment, at, pad, ((segment, at),))
+    if bits(pad, 0, 3) != 2:
+        raise Refused("PAD_NOT_FAR")
+    target, tag = bits(pad, 32, 32), message[segment][at + 1]
+    if target >= len(message):
+        raise Refused("SEGMENT_MISSING")
+    if bits(tag, 0, 2) >= 2:
+        raise Refused("TAG_KIND")
+    if bits(tag, 2, 30):
+        raise Refused("TAG_OFFSET")
+    return described(message, target, bits(pad, 3, 29), tag, ((segment, at), (segment, at + 1)))
+
+
+def children(found):
+    """The places of the pointers of an object, and how many levels they are below its own."""
+    segment, start, sizes = found.segment, found.start, found.sizes
+    if found.kind == "struct":
+        return [(segment, start + sizes[0] + i) for i in range(sizes[1])], 1
+    if found.kind == "pointers":
+        return [(segment, start + i) for i in range(sizes[1])], 1
+    if found.kind == "structs" and sizes[2]:
+        step = sizes[1] + sizes[2]
+        return [(segment, start + 1 + i * step + sizes[1] + j) for i in range(sizes[0]) for j in range(sizes[2])], 2
+    return [], 1
+
+
+@dataclass
+class Tree:
+    """The tree numbers of a message, the first capability, and each pointer in preorder with what it leads to."""
+    charge: int = 0
+    pointers: int = 0
+    capabilities: int = 0
+    depth: int = 0
+    first: tuple = (0, 0)
+    steps: list = None
+
+
+def vetted(message, words, depth):
+    """The tree of a message within these limits. Otherwise `Refused` with the answer, the place and the pointers."""
+    if not message[0]:
+        raise Refused("NO_ROOT", 0, 0, 0)
+    tree, rows = Tree(steps=[]), [(iter([(0, 0)]), 1)]
+    while rows:
+        row, level = rows[-1]
+        place = next(row, None)
+        if place is None:
+            rows.pop()
+            continue
+        tree.pointers += 1
+        try:
+            found = followed(message, *place)
+        except Refused as fault:
+            raise Refused(*fault.args, *place, tree.pointers) from None
+        is_object = found.kind not in ("null", "cap")
+        deepest = level + (found.kind == "structs" and found.sizes[0] > 0)
+        if is_object and deepest > depth:
+            raise Refused("DEPTH_LIMIT", *place, tree.pointers)
+        tree.charge += found.charge
+        if tree.charge > words:
+            raise Refused("WORD_LIMIT", *place, tree.pointers)
+        tree.depth = max(tree.depth, deepest) if is_object else tree.depth
+        if found.kind == "cap":
+            tree.first = tree.first if tree.capabilities else place
+            tree.capabilities += 1
+        tree.steps.append((place, found))
+        below, levels = children(found)
+        rows.append((iter(below), level + levels))
+    return tree
+
+
+def strictly(message, tree):
+    """Refuses a message that is accepted and isn't strict."""
+    if len(message) > 511:
+        raise Refused("MANY_SEGMENTS", 0, 0, 0)
+    for count, (place, _) in enumerate(tree.steps, 1):
+        form = lax_form(message, *place)
+        if form:
+            raise Refused(form, *place, count)
+
+
+def exclusively(tree):
+    """Refuses a message at the first pointer that uses a word twice."""
+    used = {(0, 0)}
+    for count, (place, found) in enumerate(tree.steps, 1):
+        if len(set(found.used)) < len(found.used) or used & set(found.used):
+            raise Refused("OVERLAP", *place, count)
+        used |= set(found.used)
+
+
+def canonical(message):
+    """The words of the canonical form of an accepted message without capabilities."""
+    out = [0]
+
+    def trimmed(words):
+        while words and not words[-1]:
+            words = words[:-1]
+        return words
+
+    def is_null(segment, at):
+        return followed(message, segment, at).kind == "null"
+
+    def put(at, segment, place):
+        found = followed(message, segment, place)
+        words, start = message[found.segment] if found.kind != "null" else (), found.start
+        there = len(out)
+        ahead = there - at - 1 << 2 & 0xFFFFFFFF
+        if found.kind == "struct":
+            data, pointers = found.sizes
+            own = trimmed(words[start:start + data])
+            count = pointers
+            while count and is_null(found.segment, start + data + count - 1):
+                count -= 1
+            out[at] = (ahead if own or count else 0xFFFFFFFC) | len(own) << 32 | count << 48
+            out.extend([*own, *[0] * count])
+            for i in range(count):
+                put(there + len(own) + i, found.segment, start + data + i)
+        elif found.kind == "list":
+            code, count = found.sizes
+            size = ELEMENT_BITS[code] * count
+            own = [bits(word, 0, min(64, size - 64 * i)) for i, word in enumerate(words[start:start + found.words])]
+            out[at] = 1 | ahead | code << 32 | count << 35
+            out.extend(own)
+        elif found.kind == "pointers":
+            count = found.sizes[1]
+            out[at] = 1 | ahead | 6 << 32 | count << 35
+            out.extend([0] * count)
+            for i in range(count):
+                put(there + i, found.segment, start + i)
+        elif found.kind == "structs":
+            count, data, pointers = found.sizes
+            step, keep, kept = data + pointers, 0, 0
+            elements = [start + 1 + i * step for i in range(count if step else 0)]
+            for element in elements:
+                keep = max(keep, len(trimmed(words[element:element + data])))
+                kept = max([kept, *(j + 1 for j in range(pointers) if not is_null(found.segment, element + data + j))])
+            out[at] = 1 | ahead | 7 << 32 | count * (keep + kept) << 35
+            out.append(count << 2 | keep << 32 | kept << 48)
+            for element in elements:
+                out.extend([*words[element:element + keep], *[0] * kept])
+            for i, element in enumerate(elements):
+                for j in range(kept):
+                    put(there + 1 + i * (keep + kept) + keep + j, found.segment, element + data + j)
+
+    put(0, 0, 0)
+    return out
+
+
+def framed(data, limits):
+    """The segments that the bytes start with, and the length of their frame. Otherwise the answer with its fields."""
+    if not data:
+        return None, ("NO_MESSAGE", dict(required=8))
+    if len(data) < 8:
+        return None, ("TRUNCATED", dict(required=8))
+    count = struct.unpack_from("<I", data)[0] + 1
+    if count > 512:
+        return None, ("TOO_MANY_SEGMENTS", dict(detail=count))
+    table = 8 * (count // 2 + 1)
+    if len(data) < table:
+        return None, ("TRUNCATED", dict(required=table))
+    sizes = struct.unpack_from(f"<{count}I", data, 4)
+    if sum(sizes) > limits.message_words:
+        return None, ("TOO_LARGE", dict(detail=sum(sizes)))
+    frame = table + 8 * sum(sizes)
+    if len(data) < frame:
+        return None, ("TRUNCATED", dict(required=frame))
+    message, at = [], table
+    for size in sizes:
+        message.append(struct.unpack_from(f"<{size}Q", data, at))
+        at += 8 * size
+    return message, frame
+
+
+def called(call, data, limits, size):
+    """The answer of a call, what it sets `required` to, the fields of its report, and the bytes that it writes."""
+
+    def result(answer, count=0, out=b"", **fields):
+        return ANSWERS[answer], count, tuple(fields.get(name, 0) for name in FIELDS), out
+
+    if not limits.are_good():
+        return result("BAD_LIMITS")
+    message, frame = framed(data, limits)
+    if message is None:
+        answer, fields = frame
+        return result(answer, **fields)
+    extent = dict(length=frame, segments=len(message))
+    if call == FRAME:
+        return result("OK", **extent)
+    if len(data) > frame and (call == IS_CANONICAL or not limits.flags & TRAILING):
+        return result("TRAILING", detail=len(data) - frame, **extent)
+    words = sum(map(len, message))
+    charge = limits.charge if limits.flags & AMPLIFIED else min(limits.charge, words + SLACK)
+    marks = words // 64 + 1
+    try:
+        tree = vetted(message, charge, limits.depth)
+        if not limits.flags & NONSTRICT:
+            strictly(message, tree)
+        numbers = dict(charge=tree.charge, pointers=tree.pointers, capabilities=tree.capabilities, depth=tree.depth,
+                       segment=tree.first[0], word=tree.first[1], **extent)
+        if call == EXCLUSIVE:
+            if size < marks:
+                return result("BUFFER_TOO_SMALL", marks, **numbers)
+            exclusively(tree)
+            return result("OK", marks, **numbers)
+    except Refused as fault:
+        answer, segment, word, pointers = fault.args
+        return result(answer, marks if answer == "OVERLAP" else 0, segment=segment, word=word, pointers=pointers, **extent)
+    if call == VET:
+        return result("OK", **numbers)
+    if tree.capabilities:
+        return result("HAS_CAPABILITY" if call == CANONICAL else "NOT_CANONICAL", **numbers)
+    copy = canonical(message)
+    if call == IS_CANONICAL:
+        return result("OK" if len(message) == 1 and list(message[0]) == copy else "NOT_CANONICAL", **numbers)
+    if size < 8 * len(copy):
+        return result("BUFFER_TOO_SMALL", 8 * len(copy), **numbers)
+    return result("OK", 8 * len(copy), struct.pack(f"<{len(copy)}Q", *copy), **numbers)
