@@ -11,6 +11,7 @@ import os
 import random
 import re
 import shutil
+import struct
 import subprocess
 import sys
 import tempfile
@@ -18,6 +19,7 @@ from pathlib import Path
 
 import install
 from install import PROGRAM, TOP, compare, make, missing, run
+from strict import strict_text
 
 SAMPLES = ("contacts.bin", "contacts-many-segments.bin", "telemetry.bin", "stream-of-four.bin")
 CYCLE = bytes.fromhex("0000000001000000fcffffff00000100")
@@ -55,10 +57,22 @@ def verdicts(command):
     return ran.stdout, ran.returncode
 
 
+def framed(stream, count):
+    """The frames of this many messages that a stream starts with."""
+    end = 0
+    for _ in range(count):
+        segments = struct.unpack_from("<I", stream, end)[0] + 1
+        end += 8 * (segments // 2 + 1 + sum(struct.unpack_from(f"<{segments}I", stream, end + 4)))
+    return stream[:end]
+
+
 def same(name, command, files):
-    """The example writes of each file what the program writes, with the same status."""
+    """The example writes of each file what the program writes, and that a message isn't strict where it isn't."""
     for file in files:
-        compare(f"{name}, of {file.name}", verdicts([PROGRAM, "vet", file]), verdicts([*command, file]))
+        text, status = verdicts([PROGRAM, "vet", file])
+        text = text.decode()
+        strictly = strict_text(framed(file.read_bytes(), text.count("\n")), text)
+        compare(f"{name}, of {file.name}", (strictly.encode(), status or int(" refused " in strictly)), verdicts([*command, file]))
     refused = verdicts([*command, files[-1]])[0].count(b"refused")
     compare(f"{name}, of turned bits, refuses some and accepts some", True, 0 < refused < 500)
 
@@ -137,7 +151,7 @@ def signs_from_c(folder, environment):
             verified = run(["openssl", "dgst", "-sha256", "-verify", public, "-signature", signature,
                             TOP / "examples/canonical" / words])
             compare(f"sign.c of {name}, against the words of {words}", words == copy, verified == ("Verified OK\n", 0))
-    compare("sign.c of a stream", ("sign: more than one message\n", 1), run([program, key, TOP / "examples/stream-of-four.bin"]))
+    compare("sign.c of a stream", ("sign: bytes follow the message\n", 1), run([program, key, TOP / "examples/stream-of-four.bin"]))
 
 
 def signs_from_rust(program):
@@ -147,7 +161,8 @@ def signs_from_rust(program):
         compare(f"sign of {name}, in Rust", (f"{digest}  -\n", 0), run([program, TOP / "examples" / name, "sha256sum"]))
     command = ["sh", "-c", "cat > /dev/null; exit 7"]
     compare("sign by a command that fails", ("", 7), run([program, TOP / "examples/contacts.bin", *command]))
-    refused = ("sign: more than one message\n", 1)
+    rest = len((TOP / "examples/stream-of-four.bin").read_bytes()) - 3144
+    refused = (f"sign: Trailing {rest}\n", 1)
     compare("sign of a stream, in Rust", refused, run([program, TOP / "examples/stream-of-four.bin", "sha256sum"]))
 
 

@@ -14,6 +14,7 @@
 #include <sys/wait.h>
 #include <unistd.h>
 
+#include <algorithm>
 #include <cstdio>
 #include <fstream>
 #include <iterator>
@@ -21,7 +22,11 @@
 
 namespace {
 
-const capvet_limits limits = {1 << 16, 1 << 16, 64};
+// No flags: a message is passed on only if it is whole, strict and unamplified.
+const capvet_limits limits = {1 << 16, 1 << 16, 64, 0, {0, 0}};
+
+// How many times the program reads a message.
+const uint64_t readings = 1;
 
 // The bytes of a message that have come, in words, as libcapnp needs them.
 class Buffer {
@@ -32,11 +37,11 @@ class Buffer {
     return {reinterpret_cast<const capnp::word *>(words_.data()), length_ / sizeof(capnp::word)};
   }
 
-  // Reads until there are `wanted` bytes. False if the peer ends before.
-  bool fill(int socket, size_t wanted) {
-    if (words_.size() * 8 < wanted) words_.resize((wanted + 7) / 8);
-    while (length_ < wanted) {
-      ssize_t more = read(socket, reinterpret_cast<uint8_t *>(words_.data()) + length_, wanted - length_);
+  // Reads until there are `required` bytes. False if the peer ends before.
+  bool fill(int socket, size_t required) {
+    if (words_.size() * 8 < required) words_.resize((required + 7) / 8);
+    while (length_ < required) {
+      ssize_t more = read(socket, reinterpret_cast<uint8_t *>(words_.data()) + length_, required - length_);
       if (more <= 0) return false;
       length_ += static_cast<size_t>(more);
     }
@@ -50,23 +55,24 @@ class Buffer {
   size_t length_ = 0;
 };
 
-// Reads only the next message. Its length is a claim of the peer, and `limits.size` bounds it.
+// Reads only the next message. Its length is a claim of the peer, and `limits.message_words` bounds it.
 uint32_t receive(int socket, Buffer &buffer) {
   buffer.clear();
   for (;;) {
     capvet_report report;
     uint32_t answer = capvet_frame(buffer.bytes(), buffer.length(), &limits, &report);
     bool is_short = answer == CAPVET_NO_MESSAGE || answer == CAPVET_TRUNCATED;
-    if (!is_short || !buffer.fill(socket, report.number)) return answer;
+    if (!is_short || !buffer.fill(socket, report.required)) return answer;
   }
 }
 
-// The work of the program on a message. libcapnp gets accepted messages only. It has limits and rules of its own, so it
-// may still throw. It charges the root and far pointers in another way, so its limits here are higher.
-void handle(const Buffer &buffer) try {
+// The work of the program on a message. libcapnp gets accepted messages only, and counts in other ways: these limits serve
+// it for every strict message. That is tested and not proved, so an exception of libcapnp is caught all the same.
+void handle(const Buffer &buffer, const capvet_report &report) try {
+  const uint64_t table = report.segments / 2 + 1, words = report.length / sizeof(capnp::word) - table;
   capnp::ReaderOptions options;
-  options.traversalLimitInWords = 2 * limits.words + 2;
-  options.nestingLimit = static_cast<int>(limits.depth) + 1;
+  options.traversalLimitInWords = std::max(words, 3 * report.charge + 2) * readings;
+  options.nestingLimit = static_cast<int>(2 * report.depth + 1);
   capnp::FlatArrayMessageReader reader(buffer.words(), options);
   auto size = reader.getRoot<capnp::AnyPointer>().targetSize();
   std::printf("accepted, %llu words in libcapnp\n", static_cast<unsigned long long>(size.wordCount));
@@ -97,7 +103,7 @@ void serve(int socket) {
     capvet_report report;
     answer = capvet_vet(buffer.bytes(), buffer.length(), &limits, &report);
     if (answer == CAPVET_OK) {
-      handle(buffer);
+      handle(buffer, report);
     } else {
       std::printf("refused, answer %u at %u:%u\n", answer, report.segment, report.word);
     }

@@ -1,18 +1,18 @@
-/* Signs the content of a message, however it is encoded: the bytes of its canonical copy, by their SHA-256.
+/* Signs the content of a message, however it is encoded: the bytes of its canonical form, by their SHA-256.
  *
  *     export PKG_CONFIG_PATH=PREFIX/lib/pkgconfig
  *     cc sign.c $(pkg-config --cflags --libs capvet libcrypto) -o sign
  *     openssl genpkey -algorithm EC -pkeyopt ec_paramgen_curve:P-256 -out key.pem
  *     ./sign key.pem FILE > signature
  *
- * FILE is one message and nothing else. The owner of the public key makes the same copy, and verifies it:
+ * FILE is one message and nothing else. The owner of the public key makes the same bytes, and verifies them:
  *
  *     openssl pkey -in key.pem -pubout -out public.pem
  *     capvet canon FILE | tail -c +9 | openssl dgst -sha256 -verify public.pem -signature signature
  *
  * The words don't name their schema. If one key signs messages of several schemas, sign the schema's name before them.
  *
- * The status is 0 if it is signed, 1 if the message has no canonical copy, and 2 for a wrong command line. It is 3 if a
+ * The status is 0 if it is signed, 1 if the message has no canonical form, and 2 for a wrong command line. It is 3 if a
  * file can't be read, the key doesn't sign, memory runs out or the output fails. */
 #include <capvet.h>
 #include <inttypes.h>
@@ -61,24 +61,26 @@ static int sign(EVP_PKEY *key, const uint8_t *bytes, size_t length) {
   return good;
 }
 
-/* Signs the canonical copy of these bytes, and returns the exit status. */
+/* Signs the canonical form of these bytes, and returns the exit status. Without flags the bytes have to be one message and
+ * nothing else, and CAPVET_CANONICAL_BOUND bytes are always enough for its canonical form. */
 static int sign_copy(EVP_PKEY *key, const uint8_t *bytes, size_t length) {
   const capvet_limits limits = CAPVET_LIMITS_INIT;
+  const size_t bound = CAPVET_CANONICAL_BOUND(length);
   capvet_report report;
-  size_t size;
-  uint8_t none, *copy;
+  uint8_t *copy = malloc(bound);
+  size_t required;
+  uint32_t answer;
   int good;
-  /* With capacity 0 it returns the length of the copy, which is never 0. */
-  uint32_t answer = capvet_canonical(bytes, length, &limits, &none, 0, &size, &report);
-  if (answer != CAPVET_NO_ROOM) {
-    fprintf(stderr, "sign: no canonical copy, answer %" PRIu32 " at %" PRIu32 ":%" PRIu32 "\n", answer, report.segment,
+  if (copy == NULL) return fputs("sign: out of memory\n", stderr), 3;
+  answer = capvet_canonical(bytes, length, &limits, copy, bound, &required, &report);
+  if (answer != CAPVET_OK) {
+    free(copy);
+    if (answer == CAPVET_TRAILING) return fputs("sign: bytes follow the message\n", stderr), 1;
+    fprintf(stderr, "sign: no canonical form, answer %" PRIu32 " at %" PRIu32 ":%" PRIu32 "\n", answer, report.segment,
             report.word);
     return 1;
   }
-  if (report.length != length) return fputs("sign: more than one message\n", stderr), 1;
-  copy = malloc(size);
-  good = copy != NULL && capvet_canonical(bytes, length, &limits, copy, size, &size, &report) == CAPVET_OK &&
-         sign(key, copy, size);
+  good = sign(key, copy, required);
   free(copy);
   return good ? 0 : (fputs("sign: it can't be signed\n", stderr), 3);
 }

@@ -1,4 +1,4 @@
-/* Vets the messages of a file in process, and prints for each the line that `capvet vet` prints.
+/* Vets the messages of a file in process, and prints for each the line that `capvet vet --strict --unamplified` prints.
  *
  *     export PKG_CONFIG_PATH=PREFIX/lib/pkgconfig
  *     cc vet.c $(pkg-config --cflags --libs capvet) -o vet
@@ -10,15 +10,28 @@
 #include <stdio.h>
 #include <stdlib.h>
 
-/* The names of the reasons, from CAPVET_NO_ROOT on. */
-static const char *const reasons[] = {
-    "NoRoot",    "Reserved",     "SegmentMissing", "PadOutside",       "PadIsFar",   "PadNotFar", "TagKind",
-    "TagOffset", "OutOfSegment", "CompositeTag",   "CompositeOverrun", "DepthLimit", "WordLimit",
-};
-
+/* The name of a refusal. */
 static const char *reason(uint32_t answer) {
-  uint32_t at = answer - CAPVET_NO_ROOT;
-  return at < sizeof reasons / sizeof *reasons ? reasons[at] : "unknown";
+  switch (answer) {
+    case CAPVET_NULL_PAD: return "NullPad";
+    case CAPVET_EMPTY_SEGMENT: return "EmptySegment";
+    case CAPVET_CAPABILITY_PAD: return "CapabilityPad";
+    case CAPVET_MANY_SEGMENTS: return "ManySegments";
+    case CAPVET_NO_ROOT: return "NoRoot";
+    case CAPVET_RESERVED: return "Reserved";
+    case CAPVET_SEGMENT_MISSING: return "SegmentMissing";
+    case CAPVET_PAD_OUTSIDE: return "PadOutside";
+    case CAPVET_PAD_IS_FAR: return "PadIsFar";
+    case CAPVET_PAD_NOT_FAR: return "PadNotFar";
+    case CAPVET_TAG_KIND: return "TagKind";
+    case CAPVET_TAG_OFFSET: return "TagOffset";
+    case CAPVET_OUT_OF_SEGMENT: return "OutOfSegment";
+    case CAPVET_COMPOSITE_TAG: return "CompositeTag";
+    case CAPVET_COMPOSITE_OVERRUN: return "CompositeOverrun";
+    case CAPVET_DEPTH_LIMIT: return "DepthLimit";
+    case CAPVET_WORD_LIMIT: return "WordLimit";
+    default: return "unknown";
+  }
 }
 
 /* The whole file, in a block of its own, or NULL. One byte more than it has, since no buffer may be NULL. */
@@ -40,10 +53,10 @@ static uint8_t *contents(const char *name, size_t *length) {
 }
 
 /* Prints the line of a message, and returns whether the message is accepted. */
-static int told(unsigned number, uint32_t answer, const capvet_report *report) {
+static int is_accepted(unsigned number, uint32_t answer, const capvet_report *report) {
   if (answer == CAPVET_OK) {
     printf("message %u: accepted charge %" PRIu64 " depth %" PRIu32 " pointers %" PRIu64 " caps %" PRIu64 "\n", number,
-           report->charge, report->depth, report->pointers, report->caps);
+           report->charge, report->depth, report->pointers, report->capabilities);
     return 1;
   }
   printf("message %u: refused %s at %" PRIu32 ":%" PRIu32 " pointers %" PRIu64 "\n", number, reason(answer),
@@ -52,7 +65,7 @@ static int told(unsigned number, uint32_t answer, const capvet_report *report) {
 }
 
 int main(int count, char **words) {
-  const capvet_limits limits = CAPVET_LIMITS_INIT;
+  capvet_limits limits = CAPVET_LIMITS_INIT;
   int status = 0;
   unsigned number = 0;
   size_t length = 0, at = 0;
@@ -60,16 +73,18 @@ int main(int count, char **words) {
   if (count != 2) return fputs("usage: vet FILE\n", stderr), 2;
   bytes = contents(words[1], &length);
   if (bytes == NULL) return fprintf(stderr, "vet: cannot read %s\n", words[1]), 3;
+  /* The file may have several messages, so bytes may follow each. */
+  limits.flags = CAPVET_ALLOW_TRAILING;
   while (at < length) {
     capvet_report report;
     uint32_t answer = capvet_vet(bytes + at, length - at, &limits, &report);
     if (report.length == 0) {
       /* The start of the next message is unknown. */
-      fprintf(stderr, "vet: message %u: no frame, answer %" PRIu32 " number %" PRIu64 "\n", number, answer, report.number);
+      fprintf(stderr, "vet: message %u: no frame, answer %" PRIu32 "\n", number, answer);
       status = 1;
       break;
     }
-    if (!told(number, answer, &report)) status = 1;
+    if (!is_accepted(number, answer, &report)) status = 1;
     at += report.length;
     number++;
   }

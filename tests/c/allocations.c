@@ -89,7 +89,12 @@ static void answered(int call, unsigned long before, uint32_t answer) {
 }
 
 static const capvet_limits LIMITS[] = {
-    CAPVET_LIMITS_INIT, {8388608, 100, 64}, {8388608, 8388608, 3}, {100, 100, 64}, {8388608, 8388608, 257}};
+    CAPVET_LIMITS_INIT,
+    {8388608, 8388608, 64, CAPVET_ALLOW_TRAILING, {0, 0}},
+    {8388608, 100, 64, CAPVET_ALLOW_TRAILING | CAPVET_ALLOW_NONSTRICT, {0, 0}},
+    {8388608, 8388608, 3, CAPVET_ALLOW_TRAILING | CAPVET_ALLOW_AMPLIFIED, {0, 0}},
+    {100, 100, 64, 0, {0, 0}},
+    {8388608, 8388608, 257, 0, {0, 0}}};
 
 /* Each call that reports. */
 static void reports(const uint8_t *bytes, size_t length) {
@@ -114,11 +119,11 @@ static void marks(const uint8_t *bytes, size_t length) {
   capvet_report report;
   size_t needed, again;
   unsigned long before = taken;
-  uint32_t answer = capvet_vet_exclusive(bytes, length, &LIMITS[0], room, 0, &needed, &report);
+  uint32_t answer = capvet_vet_exclusive(bytes, length, &LIMITS[1], room, 0, &needed, &report);
   answered(EXCLUSIVE, before, answer);
   if (needed <= sizeof room / sizeof *room) {
     before = taken;
-    answer = capvet_vet_exclusive(bytes, length, &LIMITS[0], room, needed, &again, &report);
+    answer = capvet_vet_exclusive(bytes, length, &LIMITS[1], room, needed, &again, &report);
     answered(EXCLUSIVE, before, answer);
   }
 }
@@ -163,20 +168,21 @@ static const struct {
               {FRAME, CAPVET_TRUNCATED},
               {VET, CAPVET_OK},
               {VET, CAPVET_NO_MESSAGE},
+              {VET, CAPVET_TRAILING},
               {VET, CAPVET_BAD_LIMITS},
               {VET, CAPVET_DEPTH_LIMIT},
               {VET, CAPVET_WORD_LIMIT},
               {IS_CANONICAL, CAPVET_OK},
               {IS_CANONICAL, CAPVET_NOT_CANONICAL},
               {EXCLUSIVE, CAPVET_OK},
-              {EXCLUSIVE, CAPVET_NO_ROOM},
+              {EXCLUSIVE, CAPVET_BUFFER_TOO_SMALL},
               {EXCLUSIVE, CAPVET_OVERLAP},
               {EXCLUSIVE, CAPVET_TRUNCATED},
               {UNPACK, CAPVET_OK},
-              {UNPACK, CAPVET_NO_ROOM},
+              {UNPACK, CAPVET_BUFFER_TOO_SMALL},
               {UNPACK, CAPVET_TRUNCATED},
               {PACK, CAPVET_OK},
-              {PACK, CAPVET_NO_ROOM},
+              {PACK, CAPVET_BUFFER_TOO_SMALL},
               {PACK, CAPVET_TRUNCATED}};
 
 int main(int count, char **names) {

@@ -67,13 +67,13 @@ static void known(void) {
     else
       expect(memcmp(got, TEXT, text) == 0, "the text of a front", length);
     for (k = text; k < sizeof got; k++) expect(got[k] == 0xee, "what stands behind the text", k);
-    expect(packed(length, 0, &written, got) == (text > 0 ? (uint32_t)CAPVET_NO_ROOM : answer), "no room", length);
+    expect(packed(length, 0, &written, got) == (text > 0 ? (uint32_t)CAPVET_BUFFER_TOO_SMALL : answer), "no room", length);
     expect(written == text, "the length that is told without room", written);
   }
   for (room = 0; room <= sizeof TEXT; room++) {
     int fits = room == sizeof TEXT;
     uint32_t answer = packed(sizeof WORDS, room, &written, got);
-    expect(answer == (fits ? (uint32_t)CAPVET_OK : (uint32_t)CAPVET_NO_ROOM), "the answer of a room", answer);
+    expect(answer == (fits ? (uint32_t)CAPVET_OK : (uint32_t)CAPVET_BUFFER_TOO_SMALL), "the answer of a room", answer);
     expect(written == sizeof TEXT, "the length that it takes", written);
     for (k = 0; !fits && k < room; k++) expect(got[k] == 0xee, "the room stays where it is too small", k);
   }
@@ -93,7 +93,7 @@ static void text(const uint8_t *bytes, size_t length) {
     put(CUT);
     return;
   }
-  if (answer != (needed == 0 ? (uint32_t)CAPVET_OK : (uint32_t)CAPVET_NO_ROOM) || needed > length / 8 * 10) exit(4);
+  if (answer != (needed == 0 ? (uint32_t)CAPVET_OK : (uint32_t)CAPVET_BUFFER_TOO_SMALL) || needed > length / 8 * 10) exit(4);
   out = block(needed);
   if (capvet_pack(bytes, length, out + 1, needed, &written) != CAPVET_OK || written != needed) exit(4);
   put((unsigned long)needed);

@@ -33,7 +33,7 @@ static void text(const uint8_t *bytes, size_t length) {
     put(CUT);
     return;
   }
-  if (answer != (needed == 0 ? (uint32_t)CAPVET_OK : (uint32_t)CAPVET_NO_ROOM)) exit(4);
+  if (answer != (needed == 0 ? (uint32_t)CAPVET_OK : (uint32_t)CAPVET_BUFFER_TOO_SMALL)) exit(4);
   out = block(needed);
   if (capvet_unpack(bytes, length, out + 1, needed, &written) != CAPVET_OK || written != needed) exit(4);
   put((unsigned long)needed);

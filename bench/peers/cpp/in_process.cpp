@@ -32,7 +32,8 @@ namespace {
 
 using Message = kj::ArrayPtr<const capnp::word>;
 
-const capvet_limits LIMITS = {CAPVET_MOST_WORDS, CAPVET_MOST_WORDS, 64};
+// The calls are timed without flags, as a service makes them.
+const capvet_limits LIMITS = {CAPVET_MAX_MESSAGE_WORDS, CAPVET_MAX_CHARGE, 64, 0, {0, 0}};
 
 // The words that were walked are kept here, so that no walk is left out.
 volatile uint64_t walked;
@@ -66,7 +67,7 @@ std::vector<Message> messagesOf(const char *name) {
 template <typename Job>
 size_t byLibrary(const std::vector<Message> &messages, Job job) {
   capnp::ReaderOptions options;
-  options.traversalLimitInWords = LIMITS.words;
+  options.traversalLimitInWords = LIMITS.charge;
   options.nestingLimit = LIMITS.depth;
   size_t good = 0;
   for (auto message : messages) {
@@ -137,10 +138,10 @@ bool time(const char *name, int rounds) {
   if (messages.empty()) return fprintf(stderr, "in_process: no messages in %s\n", name), false;
   size_t most = 0;
   for (auto message : messages) most = std::max(most, message.asBytes().size());
-  std::vector<uint8_t> room(most);
+  std::vector<uint8_t> out(most);
   auto copy = [&](const uint8_t *bytes, size_t length, const capvet_limits *limits, capvet_report *report) {
-    size_t written;
-    return capvet_canonical(bytes, length, limits, room.data(), room.size(), &written, report);
+    size_t required;
+    return capvet_canonical(bytes, length, limits, out.data(), out.size(), &required, report);
   };
   bool copies = byLibrary({messages[0]}, isStruct) == 1;
   Pair walks, checks, canons;

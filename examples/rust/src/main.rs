@@ -1,11 +1,11 @@
-//! Vets the messages of a file in process, and writes of each the line that `capvet vet` writes.
+//! Vets the messages of a file in process, and writes of each the line that `capvet vet --strict --unamplified` writes.
 //!
 //!     PKG_CONFIG_PATH=PREFIX/lib/pkgconfig cargo run -- FILE
 //!
 //! The status is 0 where all are accepted, 1 where one isn't, 2 for a wrong command line, and 3 where the file can't be
 //! read.
 
-use capvet::{Limits, Refusal};
+use capvet::{Limits, VetError};
 use std::process::ExitCode;
 use std::{env, fs};
 
@@ -34,8 +34,8 @@ fn are_accepted(bytes: &[u8]) -> bool {
         all &= message.is_ok();
         match message {
             Ok(message) => println!("message {number}: {}", message.report()),
-            Err(refusal @ Refusal::Pointer { .. }) => println!("message {number}: {refusal}"),
-            Err(fault) => eprintln!("vet: message {number}: {fault}"),
+            Err(fault @ VetError::Frame(_)) => eprintln!("vet: message {number}: {fault}"),
+            Err(refusal) => println!("message {number}: {refusal}"),
         }
     }
     all

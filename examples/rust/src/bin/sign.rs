@@ -1,4 +1,4 @@
-//! Passes the canonical copy of a message to a command that hashes or signs it. The result is the same however the message
+//! Passes the canonical form of a message to a command that hashes or signs it. The result is the same however the message
 //! is encoded.
 //!
 //!     PKG_CONFIG_PATH=PREFIX/lib/pkgconfig cargo run --bin sign -- FILE COMMAND..
@@ -7,10 +7,10 @@
 //!
 //! The words don't name their schema. If one key signs messages of several schemas, sign the schema's name before them.
 //!
-//! The status is that of the command. It is 1 if the message has no canonical copy, 2 for a wrong command line, and 3 if
+//! The status is that of the command. It is 1 if the message has no canonical form, 2 for a wrong command line, and 3 if
 //! the file can't be read or the command doesn't run.
 
-use capvet::Limits;
+use capvet::{CanonicalError, Limits};
 use std::ffi::OsString;
 use std::io::Write;
 use std::process::{Command, ExitCode, Stdio};
@@ -48,13 +48,10 @@ fn main() -> ExitCode {
     }
 }
 
-// The canonical copy of bytes that are one message and nothing else, or the reason why there is none.
-fn copy_of(bytes: &[u8]) -> Result<Vec<u8>, String> {
-    let copy = capvet::canonical(bytes, Limits::DEFAULT).map_err(|why| why.to_string())?;
-    match capvet::frame_len(bytes, Limits::DEFAULT) {
-        Ok(length) if length == bytes.len() => Ok(copy),
-        _ => Err("more than one message".to_owned()),
-    }
+// The canonical form of bytes that are one message and nothing else, or the reason why there is none.
+fn copy_of(bytes: &[u8]) -> Result<Vec<u8>, CanonicalError> {
+    let (copy, _report) = capvet::canonical(bytes, Limits::DEFAULT)?;
+    Ok(copy)
 }
 
 // Runs a command with these bytes as its input, and returns its status, or 3 if a signal ended it.

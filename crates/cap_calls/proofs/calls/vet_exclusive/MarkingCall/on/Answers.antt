@@ -6,7 +6,6 @@ use Rattle.cap_spec.specs.Occupying.{IsDisjoint}
 use Rattle.cap_vet.specs.Exclusives.{IsExclusiveFault}
 use Rattle.cap_vet.specs.Reports.{IsVetted}
 use Rattle.cap_vet.specs.Taken.{marks_of}
-use Rattle.cap_vet.specs.declared.report.Report.{Report}
 use Rattle.cap_calls.specs.CallFindings.{accepted, accepted_found, refused}
 use Rattle.cap_calls.specs.ExclusiveCalls.{exclusive, fault_found}
 use Rattle.cap_calls.specs.declared.answer.Answer.TheVariants.{Good}
@@ -42,7 +41,8 @@ returns-in-Err-into_exclusive_in c =
     let report = c.in-Ok.vetted.report in
     let message = c.in-Ok.ensures.message in
     let vetted = subst (λ (u : ByteView). IsVetted (cut u.sizes.now u.bytes.now) report) message
-    (subst (λ (r : Report). IsVetted _ r) c.report-report.ensures.value c.report-report.ensures.accepted) in
+    (subst (IsVetted (cut c.in-Ok.vetted.message.now.sizes.now c.in-Ok.vetted.message.now.bytes.now)) c.report-report.ensures.value
+    c.report-report.ensures.accepted) in
     let err = subst (λ (u : ByteView). IsExclusiveFault (cut u.sizes.now u.bytes.now) 268435456 256 (length old) fault) message
     c.in-Err-into_exclusive_in.ensures.err in
     let rest = subst (λ (u : ByteView). drop (marks_of (cut u.sizes.now u.bytes.now)) new ≡ drop (marks_of (cut u.sizes.now u.bytes.now)) old) message
