@@ -2,7 +2,7 @@
 
 use crate::front::NoFrame;
 use cap_frame::FrontFault;
-use cap_spec::{Refusal, StrictRefusal};
+use cap_spec::StrictRefusal;
 use cap_vet::Report;
 
 /// What a call reports beside its answer, laid out as C has it. A field that doesn't apply is 0.
@@ -35,7 +35,7 @@ pub struct CallReport {
 }
 
 impl CallReport {
-    ghost use Rattle.cap_calls.specs.CallReports.{accepted_report, no_frame_report, none_report, refused_report, trailing_report};
+    ghost use Rattle.cap_calls.specs.CallReports.{accepted_report, no_frame_report, none_report, place_report, refused_report, trailing_report};
     ghost use Rattle.std.specs.Prelude.{◌≡◌};
 
     // With nothing in it.
@@ -85,29 +85,31 @@ impl CallReport {
         }
     }
 
+    // Of a pointer, if so many were checked.
+    pub(crate) fn of_place(segment: u32, word: u32, pointers: u64) -> CallReport
+        ensures { result ≡ place_report segment word pointers }
+    {
+        CallReport {
+            pointers,
+            segment,
+            word,
+            ..CallReport::none()
+        }
+    }
+
     // Of a message that is refused, apart from its frame.
     pub(crate) fn of_refused(refusal: StrictRefusal) -> CallReport
         ensures { result ≡ refused_report refusal }
     {
         match refusal {
-            StrictRefusal::Refused(Refusal {
-                segment,
-                word,
-                pointers,
-                ..
-            })
-            | StrictRefusal::Pointer {
-                segment,
-                word,
-                pointers,
-                ..
-            } => CallReport {
-                pointers,
-                segment,
-                word,
-                ..CallReport::none()
-            },
+            StrictRefusal::Refused(it) => CallReport::of_place(it.segment, it.word, it.pointers),
             StrictRefusal::ManySegments => CallReport::none(),
+            StrictRefusal::Pointer {
+                segment,
+                word,
+                pointers,
+                ..
+            } => CallReport::of_place(segment, word, pointers),
         }
     }
 

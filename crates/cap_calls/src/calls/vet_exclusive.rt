@@ -99,12 +99,7 @@ fn found_of_fault(fault: ExclusiveFault, numbers: usize) -> Found
         } => Found {
             answer: Answer::Overlap,
             count: numbers,
-            report: CallReport {
-                pointers,
-                segment,
-                word,
-                ..CallReport::none()
-            },
+            report: CallReport::of_place(segment, word, pointers),
         },
     }
 }
