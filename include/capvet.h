@@ -1,4 +1,4 @@
-/* capvet.h -- checks Cap'n Proto messages from untrusted sources, without a schema.
+/* capvet: checks untrusted Cap'n Proto messages without a schema.
  *
  * QUICK START
  *
@@ -27,21 +27,20 @@
  *
  * TERMS
  *
- *   word       8 bytes. Numbers in a message are little-endian.
- *   segment    a run of words. A message has 1 to 512 segments.
- *   frame      a message as it is sent over a stream: a table of segment sizes, then the segments.
- *   place      a segment number and a word in that segment, both counted from 0.
- *   far        a pointer into another segment, which goes through a landing pad of one or two words there.
- *   level      the nesting depth of an object. The root object has level 1.
- *   charge     the words that a full traversal reads, landing pads included. An object that two pointers
- *              reach counts twice. An element of no bits (Void, a struct without words) counts as one.
- *   preorder   the order in which pointers are checked: each one before those it leads to.
- *   valid      the root leads to a finite tree inside the segments, within the limits. Unless
- *              CAPVET_ALLOW_AMPLIFIED is set, the charge may be at most CAPVET_SLACK above the words of the
- *              segments.
- *   strict     valid, and without four forms that common readers reject, at least in part:
- *              CAPVET_NULL_PAD, CAPVET_EMPTY_SEGMENT, CAPVET_CAPABILITY_PAD, CAPVET_MANY_SEGMENTS.
- *   accepted   valid, and strict unless CAPVET_ALLOW_NONSTRICT is set: what capvet_vet requires.
+ *   - word: 8 bytes. Numbers in a message are little-endian.
+ *   - segment: a run of words. A message has 1 to 512 segments.
+ *   - frame: a message as it is sent over a stream: a table of segment sizes, then the segments.
+ *   - place: a segment number and a word in that segment, both counted from 0.
+ *   - far: a pointer into another segment, which goes through a landing pad of one or two words there.
+ *   - level: the nesting depth of an object. The root object has level 1.
+ *   - charge: the words that a full traversal reads, landing pads included. An object that two pointers reach
+ *     counts twice. An element of no bits (Void, a struct without words) counts as one.
+ *   - preorder: the order in which pointers are checked: each one before those it leads to.
+ *   - valid: the root leads to a finite tree inside the segments, within the limits. Unless
+ *     CAPVET_ALLOW_AMPLIFIED is set, the charge may be at most CAPVET_SLACK above the words of the segments.
+ *   - strict: valid, and without four forms that common readers reject, at least in part: CAPVET_NULL_PAD,
+ *     CAPVET_EMPTY_SEGMENT, CAPVET_CAPABILITY_PAD, CAPVET_MANY_SEGMENTS.
+ *   - accepted: valid, and strict unless CAPVET_ALLOW_NONSTRICT is set: what capvet_vet requires.
  *
  * RULES FOR ALL CALLS
  *
@@ -112,10 +111,11 @@ typedef char capvet_needs_64_bits[sizeof(size_t) == 8 ? 1 : -1];
 
 /* What a call returns. Numbers never change. Later versions may add some, so treat unknown answers as
  * refusals.
- *   1 to 7    the bytes hold no complete frame, or more than the frame
- *   8 to 15   the call was made wrongly, or with too small a buffer
- *   16 to 31  not what the call asks for
- *   from 32   the message is not valid */
+ *
+ *   - 1 to 7: the bytes hold no complete frame, or more than the frame
+ *   - 8 to 15: the call was made wrongly, or with too small a buffer
+ *   - 16 to 31: not what the call asks for
+ *   - from 32: the message is not valid */
 enum {
   CAPVET_OK = 0,
 
