@@ -1,9 +1,9 @@
 #!/usr/bin/env python3
 """Builds the C programs of tests/c over the built archive, and runs them, beside the built program.
 
-    calls.py ARCHIVE PROGRAM [messages | packed]
+    calls.py ARCHIVE PROGRAM [messages | packed | flags]
 
-With a word only that half is tested: what is about messages, or what is about packed bytes.
+With a word only that part is tested: what is about messages, about packed bytes, or about flags and reports.
 
 The header alone is compiled in each standard of C and C++ that it is promised for. `calls` looks at known
 buffers, and `allocations` counts how often memory is taken.

@@ -15,7 +15,8 @@ use Rattle.cap_vet.specs.declared.exclusive_room.ExclusiveFault.{ExclusiveFault}
 use Rattle.cap_vet.specs.declared.exclusive_room.ExclusiveFault.TheVariants as fault
 use Rattle.cap_vet.specs.declared.report.Report.{Report}
 use Rattle.cap_vet.proofs.OneReport.{one_report}
-use Rattle.cap_calls.specs.CallFindings.{Judges, JudgesAny, Tells, TellsWhole, accepted, accepted_found, framed, refused, refused_found, tells, trailing, without}
+use Rattle.cap_calls.specs.CallFindings.{Judges, JudgesAny, Tells, TellsWhole, accepted, accepted_found, framed}
+use Rattle.cap_calls.specs.CallFindings.{refused, refused_found, tells, trailing, without}
 use Rattle.cap_calls.specs.CallFlags.{allows_trailing, demands_of}
 use Rattle.cap_calls.specs.ExclusiveCalls.{IsMarked, Marks, MarksAny, exclusive, fault_found, overlap, too_small}
 use Rattle.cap_calls.specs.declared.answer.Answer.TheVariants as answer
@@ -44,7 +45,14 @@ fault_refused m w d (strict.Pointer what s v n) h = absurd (false≢true h.0)
 meets_none : (m : List (List ℕ)) (w d : ℕ) (r : Report) → IsAccepted m w d r → Meets none m w d
 meets_none m w d r (t, h) =
     record {
-      within = record { tree = t; charge = r.charge; levels = r.depth; denotes = h.denotes; few_words = h.within; few_levels = h.shallow };
+      within = record {
+        tree = t;
+        charge = r.charge;
+        levels = r.depth;
+        denotes = h.denotes;
+        few_words = h.within;
+        few_levels = h.shallow;
+      };
       strict = λ e. absurd (false≢true e);
     }
 
@@ -58,39 +66,51 @@ module _ {K : Type 0} {P : List (List ℕ) → Report → Found → Type 0} (m :
   judges_more (inr (r, h, p)) = accepted r h (meets_none m w d r h) p
 
 -- So it is under all flags.
-module _ {K : Type 0} {P : List (List ℕ) → Report → Found → Type 0} (l : CallLimits) (all : l.flags ≡ 7) (m : List (List ℕ)) (f : Found) where
+module _ {K : Type 0} {P : List (List ℕ) → Report → Found → Type 0} (l : CallLimits) (all : l.flags ≡ 7)
+    (m : List (List ℕ)) (f : Found) where
   pub all_less : Judges (demands_of l) K P m l.charge l.depth f → JudgesAny K P m l.charge l.depth f
-  all_less h = judges_less m l.charge l.depth f (subst (λ (d : Demands). Judges d K P m l.charge l.depth f) (demands_none l all) h)
+  all_less h = judges_less m l.charge l.depth f
+      (subst (λ (d : Demands). Judges d K P m l.charge l.depth f) (demands_none l all) h)
 
   pub all_more : JudgesAny K P m l.charge l.depth f → Judges (demands_of l) K P m l.charge l.depth f
-  all_more h = subst (λ (d : Demands). Judges d K P m l.charge l.depth f) (sym (demands_none l all)) (judges_more m l.charge l.depth f h)
+  all_more h = subst (λ (d : Demands). Judges d K P m l.charge l.depth f) (sym (demands_none l all))
+      (judges_more m l.charge l.depth f h)
 
 -- So it is for the marks of a message.
 marks_less : (size : ℕ) (m : List (List ℕ)) (w d : ℕ) (f : Found) → Marks size none m w d f → MarksAny size m w d f
-marks_less size m w d f (refused r h e k) = (let q = fault_refused m w d r h in inl (fault.Refused q.0, q.1, e ∙ ap refused_found q.2))
+marks_less size m w d f (refused r h e k) =
+    (let q = fault_refused m w d r h in inl (fault.Refused q.0, q.1, e ∙ ap refused_found q.2))
 marks_less size m w d f (accepted r h n (too_small few e)) = inl (fault.NoRoom (marks_of m) r, (h, few, refl), e)
-marks_less size m w d f (accepted r h n (overlap s v k enough first e)) = inl (fault.Overlap s v k, (r, h, enough, first), e)
+marks_less size m w d f (accepted r h n (overlap s v k enough first e)) = inl
+    (fault.Overlap s v k, (r, h, enough, first), e)
 marks_less size m w d f (accepted r h n (exclusive enough j e)) = inr (r, h, j, enough, e)
 
 marks_more : (size : ℕ) (m : List (List ℕ)) (w d : ℕ) (f : Found) → MarksAny size m w d f → Marks size none m w d f
 marks_more size m w d f (inl (fault.Refused r, h, e)) = refused (strict.Refused r) h e tt
-marks_more size m w d f (inl (fault.NoRoom n r, h, e)) = accepted r h.0 (meets_none m w d r h.0) (too_small (omega (arith, h.1, h.2)) e)
-marks_more size m w d f (inl (fault.Overlap s v k, h, e)) = accepted h.0 h.1 (meets_none m w d h.0 h.1) (overlap s v k h.2 h.3 e)
+marks_more size m w d f (inl (fault.NoRoom n r, h, e)) = accepted r h.0 (meets_none m w d r h.0)
+    (too_small (omega (arith, h.1, h.2)) e)
+marks_more size m w d f (inl (fault.Overlap s v k, h, e)) = accepted h.0 h.1 (meets_none m w d h.0 h.1)
+    (overlap s v k h.2 h.3 e)
 marks_more size m w d f (inr (r, h, j, enough, e)) = accepted r h (meets_none m w d r h) (exclusive enough j e)
 
-pub all_marks_less : (l : CallLimits) → l.flags ≡ 7 → (size : ℕ) (m : List (List ℕ)) (f : Found) → Marks size (demands_of l) m l.charge l.depth f
+pub all_marks_less : (l : CallLimits) → l.flags ≡ 7 → (size : ℕ) (m : List (List ℕ)) (f : Found)
+    → Marks size (demands_of l) m l.charge l.depth f
     → MarksAny size m l.charge l.depth f
 all_marks_less l all size m f h =
-    marks_less size m l.charge l.depth f (subst (λ (d : Demands). Marks size d m l.charge l.depth f) (demands_none l all) h)
+    marks_less size m l.charge l.depth f
+    (subst (λ (d : Demands). Marks size d m l.charge l.depth f) (demands_none l all) h)
 
-pub all_marks_more : (l : CallLimits) → l.flags ≡ 7 → (size : ℕ) (m : List (List ℕ)) (f : Found) → MarksAny size m l.charge l.depth f
+pub all_marks_more : (l : CallLimits) → l.flags ≡ 7 → (size : ℕ) (m : List (List ℕ)) (f : Found)
+    → MarksAny size m l.charge l.depth f
     → Marks size (demands_of l) m l.charge l.depth f
 all_marks_more l all size m f h =
-    subst (λ (d : Demands). Marks size d m l.charge l.depth f) (sym (demands_none l all)) (marks_more size m l.charge l.depth f h)
+    subst (λ (d : Demands). Marks size d m l.charge l.depth f) (sym (demands_none l all))
+    (marks_more size m l.charge l.depth f h)
 
 -- Bytes after the message change nothing if they may follow.
 module _ {K : Type 0} {P Q : List (List ℕ) → ℕ → ℕ → Found → Type 0} (l : CallLimits) (bs : List ℕ) (f : Found) where
-  tells_as : ((m : List (List ℕ)) (g : Found) → P m l.charge l.depth g → Q m l.charge l.depth g) → Tells K P l bs f → Tells K Q l bs f
+  tells_as : ((m : List (List ℕ)) (g : Found) → P m l.charge l.depth g → Q m l.charge l.depth g) → Tells K P l bs f
+      → Tells K Q l bs f
   tells_as p (without c h e k) = without c h e k
   tells_as p (framed m x y g h i e) = framed m x y g h (p m g i) e
 
@@ -99,11 +119,13 @@ module _ {K : Type 0} {P Q : List (List ℕ) → ℕ → ℕ → Found → Type 
   whole_as whole p (trailing m x y t h more e k) = trailing m x y t h more e k
   whole_as whole p (tells only t) = tells only (tells_as p t)
 
-  pub whole_less : (whole : Bool) → whole ≡ false → ((m : List (List ℕ)) (g : Found) → P m l.charge l.depth g → Q m l.charge l.depth g)
+  pub whole_less : (whole : Bool) → whole ≡ false
+      → ((m : List (List ℕ)) (g : Found) → P m l.charge l.depth g → Q m l.charge l.depth g)
       → TellsWhole whole K P l bs f → Tells K Q l bs f
   whole_less whole may p (trailing m x y t h more e k) = absurd (false≢true (sym may ∙ t))
   whole_less whole may p (tells only t) = tells_as p t
 
-  pub whole_more : (whole : Bool) → whole ≡ false → ((m : List (List ℕ)) (g : Found) → P m l.charge l.depth g → Q m l.charge l.depth g)
+  pub whole_more : (whole : Bool) → whole ≡ false
+      → ((m : List (List ℕ)) (g : Found) → P m l.charge l.depth g → Q m l.charge l.depth g)
       → Tells K P l bs f → TellsWhole whole K Q l bs f
   whole_more whole may p t = tells (λ only. absurd (false≢true (sym may ∙ only))) (tells_as p t)

@@ -1,5 +1,6 @@
 -- The bytes decide what each call finds.
-use Rattle.std.proofs.Common.{ℕ, ap₂, List, [], ◌≡◌, ◌∙◌, ◌<◌, ◌≤◌, ◌+◌, ◌*◌, ap, sym, subst, refl, length, Option, None, Result, Ok, Err}
+use Rattle.std.proofs.Common.{ℕ, ap₂, List, [], ◌≡◌, ◌∙◌, ◌<◌, ◌≤◌, ◌+◌, ◌*◌, ap, sym, subst, refl, length, Option}
+use Rattle.std.proofs.Common.{None, Result, Ok, Err}
 use Rattle.std.specs.Prelude.{◌-◌, Bool, ⊤, not, true}
 use Rattle.cap_spec.proofs.Frames.Framing.{one_frame}
 use Rattle.cap_spec.specs.Strict.{IsStrictFault}
@@ -36,16 +37,21 @@ abbrev Without-fault : FrontFault → Result (Option Framed) FrontFault
 Without-fault e = Err e
 
 -- what a fault tells, by the clauses of the call that answers it
-pub fault_told : (limit : ℕ) (bs : List ℕ) (e : FrontFault) → ((n : ℕ) → Without-fault e ≡ Without-fault (TooManySegments n) → TellsMany bs n)
+pub fault_told : (limit : ℕ) (bs : List ℕ) (e : FrontFault)
+    → ((n : ℕ) → Without-fault e ≡ Without-fault (TooManySegments n) → TellsMany bs n)
     → ((n : ℕ) → Without-fault e ≡ Without-fault (TooLarge n) → TellsLarge limit bs n)
-    → ((n : ℕ) → Without-fault e ≡ Without-fault (Truncated n) → IsPartial limit (plain_words bs) (plain_is_cut bs) × Wants (plain_words bs) n)
-    → ((n : ℕ) → Without-fault e ≡ Without-fault (Truncated n) → (length bs < n) × (n ≤ 8 * limit + 2056)) → TellsFront limit bs (Err e)
+    → ((n : ℕ) → Without-fault e ≡ Without-fault (Truncated n) → IsPartial limit (plain_words bs) (plain_is_cut bs)
+    × Wants (plain_words bs) n)
+    → ((n : ℕ) → Without-fault e ≡ Without-fault (Truncated n) → (length bs < n) × (n ≤ 8 * limit + 2056))
+    → TellsFront limit bs (Err e)
 fault_told limit bs (TooManySegments n) many large short more = many n refl
 fault_told limit bs (TooLarge n) many large short more = large n refl
-fault_told limit bs (Truncated n) many large short more = (let h = short n refl in let k = more n refl in (h.0, h.1, k.0, k.1))
+fault_told limit bs (Truncated n) many large short more =
+    (let h = short n refl in let k = more n refl in (h.0, h.1, k.0, k.1))
 
 -- bytes begin with no message in one way
-one_fault : (limit : ℕ) (bs : List ℕ) (a b : FrontFault) → TellsFront limit bs (Err a) → TellsFront limit bs (Err b) → a ≡ b
+one_fault : (limit : ℕ) (bs : List ℕ) (a b : FrontFault) → TellsFront limit bs (Err a) → TellsFront limit bs (Err b)
+    → a ≡ b
 one_fault limit bs a (TooManySegments n) h k = (let e = many_answer limit bs (Without-fault a) n k h in cc)
 one_fault limit bs a (TooLarge n) h k = (let e = large_answer limit bs (Without-fault a) n k h in cc)
 one_fault limit bs a (Truncated n) h k = (let e = short_answer limit bs (Without-fault a) n k.0 k.1 h in cc)
@@ -68,34 +74,47 @@ module _ (l : CallLimits) (bs : List ℕ) where
   one_cause (Fault a) (Fault b) h k = ap Fault (one_fault l.message_words bs a b h.1 k.1)
 
   -- where there is a frame, there is no cause for none
-  pub no_cause : (a : NoFrame) (frame segments : ℕ) (m : List (List ℕ)) → HasNoFrame l bs a → HasFrame l bs frame segments m → ⊥
+  pub no_cause : (a : NoFrame) (frame segments : ℕ) (m : List (List ℕ)) → HasNoFrame l bs a
+      → HasFrame l bs frame segments m → ⊥
   no_cause BadLimits frame segments m h f = h f.are_limits
   no_cause NoMessage frame segments m h f = whole_answer l.message_words bs (Ok None) m frame f.front h.1
   no_cause (Fault a) frame segments m h f = whole_answer l.message_words bs (Without-fault a) m frame f.front h.1
 
   -- there is one frame
-  pub one_extent : (a b x y : ℕ) (m n : List (List ℕ)) → HasFrame l bs a x m → HasFrame l bs b y n → (a ≡ b) × (x ≡ y) × (m ≡ n)
+  pub one_extent : (a b x y : ℕ) (m n : List (List ℕ)) → HasFrame l bs a x m → HasFrame l bs b y n → (a ≡ b) × (x ≡ y)
+      × (m ≡ n)
   one_extent a b x y m n f g =
-      let same = one_frame f.front.own g.front.own f.front.rest g.front.rest m n f.front.frames g.front.frames (sym f.front.words ∙ g.front.words) in
-      (f.front.long ∙ (ap (λ (ws : List ℕ). 8 * length ws) same.0 ∙ sym g.front.long), f.count ∙ (ap length same.1 ∙ sym g.count), same.1)
+      let same = one_frame f.front.own g.front.own f.front.rest g.front.rest m n f.front.frames g.front.frames
+      (sym f.front.words ∙ g.front.words) in (
+        f.front.long ∙ (ap (λ (ws : List ℕ). 8 * length ws) same.0 ∙ sym g.front.long),
+        f.count
+            ∙ (ap length same.1 ∙ sym g.count),
+        same.1,
+      )
 
 -- What is found in one way is found in a weaker one.
-pub tells_less : {K L : Type 0} {P Q : List (List ℕ) → ℕ → ℕ → Found → Type 0} (whole : Bool) (l : CallLimits) (bs : List ℕ) (f : Found)
-    → (K → L) → ((m : List (List ℕ)) (w d : ℕ) (g : Found) → P m w d g → Q m w d g) → TellsWhole whole K P l bs f → TellsWhole whole L Q l bs f
+pub tells_less : {K L : Type 0} {P Q : List (List ℕ) → ℕ → ℕ → Found → Type 0} (whole : Bool) (l : CallLimits)
+    (bs : List ℕ) (f : Found)
+    → (K → L) → ((m : List (List ℕ)) (w d : ℕ) (g : Found) → P m w d g → Q m w d g) → TellsWhole whole K P l bs f
+    → TellsWhole whole L Q l bs f
 tells_less whole l bs f k p (trailing m x y t h more e i) = trailing m x y t h more e (k i)
 tells_less whole l bs f k p (tells none (without c h e x)) = tells none (without c h e (k x))
-tells_less whole l bs f k p (tells none (framed m x y g h i e)) = tells none (framed m x y g h (p m l.charge l.depth g i) e)
+tells_less whole l bs f k p (tells none (framed m x y g h i e)) = tells none
+    (framed m x y g h (p m l.charge l.depth g i) e)
 
 -- What the flag allows is what the call asked for.
-pub by_flag : {K : Type 0} {P : List (List ℕ) → ℕ → ℕ → Found → Type 0} (l : CallLimits) (bs : List ℕ) (f : Found) (w : Bool)
+pub by_flag : {K : Type 0} {P : List (List ℕ) → ℕ → ℕ → Found → Type 0} (l : CallLimits) (bs : List ℕ) (f : Found)
+    (w : Bool)
     → w ≡ allows_trailing l → TellsWhole (not w) K P l bs f → TellsMessage K P l bs f
 by_flag {K} {P} l bs f w e t = subst (λ (z : Bool). TellsWhole (not z) K P l bs f) e t
 
 -- There is one thing to be found, if there is one of each message.
-pub one_told : {K L S : Type 0} {P Q : List (List ℕ) → ℕ → ℕ → Found → Type 0} (l : CallLimits) (bs : List ℕ) (f g : Found) → (K → L → S)
+pub one_told : {K L S : Type 0} {P Q : List (List ℕ) → ℕ → ℕ → Found → Type 0} (l : CallLimits) (bs : List ℕ)
+    (f g : Found) → (K → L → S)
     → ((m : List (List ℕ)) (h k : Found) → P m l.charge l.depth h → Q m l.charge l.depth k → (h ≡ k) × S)
     → Tells K P l bs f → Tells L Q l bs g → (f ≡ g) × S
-one_told l bs f g both same (without c h e x) (without d k i y) = (e ∙ (ap none_found (one_cause l bs c d h k) ∙ sym i), both x y)
+one_told l bs f g both same (without c h e x) (without d k i y) =
+    (e ∙ (ap none_found (one_cause l bs c d h k) ∙ sym i), both x y)
 one_told l bs f g both same (without c h e x) (framed m a b v k q i) = absurd (no_cause l bs c a b m h k)
 one_told l bs f g both same (framed m a b u h p e) (without c k i y) = absurd (no_cause l bs c a b m k h)
 one_told {Q = Q} l bs f g both same (framed m a b u h p e) (framed n x y v k q i) =
@@ -104,12 +123,15 @@ one_told {Q = Q} l bs f g both same (framed m a b u h p e) (framed n x y v k q i
     (e ∙ (ap₂ (λ (j t : ℕ). framed_found j t u) one.0 one.1 ∙ (ap (framed_found x y) s.0 ∙ sym i)), s.1)
 
 -- So is there where bytes after the message are an answer of their own.
-pub one_whole_told : {K L S : Type 0} {P Q : List (List ℕ) → ℕ → ℕ → Found → Type 0} (whole : Bool) (l : CallLimits) (bs : List ℕ) (f g : Found)
+pub one_whole_told : {K L S : Type 0} {P Q : List (List ℕ) → ℕ → ℕ → Found → Type 0} (whole : Bool) (l : CallLimits)
+    (bs : List ℕ) (f g : Found)
     → (K → L → S) → ((m : List (List ℕ)) (h k : Found) → P m l.charge l.depth h → Q m l.charge l.depth k → (h ≡ k) × S)
     → TellsWhole whole K P l bs f → TellsWhole whole L Q l bs g → (f ≡ g) × S
 one_whole_told whole l bs f g both same (tells none t) (tells also u) = one_told l bs f g both same t u
-one_whole_told whole l bs f g both same (trailing m a b t h more e x) (tells none u) = absurd (none t (m, a, b, h, more))
-one_whole_told whole l bs f g both same (tells none u) (trailing m a b t h more e x) = absurd (none t (m, a, b, h, more))
+one_whole_told whole l bs f g both same (trailing m a b t h more e x) (tells none u) = absurd
+    (none t (m, a, b, h, more))
+one_whole_told whole l bs f g both same (tells none u) (trailing m a b t h more e x) = absurd
+    (none t (m, a, b, h, more))
 one_whole_told whole l bs f g both same (trailing m a b t h more e x) (trailing n c d u k less i y) =
     let one = one_extent l bs a c b d m n h k in
     let known : ℕ → ℕ → Found = λ (j s : ℕ). framed_found j s (trailing_found (length bs - j)) in
@@ -122,48 +144,61 @@ as_strict_fault demands m w d (Refused r) h = h
 as_strict_fault demands m w d ManySegments h = h.1
 as_strict_fault demands m w d (Pointer what s v n) h = h.1
 
-pub one_demand_fault : (demands : Demands) (m : List (List ℕ)) (w d : ℕ) (r q : StrictRefusal) → IsDemandFault demands m w d r
+pub one_demand_fault : (demands : Demands) (m : List (List ℕ)) (w d : ℕ) (r q : StrictRefusal)
+    → IsDemandFault demands m w d r
     → IsDemandFault demands m w d q → r ≡ q
 one_demand_fault demands m w d r q h k =
-    one_strict_fault m (words_under demands m w) d r q (as_strict_fault demands m w d r h) (as_strict_fault demands m w d q k)
+    one_strict_fault m (words_under demands m w) d r q (as_strict_fault demands m w d r h)
+    (as_strict_fault demands m w d q k)
 
 -- No message meets the demands and has a fault.
-pub meets_no_fault : (demands : Demands) (m : List (List ℕ)) (w d : ℕ) (r : StrictRefusal) → Meets demands m w d → IsDemandFault demands m w d r → ⊥
+pub meets_no_fault : (demands : Demands) (m : List (List ℕ)) (w d : ℕ) (r : StrictRefusal) → Meets demands m w d
+    → IsDemandFault demands m w d r → ⊥
 meets_no_fault demands m w d (Refused r) h k = within_not_refused m (words_under demands m w) d r h.within k
-meets_no_fault demands m w d ManySegments h k = strict_not_fault m (words_under demands m w) d ManySegments (h.strict k.0) k.1
+meets_no_fault demands m w d ManySegments h k = strict_not_fault m (words_under demands m w) d ManySegments
+    (h.strict k.0) k.1
 meets_no_fault demands m w d (Pointer what s v n) h k =
     strict_not_fault m (words_under demands m w) d (Pointer what s v n) (h.strict k.0) k.1
 
 -- So there is one thing to be found of a message, if there is of an accepted one.
-pub one_judged : {K L S : Type 0} {P Q : List (List ℕ) → Report → Found → Type 0} (demands : Demands) (m : List (List ℕ)) (w d : ℕ) (f g : Found)
+pub one_judged : {K L S : Type 0} {P Q : List (List ℕ) → Report → Found → Type 0} (demands : Demands)
+    (m : List (List ℕ)) (w d : ℕ) (f g : Found)
     → (K → L → S) → ((r : Report) → IsAccepted m (words_under demands m w) d r → P m r f → Q m r g → (f ≡ g) × S)
     → Judges demands K P m w d f → Judges demands L Q m w d g → (f ≡ g) × S
 one_judged demands m w d f g both same (refused r h e x) (refused q k i y) =
     (e ∙ (ap refused_found (one_demand_fault demands m w d r q h k) ∙ sym i), both x y)
-one_judged demands m w d f g both same (refused r h e x) (accepted q k n i) = absurd (meets_no_fault demands m w d r n h)
-one_judged demands m w d f g both same (accepted r h n p) (refused q k i y) = absurd (meets_no_fault demands m w d q n k)
+one_judged demands m w d f g both same (refused r h e x) (accepted q k n i) = absurd
+    (meets_no_fault demands m w d r n h)
+one_judged demands m w d f g both same (accepted r h n p) (refused q k i y) = absurd
+    (meets_no_fault demands m w d q n k)
 one_judged {Q = Q} demands m w d f g both same (accepted r h n p) (accepted q k o i) =
     same r h p (subst (λ (z : Report). Q m z g) (sym (one_report m (words_under demands m w) d r q h k)) i)
 
 -- And so it is returned and reported.
-pub one_returned : (f g : Found) (a b : Answer) (r q : CallReport) → f ≡ g → Returns f a r → Returns g b q → (a ≡ b) × (r ≡ q)
-one_returned f g a b r q e (h, i) (j, k) = (h ∙ (ap (λ (x : Found). x.answer) e ∙ sym j), i ∙ (ap (λ (x : Found). x.report) e ∙ sym k))
+pub one_returned : (f g : Found) (a b : Answer) (r q : CallReport) → f ≡ g → Returns f a r → Returns g b q → (a ≡ b)
+    × (r ≡ q)
+one_returned f g a b r q e (h, i) (j, k) =
+    (h ∙ (ap (λ (x : Found). x.answer) e ∙ sym j), i ∙ (ap (λ (x : Found). x.report) e ∙ sym k))
 
-pub one_frame_told : (l : CallLimits) (bs : List ℕ) (a b : Answer) (r q : CallReport) → TellsFrame l bs a r → TellsFrame l bs b q → (a ≡ b) × (r ≡ q)
+pub one_frame_told : (l : CallLimits) (bs : List ℕ) (a b : Answer) (r q : CallReport) → TellsFrame l bs a r
+    → TellsFrame l bs b q → (a ≡ b) × (r ≡ q)
 one_frame_told l bs a b r q (f, t, h) (g, u, k) =
     one_returned f g a b r q (one_told {S = ⊤} l bs f g (λ _ _. tt) (λ m x y p s. (p ∙ sym s, tt)) t u).0 h k
 
 -- What is found of an accepted message is found of the bytes.
-one_message_told : {P : List (List ℕ) → Report → Found → Type 0} (whole : Bool) (l : CallLimits) (bs : List ℕ) (a b : Answer) (r q : CallReport)
+one_message_told : {P : List (List ℕ) → Report → Found → Type 0} (whole : Bool) (l : CallLimits) (bs : List ℕ)
+    (a b : Answer) (r q : CallReport)
     → ((m : List (List ℕ)) (z : Report) (x y : Found) → P m z x → P m z y → x ≡ y)
     → (f : Found) × TellsWhole whole ⊤ (Judges (demands_of l) ⊤ P) l bs f × Returns f a r
     → (g : Found) × TellsWhole whole ⊤ (Judges (demands_of l) ⊤ P) l bs g × Returns g b q → (a ≡ b) × (r ≡ q)
 one_message_told whole l bs a b r q one (f, t, h) (g, u, k) =
     one_returned f g a b r q
     (one_whole_told {S = ⊤} whole l bs f g (λ _ _. tt)
-    (λ m x y p s. one_judged {S = ⊤} (demands_of l) m l.charge l.depth x y (λ _ _. tt) (λ z _ e i. (one m z x y e i, tt)) p s) t u).0 h k
+    (λ m x y p s. one_judged {S = ⊤} (demands_of l) m l.charge l.depth x y (λ _ _. tt)
+    (λ z _ e i. (one m z x y e i, tt)) p s) t u).0 h k
 
-pub one_vet_told : (l : CallLimits) (bs : List ℕ) (a b : Answer) (r q : CallReport) → TellsVet l bs a r → TellsVet l bs b q → (a ≡ b) × (r ≡ q)
+pub one_vet_told : (l : CallLimits) (bs : List ℕ) (a b : Answer) (r q : CallReport) → TellsVet l bs a r
+    → TellsVet l bs b q → (a ≡ b) × (r ≡ q)
 one_vet_told l bs a b r q t u = one_message_told (not (allows_trailing l)) l bs a b r q (λ _ _ _ _ e i. e ∙ sym i) t u
 
 one_check : (m : List (List ℕ)) (r : Report) (f g : Found) → IsCheck m r f → IsCheck m r g → f ≡ g
@@ -172,5 +207,6 @@ one_check m r f g (not_canonical i e) (not_canonical j k) = e ∙ sym k
 one_check m r f g (canonical i e) (not_canonical j k) = absurd (j i)
 one_check m r f g (not_canonical i e) (canonical j k) = absurd (i j)
 
-pub one_check_told : (l : CallLimits) (bs : List ℕ) (a b : Answer) (r q : CallReport) → TellsCheck l bs a r → TellsCheck l bs b q → (a ≡ b) × (r ≡ q)
+pub one_check_told : (l : CallLimits) (bs : List ℕ) (a b : Answer) (r q : CallReport) → TellsCheck l bs a r
+    → TellsCheck l bs b q → (a ≡ b) × (r ≡ q)
 one_check_told l bs a b r q t u = one_message_told true l bs a b r q one_check t u

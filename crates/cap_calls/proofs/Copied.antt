@@ -17,7 +17,8 @@ use Rattle.cap_canon.specs.declared.fault.RoomFault.{RoomFault}
 use Rattle.cap_vet.specs.Reports.{IsFirstCapOf}
 use Rattle.cap_vet.specs.declared.report.Report.{Report}
 use Rattle.cap_calls.specs.CanonicalCalls.{Copies, IsCopied, TellsCopy, has_capability, copied, size_found}
-use Rattle.cap_calls.specs.CallFindings.{TellsWhole, accepted, accepted_found, framed, refused, tells, trailing, without}
+use Rattle.cap_calls.specs.CallFindings.{TellsWhole, accepted, accepted_found, framed, refused, tells, trailing}
+use Rattle.cap_calls.specs.CallFindings.{without}
 use Rattle.cap_calls.specs.CallFlags.{allows_amplified, allows_trailing, demands_of}
 use Rattle.cap_calls.specs.CallFrames.{HasFrame}
 use Rattle.cap_calls.specs.PackCalls.{TellsText, too_small, written}
@@ -37,10 +38,13 @@ same_found : (f g : Found) → f.answer ≡ g.answer → f.count ≡ g.count →
 same_found f g a n r = ap₂ (λ (x : Answer) (k : ℕ). found x k f.report) a n ∙ ap (found g.answer g.count) r
 
 -- of an accepted message
-one_copied : (old xs ys : List ℕ) (m : List (List ℕ)) (r : Report) (f g : Found) → IsCopied old xs m r f → IsCopied old ys m r g → (f ≡ g) × (xs ≡ ys)
+one_copied : (old xs ys : List ℕ) (m : List (List ℕ)) (r : Report) (f g : Found) → IsCopied old xs m r f
+    → IsCopied old ys m r g → (f ≡ g) × (xs ≡ ys)
 one_copied old xs ys m r f g (has_capability c e k) (has_capability d i j) = (e ∙ sym i, k ∙ sym j)
-one_copied old xs ys m r f g (has_capability c e k) (copied us h u i) = absurd (cap_no_copy m f.report.segment f.report.word us c h)
-one_copied old xs ys m r f g (copied ws h t e) (has_capability d i j) = absurd (cap_no_copy m g.report.segment g.report.word ws d h)
+one_copied old xs ys m r f g (has_capability c e k) (copied us h u i) = absurd
+    (cap_no_copy m f.report.segment f.report.word us c h)
+one_copied old xs ys m r f g (copied ws h t e) (has_capability d i j) = absurd
+    (cap_no_copy m g.report.segment g.report.word ws d h)
 one_copied old xs ys m r f g (copied ws h t e) (copied us j u i) =
     let same = one_copy m ws us h j in
     let one = one_text (plain_text ws) old f.answer g.answer f.count g.count xs ys t
@@ -52,7 +56,8 @@ pub one_copy_told : (l : CallLimits) (bs old : List ℕ) (a b : Answer) (n k : �
     → TellsCopy l bs old a n xs r → TellsCopy l bs old b k ys q → (a ≡ b) × (n ≡ k) × (xs ≡ ys) × (r ≡ q)
 one_copy_told l bs old a b n k xs ys r q (f, t, h, e) (g, u, i, j) =
     let same = one_whole_told {S = xs ≡ ys} (not (allows_trailing l)) l bs f g (λ x y. x ∙ sym y)
-    (λ m x y p s. one_judged {S = xs ≡ ys} (demands_of l) m l.charge l.depth x y (λ v w. v ∙ sym w) (λ z _ c d. one_copied old xs ys m z x y c d) p s)
+    (λ m x y p s. one_judged {S = xs ≡ ys} (demands_of l) m l.charge l.depth x y (λ v w. v ∙ sym w)
+    (λ z _ c d. one_copied old xs ys m z x y c d) p s)
     t u in
     let one = one_returned f g a b r q same.0 h i in
     (one.0, e ∙ (ap (λ (x : Found). x.count) same.0 ∙ sym j), same.1, one.1)
@@ -64,17 +69,24 @@ cap_named m None s w h k = absurd (h k.path k.level s w k.k k.index k.reached k.
 cap_named m (Some (t, x)) s w h k = h
 
 -- What is found of the capacity is what the call finds.
-pub copy_found : (m : List (List ℕ)) (old new : List ℕ) (report : Report) (told : Result ℕ RoomFault) (f : Found) → IsFirstCapOf m report.first_cap
+pub copy_found : (m : List (List ℕ)) (old new : List ℕ) (report : Report) (told : Result ℕ RoomFault) (f : Found)
+    → IsFirstCapOf m report.first_cap
     → TellsRoom m old told new → f ≡ size_found told report → IsCopied old new m report f
 copy_found m old new report told f first (room.has_capability s w k e g) i =
-    let same : f ≡ accepted_found answer.HasCapability 0 report = i ∙ ap (λ (t : Result ℕ RoomFault). size_found t report) e in
-    has_capability (subst (λ (z : Found). IsFirstCap m z.report.segment z.report.word) (sym same) (cap_named m report.first_cap s w first k)) same g
+    let same : f ≡ accepted_found answer.HasCapability 0 report = i
+    ∙ ap (λ (t : Result ℕ RoomFault). size_found t report) e in
+    has_capability (subst (λ (z : Found). IsFirstCap m z.report.segment z.report.word) (sym same)
+    (cap_named m report.first_cap s w first k)) same g
 copy_found m old new report told f first (room.no_room ws k few e g) i =
-    let same : f ≡ accepted_found answer.BufferTooSmall (length (plain_text ws)) report = i ∙ ap (λ (t : Result ℕ RoomFault). size_found t report) e in
-    copied ws k (too_small few (ap (λ (x : Found). x.answer) same) (ap (λ (x : Found). x.count) same) g) (ap (λ (x : Found). x.report) same)
+    let same : f ≡ accepted_found answer.BufferTooSmall (length (plain_text ws)) report = i
+    ∙ ap (λ (t : Result ℕ RoomFault). size_found t report) e in
+    copied ws k (too_small few (ap (λ (x : Found). x.answer) same) (ap (λ (x : Found). x.count) same) g)
+    (ap (λ (x : Found). x.report) same)
 copy_found m old new report told f first (room.written ws k few e g) i =
-    let same : f ≡ accepted_found answer.Good (length (plain_text ws)) report = i ∙ ap (λ (t : Result ℕ RoomFault). size_found t report) e in
-    copied ws k (written few (ap (λ (x : Found). x.answer) same) (ap (λ (x : Found). x.count) same) g) (ap (λ (x : Found). x.report) same)
+    let same : f ≡ accepted_found answer.Good (length (plain_text ws)) report = i
+    ∙ ap (λ (t : Result ℕ RoomFault). size_found t report) e in
+    copied ws k (written few (ap (λ (x : Found). x.answer) same) (ap (λ (x : Found). x.count) same) g)
+    (ap (λ (x : Found). x.report) same)
 
 -- how many bytes a text has, whether they fit or not
 text_told : (text old : List ℕ) (a : Answer) (n : ℕ) (new : List ℕ) → TellsText text old a n new → n ≡ length text
@@ -82,10 +94,12 @@ text_told text old a n new (too_small l e f g) = f
 text_told text old a n new (written l e f g) = f
 
 -- a copy has few bytes beside the charge
-few_copied : (demands : Demands) (old new : List ℕ) (m : List (List ℕ)) (w d : ℕ) (f : Found) → Copies old new demands m w d f
+few_copied : (demands : Demands) (old new : List ℕ) (m : List (List ℕ)) (w d : ℕ) (f : Found)
+    → Copies old new demands m w d f
     → f.count ≤ 8 * (f.report.charge + 1)
 few_copied demands old new m w d f (refused q h e k) = let none = ap (λ (x : Found). x.count) e in omega (arith, none)
-few_copied demands old new m w d f (accepted q h n (has_capability c e k)) = let none = ap (λ (x : Found). x.count) e in omega (arith, none)
+few_copied demands old new m w d f (accepted q h n (has_capability c e k)) = let none = ap (λ (x : Found). x.count) e
+    in omega (arith, none)
 few_copied demands old new m w d f (accepted q (t, h) n (copied ws j u i)) =
     let few = copy_charged m t q.charge q.depth ws h.denotes j in
     let long = text_told (plain_text ws) old f.answer f.count new u in
@@ -94,8 +108,10 @@ few_copied demands old new m w d f (accepted q (t, h) n (copied ws j u i)) =
 
 pub few_told : (whole : Bool) (demands : Demands) (l : CallLimits) (bs old new : List ℕ) (f : Found)
     → TellsWhole whole (new ≡ old) (Copies old new demands) l bs f → f.count ≤ 8 * (f.report.charge + 1)
-few_told whole demands l bs old new f (trailing m x y t h more e k) = let none = ap (λ (x : Found). x.count) e in omega (arith, none)
-few_told whole demands l bs old new f (tells none (without c h e k)) = let none = ap (λ (x : Found). x.count) e in omega (arith, none)
+few_told whole demands l bs old new f (trailing m x y t h more e k) = let none = ap (λ (x : Found). x.count) e in
+    omega (arith, none)
+few_told whole demands l bs old new f (tells none (without c h e k)) = let none = ap (λ (x : Found). x.count) e in
+    omega (arith, none)
 few_told whole demands l bs old new f (tells none (framed m x y g h p e)) =
     let few = few_copied demands old new m l.charge l.depth g p in
     let count = ap (λ (x : Found). x.count) e in
@@ -103,14 +119,18 @@ few_told whole demands l bs old new f (tells none (framed m x y g h p e)) =
     omega (arith, few, count, charge)
 
 -- and if it is unamplified, beside the words of the message
-short_copied : (demands : Demands) (old new : List ℕ) (m : List (List ℕ)) (w d : ℕ) (f : Found) → demands.unamplified ≡ true
+short_copied : (demands : Demands) (old new : List ℕ) (m : List (List ℕ)) (w d : ℕ) (f : Found)
+    → demands.unamplified ≡ true
     → Copies old new demands m w d f → f.count ≤ 8 * (sum (sizes_of m) + 4097)
-short_copied demands old new m w d f un (refused q h e k) = let none = ap (λ (x : Found). x.count) e in omega (arith, none)
-short_copied demands old new m w d f un (accepted q h n (has_capability c e k)) = let none = ap (λ (x : Found). x.count) e in omega (arith, none)
+short_copied demands old new m w d f un (refused q h e k) = let none = ap (λ (x : Found). x.count) e in omega
+    (arith, none)
+short_copied demands old new m w d f un (accepted q h n (has_capability c e k)) = let none = ap
+    (λ (x : Found). x.count) e in omega (arith, none)
 short_copied demands old new m w d f un (accepted q (t, h) n (copied ws j u i)) =
     let few = copy_charged m t q.charge q.depth ws h.denotes j in
     let long = text_told (plain_text ws) old f.answer f.count new u in
-    let within : q.charge ≤ unamplified m w = subst (λ (z : Bool). q.charge ≤ (if z then unamplified m w else w)) un h.within in
+    let within : q.charge ≤ unamplified m w = subst (λ (z : Bool). q.charge ≤ (if z then unamplified m w else w)) un
+    h.within in
     let most : q.charge ≤ sum (sizes_of m) + 4096 = ((within_both m w q.charge).0 within).1 in
     omega (arith, few, long, length_plain ws, most)
 
@@ -124,8 +144,10 @@ frame_words l bs frame segments m h =
 
 pub short_told : (whole : Bool) (l : CallLimits) (bs old new : List ℕ) (f : Found) → allows_amplified l ≡ false
     → TellsWhole whole (new ≡ old) (Copies old new (demands_of l)) l bs f → f.count ≤ f.report.length + 8 * 4097
-short_told whole l bs old new f un (trailing m x y t h more e k) = let none = ap (λ (x : Found). x.count) e in omega (arith, none)
-short_told whole l bs old new f un (tells none (without c h e k)) = let none = ap (λ (x : Found). x.count) e in omega (arith, none)
+short_told whole l bs old new f un (trailing m x y t h more e k) = let none = ap (λ (x : Found). x.count) e in omega
+    (arith, none)
+short_told whole l bs old new f un (tells none (without c h e k)) = let none = ap (λ (x : Found). x.count) e in omega
+    (arith, none)
 short_told whole l bs old new f un (tells none (framed m x y g h p e)) =
     let short = short_copied (demands_of l) old new m l.charge l.depth g (ap not un) p in
     let count = ap (λ (x : Found). x.count) e in

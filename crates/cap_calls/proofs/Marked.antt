@@ -1,5 +1,6 @@
 -- The bytes and the capacity decide what the call that vets exclusively finds.
-use Rattle.std.proofs.Common.{ℕ, List, ◌≡◌, ◌∙◌, ◌<◌, ◌≤◌, ◌+◌, ◌/◌, ap, ap₂, subst, sym, drop, length, length-append, arith, inl, inr}
+use Rattle.std.proofs.Common.{ℕ, List, ◌≡◌, ◌∙◌, ◌<◌, ◌≤◌, ◌+◌, ◌/◌, ap, ap₂, subst, sym, drop, length, length-append}
+use Rattle.std.proofs.Common.{arith, inl, inr}
 use Rattle.std.specs.Prelude.{Bool, not, ⊤}
 use Rattle.cap_spec.specs.Frames.{joined}
 use Rattle.cap_spec.proofs.Disjoint.Overlaps.{none_of_disjoint, one_overlap}
@@ -12,7 +13,8 @@ use Rattle.cap_vet.specs.declared.exclusive_room.ExclusiveFault.{ExclusiveFault}
 use Rattle.cap_vet.specs.declared.exclusive_room.ExclusiveFault.TheVariants.{Refused, NoRoom, Overlap}
 use Rattle.cap_vet.specs.declared.report.Report.{Report}
 use Rattle.cap_vet.proofs.OneReport.{not_both, one_report}
-use Rattle.cap_calls.specs.CallFindings.{TellsWhole, accepted, accepted_found, framed, refused, tells, trailing, without}
+use Rattle.cap_calls.specs.CallFindings.{TellsWhole, accepted, accepted_found, framed, refused, tells, trailing}
+use Rattle.cap_calls.specs.CallFindings.{without}
 use Rattle.cap_calls.specs.CallFlags.{allows_trailing, demands_of}
 use Rattle.cap_calls.specs.CallFrames.{HasFrame}
 use Rattle.cap_calls.specs.ExclusiveCalls.{IsMarked, KeepsMarks, Marks, MarksIn, TellsExclusive, exclusive, fault_found}
@@ -25,15 +27,19 @@ use Rattle.cap_calls.specs.declared.report.CallReport.{CallReport}
 use Rattle.cap_calls.proofs.Answers.{one_judged, one_returned, one_whole_told}
 
 -- of an accepted message
-one_marked : (size : ℕ) (m : List (List ℕ)) (r : Report) (f g : Found) → IsMarked size m r f → IsMarked size m r g → f ≡ g
+one_marked : (size : ℕ) (m : List (List ℕ)) (r : Report) (f g : Found) → IsMarked size m r f → IsMarked size m r g
+    → f ≡ g
 one_marked size m r f g (too_small few e) (too_small less i) = e ∙ sym i
 one_marked size m r f g (too_small few e) (overlap s w n enough h i) = absurd (omega (arith, few, enough))
 one_marked size m r f g (too_small few e) (exclusive enough j i) = absurd (omega (arith, few, enough))
 one_marked size m r f g (overlap s w n enough h e) (too_small few i) = absurd (omega (arith, few, enough))
-one_marked size m r f g (overlap s w n enough h e) (overlap t v k also j i) = (let same = one_overlap m s w n t v k h j in cc)
-one_marked size m r f g (overlap s w n enough h e) (exclusive also j i) = absurd (none_of_disjoint m j h.path h.overlaps)
+one_marked size m r f g (overlap s w n enough h e) (overlap t v k also j i) =
+    (let same = one_overlap m s w n t v k h j in cc)
+one_marked size m r f g (overlap s w n enough h e) (exclusive also j i) = absurd
+    (none_of_disjoint m j h.path h.overlaps)
 one_marked size m r f g (exclusive enough j e) (too_small few i) = absurd (omega (arith, few, enough))
-one_marked size m r f g (exclusive enough j e) (overlap s w n also h i) = absurd (none_of_disjoint m j h.path h.overlaps)
+one_marked size m r f g (exclusive enough j e) (overlap s w n also h i) = absurd
+    (none_of_disjoint m j h.path h.overlaps)
 one_marked size m r f g (exclusive enough j e) (exclusive also k i) = e ∙ sym i
 
 -- The call answers and reports one thing.
@@ -41,28 +47,36 @@ pub one_exclusive_told : (l : CallLimits) (bs : List ℕ) (size : ℕ) (a b : An
     → TellsExclusive l bs size a n r → TellsExclusive l bs size b k q → (a ≡ b) × (n ≡ k) × (r ≡ q)
 one_exclusive_told l bs size a b n k r q (f, t, h, e) (g, u, i, j) =
     let same = (one_whole_told {S = ⊤} (not (allows_trailing l)) l bs f g (λ _ _. tt)
-    (λ m x y p s. one_judged {S = ⊤} (demands_of l) m l.charge l.depth x y (λ _ _. tt) (λ z _ c d. (one_marked size m z x y c d, tt)) p s) t u).0 in
+    (λ m x y p s. one_judged {S = ⊤} (demands_of l) m l.charge l.depth x y (λ _ _. tt)
+    (λ z _ c d. (one_marked size m z x y c d, tt)) p s) t u).0 in
     let one = one_returned f g a b r q same h i in
     (one.0, e ∙ (ap (λ (x : Found). x.count) same ∙ sym j), one.1)
 
 -- the marks of a message take few numbers beside the bytes of its frame
-few_marks : (l : CallLimits) (bs : List ℕ) (frame segments : ℕ) (m : List (List ℕ)) → HasFrame l bs frame segments m → marks_of m ≤ frame / 512 + 1
+few_marks : (l : CallLimits) (bs : List ℕ) (frame segments : ℕ) (m : List (List ℕ)) → HasFrame l bs frame segments m
+    → marks_of m ≤ frame / 512 + 1
 few_marks l bs frame segments m h =
     let own = h.front.own in
     let table = h.front.frames.table in
     let words = ap length h.front.frames.whole ∙ length-append table (joined m) in
     omega (arith, h.front.long, words, length_joined m)
 
-marked_count : (size : ℕ) (demands : Demands) (m : List (List ℕ)) (w d : ℕ) (f : Found) → Marks size demands m w d f → f.count ≤ marks_of m
+marked_count : (size : ℕ) (demands : Demands) (m : List (List ℕ)) (w d : ℕ) (f : Found) → Marks size demands m w d f
+    → f.count ≤ marks_of m
 marked_count size demands m w d f (refused q h e k) = let same = ap (λ (x : Found). x.count) e in omega (arith, same)
-marked_count size demands m w d f (accepted r h n (too_small few e)) = let same = ap (λ (x : Found). x.count) e in omega (arith, same)
-marked_count size demands m w d f (accepted r h n (overlap s v k enough j e)) = let same = ap (λ (x : Found). x.count) e in omega (arith, same)
-marked_count size demands m w d f (accepted r h n (exclusive enough j e)) = let same = ap (λ (x : Found). x.count) e in omega (arith, same)
+marked_count size demands m w d f (accepted r h n (too_small few e)) = let same = ap (λ (x : Found). x.count) e in
+    omega (arith, same)
+marked_count size demands m w d f (accepted r h n (overlap s v k enough j e)) = let same = ap (λ (x : Found). x.count)
+    e in omega (arith, same)
+marked_count size demands m w d f (accepted r h n (exclusive enough j e)) = let same = ap (λ (x : Found). x.count) e
+    in omega (arith, same)
 
 pub few_required : (whole : Bool) (l : CallLimits) (bs : List ℕ) (size : ℕ) (demands : Demands) (f : Found)
     → TellsWhole whole ⊤ (Marks size demands) l bs f → f.count ≤ f.report.length / 512 + 1
-few_required whole l bs size demands f (trailing m x y t h more e k) = let none = ap (λ (z : Found). z.count) e in omega (arith, none)
-few_required whole l bs size demands f (tells none (without c h e k)) = let none = ap (λ (z : Found). z.count) e in omega (arith, none)
+few_required whole l bs size demands f (trailing m x y t h more e k) = let none = ap (λ (z : Found). z.count) e in
+    omega (arith, none)
+few_required whole l bs size demands f (tells none (without c h e k)) = let none = ap (λ (z : Found). z.count) e in
+    omega (arith, none)
 few_required whole l bs size demands f (tells none (framed m x y g h p e)) =
     let few = few_marks l bs x y m h in
     let some = marked_count size demands m l.charge l.depth g p in
@@ -73,8 +87,10 @@ few_required whole l bs size demands f (tells none (framed m x y g h p e)) =
 -- What was found of the marks holds of all the bytes.
 pub marks_kept : (whole : Bool) (demands : Demands) (l : CallLimits) (bs old new : List ℕ) (f : Found)
     → TellsWhole whole (new ≡ old) (MarksIn old new demands) l bs f → KeepsMarks old new f
-marks_kept whole demands l bs old new f (trailing m x y t h more e k) = record { rest = ap (drop f.count) k; kept = inr (inr k) }
-marks_kept whole demands l bs old new f (tells none (without c h e k)) = record { rest = ap (drop f.count) k; kept = inr (inr k) }
+marks_kept whole demands l bs old new f (trailing m x y t h more e k) = record
+    { rest = ap (drop f.count) k; kept = inr (inr k) }
+marks_kept whole demands l bs old new f (tells none (without c h e k)) = record
+    { rest = ap (drop f.count) k; kept = inr (inr k) }
 marks_kept whole demands l bs old new f (tells none (framed m x y g h p e)) =
     let count : f.count ≡ g.count = ap (λ (z : Found). z.count) e in
     let same : f.answer ≡ g.answer = ap (λ (z : Found). z.answer) e in
@@ -90,12 +106,17 @@ marked_fault size m r (NoRoom n q) f v h e =
 marked_fault size m r (Overlap s w n) f v h e = overlap s w n h.2 h.3 e
 
 -- and of a fault, of which nothing beside the first numbers is changed
-pub fault_kept : (old new : List ℕ) (m : List (List ℕ)) (fault : ExclusiveFault) (f : Found) → f ≡ fault_found (marks_of m) fault → KeepsRoom fault old new
+pub fault_kept : (old new : List ℕ) (m : List (List ℕ)) (fault : ExclusiveFault) (f : Found)
+    → f ≡ fault_found (marks_of m) fault → KeepsRoom fault old new
     → drop (marks_of m) new ≡ drop (marks_of m) old → KeepsMarks old new f
 fault_kept old new m (Refused q) f e k rest = record { rest = ap (drop f.count) k; kept = inr (inr k) }
 fault_kept old new m (NoRoom n q) f e k rest = record { rest = ap (drop f.count) k; kept = inr (inr k) }
 fault_kept old new m (Overlap s w n) f e k rest =
-    record { rest = (let same = ap (λ (z : Found). z.count) e in rw same rest); kept = inr (inl (ap (λ (z : Found). z.answer) e)) }
+    record {
+      rest = (let same = ap (λ (z : Found). z.count) e in rw same rest);
+      kept = inr
+          (inl (ap (λ (z : Found). z.answer) e));
+    }
 
 -- Nothing is changed of a message that isn't accepted.
 pub refused_kept : (old new : List ℕ) (f : Found) → new ≡ old → KeepsMarks old new f

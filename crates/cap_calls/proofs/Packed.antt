@@ -10,7 +10,8 @@ use Rattle.cap_calls.specs.declared.answer.Answer.TheVariants.{Good, BufferTooSm
 use Rattle.cap_calls.proofs.Texts.{one_text}
 
 -- Bytes and a buffer allow one answer.
-pub one_pack_told : (bs old : List ℕ) (a b : Answer) (n k : ℕ) (xs ys : List ℕ) → TellsPack bs old a n xs → TellsPack bs old b k ys →
+pub one_pack_told : (bs old : List ℕ) (a b : Answer) (n k : ℕ) (xs ys : List ℕ) → TellsPack bs old a n xs
+    → TellsPack bs old b k ys →
     (a ≡ b) × (n ≡ k) × (xs ≡ ys)
 one_pack_told bs old a b n k xs ys (cut c e f g) (cut d h i j) = (e ∙ sym h, f ∙ sym i, g ∙ sym j)
 one_pack_told bs old a b n k xs ys (whole c t) (whole d u) = one_text (pack_text (plain_words bs)) old a b n k xs ys t u
@@ -25,12 +26,15 @@ pub whole_by_length : (bs : List ℕ) → length bs % 8 ≡ 0 → plain_is_cut b
 whole_by_length bs none = (plain_end 0 bs (omega arith)).whole none
 
 -- The text is at the start of the buffer, and the bytes after it stay.
-pub pack_written : (bs old new : List ℕ) (n : ℕ) → length bs % 8 ≡ 0 → n ≡ length (pack_text (plain_words bs)) → n ≤ length old →
+pub pack_written : (bs old new : List ℕ) (n : ℕ) → length bs % 8 ≡ 0 → n ≡ length (pack_text (plain_words bs))
+    → n ≤ length old →
     new ≡ pack_text (plain_words bs) ++ drop n old → TellsPack bs old Good n new
 pack_written bs old new n w e r h =
-    whole (whole_by_length bs w) (written (omega (arith, e, r)) refl e (h ∙ ap (λ (k : ℕ). pack_text (plain_words bs) ++ drop k old) e))
+    whole (whole_by_length bs w)
+    (written (omega (arith, e, r)) refl e (h ∙ ap (λ (k : ℕ). pack_text (plain_words bs) ++ drop k old) e))
 
 -- Or it does not fit.
-pub pack_too_small : (bs old new : List ℕ) (n : ℕ) → length bs % 8 ≡ 0 → n ≡ length (pack_text (plain_words bs)) → length old < n → new ≡ old →
+pub pack_too_small : (bs old new : List ℕ) (n : ℕ) → length bs % 8 ≡ 0 → n ≡ length (pack_text (plain_words bs))
+    → length old < n → new ≡ old →
     TellsPack bs old BufferTooSmall n new
 pack_too_small bs old new n w e r h = whole (whole_by_length bs w) (too_small (omega (arith, e, r)) refl e h)

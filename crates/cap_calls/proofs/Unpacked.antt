@@ -1,5 +1,6 @@
 -- The group in front of packed bytes, by its kind.
-use Rattle.std.proofs.Common.{ℕ, List, [], ◌∷◌, ◌++◌, ◌≡◌, ◌≢◌, ◌∙◌, ◌<◌, ◌≤◌, ◌+◌, ◌*◌, ◌/◌, ap, sym, length, take, drop, arith}
+use Rattle.std.proofs.Common.{ℕ, List, [], ◌∷◌, ◌++◌, ◌≡◌, ◌≢◌, ◌∙◌, ◌<◌, ◌≤◌, ◌+◌, ◌*◌, ◌/◌, ap, sym, length, take}
+use Rattle.std.proofs.Common.{drop, arith}
 use Rattle.std.proofs.lemmas.List.{drop-drop, length-append, length-drop, length-replicate, length-take-le}
 use Rattle.std.specs.Prelude.{slice_index}
 use lib.Count.{ones}
@@ -17,14 +18,16 @@ zeros_length (tag ∷ rest) l e = let t : tag ≡ 0 = e in ap (λ (x : ℕ). gro
 pub zeros_words : (bs : List ℕ) → 2 ≤ length bs → slice_index bs 0 ≡ 0 → length (group_words bs) ≡ 1 + slice_index bs 1
 zeros_words [] l e = absurd (omega (arith, l))
 zeros_words (tag ∷ rest) l e =
-    let t : tag ≡ 0 = e in ap (λ (x : ℕ). length (group_words (x ∷ rest))) t ∙ length-replicate (1 + slice_index rest 0) 0
+    let t : tag ≡ 0 = e in ap (λ (x : ℕ). length (group_words (x ∷ rest))) t
+    ∙ length-replicate (1 + slice_index rest 0) 0
 
 -- a run of words as they are has them behind the tag, with how many follow the first behind that one
 pub plain_length : (bs : List ℕ) → 0 < length bs → slice_index bs 0 ≡ 255 → group_length bs ≡ 10 + 8 * slice_index bs 9
 plain_length [] l e = absurd (omega (arith, l))
 plain_length (tag ∷ rest) l e = let t : tag ≡ 255 = e in ap (λ (x : ℕ). group_length (x ∷ rest)) t
 
-pub plain_count : (bs : List ℕ) → slice_index bs 0 ≡ 255 → 10 + 8 * slice_index bs 9 ≤ length bs → length (group_words bs) ≡ 1 + slice_index bs 9
+pub plain_count : (bs : List ℕ) → slice_index bs 0 ≡ 255 → 10 + 8 * slice_index bs 9 ≤ length bs
+    → length (group_words bs) ≡ 1 + slice_index bs 9
 plain_count [] e l = absurd (omega (arith, l))
 plain_count (tag ∷ rest) e l =
     let t : tag ≡ 255 = e in
@@ -32,35 +35,46 @@ plain_count (tag ∷ rest) e l =
     let room : 9 + 8 * more ≤ length rest = omega (arith, l) in
     let all : List ℕ = take 8 rest ++ take (8 * more) (drop 9 rest) in
     let first : length (take 8 rest) ≡ 8 = length-take-le 8 rest (omega (arith, room)) in
-    let others : length (take (8 * more) (drop 9 rest)) ≡ 8 * more = length-take-le (8 * more) (drop 9 rest) (omega (arith, length-drop 9 rest, room)) in
-    let both : length all ≡ length (take 8 rest) + length (take (8 * more) (drop 9 rest)) = length-append (take 8 rest) (take (8 * more) (drop 9 rest)) in
+    let others : length (take (8 * more) (drop 9 rest)) ≡ 8 * more = length-take-le (8 * more) (drop 9 rest)
+    (omega (arith, length-drop 9 rest, room)) in
+    let both : length all ≡ length (take 8 rest) + length (take (8 * more) (drop 9 rest)) = length-append
+    (take 8 rest) (take (8 * more) (drop 9 rest)) in
     let exact : length (plain_words all) ≡ length all / 8 = words_exact all in
     let count : length (plain_words all) ≡ 1 + more = omega (arith, first, others, both, exact) in
     ap (λ (x : ℕ). length (group_words (x ∷ rest))) t ∙ count
 
 -- any other group has the bytes that its tag marks, and is one word
-pub marked_length : (bs : List ℕ) → 0 < length bs → slice_index bs 0 < 256 → slice_index bs 0 ≢ 0 → slice_index bs 0 ≢ 255 →
+pub marked_length : (bs : List ℕ) → 0 < length bs → slice_index bs 0 < 256 → slice_index bs 0 ≢ 0
+    → slice_index bs 0 ≢ 255 →
     group_length bs ≡ 1 + ones (slice_index bs 0)
 marked_length [] l p z f = absurd (omega (arith, l))
 marked_length (tag ∷ rest) l p z f =
     let same : ones tag ≡ marks 8 tag = head_rest-ones tag p z f ∙ head_rest-marked tag z f in
     length_marked tag rest (omega (arith, z)) (omega (arith, p, f)) ∙ ap (λ (n : ℕ). 1 + n) (sym same)
 
-pub marked_words : (bs : List ℕ) → 0 < length bs → slice_index bs 0 < 256 → slice_index bs 0 ≢ 0 → slice_index bs 0 ≢ 255 → length (group_words bs) ≡ 1
+pub marked_words : (bs : List ℕ) → 0 < length bs → slice_index bs 0 < 256 → slice_index bs 0 ≢ 0
+    → slice_index bs 0 ≢ 255 → length (group_words bs) ≡ 1
 marked_words [] l p z f = absurd (omega (arith, l))
 marked_words (tag ∷ rest) l p z f = ap length (words_marked tag rest (omega (arith, z)) (omega (arith, p, f)))
 
 -- the groups behind the one in front go on with the words and with the end
-pub goes_on : (bs front : List ℕ) (at n k words : ℕ) → front ≡ drop at bs → 0 < length front → n ≡ group_length front → n ≤ length front →
+pub goes_on : (bs front : List ℕ) (at n k words : ℕ) → front ≡ drop at bs → 0 < length front → n ≡ group_length front
+    → n ≤ length front →
     k ≡ length (group_words front)
     → length (unpacked bs) ≡ words + length (unpacked (drop at bs)) → packed_is_cut bs ≡ packed_is_cut (drop at bs)
-    → (length (unpacked bs) ≡ words + k + length (unpacked (drop (at + n) bs))) × (packed_is_cut bs ≡ packed_is_cut (drop (at + n) bs))
+    → (length (unpacked bs) ≡ words + k + length (unpacked (drop (at + n) bs)))
+    × (packed_is_cut bs ≡ packed_is_cut (drop (at + n) bs))
 goes_on bs front at n k words e some len inside count counted ends =
     let fits : group_length front ≤ length front = omega (arith, len, inside) in
     let rest : drop (group_length front) front ≡ drop (at + n) bs =
     ap (λ (i : ℕ). drop i front) (sym len) ∙ (ap (drop n) e ∙ drop-drop n at bs) in
     let words_here : length (unpacked front) ≡ length (group_words front) + length (unpacked (drop (at + n) bs)) =
-    ap length (unpacked_front front some fits) ∙ (length-append (group_words front) (unpacked (drop (group_length front) front))
+    ap length (unpacked_front front some fits)
+    ∙ (length-append (group_words front) (unpacked (drop (group_length front) front))
     ∙ ap (λ xs. length (group_words front) + length (unpacked xs)) rest) in
-    let cut_here : packed_is_cut front ≡ packed_is_cut (drop (at + n) bs) = cut_front front some fits ∙ ap packed_is_cut rest in
-    (omega (arith, counted, ap (λ xs. length (unpacked xs)) e, words_here, count), ends ∙ (ap packed_is_cut (sym e) ∙ cut_here))
+    let cut_here : packed_is_cut front ≡ packed_is_cut (drop (at + n) bs) = cut_front front some fits
+    ∙ ap packed_is_cut rest in (
+      omega (arith, counted, ap (λ xs. length (unpacked xs)) e, words_here, count),
+      ends
+          ∙ (ap packed_is_cut (sym e) ∙ cut_here),
+    )

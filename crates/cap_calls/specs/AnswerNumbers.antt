@@ -7,8 +7,10 @@ use Rattle.cap_spec.specs.declared.Reason.TheVariants as reason
 use Rattle.cap_spec.specs.declared.StrictRefusal.{StrictRefusal}
 use Rattle.cap_spec.specs.declared.StrictRefusal.TheVariants as strict
 use Rattle.cap_calls.specs.declared.answer.Answer.{Answer}
-use Rattle.cap_calls.specs.declared.answer.Answer.TheVariants.{Good, NoMessage, TooManySegments, TooLarge, Truncated, Trailing}
-use Rattle.cap_calls.specs.declared.answer.Answer.TheVariants.{BadLimits, BufferTooSmall, NotCanonical, HasCapability, Overlap}
+use Rattle.cap_calls.specs.declared.answer.Answer.TheVariants.{Good, NoMessage, TooManySegments, TooLarge, Truncated}
+use Rattle.cap_calls.specs.declared.answer.Answer.TheVariants.{Trailing}
+use Rattle.cap_calls.specs.declared.answer.Answer.TheVariants.{BadLimits, BufferTooSmall, NotCanonical, HasCapability}
+use Rattle.cap_calls.specs.declared.answer.Answer.TheVariants.{Overlap}
 use Rattle.cap_calls.specs.declared.answer.Answer.TheVariants.{NullPad, EmptySegment, CapabilityPad, ManySegments}
 use Rattle.cap_calls.specs.declared.answer.Answer.TheVariants.{NoRoot, Reserved, SegmentMissing, PadOutside, PadIsFar}
 use Rattle.cap_calls.specs.declared.answer.Answer.TheVariants.{PadNotFar, TagKind, TagOffset, OutOfSegment}

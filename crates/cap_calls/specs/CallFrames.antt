@@ -29,4 +29,5 @@ pub record HasFrame (l : CallLimits) (bytes : List ℕ) (frame segments : ℕ) (
 
 -- The bytes frame a message within the limits, and more bytes follow it.
 abbrev pub HasTrailing : CallLimits → List ℕ → Type 0
-HasTrailing l bytes = (m : List (List ℕ)) × (frame segments : ℕ) × HasFrame l bytes frame segments m × (frame < length bytes)
+HasTrailing l bytes = (m : List (List ℕ)) × (frame segments : ℕ) × HasFrame l bytes frame segments m
+    × (frame < length bytes)

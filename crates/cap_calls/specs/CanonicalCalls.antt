@@ -22,10 +22,12 @@ use Rattle.cap_calls.specs.declared.report.CallReport.{CallReport}
 -- Of a message that is accepted, for a buffer that held `old`, and then holds `new`.
 pub data IsCopied (old new : List ℕ) (m : List (List ℕ)) (report : Report) (f : Found) : Type 0 where
   -- a capability is reached, the first of which the report names
-  has_capability : IsFirstCap m f.report.segment f.report.word → f ≡ accepted_found answer.HasCapability 0 report → new ≡ old
+  has_capability : IsFirstCap m f.report.segment f.report.word → f ≡ accepted_found answer.HasCapability 0 report
+      → new ≡ old
       → IsCopied old new m report f
   -- there is a copy, which is written if the buffer has the capacity
-  copied : (words : List ℕ) → HasCopy m words → TellsText (plain_text words) old f.answer f.count new → f.report ≡ accepted_report report
+  copied : (words : List ℕ) → HasCopy m words → TellsText (plain_text words) old f.answer f.count new
+      → f.report ≡ accepted_report report
       → IsCopied old new m report f
 
 abbrev pub Copies : List ℕ → List ℕ → Demands → List (List ℕ) → ℕ → ℕ → Found → Type 0

@@ -17,7 +17,8 @@ pub enum Answer {
     TooManySegments = 2,
     /// The table's sizes sum to more words than the limit, or there are too many packed bytes.
     TooLarge = 3,
-    /// The bytes end inside the message, packed ones inside a group, or those of words inside a word.
+    /// The bytes end inside the message, packed ones inside a group, or those of words inside a
+    /// word.
     Truncated = 4,
     /// The bytes are a message and more bytes, which the call doesn't allow.
     Trailing = 5,

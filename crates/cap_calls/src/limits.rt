@@ -6,8 +6,8 @@ use cap_vet::Demands;
 const ALL_FLAGS: u32 = 7;
 
 /// The limits of a call, laid out as C has them. Any numbers make one. A call returns
-/// [`crate::Answer::BadLimits`] for a number above its maximum, an unknown flag, or a reserved field
-/// that isn't 0.
+/// [`crate::Answer::BadLimits`] for a number above its maximum, an unknown flag, or a reserved
+/// field that isn't 0.
 #[repr(C)]
 #[derive(Clone, Copy, Debug, PartialEq, Eq)]
 pub struct CallLimits {

@@ -20,8 +20,8 @@ pub(crate) trait Call {
     /// An item of the call's output.
     type Item;
 
-    // What it finds of a message, under demands and within limits of its charge and its depth, if its
-    // output held the first items before, and the second after.
+    // What it finds of a message, under demands and within limits of its charge and its depth, if
+    // its output held the first items before, and the second after.
     ghost finds: { Self → Demands → List (List ℕ) → ℕ → ℕ → List Self.Item → Found →
         List Self.Item → Type 0 };
 

@@ -43,9 +43,9 @@ pub extern "C" fn capvet_frame(bytes: &[u8], limits: &CallLimits, report: &mut C
     frame(bytes, limits, report).number()
 }
 
-/// Vets the message that `bytes` are. `CAPVET_OK`: its root denotes a finite tree that is inside its
-/// segments and within the limits. It is also strict, unamplified and the whole of `bytes`, each
-/// unless a flag allows more. Every such message is accepted. The result is the number of what
+/// Vets the message that `bytes` are. `CAPVET_OK`: its root denotes a finite tree that is inside
+/// its segments and within the limits. It is also strict, unamplified and the whole of `bytes`,
+/// each unless a flag allows more. Every such message is accepted. The result is the number of what
 /// [`vet`] returns. The report is written whole. Allocates nothing.
 #[unsafe(no_mangle)]
 pub extern "C" fn capvet_vet(bytes: &[u8], limits: &CallLimits, report: &mut CallReport) -> u32
@@ -59,11 +59,11 @@ pub extern "C" fn capvet_vet(bytes: &[u8], limits: &CallLimits, report: &mut Cal
 }
 
 /// Vets the message as [`capvet_vet`] does, and also refuses one that uses a word twice. `marks` is
-/// a buffer of numbers, not bytes, and may hold anything before. For an accepted message `required` is
-/// how many numbers the call needs, whatever the buffer has. For any other message it is 0.
+/// a buffer of numbers, not bytes, and may hold anything before. For an accepted message `required`
+/// is how many numbers the call needs, whatever the buffer has. For any other message it is 0.
 ///
-/// With `CAPVET_OK` and `CAPVET_OVERLAP` the first `required` numbers hold marks, and the others are
-/// unchanged. With any other result all are unchanged. The result is the number of what
+/// With `CAPVET_OK` and `CAPVET_OVERLAP` the first `required` numbers hold marks, and the others
+/// are unchanged. With any other result all are unchanged. The result is the number of what
 /// [`vet_exclusive`] returns. The report is written whole. Allocates nothing.
 #[unsafe(no_mangle)]
 pub extern "C" fn capvet_vet_exclusive(

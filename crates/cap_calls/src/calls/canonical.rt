@@ -23,11 +23,12 @@ use cap_vet::{Demands, Limits, Report, vet_with};
 /// - the answers of [`crate::vet`], if the message isn't accepted; `required` is 0;
 /// - [`Answer::HasCapability`], if a capability is reached, so that there is no copy; the report
 ///   names the first one; `required` is 0;
-/// - [`Answer::BufferTooSmall`], if `out` is too small; `required` is the length of the copy in bytes;
+/// - [`Answer::BufferTooSmall`], if `out` is too small; `required` is the length of the copy in
+///   bytes;
 /// - [`Answer::Good`], and `required` is how many bytes were written.
 ///
-/// Without [`Answer::Good`], `out` is unchanged; with it, the bytes after the copy are. The report is
-/// written whole.
+/// Without [`Answer::Good`], `out` is unchanged; with it, the bytes after the copy are. The report
+/// is written whole.
 pub fn canonical(
     bytes: &[u8],
     limits: &CallLimits,

@@ -19,8 +19,8 @@ use cap_vet::{Demands, Limits, vet_with};
 /// (encoding: Canonicalization). Allocates nothing, and makes no copy.
 ///
 /// It returns [`Answer::Good`] if so, and [`Answer::NotCanonical`] for another accepted message,
-/// also for one with a capability. Otherwise it returns what [`crate::vet`] does without flag 1: bytes
-/// after the message always give [`Answer::Trailing`]. The report is written whole.
+/// also for one with a capability. Otherwise it returns what [`crate::vet`] does without flag 1:
+/// bytes after the message always give [`Answer::Trailing`]. The report is written whole.
 pub fn is_canonical(bytes: &[u8], limits: &CallLimits, report: &mut CallReport) -> Answer
     ensures tells { TellsCheck limits.now bytes.now result report.new }
     // The bytes allow no other result.

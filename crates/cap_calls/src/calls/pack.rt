@@ -12,8 +12,8 @@ use cap_pack::pack_into;
 ///
 /// The first of these that applies is returned:
 /// - [`Answer::Truncated`], if the bytes end inside a word; `required` is 0;
-/// - [`Answer::BufferTooSmall`], if `out` is too small; `required` is then how many bytes the packed text
-///   has;
+/// - [`Answer::BufferTooSmall`], if `out` is too small; `required` is then how many bytes the
+///   packed text has;
 /// - [`Answer::Good`], and `required` is how many bytes were written.
 ///
 /// Without [`Answer::Good`], `out` is unchanged; with it, the bytes after the text are.

@@ -19,7 +19,8 @@ const MOST_PACKED: usize = 9007199254740992;
 /// The first of these that applies is returned:
 /// - [`Answer::TooLarge`], if there are more than 2^53 bytes; `required` is 0;
 /// - [`Answer::Truncated`], if they end inside a group; `required` is 0;
-/// - [`Answer::BufferTooSmall`], if `out` is too small; `required` is then how many bytes the words take;
+/// - [`Answer::BufferTooSmall`], if `out` is too small; `required` is then how many bytes the words
+///   take;
 /// - [`Answer::Good`], and `required` is how many bytes were written.
 ///
 /// Without [`Answer::Good`], `out` is unchanged; with it, the bytes after the words are.

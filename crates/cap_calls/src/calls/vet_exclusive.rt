@@ -16,19 +16,19 @@ use cap_spec::StrictRefusal;
 use cap_vet::{Demands, ExclusiveFault, Limits, marks_for, vet_with};
 
 /// Vets the message that bytes are as [`crate::vet`] does, and also refuses one that uses a word
-/// twice: by two pointers that paths reach, by one pointer, or by the root (profile). It marks a bit
-/// for each word in `marks`, which may hold anything before. Allocates nothing.
+/// twice: by two pointers that paths reach, by one pointer, or by the root (profile). It marks a
+/// bit for each word in `marks`, which may hold anything before. Allocates nothing.
 ///
 /// The first of these that applies is returned:
 /// - the answers of [`crate::vet`], if the message isn't accepted; `required` is 0;
-/// - [`Answer::BufferTooSmall`], if `marks` has fewer than `required` numbers; the report is that of
-///   [`crate::vet`];
+/// - [`Answer::BufferTooSmall`], if `marks` has fewer than `required` numbers; the report is that
+///   of [`crate::vet`];
 /// - [`Answer::Overlap`], if a word is used twice; the report names the first pointer in preorder
 ///   that uses one, and how many were checked;
 /// - [`Answer::Good`]; the report is that of [`crate::vet`].
 ///
-/// With the last two, the first `required` numbers hold marks and the others are unchanged. With any
-/// other answer all are unchanged. The report is written whole.
+/// With the last two, the first `required` numbers hold marks and the others are unchanged. With
+/// any other answer all are unchanged. The report is written whole.
 pub fn vet_exclusive(
     bytes: &[u8],
     limits: &CallLimits,

@@ -16,11 +16,13 @@ more_told true n k e h = (refl, e)
 more_told false n k e h = absurd (omega (arith, e, h))
 
 -- And it is 0 only if none follow.
-none_told : (whole : Bool) (n long frame : ℕ) → n ≡ (if whole then long - frame else 0) → n ≤ 0 → whole ≡ true → ¬ (frame < long)
+none_told : (whole : Bool) (n long frame : ℕ) → n ≡ (if whole then long - frame else 0) → n ≤ 0 → whole ≡ true
+    → ¬ (frame < long)
 none_told true n long frame e h t = λ less. omega (arith, e, h, less)
 none_told false n long frame e h t = absurd (false≢true t)
 
-none_trailing : (l : CallLimits) (bs : List ℕ) (frame segments : ℕ) (m : List (List ℕ)) → HasFrame l bs frame segments m → ¬ (frame < length bs)
+none_trailing : (l : CallLimits) (bs : List ℕ) (frame segments : ℕ) (m : List (List ℕ))
+    → HasFrame l bs frame segments m → ¬ (frame < length bs)
     → ¬ HasTrailing l bs
 none_trailing l bs frame segments m h none (n, x, y, k, less) =
     none (subst (λ (z : ℕ). z < length bs) (one_extent l bs x frame y segments n m k h).0 less)
@@ -31,8 +33,10 @@ returns-then-more-gt0 g c =
     let m = framed_segments f in
     let told = more_told c.args.whole c.bytes_after-more.result _ c.bytes_after-more.ensures c.if-more-gt0.true in
     trailing m (frame_bytes f) (length m) told.0
-    (record { are_limits = c.in-Ok.ensures.limits.0; front = c.in-Ok.ensures.front; count = refl }) (omega (arith, c.if-more-gt0.true, told.1))
-    (c.framed.ensures ∙ ap (framed_found (frame_bytes f) (length m)) (c.trailing.ensures ∙ ap trailing_found told.1)) refl
+    (record { are_limits = c.in-Ok.ensures.limits.0; front = c.in-Ok.ensures.front; count = refl })
+    (omega (arith, c.if-more-gt0.true, told.1))
+    (c.framed.ensures ∙ ap (framed_found (frame_bytes f) (length m)) (c.trailing.ensures ∙ ap trailing_found told.1))
+    refl
 
 pub returns-else-more-gt0 : goal.returns-else-more-gt0
 returns-else-more-gt0 g c =
@@ -43,10 +47,13 @@ returns-else-more-gt0 g c =
     let finds = g.C.Call.finds c.args.call.now in
     let frame : HasFrame l c.args.bytes.now (frame_bytes f) (length m) m =
     record { are_limits = limits.0; front = c.in-Ok.ensures.front; count = refl } in
-    let found = subst (λ w. finds c.demands.result m w l.depth c.args.out.now c.over_framed.result c.over_framed.new.out) limits.1
-    (subst (λ d. finds c.demands.result m (words_of c.in-Ok.walk) d c.args.out.now c.over_framed.result c.over_framed.new.out) limits.2
+    let found = subst (λ w. finds c.demands.result m w l.depth c.args.out.now c.over_framed.result
+    c.over_framed.new.out) limits.1
+    (subst (λ d. finds c.demands.result m (words_of c.in-Ok.walk) d c.args.out.now c.over_framed.result
+    c.over_framed.new.out) limits.2
     c.over_framed.ensures) in
-    let asked = subst (λ d. finds d m l.charge l.depth c.args.out.now c.over_framed.result c.over_framed.new.out) c.demands.ensures found in
+    let asked = subst (λ d. finds d m l.charge l.depth c.args.out.now c.over_framed.result c.over_framed.new.out)
+    c.demands.ensures found in
     tells
     (λ whole. none_trailing l c.args.bytes.now (frame_bytes f) (length m) m frame
     (none_told c.args.whole c.bytes_after-more.result _ _ c.bytes_after-more.ensures c.if-more-gt0.false whole))
@@ -54,5 +61,6 @@ returns-else-more-gt0 g c =
 
 pub returns-in-Err : goal.returns-in-Err
 returns-in-Err g c =
-    tells (λ _ (m, x, y, h, more). no_cause c.args.limits.now c.args.bytes.now c.in-Err.cause x y m c.in-Err.ensures.none h)
+    tells (λ _ (m, x, y, h, more). no_cause c.args.limits.now c.args.bytes.now c.in-Err.cause x y m
+    c.in-Err.ensures.none h)
     (without c.in-Err.cause c.in-Err.ensures.none c.without.ensures refl)

@@ -9,5 +9,6 @@ on-requires g c = c.words.ensures.total ∙ ap (λ (m : List (List ℕ)). sum (s
 
 pub returns : goal.returns
 returns g c =
-    subst (λ m. g.C.Call.finds c.args.call.now c.args.demands m (words_of c.args.limits) (depth_of c.args.limits) c.args.out.now c.on.result c.on.new.out)
+    subst (λ m. g.C.Call.finds c.args.call.now c.args.demands m (words_of c.args.limits) (depth_of c.args.limits)
+    c.args.out.now c.on.result c.on.new.out)
     c.view.ensures c.on.ensures

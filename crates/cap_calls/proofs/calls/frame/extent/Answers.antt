@@ -15,7 +15,8 @@ returns-in-Ok c =
     let f = c.in-Ok.framed in
     let m = framed_segments f in
     framed m (frame_bytes f) (length m) (good c.none.result)
-    (record { are_limits = c.in-Ok.ensures.limits.0; front = c.in-Ok.ensures.front; count = refl }) (ap good c.none.ensures) c.framed.ensures
+    (record { are_limits = c.in-Ok.ensures.limits.0; front = c.in-Ok.ensures.front; count = refl })
+    (ap good c.none.ensures) c.framed.ensures
 
 pub returns-in-Err : goal.returns-in-Err
 returns-in-Err c = without c.in-Err.cause c.in-Err.ensures.none c.without.ensures tt

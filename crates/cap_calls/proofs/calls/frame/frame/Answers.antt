@@ -7,4 +7,5 @@ pub returns-clause-tells : goal.returns-clause-tells
 returns-clause-tells c = (c.extent-found.result, c.extent-found.ensures, (refl, refl))
 
 pub returns-clause-only : goal.returns-clause-only
-returns-clause-only c = λ a r h. one_frame_told c.args.limits.now c.args.bytes.now _ a _ r (c.extent-found.result, c.extent-found.ensures, (refl, refl)) h
+returns-clause-only c = λ a r h. one_frame_told c.args.limits.now c.args.bytes.now _ a _ r
+    (c.extent-found.result, c.extent-found.ensures, (refl, refl)) h

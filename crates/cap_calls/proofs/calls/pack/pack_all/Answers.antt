@@ -14,5 +14,6 @@ returns-then-size-count c =
 
 pub returns : goal.returns
 returns c =
-    pack_written c.args.bytes.now c.args.out.now _ _ (omega arith) c.pack_into-count.ensures.len (omega (arith, c.if-size-count.false))
+    pack_written c.args.bytes.now c.args.out.now _ _ (omega arith) c.pack_into-count.ensures.len
+    (omega (arith, c.if-size-count.false))
     (c.pack_into-count.ensures.written (omega (arith, c.if-size-count.false)))

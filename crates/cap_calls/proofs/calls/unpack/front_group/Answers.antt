@@ -5,7 +5,11 @@ use Rattle.cap_calls.proofs.calls.unpack.front_group.Goals as goal
 
 pub returns-then-bytes-len-2-clause-cut : goal.returns-then-bytes-len-2-clause-cut
 returns-then-bytes-len-2-clause-cut c =
-    omega (arith, marked_length c.args.bytes.now c.requires (c.type_inv.bytes 0).fits (omega arith) (omega arith), c.if-bytes-len-2.true)
+    omega (
+      arith,
+      marked_length c.args.bytes.now c.requires (c.type_inv.bytes 0).fits (omega arith) (omega arith),
+      c.if-bytes-len-2.true,
+    )
 
 pub returns-else-bytes-len-clause-words : goal.returns-else-bytes-len-clause-words
 returns-else-bytes-len-clause-words c =

@@ -3,4 +3,5 @@ use Rattle.cap_calls.proofs.Texts.{one_unpack_told}
 use Rattle.cap_calls.proofs.calls.unpack.unpack.Goals as goal
 
 pub returns-clause-only : goal.returns-clause-only
-returns-clause-only c = λ a n new h. one_unpack_told c.args.bytes.now c.args.out.now _ a _ n _ new c.unpack_all.ensures h
+returns-clause-only c = λ a n new h. one_unpack_told c.args.bytes.now c.args.out.now _ a _ n _ new
+    c.unpack_all.ensures h

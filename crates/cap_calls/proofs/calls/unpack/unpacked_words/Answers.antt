@@ -10,8 +10,10 @@ groups-preserved c =
     let group = c.in_ok-len.ensures in
     let left : List ℕ = take (length c.args.bytes.now - c.groups.at) (drop c.groups.at c.args.bytes.now) in
     let all : left ≡ drop c.groups.at c.args.bytes.now =
-    take_all (length c.args.bytes.now - c.groups.at) (drop c.groups.at c.args.bytes.now) (omega (arith, length-drop c.groups.at c.args.bytes.now)) in
-    let long : length left ≡ length c.args.bytes.now - c.groups.at = ap length all ∙ length-drop c.groups.at c.args.bytes.now in
+    take_all (length c.args.bytes.now - c.groups.at) (drop c.groups.at c.args.bytes.now)
+    (omega (arith, length-drop c.groups.at c.args.bytes.now)) in
+    let long : length left ≡ length c.args.bytes.now - c.groups.at = ap length all
+    ∙ length-drop c.groups.at c.args.bytes.now in
     let next = goes_on c.args.bytes.now left c.groups.at c.in_ok-len.len c.in_ok-len.count c.groups.words all
     (omega (arith, long, c.groups-test.true)) group.bytes.0 group.bytes.2 group.words.0 far.counted far.ends in
     record {

@@ -15,4 +15,5 @@ returns-clause-only c = λ a r h.
     let l = c.args.limits.now in
     let bs = c.args.bytes.now in
     let told = tells_less _ l bs c.over-found.result (λ _. tt) (λ _ _ _ _ p. p) c.over-found.ensures in
-    one_vet_told l bs _ a _ r (c.over-found.result, by_flag l bs c.over-found.result _ c.allows_trailing.ensures told, (refl, refl)) h
+    one_vet_told l bs _ a _ r
+    (c.over-found.result, by_flag l bs c.over-found.result _ c.allows_trailing.ensures told, (refl, refl)) h

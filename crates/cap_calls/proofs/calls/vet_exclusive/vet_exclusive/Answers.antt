@@ -16,7 +16,8 @@ returns-clause-only c = λ a n r h.
     let l = c.args.limits.now in
     let bs = c.args.bytes.now in
     let told = tells_less _ l bs c.over-found.result (λ _. tt) (λ _ _ _ _ p. p.0) c.over-found.ensures in
-    one_exclusive_told l bs _ _ a _ n _ r (c.over-found.result, by_flag l bs c.over-found.result _ c.allows_trailing.ensures told, (refl, refl), refl) h
+    one_exclusive_told l bs _ _ a _ n _ r
+    (c.over-found.result, by_flag l bs c.over-found.result _ c.allows_trailing.ensures told, (refl, refl), refl) h
 
 pub returns-clause-few : goal.returns-clause-few
 returns-clause-few c =

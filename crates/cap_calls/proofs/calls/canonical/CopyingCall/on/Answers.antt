@@ -13,10 +13,12 @@ returns-in-Ok c =
     let v = c.args.view.now in
     let report = c.in-Ok.vetted.report in
     let told = c.canonical_into.result in
-    let tells = subst (λ (u : ByteView). TellsRoom (cut u.sizes.now u.bytes.now) c.args.out.now told c.canonical_into.new.out) c.in-Ok.ensures.message
+    let tells = subst (λ (u : ByteView). TellsRoom (cut u.sizes.now u.bytes.now) c.args.out.now told
+    c.canonical_into.new.out) c.in-Ok.ensures.message
     c.canonical_into.ensures.tells in
     accepted report c.in-Ok.ensures.ok.0 c.in-Ok.ensures.ok.1
-    (copy_found (cut v.sizes.now v.bytes.now) c.args.out.now c.canonical_into.new.out report told c.found_of_size.result c.in-Ok.ensures.ok.0.1.first_cap
+    (copy_found (cut v.sizes.now v.bytes.now) c.args.out.now c.canonical_into.new.out report told
+    c.found_of_size.result c.in-Ok.ensures.ok.0.1.first_cap
     tells (c.found_of_size.ensures ∙ ap (size_found told) c.report.ensures.value))
 
 pub returns-in-Err : goal.returns-in-Err

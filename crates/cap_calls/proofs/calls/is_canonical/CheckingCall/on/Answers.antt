@@ -13,7 +13,8 @@ pub returns-then-is_canonical : goal.returns-then-is_canonical
 returns-then-is_canonical c =
     accepted c.in-Ok.vetted.report c.in-Ok.ensures.ok.0 c.in-Ok.ensures.ok.1
     (canonical
-    (subst (λ (u : ByteView). IsCanonical (cut u.sizes.now u.bytes.now)) c.in-Ok.ensures.message (c.is_canonical.ensures.0 c.if-is_canonical.true))
+    (subst (λ (u : ByteView). IsCanonical (cut u.sizes.now u.bytes.now)) c.in-Ok.ensures.message
+    (c.is_canonical.ensures.0 c.if-is_canonical.true))
     (c.accepted.ensures ∙ ap (accepted_found Good 0) c.report-report.ensures.value))
 
 pub returns-else-is_canonical : goal.returns-else-is_canonical
@@ -21,7 +22,8 @@ returns-else-is_canonical c =
     accepted c.in-Ok.vetted.report c.in-Ok.ensures.ok.0 c.in-Ok.ensures.ok.1
     (not_canonical
     (λ k. false≢true (sym c.if-is_canonical.false
-    ∙ c.is_canonical.ensures.1 (subst (λ (u : ByteView). IsCanonical (cut u.sizes.now u.bytes.now)) (sym c.in-Ok.ensures.message) k)))
+    ∙ c.is_canonical.ensures.1
+    (subst (λ (u : ByteView). IsCanonical (cut u.sizes.now u.bytes.now)) (sym c.in-Ok.ensures.message) k)))
     (c.accepted-else-is_canonical.ensures ∙ ap (accepted_found NotCanonical 0) c.report-report.ensures.value))
 
 pub returns-in-Err : goal.returns-in-Err
