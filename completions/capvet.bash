@@ -27,8 +27,10 @@ _capvet() {
   case $command in
     "") options="--help --version" ;;
     segments) options="--packed --size --help" ;;
-    vet) options="--packed --size --words --depth --exclusive --help" ;;
-    dump | get | check | canon) options="--packed --size --words --depth --help" ;;
+    vet) options="--packed --size --words --depth --strict --unamplified --exclusive --help" ;;
+    dump | get | check | canon)
+      options="--packed --size --words --depth --strict --unamplified --help"
+      ;;
     pack | unpack) options="--help" ;;
     help)
       ((places > 0)) || mapfile -t COMPREPLY < <(compgen -W "${commands% help}" -- "$current")

@@ -66,18 +66,25 @@ Arguments:
   [FILE]  File to read instead of standard input
 
 Options:
-      --packed     The input is packed
-      --size <N>   Maximum words of a message, without its table: 0 to 268435456 [default: 8388608]
-      --words <N>  Maximum charge of a message in words: 0 to 268435456 [default: 8388608]
-      --depth <N>  Maximum level of an object: 0 to 256; the root object has level 1 [default: 64]
-      --exclusive  Refuse a message that uses a word twice
-  -h, --help       Print help
+      --packed       The input is packed
+      --size <N>     Maximum words of a message, without its table: 0 to 268435456 [default: 8388608]
+      --words <N>    Maximum charge of a message in words: 0 to 268435456 [default: 8388608]
+      --depth <N>    Maximum level of an object: 0 to 256; the root object has level 1 [default: 64]
+      --strict       Refuse a message in a form that common readers reject
+      --unamplified  Refuse a charge above the words of the message plus 4096
+      --exclusive    Refuse a message that uses a word twice
+  -h, --help         Print help
 
 For an accepted message it prints four numbers. The charge is the number of words that a full
 traversal reads; a target that is reached twice counts twice. The depth is the deepest level of an
 object; the structs of a list are one level below the list. Then come the numbers of pointers, null
 pointers too, and of capabilities. For a refused message it prints the reason, and the SEGMENT:WORD
 of the first pointer that is wrong.
+
+With --strict a message is also refused in a form that common readers reject. ManySegments: it has
+512 segments. NullPad or CapabilityPad: a landing pad of one word is zero, or a capability.
+EmptySegment: a pointer leads into a segment without words. With --unamplified the charge may be at
+most the words of the message's segments plus 4096.
 
 With --exclusive a message is also refused, as Overlap, if a pointer leads to a word that is already
 in use: the root word, a word of the same pointer, or a word of an earlier pointer. The charge is
@@ -96,11 +103,13 @@ Arguments:
   [FILE]  File to read instead of standard input
 
 Options:
-      --packed     The input is packed
-      --size <N>   Maximum words of a message, without its table: 0 to 268435456 [default: 8388608]
-      --words <N>  Maximum charge of a message in words: 0 to 268435456 [default: 8388608]
-      --depth <N>  Maximum level of an object: 0 to 256; the root object has level 1 [default: 64]
-  -h, --help       Print help
+      --packed       The input is packed
+      --size <N>     Maximum words of a message, without its table: 0 to 268435456 [default: 8388608]
+      --words <N>    Maximum charge of a message in words: 0 to 268435456 [default: 8388608]
+      --depth <N>    Maximum level of an object: 0 to 256; the root object has level 1 [default: 64]
+      --strict       Refuse a message in a form that common readers reject
+      --unamplified  Refuse a charge above the words of the message plus 4096
+  -h, --help         Print help
 
 After the line of 'vet', an accepted message has the lines of its tree. A node has one line, then
 its own words and its children, two spaces deeper. The steps /pN and /iN of a PATH lead to the
@@ -125,11 +134,13 @@ Arguments:
   [FILE]  File to read instead of standard input
 
 Options:
-      --packed     The input is packed
-      --size <N>   Maximum words of a message, without its table: 0 to 268435456 [default: 8388608]
-      --words <N>  Maximum charge of a message in words: 0 to 268435456 [default: 8388608]
-      --depth <N>  Maximum level of an object: 0 to 256; the root object has level 1 [default: 64]
-  -h, --help       Print help
+      --packed       The input is packed
+      --size <N>     Maximum words of a message, without its table: 0 to 268435456 [default: 8388608]
+      --words <N>    Maximum charge of a message in words: 0 to 268435456 [default: 8388608]
+      --depth <N>    Maximum level of an object: 0 to 256; the root object has level 1 [default: 64]
+      --strict       Refuse a message in a form that common readers reject
+      --unamplified  Refuse a charge above the words of the message plus 4096
+  -h, --help         Print help
 
 PATH is '/' for the root, or a list of steps. The step '/pN' leads to pointer N of a struct, and
 '/iN' to element N of a list of pointers or structs, both counted from 0. The node is printed
@@ -151,11 +162,13 @@ Arguments:
   [FILE]  File to read instead of standard input
 
 Options:
-      --packed     The input is packed
-      --size <N>   Maximum words of a message, without its table: 0 to 268435456 [default: 8388608]
-      --words <N>  Maximum charge of a message in words: 0 to 268435456 [default: 8388608]
-      --depth <N>  Maximum level of an object: 0 to 256; the root object has level 1 [default: 64]
-  -h, --help       Print help
+      --packed       The input is packed
+      --size <N>     Maximum words of a message, without its table: 0 to 268435456 [default: 8388608]
+      --words <N>    Maximum charge of a message in words: 0 to 268435456 [default: 8388608]
+      --depth <N>    Maximum level of an object: 0 to 256; the root object has level 1 [default: 64]
+      --strict       Refuse a message in a form that common readers reject
+      --unamplified  Refuse a charge above the words of the message plus 4096
+  -h, --help         Print help
 
 A message is canonical if it has one segment, with exactly the words that 'canon' writes after the
 table of its copy. For a refused message it prints the line of 'vet'.
@@ -173,11 +186,13 @@ Arguments:
   [FILE]  File to read instead of standard input
 
 Options:
-      --packed     The input is packed
-      --size <N>   Maximum words of a message, without its table: 0 to 268435456 [default: 8388608]
-      --words <N>  Maximum charge of a message in words: 0 to 268435456 [default: 8388608]
-      --depth <N>  Maximum level of an object: 0 to 256; the root object has level 1 [default: 64]
-  -h, --help       Print help
+      --packed       The input is packed
+      --size <N>     Maximum words of a message, without its table: 0 to 268435456 [default: 8388608]
+      --words <N>    Maximum charge of a message in words: 0 to 268435456 [default: 8388608]
+      --depth <N>    Maximum level of an object: 0 to 256; the root object has level 1 [default: 64]
+      --strict       Refuse a message in a form that common readers reject
+      --unamplified  Refuse a charge above the words of the message plus 4096
+  -h, --help         Print help
 
 A copy is a message of one segment; its table is the first 8 bytes. Two messages have equal copies
 exactly if they have the same content, apart from zeros and null pointers at the end of structs. The

@@ -13,18 +13,18 @@ use Rattle.cap_frame.specs.declared.fault.FrameFault.TheVariants.{TooManySegment
 use Rattle.cap_frame.specs.declared.fault.FrameFault.TheVariants.{Device, Memory, Spent}
 use Rattle.cap_frame.specs.Limit.{limit_of}
 use Rattle.cap_vet.specs.Limits.{depth_of, words_of}
+use Rattle.cap_vet.specs.declared.demands.Demands.{Demands}
 use Rattle.cap_spec.specs.Packing.{pack_text}
 use Rattle.cap_spec.specs.Plain.{plain_text}
 use Rattle.cap_run.specs.Canons.{copies_of}
-use Rattle.cap_run.specs.Checking.{TellsCheck}
 use Rattle.cap_run.specs.Copying.{Copied, CopiesAll}
 use Rattle.cap_run.specs.Engines.{TellsStream}
 use Rattle.cap_run.specs.Engines.{most_packed_at_once, most_unpacked_at_once, most_words}
 use Rattle.cap_run.specs.Telling.{Tells, TellsSegments, WantsNone, outcome_of}
-use Rattle.cap_run.specs.Vetting.{TellsDump, TellsExclusive, TellsGet, TellsVerdict, WantsMarks}
+use Rattle.cap_run.specs.Demanding.{TellsCheckUnder, TellsDumpUnder, TellsExclusiveUnder, TellsGetUnder, TellsVerdictUnder, WantsMarksUnder}
 use Rattle.cap_run.specs.declared.fault.Cause.{Cause}
 use Rattle.cap_run.specs.declared.fault.Cause.TheVariants.{TooManyMessages, Frame, Output, Refused}
-use Rattle.cap_run.specs.declared.fault.Cause.TheVariants.{Canon, Memory as no_marks}
+use Rattle.cap_run.specs.declared.fault.Cause.TheVariants.{Canon, NotStrict, Memory as no_marks}
 use Rattle.cap_run.specs.declared.fault.CopyFault.{CopyFault}
 use Rattle.cap_run.specs.declared.fault.CopyFault.TheVariants.{TooManyWords, Source, Output as copy_output}
 use Rattle.cap_run.specs.declared.fault.RunFault.{RunFault}
@@ -70,6 +70,7 @@ cause_fails TooManyMessages e = cc
 cause_fails (Frame fault) e = frame_fails fault e
 cause_fails (Output fault) e = cc
 cause_fails (Refused refusal) e = cc
+cause_fails (NotStrict fault) e = cc
 cause_fails (Canon (HasCapability s w)) e = cc
 cause_fails (Canon canon_memory) e = cc
 cause_fails no_marks e = cc
@@ -122,10 +123,10 @@ module _ {S O K : Type 0} (gs : source.Ghosts S) (go : output.Ghosts O) (s : Set
       }
 
   -- all copies were put
-  all_made : (before after : O) (r : Result Outcome RunFault) → run_status r ≡ 0
-      → CanonsTo gs go gk s old new before after r
-      → CanonsInput s (gs.words old) (gs.is_cut old) (go.written before) (go.written after)
-  all_made before after (Ok o) e p =
+  all_made : (demands : Demands) (before after : O) (r : Result Outcome RunFault) → run_status r ≡ 0
+      → CanonsTo gs go gk s demands old new before after r
+      → CanonsInput s demands (gs.words old) (gs.is_cut old) (go.written before) (go.written after)
+  all_made demands before after (Ok o) e p =
       let k = p.puts.ok in
       let text = plain_text (copies_of k.0) in
       let kept = subst (λ (o : Option (List ℕ)). Keeps o (gk.taken p.ended)) (p.begins.empty (copies_of k.0)) k.3.finished in
@@ -140,37 +141,37 @@ module _ {S O K : Type 0} (gs : source.Ghosts S) (go : output.Ghosts O) (s : Set
         appended = subst (λ o. Appends (go.written before) o text) p.gives.taken
             (kept_appends (go.written before) (gk.taken p.ended) text kept);
       }
-  all_made before after (Err fault) e p = absurd (cause_fails fault.cause e)
+  all_made demands before after (Err fault) e p = absurd (cause_fails fault.cause e)
 
 module _ {S O E P U : Type 0} (gs : source.Ghosts S) (go : output.Ghosts O) (ge : output.Ghosts E)
     (gp : sink.Ghosts P) (gu : sink.Ghosts U) where
   -- what a task with the status of success wrote
-  writes_all : (task : Task) (s : Settings) (first : S) (before after : O) (old new : E) (status : ℕ) → status ≡ 0
-      → DoesTask gs go ge gp gu task s first before after old new status
-      → WritesAll task s (gs.words first) (gs.is_cut first) (go.written before) (go.written after)
-  writes_all Segments s first before after old new status e d =
+  writes_all : (task : Task) (s : Settings) (demands : Demands) (first : S) (before after : O) (old new : E) (status : ℕ) → status ≡ 0
+      → DoesTask gs go ge gp gu task s demands first before after old new status
+      → WritesAll task s demands (gs.words first) (gs.is_cut first) (go.written before) (go.written after)
+  writes_all Segments s demands first before after old new status e d =
       told_all gs go s first d.last TellsSegments WantsNone before after d.answer (sym d.reported.status_is ∙ e) d.does.told
-  writes_all (Vet false) s first before after old new status e d =
-      told_all gs go s first d.last (TellsVerdict (words_of s.limits) (depth_of s.limits)) WantsNone before after
+  writes_all (Vet false) s demands first before after old new status e d =
+      told_all gs go s first d.last (TellsVerdictUnder demands (words_of s.limits) (depth_of s.limits)) WantsNone before after
       d.answer (sym d.reported.status_is ∙ e) d.does
-  writes_all (Vet true) s first before after old new status e d =
-      told_all gs go s first d.last (TellsExclusive (words_of s.limits) (depth_of s.limits))
-      (WantsMarks (words_of s.limits) (depth_of s.limits)) before after d.answer (sym d.reported.status_is ∙ e) d.does
-  writes_all Dump s first before after old new status e d =
-      told_all gs go s first d.last (TellsDump (words_of s.limits) (depth_of s.limits)) WantsNone before after
+  writes_all (Vet true) s demands first before after old new status e d =
+      told_all gs go s first d.last (TellsExclusiveUnder demands (words_of s.limits) (depth_of s.limits))
+      (WantsMarksUnder demands (words_of s.limits) (depth_of s.limits)) before after d.answer (sym d.reported.status_is ∙ e) d.does
+  writes_all Dump s demands first before after old new status e d =
+      told_all gs go s first d.last (TellsDumpUnder demands (words_of s.limits) (depth_of s.limits)) WantsNone before after
       d.answer (sym d.reported.status_is ∙ e) d.does
-  writes_all (Get path) s first before after old new status e d =
-      told_all gs go s first d.last (TellsGet (words_of s.limits) (depth_of s.limits) path.items) WantsNone before after
+  writes_all (Get path) s demands first before after old new status e d =
+      told_all gs go s first d.last (TellsGetUnder demands (words_of s.limits) (depth_of s.limits) path.items) WantsNone before after
       d.answer (sym d.reported.status_is ∙ e) d.does
-  writes_all Check s first before after old new status e d =
-      told_all gs go s first d.last (TellsCheck (words_of s.limits) (depth_of s.limits)) WantsNone before after
+  writes_all Check s demands first before after old new status e d =
+      told_all gs go s first d.last (TellsCheckUnder demands (words_of s.limits) (depth_of s.limits)) WantsNone before after
       d.answer (sym d.reported.status_is ∙ e) d.does
-  writes_all canon_task s first before after old new status e d =
-      all_made gs go s first d.last gu before after d.answer (sym d.reported.status_is ∙ e) d.does
-  writes_all Pack s first before after old new status e d =
+  writes_all canon_task s demands first before after old new status e d =
+      all_made gs go s first d.last gu demands before after d.answer (sym d.reported.status_is ∙ e) d.does
+  writes_all Pack s demands first before after old new status e d =
       all_copied gs go s first d.last gp pack_text most_packed_at_once before after d.answer
       (sym d.reported.status_is ∙ e) d.does
-  writes_all Unpack s first before after old new status e d =
+  writes_all Unpack s demands first before after old new status e d =
       all_copied gs go s first d.last gu plain_text most_unpacked_at_once before after d.answer
       (sym d.reported.status_is ∙ e) d.does
 
@@ -178,13 +179,13 @@ module _ {S O E P U : Type 0} (gs : source.Ghosts S) (go : output.Ghosts O) (ge 
   pub job_writes_all : {I : Type 0} (gi : input.Ghosts I) (is_packed packed : Bool) (job : Job)
       (start : I) (before after : O) (old new : E) (status : ℕ) → is_packed ≡ packed → status ≡ 0
       → DoesJob gi gs go ge gp gu packed job start before after old new status
-      → WritesAll job.task job.settings (input_words is_packed (gi.to_come start))
+      → WritesAll job.task job.settings job.demands (input_words is_packed (gi.to_come start))
       (input_is_cut is_packed (gi.to_come start)) (go.written before) (go.written after)
   job_writes_all gi is_packed packed job start before after old new status same e j =
-      let written = writes_all job.task job.settings j.first before after old new status e j.does in
-      let cut = subst (λ c. WritesAll job.task job.settings (gs.words j.first) c (go.written before) (go.written after))
+      let written = writes_all job.task job.settings job.demands j.first before after old new status e j.does in
+      let cut = subst (λ c. WritesAll job.task job.settings job.demands (gs.words j.first) c (go.written before) (go.written after))
       j.begins.is_cut written in
-      let known = subst (λ w. WritesAll job.task job.settings w (input_is_cut packed (gi.to_come start))
+      let known = subst (λ w. WritesAll job.task job.settings job.demands w (input_is_cut packed (gi.to_come start))
       (go.written before) (go.written after)) j.begins.words cut in
-      subst (λ b. WritesAll job.task job.settings (input_words b (gi.to_come start)) (input_is_cut b (gi.to_come start))
+      subst (λ b. WritesAll job.task job.settings job.demands (input_words b (gi.to_come start)) (input_is_cut b (gi.to_come start))
       (go.written before) (go.written after)) (sym same) known

@@ -20,14 +20,16 @@ use Rattle.cap_words.specs.declared.sinks.WordSink as sink
 use Rattle.cap_words.specs.declared.sources.WordSource as source
 use Rattle.cap_frame.specs.Limit.{limit_of}
 use Rattle.cap_vet.specs.Limits.{depth_of, words_of}
-use Rattle.cap_run.specs.Canons.{AreCanonised, Canonised, MakesCopies, canonised, copies_of}
-use Rattle.cap_run.specs.Checking.{TellsCheck}
+use Rattle.cap_vet.specs.declared.demands.Demands.{Demands}
+use Rattle.cap_run.specs.Canons.{AreCanonised, Canonised, MakesCopiesUnder, canonised}
+use Rattle.cap_run.specs.Canons.{copies_of}
+use Rattle.cap_run.specs.Demanding.{TellsCheckUnder, TellsDumpUnder, TellsExclusiveUnder}
+use Rattle.cap_run.specs.Demanding.{TellsGetUnder, TellsVerdictUnder, WantsMarksUnder}
 use Rattle.cap_run.specs.Engines.{CopiesWords, ShowsStream, TellsStream}
 use Rattle.cap_run.specs.Engines.{most_packed_at_once, most_unpacked_at_once, most_words}
 use Rattle.cap_run.specs.FaultLines.{copy_fault_line, run_fault_line}
 use Rattle.cap_run.specs.Telling.{Tells, TellsEach, TellsSegments, Told, WantsNone}
 use Rattle.cap_run.specs.Telling.{messages_of, noncanonical_in, refused_in, texts_of}
-use Rattle.cap_run.specs.Vetting.{TellsDump, TellsExclusive, TellsGet, TellsVerdict, WantsMarks}
 use Rattle.cap_run.specs.Writing.{Writes}
 use Rattle.cap_run.specs.declared.fault.CopyFault.{CopyFault}
 use Rattle.cap_run.specs.declared.fault.RunFault.{RunFault}
@@ -105,10 +107,10 @@ module _ {O K : Type 0} (go : output.Ghosts O) (gk : sink.Ghosts K) where
 
 module _ {S O K : Type 0} (gs : source.Ghosts S) (go : output.Ghosts O) (gk : sink.Ghosts K) where
   -- an engine puts canonical copies to a sink over an output
-  abbrev pub CanonsTo : Settings → S → S → O → O → Result Outcome RunFault → Type 0
-  CanonsTo s first last before after answer = PutsTo go gk plain_text before after
-      (λ begun ended. MakesCopies gs gk (words_of s.limits) (depth_of s.limits) (limit_of s.size)
-      s.messages first last begun ended answer)
+  abbrev pub CanonsTo : Settings → Demands → S → S → O → O → Result Outcome RunFault → Type 0
+  CanonsTo s demands first last before after answer = PutsTo go gk plain_text before after
+      (λ begun ended. MakesCopiesUnder gs gk demands (words_of s.limits) (depth_of s.limits)
+      (limit_of s.size) s.messages first last begun ended answer)
 
   -- an engine puts words to a sink over an output
   abbrev pub CopiesTo : (List ℕ → List ℕ) → ℕ → S → S → O → O → Result ℕ CopyFault → Type 0
@@ -157,33 +159,33 @@ module _ {S O E : Type 0} (gs : source.Ghosts S) (go : output.Ghosts O) (ge : ou
 
 module _ {S O E P U : Type 0} (gs : source.Ghosts S) (go : output.Ghosts O) (ge : output.Ghosts E)
     (gp : sink.Ghosts P) (gu : sink.Ghosts U) where
-  -- What is done over the words of a source, by the task: its engine runs, and its answer is
-  -- reported.
-  abbrev pub DoesTask : Task → Settings → S → O → O → E → E → ℕ → Type 0
-  DoesTask Segments s first before after = Runs
+  -- What is done over the words of a source, by the task: its engine runs under the demands, and
+  -- its answer is reported.
+  abbrev pub DoesTask : Task → Settings → Demands → S → O → O → E → E → ℕ → Type 0
+  DoesTask Segments s demands first before after = Runs
       (λ last answer. ShowsStream gs go (limit_of s.size) s.messages first last before after answer)
       (ReportsRun ge)
-  DoesTask (Vet false) s first before after =
-      TellsTask gs go ge (TellsVerdict (words_of s.limits) (depth_of s.limits)) WantsNone s first
-      before after
-  DoesTask (Vet true) s first before after =
-      TellsTask gs go ge (TellsExclusive (words_of s.limits) (depth_of s.limits))
-      (WantsMarks (words_of s.limits) (depth_of s.limits)) s first before after
-  DoesTask Dump s first before after =
-      TellsTask gs go ge (TellsDump (words_of s.limits) (depth_of s.limits)) WantsNone s first
-      before after
-  DoesTask (Get path) s first before after =
-      TellsTask gs go ge (TellsGet (words_of s.limits) (depth_of s.limits) path.items) WantsNone s
-      first before after
-  DoesTask Check s first before after =
-      TellsTask gs go ge (TellsCheck (words_of s.limits) (depth_of s.limits)) WantsNone s first
-      before after
-  DoesTask Canon s first before after = Runs
-      (λ last answer. CanonsTo gs go gu s first last before after answer) (ReportsRun ge)
-  DoesTask Pack s first before after = Runs (λ last answer.
+  DoesTask (Vet false) s demands first before after =
+      TellsTask gs go ge (TellsVerdictUnder demands (words_of s.limits) (depth_of s.limits))
+      WantsNone s first before after
+  DoesTask (Vet true) s demands first before after =
+      TellsTask gs go ge (TellsExclusiveUnder demands (words_of s.limits) (depth_of s.limits))
+      (WantsMarksUnder demands (words_of s.limits) (depth_of s.limits)) s first before after
+  DoesTask Dump s demands first before after =
+      TellsTask gs go ge (TellsDumpUnder demands (words_of s.limits) (depth_of s.limits))
+      WantsNone s first before after
+  DoesTask (Get path) s demands first before after =
+      TellsTask gs go ge (TellsGetUnder demands (words_of s.limits) (depth_of s.limits) path.items)
+      WantsNone s first before after
+  DoesTask Check s demands first before after =
+      TellsTask gs go ge (TellsCheckUnder demands (words_of s.limits) (depth_of s.limits))
+      WantsNone s first before after
+  DoesTask Canon s demands first before after = Runs
+      (λ last answer. CanonsTo gs go gu s demands first last before after answer) (ReportsRun ge)
+  DoesTask Pack s demands first before after = Runs (λ last answer.
       CopiesTo gs go gp pack_text most_packed_at_once first last before after answer)
       (ReportsCopy ge)
-  DoesTask Unpack s first before after = Runs (λ last answer.
+  DoesTask Unpack s demands first before after = Runs (λ last answer.
       CopiesTo gs go gu plain_text most_unpacked_at_once first last before after answer)
       (ReportsCopy ge)
 
@@ -194,7 +196,8 @@ module _ {I S O E P U : Type 0} (gi : input.Ghosts I) (gs : source.Ghosts S) (go
       (old new : E) (status : ℕ) : Type 0 where
     pub first : S
     pub begins : BeginsInput gi gs packed start first
-    pub does : DoesTask gs go ge gp gu job.task job.settings first before after old new status
+    pub does : DoesTask gs go ge gp gu job.task job.settings job.demands first before after old new
+        status
 
 -- All words are frames of messages, each within the limit, and none is cut short. Each message is
 -- accepted, and canonical if that was asked, and such a text of it was written.
@@ -212,8 +215,8 @@ pub record TellsInput (tells : Tells) (s : Settings) (words : Option (List ℕ))
   pub appended : Appends before after (texts_of ts)
 
 -- All words are frames of messages, each within the limit, and none is cut short. Each message is
--- accepted and has a canonical copy, and the frame of that was written.
-pub record CanonsInput (s : Settings) (words : Option (List ℕ)) (is_cut : Bool)
+-- accepted under the demands and has a canonical copy, and the frame of that was written.
+pub record CanonsInput (s : Settings) (demands : Demands) (words : Option (List ℕ)) (is_cut : Bool)
     (before after : Option (List ℕ)) : Type 0 where
   pub own : List ℕ
   pub all : OnSome words ((words ≡ Some own) × (is_cut ≡ false))
@@ -221,7 +224,7 @@ pub record CanonsInput (s : Settings) (words : Option (List ℕ)) (is_cut : Bool
   pub stream : Stream own (canonised cs)
   pub within : AllByRecursion (λ m. sum (sizes_of m) ≤ limit_of s.size) (canonised cs)
   pub many : length cs ≤ s.messages
-  pub each : AreCanonised (words_of s.limits) (depth_of s.limits) cs
+  pub each : AreCanonised demands (words_of s.limits) (depth_of s.limits) cs
   pub appended : Appends before after (plain_text (copies_of cs))
 
 -- The text of all words was written, and none is cut short.
@@ -233,14 +236,19 @@ pub record CopiesInput (text : List ℕ → List ℕ) (words : Option (List ℕ)
   pub appended : Appends before after (text own)
 
 -- What a task with the status of success wrote of all words, by the task.
-abbrev pub WritesAll : Task → Settings → Option (List ℕ) → Bool → Option (List ℕ) → Option (List ℕ)
-    → Type 0
-WritesAll Segments s = TellsInput TellsSegments s
-WritesAll (Vet false) s = TellsInput (TellsVerdict (words_of s.limits) (depth_of s.limits)) s
-WritesAll (Vet true) s = TellsInput (TellsExclusive (words_of s.limits) (depth_of s.limits)) s
-WritesAll Dump s = TellsInput (TellsDump (words_of s.limits) (depth_of s.limits)) s
-WritesAll (Get path) s = TellsInput (TellsGet (words_of s.limits) (depth_of s.limits) path.items) s
-WritesAll Check s = TellsInput (TellsCheck (words_of s.limits) (depth_of s.limits)) s
-WritesAll Canon s = CanonsInput s
-WritesAll Pack s = CopiesInput pack_text
-WritesAll Unpack s = CopiesInput plain_text
+abbrev pub WritesAll : Task → Settings → Demands → Option (List ℕ) → Bool → Option (List ℕ)
+    → Option (List ℕ) → Type 0
+WritesAll Segments s demands = TellsInput TellsSegments s
+WritesAll (Vet false) s demands =
+    TellsInput (TellsVerdictUnder demands (words_of s.limits) (depth_of s.limits)) s
+WritesAll (Vet true) s demands =
+    TellsInput (TellsExclusiveUnder demands (words_of s.limits) (depth_of s.limits)) s
+WritesAll Dump s demands =
+    TellsInput (TellsDumpUnder demands (words_of s.limits) (depth_of s.limits)) s
+WritesAll (Get path) s demands =
+    TellsInput (TellsGetUnder demands (words_of s.limits) (depth_of s.limits) path.items) s
+WritesAll Check s demands =
+    TellsInput (TellsCheckUnder demands (words_of s.limits) (depth_of s.limits)) s
+WritesAll Canon s demands = CanonsInput s demands
+WritesAll Pack s demands = CopiesInput pack_text
+WritesAll Unpack s demands = CopiesInput plain_text

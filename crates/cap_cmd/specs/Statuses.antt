@@ -12,7 +12,7 @@ use Rattle.cap_canon.specs.declared.fault.CanonFault.TheVariants.{HasCapability}
 use Rattle.cap_canon.specs.declared.fault.CanonFault.TheVariants.{Memory as canon_memory}
 use Rattle.cap_run.specs.declared.fault.Cause.{Cause}
 use Rattle.cap_run.specs.declared.fault.Cause.TheVariants.{TooManyMessages, Frame, Output, Refused}
-use Rattle.cap_run.specs.declared.fault.Cause.TheVariants.{Canon, Memory as no_marks}
+use Rattle.cap_run.specs.declared.fault.Cause.TheVariants.{Canon, NotStrict, Memory as no_marks}
 use Rattle.cap_run.specs.declared.fault.CopyFault.{CopyFault}
 use Rattle.cap_run.specs.declared.fault.CopyFault.TheVariants.{TooManyWords, Source as copy_source}
 use Rattle.cap_run.specs.declared.fault.CopyFault.TheVariants.{Output as copy_output}
@@ -38,6 +38,7 @@ cause_status TooManyMessages = 1
 cause_status (Frame fault) = frame_status fault
 cause_status (Output fault) = 3
 cause_status (Refused refusal) = 1
+cause_status (NotStrict fault) = 1
 cause_status (Canon fault) = canon_status fault
 cause_status no_marks = 3
 

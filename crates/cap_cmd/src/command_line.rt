@@ -6,7 +6,7 @@ ghost use Rattle.std.specs.Prelude.{◌≡◌, IfOk, IfSome};
 use crate::commands::{DEFAULT_DEPTH, DEFAULT_WORDS, capvet_command};
 use crate::job::{Job, JobFault, Task};
 use cap_frame::SizeLimit;
-use cap_run::{PathFault, Settings, Step, parse_path};
+use cap_run::{Demands, PathFault, Settings, Step, parse_path};
 use cap_vet::Limits;
 use clap::error::ErrorKind;
 use clap::{ArgMatches, Error};
@@ -81,6 +81,14 @@ fn settings_of(options: &ArgMatches<'_>) -> Option<Settings>
     })
 }
 
+// What the options demand of each message.
+fn demands_of(options: &ArgMatches<'_>) -> Demands {
+    Demands {
+        strict: options.get_flag("strict"),
+        unamplified: options.get_flag("unamplified"),
+    }
+}
+
 // The file of a subcommand.
 fn file_of(alloc: Global, options: &ArgMatches<'_>) -> Result<Option<String>, JobFault> {
     match options.get_str("file") {
@@ -105,6 +113,7 @@ fn job_of(alloc: Global, task: Task, options: &ArgMatches<'_>) -> Result<Job, Jo
             task,
             packed: options.get_flag("packed"),
             settings,
+            demands: demands_of(options),
             file,
         }),
         Err(fault) => Err(fault),

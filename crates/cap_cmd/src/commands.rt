@@ -29,6 +29,10 @@ const MOST_DEPTH: i64 = 256;
 
 const DEPTH_HELP: &str = "Maximum level of an object: 0 to 256; the root object has level 1";
 
+const STRICT_HELP: &str = "Refuse a message in a form that common readers reject";
+
+const UNAMPLIFIED_HELP: &str = "Refuse a charge above the words of the message plus 4096";
+
 /// An option or an argument of a command.
 #[derive(Clone, Copy)]
 enum Part {
@@ -36,6 +40,8 @@ enum Part {
     Size,
     Words,
     Depth,
+    Strict,
+    Unamplified,
     Exclusive,
     Path,
     File,
@@ -50,11 +56,13 @@ struct Form {
 }
 
 /// What most commands over messages take.
-const VETTING: [Part; 5] = [
+const VETTING: [Part; 7] = [
     Part::Packed,
     Part::Size,
     Part::Words,
     Part::Depth,
+    Part::Strict,
+    Part::Unamplified,
     Part::File,
 ];
 
@@ -75,6 +83,8 @@ static FORMS: [Form; 8] = [
             Part::Size,
             Part::Words,
             Part::Depth,
+            Part::Strict,
+            Part::Unamplified,
             Part::Exclusive,
             Part::File,
         ],
@@ -94,6 +104,8 @@ static FORMS: [Form; 8] = [
             Part::Size,
             Part::Words,
             Part::Depth,
+            Part::Strict,
+            Part::Unamplified,
             Part::Path,
             Part::File,
         ],
@@ -159,6 +171,8 @@ fn argument<'a>(alloc: Global, part: Part) -> Arg<'a> {
         Part::Size => words_option(alloc, "size", SIZE_HELP),
         Part::Words => words_option(alloc, "words", WORDS_HELP),
         Part::Depth => depth_option(alloc),
+        Part::Strict => flag(alloc, "strict", STRICT_HELP),
+        Part::Unamplified => flag(alloc, "unamplified", UNAMPLIFIED_HELP),
         Part::Exclusive => flag(
             alloc,
             "exclusive",

@@ -1,6 +1,6 @@
 //! A job that the command line names.
 
-use cap_run::{Settings, Step};
+use cap_run::{Demands, Settings, Step};
 
 /// What the program is asked to do.
 #[derive(Debug, PartialEq, Eq, Drop)]
@@ -39,6 +39,9 @@ pub struct Job {
     pub packed: bool,
     /// The limits.
     pub settings: Settings,
+    /// What is demanded of each message beside them. [`Task::Segments`], [`Task::Pack`] and
+    /// [`Task::Unpack`] vet no message, and demand nothing.
+    pub demands: Demands,
     /// The name of the file to read, or `None` for standard input.
     pub file: Option<String>,
 }

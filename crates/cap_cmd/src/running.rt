@@ -10,8 +10,9 @@ use crate::job::{Job, Task};
 use crate::status::{stream_status, words_status};
 use cap_pack::{Packer, Unpacker};
 use cap_run::{
-    CopyFault, Outcome, RunFault, Settings, run_canon, run_check, run_dump, run_get, run_pack,
-    run_segments, run_unpack, run_vet, run_vet_exclusive, write_copy_fault, write_fault,
+    CopyFault, Demands, Outcome, RunFault, Settings, run_canon_with, run_check_with, run_dump_with,
+    run_get_with, run_pack, run_segments, run_unpack, run_vet_exclusive_with, run_vet_with,
+    write_copy_fault, write_fault,
 };
 use cap_words::{ByteIn, ByteOut, PlainSink, PlainWords, WordSink, WordSource};
 use std::alloc::Global;
@@ -58,12 +59,13 @@ fn canon_to<S: WordSource, O: ByteOut>(
     source: &mut S,
     out: O,
     settings: &Settings,
+    demands: Demands,
 ) -> (Result<Outcome, RunFault>, O)
-    ensures { CanonsTo S.WordSource O.ByteOut ⟦<PlainSink<O> as WordSink>⟧ settings.now
+    ensures { CanonsTo S.WordSource O.ByteOut ⟦<PlainSink<O> as WordSink>⟧ settings.now demands
         source.old source.new out result.1 result.0 }
 {
     let mut sink = PlainSink::new(out);
-    let answer = run_canon(alloc, source, &mut sink, settings);
+    let answer = run_canon_with(alloc, source, &mut sink, settings, demands);
     (answer, sink.into_inner())
 }
 
@@ -92,18 +94,21 @@ fn vet_over<S: WordSource, O: ByteOut, E: ByteOut>(
     alloc: Global,
     exclusive: bool,
     settings: &Settings,
+    demands: Demands,
     source: &mut S,
     out: &mut O,
     err: &mut E,
 ) -> u8
     ensures { DoesTask S.WordSource O.ByteOut E.ByteOut ⟦<Packer<O> as WordSink>⟧
-        ⟦<PlainSink<O> as WordSink>⟧ (Task.Vet exclusive) settings.now
+        ⟦<PlainSink<O> as WordSink>⟧ (Task.Vet exclusive) settings.now demands
         source.old out.old out.new err.old err.new result }
 {
     if exclusive {
-        report_run(err, &run_vet_exclusive(alloc, source, out, settings))
+        let answer = run_vet_exclusive_with(alloc, source, out, settings, demands);
+        report_run(err, &answer)
     } else {
-        report_run(err, &run_vet(alloc, source, out, settings))
+        let answer = run_vet_with(alloc, source, out, settings, demands);
+        report_run(err, &answer)
     }
 }
 
@@ -116,33 +121,33 @@ fn run_over<S: WordSource + Drop, O: ByteOut, E: ByteOut>(
     err: &mut E,
 ) -> (u8, O)
     ensures { DoesTask S.WordSource O.ByteOut E.ByteOut ⟦<Packer<O> as WordSink>⟧
-        ⟦<PlainSink<O> as WordSink>⟧ job.now.task job.now.settings
+        ⟦<PlainSink<O> as WordSink>⟧ job.now.task job.now.settings job.now.demands
         source out result.1 err.old err.new result.0 }
 {
-    let (mut source, mut out, settings) = (source, out, &job.settings);
+    let (mut source, mut out, settings, demands) = (source, out, &job.settings, job.demands);
     match &job.task {
         Task::Segments => {
             let answer = run_segments(&mut source, &mut out, settings);
             (report_run(err, &answer), out)
         }
         Task::Vet { exclusive } => {
-            let status = vet_over(alloc, *exclusive, settings, &mut source, &mut out, err);
+            let status = vet_over(alloc, *exclusive, settings, demands, &mut source, &mut out, err);
             (status, out)
         }
         Task::Dump => {
-            let answer = run_dump(alloc, &mut source, &mut out, settings);
+            let answer = run_dump_with(alloc, &mut source, &mut out, settings, demands);
             (report_run(err, &answer), out)
         }
         Task::Get { path } => {
-            let answer = run_get(alloc, &mut source, &mut out, settings, path.as_slice());
+            let answer = run_get_with(alloc, &mut source, &mut out, settings, demands, path.as_slice());
             (report_run(err, &answer), out)
         }
         Task::Check => {
-            let answer = run_check(alloc, &mut source, &mut out, settings);
+            let answer = run_check_with(alloc, &mut source, &mut out, settings, demands);
             (report_run(err, &answer), out)
         }
         Task::Canon => {
-            let (answer, out) = canon_to(alloc, &mut source, out, settings);
+            let (answer, out) = canon_to(alloc, &mut source, out, settings, demands);
             (report_run(err, &answer), out)
         }
         Task::Pack => {
@@ -163,8 +168,9 @@ fn run_over<S: WordSource + Drop, O: ByteOut, E: ByteOut>(
 ///
 /// - 0: every message was accepted, and is canonical if the task is [`Task::Check`]; or all words
 ///   were copied.
-/// - 1, for a message: it was refused, or it has a capability and a copy is needed. Also if it uses
-///   a word twice and the job forbids that, or isn't canonical and the task is [`Task::Check`].
+/// - 1, for a message: it was refused or doesn't meet the demands of the job, or it has a capability
+///   and a copy is needed. Also if it uses a word twice and the job forbids that, or isn't canonical
+///   and the task is [`Task::Check`].
 /// - 1, for the input: it is no stream of messages within the limits, is cut inside a word or a
 ///   group, or has more words than are copied.
 /// - 3: reading or writing failed, the input or the output was closed after an error, or an
@@ -189,7 +195,7 @@ pub fn run_job<I: ByteIn + Drop, O: ByteOut, E: ByteOut>(
     // So with status 0 all of the input was read, and exactly this was written.
     ensures success { result.0 ≡ 0 →
         let j = job.now in let packed = is_packed j.task j.packed in
-        WritesAll j.task j.settings (input_words packed (I.to_come input))
+        WritesAll j.task j.settings j.demands (input_words packed (I.to_come input))
         (input_is_cut packed (I.to_come input)) (O.written out) (O.written result.1) }
 {
     if input_is_packed(job) {

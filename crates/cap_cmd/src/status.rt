@@ -25,6 +25,7 @@ fn fault_status(cause: Cause) -> u8
         },
         Cause::Output(_) => 3,
         Cause::Refused(_) => 1,
+        Cause::NotStrict(_) => 1,
         Cause::Canon(CanonFault::HasCapability { .. }) => 1,
         Cause::Canon(CanonFault::Memory) => 3,
         Cause::Memory => 3,

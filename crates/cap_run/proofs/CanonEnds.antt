@@ -7,76 +7,92 @@ use Rattle.cap_spec.specs.Copies.{HasCopy}
 use Rattle.cap_spec.specs.Frames.{Stream, frame_text, sizes_of}
 use Rattle.cap_spec.proofs.Frames.FrameTexts.{one_stream}
 use Rattle.cap_spec.proofs.Bytes.Lists.{all_back}
+use Rattle.cap_spec.proofs.Strict.Faults.{strict_not_fault}
 use Rattle.cap_spec.proofs.Verdicts.Refusals.{tree_not_refused}
+use Rattle.cap_spec.specs.declared.StrictRefusal.{StrictRefusal}
+use Rattle.cap_spec.specs.declared.StrictRefusal.TheVariants.{Refused as bad, ManySegments, Pointer}
 use Rattle.cap_words.specs.declared.sinks.WordSink as sink
 use Rattle.cap_words.specs.declared.sources.WordSource as source
 use Rattle.cap_frame.proofs.Converse.{same_some}
+use Rattle.cap_vet.specs.Demands.{words_under}
+use Rattle.cap_vet.specs.declared.demands.Demands.{Demands}
 use Rattle.cap_canon.specs.declared.fault.CanonFault.TheVariants.{HasCapability, Memory}
 use Rattle.cap_spec.proofs.Canonical.Copies.{one_copy}
 use Rattle.cap_canon.proofs.Copies.{cap_no_copy}
-use Rattle.cap_run.specs.Canons.{AreCanonised, CanonStops, Canonised, IsCanonised, MakesCopies, canonised, copies_of}
+use Rattle.cap_run.specs.Canons.{AreCanonised, CanonStops, Canonised, IsCanonised, MakesCopiesUnder, canonised, copies_of}
 use Rattle.cap_run.specs.Copying.{Finishes}
+use Rattle.cap_run.specs.Demanding.{IsNotStrict, IsStrictUnder}
 use Rattle.cap_run.specs.Making.{Made}
 use Rattle.cap_run.specs.Running.{Settled, SettledAt}
 use Rattle.cap_run.specs.Streams.{ReadsAll, ReadsStream}
 use Rattle.cap_run.specs.declared.fault.Cause.{Cause}
-use Rattle.cap_run.specs.declared.fault.Cause.TheVariants.{TooManyMessages, Frame, Output, Refused, Canon, Memory as no_marks}
+use Rattle.cap_run.specs.declared.fault.Cause.TheVariants.{TooManyMessages, Frame, Output, Refused, NotStrict, Canon, Memory as no_marks}
 use Rattle.cap_run.specs.declared.fault.RunFault.{RunFault}
 use Rattle.cap_run.specs.declared.settings.Outcome.{Outcome}
 use Rattle.cap_run.proofs.Settling.{none_faulted, none_over, on_known, reads_next}
 use Rattle.cap_run.proofs.Streams.{reads_all}
 
 -- it is accepted within these limits, and has a copy
-abbrev HasOne : ℕ → ℕ → List (List ℕ) → Type 0
-HasOne words depth m = (copy : List ℕ) × IsCanonised words depth (record { message = m; copy = copy })
+abbrev HasOne : Demands → ℕ → ℕ → List (List ℕ) → Type 0
+HasOne demands words depth m = (copy : List ℕ) × IsCanonised demands words depth (record { message = m; copy = copy })
 
-each_has : (words depth : ℕ) (cs : List Canonised) → AreCanonised words depth cs → AllByRecursion (HasOne words depth) (canonised cs)
-each_has words depth [] a = tt
-each_has words depth (c ∷ cs) a = ((c.copy, a.0), each_has words depth cs a.1)
+each_has : (demands : Demands) (words depth : ℕ) (cs : List Canonised) → AreCanonised demands words depth cs
+    → AllByRecursion (HasOne demands words depth) (canonised cs)
+each_has demands words depth [] a = tt
+each_has demands words depth (c ∷ cs) a = ((c.copy, a.0), each_has demands words depth cs a.1)
+
+-- a strict message isn't one that isn't
+strict_is_strict : (demands : Demands) (m : List (List ℕ)) (words depth : ℕ) (fault : StrictRefusal)
+    → IsStrictUnder demands m words depth → ¬ IsNotStrict demands m words depth fault
+strict_is_strict demands m words depth (bad refusal) s f = f
+strict_is_strict demands m words depth ManySegments s f =
+    strict_not_fault m (words_under demands m words) depth ManySegments (s f.0) f.1
+strict_is_strict demands m words depth (Pointer what seg word pointers) s f =
+    strict_not_fault m (words_under demands m words) depth (Pointer what seg word pointers) (s f.0) f.1
 
 -- there are as many messages as copies
 length-canonised : (cs : List Canonised) → length (canonised cs) ≡ length cs
 length-canonised cs = length-map cs (λ c. c.message)
 
 -- the same messages have the same copies
-same_copies : (words depth : ℕ) (cs ds : List Canonised) → AreCanonised words depth cs → AreCanonised words depth ds
+same_copies : (demands : Demands) (words depth : ℕ) (cs ds : List Canonised) → AreCanonised demands words depth cs → AreCanonised demands words depth ds
     → canonised cs ≡ canonised ds → copies_of cs ≡ copies_of ds
-same_copies words depth [] [] a b e = refl
-same_copies words depth [] (d ∷ ds) a b e = absurd (cc)
-same_copies words depth (c ∷ cs) [] a b e = absurd (cc)
-same_copies words depth (c ∷ cs) (d ∷ ds) a b e =
+same_copies demands words depth [] [] a b e = refl
+same_copies demands words depth [] (d ∷ ds) a b e = absurd (cc)
+same_copies demands words depth (c ∷ cs) [] a b e = absurd (cc)
+same_copies demands words depth (c ∷ cs) (d ∷ ds) a b e =
     let first : c.message ≡ d.message = cc in
     let rest : canonised cs ≡ canonised ds = cc in
     let same : c.copy ≡ d.copy = one_copy d.message c.copy d.copy (subst (λ (m : List (List ℕ)). HasCopy m c.copy) first a.0.has_copy) b.0.has_copy in
     ap (λ (copy : List ℕ). frame_text (copy ∷ []) ++ copies_of cs) same
-    ∙ ap (λ (xs : List ℕ). frame_text (d.copy ∷ []) ++ xs) (same_copies words depth cs ds a.1 b.1 rest)
+    ∙ ap (λ (xs : List ℕ). frame_text (d.copy ∷ []) ++ xs) (same_copies demands words depth cs ds a.1 b.1 rest)
 
-module _ {S K : Type 0} (gs : source.Ghosts S) (gk : sink.Ghosts K) (words depth limit most : ℕ) (old new : S) (before after : K) where
+module _ {S K : Type 0} (gs : source.Ghosts S) (gk : sink.Ghosts K) (demands : Demands) (words depth limit most : ℕ) (old new : S) (before after : K) where
   -- what the engine's clauses say where it ended, and where it didn't
   abbrev pub SaysCopies : Result Outcome RunFault → Type 0
   SaysCopies r = IfOk r (λ outcome. (cs : List Canonised) × ReadsAll gs limit old new (canonised cs)
-      × AreCanonised words depth cs × Finishes gk before after (copies_of cs) × (length cs ≤ most)
+      × AreCanonised demands words depth cs × Finishes gk before after (copies_of cs) × (length cs ≤ most)
       × (outcome ≡ record { messages = length cs; refused = 0; noncanonical = 0 }))
 
   abbrev pub SaysNoCopies : Result Outcome RunFault → Type 0
   SaysNoCopies r = IfErr r (λ fault. (cs : List Canonised) × (mid : S) × (fault.message ≡ length cs)
-      × (length cs ≤ most) × ReadsStream gs limit old mid (canonised cs) × AreCanonised words depth cs
-      × CanonStops gs gk words depth limit most cs mid new before after fault.cause)
+      × (length cs ≤ most) × ReadsStream gs limit old mid (canonised cs) × AreCanonised demands words depth cs
+      × CanonStops gs gk demands words depth limit most cs mid new before after fault.cause)
 
   -- a message that was read next, of a stream of messages with copies
   next_has : (mid : S) (cs ds : List Canonised) (own : List ℕ) (m : List (List ℕ)) → gs.words old ≡ Some own
-      → Stream own (canonised ds) → AreCanonised words depth ds
-      → ReadsStream gs limit old mid (canonised cs) → ReadsStream gs limit mid new (m ∷ []) → HasOne words depth m
+      → Stream own (canonised ds) → AreCanonised demands words depth ds
+      → ReadsStream gs limit old mid (canonised cs) → ReadsStream gs limit mid new (m ∷ []) → HasOne demands words depth m
   next_has mid cs ds own m w s a reads last =
       let next = reads_next gs limit old mid new (canonised cs) own (canonised ds) m w s reads last in
-      (all_back (HasOne words depth) (canonised cs) (m ∷ next.0) (subst (AllByRecursion (HasOne words depth)) next.1 (each_has words depth ds a))).0
+      (all_back (HasOne demands words depth) (canonised cs) (m ∷ next.0) (subst (AllByRecursion (HasOne demands words depth)) next.1 (each_has demands words depth ds a))).0
 
   -- behind some messages of such a stream, no fault comes of the others
   canon_behind : (mid : S) (cs ds : List Canonised) (own : List ℕ) (cause : Cause) (P : Type 0)
       → gs.words old ≡ Some own → gs.is_cut old ≡ false → Stream own (canonised ds)
-      → AllByRecursion (λ m. sum (sizes_of m) ≤ limit) (canonised ds) → AreCanonised words depth ds → length ds ≤ most
+      → AllByRecursion (λ m. sum (sizes_of m) ≤ limit) (canonised ds) → AreCanonised demands words depth ds → length ds ≤ most
       → ReadsStream gs limit old mid (canonised cs)
-      → CanonStops gs gk words depth limit most cs mid new before after cause → SettledAt cause P
+      → CanonStops gs gk demands words depth limit most cs mid new before after cause → SettledAt cause P
   canon_behind mid cs ds own TooManyMessages P w c s l a few reads stops =
       absurd (none_over gs limit old mid new (canonised cs) own (canonised ds) stops.0.1 w s reads stops.0.2
       (omega (arith, few, stops.0.0, length-canonised cs, length-canonised ds)))
@@ -86,31 +102,34 @@ module _ {S K : Type 0} (gs : source.Ghosts S) (gk : sink.Ghosts K) (words depth
   canon_behind mid cs ds own (Refused refusal) P w c s l a few reads stops =
       let h = next_has mid cs ds own stops.0.1 w s a reads stops.0.2 in
       let k = h.1.is_accepted in
-      absurd (tree_not_refused stops.0.1 k.0 h.1.report.charge h.1.report.depth words depth refusal k.1.denotes k.1.within k.1.shallow stops.0.3)
+      absurd (tree_not_refused stops.0.1 k.0 h.1.report.charge h.1.report.depth (words_under demands stops.0.1 words) depth refusal k.1.denotes k.1.within k.1.shallow stops.0.3)
+  canon_behind mid cs ds own (NotStrict fault) P w c s l a few reads stops =
+      let h = next_has mid cs ds own stops.0.1 w s a reads stops.0.2 in
+      absurd (strict_is_strict demands stops.0.1 words depth fault h.1.is_strict stops.0.3)
   canon_behind mid cs ds own (Canon (HasCapability seg word)) P w c s l a few reads stops =
       let h = next_has mid cs ds own stops.0.1 w s a reads stops.0.3 in
-      absurd (cap_no_copy stops.0.1 seg word h.0 stops.0.5 h.1.has_copy)
+      absurd (cap_no_copy stops.0.1 seg word h.0 stops.0.6 h.1.has_copy)
   canon_behind mid cs ds own (Canon Memory) P w c s l a few reads stops = tt
   canon_behind mid cs ds own no_marks P w c s l a few reads stops = absurd stops
 
   -- such a stream is read to its end
   canon_settled : (r : Result Outcome RunFault) (own : List ℕ) (ds : List Canonised) → SaysCopies r → SaysNoCopies r
       → gs.words old ≡ Some own → gs.is_cut old ≡ false → Stream own (canonised ds)
-      → AllByRecursion (λ m. sum (sizes_of m) ≤ limit) (canonised ds) → AreCanonised words depth ds → length ds ≤ most
+      → AllByRecursion (λ m. sum (sizes_of m) ≤ limit) (canonised ds) → AreCanonised demands words depth ds → length ds ≤ most
       → Settled r (Finishes gk before after (copies_of ds) × (r ≡ Ok (record { messages = length ds; refused = 0; noncanonical = 0 })))
   canon_settled (Ok outcome) own ds end fault w c s l a few =
       let all = on_known (gs.words old) own _ w end.1.all in
       let words_same = same_some own end.1.own (sym w ∙ all.0) in
       let same = one_stream own (canonised end.0) (canonised ds) (subst (λ (ws : List ℕ). Stream ws (canonised end.0)) (sym words_same) end.1.stream) s in
       let many : length end.0 ≡ length ds = sym (length-canonised end.0) ∙ (ap length same ∙ length-canonised ds) in (
-        subst (Finishes gk before after) (same_copies words depth end.0 ds end.2 a same) end.3,
+        subst (Finishes gk before after) (same_copies demands words depth end.0 ds end.2 a same) end.3,
         ap (λ (o : Outcome). Ok o) (end.5 ∙ ap (λ (n : ℕ). record { messages = n; refused = 0; noncanonical = 0 }) many),
       )
   canon_settled (Err fault) own ds end f w c s l a few = canon_behind f.1 f.0 ds own fault.cause _ w c s l a few f.4 f.6
 
   -- how the run ended says all that is promised of its answer
-  pub makes_ok : (n : ℕ) → Made gs gk words depth limit most old new before after n (Ok tt)
-      → MakesCopies gs gk words depth limit most old new before after (Ok (record { messages = n; refused = 0; noncanonical = 0 }))
+  pub makes_ok : (n : ℕ) → Made gs gk demands words depth limit most old new before after n (Ok tt)
+      → MakesCopiesUnder gs gk demands words depth limit most old new before after (Ok (record { messages = n; refused = 0; noncanonical = 0 }))
   makes_ok n w =
       let ok : SaysCopies (Ok (record { messages = n; refused = 0; noncanonical = 0 })) = (
         w.cs,
@@ -127,8 +146,8 @@ module _ {S K : Type 0} (gs : source.Ghosts S) (gk : sink.Ghosts K) (words depth
             (Ok (record { messages = n; refused = 0; noncanonical = 0 })) own ds ok tt wd c s l a few;
       }
 
-  pub makes_err : (n : ℕ) (cause : Cause) → Made gs gk words depth limit most old new before after n (Err cause)
-      → MakesCopies gs gk words depth limit most old new before after (Err (record { message = n; cause = cause }))
+  pub makes_err : (n : ℕ) (cause : Cause) → Made gs gk demands words depth limit most old new before after n (Err cause)
+      → MakesCopiesUnder gs gk demands words depth limit most old new before after (Err (record { message = n; cause = cause }))
   makes_err n cause w =
       let err : SaysNoCopies (Err (record { message = n; cause = cause })) = (w.cs, w.mid, sym w.many, omega (arith, w.many, w.few), w.reads, w.each, w.ends) in
       record { ok = tt; err = err; whole = λ own ds wd c s l a few. canon_settled (Err (record { message = n; cause = cause })) own ds tt err wd c s l a few }

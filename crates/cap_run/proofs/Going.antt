@@ -7,7 +7,7 @@ use Rattle.cap_words.specs.declared.ends.OutFault.TheVariants.{Device, Memory, S
 use Rattle.cap_words.specs.declared.sources.WordSource as source
 use Rattle.cap_run.specs.declared.engines.stream.Counted.{Counted}
 use Rattle.cap_run.specs.declared.fault.Cause.{Cause}
-use Rattle.cap_run.specs.declared.fault.Cause.TheVariants.{TooManyMessages, Frame, Output, Refused, Canon, Memory as no_marks}
+use Rattle.cap_run.specs.declared.fault.Cause.TheVariants.{TooManyMessages, Frame, Output, Refused, NotStrict, Canon, Memory as no_marks}
 use Rattle.cap_run.specs.declared.settings.Outcome.{Outcome}
 use Rattle.cap_run.specs.Running.{Appended, EndStops, RunStops, StepStops, StopsIn}
 use Rattle.cap_run.specs.Streams.{ReadsStream}
@@ -131,6 +131,7 @@ module _ {S O : Type 0} (gs : source.Ghosts S) (go : output.Ghosts O) (tells : T
     stops_in go before between after fault (texts_of w.ts) q.0.text w.appended q.3,
   )
   going_stops old mid new before between after outcome number most (Refused refusal) w h q = absurd q
+  going_stops old mid new before between after outcome number most (NotStrict fault) w h q = absurd q
   going_stops old mid new before between after outcome number most (Canon fault) w h q = absurd q
   going_stops old mid new before between after outcome number most no_marks w h q = (omega (arith, w.many), rw q.3 w.appended, (q.0, q.1, q.2))
 
@@ -142,5 +143,6 @@ module _ {S O : Type 0} (gs : source.Ghosts S) (go : output.Ghosts O) (tells : T
   going_over old mid new before after outcome most (Frame fault) w q = (w.appended, q)
   going_over old mid new before after outcome most (Output fault) w q = absurd q
   going_over old mid new before after outcome most (Refused refusal) w q = absurd q
+  going_over old mid new before after outcome most (NotStrict fault) w q = absurd q
   going_over old mid new before after outcome most (Canon fault) w q = absurd q
   going_over old mid new before after outcome most no_marks w q = absurd q

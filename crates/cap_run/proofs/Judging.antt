@@ -8,28 +8,29 @@ use Rattle.cap_run.specs.Telling.{Tells}
 use Rattle.cap_run.specs.declared.engines.stream.Counted.{Counted}
 use Rattle.cap_run.specs.declared.fault.Cause.{Cause}
 use Rattle.cap_run.specs.declared.fault.Cause.TheVariants.{TooManyMessages, Frame, Output, Refused}
-use Rattle.cap_run.specs.declared.fault.Cause.TheVariants.{Canon, Memory as no_marks}
+use Rattle.cap_run.specs.declared.fault.Cause.TheVariants.{Canon, NotStrict, Memory as no_marks}
 
 module _ {O : Type 0} (g : output.Ghosts O) where
   -- one of some texts is one of others
-  pub writes_as : (texts others : List ℕ → Counted → Type 0) (wants : Type 0) (old new : O) (r : Result Counted Cause)
-      → ((text : List ℕ) (counted : Counted) → texts text counted → others text counted)
-      → WritesOneOf g texts ⊥ old new r → WritesOneOf g others wants old new r
-  writes_as texts others wants old new (Ok counted) h w = (w.0, h w.0 counted w.1, w.2)
-  writes_as texts others wants old new (Err TooManyMessages) h w = absurd w
-  writes_as texts others wants old new (Err (Frame fault)) h w = absurd w
-  writes_as texts others wants old new (Err (Output fault)) h w = (w.0, w.1, h w.0 w.1 w.2, w.3)
-  writes_as texts others wants old new (Err (Refused refusal)) h w = absurd w
-  writes_as texts others wants old new (Err (Canon fault)) h w = absurd w
-  writes_as texts others wants old new (Err no_marks) h w = absurd w.0
+  pub writes_as : (texts others : List ℕ → Counted → Type 0) (wants needs : Type 0) (old new : O) (r : Result Counted Cause)
+      → ((text : List ℕ) (counted : Counted) → texts text counted → others text counted) → (wants → needs)
+      → WritesOneOf g texts wants old new r → WritesOneOf g others needs old new r
+  writes_as texts others wants needs old new (Ok counted) h k w = (w.0, h w.0 counted w.1, w.2)
+  writes_as texts others wants needs old new (Err TooManyMessages) h k w = absurd w
+  writes_as texts others wants needs old new (Err (Frame fault)) h k w = absurd w
+  writes_as texts others wants needs old new (Err (Output fault)) h k w = (w.0, w.1, h w.0 w.1 w.2, w.3)
+  writes_as texts others wants needs old new (Err (Refused refusal)) h k w = absurd w
+  writes_as texts others wants needs old new (Err (NotStrict fault)) h k w = absurd w
+  writes_as texts others wants needs old new (Err (Canon fault)) h k w = absurd w
+  writes_as texts others wants needs old new (Err no_marks) h k w = (k w.0, w.1)
 
   -- one line
   pub writes_line : (line : List ℕ) (counted : Counted) (texts : List ℕ → Counted → Type 0) (wants : Type 0) (old new : O)
       (r : Result Counted Cause) → texts line counted
       → WritesOneOf g (λ text c. (text ≡ line) × (c ≡ counted)) ⊥ old new r → WritesOneOf g texts wants old new r
   writes_line line counted texts wants old new r h w =
-      writes_as (λ text c. (text ≡ line) × (c ≡ counted)) texts wants old new r
-      (λ text c e. subst (λ t. texts t c) (sym e.0) (subst (λ k. texts line k) (sym e.1) h)) w
+      writes_as (λ text c. (text ≡ line) × (c ≡ counted)) texts ⊥ wants old new r
+      (λ text c e. subst (λ t. texts t c) (sym e.0) (subst (λ k. texts line k) (sym e.1) h)) (λ never. absurd never) w
 
 module _ {S O : Type 0} (gs : source.Ghosts S) (go : output.Ghosts O) (tells : Tells)
     (wants : List (List ℕ) → Type 0) (limit n : ℕ) where
@@ -42,5 +43,6 @@ module _ {S O : Type 0} (gs : source.Ghosts S) (go : output.Ghosts O) (tells : T
   step_stops m old new before after (Output fault) r w =
       (record { message = m; text = w.0; counted = w.1 }, w.2, r, w.3)
   step_stops m old new before after (Refused refusal) r w = w
+  step_stops m old new before after (NotStrict fault) r w = w
   step_stops m old new before after (Canon fault) r w = w
   step_stops m old new before after no_marks r w = (m, r, w.0, w.1)

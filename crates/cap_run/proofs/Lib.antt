@@ -1,6 +1,7 @@
 pub mod CanonEnds
 pub mod Copying
 pub mod CopyEnds
+pub mod Demanding
 pub mod Dumping
 pub mod FoundNodes
 pub mod Going

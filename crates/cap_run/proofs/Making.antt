@@ -7,6 +7,8 @@ use Rattle.std.proofs.lemmas.List.{map-append}
 use Rattle.std.proofs.lemmas.Grind.{flat_map-append}
 use Rattle.cap_spec.specs.Frames.{frame_text}
 use Rattle.cap_spec.specs.Paths.{IsFirstCap}
+use Rattle.cap_spec.specs.declared.StrictRefusal.{StrictRefusal}
+use Rattle.cap_spec.specs.declared.StrictRefusal.TheVariants.{Refused as bad, ManySegments, Pointer}
 use Rattle.cap_spec.proofs.Bytes.Lists.{all_append}
 use Rattle.cap_words.specs.Sinks.{Begins, sink_fault_of}
 use Rattle.cap_words.specs.declared.ends.OutFault.{OutFault}
@@ -15,15 +17,17 @@ use Rattle.cap_words.specs.declared.sinks.WordSink as sink
 use Rattle.cap_words.specs.declared.sources.WordSource as source
 use Rattle.cap_frame.specs.Putting.{Blames, Halts}
 use Rattle.cap_frame.proofs.Putting.{begins_kept, blames_later}
+use Rattle.cap_vet.specs.Demands.{IsDemandFault}
+use Rattle.cap_vet.specs.declared.demands.Demands.{Demands}
 use Rattle.cap_canon.specs.declared.fault.CanonFault.{CanonFault}
 use Rattle.cap_canon.specs.declared.fault.CanonFault.TheVariants.{HasCapability, Memory}
 use Rattle.cap_run.specs.Canons.{CanonEnds, Canonised, HasNoCopy, IsCanonised, canonised, copies_of}
 use Rattle.cap_run.specs.Copying.{Fills, Finishes}
-use Rattle.cap_run.specs.Making.{CopiesEnd, CopiesSoFar, CopyStops, Made, Making, NextStops, StopsMaking, is_unfinished}
+use Rattle.cap_run.specs.Making.{CopiesEnd, CopiesSoFar, CopyStops, Made, Making, NextStops, StopsMaking, is_unfinished, refused_cause}
 use Rattle.cap_run.specs.Running.{EndStops}
 use Rattle.cap_run.specs.Streams.{EndsStream, ReadsStream}
 use Rattle.cap_run.specs.declared.fault.Cause.{Cause}
-use Rattle.cap_run.specs.declared.fault.Cause.TheVariants.{TooManyMessages, Frame, Output, Refused, Canon, Memory as no_marks}
+use Rattle.cap_run.specs.declared.fault.Cause.TheVariants.{TooManyMessages, Frame, Output, Refused, NotStrict, Canon, Memory as no_marks}
 use Rattle.cap_run.proofs.Copying.{fills_both, fills_none, finishes_behind, spoils_last}
 use Rattle.cap_run.proofs.Streams.{reads_both, reads_none}
 
@@ -45,6 +49,14 @@ module _ {K : Type 0} (gk : sink.Ghosts K) where
     blames = blames_later gk old mid new fault f.spent f.failures h.blames;
   }
 
+module _ {K : Type 0} (gk : sink.Ghosts K) (demands : Demands) (words depth : ℕ) where
+  -- a message that doesn't meet the demands has no copy
+  pub stops_refused : (m : List (List ℕ)) (k : K) (fault : StrictRefusal) → IsDemandFault demands m words depth fault
+      → CopyStops gk demands words depth m k k (refused_cause fault)
+  stops_refused m k (bad refusal) f = (f, refl)
+  stops_refused m k ManySegments f = (f, refl)
+  stops_refused m k (Pointer what s w pointers) f = (f, refl)
+
 -- one message more
 pub canonised-snoc : (cs : List Canonised) (c : Canonised) → canonised (cs ++ c ∷ []) ≡ canonised cs ++ c.message ∷ []
 canonised-snoc cs c = map-append (λ d. d.message) cs (c ∷ [])
@@ -52,45 +64,46 @@ canonised-snoc cs c = map-append (λ d. d.message) cs (c ∷ [])
 pub copies_of-snoc : (cs : List Canonised) (c : Canonised) → copies_of (cs ++ c ∷ []) ≡ copies_of cs ++ frame_text (c.copy ∷ [])
 copies_of-snoc cs c = flat_map-append (λ d. frame_text (d.copy ∷ [])) cs (c ∷ []) ∙ ap (λ l. copies_of cs ++ l) (append-nil (frame_text (c.copy ∷ [])))
 
-module _ {S K : Type 0} (gs : source.Ghosts S) (gk : sink.Ghosts K) (words depth limit : ℕ) where
+module _ {S K : Type 0} (gs : source.Ghosts S) (gk : sink.Ghosts K) (demands : Demands) (words depth limit : ℕ) where
   -- a message was read, and its copy wasn't put
   pub next_stops : (m : List (List ℕ)) (old new : S) (before after : K) (cause : Cause)
-      → ReadsStream gs limit old new (m ∷ []) → CopyStops gk words depth m before after cause
-      → NextStops gs gk words depth limit old new before after cause
+      → ReadsStream gs limit old new (m ∷ []) → CopyStops gk demands words depth m before after cause
+      → NextStops gs gk demands words depth limit old new before after cause
   next_stops m old new before after TooManyMessages r s = s
   next_stops m old new before after (Frame fault) r s = absurd s
   next_stops m old new before after (Output fault) r s = (m, r, s)
   next_stops m old new before after (Refused refusal) r s = (m, r, s)
+  next_stops m old new before after (NotStrict fault) r s = (m, r, s)
   next_stops m old new before after (Canon fault) r s = (m, r, s)
   next_stops m old new before after no_marks r s = s
 
   -- nothing was put yet
-  pub so_far_none : (s : S) (k : K) → CopiesSoFar gs gk words depth limit s s k k 0
+  pub so_far_none : (s : S) (k : K) → CopiesSoFar gs gk demands words depth limit s s k k 0
   so_far_none s k = record { cs = []; many = refl; reads = reads_none gs limit s; each = tt; fills = fills_none gk k }
 
   -- one copy more
-  pub so_far_more : (old mid new : S) (before between after : K) (n : ℕ) (c : Canonised) → CopiesSoFar gs gk words depth limit old mid before between n
-      → ReadsStream gs limit mid new (c.message ∷ []) → IsCanonised words depth c → Fills gk between after (frame_text (c.copy ∷ []))
-      → CopiesSoFar gs gk words depth limit old new before after (n + 1)
+  pub so_far_more : (old mid new : S) (before between after : K) (n : ℕ) (c : Canonised) → CopiesSoFar gs gk demands words depth limit old mid before between n
+      → ReadsStream gs limit mid new (c.message ∷ []) → IsCanonised demands words depth c → Fills gk between after (frame_text (c.copy ∷ []))
+      → CopiesSoFar gs gk demands words depth limit old new before after (n + 1)
   so_far_more old mid new before between after n c w reads is fills = record {
     cs = w.cs ++ c ∷ [];
     many = length-append w.cs (c ∷ []) ∙ ap (λ k. k + 1) w.many;
     reads = rw (canonised-snoc w.cs c) (reads_both gs limit old mid new (canonised w.cs) (c.message ∷ []) w.reads reads);
-    each = all_append (IsCanonised words depth) w.cs (c ∷ []) w.each (is, tt);
+    each = all_append (IsCanonised demands words depth) w.cs (c ∷ []) w.each (is, tt);
     fills = rw (copies_of-snoc w.cs c) (fills_both gk before between after (copies_of w.cs) (frame_text (c.copy ∷ [])) w.fills fills);
   }
 
   -- the stream ended
   pub making_ended : (most : ℕ) (old mid new : S) (before after : K) (n : ℕ) → n ≤ most
-      → CopiesSoFar gs gk words depth limit old mid before after n → EndsStream gs mid new
-      → Making gs gk words depth limit most old new before after n (Ok tt)
+      → CopiesSoFar gs gk demands words depth limit old mid before after n → EndsStream gs mid new
+      → Making gs gk demands words depth limit most old new before after n (Ok tt)
   making_ended most old mid new before after n few w ends =
       record { cs = w.cs; mid = mid; many = w.many; few = few; reads = w.reads; each = w.each; stops = (ends, w.fills) }
 
   -- the run ended at the next message
   stops_next : (most : ℕ) (old mid new : S) (before between after : K) (n : ℕ) (cause : Cause) → n < most
-      → (w : CopiesSoFar gs gk words depth limit old mid before between n)
-      → NextStops gs gk words depth limit mid new between after cause → StopsMaking gs gk words depth limit most w.cs mid new before after (Err cause)
+      → (w : CopiesSoFar gs gk demands words depth limit old mid before between n)
+      → NextStops gs gk demands words depth limit mid new between after cause → StopsMaking gs gk demands words depth limit most w.cs mid new before after (Err cause)
   stops_next most old mid new before between after n TooManyMessages less w s = absurd s
   stops_next most old mid new before between after n (Frame fault) less w s = (s.0, rw s.1 w.fills)
   stops_next most old mid new before between after n (Output fault) less w s = record {
@@ -101,12 +114,13 @@ module _ {S K : Type 0} (gs : source.Ghosts S) (gk : sink.Ghosts K) (words depth
     halts = halts_behind gk before between after (copies_of w.cs) (frame_text (s.2.0 ∷ [])) (sink_fault_of fault) w.fills s.2.2;
   }
   stops_next most old mid new before between after n (Refused refusal) less w s = ((omega (arith, less, w.many), s.0, s.1, s.2.0), rw s.2.1 w.fills)
-  stops_next most old mid new before between after n (Canon fault) less w s = ((omega (arith, less, w.many), s.0, s.2.0, s.1, s.2.1, s.2.2), rw s.2.3 w.fills)
+  stops_next most old mid new before between after n (NotStrict fault) less w s = ((omega (arith, less, w.many), s.0, s.1, s.2.0), rw s.2.1 w.fills)
+  stops_next most old mid new before between after n (Canon fault) less w s = ((omega (arith, less, w.many), s.0, s.2.0, s.1, s.2.1, s.2.2, s.2.3), rw s.2.4 w.fills)
   stops_next most old mid new before between after n no_marks less w s = absurd s
 
   pub making_stops : (most : ℕ) (old mid new : S) (before between after : K) (n : ℕ) (cause : Cause) → n < most
-      → CopiesSoFar gs gk words depth limit old mid before between n
-      → NextStops gs gk words depth limit mid new between after cause → Making gs gk words depth limit most old new before after n (Err cause)
+      → CopiesSoFar gs gk demands words depth limit old mid before between n
+      → NextStops gs gk demands words depth limit mid new between after cause → Making gs gk demands words depth limit most old new before after n (Err cause)
   making_stops most old mid new before between after n cause less w s = record {
     cs = w.cs;
     mid = mid;
@@ -119,21 +133,22 @@ module _ {S K : Type 0} (gs : source.Ghosts S) (gk : sink.Ghosts K) (words depth
 
   -- as many messages were read as may be
   stops_last : (most : ℕ) (old mid new : S) (before after : K) (end : Result (Unit {0}) Cause)
-      → (w : CopiesSoFar gs gk words depth limit old mid before after most)
+      → (w : CopiesSoFar gs gk demands words depth limit old mid before after most)
       → OnOk end (EndsStream gs mid new) → IfErr end (λ cause. EndStops gs limit mid new cause)
-      → StopsMaking gs gk words depth limit most w.cs mid new before after end
+      → StopsMaking gs gk demands words depth limit most w.cs mid new before after end
   stops_last most old mid new before after (Ok ended) w e s = (e, w.fills)
   stops_last most old mid new before after (Err TooManyMessages) w e s = ((w.many, s.0, s.1), w.fills)
   stops_last most old mid new before after (Err (Frame fault)) w e s = (s, w.fills)
   stops_last most old mid new before after (Err (Output fault)) w e s = absurd s
   stops_last most old mid new before after (Err (Refused refusal)) w e s = absurd s
+  stops_last most old mid new before after (Err (NotStrict fault)) w e s = absurd s
   stops_last most old mid new before after (Err (Canon fault)) w e s = absurd s
   stops_last most old mid new before after (Err no_marks) w e s = absurd s
 
   pub making_last : (most : ℕ) (old mid new : S) (before after : K) (end : Result (Unit {0}) Cause)
-      → CopiesSoFar gs gk words depth limit old mid before after most
+      → CopiesSoFar gs gk demands words depth limit old mid before after most
       → OnOk end (EndsStream gs mid new) → IfErr end (λ cause. EndStops gs limit mid new cause)
-      → Making gs gk words depth limit most old new before after most end
+      → Making gs gk demands words depth limit most old new before after most end
   making_last most old mid new before after end w e s =
       record {
         cs = w.cs;
@@ -148,17 +163,18 @@ module _ {S K : Type 0} (gs : source.Ghosts S) (gk : sink.Ghosts K) (words depth
 
   -- the output failed before the sink was finished
   ends_failed : (most : ℕ) (cs : List Canonised) (mid new : S) (before after : K) (end : Result (Unit {0}) Cause) → is_unfinished end ≡ false
-      → StopsMaking gs gk words depth limit most cs mid new before after end → CopiesEnd gs gk words depth limit most cs mid new before after end
+      → StopsMaking gs gk demands words depth limit most cs mid new before after end → CopiesEnd gs gk demands words depth limit most cs mid new before after end
   ends_failed most cs mid new before after (Ok ended) e s = absurd (false≢true (sym e))
   ends_failed most cs mid new before after (Err TooManyMessages) e s = absurd (false≢true (sym e))
   ends_failed most cs mid new before after (Err (Frame fault)) e s = absurd (false≢true (sym e))
   ends_failed most cs mid new before after (Err (Output fault)) e s = inl s
   ends_failed most cs mid new before after (Err (Refused refusal)) e s = absurd (false≢true (sym e))
+  ends_failed most cs mid new before after (Err (NotStrict fault)) e s = absurd (false≢true (sym e))
   ends_failed most cs mid new before after (Err (Canon fault)) e s = absurd (false≢true (sym e))
   ends_failed most cs mid new before after (Err no_marks) e s = absurd s
 
   pub made_failed : (most : ℕ) (old new : S) (before after : K) (n : ℕ) (end : Result (Unit {0}) Cause) → is_unfinished end ≡ false
-      → Making gs gk words depth limit most old new before after n end → Made gs gk words depth limit most old new before after n end
+      → Making gs gk demands words depth limit most old new before after n end → Made gs gk demands words depth limit most old new before after n end
   made_failed most old new before after n end e w =
       record {
         cs = w.cs;
@@ -173,32 +189,34 @@ module _ {S K : Type 0} (gs : source.Ghosts S) (gk : sink.Ghosts K) (words depth
 
   -- what is known before the sink is finished
   ends_before : (most : ℕ) (cs : List Canonised) (mid new : S) (before after : K) (end : Result (Unit {0}) Cause) → is_unfinished end ≡ true
-      → StopsMaking gs gk words depth limit most cs mid new before after end
-      → CanonEnds gs gk words depth limit most cs mid new end × Fills gk before after (copies_of cs)
+      → StopsMaking gs gk demands words depth limit most cs mid new before after end
+      → CanonEnds gs gk demands words depth limit most cs mid new end × Fills gk before after (copies_of cs)
   ends_before most cs mid new before after (Ok ended) e s = s
   ends_before most cs mid new before after (Err TooManyMessages) e s = s
   ends_before most cs mid new before after (Err (Frame fault)) e s = s
   ends_before most cs mid new before after (Err (Output fault)) e s = absurd (false≢true e)
   ends_before most cs mid new before after (Err (Refused refusal)) e s = s
+  ends_before most cs mid new before after (Err (NotStrict fault)) e s = s
   ends_before most cs mid new before after (Err (Canon fault)) e s = s
   ends_before most cs mid new before after (Err no_marks) e s = absurd s
 
   -- and once it is
   ends_behind : (most : ℕ) (cs : List Canonised) (mid new : S) (before after : K) (end : Result (Unit {0}) Cause)
-      → CanonEnds gs gk words depth limit most cs mid new end
-      → Finishes gk before after (copies_of cs) → CopiesEnd gs gk words depth limit most cs mid new before after end
+      → CanonEnds gs gk demands words depth limit most cs mid new end
+      → Finishes gk before after (copies_of cs) → CopiesEnd gs gk demands words depth limit most cs mid new before after end
   ends_behind most cs mid new before after (Ok ended) s f = (s, f)
   ends_behind most cs mid new before after (Err TooManyMessages) s f = (s, f)
   ends_behind most cs mid new before after (Err (Frame fault)) s f = (s, f)
   ends_behind most cs mid new before after (Err (Output fault)) s f = absurd s
   ends_behind most cs mid new before after (Err (Refused refusal)) s f = (s, f)
+  ends_behind most cs mid new before after (Err (NotStrict fault)) s f = (s, f)
   ends_behind most cs mid new before after (Err (Canon fault)) s f = (s, f)
   ends_behind most cs mid new before after (Err no_marks) s f = absurd s
 
   pub made_finished : (most : ℕ) (old new : S) (before between after : K) (n : ℕ) (end : Result (Unit {0}) Cause) → is_unfinished end ≡ true
-      → Making gs gk words depth limit most old new before between n end → Keeps (gk.text between []) (gk.taken after)
+      → Making gs gk demands words depth limit most old new before between n end → Keeps (gk.text between []) (gk.taken after)
       → (gk.closed between ≡ false) × (gk.closed after ≡ true) × (gk.failures after ≡ gk.failures between)
-      → Made gs gk words depth limit most old new before after n end
+      → Made gs gk demands words depth limit most old new before after n end
   made_finished most old new before between after n end e w k o =
       let s = ends_before most w.cs w.mid new before between end e w.stops in
       record {
@@ -213,8 +231,8 @@ module _ {S K : Type 0} (gs : source.Ghosts S) (gk : sink.Ghosts K) (words depth
 
   -- the output failed as it was finished
   pub made_spoiled : (most : ℕ) (old new : S) (before between after : K) (n : ℕ) (end : Result (Unit {0}) Cause) (out : OutFault) → is_unfinished end ≡ true
-      → Making gs gk words depth limit most old new before between n end → (gk.closed after ≡ true) × Begins (gk.text between []) (gk.taken after)
-      → Blames gk between after (sink_fault_of out) → Made gs gk words depth limit most old new before after n (Err (Output out))
+      → Making gs gk demands words depth limit most old new before between n end → (gk.closed after ≡ true) × Begins (gk.text between []) (gk.taken after)
+      → Blames gk between after (sink_fault_of out) → Made gs gk demands words depth limit most old new before after n (Err (Output out))
   made_spoiled most old new before between after n end out e w o b =
       let s = ends_before most w.cs w.mid new before between end e w.stops in
       record {

@@ -20,7 +20,7 @@ use Rattle.cap_run.specs.Running.{Appended, RunStops, Settled, SettledAt}
 use Rattle.cap_run.specs.Streams.{ReadsAll, ReadsStream}
 use Rattle.cap_run.specs.Telling.{Tells, TellsEach, Told, messages_of, outcome_of, texts_of}
 use Rattle.cap_run.specs.declared.fault.Cause.{Cause}
-use Rattle.cap_run.specs.declared.fault.Cause.TheVariants.{TooManyMessages, Frame, Output, Refused, Canon, Memory as no_marks}
+use Rattle.cap_run.specs.declared.fault.Cause.TheVariants.{TooManyMessages, Frame, Output, Refused, NotStrict, Canon, Memory as no_marks}
 use Rattle.cap_run.specs.declared.fault.RunFault.{RunFault}
 use Rattle.cap_run.specs.declared.settings.Outcome.{Outcome}
 use Rattle.cap_run.proofs.Telling.{length-messages_of}
@@ -117,6 +117,7 @@ module _ {S O : Type 0} (gs : source.Ghosts S) (go : output.Ghosts O) (tells_of 
       (messages_of ts) own ms fault P w c s l reads stops.1
   settled_behind wants mid ts own ms (Output fault) P w c s l few reads stops = tt
   settled_behind wants mid ts own ms (Refused refusal) P w c s l few reads stops = absurd stops
+  settled_behind wants mid ts own ms (NotStrict fault) P w c s l few reads stops = absurd stops
   settled_behind wants mid ts own ms (Canon fault) P w c s l few reads stops = absurd stops
   settled_behind wants mid ts own ms no_marks P w c s l few reads stops = tt
 

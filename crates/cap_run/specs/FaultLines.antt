@@ -1,6 +1,7 @@
 -- The lines of faults on standard error (profile).
 use Rattle.std.specs.Prelude.{ℕ, List, [], ◌∷◌, ◌++◌, codes, decimal}
-use Rattle.cap_spec.specs.Texts.{reason_name, then_number}
+use Rattle.cap_spec.specs.Texts.{Verdict, accepted, reason_name, refused, strict_verdict}
+use Rattle.cap_spec.specs.Texts.{then_number}
 use Rattle.cap_spec.specs.declared.Refusal.{Refusal}
 use Rattle.cap_words.specs.declared.sources.SourceFault.{SourceFault}
 use Rattle.cap_words.specs.declared.sources.SourceFault.TheVariants.{Truncated as source_truncated}
@@ -14,7 +15,7 @@ use Rattle.cap_canon.specs.declared.fault.CanonFault.TheVariants.{HasCapability}
 use Rattle.cap_canon.specs.declared.fault.CanonFault.TheVariants.{Memory as canon_memory}
 use Rattle.cap_run.specs.declared.fault.Cause.{Cause}
 use Rattle.cap_run.specs.declared.fault.Cause.TheVariants.{TooManyMessages, Frame, Output, Refused}
-use Rattle.cap_run.specs.declared.fault.Cause.TheVariants.{Canon, Memory as no_marks}
+use Rattle.cap_run.specs.declared.fault.Cause.TheVariants.{Canon, NotStrict, Memory as no_marks}
 use Rattle.cap_run.specs.declared.fault.CopyFault.{CopyFault}
 use Rattle.cap_run.specs.declared.fault.CopyFault.TheVariants.{TooManyWords, Source as copy_source}
 use Rattle.cap_run.specs.declared.fault.CopyFault.TheVariants.{Output as copy_output}
@@ -37,6 +38,11 @@ place_text s w = codes " at" ++ then_number s ++ 58 ∷ decimal w
 abbrev pub refusal_text : Refusal → List ℕ
 refusal_text r = codes "refused " ++ reason_name r.reason ++ place_text r.segment r.word
 
+-- the text for a message with this verdict, if it is refused: its line without the pointers
+abbrev pub refused_text : Verdict → List ℕ
+refused_text (accepted c d p k) = []
+refused_text (refused name s w p) = codes "refused " ++ name ++ place_text s w
+
 -- the text for a message of which no canonical copy was made
 abbrev pub canon_fault_text : CanonFault → List ℕ
 canon_fault_text (HasCapability s w) = codes "HasCapability" ++ place_text s w
@@ -52,6 +58,7 @@ cause_text n TooManyMessages = message_name n ++ codes "TooManyMessages"
 cause_text n (Frame fault) = message_name n ++ frame_fault_text fault
 cause_text n (Output fault) = codes "output failed"
 cause_text n (Refused refusal) = message_name n ++ refusal_text refusal
+cause_text n (NotStrict fault) = message_name n ++ refused_text (strict_verdict fault)
 cause_text n (Canon fault) = message_name n ++ canon_fault_text fault
 cause_text n no_marks = message_name n ++ codes "Memory"
 

@@ -1,6 +1,7 @@
 pub mod Canons
 pub mod Checking
 pub mod Copying
+pub mod Demanding
 pub mod Dumping
 pub mod Engines
 pub mod FaultLines

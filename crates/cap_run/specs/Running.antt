@@ -12,7 +12,7 @@ use Rattle.cap_canon.specs.declared.fault.CanonFault.TheVariants.{HasCapability}
 use Rattle.cap_canon.specs.declared.fault.CanonFault.TheVariants.{Memory as canon_memory}
 use Rattle.cap_run.specs.declared.fault.Cause.{Cause}
 use Rattle.cap_run.specs.declared.fault.Cause.TheVariants.{TooManyMessages, Frame, Output, Refused}
-use Rattle.cap_run.specs.declared.fault.Cause.TheVariants.{Canon, Memory as no_marks}
+use Rattle.cap_run.specs.declared.fault.Cause.TheVariants.{Canon, NotStrict, Memory as no_marks}
 use Rattle.cap_run.specs.declared.fault.RunFault.{RunFault}
 use Rattle.cap_run.specs.declared.engines.stream.Counted.{Counted}
 use Rattle.cap_run.specs.declared.settings.Outcome.{Outcome}
@@ -27,6 +27,7 @@ SettledAt TooManyMessages P = P
 SettledAt (Frame fault) P = Answered {A = Outcome} (Err fault) P
 SettledAt (Output fault) P = Unit {0}
 SettledAt (Refused refusal) P = P
+SettledAt (NotStrict fault) P = P
 SettledAt (Canon (HasCapability s w)) P = P
 SettledAt (Canon canon_memory) P = Unit {0}
 SettledAt no_marks P = Unit {0}
@@ -68,6 +69,7 @@ module _ {O : Type 0} (g : output.Ghosts O) where
   WritesOneOf texts wants old new (Err (Output fault)) =
       (text : List ℕ) × (counted : Counted) × texts text counted × Stopped g old new fault text
   WritesOneOf texts wants old new (Err (Refused refusal)) = ⊥
+  WritesOneOf texts wants old new (Err (NotStrict fault)) = ⊥
   WritesOneOf texts wants old new (Err (Canon fault)) = ⊥
   WritesOneOf texts wants old new (Err no_marks) = wants × (new ≡ old)
 
@@ -79,6 +81,7 @@ module _ {S : Type 0} (g : source.Ghosts S) where
   EndStops limit old new (Frame fault) = Faults g limit old new fault
   EndStops limit old new (Output fault) = ⊥
   EndStops limit old new (Refused refusal) = ⊥
+  EndStops limit old new (NotStrict fault) = ⊥
   EndStops limit old new (Canon fault) = ⊥
   EndStops limit old new no_marks = ⊥
 
@@ -98,6 +101,7 @@ module _ {S O : Type 0} (gs : source.Ghosts S) (go : output.Ghosts O) where
       (t : Told) × tells n t.message t.text t.counted × ReadsStream gs limit old new
       (t.message ∷ []) × Stopped go before after fault t.text
   StepStops tells wants limit n old new before after (Refused refusal) = ⊥
+  StepStops tells wants limit n old new before after (NotStrict fault) = ⊥
   StepStops tells wants limit n old new before after (Canon fault) = ⊥
   StepStops tells wants limit n old new before after no_marks = (m : List (List ℕ))
       × ReadsStream gs limit old new (m ∷ []) × wants m × (after ≡ before)
@@ -115,6 +119,7 @@ module _ {S O : Type 0} (gs : source.Ghosts S) (go : output.Ghosts O) where
       × ReadsStream gs limit mid new (t.message ∷ [])
       × StopsIn go before after fault (texts_of ts) t.text
   RunStops tells wants limit most ts mid new before after (Refused refusal) = ⊥
+  RunStops tells wants limit most ts mid new before after (NotStrict fault) = ⊥
   RunStops tells wants limit most ts mid new before after (Canon fault) = ⊥
   RunStops tells wants limit most ts mid new before after no_marks =
       (length ts < most) × Appended go before after (texts_of ts)

@@ -5,6 +5,7 @@ ghost use Rattle.std.specs.Prelude.{◌≡◌};
 
 use cap_canon::CanonFault;
 use cap_frame::FrameFault;
+use cap_spec::StrictRefusal;
 use cap_vet::Refusal;
 use cap_words::{OutFault, SinkFault, SourceFault};
 use thiserror::Error;
@@ -32,13 +33,18 @@ pub enum Cause {
     /// Writing or flushing the text failed. The output took a prefix of the text, or all of it.
     Output(OutFault),
     /// The message was refused, so that it has no canonical copy. Only
-    /// [`run_canon`](crate::run_canon) ends there.
+    /// [`run_canon`](crate::run_canon) and [`run_canon_with`](crate::run_canon_with) end there.
     Refused(Refusal),
+    /// The message was accepted and isn't strict. Only
+    /// [`run_canon_with`](crate::run_canon_with) ends there, if a strict message is demanded. It
+    /// isn't [`StrictRefusal::Refused`].
+    NotStrict(StrictRefusal),
     /// The message was accepted, and no canonical copy of it was made. Only
-    /// [`run_canon`](crate::run_canon) ends there.
+    /// [`run_canon`](crate::run_canon) and [`run_canon_with`](crate::run_canon_with) end there.
     Canon(CanonFault),
     /// The message was accepted, and the allocation of the marks for its words failed. Only
-    /// [`run_vet_exclusive`](crate::run_vet_exclusive) marks words.
+    /// [`run_vet_exclusive`](crate::run_vet_exclusive) and
+    /// [`run_vet_exclusive_with`](crate::run_vet_exclusive_with) mark words.
     Memory,
 }
 

@@ -1,8 +1,8 @@
 //! The engine that puts the canonical copy of each message to a sink.
 
-ghost use Rattle.cap_run.specs.Canons.{IsCanonised, MakesCopies};
+ghost use Rattle.cap_run.specs.Canons.{IsCanonised, MakesCopies, MakesCopiesUnder};
 ghost use Rattle.cap_run.specs.Copying.{Fills};
-ghost use Rattle.cap_run.specs.Making.{CopyStops, Made, Making, NextStops, PutsNext, is_unfinished};
+ghost use Rattle.cap_run.specs.Making.{CopyStops, Made, Making, NextStops, PutsNext, is_unfinished, refused_cause};
 ghost use Rattle.cap_run.specs.Streams.{EndsStream};
 ghost use Rattle.cap_frame.specs.Limit.{limit_of};
 ghost use Rattle.cap_frame.specs.Putting.{Halts};
@@ -16,7 +16,8 @@ use crate::fault::{Cause, RunFault, output_fault};
 use crate::settings::{Outcome, Settings};
 use cap_canon::canonical_bytes;
 use cap_frame::{ByteMessage, Segments, read_into};
-use cap_vet::{Limits, vet};
+use cap_spec::StrictRefusal;
+use cap_vet::{Demands, Limits, vet_with};
 use cap_words::{SinkFault, WordSink, WordSource};
 use std::alloc::Global;
 
@@ -47,23 +48,36 @@ fn put_framed<K: WordSink>(sink: &mut K, copy: &[u8]) -> Result<(), SinkFault>
     Ok(())
 }
 
-/// Vets a message and puts its canonical copy to the sink. If the message is refused, or no copy
-/// can be made, nothing is put.
+/// The cause if a message doesn't meet the demands.
+fn refused_by(refusal: StrictRefusal) -> Cause
+    ensures { result ≡ refused_cause refusal }
+{
+    match refusal {
+        StrictRefusal::Refused(refusal) => Cause::Refused(refusal),
+        StrictRefusal::ManySegments | StrictRefusal::Pointer { .. } => Cause::NotStrict(refusal),
+    }
+}
+
+/// Vets a message under demands, and puts its canonical copy to the sink. If the message doesn't
+/// meet them, or no copy can be made, nothing is put.
 fn put_copy<K: WordSink, M: Segments>(
     alloc: Global,
     sink: &mut K,
     message: &M,
     limits: Limits,
+    demands: Demands,
 ) -> Result<(), Cause>
     ensures ok { let m = M.segments message.now in OnOk result ((copy : List ℕ)
-        × IsCanonised (words_of limits) (depth_of limits) (record { message = m; copy = copy })
+        × IsCanonised demands (words_of limits) (depth_of limits)
+        (record { message = m; copy = copy })
         × Fills K.WordSink sink.old sink.new (frame_text (copy ∷ []))) }
     ensures err { let m = M.segments message.now in IfErr result (λ cause.
-        CopyStops K.WordSink (words_of limits) (depth_of limits) m sink.old sink.new cause) }
+        CopyStops K.WordSink demands (words_of limits) (depth_of limits) m
+        sink.old sink.new cause) }
 {
-    let vetted = match vet(message, limits) {
+    let vetted = match vet_with(message, limits, demands) {
         Ok(vetted) => vetted,
-        Err(refusal) => return Err(Cause::Refused(refusal)),
+        Err(refusal) => return Err(refused_by(refusal)),
     };
     let copy = match canonical_bytes(alloc, &vetted) {
         Ok(copy) => copy,
@@ -99,19 +113,20 @@ fn put_next<S: WordSource, K: WordSink>(
     source: &mut S,
     sink: &mut K,
     settings: &Settings,
+    demands: Demands,
 ) -> Result<bool, Cause>
     ensures some { result ≡ Ok true → let s = settings.now in PutsNext S.WordSource K.WordSink
-        (words_of s.limits) (depth_of s.limits) (limit_of s.size)
+        demands (words_of s.limits) (depth_of s.limits) (limit_of s.size)
         source.old source.new sink.old sink.new }
     ensures none { result ≡ Ok false →
         EndsStream S.WordSource source.old source.new × (sink.new ≡ sink.old) }
     ensures err { let s = settings.now in IfErr result (λ cause. NextStops S.WordSource K.WordSink
-        (words_of s.limits) (depth_of s.limits) (limit_of s.size)
+        demands (words_of s.limits) (depth_of s.limits) (limit_of s.size)
         source.old source.new sink.old sink.new cause) }
 {
     match read_into(alloc, source, settings.size, message) {
         Ok(true) => {
-            if let Err(cause) = put_copy(alloc, sink, &message.view(), settings.limits) {
+            if let Err(cause) = put_copy(alloc, sink, &message.view(), settings.limits, demands) {
                 return Err(cause);
             }
             match flush_before_waiting(source, sink) {
@@ -131,14 +146,15 @@ fn put_copies<S: WordSource, K: WordSink>(
     source: &mut S,
     sink: &mut K,
     settings: &Settings,
+    demands: Demands,
 ) -> (u32, Result<(), Cause>)
     ensures { let s = settings.now in Making S.WordSource K.WordSink
-        (words_of s.limits) (depth_of s.limits) (limit_of s.size) s.messages
+        demands (words_of s.limits) (depth_of s.limits) (limit_of s.size) s.messages
         source.old source.new sink.old sink.new result.0 result.1 }
 {
     let mut message = ByteMessage::blank(alloc);
     for number in 0..settings.messages {
-        match put_next(alloc, &mut message, source, sink, settings) {
+        match put_next(alloc, &mut message, source, sink, settings, demands) {
             Ok(true) => {}
             Ok(false) => return (number, Ok(())),
             Err(cause) => return (number, Err(cause)),
@@ -163,12 +179,13 @@ fn make_copies<S: WordSource, K: WordSink>(
     source: &mut S,
     sink: &mut K,
     settings: &Settings,
+    demands: Demands,
 ) -> (u32, Result<(), Cause>)
     ensures { let s = settings.now in Made S.WordSource K.WordSink
-        (words_of s.limits) (depth_of s.limits) (limit_of s.size) s.messages
+        demands (words_of s.limits) (depth_of s.limits) (limit_of s.size) s.messages
         source.old source.new sink.old sink.new result.0 result.1 }
 {
-    let (messages, end) = put_copies(alloc, source, sink, settings);
+    let (messages, end) = put_copies(alloc, source, sink, settings, demands);
     if without_fault(&end) {
         if let Err(fault) = sink.finish() {
             return (messages, Err(Cause::Output(output_fault(fault))));
@@ -213,7 +230,44 @@ pub fn run_canon<S: WordSource, K: WordSink>(
         (words_of s.limits) (depth_of s.limits) (limit_of s.size) s.messages
         source.old source.new sink.old sink.new result }
 {
-    let (messages, end) = make_copies(alloc, source, sink, settings);
+    run_canon_with(alloc, source, sink, settings, Demands::default())
+}
+
+/// Reads the messages of a stream to its end, and puts the canonical copy of each to a sink, as
+/// [`run_canon`] does. The run also ends at a message that doesn't meet the demands (profile).
+///
+/// What is put, flushed and finished, and what is allocated, is as in [`run_canon`].
+///
+/// # Errors
+///
+/// The error names the message at which the run ended, counted from 0. The copies of all messages
+/// before it were put, and no message after it was read.
+///
+/// - [`Cause::TooManyMessages`]: the stream has more than `settings.messages` messages.
+/// - [`Cause::Frame`]: the message can't be read within `settings.size`, see
+///   [`FrameFault`](cap_frame::FrameFault).
+/// - [`Cause::Refused`]: the message isn't accepted within `settings.limits` and the word limit of
+///   an unamplified message, if that is demanded. The refusal names the first bad pointer and the
+///   reason.
+/// - [`Cause::NotStrict`]: a strict message is demanded, and the message is accepted and isn't
+///   strict, see [`vet_with`](cap_vet::vet_with). It may have a capability.
+/// - [`Cause::Canon`]: the message has a capability, so that it has no copy, or the allocation of
+///   the copy failed.
+/// - [`Cause::Output`]: the output failed as a copy was put or flushed, or as the sink was
+///   finished. It took a prefix of the text of the copies. If finishing the sink fails after
+///   another error, `Output` is returned.
+pub fn run_canon_with<S: WordSource, K: WordSink>(
+    alloc: Global,
+    source: &mut S,
+    sink: &mut K,
+    settings: &Settings,
+    demands: Demands,
+) -> Result<Outcome, RunFault>
+    ensures { let s = settings.now in MakesCopiesUnder S.WordSource K.WordSink
+        demands (words_of s.limits) (depth_of s.limits) (limit_of s.size) s.messages
+        source.old source.new sink.old sink.new result }
+{
+    let (messages, end) = make_copies(alloc, source, sink, settings, demands);
     match end {
         Ok(()) => Ok(Outcome {
             messages,

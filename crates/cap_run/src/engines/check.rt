@@ -1,6 +1,7 @@
 //! The engine that writes for each message whether it is canonical.
 
 ghost use Rattle.cap_run.specs.Checking.{TellsCheck, TellsChecked};
+ghost use Rattle.cap_run.specs.Demanding.{TellsCheckUnder};
 ghost use Rattle.cap_run.specs.Engines.{TellsStream};
 ghost use Rattle.cap_run.specs.Telling.{WantsNone};
 ghost use Rattle.cap_frame.specs.Limit.{limit_of};
@@ -15,7 +16,7 @@ use crate::texts::page::Page;
 use crate::texts::verdict::check_line;
 use cap_canon::is_canonical;
 use cap_frame::Segments;
-use cap_vet::Vetted;
+use cap_vet::{Demands, Vetted};
 use cap_words::{ByteOut, WordSource};
 use std::alloc::Global;
 
@@ -25,6 +26,8 @@ struct CheckTeller;
 
 impl Teller for CheckTeller {
     ghost tells = { λ _. TellsChecked };
+
+    ghost wants = { λ _ _ _. WantsNone };
 
     fn tell<M: Segments, O: ByteOut>(
         &self,
@@ -82,5 +85,36 @@ pub fn run_check<S: WordSource, O: ByteOut>(
         (TellsCheck (words_of s.limits) (depth_of s.limits)) WantsNone
         (limit_of s.size) s.messages source.old source.new out.old out.new result }
 {
-    vet_all(alloc, source, out, settings, CheckTeller)
+    run_check_with(alloc, source, out, settings, Demands::default())
+}
+
+/// Reads the messages of a stream to its end, and writes for each whether it is canonical, as
+/// [`run_check`] does. For a message that isn't accepted within `settings.limits`, or doesn't meet
+/// the demands, it writes the line of [`run_vet_with`](crate::run_vet_with).
+///
+/// Everything else is as in [`run_check`]: what is counted and flushed, and what is allocated.
+///
+/// # Errors
+///
+/// The error names the message at which the run ended, counted from 0. The lines of all messages
+/// before it were written, and no message after it was read.
+///
+/// - [`Cause::TooManyMessages`](crate::Cause::TooManyMessages): the stream has more than
+///   `settings.messages` messages.
+/// - [`Cause::Frame`](crate::Cause::Frame): the message can't be read within `settings.size`, see
+///   [`FrameFault`](cap_frame::FrameFault).
+/// - [`Cause::Output`](crate::Cause::Output): the output failed as the line was written or flushed.
+///   It took a prefix of the line, or all of it.
+pub fn run_check_with<S: WordSource, O: ByteOut>(
+    alloc: Global,
+    source: &mut S,
+    out: &mut O,
+    settings: &Settings,
+    demands: Demands,
+) -> Result<Outcome, RunFault>
+    ensures { let s = settings.now in TellsStream S.WordSource O.ByteOut
+        (TellsCheckUnder demands (words_of s.limits) (depth_of s.limits)) WantsNone
+        (limit_of s.size) s.messages source.old source.new out.old out.new result }
+{
+    vet_all(alloc, source, out, settings, demands, CheckTeller)
 }

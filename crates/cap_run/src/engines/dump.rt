@@ -1,5 +1,6 @@
 //! The engine that writes the tree of each message.
 
+ghost use Rattle.cap_run.specs.Demanding.{TellsDumpUnder};
 ghost use Rattle.cap_run.specs.Engines.{TellsStream};
 ghost use Rattle.cap_run.specs.Telling.{WantsNone};
 ghost use Rattle.cap_run.specs.Vetting.{TellsDump, TellsTree, accepted_text};
@@ -21,7 +22,7 @@ use crate::texts::output::write_page;
 use crate::texts::page::Page;
 use crate::texts::verdict::accepted_line;
 use cap_frame::Segments;
-use cap_vet::Vetted;
+use cap_vet::{Demands, Vetted};
 use cap_words::{ByteOut, OutFault, WordSource};
 use std::alloc::Global;
 
@@ -49,6 +50,8 @@ fn write_tree<M: Segments, O: ByteOut>(
 
 impl Teller for DumpTeller {
     ghost tells = { λ _. TellsTree };
+
+    ghost wants = { λ _ _ _. WantsNone };
 
     fn tell<M: Segments, O: ByteOut>(
         &self,
@@ -94,5 +97,36 @@ pub fn run_dump<S: WordSource, O: ByteOut>(
         (TellsDump (words_of s.limits) (depth_of s.limits)) WantsNone
         (limit_of s.size) s.messages source.old source.new out.old out.new result }
 {
-    vet_all(alloc, source, out, settings, DumpTeller)
+    run_dump_with(alloc, source, out, settings, Demands::default())
+}
+
+/// Reads the messages of a stream to its end, and writes for each the line of
+/// [`run_vet_with`](crate::run_vet_with). After the line of an accepted message it writes the
+/// message's whole tree, as [`dump`](crate::dump) does.
+///
+/// Everything else is as in [`run_dump`]: what is counted and flushed, and what is allocated.
+///
+/// # Errors
+///
+/// The error names the message at which the run ended, counted from 0. The texts of all messages
+/// before it were written, and no message after it was read.
+///
+/// - [`Cause::TooManyMessages`](crate::Cause::TooManyMessages): the stream has more than
+///   `settings.messages` messages.
+/// - [`Cause::Frame`](crate::Cause::Frame): the message can't be read within `settings.size`, see
+///   [`FrameFault`](cap_frame::FrameFault).
+/// - [`Cause::Output`](crate::Cause::Output): the output failed as the text was written or flushed.
+///   It took a prefix of the text, or all of it.
+pub fn run_dump_with<S: WordSource, O: ByteOut>(
+    alloc: Global,
+    source: &mut S,
+    out: &mut O,
+    settings: &Settings,
+    demands: Demands,
+) -> Result<Outcome, RunFault>
+    ensures { let s = settings.now in TellsStream S.WordSource O.ByteOut
+        (TellsDumpUnder demands (words_of s.limits) (depth_of s.limits)) WantsNone
+        (limit_of s.size) s.messages source.old source.new out.old out.new result }
+{
+    vet_all(alloc, source, out, settings, demands, DumpTeller)
 }

@@ -1,50 +1,45 @@
 //! The engine that writes for each message whether it is accepted and uses no word twice.
 
+ghost use Rattle.cap_run.specs.Demanding.{TellsExclusiveUnder, TellsMarked, WantsMarksUnder};
 ghost use Rattle.cap_run.specs.Engines.{TellsStream};
 ghost use Rattle.cap_run.specs.Vetting.{TellsExclusive, WantsMarks};
 ghost use Rattle.cap_frame.specs.Limit.{limit_of};
 ghost use Rattle.cap_vet.specs.Limits.{depth_of, words_of};
 
-use crate::engines::stream::{Counted, tell_all};
-use crate::engines::whole::{Judge, Whole, write_line};
+use crate::engines::stream::Counted;
+use crate::engines::whole::{Teller, vet_all, write_line};
 use crate::fault::{Cause, RunFault};
 use crate::settings::{Outcome, Settings};
 use crate::texts::page::Page;
-use crate::texts::verdict::{accepted_line, overlap_line, refused_line};
+use crate::texts::verdict::{accepted_line, overlap_line};
 use cap_frame::Segments;
-use cap_vet::{ExclusiveRefusal, Limits, vet_exclusive};
+use cap_vet::{Demands, ExclusiveRefusal, Vetted};
 use cap_words::{ByteOut, WordSource};
 use std::alloc::Global;
 
-/// Vets a message exclusively. Writes the numbers of its tree if it is accepted within the limits
-/// and uses no word twice. Otherwise it writes the first bad pointer, or the first pointer that
-/// overlaps.
+/// Writes the numbers of an accepted message's tree if the message uses no word twice. Otherwise it
+/// writes the first pointer that overlaps.
 #[derive(Clone, Copy)]
-struct ExclusiveVetting {
+struct ExclusiveTeller {
     alloc: Global,
-    limits: Limits,
 }
 
-impl Judge for ExclusiveVetting {
-    ghost tells = { λ v. TellsExclusive (words_of v.limits) (depth_of v.limits) };
+impl Teller for ExclusiveTeller {
+    ghost tells = { λ _. TellsMarked };
 
-    ghost wants = { λ v. WantsMarks (words_of v.limits) (depth_of v.limits) };
+    ghost wants = { λ _. WantsMarks };
 
-    fn judge<M: Segments, O: ByteOut>(
+    fn tell<M: Segments, O: ByteOut>(
         &self,
         page: &mut Page,
         out: &mut O,
         number: u32,
-        message: &M,
+        vetted: &Vetted<'_, M>,
     ) -> Result<Counted, Cause> {
-        match vet_exclusive(self.alloc, message, self.limits) {
+        match vetted.into_exclusive(self.alloc) {
             Ok(exclusive) => {
                 accepted_line(page, number, &exclusive.into_vetted().report());
                 write_line(page, out, Counted::Accepted)
-            }
-            Err(ExclusiveRefusal::Refused(refusal)) => {
-                refused_line(page, number, &refusal);
-                write_line(page, out, Counted::Refused)
             }
             Err(
                 ExclusiveRefusal::Overlap {
@@ -57,6 +52,8 @@ impl Judge for ExclusiveVetting {
                 write_line(page, out, Counted::Refused)
             }
             Err(ExclusiveRefusal::Memory) => Err(Cause::Memory),
+            // The message is accepted.
+            Err(ExclusiveRefusal::Refused(_)) => unreachable!(),
         }
     }
 }
@@ -99,9 +96,44 @@ pub fn run_vet_exclusive<S: WordSource, O: ByteOut>(
         TellsStream S.WordSource O.ByteOut (TellsExclusive w d) (WantsMarks w d)
         (limit_of s.size) s.messages source.old source.new out.old out.new result }
 {
-    let judge = ExclusiveVetting {
-        alloc,
-        limits: settings.limits,
-    };
-    tell_all(source, out, settings, &Whole { alloc, judge })
+    run_vet_exclusive_with(alloc, source, out, settings, Demands::default())
+}
+
+/// Reads the messages of a stream to its end, and vets each exclusively under demands (profile). A
+/// message is accepted if its root denotes a finite tree within `settings.limits`, it meets
+/// `demands`, and it uses no word twice.
+///
+/// For a message that [`run_vet_with`](crate::run_vet_with) refuses, the line is the same as there.
+/// So a message that isn't strict is refused for that, also if a pointer overlaps. Every other line
+/// is that of [`run_vet_exclusive`], and so is what is counted and flushed.
+///
+/// Allocates to hold a message only if it is larger than all before it: eight bytes for each word.
+/// For a message that meets the demands it allocates the marks: one bit for each word, and at most
+/// 64 bits more.
+///
+/// # Errors
+///
+/// The error names the message at which the run ended, counted from 0. The lines of all messages
+/// before it were written, and no message after it was read.
+///
+/// - [`Cause::TooManyMessages`]: the stream has more than `settings.messages` messages.
+/// - [`Cause::Frame`]: the message can't be read within `settings.size`, see
+///   [`FrameFault`](cap_frame::FrameFault).
+/// - [`Cause::Output`]: the output failed as the line was written or flushed. It took a prefix of
+///   the line, or all of it.
+/// - [`Cause::Memory`]: the message meets the demands within the limits, and the allocation of the
+///   marks failed. Nothing was written for it.
+pub fn run_vet_exclusive_with<S: WordSource, O: ByteOut>(
+    alloc: Global,
+    source: &mut S,
+    out: &mut O,
+    settings: &Settings,
+    demands: Demands,
+) -> Result<Outcome, RunFault>
+    ensures { let s = settings.now in let w = words_of s.limits in let d = depth_of s.limits in
+        TellsStream S.WordSource O.ByteOut
+        (TellsExclusiveUnder demands w d) (WantsMarksUnder demands w d)
+        (limit_of s.size) s.messages source.old source.new out.old out.new result }
+{
+    vet_all(alloc, source, out, settings, demands, ExclusiveTeller { alloc })
 }

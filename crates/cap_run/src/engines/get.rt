@@ -1,5 +1,6 @@
 //! The engine that writes the node of each message at one path.
 
+ghost use Rattle.cap_run.specs.Demanding.{TellsGetUnder};
 ghost use Rattle.cap_run.specs.Engines.{TellsStream};
 ghost use Rattle.cap_run.specs.Telling.{WantsNone};
 ghost use Rattle.cap_run.specs.Vetting.{TellsGet, TellsNode};
@@ -14,7 +15,7 @@ use crate::texts::get::write_node;
 use crate::texts::page::Page;
 use cap_frame::Segments;
 use cap_spec::Step;
-use cap_vet::Vetted;
+use cap_vet::{Demands, Vetted};
 use cap_words::{ByteOut, WordSource};
 use std::alloc::Global;
 
@@ -26,6 +27,8 @@ struct GetTeller<'p> {
 
 impl<'p> Teller for GetTeller<'p> {
     ghost tells = { λ t words depth. TellsNode words depth t.path.now };
+
+    ghost wants = { λ _ _ _. WantsNone };
 
     fn tell<M: Segments, O: ByteOut>(
         &self,
@@ -73,5 +76,38 @@ pub fn run_get<S: WordSource, O: ByteOut>(
         (TellsGet (words_of s.limits) (depth_of s.limits) path.now) WantsNone
         (limit_of s.size) s.messages source.old source.new out.old out.new result }
 {
-    vet_all(alloc, source, out, settings, GetTeller { path })
+    run_get_with(alloc, source, out, settings, Demands::default(), path)
+}
+
+/// Reads the messages of a stream to its end, and writes for each the node of its tree at the path,
+/// without the node's children. If the tree has no node there, it writes `none`. For a message that
+/// is refused or doesn't meet the demands it writes the line of
+/// [`run_vet_with`](crate::run_vet_with).
+///
+/// Everything else is as in [`run_get`]: what is counted and flushed, and what is allocated.
+///
+/// # Errors
+///
+/// The error names the message at which the run ended, counted from 0. The texts of all messages
+/// before it were written, and no message after it was read.
+///
+/// - [`Cause::TooManyMessages`](crate::Cause::TooManyMessages): the stream has more than
+///   `settings.messages` messages.
+/// - [`Cause::Frame`](crate::Cause::Frame): the message can't be read within `settings.size`, see
+///   [`FrameFault`](cap_frame::FrameFault).
+/// - [`Cause::Output`](crate::Cause::Output): the output failed as the text was written or flushed.
+///   It took a prefix of the text, or all of it.
+pub fn run_get_with<S: WordSource, O: ByteOut>(
+    alloc: Global,
+    source: &mut S,
+    out: &mut O,
+    settings: &Settings,
+    demands: Demands,
+    path: &[Step],
+) -> Result<Outcome, RunFault>
+    ensures { let s = settings.now in TellsStream S.WordSource O.ByteOut
+        (TellsGetUnder demands (words_of s.limits) (depth_of s.limits) path.now) WantsNone
+        (limit_of s.size) s.messages source.old source.new out.old out.new result }
+{
+    vet_all(alloc, source, out, settings, demands, GetTeller { path })
 }

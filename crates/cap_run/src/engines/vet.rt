@@ -1,5 +1,6 @@
 //! The engine that writes for each message whether it is accepted.
 
+ghost use Rattle.cap_run.specs.Demanding.{TellsVerdictUnder};
 ghost use Rattle.cap_run.specs.Engines.{TellsStream};
 ghost use Rattle.cap_run.specs.Telling.{WantsNone};
 ghost use Rattle.cap_run.specs.Vetting.{TellsAccepted, TellsVerdict};
@@ -13,7 +14,7 @@ use crate::settings::{Outcome, Settings};
 use crate::texts::page::Page;
 use crate::texts::verdict::accepted_line;
 use cap_frame::Segments;
-use cap_vet::Vetted;
+use cap_vet::{Demands, Vetted};
 use cap_words::{ByteOut, WordSource};
 use std::alloc::Global;
 
@@ -23,6 +24,8 @@ struct VetTeller;
 
 impl Teller for VetTeller {
     ghost tells = { λ _. TellsAccepted };
+
+    ghost wants = { λ _ _ _. WantsNone };
 
     fn tell<M: Segments, O: ByteOut>(
         &self,
@@ -66,5 +69,37 @@ pub fn run_vet<S: WordSource, O: ByteOut>(
         (TellsVerdict (words_of s.limits) (depth_of s.limits)) WantsNone
         (limit_of s.size) s.messages source.old source.new out.old out.new result }
 {
-    vet_all(alloc, source, out, settings, VetTeller)
+    run_vet_with(alloc, source, out, settings, Demands::default())
+}
+
+/// Reads the messages of a stream to its end, and vets each under demands (profile). A message is
+/// accepted if its root denotes a finite tree within `settings.limits`, and it meets `demands`. The
+/// line of a message that is accepted has the numbers of its tree. The line of one that isn't has
+/// the first reason and the place, see [`vet_with`](cap_vet::vet_with).
+///
+/// Everything else is as in [`run_vet`]: what is counted and flushed, and what is allocated.
+///
+/// # Errors
+///
+/// The error names the message at which the run ended, counted from 0. The lines of all messages
+/// before it were written, and no message after it was read.
+///
+/// - [`Cause::TooManyMessages`](crate::Cause::TooManyMessages): the stream has more than
+///   `settings.messages` messages.
+/// - [`Cause::Frame`](crate::Cause::Frame): the message can't be read within `settings.size`, see
+///   [`FrameFault`](cap_frame::FrameFault).
+/// - [`Cause::Output`](crate::Cause::Output): the output failed as the line was written or flushed.
+///   It took a prefix of the line, or all of it.
+pub fn run_vet_with<S: WordSource, O: ByteOut>(
+    alloc: Global,
+    source: &mut S,
+    out: &mut O,
+    settings: &Settings,
+    demands: Demands,
+) -> Result<Outcome, RunFault>
+    ensures { let s = settings.now in TellsStream S.WordSource O.ByteOut
+        (TellsVerdictUnder demands (words_of s.limits) (depth_of s.limits)) WantsNone
+        (limit_of s.size) s.messages source.old source.new out.old out.new result }
+{
+    vet_all(alloc, source, out, settings, demands, VetTeller)
 }

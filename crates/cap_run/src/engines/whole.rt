@@ -1,10 +1,9 @@
 //! Writing a text about each message of a stream, with the whole message in memory.
 
 ghost use Rattle.cap_frame.specs.Limit.{limit_of};
+ghost use Rattle.cap_run.specs.Demanding.{OrFault, WantsUnder};
 ghost use Rattle.cap_run.specs.Engines.{TellsStream};
 ghost use Rattle.cap_run.specs.Running.{WritesOneOf};
-ghost use Rattle.cap_run.specs.Telling.{WantsNone};
-ghost use Rattle.cap_run.specs.Vetting.{OrRefused};
 ghost use Rattle.cap_vet.specs.Limits.{depth_of, words_of};
 ghost use Rattle.cap_vet.specs.Reports.{IsReport};
 ghost use Rattle.cap_vet.specs.Vettings.{message_of, report_of};
@@ -18,37 +17,9 @@ use crate::texts::output::write_bytes;
 use crate::texts::page::Page;
 use crate::texts::verdict::refused_line;
 use cap_frame::{ByteMessage, Segments, SizeLimit, read_into};
-use cap_vet::{Limits, Vetted, vet};
+use cap_vet::{Demands, Limits, Vetted, vet_with};
 use cap_words::{ByteOut, WordSource};
 use std::alloc::Global;
-
-/// What an engine decides about a message that was read, and writes about it.
-pub(crate) trait Judge {
-    ghost use Rattle.cap_run.specs.declared.engines.stream.Counted.{Counted};
-
-    // The texts that may be written of a message, by its number, each with what is counted then.
-    ghost tells: { Self → ℕ → List (List ℕ) → List ℕ → Counted → Type 0 };
-
-    // The messages that need an allocation.
-    ghost wants: { Self → List (List ℕ) → Type 0 };
-
-    /// Writes the text of a message. What the page held before isn't written.
-    ///
-    /// # Errors
-    ///
-    /// - [`Cause::Output`]: the output failed. It took a prefix of the text.
-    /// - [`Cause::Memory`]: an allocation failed. The output took nothing.
-    fn judge<M: Segments, O: ByteOut>(
-        &self,
-        page: &mut Page,
-        out: &mut O,
-        number: u32,
-        message: &M,
-    ) -> Result<Counted, Cause>
-        ensures { let m = M.segments message.now in
-            WritesOneOf O.ByteOut (tells self.now number m) (wants self.now m)
-            out.old out.new result };
-}
 
 /// What an engine writes about an accepted message.
 pub(crate) trait Teller {
@@ -58,8 +29,15 @@ pub(crate) trait Teller {
     // levels, by its number. Each comes with what is counted then.
     ghost tells: { Self → ℕ → ℕ → ℕ → List (List ℕ) → List ℕ → Counted → Type 0 };
 
-    /// Writes the text of an accepted message. After an error the output took a prefix of the text.
-    /// What the page held before isn't written.
+    // The messages that need an allocation, of those that are accepted within these limits.
+    ghost wants: { Self → ℕ → ℕ → List (List ℕ) → Type 0 };
+
+    /// Writes the text of an accepted message. What the page held before isn't written.
+    ///
+    /// # Errors
+    ///
+    /// - [`Cause::Output`]: the output failed. It took a prefix of the text.
+    /// - [`Cause::Memory`]: an allocation failed. The output took nothing.
     fn tell<M: Segments, O: ByteOut>(
         &self,
         page: &mut Page,
@@ -69,7 +47,8 @@ pub(crate) trait Teller {
     ) -> Result<Counted, Cause>
         ensures { (words depth : ℕ) (t : Tree) → let m = M.segments (message_of vetted.now) in
             IsReport m words depth (report_of vetted.now) t →
-            WritesOneOf O.ByteOut (tells self.now words depth number m) ⊥ out.old out.new result };
+            WritesOneOf O.ByteOut (tells self.now words depth number m)
+            (wants self.now words depth m) out.old out.new result };
 }
 
 /// Writes the line on a page, and returns what is counted of its message.
@@ -88,27 +67,35 @@ pub(crate) fn write_line<O: ByteOut>(
     }
 }
 
-/// Vets a message, and writes the text of its teller if the message is accepted within the limits.
-/// Otherwise it writes the first bad pointer and the reason.
+/// Vets a message under demands, and writes the text of its teller if the message meets them.
+/// Otherwise it writes the first reason why not, and the place.
 #[derive(Clone, Copy)]
-struct Vetting<T> {
+pub(crate) struct Vetting<T> {
     limits: Limits,
+    demands: Demands,
     teller: T,
 }
 
-impl<T: Teller> Judge for Vetting<T> {
-    ghost tells = { λ v. OrRefused (T.tells v.teller) (words_of v.limits) (depth_of v.limits) };
-
-    ghost wants = { λ _. WantsNone };
-
+impl<T: Teller> Vetting<T> {
+    /// Writes the text of a message. What the page held before isn't written.
+    ///
+    /// # Errors
+    ///
+    /// - [`Cause::Output`]: the output failed. It took a prefix of the text.
+    /// - [`Cause::Memory`]: an allocation failed. The output took nothing.
     fn judge<M: Segments, O: ByteOut>(
         &self,
         page: &mut Page,
         out: &mut O,
         number: u32,
         message: &M,
-    ) -> Result<Counted, Cause> {
-        match vet(message, self.limits) {
+    ) -> Result<Counted, Cause>
+        ensures { let m = M.segments message.now in let v = self.now in
+            let words = words_of v.limits in let depth = depth_of v.limits in
+            WritesOneOf O.ByteOut (OrFault v.demands (T.tells v.teller) words depth number m)
+            (WantsUnder v.demands (T.wants v.teller) words depth m) out.old out.new result }
+    {
+        match vet_with(message, self.limits, self.demands) {
             Ok(vetted) => self.teller.tell(page, out, number, &vetted),
             Err(refusal) => {
                 refused_line(page, number, &refusal);
@@ -125,17 +112,19 @@ pub(crate) struct MessageRoom {
     page: Page,
 }
 
-/// Reads each message whole, and writes the text of its judge.
+/// Reads each message whole, vets it, and writes its text.
 #[derive(Clone, Copy)]
-pub(crate) struct Whole<J> {
-    pub(crate) alloc: Global,
-    pub(crate) judge: J,
+struct Whole<T> {
+    alloc: Global,
+    vetting: Vetting<T>,
 }
 
-impl<J: Judge> Engine for Whole<J> {
-    ghost tells = { λ w. J.tells w.judge };
+impl<T: Teller> Engine for Whole<T> {
+    ghost tells = { λ w. let v = w.vetting in
+        OrFault v.demands (T.tells v.teller) (words_of v.limits) (depth_of v.limits) };
 
-    ghost wants = { λ w. J.wants w.judge };
+    ghost wants = { λ w. let v = w.vetting in
+        WantsUnder v.demands (T.wants v.teller) (words_of v.limits) (depth_of v.limits) };
 
     ghost takes_memory = { true };
 
@@ -159,7 +148,7 @@ impl<J: Judge> Engine for Whole<J> {
         match read_into(self.alloc, source, limit, &mut room.message) {
             Ok(true) => {
                 match self
-                    .judge
+                    .vetting
                     .judge(&mut room.page, out, number, &room.message.view())
                 {
                     Ok(counted) => Ok(Some(counted)),
@@ -172,21 +161,25 @@ impl<J: Judge> Engine for Whole<J> {
     }
 }
 
-/// Vets each message of a stream, and writes the text of a teller for each that is accepted.
+/// Vets each message of a stream, and writes the text of a teller for each that meets the demands.
 pub(crate) fn vet_all<S: WordSource, O: ByteOut, T: Teller + Drop>(
     alloc: Global,
     source: &mut S,
     out: &mut O,
     settings: &Settings,
+    demands: Demands,
     teller: T,
 ) -> Result<Outcome, RunFault>
-    ensures { let s = settings.now in TellsStream S.WordSource O.ByteOut
-        (OrRefused (T.tells teller) (words_of s.limits) (depth_of s.limits)) WantsNone
+    ensures { let s = settings.now in let words = words_of s.limits in
+        let depth = depth_of s.limits in TellsStream S.WordSource O.ByteOut
+        (OrFault demands (T.tells teller) words depth)
+        (WantsUnder demands (T.wants teller) words depth)
         (limit_of s.size) s.messages source.old source.new out.old out.new result }
 {
-    let judge = Vetting {
+    let vetting = Vetting {
         limits: settings.limits,
+        demands,
         teller,
     };
-    tell_all(source, out, settings, &Whole { alloc, judge })
+    tell_all(source, out, settings, &Whole { alloc, vetting })
 }

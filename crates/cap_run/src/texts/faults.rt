@@ -8,7 +8,7 @@ ghost use Rattle.std.specs.Prelude.{◌+◌, ◌++◌, ◌≡◌, ◌≤◌, len
 use crate::fault::{Cause, CopyFault, RunFault};
 use crate::texts::output::write_bytes;
 use crate::texts::page::{CAPACITY, NUMBER, Page};
-use crate::texts::verdict::{FAULT, name_of, push_place, push_refused};
+use crate::texts::verdict::{FAULT, name_of, push_place, push_refused, refused_for};
 use cap_canon::CanonFault;
 use cap_frame::FrameFault;
 use cap_words::{ByteOut, OutFault, SourceFault};
@@ -63,6 +63,11 @@ fn push_cause(page: &mut Page, number: u32, cause: Cause)
         Cause::Refused(refusal) => {
             page.push_message(number);
             push_refused(page, name_of(refusal.reason), refusal.segment, refusal.word);
+        }
+        Cause::NotStrict(refusal) => {
+            page.push_message(number);
+            let refused = refused_for(&refusal);
+            push_refused(page, refused.name, refused.segment, refused.word);
         }
         Cause::Canon(fault) => {
             page.push_message(number);

@@ -2,11 +2,12 @@
 
 ghost use Rattle.cap_run.specs.FaultLines.{place_text};
 ghost use Rattle.cap_run.specs.Vetting.{accepted_text};
-ghost use Rattle.cap_spec.specs.Texts.{check_text, reason_name, refusal_verdict, refused, then_number, vet_text};
+ghost use Rattle.cap_spec.specs.Texts.{check_text, lax_name, reason_name, refused, strict_verdict, then_number, vet_text};
 ghost use Rattle.std.specs.Prelude.{◌+◌, ◌++◌, ◌≡◌, ◌≤◌, codes, length};
 
 use crate::texts::page::{CAPACITY, Page};
-use cap_vet::{Reason, Refusal, Report};
+use cap_spec::{Lax, StrictRefusal};
+use cap_vet::{Reason, Report};
 
 /// The space for the numbers of an accepted message: four names of 39 bytes in all, each with a
 /// number.
@@ -44,17 +45,64 @@ fn push_report(page: &mut Page, report: &Report)
     page.push_named(b" caps ", report.caps);
 }
 
-/// Begins the page with the line of a message that is refused, with the reason and the place.
-pub(crate) fn refused_line(page: &mut Page, number: u32, refusal: &Refusal)
-    ensures { page.new ≡ vet_text number (refusal_verdict refusal.now) }
+/// What is written about a message that is refused.
+#[derive(Clone, Copy)]
+pub(crate) struct Refused {
+    /// The name of the reason.
+    pub(crate) name: &'static [u8],
+    /// The segment of the pointer that is named.
+    pub(crate) segment: u32,
+    /// Its word in that segment.
+    pub(crate) word: u32,
+    /// How many pointers were looked at.
+    pub(crate) pointers: u64,
+}
+
+/// What is written about a message that is refused for this reason.
+pub(crate) fn refused_for(refusal: &StrictRefusal) -> Refused
+    ensures verdict { let r = result in
+        strict_verdict refusal.now ≡ refused r.name.now r.segment r.word r.pointers }
+    ensures short { length result.name.now ≤ NAME }
 {
+    match refusal {
+        StrictRefusal::Refused(refusal) => Refused {
+            name: name_of(refusal.reason),
+            segment: refusal.segment,
+            word: refusal.word,
+            pointers: refusal.pointers,
+        },
+        StrictRefusal::ManySegments => Refused {
+            name: b"ManySegments",
+            segment: 0,
+            word: 0,
+            pointers: 0,
+        },
+        StrictRefusal::Pointer {
+            what,
+            segment,
+            word,
+            pointers,
+        } => Refused {
+            name: lax_name_of(*what),
+            segment: *segment,
+            word: *word,
+            pointers: *pointers,
+        },
+    }
+}
+
+/// Begins the page with the line of a message that is refused, with the reason and the place.
+pub(crate) fn refused_line(page: &mut Page, number: u32, refusal: &StrictRefusal)
+    ensures { page.new ≡ vet_text number (strict_verdict refusal.now) }
+{
+    let refused = refused_for(refusal);
     put_refused(
         page,
         number,
-        name_of(refusal.reason),
-        refusal.segment,
-        refusal.word,
-        refusal.pointers,
+        refused.name,
+        refused.segment,
+        refused.word,
+        refused.pointers,
     );
 }
 
@@ -131,5 +179,17 @@ pub(crate) fn name_of(reason: Reason) -> &'static [u8]
         Reason::CompositeOverrun => b"CompositeOverrun",
         Reason::DepthLimit => b"DepthLimit",
         Reason::WordLimit => b"WordLimit",
+    }
+}
+
+/// The name of a form that common readers reject.
+fn lax_name_of(what: Lax) -> &'static [u8]
+    ensures name { result.now ≡ lax_name what }
+    ensures short { length result.now ≤ NAME }
+{
+    match what {
+        Lax::NullPad => b"NullPad",
+        Lax::EmptySegment => b"EmptySegment",
+        Lax::CapabilityPad => b"CapabilityPad",
     }
 }

@@ -8,7 +8,7 @@ pub returns : goal.returns
 returns g c =
     let new = c.new-sink.ensures in
     let first = c.new-sink.result in
-    let last = c.run_canon-answer.new.sink in
+    let last = c.run_canon_with-answer.new.sink in
     record {
       begun = first;
       ended = last;
@@ -19,7 +19,7 @@ returns g c =
         spent = new.spent;
         failures = new.failures;
       };
-      puts = c.run_canon-answer.ensures;
+      puts = c.run_canon_with-answer.ensures;
       gives = subst (GivesOutput g.O.ByteOut _ last) (sym c.into_inner.ensures)
           (record { taken = new.shows_taken last; spent = new.when_spent last; failures = new.shows_failures last });
     }

@@ -13,25 +13,25 @@ returns-in-Vet g c = rw c.in-Vet.is c.vet_over-status.ensures
 
 pub returns-in-Dump : goal.returns-in-Dump
 returns-in-Dump g c = rw c.in-Dump.is (record {
-  last = c.run_dump-answer.new.source;
-  answer = c.run_dump-answer.result;
-  does = c.run_dump-answer.ensures;
+  last = c.run_dump_with-answer.new.source;
+  answer = c.run_dump_with-answer.result;
+  does = c.run_dump_with-answer.ensures;
   reported = c.report_run-in-Dump.ensures;
 })
 
 pub returns-in-Get : goal.returns-in-Get
 returns-in-Get g c = rw c.in-Get.is (record {
-  last = c.run_get-answer.new.source;
-  answer = c.run_get-answer.result;
-  does = rw c.as_slice.ensures.value at c.run_get-answer.ensures;
+  last = c.run_get_with-answer.new.source;
+  answer = c.run_get_with-answer.result;
+  does = rw c.as_slice.ensures.value at c.run_get_with-answer.ensures;
   reported = c.report_run-in-Get.ensures;
 })
 
 pub returns-in-Check : goal.returns-in-Check
 returns-in-Check g c = rw c.in-Check.is (record {
-  last = c.run_check-answer.new.source;
-  answer = c.run_check-answer.result;
-  does = c.run_check-answer.ensures;
+  last = c.run_check_with-answer.new.source;
+  answer = c.run_check_with-answer.result;
+  does = c.run_check_with-answer.ensures;
   reported = c.report_run-in-Check.ensures;
 })
 

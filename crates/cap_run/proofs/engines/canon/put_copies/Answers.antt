@@ -4,14 +4,14 @@ use Rattle.cap_run.proofs.engines.canon.put_copies.Goals as goal
 
 pub loop-number-init : goal.loop-number-init
 loop-number-init g c =
-    so_far_none _ _ _ _ _ _ _
+    so_far_none _ _ _ _ _ _ _ _
 
 pub returns-in-Err : goal.returns-in-Err
 returns-in-Err g c =
-    making_stops _ _ _ _ _ _ _ _ c.put_next.new.source _ _ c.put_next.new.sink _ c.in-Err.cause (omega arith)
+    making_stops _ _ _ _ _ _ _ _ _ c.put_next.new.source _ _ c.put_next.new.sink _ c.in-Err.cause (omega arith)
     c.loop-number.invariant c.in-Err.ensures.err
 
 pub loop-number-preserved : goal.loop-number-preserved
 loop-number-preserved g c =
     let r = c.in-Ok-true.ensures.some (cc) in
-    so_far_more _ _ _ _ _ _ _ _ _ _ _ _ r.0 c.loop-number.invariant r.1 r.2 r.3
+    so_far_more _ _ _ _ _ _ _ _ _ _ _ _ _ r.0 c.loop-number.invariant r.1 r.2 r.3

@@ -1,10 +1,15 @@
-use Rattle.cap_run.proofs.CanonEnds.{makes_err, makes_ok}
+use Rattle.std.proofs.Common.{subst}
+use Rattle.cap_frame.specs.Limit.{limit_of}
+use Rattle.cap_vet.specs.Limits.{depth_of, words_of}
+use Rattle.cap_vet.specs.declared.demands.Demands.{Demands}
+use Rattle.cap_run.specs.Canons.{MakesCopiesUnder}
+use Rattle.cap_run.proofs.Demanding.{default_none}
 use Rattle.cap_run.proofs.engines.canon.run_canon.Goals as goal
 
-pub returns-in-Ok : goal.returns-in-Ok
-returns-in-Ok g c =
-    makes_ok _ _ _ _ _ _ _ _ _ _ _ (rw c.in-Ok.is at c.make_copies-messages.ensures)
-
-pub returns-in-Err : goal.returns-in-Err
-returns-in-Err g c =
-    makes_err _ _ _ _ _ _ _ _ _ _ _ _ (rw c.in-Err.is at c.make_copies-messages.ensures)
+pub returns : goal.returns
+returns g c =
+    let s = c.args.settings.now in
+    subst (λ (d : Demands). MakesCopiesUnder g.S.WordSource g.K.WordSink d (words_of s.limits) (depth_of s.limits)
+    (limit_of s.size) s.messages c.args.source.now c.run_canon_with.new.source c.args.sink.now c.run_canon_with.new.sink
+    c.run_canon_with.result)
+    (default_none c.default.result c.default.ensures.0 c.default.ensures.1) c.run_canon_with.ensures

@@ -1,0 +1,48 @@
+use Rattle.std.proofs.Common.{List, ap, inl, inr, refl, subst, ℕ}
+use Rattle.cap_spec.specs.Tree.{Tree}
+use Rattle.cap_vet.specs.Demands.{words_under}
+use Rattle.cap_vet.specs.Limits.{depth_of, words_of}
+use Rattle.cap_vet.specs.Reports.{IsReport}
+use Rattle.cap_vet.specs.Vettings.{report_of}
+use Rattle.cap_run.specs.Demanding.{OrFault, WantsUnder}
+use Rattle.cap_run.specs.Running.{WritesOneOf}
+use Rattle.cap_run.specs.declared.engines.stream.Counted.TheVariants.{Refused}
+use Rattle.cap_run.proofs.Judging.{writes_as, writes_line}
+use Rattle.cap_run.proofs.engines.whole.Vetting.judge.Goals as goal
+
+pub returns-in-Ok : goal.returns-in-Ok
+returns-in-Ok g c =
+    let v = c.args.self.now in
+    let m = g.M.Segments.segments c.args.message.now in
+    let words = words_under v.demands m (words_of v.limits) in
+    let depth = depth_of v.limits in
+    let met = c.in-Ok.ensures.ok in
+    let told = subst (λ (m : List (List ℕ)). (words depth : ℕ) (t : Tree)
+    → IsReport m words depth (report_of c.in-Ok.vetted) t
+    → WritesOneOf g.O.ByteOut (g.T.Teller.tells v.teller words depth c.args.number m) (g.T.Teller.wants v.teller words depth m)
+    c.args.out.now c.tell.new.out c.tell.result)
+    (ap g.M.Segments.segments c.in-Ok.ensures.message) c.tell.ensures in
+    writes_as g.O.ByteOut (g.T.Teller.tells v.teller words depth c.args.number m)
+    (OrFault v.demands (g.T.Teller.tells v.teller) (words_of v.limits) depth c.args.number m)
+    (g.T.Teller.wants v.teller words depth m)
+    (WantsUnder v.demands (g.T.Teller.wants v.teller) (words_of v.limits) depth m)
+    c.args.out.now c.tell.new.out c.tell.result (λ text counted e. inl (met.1.strict, e)) (λ w. (met.1.strict, w))
+    (told words depth met.0.0 met.0.1)
+
+pub returns-in-Err : goal.returns-in-Err
+returns-in-Err g c =
+    let v = c.args.self.now in
+    let m = g.M.Segments.segments c.args.message.now in
+    let words = words_of v.limits in
+    let depth = depth_of v.limits in
+    writes_line g.O.ByteOut c.refused_line.new.page Refused
+    (OrFault v.demands (g.T.Teller.tells v.teller) words depth c.args.number m)
+    (WantsUnder v.demands (g.T.Teller.wants v.teller) words depth m)
+    c.args.out.now c.write_line.new.out c.write_line.result
+    (inr (record {
+      fault = c.in-Err.refusal;
+      is_fault = c.in-Err.ensures.err;
+      line = c.refused_line.ensures;
+      counts = refl;
+    }))
+    c.write_line.ensures

@@ -1,0 +1,82 @@
+-- What may be written of a message that is vetted under demands (profile).
+use Rattle.std.specs.Prelude.{ℕ, ◌≡◌, ◌⊎◌, false, IsTrue, List}
+use Rattle.cap_spec.specs.Occupying.{IsDisjoint}
+use Rattle.cap_spec.specs.Strict.{IsStrict}
+use Rattle.cap_spec.specs.Texts.{strict_verdict, vet_text}
+use Rattle.cap_spec.specs.declared.Step.{Step}
+use Rattle.cap_spec.specs.declared.StrictRefusal.{StrictRefusal}
+use Rattle.cap_spec.specs.declared.StrictRefusal.TheVariants.{Refused as bad, ManySegments, Pointer}
+use Rattle.cap_vet.specs.Demands.{IsDemandFault, words_under}
+use Rattle.cap_vet.specs.declared.demands.Demands.{Demands}
+use Rattle.cap_run.specs.Checking.{TellsChecked}
+use Rattle.cap_run.specs.Telling.{Tells}
+use Rattle.cap_run.specs.Vetting.{TellsAccepted, TellsNode, TellsOverlap, TellsTree, WantsMarks}
+use Rattle.cap_run.specs.declared.engines.stream.Counted.{Counted}
+use Rattle.cap_run.specs.declared.engines.stream.Counted.TheVariants.{Refused}
+
+-- nothing is demanded
+abbrev pub no_demands : Demands
+no_demands = record { strict = false; unamplified = false }
+
+-- the message is strict, if that is demanded
+abbrev pub IsStrictUnder : Demands → List (List ℕ) → ℕ → ℕ → Type 0
+IsStrictUnder demands m words depth =
+    IsTrue demands.strict → IsStrict m (words_under demands m words) depth
+
+-- it is accepted, and it isn't strict, though that is demanded
+abbrev pub IsNotStrict : Demands → List (List ℕ) → ℕ → ℕ → StrictRefusal → Type 0
+IsNotStrict demands m words depth (bad refusal) = ⊥
+IsNotStrict demands m words depth ManySegments = IsDemandFault demands m words depth ManySegments
+IsNotStrict demands m words depth (Pointer what s w pointers) =
+    IsDemandFault demands m words depth (Pointer what s w pointers)
+
+-- the line of message n if it doesn't meet the demands, with the first reason
+pub record TellsFault (demands : Demands) (words depth n : ℕ) (m : List (List ℕ)) (text : List ℕ)
+    (counted : Counted) : Type 0 where
+  pub fault : StrictRefusal
+  pub is_fault : IsDemandFault demands m words depth fault
+  pub line : text ≡ vet_text n (strict_verdict fault)
+  pub counts : counted ≡ Refused
+
+-- a text of a message that meets the demands, or that line
+abbrev pub OrFault : Demands → (ℕ → ℕ → Tells) → ℕ → ℕ → Tells
+OrFault demands tells words depth n m text counted =
+    (IsStrictUnder demands m words depth
+    × tells (words_under demands m words) depth n m text counted)
+    ⊎ TellsFault demands words depth n m text counted
+
+-- the messages that meet the demands and need an allocation then
+abbrev pub WantsUnder : Demands → (ℕ → ℕ → List (List ℕ) → Type 0) → ℕ → ℕ → List (List ℕ)
+    → Type 0
+WantsUnder demands wants words depth m = IsStrictUnder demands m words depth
+    × wants (words_under demands m words) depth m
+
+-- the line of `vet`
+abbrev pub TellsVerdictUnder : Demands → ℕ → ℕ → Tells
+TellsVerdictUnder demands = OrFault demands TellsAccepted
+
+-- the line of a message that is accepted: it uses no word twice, or with the first overlap
+abbrev pub TellsMarked : ℕ → ℕ → Tells
+TellsMarked words depth n m text counted =
+    (IsDisjoint m × TellsAccepted words depth n m text counted)
+    ⊎ TellsOverlap words depth n m text counted
+
+-- the line of `vet --exclusive`
+abbrev pub TellsExclusiveUnder : Demands → ℕ → ℕ → Tells
+TellsExclusiveUnder demands = OrFault demands TellsMarked
+
+-- the messages whose words are marked: those that meet the demands
+abbrev pub WantsMarksUnder : Demands → ℕ → ℕ → List (List ℕ) → Type 0
+WantsMarksUnder demands = WantsUnder demands WantsMarks
+
+-- the text of `dump`
+abbrev pub TellsDumpUnder : Demands → ℕ → ℕ → Tells
+TellsDumpUnder demands = OrFault demands TellsTree
+
+-- the text of `get`
+abbrev pub TellsGetUnder : Demands → ℕ → ℕ → List Step → Tells
+TellsGetUnder demands words depth path = OrFault demands (λ w d. TellsNode w d path) words depth
+
+-- the line of `check`
+abbrev pub TellsCheckUnder : Demands → ℕ → ℕ → Tells
+TellsCheckUnder demands = OrFault demands TellsChecked
