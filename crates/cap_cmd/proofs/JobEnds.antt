@@ -21,7 +21,8 @@ use Rattle.cap_run.specs.Copying.{Copied, CopiesAll}
 use Rattle.cap_run.specs.Engines.{TellsStream}
 use Rattle.cap_run.specs.Engines.{most_packed_at_once, most_unpacked_at_once, most_words}
 use Rattle.cap_run.specs.Telling.{Tells, TellsSegments, WantsNone, outcome_of}
-use Rattle.cap_run.specs.Demanding.{TellsCheckUnder, TellsDumpUnder, TellsExclusiveUnder, TellsGetUnder, TellsVerdictUnder, WantsMarksUnder}
+use Rattle.cap_run.specs.Demanding.{TellsCheckUnder, TellsDumpUnder, TellsExclusiveUnder, TellsGetUnder}
+use Rattle.cap_run.specs.Demanding.{TellsVerdictUnder, WantsMarksUnder}
 use Rattle.cap_run.specs.declared.fault.Cause.{Cause}
 use Rattle.cap_run.specs.declared.fault.Cause.TheVariants.{TooManyMessages, Frame, Output, Refused}
 use Rattle.cap_run.specs.declared.fault.Cause.TheVariants.{Canon, NotStrict, Memory as no_marks}
@@ -146,25 +147,31 @@ module _ {S O K : Type 0} (gs : source.Ghosts S) (go : output.Ghosts O) (s : Set
 module _ {S O E P U : Type 0} (gs : source.Ghosts S) (go : output.Ghosts O) (ge : output.Ghosts E)
     (gp : sink.Ghosts P) (gu : sink.Ghosts U) where
   -- what a task with the status of success wrote
-  writes_all : (task : Task) (s : Settings) (demands : Demands) (first : S) (before after : O) (old new : E) (status : ℕ) → status ≡ 0
+  writes_all : (task : Task) (s : Settings) (demands : Demands) (first : S) (before after : O) (old new : E)
+      (status : ℕ) → status ≡ 0
       → DoesTask gs go ge gp gu task s demands first before after old new status
       → WritesAll task s demands (gs.words first) (gs.is_cut first) (go.written before) (go.written after)
   writes_all Segments s demands first before after old new status e d =
       told_all gs go s first d.last TellsSegments WantsNone before after d.answer (sym d.reported.status_is ∙ e) d.does.told
   writes_all (Vet false) s demands first before after old new status e d =
-      told_all gs go s first d.last (TellsVerdictUnder demands (words_of s.limits) (depth_of s.limits)) WantsNone before after
+      told_all gs go s first d.last (TellsVerdictUnder demands (words_of s.limits) (depth_of s.limits)) WantsNone
+      before after
       d.answer (sym d.reported.status_is ∙ e) d.does
   writes_all (Vet true) s demands first before after old new status e d =
       told_all gs go s first d.last (TellsExclusiveUnder demands (words_of s.limits) (depth_of s.limits))
-      (WantsMarksUnder demands (words_of s.limits) (depth_of s.limits)) before after d.answer (sym d.reported.status_is ∙ e) d.does
+      (WantsMarksUnder demands (words_of s.limits) (depth_of s.limits)) before after d.answer
+      (sym d.reported.status_is ∙ e) d.does
   writes_all Dump s demands first before after old new status e d =
-      told_all gs go s first d.last (TellsDumpUnder demands (words_of s.limits) (depth_of s.limits)) WantsNone before after
+      told_all gs go s first d.last (TellsDumpUnder demands (words_of s.limits) (depth_of s.limits)) WantsNone before
+      after
       d.answer (sym d.reported.status_is ∙ e) d.does
   writes_all (Get path) s demands first before after old new status e d =
-      told_all gs go s first d.last (TellsGetUnder demands (words_of s.limits) (depth_of s.limits) path.items) WantsNone before after
+      told_all gs go s first d.last (TellsGetUnder demands (words_of s.limits) (depth_of s.limits) path.items)
+      WantsNone before after
       d.answer (sym d.reported.status_is ∙ e) d.does
   writes_all Check s demands first before after old new status e d =
-      told_all gs go s first d.last (TellsCheckUnder demands (words_of s.limits) (depth_of s.limits)) WantsNone before after
+      told_all gs go s first d.last (TellsCheckUnder demands (words_of s.limits) (depth_of s.limits)) WantsNone before
+      after
       d.answer (sym d.reported.status_is ∙ e) d.does
   writes_all canon_task s demands first before after old new status e d =
       all_made gs go s first d.last gu demands before after d.answer (sym d.reported.status_is ∙ e) d.does
@@ -183,9 +190,11 @@ module _ {S O E P U : Type 0} (gs : source.Ghosts S) (go : output.Ghosts O) (ge 
       (input_is_cut is_packed (gi.to_come start)) (go.written before) (go.written after)
   job_writes_all gi is_packed packed job start before after old new status same e j =
       let written = writes_all job.task job.settings job.demands j.first before after old new status e j.does in
-      let cut = subst (λ c. WritesAll job.task job.settings job.demands (gs.words j.first) c (go.written before) (go.written after))
+      let cut = subst (λ c. WritesAll job.task job.settings job.demands (gs.words j.first) c (go.written before)
+      (go.written after))
       j.begins.is_cut written in
       let known = subst (λ w. WritesAll job.task job.settings job.demands w (input_is_cut packed (gi.to_come start))
       (go.written before) (go.written after)) j.begins.words cut in
-      subst (λ b. WritesAll job.task job.settings job.demands (input_words b (gi.to_come start)) (input_is_cut b (gi.to_come start))
+      subst (λ b. WritesAll job.task job.settings job.demands (input_words b (gi.to_come start))
+      (input_is_cut b (gi.to_come start))
       (go.written before) (go.written after)) (sym same) known

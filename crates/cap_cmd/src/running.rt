@@ -131,7 +131,15 @@ fn run_over<S: WordSource + Drop, O: ByteOut, E: ByteOut>(
             (report_run(err, &answer), out)
         }
         Task::Vet { exclusive } => {
-            let status = vet_over(alloc, *exclusive, settings, demands, &mut source, &mut out, err);
+            let status = vet_over(
+                alloc,
+                *exclusive,
+                settings,
+                demands,
+                &mut source,
+                &mut out,
+                err,
+            );
             (status, out)
         }
         Task::Dump => {
@@ -139,7 +147,14 @@ fn run_over<S: WordSource + Drop, O: ByteOut, E: ByteOut>(
             (report_run(err, &answer), out)
         }
         Task::Get { path } => {
-            let answer = run_get_with(alloc, &mut source, &mut out, settings, demands, path.as_slice());
+            let answer = run_get_with(
+                alloc,
+                &mut source,
+                &mut out,
+                settings,
+                demands,
+                path.as_slice(),
+            );
             (report_run(err, &answer), out)
         }
         Task::Check => {
@@ -168,9 +183,9 @@ fn run_over<S: WordSource + Drop, O: ByteOut, E: ByteOut>(
 ///
 /// - 0: every message was accepted, and is canonical if the task is [`Task::Check`]; or all words
 ///   were copied.
-/// - 1, for a message: it was refused or doesn't meet the demands of the job, or it has a capability
-///   and a copy is needed. Also if it uses a word twice and the job forbids that, or isn't canonical
-///   and the task is [`Task::Check`].
+/// - 1, for a message: it was refused, or it doesn't meet the demands of the job, or it has a
+///   capability and a copy is needed. Also if it uses a word twice and the job forbids that, or isn't
+///   canonical and the task is [`Task::Check`].
 /// - 1, for the input: it is no stream of messages within the limits, is cut inside a word or a
 ///   group, or has more words than are copied.
 /// - 3: reading or writing failed, the input or the output was closed after an error, or an

@@ -19,14 +19,16 @@ use Rattle.cap_vet.specs.declared.demands.Demands.{Demands}
 use Rattle.cap_canon.specs.declared.fault.CanonFault.TheVariants.{HasCapability, Memory}
 use Rattle.cap_spec.proofs.Canonical.Copies.{one_copy}
 use Rattle.cap_canon.proofs.Copies.{cap_no_copy}
-use Rattle.cap_run.specs.Canons.{AreCanonised, CanonStops, Canonised, IsCanonised, MakesCopiesUnder, canonised, copies_of}
+use Rattle.cap_run.specs.Canons.{AreCanonised, CanonStops, Canonised, IsCanonised, MakesCopiesUnder, canonised}
+use Rattle.cap_run.specs.Canons.{copies_of}
 use Rattle.cap_run.specs.Copying.{Finishes}
 use Rattle.cap_run.specs.Demanding.{IsNotStrict, IsStrictUnder}
 use Rattle.cap_run.specs.Making.{Made}
 use Rattle.cap_run.specs.Running.{Settled, SettledAt}
 use Rattle.cap_run.specs.Streams.{ReadsAll, ReadsStream}
 use Rattle.cap_run.specs.declared.fault.Cause.{Cause}
-use Rattle.cap_run.specs.declared.fault.Cause.TheVariants.{TooManyMessages, Frame, Output, Refused, NotStrict, Canon, Memory as no_marks}
+use Rattle.cap_run.specs.declared.fault.Cause.TheVariants.{TooManyMessages, Frame, Output, Refused, NotStrict, Canon}
+use Rattle.cap_run.specs.declared.fault.Cause.TheVariants.{Memory as no_marks}
 use Rattle.cap_run.specs.declared.fault.RunFault.{RunFault}
 use Rattle.cap_run.specs.declared.settings.Outcome.{Outcome}
 use Rattle.cap_run.proofs.Settling.{none_faulted, none_over, on_known, reads_next}
@@ -55,7 +57,8 @@ length-canonised : (cs : List Canonised) → length (canonised cs) ≡ length cs
 length-canonised cs = length-map cs (λ c. c.message)
 
 -- the same messages have the same copies
-same_copies : (demands : Demands) (words depth : ℕ) (cs ds : List Canonised) → AreCanonised demands words depth cs → AreCanonised demands words depth ds
+same_copies : (demands : Demands) (words depth : ℕ) (cs ds : List Canonised) → AreCanonised demands words depth cs
+    → AreCanonised demands words depth ds
     → canonised cs ≡ canonised ds → copies_of cs ≡ copies_of ds
 same_copies demands words depth [] [] a b e = refl
 same_copies demands words depth [] (d ∷ ds) a b e = absurd (cc)
@@ -67,7 +70,8 @@ same_copies demands words depth (c ∷ cs) (d ∷ ds) a b e =
     ap (λ (copy : List ℕ). frame_text (copy ∷ []) ++ copies_of cs) same
     ∙ ap (λ (xs : List ℕ). frame_text (d.copy ∷ []) ++ xs) (same_copies demands words depth cs ds a.1 b.1 rest)
 
-module _ {S K : Type 0} (gs : source.Ghosts S) (gk : sink.Ghosts K) (demands : Demands) (words depth limit most : ℕ) (old new : S) (before after : K) where
+module _ {S K : Type 0} (gs : source.Ghosts S) (gk : sink.Ghosts K) (demands : Demands) (words depth limit most : ℕ)
+    (old new : S) (before after : K) where
   -- what the engine's clauses say where it ended, and where it didn't
   abbrev pub SaysCopies : Result Outcome RunFault → Type 0
   SaysCopies r = IfOk r (λ outcome. (cs : List Canonised) × ReadsAll gs limit old new (canonised cs)
@@ -82,15 +86,18 @@ module _ {S K : Type 0} (gs : source.Ghosts S) (gk : sink.Ghosts K) (demands : D
   -- a message that was read next, of a stream of messages with copies
   next_has : (mid : S) (cs ds : List Canonised) (own : List ℕ) (m : List (List ℕ)) → gs.words old ≡ Some own
       → Stream own (canonised ds) → AreCanonised demands words depth ds
-      → ReadsStream gs limit old mid (canonised cs) → ReadsStream gs limit mid new (m ∷ []) → HasOne demands words depth m
+      → ReadsStream gs limit old mid (canonised cs) → ReadsStream gs limit mid new (m ∷ [])
+      → HasOne demands words depth m
   next_has mid cs ds own m w s a reads last =
       let next = reads_next gs limit old mid new (canonised cs) own (canonised ds) m w s reads last in
-      (all_back (HasOne demands words depth) (canonised cs) (m ∷ next.0) (subst (AllByRecursion (HasOne demands words depth)) next.1 (each_has demands words depth ds a))).0
+      (all_back (HasOne demands words depth) (canonised cs) (m ∷ next.0)
+      (subst (AllByRecursion (HasOne demands words depth)) next.1 (each_has demands words depth ds a))).0
 
   -- behind some messages of such a stream, no fault comes of the others
   canon_behind : (mid : S) (cs ds : List Canonised) (own : List ℕ) (cause : Cause) (P : Type 0)
       → gs.words old ≡ Some own → gs.is_cut old ≡ false → Stream own (canonised ds)
-      → AllByRecursion (λ m. sum (sizes_of m) ≤ limit) (canonised ds) → AreCanonised demands words depth ds → length ds ≤ most
+      → AllByRecursion (λ m. sum (sizes_of m) ≤ limit) (canonised ds) → AreCanonised demands words depth ds
+      → length ds ≤ most
       → ReadsStream gs limit old mid (canonised cs)
       → CanonStops gs gk demands words depth limit most cs mid new before after cause → SettledAt cause P
   canon_behind mid cs ds own TooManyMessages P w c s l a few reads stops =
@@ -102,7 +109,8 @@ module _ {S K : Type 0} (gs : source.Ghosts S) (gk : sink.Ghosts K) (demands : D
   canon_behind mid cs ds own (Refused refusal) P w c s l a few reads stops =
       let h = next_has mid cs ds own stops.0.1 w s a reads stops.0.2 in
       let k = h.1.is_accepted in
-      absurd (tree_not_refused stops.0.1 k.0 h.1.report.charge h.1.report.depth (words_under demands stops.0.1 words) depth refusal k.1.denotes k.1.within k.1.shallow stops.0.3)
+      absurd (tree_not_refused stops.0.1 k.0 h.1.report.charge h.1.report.depth (words_under demands stops.0.1 words)
+      depth refusal k.1.denotes k.1.within k.1.shallow stops.0.3)
   canon_behind mid cs ds own (NotStrict fault) P w c s l a few reads stops =
       let h = next_has mid cs ds own stops.0.1 w s a reads stops.0.2 in
       absurd (strict_is_strict demands stops.0.1 words depth fault h.1.is_strict stops.0.3)
@@ -115,7 +123,8 @@ module _ {S K : Type 0} (gs : source.Ghosts S) (gk : sink.Ghosts K) (demands : D
   -- such a stream is read to its end
   canon_settled : (r : Result Outcome RunFault) (own : List ℕ) (ds : List Canonised) → SaysCopies r → SaysNoCopies r
       → gs.words old ≡ Some own → gs.is_cut old ≡ false → Stream own (canonised ds)
-      → AllByRecursion (λ m. sum (sizes_of m) ≤ limit) (canonised ds) → AreCanonised demands words depth ds → length ds ≤ most
+      → AllByRecursion (λ m. sum (sizes_of m) ≤ limit) (canonised ds) → AreCanonised demands words depth ds
+      → length ds ≤ most
       → Settled r (Finishes gk before after (copies_of ds) × (r ≡ Ok (record { messages = length ds; refused = 0; noncanonical = 0 })))
   canon_settled (Ok outcome) own ds end fault w c s l a few =
       let all = on_known (gs.words old) own _ w end.1.all in
@@ -129,7 +138,8 @@ module _ {S K : Type 0} (gs : source.Ghosts S) (gk : sink.Ghosts K) (demands : D
 
   -- how the run ended says all that is promised of its answer
   pub makes_ok : (n : ℕ) → Made gs gk demands words depth limit most old new before after n (Ok tt)
-      → MakesCopiesUnder gs gk demands words depth limit most old new before after (Ok (record { messages = n; refused = 0; noncanonical = 0 }))
+      → MakesCopiesUnder gs gk demands words depth limit most old new before after
+      (Ok (record { messages = n; refused = 0; noncanonical = 0 }))
   makes_ok n w =
       let ok : SaysCopies (Ok (record { messages = n; refused = 0; noncanonical = 0 })) = (
         w.cs,
@@ -147,7 +157,8 @@ module _ {S K : Type 0} (gs : source.Ghosts S) (gk : sink.Ghosts K) (demands : D
       }
 
   pub makes_err : (n : ℕ) (cause : Cause) → Made gs gk demands words depth limit most old new before after n (Err cause)
-      → MakesCopiesUnder gs gk demands words depth limit most old new before after (Err (record { message = n; cause = cause }))
+      → MakesCopiesUnder gs gk demands words depth limit most old new before after
+      (Err (record { message = n; cause = cause }))
   makes_err n cause w =
       let err : SaysNoCopies (Err (record { message = n; cause = cause })) = (w.cs, w.mid, sym w.many, omega (arith, w.many, w.few), w.reads, w.each, w.ends) in
       record { ok = tt; err = err; whole = λ own ds wd c s l a few. canon_settled (Err (record { message = n; cause = cause })) own ds tt err wd c s l a few }

@@ -7,7 +7,8 @@ use Rattle.cap_words.specs.declared.ends.OutFault.TheVariants.{Device, Memory, S
 use Rattle.cap_words.specs.declared.sources.WordSource as source
 use Rattle.cap_run.specs.declared.engines.stream.Counted.{Counted}
 use Rattle.cap_run.specs.declared.fault.Cause.{Cause}
-use Rattle.cap_run.specs.declared.fault.Cause.TheVariants.{TooManyMessages, Frame, Output, Refused, NotStrict, Canon, Memory as no_marks}
+use Rattle.cap_run.specs.declared.fault.Cause.TheVariants.{TooManyMessages, Frame, Output, Refused, NotStrict, Canon}
+use Rattle.cap_run.specs.declared.fault.Cause.TheVariants.{Memory as no_marks}
 use Rattle.cap_run.specs.declared.settings.Outcome.{Outcome}
 use Rattle.cap_run.specs.Running.{Appended, EndStops, RunStops, StepStops, StopsIn}
 use Rattle.cap_run.specs.Streams.{ReadsStream}

@@ -12,7 +12,8 @@ use Rattle.cap_run.specs.declared.fault.Cause.TheVariants.{Canon, NotStrict, Mem
 
 module _ {O : Type 0} (g : output.Ghosts O) where
   -- one of some texts is one of others
-  pub writes_as : (texts others : List ℕ → Counted → Type 0) (wants needs : Type 0) (old new : O) (r : Result Counted Cause)
+  pub writes_as : (texts others : List ℕ → Counted → Type 0) (wants needs : Type 0) (old new : O)
+      (r : Result Counted Cause)
       → ((text : List ℕ) (counted : Counted) → texts text counted → others text counted) → (wants → needs)
       → WritesOneOf g texts wants old new r → WritesOneOf g others needs old new r
   writes_as texts others wants needs old new (Ok counted) h k w = (w.0, h w.0 counted w.1, w.2)

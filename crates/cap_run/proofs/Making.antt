@@ -23,11 +23,13 @@ use Rattle.cap_canon.specs.declared.fault.CanonFault.{CanonFault}
 use Rattle.cap_canon.specs.declared.fault.CanonFault.TheVariants.{HasCapability, Memory}
 use Rattle.cap_run.specs.Canons.{CanonEnds, Canonised, HasNoCopy, IsCanonised, canonised, copies_of}
 use Rattle.cap_run.specs.Copying.{Fills, Finishes}
-use Rattle.cap_run.specs.Making.{CopiesEnd, CopiesSoFar, CopyStops, Made, Making, NextStops, StopsMaking, is_unfinished, refused_cause}
+use Rattle.cap_run.specs.Making.{CopiesEnd, CopiesSoFar, CopyStops, Made, Making, NextStops, StopsMaking}
+use Rattle.cap_run.specs.Making.{is_unfinished, refused_cause}
 use Rattle.cap_run.specs.Running.{EndStops}
 use Rattle.cap_run.specs.Streams.{EndsStream, ReadsStream}
 use Rattle.cap_run.specs.declared.fault.Cause.{Cause}
-use Rattle.cap_run.specs.declared.fault.Cause.TheVariants.{TooManyMessages, Frame, Output, Refused, NotStrict, Canon, Memory as no_marks}
+use Rattle.cap_run.specs.declared.fault.Cause.TheVariants.{TooManyMessages, Frame, Output, Refused, NotStrict, Canon}
+use Rattle.cap_run.specs.declared.fault.Cause.TheVariants.{Memory as no_marks}
 use Rattle.cap_run.proofs.Copying.{fills_both, fills_none, finishes_behind, spoils_last}
 use Rattle.cap_run.proofs.Streams.{reads_both, reads_none}
 
@@ -82,8 +84,10 @@ module _ {S K : Type 0} (gs : source.Ghosts S) (gk : sink.Ghosts K) (demands : D
   so_far_none s k = record { cs = []; many = refl; reads = reads_none gs limit s; each = tt; fills = fills_none gk k }
 
   -- one copy more
-  pub so_far_more : (old mid new : S) (before between after : K) (n : ℕ) (c : Canonised) → CopiesSoFar gs gk demands words depth limit old mid before between n
-      → ReadsStream gs limit mid new (c.message ∷ []) → IsCanonised demands words depth c → Fills gk between after (frame_text (c.copy ∷ []))
+  pub so_far_more : (old mid new : S) (before between after : K) (n : ℕ) (c : Canonised)
+      → CopiesSoFar gs gk demands words depth limit old mid before between n
+      → ReadsStream gs limit mid new (c.message ∷ []) → IsCanonised demands words depth c
+      → Fills gk between after (frame_text (c.copy ∷ []))
       → CopiesSoFar gs gk demands words depth limit old new before after (n + 1)
   so_far_more old mid new before between after n c w reads is fills = record {
     cs = w.cs ++ c ∷ [];
@@ -103,7 +107,8 @@ module _ {S K : Type 0} (gs : source.Ghosts S) (gk : sink.Ghosts K) (demands : D
   -- the run ended at the next message
   stops_next : (most : ℕ) (old mid new : S) (before between after : K) (n : ℕ) (cause : Cause) → n < most
       → (w : CopiesSoFar gs gk demands words depth limit old mid before between n)
-      → NextStops gs gk demands words depth limit mid new between after cause → StopsMaking gs gk demands words depth limit most w.cs mid new before after (Err cause)
+      → NextStops gs gk demands words depth limit mid new between after cause
+      → StopsMaking gs gk demands words depth limit most w.cs mid new before after (Err cause)
   stops_next most old mid new before between after n TooManyMessages less w s = absurd s
   stops_next most old mid new before between after n (Frame fault) less w s = (s.0, rw s.1 w.fills)
   stops_next most old mid new before between after n (Output fault) less w s = record {
@@ -114,13 +119,16 @@ module _ {S K : Type 0} (gs : source.Ghosts S) (gk : sink.Ghosts K) (demands : D
     halts = halts_behind gk before between after (copies_of w.cs) (frame_text (s.2.0 ∷ [])) (sink_fault_of fault) w.fills s.2.2;
   }
   stops_next most old mid new before between after n (Refused refusal) less w s = ((omega (arith, less, w.many), s.0, s.1, s.2.0), rw s.2.1 w.fills)
-  stops_next most old mid new before between after n (NotStrict fault) less w s = ((omega (arith, less, w.many), s.0, s.1, s.2.0), rw s.2.1 w.fills)
-  stops_next most old mid new before between after n (Canon fault) less w s = ((omega (arith, less, w.many), s.0, s.2.0, s.1, s.2.1, s.2.2, s.2.3), rw s.2.4 w.fills)
+  stops_next most old mid new before between after n (NotStrict fault) less w s =
+      ((omega (arith, less, w.many), s.0, s.1, s.2.0), rw s.2.1 w.fills)
+  stops_next most old mid new before between after n (Canon fault) less w s =
+      ((omega (arith, less, w.many), s.0, s.2.0, s.1, s.2.1, s.2.2, s.2.3), rw s.2.4 w.fills)
   stops_next most old mid new before between after n no_marks less w s = absurd s
 
   pub making_stops : (most : ℕ) (old mid new : S) (before between after : K) (n : ℕ) (cause : Cause) → n < most
       → CopiesSoFar gs gk demands words depth limit old mid before between n
-      → NextStops gs gk demands words depth limit mid new between after cause → Making gs gk demands words depth limit most old new before after n (Err cause)
+      → NextStops gs gk demands words depth limit mid new between after cause
+      → Making gs gk demands words depth limit most old new before after n (Err cause)
   making_stops most old mid new before between after n cause less w s = record {
     cs = w.cs;
     mid = mid;
@@ -163,7 +171,8 @@ module _ {S K : Type 0} (gs : source.Ghosts S) (gk : sink.Ghosts K) (demands : D
 
   -- the output failed before the sink was finished
   ends_failed : (most : ℕ) (cs : List Canonised) (mid new : S) (before after : K) (end : Result (Unit {0}) Cause) → is_unfinished end ≡ false
-      → StopsMaking gs gk demands words depth limit most cs mid new before after end → CopiesEnd gs gk demands words depth limit most cs mid new before after end
+      → StopsMaking gs gk demands words depth limit most cs mid new before after end
+      → CopiesEnd gs gk demands words depth limit most cs mid new before after end
   ends_failed most cs mid new before after (Ok ended) e s = absurd (false≢true (sym e))
   ends_failed most cs mid new before after (Err TooManyMessages) e s = absurd (false≢true (sym e))
   ends_failed most cs mid new before after (Err (Frame fault)) e s = absurd (false≢true (sym e))
@@ -174,7 +183,8 @@ module _ {S K : Type 0} (gs : source.Ghosts S) (gk : sink.Ghosts K) (demands : D
   ends_failed most cs mid new before after (Err no_marks) e s = absurd s
 
   pub made_failed : (most : ℕ) (old new : S) (before after : K) (n : ℕ) (end : Result (Unit {0}) Cause) → is_unfinished end ≡ false
-      → Making gs gk demands words depth limit most old new before after n end → Made gs gk demands words depth limit most old new before after n end
+      → Making gs gk demands words depth limit most old new before after n end
+      → Made gs gk demands words depth limit most old new before after n end
   made_failed most old new before after n end e w =
       record {
         cs = w.cs;
@@ -203,7 +213,8 @@ module _ {S K : Type 0} (gs : source.Ghosts S) (gk : sink.Ghosts K) (demands : D
   -- and once it is
   ends_behind : (most : ℕ) (cs : List Canonised) (mid new : S) (before after : K) (end : Result (Unit {0}) Cause)
       → CanonEnds gs gk demands words depth limit most cs mid new end
-      → Finishes gk before after (copies_of cs) → CopiesEnd gs gk demands words depth limit most cs mid new before after end
+      → Finishes gk before after (copies_of cs)
+      → CopiesEnd gs gk demands words depth limit most cs mid new before after end
   ends_behind most cs mid new before after (Ok ended) s f = (s, f)
   ends_behind most cs mid new before after (Err TooManyMessages) s f = (s, f)
   ends_behind most cs mid new before after (Err (Frame fault)) s f = (s, f)
@@ -214,7 +225,8 @@ module _ {S K : Type 0} (gs : source.Ghosts S) (gk : sink.Ghosts K) (demands : D
   ends_behind most cs mid new before after (Err no_marks) s f = absurd s
 
   pub made_finished : (most : ℕ) (old new : S) (before between after : K) (n : ℕ) (end : Result (Unit {0}) Cause) → is_unfinished end ≡ true
-      → Making gs gk demands words depth limit most old new before between n end → Keeps (gk.text between []) (gk.taken after)
+      → Making gs gk demands words depth limit most old new before between n end
+      → Keeps (gk.text between []) (gk.taken after)
       → (gk.closed between ≡ false) × (gk.closed after ≡ true) × (gk.failures after ≡ gk.failures between)
       → Made gs gk demands words depth limit most old new before after n end
   made_finished most old new before between after n end e w k o =
@@ -231,8 +243,10 @@ module _ {S K : Type 0} (gs : source.Ghosts S) (gk : sink.Ghosts K) (demands : D
 
   -- the output failed as it was finished
   pub made_spoiled : (most : ℕ) (old new : S) (before between after : K) (n : ℕ) (end : Result (Unit {0}) Cause) (out : OutFault) → is_unfinished end ≡ true
-      → Making gs gk demands words depth limit most old new before between n end → (gk.closed after ≡ true) × Begins (gk.text between []) (gk.taken after)
-      → Blames gk between after (sink_fault_of out) → Made gs gk demands words depth limit most old new before after n (Err (Output out))
+      → Making gs gk demands words depth limit most old new before between n end
+      → (gk.closed after ≡ true) × Begins (gk.text between []) (gk.taken after)
+      → Blames gk between after (sink_fault_of out)
+      → Made gs gk demands words depth limit most old new before after n (Err (Output out))
   made_spoiled most old new before between after n end out e w o b =
       let s = ends_before most w.cs w.mid new before between end e w.stops in
       record {

@@ -113,7 +113,7 @@ module _ {S K : Type 0} (gs : source.Ghosts S) (gk : sink.Ghosts K) (demands : D
 
 module _ {S K : Type 0} (gs : source.Ghosts S) (gk : sink.Ghosts K) where
   -- What the engine does over a stream of at most `most` messages, each of at most `limit` words.
-  -- The charge of a message may be at most `words`, and its depth at most `depth`, and it has to meet
+  -- The charge of a message may be at most `words`, and its depth at most `depth`. It has to meet
   -- the demands.
   pub record MakesCopiesUnder (demands : Demands) (words depth limit most : ℕ) (old new : S)
       (before after : K) (answer : Result Outcome RunFault) : Type 0 where

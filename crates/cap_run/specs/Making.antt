@@ -92,16 +92,17 @@ module _ {S K : Type 0} (gs : source.Ghosts S) (gk : sink.Ghosts K) (demands : D
 
   -- why no more copies were put after these, before the sink is finished
   abbrev pub StopsMaking : ℕ → List Canonised → S → S → K → K → Result (Unit {0}) Cause → Type 0
-  StopsMaking most cs mid new before after (Ok ended) = CanonEnds gs gk demands words depth limit most cs
-      mid new (Ok ended) × Fills gk before after (copies_of cs)
+  StopsMaking most cs mid new before after (Ok ended) =
+      CanonEnds gs gk demands words depth limit most cs mid new (Ok ended)
+      × Fills gk before after (copies_of cs)
   StopsMaking most cs mid new before after (Err TooManyMessages) =
       CanonEnds gs gk demands words depth limit most cs mid new (Err TooManyMessages)
       × Fills gk before after (copies_of cs)
   StopsMaking most cs mid new before after (Err (Frame fault)) =
       CanonEnds gs gk demands words depth limit most cs mid new (Err (Frame fault))
       × Fills gk before after (copies_of cs)
-  StopsMaking most cs mid new before after (Err (Output fault)) = StopsInCopy gs gk demands words depth
-      limit most cs mid new before after fault
+  StopsMaking most cs mid new before after (Err (Output fault)) =
+      StopsInCopy gs gk demands words depth limit most cs mid new before after fault
   StopsMaking most cs mid new before after (Err (Refused refusal)) =
       CanonEnds gs gk demands words depth limit most cs mid new (Err (Refused refusal))
       × Fills gk before after (copies_of cs)
@@ -126,10 +127,11 @@ module _ {S K : Type 0} (gs : source.Ghosts S) (gk : sink.Ghosts K) (demands : D
 
   -- why the sink was finished, or why it couldn't be
   abbrev pub CopiesEnd : ℕ → List Canonised → S → S → K → K → Result (Unit {0}) Cause → Type 0
-  CopiesEnd most cs mid new before after (Ok ended) = CanonEnds gs gk demands words depth limit most cs mid
-      new (Ok ended) × Finishes gk before after (copies_of cs)
-  CopiesEnd most cs mid new before after (Err cause) = CanonStops gs gk demands words depth limit most cs
-      mid new before after cause
+  CopiesEnd most cs mid new before after (Ok ended) =
+      CanonEnds gs gk demands words depth limit most cs mid new (Ok ended)
+      × Finishes gk before after (copies_of cs)
+  CopiesEnd most cs mid new before after (Err cause) =
+      CanonStops gs gk demands words depth limit most cs mid new before after cause
 
   -- n messages were read, and `end` is how the run ended.
   pub record Made (most : ℕ) (old new : S) (before after : K) (n : ℕ)

@@ -135,5 +135,6 @@ pub fn run_vet_exclusive_with<S: WordSource, O: ByteOut>(
         (TellsExclusiveUnder demands w d) (WantsMarksUnder demands w d)
         (limit_of s.size) s.messages source.old source.new out.old out.new result }
 {
-    vet_all(alloc, source, out, settings, demands, ExclusiveTeller { alloc })
+    let teller = ExclusiveTeller { alloc };
+    vet_all(alloc, source, out, settings, demands, teller)
 }

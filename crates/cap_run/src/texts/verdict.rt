@@ -2,7 +2,8 @@
 
 ghost use Rattle.cap_run.specs.FaultLines.{place_text};
 ghost use Rattle.cap_run.specs.Vetting.{accepted_text};
-ghost use Rattle.cap_spec.specs.Texts.{check_text, lax_name, reason_name, refused, strict_verdict, then_number, vet_text};
+ghost use Rattle.cap_spec.specs.Texts.{check_text, lax_name, reason_name, refused, strict_verdict};
+ghost use Rattle.cap_spec.specs.Texts.{then_number, vet_text};
 ghost use Rattle.std.specs.Prelude.{◌+◌, ◌++◌, ◌≡◌, ◌≤◌, codes, length};
 
 use crate::texts::page::{CAPACITY, Page};

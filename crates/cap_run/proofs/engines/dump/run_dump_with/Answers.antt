@@ -7,5 +7,7 @@ use Rattle.cap_run.proofs.engines.dump.run_dump_with.Goals as goal
 pub returns : goal.returns
 returns g c =
     let s = c.args.settings.now in
-    never_wants g.S.WordSource g.O.ByteOut TellsTree (words_of s.limits) (depth_of s.limits) (limit_of s.size) s.messages
-    c.args.source.now c.vet_all.new.source c.args.out.now c.vet_all.new.out c.vet_all.result c.args.demands c.vet_all.ensures
+    never_wants g.S.WordSource g.O.ByteOut TellsTree (words_of s.limits) (depth_of s.limits) (limit_of s.size)
+    s.messages
+    c.args.source.now c.vet_all.new.source c.args.out.now c.vet_all.new.out c.vet_all.result c.args.demands
+    c.vet_all.ensures

@@ -7,6 +7,7 @@ use Rattle.cap_run.proofs.engines.vet.run_vet.Goals as goal
 pub returns : goal.returns
 returns g c =
     let s = c.args.settings.now in
-    without_demands g.S.WordSource g.O.ByteOut TellsAccepted (words_of s.limits) (depth_of s.limits) (limit_of s.size) s.messages
+    without_demands g.S.WordSource g.O.ByteOut TellsAccepted (words_of s.limits) (depth_of s.limits) (limit_of s.size)
+    s.messages
     c.args.source.now c.run_vet_with.new.source c.args.out.now c.run_vet_with.new.out c.run_vet_with.result
     c.default.result c.default.ensures.0 c.default.ensures.1 c.run_vet_with.ensures

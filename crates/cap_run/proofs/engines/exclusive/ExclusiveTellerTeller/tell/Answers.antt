@@ -14,7 +14,8 @@ returns-in-Ok g c = λ words depth t h.
     let m = g.M.Segments.segments (message_of c.args.vetted.now) in
     let given : c.report.result ≡ report_of (vetted_of c.in-Ok.exclusive) = cc in
     let same : c.report.result ≡ report_of c.args.vetted.now = given ∙ ap report_of c.in-Ok.ensures.value in
-    writes_line g.O.ByteOut c.accepted_line.new.page Accepted (TellsMarked words depth c.args.number m) (WantsMarks words depth m)
+    writes_line g.O.ByteOut c.accepted_line.new.page Accepted (TellsMarked words depth c.args.number m)
+    (WantsMarks words depth m)
     c.args.out.now c.write_line.new.out c.write_line.result
     (inl (
       c.in-Ok.ensures.ok,
@@ -31,7 +32,8 @@ pub returns-in-Err-Overlap : goal.returns-in-Err-Overlap
 returns-in-Err-Overlap g c = λ words depth t h.
     let m = g.M.Segments.segments (message_of c.args.vetted.now) in
     let refusal = c.in-Err-Overlap in
-    writes_line g.O.ByteOut c.overlap_line.new.page Refused (TellsMarked words depth c.args.number m) (WantsMarks words depth m)
+    writes_line g.O.ByteOut c.overlap_line.new.page Refused (TellsMarked words depth c.args.number m)
+    (WantsMarks words depth m)
     c.args.out.now c.write_line-in-Err-Overlap.new.out c.write_line-in-Err-Overlap.result
     (inr (record {
       report = report_of c.args.vetted.now;

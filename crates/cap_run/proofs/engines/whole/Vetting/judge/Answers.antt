@@ -19,7 +19,8 @@ returns-in-Ok g c =
     let met = c.in-Ok.ensures.ok in
     let told = subst (λ (m : List (List ℕ)). (words depth : ℕ) (t : Tree)
     → IsReport m words depth (report_of c.in-Ok.vetted) t
-    → WritesOneOf g.O.ByteOut (g.T.Teller.tells v.teller words depth c.args.number m) (g.T.Teller.wants v.teller words depth m)
+    → WritesOneOf g.O.ByteOut (g.T.Teller.tells v.teller words depth c.args.number m)
+    (g.T.Teller.wants v.teller words depth m)
     c.args.out.now c.tell.new.out c.tell.result)
     (ap g.M.Segments.segments c.in-Ok.ensures.message) c.tell.ensures in
     writes_as g.O.ByteOut (g.T.Teller.tells v.teller words depth c.args.number m)
