@@ -2,13 +2,14 @@
 
 ghost use Rattle.cap_ptr.specs.Rows.{FindsRow, HasPointers};
 ghost use Rattle.cap_ptr.specs.Shapes.{FindsTarget, IsPlain};
+ghost use Rattle.cap_ptr.specs.declared.near.Row.{Row};
 ghost use Rattle.cap_spec.specs.Messages.{HasWord, segment_of};
-ghost use Rattle.cap_spec.specs.Pointers.{extent};
-ghost use Rattle.std.specs.Prelude.{◌+◌, ◌^◌, ◌≡◌, ◌≤◌, IfSome, List, length, ℕ};
+ghost use Rattle.cap_spec.specs.Pointers.{extent, list_words};
+ghost use Rattle.std.specs.Prelude.{◌+◌, ◌<◌, ◌^◌, ◌≡◌, ◌≤◌, ◌⊎◌, IfNone, IfSome, List, length, ℕ};
 
 use crate::fields::{code, data_size, kind, list_size, middle, pointer_size};
 use crate::shapes::Target;
-use crate::sizes::{list_words, plain_shape};
+use crate::sizes::plain_shape;
 
 /// The words of an object that its pointer word alone describes. Its pointers, if it has any, are
 /// its last words.
@@ -27,12 +28,15 @@ pub struct Row {
 /// The object that a pointer word leads to, if the word alone gives it: a struct, or a list without
 /// a tag whose elements have bits, that lies after the word (encoding: Structs, Lists). The word is
 /// word `at` of segment `segment`, and that segment has `len` words. `follow` returns that object
-/// too. After `None` nothing is known: `follow` says what the word leads to.
+/// too. After `None` the word leads to no such object, and `follow` says what it leads to.
 #[inline(always)]
 pub fn near_target(word: u64, segment: u32, at: u32, len: u32) -> Option<Target>
     ensures target { IfSome result (λ x. (m : List (List ℕ)) → HasWord m segment at word →
         length (segment_of m segment) ≡ len → FindsTarget m segment at x) }
     ensures here { IfSome result (λ x. (x.segment ≡ segment) × (x.pads ≡ 0)) }
+    // The other direction: such an object doesn't lie after the word.
+    ensures none { IfNone result ((m : List (List ℕ)) (r : Row) → HasWord m segment at word →
+        length (segment_of m segment) ≡ len → FindsRow m segment at word r → r.start ≤ at) }
 {
     let row = near_row(word, at, len)?;
     Some(Target {
@@ -52,39 +56,64 @@ pub fn near_row(word: u64, at: u32, len: u32) -> Option<Row>
     ensures row { IfSome result (λ r. (m : List (List ℕ)) (s : ℕ) → HasWord m s at word →
         length (segment_of m s) ≡ len → FindsRow m s at word r) }
     ensures plain { IfSome result (λ r. IsPlain word) }
+    // The other direction: such an object doesn't lie after the word.
+    ensures none { IfNone result ((m : List (List ℕ)) (s : ℕ) (r : Row) → HasWord m s at word →
+        length (segment_of m s) ≡ len → FindsRow m s at word r → r.start ≤ at) }
 {
-    let offset = middle(word);
+    let offset = u64::from(middle(word));
     if word == 0 || offset >= 1 << 29 {
         return None;
     }
     let (own, pointer_count) = parts_of(word)?;
-    let start = u64::from(at) + 1 + u64::from(offset);
-    let pointers_start = start + u64::from(own);
-    if pointers_start + u64::from(pointer_count) > u64::from(len) {
+    let start = u64::from(at) + 1 + offset;
+    let pointers_start = start + own;
+    if pointers_start + pointer_count > u64::from(len) {
         return None;
     }
     Some(Row {
-        words: own + pointer_count,
+        words: (own + pointer_count) as u32,
         start: start as u32,
         pointers_start: pointers_start as u32,
-        pointer_count,
+        pointer_count: pointer_count as u32,
     })
 }
 
 // How many words such an object has before its pointers, and how many pointers.
 #[inline(always)]
-fn parts_of(word: u64) -> Option<(u32, u32)>
+fn parts_of(word: u64) -> Option<(u64, u64)>
     ensures words { IfSome result (λ parts. parts.0 + parts.1 ≡ extent word) }
     ensures few { IfSome result (λ parts. parts.0 + parts.1 ≤ 2 ^ 29) }
     ensures pointers { IfSome result (λ parts. HasPointers word parts.1) }
+    ensures none { IfNone result ((n : ℕ) → ¬ HasPointers word n) }
 {
     match kind(word) {
-        0 => Some((u32::from(data_size(word)), u32::from(pointer_size(word)))),
-        1 => match code(word) {
-            0 | 7 => None,
-            6 => Some((0, list_size(word))),
-            code => Some((list_words(code, list_size(word)), 0)),
-        },
+        0 => Some((u64::from(data_size(word)), u64::from(pointer_size(word)))),
+        1 => list_parts(code(word), u64::from(list_size(word))),
         _ => None,
     }
+}
+
+// The same of a list, by its code and its size.
+#[inline(always)]
+fn list_parts(code: u8, size: u64) -> Option<(u64, u64)>
+    requires { size < 2 ^ 29 }
+    ensures words { IfSome result (λ parts. parts.0 + parts.1 ≡ list_words code size) }
+    ensures few { IfSome result (λ parts. parts.0 + parts.1 ≤ size) }
+    ensures pointers { IfSome result (λ parts. ((code ≡ 6) × (parts.1 ≡ size))
+        ⊎ ((0 < code) × (code < 6) × (parts.1 ≡ 0))) }
+    ensures none { IfNone result ((code ≡ 0) ⊎ (6 < code)) }
+{
+    // Bytes come first: most lists are texts or data.
+    if code == 2 {
+        return Some(((size + 7) / 8, 0));
+    }
+    let bits = match code {
+        1 => 1,
+        3 => 16,
+        4 => 32,
+        5 => 64,
+        6 => return Some((0, size)),
+        _ => return None,
+    };
+    Some(((bits * size + 63) / 64, 0))
 }

@@ -46,7 +46,8 @@ pub struct Target {
     pub words: u32,
     /// How many words of landing pads led to it: 0, 1 or 2.
     pub pads: u8,
-    /// The pads and the words, and one for each element without bits or words. Less than 2^31.
+    /// The pads and the words, and one for each element without bits or words. Of a target that
+    /// `follow` or `near_target` returns it is less than 2^31.
     pub charge: u64,
     /// Its sizes.
     pub shape: Shape,
@@ -76,7 +77,7 @@ impl Followed {
     ghost use Rattle.std.specs.Prelude.{◌≡◌};
 
     /// What following the word is charged, in words: the landing pads, and what an object is
-    /// charged. Less than 2^31.
+    /// charged. Of what `follow` returns it is less than 2^31.
     #[inline(always)]
     pub fn charge(&self) -> u64
         ensures { result ≡ charge_of self.now }
