@@ -11,7 +11,6 @@ import os
 import random
 import re
 import shutil
-import struct
 import subprocess
 import sys
 import tempfile
@@ -19,7 +18,6 @@ from pathlib import Path
 
 import install
 from install import PROGRAM, TOP, compare, make, missing, run
-from strict import strict_text
 
 SAMPLES = ("contacts.bin", "contacts-many-segments.bin", "telemetry.bin", "stream-of-four.bin")
 CYCLE = bytes.fromhex("0000000001000000fcffffff00000100")
@@ -57,22 +55,11 @@ def verdicts(command):
     return ran.stdout, ran.returncode
 
 
-def framed(stream, count):
-    """The frames of this many messages that a stream starts with."""
-    end = 0
-    for _ in range(count):
-        segments = struct.unpack_from("<I", stream, end)[0] + 1
-        end += 8 * (segments // 2 + 1 + sum(struct.unpack_from(f"<{segments}I", stream, end + 4)))
-    return stream[:end]
-
-
 def same(name, command, files):
-    """The example writes of each file what the program writes, and that a message isn't strict where it isn't."""
+    """The example writes of each file what the program writes of strict and unamplified messages, with the same status."""
     for file in files:
-        text, status = verdicts([PROGRAM, "vet", file])
-        text = text.decode()
-        strictly = strict_text(framed(file.read_bytes(), text.count("\n")), text)
-        compare(f"{name}, of {file.name}", (strictly.encode(), status or int(" refused " in strictly)), verdicts([*command, file]))
+        wanted = verdicts([PROGRAM, "vet", "--strict", "--unamplified", file])
+        compare(f"{name}, of {file.name}", wanted, verdicts([*command, file]))
     refused = verdicts([*command, files[-1]])[0].count(b"refused")
     compare(f"{name}, of turned bits, refuses some and accepts some", True, 0 < refused < 500)
 
