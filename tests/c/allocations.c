@@ -113,6 +113,9 @@ static void reports(const uint8_t *bytes, size_t length) {
 static const uint8_t SHARED[40] = {0, 0, 0, 0, 4, 0, 0, 0, 0, 0, 0, 0, 0, 0, 2, 0, 4, 0, 0, 0,
                                    1, 0, 0, 0, 0, 0, 0, 0, 1, 0, 0, 0, 7, 0, 0, 0, 0, 0, 0, 0};
 
+/* A null root, which is its own canonical form. */
+static const uint8_t NULL_ROOT[16] = {0, 0, 0, 0, 1};
+
 /* Without numbers for the marks, and with as many as are needed. */
 static void marks(const uint8_t *bytes, size_t length) {
   static uint64_t room[1 << 12];
@@ -193,6 +196,7 @@ int main(int count, char **names) {
   int at;
   expect(taken == before, "capvet_version", version);
   marks(SHARED, sizeof SHARED);
+  reports(NULL_ROOT, sizeof NULL_ROOT);
   for (at = 1; at < count; at++) {
     FILE *file;
     counted(names[at]);
