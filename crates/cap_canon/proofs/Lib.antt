@@ -14,7 +14,6 @@ mod Kept
 mod LaidSteps
 mod Laying
 mod Lengths
-mod NearWords
 mod Needed
 mod Owing
 mod PointerForms

@@ -7,7 +7,6 @@ pub mod FirstWords
 pub mod Found
 pub mod InPlace
 pub mod Laying
-pub mod NearWords
 pub mod Objects
 pub mod Roots
 pub mod StillToLay

@@ -9,7 +9,6 @@ mod checking;
 mod copying;
 mod fault;
 mod length;
-mod near;
 mod objects;
 mod output;
 mod run;

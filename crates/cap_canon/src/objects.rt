@@ -10,10 +10,9 @@ ghost use Rattle.cap_spec.specs.Tree.{Tree};
 ghost use Rattle.cap_spec.specs.Words.{IsWord};
 ghost use Rattle.std.specs.Prelude.{◌+◌, ◌<◌, ◌≤◌, length, ℕ};
 
-use crate::near::near_at;
 use crate::trimming::{data_left, list_data_left, list_pointers_left, pointers_left};
 use cap_frame::Segments;
-use cap_ptr::{Followed, Shape, Target, follow};
+use cap_ptr::{Followed, Shape, Target, follow, near_target};
 
 /// A struct, or the structs of a list: the segment and the word where the first starts, the sizes
 /// of each in the message, and those that are left when it is trimmed.
@@ -68,10 +67,11 @@ pub(crate) fn object_at<M: Segments>(message: &M, s: u32, w: u32) -> Object
     ensures { let m = M.segments message.now in (t : Tree) (c d : ℕ)
         → Denotes m s w t c d → IsObject m d s w (trim t) result }
 {
-    if message.word(s, w) == 0 {
+    let word = message.word(s, w);
+    if word == 0 {
         return Object::Null;
     }
-    match near_at(message, s, w) {
+    match near_target(word, s, w, message.len(s)) {
         Some(target) => left_of(message, &target),
         None => followed_at(message, s, w),
     }
