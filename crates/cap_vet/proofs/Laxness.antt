@@ -3,7 +3,7 @@ use Rattle.std.proofs.Common.{ℕ, ◌+◌, ◌<◌, ◌≤◌, ◌≡◌, ◌�
 use Rattle.std.proofs.Common.{subst, arith, Option, None, Some}
 use Rattle.std.specs.Prelude.{false, is_some, pos}
 use Rattle.cap_spec.specs.Following.{Lead, Leads, to_cap, to_null, to_object}
-use Rattle.cap_spec.specs.Messages.{HasWord, segment_of}
+use Rattle.cap_spec.specs.Messages.{HasWord, IsMessage, segment_of}
 use Rattle.cap_spec.specs.Paths.{Before, Costs}
 use Rattle.cap_spec.specs.Pointers.{far_segment, kind, pad, two}
 use Rattle.cap_spec.specs.Strict.{IsFirstLax, IsLax, IsLaxAt, IsStrict, IsWithin}
@@ -165,3 +165,7 @@ strict_within m limits h = strict_wider m (words_of limits) (depth_of limits) 26
 pub first_not_strict : (m : List (List ℕ)) (words depth s w : ℕ) (what : Lax) (n : ℕ) → IsStrict m words depth
     → IsFirstLax m s w what n → ⊥
 first_not_strict m words depth s w what n h f = h.none f.path (first_is_lax m s w what n f)
+
+-- more than 511 segments are 512
+pub many : (m : List (List ℕ)) (count : ℕ) → IsMessage m → count ≡ length m → 511 < count → length m ≡ 512
+many m count message e h = omega (arith, message.few)

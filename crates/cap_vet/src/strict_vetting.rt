@@ -17,6 +17,9 @@ use crate::walking::walk;
 use cap_frame::Segments;
 use cap_spec::StrictRefusal;
 
+/// The most segments that common readers take.
+const MOST_SEGMENTS: u32 = 511;
+
 /// Vets a message, and accepts it if it is also strict (profile). Then it has at most 511 segments,
 /// and no path reaches a pointer of a form in [`crate::Lax`]. Walks once. Allocates nothing.
 ///
@@ -50,7 +53,7 @@ pub fn vet_strict<'m, M: Segments>(
         Err(Stopped::Refused(refusal)) => return Err(StrictRefusal::Refused(refusal)),
         Err(Stopped::ByTurn(never)) => match never {},
     };
-    if message.count() == 512 {
+    if message.count() > MOST_SEGMENTS {
         return Err(StrictRefusal::ManySegments);
     }
     match search.first {
