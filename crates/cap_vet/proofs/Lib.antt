@@ -15,6 +15,7 @@ mod Verdicts
 mod ObjectFrames
 mod Looks
 mod Near
+mod FoundLists
 mod Keeping
 mod Founds
 mod Nodes

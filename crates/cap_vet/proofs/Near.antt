@@ -1,10 +1,14 @@
 -- What a walk needs to know of an object that its pointer word alone describes.
-use Rattle.std.proofs.Common.{◌≡◌, ℕ, ◌+◌, ◌-◌, ◌<◌, ◌≤◌, ◌==◌, false, inl, inr, List, length, refl, ◌∙◌, arith, Option, None, Some}
+use Rattle.std.proofs.Common.{◌≡◌, ℕ, ◌+◌, ◌-◌, ◌<◌, ◌≤◌, ◌==◌, false, inl, inr, List, length, refl, sym, subst, ◌∙◌, arith, Option, None, Some}
+use Rattle.std.specs.Prelude.{ℤ, pos}
 use Rattle.std.proofs.lemmas.Bool.{ne_eqb}
 use Rattle.cap_spec.specs.Messages.{segment_of}
 use Rattle.cap_spec.specs.Pointers.{code, data_size, extent}
+use Rattle.cap_spec.specs.Denoting.{Finds}
+use Rattle.cap_spec.specs.Following.{Leads, Says, near, one_pad, two_pads, to_object}
 use Rattle.cap_spec.specs.Verdicts.{levels_below}
 use Rattle.cap_spec.proofs.Trees.Charges.{extent_pointers, extent_struct}
+use Rattle.cap_ptr.specs.Reaching.{StandsFor}
 use Rattle.cap_ptr.specs.Rows.{FindsRow, HasPointers}
 use Rattle.cap_ptr.specs.declared.near.Row.{Row}
 use Rattle.cap_ptr.proofs.NearObjects.{pointers-no_extra, pointers-plain}
@@ -45,25 +49,36 @@ near_rises level depth (Some f) h e = (omega (arith, e), omega (arith, e))
 pub row_inside : (m : List (List ℕ)) (s w q : ℕ) (r : Row) → FindsRow m s w q r → r.pointers_start + r.pointer_count ≤ length (segment_of m s)
 row_inside m s w q r f = omega (arith, f.pointers_last, f.words, f.finds.sits.inside)
 
+-- A word that leads to an object over no pads says so itself.
+says_own : (m : List (List ℕ)) (t at q : ℕ) (b : ℤ) → Leads m t at 0 (to_object t b q) → Says t at q (to_object t b q)
+says_own m t at q b (near p h n says e) = subst (λ x. Says t at x (to_object t b q)) (sym says.4) says
+says_own m t at q b (one_pad p x h one hx n says e) = absurd (omega (arith, e))
+says_own m t at q b (two_pads p f x h two hf hx one tag says e) = absurd (omega (arith, e))
+
+-- So the pointer word whose place it takes leads there too.
+finds_over : (m : List (List ℕ)) (s w k t at b q : ℕ) → StandsFor m s w k t at q → Finds m t at 0 t b q → Finds m s w k t b q
+finds_over m s w k t at b q stands f = record { leads = stands.leads (to_object t (pos b) q) (says_own m t at q (pos b) f.leads); sits = f.sits }
+
 -- such an object within the limits
-pub looks_row : (m : List (List ℕ)) (words depth spent s w level q : ℕ) (r : Row) (frame : Option PointerRun) → FindsRow m s w q r → level ≤ depth
-    → r.words ≤ words - spent → spent ≤ words → option_spots frame ≡ row_places (level + 1) s r.pointers_start r.pointer_count → OptionIn m frame
-    → LevelIs (level + 1) frame → IsLooked m words depth spent s w level (Object r.words level frame)
-looks_row m words depth spent s w level q r frame f shallow charge within places inside here =
+pub looks_row : (m : List (List ℕ)) (words depth spent s w level k t at q : ℕ) (r : Row) (frame : Option PointerRun) → FindsRow m t at q r
+    → StandsFor m s w k t at q → level ≤ depth → k + r.words ≤ words - spent → spent ≤ words
+    → option_spots frame ≡ row_places (level + 1) t r.pointers_start r.pointer_count → OptionIn m frame → LevelIs (level + 1) frame
+    → IsLooked m words depth spent s w level (Object (k + r.words) level frame)
+looks_row m words depth spent s w level k t at q r frame f stands shallow charge within places inside here =
     let plain = pointers-plain q r.pointer_count f.pointers in (
-      0,
-      s,
+      k,
+      t,
       r.start,
       q,
       0,
       record {
-        finds = f.finds;
+        finds = finds_over m s w k t at r.start q stands f.finds;
         tagged = λ c. absurd (plain.1 c.0 c.1);
         charge = omega (arith, f.words, pointers-no_extra q r.pointer_count f.pointers);
         within = omega arith;
         deepest = omega (arith, near_levels q r.pointer_count f.pointers);
         shallow = shallow;
-        places = places ∙ near_places q r.start r.pointers_start r.pointer_count level s f.pointers (omega (arith, f.pointers_last, f.words));
+        places = places ∙ near_places q r.start r.pointers_start r.pointer_count level t f.pointers (omega (arith, f.pointers_last, f.words));
         inside = inside;
         rises = near_rises level depth frame shallow here;
       },

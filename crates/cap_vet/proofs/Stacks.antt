@@ -15,7 +15,7 @@ use Rattle.cap_vet.specs.PointerRuns.{RunIn, IsRest, LevelIs, OptionIn, all_spot
 use Rattle.cap_vet.specs.Looking.{FrameRises, IsLooked, object_children}
 use Rattle.cap_vet.specs.Turning.{added, run_below}
 use Rattle.cap_vet.specs.Limits.{depth_of, words_of}
-use Rattle.cap_vet.specs.Turns.{GoesOn, IsAt, IsWalking}
+use Rattle.cap_vet.specs.Turns.{GoesOn, HasVisited, IsAt, IsWalking}
 use Rattle.cap_vet.specs.Walking.{AreNull, IsLookedAt, IsNext, AreStacked, Progress, Walks, work_left, work_next}
 use Rattle.cap_vet.specs.declared.pointer_run.PointerRun.{PointerRun}
 use Rattle.cap_vet.specs.declared.limits.Limits.{Limits}
@@ -196,6 +196,15 @@ turned m limits runs left more f r report after K rest e h =
     let less : work_left (words_of limits) left after < work_left (words_of limits) (runs ++ f ∷ []) report =
     omega (arith, h.less, work_rest (words_of limits) runs f r report rest) in
     subst (λ u. GoesOn m limits u after K (work_left (words_of limits) (runs ++ f ∷ []) report)) e (record { walking = h.walking; less = less })
+
+-- So where the next word was looked at, the walk goes on.
+pub visited : (m : List (List ℕ)) (limits : Limits) (s w level : ℕ) (runs : List PointerRun) (report : Report) (l : Looked)
+    (n : IsNext m (words_of limits) (depth_of limits) s w level runs report)
+    → IsLooked m (words_of limits) (depth_of limits) report.charge s w level l
+    → HasVisited m limits s w level runs report n (run_below l) (added report s w l)
+visited m limits s w level runs report l n h =
+    let on = walks_on m (words_of limits) (depth_of limits) s w level runs report l n h in
+    record { later = on.0; walks = on.1; less = work_falls m (words_of limits) (depth_of limits) s w level runs report l n h }
 
 -- What a turn is told of a word that was looked at.
 pub looked_at : (m : List (List ℕ)) (words depth s w level : ℕ) (runs below : List PointerRun) (report after : Report) (later : List Ahead)

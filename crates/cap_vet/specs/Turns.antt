@@ -1,10 +1,11 @@
 -- What is known of a walk, and of what its turn knows, between two pointer words (profile).
-use Rattle.std.specs.Prelude.{ℕ, ◌<◌, List}
+use Rattle.std.specs.Prelude.{ℕ, ◌<◌, ◌∷◌, ◌++◌, List, Option}
+use Rattle.std.specs.Option.{option_to_list}
 use Rattle.cap_spec.specs.Faults.{IsRefused}
 use Rattle.cap_spec.specs.declared.Step.{Step}
 use Rattle.cap_vet.specs.Limits.{depth_of, words_of}
 use Rattle.cap_vet.specs.Trails.{Ahead}
-use Rattle.cap_vet.specs.Walking.{IsNext, Walks, work_left}
+use Rattle.cap_vet.specs.Walking.{IsNext, Walks, work_left, work_next}
 use Rattle.cap_vet.specs.declared.pointer_run.PointerRun.{PointerRun}
 use Rattle.cap_vet.specs.declared.limits.Limits.{Limits}
 use Rattle.cap_vet.specs.declared.report.Report.{Report}
@@ -22,6 +23,13 @@ pub record IsWalking (m : List (List ℕ)) (limits : Limits) (runs : List Pointe
 pub record IsAt (m : List (List ℕ)) (limits : Limits) (s w level : ℕ) (runs : List PointerRun) (report : Report) (K : List (List Step) → Type 0) : Type 0 where
   pub next : IsNext m (words_of limits) (depth_of limits) s w level runs report
   pub known : K next.seen
+
+-- The next word was looked at, and is the last so far. Below it is this run, and less is left of the walk.
+pub record HasVisited (m : List (List ℕ)) (limits : Limits) (s w level : ℕ) (runs : List PointerRun) (before : Report)
+    (n : IsNext m (words_of limits) (depth_of limits) s w level runs before) (below : Option PointerRun) (after : Report) : Type 0 where
+  pub later : List Ahead
+  pub walks : Walks m (words_of limits) (depth_of limits) (runs ++ option_to_list below) after (n.a.path ∷ n.seen) later
+  pub less : work_left (words_of limits) (runs ++ option_to_list below) after < work_next (words_of limits) runs before
 
 -- The walk goes on, and less than this is left of it.
 pub record GoesOn (m : List (List ℕ)) (limits : Limits) (runs : List PointerRun) (report : Report) (K : List (List Step) → Type 0) (left : ℕ) : Type 0 where

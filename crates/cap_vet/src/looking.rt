@@ -1,16 +1,18 @@
 //! Looking at one pointer word within limits.
 
+ghost use Rattle.cap_ptr.specs.Reaching.{StandsFor};
+ghost use Rattle.cap_ptr.specs.Rows.{FindsRow};
 ghost use Rattle.cap_spec.specs.Faults.{IsFirstReason};
 ghost use Rattle.cap_spec.specs.Messages.{segment_of};
 ghost use Rattle.cap_vet.specs.Limits.{depth_of, words_of};
 ghost use Rattle.cap_vet.specs.Looking.{FollowsWithin, IsLooked, deepest_of};
-ghost use Rattle.std.specs.Prelude.{◌+◌, ◌-◌, ◌<◌, ◌^◌, ◌≡◌, ◌≤◌, IfErr, IfOk, IfSome, length, ℕ};
+ghost use Rattle.std.specs.Prelude.{◌+◌, ◌-◌, ◌<◌, ◌^◌, ◌≡◌, ◌≤◌, IfErr, IfOk, IfSome, List, length, ℕ};
 
 use crate::limits::Limits;
 use crate::pointer_run::PointerRun;
 use crate::targets::{frame_of, levels_taken, row_frame};
 use cap_frame::Segments;
-use cap_ptr::{Followed, Reason, follow, near_row};
+use cap_ptr::{Followed, Reason, Row, follow, near_row};
 
 /// What a pointer word leads to, within the limits.
 pub(crate) enum Looked {
@@ -64,7 +66,9 @@ fn deepest_level(followed: &Followed, level: u64) -> u64
 
 /// Looks at word `w` of segment `s`, whose target has this level, where `spent` words were charged
 /// before. The error is the first reason that applies.
-#[inline(always)]
+// Few words need it, and a walk's loop without it keeps more in registers.
+#[cold]
+#[inline(never)]
 pub(crate) fn look<M: Segments>(
     message: &M,
     limits: &Limits,
@@ -118,10 +122,31 @@ pub(crate) fn look_near<M: Segments>(
         return Some(Looked::Null(0));
     }
     let row = near_row(word, w, message.len(s))?;
-    let cost = u64::from(row.words);
+    row_within(limits, spent, 0, s, &row, level)
+}
+
+/// What a pointer word leads to over `pads` words of landing pads, where that is the object of this
+/// row of this segment. Returns a result only if that is within the limits.
+#[inline(always)]
+pub(crate) fn row_within(
+    limits: &Limits,
+    spent: u64,
+    pads: u8,
+    segment: u32,
+    row: &Row,
+    level: u32,
+) -> Option<Looked>
+    requires pads { pads ≤ 2 }
+    requires spent { spent ≤ words_of limits.now }
+    requires level { level ≤ depth_of limits.now + 1 }
+    ensures { (m : List (List ℕ)) (s w at q : ℕ) → FindsRow m segment at q row.now →
+        StandsFor m s w pads segment at q →
+        IfSome result (IsLooked m (words_of limits.now) (depth_of limits.now) spent s w level) }
+{
+    let cost = u64::from(pads) + u64::from(row.words);
     if level > limits.depth() || cost > limits.words() - spent {
         return None;
     }
-    let frame = row_frame(s, row.pointers_start, row.pointer_count, level + 1);
+    let frame = row_frame(segment, row.pointers_start, row.pointer_count, level + 1);
     Some(Looked::Object(cost, level, frame))
 }

@@ -12,6 +12,7 @@ use crate::pointer_run::PointerRun;
 use cap_ptr::{Shape, Target};
 
 // How many levels the structs of a list of `count` elements take below their list.
+#[inline(always)]
 pub(crate) fn levels_of_elements(count: u32) -> u32
     ensures value { result ≡ element_levels count }
     ensures few { result ≤ 1 }
@@ -20,6 +21,7 @@ pub(crate) fn levels_of_elements(count: u32) -> u32
 }
 
 // How many levels an object takes below its own.
+#[inline(always)]
 pub(crate) fn levels_taken(shape: &Shape) -> u32
     ensures value { result ≡ levels_of shape.now }
     ensures few { result ≤ 1 }
@@ -31,6 +33,7 @@ pub(crate) fn levels_taken(shape: &Shape) -> u32
 }
 
 // The pointer words of an object of this level.
+#[inline(always)]
 pub(crate) fn frame_of(target: &Target, level: u32) -> Option<PointerRun>
     requires found { (m : List (List ℕ)) × (s w q tag : ℕ) × IsMessage m
         × FindsTargetBy m s w q tag target.now }
@@ -76,6 +79,7 @@ pub(crate) fn frame_of(target: &Target, level: u32) -> Option<PointerRun>
 }
 
 // The pointer words of a struct or of a list of pointers, which are in one row.
+#[inline(always)]
 pub(crate) fn row_frame(segment: u32, at: u32, left: u32, level: u32) -> Option<PointerRun>
     ensures places { option_spots result ≡ row_places level segment at left }
     ensures inside { (m : List (List ℕ)) → segment < length m →

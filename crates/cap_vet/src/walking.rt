@@ -1,22 +1,20 @@
 //! The walk: one pointer word a turn, in preorder.
 
-ghost use Rattle.cap_spec.specs.Faults.{IsFirstFault};
 ghost use Rattle.cap_spec.specs.declared.Step.{Step};
 ghost use Rattle.cap_vet.specs.PointerRuns.{kept};
 ghost use Rattle.cap_vet.specs.Passing.{Passes};
-ghost use Rattle.cap_vet.specs.Limits.{depth_of, words_of};
-ghost use Rattle.cap_vet.specs.Turning.{added, run_below};
+ghost use Rattle.cap_vet.specs.Limits.{words_of};
 ghost use Rattle.cap_vet.specs.Turns.{GoesOn, IsAt, IsStopped, IsWalking};
 ghost use Rattle.cap_vet.specs.Trails.{Ahead};
-ghost use Rattle.cap_vet.specs.Walking.{IsNext, Walks, work_left, work_next};
+ghost use Rattle.cap_vet.specs.Walking.{Walks, work_next};
 ghost use Rattle.std.specs.Option.{option_to_list};
 ghost use Rattle.std.specs.Prelude.{◌+◌, ◌++◌, ◌<◌, ◌≡◌, ◌≤◌, ◌^◌, [], ◌∷◌, IfErr, IfNone, IfOk, IfSome, List, length, ℕ};
 
 use crate::limits::Limits;
-use crate::looking::{Looked, look, look_near};
 use crate::pointer_run::PointerRun;
 use crate::report::Report;
 use crate::turn::{Stopped, Turn};
+use crate::visiting::visit;
 use arrayvec::ArrayVec;
 use cap_frame::Segments;
 use cap_spec::{Reason, Refusal};
@@ -191,50 +189,6 @@ fn turn_at<M: Segments, T: Turn>(
     }
 }
 
-// Looks at the next pointer word, and gives the run of its object's pointers. The error is the
-// first fault. It and what it calls are inlined: a walk may look at millions of words.
-#[inline(always)]
-fn visit<M: Segments>(
-    message: &M,
-    limits: &Limits,
-    report: &mut Report,
-    s: u32,
-    w: u32,
-    level: u32,
-) -> Result<Option<PointerRun>, Refusal>
-    requires next { let m = M.segments message.now in
-        (runs : List PointerRun)
-        × IsNext m (words_of limits.now) (depth_of limits.now) s w level runs report.old }
-    // This word is then the last that was looked at.
-    ensures ok { let m = M.segments message.now in
-        (runs : List PointerRun)
-        (n : IsNext m (words_of limits.now) (depth_of limits.now) s w level runs report.old) →
-        IfOk result (λ below. (later : List Ahead)
-        × Walks m (words_of limits.now) (depth_of limits.now) (runs ++ option_to_list below)
-        report.new (n.a.path ∷ n.seen) later) }
-    ensures falls { let m = M.segments message.now in
-        (runs : List PointerRun) →
-        IsNext m (words_of limits.now) (depth_of limits.now) s w level runs report.old →
-        IfOk result (λ below.
-        work_left (words_of limits.now) (runs ++ option_to_list below) report.new
-        < work_next (words_of limits.now) runs report.old) }
-    ensures err { IfErr result
-        (IsFirstFault (M.segments message.now) (words_of limits.now) (depth_of limits.now)) }
-{
-    if let Some(looked) = look_near(message, limits, report.charge, s, w, level) {
-        return Ok(add(report, s, w, looked));
-    }
-    match look(message, limits, report.charge, s, w, level) {
-        Err(reason) => Err(Refusal {
-            segment: s,
-            word: w,
-            reason,
-            pointers: report.pointers + 1,
-        }),
-        Ok(looked) => Ok(add(report, s, w, looked)),
-    }
-}
-
 // Skips null words at the start of the others of a row, while another word follows them. Most words
 // of a list may be null, and these cost no turn.
 #[inline(always)]
@@ -265,38 +219,5 @@ fn push_kept<const N: usize>(stack: &mut Stack<N>, more: bool, run: PointerRun)
 {
     if more {
         stack.push(run);
-    }
-}
-
-// Counts a pointer word, and gives the run of its object's pointers.
-#[inline(always)]
-fn add(report: &mut Report, s: u32, w: u32, looked: Looked) -> Option<PointerRun>
-    requires room { ((added report.old s w looked).charge < 2 ^ 64)
-        × ((added report.old s w looked).pointers < 2 ^ 64)
-        × ((added report.old s w looked).caps < 2 ^ 64) }
-    ensures report { report.new ≡ added report.old s w looked }
-    ensures run { result ≡ run_below looked }
-{
-    report.pointers += 1;
-    match looked {
-        Looked::Null(cost) => {
-            report.charge += cost;
-            None
-        }
-        Looked::Cap(cost) => {
-            report.charge += cost;
-            report.caps += 1;
-            if report.first_cap.is_none() {
-                report.first_cap = Some((s, w));
-            }
-            None
-        }
-        Looked::Object(cost, deepest, below) => {
-            report.charge += cost;
-            if report.depth < deepest {
-                report.depth = deepest;
-            }
-            below
-        }
     }
 }

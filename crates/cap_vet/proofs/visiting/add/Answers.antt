@@ -3,7 +3,7 @@ use Rattle.cap_vet.specs.Turning.{added, or_place}
 use Rattle.cap_vet.specs.declared.pointer_run.PointerRun.{PointerRun}
 use Rattle.cap_vet.specs.declared.looking.Looked.TheVariants.{Cap, Object}
 use Rattle.cap_vet.specs.declared.report.Report.{Report}
-use Rattle.cap_vet.proofs.walking.add.Goals as goal
+use Rattle.cap_vet.proofs.visiting.add.Goals as goal
 
 first_place : (o : Option (ℕ × ℕ)) (s w : ℕ) (none : Bool) → is_some o ≡ not none → none ≡ true → Some (s, w) ≡ or_place o s w
 first_place None s w none e f = refl

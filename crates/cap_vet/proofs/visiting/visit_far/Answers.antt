@@ -1,0 +1,16 @@
+use Rattle.cap_vet.proofs.Stacks.{visited}
+use Rattle.cap_vet.proofs.Verdicts.{first_fault}
+use Rattle.cap_vet.proofs.visiting.visit_far.Goals as goal
+
+pub look_far-requires-clause-exists : goal.look_far-requires-clause-exists
+look_far-requires-clause-exists g c = c.requires.next.1.exists
+
+pub look_far-requires-clause-inside : goal.look_far-requires-clause-inside
+look_far-requires-clause-inside g c = c.requires.next.1.within
+
+pub returns-in-Err-clause-err : goal.returns-in-Err-clause-err
+returns-in-Err-clause-err g c = first_fault _ _ _ _ _ _ _ _ _ c.requires.next.1 c.in-Err.ensures.err
+
+pub returns-in-Ok-clause-ok : goal.returns-in-Ok-clause-ok
+returns-in-Ok-clause-ok g c = λ runs next. rw (c.add.ensures.report, c.add.ensures.run)
+    (visited _ _ _ _ _ runs _ _ next c.in-Ok.ensures.ok)

@@ -1,0 +1,129 @@
+//! One pointer word of a walk: what it leads to is counted.
+
+ghost use Rattle.cap_spec.specs.Faults.{IsFirstFault};
+ghost use Rattle.cap_vet.specs.Limits.{depth_of, words_of};
+ghost use Rattle.cap_vet.specs.Turning.{added, run_below};
+ghost use Rattle.cap_vet.specs.Turns.{HasVisited};
+ghost use Rattle.cap_vet.specs.Walking.{IsNext};
+ghost use Rattle.std.specs.Prelude.{◌<◌, ◌≡◌, ◌^◌, IfErr, IfOk, List};
+
+use crate::far_looking::{look_far, look_list};
+use crate::limits::Limits;
+use crate::looking::{Looked, look_near};
+use crate::pointer_run::PointerRun;
+use crate::report::Report;
+use cap_frame::Segments;
+use cap_spec::Refusal;
+
+/// Looks at the next pointer word, and gives the run of its object's pointers. This word is then the
+/// last that was looked at. The error is the first fault.
+// It and what it calls for most words are inlined: a walk may look at millions of words.
+#[inline(always)]
+pub(crate) fn visit<M: Segments>(
+    message: &M,
+    limits: &Limits,
+    report: &mut Report,
+    s: u32,
+    w: u32,
+    level: u32,
+) -> Result<Option<PointerRun>, Refusal>
+    requires next { let m = M.segments message.now in (runs : List PointerRun)
+        × IsNext m (words_of limits.now) (depth_of limits.now) s w level runs report.old }
+    ensures ok { let m = M.segments message.now in (runs : List PointerRun)
+        (n : IsNext m (words_of limits.now) (depth_of limits.now) s w level runs report.old) →
+        IfOk result (λ below. HasVisited m limits.now s w level runs report.old n below report.new) }
+    ensures err { IfErr result
+        (IsFirstFault (M.segments message.now) (words_of limits.now) (depth_of limits.now)) }
+{
+    if let Some(looked) = look_near(message, limits, report.charge, s, w, level) {
+        return Ok(add(report, s, w, looked));
+    }
+    if let Some(looked) = look_list(message, limits, report.charge, s, w, level) {
+        return Ok(add(report, s, w, looked));
+    }
+    visit_other(message, limits, report, s, w, level)
+}
+
+// The same of another word.
+// It is inlined where `visit_far` is called, so that the memory for a result is cleared only there.
+#[inline(always)]
+fn visit_other<M: Segments>(
+    message: &M,
+    limits: &Limits,
+    report: &mut Report,
+    s: u32,
+    w: u32,
+    level: u32,
+) -> Result<Option<PointerRun>, Refusal>
+    requires next { let m = M.segments message.now in (runs : List PointerRun)
+        × IsNext m (words_of limits.now) (depth_of limits.now) s w level runs report.old }
+    ensures ok { let m = M.segments message.now in (runs : List PointerRun)
+        (n : IsNext m (words_of limits.now) (depth_of limits.now) s w level runs report.old) →
+        IfOk result (λ below. HasVisited m limits.now s w level runs report.old n below report.new) }
+    ensures err { IfErr result
+        (IsFirstFault (M.segments message.now) (words_of limits.now) (depth_of limits.now)) }
+{
+    visit_far(message, limits, report, s, w, level)
+}
+
+// The same, and not inlined, so that the loop of a walk keeps its values in registers.
+#[inline(never)]
+fn visit_far<M: Segments>(
+    message: &M,
+    limits: &Limits,
+    report: &mut Report,
+    s: u32,
+    w: u32,
+    level: u32,
+) -> Result<Option<PointerRun>, Refusal>
+    requires next { let m = M.segments message.now in (runs : List PointerRun)
+        × IsNext m (words_of limits.now) (depth_of limits.now) s w level runs report.old }
+    ensures ok { let m = M.segments message.now in (runs : List PointerRun)
+        (n : IsNext m (words_of limits.now) (depth_of limits.now) s w level runs report.old) →
+        IfOk result (λ below. HasVisited m limits.now s w level runs report.old n below report.new) }
+    ensures err { IfErr result
+        (IsFirstFault (M.segments message.now) (words_of limits.now) (depth_of limits.now)) }
+{
+    match look_far(message, limits, report.charge, s, w, level) {
+        Err(reason) => Err(Refusal {
+            segment: s,
+            word: w,
+            reason,
+            pointers: report.pointers + 1,
+        }),
+        Ok(looked) => Ok(add(report, s, w, looked)),
+    }
+}
+
+// Counts a pointer word, and gives the run of its object's pointers.
+#[inline(always)]
+fn add(report: &mut Report, s: u32, w: u32, looked: Looked) -> Option<PointerRun>
+    requires room { ((added report.old s w looked).charge < 2 ^ 64)
+        × ((added report.old s w looked).pointers < 2 ^ 64)
+        × ((added report.old s w looked).caps < 2 ^ 64) }
+    ensures report { report.new ≡ added report.old s w looked }
+    ensures run { result ≡ run_below looked }
+{
+    report.pointers += 1;
+    match looked {
+        Looked::Null(cost) => {
+            report.charge += cost;
+            None
+        }
+        Looked::Cap(cost) => {
+            report.charge += cost;
+            report.caps += 1;
+            if report.first_cap.is_none() {
+                report.first_cap = Some((s, w));
+            }
+            None
+        }
+        Looked::Object(cost, deepest, below) => {
+            report.charge += cost;
+            if report.depth < deepest {
+                report.depth = deepest;
+            }
+            below
+        }
+    }
+}
