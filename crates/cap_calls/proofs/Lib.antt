@@ -5,3 +5,4 @@ pub mod Marked
 pub mod Packed
 pub mod Texts
 pub mod Unpacked
+pub mod Wider

@@ -1,5 +1,5 @@
 -- What the flags of a call allow (profile).
-use Rattle.std.specs.Prelude.{ℕ, ◌≡◌, ◌≤◌, ◌/◌, ◌%◌, ◌==◌, Bool, not, slice_index}
+use Rattle.std.specs.Prelude.{ℕ, ◌≡◌, ◌≤◌, ◌/◌, ◌%◌, ◌==◌, Bool, IsTrue, not, slice_index}
 use Rattle.cap_vet.specs.declared.demands.Demands.{Demands}
 use Rattle.cap_calls.specs.declared.limits.CallLimits.{CallLimits}
 
@@ -24,3 +24,12 @@ allows_amplified l = l.flags / 4 % 2 == 1
 -- what else a message has to meet
 abbrev pub demands_of : CallLimits → Demands
 demands_of l = record { strict = not (allows_nonstrict l); unamplified = not (allows_amplified l) }
+
+-- no limit of k is lower than that of l, and k has each flag that l has
+pub record AllowsMore (l k : CallLimits) : Type 0 where
+  pub size : l.message_words ≤ k.message_words
+  pub charge : l.charge ≤ k.charge
+  pub depth : l.depth ≤ k.depth
+  pub trailing : IsTrue (allows_trailing l) → IsTrue (allows_trailing k)
+  pub nonstrict : IsTrue (allows_nonstrict l) → IsTrue (allows_nonstrict k)
+  pub amplified : IsTrue (allows_amplified l) → IsTrue (allows_amplified k)

@@ -1,10 +1,14 @@
-//! What the flags mean: with all three a call accepts what [`cap_vet::vet`] does.
+//! What the flags mean: with all three a call accepts what [`cap_vet::vet`] does, and one more never
+//! refuses more.
 
 ghost use Rattle.cap_calls.specs.CallFindings.{JudgesAny, Returns, Tells, TellsWhole};
+ghost use Rattle.cap_calls.specs.CallFlags.{AllowsMore};
+ghost use Rattle.cap_calls.specs.CallFrames.{AreLimits};
 ghost use Rattle.cap_calls.specs.Calls.{IsCheck, IsGood, TellsCheck, TellsVet};
 ghost use Rattle.cap_calls.specs.CanonicalCalls.{IsCopied, TellsCopy};
 ghost use Rattle.cap_calls.specs.ExclusiveCalls.{MarksAny, TellsExclusive};
 ghost use Rattle.cap_calls.specs.declared.answer.Answer.{Answer};
+ghost use Rattle.cap_calls.specs.declared.answer.Answer.TheVariants.{Good};
 ghost use Rattle.cap_calls.specs.declared.found.Found.{Found};
 ghost use Rattle.cap_calls.specs.declared.limits.CallLimits.{CallLimits};
 ghost use Rattle.cap_calls.specs.declared.report.CallReport.{CallReport};
@@ -27,4 +31,10 @@ pub fn all_flags_demand_nothing()
     ensures is_canonical { (l : CallLimits) (bytes : List ℕ) (a : Answer) (r : CallReport) →
         l.flags ≡ 7 → TellsCheck l bytes a r ↔
         ((f : Found) × TellsWhole true ⊤ (JudgesAny ⊤ IsCheck) l bytes f × Returns f a r) }
+{}
+
+/// What [`crate::vet`] accepts it accepts with higher limits and more flags too, with the same report.
+pub fn wider_limits_accept_as_much()
+    ensures { (l k : CallLimits) (bytes : List ℕ) (r : CallReport) → AreLimits k → AllowsMore l k →
+        TellsVet l bytes Good r → TellsVet k bytes Good r }
 {}

@@ -20,6 +20,6 @@ pub use calls::version::version;
 pub use calls::vet::vet;
 pub use calls::vet_exclusive::vet_exclusive;
 pub use front::NoFrame;
-pub use laws::all_flags_demand_nothing;
+pub use laws::{all_flags_demand_nothing, wider_limits_accept_as_much};
 pub use limits::CallLimits;
 pub use report::CallReport;

@@ -1,0 +1,154 @@
+-- What is accepted is accepted with higher limits and more flags too.
+use Rattle.std.proofs.Common.{ℕ, List, ◌≡◌, ◌∙◌, ◌≤◌, ◌<◌, ap, arith, length, min, refl, subst, sum, sym}
+use Rattle.std.specs.Prelude.{◌+◌, Bool, true, false, not, if◌then◌else◌, ⊤}
+use Rattle.std.proofs.Math.Nat.{le-min, min-le_left, min-le_right}
+use Rattle.std.proofs.lemmas.Bool.{false≢true}
+use Rattle.cap_frame.specs.declared.fault.FrontFault.TheVariants as fault
+use Rattle.cap_spec.specs.Frames.{sizes_of}
+use Rattle.cap_spec.specs.Strict.{IsStrict}
+use Rattle.cap_spec.specs.declared.Lax.TheVariants as lax
+use Rattle.cap_spec.specs.declared.Reason.{Reason}
+use Rattle.cap_spec.specs.declared.Reason.TheVariants as reason
+use Rattle.cap_spec.specs.declared.StrictRefusal.{StrictRefusal}
+use Rattle.cap_spec.specs.declared.StrictRefusal.TheVariants as strict
+use Rattle.cap_spec.proofs.Strict.Faults.{strict_wider}
+use Rattle.cap_vet.specs.Demands.{Meets, words_under}
+use Rattle.cap_vet.specs.Reports.{IsAccepted}
+use Rattle.cap_vet.specs.declared.demands.Demands.{Demands}
+use Rattle.cap_vet.specs.declared.report.Report.{Report}
+use Rattle.cap_calls.specs.AnswerNumbers.{number_of, reason_answer, refusal_answer}
+use Rattle.cap_calls.specs.CallFindings.{Judges, accepted, framed, refused, tells, trailing, without}
+use Rattle.cap_calls.specs.CallFlags.{AllowsMore, allows_amplified, allows_nonstrict, allows_trailing, demands_of}
+use Rattle.cap_calls.specs.CallFrames.{AreLimits, HasFrame, HasTrailing}
+use Rattle.cap_calls.specs.CallReports.{cause_answer}
+use Rattle.cap_calls.specs.Calls.{TellsVet}
+use Rattle.cap_calls.specs.declared.answer.Answer.{Answer}
+use Rattle.cap_calls.specs.declared.answer.Answer.TheVariants as answer
+use Rattle.cap_calls.specs.declared.found.Found.{Found}
+use Rattle.cap_calls.specs.declared.front.NoFrame.{NoFrame}
+use Rattle.cap_calls.specs.declared.front.NoFrame.TheVariants.{BadLimits, NoMessage, Fault}
+use Rattle.cap_calls.specs.declared.limits.CallLimits.{CallLimits}
+use Rattle.cap_calls.specs.declared.report.CallReport.{CallReport}
+use Rattle.cap_calls.proofs.Answers.{one_extent}
+
+-- no other answer has the number 0
+not_zero : (a : Answer) → 1 ≤ number_of a → a ≡ answer.Good → ⊥
+not_zero a some e = omega (arith, some, ap number_of e)
+
+cause_not_zero : (c : NoFrame) → 1 ≤ number_of (cause_answer c)
+cause_not_zero BadLimits = omega arith
+cause_not_zero NoMessage = omega arith
+cause_not_zero (Fault (fault.TooManySegments n)) = omega arith
+cause_not_zero (Fault (fault.TooLarge n)) = omega arith
+cause_not_zero (Fault (fault.Truncated n)) = omega arith
+
+reason_not_zero : (r : Reason) → 1 ≤ number_of (reason_answer r)
+reason_not_zero reason.NoRoot = omega arith
+reason_not_zero reason.Reserved = omega arith
+reason_not_zero reason.SegmentMissing = omega arith
+reason_not_zero reason.PadOutside = omega arith
+reason_not_zero reason.PadIsFar = omega arith
+reason_not_zero reason.PadNotFar = omega arith
+reason_not_zero reason.TagKind = omega arith
+reason_not_zero reason.TagOffset = omega arith
+reason_not_zero reason.OutOfSegment = omega arith
+reason_not_zero reason.CompositeTag = omega arith
+reason_not_zero reason.CompositeOverrun = omega arith
+reason_not_zero reason.DepthLimit = omega arith
+reason_not_zero reason.WordLimit = omega arith
+
+refusal_not_zero : (r : StrictRefusal) → 1 ≤ number_of (refusal_answer r)
+refusal_not_zero (strict.Refused it) = reason_not_zero it.reason
+refusal_not_zero strict.ManySegments = omega arith
+refusal_not_zero (strict.Pointer lax.NullPad s w n) = omega arith
+refusal_not_zero (strict.Pointer lax.EmptySegment s w n) = omega arith
+refusal_not_zero (strict.Pointer lax.CapabilityPad s w n) = omega arith
+
+-- a flag that is not set in k is not set in l
+unset : (b c : Bool) → (b ≡ true → c ≡ true) → not c ≡ true → not b ≡ true
+unset true c more e = absurd (false≢true (ap not (sym (more refl)) ∙ e))
+unset false c more e = refl
+
+module _ (l k : CallLimits) (more : AllowsMore l k) where
+  -- the word limit is no lower
+  lower : (m : List (List ℕ)) (b c : Bool) → (not c ≡ true → not b ≡ true)
+      → (if not b then min l.charge (sum (sizes_of m) + 4096) else l.charge) ≤
+      (if not c then min k.charge (sum (sizes_of m) + 4096) else k.charge)
+  lower m true true h = more.charge
+  lower m true false h = absurd (false≢true (h refl))
+  lower m false true h = omega (arith, min-le_left l.charge (sum (sizes_of m) + 4096), more.charge)
+  lower m false false h =
+      le-min (omega (arith, min-le_left l.charge (sum (sizes_of m) + 4096), more.charge))
+      (min-le_right l.charge (sum (sizes_of m) + 4096))
+
+  limit : (m : List (List ℕ)) → words_under (demands_of l) m l.charge ≤ words_under (demands_of k) m k.charge
+  limit m = lower m (allows_amplified l) (allows_amplified k)
+      (unset (allows_amplified l) (allows_amplified k) more.amplified)
+
+  accepts : (m : List (List ℕ)) (r : Report) → IsAccepted m (words_under (demands_of l) m l.charge) l.depth r
+      → IsAccepted m (words_under (demands_of k) m k.charge) k.depth r
+  accepts m r (t, h) = (
+    t,
+    record {
+      denotes = h.denotes;
+      within = omega (arith, h.within, limit m);
+      shallow = omega (arith, h.shallow, more.depth);
+      pointers = h.pointers;
+      caps = h.caps;
+      first_cap = h.first_cap;
+      few = omega (arith, h.few, limit m);
+    },
+  )
+
+  meets : (m : List (List ℕ)) → Meets (demands_of l) m l.charge l.depth → Meets (demands_of k) m k.charge k.depth
+  meets m h =
+      record {
+        within = record {
+          tree = h.within.tree;
+          charge = h.within.charge;
+          levels = h.within.levels;
+          denotes = h.within.denotes;
+          few_words = omega (arith, h.within.few_words, limit m);
+          few_levels = omega (arith, h.within.few_levels, more.depth);
+        };
+        strict = λ e. strict_wider m (words_under (demands_of l) m l.charge) l.depth
+            (words_under (demands_of k) m k.charge) k.depth
+            (h.strict (unset (allows_nonstrict l) (allows_nonstrict k) more.nonstrict e)) (limit m) more.depth;
+      }
+
+  frame : (bs : List ℕ) (x y : ℕ) (m : List (List ℕ)) → AreLimits k → HasFrame l bs x y m → HasFrame k bs x y m
+  frame bs x y m good h =
+      record {
+        are_limits = good;
+        front = record {
+          own = h.front.own;
+          rest = h.front.rest;
+          words = h.front.words;
+          frames = h.front.frames;
+          within = omega (arith, h.front.within, more.size);
+          long = h.front.long;
+        };
+        count = h.count;
+      }
+
+  none : (bs : List ℕ) (x y : ℕ) (m : List (List ℕ)) → AreLimits k → HasFrame l bs x y m
+      → (not (allows_trailing l) ≡ true → ¬ HasTrailing l bs) → not (allows_trailing k) ≡ true → ¬ HasTrailing k bs
+  none bs x y m good h only e (n, a, b, g, less) =
+      only (unset (allows_trailing l) (allows_trailing k) more.trailing e)
+      (m, x, y, h, subst (λ (z : ℕ). z < length bs) (one_extent k bs a x b y n m g (frame bs x y m good h)).0 less)
+
+  pub wider_told : (bs : List ℕ) (r : CallReport) → AreLimits k → TellsVet l bs answer.Good r
+      → TellsVet k bs answer.Good r
+  wider_told bs r good (f, trailing m x y t h less e i, (a, q)) =
+      absurd (not_zero answer.Trailing (omega arith) (sym (ap (λ (z : Found). z.answer) e) ∙ sym a))
+  wider_told bs r good (f, tells only (without c h e i), (a, q)) =
+      absurd (not_zero (cause_answer c) (cause_not_zero c) (sym (ap (λ (z : Found). z.answer) e) ∙ sym a))
+  wider_told bs r good (f, tells only (framed m x y g h (refused v u j i) e), (a, q)) =
+      absurd (not_zero (refusal_answer v) (refusal_not_zero v)
+      (sym (ap (λ (z : Found). z.answer) j) ∙ (sym (ap (λ (z : Found). z.answer) e) ∙ sym a)))
+  wider_told bs r good (f, tells only (framed m x y g h (accepted v u n j) e), (a, q)) = (
+    f,
+    tells (none bs x y m good h only)
+        (framed m x y g (frame bs x y m good h) (accepted v (accepts m v u) (meets m n) j) e),
+    (a, q),
+  )
