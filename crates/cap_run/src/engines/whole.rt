@@ -70,7 +70,7 @@ pub(crate) fn write_line<O: ByteOut>(
 /// Vets a message under demands, and writes the text of its teller if the message meets them.
 /// Otherwise it writes the first reason why not, and the place.
 #[derive(Clone, Copy)]
-pub(crate) struct Vetting<T> {
+struct Vetting<T> {
     limits: Limits,
     demands: Demands,
     teller: T,
