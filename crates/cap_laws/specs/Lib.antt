@@ -2,3 +2,5 @@ pub mod FollowingLaws
 pub mod Framing
 pub mod PlainLaws
 pub mod PackingLaws
+pub mod ReachingLaws
+pub mod AmplifyingLaws

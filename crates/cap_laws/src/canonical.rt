@@ -57,9 +57,11 @@ pub fn layout_is_words()
 /// of a struct has its offset and its two sizes, and that of a list its offset, its code and its size.
 /// So no field runs into another.
 pub fn pointer_fields_are_kept()
-    ensures of_struct { (offset d p : ℕ) → offset < 2 ^ 30 → d < 2 ^ 16 → p < 2 ^ 16 → let q = struct_word offset d p in
+    ensures of_struct { (offset d p : ℕ) → offset < 2 ^ 30 → d < 2 ^ 16 → p < 2 ^ 16 →
+        let q = struct_word offset d p in
         (kind q ≡ 0) × (middle q ≡ offset) × (data_size q ≡ d) × (pointer_size q ≡ p) }
-    ensures of_list { (offset c n : ℕ) → offset < 2 ^ 30 → c < 8 → n < 2 ^ 29 → let q = list_word offset c n in
+    ensures of_list { (offset c n : ℕ) → offset < 2 ^ 30 → c < 8 → n < 2 ^ 29 →
+        let q = list_word offset c n in
         (kind q ≡ 1) × (middle q ≡ offset) × (code q ≡ c) × (list_size q ≡ n) }
 {}
 
@@ -67,7 +69,8 @@ pub fn pointer_fields_are_kept()
 /// offset that fits 30 bits, one of which is the sign.
 pub fn offsets_fit()
     ensures { (m : List (List ℕ)) (s w : ℕ) (t : Tree) (c d : ℕ) →
-        Denotes m s w t c d → c < 2 ^ 29 → AllByRecursion (λ offset. offset < 2 ^ 29) (offsets (trim t)) }
+        Denotes m s w t c d → c < 2 ^ 29 →
+        AllByRecursion (λ offset. offset < 2 ^ 29) (offsets (trim t)) }
 {}
 
 /// A message has at most one canonical copy.
@@ -78,7 +81,8 @@ pub fn one_copy()
 /// The canonical copy of a message, of a charge below 2^29, is a message of one segment that is
 /// canonical.
 pub fn copy_is_canonical()
-    ensures { (m : List (List ℕ)) (words : List ℕ) (copy : HasCopy m words) → copy.charge < 2 ^ 29 → IsCanonical (words ∷ []) }
+    ensures { (m : List (List ℕ)) (words : List ℕ) (copy : HasCopy m words) →
+        copy.charge < 2 ^ 29 → IsCanonical (words ∷ []) }
 {}
 
 /// Two messages of charges below 2^29 have equal canonical copies exactly where their trees, trimmed,

@@ -12,5 +12,6 @@ pub fn one_outcome()
 
 /// A pointer word leads to one thing at most, over one number of pads.
 pub fn one_lead()
-    ensures { (m : List (List ℕ)) (s w k l : ℕ) (r r' : Lead) → Leads m s w k r → Leads m s w l r' → (k ≡ l) × (r ≡ r') }
+    ensures { (m : List (List ℕ)) (s w k l : ℕ) (r r' : Lead) →
+        Leads m s w k r → Leads m s w l r' → (k ≡ l) × (r ≡ r') }
 {}

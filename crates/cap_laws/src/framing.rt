@@ -10,18 +10,21 @@ ghost use Rattle.std.specs.Prelude.{List, ℕ, ◌++◌, ◌≡◌, ◌↔◌};
 /// Words begin with at most one table of segments. Two such tables are the same words, have the
 /// same sizes, and are followed by the same words.
 pub fn one_table()
-    ensures { (a b x y m n : List ℕ) → IsTable a m → IsTable b n → a ++ x ≡ b ++ y → (a ≡ b) × (m ≡ n) × (x ≡ y) }
+    ensures { (a b x y m n : List ℕ) → IsTable a m → IsTable b n → a ++ x ≡ b ++ y →
+        (a ≡ b) × (m ≡ n) × (x ≡ y) }
 {}
 
 /// Words begin with at most one frame. Two such frames are the same words, frame the same message,
 /// and are followed by the same words.
 pub fn one_frame()
-    ensures { (a b x y : List ℕ) (m n : List (List ℕ)) → Frames a m → Frames b n → a ++ x ≡ b ++ y → (a ≡ b) × (m ≡ n) × (x ≡ y) }
+    ensures { (a b x y : List ℕ) (m n : List (List ℕ)) → Frames a m → Frames b n → a ++ x ≡ b ++ y →
+        (a ≡ b) × (m ≡ n) × (x ≡ y) }
 {}
 
 /// Words are frames, one after the other, of at most one list of messages.
 pub fn one_stream()
-    ensures { (words : List ℕ) (ms ns : List (List (List ℕ))) → Stream words ms → Stream words ns → ms ≡ ns }
+    ensures { (words : List ℕ) (ms ns : List (List (List ℕ))) →
+        Stream words ms → Stream words ns → ms ≡ ns }
 {}
 
 /// For the words still to come, exactly one of five things holds:
@@ -45,7 +48,8 @@ pub fn partial_else()
 /// with zero padding.
 pub fn frame_text_frames()
     ensures frames { (m : List (List ℕ)) → IsMessage m → Frames (frame_text m) m }
-    ensures zero_padding { (m : List (List ℕ)) (words : List ℕ) → IsMessage m → FramesZero words m ↔ (words ≡ frame_text m) }
+    ensures zero_padding { (m : List (List ℕ)) (words : List ℕ) → IsMessage m →
+        FramesZero words m ↔ (words ≡ frame_text m) }
 {}
 
 /// A half of a word is a number of four bytes, the lowest first: the plain encoding of words is

@@ -32,7 +32,8 @@ pub fn pack_text_unpacks()
 
 /// What packed bytes give are words: numbers below 2^64.
 pub fn unpacked_are_words()
-    ensures { (bytes : List ℕ) → AllByRecursion (λ b. b < 256) bytes → AllByRecursion IsWord (unpacked bytes) }
+    ensures { (bytes : List ℕ) → AllByRecursion (λ b. b < 256) bytes →
+        AllByRecursion IsWord (unpacked bytes) }
 {}
 
 /// A packed text of words is a list of bytes.
@@ -48,7 +49,8 @@ pub fn packed_by_groups()
 
 /// The one packed encoding of words gives exactly these words, and isn't cut.
 pub fn pack_text_reads_back()
-    ensures { (words : List ℕ) → AllByRecursion IsWord words → (unpacked (pack_text words) ≡ words) × (packed_is_cut (pack_text words) ≡ false) }
+    ensures { (words : List ℕ) → AllByRecursion IsWord words →
+        (unpacked (pack_text words) ≡ words) × (packed_is_cut (pack_text words) ≡ false) }
 {}
 
 /// A group has as many positions as words.

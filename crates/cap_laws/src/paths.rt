@@ -10,6 +10,7 @@ ghost use Rattle.cap_spec.specs.Verdicts.{AreDistinct};
 ghost use Rattle.cap_spec.specs.Standing.{DenotesAt};
 ghost use Rattle.cap_spec.specs.PathTexts.{IsPath, IsBadAt, IsStep, path_text};
 ghost use Rattle.std.specs.List.{AllByRecursion};
+ghost use Rattle.cap_laws.specs.ReachingLaws.{ReachesCap, ReachesSome};
 
 /// A path reaches at most one pointer word, at one level: one step leads from a spot to one spot,
 /// and a path comes to one spot.
@@ -21,7 +22,8 @@ pub fn one_spot()
     ensures path { (m : List (List ℕ)) (path : List Step) (level level' : ℕ) (a b : Spot) →
         Comes m path level a → Comes m path level' b → (level ≡ level') × (a ≡ b) }
     ensures pointer_word { (m : List (List ℕ)) (path : List Step) (level level' s w s' w' : ℕ) →
-        Reaches m path level s w → Reaches m path level' s' w' → (level ≡ level') × (s ≡ s') × (w ≡ w') }
+        Reaches m path level s w → Reaches m path level' s' w' →
+        (level ≡ level') × (s ≡ s') × (w ≡ w') }
 {}
 
 /// A path and one more step leads to where that step leads from where the path leads; the levels
@@ -32,7 +34,8 @@ pub fn last_step()
         ↔ ((b : Spot) × (n' : ℕ) × Walks m a path n' b × Goes m b step c × (n ≡ n' + level_of c)) }
     ensures path { (m : List (List ℕ)) (path : List Step) (step : Step) (level : ℕ) (c : Spot) →
         Comes m (path ++ step ∷ []) level c
-        ↔ ((b : Spot) × (level' : ℕ) × Comes m path level' b × Goes m b step c × (level ≡ level' + level_of c)) }
+        ↔ ((b : Spot) × (level' : ℕ) × Comes m path level' b × Goes m b step c
+        × (level ≡ level' + level_of c)) }
 {}
 
 /// If the root denotes a tree, a path comes to a spot exactly if the tree has a node at the path,
@@ -54,7 +57,8 @@ pub fn preorder_is_a_strict_total_order()
     ensures transitive { (p q r : List Step) → Before p q → Before q r → Before p r }
     ensures total { (m : List (List ℕ)) (p q : List Step) (level level' : ℕ) (a b : Spot) →
         Comes m p level a → Comes m q level' b → (p ≡ q) ⊎ Before p q ⊎ Before q p }
-    ensures beginning_first { (p : List Step) (step : Step) (q : List Step) → Before p (p ++ step ∷ q) }
+    ensures beginning_first { (p : List Step) (step : Step) (q : List Step) →
+        Before p (p ++ step ∷ q) }
 {}
 
 /// The tour up to a path is the only one, and has no path twice. The first capability in preorder
@@ -71,10 +75,12 @@ pub fn one_tour()
 /// Where a path reaches a pointer word, and a longer path through it reaches the same word again,
 /// neither that word nor the root denotes a tree.
 pub fn reached_cycle_denotes_no_tree()
-    ensures root { (m : List (List ℕ)) (path : List Step) (step : Step) (on : List Step) (level level' s w : ℕ) →
+    ensures root { (m : List (List ℕ)) (path : List Step) (step : Step) (on : List Step)
+        (level level' s w : ℕ) →
         Reaches m path level s w → Reaches m (path ++ step ∷ on) level' s w →
         (t : Tree) (c d : ℕ) → ¬ Denotes m 0 0 t c d }
-    ensures word { (m : List (List ℕ)) (path : List Step) (step : Step) (on : List Step) (level level' s w : ℕ) →
+    ensures word { (m : List (List ℕ)) (path : List Step) (step : Step) (on : List Step)
+        (level level' s w : ℕ) →
         Reaches m path level s w → Reaches m (path ++ step ∷ on) level' s w →
         (t : Tree) (c d : ℕ) → ¬ Denotes m s w t c d }
 {}
@@ -86,10 +92,10 @@ pub fn reached_cycle_denotes_no_tree()
 pub fn counts_are_numbers_of_paths()
     ensures pointers { (m : List (List ℕ)) (t : Tree) (c d : ℕ) → Denotes m 0 0 t c d →
         (paths : List (List Step)) × Rises paths × (length paths ≡ pointer_count t)
-        × ((q : List Step) → IsOneOf q paths ↔ ((level s w : ℕ) × Reaches m q level s w)) }
+        × ((q : List Step) → IsOneOf q paths ↔ ReachesSome m q) }
     ensures caps { (m : List (List ℕ)) (t : Tree) (c d : ℕ) → Denotes m 0 0 t c d →
         (paths : List (List Step)) × Rises paths × (length paths ≡ cap_count t)
-        × ((q : List Step) → IsOneOf q paths ↔ ((level s w k i : ℕ) × Reaches m q level s w × Leads m s w k (to_cap i))) }
+        × ((q : List Step) → IsOneOf q paths ↔ ReachesCap m q) }
     ensures first_cap { (m : List (List ℕ)) (t : Tree) (c d : ℕ) → Denotes m 0 0 t c d →
         (has_cap t ≡ true) ↔ ((s w : ℕ) × IsFirstCap m s w) }
 {}
@@ -97,7 +103,8 @@ pub fn counts_are_numbers_of_paths()
 /// A text is of at most one path. A text that is of none is bad at one place: at no two, and not at
 /// none. A text of a path is bad at no place.
 pub fn one_path_text()
-    ensures path { (xs ys : List Step) → AllByRecursion IsStep xs → AllByRecursion IsStep ys → path_text xs ≡ path_text ys → xs ≡ ys }
+    ensures path { (xs ys : List Step) → AllByRecursion IsStep xs → AllByRecursion IsStep ys →
+        path_text xs ≡ path_text ys → xs ≡ ys }
     ensures bad { (text : List ℕ) (at at' : ℕ) → IsBadAt text at → IsBadAt text at' → at ≡ at' }
     ensures somewhere { (text : List ℕ) → ¬ IsPath text → ¬ ((at : ℕ) → ¬ IsBadAt text at) }
     ensures apart { (text : List ℕ) (at : ℕ) → IsPath text → ¬ IsBadAt text at }

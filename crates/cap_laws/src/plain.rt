@@ -19,5 +19,6 @@ pub fn cut_with_rest()
 
 /// The plain encoding of words reads back as these words.
 pub fn plain_reads_back()
-    ensures { (words : List ℕ) → AllByRecursion IsWord words → plain_words (plain_text words) ≡ words }
+    ensures { (words : List ℕ) → AllByRecursion IsWord words →
+        plain_words (plain_text words) ≡ words }
 {}

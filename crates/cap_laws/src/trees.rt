@@ -15,7 +15,8 @@ pub fn one_tree()
     ensures words { (m : List (List ℕ)) (ps : List (ℕ × ℕ)) (ts ts' : Trees) (c d c' d' : ℕ) →
         DenoteEach m ps ts c d → DenoteEach m ps ts' c' d' → (ts ≡ ts') × (c ≡ c') × (d ≡ d') }
     ensures elements { (m : List (List ℕ)) (t b ds ps n : ℕ) (es es' : Trees) (c d c' d' : ℕ) →
-        AreElements m t b ds ps n es c d → AreElements m t b ds ps n es' c' d' → (es ≡ es') × (c ≡ c') × (d ≡ d') }
+        AreElements m t b ds ps n es c d → AreElements m t b ds ps n es' c' d' →
+        (es ≡ es') × (c ≡ c') × (d ≡ d') }
 {}
 
 /// What a word denotes is charged at least its pads, and at least what following the word costs;

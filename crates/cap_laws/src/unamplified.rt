@@ -10,6 +10,7 @@ ghost use Rattle.cap_spec.specs.Frames.{frame_text, sizes_of};
 ghost use Rattle.cap_spec.specs.Occupying.{IsDisjoint, empty_count};
 ghost use Rattle.cap_spec.specs.Tree.{Tree};
 ghost use Rattle.cap_spec.specs.Unamplified.{unamplified};
+ghost use Rattle.cap_laws.specs.AmplifyingLaws.{IsWithin, IsWithinNone};
 
 /// A charge is within this limit exactly if it is within the word limit that was given, and is at
 /// most the words of the message's segments and 4,096 more.
@@ -47,7 +48,5 @@ pub fn unamplified_copy_is_short()
 /// within this limit for each word limit that it is within. That of its copy is within it for none.
 pub fn copy_may_be_amplified()
     ensures { (m : List (List ℕ)) × (words : List ℕ) × (copy : HasCopy m words)
-        × ((limit : ℕ) → copy.charge ≤ limit → copy.charge ≤ unamplified m limit)
-        × ((limit : ℕ) (t : Tree) (c d : ℕ) → Denotes (words ∷ []) 0 0 t c d →
-        unamplified (words ∷ []) limit < c) }
+        × IsWithin m copy.charge × IsWithinNone (words ∷ []) }
 {}

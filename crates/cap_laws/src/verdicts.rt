@@ -4,21 +4,21 @@ ghost use Rattle.std.specs.Prelude.{ℕ, List, ◌≡◌, ◌≤◌, ◌<◌, �
 ghost use Rattle.cap_spec.specs.declared.Step.{Step};
 ghost use Rattle.cap_spec.specs.declared.Reason.{Reason};
 ghost use Rattle.cap_spec.specs.declared.Refusal.{Refusal};
-ghost use Rattle.cap_spec.specs.Messages.{HasWord};
-ghost use Rattle.cap_spec.specs.Following.{Wrong, IsComposite};
+ghost use Rattle.cap_spec.specs.Following.{Wrong};
 ghost use Rattle.cap_spec.specs.Tree.{Tree};
-ghost use Rattle.cap_spec.specs.Denoting.{Finds, Denotes};
+ghost use Rattle.cap_spec.specs.Denoting.{Denotes};
 ghost use Rattle.cap_spec.specs.Paths.{Reaches, Rises, IsOneOf};
-ghost use Rattle.cap_spec.specs.Faults.{AreShallow, IsRefused};
-ghost use Rattle.cap_spec.specs.Getting.{AreOnPath, IsRefusedOnPath};
+ghost use Rattle.cap_spec.specs.Faults.{IsRefused};
+ghost use Rattle.cap_spec.specs.Getting.{AreOnPath, Charges, IsRefusedOnPath};
 ghost use Rattle.cap_spec.specs.Verdicts.{CostOf, AreDistinct, Justified, levels_below};
+ghost use Rattle.cap_laws.specs.ReachingLaws.{ReachesObject, ReachesSome};
 
 /// The charge of the root's tree is what following the pointer words that its paths reach costs,
 /// each path counted once; so distinct paths cost at most the charge.
 pub fn charge_is_cost_of_paths()
     ensures all { (m : List (List ℕ)) (t : Tree) (c d : ℕ) → Denotes m 0 0 t c d →
         (paths : List (List Step)) × Rises paths × CostOf m paths c
-        × ((q : List Step) → IsOneOf q paths ↔ ((level s w : ℕ) × Reaches m q level s w)) }
+        × ((q : List Step) → IsOneOf q paths ↔ ReachesSome m q) }
     ensures some { (m : List (List ℕ)) (t : Tree) (c d : ℕ) → Denotes m 0 0 t c d →
         (paths : List (List Step)) (cost : ℕ) → AreDistinct paths → CostOf m paths cost → cost ≤ c }
 {}
@@ -29,11 +29,11 @@ pub fn reached_pointers_of_tree()
     ensures right { (m : List (List ℕ)) (t : Tree) (c d : ℕ) → Denotes m 0 0 t c d →
         (p : List Step) (level s w : ℕ) (v : Reason) → Reaches m p level s w → ¬ Wrong m s w v }
     ensures shallow { (m : List (List ℕ)) (t : Tree) (c d : ℕ) → Denotes m 0 0 t c d →
-        (p : List Step) (level s w k u b q tag : ℕ) → Reaches m p level s w → Finds m s w k u b q →
-        (IsComposite q → HasWord m u b tag) → level + levels_below q tag ≤ d }
+        (p : List Step) (level q tag : ℕ) → ReachesObject m p level q tag →
+        level + levels_below q tag ≤ d }
     ensures deepest { (m : List (List ℕ)) (t : Tree) (c d : ℕ) → Denotes m 0 0 t c d → 0 < d →
-        (p : List Step) × (level s w k u b q tag : ℕ) × Reaches m p level s w × Finds m s w k u b q
-        × (IsComposite q → HasWord m u b tag) × (d ≡ level + levels_below q tag) }
+        (p : List Step) × (level q tag : ℕ) × ReachesObject m p level q tag
+        × (d ≡ level + levels_below q tag) }
 {}
 
 /// A message whose root denotes a tree within the limits has no justified refusal.
@@ -73,7 +73,7 @@ pub fn pointers_on_path_are_one_list()
 /// A path isn't both charged and refused: where the pointers on it, the root's among them, are within
 /// a budget and a depth limit, there is no first fault on it.
 pub fn charged_path_is_not_refused()
-    ensures { (m : List (List ℕ)) (words depth : ℕ) (path : List Step) (ways : List (List Step)) (cost : ℕ) (refusal : Refusal) →
-        AreOnPath m path ways → 0 < length ways → CostOf m ways cost → AreShallow m depth ways → cost ≤ words →
+    ensures { (m : List (List ℕ)) (words depth : ℕ) (path : List Step) (left : ℕ)
+        (refusal : Refusal) → Charges m words depth path left →
         ¬ IsRefusedOnPath m words depth path refusal }
 {}

@@ -1,0 +1,13 @@
+-- Charges and word limits (profile).
+use Rattle.std.specs.Prelude.{ℕ, ◌<◌, ◌≤◌, List}
+use Rattle.cap_spec.specs.Denoting.{Denotes}
+use Rattle.cap_spec.specs.Tree.{Tree}
+use Rattle.cap_spec.specs.Unamplified.{unamplified}
+
+-- the charge is within the unamplified limit for each limit that it is within
+abbrev pub IsWithin : List (List ℕ) → ℕ → Type 0
+IsWithin m charge = (limit : ℕ) → charge ≤ limit → charge ≤ unamplified m limit
+
+-- the charge of what the message denotes is within it for none
+abbrev pub IsWithinNone : List (List ℕ) → Type 0
+IsWithinNone m = (limit : ℕ) (t : Tree) (c d : ℕ) → Denotes m 0 0 t c d → unamplified m limit < c
