@@ -2,7 +2,6 @@
 
 use crate::engines::settings;
 use crate::same::same_of;
-use crate::whole::bytes_of;
 use cap_frame::FrameFault;
 use cap_pack::Packer;
 use cap_run::{Cause, Outcome, RunFault, run_canon};
@@ -33,7 +32,7 @@ fn end_of_copies<R: AllocGlobal + Abort>(
     messages: u32,
 ) -> Result<Result<Outcome, RunFault>, Fail> {
     let stream = format!(in rt.alloc(); "{LONG} {next}")?;
-    let bytes = bytes_of(rt.alloc(), stream.as_str())?;
+    let bytes = hex::decode(rt.alloc(), stream.replace(rt.alloc(), " ", "")?.as_str())?;
     let settings = settings(messages).ok_or("settings")?;
     let mut source = PlainWords::new(FromRead::new(Reader::honest(bytes.as_slice(), 1)));
     let mut sink = Packer::new(VecOut::new(rt.alloc()));

@@ -1,21 +1,7 @@
-//! Tests that cross crates: what runs and engines do, and command lines are read as, that the built
-//! program doesn't show.
+//! Tests of jobs that the built program doesn't show: devices that fail in one exact call, and how a
+//! command line is read.
 #![tactic(auto)]
 
-#[cfg(test)]
-mod canons;
-#[cfg(test)]
-mod copies;
-#[cfg(test)]
-mod dumps;
-#[cfg(test)]
-mod edges;
-#[cfg(test)]
-mod engines;
-#[cfg(test)]
-mod faults;
-#[cfg(test)]
-mod fronts;
 #[cfg(test)]
 mod jobs;
 #[cfg(test)]
@@ -26,5 +12,3 @@ mod runs;
 mod same;
 #[cfg(test)]
 mod whole;
-#[cfg(test)]
-mod words;

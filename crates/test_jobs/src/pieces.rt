@@ -8,19 +8,7 @@ use std::alloc::Global;
 use std::io::ErrorKind;
 use std::process::Abort;
 use std::test::Fail;
-use test_support::{Fault, HONEST, Reader, Writer};
-
-// How many bytes a device gives or takes a call.
-pub(crate) const PIECES: [usize; 4] = [1, 2, 3, 7];
-
-// An interruption is an error as any other.
-pub(crate) const READ_FAULTS: [ErrorKind; 2] = [ErrorKind::Interrupted, ErrorKind::Other];
-
-pub(crate) const WRITE_FAULTS: [Option<ErrorKind>; 3] = [
-    Some(ErrorKind::Interrupted),
-    Some(ErrorKind::Other),
-    None,
-];
+use test_support::{Fault, HONEST, PIECES, READ_FAULTS, Reader, WRITE_FAULTS, Writer};
 
 // A run over two such devices: what they gave and took, and how often they were called.
 #[derive(Drop)]

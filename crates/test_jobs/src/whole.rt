@@ -45,11 +45,6 @@ pub(crate) fn job(alloc: Global, command: &str, options: &[&str]) -> Result<Job,
     }
 }
 
-/// The bytes that these hexadecimal digits are, spaces aside.
-pub(crate) fn bytes_of(alloc: Global, digits: &str) -> Result<Vec<u8>, Fail> {
-    Ok(hex::decode(alloc, digits.replace(alloc, " ", "")?.as_str())?)
-}
-
 /// Runs a job on these bytes.
 pub(crate) fn run_over(alloc: Global, job: &Job, bytes: &[u8]) -> Left {
     let mut err = VecOut::new(alloc);

@@ -1,7 +1,6 @@
 //! Sources, sinks and outputs by themselves, over devices each of whose calls fails in turn, and how often
 //! a device is called.
 
-use crate::pieces::{PIECES, READ_FAULTS, WRITE_FAULTS};
 use crate::same::{same, same_of};
 use cap_pack::{Packer, Unpacker};
 use cap_words::{
@@ -13,7 +12,7 @@ use std::cmp::Ordering;
 use std::io::ErrorKind;
 use std::process::Abort;
 use std::test::Fail;
-use test_support::{Fault, Reader, Writer};
+use test_support::{Fault, PIECES, READ_FAULTS, Reader, WRITE_FAULTS, Writer};
 
 // Words of each kind of group, and their packed text.
 const WORDS: &str =

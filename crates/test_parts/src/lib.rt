@@ -3,6 +3,12 @@
 #![tactic(auto)]
 
 #[cfg(test)]
+mod broken_off;
+#[cfg(test)]
+mod devices;
+#[cfg(test)]
+mod edges;
+#[cfg(test)]
 mod ends;
 #[cfg(test)]
 mod frames;

@@ -14,6 +14,19 @@ pub struct Fault {
 /// No call of a device fails.
 pub const HONEST: Fault = Fault { at: 0, kind: None };
 
+/// How many bytes a device gives or takes a call.
+pub const PIECES: [usize; 4] = [1, 2, 3, 7];
+
+/// How a read fails. An interruption is an error as any other.
+pub const READ_FAULTS: [ErrorKind; 2] = [ErrorKind::Interrupted, ErrorKind::Other];
+
+/// How a write fails, as in [`Fault`].
+pub const WRITE_FAULTS: [Option<ErrorKind>; 3] = [
+    Some(ErrorKind::Interrupted),
+    Some(ErrorKind::Other),
+    None,
+];
+
 /// A reader that gives at most `most` bytes a call, and counts its calls. One that breaks off fails
 /// after its last byte, in place of an end.
 #[derive(Drop)]

@@ -3,4 +3,4 @@
 
 mod devices;
 
-pub use devices::{Fault, HONEST, Reader, Writer};
+pub use devices::{Fault, HONEST, PIECES, READ_FAULTS, Reader, WRITE_FAULTS, Writer};
