@@ -9,7 +9,7 @@ use Rattle.cap_canon.specs.declared.fault.RoomFault.TheVariants as fault
 use Rattle.cap_vet.specs.declared.demands.Demands.{Demands}
 use Rattle.cap_vet.specs.declared.report.Report.{Report}
 use Rattle.cap_calls.specs.CallReports.{accepted_report}
-use Rattle.cap_calls.specs.CallFindings.{Judges, Returns, accepted_found}
+use Rattle.cap_calls.specs.CallFindings.{Judges, JudgesAny, Returns, Tells, accepted_found}
 use Rattle.cap_calls.specs.CallFlags.{demands_of}
 use Rattle.cap_calls.specs.Calls.{TellsMessage}
 use Rattle.cap_calls.specs.PackCalls.{TellsText}
@@ -37,6 +37,12 @@ Copies old new demands = Judges demands (new ≡ old) (IsCopied old new)
 abbrev pub TellsCopy : CallLimits → List ℕ → List ℕ → Answer → ℕ → List ℕ → CallReport → Type 0
 TellsCopy l bytes old a n new r =
     (f : Found) × TellsMessage (new ≡ old) (Copies old new (demands_of l)) l bytes f × Returns f a r × (n ≡ f.count)
+
+-- The same with all three flags.
+abbrev pub TellsAnyCopy : CallLimits → List ℕ → List ℕ → Answer → ℕ → List ℕ → CallReport → Type 0
+TellsAnyCopy l bytes old a n new r =
+    (f : Found) × Tells (new ≡ old) (JudgesAny (new ≡ old) (IsCopied old new)) l bytes f × Returns f a r
+    × (n ≡ f.count)
 
 -- what is found of a message that is accepted, by the result of its copy
 abbrev pub size_found : Result ℕ RoomFault → Report → Found

@@ -5,7 +5,7 @@ ghost use Rattle.cap_calls.specs.CallFindings.{JudgesAny, Returns, Tells, TellsW
 ghost use Rattle.cap_calls.specs.CallFlags.{AllowsMore};
 ghost use Rattle.cap_calls.specs.CallFrames.{AreLimits};
 ghost use Rattle.cap_calls.specs.Calls.{IsCheck, IsGood, TellsCheck, TellsVet};
-ghost use Rattle.cap_calls.specs.CanonicalCalls.{IsCopied, TellsCopy};
+ghost use Rattle.cap_calls.specs.CanonicalCalls.{TellsAnyCopy, TellsCopy};
 ghost use Rattle.cap_calls.specs.ExclusiveCalls.{MarksAny, TellsExclusive};
 ghost use Rattle.cap_calls.specs.declared.answer.Answer.{Answer};
 ghost use Rattle.cap_calls.specs.declared.answer.Answer.TheVariants.{Good};
@@ -25,9 +25,8 @@ pub fn all_flags_demand_nothing()
         (r : CallReport) → l.flags ≡ 7 → TellsExclusive l bytes size a n r ↔
         ((f : Found) × Tells ⊤ (MarksAny size) l bytes f × Returns f a r × (n ≡ f.count)) }
     ensures canonical { (l : CallLimits) (bytes old : List ℕ) (a : Answer) (n : ℕ) (new : List ℕ)
-        (r : CallReport) → l.flags ≡ 7 → TellsCopy l bytes old a n new r ↔
-        ((f : Found) × Tells (new ≡ old) (JudgesAny (new ≡ old) (IsCopied old new)) l bytes f
-        × Returns f a r × (n ≡ f.count)) }
+        (r : CallReport) → l.flags ≡ 7 →
+        TellsCopy l bytes old a n new r ↔ TellsAnyCopy l bytes old a n new r }
     ensures is_canonical { (l : CallLimits) (bytes : List ℕ) (a : Answer) (r : CallReport) →
         l.flags ≡ 7 → TellsCheck l bytes a r ↔
         ((f : Found) × TellsWhole true ⊤ (JudgesAny ⊤ IsCheck) l bytes f × Returns f a r) }

@@ -1,5 +1,5 @@
 -- Why a pointer word alone describes its object.
-use Rattle.std.proofs.Common.{◌≡◌, ◌≢◌, ℕ, ◌+◌, ◌*◌, ◌/◌, ◌^◌, ◌<◌, ◌≤◌, ◌⊎◌, inl, inr, List, length, pos, refl, ap, arith, true, false, ◌==◌}
+use Rattle.std.proofs.Common.{◌≡◌, ◌≢◌, ℕ, ◌+◌, ◌+ℤ◌, ◌*◌, ◌/◌, ◌^◌, ◌<◌, ◌≤◌, ◌⊎◌, inl, inr, List, length, pos, refl, arith, true, false, ◌==◌}
 use Rattle.std.proofs.lemmas.Bool.{lt-ltb, ne_eqb}
 use Rattle.std.proofs.lemmas.Bool.Decides.{eqb_tells}
 use Rattle.cap_spec.specs.Words.{signed_offset_of}
@@ -34,15 +34,16 @@ pointers-no_extra q n (inr (inr (k, some, few, e))) =
     rw (k, none, seven) refl
 
 -- that object is found,
-pub row_found : (m : List (List ℕ)) (s w q : ℕ) (r : Row) → HasWord m s w q → q ≢ 0 → middle q < 2 ^ 29 → r.start ≡ w + 1 + middle q
+pub row_found : (m : List (List ℕ)) (s w q : ℕ) (r : Row) → HasWord m s w q → q ≢ 0
+    → pos r.start ≡ pos (w + 1) +ℤ signed_offset_of q
     → HasPointers q r.pointer_count → r.words ≡ extent q → r.words ≤ 2 ^ 29 → r.pointers_start + r.pointer_count ≡ r.start + r.words
     → r.start + r.words ≤ length (segment_of m s) → FindsRow m s w q r
-row_found m s w q r has some behind start_is pointers words few last inside =
+row_found m s w q r has some start_is pointers words few last inside =
     let plain = pointers-plain q r.pointer_count pointers in
     record {
       finds = record {
         leads = object-lead m s w 0 s w q (pos r.start) (stands-near m s w q has (λ e. omega (arith, plain.0, e))) plain.0 some
-            (rw (offset-behind q behind) (ap pos start_is));
+            start_is;
         sits = record { exists = HasWord-segment m s w q has; inside = omega (arith, words, inside); composite = λ c. absurd (plain.1 c.0 c.1) };
       };
       words = words;

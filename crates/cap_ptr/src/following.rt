@@ -6,18 +6,16 @@ ghost use Rattle.cap_spec.specs.Denoting.{Finds};
 ghost use Rattle.cap_spec.specs.Following.{IsOnePad, IsTwoPad, Leads, Wrong, to_cap, to_null};
 ghost use Rattle.cap_spec.specs.Messages.{HasWord, segment_of};
 ghost use Rattle.cap_spec.specs.Pointers.{kind};
-ghost use Rattle.cap_spec.specs.Words.{signed_offset_of};
 ghost use Rattle.cap_spec.specs.declared.Reason.{Reason};
 ghost use Rattle.cap_ptr.specs.declared.shapes.Target.{Target};
-ghost use Rattle.std.specs.Prelude.{◌+◌, ◌^◌, ◌<◌, ◌≡◌, ◌≢◌, ◌≤◌, ◌+ℤ◌, ◌<ℤ◌, ◌↔◌, pos, IfErr, IfNone, IfOk, IfSome, IsTrue, length, ℕ};
+ghost use Rattle.std.specs.Prelude.{◌+◌, ◌^◌, ◌<◌, ◌≡◌, ◌≢◌, ◌≤◌, ◌↔◌, IfErr, IfOk, IsTrue, length, ℕ};
 
 use crate::fields::{far_segment, kind, middle, pad, two};
 use crate::forms::Pointer;
-use crate::placing::target_at;
+use crate::placing::{start_of, target_at};
 use crate::shapes::Followed;
 use cap_frame::Segments;
 use cap_spec::Reason;
-use cap_words::signed_offset;
 
 /// What word `w` of segment `s`, a pointer, leads to: null, a capability, or an object that lies
 /// inside its segment. The caller makes sure that the word exists. Allocates nothing.
@@ -128,17 +126,8 @@ fn object<M: Segments>(
     target_at(message, pads, segment, start, word)
 }
 
-// The word that the object of a struct or list pointer starts at, if it isn't negative.
-fn start_of(place: u32, word: u64) -> Option<u64>
-    ensures some { IfSome result (λ start. pos start ≡ pos (place + 1) +ℤ signed_offset_of word) }
-    ensures near { IfSome result (λ start. start < 2 ^ 33) }
-    ensures none { IfNone result ((pos (place + 1) +ℤ signed_offset_of word) <ℤ pos 0) }
-{
-    let start = i64::from(place) + 1 + signed_offset(word);
-    if start < 0 { None } else { Some(start as u64) }
-}
-
 // What a far pointer with a one-word pad leads to.
+#[inline(always)]
 fn over_one_pad<M: Segments>(message: &M, word: u64) -> Result<Followed, Reason>
     requires { IsOnePad word }
     ensures { let m = M.segments message.now in (s w : ℕ) →

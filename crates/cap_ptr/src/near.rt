@@ -7,7 +7,8 @@ ghost use Rattle.cap_spec.specs.Messages.{HasWord, segment_of};
 ghost use Rattle.cap_spec.specs.Pointers.{extent, list_words};
 ghost use Rattle.std.specs.Prelude.{◌+◌, ◌<◌, ◌^◌, ◌≡◌, ◌≤◌, ◌⊎◌, IfNone, IfSome, List, length, ℕ};
 
-use crate::fields::{code, data_size, kind, list_size, middle, pointer_size};
+use crate::fields::{code, data_size, kind, list_size, pointer_size};
+use crate::placing::start_of;
 use crate::shapes::Target;
 use crate::sizes::plain_shape;
 
@@ -26,17 +27,17 @@ pub struct Row {
 }
 
 /// The object that a pointer word leads to, if the word alone gives it: a struct, or a list without
-/// a tag whose elements have bits, that lies after the word (encoding: Structs, Lists). The word is
-/// word `at` of segment `segment`, and that segment has `len` words. `follow` returns that object
-/// too. After `None` the word leads to no such object, and `follow` says what it leads to.
+/// a tag whose elements have bits (encoding: Structs, Lists). The word is word `at` of segment
+/// `segment`, and that segment has `len` words. `follow` returns that object too. After `None` the
+/// word leads to no such object, and `follow` says what it leads to.
 #[inline(always)]
 pub fn near_target(word: u64, segment: u32, at: u32, len: u32) -> Option<Target>
     ensures target { IfSome result (λ x. (m : List (List ℕ)) → HasWord m segment at word →
         length (segment_of m segment) ≡ len → FindsTarget m segment at x) }
     ensures here { IfSome result (λ x. (x.segment ≡ segment) × (x.pads ≡ 0)) }
-    // The other direction: such an object doesn't lie after the word.
+    // The other direction: it leads to no such object.
     ensures none { IfNone result ((m : List (List ℕ)) (r : Row) → HasWord m segment at word →
-        length (segment_of m segment) ≡ len → FindsRow m segment at word r → r.start ≤ at) }
+        length (segment_of m segment) ≡ len → ¬ FindsRow m segment at word r) }
 {
     let row = near_row(word, at, len)?;
     Some(Target {
@@ -56,16 +57,15 @@ pub fn near_row(word: u64, at: u32, len: u32) -> Option<Row>
     ensures row { IfSome result (λ r. (m : List (List ℕ)) (s : ℕ) → HasWord m s at word →
         length (segment_of m s) ≡ len → FindsRow m s at word r) }
     ensures plain { IfSome result (λ r. IsPlain word) }
-    // The other direction: such an object doesn't lie after the word.
+    // The other direction: it leads to no such object.
     ensures none { IfNone result ((m : List (List ℕ)) (s : ℕ) (r : Row) → HasWord m s at word →
-        length (segment_of m s) ≡ len → FindsRow m s at word r → r.start ≤ at) }
+        length (segment_of m s) ≡ len → ¬ FindsRow m s at word r) }
 {
-    let offset = u64::from(middle(word));
-    if word == 0 || offset >= 1 << 29 {
+    if word == 0 {
         return None;
     }
     let (own, pointer_count) = parts_of(word)?;
-    let start = u64::from(at) + 1 + offset;
+    let start = start_of(at, word)?;
     let pointers_start = start + own;
     if pointers_start + pointer_count > u64::from(len) {
         return None;

@@ -5,13 +5,15 @@ ghost use Rattle.cap_ptr.specs.Shapes.{IsAnswer, IsPlain};
 ghost use Rattle.cap_spec.specs.Following.{extra, IsComposite};
 ghost use Rattle.cap_spec.specs.Messages.{segment_of};
 ghost use Rattle.cap_spec.specs.Pointers.{data_size, extent, kind, middle, pointer_size};
-ghost use Rattle.std.specs.Prelude.{◌+◌, ◌*◌, ◌<◌, ◌^◌, ◌≡◌, ◌≤◌, ◌↔◌, ◌==◌, if◌then◌else◌, IsTrue, MatchBool, length, ℕ};
+ghost use Rattle.cap_spec.specs.Words.{signed_offset_of};
+ghost use Rattle.std.specs.Prelude.{◌+◌, ◌*◌, ◌<◌, ◌^◌, ◌≡◌, ◌≤◌, ◌↔◌, ◌==◌, ◌+ℤ◌, ◌<ℤ◌, pos, if◌then◌else◌, IfNone, IfSome, IsTrue, MatchBool, length, ℕ};
 
 use crate::fields::{code, data_size, kind, list_size, middle, pointer_size};
 use crate::shapes::{Followed, Shape, Target};
 use crate::sizes::{extent, plain_shape};
 use cap_frame::Segments;
 use cap_spec::Reason;
+use cap_words::signed_offset;
 
 /// The target of the word `word`, which encodes its shape, from word `start` of a segment on.
 #[inline(always)]
@@ -46,6 +48,17 @@ pub(crate) fn target_at<M: Segments>(
         charge,
         shape: plain_shape(word),
     }))
+}
+
+// The word that the object of a struct or list pointer starts at, if it isn't negative.
+#[inline(always)]
+pub(crate) fn start_of(place: u32, word: u64) -> Option<u64>
+    ensures some { IfSome result (λ start. pos start ≡ pos (place + 1) +ℤ signed_offset_of word) }
+    ensures near { IfSome result (λ start. start < 2 ^ 33) }
+    ensures none { IfNone result ((pos (place + 1) +ℤ signed_offset_of word) <ℤ pos 0) }
+{
+    let start = i64::from(place) + 1 + signed_offset(word);
+    if start < 0 { None } else { Some(start as u64) }
 }
 
 // The target of the word `word` of a list of structs, whose words lie inside their segment.

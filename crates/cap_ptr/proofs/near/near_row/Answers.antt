@@ -5,12 +5,13 @@ use Rattle.cap_ptr.proofs.near.near_row.Goals as goal
 pub returns-clause-row : goal.returns-clause-row
 returns-clause-row c = λ m s has len.
     let parts = c.in_ok-own.ensures in
-    row_found m s c.args.at c.args.word _ has c.if-word-eq0.false (omega (arith, c.if-offset.false, c.from-offset.ensures, c.middle.ensures))
-    (omega (arith, c.from.ensures, c.from-2.ensures, c.from-offset.ensures, c.middle.ensures)) parts.pointers (omega (arith, parts.words))
-    (omega (arith, parts.few)) (omega arith) (omega (arith, len, c.if-pointers_start-pointer_count.false, c.from-2.ensures))
+    row_found m s c.args.at c.args.word _ has c.if-word-eq0.false c.in_ok-start.ensures.some parts.pointers
+    (omega (arith, parts.words)) (omega (arith, parts.few)) (omega arith)
+    (omega (arith, len, c.if-pointers_start-pointer_count.false, c.from.ensures))
 
 pub returns-clause-plain : goal.returns-clause-plain
 returns-clause-plain c = pointers-plain c.args.word _ c.in_ok-own.ensures.pointers
 
 pub returns-in_err-own-clause-none : goal.returns-in_err-own-clause-none
-returns-in_err-own-clause-none c = rw c.from_residual.ensures (λ m s r has len f. absurd (c.in_err-own.ensures.none r.pointer_count f.pointers))
+returns-in_err-own-clause-none c =
+    rw c.from_residual.ensures (λ m s r has len f. c.in_err-own.ensures.none r.pointer_count f.pointers)
