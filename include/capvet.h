@@ -45,10 +45,10 @@
  * RULES FOR ALL CALLS
  *
  * Buffers. A buffer is a pointer and a length, size or count. A `length` is the bytes of an input. A `size`
- * is the capacity of an output buffer in bytes. A `count` is a number of elements. Bytes need no alignment;
- * structs and uint64_t have their usual alignment. No pointer may be NULL, not even with length 0: for an
- * empty buffer pass the address of any byte of yours (the data() of an empty C++ vector may be NULL). No
- * buffer may be larger than PTRDIFF_MAX bytes.
+ * is the capacity of an output buffer in bytes. A `count` is a number of elements. Every buffer may be NULL
+ * if its length, size or count is 0, as is the data() of an empty C++ vector. Bytes need no alignment;
+ * structs and uint64_t have their usual alignment. No buffer may be larger than PTRDIFF_MAX bytes. Pointers
+ * to a single struct or number may not be NULL.
  *
  * Overlap. What is passed without `const` must not overlap any other argument.
  *
@@ -64,7 +64,7 @@
  *
  * Required size. Calls that fill a buffer have a parameter `required`. It is how much of the buffer the
  * result takes, in the units of the buffer's size or count. It is set on CAPVET_OK, where it is the length of
- * the result. It is set on CAPVET_BUFFER_TOO_SMALL, where nothing was written. So a call with a size of 0
+ * the result. It is set on CAPVET_BUFFER_TOO_SMALL, where nothing was written. So a call with (NULL, 0)
  * asks for the size.
  *
  * Order. If more than one answer applies, the first of these is returned:
@@ -90,10 +90,11 @@
 #include <stddef.h>
 #include <stdint.h>
 
+/* Warns if an answer is ignored, or if one of the numbered arguments is NULL. */
 #if defined(__GNUC__)
-#define CAPVET_CHECKED __attribute__((nonnull, warn_unused_result))
+#define CAPVET_CALL(arguments) __attribute__((warn_unused_result, nonnull arguments))
 #else
-#define CAPVET_CHECKED
+#define CAPVET_CALL(arguments)
 #endif
 
 #ifdef __cplusplus
@@ -238,7 +239,7 @@ typedef struct capvet_report {
  * CAPVET_ALLOW_AMPLIFIED is required.
  *
  * Cost: one walk. */
-CAPVET_CHECKED
+CAPVET_CALL((3, 4))
 uint32_t capvet_vet(const uint8_t *bytes, size_t length, const capvet_limits *limits,
                     capvet_report *report);
 
@@ -256,7 +257,7 @@ uint32_t capvet_vet(const uint8_t *bytes, size_t length, const capvet_limits *li
  * CAPVET_BUFFER_TOO_SMALL comes with the report of capvet_vet: overlaps were not looked for.
  *
  * Cost: two walks, and marking each word. */
-CAPVET_CHECKED
+CAPVET_CALL((3, 6, 7))
 uint32_t capvet_vet_exclusive(const uint8_t *bytes, size_t length, const capvet_limits *limits,
                               uint64_t *marks, size_t marks_count, size_t *required, capvet_report *report);
 
@@ -279,7 +280,7 @@ uint32_t capvet_vet_exclusive(const uint8_t *bytes, size_t length, const capvet_
  * the middle of one.
  *
  * Cost: one step for each segment, at most 512. */
-CAPVET_CHECKED
+CAPVET_CALL((3, 4))
 uint32_t capvet_frame(const uint8_t *bytes, size_t length, const capvet_limits *limits,
                       capvet_report *report);
 
@@ -302,7 +303,7 @@ uint32_t capvet_frame(const uint8_t *bytes, size_t length, const capvet_limits *
  * is enough.
  *
  * Cost: about three walks. Asking for the size first costs two more. */
-CAPVET_CHECKED
+CAPVET_CALL((3, 6, 7))
 uint32_t capvet_canonical(const uint8_t *bytes, size_t length, const capvet_limits *limits, uint8_t *out,
                           size_t out_size, size_t *required, capvet_report *report);
 
@@ -320,7 +321,7 @@ uint32_t capvet_canonical(const uint8_t *bytes, size_t length, const capvet_limi
  * default lose their words and are still charged. With the same limits it then gives CAPVET_OK.
  *
  * Cost: two walks. */
-CAPVET_CHECKED
+CAPVET_CALL((3, 4))
 uint32_t capvet_is_canonical(const uint8_t *bytes, size_t length, const capvet_limits *limits,
                              capvet_report *report);
 
@@ -338,7 +339,7 @@ uint32_t capvet_is_canonical(const uint8_t *bytes, size_t length, const capvet_l
  * On CAPVET_OK the bytes after the result are unchanged.
  *
  * Cost: proportional to `length`. */
-CAPVET_CHECKED
+CAPVET_CALL((5))
 uint32_t capvet_pack(const uint8_t *bytes, size_t length, uint8_t *out, size_t out_size, size_t *required);
 
 /* capvet_unpack -- unpacks packed words, all of them.
@@ -347,13 +348,13 @@ uint32_t capvet_pack(const uint8_t *bytes, size_t length, uint8_t *out, size_t o
  *   out, out_size  where to write the words
  *   required       their length in bytes
  *
- * The result can be 1024 times as long as the input. Ask for *required with a size of 0. Compare it with
- * your own limit before you allocate. Returns the first that applies: CAPVET_TOO_LARGE if `length` is above
+ * The result can be 1024 times as long as the input. Ask for *required with (NULL, 0). Compare it with your
+ * own limit before you allocate. Returns the first that applies: CAPVET_TOO_LARGE if `length` is above
  * 2^53, CAPVET_TRUNCATED if the input ends inside a group, CAPVET_BUFFER_TOO_SMALL, CAPVET_OK. On CAPVET_OK
  * the bytes after the result are unchanged.
  *
  * Cost: proportional to `length`, and to the words that are written. */
-CAPVET_CHECKED
+CAPVET_CALL((5))
 uint32_t capvet_unpack(const uint8_t *bytes, size_t length, uint8_t *out, size_t out_size, size_t *required);
 
 /* ------------------------------------------------------------------------------------------------------

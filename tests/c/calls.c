@@ -395,6 +395,39 @@ static void marking(void) {
   }
 }
 
+/* Each buffer of each call may be NULL if it is empty. */
+static void nulls(void) {
+  capvet_report r;
+  size_t required;
+  r = unwritten();
+  EXPECT(capvet_frame(NULL, 0, &LIMITS, &r) == CAPVET_NO_MESSAGE && r.required == 8, "frame of NULL", r.required);
+  r = unwritten();
+  EXPECT(capvet_vet(NULL, 0, &LIMITS, &r) == CAPVET_NO_MESSAGE && r.required == 8, "vet of NULL", r.required);
+  r = unwritten();
+  EXPECT(capvet_is_canonical(NULL, 0, &LIMITS, &r) == CAPVET_NO_MESSAGE && r.required == 8, "is_canonical of NULL",
+         r.required);
+  required = 77;
+  EXPECT(capvet_vet_exclusive(NULL, 0, &LIMITS, NULL, 0, &required, &r) == CAPVET_NO_MESSAGE && required == 0,
+         "vet_exclusive of NULL", required);
+  EXPECT(capvet_vet_exclusive(SHARED, sizeof SHARED, &LIMITS, NULL, 0, &required, &r) == CAPVET_BUFFER_TOO_SMALL &&
+             required == 1,
+         "marks in NULL", required);
+  required = 77;
+  EXPECT(capvet_canonical(NULL, 0, &LIMITS, NULL, 0, &required, &r) == CAPVET_NO_MESSAGE && required == 0,
+         "canonical of NULL", required);
+  EXPECT(capvet_canonical(LOOSE, sizeof LOOSE, &LIMITS, NULL, 0, &required, &r) == CAPVET_BUFFER_TOO_SMALL &&
+             required == sizeof COPIED,
+         "a copy in NULL", required);
+  required = 77;
+  EXPECT(capvet_pack(NULL, 0, NULL, 0, &required) == CAPVET_OK && required == 0, "pack of NULL", required);
+  EXPECT(capvet_pack(COPIED, 8, NULL, 0, &required) == CAPVET_BUFFER_TOO_SMALL && required == 3, "packed in NULL",
+         required);
+  required = 77;
+  EXPECT(capvet_unpack(NULL, 0, NULL, 0, &required) == CAPVET_OK && required == 0, "unpack of NULL", required);
+  EXPECT(capvet_unpack(PACKED, sizeof PACKED, NULL, 0, &required) == CAPVET_BUFFER_TOO_SMALL && required == 48,
+         "unpacked in NULL", required);
+}
+
 int main(void) {
   EXPECT(capvet_version() == 65536ul * CAPVET_VERSION_MAJOR + CAPVET_VERSION_MINOR, "version", capvet_version());
   layout();
@@ -406,6 +439,7 @@ int main(void) {
   copying();
   checking();
   marking();
+  nulls();
   if (failures == 0) printf("calls: all as promised\n");
   return failures != 0;
 }

@@ -3,8 +3,8 @@
  * A request is the number of a call (0 capvet_frame, 1 capvet_vet, 2 capvet_vet_exclusive, 3 capvet_canonical,
  * 4 capvet_is_canonical), the size or count of its output buffer, the limits, the length of the input and the
  * input. A reply is the answer, `required` in 8 bytes, the report, and the bytes that capvet_canonical wrote.
- * The other numbers have four bytes. Each buffer is a block of its own of exactly its length. The status is 4
- * if a call changed anything of an output buffer that it may not. */
+ * The other numbers have four bytes. Each buffer is a block of its own of exactly its length, and an empty one
+ * is NULL. The status is 4 if a call changed anything of an output buffer that it may not. */
 #include <capvet.h>
 
 #include <stdio.h>
@@ -31,6 +31,8 @@ int main(int count, char **words) {
   uint32_t head[2], length;
   if (file == NULL) return 2;
   while (take(file, head, sizeof head)) {
+    const uint8_t *input;
+    uint8_t *room;
     capvet_limits limits;
     capvet_report report;
     size_t required = 77, item = head[0] == EXCLUSIVE ? 8 : 1, size = head[1] * item, written = 0;
@@ -40,20 +42,22 @@ int main(int count, char **words) {
     if (!take(file, &limits, sizeof limits) || !take(file, &length, sizeof length)) return 3;
     bytes = malloc(length + 1);
     if (bytes == NULL || out == NULL || !take(file, bytes + 1, length)) return 3;
+    input = length == 0 ? NULL : bytes + 1;
+    room = size == 0 ? NULL : out;
     memset(out, 0xee, size + item);
     memset(&report, 0xa5, sizeof report);
     switch (head[0]) {
-      case FRAME: answer = capvet_frame(bytes + 1, length, &limits, &report); break;
-      case VET: answer = capvet_vet(bytes + 1, length, &limits, &report); break;
+      case FRAME: answer = capvet_frame(input, length, &limits, &report); break;
+      case VET: answer = capvet_vet(input, length, &limits, &report); break;
       case EXCLUSIVE:
-        answer = capvet_vet_exclusive(bytes + 1, length, &limits, (uint64_t *)(void *)out, head[1], &required, &report);
+        answer = capvet_vet_exclusive(input, length, &limits, (uint64_t *)(void *)room, head[1], &required, &report);
         if (answer == CAPVET_OK || answer == CAPVET_OVERLAP) written = 8 * required;
         break;
       case CANONICAL:
-        answer = capvet_canonical(bytes + 1, length, &limits, out, size, &required, &report);
+        answer = capvet_canonical(input, length, &limits, room, size, &required, &report);
         if (answer == CAPVET_OK) written = required;
         break;
-      default: answer = capvet_is_canonical(bytes + 1, length, &limits, &report); break;
+      default: answer = capvet_is_canonical(input, length, &limits, &report); break;
     }
     if (written > size) return 4;
     are_kept(out, written, size + item);

@@ -66,12 +66,12 @@ static uint8_t *contents(const char *name, size_t *length) {
 
 /* The words of a packed text, once their length was asked for. */
 static int unpack(const uint8_t *bytes, size_t length) {
-  uint8_t *block = malloc(length + 1), *out, none;
+  uint8_t *block = malloc(length + 1), *out;
   size_t needed = 77, written = 77;
   uint32_t answer;
   if (block == NULL) return 3;
   memcpy(block + 1, bytes, length);
-  answer = capvet_unpack(block + 1, length, &none, 0, &needed);
+  answer = capvet_unpack(block + 1, length, NULL, 0, &needed);
   if (answer == CAPVET_TRUNCATED && needed == 0) {
     free(block);
     fprintf(stderr, "capvet: Truncated at byte %lu\n", (unsigned long)length);
@@ -91,10 +91,10 @@ static int unpack(const uint8_t *bytes, size_t length) {
  * it has none. */
 static int copy(unsigned long n, const uint8_t *bytes, size_t length, const capvet_limits *limits,
                 capvet_report *report) {
-  uint8_t table[8] = {0}, *out, none;
+  uint8_t table[8] = {0}, *out;
   size_t needed = 77, written = 77, k;
   capvet_report again;
-  uint32_t answer = capvet_canonical(bytes, length, limits, &none, 0, &needed, report);
+  uint32_t answer = capvet_canonical(bytes, length, limits, NULL, 0, &needed, report);
   if (answer != CAPVET_BUFFER_TOO_SMALL) {
     if (needed != 0) return 4;
     if (report->length == 0) return 1;

@@ -86,9 +86,9 @@ static void put(unsigned long number) {
 
 /* The text of a list of bytes, whose block is given. */
 static void text(const uint8_t *bytes, size_t length) {
-  uint8_t none, *out;
+  uint8_t *out;
   size_t needed = 77, written = 77;
-  uint32_t answer = capvet_pack(bytes, length, &none, 0, &needed);
+  uint32_t answer = capvet_pack(bytes, length, NULL, 0, &needed);
   if (answer == CAPVET_TRUNCATED && needed == 0) {
     put(CUT);
     return;

@@ -25,9 +25,8 @@ static void put(unsigned long number) {
 
 /* One text, whose block is given. */
 static void text(const uint8_t *bytes, size_t length) {
-  uint8_t none;
   size_t needed = 77, written = 77;
-  uint32_t answer = capvet_unpack(bytes, length, &none, 0, &needed);
+  uint32_t answer = capvet_unpack(bytes, length, NULL, 0, &needed);
   uint8_t *out;
   if (answer == CAPVET_TRUNCATED && needed == 0) {
     put(CUT);
