@@ -17,7 +17,7 @@ BUILT_PROGRAM = build/capvet
 BUILT_ARCHIVE = build/libcapvet.a
 
 # The version of the calls, as their header has it.
-VERSION = $(shell sed -n 's/^.define CAPVET_VERSION_M[AIJNOR]* \([0-9]*\)$$/\1/p' include/capvet.h | paste -sd.)
+VERSION = $(shell sed -n 's/^.define CAPVET_VERSION_[A-Z]* \([0-9]*\)$$/\1/p' include/capvet.h | paste -sd.)
 
 # Shows what the program writes for a stream of four sample messages, from a build that is not proved.
 run:

@@ -4,9 +4,9 @@
  *
  *     capvet_limits limits = CAPVET_LIMITS_INIT;
  *     capvet_report report;
- *     uint32_t answer = capvet_vet(bytes, length, &limits, &report);
+ *     capvet_answer answer = capvet_vet(bytes, length, &limits, &report);
  *     if (answer != CAPVET_OK) {
- *       fprintf(stderr, "refused: answer %u\n", answer);
+ *       fprintf(stderr, "refused: %s\n", capvet_answer_name(answer));
  *     }
  *
  * CAPVET_OK means that `bytes` are one message and nothing else, and that a reader can follow every pointer
@@ -23,7 +23,7 @@
  *   frames       capvet_frame
  *   canonical    capvet_canonical, capvet_is_canonical
  *   packing      capvet_pack, capvet_unpack
- *   other        capvet_version
+ *   other        capvet_answer_name, capvet_limits_default, capvet_version
  *
  * TERMS
  *
@@ -65,7 +65,7 @@
  * Required size. Calls that fill a buffer have a parameter `required`. It is how much of the buffer the
  * result takes, in the units of the buffer's size or count. It is set on CAPVET_OK, where it is the length of
  * the result. It is set on CAPVET_BUFFER_TOO_SMALL, where nothing was written. So a call with (NULL, 0)
- * asks for the size.
+ * asks for the size. A CAPVET_..._BOUND macro gives a size that always suffices, without asking.
  *
  * Order. If more than one answer applies, the first of these is returned:
  *   1. CAPVET_BAD_LIMITS
@@ -97,14 +97,51 @@
 #define CAPVET_CALL(arguments)
 #endif
 
+/* No call throws. */
+#if defined(__cplusplus) && __cplusplus >= 201103L
+#define CAPVET_NOEXCEPT noexcept
+#else
+#define CAPVET_NOEXCEPT
+#endif
+
+#if defined(__cplusplus)
+#define CAPVET_INLINE inline
+#else
+#define CAPVET_INLINE static inline
+#endif
+
 #ifdef __cplusplus
 extern "C" {
 #endif
 
+typedef char capvet_needs_64_bits[sizeof(size_t) == 8 ? 1 : -1];
+
+/* ------------------------------------------------------------------------------------------------------
+ * Version
+ * ------------------------------------------------------------------------------------------------------ */
+
 #define CAPVET_VERSION_MAJOR 1
 #define CAPVET_VERSION_MINOR 0
+#define CAPVET_VERSION_PATCH 0
 
-typedef char capvet_needs_64_bits[sizeof(size_t) == 8 ? 1 : -1];
+/* capvet_version -- the version of the library: its major version * 65536 + its minor version * 256 + its
+ * patch.
+ *
+ * A library is compatible if its major version is equal to this header's and its minor version is equal or
+ * higher. Within a major version, numbers and structs keep their values and layout. Calls, answers and
+ * flags may be added, and reserved fields may get a meaning. A report field of a later version is 0 from an
+ * older library. */
+uint32_t capvet_version(void) CAPVET_NOEXCEPT;
+
+/* capvet_abi_1 -- does nothing. A library of another major version lacks it.
+ *
+ * If CAPVET_LINK_CHECK is defined before this header is included, the file refers to it. Then linking a
+ * library of another major version fails with "undefined reference to capvet_abi_1". Leave it undefined to
+ * use the types without the library. (The linker's --gc-sections may remove the check.) */
+void capvet_abi_1(void) CAPVET_NOEXCEPT;
+#if defined(__GNUC__) && defined(CAPVET_LINK_CHECK)
+static void (*const capvet_link_check)(void) __attribute__((used)) = capvet_abi_1;
+#endif
 
 /* ------------------------------------------------------------------------------------------------------
  * Answers
@@ -117,7 +154,7 @@ typedef char capvet_needs_64_bits[sizeof(size_t) == 8 ? 1 : -1];
  *   - 8 to 15: the call was made wrongly, or with too small a buffer
  *   - 16 to 31: not what the call asks for
  *   - from 32: the message is not valid */
-enum {
+typedef enum capvet_answer {
   CAPVET_OK = 0,
 
   CAPVET_NO_MESSAGE = 1,        /* the input is empty: the regular end of a stream */
@@ -149,9 +186,48 @@ enum {
   CAPVET_COMPOSITE_TAG = 41,     /* the tag of a list of structs is not a struct's */
   CAPVET_COMPOSITE_OVERRUN = 42, /* the elements of a list of structs exceed the list's size */
   CAPVET_DEPTH_LIMIT = 43,       /* an object with a level above limits->depth */
-  CAPVET_WORD_LIMIT = 44         /* the charge exceeds limits->charge, or the words of the segments +
+  CAPVET_WORD_LIMIT = 44,        /* the charge exceeds limits->charge, or the words of the segments +
                                     CAPVET_SLACK; pointers in a loop end here or at the depth limit */
-};
+
+  CAPVET_ANSWER_32_BITS = 0x7fffffff /* never returned; switches need a default */
+} capvet_answer;
+
+/* capvet_answer_name -- the name of an answer for people to read, as the program `capvet` prints it.
+ *
+ * Returns "Ok", "DepthLimit" and so on, and "Unknown" for a number that this header does not know. */
+CAPVET_INLINE const char *capvet_answer_name(uint32_t answer) CAPVET_NOEXCEPT {
+  switch (answer) {
+    case CAPVET_OK: return "Ok";
+    case CAPVET_NO_MESSAGE: return "NoMessage";
+    case CAPVET_TOO_MANY_SEGMENTS: return "TooManySegments";
+    case CAPVET_TOO_LARGE: return "TooLarge";
+    case CAPVET_TRUNCATED: return "Truncated";
+    case CAPVET_TRAILING: return "Trailing";
+    case CAPVET_BAD_LIMITS: return "BadLimits";
+    case CAPVET_BUFFER_TOO_SMALL: return "BufferTooSmall";
+    case CAPVET_NOT_CANONICAL: return "NotCanonical";
+    case CAPVET_HAS_CAPABILITY: return "HasCapability";
+    case CAPVET_OVERLAP: return "Overlap";
+    case CAPVET_NULL_PAD: return "NullPad";
+    case CAPVET_EMPTY_SEGMENT: return "EmptySegment";
+    case CAPVET_CAPABILITY_PAD: return "CapabilityPad";
+    case CAPVET_MANY_SEGMENTS: return "ManySegments";
+    case CAPVET_NO_ROOT: return "NoRoot";
+    case CAPVET_RESERVED: return "Reserved";
+    case CAPVET_SEGMENT_MISSING: return "SegmentMissing";
+    case CAPVET_PAD_OUTSIDE: return "PadOutside";
+    case CAPVET_PAD_IS_FAR: return "PadIsFar";
+    case CAPVET_PAD_NOT_FAR: return "PadNotFar";
+    case CAPVET_TAG_KIND: return "TagKind";
+    case CAPVET_TAG_OFFSET: return "TagOffset";
+    case CAPVET_OUT_OF_SEGMENT: return "OutOfSegment";
+    case CAPVET_COMPOSITE_TAG: return "CompositeTag";
+    case CAPVET_COMPOSITE_OVERRUN: return "CompositeOverrun";
+    case CAPVET_DEPTH_LIMIT: return "DepthLimit";
+    case CAPVET_WORD_LIMIT: return "WordLimit";
+    default: return "Unknown";
+  }
+}
 
 /* ------------------------------------------------------------------------------------------------------
  * Limits and reports
@@ -185,6 +261,12 @@ typedef struct capvet_limits {
 
 /* The default limits: 64 MiB, as many words of charge, 64 levels, no flags. */
 #define CAPVET_LIMITS_INIT { 8388608, 8388608, 64, 0, { 0, 0 } }
+
+/* capvet_limits_default -- sets *limits to CAPVET_LIMITS_INIT, for languages without C macros. */
+#if defined(__GNUC__)
+__attribute__((nonnull(1)))
+#endif
+void capvet_limits_default(capvet_limits *limits) CAPVET_NOEXCEPT;
 
 /* What a call reports besides its answer. A field is 0 where its comment does not apply.
  *
@@ -240,12 +322,12 @@ typedef struct capvet_report {
  *
  * Cost: one walk. */
 CAPVET_CALL((3, 4))
-uint32_t capvet_vet(const uint8_t *bytes, size_t length, const capvet_limits *limits,
-                    capvet_report *report);
+capvet_answer capvet_vet(const uint8_t *bytes, size_t length, const capvet_limits *limits,
+                         capvet_report *report) CAPVET_NOEXCEPT;
 
 /* capvet_vet_exclusive -- checks one message, and that no word of it is used twice.
  *
- *   marks, marks_count  scratch memory, one bit for each word: length / 512 + 1 elements suffice
+ *   marks, marks_count  scratch memory, one bit for each word: CAPVET_MARKS_BOUND(length) elements suffice
  *   required            how many elements it takes; set for every accepted message
  *
  * Returns CAPVET_OK if the message is accepted, and the root word, all landing pads and all objects that
@@ -258,8 +340,12 @@ uint32_t capvet_vet(const uint8_t *bytes, size_t length, const capvet_limits *li
  *
  * Cost: two walks, and marking each word. */
 CAPVET_CALL((3, 6, 7))
-uint32_t capvet_vet_exclusive(const uint8_t *bytes, size_t length, const capvet_limits *limits,
-                              uint64_t *marks, size_t marks_count, size_t *required, capvet_report *report);
+capvet_answer capvet_vet_exclusive(const uint8_t *bytes, size_t length, const capvet_limits *limits,
+                                   uint64_t *marks, size_t marks_count, size_t *required,
+                                   capvet_report *report) CAPVET_NOEXCEPT;
+
+/* A `marks_count` that suffices for an input of this length in bytes. */
+#define CAPVET_MARKS_BOUND(length) ((length) / UINT64_C(512) + 1)
 
 /* ------------------------------------------------------------------------------------------------------
  * Frames
@@ -275,14 +361,17 @@ uint32_t capvet_vet_exclusive(const uint8_t *bytes, size_t length, const capvet_
  *
  * To read one message from a connection, receive until the buffer has report->required bytes, and repeat
  * while the answer is CAPVET_NO_MESSAGE or CAPVET_TRUNCATED. The number is the sender's claim, and is
- * never more than limits->message_words * 8 + 2056. So set message_words to what you would hold for a
- * stranger. If the connection ends, CAPVET_NO_MESSAGE means between two messages, and CAPVET_TRUNCATED in
+ * never more than CAPVET_FRAME_BOUND(limits->message_words). So set message_words to what you would hold for
+ * a stranger. If the connection ends, CAPVET_NO_MESSAGE means between two messages, and CAPVET_TRUNCATED in
  * the middle of one.
  *
  * Cost: one step for each segment, at most 512. */
 CAPVET_CALL((3, 4))
-uint32_t capvet_frame(const uint8_t *bytes, size_t length, const capvet_limits *limits,
-                      capvet_report *report);
+capvet_answer capvet_frame(const uint8_t *bytes, size_t length, const capvet_limits *limits,
+                           capvet_report *report) CAPVET_NOEXCEPT;
+
+/* The most bytes that a frame has whose segments have this many words. */
+#define CAPVET_FRAME_BOUND(message_words) ((message_words) * UINT64_C(8) + 2056)
 
 /* ------------------------------------------------------------------------------------------------------
  * Canonical form
@@ -304,8 +393,9 @@ uint32_t capvet_frame(const uint8_t *bytes, size_t length, const capvet_limits *
  *
  * Cost: about three walks. Asking for the size first costs two more. */
 CAPVET_CALL((3, 6, 7))
-uint32_t capvet_canonical(const uint8_t *bytes, size_t length, const capvet_limits *limits, uint8_t *out,
-                          size_t out_size, size_t *required, capvet_report *report);
+capvet_answer capvet_canonical(const uint8_t *bytes, size_t length, const capvet_limits *limits,
+                               uint8_t *out, size_t out_size, size_t *required,
+                               capvet_report *report) CAPVET_NOEXCEPT;
 
 /* The most bytes of a canonical form, for an input of this length, without CAPVET_ALLOW_AMPLIFIED. With
  * that flag it is 8 * (report.charge + 1), and so at most 8 * (limits.charge + 1). */
@@ -322,8 +412,8 @@ uint32_t capvet_canonical(const uint8_t *bytes, size_t length, const capvet_limi
  *
  * Cost: two walks. */
 CAPVET_CALL((3, 4))
-uint32_t capvet_is_canonical(const uint8_t *bytes, size_t length, const capvet_limits *limits,
-                             capvet_report *report);
+capvet_answer capvet_is_canonical(const uint8_t *bytes, size_t length, const capvet_limits *limits,
+                                  capvet_report *report) CAPVET_NOEXCEPT;
 
 /* ------------------------------------------------------------------------------------------------------
  * Packing
@@ -332,7 +422,7 @@ uint32_t capvet_is_canonical(const uint8_t *bytes, size_t length, const capvet_l
 /* capvet_pack -- packs words.
  *
  *   bytes, length  the words; they need not be a message
- *   out, out_size  where to write the packed bytes: length / 8 * 10 bytes always suffice
+ *   out, out_size  where to write the packed bytes: CAPVET_PACK_BOUND(length) always suffices
  *   required       how many they are
  *
  * Returns CAPVET_TRUNCATED if `length` is not a multiple of 8, else CAPVET_BUFFER_TOO_SMALL or CAPVET_OK.
@@ -340,7 +430,11 @@ uint32_t capvet_is_canonical(const uint8_t *bytes, size_t length, const capvet_l
  *
  * Cost: proportional to `length`. */
 CAPVET_CALL((5))
-uint32_t capvet_pack(const uint8_t *bytes, size_t length, uint8_t *out, size_t out_size, size_t *required);
+capvet_answer capvet_pack(const uint8_t *bytes, size_t length, uint8_t *out, size_t out_size,
+                          size_t *required) CAPVET_NOEXCEPT;
+
+/* The most bytes that packing this many bytes gives. */
+#define CAPVET_PACK_BOUND(length) ((length) / UINT64_C(8) * 10)
 
 /* capvet_unpack -- unpacks packed words, all of them.
  *
@@ -355,18 +449,8 @@ uint32_t capvet_pack(const uint8_t *bytes, size_t length, uint8_t *out, size_t o
  *
  * Cost: proportional to `length`, and to the words that are written. */
 CAPVET_CALL((5))
-uint32_t capvet_unpack(const uint8_t *bytes, size_t length, uint8_t *out, size_t out_size, size_t *required);
-
-/* ------------------------------------------------------------------------------------------------------
- * Version
- * ------------------------------------------------------------------------------------------------------ */
-
-/* capvet_version -- the version of the library: its major version * 65536 + its minor version.
- *
- * A library is compatible if its major version is equal to this header's and its minor version is equal or
- * higher. Within a major version, numbers and structs keep their values and layout. Calls, answers and
- * flags may be added, and reserved fields may get a meaning. */
-uint32_t capvet_version(void);
+capvet_answer capvet_unpack(const uint8_t *bytes, size_t length, uint8_t *out, size_t out_size,
+                            size_t *required) CAPVET_NOEXCEPT;
 
 #ifdef __cplusplus
 }

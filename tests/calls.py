@@ -22,6 +22,7 @@ All but `allocations` run with the compiler's checks of memory, and `calls`, `te
 these are installed. The last line is 'N passed, M failed', and the status is 1 where something failed.
 """
 import random
+import re
 import shutil
 import struct
 import subprocess
@@ -30,6 +31,8 @@ import tempfile
 from pathlib import Path
 
 import flags
+import header
+import strict
 
 TOP = Path(__file__).resolve().parent.parent
 WARN = ["-Wall", "-Wextra", "-pedantic", "-Werror", f"-I{TOP / 'include'}"]
@@ -76,8 +79,38 @@ def wanted_symbols(archive):
     own = {line.split()[-1] for line in lines if " T " in line}
     told("what the archive wants", undefined - own <= {"memcpy", "memmove", "memset"}, str(undefined - own))
     for name in ("capvet_version", "capvet_frame", "capvet_vet", "capvet_vet_exclusive", "capvet_is_canonical",
-                 "capvet_canonical", "capvet_pack", "capvet_unpack"):
+                 "capvet_canonical", "capvet_pack", "capvet_unpack", "capvet_limits_default", "capvet_abi_1"):
         told(f"the archive has {name}", name in own)
+
+
+def linked(folder, compiler, archive):
+    """A file that defines CAPVET_LINK_CHECK links with the archive, and not with one of another major version."""
+    source, other = folder / "check.c", folder / "other.c"
+    source.write_text("#define CAPVET_LINK_CHECK\n#include <capvet.h>\nint main(void) { return capvet_version() == 0; }\n")
+    other.write_text("#include <stdint.h>\nuint32_t capvet_version(void);\nuint32_t capvet_version(void) { return 131072; }\n")
+    ran = run([compiler, *WARN, source, archive, "-o", folder / "check"])
+    told(f"the link check, by {compiler}", ran.returncode == 0, ran.stderr)
+    ran = run([compiler, *WARN, source, other, "-o", folder / "check"])
+    told(f"the link check with another library, by {compiler}",
+         ran.returncode != 0 and "undefined reference" in ran.stderr and "capvet_abi_1" in ran.stderr, ran.stderr)
+
+
+def named(folder, compiler, archive, program):
+    """The names of the answers are those of the code, in C and C++, and the program's words are among them."""
+    for standard in ("c99", "c++98", "c++17"):
+        built = compiled(folder, "names", compiler, standard, archive)
+        if built is not None:
+            ran = run([built])
+            names = {int(number): name for number, name in (line.split() for line in ran.stdout.splitlines())}
+            told(f"the names of answers, by {compiler} -std={standard}", (names, ran.returncode) == (header.names(), 0),
+                 f"{names} {ran.stderr}")
+    path, words = folder / "stream", set()
+    twice, cycle = ((TOP / "examples" / name).read_bytes() for name in ("shared.bin", "cycle.bin"))
+    path.write_bytes(b"".join(bytes.fromhex(text) for text, _ in strict.CASES) + strict.many(512) + twice + cycle)
+    for command in (["vet", "--strict"], ["vet", "--exclusive"]):
+        words |= set(re.findall(r" refused (\w+)", run([program, *command, path]).stdout))
+    some = {"NullPad", "EmptySegment", "CapabilityPad", "ManySegments", "Overlap", "DepthLimit"}
+    told("the program's words are names", words == some <= set(header.names().values()), str(words))
 
 
 def takes_no_memory(folder, compiler, archive):
@@ -371,7 +404,7 @@ def compare_texts(texts, watched, program):
 def test_messages(folder, compilers, archive, program):
     """The header, known buffers, and the lines and copies of many messages."""
     for compiler in compilers:
-        for standard in ("c99", "c11", "c++98", "c++11"):
+        for standard in ("c99", "c11", "c++98", "c++11", "c++17"):
             header_alone(folder, compiler, standard)
     for compiler in compilers:
         built = compiled(folder, "calls", compiler, "c99", archive)
@@ -382,6 +415,8 @@ def test_messages(folder, compilers, archive, program):
                 ran = run(["valgrind", "-q", "--error-exitcode=9", "--leak-check=full", built])
                 told(f"calls, by {compiler}, under valgrind", ran.returncode == 0, ran.stderr)
         takes_no_memory(folder, compiler, archive)
+        linked(folder, compiler, archive)
+        named(folder, compiler, archive, program)
         checked = compiled(folder, "calls", compiler, "c11", archive, *CHECKS)
         if checked is not None:
             ran = run([checked])

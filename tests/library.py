@@ -75,7 +75,7 @@ def described(prefix, environment):
     """The description for pkg-config is a whole one, and has the folders and the version of the header."""
     compare("pkg-config --validate", ("", 0), run(["pkg-config", "--validate", prefix / install.DESCRIPTION], env=environment))
     header = (TOP / "include/capvet.h").read_text()
-    version = ".".join(re.search(rf"#define CAPVET_VERSION_{part} (\d+)", header)[1] for part in ("MAJOR", "MINOR"))
+    version = ".".join(re.search(rf"#define CAPVET_VERSION_{part} (\d+)", header)[1] for part in ("MAJOR", "MINOR", "PATCH"))
     compare("the version", (f"{version}\n", 0), run(["pkg-config", "--modversion", "capvet"], env=environment))
     compare("the flags", [f"-I{prefix}/include", f"-L{prefix}/lib", "-lcapvet"], flags(environment, "capvet"))
 

@@ -56,11 +56,11 @@ class Buffer {
 };
 
 // Reads only the next message. Its length is a claim of the peer, and `limits.message_words` bounds it.
-uint32_t receive(int socket, Buffer &buffer) {
+capvet_answer receive(int socket, Buffer &buffer) {
   buffer.clear();
   for (;;) {
     capvet_report report;
-    uint32_t answer = capvet_frame(buffer.bytes(), buffer.length(), &limits, &report);
+    capvet_answer answer = capvet_frame(buffer.bytes(), buffer.length(), &limits, &report);
     bool is_short = answer == CAPVET_NO_MESSAGE || answer == CAPVET_TRUNCATED;
     if (!is_short || !buffer.fill(socket, report.required)) return answer;
   }
@@ -95,7 +95,7 @@ bool send_all(int socket, const char *bytes, size_t length) {
 void serve(int socket) {
   Buffer buffer;
   for (;;) {
-    uint32_t answer = receive(socket, buffer);
+    capvet_answer answer = receive(socket, buffer);
     if (answer != CAPVET_OK) {
       std::printf("%s\n", answer == CAPVET_NO_MESSAGE ? "the peer has ended" : "no frame: the connection is dropped");
       return;

@@ -69,7 +69,7 @@ static int sign_copy(EVP_PKEY *key, const uint8_t *bytes, size_t length) {
   capvet_report report;
   uint8_t *copy = malloc(bound);
   size_t required;
-  uint32_t answer;
+  capvet_answer answer;
   int good;
   if (copy == NULL) return fputs("sign: out of memory\n", stderr), 3;
   answer = capvet_canonical(bytes, length, &limits, copy, bound, &required, &report);

@@ -10,31 +10,7 @@
 #include <stdio.h>
 #include <stdlib.h>
 
-/* The name of a refusal. */
-static const char *reason(uint32_t answer) {
-  switch (answer) {
-    case CAPVET_NULL_PAD: return "NullPad";
-    case CAPVET_EMPTY_SEGMENT: return "EmptySegment";
-    case CAPVET_CAPABILITY_PAD: return "CapabilityPad";
-    case CAPVET_MANY_SEGMENTS: return "ManySegments";
-    case CAPVET_NO_ROOT: return "NoRoot";
-    case CAPVET_RESERVED: return "Reserved";
-    case CAPVET_SEGMENT_MISSING: return "SegmentMissing";
-    case CAPVET_PAD_OUTSIDE: return "PadOutside";
-    case CAPVET_PAD_IS_FAR: return "PadIsFar";
-    case CAPVET_PAD_NOT_FAR: return "PadNotFar";
-    case CAPVET_TAG_KIND: return "TagKind";
-    case CAPVET_TAG_OFFSET: return "TagOffset";
-    case CAPVET_OUT_OF_SEGMENT: return "OutOfSegment";
-    case CAPVET_COMPOSITE_TAG: return "CompositeTag";
-    case CAPVET_COMPOSITE_OVERRUN: return "CompositeOverrun";
-    case CAPVET_DEPTH_LIMIT: return "DepthLimit";
-    case CAPVET_WORD_LIMIT: return "WordLimit";
-    default: return "unknown";
-  }
-}
-
-/* The whole file, in a block of its own, or NULL. One byte more than it has, since no buffer may be NULL. */
+/* The whole file, in a block of its own, or NULL. One byte more than it has, since malloc(0) may return NULL. */
 static uint8_t *contents(const char *name, size_t *length) {
   FILE *file = fopen(name, "rb");
   uint8_t *bytes = NULL;
@@ -53,13 +29,13 @@ static uint8_t *contents(const char *name, size_t *length) {
 }
 
 /* Prints the line of a message, and returns whether the message is accepted. */
-static int is_accepted(unsigned number, uint32_t answer, const capvet_report *report) {
+static int is_accepted(unsigned number, capvet_answer answer, const capvet_report *report) {
   if (answer == CAPVET_OK) {
     printf("message %u: accepted charge %" PRIu64 " depth %" PRIu32 " pointers %" PRIu64 " caps %" PRIu64 "\n", number,
            report->charge, report->depth, report->pointers, report->capabilities);
     return 1;
   }
-  printf("message %u: refused %s at %" PRIu32 ":%" PRIu32 " pointers %" PRIu64 "\n", number, reason(answer),
+  printf("message %u: refused %s at %" PRIu32 ":%" PRIu32 " pointers %" PRIu64 "\n", number, capvet_answer_name(answer),
          report->segment, report->word, report->pointers);
   return 0;
 }
@@ -77,7 +53,7 @@ int main(int count, char **words) {
   limits.flags = CAPVET_ALLOW_TRAILING;
   while (at < length) {
     capvet_report report;
-    uint32_t answer = capvet_vet(bytes + at, length - at, &limits, &report);
+    capvet_answer answer = capvet_vet(bytes + at, length - at, &limits, &report);
     if (report.length == 0) {
       /* The start of the next message is unknown. */
       fprintf(stderr, "vet: message %u: no frame, answer %" PRIu32 "\n", number, answer);

@@ -69,7 +69,7 @@ static void counted(const char *name) {
   if (file != NULL) fclose(file);
 }
 
-typedef uint32_t (*reporting)(const uint8_t *, size_t, const capvet_limits *, capvet_report *);
+typedef capvet_answer (*reporting)(const uint8_t *, size_t, const capvet_limits *, capvet_report *);
 
 static const struct {
   const char *name;
@@ -131,7 +131,7 @@ static void marks(const uint8_t *bytes, size_t length) {
   }
 }
 
-typedef uint32_t (*spelling)(const uint8_t *, size_t, uint8_t *, size_t, size_t *);
+typedef capvet_answer (*spelling)(const uint8_t *, size_t, uint8_t *, size_t, size_t *);
 
 /* With an output buffer of length 0, and of the length that is needed. */
 static void spells(int number, spelling call, const uint8_t *bytes, size_t length) {

@@ -429,7 +429,8 @@ static void nulls(void) {
 }
 
 int main(void) {
-  EXPECT(capvet_version() == 65536ul * CAPVET_VERSION_MAJOR + CAPVET_VERSION_MINOR, "version", capvet_version());
+  EXPECT(capvet_version() == 65536ul * CAPVET_VERSION_MAJOR + 256ul * CAPVET_VERSION_MINOR + CAPVET_VERSION_PATCH, "version",
+         capvet_version());
   layout();
   fields();
   arriving();

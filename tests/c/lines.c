@@ -18,18 +18,10 @@
  * with that. */
 const char *__asan_default_options(void) { return "detect_leaks=0"; }
 
-static const char *reason(uint32_t answer) {
-  static const char *const names[] = {
-      "NoRoot",   "Reserved",  "SegmentMissing", "PadOutside",   "PadIsFar",         "PadNotFar", "TagKind",
-      "TagOffset", "OutOfSegment", "CompositeTag",   "CompositeOverrun", "DepthLimit", "WordLimit"};
-  if (answer == CAPVET_OVERLAP) return "Overlap";
-  return answer >= CAPVET_NO_ROOT && answer <= CAPVET_WORD_LIMIT ? names[answer - CAPVET_NO_ROOT] : "?";
-}
-
 /* The line of a message, by its number in the stream. */
 static void line(int check, unsigned long n, uint32_t answer, const capvet_report *r) {
   if (answer >= CAPVET_NO_ROOT || answer == CAPVET_OVERLAP)
-    printf("message %lu: refused %s at %lu:%lu pointers %llu\n", n, reason(answer), (unsigned long)r->segment,
+    printf("message %lu: refused %s at %lu:%lu pointers %llu\n", n, capvet_answer_name(answer), (unsigned long)r->segment,
            (unsigned long)r->word, (unsigned long long)r->pointers);
   else if (check)
     printf("message %lu: %s\n", n, answer == CAPVET_OK ? "canonical" : "not canonical");
@@ -40,12 +32,11 @@ static void line(int check, unsigned long n, uint32_t answer, const capvet_repor
 
 /* The line of a fault of the frame, where the stream has `length` bytes. */
 static void fault(unsigned long n, uint32_t answer, const capvet_report *r, size_t length) {
-  if (answer == CAPVET_TOO_MANY_SEGMENTS)
-    fprintf(stderr, "capvet: message %lu: TooManySegments %llu\n", n, (unsigned long long)r->detail);
-  else if (answer == CAPVET_TOO_LARGE)
-    fprintf(stderr, "capvet: message %lu: TooLarge %llu\n", n, (unsigned long long)r->detail);
+  const char *name = capvet_answer_name(answer);
+  if (answer == CAPVET_TOO_MANY_SEGMENTS || answer == CAPVET_TOO_LARGE)
+    fprintf(stderr, "capvet: message %lu: %s %llu\n", n, name, (unsigned long long)r->detail);
   else if (answer == CAPVET_TRUNCATED)
-    fprintf(stderr, "capvet: message %lu: Truncated at byte %llu\n", n, (unsigned long long)length);
+    fprintf(stderr, "capvet: message %lu: %s at byte %llu\n", n, name, (unsigned long long)length);
   else
     fprintf(stderr, "capvet: message %lu: answer %lu\n", n, (unsigned long)answer);
 }
@@ -99,10 +90,10 @@ static int copy(unsigned long n, const uint8_t *bytes, size_t length, const capv
     if (needed != 0) return 4;
     if (report->length == 0) return 1;
     if (answer == CAPVET_HAS_CAPABILITY)
-      fprintf(stderr, "capvet: message %lu: HasCapability at %lu:%lu\n", n, (unsigned long)report->segment,
-              (unsigned long)report->word);
+      fprintf(stderr, "capvet: message %lu: %s at %lu:%lu\n", n, capvet_answer_name(answer),
+              (unsigned long)report->segment, (unsigned long)report->word);
     else
-      fprintf(stderr, "capvet: message %lu: refused %s at %lu:%lu\n", n, reason(answer),
+      fprintf(stderr, "capvet: message %lu: refused %s at %lu:%lu\n", n, capvet_answer_name(answer),
               (unsigned long)report->segment, (unsigned long)report->word);
     return 1;
   }

@@ -198,5 +198,5 @@ pub fn frame_length(bytes: &[u8], limits: Limits) -> Result<usize, VetError> {
 #[must_use]
 pub fn version() -> (u32, u32) {
     let version = sys::version();
-    (version >> 16, version & 0xffff)
+    (version >> 16, version >> 8 & 0xff)
 }

@@ -1,5 +1,6 @@
 pub mod AllFlags
 pub mod Answers
+pub mod Bounds
 pub mod Copied
 pub mod Marked
 pub mod Packed

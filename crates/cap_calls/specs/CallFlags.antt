@@ -1,5 +1,5 @@
 -- What the flags of a call allow (profile).
-use Rattle.std.specs.Prelude.{ℕ, ◌≡◌, ◌≤◌, ◌/◌, ◌%◌, ◌==◌, Bool, IsTrue, not, slice_index}
+use Rattle.std.specs.Prelude.{ℕ, ◌≡◌, ◌≤◌, ◌/◌, ◌%◌, ◌==◌, Bool, IsTrue, not, replicate, slice_index}
 use Rattle.cap_vet.specs.declared.demands.Demands.{Demands}
 use Rattle.cap_calls.specs.declared.limits.CallLimits.{CallLimits}
 
@@ -24,6 +24,10 @@ allows_amplified l = l.flags / 4 % 2 == 1
 -- what else a message has to meet
 abbrev pub demands_of : CallLimits → Demands
 demands_of l = record { strict = not (allows_nonstrict l); unamplified = not (allows_amplified l) }
+
+-- the default: 64 MiB, as many words of charge, 64 levels, no flags
+abbrev pub default_limits : CallLimits
+default_limits = record { message_words = 8388608; charge = 8388608; depth = 64; flags = 0; reserved = replicate 2 0 }
 
 -- no limit of k is lower than that of l, and k has each flag that l has
 pub record AllowsMore (l k : CallLimits) : Type 0 where

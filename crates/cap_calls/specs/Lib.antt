@@ -1,4 +1,5 @@
 pub mod AnswerNumbers
+pub mod CallBounds
 pub mod CallFindings
 pub mod CallFlags
 pub mod CallFrames

@@ -25,8 +25,22 @@ pub struct CallLimits {
 }
 
 impl CallLimits {
-    ghost use Rattle.cap_calls.specs.CallFlags.{HasKnownFlags, allows_trailing, demands_of};
+    ghost use Rattle.cap_calls.specs.CallFlags.{HasKnownFlags, allows_trailing, default_limits, demands_of};
     ghost use Rattle.std.specs.Prelude.{◌≡◌, Decides};
+
+    /// The limits of `CAPVET_LIMITS_INIT` in the header: 8388608 words in all segments, a charge of
+    /// as many, 64 levels, and no flags.
+    pub fn default_limits() -> CallLimits
+        ensures { result ≡ default_limits }
+    {
+        CallLimits {
+            message_words: 8388608,
+            charge: 8388608,
+            depth: 64,
+            flags: 0,
+            reserved: [0; 2],
+        }
+    }
 
     // Whether it has no flag that is unknown, and its reserved fields are 0.
     #[inline]

@@ -3,7 +3,8 @@
 
 ghost use Rattle.cap_calls.specs.Calls.{TellsCheck, TellsFrame, TellsVet};
 ghost use Rattle.cap_calls.specs.AnswerNumbers.{number_of};
-ghost use Rattle.cap_calls.specs.CallFlags.{allows_amplified};
+ghost use Rattle.cap_calls.specs.CallBounds.{canonical_bound, frame_bound, marks_bound, pack_bound};
+ghost use Rattle.cap_calls.specs.CallFlags.{allows_amplified, default_limits};
 ghost use Rattle.cap_calls.specs.CanonicalCalls.{TellsCopy};
 ghost use Rattle.cap_calls.specs.ExclusiveCalls.{TellsExclusive};
 ghost use Rattle.cap_calls.specs.PackCalls.{TellsPack, TellsUnpack};
@@ -17,12 +18,26 @@ use cap_calls::{
     vet_exclusive,
 };
 
-/// Returns the version of the library: 65536 times its major number, and its minor number.
+/// Returns the version of the library: 65536 times its major number, 256 times its minor number,
+/// and the number of its patch.
 #[unsafe(no_mangle)]
 pub extern "C" fn capvet_version() -> u32
     ensures { result ≡ 65536 }
 {
     version()
+}
+
+/// Does nothing. Only a library of major version 1 has it, so a reference to it fails at link time
+/// in any other.
+#[unsafe(no_mangle)]
+pub extern "C" fn capvet_abi_1() {}
+
+/// Sets the limits to those of `CAPVET_LIMITS_INIT`.
+#[unsafe(no_mangle)]
+pub extern "C" fn capvet_limits_default(limits: &mut CallLimits)
+    ensures { limits.new ≡ default_limits }
+{
+    *limits = CallLimits::default_limits();
 }
 
 /// Returns in `report.length` the length in bytes of the frame that `bytes` start with. Reads only
@@ -39,6 +54,9 @@ pub extern "C" fn capvet_frame(bytes: &[u8], limits: &CallLimits, report: &mut C
     // The bytes allow no other result.
     ensures only { (a : Answer) (r : CallReport) → TellsFrame limits.now bytes.now a r →
         (result ≡ number_of a) × (report.new ≡ r) }
+    // No more bytes are required than a frame within the limit has, and no frame has more.
+    ensures required { report.new.required ≤ frame_bound limits.now.message_words }
+    ensures whole { report.new.length ≤ frame_bound limits.now.message_words }
 {
     frame(bytes, limits, report).number()
 }
@@ -80,8 +98,9 @@ pub extern "C" fn capvet_vet_exclusive(
     ensures only { (a : Answer) (n : ℕ) (r : CallReport) →
         TellsExclusive limits.now bytes.now (length marks.old) a n r →
         (result ≡ number_of a) × (required.new ≡ n) × (report.new ≡ r) }
-    // This capacity is always enough.
+    // These capacities are always enough.
     ensures few { required.new ≤ report.new.length / 512 + 1 }
+    ensures bound { required.new ≤ marks_bound (length bytes.now) }
     ensures rest { drop required.new marks.new ≡ drop required.new marks.old }
     ensures kept { (result ≡ number_of Good)
         ⊎ ((result ≡ number_of Overlap) ⊎ (marks.new ≡ marks.old)) }
@@ -116,6 +135,8 @@ pub extern "C" fn capvet_canonical(
     ensures few { required.new ≤ 8 * (report.new.charge + 1) }
     ensures short { IsFalse (allows_amplified limits.now) →
         required.new ≤ report.new.length + 8 * 4097 }
+    ensures bound { IsFalse (allows_amplified limits.now) →
+        required.new ≤ canonical_bound (length bytes.now) }
 {
     canonical(bytes, limits, out, required, report).number()
 }
@@ -154,6 +175,8 @@ pub extern "C" fn capvet_pack(bytes: &[u8], out: &mut [u8], required: &mut usize
     // The bytes and the capacity allow no other result.
     ensures only { (a : Answer) (n : ℕ) (new : List ℕ) → TellsPack bytes.now out.old a n new →
         (result ≡ number_of a) × (required.new ≡ n) × (out.new ≡ new) }
+    // This capacity is always enough.
+    ensures bound { required.new ≤ pack_bound (length bytes.now) }
 {
     pack(bytes, out, required).number()
 }

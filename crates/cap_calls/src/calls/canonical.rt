@@ -1,10 +1,11 @@
 //! The call that writes a canonical copy between buffers.
 
+ghost use Rattle.cap_calls.specs.CallBounds.{canonical_bound};
 ghost use Rattle.cap_calls.specs.CanonicalCalls.{Copies, TellsCopy, size_found};
 ghost use Rattle.cap_calls.specs.CallFlags.{allows_amplified};
 ghost use Rattle.cap_calls.specs.declared.answer.Answer.{Answer};
 ghost use Rattle.cap_calls.specs.declared.report.CallReport.{CallReport};
-ghost use Rattle.std.specs.Prelude.{◌*◌, ◌+◌, ◌≡◌, ◌≤◌, IsFalse, List, ℕ};
+ghost use Rattle.std.specs.Prelude.{◌*◌, ◌+◌, ◌≡◌, ◌≤◌, IsFalse, List, length, ℕ};
 
 use crate::answer::Answer;
 use crate::found::Found;
@@ -45,6 +46,8 @@ pub fn canonical(
     ensures few { required.new ≤ 8 * (report.new.charge + 1) }
     ensures short { IsFalse (allows_amplified limits.now) →
         required.new ≤ report.new.length + 8 * 4097 }
+    ensures bound { IsFalse (allows_amplified limits.now) →
+        required.new ≤ canonical_bound (length bytes.now) }
 {
     let found = over(&Copying, !limits.allows_trailing(), bytes, limits, out);
     *required = found.count;

@@ -1,10 +1,11 @@
 //! The call that reports the length of a frame.
 
 ghost use Rattle.cap_calls.specs.Calls.{TellsFrame, Frames};
+ghost use Rattle.cap_calls.specs.CallBounds.{frame_bound};
 ghost use Rattle.cap_calls.specs.CallFindings.{Tells};
 ghost use Rattle.cap_calls.specs.declared.answer.Answer.{Answer};
 ghost use Rattle.cap_calls.specs.declared.report.CallReport.{CallReport};
-ghost use Rattle.std.specs.Prelude.{◌≡◌, ⊤};
+ghost use Rattle.std.specs.Prelude.{◌≡◌, ◌≤◌, ⊤};
 
 use crate::answer::Answer;
 use crate::found::Found;
@@ -22,6 +23,9 @@ pub fn frame(bytes: &[u8], limits: &CallLimits, report: &mut CallReport) -> Answ
     // The bytes allow no other result.
     ensures only { (a : Answer) (r : CallReport) → TellsFrame limits.now bytes.now a r →
         (result ≡ a) × (report.new ≡ r) }
+    // No more bytes are required than a frame within the limit has, and no frame has more.
+    ensures required { report.new.required ≤ frame_bound limits.now.message_words }
+    ensures whole { report.new.length ≤ frame_bound limits.now.message_words }
 {
     let found = extent(bytes, limits);
     *report = found.report;

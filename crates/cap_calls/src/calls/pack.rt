@@ -1,8 +1,9 @@
 //! The call that packs between buffers.
 
+ghost use Rattle.cap_calls.specs.CallBounds.{pack_bound};
 ghost use Rattle.cap_calls.specs.PackCalls.{TellsPack};
 ghost use Rattle.cap_calls.specs.declared.answer.Answer.{Answer};
-ghost use Rattle.std.specs.Prelude.{◌≡◌, List, ℕ};
+ghost use Rattle.std.specs.Prelude.{◌≡◌, ◌≤◌, List, length, ℕ};
 
 use crate::answer::Answer;
 use cap_pack::pack_into;
@@ -22,13 +23,16 @@ pub fn pack(bytes: &[u8], out: &mut [u8], required: &mut usize) -> Answer
     // The bytes and the capacity allow no other result.
     ensures only { (a : Answer) (n : ℕ) (new : List ℕ) → TellsPack bytes.now out.old a n new →
         (result ≡ a) × (required.new ≡ n) × (out.new ≡ new) }
+    // This capacity is always enough.
+    ensures bound { required.new ≤ pack_bound (length bytes.now) }
 {
     pack_all(bytes, out, required)
 }
 
 // The same, without the clause `only`.
 fn pack_all(bytes: &[u8], out: &mut [u8], required: &mut usize) -> Answer
-    ensures { TellsPack bytes.now out.old result required.new out.new }
+    ensures tells { TellsPack bytes.now out.old result required.new out.new }
+    ensures bound { required.new ≤ pack_bound (length bytes.now) }
 {
     *required = 0;
     if bytes.len() % 8 != 0 {

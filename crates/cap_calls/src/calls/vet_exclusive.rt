@@ -1,5 +1,6 @@
 //! The call that vets a message of which no word may be used twice.
 
+ghost use Rattle.cap_calls.specs.CallBounds.{marks_bound};
 ghost use Rattle.cap_calls.specs.ExclusiveCalls.{MarksIn, TellsExclusive, fault_found};
 ghost use Rattle.cap_calls.specs.declared.answer.Answer.{Answer};
 ghost use Rattle.cap_calls.specs.declared.answer.Answer.TheVariants.{Good, Overlap};
@@ -42,8 +43,9 @@ pub fn vet_exclusive(
     ensures only { (a : Answer) (n : ℕ) (r : CallReport) →
         TellsExclusive limits.now bytes.now (length marks.old) a n r →
         (result ≡ a) × (required.new ≡ n) × (report.new ≡ r) }
-    // This capacity is always enough.
+    // These capacities are always enough.
     ensures few { required.new ≤ report.new.length / 512 + 1 }
+    ensures bound { required.new ≤ marks_bound (length bytes.now) }
     ensures rest { drop required.new marks.new ≡ drop required.new marks.old }
     ensures kept { (result ≡ Good) ⊎ ((result ≡ Overlap) ⊎ (marks.new ≡ marks.old)) }
 {

@@ -1,6 +1,7 @@
 -- Nothing else is told of the bytes and the buffer.
-use Rattle.std.proofs.Common.{refl}
+use Rattle.std.proofs.Common.{arith, refl}
 use Rattle.cap_calls.proofs.Answers.{by_flag}
+use Rattle.cap_calls.proofs.Bounds.{length_inside}
 use Rattle.cap_calls.proofs.Copied.{few_told, one_copy_told, short_told}
 use Rattle.cap_calls.proofs.calls.canonical.canonical.Goals as goal
 
@@ -23,3 +24,9 @@ returns-clause-few c = few_told _ _ c.args.limits.now c.args.bytes.now c.args.ou
 pub returns-clause-short : goal.returns-clause-short
 returns-clause-short c = λ un. short_told _ c.args.limits.now c.args.bytes.now c.args.out.now _ _ un
     c.over-found.ensures
+
+pub returns-clause-bound : goal.returns-clause-bound
+returns-clause-bound c = λ un.
+    let short = short_told _ c.args.limits.now c.args.bytes.now c.args.out.now _ _ un c.over-found.ensures in
+    let inside = length_inside _ c.args.limits.now c.args.bytes.now _ c.over-found.ensures in
+    omega (arith, short, inside)

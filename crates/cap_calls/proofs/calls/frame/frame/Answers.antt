@@ -1,6 +1,7 @@
 -- Nothing else is told of the bytes.
 use Rattle.std.proofs.Common.{refl}
 use Rattle.cap_calls.proofs.Answers.{one_frame_told}
+use Rattle.cap_calls.proofs.Bounds.{frame_told}
 use Rattle.cap_calls.proofs.calls.frame.frame.Goals as goal
 
 pub returns-clause-tells : goal.returns-clause-tells
@@ -9,3 +10,9 @@ returns-clause-tells c = (c.extent-found.result, c.extent-found.ensures, (refl, 
 pub returns-clause-only : goal.returns-clause-only
 returns-clause-only c = λ a r h. one_frame_told c.args.limits.now c.args.bytes.now _ a _ r
     (c.extent-found.result, c.extent-found.ensures, (refl, refl)) h
+
+pub returns-clause-required : goal.returns-clause-required
+returns-clause-required c = (frame_told c.args.limits.now c.args.bytes.now c.extent-found.result c.extent-found.ensures).0
+
+pub returns-clause-whole : goal.returns-clause-whole
+returns-clause-whole c = (frame_told c.args.limits.now c.args.bytes.now c.extent-found.result c.extent-found.ensures).1

@@ -3,4 +3,4 @@ use Rattle.cap_calls.proofs.Packed.{one_pack_told}
 use Rattle.cap_calls.proofs.calls.pack.pack.Goals as goal
 
 pub returns-clause-only : goal.returns-clause-only
-returns-clause-only c = λ a n new h. one_pack_told c.args.bytes.now c.args.out.now _ a _ n _ new c.pack_all.ensures h
+returns-clause-only c = λ a n new h. one_pack_told c.args.bytes.now c.args.out.now _ a _ n _ new c.pack_all.ensures.tells h

@@ -4,16 +4,22 @@ use Rattle.cap_calls.specs.PackCalls.{cut}
 use Rattle.cap_calls.proofs.Packed.{cut_by_length, pack_too_small, pack_written}
 use Rattle.cap_calls.proofs.calls.pack.pack_all.Goals as goal
 
-pub returns-then-bytes-ne0 : goal.returns-then-bytes-ne0
-returns-then-bytes-ne0 c = cut (cut_by_length c.args.bytes.now (omega (arith, c.if-bytes-ne0.true))) refl refl refl
+pub returns-then-bytes-ne0-clause-tells : goal.returns-then-bytes-ne0-clause-tells
+returns-then-bytes-ne0-clause-tells c = cut (cut_by_length c.args.bytes.now (omega (arith, c.if-bytes-ne0.true))) refl refl refl
 
-pub returns-then-size-count : goal.returns-then-size-count
-returns-then-size-count c =
+pub returns-then-size-count-clause-tells : goal.returns-then-size-count-clause-tells
+returns-then-size-count-clause-tells c =
     pack_too_small c.args.bytes.now c.args.out.now _ _ (omega arith) c.pack_into-count.ensures.len c.if-size-count.true
     (c.pack_into-count.ensures.no_room c.if-size-count.true)
 
-pub returns : goal.returns
-returns c =
+pub returns-clause-tells : goal.returns-clause-tells
+returns-clause-tells c =
     pack_written c.args.bytes.now c.args.out.now _ _ (omega arith) c.pack_into-count.ensures.len
     (omega (arith, c.if-size-count.false))
     (c.pack_into-count.ensures.written (omega (arith, c.if-size-count.false)))
+
+pub returns-clause-bound : goal.returns-clause-bound
+returns-clause-bound c = omega (arith, c.pack_into-count.ensures.few)
+
+pub returns-then-size-count-clause-bound : goal.returns-then-size-count-clause-bound
+returns-then-size-count-clause-bound c = omega (arith, c.pack_into-count.ensures.few)

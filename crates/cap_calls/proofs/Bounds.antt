@@ -1,0 +1,63 @@
+-- The bounds of the header suffice.
+use Rattle.std.proofs.Common.{ℕ, List, ◌≡◌, ◌∙◌, ◌<◌, ◌≤◌, ap, arith, length, length-append}
+use Rattle.std.specs.Prelude.{Bool, ⊤}
+use Rattle.cap_frame.specs.Fronts.{IsFront}
+use Rattle.cap_frame.specs.declared.fault.FrontFault.TheVariants.{TooManySegments, TooLarge, Truncated}
+use Rattle.cap_spec.specs.Frames.{joined, sizes_of}
+use Rattle.cap_spec.proofs.Bytes.Plain.{words_exact}
+use Rattle.cap_spec.proofs.Frames.Endings.{length_joined}
+use Rattle.cap_spec.proofs.Frames.Framing.{table_length}
+use Rattle.cap_calls.specs.CallBounds.{frame_bound}
+use Rattle.cap_calls.specs.CallFindings.{Tells, TellsWhole, framed, tells, trailing, without}
+use Rattle.cap_calls.specs.CallFrames.{HasNoFrame}
+use Rattle.cap_calls.specs.CallReports.{cause_required}
+use Rattle.cap_calls.specs.Calls.{Frames}
+use Rattle.cap_calls.specs.declared.found.Found.{Found}
+use Rattle.cap_calls.specs.declared.front.NoFrame.{NoFrame}
+use Rattle.cap_calls.specs.declared.front.NoFrame.TheVariants.{BadLimits, NoMessage, Fault}
+use Rattle.cap_calls.specs.declared.limits.CallLimits.{CallLimits}
+
+-- a frame within the limit, which is in the bytes
+frame_short : (limit : ℕ) (bs : List ℕ) (m : List (List ℕ)) (n : ℕ) → IsFront limit bs m n → n ≤ frame_bound limit
+frame_short limit bs m n h =
+    let table = h.frames.table in
+    let sizes = sizes_of m in
+    let few : length sizes ≤ 512 = h.frames.is_table.few in
+    let words = ap length h.frames.whole ∙ length-append table (joined m) in
+    omega (arith, h.long, words, length_joined m, h.within, table_length table sizes h.frames.is_table, few)
+
+pub frame_inside : (limit : ℕ) (bs : List ℕ) (m : List (List ℕ)) (n : ℕ) → IsFront limit bs m n → n ≤ length bs
+frame_inside limit bs m n h =
+    let words = ap length h.words ∙ length-append h.own h.rest in
+    omega (arith, h.long, words, words_exact bs)
+
+-- what is required of an input
+cause_short : (l : CallLimits) (bs : List ℕ) (c : NoFrame) → HasNoFrame l bs c → cause_required c ≤ frame_bound l.message_words
+cause_short l bs BadLimits h = omega arith
+cause_short l bs NoMessage h = omega arith
+cause_short l bs (Fault (TooManySegments n)) h = omega arith
+cause_short l bs (Fault (TooLarge n)) h = omega arith
+cause_short l bs (Fault (Truncated n)) h = omega (arith, h.1.3)
+
+pub frame_told : (l : CallLimits) (bs : List ℕ) (f : Found) → Tells ⊤ Frames l bs f
+    → (f.report.required ≤ frame_bound l.message_words) × (f.report.length ≤ frame_bound l.message_words)
+frame_told l bs f (without c h e k) =
+    let required : f.report.required ≡ cause_required c = ap (λ (x : Found). x.report.required) e in
+    let none : f.report.length ≡ 0 = ap (λ (x : Found). x.report.length) e in
+    (omega (arith, required, cause_short l bs c h), omega (arith, none))
+frame_told l bs f (framed m x y g h p e) =
+    let same : f.report.required ≡ g.report.required = ap (λ (x : Found). x.report.required) e in
+    let none : g.report.required ≡ 0 = ap (λ (x : Found). x.report.required) p in
+    let long : f.report.length ≡ x = ap (λ (x : Found). x.report.length) e in
+    (omega (arith, same, none), omega (arith, long, frame_short l.message_words bs m x h.front))
+
+-- The frame that is reported is in the bytes.
+pub length_inside : {K : Type 0} {P : List (List ℕ) → ℕ → ℕ → Found → Type 0} (whole : Bool) (l : CallLimits)
+    (bs : List ℕ) (f : Found) → TellsWhole whole K P l bs f → f.report.length ≤ length bs
+length_inside whole l bs f (trailing m x y t h more e k) =
+    let long : f.report.length ≡ x = ap (λ (z : Found). z.report.length) e in omega (arith, long, more)
+length_inside whole l bs f (tells only (without c h e k)) =
+    let none : f.report.length ≡ 0 = ap (λ (z : Found). z.report.length) e in omega (arith, none)
+length_inside whole l bs f (tells only (framed m x y g h p e)) =
+    let long : f.report.length ≡ x = ap (λ (z : Found). z.report.length) e in
+    omega (arith, long, frame_inside l.message_words bs m x h.front)

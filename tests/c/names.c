@@ -1,0 +1,35 @@
+/* names: writes the number and the name of each answer below 256 that has a name. Then it looks at the macros of
+ * capvet.h, and at the limits that capvet_limits_default sets. */
+#define CAPVET_LINK_CHECK
+#include <capvet.h>
+
+#include <stdio.h>
+#include <string.h>
+
+static int failures = 0;
+
+static void expect(int holds, const char *what) {
+  if (!holds) {
+    failures++;
+    fprintf(stderr, "names: %s\n", what);
+  }
+}
+
+int main(void) {
+  const capvet_limits usual = CAPVET_LIMITS_INIT;
+  capvet_limits limits;
+  unsigned answer;
+  for (answer = 0; answer < 256; answer++)
+    if (strcmp(capvet_answer_name(answer), "Unknown") != 0) printf("%u %s\n", answer, capvet_answer_name(answer));
+  expect(strcmp(capvet_answer_name(0x7fffffff), "Unknown") == 0, "an answer that never comes");
+  expect(sizeof(capvet_answer) == 4, "the size of an answer");
+  memset(&limits, 0xa5, sizeof limits);
+  capvet_limits_default(&limits);
+  expect(memcmp(&limits, &usual, sizeof limits) == 0, "the default limits");
+  expect(usual.message_words == 8388608 && usual.charge == 8388608 && usual.depth == 64 && usual.flags == 0, "their values");
+  expect(CAPVET_FRAME_BOUND(0) == 2056 && CAPVET_FRAME_BOUND(usual.message_words) == 67110920, "the bound of a frame");
+  expect(CAPVET_MARKS_BOUND(511) == 1 && CAPVET_MARKS_BOUND(512) == 2, "the bound of marks");
+  expect(CAPVET_CANONICAL_BOUND(16) == 32792, "the bound of a canonical form");
+  expect(CAPVET_PACK_BOUND(7) == 0 && CAPVET_PACK_BOUND(16) == 20, "the bound of packed words");
+  return failures != 0;
+}
