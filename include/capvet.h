@@ -20,7 +20,7 @@
  * CALLS
  *
  *   check        capvet_vet, capvet_vet_exclusive
- *   frames       capvet_frame
+ *   frames       capvet_frame, capvet_segment_at
  *   canonical    capvet_canonical, capvet_is_canonical
  *   packing      capvet_pack, capvet_unpack
  *   other        capvet_answer_name, capvet_limits_default, capvet_version
@@ -76,7 +76,7 @@
  *      pointer comes first in preorder
  *   5. CAPVET_HAS_CAPABILITY
  *   6. CAPVET_BUFFER_TOO_SMALL
- *   7. CAPVET_NOT_CANONICAL, CAPVET_OVERLAP
+ *   7. CAPVET_NOT_CANONICAL, CAPVET_OVERLAP, CAPVET_NO_SEGMENT
  * For capvet_pack and capvet_unpack see there.
  *
  * Cost. A walk is one pass over all pointers. A step takes about 10 ns on a current machine. By default a walk
@@ -165,6 +165,7 @@ typedef enum capvet_answer {
 
   CAPVET_BAD_LIMITS = 8,       /* a limit above its maximum, an unknown flag, a reserved field not 0 */
   CAPVET_BUFFER_TOO_SMALL = 9, /* the output buffer is too small; the required size was reported */
+  CAPVET_NO_SEGMENT = 11,      /* the message has no segment of this number */
 
   CAPVET_NOT_CANONICAL = 16,
   CAPVET_HAS_CAPABILITY = 17, /* there is no canonical form; the place is the first capability's */
@@ -205,6 +206,7 @@ CAPVET_INLINE const char *capvet_answer_name(uint32_t answer) CAPVET_NOEXCEPT {
     case CAPVET_TRAILING: return "Trailing";
     case CAPVET_BAD_LIMITS: return "BadLimits";
     case CAPVET_BUFFER_TOO_SMALL: return "BufferTooSmall";
+    case CAPVET_NO_SEGMENT: return "NoSegment";
     case CAPVET_NOT_CANONICAL: return "NotCanonical";
     case CAPVET_HAS_CAPABILITY: return "HasCapability";
     case CAPVET_OVERLAP: return "Overlap";
@@ -372,6 +374,20 @@ capvet_answer capvet_frame(const uint8_t *bytes, size_t length, const capvet_lim
 
 /* The most bytes that a frame has whose segments have this many words. */
 #define CAPVET_FRAME_BOUND(message_words) ((message_words) * UINT64_C(8) + 2056)
+
+/* capvet_segment_at -- where a segment is in the frame that a buffer starts with.
+ *
+ *   index           the segment's number, from 0
+ *   offset          set to where it starts, in bytes counted from `bytes`
+ *   segment_length  set to its length in bytes
+ *
+ * Reads the table only. The size limit is CAPVET_MAX_MESSAGE_WORDS, and trailing bytes are allowed.
+ * Returns CAPVET_OK, CAPVET_NO_SEGMENT after the last segment, or what is wrong with the frame.
+ *
+ * Cost: one step for each segment, at most 512. */
+CAPVET_CALL((4, 5))
+capvet_answer capvet_segment_at(const uint8_t *bytes, size_t length, uint32_t index, size_t *offset,
+                                size_t *segment_length) CAPVET_NOEXCEPT;
 
 /* ------------------------------------------------------------------------------------------------------
  * Canonical form

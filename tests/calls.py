@@ -79,7 +79,8 @@ def wanted_symbols(archive):
     own = {line.split()[-1] for line in lines if " T " in line}
     told("what the archive wants", undefined - own <= {"memcpy", "memmove", "memset"}, str(undefined - own))
     for name in ("capvet_version", "capvet_frame", "capvet_vet", "capvet_vet_exclusive", "capvet_is_canonical",
-                 "capvet_canonical", "capvet_pack", "capvet_unpack", "capvet_limits_default", "capvet_abi_1"):
+                 "capvet_canonical", "capvet_pack", "capvet_unpack", "capvet_limits_default",
+                 "capvet_abi_1", "capvet_segment_at"):
         told(f"the archive has {name}", name in own)
 
 

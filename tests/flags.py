@@ -10,12 +10,13 @@ from pathlib import Path
 
 import model
 import strict
-from model import ANSWERS, CANONICAL, EXCLUSIVE, FIELDS, Limits
+from model import ANSWERS, CANONICAL, EXCLUSIVE, FIELDS, SEGMENT_AT, Limits
 
 MANY = 20_000
 # `required` of a call that has none, and a report's fields with the reserved ones
 REPLY = struct.Struct("<IQ6Q4I4Q")
-CALLS = ("capvet_frame", "capvet_vet", "capvet_vet_exclusive", "capvet_canonical", "capvet_is_canonical")
+CALLS = ("capvet_frame", "capvet_vet", "capvet_vet_exclusive", "capvet_canonical", "capvet_is_canonical",
+         "capvet_segment_at")
 
 
 def framed(*segments):
@@ -46,7 +47,7 @@ def requests(small, made_up, changed, chance):
     shared = framed([2 << 48, 4 | 1 << 32, 1 << 32, 7])
     for message in [*small, *known, *amplified(), cycle, shared, framed([0]), framed([]), b"", struct.pack("<II", 512, 0)]:
         for flags in range(8):
-            for call in range(5):
+            for call in range(len(CALLS)):
                 # (each one for small messages, and one of them for others)
                 more = (0, 1, 7, 8) if len(message) < 200 else (chance.choice((0, 0, 1, 7, 8)),)
                 for count in more:
@@ -54,7 +55,7 @@ def requests(small, made_up, changed, chance):
     for limits in (Limits(flags=8), Limits(flags=1 << 31), Limits(flags=15), Limits(reserved=(1, 0)), Limits(reserved=(0, 1 << 63)),
                    Limits(message_words=(1 << 28) + 1), Limits(charge=(1 << 28) + 1), Limits(depth=257),
                    Limits(message_words=1 << 28, charge=1 << 28, depth=256, flags=7)):
-        for call in range(5):
+        for call in range(len(CALLS)):
             for message in (shared, b""):
                 yield call, message, limits, 100
     few = [message for message in small if len(message) < 1000] + known
@@ -64,7 +65,9 @@ def requests(small, made_up, changed, chance):
         message += bytes(chance.choice((0, 0, 0, 0, 1, 7, 8, 24)))
         limits = Limits(chance.choice((8388608, 8388608, 8388608, 3, 60)), chance.choice((30000, 30000, 6, 40)), chance.choice((64, 64, 2, 5)),
                         chance.randrange(8))
-        call, size = chance.randrange(5), chance.choice((0, 1 << 12))
+        call, size = chance.randrange(len(CALLS)), chance.choice((0, 1 << 12))
+        if call == SEGMENT_AT:
+            size = chance.choice((0, 0, 1, 2, 3))
         if call in (EXCLUSIVE, CANONICAL) and chance.randrange(2):
             # a buffer that just suffices, or is one too small
             least = model.called(call, message, limits, 1 << 20)[1]

@@ -8,10 +8,10 @@ from trees import bits, offset
 
 ANSWERS = dict(
     OK=0, NO_MESSAGE=1, TOO_MANY_SEGMENTS=2, TOO_LARGE=3, TRUNCATED=4, TRAILING=5, BAD_LIMITS=8, BUFFER_TOO_SMALL=9,
-    NOT_CANONICAL=16, HAS_CAPABILITY=17, OVERLAP=18, NullPad=19, EmptySegment=20, CapabilityPad=22, MANY_SEGMENTS=23,
+    NO_SEGMENT=11, NOT_CANONICAL=16, HAS_CAPABILITY=17, OVERLAP=18, NullPad=19, EmptySegment=20, CapabilityPad=22, MANY_SEGMENTS=23,
     NO_ROOT=32, RESERVED=33, SEGMENT_MISSING=34, PAD_OUTSIDE=35, PAD_IS_FAR=36, PAD_NOT_FAR=37, TAG_KIND=38,
     TAG_OFFSET=39, OUT_OF_SEGMENT=40, COMPOSITE_TAG=41, COMPOSITE_OVERRUN=42, DEPTH_LIMIT=43, WORD_LIMIT=44)
-FRAME, VET, EXCLUSIVE, CANONICAL, IS_CANONICAL = range(5)
+FRAME, VET, EXCLUSIVE, CANONICAL, IS_CANONICAL, SEGMENT_AT = range(6)
 TRAILING, NONSTRICT, AMPLIFIED = 1, 2, 4
 FIELDS = ("length", "required", "detail", "charge", "pointers", "capabilities", "depth", "segments", "segment", "word")
 ELEMENT_BITS = (0, 1, 8, 16, 32, 64, 64)
@@ -270,11 +270,19 @@ def framed(data, limits):
 
 
 def called(call, data, limits, size):
-    """The answer of a call, what it sets `required` to, the fields of its report, and the bytes that it writes."""
+    """The answer of a call, what it sets `required` to, the fields of its report, and the bytes that it writes. Of a segment
+    `size` is the number, `required` is where it starts, and the report has its length."""
 
     def result(answer, count=0, out=b"", **fields):
         return ANSWERS[answer], count, tuple(fields.get(name, 0) for name in FIELDS), out
 
+    if call == SEGMENT_AT:
+        message, frame = framed(data, Limits(message_words=1 << 28))
+        if message is None:
+            return result(frame[0])
+        if size >= len(message):
+            return result("NO_SEGMENT")
+        return result("OK", frame - 8 * sum(map(len, message[size:])), length=8 * len(message[size]))
     if not limits.are_good():
         return result("BAD_LIMITS")
     message, frame = framed(data, limits)

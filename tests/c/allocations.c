@@ -76,13 +76,13 @@ static const struct {
   reporting call;
 } CALLS[] = {{"capvet_frame", capvet_frame}, {"capvet_vet", capvet_vet}, {"capvet_is_canonical", capvet_is_canonical}};
 
-enum { FRAME, VET, IS_CANONICAL, UNPACK, PACK, EXCLUSIVE, COUNT };
+enum { FRAME, VET, IS_CANONICAL, UNPACK, PACK, EXCLUSIVE, SEGMENT_AT, COUNT };
 
 /* How often each call gave each answer. */
 static unsigned long seen[COUNT][64];
 
 static void answered(int call, unsigned long before, uint32_t answer) {
-  static const char *const others[] = {"capvet_unpack", "capvet_pack", "capvet_vet_exclusive"};
+  static const char *const others[] = {"capvet_unpack", "capvet_pack", "capvet_vet_exclusive", "capvet_segment_at"};
   const char *name = call >= UNPACK ? others[call - UNPACK] : CALLS[call].name;
   expect(taken == before, name, taken - before);
   if (answer < 64) seen[call][answer]++;
@@ -131,6 +131,17 @@ static void marks(const uint8_t *bytes, size_t length) {
   }
 }
 
+/* Each of the first two segments. */
+static void segments(const uint8_t *bytes, size_t length) {
+  size_t offset, own;
+  uint32_t index;
+  for (index = 0; index < 2; index++) {
+    unsigned long before = taken;
+    uint32_t answer = capvet_segment_at(bytes, length, index, &offset, &own);
+    answered(SEGMENT_AT, before, answer);
+  }
+}
+
 typedef capvet_answer (*spelling)(const uint8_t *, size_t, uint8_t *, size_t, size_t *);
 
 /* With an output buffer of length 0, and of the length that is needed. */
@@ -153,6 +164,7 @@ static void parts(const uint8_t *bytes, size_t length) {
   for (at = 0; at <= length; at++) {
     reports(bytes, at);
     marks(bytes, at);
+    segments(bytes, at);
     spells(UNPACK, capvet_unpack, bytes, at);
     spells(PACK, capvet_pack, bytes, at);
   }
@@ -181,6 +193,8 @@ static const struct {
               {EXCLUSIVE, CAPVET_BUFFER_TOO_SMALL},
               {EXCLUSIVE, CAPVET_OVERLAP},
               {EXCLUSIVE, CAPVET_TRUNCATED},
+              {SEGMENT_AT, CAPVET_OK},
+              {SEGMENT_AT, CAPVET_NO_SEGMENT},
               {UNPACK, CAPVET_OK},
               {UNPACK, CAPVET_BUFFER_TOO_SMALL},
               {UNPACK, CAPVET_TRUNCATED},

@@ -395,10 +395,28 @@ static void marking(void) {
   }
 }
 
+/* Where the segments of a message are, of which bytes follow the frame. */
+static void places(void) {
+  size_t at = 77, size = 77, length;
+  uint8_t *whole = block(TWO, sizeof TWO, 1);
+  EXPECT(capvet_segment_at(whole + 1, sizeof TWO, 0, &at, &size) == CAPVET_OK && at == 16 && size == 8, "segment 0", at);
+  EXPECT(capvet_segment_at(whole + 1, sizeof TWO, 1, &at, &size) == CAPVET_OK && at == 24 && size == 32, "segment 1", at);
+  EXPECT(capvet_segment_at(whole + 1, sizeof TWO, 2, &at, &size) == CAPVET_NO_SEGMENT && at == 0 && size == 0,
+         "segment 2", at);
+  EXPECT(capvet_segment_at(whole + 1, sizeof TWO, UINT32_MAX, &at, &size) == CAPVET_NO_SEGMENT && at == 0 && size == 0,
+         "the last number", at);
+  for (length = 1; length < 56; length++) {
+    at = size = 77;
+    EXPECT(capvet_segment_at(whole + 1, length, 0, &at, &size) == CAPVET_TRUNCATED && at == 0 && size == 0,
+           "a segment of a front", length);
+  }
+  free(whole);
+}
+
 /* Each buffer of each call may be NULL if it is empty. */
 static void nulls(void) {
   capvet_report r;
-  size_t required;
+  size_t required, own;
   r = unwritten();
   EXPECT(capvet_frame(NULL, 0, &LIMITS, &r) == CAPVET_NO_MESSAGE && r.required == 8, "frame of NULL", r.required);
   r = unwritten();
@@ -406,6 +424,9 @@ static void nulls(void) {
   r = unwritten();
   EXPECT(capvet_is_canonical(NULL, 0, &LIMITS, &r) == CAPVET_NO_MESSAGE && r.required == 8, "is_canonical of NULL",
          r.required);
+  required = own = 77;
+  EXPECT(capvet_segment_at(NULL, 0, 0, &required, &own) == CAPVET_NO_MESSAGE && required == 0 && own == 0,
+         "segment_at of NULL", required);
   required = 77;
   EXPECT(capvet_vet_exclusive(NULL, 0, &LIMITS, NULL, 0, &required, &r) == CAPVET_NO_MESSAGE && required == 0,
          "vet_exclusive of NULL", required);
@@ -440,6 +461,7 @@ int main(void) {
   copying();
   checking();
   marking();
+  places();
   nulls();
   if (failures == 0) printf("calls: all as promised\n");
   return failures != 0;

@@ -1,9 +1,9 @@
 /* flags REQUESTS: makes the calls that a file asks for, and writes what each of them answers and reports.
  *
  * A request is the number of a call (0 capvet_frame, 1 capvet_vet, 2 capvet_vet_exclusive, 3 capvet_canonical,
- * 4 capvet_is_canonical), the size or count of its output buffer, the limits, the length of the input and the
- * input. A reply is the answer, `required` in 8 bytes, the report, and the bytes that capvet_canonical wrote.
- * The other numbers have four bytes. Each buffer is a block of its own of exactly its length, and an empty one
+ * 4 capvet_is_canonical, 5 capvet_segment_at), the size or count of its output buffer or the number of the
+ * segment, the limits, the length of the input and the input. A reply is the answer, `required` in 8 bytes, the report, and the bytes that capvet_canonical wrote.
+ * Of a segment `required` is where it starts, and the report has only its length. The other numbers have four bytes. Each buffer is a block of its own of exactly its length, and an empty one
  * is NULL. The status is 4 if a call changed anything of an output buffer that it may not. */
 #include <capvet.h>
 
@@ -11,7 +11,7 @@
 #include <stdlib.h>
 #include <string.h>
 
-enum { FRAME, VET, EXCLUSIVE, CANONICAL, IS_CANONICAL };
+enum { FRAME, VET, EXCLUSIVE, CANONICAL, IS_CANONICAL, SEGMENT_AT };
 
 /* Reads a part of a request. */
 static int take(FILE *file, void *to, size_t length) { return length == 0 || fread(to, 1, length, file) == length; }
@@ -35,7 +35,8 @@ int main(int count, char **words) {
     uint8_t *room;
     capvet_limits limits;
     capvet_report report;
-    size_t required = 77, item = head[0] == EXCLUSIVE ? 8 : 1, size = head[1] * item, written = 0;
+    size_t required = 77, item = head[0] == EXCLUSIVE ? 8 : 1, written = 0;
+    size_t size = head[0] == SEGMENT_AT ? 0 : head[1] * item, own = 77;
     uint8_t *bytes, *out = malloc(size + item);
     uint64_t told;
     uint32_t answer;
@@ -57,11 +58,16 @@ int main(int count, char **words) {
         answer = capvet_canonical(input, length, &limits, room, size, &required, &report);
         if (answer == CAPVET_OK) written = required;
         break;
+      case SEGMENT_AT:
+        answer = capvet_segment_at(input, length, head[1], &required, &own);
+        memset(&report, 0, sizeof report);
+        report.length = own;
+        break;
       default: answer = capvet_is_canonical(input, length, &limits, &report); break;
     }
     if (written > size) return 4;
     are_kept(out, written, size + item);
-    told = head[0] == EXCLUSIVE || head[0] == CANONICAL ? required : 0;
+    told = head[0] == EXCLUSIVE || head[0] == CANONICAL || head[0] == SEGMENT_AT ? required : 0;
     put(&answer, sizeof answer);
     put(&told, sizeof told);
     put(&report, sizeof report);

@@ -4,6 +4,8 @@ pub mod Bounds
 pub mod Copied
 pub mod Marked
 pub mod Packed
+pub mod SegmentPlaces
+pub mod Segments
 pub mod Texts
 pub mod Unpacked
 pub mod Wider

@@ -8,3 +8,4 @@ pub mod Calls
 pub mod CanonicalCalls
 pub mod ExclusiveCalls
 pub mod PackCalls
+pub mod SegmentCalls

@@ -26,6 +26,8 @@ pub enum Answer {
     BadLimits = 8,
     /// The output buffer is too small.
     BufferTooSmall = 9,
+    /// The message has no segment of this number.
+    NoSegment = 11,
     /// The message is accepted, and isn't its own canonical copy.
     NotCanonical = 16,
     /// The message is accepted, and has a capability, so that it has no canonical copy.

@@ -4,6 +4,7 @@ pub(crate) mod canonical;
 pub(crate) mod frame;
 pub(crate) mod is_canonical;
 pub(crate) mod pack;
+pub(crate) mod segment_at;
 pub(crate) mod unpack;
 pub(crate) mod version;
 pub(crate) mod vet;

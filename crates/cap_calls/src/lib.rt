@@ -15,6 +15,7 @@ pub use calls::canonical::canonical;
 pub use calls::frame::frame;
 pub use calls::is_canonical::is_canonical;
 pub use calls::pack::pack;
+pub use calls::segment_at::segment_at;
 pub use calls::unpack::unpack;
 pub use calls::version::version;
 pub use calls::vet::vet;

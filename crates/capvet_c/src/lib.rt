@@ -8,14 +8,15 @@ ghost use Rattle.cap_calls.specs.CallFlags.{allows_amplified, default_limits};
 ghost use Rattle.cap_calls.specs.CanonicalCalls.{TellsCopy};
 ghost use Rattle.cap_calls.specs.ExclusiveCalls.{TellsExclusive};
 ghost use Rattle.cap_calls.specs.PackCalls.{TellsPack, TellsUnpack};
+ghost use Rattle.cap_calls.specs.SegmentCalls.{AreSegmentWords, TellsSegment};
 ghost use Rattle.cap_calls.specs.declared.answer.Answer.{Answer};
 ghost use Rattle.cap_calls.specs.declared.answer.Answer.TheVariants.{Good, Overlap};
 ghost use Rattle.cap_calls.specs.declared.report.CallReport.{CallReport};
 ghost use Rattle.std.specs.Prelude.{◌*◌, ◌+◌, ◌/◌, ◌≡◌, ◌≤◌, ◌⊎◌, IsFalse, List, drop, length, ℕ};
 
 use cap_calls::{
-    CallLimits, CallReport, canonical, frame, is_canonical, pack, unpack, version, vet,
-    vet_exclusive,
+    CallLimits, CallReport, canonical, frame, is_canonical, pack, segment_at, unpack,
+    version, vet, vet_exclusive,
 };
 
 /// Returns the version of the library: 65536 times its major number, 256 times its minor number,
@@ -59,6 +60,29 @@ pub extern "C" fn capvet_frame(bytes: &[u8], limits: &CallLimits, report: &mut C
     ensures whole { report.new.length ≤ frame_bound limits.now.message_words }
 {
     frame(bytes, limits, report).number()
+}
+
+/// Reports where segment `index` of the frame that `bytes` start with is: its words start `offset`
+/// bytes after the first byte, and are `segment_length` bytes. Reads only the table.
+/// `CAPVET_NO_SEGMENT`: the message has no such segment. Without `CAPVET_OK` both numbers are 0.
+/// The result is the number of what [`segment_at`] returns. Allocates nothing.
+#[unsafe(no_mangle)]
+pub extern "C" fn capvet_segment_at(
+    bytes: &[u8],
+    index: u32,
+    offset: &mut usize,
+    segment_length: &mut usize,
+) -> u32
+    ensures tells { (a : Answer)
+        × TellsSegment bytes.now index a offset.new segment_length.new
+        × (result ≡ number_of a) }
+    // The bytes allow no other result.
+    ensures only { (a : Answer) (start size : ℕ) → TellsSegment bytes.now index a start size →
+        (result ≡ number_of a) × (offset.new ≡ start) × (segment_length.new ≡ size) }
+    // The words of the segment are the bytes there.
+    ensures words { AreSegmentWords bytes.now index offset.new segment_length.new }
+{
+    segment_at(bytes, index, offset, segment_length).number()
 }
 
 /// Vets the message that `bytes` are. `CAPVET_OK`: its root denotes a finite tree that is inside
