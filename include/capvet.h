@@ -240,10 +240,21 @@ CAPVET_INLINE const char *capvet_answer_name(uint32_t answer) CAPVET_NOEXCEPT {
 #define CAPVET_MAX_DEPTH 256
 #define CAPVET_MAX_SEGMENTS 512
 
-/* Flags. Each allows something that is refused without it, so 0 is the strictest value. */
+/* Flags. Each of the first three allows something that is refused without it, so 0 is the strictest value. */
 #define CAPVET_ALLOW_TRAILING 0x1u  /* trailing bytes may follow the message: for a buffer of messages */
 #define CAPVET_ALLOW_NONSTRICT 0x2u /* the message need not be strict */
 #define CAPVET_ALLOW_AMPLIFIED 0x4u /* the charge may be above the words of the segments + CAPVET_SLACK */
+#define CAPVET_NO_TABLE 0x8u        /* the input is the words of one segment: no table, nothing after them */
+
+/* CAPVET_NO_TABLE is for what was stored without a table, such as the result of capvet_canonical. It works in
+ * capvet_vet, capvet_vet_exclusive, capvet_canonical and capvet_is_canonical. report->length is then the
+ * length of the input, and report->segments is 1. In place of the answers about the frame:
+ *
+ *   - CAPVET_NO_MESSAGE: the input is empty
+ *   - CAPVET_TOO_LARGE: it has more than limits->message_words words, where a part of a word counts as one
+ *   - CAPVET_TRUNCATED: its length is no multiple of 8; report->required is the next multiple
+ *
+ * CAPVET_BAD_LIMITS: it is set in another call, or together with CAPVET_ALLOW_TRAILING. */
 
 /* How many words the charge may be above the words of the segments, unless CAPVET_ALLOW_AMPLIFIED is set. */
 #define CAPVET_SLACK 4096
@@ -251,7 +262,7 @@ CAPVET_INLINE const char *capvet_answer_name(uint32_t answer) CAPVET_NOEXCEPT {
 /* What a call accepts. All zero is valid, and refuses nearly everything. Begin with CAPVET_LIMITS_INIT and
  * change fields.
  *
- * A higher limit or an additional flag never refuses more. A value above its maximum, a flag that the library
+ * A higher limit or an additional CAPVET_ALLOW_ flag never refuses more. A value above its maximum, a flag that the library
  * does not know, or a reserved field that is not 0 gives CAPVET_BAD_LIMITS, in every call with limits. */
 typedef struct capvet_limits {
   uint64_t message_words; /* most words in all segments: at most CAPVET_MAX_MESSAGE_WORDS */
@@ -302,7 +313,8 @@ typedef struct capvet_report {
 
 /* capvet_vet -- checks one message.
  *
- *   bytes, length  the message; with CAPVET_ALLOW_TRAILING, a buffer that starts with it
+ *   bytes, length  the message; with CAPVET_ALLOW_TRAILING, a buffer that starts with it; with
+ *                  CAPVET_NO_TABLE, its words
  *   limits         what to accept
  *   report         filled in
  *
@@ -356,7 +368,7 @@ capvet_answer capvet_vet_exclusive(const uint8_t *bytes, size_t length, const ca
 /* capvet_frame -- the length of the frame that a buffer starts with.
  *
  *   bytes, length  what has been received so far; trailing bytes are always allowed
- *   limits         only `message_words` has an effect
+ *   limits         only `message_words` has an effect; CAPVET_NO_TABLE gives CAPVET_BAD_LIMITS
  *   report         on CAPVET_OK, `length` and `segments`
  *
  * Reads the table only, and checks no pointer. Returns CAPVET_OK if the whole frame is there.
@@ -423,8 +435,8 @@ capvet_answer capvet_canonical(const uint8_t *bytes, size_t length, const capvet
  * CAPVET_NOT_CANONICAL otherwise, also if it has a capability. Other answers: it is not accepted. Trailing
  * bytes give CAPVET_TRAILING even with CAPVET_ALLOW_TRAILING, so what is hashed cannot be extended unnoticed.
  *
- * For a message that capvet_canonical wrote, set CAPVET_ALLOW_AMPLIFIED: structs whose fields are all
- * default lose their words and are still charged. With the same limits it then gives CAPVET_OK.
+ * For bytes that capvet_canonical wrote, set CAPVET_NO_TABLE | CAPVET_ALLOW_AMPLIFIED: structs whose fields
+ * are all default lose their words and are still charged. With the same limits they then give CAPVET_OK.
  *
  * Cost: two walks. */
 CAPVET_CALL((3, 4))

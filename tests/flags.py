@@ -10,7 +10,7 @@ from pathlib import Path
 
 import model
 import strict
-from model import ANSWERS, CANONICAL, EXCLUSIVE, FIELDS, SEGMENT_AT, Limits
+from model import ANSWERS, CANONICAL, EXCLUSIVE, FIELDS, NO_TABLE, SEGMENT_AT, Limits
 
 MANY = 20_000
 # `required` of a call that has none, and a report's fields with the reserved ones
@@ -23,6 +23,11 @@ def framed(*segments):
     sizes = [len(segments) - 1, *map(len, segments)]
     sizes += [0] * (len(sizes) % 2)
     return struct.pack(f"<{len(sizes)}I", *sizes) + b"".join(struct.pack(f"<{len(it)}Q", *it) for it in segments)
+
+
+def words_of(message):
+    """The bytes after the table."""
+    return message[8 * ((struct.unpack_from("<I", message)[0] + 1) // 2 + 1):] if len(message) >= 8 else message
 
 
 def amplified():
@@ -46,13 +51,16 @@ def requests(small, made_up, changed, chance):
     cycle = framed([0x00010000FFFFFFFC])
     shared = framed([2 << 48, 4 | 1 << 32, 1 << 32, 7])
     for message in [*small, *known, *amplified(), cycle, shared, framed([0]), framed([]), b"", struct.pack("<II", 512, 0)]:
-        for flags in range(8):
+        for flags in range(16):
             for call in range(len(CALLS)):
+                if flags & NO_TABLE:
+                    # (what is after the table; below the table is part of the words)
+                    yield call, words_of(message), Limits(flags=flags), chance.choice((0, 1, 1 << 16))
                 # (each one for small messages, and one of them for others)
                 more = (0, 1, 7, 8) if len(message) < 200 else (chance.choice((0, 0, 1, 7, 8)),)
                 for count in more:
                     yield call, message + bytes(count), Limits(flags=flags), chance.choice((0, 1, 1 << 16))
-    for limits in (Limits(flags=8), Limits(flags=1 << 31), Limits(flags=15), Limits(reserved=(1, 0)), Limits(reserved=(0, 1 << 63)),
+    for limits in (Limits(flags=16), Limits(flags=1 << 31), Limits(flags=31), Limits(flags=24), Limits(reserved=(1, 0)), Limits(reserved=(0, 1 << 63)),
                    Limits(message_words=(1 << 28) + 1), Limits(charge=(1 << 28) + 1), Limits(depth=257),
                    Limits(message_words=1 << 28, charge=1 << 28, depth=256, flags=7)):
         for call in range(len(CALLS)):
@@ -64,7 +72,9 @@ def requests(small, made_up, changed, chance):
         message = message[:chance.randrange(len(message) + 1)] if chance.randrange(16) == 0 else message
         message += bytes(chance.choice((0, 0, 0, 0, 1, 7, 8, 24)))
         limits = Limits(chance.choice((8388608, 8388608, 8388608, 3, 60)), chance.choice((30000, 30000, 6, 40)), chance.choice((64, 64, 2, 5)),
-                        chance.randrange(8))
+                        chance.choice((*range(8), 8, 10, 12, 14, 8, 14, 15)))
+        if limits.flags & NO_TABLE and chance.randrange(4):
+            message = words_of(message)
         call, size = chance.randrange(len(CALLS)), chance.choice((0, 1 << 12))
         if call == SEGMENT_AT:
             size = chance.choice((0, 0, 1, 2, 3))

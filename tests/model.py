@@ -12,7 +12,7 @@ ANSWERS = dict(
     NO_ROOT=32, RESERVED=33, SEGMENT_MISSING=34, PAD_OUTSIDE=35, PAD_IS_FAR=36, PAD_NOT_FAR=37, TAG_KIND=38,
     TAG_OFFSET=39, OUT_OF_SEGMENT=40, COMPOSITE_TAG=41, COMPOSITE_OVERRUN=42, DEPTH_LIMIT=43, WORD_LIMIT=44)
 FRAME, VET, EXCLUSIVE, CANONICAL, IS_CANONICAL, SEGMENT_AT = range(6)
-TRAILING, NONSTRICT, AMPLIFIED = 1, 2, 4
+TRAILING, NONSTRICT, AMPLIFIED, NO_TABLE = 1, 2, 4, 8
 FIELDS = ("length", "required", "detail", "charge", "pointers", "capabilities", "depth", "segments", "segment", "word")
 ELEMENT_BITS = (0, 1, 8, 16, 32, 64, 64)
 
@@ -28,8 +28,10 @@ class Limits:
     def packed(self):
         return struct.pack("<QQII2Q", self.message_words, self.charge, self.depth, self.flags, *self.reserved)
 
-    def are_good(self):
-        return (self.message_words <= 1 << 28 and self.charge <= 1 << 28 and self.depth <= 256 and self.flags <= 7
+    def are_good(self, call):
+        known = self.flags <= 7 or (call != FRAME and self.flags in (NO_TABLE, NO_TABLE | NONSTRICT, NO_TABLE | AMPLIFIED,
+                                                                    NO_TABLE | NONSTRICT | AMPLIFIED))
+        return (self.message_words <= 1 << 28 and self.charge <= 1 << 28 and self.depth <= 256 and known
                 and self.reserved == (0, 0))
 
 
@@ -269,6 +271,18 @@ def framed(data, limits):
     return message, frame
 
 
+def of_words(data, limits):
+    """The one segment whose words the bytes are, and their length. Otherwise the answer with its fields."""
+    words = (len(data) + 7) // 8
+    if not data:
+        return None, ("NO_MESSAGE", dict(required=8))
+    if words > limits.message_words:
+        return None, ("TOO_LARGE", dict(detail=words))
+    if len(data) % 8:
+        return None, ("TRUNCATED", dict(required=8 * words))
+    return [struct.unpack(f"<{words}Q", data)], len(data)
+
+
 def called(call, data, limits, size):
     """The answer of a call, what it sets `required` to, the fields of its report, and the bytes that it writes. Of a segment
     `size` is the number, `required` is where it starts, and the report has its length."""
@@ -283,9 +297,9 @@ def called(call, data, limits, size):
         if size >= len(message):
             return result("NO_SEGMENT")
         return result("OK", frame - 8 * sum(map(len, message[size:])), length=8 * len(message[size]))
-    if not limits.are_good():
+    if not limits.are_good(call):
         return result("BAD_LIMITS")
-    message, frame = framed(data, limits)
+    message, frame = (of_words if limits.flags & NO_TABLE else framed)(data, limits)
     if message is None:
         answer, fields = frame
         return result(answer, **fields)

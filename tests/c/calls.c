@@ -127,9 +127,9 @@ static void faults(void) {
   l.charge++;
   answers(TWO, sizeof TWO, l, CAPVET_BAD_LIMITS, 0, 0);
   l.charge--;
-  l.flags++;
+  l.flags += 16;
   answers(TWO, sizeof TWO, l, CAPVET_BAD_LIMITS, 0, 0);
-  l.flags--;
+  l.flags -= 16;
   l.reserved[1] = 1;
   answers(TWO, sizeof TWO, l, CAPVET_BAD_LIMITS, 0, 0);
   l.reserved[1] = 0;
@@ -413,6 +413,30 @@ static void places(void) {
   free(whole);
 }
 
+/* The words of one segment, without a table before them. */
+static void words(void) {
+  capvet_limits l = WHOLE;
+  capvet_report r = unwritten();
+  uint8_t *whole = block(COPIED, sizeof COPIED, 1);
+  size_t required = 77;
+  l.flags = CAPVET_NO_TABLE;
+  EXPECT(capvet_vet(whole + 1, 32, &l, &r) == CAPVET_OK && r.length == 32 && r.segments == 1, "vet of words", r.length);
+  EXPECT(capvet_is_canonical(whole + 1, 32, &l, &r) == CAPVET_OK && r.charge == 3, "is_canonical of words", r.charge);
+  EXPECT(capvet_vet_exclusive(whole + 1, 32, &l, NULL, 0, &required, &r) == CAPVET_BUFFER_TOO_SMALL && required == 1,
+         "vet_exclusive of words", required);
+  EXPECT(capvet_canonical(whole + 1, 32, &l, NULL, 0, &required, &r) == CAPVET_BUFFER_TOO_SMALL && required == 32,
+         "canonical of words", required);
+  EXPECT(capvet_vet(whole + 1, 31, &l, &r) == CAPVET_TRUNCATED && r.required == 32, "a part of a word", r.required);
+  l.message_words = 3;
+  EXPECT(capvet_vet(whole + 1, 25, &l, &r) == CAPVET_TOO_LARGE && r.detail == 4, "too many words", r.detail);
+  EXPECT(capvet_vet(whole + 1, 23, &l, &r) == CAPVET_TRUNCATED && r.required == 24, "words up to the limit", r.required);
+  EXPECT(capvet_vet(NULL, 0, &l, &r) == CAPVET_NO_MESSAGE, "no words", r.required);
+  EXPECT(capvet_frame(whole + 1, 32, &l, &r) == CAPVET_BAD_LIMITS, "a frame without a table", r.length);
+  l.flags |= CAPVET_ALLOW_TRAILING;
+  EXPECT(capvet_vet(whole + 1, 32, &l, &r) == CAPVET_BAD_LIMITS, "trailing words", r.length);
+  free(whole);
+}
+
 /* Each buffer of each call may be NULL if it is empty. */
 static void nulls(void) {
   capvet_report r;
@@ -462,6 +486,7 @@ int main(void) {
   checking();
   marking();
   places();
+  words();
   nulls();
   if (failures == 0) printf("calls: all as promised\n");
   return failures != 0;

@@ -6,6 +6,9 @@
  * lines canon FILE: the canonical copies of the messages, each after its table, up to the first message that
  * is refused or has a capability. Each is written into a block that ends with it.
  *
+ * Of a message of one segment, the calls have to report the same of its words alone, by CAPVET_NO_TABLE, apart
+ * from their length. A canonical copy has to be canonical without a table. Otherwise the status is 5.
+ *
  * lines unpack FILE: the words of a packed text, or the program's line where it is cut. They are written
  * into a block that ends with them. */
 #include <capvet.h>
@@ -84,6 +87,7 @@ static int copy(unsigned long n, const uint8_t *bytes, size_t length, const capv
                 capvet_report *report) {
   uint8_t table[8] = {0}, *out;
   size_t needed = 77, written = 77, k;
+  capvet_limits of_words = *limits;
   capvet_report again;
   uint32_t answer = capvet_canonical(bytes, length, limits, NULL, 0, &needed, report);
   if (answer != CAPVET_BUFFER_TOO_SMALL) {
@@ -102,6 +106,8 @@ static int copy(unsigned long n, const uint8_t *bytes, size_t length, const capv
   if (out == NULL) return 3;
   if (capvet_canonical(bytes, length, limits, out + 1, needed, &written, &again) != CAPVET_OK) return 4;
   if (written != needed || memcmp(report, &again, sizeof again) != 0) return 4;
+  of_words.flags |= CAPVET_NO_TABLE | CAPVET_ALLOW_AMPLIFIED;
+  if (capvet_is_canonical(out + 1, written, &of_words, &again) != CAPVET_OK) return 5;
   for (k = 0; k < 4; k++) table[4 + k] = (uint8_t)(written / 8 >> (8 * k));
   if (fwrite(table, 1, 8, stdout) != 8 || fwrite(out + 1, 1, written, stdout) != written) return 3;
   free(out);
@@ -150,6 +156,26 @@ static uint32_t exclusive(const uint8_t *bytes, size_t length, const capvet_limi
   return answer;
 }
 
+/* Stops unless the answer and the report are those of the words of a segment, without a table before them. */
+static void without_table(int check, int twice, const uint8_t *frame, const capvet_limits *limits, uint32_t answer,
+                          const capvet_report *report) {
+  capvet_limits of_words = *limits;
+  capvet_report again;
+  size_t length = (size_t)report->length - 8;
+  uint8_t *words = malloc(length + 1);
+  uint32_t got;
+  if (words == NULL) exit(3);
+  of_words.flags |= CAPVET_NO_TABLE;
+  memcpy(words + 1, frame + 8, length);
+  memset(&again, 0xa5, sizeof again);
+  got = check ? capvet_is_canonical(words + 1, length, &of_words, &again)
+        : twice ? exclusive(words + 1, length, &of_words, &again)
+              : capvet_vet(words + 1, length, &of_words, &again);
+  again.length += 8;
+  if (got != answer || memcmp(&again, report, sizeof again) != 0) exit(5);
+  free(words);
+}
+
 int main(int count, char **words) {
   capvet_limits limits = CAPVET_LIMITS_INIT;
   size_t length = 0, at = 0;
@@ -186,6 +212,7 @@ int main(int count, char **words) {
       answer = check ? capvet_is_canonical(block + 1, size, &limits, &report)
                : twice ? exclusive(block + 1, size, &limits, &report)
                      : capvet_vet(block + 1, size, &limits, &report);
+      if (report.segments == 1 && report.length > 8) without_table(check, twice, block + 1, &limits, answer, &report);
     }
     free(block);
     if (status > 1) return status;

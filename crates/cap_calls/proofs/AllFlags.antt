@@ -1,27 +1,25 @@
 -- With all three flags nothing but acceptance is demanded.
 use Rattle.std.proofs.Common.{ℕ, List, ◌≡◌, ◌∙◌, ap, arith, inl, inr, refl, subst, sym}
-use Rattle.std.specs.Prelude.{◌≤◌, ◌⊎◌, Bool, true, false, not, ⊤}
+use Rattle.std.specs.Prelude.{Bool, false, not}
 use Rattle.std.proofs.lemmas.Bool.{false≢true}
 use Rattle.cap_spec.specs.Faults.{IsRefused}
-use Rattle.cap_spec.specs.Strict.{IsStrict, IsWithin}
 use Rattle.cap_spec.specs.declared.Refusal.{Refusal}
 use Rattle.cap_spec.specs.declared.StrictRefusal.{StrictRefusal}
 use Rattle.cap_spec.specs.declared.StrictRefusal.TheVariants as strict
-use Rattle.cap_vet.specs.Demands.{IsDemandFault, Meets, words_under}
+use Rattle.cap_vet.specs.Demands.{IsDemandFault, Meets}
 use Rattle.cap_vet.specs.Reports.{IsAccepted}
 use Rattle.cap_vet.specs.Taken.{marks_of}
 use Rattle.cap_vet.specs.declared.demands.Demands.{Demands}
-use Rattle.cap_vet.specs.declared.exclusive_room.ExclusiveFault.{ExclusiveFault}
 use Rattle.cap_vet.specs.declared.exclusive_room.ExclusiveFault.TheVariants as fault
 use Rattle.cap_vet.specs.declared.report.Report.{Report}
-use Rattle.cap_vet.proofs.OneReport.{one_report}
-use Rattle.cap_calls.specs.CallFindings.{Judges, JudgesAny, Tells, TellsWhole, accepted, accepted_found, framed}
+use Rattle.cap_calls.specs.CallFindings.{Judges, JudgesAny, Tells, TellsWhole, accepted, framed}
 use Rattle.cap_calls.specs.CallFindings.{refused, refused_found, tells, trailing, without}
-use Rattle.cap_calls.specs.CallFlags.{allows_trailing, demands_of}
-use Rattle.cap_calls.specs.ExclusiveCalls.{IsMarked, Marks, MarksAny, exclusive, fault_found, overlap, too_small}
-use Rattle.cap_calls.specs.declared.answer.Answer.TheVariants as answer
+use Rattle.cap_calls.specs.CallFlags.{allows_trailing, demands_of, has_no_table}
+use Rattle.cap_calls.specs.CallInputs.{TellsInput, of_frame, of_no_words, of_words}
+use Rattle.cap_calls.specs.ExclusiveCalls.{Marks, MarksAny, exclusive, overlap, too_small}
 use Rattle.cap_calls.specs.declared.found.Found.{Found}
 use Rattle.cap_calls.specs.declared.limits.CallLimits.{CallLimits}
+use Rattle.cap_calls.proofs.Words.{one_input}
 
 -- no demand
 abbrev none : Demands
@@ -30,6 +28,16 @@ none = record { strict = false; unamplified = false }
 -- what the flags come to
 pub demands_none : (l : CallLimits) → l.flags ≡ 7 → demands_of l ≡ none
 demands_none l e = rw e refl
+
+pub table_given : (l : CallLimits) → l.flags ≡ 7 → has_no_table l ≡ false
+table_given l e = rw e refl
+
+-- then the input is a frame
+pub framed_input : {K : Type 0} {P : List (List ℕ) → ℕ → ℕ → Found → Type 0} (whole : Bool) (l : CallLimits)
+    (bs : List ℕ) (f : Found) → has_no_table l ≡ false → TellsInput whole K P l bs f → TellsWhole whole K P l bs f
+framed_input whole l bs f off (of_frame n t) = t
+framed_input whole l bs f off (of_no_words y c h e k) = one_input l off y
+framed_input whole l bs f off (of_words y g h p e) = one_input l off y
 
 pub trailing_allowed : (l : CallLimits) → l.flags ≡ 7 → not (allows_trailing l) ≡ false
 trailing_allowed l e = rw e refl

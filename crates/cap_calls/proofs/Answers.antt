@@ -1,5 +1,5 @@
 -- The bytes decide what each call finds.
-use Rattle.std.proofs.Common.{ℕ, ap₂, List, [], ◌≡◌, ◌∙◌, ◌<◌, ◌≤◌, ◌+◌, ◌*◌, ap, sym, subst, refl, length, Option}
+use Rattle.std.proofs.Common.{ℕ, ap₂, List, [], ◌∷◌, ◌≡◌, ◌∙◌, ◌<◌, ◌≤◌, ◌+◌, ◌*◌, ap, sym, subst, refl, length, Option}
 use Rattle.std.proofs.Common.{None, Result, Ok, Err}
 use Rattle.std.specs.Prelude.{◌-◌, Bool, ⊤, not, true}
 use Rattle.cap_spec.proofs.Frames.Framing.{one_frame}
@@ -24,13 +24,15 @@ use Rattle.cap_calls.specs.CallFindings.{Judges, Returns, Tells, TellsWhole, acc
 use Rattle.cap_calls.specs.CallFindings.{none_found, refused, refused_found, tells, trailing, trailing_found, without}
 use Rattle.cap_calls.specs.CallFlags.{allows_trailing, demands_of}
 use Rattle.cap_calls.specs.CallFrames.{HasFrame, HasNoFrame}
-use Rattle.cap_calls.specs.Calls.{IsCheck, TellsCheck, TellsFrame, TellsMessage, TellsVet, canonical, not_canonical}
+use Rattle.cap_calls.specs.CallInputs.{TellsInput, of_frame, of_no_words, of_words}
+use Rattle.cap_calls.specs.Calls.{IsCheck, TellsCheck, TellsFrame, TellsVet, canonical, not_canonical}
 use Rattle.cap_calls.specs.declared.answer.Answer.{Answer}
 use Rattle.cap_calls.specs.declared.found.Found.{Found}
 use Rattle.cap_calls.specs.declared.front.NoFrame.{NoFrame}
 use Rattle.cap_calls.specs.declared.front.NoFrame.TheVariants.{BadLimits, NoMessage, Fault}
 use Rattle.cap_calls.specs.declared.limits.CallLimits.{CallLimits}
 use Rattle.cap_calls.specs.declared.report.CallReport.{CallReport}
+use Rattle.cap_calls.proofs.Words.{no_word_cause, one_input, one_word_cause}
 
 -- an answer without a frame
 abbrev Without-fault : FrontFault → Result (Option Framed) FrontFault
@@ -102,11 +104,19 @@ tells_less whole l bs f k p (tells none (without c h e x)) = tells none (without
 tells_less whole l bs f k p (tells none (framed m x y g h i e)) = tells none
     (framed m x y g h (p m l.charge l.depth g i) e)
 
+pub input_less : {K L : Type 0} {P Q : List (List ℕ) → ℕ → ℕ → Found → Type 0} (whole : Bool) (l : CallLimits)
+    (bs : List ℕ) (f : Found)
+    → (K → L) → ((m : List (List ℕ)) (w d : ℕ) (g : Found) → P m w d g → Q m w d g) → TellsInput whole K P l bs f
+    → TellsInput whole L Q l bs f
+input_less whole l bs f k p (of_frame n t) = of_frame n (tells_less whole l bs f k p t)
+input_less whole l bs f k p (of_no_words y c h e x) = of_no_words y c h e (k x)
+input_less whole l bs f k p (of_words y g h i e) = of_words y g h (p (plain_words bs ∷ []) l.charge l.depth g i) e
+
 -- What the flag allows is what the call asked for.
 pub by_flag : {K : Type 0} {P : List (List ℕ) → ℕ → ℕ → Found → Type 0} (l : CallLimits) (bs : List ℕ) (f : Found)
     (w : Bool)
-    → w ≡ allows_trailing l → TellsWhole (not w) K P l bs f → TellsMessage K P l bs f
-by_flag {K} {P} l bs f w e t = subst (λ (z : Bool). TellsWhole (not z) K P l bs f) e t
+    → w ≡ allows_trailing l → TellsInput (not w) K P l bs f → TellsInput (not (allows_trailing l)) K P l bs f
+by_flag {K} {P} l bs f w e t = subst (λ (z : Bool). TellsInput (not z) K P l bs f) e t
 
 -- There is one thing to be found, if there is one of each message.
 pub one_told : {K L S : Type 0} {P Q : List (List ℕ) → ℕ → ℕ → Found → Type 0} (l : CallLimits) (bs : List ℕ)
@@ -136,6 +146,23 @@ one_whole_told whole l bs f g both same (trailing m a b t h more e x) (trailing 
     let one = one_extent l bs a c b d m n h k in
     let known : ℕ → ℕ → Found = λ (j s : ℕ). framed_found j s (trailing_found (length bs - j)) in
     (e ∙ (ap₂ known one.0 one.1 ∙ sym i), both x y)
+
+-- So there is of a call's input.
+pub one_input_told : {K L S : Type 0} {P Q : List (List ℕ) → ℕ → ℕ → Found → Type 0} (whole : Bool) (l : CallLimits)
+    (bs : List ℕ) (f g : Found)
+    → (K → L → S) → ((m : List (List ℕ)) (h k : Found) → P m l.charge l.depth h → Q m l.charge l.depth k → (h ≡ k) × S)
+    → TellsInput whole K P l bs f → TellsInput whole L Q l bs g → (f ≡ g) × S
+one_input_told whole l bs f g both same (of_frame n t) (of_frame o u) = one_whole_told whole l bs f g both same t u
+one_input_told whole l bs f g both same (of_frame n t) (of_no_words y d k i j) = one_input l n y
+one_input_told whole l bs f g both same (of_frame n t) (of_words y v k q i) = one_input l n y
+one_input_told whole l bs f g both same (of_no_words y c h e x) (of_frame n t) = one_input l n y
+one_input_told whole l bs f g both same (of_words y u h p e) (of_frame n t) = one_input l n y
+one_input_told whole l bs f g both same (of_no_words y c h e x) (of_no_words z d k i j) =
+    (e ∙ (ap none_found (one_word_cause l bs c d h k) ∙ sym i), both x j)
+one_input_told whole l bs f g both same (of_no_words y c h e x) (of_words z v k q i) = absurd (no_word_cause l bs c h k)
+one_input_told whole l bs f g both same (of_words y u h p e) (of_no_words z d k i j) = absurd (no_word_cause l bs d k h)
+one_input_told whole l bs f g both same (of_words y u h p e) (of_words z v k q i) =
+    let s = same (plain_words bs ∷ []) u v p q in (e ∙ (ap (framed_found (length bs) 1) s.0 ∙ sym i), s.1)
 
 -- A message has one fault under demands.
 as_strict_fault : (demands : Demands) (m : List (List ℕ)) (w d : ℕ) (r : StrictRefusal) → IsDemandFault demands m w d r
@@ -189,11 +216,11 @@ one_frame_told l bs a b r q (f, t, h) (g, u, k) =
 one_message_told : {P : List (List ℕ) → Report → Found → Type 0} (whole : Bool) (l : CallLimits) (bs : List ℕ)
     (a b : Answer) (r q : CallReport)
     → ((m : List (List ℕ)) (z : Report) (x y : Found) → P m z x → P m z y → x ≡ y)
-    → (f : Found) × TellsWhole whole ⊤ (Judges (demands_of l) ⊤ P) l bs f × Returns f a r
-    → (g : Found) × TellsWhole whole ⊤ (Judges (demands_of l) ⊤ P) l bs g × Returns g b q → (a ≡ b) × (r ≡ q)
+    → (f : Found) × TellsInput whole ⊤ (Judges (demands_of l) ⊤ P) l bs f × Returns f a r
+    → (g : Found) × TellsInput whole ⊤ (Judges (demands_of l) ⊤ P) l bs g × Returns g b q → (a ≡ b) × (r ≡ q)
 one_message_told whole l bs a b r q one (f, t, h) (g, u, k) =
     one_returned f g a b r q
-    (one_whole_told {S = ⊤} whole l bs f g (λ _ _. tt)
+    (one_input_told {S = ⊤} whole l bs f g (λ _ _. tt)
     (λ m x y p s. one_judged {S = ⊤} (demands_of l) m l.charge l.depth x y (λ _ _. tt)
     (λ z _ e i. (one m z x y e i, tt)) p s) t u).0 h k
 

@@ -1,5 +1,5 @@
 -- The bounds of the header suffice.
-use Rattle.std.proofs.Common.{ℕ, List, ◌≡◌, ◌∙◌, ◌<◌, ◌≤◌, ap, arith, length, length-append}
+use Rattle.std.proofs.Common.{ℕ, List, ◌≡◌, ◌∙◌, ◌≤◌, ap, arith, length, length-append}
 use Rattle.std.specs.Prelude.{Bool, ⊤}
 use Rattle.cap_frame.specs.Fronts.{IsFront}
 use Rattle.cap_frame.specs.declared.fault.FrontFault.TheVariants.{TooManySegments, TooLarge, Truncated}
@@ -10,6 +10,7 @@ use Rattle.cap_spec.proofs.Frames.Framing.{table_length}
 use Rattle.cap_calls.specs.CallBounds.{frame_bound}
 use Rattle.cap_calls.specs.CallFindings.{Tells, TellsWhole, framed, tells, trailing, without}
 use Rattle.cap_calls.specs.CallFrames.{HasNoFrame}
+use Rattle.cap_calls.specs.CallInputs.{TellsInput, of_frame, of_no_words, of_words}
 use Rattle.cap_calls.specs.CallReports.{cause_required}
 use Rattle.cap_calls.specs.Calls.{Frames}
 use Rattle.cap_calls.specs.declared.found.Found.{Found}
@@ -52,7 +53,7 @@ frame_told l bs f (framed m x y g h p e) =
     (omega (arith, same, none), omega (arith, long, frame_short l.message_words bs m x h.front))
 
 -- The frame that is reported is in the bytes.
-pub length_inside : {K : Type 0} {P : List (List ℕ) → ℕ → ℕ → Found → Type 0} (whole : Bool) (l : CallLimits)
+length_inside : {K : Type 0} {P : List (List ℕ) → ℕ → ℕ → Found → Type 0} (whole : Bool) (l : CallLimits)
     (bs : List ℕ) (f : Found) → TellsWhole whole K P l bs f → f.report.length ≤ length bs
 length_inside whole l bs f (trailing m x y t h more e k) =
     let long : f.report.length ≡ x = ap (λ (z : Found). z.report.length) e in omega (arith, long, more)
@@ -61,3 +62,11 @@ length_inside whole l bs f (tells only (without c h e k)) =
 length_inside whole l bs f (tells only (framed m x y g h p e)) =
     let long : f.report.length ≡ x = ap (λ (z : Found). z.report.length) e in
     omega (arith, long, frame_inside l.message_words bs m x h.front)
+
+pub input_inside : {K : Type 0} {P : List (List ℕ) → ℕ → ℕ → Found → Type 0} (whole : Bool) (l : CallLimits)
+    (bs : List ℕ) (f : Found) → TellsInput whole K P l bs f → f.report.length ≤ length bs
+input_inside whole l bs f (of_frame n t) = length_inside whole l bs f t
+input_inside whole l bs f (of_no_words y c h e k) =
+    let none : f.report.length ≡ 0 = ap (λ (z : Found). z.report.length) e in omega (arith, none)
+input_inside whole l bs f (of_words y g h p e) =
+    let long : f.report.length ≡ length bs = ap (λ (z : Found). z.report.length) e in omega (arith, long)

@@ -1,5 +1,5 @@
 -- The bytes and the buffer decide what the call for a canonical copy finds and writes.
-use Rattle.std.proofs.Common.{ℕ, List, ◌≡◌, ◌∙◌, ◌≤◌, ◌+◌, ◌*◌, ap, ap₂, subst, sym, length, length-append, sum, arith}
+use Rattle.std.proofs.Common.{ℕ, List, [], ◌∷◌, ◌≡◌, ◌∙◌, ◌≤◌, ◌+◌, ◌*◌, ap, ap₂, subst, sym, length, length-append, sum, arith}
 use Rattle.std.specs.Prelude.{Bool, true, false, not, if◌then◌else◌, Option, None, Some, Result, unwrap_or}
 use Rattle.cap_spec.specs.Frames.{joined, sizes_of}
 use Rattle.cap_spec.specs.Unamplified.{unamplified}
@@ -7,7 +7,7 @@ use Rattle.cap_spec.proofs.Frames.Endings.{length_joined}
 use Rattle.cap_spec.proofs.Strict.Unamplified.{within_both}
 use Rattle.cap_vet.specs.declared.demands.Demands.{Demands}
 use Rattle.cap_spec.specs.Paths.{IsFirstCap}
-use Rattle.cap_spec.specs.Plain.{plain_text}
+use Rattle.cap_spec.specs.Plain.{plain_text, plain_words}
 use Rattle.cap_spec.proofs.Bytes.Plain.{length_plain}
 use Rattle.cap_spec.proofs.Canonical.Copies.{one_copy}
 use Rattle.cap_canon.proofs.Copies.{cap_no_copy, copy_charged}
@@ -21,14 +21,16 @@ use Rattle.cap_calls.specs.CallFindings.{TellsWhole, accepted, accepted_found, f
 use Rattle.cap_calls.specs.CallFindings.{without}
 use Rattle.cap_calls.specs.CallFlags.{allows_amplified, allows_trailing, demands_of}
 use Rattle.cap_calls.specs.CallFrames.{HasFrame}
+use Rattle.cap_calls.specs.CallInputs.{TellsInput, of_frame, of_no_words, of_words}
 use Rattle.cap_calls.specs.PackCalls.{TellsText, too_small, written}
 use Rattle.cap_calls.specs.declared.answer.Answer.{Answer}
 use Rattle.cap_calls.specs.declared.answer.Answer.TheVariants as answer
 use Rattle.cap_calls.specs.declared.found.Found.{Found}
 use Rattle.cap_calls.specs.declared.limits.CallLimits.{CallLimits}
 use Rattle.cap_calls.specs.declared.report.CallReport.{CallReport}
-use Rattle.cap_calls.proofs.Answers.{one_judged, one_returned, one_whole_told}
+use Rattle.cap_calls.proofs.Answers.{one_input_told, one_judged, one_returned}
 use Rattle.cap_calls.proofs.Texts.{one_text}
+use Rattle.cap_calls.proofs.Words.{words_in}
 
 abbrev found : Answer → ℕ → CallReport → Found
 found a n r = record { answer = a; count = n; report = r }
@@ -55,7 +57,7 @@ one_copied old xs ys m r f g (copied ws h t e) (copied us j u i) =
 pub one_copy_told : (l : CallLimits) (bs old : List ℕ) (a b : Answer) (n k : ℕ) (xs ys : List ℕ) (r q : CallReport)
     → TellsCopy l bs old a n xs r → TellsCopy l bs old b k ys q → (a ≡ b) × (n ≡ k) × (xs ≡ ys) × (r ≡ q)
 one_copy_told l bs old a b n k xs ys r q (f, t, h, e) (g, u, i, j) =
-    let same = one_whole_told {S = xs ≡ ys} (not (allows_trailing l)) l bs f g (λ x y. x ∙ sym y)
+    let same = one_input_told {S = xs ≡ ys} (not (allows_trailing l)) l bs f g (λ x y. x ∙ sym y)
     (λ m x y p s. one_judged {S = xs ≡ ys} (demands_of l) m l.charge l.depth x y (λ v w. v ∙ sym w)
     (λ z _ c d. one_copied old xs ys m z x y c d) p s)
     t u in
@@ -106,7 +108,7 @@ few_copied demands old new m w d f (accepted q (t, h) n (copied ws j u i)) =
     let same : f.report.charge ≡ q.charge = ap (λ (z : CallReport). z.charge) i in
     omega (arith, few, long, length_plain ws, same)
 
-pub few_told : (whole : Bool) (demands : Demands) (l : CallLimits) (bs old new : List ℕ) (f : Found)
+few_told : (whole : Bool) (demands : Demands) (l : CallLimits) (bs old new : List ℕ) (f : Found)
     → TellsWhole whole (new ≡ old) (Copies old new demands) l bs f → f.count ≤ 8 * (f.report.charge + 1)
 few_told whole demands l bs old new f (trailing m x y t h more e k) = let none = ap (λ (x : Found). x.count) e in
     omega (arith, none)
@@ -114,6 +116,17 @@ few_told whole demands l bs old new f (tells none (without c h e k)) = let none 
     omega (arith, none)
 few_told whole demands l bs old new f (tells none (framed m x y g h p e)) =
     let few = few_copied demands old new m l.charge l.depth g p in
+    let count = ap (λ (x : Found). x.count) e in
+    let charge : f.report.charge ≡ g.report.charge = ap (λ (x : Found). x.report.charge) e in
+    omega (arith, few, count, charge)
+
+pub few_input : (whole : Bool) (demands : Demands) (l : CallLimits) (bs old new : List ℕ) (f : Found)
+    → TellsInput whole (new ≡ old) (Copies old new demands) l bs f → f.count ≤ 8 * (f.report.charge + 1)
+few_input whole demands l bs old new f (of_frame n t) = few_told whole demands l bs old new f t
+few_input whole demands l bs old new f (of_no_words y c h e k) = let none = ap (λ (x : Found). x.count) e in
+    omega (arith, none)
+few_input whole demands l bs old new f (of_words y g h p e) =
+    let few = few_copied demands old new (plain_words bs ∷ []) l.charge l.depth g p in
     let count = ap (λ (x : Found). x.count) e in
     let charge : f.report.charge ≡ g.report.charge = ap (λ (x : Found). x.report.charge) e in
     omega (arith, few, count, charge)
@@ -142,7 +155,7 @@ frame_words l bs frame segments m h =
     let words = ap length h.front.frames.whole ∙ length-append table (joined m) in
     omega (arith, h.front.long, words, length_joined m)
 
-pub short_told : (whole : Bool) (l : CallLimits) (bs old new : List ℕ) (f : Found) → allows_amplified l ≡ false
+short_told : (whole : Bool) (l : CallLimits) (bs old new : List ℕ) (f : Found) → allows_amplified l ≡ false
     → TellsWhole whole (new ≡ old) (Copies old new (demands_of l)) l bs f → f.count ≤ f.report.length + 8 * 4097
 short_told whole l bs old new f un (trailing m x y t h more e k) = let none = ap (λ (x : Found). x.count) e in omega
     (arith, none)
@@ -153,3 +166,14 @@ short_told whole l bs old new f un (tells none (framed m x y g h p e)) =
     let count = ap (λ (x : Found). x.count) e in
     let long : f.report.length ≡ x = ap (λ (x : Found). x.report.length) e in
     omega (arith, short, count, long, frame_words l bs x y m h)
+
+pub short_input : (whole : Bool) (l : CallLimits) (bs old new : List ℕ) (f : Found) → allows_amplified l ≡ false
+    → TellsInput whole (new ≡ old) (Copies old new (demands_of l)) l bs f → f.count ≤ f.report.length + 8 * 4097
+short_input whole l bs old new f un (of_frame n t) = short_told whole l bs old new f un t
+short_input whole l bs old new f un (of_no_words y c h e k) = let none = ap (λ (x : Found). x.count) e in
+    omega (arith, none)
+short_input whole l bs old new f un (of_words y g h p e) =
+    let short = short_copied (demands_of l) old new (plain_words bs ∷ []) l.charge l.depth g (ap not un) p in
+    let count = ap (λ (x : Found). x.count) e in
+    let long : f.report.length ≡ length bs = ap (λ (x : Found). x.report.length) e in
+    omega (arith, short, count, long, words_in bs)

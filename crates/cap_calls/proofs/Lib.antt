@@ -4,8 +4,9 @@ pub mod Bounds
 pub mod Copied
 pub mod Marked
 pub mod Packed
-pub mod SegmentPlaces
 pub mod Segments
+pub mod SegmentPlaces
 pub mod Texts
 pub mod Unpacked
 pub mod Wider
+pub mod Words

@@ -1,12 +1,13 @@
 -- The bytes and the capacity decide what the call that vets exclusively finds.
-use Rattle.std.proofs.Common.{ℕ, List, ◌≡◌, ◌∙◌, ◌<◌, ◌≤◌, ◌+◌, ◌/◌, ap, ap₂, subst, sym, drop, length, length-append}
+use Rattle.std.proofs.Common.{ℕ, List, [], ◌∷◌, ◌≡◌, ◌∙◌, ◌≤◌, ◌+◌, ◌/◌, ap, sym, drop, length, length-append}
 use Rattle.std.proofs.Common.{arith, inl, inr}
 use Rattle.std.specs.Prelude.{Bool, not, ⊤}
 use Rattle.cap_spec.specs.Frames.{joined}
+use Rattle.cap_spec.specs.Plain.{plain_words}
 use Rattle.cap_spec.proofs.Disjoint.Overlaps.{none_of_disjoint, one_overlap}
 use Rattle.cap_spec.proofs.Frames.Endings.{length_joined}
 use Rattle.cap_vet.specs.Exclusives.{IsExclusiveFault, KeepsRoom}
-use Rattle.cap_vet.specs.Reports.{IsAccepted, IsVetted}
+use Rattle.cap_vet.specs.Reports.{IsVetted}
 use Rattle.cap_vet.specs.Taken.{marks_of}
 use Rattle.cap_vet.specs.declared.demands.Demands.{Demands}
 use Rattle.cap_vet.specs.declared.exclusive_room.ExclusiveFault.{ExclusiveFault}
@@ -17,14 +18,16 @@ use Rattle.cap_calls.specs.CallFindings.{TellsWhole, accepted, accepted_found, f
 use Rattle.cap_calls.specs.CallFindings.{without}
 use Rattle.cap_calls.specs.CallFlags.{allows_trailing, demands_of}
 use Rattle.cap_calls.specs.CallFrames.{HasFrame}
+use Rattle.cap_calls.specs.CallInputs.{TellsInput, of_frame, of_no_words, of_words}
 use Rattle.cap_calls.specs.ExclusiveCalls.{IsMarked, KeepsMarks, Marks, MarksIn, TellsExclusive, exclusive, fault_found}
-use Rattle.cap_calls.specs.ExclusiveCalls.{overlap, overlap_found, too_small}
+use Rattle.cap_calls.specs.ExclusiveCalls.{overlap, too_small}
 use Rattle.cap_calls.specs.declared.answer.Answer.{Answer}
 use Rattle.cap_calls.specs.declared.answer.Answer.TheVariants as answer
 use Rattle.cap_calls.specs.declared.found.Found.{Found}
 use Rattle.cap_calls.specs.declared.limits.CallLimits.{CallLimits}
 use Rattle.cap_calls.specs.declared.report.CallReport.{CallReport}
-use Rattle.cap_calls.proofs.Answers.{one_judged, one_returned, one_whole_told}
+use Rattle.cap_calls.proofs.Answers.{one_input_told, one_judged, one_returned}
+use Rattle.cap_calls.proofs.Words.{words_in}
 
 -- of an accepted message
 one_marked : (size : ℕ) (m : List (List ℕ)) (r : Report) (f g : Found) → IsMarked size m r f → IsMarked size m r g
@@ -46,7 +49,7 @@ one_marked size m r f g (exclusive enough j e) (exclusive also k i) = e ∙ sym 
 pub one_exclusive_told : (l : CallLimits) (bs : List ℕ) (size : ℕ) (a b : Answer) (n k : ℕ) (r q : CallReport)
     → TellsExclusive l bs size a n r → TellsExclusive l bs size b k q → (a ≡ b) × (n ≡ k) × (r ≡ q)
 one_exclusive_told l bs size a b n k r q (f, t, h, e) (g, u, i, j) =
-    let same = (one_whole_told {S = ⊤} (not (allows_trailing l)) l bs f g (λ _ _. tt)
+    let same = (one_input_told {S = ⊤} (not (allows_trailing l)) l bs f g (λ _ _. tt)
     (λ m x y p s. one_judged {S = ⊤} (demands_of l) m l.charge l.depth x y (λ _ _. tt)
     (λ z _ c d. (one_marked size m z x y c d, tt)) p s) t u).0 in
     let one = one_returned f g a b r q same h i in
@@ -71,7 +74,7 @@ marked_count size demands m w d f (accepted r h n (overlap s v k enough j e)) = 
 marked_count size demands m w d f (accepted r h n (exclusive enough j e)) = let same = ap (λ (x : Found). x.count) e
     in omega (arith, same)
 
-pub few_required : (whole : Bool) (l : CallLimits) (bs : List ℕ) (size : ℕ) (demands : Demands) (f : Found)
+few_required : (whole : Bool) (l : CallLimits) (bs : List ℕ) (size : ℕ) (demands : Demands) (f : Found)
     → TellsWhole whole ⊤ (Marks size demands) l bs f → f.count ≤ f.report.length / 512 + 1
 few_required whole l bs size demands f (trailing m x y t h more e k) = let none = ap (λ (z : Found). z.count) e in
     omega (arith, none)
@@ -84,14 +87,34 @@ few_required whole l bs size demands f (tells none (framed m x y g h p e)) =
     let long : f.report.length ≡ x = ap (λ (z : Found). z.report.length) e in
     omega (arith, few, some, count, long)
 
+pub few_input : (whole : Bool) (l : CallLimits) (bs : List ℕ) (size : ℕ) (demands : Demands) (f : Found)
+    → TellsInput whole ⊤ (Marks size demands) l bs f → f.count ≤ f.report.length / 512 + 1
+few_input whole l bs size demands f (of_frame n t) = few_required whole l bs size demands f t
+few_input whole l bs size demands f (of_no_words y c h e k) = let none = ap (λ (z : Found). z.count) e in
+    omega (arith, none)
+few_input whole l bs size demands f (of_words y g h p e) =
+    let some = marked_count size demands (plain_words bs ∷ []) l.charge l.depth g p in
+    let count : f.count ≡ g.count = ap (λ (z : Found). z.count) e in
+    let long : f.report.length ≡ length bs = ap (λ (z : Found). z.report.length) e in
+    omega (arith, some, count, long, words_in bs)
+
 -- What was found of the marks holds of all the bytes.
-pub marks_kept : (whole : Bool) (demands : Demands) (l : CallLimits) (bs old new : List ℕ) (f : Found)
+marks_kept : (whole : Bool) (demands : Demands) (l : CallLimits) (bs old new : List ℕ) (f : Found)
     → TellsWhole whole (new ≡ old) (MarksIn old new demands) l bs f → KeepsMarks old new f
 marks_kept whole demands l bs old new f (trailing m x y t h more e k) = record
     { rest = ap (drop f.count) k; kept = inr (inr k) }
 marks_kept whole demands l bs old new f (tells none (without c h e k)) = record
     { rest = ap (drop f.count) k; kept = inr (inr k) }
 marks_kept whole demands l bs old new f (tells none (framed m x y g h p e)) =
+    let count : f.count ≡ g.count = ap (λ (z : Found). z.count) e in
+    let same : f.answer ≡ g.answer = ap (λ (z : Found). z.answer) e in
+    record { rest = rw count p.1.rest; kept = rw same p.1.kept }
+
+pub input_kept : (whole : Bool) (demands : Demands) (l : CallLimits) (bs old new : List ℕ) (f : Found)
+    → TellsInput whole (new ≡ old) (MarksIn old new demands) l bs f → KeepsMarks old new f
+input_kept whole demands l bs old new f (of_frame n t) = marks_kept whole demands l bs old new f t
+input_kept whole demands l bs old new f (of_no_words y c h e k) = record { rest = ap (drop f.count) k; kept = inr (inr k) }
+input_kept whole demands l bs old new f (of_words y g h p e) =
     let count : f.count ≡ g.count = ap (λ (z : Found). z.count) e in
     let same : f.answer ≡ g.answer = ap (λ (z : Found). z.answer) e in
     record { rest = rw count p.1.rest; kept = rw same p.1.kept }

@@ -1,11 +1,11 @@
 -- What is accepted is accepted with higher limits and more flags too.
-use Rattle.std.proofs.Common.{ℕ, List, ◌≡◌, ◌∙◌, ◌≤◌, ◌<◌, ap, arith, length, min, refl, subst, sum, sym}
+use Rattle.std.proofs.Common.{ℕ, List, [], ◌∷◌, ◌≡◌, ◌∙◌, ◌≤◌, ◌<◌, ap, arith, length, min, refl, subst, sum, sym}
 use Rattle.std.specs.Prelude.{◌+◌, Bool, true, false, not, if◌then◌else◌, ⊤}
 use Rattle.std.proofs.Math.Nat.{le-min, min-le_left, min-le_right}
 use Rattle.std.proofs.lemmas.Bool.{false≢true}
 use Rattle.cap_frame.specs.declared.fault.FrontFault.TheVariants as fault
 use Rattle.cap_spec.specs.Frames.{sizes_of}
-use Rattle.cap_spec.specs.Strict.{IsStrict}
+use Rattle.cap_spec.specs.Plain.{plain_words}
 use Rattle.cap_spec.specs.declared.Lax.TheVariants as lax
 use Rattle.cap_spec.specs.declared.Reason.{Reason}
 use Rattle.cap_spec.specs.declared.Reason.TheVariants as reason
@@ -14,14 +14,15 @@ use Rattle.cap_spec.specs.declared.StrictRefusal.TheVariants as strict
 use Rattle.cap_spec.proofs.Strict.Faults.{strict_wider}
 use Rattle.cap_vet.specs.Demands.{Meets, words_under}
 use Rattle.cap_vet.specs.Reports.{IsAccepted}
-use Rattle.cap_vet.specs.declared.demands.Demands.{Demands}
 use Rattle.cap_vet.specs.declared.report.Report.{Report}
 use Rattle.cap_calls.specs.AnswerNumbers.{number_of, reason_answer, refusal_answer}
-use Rattle.cap_calls.specs.CallFindings.{Judges, accepted, framed, refused, tells, trailing, without}
+use Rattle.cap_calls.specs.CallFindings.{Judges, TellsWhole, accepted, framed, refused, tells, trailing, without}
 use Rattle.cap_calls.specs.CallFlags.{AllowsMore, allows_amplified, allows_nonstrict, allows_trailing, demands_of}
 use Rattle.cap_calls.specs.CallFrames.{AreLimits, HasFrame, HasTrailing}
+use Rattle.cap_calls.specs.CallInputs.{AreInputLimits, AreWordLimits, HasWords, TellsInput}
+use Rattle.cap_calls.specs.CallInputs as input
 use Rattle.cap_calls.specs.CallReports.{cause_answer}
-use Rattle.cap_calls.specs.Calls.{TellsVet}
+use Rattle.cap_calls.specs.Calls.{IsGood, TellsVet}
 use Rattle.cap_calls.specs.declared.answer.Answer.{Answer}
 use Rattle.cap_calls.specs.declared.answer.Answer.TheVariants as answer
 use Rattle.cap_calls.specs.declared.found.Found.{Found}
@@ -116,6 +117,12 @@ module _ (l k : CallLimits) (more : AllowsMore l k) where
             (h.strict (unset (allows_nonstrict l) (allows_nonstrict k) more.nonstrict e)) (limit m) more.depth;
       }
 
+  judged : (m : List (List ℕ)) (f : Found) → f.answer ≡ answer.Good → Judges (demands_of l) ⊤ IsGood m l.charge l.depth f
+      → Judges (demands_of k) ⊤ IsGood m k.charge k.depth f
+  judged m f a (refused v u j i) =
+      absurd (not_zero (refusal_answer v) (refusal_not_zero v) (sym (ap (λ (z : Found). z.answer) j) ∙ a))
+  judged m f a (accepted v u n j) = accepted v (accepts m v u) (meets m n) j
+
   frame : (bs : List ℕ) (x y : ℕ) (m : List (List ℕ)) → AreLimits k → HasFrame l bs x y m → HasFrame k bs x y m
   frame bs x y m good h =
       record {
@@ -137,18 +144,33 @@ module _ (l k : CallLimits) (more : AllowsMore l k) where
       only (unset (allows_trailing l) (allows_trailing k) more.trailing e)
       (m, x, y, h, subst (λ (z : ℕ). z < length bs) (one_extent k bs a x b y n m g (frame bs x y m good h)).0 less)
 
-  pub wider_told : (bs : List ℕ) (r : CallReport) → AreLimits k → TellsVet l bs answer.Good r
+  framed_told : (bs : List ℕ) (f : Found) → AreLimits k → f.answer ≡ answer.Good
+      → TellsWhole (not (allows_trailing l)) ⊤ (Judges (demands_of l) ⊤ IsGood) l bs f
+      → TellsWhole (not (allows_trailing k)) ⊤ (Judges (demands_of k) ⊤ IsGood) k bs f
+  framed_told bs f good a (trailing m x y t h less e i) =
+      absurd (not_zero answer.Trailing (omega arith) (sym (ap (λ (z : Found). z.answer) e) ∙ a))
+  framed_told bs f good a (tells only (without c h e i)) =
+      absurd (not_zero (cause_answer c) (cause_not_zero c) (sym (ap (λ (z : Found). z.answer) e) ∙ a))
+  framed_told bs f good a (tells only (framed m x y g h p e)) =
+      tells (none bs x y m good h only)
+      (framed m x y g (frame bs x y m good h) (judged m g (sym (ap (λ (z : Found). z.answer) e) ∙ a) p) e)
+
+  wider_words : (bs : List ℕ) → AreWordLimits k → HasWords l bs → HasWords k bs
+  wider_words bs good h =
+      record { are_limits = good; some = h.some; within = omega (arith, h.within, more.size); whole = h.whole }
+
+  input_told : (bs : List ℕ) (f : Found) → AreInputLimits k → f.answer ≡ answer.Good
+      → TellsInput (not (allows_trailing l)) ⊤ (Judges (demands_of l) ⊤ IsGood) l bs f
+      → TellsInput (not (allows_trailing k)) ⊤ (Judges (demands_of k) ⊤ IsGood) k bs f
+  input_told bs f good a (input.of_frame n t) =
+      let off = sym more.table ∙ n in input.of_frame off (framed_told bs f (good.frame off) a t)
+  input_told bs f good a (input.of_no_words y c h e i) =
+      absurd (not_zero (cause_answer c) (cause_not_zero c) (sym (ap (λ (z : Found). z.answer) e) ∙ a))
+  input_told bs f good a (input.of_words y g h p e) =
+      let on = sym more.table ∙ y in
+      input.of_words on g (wider_words bs (good.words on) h)
+      (judged (plain_words bs ∷ []) g (sym (ap (λ (z : Found). z.answer) e) ∙ a) p) e
+
+  pub wider_told : (bs : List ℕ) (r : CallReport) → AreInputLimits k → TellsVet l bs answer.Good r
       → TellsVet k bs answer.Good r
-  wider_told bs r good (f, trailing m x y t h less e i, (a, q)) =
-      absurd (not_zero answer.Trailing (omega arith) (sym (ap (λ (z : Found). z.answer) e) ∙ sym a))
-  wider_told bs r good (f, tells only (without c h e i), (a, q)) =
-      absurd (not_zero (cause_answer c) (cause_not_zero c) (sym (ap (λ (z : Found). z.answer) e) ∙ sym a))
-  wider_told bs r good (f, tells only (framed m x y g h (refused v u j i) e), (a, q)) =
-      absurd (not_zero (refusal_answer v) (refusal_not_zero v)
-      (sym (ap (λ (z : Found). z.answer) j) ∙ (sym (ap (λ (z : Found). z.answer) e) ∙ sym a)))
-  wider_told bs r good (f, tells only (framed m x y g h (accepted v u n j) e), (a, q)) = (
-    f,
-    tells (none bs x y m good h only)
-        (framed m x y g (frame bs x y m good h) (accepted v (accepts m v u) (meets m n) j) e),
-    (a, q),
-  )
+  wider_told bs r good (f, t, (a, q)) = (f, input_told bs f good (sym a) t, (a, q))

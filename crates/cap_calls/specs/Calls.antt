@@ -1,10 +1,11 @@
 -- What each call that looks at a message returns and reports
 -- (profile; standard: Serialization Over a Stream, Canonicalization).
-use Rattle.std.specs.Prelude.{ℕ, ◌≡◌, Bool, true, not, List, ⊤}
+use Rattle.std.specs.Prelude.{ℕ, ◌≡◌, true, not, List, ⊤}
 use Rattle.cap_spec.specs.Copies.{IsCanonical}
 use Rattle.cap_vet.specs.declared.report.Report.{Report}
 use Rattle.cap_calls.specs.CallFindings.{Judges, Returns, Tells, TellsWhole, accepted_found}
 use Rattle.cap_calls.specs.CallFlags.{allows_trailing, demands_of}
+use Rattle.cap_calls.specs.CallInputs.{TellsInput}
 use Rattle.cap_calls.specs.CallReports.{none_report}
 use Rattle.cap_calls.specs.declared.answer.Answer.{Answer}
 use Rattle.cap_calls.specs.declared.answer.Answer.TheVariants.{Good, NotCanonical}
@@ -29,13 +30,14 @@ abbrev pub IsGood : List (List ℕ) → Report → Found → Type 0
 IsGood m report f = f ≡ accepted_found Good 0 report
 
 abbrev pub TellsVet : CallLimits → List ℕ → Answer → CallReport → Type 0
-TellsVet l bytes a r = (f : Found) × TellsMessage ⊤ (Judges (demands_of l) ⊤ IsGood) l bytes f × Returns f a r
+TellsVet l bytes a r =
+    (f : Found) × TellsInput (not (allows_trailing l)) ⊤ (Judges (demands_of l) ⊤ IsGood) l bytes f × Returns f a r
 
 -- of a message that is accepted: it is its own canonical copy, or isn't
 pub data IsCheck (m : List (List ℕ)) (report : Report) (f : Found) : Type 0 where
   canonical : IsCanonical m → f ≡ accepted_found Good 0 report → IsCheck m report f
   not_canonical : ¬ IsCanonical m → f ≡ accepted_found NotCanonical 0 report → IsCheck m report f
 
--- of the message that the bytes are: none may follow, whatever the flags allow
+-- of the message that the input is: no bytes may follow it, whatever the flags allow
 abbrev pub TellsCheck : CallLimits → List ℕ → Answer → CallReport → Type 0
-TellsCheck l bytes a r = (f : Found) × TellsWhole true ⊤ (Judges (demands_of l) ⊤ IsCheck) l bytes f × Returns f a r
+TellsCheck l bytes a r = (f : Found) × TellsInput true ⊤ (Judges (demands_of l) ⊤ IsCheck) l bytes f × Returns f a r

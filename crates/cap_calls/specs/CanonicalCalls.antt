@@ -1,6 +1,6 @@
 -- What the call for a canonical copy returns and writes, from the bytes and the buffer alone
 -- (standard: Canonicalization; the order is the profile's).
-use Rattle.std.specs.Prelude.{ℕ, ◌≡◌, List, Result, Ok, Err}
+use Rattle.std.specs.Prelude.{ℕ, ◌≡◌, not, List, Result, Ok, Err}
 use Rattle.cap_spec.specs.Copies.{HasCopy}
 use Rattle.cap_spec.specs.Paths.{IsFirstCap}
 use Rattle.cap_spec.specs.Plain.{plain_text}
@@ -10,8 +10,8 @@ use Rattle.cap_vet.specs.declared.demands.Demands.{Demands}
 use Rattle.cap_vet.specs.declared.report.Report.{Report}
 use Rattle.cap_calls.specs.CallReports.{accepted_report}
 use Rattle.cap_calls.specs.CallFindings.{Judges, JudgesAny, Returns, Tells, accepted_found}
-use Rattle.cap_calls.specs.CallFlags.{demands_of}
-use Rattle.cap_calls.specs.Calls.{TellsMessage}
+use Rattle.cap_calls.specs.CallFlags.{allows_trailing, demands_of}
+use Rattle.cap_calls.specs.CallInputs.{TellsInput}
 use Rattle.cap_calls.specs.PackCalls.{TellsText}
 use Rattle.cap_calls.specs.declared.answer.Answer.{Answer}
 use Rattle.cap_calls.specs.declared.answer.Answer.TheVariants as answer
@@ -33,10 +33,11 @@ pub data IsCopied (old new : List ℕ) (m : List (List ℕ)) (report : Report) (
 abbrev pub Copies : List ℕ → List ℕ → Demands → List (List ℕ) → ℕ → ℕ → Found → Type 0
 Copies old new demands = Judges demands (new ≡ old) (IsCopied old new)
 
--- Of the message that the bytes are or start with: n bytes are the length of its copy.
+-- Of the message that the input is or starts with: n bytes are the length of its copy.
 abbrev pub TellsCopy : CallLimits → List ℕ → List ℕ → Answer → ℕ → List ℕ → CallReport → Type 0
 TellsCopy l bytes old a n new r =
-    (f : Found) × TellsMessage (new ≡ old) (Copies old new (demands_of l)) l bytes f × Returns f a r × (n ≡ f.count)
+    (f : Found) × TellsInput (not (allows_trailing l)) (new ≡ old) (Copies old new (demands_of l)) l bytes f
+    × Returns f a r × (n ≡ f.count)
 
 -- The same with all three flags.
 abbrev pub TellsAnyCopy : CallLimits → List ℕ → List ℕ → Answer → ℕ → List ℕ → CallReport → Type 0

@@ -1,6 +1,6 @@
 -- What the call that vets exclusively returns and reports, from the bytes and the capacity alone
 -- (profile).
-use Rattle.std.specs.Prelude.{ℕ, ◌<◌, ◌≡◌, ◌≤◌, ◌⊎◌, List, drop, length, ⊤}
+use Rattle.std.specs.Prelude.{ℕ, ◌<◌, ◌≡◌, ◌≤◌, ◌⊎◌, not, List, drop, length, ⊤}
 use Rattle.cap_spec.specs.Occupying.{IsDisjoint, IsFirstOverlap}
 use Rattle.cap_spec.specs.declared.StrictRefusal.TheVariants.{Refused}
 use Rattle.cap_vet.specs.Exclusives.{IsExclusiveFault}
@@ -11,9 +11,9 @@ use Rattle.cap_vet.specs.declared.exclusive_room.ExclusiveFault.{ExclusiveFault}
 use Rattle.cap_vet.specs.declared.exclusive_room.ExclusiveFault.TheVariants as fault
 use Rattle.cap_vet.specs.declared.report.Report.{Report}
 use Rattle.cap_calls.specs.CallFindings.{Judges, Returns, accepted_found, refused_found}
-use Rattle.cap_calls.specs.CallFlags.{demands_of}
+use Rattle.cap_calls.specs.CallFlags.{allows_trailing, demands_of}
 use Rattle.cap_calls.specs.CallReports.{place_report}
-use Rattle.cap_calls.specs.Calls.{TellsMessage}
+use Rattle.cap_calls.specs.CallInputs.{TellsInput}
 use Rattle.cap_calls.specs.declared.answer.Answer.{Answer}
 use Rattle.cap_calls.specs.declared.answer.Answer.TheVariants as answer
 use Rattle.cap_calls.specs.declared.found.Found.{Found}
@@ -51,10 +51,11 @@ pub record KeepsMarks (old new : List ℕ) (f : Found) : Type 0 where
 abbrev pub MarksIn : List ℕ → List ℕ → Demands → List (List ℕ) → ℕ → ℕ → Found → Type 0
 MarksIn old new demands m words depth f = Marks (length old) demands m words depth f × KeepsMarks old new f
 
--- Of the message that the bytes are or start with: n numbers are required for its marks.
+-- Of the message that the input is or starts with: n numbers are required for its marks.
 abbrev pub TellsExclusive : CallLimits → List ℕ → ℕ → Answer → ℕ → CallReport → Type 0
 TellsExclusive l bytes size a n r =
-    (f : Found) × TellsMessage ⊤ (Marks size (demands_of l)) l bytes f × Returns f a r × (n ≡ f.count)
+    (f : Found) × TellsInput (not (allows_trailing l)) ⊤ (Marks size (demands_of l)) l bytes f × Returns f a r
+    × (n ≡ f.count)
 
 -- what is found of a message that isn't exclusive, whose marks take n numbers
 abbrev pub fault_found : ℕ → ExclusiveFault → Found

@@ -3,6 +3,7 @@ pub mod CallBounds
 pub mod CallFindings
 pub mod CallFlags
 pub mod CallFrames
+pub mod CallInputs
 pub mod CallReports
 pub mod Calls
 pub mod CanonicalCalls

@@ -70,10 +70,18 @@ impl Found {
         ensures { result ≡ framed_found (frame_bytes framed.now)
             (length (framed_segments framed.now)) self }
     {
+        self.extent(framed.length(), framed.count())
+    }
+
+    // The same with the length of the input in bytes, and how many segments it has.
+    #[inline(always)]
+    pub(crate) fn extent(self, bytes: usize, segments: u32) -> Found
+        ensures { result ≡ framed_found bytes segments self }
+    {
         Found {
             report: CallReport {
-                length: framed.length() as u64,
-                segments: framed.count(),
+                length: bytes as u64,
+                segments,
                 ..self.report
             },
             ..self

@@ -3,8 +3,9 @@
 ghost use Rattle.cap_calls.specs.CallFrames.{AreLimits, HasNoFrame};
 ghost use Rattle.cap_frame.specs.Framed.{frame_bytes, framed_segments};
 ghost use Rattle.cap_frame.specs.Fronts.{IsFront};
+ghost use Rattle.cap_frame.specs.Limit.{limit_of};
 ghost use Rattle.cap_vet.specs.Limits.{depth_of, words_of};
-ghost use Rattle.std.specs.Prelude.{◌≡◌, IfErr, IfOk};
+ghost use Rattle.std.specs.Prelude.{◌≡◌, ◌↔◌, IfErr, IfOk, IfSome, IsSome};
 
 use crate::limits::CallLimits;
 use cap_frame::{Framed, FrontFault, SizeLimit, front_of};
@@ -32,13 +33,7 @@ pub(crate) fn front<'b>(
         IsFront limits.now.message_words bytes.now (framed_segments f.0) (frame_bytes f.0)) }
     ensures none { IfErr result (HasNoFrame limits.now bytes.now) }
 {
-    if !limits.has_known_flags() {
-        return Err(NoFrame::BadLimits);
-    }
-    let Some(size) = SizeLimit::new(limits.message_words) else {
-        return Err(NoFrame::BadLimits);
-    };
-    let Some(walk) = Limits::new(limits.charge, limits.depth) else {
+    let Some((size, walk)) = checked(limits) else {
         return Err(NoFrame::BadLimits);
     };
     match front_of(bytes, size) {
@@ -46,4 +41,24 @@ pub(crate) fn front<'b>(
         Ok(None) => Err(NoFrame::NoMessage),
         Err(fault) => Err(NoFrame::Fault(fault)),
     }
+}
+
+// The limit of the size and those of a walk, or `None` if they aren't limits of a frame.
+#[inline(always)]
+pub(crate) fn checked(limits: &CallLimits) -> Option<(SizeLimit, Limits)>
+    ensures some { IsSome result ↔ AreLimits limits.now }
+    ensures size { IfSome result (λ c. limit_of c.0 ≡ limits.now.message_words) }
+    ensures walk { IfSome result (λ c.
+        (words_of c.1 ≡ limits.now.charge) × (depth_of c.1 ≡ limits.now.depth)) }
+{
+    if !limits.has_known_flags() {
+        return None;
+    }
+    let Some(size) = SizeLimit::new(limits.message_words) else {
+        return None;
+    };
+    let Some(walk) = Limits::new(limits.charge, limits.depth) else {
+        return None;
+    };
+    Some((size, walk))
 }

@@ -3,7 +3,7 @@
 
 ghost use Rattle.cap_calls.specs.CallFindings.{JudgesAny, Returns, Tells, TellsWhole};
 ghost use Rattle.cap_calls.specs.CallFlags.{AllowsMore};
-ghost use Rattle.cap_calls.specs.CallFrames.{AreLimits};
+ghost use Rattle.cap_calls.specs.CallInputs.{AreInputLimits};
 ghost use Rattle.cap_calls.specs.Calls.{IsCheck, IsGood, TellsCheck, TellsVet};
 ghost use Rattle.cap_calls.specs.CanonicalCalls.{TellsAnyCopy, TellsCopy};
 ghost use Rattle.cap_calls.specs.ExclusiveCalls.{MarksAny, TellsExclusive};
@@ -34,6 +34,7 @@ pub fn all_flags_demand_nothing()
 
 /// What [`crate::vet`] accepts it accepts with higher limits and more flags too, with the same report.
 pub fn wider_limits_accept_as_much()
-    ensures { (l k : CallLimits) (bytes : List ℕ) (r : CallReport) → AreLimits k → AllowsMore l k →
+    ensures { (l k : CallLimits) (bytes : List ℕ) (r : CallReport) → AreInputLimits k →
+        AllowsMore l k →
         TellsVet l bytes Good r → TellsVet k bytes Good r }
 {}

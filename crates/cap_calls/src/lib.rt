@@ -5,6 +5,7 @@ mod answer;
 mod calls;
 mod found;
 mod front;
+mod input;
 mod laws;
 mod limits;
 mod over;

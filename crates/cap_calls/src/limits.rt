@@ -2,8 +2,11 @@
 
 use cap_vet::Demands;
 
-/// The highest sum of flags that a call knows: 1, 2 and 4.
+/// The highest sum of flags that a call over a frame knows: 1, 2 and 4.
 const ALL_FLAGS: u32 = 7;
+
+/// The highest sum with the flag 8 too.
+const ALL_WORD_FLAGS: u32 = 15;
 
 /// The limits of a call, laid out as C has them. Any numbers make one. A call returns
 /// [`crate::Answer::BadLimits`] for a number above its maximum, an unknown flag, or a reserved
@@ -18,14 +21,15 @@ pub struct CallLimits {
     /// Deepest level of an object: at most 256.
     pub depth: u32,
     /// What else is allowed, as a sum. 1: bytes after the message. 2: a message that isn't strict.
-    /// 4: a charge of more than 4096 words above the words of the segments.
+    /// 4: a charge of more than 4096 words above the words of the segments. 8, in calls that vet,
+    /// and not with 1: the input is the words of one segment, without a table.
     pub flags: u32,
     /// They have to be 0.
     pub reserved: [u64; 2],
 }
 
 impl CallLimits {
-    ghost use Rattle.cap_calls.specs.CallFlags.{HasKnownFlags, allows_trailing, default_limits, demands_of};
+    ghost use Rattle.cap_calls.specs.CallFlags.{HasKnownFlags, HasWordFlags, allows_trailing, default_limits, demands_of, has_no_table};
     ghost use Rattle.std.specs.Prelude.{◌≡◌, Decides};
 
     /// The limits of `CAPVET_LIMITS_INIT` in the header: 8388608 words in all segments, a charge of
@@ -48,6 +52,25 @@ impl CallLimits {
         ensures { Decides result (HasKnownFlags self.now) }
     {
         self.flags <= ALL_FLAGS && self.reserved[0] == 0 && self.reserved[1] == 0
+    }
+
+    // Whether it has no flag that is unknown or excludes the flag 8, and its reserved fields are 0.
+    #[inline]
+    pub(crate) fn has_word_flags(&self) -> bool
+        ensures { Decides result (HasWordFlags self.now) }
+    {
+        self.flags <= ALL_WORD_FLAGS
+            && self.flags % 2 == 0
+            && self.reserved[0] == 0
+            && self.reserved[1] == 0
+    }
+
+    // Whether the input is the words of one segment.
+    #[inline]
+    pub(crate) fn has_no_table(&self) -> bool
+        ensures { result ≡ has_no_table self.now }
+    {
+        self.flags / 8 % 2 == 1
     }
 
     // Whether bytes may follow the message.

@@ -15,8 +15,8 @@ ghost use Rattle.cap_calls.specs.declared.report.CallReport.{CallReport};
 ghost use Rattle.std.specs.Prelude.{◌*◌, ◌+◌, ◌/◌, ◌≡◌, ◌≤◌, ◌⊎◌, IsFalse, List, drop, length, ℕ};
 
 use cap_calls::{
-    CallLimits, CallReport, canonical, frame, is_canonical, pack, segment_at, unpack,
-    version, vet, vet_exclusive,
+    CallLimits, CallReport, canonical, frame, is_canonical, pack, segment_at, unpack, version, vet,
+    vet_exclusive,
 };
 
 /// Returns the version of the library: 65536 times its major number, 256 times its minor number,

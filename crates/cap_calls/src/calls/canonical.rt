@@ -9,8 +9,9 @@ ghost use Rattle.std.specs.Prelude.{◌*◌, ◌+◌, ◌≡◌, ◌≤◌, IsFa
 
 use crate::answer::Answer;
 use crate::found::Found;
+use crate::input::over_input;
 use crate::limits::CallLimits;
-use crate::over::{Call, over};
+use crate::over::Call;
 use crate::report::CallReport;
 use cap_canon::{RoomFault, canonical_into};
 use cap_frame::ByteView;
@@ -49,10 +50,10 @@ pub fn canonical(
     ensures bound { IsFalse (allows_amplified limits.now) →
         required.new ≤ canonical_bound (length bytes.now) }
 {
-    let found = over(&Copying, !limits.allows_trailing(), bytes, limits, out);
-    *required = found.count;
-    *report = found.report;
-    found.answer
+    let whole = !limits.allows_trailing();
+    let (answer, count) = over_input(&Copying, whole, bytes, limits, out, report);
+    *required = count;
+    answer
 }
 
 // The call on a message.

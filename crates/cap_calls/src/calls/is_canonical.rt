@@ -8,8 +8,9 @@ ghost use Rattle.std.specs.Prelude.{◌≡◌, ⊤};
 
 use crate::answer::Answer;
 use crate::found::Found;
+use crate::input::over_input;
 use crate::limits::CallLimits;
-use crate::over::{Call, over};
+use crate::over::Call;
 use crate::report::CallReport;
 use cap_canon::is_canonical as is_copy;
 use cap_frame::ByteView;
@@ -27,9 +28,7 @@ pub fn is_canonical(bytes: &[u8], limits: &CallLimits, report: &mut CallReport) 
     ensures only { (a : Answer) (r : CallReport) → TellsCheck limits.now bytes.now a r →
         (result ≡ a) × (report.new ≡ r) }
 {
-    let found = over(&Checking, true, bytes, limits, &mut []);
-    *report = found.report;
-    found.answer
+    over_input(&Checking, true, bytes, limits, &mut [], report).0
 }
 
 // The call on a message.

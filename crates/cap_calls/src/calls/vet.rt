@@ -8,8 +8,9 @@ ghost use Rattle.std.specs.Prelude.{◌≡◌, ⊤};
 
 use crate::answer::Answer;
 use crate::found::Found;
+use crate::input::over_input;
 use crate::limits::CallLimits;
-use crate::over::{Call, over};
+use crate::over::Call;
 use crate::report::CallReport;
 use cap_frame::ByteView;
 use cap_vet::{Demands, Limits, vet_with};
@@ -30,9 +31,8 @@ pub fn vet(bytes: &[u8], limits: &CallLimits, report: &mut CallReport) -> Answer
     ensures only { (a : Answer) (r : CallReport) → TellsVet limits.now bytes.now a r →
         (result ≡ a) × (report.new ≡ r) }
 {
-    let found = over(&Vetting, !limits.allows_trailing(), bytes, limits, &mut []);
-    *report = found.report;
-    found.answer
+    let whole = !limits.allows_trailing();
+    over_input(&Vetting, whole, bytes, limits, &mut [], report).0
 }
 
 // The call on a message.

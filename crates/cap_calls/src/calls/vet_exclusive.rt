@@ -9,8 +9,9 @@ ghost use Rattle.std.specs.Prelude.{◌+◌, ◌/◌, ◌≡◌, ◌≤◌, ◌�
 
 use crate::answer::Answer;
 use crate::found::Found;
+use crate::input::over_input;
 use crate::limits::CallLimits;
-use crate::over::{Call, over};
+use crate::over::Call;
 use crate::report::CallReport;
 use cap_frame::ByteView;
 use cap_spec::StrictRefusal;
@@ -49,10 +50,10 @@ pub fn vet_exclusive(
     ensures rest { drop required.new marks.new ≡ drop required.new marks.old }
     ensures kept { (result ≡ Good) ⊎ ((result ≡ Overlap) ⊎ (marks.new ≡ marks.old)) }
 {
-    let found = over(&Marking, !limits.allows_trailing(), bytes, limits, marks);
-    *required = found.count;
-    *report = found.report;
-    found.answer
+    let whole = !limits.allows_trailing();
+    let (answer, count) = over_input(&Marking, whole, bytes, limits, marks, report);
+    *required = count;
+    answer
 }
 
 // The call on a message.

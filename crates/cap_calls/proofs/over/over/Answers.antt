@@ -1,5 +1,5 @@
 -- What is found of the message in the frame is what is told.
-use Rattle.std.proofs.Common.{ℕ, List, ◌≡◌, ◌∙◌, ◌<◌, ◌≤◌, ap, arith, length, refl, subst, sym}
+use Rattle.std.proofs.Common.{ℕ, List, ◌≡◌, ◌∙◌, ◌<◌, ◌≤◌, ap, arith, length, refl, subst}
 use Rattle.std.specs.Prelude.{◌-◌, Bool, true, false, if◌then◌else◌}
 use Rattle.std.proofs.lemmas.Bool.{false≢true}
 use Rattle.cap_frame.specs.Framed.{frame_bytes, framed_segments}

@@ -1,39 +1,54 @@
 -- Nothing else is told of the bytes and the capacity.
-use Rattle.std.proofs.Common.{arith, refl}
-use Rattle.cap_calls.proofs.Answers.{by_flag, tells_less}
-use Rattle.cap_calls.proofs.Bounds.{length_inside}
-use Rattle.cap_calls.proofs.Marked.{few_required, marks_kept, one_exclusive_told}
+use Rattle.std.proofs.Common.{◌∙◌, ap, arith, inl, inr}
+use Rattle.cap_calls.specs.declared.report.CallReport.{CallReport}
+use Rattle.cap_calls.proofs.Answers.{by_flag, input_less}
+use Rattle.cap_calls.proofs.Bounds.{input_inside}
+use Rattle.cap_calls.proofs.Marked.{few_input, input_kept, one_exclusive_told}
 use Rattle.cap_calls.proofs.calls.vet_exclusive.vet_exclusive.Goals as goal
 
 pub returns-clause-tells : goal.returns-clause-tells
 returns-clause-tells c =
     let l = c.args.limits.now in
     let bs = c.args.bytes.now in
-    let told = tells_less _ l bs c.over-found.result (λ _. tt) (λ _ _ _ _ p. p.0) c.over-found.ensures in
-    (c.over-found.result, by_flag l bs c.over-found.result _ c.allows_trailing.ensures told, (refl, refl), refl)
+    let told = c.over_input-answer.ensures in
+    let less = input_less _ l bs told.0 (λ _. tt) (λ _ _ _ _ p. p.0) told.1 in
+    (told.0, by_flag l bs told.0 _ c.allows_trailing-whole.ensures less, told.2, told.3)
 
 pub returns-clause-only : goal.returns-clause-only
 returns-clause-only c = λ a n r h.
     let l = c.args.limits.now in
     let bs = c.args.bytes.now in
-    let told = tells_less _ l bs c.over-found.result (λ _. tt) (λ _ _ _ _ p. p.0) c.over-found.ensures in
-    one_exclusive_told l bs _ _ a _ n _ r
-    (c.over-found.result, by_flag l bs c.over-found.result _ c.allows_trailing.ensures told, (refl, refl), refl) h
+    let told = c.over_input-answer.ensures in
+    let less = input_less _ l bs told.0 (λ _. tt) (λ _ _ _ _ p. p.0) told.1 in
+    one_exclusive_told l bs _ _ a _ n _ r (told.0, by_flag l bs told.0 _ c.allows_trailing-whole.ensures less, told.2, told.3) h
 
 pub returns-clause-few : goal.returns-clause-few
 returns-clause-few c =
-    few_required _ c.args.limits.now c.args.bytes.now _ _ _
-    (tells_less _ c.args.limits.now c.args.bytes.now _ (λ _. tt) (λ _ _ _ _ p. p.0) c.over-found.ensures)
+    let l = c.args.limits.now in
+    let bs = c.args.bytes.now in
+    let told = c.over_input-answer.ensures in
+    let few = few_input _ l bs _ _ told.0 (input_less _ l bs told.0 (λ _. tt) (λ _ _ _ _ p. p.0) told.1) in
+    let long = ap (λ (r : CallReport). r.length) told.2.1 in
+    omega (arith, few, long, told.3)
 
 pub returns-clause-bound : goal.returns-clause-bound
 returns-clause-bound c =
-    let few = few_required _ c.args.limits.now c.args.bytes.now _ _ _
-    (tells_less _ c.args.limits.now c.args.bytes.now _ (λ _. tt) (λ _ _ _ _ p. p.0) c.over-found.ensures) in
-    let inside = length_inside _ c.args.limits.now c.args.bytes.now _ c.over-found.ensures in
-    omega (arith, few, inside)
+    let l = c.args.limits.now in
+    let bs = c.args.bytes.now in
+    let told = c.over_input-answer.ensures in
+    let few = few_input _ l bs _ _ told.0 (input_less _ l bs told.0 (λ _. tt) (λ _ _ _ _ p. p.0) told.1) in
+    let inside = input_inside _ l bs told.0 told.1 in
+    omega (arith, few, inside, told.3)
 
 pub returns-clause-rest : goal.returns-clause-rest
-returns-clause-rest c = (marks_kept _ _ c.args.limits.now c.args.bytes.now _ _ _ c.over-found.ensures).rest
+returns-clause-rest c =
+    let told = c.over_input-answer.ensures in
+    rw told.3 (input_kept _ _ c.args.limits.now c.args.bytes.now _ _ told.0 told.1).rest
 
 pub returns-clause-kept : goal.returns-clause-kept
-returns-clause-kept c = (marks_kept _ _ c.args.limits.now c.args.bytes.now _ _ _ c.over-found.ensures).kept
+returns-clause-kept c =
+    let told = c.over_input-answer.ensures in
+    elim (input_kept _ _ c.args.limits.now c.args.bytes.now _ _ told.0 told.1).kept [
+      | inl good ↦ inl (told.2.0 ∙ good)
+      | inr other ↦ inr (elim other [ inl overlap ↦ inl (told.2.0 ∙ overlap) | inr kept ↦ inr kept ])
+    ]

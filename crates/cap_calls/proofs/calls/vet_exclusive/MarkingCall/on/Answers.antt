@@ -1,5 +1,5 @@
 -- What is marked is the view.
-use Rattle.std.proofs.Common.{◌∙◌, ◌≡◌, ◌≤◌, ◌+◌, ◌/◌, List, ℕ, ap, ap₂, drop, inl, length, refl, subst}
+use Rattle.std.proofs.Common.{◌∙◌, ◌≡◌, ◌≤◌, ◌+◌, ◌/◌, ap, ap₂, drop, inl, length, refl, subst}
 use Rattle.cap_frame.specs.Bytes.{cut}
 use Rattle.cap_frame.specs.declared.view.ByteView.{ByteView}
 use Rattle.cap_spec.specs.Occupying.{IsDisjoint}

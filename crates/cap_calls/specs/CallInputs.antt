@@ -1,0 +1,50 @@
+-- The input of a call: a frame, or with the flag 8 the words of one segment (profile; standard: 64-bit Words).
+use Rattle.std.specs.Prelude.{ℕ, ◌≡◌, ◌≤◌, ◌<◌, ◌+◌, ◌*◌, ◌/◌, ◌%◌, Bool, IsFalse, IsTrue, List, [], ◌∷◌, length}
+use Rattle.cap_frame.specs.declared.fault.FrontFault.TheVariants.{TooManySegments, TooLarge, Truncated}
+use Rattle.cap_spec.specs.Plain.{plain_words}
+use Rattle.cap_calls.specs.CallFindings.{TellsWhole, framed_found, none_found}
+use Rattle.cap_calls.specs.CallFlags.{HasWordFlags, has_no_table}
+use Rattle.cap_calls.specs.CallFrames.{AreLimits}
+use Rattle.cap_calls.specs.declared.found.Found.{Found}
+use Rattle.cap_calls.specs.declared.front.NoFrame.{NoFrame}
+use Rattle.cap_calls.specs.declared.front.NoFrame.TheVariants.{BadLimits, NoMessage, Fault}
+use Rattle.cap_calls.specs.declared.limits.CallLimits.{CallLimits}
+
+-- with the flag 8: no limit is above its maximum, the other flags may be set beside it, and the reserved fields are 0
+pub record AreWordLimits (l : CallLimits) : Type 0 where
+  pub small : l.message_words ≤ 268435456
+  pub few : l.charge ≤ 268435456
+  pub shallow : l.depth ≤ 256
+  pub flags : HasWordFlags l
+
+-- the same, with or without the flag 8
+pub record AreInputLimits (l : CallLimits) : Type 0 where
+  pub frame : IsFalse (has_no_table l) → AreLimits l
+  pub words : IsTrue (has_no_table l) → AreWordLimits l
+
+-- why the bytes are no segment within the limits: a part of a word counts as a word
+abbrev pub HasNoWords : CallLimits → List ℕ → NoFrame → Type 0
+HasNoWords l bytes BadLimits = ¬ AreWordLimits l
+HasNoWords l bytes NoMessage = AreWordLimits l × (bytes ≡ [])
+HasNoWords l bytes (Fault (TooManySegments count)) = ⊥
+HasNoWords l bytes (Fault (TooLarge words)) = AreWordLimits l × (8 * l.message_words < length bytes)
+    × (words ≡ (length bytes + 7) / 8)
+HasNoWords l bytes (Fault (Truncated wanted)) = AreWordLimits l × (length bytes ≤ 8 * l.message_words)
+    × (0 < length bytes % 8) × (wanted ≡ 8 * (length bytes / 8 + 1))
+
+-- The bytes are the words of one segment, within the limits.
+pub record HasWords (l : CallLimits) (bytes : List ℕ) : Type 0 where
+  pub are_limits : AreWordLimits l
+  pub some : 0 < length bytes
+  pub within : length bytes ≤ 8 * l.message_words
+  pub whole : length bytes % 8 ≡ 0
+
+-- What a call tells of its input: of a frame, or with the flag 8 of a segment, whose length is then the input's.
+pub data TellsInput (whole : Bool) (kept : Type 0) (finds : List (List ℕ) → ℕ → ℕ → Found → Type 0) (l : CallLimits)
+    (bytes : List ℕ) (f : Found) : Type 0 where
+  of_frame : IsFalse (has_no_table l) → TellsWhole whole kept finds l bytes f → TellsInput whole kept finds l bytes f
+  of_no_words : IsTrue (has_no_table l) → (cause : NoFrame) → HasNoWords l bytes cause → f ≡ none_found cause → kept
+      → TellsInput whole kept finds l bytes f
+  of_words : IsTrue (has_no_table l) → (g : Found) → HasWords l bytes → finds (plain_words bytes ∷ []) l.charge l.depth g
+      → f ≡ framed_found (length bytes) 1 g
+      → TellsInput whole kept finds l bytes f

@@ -1,0 +1,100 @@
+//! A call over its input: a frame, or the words of one segment.
+
+ghost use Rattle.cap_calls.specs.CallFindings.{Returns};
+ghost use Rattle.cap_calls.specs.CallFlags.{demands_of, has_no_table};
+ghost use Rattle.cap_calls.specs.CallInputs.{HasNoWords, HasWords, TellsInput};
+ghost use Rattle.cap_calls.specs.declared.found.Found.{Found};
+ghost use Rattle.cap_spec.specs.Plain.{plain_words};
+ghost use Rattle.cap_vet.specs.Limits.{depth_of, words_of};
+ghost use Rattle.std.specs.Prelude.{◌≡◌, [], ◌∷◌, Bool, IfErr, IfOk, IsTrue, List, ℕ};
+
+use crate::answer::Answer;
+use crate::found::Found;
+use crate::front::NoFrame;
+use crate::limits::CallLimits;
+use crate::over::{Call, over};
+use crate::report::CallReport;
+use cap_frame::{ByteView, FrontFault, Segments};
+use cap_vet::Limits;
+
+/// The most words that a message may have.
+const MOST_WORDS: u64 = 268435456;
+
+/// What a call finds of its input: of the message that bytes start with, or with the flag 8 of the
+/// one segment whose words they are. Without that flag, no bytes may follow the message if they
+/// have to be the message as a `whole`. The report is written, and the answer and the count are
+/// returned.
+// The report is written in each branch, since a small message would pay for a copy of it.
+#[inline(always)]
+pub(crate) fn over_input<C: Call>(
+    call: &C,
+    whole: bool,
+    bytes: &[u8],
+    limits: &CallLimits,
+    out: &mut [C::Item],
+    report: &mut CallReport,
+) -> (Answer, usize)
+    ensures { (f : Found) × TellsInput whole (out.new ≡ out.old)
+        (λ m w d g. C.finds call.now (demands_of limits.now) m w d out.old g out.new)
+        limits.now bytes.now f × Returns f result.0 report.new × (result.1 ≡ f.count) }
+{
+    if limits.has_no_table() {
+        let found = over_words(call, bytes, limits, out);
+        *report = found.report;
+        return (found.answer, found.count);
+    }
+    let found = over(call, whole, bytes, limits, out);
+    *report = found.report;
+    (found.answer, found.count)
+}
+
+// The same of words.
+#[cold]
+#[inline(never)]
+fn over_words<C: Call>(call: &C, bytes: &[u8], limits: &CallLimits, out: &mut [C::Item]) -> Found
+    requires { IsTrue (has_no_table limits.now) }
+    ensures { (whole : Bool) → TellsInput whole (out.new ≡ out.old)
+        (λ m w d f. C.finds call.now (demands_of limits.now) m w d out.old f out.new)
+        limits.now bytes.now result }
+{
+    let mut size = [0];
+    match segment_of(bytes, limits, &mut size) {
+        Ok((view, walk)) => call
+            .on(&view, (bytes.len() / 8) as u64, walk, limits.demands(), out)
+            .extent(bytes.len(), 1),
+        Err(cause) => Found::without(cause),
+    }
+}
+
+// The message of one segment whose words the bytes are, with the limits of a walk through it. Its
+// size in words is put into `size`.
+fn segment_of<'b>(
+    bytes: &'b [u8],
+    limits: &CallLimits,
+    size: &'b mut [u32; 1],
+) -> Result<(ByteView<'b>, Limits), NoFrame>
+    ensures limits { IfOk result (λ v. (words_of v.1 ≡ limits.now.charge)
+        × (depth_of v.1 ≡ limits.now.depth)) }
+    ensures words { IfOk result (λ v. HasWords limits.now bytes.now) }
+    ensures segments { let of = ⟦<ByteView<'b> as Segments>⟧.segments in
+        IfOk result (λ v. of v.0 ≡ plain_words bytes.now ∷ []) }
+    ensures none { IfErr result (HasNoWords limits.now bytes.now) }
+{
+    if !limits.has_word_flags() || limits.message_words > MOST_WORDS {
+        return Err(NoFrame::BadLimits);
+    }
+    let Some(walk) = Limits::new(limits.charge, limits.depth) else {
+        return Err(NoFrame::BadLimits);
+    };
+    if bytes.is_empty() {
+        return Err(NoFrame::NoMessage);
+    }
+    let words = (bytes.len() - 1) as u64 / 8 + 1;
+    if words > limits.message_words {
+        return Err(NoFrame::Fault(FrontFault::TooLarge { words }));
+    }
+    match ByteView::of_words(bytes, size) {
+        Some(view) => Ok((view, walk)),
+        None => Err(NoFrame::Fault(FrontFault::Truncated { wanted: 8 * words })),
+    }
+}
