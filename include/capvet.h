@@ -19,7 +19,7 @@
  *
  * CALLS
  *
- *   check        capvet_vet, capvet_vet_exclusive
+ *   check        capvet_vet, capvet_vet_exclusive, capvet_vet_segments
  *   frames       capvet_frame, capvet_segment_at
  *   canonical    capvet_canonical, capvet_is_canonical
  *   packing      capvet_pack, capvet_unpack
@@ -70,7 +70,8 @@
  * Order. If more than one answer applies, the first of these is returned:
  *   1. CAPVET_BAD_LIMITS
  *   2. the frame: CAPVET_NO_MESSAGE, CAPVET_TRUNCATED (less than 8 bytes), CAPVET_TOO_MANY_SEGMENTS,
- *      CAPVET_TRUNCATED (the table), CAPVET_TOO_LARGE, CAPVET_TRUNCATED (the segments), CAPVET_TRAILING
+ *      CAPVET_TRUNCATED (the table), CAPVET_TOO_LARGE, CAPVET_TRUNCATED (the segments), CAPVET_TRAILING;
+ *      for other inputs see CAPVET_NO_TABLE and capvet_vet_segments
  *   3. the answers from CAPVET_NO_ROOT on: of the first such pointer in preorder the lowest number
  *   4. CAPVET_MANY_SEGMENTS; then CAPVET_NULL_PAD, CAPVET_EMPTY_SEGMENT or CAPVET_CAPABILITY_PAD, whichever
  *      pointer comes first in preorder
@@ -166,6 +167,7 @@ typedef enum capvet_answer {
   CAPVET_BAD_LIMITS = 8,       /* a limit above its maximum, an unknown flag, a reserved field not 0 */
   CAPVET_BUFFER_TOO_SMALL = 9, /* the output buffer is too small; the required size was reported */
   CAPVET_NO_SEGMENT = 11,      /* the message has no segment of this number */
+  CAPVET_BAD_SEGMENT = 12,     /* a segment's length is no multiple of 8; report->detail: which segment */
 
   CAPVET_NOT_CANONICAL = 16,
   CAPVET_HAS_CAPABILITY = 17, /* there is no canonical form; the place is the first capability's */
@@ -207,6 +209,7 @@ CAPVET_INLINE const char *capvet_answer_name(uint32_t answer) CAPVET_NOEXCEPT {
     case CAPVET_BAD_LIMITS: return "BadLimits";
     case CAPVET_BUFFER_TOO_SMALL: return "BufferTooSmall";
     case CAPVET_NO_SEGMENT: return "NoSegment";
+    case CAPVET_BAD_SEGMENT: return "BadSegment";
     case CAPVET_NOT_CANONICAL: return "NotCanonical";
     case CAPVET_HAS_CAPABILITY: return "HasCapability";
     case CAPVET_OVERLAP: return "Overlap";
@@ -290,7 +293,7 @@ void capvet_limits_default(capvet_limits *limits) CAPVET_NOEXCEPT;
  * A library of a later minor version may set reserved fields: do not compare reports by memcmp. */
 typedef struct capvet_report {
   uint64_t length;       /* bytes of the frame, table included, also of a refused message; 0 after the
-                            answers 1 to 4 and 8: the next message of a buffer starts after them */
+                            answers 1 to 4, 8 and 12: the next message of a buffer starts after them */
   uint64_t required;     /* CAPVET_NO_MESSAGE, CAPVET_TRUNCATED: the least length of the input that gets
                             further: 8, then the bytes of the table, then those of the whole frame */
   uint64_t detail;       /* the number that the answer's comment names */
@@ -360,6 +363,33 @@ capvet_answer capvet_vet_exclusive(const uint8_t *bytes, size_t length, const ca
 
 /* A `marks_count` that suffices for an input of this length in bytes. */
 #define CAPVET_MARKS_BOUND(length) ((length) / UINT64_C(512) + 1)
+
+/* One segment of a message that is not framed. */
+typedef struct capvet_segment {
+  const uint8_t *bytes;
+  size_t length; /* in bytes, a multiple of 8 */
+} capvet_segment;
+
+/* capvet_vet_segments -- checks a message whose segments are separate buffers, as a MessageReader has them.
+ *
+ *   segments, count  the segments in order, 1 to 512
+ *
+ * Returns what capvet_vet returns for the frame of these segments, and the same report. Exception:
+ * report->length is the bytes of all segments, without a table. In place of the answers about the frame,
+ * the first of these that applies:
+ *
+ *   - CAPVET_NO_MESSAGE: `count` is 0 (report->required is then 0 too)
+ *   - CAPVET_TOO_MANY_SEGMENTS: it is more than 512
+ *   - CAPVET_BAD_SEGMENT: a length is no multiple of 8; report->detail: the first such segment
+ *   - CAPVET_TOO_LARGE: all segments have more than limits->message_words words
+ *
+ * From libcapnp pass getSegment(i).asBytes(): its size() counts words. CAPVET_ALLOW_TRAILING has no effect
+ * here, and CAPVET_NO_TABLE gives CAPVET_BAD_LIMITS. Nothing is copied.
+ *
+ * Cost: one walk, and one step for each segment. */
+CAPVET_CALL((3, 4))
+capvet_answer capvet_vet_segments(const capvet_segment *segments, size_t count, const capvet_limits *limits,
+                                  capvet_report *report) CAPVET_NOEXCEPT;
 
 /* ------------------------------------------------------------------------------------------------------
  * Frames

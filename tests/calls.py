@@ -80,7 +80,7 @@ def wanted_symbols(archive):
     told("what the archive wants", undefined - own <= {"memcpy", "memmove", "memset"}, str(undefined - own))
     for name in ("capvet_version", "capvet_frame", "capvet_vet", "capvet_vet_exclusive", "capvet_is_canonical",
                  "capvet_canonical", "capvet_pack", "capvet_unpack", "capvet_limits_default",
-                 "capvet_abi_1", "capvet_segment_at"):
+                 "capvet_abi_1", "capvet_segment_at", "capvet_vet_segments"):
         told(f"the archive has {name}", name in own)
 
 

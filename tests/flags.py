@@ -10,13 +10,13 @@ from pathlib import Path
 
 import model
 import strict
-from model import ANSWERS, CANONICAL, EXCLUSIVE, FIELDS, NO_TABLE, SEGMENT_AT, Limits
+from model import ANSWERS, CANONICAL, EXCLUSIVE, FIELDS, NO_TABLE, SEGMENT_AT, VET_SEGMENTS, Limits
 
 MANY = 20_000
 # `required` of a call that has none, and a report's fields with the reserved ones
 REPLY = struct.Struct("<IQ6Q4I4Q")
 CALLS = ("capvet_frame", "capvet_vet", "capvet_vet_exclusive", "capvet_canonical", "capvet_is_canonical",
-         "capvet_segment_at")
+         "capvet_segment_at", "capvet_vet_segments")
 
 
 def framed(*segments):
@@ -28,6 +28,25 @@ def framed(*segments):
 def words_of(message):
     """The bytes after the table."""
     return message[8 * ((struct.unpack_from("<I", message)[0] + 1) // 2 + 1):] if len(message) >= 8 else message
+
+
+def separated(message):
+    """The segments of a frame after their lengths, and how many they are. Bytes after the frame belong to the last segment, and
+    bytes without a frame are one."""
+    segments, _ = model.framed(message, Limits(message_words=1 << 28))
+    if segments is None:
+        parts = [message] if message else []
+    else:
+        parts = [struct.pack(f"<{len(it)}Q", *it) for it in segments]
+        parts[-1] += message[8 * (len(parts) // 2 + 1) + sum(map(len, parts)):]
+    return struct.pack(f"<{len(parts)}I", *map(len, parts)) + b"".join(parts), len(parts)
+
+
+def asked(call, data, limits, size):
+    """A call over this input, which is given in the form that the call takes."""
+    if call == VET_SEGMENTS:
+        data, size = separated(data)
+    return call, data, limits, size
 
 
 def amplified():
@@ -55,17 +74,20 @@ def requests(small, made_up, changed, chance):
             for call in range(len(CALLS)):
                 if flags & NO_TABLE:
                     # (what is after the table; below the table is part of the words)
-                    yield call, words_of(message), Limits(flags=flags), chance.choice((0, 1, 1 << 16))
+                    yield asked(call, words_of(message), Limits(flags=flags), chance.choice((0, 1, 1 << 16)))
                 # (each one for small messages, and one of them for others)
                 more = (0, 1, 7, 8) if len(message) < 200 else (chance.choice((0, 0, 1, 7, 8)),)
                 for count in more:
-                    yield call, message + bytes(count), Limits(flags=flags), chance.choice((0, 1, 1 << 16))
+                    yield asked(call, message + bytes(count), Limits(flags=flags), chance.choice((0, 1, 1 << 16)))
     for limits in (Limits(flags=16), Limits(flags=1 << 31), Limits(flags=31), Limits(flags=24), Limits(reserved=(1, 0)), Limits(reserved=(0, 1 << 63)),
                    Limits(message_words=(1 << 28) + 1), Limits(charge=(1 << 28) + 1), Limits(depth=257),
                    Limits(message_words=1 << 28, charge=1 << 28, depth=256, flags=7)):
         for call in range(len(CALLS)):
             for message in (shared, b""):
-                yield call, message, limits, 100
+                yield asked(call, message, limits, 100)
+    for count in (512, 513, 1000):
+        yield VET_SEGMENTS, bytes(4 * count), Limits(), count
+        yield VET_SEGMENTS, struct.pack("<I", 8) + bytes(4 * (count - 1) + 8), Limits(flags=2), count
     few = [message for message in small if len(message) < 1000] + known
     for _ in range(MANY):
         message = made_up(chance) if chance.randrange(3) == 0 else changed(chance.choice(few), chance)
@@ -82,7 +104,7 @@ def requests(small, made_up, changed, chance):
             # a buffer that just suffices, or is one too small
             least = model.called(call, message, limits, 1 << 20)[1]
             size = max(0, least - chance.randrange(2))
-        yield call, message, limits, size
+        yield asked(call, message, limits, size)
 
 
 def compare(told, program, many):

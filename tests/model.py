@@ -8,10 +8,10 @@ from trees import bits, offset
 
 ANSWERS = dict(
     OK=0, NO_MESSAGE=1, TOO_MANY_SEGMENTS=2, TOO_LARGE=3, TRUNCATED=4, TRAILING=5, BAD_LIMITS=8, BUFFER_TOO_SMALL=9,
-    NO_SEGMENT=11, NOT_CANONICAL=16, HAS_CAPABILITY=17, OVERLAP=18, NullPad=19, EmptySegment=20, CapabilityPad=22, MANY_SEGMENTS=23,
+    NO_SEGMENT=11, BAD_SEGMENT=12, NOT_CANONICAL=16, HAS_CAPABILITY=17, OVERLAP=18, NullPad=19, EmptySegment=20, CapabilityPad=22, MANY_SEGMENTS=23,
     NO_ROOT=32, RESERVED=33, SEGMENT_MISSING=34, PAD_OUTSIDE=35, PAD_IS_FAR=36, PAD_NOT_FAR=37, TAG_KIND=38,
     TAG_OFFSET=39, OUT_OF_SEGMENT=40, COMPOSITE_TAG=41, COMPOSITE_OVERRUN=42, DEPTH_LIMIT=43, WORD_LIMIT=44)
-FRAME, VET, EXCLUSIVE, CANONICAL, IS_CANONICAL, SEGMENT_AT = range(6)
+FRAME, VET, EXCLUSIVE, CANONICAL, IS_CANONICAL, SEGMENT_AT, VET_SEGMENTS = range(7)
 TRAILING, NONSTRICT, AMPLIFIED, NO_TABLE = 1, 2, 4, 8
 FIELDS = ("length", "required", "detail", "charge", "pointers", "capabilities", "depth", "segments", "segment", "word")
 ELEMENT_BITS = (0, 1, 8, 16, 32, 64, 64)
@@ -29,7 +29,7 @@ class Limits:
         return struct.pack("<QQII2Q", self.message_words, self.charge, self.depth, self.flags, *self.reserved)
 
     def are_good(self, call):
-        known = self.flags <= 7 or (call != FRAME and self.flags in (NO_TABLE, NO_TABLE | NONSTRICT, NO_TABLE | AMPLIFIED,
+        known = self.flags <= 7 or (call not in (FRAME, VET_SEGMENTS) and self.flags in (NO_TABLE, NO_TABLE | NONSTRICT, NO_TABLE | AMPLIFIED,
                                                                     NO_TABLE | NONSTRICT | AMPLIFIED))
         return (self.message_words <= 1 << 28 and self.charge <= 1 << 28 and self.depth <= 256 and known
                 and self.reserved == (0, 0))
@@ -283,9 +283,41 @@ def of_words(data, limits):
     return [struct.unpack(f"<{words}Q", data)], len(data)
 
 
+def separate(data, count):
+    """The segments whose lengths come first, four bytes each."""
+    parts, at = [], 4 * count
+    for length in struct.unpack_from(f"<{count}I", data):
+        parts.append(data[at:at + length])
+        at += length
+    return parts
+
+
+def of_parts(parts, limits):
+    """The message of separate segments, and their length. Otherwise the answer with its fields."""
+    bad = [number for number, part in enumerate(parts) if len(part) % 8]
+    words = sum(map(len, parts)) // 8
+    if not parts:
+        return None, ("NO_MESSAGE", {})
+    if len(parts) > 512:
+        return None, ("TOO_MANY_SEGMENTS", dict(detail=len(parts)))
+    if bad:
+        return None, ("BAD_SEGMENT", dict(detail=bad[0]))
+    if words > limits.message_words:
+        return None, ("TOO_LARGE", dict(detail=words))
+    return [struct.unpack(f"<{len(part) // 8}Q", part) for part in parts], 8 * words
+
+
+def taken(call, data, limits, size):
+    """The message of a call's input, and its length. Otherwise the answer with its fields."""
+    if call == VET_SEGMENTS:
+        return of_parts(separate(data, size), limits)
+    return (of_words if limits.flags & NO_TABLE else framed)(data, limits)
+
+
 def called(call, data, limits, size):
     """The answer of a call, what it sets `required` to, the fields of its report, and the bytes that it writes. Of a segment
-    `size` is the number, `required` is where it starts, and the report has its length."""
+    `size` is the number, `required` is where it starts, and the report has its length. Of separate segments it is how many
+    they are."""
 
     def result(answer, count=0, out=b"", **fields):
         return ANSWERS[answer], count, tuple(fields.get(name, 0) for name in FIELDS), out
@@ -299,14 +331,14 @@ def called(call, data, limits, size):
         return result("OK", frame - 8 * sum(map(len, message[size:])), length=8 * len(message[size]))
     if not limits.are_good(call):
         return result("BAD_LIMITS")
-    message, frame = (of_words if limits.flags & NO_TABLE else framed)(data, limits)
+    message, frame = taken(call, data, limits, size)
     if message is None:
         answer, fields = frame
         return result(answer, **fields)
     extent = dict(length=frame, segments=len(message))
     if call == FRAME:
         return result("OK", **extent)
-    if len(data) > frame and (call == IS_CANONICAL or not limits.flags & TRAILING):
+    if call != VET_SEGMENTS and len(data) > frame and (call == IS_CANONICAL or not limits.flags & TRAILING):
         return result("TRAILING", detail=len(data) - frame, **extent)
     words = sum(map(len, message))
     charge = limits.charge if limits.flags & AMPLIFIED else min(limits.charge, words + SLACK)
@@ -325,7 +357,7 @@ def called(call, data, limits, size):
     except Refused as fault:
         answer, segment, word, pointers = fault.args
         return result(answer, marks if answer == "OVERLAP" else 0, segment=segment, word=word, pointers=pointers, **extent)
-    if call == VET:
+    if call in (VET, VET_SEGMENTS):
         return result("OK", **numbers)
     if tree.capabilities:
         return result("HAS_CAPABILITY" if call == CANONICAL else "NOT_CANONICAL", **numbers)

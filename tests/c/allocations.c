@@ -76,13 +76,14 @@ static const struct {
   reporting call;
 } CALLS[] = {{"capvet_frame", capvet_frame}, {"capvet_vet", capvet_vet}, {"capvet_is_canonical", capvet_is_canonical}};
 
-enum { FRAME, VET, IS_CANONICAL, UNPACK, PACK, EXCLUSIVE, SEGMENT_AT, COUNT };
+enum { FRAME, VET, IS_CANONICAL, UNPACK, PACK, EXCLUSIVE, SEGMENT_AT, VET_SEGMENTS, COUNT };
 
 /* How often each call gave each answer. */
 static unsigned long seen[COUNT][64];
 
 static void answered(int call, unsigned long before, uint32_t answer) {
-  static const char *const others[] = {"capvet_unpack", "capvet_pack", "capvet_vet_exclusive", "capvet_segment_at"};
+  static const char *const others[] = {"capvet_unpack", "capvet_pack", "capvet_vet_exclusive", "capvet_segment_at",
+                                       "capvet_vet_segments"};
   const char *name = call >= UNPACK ? others[call - UNPACK] : CALLS[call].name;
   expect(taken == before, name, taken - before);
   if (answer < 64) seen[call][answer]++;
@@ -131,15 +132,23 @@ static void marks(const uint8_t *bytes, size_t length) {
   }
 }
 
-/* Each of the first two segments. */
+/* Each of the first two segments, and these as separate ones. */
 static void segments(const uint8_t *bytes, size_t length) {
+  capvet_segment parts[2] = {{NULL, 0}, {NULL, 0}};
+  capvet_report report;
   size_t offset, own;
-  uint32_t index;
+  uint32_t index, answer;
+  unsigned long before;
   for (index = 0; index < 2; index++) {
-    unsigned long before = taken;
-    uint32_t answer = capvet_segment_at(bytes, length, index, &offset, &own);
+    before = taken;
+    answer = capvet_segment_at(bytes, length, index, &offset, &own);
     answered(SEGMENT_AT, before, answer);
+    if (answer == CAPVET_OK) parts[index].bytes = bytes + offset;
+    parts[index].length = own;
   }
+  before = taken;
+  answer = capvet_vet_segments(parts, 2, &LIMITS[0], &report);
+  answered(VET_SEGMENTS, before, answer);
 }
 
 typedef capvet_answer (*spelling)(const uint8_t *, size_t, uint8_t *, size_t, size_t *);
@@ -195,6 +204,8 @@ static const struct {
               {EXCLUSIVE, CAPVET_TRUNCATED},
               {SEGMENT_AT, CAPVET_OK},
               {SEGMENT_AT, CAPVET_NO_SEGMENT},
+              {VET_SEGMENTS, CAPVET_OK},
+              {VET_SEGMENTS, CAPVET_NO_ROOT},
               {UNPACK, CAPVET_OK},
               {UNPACK, CAPVET_BUFFER_TOO_SMALL},
               {UNPACK, CAPVET_TRUNCATED},

@@ -48,6 +48,7 @@ static void layout(void) {
   EXPECT(offsetof(capvet_limits, depth) == 16, "limits.depth", offsetof(capvet_limits, depth));
   EXPECT(offsetof(capvet_limits, flags) == 20, "limits.flags", offsetof(capvet_limits, flags));
   EXPECT(offsetof(capvet_limits, reserved) == 24, "limits.reserved", offsetof(capvet_limits, reserved));
+  EXPECT(sizeof(capvet_segment) == 16 && offsetof(capvet_segment, length) == 8, "a segment", sizeof(capvet_segment));
   EXPECT(sizeof(capvet_report) == 96, "size of a report", sizeof(capvet_report));
   EXPECT(offsetof(capvet_report, capabilities) == 40, "report.capabilities", offsetof(capvet_report, capabilities));
   EXPECT(offsetof(capvet_report, depth) == 48, "report.depth", offsetof(capvet_report, depth));
@@ -437,6 +438,37 @@ static void words(void) {
   free(whole);
 }
 
+/* Separate segments. */
+static void separate(void) {
+  capvet_segment parts[513] = {{NULL, 0}};
+  capvet_report r = unwritten();
+  uint8_t *first = block(TWO + 16, 8, 1), *second = block(TWO + 24, 32, 3);
+  parts[0].bytes = first + 1;
+  parts[0].length = 8;
+  parts[1].bytes = second + 3;
+  parts[1].length = 32;
+  EXPECT(capvet_vet_segments(parts, 2, &WHOLE, &r) == CAPVET_OK && r.length == 40 && r.segments == 2, "two segments",
+         r.length);
+  EXPECT(r.charge == 4 && r.pointers == 3 && r.capabilities == 1 && r.segment == 1 && r.word == 3, "their tree", r.charge);
+  EXPECT(capvet_vet_segments(parts, 1, &WHOLE, &r) == CAPVET_SEGMENT_MISSING && r.length == 8, "one of them", r.length);
+  EXPECT(capvet_vet_segments(parts, 512, &LIMITS, &r) == CAPVET_MANY_SEGMENTS && r.segments == 512, "512 segments",
+         r.segments);
+  EXPECT(capvet_vet_segments(parts, 513, &WHOLE, &r) == CAPVET_TOO_MANY_SEGMENTS && r.detail == 513, "513 segments",
+         r.detail);
+  EXPECT(capvet_vet_segments(parts + 2, 1, &WHOLE, &r) == CAPVET_NO_ROOT && r.segments == 1, "a segment at NULL",
+         r.segments);
+  parts[1].length = 31;
+  EXPECT(capvet_vet_segments(parts, 2, &WHOLE, &r) == CAPVET_BAD_SEGMENT && r.detail == 1, "a part of a word", r.detail);
+  parts[1].length = (size_t)INT64_MAX - 7;
+  parts[1].length -= parts[1].length % 8;
+  EXPECT(capvet_vet_segments(parts, 2, &WHOLE, &r) == CAPVET_TOO_LARGE && r.detail == parts[1].length / 8 + 1,
+         "words past the limit", r.detail);
+  r = unwritten();
+  EXPECT(capvet_vet_segments(NULL, 0, &WHOLE, &r) == CAPVET_NO_MESSAGE && r.required == 0, "no segments", r.required);
+  free(first);
+  free(second);
+}
+
 /* Each buffer of each call may be NULL if it is empty. */
 static void nulls(void) {
   capvet_report r;
@@ -487,6 +519,7 @@ int main(void) {
   marking();
   places();
   words();
+  separate();
   nulls();
   if (failures == 0) printf("calls: all as promised\n");
   return failures != 0;

@@ -1,8 +1,9 @@
 /* flags REQUESTS: makes the calls that a file asks for, and writes what each of them answers and reports.
  *
  * A request is the number of a call (0 capvet_frame, 1 capvet_vet, 2 capvet_vet_exclusive, 3 capvet_canonical,
- * 4 capvet_is_canonical, 5 capvet_segment_at), the size or count of its output buffer or the number of the
- * segment, the limits, the length of the input and the input. A reply is the answer, `required` in 8 bytes, the report, and the bytes that capvet_canonical wrote.
+ * 4 capvet_is_canonical, 5 capvet_segment_at, 6 capvet_vet_segments), the size or count of its output buffer or the number of the
+ * segment, the limits, the length of the input and the input. Separate segments come after their lengths, and
+ * the number before the limits is how many they are. A reply is the answer, `required` in 8 bytes, the report, and the bytes that capvet_canonical wrote.
  * Of a segment `required` is where it starts, and the report has only its length. The other numbers have four bytes. Each buffer is a block of its own of exactly its length, and an empty one
  * is NULL. The status is 4 if a call changed anything of an output buffer that it may not. */
 #include <capvet.h>
@@ -11,7 +12,7 @@
 #include <stdlib.h>
 #include <string.h>
 
-enum { FRAME, VET, EXCLUSIVE, CANONICAL, IS_CANONICAL, SEGMENT_AT };
+enum { FRAME, VET, EXCLUSIVE, CANONICAL, IS_CANONICAL, SEGMENT_AT, VET_SEGMENTS };
 
 /* Reads a part of a request. */
 static int take(FILE *file, void *to, size_t length) { return length == 0 || fread(to, 1, length, file) == length; }
@@ -26,6 +27,27 @@ static void are_kept(const uint8_t *bytes, size_t from, size_t to) {
     if (bytes[from] != 0xee) exit(4);
 }
 
+/* Vets separate segments, each in a block of its own of exactly its length, or NULL if it is empty. */
+static uint32_t separate(const uint8_t *input, uint32_t count, const capvet_limits *limits, capvet_report *report) {
+  capvet_segment *segments = count == 0 ? NULL : malloc(count * sizeof *segments);
+  const uint8_t *from = input + 4 * (size_t)count;
+  uint32_t answer, i, length;
+  if (count != 0 && segments == NULL) exit(3);
+  for (i = 0; i < count; i++) {
+    uint8_t *own;
+    memcpy(&length, input + 4 * (size_t)i, 4);
+    own = length == 0 ? NULL : malloc(length);
+    if (length != 0) memcpy(own, from, length);
+    segments[i].bytes = own;
+    segments[i].length = length;
+    from += length;
+  }
+  answer = capvet_vet_segments(segments, count, limits, report);
+  for (i = 0; i < count; i++) free((void *)segments[i].bytes);
+  free(segments);
+  return answer;
+}
+
 int main(int count, char **words) {
   FILE *file = count == 2 ? fopen(words[1], "rb") : NULL;
   uint32_t head[2], length;
@@ -36,7 +58,7 @@ int main(int count, char **words) {
     capvet_limits limits;
     capvet_report report;
     size_t required = 77, item = head[0] == EXCLUSIVE ? 8 : 1, written = 0;
-    size_t size = head[0] == SEGMENT_AT ? 0 : head[1] * item, own = 77;
+    size_t size = head[0] >= SEGMENT_AT ? 0 : head[1] * item, own = 77;
     uint8_t *bytes, *out = malloc(size + item);
     uint64_t told;
     uint32_t answer;
@@ -63,6 +85,7 @@ int main(int count, char **words) {
         memset(&report, 0, sizeof report);
         report.length = own;
         break;
+      case VET_SEGMENTS: answer = separate(bytes + 1, head[1], &limits, &report); break;
       default: answer = capvet_is_canonical(input, length, &limits, &report); break;
     }
     if (written > size) return 4;

@@ -7,7 +7,8 @@
  * is refused or has a capability. Each is written into a block that ends with it.
  *
  * Of a message of one segment, the calls have to report the same of its words alone, by CAPVET_NO_TABLE, apart
- * from their length. A canonical copy has to be canonical without a table. Otherwise the status is 5.
+ * from their length, and capvet_vet_segments of the segments of each message. A canonical copy has to be
+ * canonical without a table. Otherwise the status is 5.
  *
  * lines unpack FILE: the words of a packed text, or the program's line where it is cut. They are written
  * into a block that ends with them. */
@@ -156,6 +157,31 @@ static uint32_t exclusive(const uint8_t *bytes, size_t length, const capvet_limi
   return answer;
 }
 
+/* Stops unless the answer and the report are those of the same segments, each in a block of its own that starts at
+ * an odd address. */
+static void separate(const uint8_t *frame, const capvet_limits *limits, uint32_t answer, const capvet_report *report) {
+  capvet_segment segments[CAPVET_MAX_SEGMENTS];
+  uint8_t *blocks[CAPVET_MAX_SEGMENTS];
+  capvet_report again;
+  size_t at, size, end = 8 * ((size_t)report->segments / 2 + 1);
+  uint32_t i;
+  for (i = 0; i < report->segments; i++) {
+    if (capvet_segment_at(frame, (size_t)report->length, i, &at, &size) != CAPVET_OK || at != end) exit(5);
+    blocks[i] = malloc(size + 1);
+    if (blocks[i] == NULL) exit(3);
+    memcpy(blocks[i] + 1, frame + at, size);
+    segments[i].bytes = size == 0 ? NULL : blocks[i] + 1;
+    segments[i].length = size;
+    end = at + size;
+  }
+  if (end != report->length || capvet_segment_at(frame, end, i, &at, &size) != CAPVET_NO_SEGMENT) exit(5);
+  memset(&again, 0xa5, sizeof again);
+  if (capvet_vet_segments(segments, report->segments, limits, &again) != (capvet_answer)answer) exit(5);
+  again.length += 8 * (report->segments / 2 + 1);
+  if (memcmp(&again, report, sizeof again) != 0) exit(5);
+  for (i = 0; i < report->segments; i++) free(blocks[i]);
+}
+
 /* Stops unless the answer and the report are those of the words of a segment, without a table before them. */
 static void without_table(int check, int twice, const uint8_t *frame, const capvet_limits *limits, uint32_t answer,
                           const capvet_report *report) {
@@ -213,6 +239,7 @@ int main(int count, char **words) {
                : twice ? exclusive(block + 1, size, &limits, &report)
                      : capvet_vet(block + 1, size, &limits, &report);
       if (report.segments == 1 && report.length > 8) without_table(check, twice, block + 1, &limits, answer, &report);
+      if (!check && !twice && report.length != 0) separate(block + 1, &limits, answer, &report);
     }
     free(block);
     if (status > 1) return status;

@@ -5,7 +5,10 @@ pub mod Copied
 pub mod Marked
 pub mod Packed
 pub mod Segments
+pub mod SeparateSegments
+pub mod SliceSegments
 pub mod SegmentPlaces
+pub mod SegmentsAsFramed
 pub mod Texts
 pub mod Unpacked
 pub mod Wider

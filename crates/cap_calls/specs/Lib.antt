@@ -10,3 +10,5 @@ pub mod CanonicalCalls
 pub mod ExclusiveCalls
 pub mod PackCalls
 pub mod SegmentCalls
+pub mod SegmentsCalls
+pub mod Slices

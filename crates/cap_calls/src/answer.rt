@@ -28,6 +28,8 @@ pub enum Answer {
     BufferTooSmall = 9,
     /// The message has no segment of this number.
     NoSegment = 11,
+    /// The length of a segment is no multiple of 8.
+    BadSegment = 12,
     /// The message is accepted, and isn't its own canonical copy.
     NotCanonical = 16,
     /// The message is accepted, and has a capability, so that it has no canonical copy.

@@ -9,3 +9,4 @@ pub(crate) mod unpack;
 pub(crate) mod version;
 pub(crate) mod vet;
 pub(crate) mod vet_exclusive;
+pub(crate) mod vet_segments;

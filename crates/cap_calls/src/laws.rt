@@ -1,9 +1,12 @@
 //! What the flags mean: with all three a call accepts what [`cap_vet::vet`] does, and one more never
-//! refuses more.
+//! refuses more. And separate segments are vetted as their frame is.
 
 ghost use Rattle.cap_calls.specs.CallFindings.{JudgesAny, Returns, Tells, TellsWhole};
 ghost use Rattle.cap_calls.specs.CallFlags.{AllowsMore};
+ghost use Rattle.cap_calls.specs.CallFrames.{HasFrame};
 ghost use Rattle.cap_calls.specs.CallInputs.{AreInputLimits};
+ghost use Rattle.cap_calls.specs.SegmentsCalls.{TellsSegments};
+ghost use Rattle.cap_calls.specs.Slices.{AreSegments, segments_in};
 ghost use Rattle.cap_calls.specs.Calls.{IsCheck, IsGood, TellsCheck, TellsVet};
 ghost use Rattle.cap_calls.specs.CanonicalCalls.{TellsAnyCopy, TellsCopy};
 ghost use Rattle.cap_calls.specs.ExclusiveCalls.{MarksAny, TellsExclusive};
@@ -12,7 +15,7 @@ ghost use Rattle.cap_calls.specs.declared.answer.Answer.TheVariants.{Good};
 ghost use Rattle.cap_calls.specs.declared.found.Found.{Found};
 ghost use Rattle.cap_calls.specs.declared.limits.CallLimits.{CallLimits};
 ghost use Rattle.cap_calls.specs.declared.report.CallReport.{CallReport};
-ghost use Rattle.std.specs.Prelude.{◌≡◌, ◌↔◌, List, true, ℕ, ⊤};
+ghost use Rattle.std.specs.Prelude.{◌≡◌, ◌↔◌, List, length, true, ℕ, ⊤};
 
 /// With all three flags a call judges the message that bytes start with as `vet` of the crate
 /// `cap_vet` does, within the limits of charge and depth, and demands nothing else of it. For
@@ -37,4 +40,13 @@ pub fn wider_limits_accept_as_much()
     ensures { (l k : CallLimits) (bytes : List ℕ) (r : CallReport) → AreInputLimits k →
         AllowsMore l k →
         TellsVet l bytes Good r → TellsVet k bytes Good r }
+{}
+
+/// What [`crate::vet_segments`] returns of separate segments, [`crate::vet`] returns of the bytes that
+/// frame them, with the same report apart from its length.
+pub fn separate_segments_are_vetted_as_framed()
+    ensures { (l : CallLimits) (parts : List (List ℕ)) (bytes : List ℕ) (n : ℕ) (a : Answer)
+        (r : CallReport) → AreSegments l.message_words parts →
+        HasFrame l bytes (length bytes) n (segments_in parts) → TellsSegments l parts a r →
+        TellsVet l bytes a (record r { length = length bytes }) }
 {}

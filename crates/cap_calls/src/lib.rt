@@ -10,6 +10,7 @@ mod laws;
 mod limits;
 mod over;
 mod report;
+mod slices;
 
 pub use answer::Answer;
 pub use calls::canonical::canonical;
@@ -21,7 +22,10 @@ pub use calls::unpack::unpack;
 pub use calls::version::version;
 pub use calls::vet::vet;
 pub use calls::vet_exclusive::vet_exclusive;
+pub use calls::vet_segments::vet_segments;
 pub use front::NoFrame;
-pub use laws::{all_flags_demand_nothing, wider_limits_accept_as_much};
+pub use laws::{
+    all_flags_demand_nothing, separate_segments_are_vetted_as_framed, wider_limits_accept_as_much,
+};
 pub use limits::CallLimits;
 pub use report::CallReport;

@@ -9,14 +9,16 @@ ghost use Rattle.cap_calls.specs.CanonicalCalls.{TellsCopy};
 ghost use Rattle.cap_calls.specs.ExclusiveCalls.{TellsExclusive};
 ghost use Rattle.cap_calls.specs.PackCalls.{TellsPack, TellsUnpack};
 ghost use Rattle.cap_calls.specs.SegmentCalls.{AreSegmentWords, TellsSegment};
+ghost use Rattle.cap_calls.specs.SegmentsCalls.{TellsSegments};
 ghost use Rattle.cap_calls.specs.declared.answer.Answer.{Answer};
 ghost use Rattle.cap_calls.specs.declared.answer.Answer.TheVariants.{Good, Overlap};
 ghost use Rattle.cap_calls.specs.declared.report.CallReport.{CallReport};
+ghost use Rattle.cap_calls.specs.Slices.{bytes_of};
 ghost use Rattle.std.specs.Prelude.{◌*◌, ◌+◌, ◌/◌, ◌≡◌, ◌≤◌, ◌⊎◌, IsFalse, List, drop, length, ℕ};
 
 use cap_calls::{
     CallLimits, CallReport, canonical, frame, is_canonical, pack, segment_at, unpack, version, vet,
-    vet_exclusive,
+    vet_exclusive, vet_segments,
 };
 
 /// Returns the version of the library: 65536 times its major number, 256 times its minor number,
@@ -98,6 +100,26 @@ pub extern "C" fn capvet_vet(bytes: &[u8], limits: &CallLimits, report: &mut Cal
         (result ≡ number_of a) × (report.new ≡ r) }
 {
     vet(bytes, limits, report).number()
+}
+
+/// Vets the message whose segments are these buffers, as [`capvet_vet`] vets its frame.
+/// `report.length` is the bytes of all segments. `CAPVET_NO_MESSAGE`: there is no segment.
+/// `CAPVET_BAD_SEGMENT`: the length of one is no multiple of 8. The result is the number of what
+/// [`vet_segments`] returns. The report is written whole. Nothing is copied or allocated.
+#[unsafe(no_mangle)]
+pub extern "C" fn capvet_vet_segments(
+    segments: &[&[u8]],
+    limits: &CallLimits,
+    report: &mut CallReport,
+) -> u32
+    ensures tells { (a : Answer) × TellsSegments limits.now (bytes_of segments.now) a report.new
+        × (result ≡ number_of a) }
+    // The bytes allow no other result.
+    ensures only { (a : Answer) (r : CallReport) →
+        TellsSegments limits.now (bytes_of segments.now) a r →
+        (result ≡ number_of a) × (report.new ≡ r) }
+{
+    vet_segments(segments, limits, report).number()
 }
 
 /// Vets the message as [`capvet_vet`] does, and also refuses one that uses a word twice. `marks` is

@@ -1,0 +1,82 @@
+-- The bytes of separate segments decide what the call over them finds.
+use Rattle.std.proofs.Common.{ℕ, List, [], ◌∙◌, ◌*◌, ◌<◌, ◌≡◌, ap, arith, inl, inr, length, refl, sym}
+use Rattle.std.specs.Prelude.{⊤}
+use Rattle.std.proofs.lemmas.Bool.{cases_lt}
+use Rattle.cap_calls.specs.Slices.{AreSegments, AreWhole, IsBadSegment, TellsNoSegments, segments_in, words_in}
+use Rattle.cap_calls.specs.declared.slices.SlicesFault.{SlicesFault}
+use Rattle.cap_calls.specs.declared.slices.SlicesFault.TheVariants.{NoSegments, TooManySegments, BadSegment, TooLarge}
+use Rattle.cap_calls.specs.CallFindings.{framed_found}
+use Rattle.cap_calls.specs.CallFlags.{demands_of}
+use Rattle.cap_calls.specs.Calls.{IsGood}
+use Rattle.cap_calls.specs.SegmentsCalls.{FindsSegments, TellsSegments, bad_limits, message, no_message}
+use Rattle.cap_calls.specs.SegmentsCalls.{no_segments_found}
+use Rattle.cap_calls.specs.declared.answer.Answer.{Answer}
+use Rattle.cap_calls.specs.declared.found.Found.{Found}
+use Rattle.cap_calls.specs.declared.limits.CallLimits.{CallLimits}
+use Rattle.cap_calls.specs.declared.report.CallReport.{CallReport}
+use Rattle.cap_calls.proofs.Answers.{one_judged, one_returned}
+
+module _ (limit : ℕ) (parts : List (List ℕ)) where
+  -- a segment that ends inside a word isn't whole
+  not_whole : (s : ℕ) → IsBadSegment parts s → AreWhole parts → ⊥
+  not_whole s h w = omega (arith, h.cut, w s h.inside)
+
+  -- no parts have no words
+  no_words : parts ≡ [] → limit < words_in parts → ⊥
+  no_words e h = omega (arith, ap words_in e, h)
+
+  -- the first one is one
+  one_bad : (s t : ℕ) → IsBadSegment parts s → IsBadSegment parts t → s ≡ t
+  one_bad s t h k = elim (cases_lt s t) [
+    | inl less ↦ absurd (omega (arith, h.cut, k.before s less))
+    | inr more ↦ elim (cases_lt t s) [
+      | inl less ↦ absurd (omega (arith, k.cut, h.before t less))
+      | inr same ↦ omega (arith, more, same)
+    ]
+  ]
+
+  -- there is no message for one cause
+  one_no_segments : (a b : SlicesFault) → TellsNoSegments limit parts a → TellsNoSegments limit parts b → a ≡ b
+  one_no_segments NoSegments NoSegments h k = refl
+  one_no_segments NoSegments (TooManySegments n) h k = absurd (omega (arith, ap length h, k.0))
+  one_no_segments NoSegments (BadSegment t) h k = absurd (omega (arith, ap length h, k.1.inside))
+  one_no_segments NoSegments (TooLarge n) h k = absurd (no_words h k.2)
+  one_no_segments (TooManySegments m) NoSegments h k = absurd (omega (arith, ap length k, h.0))
+  one_no_segments (TooManySegments m) (TooManySegments n) h k = ap (λ (x : ℕ). TooManySegments x) (h.1 ∙ sym k.1)
+  one_no_segments (TooManySegments m) (BadSegment t) h k = absurd (omega (arith, h.0, k.0))
+  one_no_segments (TooManySegments m) (TooLarge n) h k = absurd (omega (arith, h.0, k.0))
+  one_no_segments (BadSegment s) NoSegments h k = absurd (omega (arith, ap length k, h.1.inside))
+  one_no_segments (BadSegment s) (TooManySegments n) h k = absurd (omega (arith, h.0, k.0))
+  one_no_segments (BadSegment s) (BadSegment t) h k = ap (λ (x : ℕ). BadSegment x) (one_bad s t h.1 k.1)
+  one_no_segments (BadSegment s) (TooLarge n) h k = absurd (not_whole s h.1 k.1)
+  one_no_segments (TooLarge m) NoSegments h k = absurd (no_words k h.2)
+  one_no_segments (TooLarge m) (TooManySegments n) h k = absurd (omega (arith, h.0, k.0))
+  one_no_segments (TooLarge m) (BadSegment t) h k = absurd (not_whole t k.1 h.1)
+  one_no_segments (TooLarge m) (TooLarge n) h k = ap (λ (x : ℕ). TooLarge x) (h.3 ∙ sym k.3)
+
+  -- and where there is a cause, there is no message
+  pub not_both : (a : SlicesFault) → TellsNoSegments limit parts a → AreSegments limit parts → ⊥
+  not_both NoSegments h k = omega (arith, ap length h, k.some)
+  not_both (TooManySegments n) h k = omega (arith, h.0, k.few)
+  not_both (BadSegment s) h k = not_whole s h.1 k.whole
+  not_both (TooLarge n) h k = omega (arith, h.2, k.within)
+
+-- So there is one thing to be found.
+one_found : (l : CallLimits) (parts : List (List ℕ)) (f g : Found) → FindsSegments l parts f → FindsSegments l parts g → f ≡ g
+one_found l parts f g (bad_limits h e) (bad_limits k i) = e ∙ sym i
+one_found l parts f g (bad_limits h e) (no_message k b t i) = absurd (h k)
+one_found l parts f g (bad_limits h e) (message k s v t i) = absurd (h k)
+one_found l parts f g (no_message h a t e) (bad_limits k i) = absurd (k h)
+one_found l parts f g (message h s v t e) (bad_limits k i) = absurd (k h)
+one_found l parts f g (no_message h a t e) (no_message k b u i) =
+    e ∙ (ap no_segments_found (one_no_segments l.message_words parts a b t u) ∙ sym i)
+one_found l parts f g (no_message h a t e) (message k s v u i) = absurd (not_both l.message_words parts a t s)
+one_found l parts f g (message h s v t e) (no_message k b u i) = absurd (not_both l.message_words parts b u s)
+one_found l parts f g (message h s v t e) (message k r w u i) =
+    let one = (one_judged {S = ⊤} {P = IsGood} {Q = IsGood} (demands_of l) (segments_in parts) l.charge l.depth v w (λ _ _. tt)
+    (λ z _ p q. (p ∙ sym q, tt)) t u).0 in
+    e ∙ (ap (framed_found (8 * words_in parts) (length parts)) one ∙ sym i)
+
+pub one_segments_told : (l : CallLimits) (parts : List (List ℕ)) (a b : Answer) (r q : CallReport) → TellsSegments l parts a r
+    → TellsSegments l parts b q → (a ≡ b) × (r ≡ q)
+one_segments_told l parts a b r q (f, t, h) (g, u, k) = one_returned f g a b r q (one_found l parts f g t u) h k

@@ -1,0 +1,40 @@
+-- What is found of the message.
+use Rattle.std.proofs.Common.{ℕ, List, ◌≡◌, ◌∙◌, ◌*◌, ap, ap₂, length, refl, subst, sum}
+use Rattle.std.specs.Prelude.{⊤}
+use Rattle.std.proofs.lemmas.List.{length-map}
+use Rattle.cap_spec.specs.Frames.{sizes_of}
+use Rattle.cap_spec.specs.Plain.{plain_words}
+use Rattle.cap_vet.specs.Limits.{depth_of, words_of}
+use Rattle.cap_vet.specs.declared.demands.Demands.{Demands}
+use Rattle.cap_calls.specs.CallFindings.{Judges, framed_found}
+use Rattle.cap_calls.specs.Calls.{IsGood}
+use Rattle.cap_calls.specs.SegmentsCalls.{message, no_message}
+use Rattle.cap_calls.specs.Slices.{AreSegments, TellsNoSegments, bytes_of, segments_in, words_in}
+use Rattle.cap_calls.proofs.calls.vet_segments.found_of.Goals as goal
+
+pub returns-in-Ok : goal.returns-in-Ok
+returns-in-Ok c =
+    let l = c.args.limits.now in
+    let parts = bytes_of c.args.segments.now in
+    let walk = c.in-Some.walk in
+    let g = c.judged.result in
+    let seen = subst (λ (m : List (List ℕ)). Judges c.demands.result ⊤ IsGood m (words_of walk) (depth_of walk) g)
+    c.in-Ok.ensures.segments c.judged.ensures in
+    let charged = subst (λ (w : ℕ). Judges c.demands.result ⊤ IsGood (segments_in parts) w (depth_of walk) g)
+    c.in-Some.ensures.walk.0 seen in
+    let deep = subst (λ (d : ℕ). Judges c.demands.result ⊤ IsGood (segments_in parts) l.charge d g) c.in-Some.ensures.walk.1 charged in
+    let asked = subst (λ (d : Demands). Judges d ⊤ IsGood (segments_in parts) l.charge l.depth g) c.demands.ensures deep in
+    let words : c.words-words.result ≡ words_in parts =
+    c.words-words.ensures ∙ ap (λ (m : List (List ℕ)). sum (sizes_of m)) c.in-Ok.ensures.segments in
+    let many : c.count.result ≡ length parts =
+    c.count.ensures ∙ (ap (λ (m : List (List ℕ)). length m) c.in-Ok.ensures.segments ∙ length-map parts plain_words) in
+    message (c.in-Some.ensures.some.0 refl) (subst (λ (n : ℕ). AreSegments n parts) c.in-Some.ensures.size c.in-Ok.ensures.whole) g
+    asked
+    (c.extent.ensures ∙ ap₂ (λ (x y : ℕ). framed_found (8 * x) y g) words many)
+
+pub returns-in-Err : goal.returns-in-Err
+returns-in-Err c =
+    let parts = bytes_of c.args.segments.now in
+    no_message (c.in-Some.ensures.some.0 refl) c.in-Err.fault
+    (subst (λ (n : ℕ). TellsNoSegments n parts c.in-Err.fault) c.in-Some.ensures.size c.in-Err.ensures.err)
+    c.without_message.ensures

@@ -1,0 +1,49 @@
+-- What the call over separate segments returns and reports, from their bytes alone (profile; standard: Messages).
+use Rattle.std.specs.Prelude.{ℕ, ◌*◌, ◌≡◌, List, length, ⊤}
+use Rattle.cap_calls.specs.Slices.{AreSegments, TellsNoSegments, segments_in, words_in}
+use Rattle.cap_calls.specs.declared.slices.SlicesFault.{SlicesFault}
+use Rattle.cap_calls.specs.declared.slices.SlicesFault.TheVariants as fault
+use Rattle.cap_calls.specs.CallFindings.{Judges, Returns, framed_found, none_found}
+use Rattle.cap_calls.specs.CallFlags.{demands_of}
+use Rattle.cap_calls.specs.CallFrames.{AreLimits}
+use Rattle.cap_calls.specs.CallReports.{none_report}
+use Rattle.cap_calls.specs.Calls.{IsGood}
+use Rattle.cap_calls.specs.declared.answer.Answer.{Answer}
+use Rattle.cap_calls.specs.declared.answer.Answer.TheVariants as answer
+use Rattle.cap_calls.specs.declared.found.Found.{Found}
+use Rattle.cap_calls.specs.declared.front.NoFrame.TheVariants.{BadLimits}
+use Rattle.cap_calls.specs.declared.limits.CallLimits.{CallLimits}
+use Rattle.cap_calls.specs.declared.report.CallReport.{CallReport}
+
+-- what is answered for segments that are no message
+abbrev pub segments_answer : SlicesFault → Answer
+segments_answer fault.NoSegments = answer.NoMessage
+segments_answer (fault.TooManySegments count) = answer.TooManySegments
+segments_answer (fault.BadSegment segment) = answer.BadSegment
+segments_answer (fault.TooLarge words) = answer.TooLarge
+
+-- and reported: how many segments or words, or which segment
+abbrev pub segments_detail : SlicesFault → ℕ
+segments_detail fault.NoSegments = 0
+segments_detail (fault.TooManySegments count) = count
+segments_detail (fault.BadSegment segment) = segment
+segments_detail (fault.TooLarge words) = words
+
+-- of segments that are no message
+abbrev pub no_segments_found : SlicesFault → Found
+no_segments_found f =
+    record { answer = segments_answer f; count = 0; report = record none_report { detail = segments_detail f } }
+
+-- Of these limits, and of the bytes of each segment. The length is that of all segments, without a table.
+pub data FindsSegments (l : CallLimits) (parts : List (List ℕ)) (f : Found) : Type 0 where
+  bad_limits : ¬ AreLimits l → f ≡ none_found BadLimits → FindsSegments l parts f
+  no_message : AreLimits l → (cause : SlicesFault) → TellsNoSegments l.message_words parts cause
+      → f ≡ no_segments_found cause
+      → FindsSegments l parts f
+  message : AreLimits l → AreSegments l.message_words parts → (g : Found)
+      → Judges (demands_of l) ⊤ IsGood (segments_in parts) l.charge l.depth g
+      → f ≡ framed_found (8 * words_in parts) (length parts) g
+      → FindsSegments l parts f
+
+abbrev pub TellsSegments : CallLimits → List (List ℕ) → Answer → CallReport → Type 0
+TellsSegments l parts a r = (f : Found) × FindsSegments l parts f × Returns f a r
