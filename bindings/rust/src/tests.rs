@@ -20,11 +20,13 @@ const CYCLE: [u8; 16] = [0, 0, 0, 0, 1, 0, 0, 0, 0xfc, 0xff, 0xff, 0xff, 0, 0, 1
 // The answers of the header, each with its number.
 fn answers() -> Vec<(String, u32)> {
     let body = HEADER
-        .split("enum {")
+        .split("enum capvet_answer {")
         .nth(1)
-        .and_then(|it| it.split("};").next());
+        .and_then(|it| it.split("} capvet_answer;").next());
     body.expect("the header has an enum")
         .lines()
+        // (the last one only makes the enum large enough)
+        .filter(|line| !line.contains("0x"))
         .filter_map(|line| {
             let (name, number) = line.trim().strip_prefix("CAPVET_")?.split_once(" = ")?;
             let digits = number
@@ -43,7 +45,7 @@ fn variant(name: &str) -> String {
 }
 
 // The answers that are no reason of a refusal at a pointer.
-const OTHERS: [(&str, Answer); 11] = [
+const OTHERS: [(&str, Answer); 13] = [
     ("OK", Answer::OK),
     ("NO_MESSAGE", Answer::NO_MESSAGE),
     ("TOO_MANY_SEGMENTS", Answer::TOO_MANY_SEGMENTS),
@@ -52,6 +54,8 @@ const OTHERS: [(&str, Answer); 11] = [
     ("TRAILING", Answer::TRAILING),
     ("BAD_LIMITS", Answer(8)),
     ("BUFFER_TOO_SMALL", Answer::BUFFER_TOO_SMALL),
+    ("NO_SEGMENT", Answer(11)),
+    ("BAD_SEGMENT", Answer(12)),
     ("NOT_CANONICAL", Answer::NOT_CANONICAL),
     ("HAS_CAPABILITY", Answer::HAS_CAPABILITY),
     ("MANY_SEGMENTS", Answer::MANY_SEGMENTS),
