@@ -262,8 +262,8 @@ CAPVET_INLINE const char *capvet_answer_name(uint32_t answer) CAPVET_NOEXCEPT {
 /* How many words the charge may be above the words of the segments, unless CAPVET_ALLOW_AMPLIFIED is set. */
 #define CAPVET_SLACK 4096
 
-/* What a call accepts. All zero is valid, and refuses nearly everything. Begin with CAPVET_LIMITS_INIT and
- * change fields.
+/* What a call accepts. All zero is valid, and refuses nearly everything. Begin with CAPVET_LIMITS_INIT or
+ * capvet_limits_default, and change fields.
  *
  * A higher limit or an additional CAPVET_ALLOW_ flag never refuses more. A value above its maximum, a flag that the library
  * does not know, or a reserved field that is not 0 gives CAPVET_BAD_LIMITS, in every call with limits. */

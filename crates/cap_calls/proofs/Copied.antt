@@ -30,7 +30,7 @@ use Rattle.cap_calls.specs.declared.limits.CallLimits.{CallLimits}
 use Rattle.cap_calls.specs.declared.report.CallReport.{CallReport}
 use Rattle.cap_calls.proofs.Answers.{one_input_told, one_judged, one_returned}
 use Rattle.cap_calls.proofs.Texts.{one_text}
-use Rattle.cap_calls.proofs.Words.{words_in}
+use Rattle.cap_calls.proofs.Words.{few_words}
 
 abbrev found : Answer → ℕ → CallReport → Found
 found a n r = record { answer = a; count = n; report = r }
@@ -176,4 +176,4 @@ short_input whole l bs old new f un (of_words y g h p e) =
     let short = short_copied (demands_of l) old new (plain_words bs ∷ []) l.charge l.depth g (ap not un) p in
     let count = ap (λ (x : Found). x.count) e in
     let long : f.report.length ≡ length bs = ap (λ (x : Found). x.report.length) e in
-    omega (arith, short, count, long, words_in bs)
+    omega (arith, short, count, long, few_words bs)

@@ -27,7 +27,7 @@ use Rattle.cap_calls.specs.declared.found.Found.{Found}
 use Rattle.cap_calls.specs.declared.limits.CallLimits.{CallLimits}
 use Rattle.cap_calls.specs.declared.report.CallReport.{CallReport}
 use Rattle.cap_calls.proofs.Answers.{one_input_told, one_judged, one_returned}
-use Rattle.cap_calls.proofs.Words.{words_in}
+use Rattle.cap_calls.proofs.Words.{few_words}
 
 -- of an accepted message
 one_marked : (size : ℕ) (m : List (List ℕ)) (r : Report) (f g : Found) → IsMarked size m r f → IsMarked size m r g
@@ -96,7 +96,7 @@ few_input whole l bs size demands f (of_words y g h p e) =
     let some = marked_count size demands (plain_words bs ∷ []) l.charge l.depth g p in
     let count : f.count ≡ g.count = ap (λ (z : Found). z.count) e in
     let long : f.report.length ≡ length bs = ap (λ (z : Found). z.report.length) e in
-    omega (arith, some, count, long, words_in bs)
+    omega (arith, some, count, long, few_words bs)
 
 -- What was found of the marks holds of all the bytes.
 marks_kept : (whole : Bool) (demands : Demands) (l : CallLimits) (bs old new : List ℕ) (f : Found)

@@ -47,7 +47,7 @@ pub one_input : {A : Type 0} → (l : CallLimits) → IsFalse (has_no_table l) �
 one_input l off on = absurd (false≢true (sym off ∙ on))
 
 -- the words are those of the bytes
-pub words_in : (bs : List ℕ) → 8 * sum (sizes_of (plain_words bs ∷ [])) ≤ length bs
-words_in bs =
+pub few_words : (bs : List ℕ) → 8 * sum (sizes_of (plain_words bs ∷ [])) ≤ length bs
+few_words bs =
     let one : sum (sizes_of (plain_words bs ∷ [])) ≡ length (plain_words bs) = zero-add (length (plain_words bs)) in
     omega (arith, one, words_exact bs)

@@ -58,7 +58,7 @@ fn over_words<C: Call>(call: &C, bytes: &[u8], limits: &CallLimits, out: &mut [C
         limits.now bytes.now result }
 {
     let mut size = [0];
-    match segment_of(bytes, limits, &mut size) {
+    match whole_segment(bytes, limits, &mut size) {
         Ok((view, walk)) => call
             .on(&view, (bytes.len() / 8) as u64, walk, limits.demands(), out)
             .extent(bytes.len(), 1),
@@ -68,7 +68,7 @@ fn over_words<C: Call>(call: &C, bytes: &[u8], limits: &CallLimits, out: &mut [C
 
 // The message of one segment whose words the bytes are, with the limits of a walk through it. Its
 // size in words is put into `size`.
-fn segment_of<'b>(
+fn whole_segment<'b>(
     bytes: &'b [u8],
     limits: &CallLimits,
     size: &'b mut [u32; 1],
