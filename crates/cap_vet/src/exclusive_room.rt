@@ -4,6 +4,7 @@
 ghost use Rattle.cap_spec.specs.Occupying.{IsDisjoint, empty_count};
 ghost use Rattle.cap_spec.specs.Frames.{sizes_of};
 ghost use Rattle.cap_spec.specs.Tree.{Tree};
+ghost use Rattle.cap_spec.specs.declared.Refusal.{Refusal};
 ghost use Rattle.cap_vet.specs.Exclusives.{IsExclusiveFault, KeepsRoom, OverlapsFirst, vetted_of};
 ghost use Rattle.cap_vet.specs.Limits.{depth_of, words_of};
 ghost use Rattle.cap_vet.specs.Reports.{IsAccepted, IsReport};
@@ -114,6 +115,7 @@ impl<'m, M: Segments> Vetted<'m, M> {
         ensures value { IfOk result (λ e. vetted_of e ≡ self.entry) }
         ensures err { let m = M.segments (message_of self.entry) in
             IfErr result (IsExclusiveFault m 268435456 256 (length marks.old)) }
+        ensures not_refused { (r : Refusal) → ¬ IsErrOf result (ExclusiveFault.Refused r) }
 
         // The other direction.
         ensures accepts { let m = M.segments (message_of self.entry) in
