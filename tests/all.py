@@ -30,7 +30,6 @@ SCRIPTS = (
     ("the library from C, C++ and Rust", ["library.py", PROGRAM, ARCHIVE]),
     ("what is installed", ["install.py", PROGRAM, ARCHIVE]),
     ("the pages", ["pages.py", PROGRAM]),
-    ("which messages are strict", ["strict.py"]),
     ("the header", ["header.py"]),
 )
 

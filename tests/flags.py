@@ -1,7 +1,8 @@
 """Compares the calls with flags, from C, field by field with tests/model.py. tests/calls.py runs it.
 
-The messages are the samples, the ones that tests/strict.py knows, made ones and changed ones, amplified ones at the bound
-and one past it, each with and without trailing bytes. The flags are in all combinations, and some limits are bad."""
+The messages are the samples, those of tests/strict.py, made ones and changed ones, and some whose charge is one below the
+bound of unamplified messages, at it and one past it. Each comes with and without trailing bytes. The flags are in all
+combinations, and some limits are bad."""
 import struct
 import subprocess
 import tempfile
@@ -10,9 +11,12 @@ from pathlib import Path
 
 import model
 import strict
-from model import ANSWERS, CANONICAL, EXCLUSIVE, FIELDS, NO_TABLE, SEGMENT_AT, VET_SEGMENTS, Limits
+from model import (AMPLIFIED, ANSWERS, CANONICAL, EXCLUSIVE, FIELDS, NO_TABLE, NONSTRICT, SEGMENT_AT, SLACK, VET,
+                   VET_SEGMENTS, Limits)
 
 MANY = 20_000
+# In place of a size: that of CAPVET_CANONICAL_BOUND.
+BOUND = 0xFFFFFFFF
 # `required` of a call that has none, and a report's fields with the reserved ones
 REPLY = struct.Struct("<IQ6Q4I4Q")
 CALLS = ("capvet_frame", "capvet_vet", "capvet_vet_exclusive", "capvet_canonical", "capvet_is_canonical",
@@ -50,26 +54,51 @@ def asked(call, data, limits, size):
 
 
 def amplified():
-    """Messages at the bound of unamplified ones and one past it: lists of Void, of empty structs and of shared structs."""
-    for more in (4096, 4097, 4098):
-        yield framed([1 | more << 35])
-        yield framed([], [1 | more << 35])
-        yield framed([2 | 1 << 32], [1 | more << 35])
-        yield framed([1 | 7 << 32, more << 2])
-    # (a struct of pointers to one struct: each costs a word; the words are 1 + count + own)
-    for own in (1, 7, 64):
-        most = (4096 + 2 + own) // own
-        for count in (most - 2, most - 1, most, most + 1):
-            if 0 < count < 65536:
-                yield framed([count << 48, *((count - 1 - i) << 2 | own << 32 for i in range(count)), *range(1, own + 1)])
+    """Messages by how much their charge is above the bound of unamplified ones: lists of Void, lists of empty structs, and
+    pointers that share a struct."""
+    for past in (-1, 0, 1):
+        more = SLACK + 1 + past
+        yield past, framed([1 | more << 35])
+        yield past, framed([1 | more << 35], [])
+        yield past, framed([2 | 1 << 32], [1 | more << 35])
+        yield past, framed([1 | 7 << 32, more << 2])
+        # (a struct of pointers to one struct: each costs a word and those of the struct; words after it raise the bound)
+        for own in (1, 7, 64):
+            count = (SLACK + 2) // own + 2
+            words = [count << 48, *((count - 1 - i) << 2 | own << 32 for i in range(count)), *range(1, own + 1)]
+            yield past, framed(words + [0] * (count * (own + 1) - SLACK - past - len(words)))
+
+
+# Other messages and parts of one, with the answer of capvet_vet_exclusive.
+CYCLE = framed([0x00010000FFFFFFFC])
+SHARED = framed([2 << 48, 4 | 1 << 32, 1 << 32, 7])
+OTHERS = ((CYCLE, "DEPTH_LIMIT"), (SHARED, "OVERLAP"), (framed([0]), "OK"), (framed([]), "NO_ROOT"), (b"", "NO_MESSAGE"),
+          (struct.pack("<II", 512, 0), "TOO_MANY_SEGMENTS"))
+NOT_STRICT = [(bytes.fromhex(text), fault) for text, fault in strict.CASES] + [
+    (strict.many(511), None), (strict.many(512), ("MANY_SEGMENTS", 0, 0, 0))]
+
+
+def are_as_named(told):
+    """The messages are what they are made for: by hand, or by the charge of the model."""
+    for message, fault in NOT_STRICT:
+        answer, _, report, _ = model.called(VET, message, Limits(), 0)
+        got = report[-2:] + report[4:5]
+        told(f"the fault of {message.hex()}", (answer, got) == (ANSWERS[fault[0]], fault[1:]) if fault else answer == 0,
+             f"{answer} {got}")
+        told(f"{message.hex()}, accepted", model.called(VET, message, Limits(flags=NONSTRICT), 0)[0] == 0)
+    for past, message in amplified():
+        _, _, report, _ = model.called(VET, message, Limits(flags=AMPLIFIED), 0)
+        words = (len(message) - len(framed(*[[]] * report[7]))) // 8
+        told(f"the charge of {message[:40].hex()}", report[3] == words + SLACK + past, f"{report[3]} of {words} words")
+    for message, name in OTHERS:
+        told(f"the answer for {message.hex()}", model.called(EXCLUSIVE, message, Limits(), 1)[0] == ANSWERS[name])
 
 
 def requests(small, made_up, changed, chance):
     """Calls, each with its input, its limits and the size of its output buffer."""
-    known = [bytes.fromhex(text) for text, _ in strict.CASES] + [strict.many(count) for count in (511, 512)]
-    cycle = framed([0x00010000FFFFFFFC])
-    shared = framed([2 << 48, 4 | 1 << 32, 1 << 32, 7])
-    for message in [*small, *known, *amplified(), cycle, shared, framed([0]), framed([]), b"", struct.pack("<II", 512, 0)]:
+    known = [message for message, _ in NOT_STRICT]
+    bound = [message for _, message in amplified()]
+    for message in (*small, *known, *bound, *(message for message, _ in OTHERS)):
         for flags in range(16):
             for call in range(len(CALLS)):
                 if flags & NO_TABLE:
@@ -79,15 +108,17 @@ def requests(small, made_up, changed, chance):
                 more = (0, 1, 7, 8) if len(message) < 200 else (chance.choice((0, 0, 1, 7, 8)),)
                 for count in more:
                     yield asked(call, message + bytes(count), Limits(flags=flags), chance.choice((0, 1, 1 << 16)))
-    for limits in (Limits(flags=16), Limits(flags=1 << 31), Limits(flags=31), Limits(flags=24), Limits(reserved=(1, 0)), Limits(reserved=(0, 1 << 63)),
-                   Limits(message_words=(1 << 28) + 1), Limits(charge=(1 << 28) + 1), Limits(depth=257),
-                   Limits(message_words=1 << 28, charge=1 << 28, depth=256, flags=7)):
+    for message in (*small, *bound):
+        yield CANONICAL, message, Limits(), BOUND
+    for limits in (Limits(flags=16), Limits(flags=1 << 31), Limits(flags=31), Limits(flags=24), Limits(reserved=(1, 0)),
+                   Limits(reserved=(0, 1 << 63)), Limits(message_words=(1 << 28) + 1), Limits(charge=(1 << 28) + 1),
+                   Limits(depth=257), Limits(message_words=1 << 28, charge=1 << 28, depth=256, flags=7)):
         for call in range(len(CALLS)):
-            for message in (shared, b""):
+            for message in (SHARED, b""):
                 yield asked(call, message, limits, 100)
     for count in (512, 513, 1000):
         yield VET_SEGMENTS, bytes(4 * count), Limits(), count
-        yield VET_SEGMENTS, struct.pack("<I", 8) + bytes(4 * (count - 1) + 8), Limits(flags=2), count
+        yield VET_SEGMENTS, struct.pack("<I", 8) + bytes(4 * (count - 1) + 8), Limits(flags=NONSTRICT), count
     few = [message for message in small if len(message) < 1000] + known
     for _ in range(MANY):
         message = made_up(chance) if chance.randrange(3) == 0 else changed(chance.choice(few), chance)
@@ -137,6 +168,7 @@ def compare(told, program, many):
 
 
 def test(told, program, samples, made_up, changed, chance):
+    are_as_named(told)
     many = list(requests(samples, made_up, changed, chance))
     answers = compare(told, program, many)
     by_answer = Counter()

@@ -1,8 +1,8 @@
 #!/usr/bin/env python3
-"""Compares the answers of include/capvet.h, their numbers and their names, with those of the enum in code and of its
-definition.
+"""Compares the answers and constants of include/capvet.h, their numbers and the names of answers, with those of the code
+and of the definitions.
 
-Each answer of the header is a case. The last line is 'N passed, 0 failed', or says which answer differs.
+Each answer and constant is a case. The last line is 'N passed, 0 failed', or says which one differs.
 """
 
 import pathlib
@@ -10,6 +10,20 @@ import re
 import sys
 
 ROOT = pathlib.Path(__file__).resolve().parent.parent
+LIMITS, DEMANDS, FLAGS = "crates/cap_vet/src/limits.rt", "crates/cap_vet/src/demands.rt", "crates/cap_calls/specs/CallFlags.antt"
+# Constants of the header, and the one place of each in the code or in a definition.
+CONSTANTS = (
+    ("MAX_MESSAGE_WORDS", LIMITS, r"^const MOST_WORDS: u64 = (\d+);"),
+    ("MAX_CHARGE", LIMITS, r"^const MOST_WORDS: u64 = (\d+);"),
+    ("MAX_DEPTH", LIMITS, r"^const MOST_DEPTH: u32 = (\d+);"),
+    ("MAX_SEGMENTS", "crates/cap_spec/specs/Messages.antt", r"length m ≤ (\d+)"),
+    ("SLACK", DEMANDS, r"^const SLACK: u64 = (\d+);"),
+    # (the lowest bit is divided by nothing)
+    ("ALLOW_TRAILING", FLAGS, r"^allows_trailing l = l\.flags(?: / (\d+))? % 2 == 1$"),
+    ("ALLOW_NONSTRICT", FLAGS, r"^allows_nonstrict l = l\.flags(?: / (\d+))? % 2 == 1$"),
+    ("ALLOW_AMPLIFIED", FLAGS, r"^allows_amplified l = l\.flags(?: / (\d+))? % 2 == 1$"),
+    ("NO_TABLE", FLAGS, r"^has_no_table l = l\.flags(?: / (\d+))? % 2 == 1$"),
+)
 # An answer of the enum in code.
 CODE = r"^    ([A-Z]\w+) = (\d+),"
 
@@ -21,6 +35,12 @@ def answers(path, pattern):
     if len(told) != len(pairs) or not told:
         sys.exit(f"header: {path} tells {len(pairs)} answers, {len(told)} of them by names of their own")
     return told
+
+
+def number(path, pattern):
+    """The number that a file has for a constant, once."""
+    found = re.findall(pattern, (ROOT / path).read_text(), re.MULTILINE)
+    return int(found[0] or "1", 0) if len(found) == 1 else None
 
 
 def constant(name):
@@ -43,10 +63,15 @@ def main():
         for name in sorted(header.keys() | there.keys()):
             if header.get(name) != there.get(name):
                 sys.exit(f"header: CAPVET_{name} is {header.get(name)}, and in {path} {there.get(name)}")
+    for name, path, pattern in CONSTANTS:
+        told = number("include/capvet.h", rf"^#define CAPVET_{name} (?:UINT64_C\()?(\w+?)u?\)?(?: |$)")
+        there = number(path, pattern)
+        if there is None or told != there:
+            sys.exit(f"header: CAPVET_{name} is {told}, and in {path} {there}")
     told = re.findall(r'^    case CAPVET_([A-Z_]+): return "(\w+)";', (ROOT / "include/capvet.h").read_text(), re.MULTILINE)
     if [name for name, _ in told] != list(header) or {header[name]: text for name, text in told} != names():
         sys.exit(f"header: capvet_answer_name has {told}")
-    print(f"{len(header)} passed, 0 failed")
+    print(f"{len(header) + len(CONSTANTS)} passed, 0 failed")
 
 
 if __name__ == "__main__":

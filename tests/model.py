@@ -1,9 +1,8 @@
 """What the calls from C answer and report for bytes, as docs/format.md and include/capvet.h define it, field by field.
-It shares no code with the library, and only the forms that aren't strict with tests/strict.py."""
+It shares no code with the library, and only `bits` and `offset` of tests/trees.py with other tests."""
 import struct
 from dataclasses import dataclass
 
-from strict import SLACK, lax_form
 from trees import bits, offset
 
 ANSWERS = dict(
@@ -15,6 +14,9 @@ FRAME, VET, EXCLUSIVE, CANONICAL, IS_CANONICAL, SEGMENT_AT, VET_SEGMENTS = range
 TRAILING, NONSTRICT, AMPLIFIED, NO_TABLE = 1, 2, 4, 8
 FIELDS = ("length", "required", "detail", "charge", "pointers", "capabilities", "depth", "segments", "segment", "word")
 ELEMENT_BITS = (0, 1, 8, 16, 32, 64, 64)
+# How many segments a strict message may have, and how many words more than its own an unamplified one may be charged.
+MOST_SEGMENTS = 511
+SLACK = 4096
 
 
 @dataclass(frozen=True)
@@ -169,12 +171,20 @@ def vetted(message, words, depth):
     return tree
 
 
+def lax_form(message, found):
+    """The form that common readers reject, of a pointer that leads to this, or None."""
+    if found.kind in ("null", "cap"):
+        # (no landing pad of two words leads to one)
+        return {"null": "NullPad", "cap": "CapabilityPad"}[found.kind] if found.used else None
+    return None if message[found.segment] else "EmptySegment"
+
+
 def strictly(message, tree):
     """Refuses a message that is accepted and isn't strict."""
-    if len(message) > 511:
+    if len(message) > MOST_SEGMENTS:
         raise Refused("MANY_SEGMENTS", 0, 0, 0)
-    for count, (place, _) in enumerate(tree.steps, 1):
-        form = lax_form(message, *place)
+    for count, (place, found) in enumerate(tree.steps, 1):
+        form = lax_form(message, found)
         if form:
             raise Refused(form, *place, count)
 

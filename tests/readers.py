@@ -27,7 +27,7 @@ from pathlib import Path
 
 import trees
 from calls import TOP, made_up
-from strict import SLACK, unamplified
+from model import SLACK
 
 HERE = TOP / "tests/readers"
 BITS = (0, 1, 8, 16, 32, 64)
@@ -272,7 +272,6 @@ class Tests:
         self.program, self.path = program, folder / "input"
         self.encoder = programs.pop("encoder", None)
         self.readers = programs
-        self.has_strict = "--strict" in run([program, "help", "vet"]).stdout
         self.counts = Counter()
 
     def lines(self, command, stream):
@@ -311,21 +310,20 @@ class Tests:
                 if tree.lax:
                     verdicts[number] = f"message {number}: refused {tree.lax}"
         told(f"{name}: the counts of the model", faults)
-        if self.has_strict:
-            bounded = self.bounded(messages)
-            self.counts["amplified"] += sum(" accepted " in line and line != bounded[n] for n, line in enumerate(plain))
-            # (where both apply, the word limit is what is named)
-            both = [strict if " accepted " in line else line for strict, line in zip(verdicts, bounded)]
-            for options, lines in (("--strict", verdicts), ("--unamplified", bounded), ("--strict --unamplified", both)):
-                got = self.vet(stream, *options.split())
-                told(f"{name}: verdicts by {options}", [pair for pair in zip_longest(got, lines) if pair[0] != pair[1]])
+        bounded = self.bounded(messages)
+        self.counts["amplified"] += sum(" accepted " in line and line != bounded[n] for n, line in enumerate(plain))
+        # (where both apply, the word limit is what is named)
+        both = [strict if " accepted " in line else line for strict, line in zip(verdicts, bounded)]
+        for options, lines in (("--strict", verdicts), ("--unamplified", bounded), ("--strict --unamplified", both)):
+            got = self.vet(stream, *options.split())
+            told(f"{name}: verdicts by {options}", [pair for pair in zip_longest(got, lines) if pair[0] != pair[1]])
         return accepted
 
     def bounded(self, messages):
         """The verdicts of messages, each under the word limit of an unamplified message, by runs with that limit."""
         by_limit, verdicts = defaultdict(list), {}
         for number, (segments, message) in enumerate(messages):
-            by_limit[unamplified(segments, WORDS)].append((number, message))
+            by_limit[min(WORDS, sum(map(len, segments)) + SLACK)].append((number, message))
         for words, group in by_limit.items():
             lines = self.lines([self.program, "vet", "--words", words], b"".join(message for _, message in group))
             verdicts |= {number: f"message {number}:{line.partition(':')[2]}" for (number, _), line in zip(group, lines)}
@@ -389,8 +387,7 @@ class Tests:
         for name in CONSTRUCTS:
             told(f"{name} occurs", [self.counts[name]] if 2000 * self.counts[name] < count else [])
         told("strict messages occur", [self.counts["strict"]] if 4 * self.counts["strict"] < count else [])
-        if self.has_strict:
-            told("amplified messages occur", [self.counts["amplified"]] if 2000 * self.counts["amplified"] < count else [])
+        told("amplified messages occur", [self.counts["amplified"]] if 2000 * self.counts["amplified"] < count else [])
         print(f"readers: {dict(self.counts)}, the strict ones read by {', '.join(self.readers) or 'none'}")
 
 
@@ -399,12 +396,8 @@ def main():
     count = int(sys.argv[2]) if len(sys.argv) > 2 else MANY
     with tempfile.TemporaryDirectory() as folder:
         tests = Tests(program, build(Path(folder)), Path(folder))
-        if not tests.has_strict:
-            print("not tested, without the options --strict and --unamplified: what they refuse")
         tests.constructs()
-        bases = tests.of_encoders()
-        if tests.readers or tests.has_strict:
-            tests.many(bases, count)
+        tests.many(tests.of_encoders(), count)
     print(f"{passed} passed, {failed} failed")
     return 1 if failed else 0
 

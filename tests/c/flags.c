@@ -1,11 +1,15 @@
 /* flags REQUESTS: makes the calls that a file asks for, and writes what each of them answers and reports.
  *
  * A request is the number of a call (0 capvet_frame, 1 capvet_vet, 2 capvet_vet_exclusive, 3 capvet_canonical,
- * 4 capvet_is_canonical, 5 capvet_segment_at, 6 capvet_vet_segments), the size or count of its output buffer or the number of the
- * segment, the limits, the length of the input and the input. Separate segments come after their lengths, and
- * the number before the limits is how many they are. A reply is the answer, `required` in 8 bytes, the report, and the bytes that capvet_canonical wrote.
- * Of a segment `required` is where it starts, and the report has only its length. The other numbers have four bytes. Each buffer is a block of its own of exactly its length, and an empty one
- * is NULL. The status is 4 if a call changed anything of an output buffer that it may not. */
+ * 4 capvet_is_canonical, 5 capvet_segment_at, 6 capvet_vet_segments), the size or count of its output buffer or
+ * the number of the segment, the limits, the length of the input and the input. Separate segments come after
+ * their lengths, and the number before the limits is how many they are. The size 0xffffffff of a copy is
+ * CAPVET_CANONICAL_BOUND of the input's length. The flags are bits in the order of NAMED.
+ *
+ * A reply is the answer, `required` in 8 bytes, the report, and the bytes that capvet_canonical wrote. Of a segment
+ * `required` is where it starts, and the report has only its length. The other numbers have four bytes. Each
+ * buffer is a block of its own of exactly its length, and an empty one is NULL. The status is 4 if a call changed
+ * anything of an output buffer that it may not. */
 #include <capvet.h>
 
 #include <stdio.h>
@@ -13,6 +17,19 @@
 #include <string.h>
 
 enum { FRAME, VET, EXCLUSIVE, CANONICAL, IS_CANONICAL, SEGMENT_AT, VET_SEGMENTS };
+
+/* The flags by their names, the lowest bit of a request first. */
+static const uint32_t NAMED[] = {CAPVET_ALLOW_TRAILING, CAPVET_ALLOW_NONSTRICT, CAPVET_ALLOW_AMPLIFIED,
+                                 CAPVET_NO_TABLE};
+enum { COUNT = sizeof NAMED / sizeof NAMED[0] };
+
+/* The flags of a request. Other bits stay as they are. */
+static uint32_t named(uint32_t bits) {
+  uint32_t flags = bits >> COUNT << COUNT, at;
+  for (at = 0; at < COUNT; at++)
+    if (bits >> at & 1) flags |= NAMED[at];
+  return flags;
+}
 
 /* Reads a part of a request. */
 static int take(FILE *file, void *to, size_t length) { return length == 0 || fread(to, 1, length, file) == length; }
@@ -57,12 +74,15 @@ int main(int count, char **words) {
     uint8_t *room;
     capvet_limits limits;
     capvet_report report;
-    size_t required = 77, item = head[0] == EXCLUSIVE ? 8 : 1, written = 0;
-    size_t size = head[0] >= SEGMENT_AT ? 0 : head[1] * item, own = 77;
-    uint8_t *bytes, *out = malloc(size + item);
+    size_t required = 77, item = head[0] == EXCLUSIVE ? 8 : 1, size, own = 77, written = 0;
+    uint8_t *bytes, *out;
     uint64_t told;
     uint32_t answer;
     if (!take(file, &limits, sizeof limits) || !take(file, &length, sizeof length)) return 3;
+    limits.flags = named(limits.flags);
+    size = head[0] >= SEGMENT_AT ? 0 : head[1] * item;
+    if (head[0] == CANONICAL && head[1] == UINT32_MAX) size = CAPVET_CANONICAL_BOUND(length);
+    out = malloc(size + item);
     bytes = malloc(length + 1);
     if (bytes == NULL || out == NULL || !take(file, bytes + 1, length)) return 3;
     input = length == 0 ? NULL : bytes + 1;
