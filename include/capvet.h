@@ -31,7 +31,7 @@
  *   - segment: a run of words. A message has 1 to 512 segments.
  *   - frame: a message as it is sent over a stream: a table of segment sizes, then the segments.
  *   - place: a segment number and a word in that segment, both counted from 0.
- *   - far: a pointer into another segment, which goes through a landing pad of one or two words there.
+ *   - far: a pointer that goes through a landing pad of one or two words, mostly in another segment.
  *   - level: the nesting depth of an object. The root object has level 1.
  *   - charge: the words that a full traversal reads, landing pads included. An object that two pointers reach
  *     counts twice. An element of no bits (Void, a struct without words) counts as one.
@@ -53,8 +53,8 @@
  * Overlap. What is passed without `const` must not overlap any other argument.
  *
  * Threads. Calls keep no state and take no locks: any thread may call at any time. Several threads may read
- * one `const` buffer together. Writing it during a call is undefined behaviour. So copy shared memory and
- * mapped files first; then check and use the copy.
+ * one `const` buffer together. Writing it during a call is undefined behaviour: the answer means nothing, and
+ * the process may be killed. So copy shared memory and mapped files first; then check and use the copy.
  *
  * Memory. Calls allocate nothing, use at most 24 KiB of stack, do not recurse, and leave errno alone.
  *
@@ -175,7 +175,7 @@ typedef enum capvet_answer {
   CAPVET_NULL_PAD = 19,       /* not strict: a one-word landing pad of zeros */
   CAPVET_EMPTY_SEGMENT = 20,  /* not strict: a two-word landing pad leads into a segment without words */
   CAPVET_CAPABILITY_PAD = 22, /* not strict: a one-word landing pad that is a capability */
-  CAPVET_MANY_SEGMENTS = 23,  /* not strict: 512 segments, one more than common readers take */
+  CAPVET_MANY_SEGMENTS = 23,  /* not strict: 512 segments, which few readers take */
 
   CAPVET_NO_ROOT = 32,           /* the first segment has no words */
   CAPVET_RESERVED = 33,          /* a pointer of a kind that the format reserves */
@@ -326,16 +326,19 @@ typedef struct capvet_report {
  * place. A pointer that makes the message invalid comes before one that is only not strict.
  * CAPVET_MANY_SEGMENTS has no place.
  *
+ * With the three CAPVET_ALLOW flags it refuses nothing that the format allows within the limits. Without them
+ * it also refuses what is not strict, what is above CAPVET_SLACK, and trailing bytes, and nothing else.
+ *
  * Limits for a reader. Readers count in other ways. For a strict message, libcapnp and the Rust crate capnp
  * need at most these limits. Traversal: the larger of 3 * report->charge + 2 and the words of the segments,
  * for each reading. Nesting: 2 * report->depth + 1. Catch their exceptions all the same: this is tested, not
  * proved. libcapnp needs words at addresses that are multiples of 8.
  *
  * Amplification. By default the charge may be at most CAPVET_SLACK words above the words of the segments, so
- * a small message cannot make a reader work for long. Messages of known encoders pass. The exceptions are
- * messages with more than CAPVET_SLACK elements without words in all: Void, structs without fields, and in
- * canonical form structs whose fields are all default. CAPVET_WORD_LIMIT may then mean that
- * CAPVET_ALLOW_AMPLIFIED is required.
+ * a small message cannot make a reader work for long. Some honest messages may be refused: those that share
+ * objects, and those with more than CAPVET_SLACK + 1 elements without words in all. Such elements are Void,
+ * structs without fields, and in canonical form structs whose fields are all default. CAPVET_WORD_LIMIT may
+ * then mean that CAPVET_ALLOW_AMPLIFIED is required.
  *
  * Cost: one walk. */
 CAPVET_CALL((3, 4))
@@ -465,8 +468,9 @@ capvet_answer capvet_canonical(const uint8_t *bytes, size_t length, const capvet
  * CAPVET_NOT_CANONICAL otherwise, also if it has a capability. Other answers: it is not accepted. Trailing
  * bytes give CAPVET_TRAILING even with CAPVET_ALLOW_TRAILING, so what is hashed cannot be extended unnoticed.
  *
- * For bytes that capvet_canonical wrote, set CAPVET_NO_TABLE | CAPVET_ALLOW_AMPLIFIED: structs whose fields
- * are all default lose their words and are still charged. With the same limits they then give CAPVET_OK.
+ * For bytes that capvet_canonical wrote, set CAPVET_NO_TABLE | CAPVET_ALLOW_AMPLIFIED. Structs whose fields are
+ * all default lose their words in them and are still charged. With the same limits, and `message_words` at
+ * least the words of these bytes, the answer is CAPVET_OK.
  *
  * Cost: two walks. */
 CAPVET_CALL((3, 4))

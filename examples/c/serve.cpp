@@ -5,7 +5,8 @@
 //     ./serve FILE..
 //
 // The peer sends each file as it is, then the first half of the first one, and ends. The server reads message by message
-// into a buffer of its own, which the peer can't write, vets it there, and answers each by a byte. It ends with status 0.
+// into a buffer of its own, which the peer can't write, vets it there, and answers each by a byte. If the peer could write it
+// during a call, the answer would mean nothing, and the process might be killed. The server ends with status 0.
 #include <capnp/any.h>
 #include <capnp/serialize.h>
 #include <capvet.h>
