@@ -17,7 +17,7 @@ use crate::walking::walk;
 use cap_frame::Segments;
 use cap_spec::StrictRefusal;
 
-/// The most segments that common readers take.
+/// The most segments of a strict message.
 const MOST_SEGMENTS: u32 = 511;
 
 /// Vets a message, and accepts it if it is also strict (profile). Then it has at most 511 segments,
