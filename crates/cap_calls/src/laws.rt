@@ -1,5 +1,5 @@
-//! What the flags mean: with all three a call accepts what [`cap_vet::vet`] does, and one more never
-//! refuses more. And separate segments are vetted as their frame is.
+//! What the flags mean: with all three a call accepts what [`cap_vet::vet`] does. With higher limits
+//! or more flags [`crate::vet`] refuses no more. And separate segments are vetted as their frame is.
 
 ghost use Rattle.cap_calls.specs.CallFindings.{JudgesAny, Returns, Tells, TellsWhole};
 ghost use Rattle.cap_calls.specs.CallFlags.{AllowsMore};

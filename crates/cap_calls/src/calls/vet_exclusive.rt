@@ -5,6 +5,8 @@ ghost use Rattle.cap_calls.specs.ExclusiveCalls.{MarksIn, TellsExclusive, fault_
 ghost use Rattle.cap_calls.specs.declared.answer.Answer.{Answer};
 ghost use Rattle.cap_calls.specs.declared.answer.Answer.TheVariants.{Good, Overlap};
 ghost use Rattle.cap_calls.specs.declared.report.CallReport.{CallReport};
+ghost use Rattle.cap_spec.specs.declared.Refusal.{Refusal};
+ghost use Rattle.cap_vet.specs.declared.exclusive_room.ExclusiveFault.TheVariants.{Refused};
 ghost use Rattle.std.specs.Prelude.{◌+◌, ◌/◌, ◌≡◌, ◌≤◌, ◌⊎◌, drop, length, ℕ};
 
 use crate::answer::Answer;
@@ -14,7 +16,6 @@ use crate::limits::CallLimits;
 use crate::over::Call;
 use crate::report::CallReport;
 use cap_frame::ByteView;
-use cap_spec::StrictRefusal;
 use cap_vet::{Demands, ExclusiveFault, Limits, marks_for, vet_with};
 
 /// Vets the message that bytes are as [`crate::vet`] does, and also refuses one that uses a word
@@ -86,12 +87,13 @@ impl Call for Marking {
     }
 }
 
-// What is found of a message that isn't exclusive, if its marks take `numbers`.
+// What is found of an accepted message that isn't exclusive, if its marks take `numbers`.
 fn found_of_fault(fault: ExclusiveFault, numbers: usize) -> Found
+    requires { (r : Refusal) → ¬ (fault ≡ Refused r) }
     ensures { result ≡ fault_found numbers fault }
 {
     match fault {
-        ExclusiveFault::Refused(refusal) => Found::refused(StrictRefusal::Refused(refusal)),
+        ExclusiveFault::Refused(_) => unreachable!(),
         ExclusiveFault::NoRoom { report, .. } => {
             Found::accepted(Answer::BufferTooSmall, numbers, report)
         }

@@ -1,5 +1,5 @@
 -- What is marked is the view.
-use Rattle.std.proofs.Common.{◌∙◌, ◌≡◌, ◌≤◌, ◌+◌, ◌/◌, ap, ap₂, drop, inl, length, refl, subst}
+use Rattle.std.proofs.Common.{◌∙◌, ◌≡◌, ◌≤◌, ◌+◌, ◌/◌, Err, ap, ap₂, drop, inl, length, refl, subst}
 use Rattle.cap_frame.specs.Bytes.{cut}
 use Rattle.cap_frame.specs.declared.view.ByteView.{ByteView}
 use Rattle.cap_spec.specs.Occupying.{IsDisjoint}
@@ -32,6 +32,9 @@ returns-in-Ok-into_exclusive_in c =
       accepted c.in-Ok.vetted.report c.in-Ok.ensures.ok.0 c.in-Ok.ensures.ok.1 (exclusive enough disjoint found),
       record { rest = rw count rest; kept = inl (ap (λ (z : Found). z.answer) found) },
     )
+
+pub found_of_fault-requires : goal.found_of_fault-requires
+found_of_fault-requires c = λ r e. c.in-Err-into_exclusive_in.ensures.not_refused r (ap Err e)
 
 pub returns-in-Err-into_exclusive_in : goal.returns-in-Err-into_exclusive_in
 returns-in-Err-into_exclusive_in c =
