@@ -39,7 +39,7 @@ of the first pointer that is wrong.
 With --strict a message is also refused in a form that common readers reject. ManySegments: it has
 512 segments. NullPad or CapabilityPad: a landing pad of one word is zero, or a capability.
 EmptySegment: a pointer leads into a segment without words. With --unamplified the charge may be at
-most the words of the message's segments plus 4096.
+most the words of the message's segments plus 4096. A service should use both options.
 
 With --exclusive a message is also refused, as Overlap, if a pointer leads to a word that is already
 in use: the root word, a word of the same pointer, or a word of an earlier pointer. The charge is
