@@ -36,7 +36,7 @@ abbrev found : Answer → ℕ → CallReport → Found
 found a n r = record { answer = a; count = n; report = r }
 
 -- what is found is known by its parts
-same_found : (f g : Found) → f.answer ≡ g.answer → f.count ≡ g.count → f.report ≡ g.report → f ≡ g
+pub same_found : (f g : Found) → f.answer ≡ g.answer → f.count ≡ g.count → f.report ≡ g.report → f ≡ g
 same_found f g a n r = ap₂ (λ (x : Answer) (k : ℕ). found x k f.report) a n ∙ ap (found g.answer g.count) r
 
 -- of an accepted message

@@ -9,6 +9,8 @@ pub mod SeparateSegments
 pub mod SliceSegments
 pub mod SegmentPlaces
 pub mod SegmentsAsFramed
+pub mod PackedFrames
+pub mod PackedMessages
 pub mod Texts
 pub mod Unpacked
 pub mod Wider

@@ -12,3 +12,4 @@ pub mod PackCalls
 pub mod SegmentCalls
 pub mod SegmentsCalls
 pub mod Slices
+pub mod PackedMessages

@@ -5,6 +5,7 @@ pub(crate) mod frame;
 pub(crate) mod is_canonical;
 pub(crate) mod pack;
 pub(crate) mod segment_at;
+pub(crate) mod pack_message;
 pub(crate) mod unpack;
 pub(crate) mod version;
 pub(crate) mod vet;

@@ -9,6 +9,7 @@ mod input;
 mod laws;
 mod limits;
 mod over;
+mod packing_laws;
 mod report;
 mod slices;
 
@@ -18,6 +19,7 @@ pub use calls::frame::frame;
 pub use calls::is_canonical::is_canonical;
 pub use calls::pack::pack;
 pub use calls::segment_at::segment_at;
+pub use calls::pack_message::pack_message;
 pub use calls::unpack::unpack;
 pub use calls::version::version;
 pub use calls::vet::vet;
@@ -28,4 +30,5 @@ pub use laws::{
     all_flags_demand_nothing, separate_segments_are_vetted_as_framed, wider_limits_accept_as_much,
 };
 pub use limits::CallLimits;
+pub use packing_laws::packed_message_unpacks;
 pub use report::CallReport;

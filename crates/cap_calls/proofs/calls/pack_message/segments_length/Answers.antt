@@ -1,0 +1,57 @@
+-- One segment more is counted.
+use Rattle.std.proofs.Common.{List, ℕ, [], ◌≡◌, ◌∙◌, ◌<◌, ◌≤◌, ◌+◌, ◌*◌, ◌^◌, ap, arith, flat_map, get_or, length}
+use Rattle.std.proofs.Common.{length-append, rules, sum, sym, take}
+use Rattle.std.proofs.lemmas.List.{take_all}
+use Rattle.cap_spec.specs.Frames.{sizes_of}
+use Rattle.cap_spec.specs.Packing.{pack_text}
+use Rattle.cap_frame.specs.Bytes.{cut}
+use Rattle.cap_calls.proofs.PackedFrames.{sizes_more, texts_more}
+use Rattle.cap_calls.proofs.calls.pack_message.segments_length.Goals as goal
+
+pub overflow_add-total : goal.overflow_add-total
+overflow_add-total c =
+    let v = c.args.message.now in
+    let m = cut v.sizes.now v.bytes.now in
+    let s = c.segments.s in
+    let exists : s < length m = omega arith in
+    let short : length (get_or m s []) < 2 ^ 32 = v.is_message.lengths s [] exists in
+    let few : length m ≤ 512 = v.is_message.few in
+    let fits : c.segments.total + c.pack_into-total.result < 2 ^ 64 =
+    omega (arith, c.segments.invariant.small, c.pack_into-total.ensures.few, c.segment_bytes.ensures.length, short, few) in
+    search rules
+
+pub segments-preserved : goal.segments-preserved
+segments-preserved c =
+    let v = c.args.message.now in
+    let m = cut v.sizes.now v.bytes.now in
+    let s = c.segments.s in
+    let far = c.segments.invariant in
+    let exists : s < length m = omega arith in
+    let short : length (get_or m s []) < 2 ^ 32 = v.is_message.lengths s [] exists in
+    let own : c.pack_into-total.result ≡ length (pack_text (get_or m s [])) =
+    c.pack_into-total.ensures.len ∙ ap (λ ws. length (pack_text ws)) c.segment_bytes.ensures.words in
+    record {
+      text = omega (
+        arith,
+        far.text,
+        own,
+        ap length (texts_more m s exists),
+        length-append (flat_map pack_text (take s m)) (pack_text (get_or m s [])),
+      );
+      few = omega (arith, far.few, sizes_more m s exists, c.pack_into-total.ensures.few, c.segment_bytes.ensures.length);
+      small = omega (arith, far.small, c.pack_into-total.ensures.few, c.segment_bytes.ensures.length, short);
+    }
+
+pub returns-clause-text : goal.returns-clause-text
+returns-clause-text c =
+    let v = c.args.message.now in
+    let m = cut v.sizes.now v.bytes.now in
+    let all : take c.segments.s m ≡ m = take_all c.segments.s m (omega arith) in
+    c.segments.invariant.text ∙ ap (λ (t : List (List ℕ)). length (flat_map pack_text t)) all
+
+pub returns-clause-few : goal.returns-clause-few
+returns-clause-few c =
+    let v = c.args.message.now in
+    let m = cut v.sizes.now v.bytes.now in
+    let all : take c.segments.s m ≡ m = take_all c.segments.s m (omega arith) in
+    omega (arith, c.segments.invariant.few, ap (λ (t : List (List ℕ)). sum (sizes_of t)) all)

@@ -1,0 +1,84 @@
+-- The table, and one segment more, are written.
+use Rattle.std.proofs.Common.{List, ℕ, [], ◌≡◌, ◌∙◌, ◌<◌, ◌≤◌, ◌+◌, ◌-◌, ◌++◌, ap, append-nil, append_assoc, arith, drop}
+use Rattle.std.proofs.Common.{flat_map, get_or, length, length-append, refl, sym, take, take_all, take_at}
+use Rattle.std.proofs.lemmas.List.{length-drop, take_rest}
+use Rattle.cap_spec.specs.Packing.{pack_text}
+use Rattle.cap_frame.specs.Bytes.{cut}
+use Rattle.cap_words.proofs.Turns.{filled}
+use Rattle.cap_calls.specs.PackedMessages.{packed_frame, table_of}
+use Rattle.cap_calls.proofs.PackedFrames.{texts_fit, texts_more}
+use Rattle.cap_calls.proofs.calls.pack_message.write_parts.Goals as goal
+use borrow.Rule.Slice.PartMut.{put_mid, same_len_mid}
+
+pub segments-init : goal.segments-init
+segments-init c =
+    let v = c.args.message.now in
+    let m = cut v.sizes.now v.bytes.now in
+    let T = pack_text (table_of m) in
+    let n = c.pack_into-at.result in
+    let old = c.args.text.now in
+    let long : n ≡ length T = c.pack_into-at.ensures.len ∙ ap (λ ws. length (pack_text ws)) c.requires.table in
+    let both = length-append T (flat_map pack_text m) in
+    let text : c.pack_into-at.new.out ≡ T ++ drop n old =
+    c.pack_into-at.ensures.written (omega (arith, long, both, c.requires.length))
+    ∙ ap (λ ws. pack_text ws ++ drop n old) c.requires.table in
+    record {
+      at = long ∙ ap length (sym (append-nil T));
+      size = omega (arith, ap length text, length-append T (drop n old), length-drop n old, long, both, c.requires.length);
+      written = ap (take n) text ∙ (take_at T (drop n old) n (sym long) ∙ sym (append-nil T));
+    }
+
+pub segments-preserved : goal.segments-preserved
+segments-preserved c =
+    let v = c.args.message.now in
+    let m = cut v.sizes.now v.bytes.now in
+    let T = pack_text (table_of m) in
+    let s = c.segments.s in
+    let at = c.segments.at in
+    let text = c.segments.text in
+    let far = c.segments.invariant in
+    let exists : s < length m = omega arith in
+    let own = pack_text (get_or m s []) in
+    let n = c.pack_into-at-in-segments.result in
+    let more = texts_more m s exists in
+    let done = T ++ flat_map pack_text (take s m) in
+    let next : T ++ flat_map pack_text (take (s + 1) m) ≡ done ++ own =
+    ap (λ (t : List ℕ). T ++ t) more ∙ sym (append_assoc T (flat_map pack_text (take s m)) own) in
+    let long : n ≡ length own = c.pack_into-at-in-segments.ensures.len ∙ ap (λ ws. length (pack_text ws)) c.segment_bytes.ensures.words in
+    let fit : at + n ≤ length text =
+    omega (
+      arith,
+      far.at,
+      far.size,
+      long,
+      length-append T (flat_map pack_text (take s m)),
+      length-append T (flat_map pack_text m),
+      ap length more,
+      length-append (flat_map pack_text (take s m)) own,
+      texts_fit m (s + 1),
+    ) in
+    let part = take (length text - at) (drop at text) in
+    let room : length part ≡ length text - at = ap length (take_rest text at) ∙ length-drop at text in
+    let given = c.pack_into-at-in-segments.new.out in
+    let new : given ≡ own ++ drop n part =
+    c.pack_into-at-in-segments.ensures.written (omega (arith, room, fit)) ∙ ap (λ ws. pack_text ws ++ drop n part) c.segment_bytes.ensures.words in
+    let enough : n ≤ length given = omega (arith, ap length new, length-append own (drop n part), long) in
+    record {
+      at = omega (arith, far.at, long, ap length next, length-append done own);
+      size = same_len_mid at (length text - at) text given
+          (omega (arith, ap length new, length-append own (drop n part), length-drop n part, long, room, fit)) ∙ far.size;
+      written = filled at (length text - at) n text given (omega (arith, fit)) enough
+          ∙ (ap (λ (t : List ℕ). take at text ++ take n t) new
+          ∙ (ap (λ (t : List ℕ). take at text ++ t) (take_at own (drop n part) n (sym long))
+          ∙ (ap (λ (t : List ℕ). t ++ own) far.written ∙ sym next)));
+    }
+
+pub returns : goal.returns
+returns c =
+    let v = c.args.message.now in
+    let m = cut v.sizes.now v.bytes.now in
+    let far = c.segments.invariant in
+    let text = c.segments.text in
+    let all : take c.segments.s m ≡ m = take_all c.segments.s m (omega arith) in
+    let done = ap (λ (t : List (List ℕ)). pack_text (table_of m) ++ flat_map pack_text t) all in
+    sym (take_all c.segments.at text (omega (arith, far.at, far.size, ap length done))) ∙ (far.written ∙ done)
