@@ -22,7 +22,7 @@
  *   check        capvet_vet, capvet_vet_exclusive, capvet_vet_segments
  *   frames       capvet_frame, capvet_segment_at
  *   canonical    capvet_canonical, capvet_is_canonical
- *   packing      capvet_pack, capvet_unpack
+ *   packing      capvet_pack, capvet_unpack, capvet_pack_message
  *   other        capvet_answer_name, capvet_limits_default, capvet_version
  *
  * TERMS
@@ -513,6 +513,28 @@ capvet_answer capvet_pack(const uint8_t *bytes, size_t length, uint8_t *out, siz
 CAPVET_CALL((5))
 capvet_answer capvet_unpack(const uint8_t *bytes, size_t length, uint8_t *out, size_t out_size,
                             size_t *required) CAPVET_NOEXCEPT;
+
+/* capvet_pack_message -- packs one message as libcapnp does.
+ *
+ *   bytes, length  the frame; with CAPVET_ALLOW_TRAILING, a buffer that starts with it
+ *   limits         only `message_words` and CAPVET_ALLOW_TRAILING have an effect; CAPVET_NO_TABLE gives
+ *                 CAPVET_BAD_LIMITS
+ *   out, out_size  where to write the packed bytes: CAPVET_PACK_BOUND(length) always suffices
+ *   required       how many they are
+ *   report         `length` and `segments` of the frame, or why there is none
+ *
+ * Packs the table and each segment by itself, so no run of words goes on from one into the next. libcapnp
+ * refuses a message with such a run. capvet_pack over a whole frame can write one, for example where the table
+ * and the first segment meet in zeros. The padding of the table is packed as zero. Checks no pointer.
+ *
+ * Returns what is wrong with the frame, or CAPVET_TRAILING, else CAPVET_BUFFER_TOO_SMALL or CAPVET_OK. On
+ * CAPVET_OK the bytes after the result are unchanged.
+ *
+ * Cost: proportional to the length of the frame. */
+CAPVET_CALL((3, 6, 7))
+capvet_answer capvet_pack_message(const uint8_t *bytes, size_t length, const capvet_limits *limits,
+                                  uint8_t *out, size_t out_size, size_t *required,
+                                  capvet_report *report) CAPVET_NOEXCEPT;
 
 #ifdef __cplusplus
 }

@@ -18,8 +18,11 @@ the samples, of each prefix of one, and of 1,000 that are made up. `texts` unpac
 `packing` looks at known words, and packs 100,000 lists of words, as the program does. They are the samples, each prefix
 of one, changed ones, runs of about the greatest length of a group, and words of few kinds.
 
-All but `allocations` run with the compiler's checks of memory, and `calls`, `texts` and `packing` under valgrind, where
-these are installed. The last line is 'N passed, M failed', and the status is 1 where something failed.
+`messages` packs the samples and 20,000 made messages of 1 to 20 segments. Where Cap'n Proto's C++ library is installed,
+the bytes are those that its writePackedMessage gives.
+
+All but `allocations` run with the compiler's checks of memory, and `calls`, `texts`, `packing` and `messages` under
+valgrind, where these are installed. The last line is 'N passed, M failed', and the status is 1 where something failed.
 """
 import random
 import re
@@ -79,7 +82,7 @@ def wanted_symbols(archive):
     own = {line.split()[-1] for line in lines if " T " in line}
     told("what the archive wants", undefined - own <= {"memcpy", "memmove", "memset"}, str(undefined - own))
     for name in ("capvet_version", "capvet_frame", "capvet_vet", "capvet_vet_exclusive", "capvet_is_canonical",
-                 "capvet_canonical", "capvet_pack", "capvet_unpack", "capvet_limits_default",
+                 "capvet_canonical", "capvet_pack", "capvet_unpack", "capvet_pack_message", "capvet_limits_default",
                  "capvet_abi_1", "capvet_segment_at", "capvet_vet_segments"):
         told(f"the archive has {name}", name in own)
 
@@ -299,6 +302,67 @@ def test_packing(folder, compiler, archive, program):
         compare_packed(packing, watched, program)
 
 
+def made_frame(chance):
+    """A message of 1 to 20 segments, whose words are of the kinds that packing knows. Many segments are empty."""
+    kinds = (bytes(8), bytes(8), b"\x8a" * 8, b"\x8a" * 7 + b"\0", b"\0\x8a" * 4, b"\1" + bytes(7))
+    segments = []
+    for _ in range(chance.randrange(1, 21)):
+        runs = (chance.choice(kinds) * chance.choice((1, 1, 2, 5, 260)) for _ in range(chance.randrange(3)))
+        segments.append(b"".join(runs) + chance.randbytes(8 * chance.choice((0, 0, 0, 1, 3))))
+    numbers = [len(segments) - 1, *(len(segment) // 8 for segment in segments)]
+    numbers += [0] * (len(numbers) % 2)
+    return struct.pack(f"<{len(numbers)}I", *numbers) + b"".join(segments)
+
+
+def packed_by_library(folder, path):
+    """The packed texts that Cap'n Proto's C++ library makes of the messages of a file, or nothing without the library."""
+    flags = run(["pkg-config", "--cflags", "--libs", "capnp"]) if shutil.which("pkg-config") else None
+    if flags is None or flags.returncode != 0 or not shutil.which("g++"):
+        return None
+    tool = folder / "pack-by-library"
+    ran = run(["g++", "-std=c++14", "-O1", "-w", TOP / "tests/readers/pack.cpp", *flags.stdout.split(), "-o", tool])
+    told("the program that packs by Cap'n Proto's library", ran.returncode == 0, ran.stderr)
+    return subprocess.run([tool, path], stdout=subprocess.PIPE, check=True).stdout if ran.returncode == 0 else b""
+
+
+def parts_of(output):
+    """Texts, each after its length."""
+    parts, at = [], 0
+    while at < len(output):
+        size = struct.unpack_from("<I", output, at)[0]
+        parts.append(output[at + 4:at + 4 + size])
+        at += 4 + size
+    return parts
+
+
+def test_packed_messages(folder, compiler, archive):
+    """Messages that are packed, each part by itself, beside those of Cap'n Proto's own library."""
+    chance = random.Random(SEED)
+    frames = samples() + [made_frame(chance) for _ in range(20_000)]
+    path = folder / "frames"
+    path.write_bytes(b"".join(struct.pack("<I", len(frame)) + frame for frame in frames))
+    packing = compiled(folder, "messages", compiler, "c11", archive, "-O1", *CHECKS)
+    watched = compiled(folder, "messages", compiler, "c99", archive)
+    if packing is None:
+        return
+    got = subprocess.run([packing, path], capture_output=True)
+    told("packing of messages, with its checks", (got.returncode, got.stderr) == (0, b""), got.stderr)
+    texts = parts_of(got.stdout)
+    told("each message is packed", len(texts) == len(frames), f"{len(texts)} of {len(frames)}")
+    if watched is not None and shutil.which("valgrind"):
+        few = folder / "few"
+        few.write_bytes(b"".join(struct.pack("<I", len(frame)) + frame for frame in frames[:500]))
+        ran = subprocess.run(["valgrind", "-q", "--error-exitcode=9", watched, few], capture_output=True)
+        told("packing of messages, under valgrind", ran.returncode == 0, ran.stderr)
+    output = packed_by_library(folder, path)
+    if output is None:
+        print("calls: packed messages weren't compared with those of Cap'n Proto's C++ library, which isn't installed")
+        return
+    for frame, text, wanted in zip(frames, texts, parts_of(output)):
+        told(f"the packed message {frame.hex()}", text == wanted, f"  {text.hex()}\n  {wanted.hex()}")
+    print(f"calls: {len(texts)} messages packed as Cap'n Proto's C++ library does")
+
+
 def packed_texts(program, chance):
     """The packed samples, the fronts of one of them, and texts of bytes that are often tags of runs."""
     texts = [subprocess.run([program, "pack"], input=message, stdout=subprocess.PIPE).stdout for message in samples()]
@@ -431,6 +495,7 @@ def test_messages(folder, compilers, archive, program):
 def test_packed(folder, compilers, archive, program):
     """Packing and unpacking."""
     test_packing(folder, compilers[0], archive, program)
+    test_packed_messages(folder, compilers[0], archive)
     lines = compiled(folder, "lines", compilers[0], "c99", archive, "-O1", *CHECKS)
     if lines is not None:
         compare_words(lines, program)

@@ -10,6 +10,7 @@ ghost use Rattle.cap_calls.specs.ExclusiveCalls.{TellsExclusive};
 ghost use Rattle.cap_calls.specs.PackCalls.{TellsPack, TellsUnpack};
 ghost use Rattle.cap_calls.specs.SegmentCalls.{AreSegmentWords, TellsSegment};
 ghost use Rattle.cap_calls.specs.SegmentsCalls.{TellsSegments};
+ghost use Rattle.cap_calls.specs.PackedMessages.{TellsPackMessage};
 ghost use Rattle.cap_calls.specs.declared.answer.Answer.{Answer};
 ghost use Rattle.cap_calls.specs.declared.answer.Answer.TheVariants.{Good, Overlap};
 ghost use Rattle.cap_calls.specs.declared.report.CallReport.{CallReport};
@@ -17,8 +18,8 @@ ghost use Rattle.cap_calls.specs.Slices.{bytes_of};
 ghost use Rattle.std.specs.Prelude.{◌*◌, ◌+◌, ◌/◌, ◌≡◌, ◌≤◌, ◌⊎◌, IsFalse, List, drop, length, ℕ};
 
 use cap_calls::{
-    CallLimits, CallReport, canonical, frame, is_canonical, pack, segment_at, unpack, version, vet,
-    vet_exclusive, vet_segments,
+    CallLimits, CallReport, canonical, frame, is_canonical, pack, pack_message, segment_at, unpack,
+    version, vet, vet_exclusive, vet_segments,
 };
 
 /// Returns the version of the library: 65536 times its major number, 256 times its minor number,
@@ -244,4 +245,34 @@ pub extern "C" fn capvet_unpack(bytes: &[u8], out: &mut [u8], required: &mut usi
         (result ≡ number_of a) × (required.new ≡ n) × (out.new ≡ new) }
 {
     unpack(bytes, out, required).number()
+}
+
+/// Packs the message that `bytes` are to the start of `out`: its table and each of its segments by
+/// itself, with zero padding, so that no run of words goes on from one into the next. Only
+/// `message_words` and `CAPVET_ALLOW_TRAILING` have an effect, though all limits are checked. It
+/// checks no pointer.
+///
+/// With `CAPVET_OK`, `required` is the length in bytes, and the bytes after it are unchanged. With
+/// `CAPVET_BUFFER_TOO_SMALL` it is that length too, and with any other result 0. Without
+/// `CAPVET_OK`, `out` is unchanged. The result is the number of what [`pack_message`] returns. The
+/// report is written whole. Allocates nothing.
+#[unsafe(no_mangle)]
+pub extern "C" fn capvet_pack_message(
+    bytes: &[u8],
+    limits: &CallLimits,
+    out: &mut [u8],
+    required: &mut usize,
+    report: &mut CallReport,
+) -> u32
+    ensures tells { (a : Answer)
+        × TellsPackMessage limits.now bytes.now out.old a required.new out.new report.new
+        × (result ≡ number_of a) }
+    // The bytes and the capacity allow no other result.
+    ensures only { (a : Answer) (n : ℕ) (new : List ℕ) (r : CallReport) →
+        TellsPackMessage limits.now bytes.now out.old a n new r →
+        (result ≡ number_of a) × (required.new ≡ n) × (out.new ≡ new) × (report.new ≡ r) }
+    // This capacity is always enough.
+    ensures few { required.new ≤ report.new.length / 8 * 10 }
+{
+    pack_message(bytes, limits, out, required, report).number()
 }
