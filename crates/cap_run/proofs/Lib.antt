@@ -15,8 +15,6 @@ pub mod Paging
 pub mod Numbers
 pub mod Segments
 pub mod Settling
-pub mod Reading
-pub mod PathReading
 pub mod Reports
 pub mod Streams
 pub mod Telling

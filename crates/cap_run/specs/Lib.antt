@@ -8,7 +8,6 @@ pub mod FaultLines
 pub mod Handed
 pub mod Making
 pub mod Paging
-pub mod PathReading
 pub mod PuttingEnds
 pub mod Running
 pub mod Streams

@@ -6,10 +6,10 @@
 
 mod engines;
 mod fault;
-mod paths;
 mod settings;
 mod texts;
 
+pub use cap_path::{PathFault, parse_path};
 pub use cap_spec::Step;
 pub use cap_vet::{Demands, Limits};
 pub use engines::canon::{run_canon, run_canon_with};
@@ -21,7 +21,6 @@ pub use engines::segments::run_segments;
 pub use engines::transcode::{run_pack, run_unpack};
 pub use engines::vet::{run_vet, run_vet_with};
 pub use fault::{Cause, CopyFault, RunFault};
-pub use paths::{PathFault, parse_path};
 pub use settings::{Outcome, Settings};
 pub use texts::dump::dump;
 pub use texts::faults::{write_copy_fault, write_fault};

@@ -10,9 +10,9 @@ use Rattle.cap_spec.specs.PathTexts.{BeginsPath, IsStep, step_text, path_text}
 use Rattle.cap_spec.specs.declared.Step.{Step}
 use Rattle.cap_spec.specs.declared.Step.TheVariants.{Ptr, Item as item}
 use Rattle.cap_spec.proofs.Bytes.Lists.{all_append}
-use Rattle.cap_run.specs.PathReading.{ended_by, is_digit, item_number, longer_number, next_of, pointer_number}
-use Rattle.cap_run.specs.declared.paths.Reading.{Reading}
-use Rattle.cap_run.specs.declared.paths.Reading.TheVariants.{Start, Slash, Pointer, Item, Number}
+use Rattle.cap_path.specs.PathReading.{ended_by, is_digit, item_number, longer_number, next_of, pointer_number}
+use Rattle.cap_path.specs.declared.reading.Reading.{Reading}
+use Rattle.cap_path.specs.declared.reading.Reading.TheVariants.{Start, Slash, Pointer, Item, Number}
 
 -- the text of what was read of the last step
 abbrev pub reading_text : Reading → List ℕ

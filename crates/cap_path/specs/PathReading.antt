@@ -3,8 +3,8 @@ use Rattle.std.specs.Prelude.{ℕ, ◌+◌, ◌*◌, ◌-◌, ◌==◌, ◌&&◌
 use Rattle.std.specs.Prelude.{Option, Some, None}
 use Rattle.cap_spec.specs.declared.Step.{Step}
 use Rattle.cap_spec.specs.declared.Step.TheVariants.{Ptr, Item as item}
-use Rattle.cap_run.specs.declared.paths.Reading.{Reading}
-use Rattle.cap_run.specs.declared.paths.Reading.TheVariants.{Start, Slash, Pointer, Item, Number}
+use Rattle.cap_path.specs.declared.reading.Reading.{Reading}
+use Rattle.cap_path.specs.declared.reading.Reading.TheVariants.{Start, Slash, Pointer, Item, Number}
 
 abbrev pub is_digit : ℕ → Bool
 is_digit b = nat_le 48 b && nat_le b 57

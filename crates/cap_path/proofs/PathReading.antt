@@ -11,10 +11,10 @@ use Rattle.std.proofs.lemmas.List.{get_or-take, take-take, take_all}
 use Rattle.cap_spec.specs.PathTexts.{BeginsPath, IsBadAt, IsPath, IsStep, step_text, path_text}
 use Rattle.cap_spec.specs.declared.Step.{Step}
 use Rattle.cap_spec.specs.declared.Step.TheVariants.{Ptr, Item as item}
-use Rattle.cap_run.specs.PathReading.{is_digit, item_number, longer_number, next_of, pointer_number}
-use Rattle.cap_run.specs.declared.paths.Reading.{Reading}
-use Rattle.cap_run.specs.declared.paths.Reading.TheVariants.{Start, Slash, Pointer, Item, Number}
-use Rattle.cap_run.proofs.Reading.{HasRead, IsReading, are-snoc, path-snoc, read_begins, reading_text}
+use Rattle.cap_path.specs.PathReading.{is_digit, item_number, longer_number, next_of, pointer_number}
+use Rattle.cap_path.specs.declared.reading.Reading.{Reading}
+use Rattle.cap_path.specs.declared.reading.Reading.TheVariants.{Start, Slash, Pointer, Item, Number}
+use Rattle.cap_path.proofs.ReadSteps.{HasRead, IsReading, are-snoc, path-snoc, read_begins, reading_text}
 
 -- reading some bytes, one after the other
 abbrev run : List ℕ → Reading → Option Reading
@@ -223,3 +223,14 @@ unfinished_other done Slash a b = absurd (a refl)
 unfinished_other done Pointer a b = tt
 unfinished_other done Item a b = tt
 unfinished_other done (Number s) a b = b s refl
+
+-- A text of one slash is that of the empty path.
+pub slash_alone : (text : List ℕ) (done : List Step) → HasRead text done Slash → length text ≡ 1 → text ≡ codes "/"
+slash_alone text [] h one = h.spells
+slash_alone text (Ptr i ∷ done) h one = let f = ap length h.spells in absurd (omega (arith, f, one))
+slash_alone text (item i ∷ done) h one = let f = ap length h.spells in absurd (omega (arith, f, one))
+
+-- A text with a slash at its end that is longer has steps before it.
+pub slash_after_steps : (text : List ℕ) (done : List Step) → HasRead text done Slash → (length text ≡ 1 → ⊥) → 0 < length done
+slash_after_steps text [] h other = absurd (other (ap length h.spells))
+slash_after_steps text (s ∷ done) h other = omega arith

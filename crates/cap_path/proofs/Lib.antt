@@ -1,0 +1,3 @@
+pub mod PathReading
+pub mod ReadSteps
+pub mod StepsLeft

@@ -1,0 +1,14 @@
+-- The steps of a path that are still to be read from its text (profile).
+use Rattle.std.specs.Prelude.{ℕ, ◌≡◌, List, length}
+use Rattle.std.specs.List.{flat_map, AllByRecursion}
+use Rattle.cap_spec.specs.PathTexts.{IsStep, step_text}
+use Rattle.cap_spec.specs.declared.Step.{Step}
+use Rattle.cap_path.specs.declared.steps.PathSteps.{PathSteps}
+
+-- these steps are left, and their texts are what is left of the text
+abbrev pub AreLeft : PathSteps → List Step → Type 0
+AreLeft left steps = AllByRecursion IsStep steps × (left.rest.now ≡ flat_map step_text steps)
+
+-- how many bytes are left of the text
+abbrev pub bytes_left : PathSteps → ℕ
+bytes_left left = length left.rest.now
