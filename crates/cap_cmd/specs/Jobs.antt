@@ -27,12 +27,12 @@ use Rattle.cap_run.specs.Demanding.{TellsCheckUnder, TellsDumpUnder, TellsExclus
 use Rattle.cap_run.specs.Demanding.{TellsGetUnder, TellsVerdictUnder, WantsMarksUnder}
 use Rattle.cap_run.specs.Engines.{CopiesWords, ShowsStream, TellsStream}
 use Rattle.cap_run.specs.Engines.{most_packed_at_once, most_unpacked_at_once, most_words}
-use Rattle.cap_run.specs.FaultLines.{copy_fault_line, run_fault_line}
+use Rattle.cap_text.specs.FaultLines.{copy_fault_line, run_fault_line}
 use Rattle.cap_run.specs.Telling.{Tells, TellsEach, TellsSegments, Told, WantsNone}
 use Rattle.cap_run.specs.Telling.{messages_of, noncanonical_in, refused_in, texts_of}
-use Rattle.cap_run.specs.Writing.{Writes}
-use Rattle.cap_run.specs.declared.fault.CopyFault.{CopyFault}
-use Rattle.cap_run.specs.declared.fault.RunFault.{RunFault}
+use Rattle.cap_text.specs.Writing.{Writes}
+use Rattle.cap_text.specs.declared.fault.CopyFault.{CopyFault}
+use Rattle.cap_text.specs.declared.fault.RunFault.{RunFault}
 use Rattle.cap_run.specs.declared.settings.Outcome.{Outcome}
 use Rattle.cap_run.specs.declared.settings.Settings.{Settings}
 use Rattle.cap_cmd.specs.Statuses.{copy_status, run_status}

@@ -10,13 +10,13 @@ use Rattle.cap_frame.specs.declared.fault.FrameFault.TheVariants.{Truncated, Dev
 use Rattle.cap_canon.specs.declared.fault.CanonFault.{CanonFault}
 use Rattle.cap_canon.specs.declared.fault.CanonFault.TheVariants.{HasCapability}
 use Rattle.cap_canon.specs.declared.fault.CanonFault.TheVariants.{Memory as canon_memory}
-use Rattle.cap_run.specs.declared.fault.Cause.{Cause}
-use Rattle.cap_run.specs.declared.fault.Cause.TheVariants.{TooManyMessages, Frame, Output, Refused}
-use Rattle.cap_run.specs.declared.fault.Cause.TheVariants.{Canon, NotStrict, Memory as no_marks}
-use Rattle.cap_run.specs.declared.fault.CopyFault.{CopyFault}
-use Rattle.cap_run.specs.declared.fault.CopyFault.TheVariants.{TooManyWords, Source as copy_source}
-use Rattle.cap_run.specs.declared.fault.CopyFault.TheVariants.{Output as copy_output}
-use Rattle.cap_run.specs.declared.fault.RunFault.{RunFault}
+use Rattle.cap_text.specs.declared.fault.Cause.{Cause}
+use Rattle.cap_text.specs.declared.fault.Cause.TheVariants.{TooManyMessages, Frame, Output, Refused}
+use Rattle.cap_text.specs.declared.fault.Cause.TheVariants.{Canon, NotStrict, Memory as no_marks}
+use Rattle.cap_text.specs.declared.fault.CopyFault.{CopyFault}
+use Rattle.cap_text.specs.declared.fault.CopyFault.TheVariants.{TooManyWords, Source as copy_source}
+use Rattle.cap_text.specs.declared.fault.CopyFault.TheVariants.{Output as copy_output}
+use Rattle.cap_text.specs.declared.fault.RunFault.{RunFault}
 use Rattle.cap_run.specs.declared.settings.Outcome.{Outcome}
 
 -- the status of a message that couldn't be read

@@ -1,7 +1,7 @@
 //! The exit statuses: 0 if all is well, 1 for what the input is, and 3 for a failed device or if
 //! memory ran out.
 
-ghost use Rattle.cap_cmd.specs.Statuses.{cause_status, copy_status, outcome_status, run_status};
+ghost use Rattle.cap_cmd.specs.Statuses.{cause_status, copy_status, run_status};
 ghost use Rattle.std.specs.Prelude.{◌≡◌};
 
 use cap_canon::CanonFault;

@@ -11,8 +11,8 @@ use Rattle.cap_words.specs.declared.sinks.WordSink as sink
 use Rattle.cap_frame.proofs.Converse.{known_still, same_some}
 use Rattle.cap_run.specs.Copying.{Copied, CopiesAll, CopiesMost, CopiesUntil, CopySettled, Finishes}
 use Rattle.cap_run.specs.Engines.{CopiesWords}
-use Rattle.cap_run.specs.declared.fault.CopyFault.{CopyFault}
-use Rattle.cap_run.specs.declared.fault.CopyFault.TheVariants.{TooManyWords, Source, Output}
+use Rattle.cap_text.specs.declared.fault.CopyFault.{CopyFault}
+use Rattle.cap_text.specs.declared.fault.CopyFault.TheVariants.{TooManyWords, Source, Output}
 use Rattle.cap_run.proofs.Settling.{on_known}
 
 module _ {S K : Type 0} (gs : source.Ghosts S) (gk : sink.Ghosts K) (at_once most : ℕ) (old new : S) (before after : K) (own : List ℕ) where

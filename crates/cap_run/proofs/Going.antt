@@ -6,14 +6,14 @@ use Rattle.cap_words.specs.declared.ends.OutFault.{OutFault}
 use Rattle.cap_words.specs.declared.ends.OutFault.TheVariants.{Device, Memory, Spent}
 use Rattle.cap_words.specs.declared.sources.WordSource as source
 use Rattle.cap_run.specs.declared.engines.stream.Counted.{Counted}
-use Rattle.cap_run.specs.declared.fault.Cause.{Cause}
-use Rattle.cap_run.specs.declared.fault.Cause.TheVariants.{TooManyMessages, Frame, Output, Refused, NotStrict, Canon}
-use Rattle.cap_run.specs.declared.fault.Cause.TheVariants.{Memory as no_marks}
+use Rattle.cap_text.specs.declared.fault.Cause.{Cause}
+use Rattle.cap_text.specs.declared.fault.Cause.TheVariants.{TooManyMessages, Frame, Output, Refused, NotStrict, Canon}
+use Rattle.cap_text.specs.declared.fault.Cause.TheVariants.{Memory as no_marks}
 use Rattle.cap_run.specs.declared.settings.Outcome.{Outcome}
 use Rattle.cap_run.specs.Running.{Appended, EndStops, RunStops, StepStops, StopsIn}
 use Rattle.cap_run.specs.Streams.{ReadsStream}
 use Rattle.cap_run.specs.Telling.{Tells, Told, messages_of, texts_of, TellsEach, one_refused, one_noncanonical, outcome_of}
-use Rattle.cap_run.specs.Writing.{Wrote, Stopped}
+use Rattle.cap_text.specs.Writing.{Wrote, Stopped}
 use Rattle.cap_run.proofs.Streams.{reads_none, reads_both}
 use Rattle.cap_run.proofs.Telling.{messages_of-snoc, texts_of-snoc, each-snoc, outcome_of-snoc, refused_in_le, noncanonical_in_le}
 

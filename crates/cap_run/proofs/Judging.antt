@@ -1,14 +1,16 @@
 -- Texts that are written about a message that was read.
 use Rattle.std.proofs.Common.{◌≡◌, ℕ, List, [], ◌∷◌, Result, Ok, Err, subst, sym}
 use Rattle.cap_words.specs.declared.ends.ByteOut as output
+use Rattle.cap_words.specs.declared.ends.OutFault.{OutFault}
 use Rattle.cap_words.specs.declared.sources.WordSource as source
-use Rattle.cap_run.specs.Running.{StepStops, WritesOneOf}
+use Rattle.cap_text.specs.Writing.{Writes}
+use Rattle.cap_run.specs.Running.{StepStops, WritesOneOf, counted_after}
 use Rattle.cap_run.specs.Streams.{ReadsStream}
 use Rattle.cap_run.specs.Telling.{Tells}
 use Rattle.cap_run.specs.declared.engines.stream.Counted.{Counted}
-use Rattle.cap_run.specs.declared.fault.Cause.{Cause}
-use Rattle.cap_run.specs.declared.fault.Cause.TheVariants.{TooManyMessages, Frame, Output, Refused}
-use Rattle.cap_run.specs.declared.fault.Cause.TheVariants.{Canon, NotStrict, Memory as no_marks}
+use Rattle.cap_text.specs.declared.fault.Cause.{Cause}
+use Rattle.cap_text.specs.declared.fault.Cause.TheVariants.{TooManyMessages, Frame, Output, Refused}
+use Rattle.cap_text.specs.declared.fault.Cause.TheVariants.{Canon, NotStrict, Memory as no_marks}
 
 module _ {O : Type 0} (g : output.Ghosts O) where
   -- one of some texts is one of others
@@ -25,13 +27,14 @@ module _ {O : Type 0} (g : output.Ghosts O) where
   writes_as texts others wants needs old new (Err (Canon fault)) h k w = absurd w
   writes_as texts others wants needs old new (Err no_marks) h k w = (k w.0, w.1)
 
-  -- one line
-  pub writes_line : (line : List ℕ) (counted : Counted) (texts : List ℕ → Counted → Type 0) (wants : Type 0) (old new : O)
-      (r : Result Counted Cause) → texts line counted
-      → WritesOneOf g (λ text c. (text ≡ line) × (c ≡ counted)) ⊥ old new r → WritesOneOf g texts wants old new r
-  writes_line line counted texts wants old new r h w =
-      writes_as (λ text c. (text ≡ line) × (c ≡ counted)) texts ⊥ wants old new r
-      (λ text c e. subst (λ t. texts t c) (sym e.0) (subst (λ k. texts line k) (sym e.1) h)) (λ never. absurd never) w
+  -- a text was written, or the output failed in it
+  pub writes_text : (text : List ℕ) (counted : Counted) (texts : List ℕ → Counted → Type 0) (wants : Type 0) (old new : O)
+      (written : Result (Unit {0}) OutFault) (r : Result Counted Cause) → texts text counted → Writes g old new written text
+      → r ≡ counted_after written counted → WritesOneOf g texts wants old new r
+  writes_text text counted texts wants old new (Ok done) r h w e =
+      subst (WritesOneOf g texts wants old new) (sym e) (text, h, w)
+  writes_text text counted texts wants old new (Err fault) r h w e =
+      subst (WritesOneOf g texts wants old new) (sym e) (text, counted, h, w)
 
 module _ {S O : Type 0} (gs : source.Ghosts S) (go : output.Ghosts O) (tells : Tells)
     (wants : List (List ℕ) → Type 0) (limit n : ℕ) where

@@ -27,9 +27,9 @@ use Rattle.cap_run.specs.Making.{CopiesEnd, CopiesSoFar, CopyStops, Made, Making
 use Rattle.cap_run.specs.Making.{is_unfinished, refused_cause}
 use Rattle.cap_run.specs.Running.{EndStops}
 use Rattle.cap_run.specs.Streams.{EndsStream, ReadsStream}
-use Rattle.cap_run.specs.declared.fault.Cause.{Cause}
-use Rattle.cap_run.specs.declared.fault.Cause.TheVariants.{TooManyMessages, Frame, Output, Refused, NotStrict, Canon}
-use Rattle.cap_run.specs.declared.fault.Cause.TheVariants.{Memory as no_marks}
+use Rattle.cap_text.specs.declared.fault.Cause.{Cause}
+use Rattle.cap_text.specs.declared.fault.Cause.TheVariants.{TooManyMessages, Frame, Output, Refused, NotStrict, Canon}
+use Rattle.cap_text.specs.declared.fault.Cause.TheVariants.{Memory as no_marks}
 use Rattle.cap_run.proofs.Copying.{fills_both, fills_none, finishes_behind, spoils_last}
 use Rattle.cap_run.proofs.Streams.{reads_both, reads_none}
 

@@ -1,6 +1,6 @@
 -- What is known of the words of a source decides how an engine ends, faults of devices, of the output and of memory aside.
 use Rattle.std.proofs.Common.{◌≡◌, ◌∙◌, ◌⊎◌, inl, inr, ℕ, ◌≤◌, Bool, false, Option, Some, None, Result, Ok, Err, List}
-use Rattle.std.proofs.Common.{[], ◌∷◌, ◌++◌, length, sum, IfErr, IfOk, OnSome, sym, ap, subst, arith, length-append}
+use Rattle.std.proofs.Common.{[], ◌∷◌, ◌++◌, length, sum, OnSome, sym, ap, subst, arith, length-append}
 use Rattle.std.specs.Bool.{⊤}
 use Rattle.std.specs.List.{AllByRecursion}
 use Rattle.std.specs.Io.KnownBytes.{Consumes}
@@ -17,12 +17,12 @@ use Rattle.cap_frame.specs.declared.fault.FrameFault.TheVariants.{TooManySegment
 use Rattle.cap_frame.proofs.Converse.{known_still, same_some, settled as settled_by, tells_fault}
 use Rattle.cap_run.specs.Engines.{EndsEarly, ReachesEnd}
 use Rattle.cap_run.specs.Running.{Appended, RunStops, Settled, SettledAt}
-use Rattle.cap_run.specs.Streams.{ReadsAll, ReadsStream}
+use Rattle.cap_run.specs.Streams.{ReadsStream}
 use Rattle.cap_run.specs.Telling.{Tells, TellsEach, Told, messages_of, outcome_of, texts_of}
-use Rattle.cap_run.specs.declared.fault.Cause.{Cause}
-use Rattle.cap_run.specs.declared.fault.Cause.TheVariants.{TooManyMessages, Frame, Output, Refused, NotStrict, Canon}
-use Rattle.cap_run.specs.declared.fault.Cause.TheVariants.{Memory as no_marks}
-use Rattle.cap_run.specs.declared.fault.RunFault.{RunFault}
+use Rattle.cap_text.specs.declared.fault.Cause.{Cause}
+use Rattle.cap_text.specs.declared.fault.Cause.TheVariants.{TooManyMessages, Frame, Output, Refused, NotStrict, Canon}
+use Rattle.cap_text.specs.declared.fault.Cause.TheVariants.{Memory as no_marks}
+use Rattle.cap_text.specs.declared.fault.RunFault.{RunFault}
 use Rattle.cap_run.specs.declared.settings.Outcome.{Outcome}
 use Rattle.cap_run.proofs.Telling.{length-messages_of}
 

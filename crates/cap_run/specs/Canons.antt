@@ -23,10 +23,10 @@ use Rattle.cap_run.specs.Copying.{Finishes, Spoils}
 use Rattle.cap_run.specs.Demanding.{IsNotStrict, IsStrictUnder, no_demands}
 use Rattle.cap_run.specs.Running.{Settled}
 use Rattle.cap_run.specs.Streams.{EndsStream, ReadsAll, ReadsStream}
-use Rattle.cap_run.specs.declared.fault.Cause.{Cause}
-use Rattle.cap_run.specs.declared.fault.Cause.TheVariants.{TooManyMessages, Frame, Output, Refused}
-use Rattle.cap_run.specs.declared.fault.Cause.TheVariants.{Canon, NotStrict, Memory as no_marks}
-use Rattle.cap_run.specs.declared.fault.RunFault.{RunFault}
+use Rattle.cap_text.specs.declared.fault.Cause.{Cause}
+use Rattle.cap_text.specs.declared.fault.Cause.TheVariants.{TooManyMessages, Frame, Output, Refused}
+use Rattle.cap_text.specs.declared.fault.Cause.TheVariants.{Canon, NotStrict, Memory as no_marks}
+use Rattle.cap_text.specs.declared.fault.RunFault.{RunFault}
 use Rattle.cap_run.specs.declared.settings.Outcome.{Outcome}
 
 -- a message, and the words of its canonical copy

@@ -12,8 +12,8 @@ use Rattle.cap_words.specs.declared.sinks.WordSink as sink
 use Rattle.cap_frame.specs.Putting.{Blames, Halts}
 use Rattle.cap_frame.specs.Taking.{Breaks, Refuses, Takes}
 use Rattle.cap_run.specs.Streams.{EndsStream}
-use Rattle.cap_run.specs.declared.fault.CopyFault.{CopyFault}
-use Rattle.cap_run.specs.declared.fault.CopyFault.TheVariants.{TooManyWords, Source, Output}
+use Rattle.cap_text.specs.declared.fault.CopyFault.{CopyFault}
+use Rattle.cap_text.specs.declared.fault.CopyFault.TheVariants.{TooManyWords, Source, Output}
 
 module _ {S : Type 0} (gs : source.Ghosts S) where
   -- These words were read without an error. If there were any, the source wasn't closed before.

@@ -15,10 +15,10 @@ use Rattle.cap_run.specs.Running.{Appended, RunStops, Settled}
 use Rattle.cap_run.specs.Streams.{ReadsAll, ReadsStream}
 use Rattle.cap_run.specs.Telling.{Tells, TellsEach, TellsSegments, Told, WantsNone, messages_of}
 use Rattle.cap_run.specs.Telling.{outcome_of, texts_of}
-use Rattle.cap_run.specs.declared.fault.Cause.TheVariants.{Frame}
-use Rattle.cap_run.specs.declared.fault.CopyFault.{CopyFault}
-use Rattle.cap_run.specs.declared.fault.CopyFault.TheVariants.{TooManyWords, Source}
-use Rattle.cap_run.specs.declared.fault.RunFault.{RunFault}
+use Rattle.cap_text.specs.declared.fault.Cause.TheVariants.{Frame}
+use Rattle.cap_text.specs.declared.fault.CopyFault.{CopyFault}
+use Rattle.cap_text.specs.declared.fault.CopyFault.TheVariants.{TooManyWords, Source}
+use Rattle.cap_text.specs.declared.fault.RunFault.{RunFault}
 use Rattle.cap_run.specs.declared.settings.Outcome.{Outcome}
 
 -- the most words that the program packs or unpacks

@@ -2,15 +2,11 @@ pub mod Canons
 pub mod Checking
 pub mod Copying
 pub mod Demanding
-pub mod Dumping
 pub mod Engines
-pub mod FaultLines
 pub mod Handed
 pub mod Making
-pub mod Paging
 pub mod PuttingEnds
 pub mod Running
 pub mod Streams
 pub mod Telling
 pub mod Vetting
-pub mod Writing

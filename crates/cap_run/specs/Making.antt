@@ -19,9 +19,9 @@ use Rattle.cap_run.specs.Canons.{IsCanonised, StopsInCopy, canonised, copies_of}
 use Rattle.cap_run.specs.Copying.{Fills, Finishes}
 use Rattle.cap_run.specs.Demanding.{IsNotStrict, IsStrictUnder}
 use Rattle.cap_run.specs.Streams.{ReadsStream}
-use Rattle.cap_run.specs.declared.fault.Cause.{Cause}
-use Rattle.cap_run.specs.declared.fault.Cause.TheVariants.{TooManyMessages, Frame, Output, Refused}
-use Rattle.cap_run.specs.declared.fault.Cause.TheVariants.{Canon, NotStrict, Memory as no_marks}
+use Rattle.cap_text.specs.declared.fault.Cause.{Cause}
+use Rattle.cap_text.specs.declared.fault.Cause.TheVariants.{TooManyMessages, Frame, Output, Refused}
+use Rattle.cap_text.specs.declared.fault.Cause.TheVariants.{Canon, NotStrict, Memory as no_marks}
 
 -- whether the sink is still to be finished
 abbrev pub is_unfinished : Result (Unit {0}) Cause → Bool

@@ -8,8 +8,8 @@ use Rattle.cap_words.specs.declared.sinks.WordSink as sink
 use Rattle.cap_frame.specs.Putting.{Halts}
 use Rattle.cap_run.specs.Copying.{Fills, Gives, GivesNone, StopsMidway}
 use Rattle.cap_run.specs.Streams.{EndsStream}
-use Rattle.cap_run.specs.declared.fault.CopyFault.{CopyFault}
-use Rattle.cap_run.specs.declared.fault.CopyFault.TheVariants.{TooManyWords, Source, Output}
+use Rattle.cap_text.specs.declared.fault.CopyFault.{CopyFault}
+use Rattle.cap_text.specs.declared.fault.CopyFault.TheVariants.{TooManyWords, Source, Output}
 
 -- whether the sink is still to be finished
 abbrev pub is_open : Result ℕ CopyFault → Bool

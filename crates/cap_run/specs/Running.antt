@@ -10,15 +10,20 @@ use Rattle.cap_words.specs.declared.sources.WordSource as source
 use Rattle.cap_frame.specs.ReadingFaults.{Answered, Faults}
 use Rattle.cap_canon.specs.declared.fault.CanonFault.TheVariants.{HasCapability}
 use Rattle.cap_canon.specs.declared.fault.CanonFault.TheVariants.{Memory as canon_memory}
-use Rattle.cap_run.specs.declared.fault.Cause.{Cause}
-use Rattle.cap_run.specs.declared.fault.Cause.TheVariants.{TooManyMessages, Frame, Output, Refused}
-use Rattle.cap_run.specs.declared.fault.Cause.TheVariants.{Canon, NotStrict, Memory as no_marks}
-use Rattle.cap_run.specs.declared.fault.RunFault.{RunFault}
+use Rattle.cap_text.specs.declared.fault.Cause.{Cause}
+use Rattle.cap_text.specs.declared.fault.Cause.TheVariants.{TooManyMessages, Frame, Output, Refused}
+use Rattle.cap_text.specs.declared.fault.Cause.TheVariants.{Canon, NotStrict, Memory as no_marks}
+use Rattle.cap_text.specs.declared.fault.RunFault.{RunFault}
 use Rattle.cap_run.specs.declared.engines.stream.Counted.{Counted}
 use Rattle.cap_run.specs.declared.settings.Outcome.{Outcome}
 use Rattle.cap_run.specs.Streams.{ReadsStream}
 use Rattle.cap_run.specs.Telling.{Tells, Told, texts_of}
-use Rattle.cap_run.specs.Writing.{Stopped, Wrote}
+use Rattle.cap_text.specs.Writing.{Stopped, Wrote}
+
+-- what an engine returns after a text was written, or after the output failed in it
+abbrev pub counted_after : Result (Unit {0}) OutFault → Counted → Result Counted Cause
+counted_after (Ok written) counted = Ok counted
+counted_after (Err fault) counted = Err (Output fault)
 
 -- P, unless reading failed, the output failed, an allocation failed, or the input was closed by an
 -- earlier error

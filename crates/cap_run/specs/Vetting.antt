@@ -2,20 +2,17 @@
 use Rattle.std.specs.Prelude.{ℕ, ◌≡◌, ◌⊎◌, List, ◌++◌, codes}
 use Rattle.cap_spec.specs.Faults.{IsRefused}
 use Rattle.cap_spec.specs.Occupying.{IsDisjoint, IsFirstOverlap}
-use Rattle.cap_spec.specs.Texts.{accepted, dump_text, get_text, refusal_verdict, refused, vet_text}
+use Rattle.cap_spec.specs.Texts.{dump_text, get_text, refusal_verdict, refused, vet_text}
 use Rattle.cap_spec.specs.Tree.{Tree, node_at}
 use Rattle.cap_spec.specs.declared.Refusal.{Refusal}
 use Rattle.cap_spec.specs.declared.Step.{Step}
 use Rattle.cap_vet.specs.Reports.{IsAccepted, IsReport}
 use Rattle.cap_vet.specs.declared.report.Report.{Report}
+use Rattle.cap_text.specs.Lines.{accepted_text}
 use Rattle.cap_run.specs.declared.engines.stream.Counted.{Counted}
 use Rattle.cap_run.specs.declared.engines.stream.Counted.TheVariants.{Accepted, Refused}
 
 -- the line of message n if it is accepted, with the numbers of its tree
-abbrev pub accepted_text : ℕ → Report → List ℕ
-accepted_text n r = vet_text n (accepted r.charge r.depth r.pointers r.caps)
-
--- this is that line
 pub record TellsAccepted (words depth n : ℕ) (m : List (List ℕ)) (text : List ℕ)
     (counted : Counted) : Type 0 where
   pub report : Report

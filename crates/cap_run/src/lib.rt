@@ -1,16 +1,16 @@
 //! The engines of the program. Most read the messages of a stream and write a text or a copy for
 //! each. The others copy the words of a source.
 //!
-//! Texts are put together in a buffer of a fixed size, a page, so that no text allocates.
+//! The texts, and the errors with which a run ends, are those of `cap_text`.
 #![tactic(auto)]
 
 mod engines;
 mod fault;
 mod settings;
-mod texts;
 
 pub use cap_path::{PathFault, parse_path};
 pub use cap_spec::Step;
+pub use cap_text::{Cause, CopyFault, RunFault, dump, write_copy_fault, write_fault};
 pub use cap_vet::{Demands, Limits};
 pub use engines::canon::{run_canon, run_canon_with};
 pub use engines::check::{run_check, run_check_with};
@@ -20,7 +20,4 @@ pub use engines::get::{run_get, run_get_with};
 pub use engines::segments::run_segments;
 pub use engines::transcode::{run_pack, run_unpack};
 pub use engines::vet::{run_vet, run_vet_with};
-pub use fault::{Cause, CopyFault, RunFault};
 pub use settings::{Outcome, Settings};
-pub use texts::dump::dump;
-pub use texts::faults::{write_copy_fault, write_fault};

@@ -13,11 +13,12 @@ ghost use Rattle.cap_vet.specs.Limits.{depth_of, words_of};
 ghost use Rattle.std.specs.Prelude.{◌*◌, ◌<◌, ◌≡◌, ◌^◌, [], ◌∷◌, IfErr, List, OnOk, false, length, true, ℕ};
 
 use crate::engines::stream::end_stream;
-use crate::fault::{Cause, RunFault, output_fault};
+use crate::fault::output_fault;
 use crate::settings::{Outcome, Settings};
 use cap_canon::canonical_bytes;
 use cap_frame::{ByteMessage, Segments, read_into};
 use cap_spec::StrictRefusal;
+use cap_text::{Cause, RunFault};
 use cap_vet::{Demands, Limits, vet_with};
 use cap_words::{SinkFault, WordSink, WordSource};
 use std::alloc::Global;

@@ -9,13 +9,11 @@ ghost use Rattle.cap_vet.specs.Limits.{depth_of, words_of};
 ghost use Rattle.std.specs.Prelude.{◌≡◌, if◌then◌else◌};
 
 use crate::engines::stream::Counted;
-use crate::engines::whole::{Teller, vet_all, write_line};
-use crate::fault::{Cause, RunFault};
+use crate::engines::whole::{Teller, after_text, vet_all};
 use crate::settings::{Outcome, Settings};
-use crate::texts::page::Page;
-use crate::texts::verdict::check_line;
 use cap_canon::is_canonical;
 use cap_frame::Segments;
+use cap_text::{Cause, Page, RunFault, write_check};
 use cap_vet::{Demands, Vetted};
 use cap_words::{ByteOut, WordSource};
 use std::alloc::Global;
@@ -37,8 +35,8 @@ impl Teller for CheckTeller {
         vetted: &Vetted<'_, M>,
     ) -> Result<Counted, Cause> {
         let canonical = is_canonical(vetted);
-        check_line(page, number, canonical);
-        write_line(page, out, count_of(canonical))
+        let written = write_check(page, out, number, canonical);
+        after_text(written, count_of(canonical))
     }
 }
 

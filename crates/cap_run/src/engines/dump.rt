@@ -3,50 +3,22 @@
 ghost use Rattle.cap_run.specs.Demanding.{TellsDumpUnder};
 ghost use Rattle.cap_run.specs.Engines.{TellsStream};
 ghost use Rattle.cap_run.specs.Telling.{WantsNone};
-ghost use Rattle.cap_run.specs.Vetting.{TellsDump, TellsTree, accepted_text};
-ghost use Rattle.cap_run.specs.Writing.{Writes};
+ghost use Rattle.cap_run.specs.Vetting.{TellsDump, TellsTree};
 ghost use Rattle.cap_frame.specs.Limit.{limit_of};
-ghost use Rattle.cap_spec.specs.Denoting.{Denotes};
-ghost use Rattle.cap_spec.specs.Texts.{dump_text};
-ghost use Rattle.cap_spec.specs.Tree.{Tree};
 ghost use Rattle.cap_vet.specs.Limits.{depth_of, words_of};
-ghost use Rattle.cap_vet.specs.Vettings.{message_of, report_of};
-ghost use Rattle.std.specs.Prelude.{◌++◌, ℕ};
 
 use crate::engines::stream::Counted;
-use crate::engines::whole::{Teller, vet_all};
-use crate::fault::{Cause, RunFault};
+use crate::engines::whole::{Teller, after_text, vet_all};
 use crate::settings::{Outcome, Settings};
-use crate::texts::dump::put_dump;
-use crate::texts::output::write_page;
-use crate::texts::page::Page;
-use crate::texts::verdict::accepted_line;
 use cap_frame::Segments;
+use cap_text::{Cause, Page, RunFault, write_tree};
 use cap_vet::{Demands, Vetted};
-use cap_words::{ByteOut, OutFault, WordSource};
+use cap_words::{ByteOut, WordSource};
 use std::alloc::Global;
 
 /// Writes the tree of a message.
 #[derive(Clone, Copy)]
 struct DumpTeller;
-
-/// Writes the line of an accepted message, and then its tree.
-fn write_tree<M: Segments, O: ByteOut>(
-    page: &mut Page,
-    out: &mut O,
-    number: u32,
-    vetted: &Vetted<'_, M>,
-) -> Result<(), OutFault>
-    ensures { (t : Tree) (c d : ℕ) → Denotes (M.segments (message_of vetted.now)) 0 0 t c d →
-        Writes O.ByteOut out.old out.new result
-        (accepted_text number (report_of vetted.now) ++ dump_text t) }
-{
-    accepted_line(page, number, &vetted.report());
-    match put_dump(page, out, vetted) {
-        Ok(()) => write_page(page, out),
-        Err(fault) => Err(fault),
-    }
-}
 
 impl Teller for DumpTeller {
     ghost tells = { λ _. TellsTree };
@@ -60,10 +32,7 @@ impl Teller for DumpTeller {
         number: u32,
         vetted: &Vetted<'_, M>,
     ) -> Result<Counted, Cause> {
-        match write_tree(page, out, number, vetted) {
-            Ok(()) => Ok(Counted::Accepted),
-            Err(fault) => Err(Cause::Output(fault)),
-        }
+        after_text(write_tree(page, out, number, vetted), Counted::Accepted)
     }
 }
 

@@ -7,12 +7,10 @@ ghost use Rattle.cap_frame.specs.Limit.{limit_of};
 ghost use Rattle.cap_vet.specs.Limits.{depth_of, words_of};
 
 use crate::engines::stream::Counted;
-use crate::engines::whole::{Teller, vet_all, write_line};
-use crate::fault::{Cause, RunFault};
+use crate::engines::whole::{Teller, after_text, vet_all};
 use crate::settings::{Outcome, Settings};
-use crate::texts::page::Page;
-use crate::texts::verdict::{accepted_line, overlap_line};
 use cap_frame::Segments;
+use cap_text::{Cause, Page, RunFault, write_accepted, write_overlap};
 use cap_vet::{Demands, ExclusiveRefusal, Vetted};
 use cap_words::{ByteOut, WordSource};
 use std::alloc::Global;
@@ -38,8 +36,9 @@ impl Teller for ExclusiveTeller {
     ) -> Result<Counted, Cause> {
         match vetted.into_exclusive(self.alloc) {
             Ok(exclusive) => {
-                accepted_line(page, number, &exclusive.into_vetted().report());
-                write_line(page, out, Counted::Accepted)
+                let report = exclusive.into_vetted().report();
+                let written = write_accepted(page, out, number, &report);
+                after_text(written, Counted::Accepted)
             }
             Err(
                 ExclusiveRefusal::Overlap {
@@ -48,8 +47,8 @@ impl Teller for ExclusiveTeller {
                     pointers,
                 },
             ) => {
-                overlap_line(page, number, segment, word, pointers);
-                write_line(page, out, Counted::Refused)
+                let written = write_overlap(page, out, number, segment, word, pointers);
+                after_text(written, Counted::Refused)
             }
             Err(ExclusiveRefusal::Memory) => Err(Cause::Memory),
             // The message is accepted.

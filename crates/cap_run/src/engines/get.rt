@@ -8,13 +8,11 @@ ghost use Rattle.cap_frame.specs.Limit.{limit_of};
 ghost use Rattle.cap_vet.specs.Limits.{depth_of, words_of};
 
 use crate::engines::stream::Counted;
-use crate::engines::whole::{Teller, vet_all};
-use crate::fault::{Cause, RunFault};
+use crate::engines::whole::{Teller, after_text, vet_all};
 use crate::settings::{Outcome, Settings};
-use crate::texts::get::write_node;
-use crate::texts::page::Page;
 use cap_frame::Segments;
 use cap_spec::Step;
+use cap_text::{Cause, Page, RunFault, write_node};
 use cap_vet::{Demands, Vetted};
 use cap_words::{ByteOut, WordSource};
 use std::alloc::Global;
@@ -37,10 +35,8 @@ impl<'p> Teller for GetTeller<'p> {
         number: u32,
         vetted: &Vetted<'_, M>,
     ) -> Result<Counted, Cause> {
-        match write_node(page, out, number, vetted.get(self.path)) {
-            Ok(()) => Ok(Counted::Accepted),
-            Err(fault) => Err(Cause::Output(fault)),
-        }
+        let written = write_node(page, out, number, vetted.get(self.path));
+        after_text(written, Counted::Accepted)
     }
 }
 

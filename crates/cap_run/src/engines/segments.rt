@@ -6,11 +6,9 @@ ghost use Rattle.cap_frame.specs.Limit.{limit_of};
 ghost use Rattle.std.specs.Prelude.{false};
 
 use crate::engines::stream::{Counted, Engine, tell_all};
-use crate::fault::{Cause, RunFault};
 use crate::settings::{Outcome, Settings};
-use crate::texts::page::Page;
-use crate::texts::segments::write_segments_text;
 use cap_frame::{Outline, SizeLimit, read_outline};
+use cap_text::{Cause, Page, RunFault, write_segments};
 use cap_words::{ByteOut, WordSource};
 
 /// The outline of the message that was read last, and the page for its text.
@@ -49,7 +47,7 @@ impl Engine for SegmentsEngine {
         number: u32,
     ) -> Result<Option<Counted>, Cause> {
         match read_outline(source, limit, &mut room.outline) {
-            Ok(true) => match write_segments_text(&mut room.page, out, number, &room.outline) {
+            Ok(true) => match write_segments(&mut room.page, out, number, &room.outline) {
                 Ok(()) => Ok(Some(Counted::Accepted)),
                 Err(fault) => Err(Cause::Output(fault)),
             },

@@ -4,13 +4,13 @@ ghost use Rattle.cap_run.specs.Engines.{EndsEarly, ReachesEnd, TellsStream};
 ghost use Rattle.cap_run.specs.Running.{EndStops, StepStops, StepTells};
 ghost use Rattle.cap_run.specs.Streams.{EndsStream};
 ghost use Rattle.cap_run.specs.Telling.{one_noncanonical, one_refused};
-ghost use Rattle.cap_run.specs.Writing.{Writes, Wrote};
+ghost use Rattle.cap_text.specs.Writing.{Writes, Wrote};
 ghost use Rattle.cap_frame.specs.Limit.{limit_of};
-ghost use Rattle.std.specs.Prelude.{◌+◌, ◌-◌, ◌<◌, ◌^◌, ◌≡◌, ◌≤◌, [], ◌∷◌, Bool, IfErr, IfOk, IfSome, List, OnOk, true, ℕ};
+ghost use Rattle.std.specs.Prelude.{◌+◌, ◌-◌, ◌<◌, ◌^◌, ◌≡◌, ◌≤◌, Bool, IfErr, IfOk, IfSome, List, OnOk, true, ℕ};
 
-use crate::fault::{Cause, RunFault};
 use crate::settings::{Outcome, Settings};
 use cap_frame::{FrameFault, Outline, SizeLimit, read_outline};
+use cap_text::{Cause, RunFault};
 use cap_words::{ByteOut, OutFault, WordSource};
 
 /// What is counted of a message.

@@ -6,8 +6,9 @@ ghost use Rattle.cap_run.specs.Handed.{HandsOver};
 ghost use Rattle.cap_run.specs.PuttingEnds.{Copies, StopsPutting, is_open};
 ghost use Rattle.std.specs.Prelude.{◌*◌, ◌/◌, ◌≡◌, ◌≤◌, IfErr, IfOk, length};
 
-use crate::fault::{CopyFault, output_fault};
+use crate::fault::output_fault;
 use cap_pack::Packer;
+use cap_text::CopyFault;
 use cap_words::{ByteOut, OutFault, WordSink, WordSource};
 
 // The buffer of `run_pack` in bytes. The packer gets at most these 64 words in one call.

@@ -8,12 +8,10 @@ ghost use Rattle.cap_frame.specs.Limit.{limit_of};
 ghost use Rattle.cap_vet.specs.Limits.{depth_of, words_of};
 
 use crate::engines::stream::Counted;
-use crate::engines::whole::{Teller, vet_all, write_line};
-use crate::fault::{Cause, RunFault};
+use crate::engines::whole::{Teller, after_text, vet_all};
 use crate::settings::{Outcome, Settings};
-use crate::texts::page::Page;
-use crate::texts::verdict::accepted_line;
 use cap_frame::Segments;
+use cap_text::{Cause, Page, RunFault, write_accepted};
 use cap_vet::{Demands, Vetted};
 use cap_words::{ByteOut, WordSource};
 use std::alloc::Global;
@@ -34,8 +32,8 @@ impl Teller for VetTeller {
         number: u32,
         vetted: &Vetted<'_, M>,
     ) -> Result<Counted, Cause> {
-        accepted_line(page, number, &vetted.report());
-        write_line(page, out, Counted::Accepted)
+        let written = write_accepted(page, out, number, &vetted.report());
+        after_text(written, Counted::Accepted)
     }
 }
 

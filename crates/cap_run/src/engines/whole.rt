@@ -3,22 +3,19 @@
 ghost use Rattle.cap_frame.specs.Limit.{limit_of};
 ghost use Rattle.cap_run.specs.Demanding.{OrFault, WantsUnder};
 ghost use Rattle.cap_run.specs.Engines.{TellsStream};
-ghost use Rattle.cap_run.specs.Running.{WritesOneOf};
+ghost use Rattle.cap_run.specs.Running.{WritesOneOf, counted_after};
 ghost use Rattle.cap_vet.specs.Limits.{depth_of, words_of};
 ghost use Rattle.cap_vet.specs.Reports.{IsReport};
 ghost use Rattle.cap_vet.specs.Vettings.{message_of, report_of};
 ghost use Rattle.cap_spec.specs.Tree.{Tree};
-ghost use Rattle.std.specs.Prelude.{◌<◌, ◌≡◌, List, length, true, ℕ};
+ghost use Rattle.std.specs.Prelude.{◌≡◌, List, true, ℕ};
 
 use crate::engines::stream::{Counted, Engine, tell_all};
-use crate::fault::{Cause, RunFault};
 use crate::settings::{Outcome, Settings};
-use crate::texts::output::write_bytes;
-use crate::texts::page::Page;
-use crate::texts::verdict::refused_line;
 use cap_frame::{ByteMessage, Segments, SizeLimit, read_into};
+use cap_text::{Cause, Page, RunFault, write_refused};
 use cap_vet::{Demands, Limits, Vetted, vet_with};
-use cap_words::{ByteOut, WordSource};
+use cap_words::{ByteOut, OutFault, WordSource};
 use std::alloc::Global;
 
 /// What an engine writes about an accepted message.
@@ -51,17 +48,11 @@ pub(crate) trait Teller {
             (wants self.now words depth m) out.old out.new result };
 }
 
-/// Writes the line on a page, and returns what is counted of its message.
-pub(crate) fn write_line<O: ByteOut>(
-    page: &Page,
-    out: &mut O,
-    counted: Counted,
-) -> Result<Counted, Cause>
-    requires { 0 < length page.now }
-    ensures { WritesOneOf O.ByteOut (λ text c. (text ≡ page.now) × (c ≡ counted)) ⊥
-        out.old out.new result }
+/// What is counted of a message whose text was written, or the fault of the output.
+pub(crate) fn after_text(written: Result<(), OutFault>, counted: Counted) -> Result<Counted, Cause>
+    ensures { result ≡ counted_after written counted }
 {
-    match write_bytes(out, page.text()) {
+    match written {
         Ok(()) => Ok(counted),
         Err(fault) => Err(Cause::Output(fault)),
     }
@@ -98,8 +89,8 @@ impl<T: Teller> Vetting<T> {
         match vet_with(message, self.limits, self.demands) {
             Ok(vetted) => self.teller.tell(page, out, number, &vetted),
             Err(refusal) => {
-                refused_line(page, number, &refusal);
-                write_line(page, out, Counted::Refused)
+                let written = write_refused(page, out, number, &refusal);
+                after_text(written, Counted::Refused)
             }
         }
     }

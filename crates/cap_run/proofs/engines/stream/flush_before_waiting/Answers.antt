@@ -1,4 +1,4 @@
-use Rattle.cap_run.proofs.Writing.{writes_kept}
+use Rattle.cap_text.proofs.Writing.{writes_kept}
 use Rattle.cap_run.proofs.engines.stream.flush_before_waiting.Goals as goal
 
 pub returns : goal.returns

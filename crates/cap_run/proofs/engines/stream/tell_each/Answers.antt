@@ -1,5 +1,5 @@
 use Rattle.std.proofs.Common.{sym, arith}
-use Rattle.cap_run.specs.declared.fault.Cause.TheVariants.{Output}
+use Rattle.cap_text.specs.declared.fault.Cause.TheVariants.{Output}
 use Rattle.cap_run.proofs.Going.{going_none, going_more, going_stops, going_refused, going_noncanonical}
 use Rattle.cap_run.proofs.engines.stream.tell_each.Goals as goal
 

@@ -1,4 +1,5 @@
 use Rattle.std.proofs.Common.{List, ap, inl, inr, refl, subst, ℕ}
+use Rattle.cap_spec.specs.Texts.{strict_verdict, vet_text}
 use Rattle.cap_spec.specs.Tree.{Tree}
 use Rattle.cap_vet.specs.Demands.{words_under}
 use Rattle.cap_vet.specs.Limits.{depth_of, words_of}
@@ -7,7 +8,7 @@ use Rattle.cap_vet.specs.Vettings.{report_of}
 use Rattle.cap_run.specs.Demanding.{OrFault, WantsUnder}
 use Rattle.cap_run.specs.Running.{WritesOneOf}
 use Rattle.cap_run.specs.declared.engines.stream.Counted.TheVariants.{Refused}
-use Rattle.cap_run.proofs.Judging.{writes_as, writes_line}
+use Rattle.cap_run.proofs.Judging.{writes_as, writes_text}
 use Rattle.cap_run.proofs.engines.whole.Vetting.judge.Goals as goal
 
 pub returns-in-Ok : goal.returns-in-Ok
@@ -36,14 +37,14 @@ returns-in-Err g c =
     let m = g.M.Segments.segments c.args.message.now in
     let words = words_of v.limits in
     let depth = depth_of v.limits in
-    writes_line g.O.ByteOut c.refused_line.new.page Refused
+    writes_text g.O.ByteOut (vet_text c.args.number (strict_verdict c.in-Err.refusal)) Refused
     (OrFault v.demands (g.T.Teller.tells v.teller) words depth c.args.number m)
     (WantsUnder v.demands (g.T.Teller.wants v.teller) words depth m)
-    c.args.out.now c.write_line.new.out c.write_line.result
+    c.args.out.now c.write_refused-written.new.out c.write_refused-written.result c.after_text.result
     (inr (record {
       fault = c.in-Err.refusal;
       is_fault = c.in-Err.ensures.err;
-      line = c.refused_line.ensures;
+      line = refl;
       counts = refl;
     }))
-    c.write_line.ensures
+    c.write_refused-written.ensures c.after_text.ensures

@@ -1,8 +1,0 @@
-use Rattle.std.proofs.Common.{rules}
-use Rattle.cap_run.proofs.texts.dump.shown_count.Goals as goal
-
-pub returns-in-Struct : goal.returns-in-Struct
-returns-in-Struct c = rw c.in-Struct.is c.from.ensures
-
-pub returns-then-pointers-eq0 : goal.returns-then-pointers-eq0
-returns-then-pointers-eq0 c = search rules

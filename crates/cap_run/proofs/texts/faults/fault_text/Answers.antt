@@ -1,4 +1,0 @@
-use Rattle.cap_run.proofs.texts.faults.fault_text.Goals as goal
-
-pub returns : goal.returns
-returns c = rw (c.push_text-2.ensures, c.push_cause.ensures.items, c.push_text.ensures, c.new-page.ensures)

@@ -1,6 +1,0 @@
-use Rattle.std.proofs.Common.{arith, ◌*◌}
-use Rattle.std.proofs.lemmas.List.{take-replicate}
-use Rattle.cap_run.proofs.texts.node.spaces.Goals as goal
-
-pub returns : goal.returns
-returns c = take-replicate (2 * c.args.level) 514 32 (omega arith)

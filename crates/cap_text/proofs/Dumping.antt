@@ -1,0 +1,226 @@
+-- The lines of children, one after the other, and how deep they nest.
+use Rattle.std.proofs.Common.{◌≡◌, ℕ, zero, suc, ◌+◌, ◌<◌, ◌≤◌, List, [], ◌++◌, Some, None, Result, codes, refl, sym, ap, ◌∙◌, subst, arith, inl, inr}
+use Rattle.std.proofs.lemmas.Bool.Decides.{eqb_tells}
+use Rattle.cap_words.specs.declared.ends.ByteOut as output
+use Rattle.cap_words.specs.declared.ends.OutFault.{OutFault}
+use Rattle.cap_spec.specs.Denoting.{Denotes, DenoteEach, AreElements, places, element_levels}
+use Rattle.cap_spec.specs.Pointers.{data_size, list_size, middle, pointer_size}
+use Rattle.cap_spec.specs.Showing.{Own, own_of, kind_of}
+use Rattle.cap_spec.specs.Standing.{DenotesAt}
+use Rattle.cap_spec.specs.Texts.{all_lines, child_lines, dump_text, label, own_text}
+use Rattle.cap_spec.specs.Paths.{Comes, Spot, word}
+use Rattle.cap_spec.specs.Tree.{Tree, null, cap, struct, scalars, pointers, structs, Trees, none, more, part_at, tree_at, tree_count}
+use Rattle.cap_spec.specs.declared.Kind.{Kind}
+use Rattle.cap_spec.specs.declared.Step.{Step}
+use Rattle.cap_text.specs.Dumping.{child_letter_of, child_step_of, height, heights, shown_below, shown_count_of, trees_from}
+use Rattle.cap_text.specs.Paging.{Added, Adds, Halted}
+use Rattle.cap_text.proofs.Paging.{Left, added_then, adds_then, halted_more, halted_then, left_done, left_start, left_step, left_stop}
+
+-- the next of some trees
+next_tree : (ts : Trees) (i : ℕ) (u : Tree) → tree_at ts i ≡ Some u → trees_from i ts ≡ more u (trees_from (i + 1) ts)
+next_tree none i u e = absurd (cc e)
+next_tree (more t ts) zero u e = let f : t ≡ u = cc e in rw f refl
+next_tree (more t ts) (suc i) u e =
+    let n : suc i + 1 ≡ suc (i + 1) = omega arith in
+    next_tree ts i u e ∙ ap (λ k. more u (trees_from k (more t ts))) (sym n)
+
+-- and none behind the last
+no_tree : (ts : Trees) (i : ℕ) → tree_count ts ≤ i → trees_from i ts ≡ none
+no_tree none zero h = refl
+no_tree none (suc i) h = refl
+no_tree (more t ts) zero h = absurd (omega (arith, h))
+no_tree (more t ts) (suc i) h = no_tree ts i (omega (arith, h))
+
+-- there is a tree at each number below the count
+tree_is_there : (ts : Trees) (i : ℕ) → i < tree_count ts → tree_at ts i ≡ None → ⊥
+tree_is_there none i h e = absurd (omega (arith, h))
+tree_is_there (more t ts) zero h e = absurd (cc e)
+tree_is_there (more t ts) (suc i) h e = tree_is_there ts i (omega (arith, h)) e
+
+-- each is lower than the node above by one
+height_at : (ts : Trees) (i : ℕ) (u : Tree) → tree_at ts i ≡ Some u → height u + 1 ≤ heights ts
+height_at none i u e = absurd (cc e)
+height_at (more t ts) zero u e = let f : t ≡ u = cc e in omega (arith, ap height f)
+height_at (more t ts) (suc i) u e = omega (arith, height_at ts i u e)
+
+-- a node's lines are those of the children that are shown
+lines_below : (level : ℕ) (t : Tree) → child_lines level t ≡ all_lines level (child_letter_of (kind_of (own_of t))) 0 (shown_below t)
+lines_below level null = refl
+lines_below level (cap i) = refl
+lines_below level (struct words ts) = refl
+lines_below level (scalars c vs) = refl
+lines_below level (pointers ts) = refl
+lines_below level (structs d p es) = elim (eqb_tells (d + p) 0) [ inl h ↦ rw h.0 refl | inr h ↦ rw h.0 refl ]
+
+height_below : (t : Tree) → height t ≡ heights (shown_below t)
+height_below null = refl
+height_below (cap i) = refl
+height_below (struct words ts) = refl
+height_below (scalars c vs) = refl
+height_below (pointers ts) = refl
+height_below (structs d p es) = elim (eqb_tells (d + p) 0) [ inl h ↦ rw h.0 refl | inr h ↦ rw h.0 refl ]
+
+count_below : (t : Tree) → shown_count_of (kind_of (own_of t)) ≡ tree_count (shown_below t)
+count_below null = refl
+count_below (cap i) = refl
+count_below (struct words ts) = refl
+count_below (scalars c vs) = refl
+count_below (pointers ts) = refl
+count_below (structs d p es) = elim (eqb_tells (d + p) 0) [ inl h ↦ rw h.0 refl | inr h ↦ rw h.0 refl ]
+
+-- the step to a child that is shown leads to it
+part_below : (t : Tree) (i : ℕ) → i < tree_count (shown_below t) → part_at t (child_step_of (kind_of (own_of t)) i) ≡ tree_at (shown_below t) i
+part_below null i h = absurd (omega (arith, h))
+part_below (cap k) i h = absurd (omega (arith, h))
+part_below (struct words ts) i h = refl
+part_below (scalars c vs) i h = absurd (omega (arith, h))
+part_below (pointers ts) i h = refl
+part_below (structs d p es) i h = elim (eqb_tells (d + p) 0) [ inl e ↦ absurd (omega (arith, rw e.0 at h)) | inr e ↦ rw e.0 refl ]
+
+module _ (t : Tree) (kind : Kind) (i : ℕ) (k : kind ≡ kind_of (own_of t)) (within : i < shown_count_of kind) where
+  is_within : i < tree_count (shown_below t)
+  is_within = subst (λ n. i < n) (ap shown_count_of k ∙ count_below t) within
+
+  -- what a node's step leads to is the child that is shown
+  pub child_of : (u : Tree) → part_at t (child_step_of kind i) ≡ Some u → tree_at (shown_below t) i ≡ Some u
+  child_of u e = sym (part_below t i is_within) ∙ ap (λ x. part_at t (child_step_of x i)) (sym k) ∙ e
+
+  -- it leads somewhere
+  pub child_is_there : (step : Step) → step ≡ child_step_of kind i → part_at t step ≡ None → ⊥
+  child_is_there step s e =
+      tree_is_there (shown_below t) i is_within (sym (part_below t i is_within) ∙ ap (λ x. part_at t (child_step_of x i)) (sym k) ∙ ap (part_at t) (sym s) ∙ e)
+
+  -- to a node that is lower by one
+  pub child_height : (u : Tree) → part_at t (child_step_of kind i) ≡ Some u → height u + 1 ≤ height t
+  child_height u e = omega (arith, height_at (shown_below t) i u (child_of u e), height_below t)
+
+-- a view's kind is that of the tree
+pub kind_shown : (t : Tree) (own : Own) (kind : Kind) → own ≡ own_of t → kind ≡ kind_of own → kind ≡ kind_of (own_of t)
+kind_shown t own kind e k = k ∙ ap kind_of e
+
+-- The child at number i of a node of this tree and kind, which stands at a spot of a message, with its tree.
+pub record Below (m : List (List ℕ)) (a : Spot) (t : Tree) (kind : Kind) (i : ℕ) : Type 0 where
+  pub of_tree : kind ≡ kind_of (own_of t)
+  pub within : i < shown_count_of kind
+  pub tree : Tree
+  pub at_i : part_at t (child_step_of kind i) ≡ Some tree
+  pub denotes : DenotesAt m a tree
+
+pub below : (m m' : List (List ℕ)) (a : Spot) (t : Tree) (own : Own) (kind : Kind) (i n : ℕ) (step : Step)
+    → own ≡ own_of t → kind ≡ kind_of own → i < n → n ≡ shown_count_of kind
+    → step ≡ child_step_of kind i → m' ≡ m → (u : Tree) × (part_at t step ≡ Some u) × DenotesAt m a u → Below m' a t kind i
+below m m' a t own kind i n step e k lt many s same p = record {
+  of_tree = k ∙ ap kind_of e;
+  within = omega (arith, lt, many);
+  tree = p.0;
+  at_i = ap (part_at t) (sym s) ∙ p.1;
+  denotes = subst (λ x. DenotesAt x a p.0) (sym same) p.2;
+}
+
+-- no elements take more levels than some
+levels_of_few : (n : ℕ) → element_levels n ≤ element_levels 1
+levels_of_few zero = omega arith
+levels_of_few (suc n) = omega arith
+
+mutual
+  -- what a pointer word denotes nests one level of lines for each of depth
+  pub height_denoted : (m : List (List ℕ)) (s w : ℕ) (t : Tree) (c d : ℕ) → Denotes m s w t c d → height t ≤ d
+  height_denoted m s w null c d h = omega arith
+  height_denoted m s w (cap i) c d h = omega arith
+  height_denoted m s w (struct words ts) c d h =
+      omega (arith, h.6.depth, heights_each m (places h.1 (h.2 + data_size h.3) (pointer_size h.3)) ts h.4 h.5 h.7)
+  height_denoted m s w (scalars e vs) c d h = omega arith
+  height_denoted m s w (pointers ts) c d h = omega (arith, h.6.depth, heights_each m (places h.1 h.2 (list_size h.3)) ts h.4 h.5 h.7)
+  height_denoted m s w (structs ds ps es) c d h =
+      let r = heights_elements m h.1 (h.2 + 1) ds ps (middle h.4) es h.5 h.6 h.8 in
+      elim (eqb_tells (ds + ps) 0) [ inl e ↦ rw e.0 (omega arith) | inr e ↦ rw e.0 (omega (arith, h.7.depth, r)) ]
+
+  heights_each : (m : List (List ℕ)) (ps : List (ℕ × ℕ)) (ts : Trees) (c d : ℕ) → DenoteEach m ps ts c d → heights ts ≤ 1 + d
+  heights_each m ps none c d h = omega arith
+  heights_each m ps (more t ts) c d h =
+      let a = height_denoted m h.0 h.1 t h.3 h.4 h.8 in
+      let b = heights_each m h.2 ts h.5 h.6 h.9 in
+      omega (arith, a, b, h.11)
+
+  heights_elements : (m : List (List ℕ)) (t b ds ps n : ℕ) (es : Trees) (c d : ℕ) → AreElements m t b ds ps n es c d → heights es ≤ element_levels n + (1 + d)
+  heights_elements m t b ds ps n none c d h = omega arith
+  heights_elements m t b ds ps n (more (struct words ts) es) c d h =
+      let a = heights_each m (places t (b + ds) ps) ts h.1 h.2 h.7 in
+      let r = heights_elements m t (b + ds + ps) ds ps h.0 es h.3 h.4 h.8 in
+      omega (arith, a, r, h.10, ap element_levels h.5, levels_of_few h.0)
+  heights_elements m t b ds ps n (more x es) c d h = absurd h
+
+module _ {O : Type 0} (g : output.Ghosts O) (level : ℕ) (t : Tree) (kind : Kind) where
+  -- The children before number i are put.
+  abbrev pub ChildrenOut : O × List ℕ → O × List ℕ → ℕ → Type 0
+  ChildrenOut a b i = Left g a b (all_lines level (child_letter_of kind) 0 (shown_below t))
+      (all_lines level (child_letter_of kind) i (trees_from i (shown_below t)))
+
+  -- before the first none is
+  pub none_out : (a : O × List ℕ) → ChildrenOut a a 0
+  none_out a = left_start g a (all_lines level (child_letter_of kind) 0 (shown_below t))
+
+module _ {O : Type 0} (g : output.Ghosts O) (level : ℕ) (t : Tree) (kind : Kind) (k : kind ≡ kind_of (own_of t)) where
+  lines_are : all_lines level (child_letter_of kind) 0 (shown_below t) ≡ child_lines level t
+  lines_are = ap (λ x. all_lines level (child_letter_of x) 0 (shown_below t)) k ∙ sym (lines_below level t)
+
+  -- behind the last all are
+  pub all_out : (a b : O × List ℕ) (i : ℕ) → shown_count_of kind ≤ i → ChildrenOut g level t kind a b i → Added g a b (child_lines level t)
+  all_out a b i h l =
+      let many : tree_count (shown_below t) ≤ i = subst (λ n. n ≤ i) (ap shown_count_of k ∙ count_below t) h in
+      let rest = ap (all_lines level (child_letter_of kind) i) (no_tree (shown_below t) i many) in
+      subst (Added g a b) lines_are (left_done g a b _ (subst (Left g a b (all_lines level (child_letter_of kind) 0 (shown_below t))) rest l))
+
+  module _ (i : ℕ) (within : i < shown_count_of kind) (u : Tree) (at_i : part_at t (child_step_of kind i) ≡ Some u)
+      (letter : ℕ) (is : letter ≡ child_letter_of kind) (a b : O × List ℕ) where
+    -- The next child's lines, those below it, and those of the others are left.
+    left_next : ChildrenOut g level t kind a b i
+        → Left g a b (all_lines level (child_letter_of kind) 0 (shown_below t))
+        (own_text level (label letter i) u ++ child_lines (level + 1) u ++ all_lines level (child_letter_of kind) (i + 1) (trees_from (i + 1) (shown_below t)))
+    left_next l =
+        subst (Left g a b (all_lines level (child_letter_of kind) 0 (shown_below t)))
+        (ap (all_lines level (child_letter_of kind) i) (next_tree (shown_below t) i u (child_of t kind i k within u at_i))
+        ∙ ap (λ x. own_text level (label x i) u ++ child_lines (level + 1) u ++ all_lines level (child_letter_of kind)
+        (i + 1) (trees_from (i + 1) (shown_below t))) (sym is)) l
+
+    -- one more child is put
+    pub child_out : (c d : O × List ℕ) → ChildrenOut g level t kind a b i
+        → Added g b c (own_text level (label letter i) u) → Added g c d (child_lines (level + 1) u)
+        → ChildrenOut g level t kind a d (i + 1)
+    child_out c d l v w =
+        left_step g a b d (all_lines level (child_letter_of kind) 0 (shown_below t)) (own_text level (label letter i) u ++ child_lines (level + 1) u)
+        (all_lines level (child_letter_of kind) (i + 1) (trees_from (i + 1) (shown_below t))) (left_next l)
+        (added_then g b c d (own_text level (label letter i) u) (child_lines (level + 1) u) v w)
+
+    -- a fault came in its own lines
+    pub child_fails : (c : O × List ℕ) (fault : OutFault) → ChildrenOut g level t kind a b i → Halted g b c fault (own_text level (label letter i) u)
+        → Halted g a c fault (child_lines level t)
+    child_fails c fault l q =
+        subst (Halted g a c fault) lines_are
+        (left_stop g a b c fault (all_lines level (child_letter_of kind) 0 (shown_below t)) (own_text level (label letter i) u ++ child_lines (level + 1) u)
+        (all_lines level (child_letter_of kind) (i + 1) (trees_from (i + 1) (shown_below t))) (left_next l)
+        (halted_more g b c fault (own_text level (label letter i) u) (child_lines (level + 1) u) q))
+
+    -- or in those below it
+    pub below_fails : (c d : O × List ℕ) (fault : OutFault) → ChildrenOut g level t kind a b i → Added g b c (own_text level (label letter i) u)
+        → Halted g c d fault (child_lines (level + 1) u) → Halted g a d fault (child_lines level t)
+    below_fails c d fault l v q =
+        subst (Halted g a d fault) lines_are
+        (left_stop g a b d fault (all_lines level (child_letter_of kind) 0 (shown_below t)) (own_text level (label letter i) u ++ child_lines (level + 1) u)
+        (all_lines level (child_letter_of kind) (i + 1) (trees_from (i + 1) (shown_below t))) (left_next l)
+        (halted_then g b c d fault (own_text level (label letter i) u) (child_lines (level + 1) u) v q))
+
+-- The tree of a message stands at the spot to which the empty path comes.
+pub at_root : (m m' : List (List ℕ)) (a : Spot) (t : Tree) (c d : ℕ) → m' ≡ m → Comes m [] 1 a → Denotes m 0 0 t c d → DenotesAt m' a t
+at_root m m' a t c d same comes h =
+    subst (λ x. DenotesAt x a t) (sym same) (subst (λ x. DenotesAt m x t) (sym comes.3.1) (let at : DenotesAt m (word 0 0) t = (c, d, h) in at))
+
+module _ {O : Type 0} (g : output.Ghosts O) where
+  -- the root's own lines, and then what is below it
+  pub adds_dump : {T : Type 0} (a b c : O × List ℕ) (r : Result T OutFault) (t : Tree)
+      → Added g a b (own_text 0 (codes "root") t) → Adds g b c r (child_lines 1 t) → Adds g a c r (dump_text t)
+  adds_dump a b c r t v w = adds_then g a b c r (own_text 0 (codes "root") t) (child_lines 1 t) v w
+
+  -- or a fault in its own lines
+  pub halts_dump : (a b : O × List ℕ) (fault : OutFault) (t : Tree) → Halted g a b fault (own_text 0 (codes "root") t) → Halted g a b fault (dump_text t)
+  halts_dump a b fault t q = halted_more g a b fault (own_text 0 (codes "root") t) (child_lines 1 t) q

@@ -1,0 +1,108 @@
+-- Texts that are put on a page one after the other.
+use Rattle.std.proofs.Common.{◌≡◌, ◌⊎◌, ◌<◌, ℕ, List, [], ◌∷◌, ◌++◌, length, refl, sym, ap, ◌∙◌, append_assoc}
+use Rattle.std.proofs.Common.{append-nil, subst, Result, Ok, Err, inl, inr, arith}
+use Rattle.cap_words.specs.declared.ends.ByteOut as output
+use Rattle.cap_words.specs.declared.ends.OutFault.{OutFault}
+use Rattle.cap_text.specs.Paging.{Added, Halted, Adds}
+use Rattle.cap_text.specs.Writing.{Wrote, Stopped, Writes}
+use Rattle.cap_text.proofs.Writing.{stopped_more, stopped_then, writes_then, wrote_then}
+
+none_of : (xs : List ℕ) → length xs ≡ 0 → xs ≡ []
+none_of [] e = refl
+none_of (x ∷ xs) e = absurd (omega (arith, e))
+
+module _ {O : Type 0} (g : output.Ghosts O) where
+  -- nothing went out, or this text
+  abbrev Gone : O → O → List ℕ → Type 0
+  Gone a b xs = ((b ≡ a) × (xs ≡ [])) ⊎ Wrote g a b xs
+
+  gone_then : (a b c : O) (xs ys : List ℕ) → Gone a b xs → Gone b c ys → Gone a c (xs ++ ys)
+  gone_then a b c xs ys (inl h) (inl k) = inl (k.0 ∙ h.0, ap (λ t. t ++ ys) h.1 ∙ k.1)
+  gone_then a b c xs ys (inl h) (inr w) = inr (subst (λ t. Wrote g a c (t ++ ys)) (sym h.1) (subst (λ o. Wrote g o c ys) h.0 w))
+  gone_then a b c xs ys (inr w) (inl k) = inr
+      (subst (λ o. Wrote g a o (xs ++ ys)) (sym k.0)
+      (subst (Wrote g a b) (sym (ap (λ t. xs ++ t) k.1 ∙ append-nil xs)) w))
+  gone_then a b c xs ys (inr w) (inr v) = inr (wrote_then g a b c xs ys w v)
+
+  -- a text that is on the page alone
+  pub added_here : (a : O × List ℕ) (now text : List ℕ) → now ≡ a.1 ++ text → Added g a (a.0, now) text
+  added_here a now text e = record { gone = []; whole = sym e; out = inl (refl, refl) }
+
+  -- one text, and then another
+  pub added_then : (a b c : O × List ℕ) (xs ys : List ℕ) → Added g a b xs → Added g b c ys → Added g a c (xs ++ ys)
+  added_then a b c xs ys p q = record {
+    gone = p.gone ++ q.gone;
+    whole = sym (append_assoc a.1 xs ys) ∙ ap (λ t. t ++ ys) p.whole ∙ append_assoc p.gone b.1 ys
+        ∙ ap (λ t. p.gone ++ t) q.whole ∙ sym (append_assoc p.gone q.gone c.1);
+    out = gone_then a.0 b.0 c.0 p.gone q.gone p.out q.out;
+  }
+
+  -- a line behind what made room for it
+  pub added_line : (a b : O × List ℕ) (now text : List ℕ) → Added g a b [] → now ≡ b.1 ++ text → Added g a (b.0, now) text
+  added_line a b now text p e = added_then a b (b.0, now) [] text p (added_here b now text e)
+
+  halted_behind : (a b c : O) (fault : OutFault) (held now gone xs ys : List ℕ) → held ++ xs ≡ gone ++ now → Gone a b gone → Stopped g b c fault (now ++ ys)
+      → Stopped g a c fault (held ++ (xs ++ ys))
+  halted_behind a b c fault held now gone xs ys e (inl h) q =
+      let same : now ++ ys ≡ held ++ (xs ++ ys) = ap (λ t. t ++ ys) (sym (e ∙ ap (λ t. t ++ now) h.1)) ∙ append_assoc held xs ys in
+      subst (λ o. Stopped g o c fault (held ++ (xs ++ ys))) h.0 (subst (Stopped g b c fault) same q)
+  halted_behind a b c fault held now gone xs ys e (inr w) q =
+      let same : gone ++ (now ++ ys) ≡ held ++ (xs ++ ys) = sym (append_assoc gone now ys) ∙ ap (λ t. t ++ ys) (sym e) ∙ append_assoc held xs ys in
+      subst (Stopped g a c fault) same (stopped_then g a b c fault gone (now ++ ys) w q)
+
+  -- one text, and then a fault in another
+  pub halted_then : (a b c : O × List ℕ) (fault : OutFault) (xs ys : List ℕ) → Added g a b xs → Halted g b c fault ys → Halted g a c fault (xs ++ ys)
+  halted_then a b c fault xs ys p q = halted_behind a.0 b.0 c.0 fault a.1 b.1 p.gone xs ys p.whole p.out q
+
+  -- a fault in the first text is one in both
+  pub halted_more : (a b : O × List ℕ) (fault : OutFault) (xs ys : List ℕ) → Halted g a b fault xs → Halted g a b fault (xs ++ ys)
+  halted_more a b fault xs ys q =
+      subst (Stopped g a.0 b.0 fault) (append_assoc a.1 xs ys) (stopped_more g a.0 b.0 fault (a.1 ++ xs) ys q)
+
+  -- one text, and then another or a fault in it
+  pub adds_then : {T : Type 0} (a b c : O × List ℕ) (r : Result T OutFault) (xs ys : List ℕ) → Added g a b xs → Adds g b c r ys → Adds g a c r (xs ++ ys)
+  adds_then a b c (Ok x) xs ys p q = added_then a b c xs ys p q
+  adds_then a b c (Err fault) xs ys p q = halted_then a b c fault xs ys p q
+
+  -- what was put so far, and the rest, are the whole text
+  pub record Left (a b : O × List ℕ) (all rest : List ℕ) : Type 0 where
+    pub part : List ℕ
+    pub whole : all ≡ part ++ rest
+    pub added : Added g a b part
+
+  pub left_start : (a : O × List ℕ) (all : List ℕ) → Left a a all all
+  left_start a all = record { part = []; whole = refl; added = added_here a a.1 [] (sym (append-nil a.1)) }
+
+  pub left_step : (a b c : O × List ℕ) (all xs rest : List ℕ) → Left a b all (xs ++ rest) → Added g b c xs → Left a c all rest
+  left_step a b c all xs rest l w =
+      record { part = l.part ++ xs; whole = l.whole ∙ sym (append_assoc l.part xs rest); added = added_then a b c l.part xs l.added w }
+
+  pub left_done : (a b : O × List ℕ) (all : List ℕ) → Left a b all [] → Added g a b all
+  left_done a b all l = let e : all ≡ l.part = l.whole ∙ append-nil l.part in subst (Added g a b) (sym e) l.added
+
+  pub left_stop : (a b c : O × List ℕ) (fault : OutFault) (all xs rest : List ℕ) → Left a b all (xs ++ rest) → Halted g b c fault xs → Halted g a c fault all
+  left_stop a b c fault all xs rest l q =
+      subst (Halted g a c fault) (sym l.whole) (halted_then a b c fault l.part (xs ++ rest) l.added (halted_more b c fault xs rest q))
+
+  -- what stood on a page went out, and it is empty
+  pub turned : (a b : O) (held : List ℕ) → Wrote g a b held → Added g (a, held) (b, []) []
+  turned a b held w = record { gone = held; whole = refl; out = inr w }
+
+  gone_whole : (a b : O) (all gone : List ℕ) → 0 < length all → all ≡ gone → Gone a b gone → Wrote g a b all
+  gone_whole a b all gone h e (inl k) = let none = ap length (e ∙ k.1) in absurd (omega (arith, h, none))
+  gone_whole a b all gone h e (inr w) = subst (Wrote g a b) (sym e) w
+
+  -- the last page is empty, so the whole text is out
+  pub all_gone : (a b : O) (held now text : List ℕ) → 0 < length (held ++ text) → length now ≡ 0 → Added g (a, held) (b, now) text → Wrote g a b (held ++ text)
+  all_gone a b held now text h e p = gone_whole a b (held ++ text) p.gone h (p.whole ∙ ap (λ t. p.gone ++ t) (none_of now e) ∙ append-nil p.gone) p.out
+
+  gone_out : {T : Type 0} (a b c : O) (r : Result T OutFault) (all gone now : List ℕ) → all ≡ gone ++ now
+      → Gone a b gone → Writes g b c r now → Writes g a c r all
+  gone_out a b c r all gone now e (inl h) w =
+      subst (λ o. Writes g o c r all) h.0 (subst (Writes g b c r) (sym (e ∙ ap (λ t. t ++ now) h.1)) w)
+  gone_out a b c r all gone now e (inr v) w = subst (Writes g a c r) (sym e) (writes_then g a b c r gone now v w)
+
+  -- or it is written
+  pub page_out : {T : Type 0} (a b c : O) (r : Result T OutFault) (held now text : List ℕ)
+      → Added g (a, held) (b, now) text → Writes g b c r now → Writes g a c r (held ++ text)
+  page_out a b c r held now text p w = gone_out a b c r (held ++ text) p.gone now p.whole p.out w

@@ -1,0 +1,37 @@
+use Rattle.std.proofs.Common.{ap, arith}
+use Rattle.cap_vet.specs.Handles.{node_message, node_spot}
+use Rattle.cap_vet.specs.Vettings.{message_of}
+use Rattle.cap_text.proofs.Dumping.{adds_dump, at_root, halts_dump, height_denoted}
+use Rattle.cap_text.proofs.tree.put_dump.Goals as goal
+
+pub put_children-requires-clause-low : goal.put_children-requires-clause-low
+put_children-requires-clause-low g c = (
+  c.report-levels.ensures.accepted.0,
+  (at_root (g.M.Segments.segments (message_of c.args.vetted.now))
+      (g.M.Segments.segments (node_message c.root-root.result)) (node_spot c.root-root.result)
+      c.report-levels.ensures.accepted.0 c.report-levels.result.charge c.report-levels.result.depth
+      (ap g.M.Segments.segments c.root-root.ensures.message) c.root-root.ensures.comes
+      c.report-levels.ensures.accepted.1.denotes),
+  omega (
+    arith,
+    height_denoted (g.M.Segments.segments (message_of c.args.vetted.now)) 0 0
+        c.report-levels.ensures.accepted.0 c.report-levels.result.charge c.report-levels.result.depth
+        c.report-levels.ensures.accepted.1.denotes,
+  ),
+)
+
+pub returns-in-Ok : goal.returns-in-Ok
+returns-in-Ok g c =
+    λ t x d h. let at_tree = (at_root (g.M.Segments.segments (message_of c.args.vetted.now))
+    (g.M.Segments.segments (node_message c.root-root.result)) (node_spot c.root-root.result) t x d
+    (ap g.M.Segments.segments c.root-root.ensures.message) c.root-root.ensures.comes h) in
+    adds_dump g.O.ByteOut (c.args.out.now, c.args.page.now) (c.put_named.new.out, c.put_named.new.page)
+    (c.put_children.new.out, c.put_children.new.page) c.put_children.result t (c.in-Ok.ensures t at_tree)
+    (c.put_children.ensures t at_tree)
+
+pub returns-in-Err : goal.returns-in-Err
+returns-in-Err g c =
+    λ t x d h. let at_tree = (at_root (g.M.Segments.segments (message_of c.args.vetted.now))
+    (g.M.Segments.segments (node_message c.root-root.result)) (node_spot c.root-root.result) t x d
+    (ap g.M.Segments.segments c.root-root.ensures.message) c.root-root.ensures.comes h) in
+    halts_dump g.O.ByteOut (c.args.out.now, c.args.page.now) (c.put_named.new.out, c.put_named.new.page) c.in-Err.fault t (c.in-Err.ensures t at_tree)

@@ -1,0 +1,5 @@
+pub mod Dumping
+pub mod FaultLines
+pub mod Lines
+pub mod Paging
+pub mod Writing

@@ -1,0 +1,61 @@
+//! Why an engine ended before its input did. The engines are those of `cap_run`.
+
+use cap_canon::CanonFault;
+use cap_frame::FrameFault;
+use cap_spec::StrictRefusal;
+use cap_vet::Refusal;
+use cap_words::{OutFault, SourceFault};
+use thiserror::Error;
+
+/// Why an engine ended before its stream did.
+#[derive(Clone, Copy, Debug, PartialEq, Eq, Drop, Error)]
+#[error("message {message}: {cause:?}")]
+pub struct RunFault {
+    /// The number of the message at which the engine ended, counted from 0.
+    ///
+    /// If the output failed, the texts of `message` messages had been put without an error. Of the
+    /// next text the output took a prefix, or it took all of it and the flush failed.
+    pub message: u32,
+    /// Why it ended there.
+    pub cause: Cause,
+}
+
+/// Why an engine ended at a message.
+#[derive(Clone, Copy, Debug, PartialEq, Eq, Drop)]
+pub enum Cause {
+    /// One more message was read than the settings allow.
+    TooManyMessages,
+    /// No message could be read.
+    Frame(FrameFault),
+    /// Writing or flushing the text failed. The output took a prefix of the text, or all of it.
+    Output(OutFault),
+    /// The message was refused, so that it has no canonical copy. Only `run_canon` and
+    /// `run_canon_with` end there.
+    Refused(Refusal),
+    /// The message was accepted and isn't strict. Only `run_canon_with` ends there, if a strict
+    /// message is demanded. It isn't [`StrictRefusal::Refused`].
+    NotStrict(StrictRefusal),
+    /// The message was accepted, and no canonical copy of it was made. Only `run_canon` and
+    /// `run_canon_with` end there.
+    Canon(CanonFault),
+    /// The message was accepted, and the allocation of the marks for its words failed. Only
+    /// `run_vet_exclusive` and `run_vet_exclusive_with` mark words.
+    Memory,
+}
+
+/// Why a copy of words ended before its source did.
+#[derive(Clone, Copy, Debug, PartialEq, Eq, Drop, Error)]
+pub enum CopyFault {
+    /// One more word was read than may be copied. The words before it were put, and the sink was
+    /// finished.
+    #[error("too many words")]
+    TooManyWords,
+    /// The source returned this error. The words before it were put, and the sink was finished.
+    #[error("source: {0:?}")]
+    Source(SourceFault),
+    /// The output failed, as words were put or as the sink was finished. The output took a prefix
+    /// of the text of the words. If it failed at a piece of the words, no word after that piece was
+    /// read.
+    #[error("output: {0:?}")]
+    Output(OutFault),
+}
