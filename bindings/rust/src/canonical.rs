@@ -1,12 +1,14 @@
 //! The canonical form of a message, to be hashed or signed.
 
+#[cfg(feature = "alloc")]
+use crate::frame_length;
 use crate::sys::{self, Answer};
 use crate::{Limits, Position, Report, VetError};
 #[cfg(feature = "alloc")]
 use alloc::{vec, vec::Vec};
 use core::fmt;
 
-/// The error of a canonical form.
+/// The error of [`canonical_into`] and `canonical`.
 #[derive(Clone, Copy, Debug, PartialEq, Eq, Hash)]
 #[non_exhaustive]
 pub enum CanonicalError {
@@ -15,12 +17,12 @@ pub enum CanonicalError {
         /// The reason.
         VetError,
     ),
-    /// A capability is reached, so there is no canonical form.
+    /// The message has a capability, so there is no canonical form.
     #[non_exhaustive]
     HasCapability {
-        /// The place of the first of them in preorder.
+        /// The place of the first capability in preorder.
         position: Position,
-        /// The numbers of the message.
+        /// The report of the message.
         report: Report,
     },
     /// The buffer is smaller than the canonical form.
@@ -28,7 +30,7 @@ pub enum CanonicalError {
     BufferTooSmall {
         /// The length of the canonical form in bytes.
         required: usize,
-        /// The numbers of the message.
+        /// The report of the message.
         report: Report,
     },
 }
@@ -55,20 +57,20 @@ impl fmt::Display for CanonicalError {
 #[cfg(feature = "std")]
 impl std::error::Error for CanonicalError {}
 
-/// Writes the canonical form of the message that `bytes` are to the start of `out`, and returns its length in bytes, with
-/// the numbers of the message. It is the bytes of its words, without a table (encoding: Canonicalization). Equal content
-/// gives equal bytes, so you can hash or sign them. The bytes of `out` after them are unchanged.
+/// Writes the canonical form of the message that `bytes` are to the start of `out`, and returns its length in bytes and the
+/// report of the message. The form is the bytes of its words, without a table (encoding: Canonicalization). Equal content
+/// gives equal bytes, so you can hash or sign them. The bytes of `out` after them are unchanged. It allocates nothing.
 ///
-/// Without [`Limits::allow_amplified`], `bytes.len() + 8 * 4097` bytes are always enough, so one call does it.
+/// Without [`Limits::allow_amplified`], `bytes.len() + 8 * 4097` bytes are always enough, so one call does it. With it,
+/// `8 * (charge + 1)` bytes are enough, with the charge of the message's [`Report`].
 ///
 /// # Errors
 ///
 /// The first of these that applies. `out` is then unchanged.
 ///
 /// - [`CanonicalError::NotAccepted`]: the message isn't accepted, as by [`vet`](crate::vet).
-/// - [`CanonicalError::HasCapability`]: a capability is reached.
-/// - [`CanonicalError::BufferTooSmall`]: `out` is too small. It never is with `8 * (charge + 1)` bytes, by the message's
-///   [`Report`].
+/// - [`CanonicalError::HasCapability`]: the message has a capability.
+/// - [`CanonicalError::BufferTooSmall`]: `out` is shorter than the canonical form.
 ///
 /// # Examples
 ///
@@ -105,16 +107,21 @@ pub fn canonical_into(
             position: Position::of(&raw),
             report: Report::of(&raw),
         }),
-        fault => Err(VetError::of(fault, &raw).into()),
+        _ => Err(VetError::of(answer, &raw).into()),
     }
 }
 
-/// Returns the canonical form of the message that `bytes` are, as [`canonical_into`] writes it, with the numbers of the
-/// message.
+/// Returns the canonical form of the message that `bytes` are, as [`canonical_into`] writes it, and the report of the message.
+///
+/// It allocates as many bytes as the frame has, before it vets the message. If the form is longer, it then allocates
+/// as many as the form has. A form is longer than the frame only if the message uses words twice.
 ///
 /// # Errors
 ///
-/// The errors of [`canonical_into`], except [`CanonicalError::BufferTooSmall`].
+/// The first of these that applies.
+///
+/// - [`CanonicalError::NotAccepted`]: the message isn't accepted, as by [`vet`](crate::vet).
+/// - [`CanonicalError::HasCapability`]: the message has a capability.
 ///
 /// # Examples
 ///
@@ -131,11 +138,46 @@ pub fn canonical_into(
 /// ```
 #[cfg(feature = "alloc")]
 pub fn canonical(bytes: &[u8], limits: Limits) -> Result<(Vec<u8>, Report), CanonicalError> {
-    let required = match canonical_into(bytes, limits, &mut []) {
-        Err(CanonicalError::BufferTooSmall { required, .. }) => required,
-        other => return other.map(|(_, report)| (Vec::new(), report)),
+    let length = frame_length(bytes, limits).map_err(VetError::Frame)?;
+    let mut form = vec![0; length];
+    let (length, report) = match canonical_into(bytes, limits, &mut form) {
+        Err(CanonicalError::BufferTooSmall { required, .. }) => {
+            form = vec![0; required];
+            canonical_into(bytes, limits, &mut form)?
+        }
+        answer => answer?,
     };
-    let mut copy = vec![0; required];
-    let (_, report) = canonical_into(bytes, limits, &mut copy)?;
-    Ok((copy, report))
+    form.truncate(length);
+    Ok((form, report))
+}
+
+/// Checks that the message that `bytes` are is canonical: it has one segment, and this segment is its canonical form
+/// (encoding: Canonicalization). A message with a capability is not.
+///
+/// # Errors
+///
+/// The errors of [`vet`](crate::vet), if the message isn't accepted:
+///
+/// - [`VetError::Frame`]. [`FrameError::Trailing`](crate::FrameError::Trailing) is among them even if the limits allow
+///   trailing bytes, so what is hashed can't be extended unnoticed.
+/// - [`VetError::Refused`] and [`VetError::ManySegments`].
+///
+/// # Examples
+///
+/// ```
+/// use capvet::Limits;
+///
+/// // A struct of one data word, which is zero and so has to be left out.
+/// let long = [0, 0, 0, 0, 2, 0, 0, 0, 0, 0, 0, 0, 1, 0, 0, 0, 0, 0, 0, 0, 0, 0, 0, 0];
+/// assert_eq!(capvet::is_canonical(&long, Limits::DEFAULT), Ok(false));
+/// let short = [0, 0, 0, 0, 1, 0, 0, 0, 0xfc, 0xff, 0xff, 0xff, 0, 0, 0, 0];
+/// assert_eq!(capvet::is_canonical(&short, Limits::DEFAULT), Ok(true));
+/// ```
+pub fn is_canonical(bytes: &[u8], limits: Limits) -> Result<bool, VetError> {
+    let (answer, raw) = sys::is_canonical(bytes, &limits);
+    match answer {
+        Answer::OK => Ok(true),
+        Answer::NOT_CANONICAL => Ok(false),
+        _ => Err(VetError::of(answer, &raw)),
+    }
 }

@@ -1,28 +1,30 @@
 //! Messages that use no word twice.
 
+#[cfg(feature = "alloc")]
+use crate::frame_length;
 use crate::sys::{self, Answer};
 use crate::{Limits, Report, VetError};
 #[cfg(feature = "alloc")]
 use alloc::vec;
 use core::fmt;
 
-/// The error of a message that isn't accepted as one that uses no word twice.
+/// The error of [`vet_exclusive`].
 #[derive(Clone, Copy, Debug, PartialEq, Eq, Hash)]
 #[non_exhaustive]
 pub enum ExclusiveError {
-    /// The message isn't accepted, or it uses a word twice: then this is a [`VetError::Refused`] for
-    /// [`Reason::Overlap`](crate::Reason::Overlap). It names the first pointer in preorder that uses a word which is already in
-    /// use: the root word, a word of the same pointer, or a word of an earlier one.
+    /// The message isn't accepted, or it uses a word twice. The second is a [`VetError::Refused`] for
+    /// [`Reason::Overlap`](crate::Reason::Overlap). It names the first pointer in preorder that uses a word which is already
+    /// in use: the root word, a word of the same pointer, or a word of an earlier one.
     NotAccepted(
         /// The reason.
         VetError,
     ),
-    /// The message is accepted, and the buffer for the marks is too small, so no more is known.
+    /// The message is accepted, and `marks` has too few elements. Whether a word is used twice is unknown.
     #[non_exhaustive]
     BufferTooSmall {
-        /// How many numbers the marks take.
+        /// How many elements the marks take.
         required: usize,
-        /// The numbers of the message.
+        /// The report of the message.
         report: Report,
     },
 }
@@ -39,7 +41,7 @@ impl fmt::Display for ExclusiveError {
         match self {
             Self::NotAccepted(error) => error.fmt(f),
             Self::BufferTooSmall { required, .. } => {
-                write!(f, "BufferTooSmall, {required} numbers are required")
+                write!(f, "BufferTooSmall, {required} elements are required")
             }
         }
     }
@@ -49,12 +51,13 @@ impl fmt::Display for ExclusiveError {
 impl std::error::Error for ExclusiveError {}
 
 /// Vets the message that `bytes` are, as [`vet`](crate::vet) does, and also refuses one that uses a word twice.
-/// Otherwise the root word, the landing pads of each pointer that a path reaches, and the words of each object are all
-/// distinct. An object without words uses none. The charge is then less than the words of all segments, apart from elements
-/// of lists that have no bits or no words.
+/// In an accepted message the root word, the landing pads of each pointer that a path reaches, and the words of each object
+/// are all distinct. An object without words uses none. The charge is then less than the words of all segments, apart from
+/// list elements without bits or without words.
 ///
-/// `marks` holds one bit for each word, and may hold anything before. They take the words of all segments / 64 + 1
-/// numbers, so `bytes.len() / 512 + 1` are always enough. The numbers after those are unchanged.
+/// `marks` is scratch memory with one bit for each word, and may hold anything before the call. The marks take the words
+/// of all segments / 64 + 1 elements, so `bytes.len() / 512 + 1` elements are always enough. The elements after the marks are
+/// unchanged. It allocates nothing.
 ///
 /// # Errors
 ///
@@ -62,7 +65,8 @@ impl std::error::Error for ExclusiveError {}
 ///
 /// - [`ExclusiveError::NotAccepted`]: the message isn't accepted, as by [`vet`](crate::vet). `marks` is unchanged.
 /// - [`ExclusiveError::BufferTooSmall`]: `marks` is too small. It is unchanged.
-/// - [`ExclusiveError::NotAccepted`] for [`Reason::Overlap`](crate::Reason::Overlap): a word is used twice.
+/// - [`ExclusiveError::NotAccepted`] for [`Reason::Overlap`](crate::Reason::Overlap): a word is used twice. The marks have been
+///   written.
 ///
 /// # Examples
 ///
@@ -97,16 +101,19 @@ pub fn vet_exclusive(
             required,
             report: Report::of(&raw),
         }),
-        fault => Err(VetError::of(fault, &raw).into()),
+        _ => Err(VetError::of(answer, &raw).into()),
     }
 }
 
-/// Vets the message that `bytes` are, as [`vet_exclusive`] does. It allocates the marks: at most one bit for each word of
-/// the frame, and 64 more.
+/// Vets the message that `bytes` are, as [`vet_exclusive`] does. It allocates the marks, one bit for each word of the frame,
+/// and frees them.
 ///
 /// # Errors
 ///
-/// The errors of [`vet_exclusive`], except [`ExclusiveError::BufferTooSmall`].
+/// The first of these that applies.
+///
+/// - [`ExclusiveError::NotAccepted`]: the message isn't accepted, as by [`vet`](crate::vet).
+/// - [`ExclusiveError::NotAccepted`] for [`Reason::Overlap`](crate::Reason::Overlap): a word is used twice.
 ///
 /// # Examples
 ///
@@ -119,6 +126,6 @@ pub fn vet_exclusive(
 /// ```
 #[cfg(feature = "alloc")]
 pub fn vet_exclusive_alloc(bytes: &[u8], limits: Limits) -> Result<Report, ExclusiveError> {
-    let frame = crate::frame_length(bytes, limits)?;
-    vet_exclusive(bytes, limits, &mut vec![0; frame / 512 + 1])
+    let length = frame_length(bytes, limits).map_err(VetError::Frame)?;
+    vet_exclusive(bytes, limits, &mut vec![0; length / 512 + 1])
 }

@@ -39,6 +39,13 @@
 //! The library is taken from the folder `CAPVET_LIB_DIR`, and otherwise from the place that `pkg-config` names. It needs
 //! an x86-64 processor with SSE4.1, SSSE3 and POPCNT (x86-64-v2).
 //!
+//! # Errors
+//!
+//! The text of an error includes its cause, so `source()` of each is `None`. Texts are the lines of the program
+//! `capvet`, where it has one. Enums and structs may get more variants and fields: match them with `..` and a last arm.
+//!
+//! # Features
+//!
 //! With the feature `std`, which is on by default, the errors are [`std::error::Error`]s; without it the crate is `no_std`.
 //! The feature `alloc`, which is part of `std`, has the calls that return a `Vec`, and `vet_exclusive_alloc`. No other
 //! call allocates.
@@ -56,7 +63,6 @@ mod canonical;
 mod exclusive;
 mod limits;
 mod messages;
-mod packed;
 mod packing;
 mod refusal;
 mod report;
@@ -67,18 +73,15 @@ mod tests;
 
 #[cfg(feature = "alloc")]
 pub use canonical::canonical;
-pub use canonical::{canonical_into, CanonicalError};
+pub use canonical::{canonical_into, is_canonical, CanonicalError};
 #[cfg(feature = "alloc")]
 pub use exclusive::vet_exclusive_alloc;
 pub use exclusive::{vet_exclusive, ExclusiveError};
 pub use limits::Limits;
 pub use messages::{messages, Message, Messages};
 #[cfg(feature = "alloc")]
-pub use packed::unpack;
-pub use packed::{unpack_into, UnpackError};
-#[cfg(feature = "alloc")]
-pub use packing::pack;
-pub use packing::{pack_into, PackError};
+pub use packing::{pack, unpack};
+pub use packing::{pack_into, unpack_into, PackError, UnpackError};
 pub use refusal::{FrameError, Reason, Refusal, VetError};
 pub use report::{Position, Report};
 
@@ -87,13 +90,15 @@ use sys::Answer;
 /// Vets the message that `bytes` are.
 ///
 /// It accepts a message exactly if the root denotes a finite tree that is inside the segments and within the limits, and the
-/// bytes are whole, strict and unamplified, each unless the limits allow more (encoding: Security Considerations).
+/// bytes are whole, strict and unamplified. Each flag of the limits gives one of the last three up (encoding: Security
+/// Considerations). It allocates nothing.
 ///
 /// # Errors
 ///
 /// The first of these that applies.
 ///
-/// - [`VetError::Frame`]: the bytes hold no complete frame within the limits, or trailing bytes follow the message.
+/// - [`VetError::Frame`]: the bytes hold no complete frame within the limits, as for [`frame_length`], or trailing bytes follow
+///   the message.
 /// - [`VetError::Refused`]: it names the first pointer in preorder at which anything is wrong or a limit is exceeded.
 /// - [`VetError::ManySegments`]: the message has 512 segments.
 /// - [`VetError::Refused`] for [`Reason::NullPad`], [`Reason::EmptySegment`] or [`Reason::CapabilityPad`]: it names the first
@@ -126,65 +131,43 @@ pub fn vet(bytes: &[u8], limits: Limits) -> Result<Report, VetError> {
     let (answer, raw) = sys::vet(bytes, &limits);
     match answer {
         Answer::OK => Ok(Report::of(&raw)),
-        fault => Err(VetError::of(fault, &raw)),
-    }
-}
-
-/// Checks that the message that `bytes` are is canonical: it has one segment, and this segment is its canonical form
-/// (encoding: Canonicalization). A message with a capability is not.
-///
-/// # Errors
-///
-/// The errors of [`vet`], if the message isn't accepted. Trailing bytes are an error even if the limits allow them, so what
-/// is hashed can't be extended unnoticed.
-///
-/// # Examples
-///
-/// ```
-/// use capvet::Limits;
-///
-/// // A struct of one data word, which is zero and so has to be left out.
-/// let long = [0, 0, 0, 0, 2, 0, 0, 0, 0, 0, 0, 0, 1, 0, 0, 0, 0, 0, 0, 0, 0, 0, 0, 0];
-/// assert_eq!(capvet::is_canonical(&long, Limits::DEFAULT), Ok(false));
-/// let short = [0, 0, 0, 0, 1, 0, 0, 0, 0xfc, 0xff, 0xff, 0xff, 0, 0, 0, 0];
-/// assert_eq!(capvet::is_canonical(&short, Limits::DEFAULT), Ok(true));
-/// ```
-pub fn is_canonical(bytes: &[u8], limits: Limits) -> Result<bool, VetError> {
-    let (answer, raw) = sys::is_canonical(bytes, &limits);
-    match answer {
-        Answer::OK => Ok(true),
-        Answer::NOT_CANONICAL => Ok(false),
-        fault => Err(VetError::of(fault, &raw)),
+        _ => Err(VetError::of(answer, &raw)),
     }
 }
 
 /// Returns the length in bytes of the frame that `bytes` begin with, its table included. It reads only the table, and
 /// checks no pointer. Bytes may follow the frame. Only [`Limits::message_words`] has an effect.
 ///
+/// To read a message from a connection, receive until there are [`FrameError::required`] bytes, and call again.
+///
 /// # Errors
 ///
-/// A [`VetError::Frame`], if the bytes don't begin with a frame within the limits. To read a message from a connection, call
-/// it again with more bytes while the error is [`FrameError::Empty`] or [`FrameError::Truncated`].
+/// The first of these that applies (encoding: Serialization Over a Stream).
+///
+/// - [`FrameError::NoMessage`]: `bytes` is empty.
+/// - [`FrameError::Truncated`]: there are less than 8 bytes.
+/// - [`FrameError::TooManySegments`]: the table says more than 512 segments.
+/// - [`FrameError::Truncated`]: the bytes end inside the table.
+/// - [`FrameError::TooLarge`]: the segments have more words than the limits allow.
+/// - [`FrameError::Truncated`]: the bytes end inside the segments.
 ///
 /// # Examples
 ///
 /// ```
-/// use capvet::{FrameError, Limits, VetError};
+/// use capvet::Limits;
 ///
 /// let message = [0, 0, 0, 0, 1, 0, 0, 0, 0, 0, 0, 0, 0, 0, 0, 0];
 /// assert_eq!(capvet::frame_length(&message, Limits::DEFAULT), Ok(16));
-/// for (received, least) in [(7, 8), (9, 16)] {
-///     match capvet::frame_length(&message[..received], Limits::DEFAULT) {
-///         Err(VetError::Frame(FrameError::Truncated { required, .. })) => assert_eq!(required, least),
-///         other => panic!("{other:?}"),
-///     }
+/// for (received, required) in [(0, 8), (7, 8), (8, 16), (15, 16)] {
+///     let error = capvet::frame_length(&message[..received], Limits::DEFAULT).unwrap_err();
+///     assert_eq!(error.required(), Some(required));
 /// }
 /// ```
-pub fn frame_length(bytes: &[u8], limits: Limits) -> Result<usize, VetError> {
+pub fn frame_length(bytes: &[u8], limits: Limits) -> Result<usize, FrameError> {
     let (answer, raw) = sys::frame(bytes, &limits);
     match answer {
         Answer::OK => Ok(raw.length()),
-        fault => Err(VetError::of(fault, &raw)),
+        _ => Err(FrameError::of_frame(answer, &raw)),
     }
 }
 

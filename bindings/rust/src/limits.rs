@@ -1,168 +1,120 @@
 //! The limits of a call.
 
-/// What a call accepts. A value is always within [`MAX_MESSAGE_WORDS`](Limits::MAX_MESSAGE_WORDS),
-/// [`MAX_CHARGE`](Limits::MAX_CHARGE) and [`MAX_DEPTH`](Limits::MAX_DEPTH).
+/// What a call accepts.
 ///
-/// Each of the three flags allows something that is refused without it. A higher limit or an additional flag never refuses
-/// more.
+/// Begin with [`Limits::DEFAULT`] and change what you need: each method returns a changed copy. Each of the three flags
+/// allows something that is refused without it. A higher limit or an additional flag never refuses more.
+///
+/// A number above its maximum counts as the maximum, so the library takes every value of this type.
 ///
 /// # Examples
 ///
 /// ```
 /// use capvet::Limits;
 ///
-/// const LIMITS: Limits = match Limits::DEFAULT.with_message_words(4096) {
-///     Some(limits) => limits,
-///     None => panic!("this is within the greatest limits"),
-/// };
-/// assert_eq!(LIMITS.message_words(), 4096);
-/// assert_eq!(LIMITS.with_depth(257), None);
-/// assert!(LIMITS.allow_trailing(true).allows_trailing());
+/// const LIMITS: Limits = Limits::DEFAULT.message_words(65_536).charge(65_536).depth(32).allow_trailing(true);
+/// assert_eq!(LIMITS.frame_bound(), 526_344);
+/// assert_eq!(Limits::DEFAULT.depth(1000), Limits::DEFAULT.depth(Limits::MAX_DEPTH));
 /// ```
 #[derive(Clone, Copy, Debug, PartialEq, Eq, Hash)]
 pub struct Limits {
-    message_words: u64,
-    charge: u64,
-    depth: u32,
-    flags: u32,
+    pub(crate) message_words: u64,
+    pub(crate) charge: u64,
+    pub(crate) depth: u32,
+    pub(crate) allow_trailing: bool,
+    pub(crate) allow_nonstrict: bool,
+    pub(crate) allow_amplified: bool,
 }
 
-// The flags of the header.
-const ALLOW_TRAILING: u32 = 1;
-const ALLOW_NONSTRICT: u32 = 2;
-const ALLOW_AMPLIFIED: u32 = 4;
-
 impl Limits {
-    /// The greatest limit on the words of a message.
+    /// The maximum of [`message_words`](Limits::message_words), in words.
     pub const MAX_MESSAGE_WORDS: u64 = 268_435_456;
 
-    /// The greatest limit on the charge.
+    /// The maximum of [`charge`](Limits::charge), in words.
     pub const MAX_CHARGE: u64 = 268_435_456;
 
-    /// The greatest limit on levels.
+    /// The maximum of [`depth`](Limits::depth), in levels.
     pub const MAX_DEPTH: u32 = 256;
 
     /// How many words the charge may be above the words of the segments, unless more is allowed.
     pub const SLACK: u64 = 4096;
 
-    /// A message and a charge of 8,388,608 words (64 MiB), 64 levels, and no flags: the bytes have to be one message and
-    /// nothing else, which is strict and has a charge of at most [`SLACK`](Limits::SLACK) words above those of its segments.
+    /// A message and a charge of at most 8,388,608 words (64 MiB), at most 64 levels, and no flags. The bytes then have to
+    /// be one message and nothing else, strict, and with a charge of at most [`SLACK`](Limits::SLACK) words above the
+    /// words of its segments.
     pub const DEFAULT: Self = Self {
         message_words: 8_388_608,
         charge: 8_388_608,
         depth: 64,
-        flags: 0,
+        allow_trailing: false,
+        allow_nonstrict: false,
+        allow_amplified: false,
     };
 
-    /// Returns the same limits with another limit on the words in all segments, or `None` if it is above the greatest.
+    /// Sets the most words in all segments.
     #[must_use]
-    pub const fn with_message_words(mut self, message_words: u64) -> Option<Self> {
-        self.message_words = message_words;
-        if message_words > Self::MAX_MESSAGE_WORDS {
-            None
-        } else {
-            Some(self)
-        }
-    }
-
-    /// Returns the same limits with another limit on the charge, or `None` if it is above the greatest. The charge is the
-    /// words that a full traversal reads. An object that two pointers reach counts twice.
-    #[must_use]
-    pub const fn with_charge(mut self, charge: u64) -> Option<Self> {
-        self.charge = charge;
-        if charge > Self::MAX_CHARGE {
-            None
-        } else {
-            Some(self)
-        }
-    }
-
-    /// Returns the same limits with another limit on the level of an object, or `None` if it is above the greatest. The root
-    /// object has level 1.
-    #[must_use]
-    pub const fn with_depth(mut self, depth: u32) -> Option<Self> {
-        self.depth = depth;
-        if depth > Self::MAX_DEPTH {
-            None
-        } else {
-            Some(self)
-        }
-    }
-
-    /// Returns the same limits with trailing bytes allowed after the message, for a buffer of messages, or not allowed.
-    #[must_use]
-    pub const fn allow_trailing(self, allow: bool) -> Self {
-        self.with(ALLOW_TRAILING, allow)
-    }
-
-    /// Returns the same limits with messages allowed that aren't strict, or not allowed. Common readers reject such
-    /// messages, at least in part: see [`Reason::NullPad`](crate::Reason::NullPad) and those after it, and
-    /// [`VetError::ManySegments`](crate::VetError::ManySegments).
-    #[must_use]
-    pub const fn allow_nonstrict(self, allow: bool) -> Self {
-        self.with(ALLOW_NONSTRICT, allow)
-    }
-
-    /// Returns the same limits with a charge allowed of more than [`SLACK`](Limits::SLACK) words above those of the
-    /// segments, or not allowed. With it a small message can make a reader work for long.
-    #[must_use]
-    pub const fn allow_amplified(self, allow: bool) -> Self {
-        self.with(ALLOW_AMPLIFIED, allow)
-    }
-
-    const fn with(mut self, flag: u32, is_set: bool) -> Self {
-        self.flags = if is_set {
-            self.flags | flag
-        } else {
-            self.flags & !flag
-        };
+    pub const fn message_words(mut self, message_words: u64) -> Self {
+        self.message_words = lower(message_words, Self::MAX_MESSAGE_WORDS);
         self
     }
 
-    /// Most words in all segments.
+    /// Sets the highest charge, in words. The charge is the words that a full traversal reads. An object that two pointers
+    /// reach counts twice.
     #[must_use]
-    pub const fn message_words(&self) -> u64 {
-        self.message_words
+    pub const fn charge(mut self, charge: u64) -> Self {
+        self.charge = lower(charge, Self::MAX_CHARGE);
+        self
     }
 
-    /// The highest charge, in words.
+    /// Sets the deepest level of an object. The root object has level 1.
     #[must_use]
-    pub const fn charge(&self) -> u64 {
-        self.charge
+    pub const fn depth(mut self, depth: u32) -> Self {
+        self.depth = lower(depth as u64, Self::MAX_DEPTH as u64) as u32;
+        self
     }
 
-    /// The deepest level of an object.
+    /// Sets whether bytes may follow the message, as in a buffer of several messages.
     #[must_use]
-    pub const fn depth(&self) -> u32 {
-        self.depth
+    pub const fn allow_trailing(mut self, allow: bool) -> Self {
+        self.allow_trailing = allow;
+        self
     }
 
-    /// Whether trailing bytes may follow the message.
+    /// Sets whether the message need not be strict. Common readers reject such messages, at least in part: see
+    /// [`Reason::NullPad`](crate::Reason::NullPad) and the two reasons after it, and
+    /// [`VetError::ManySegments`](crate::VetError::ManySegments).
     #[must_use]
-    pub const fn allows_trailing(&self) -> bool {
-        self.flags & ALLOW_TRAILING != 0
+    pub const fn allow_nonstrict(mut self, allow: bool) -> Self {
+        self.allow_nonstrict = allow;
+        self
     }
 
-    /// Whether the message need not be strict.
+    /// Sets whether the charge may be more than [`SLACK`](Limits::SLACK) words above the words of the segments. If it may,
+    /// a small message can make a reader work for long.
     #[must_use]
-    pub const fn allows_nonstrict(&self) -> bool {
-        self.flags & ALLOW_NONSTRICT != 0
+    pub const fn allow_amplified(mut self, allow: bool) -> Self {
+        self.allow_amplified = allow;
+        self
     }
 
-    /// Whether the charge may be more than [`SLACK`](Limits::SLACK) words above those of the segments.
+    /// The greatest length of a frame within these limits, in bytes, table included. A receiver holds at most as many.
     #[must_use]
-    pub const fn allows_amplified(&self) -> bool {
-        self.flags & ALLOW_AMPLIFIED != 0
-    }
-
-    // The flags, as the header has them.
-    pub(crate) const fn flags(&self) -> u32 {
-        self.flags
+    pub const fn frame_bound(&self) -> usize {
+        self.message_words as usize * 8 + 2056
     }
 }
 
 impl Default for Limits {
     fn default() -> Self {
         Self::DEFAULT
+    }
+}
+
+// (`Ord::min` is no `const fn`)
+const fn lower(one: u64, other: u64) -> u64 {
+    if one < other {
+        one
+    } else {
+        other
     }
 }

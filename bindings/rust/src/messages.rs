@@ -34,8 +34,8 @@ pub struct Messages<'b> {
     is_over: bool,
 }
 
-/// Returns an iterator over the messages in `bytes`, one after the other. It vets each message as it reaches it, and allows
-/// trailing bytes after each, whatever `limits` say.
+/// Returns an iterator over the messages in `bytes`, one after the other (encoding: Serialization Over a Stream). It vets
+/// each message as it reaches it, and allows trailing bytes after each, whatever `limits` say. It allocates nothing.
 ///
 /// A message that isn't accepted gives an error with its [length](VetError::length), and the iterator goes on. A
 /// [`VetError::Frame`] means that the rest of the bytes doesn't begin with a frame within the limits, and is the last item.
@@ -95,7 +95,7 @@ impl<'b> Iterator for Messages<'b> {
                 bytes,
                 report: Report::of(&raw),
             }),
-            fault => Err(VetError::of(fault, &raw)),
+            _ => Err(VetError::of(answer, &raw)),
         })
     }
 }

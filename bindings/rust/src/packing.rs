@@ -1,24 +1,25 @@
-//! Packs words, from one buffer into another.
+//! Packs and unpacks words, from one buffer into another.
 
 use crate::sys::{self, Answer};
 #[cfg(feature = "alloc")]
 use alloc::{vec, vec::Vec};
 use core::fmt;
 
-/// The error of packing.
+/// The error of [`pack_into`] and `pack`.
 #[derive(Clone, Copy, Debug, PartialEq, Eq, Hash)]
 #[non_exhaustive]
 pub enum PackError {
     /// The bytes end inside a word.
     Truncated,
-    /// The packed bytes are longer than the buffer.
+    /// The buffer is smaller than the packed bytes.
+    #[non_exhaustive]
     BufferTooSmall {
-        /// Their number.
+        /// The length of the packed bytes.
         required: usize,
     },
-    /// A result of a later library that this crate doesn't know. Nothing is packed.
+    /// An answer of a later library that this crate doesn't know. Nothing is packed.
     Other(
-        /// The number.
+        /// The number of the answer.
         u32,
     ),
 }
@@ -49,43 +50,66 @@ impl fmt::Display for PackError {
 #[cfg(feature = "std")]
 impl std::error::Error for PackError {}
 
-/// Packs words of eight bytes, which need be no message (encoding: Packing), and returns the packed bytes.
-///
-/// They are at most ten for each word.
-///
-/// # Errors
-///
-/// [`PackError::Truncated`]: the bytes end inside a word.
-///
-/// # Examples
-///
-/// ```
-/// let message = [0, 0, 0, 0, 1, 0, 0, 0, 0, 0, 0, 0, 0, 0, 0, 0];
-/// assert_eq!(capvet::pack(&message)?, [0x10, 1, 0, 0]);
-///
-/// assert_eq!(capvet::pack(&message[..15]), Err(capvet::PackError::Truncated));
-/// # Ok::<(), capvet::PackError>(())
-/// ```
-#[cfg(feature = "alloc")]
-pub fn pack(words: &[u8]) -> Result<Vec<u8>, PackError> {
-    let required = match pack_into(words, &mut []) {
-        Ok(_) => return Ok(Vec::new()),
-        Err(PackError::BufferTooSmall { required }) => required,
-        Err(fault) => return Err(fault),
-    };
-    let mut packed = vec![0; required];
-    pack_into(words, &mut packed)?;
-    Ok(packed)
+/// The error of [`unpack_into`] and `unpack`.
+#[derive(Clone, Copy, Debug, PartialEq, Eq, Hash)]
+#[non_exhaustive]
+pub enum UnpackError {
+    /// There are more than 2^53 packed bytes.
+    TooLarge,
+    /// The packed bytes end inside a group.
+    Truncated,
+    /// The buffer, or the maximum size, is smaller than the words.
+    #[non_exhaustive]
+    BufferTooSmall {
+        /// The length of the words in bytes.
+        required: usize,
+    },
+    /// An answer of a later library that this crate doesn't know. Nothing is unpacked.
+    Other(
+        /// The number of the answer.
+        u32,
+    ),
 }
 
-/// Packs words to the start of `out`, and returns the length of the packed bytes. It allocates nothing.
+impl UnpackError {
+    // The error of an answer other than that of unpacked words.
+    fn of(answer: Answer, required: usize) -> Self {
+        match answer {
+            Answer::TOO_LARGE => Self::TooLarge,
+            Answer::TRUNCATED => Self::Truncated,
+            Answer::BUFFER_TOO_SMALL => Self::BufferTooSmall { required },
+            other => Self::Other(other.0),
+        }
+    }
+}
+
+impl fmt::Display for UnpackError {
+    fn fmt(&self, f: &mut fmt::Formatter<'_>) -> fmt::Result {
+        match self {
+            Self::TooLarge => f.write_str("TooLarge"),
+            Self::Truncated => f.write_str("Truncated"),
+            Self::BufferTooSmall { required } => {
+                write!(f, "BufferTooSmall, {required} bytes are required")
+            }
+            Self::Other(answer) => write!(f, "unknown answer {answer}"),
+        }
+    }
+}
+
+#[cfg(feature = "std")]
+impl std::error::Error for UnpackError {}
+
+/// Packs words of eight bytes, which need not be a message, to the start of `out` (encoding: Packing). Returns the length
+/// of the packed bytes. The bytes of `out` after them are unchanged. It allocates nothing.
+///
+/// `words.len() / 8 * 10` bytes are always enough.
 ///
 /// # Errors
 ///
-/// `out` is then unchanged.
+/// The first of these that applies. `out` is then unchanged.
 ///
-/// - [`PackError::Truncated`]: the bytes end inside a word.
-/// - [`PackError::BufferTooSmall`]: `out` is too short.
+/// - [`PackError::Truncated`]: the length of `words` is not a multiple of 8.
+/// - [`PackError::BufferTooSmall`]: `out` is shorter than the packed bytes.
 ///
 /// # Examples
 ///
@@ -95,64 +119,197 @@ pub fn pack(words: &[u8]) -> Result<Vec<u8>, PackError> {
 /// let mut out = [7; 6];
 /// assert_eq!(capvet::pack_into(&[0; 2048], &mut out), Ok(2));
 /// assert_eq!(out, [0, 255, 7, 7, 7, 7]);
-/// // An empty buffer returns the length.
-/// assert_eq!(capvet::pack_into(&[1; 8], &mut []), Err(PackError::BufferTooSmall { required: 10 }));
+/// let small = capvet::pack_into(&[1; 8], &mut out);
+/// assert!(matches!(small, Err(PackError::BufferTooSmall { required: 10, .. })));
 /// ```
 pub fn pack_into(words: &[u8], out: &mut [u8]) -> Result<usize, PackError> {
     let (answer, required) = sys::pack(words, out);
     match answer {
         Answer::OK => Ok(required),
-        fault => Err(PackError::of(fault, required)),
+        _ => Err(PackError::of(answer, required)),
     }
+}
+
+/// Packs words of eight bytes, as [`pack_into`] does, and returns the packed bytes. It allocates just their length.
+///
+/// # Errors
+///
+/// - [`PackError::Truncated`]: the length of `words` is not a multiple of 8.
+///
+/// # Examples
+///
+/// ```
+/// use capvet::PackError;
+///
+/// let message = [0, 0, 0, 0, 1, 0, 0, 0, 0, 0, 0, 0, 0, 0, 0, 0];
+/// assert_eq!(capvet::pack(&message)?, [0x10, 1, 0, 0]);
+/// assert_eq!(capvet::pack(&message[..15]), Err(PackError::Truncated));
+/// # Ok::<(), PackError>(())
+/// ```
+#[cfg(feature = "alloc")]
+pub fn pack(words: &[u8]) -> Result<Vec<u8>, PackError> {
+    let required = match pack_into(words, &mut []) {
+        Err(PackError::BufferTooSmall { required }) => required,
+        answer => return answer.map(|_| Vec::new()),
+    };
+    let mut packed = vec![0; required];
+    pack_into(words, &mut packed)?;
+    Ok(packed)
+}
+
+/// Unpacks all of `packed` to the start of `out` (encoding: Packing). Returns the length of the words in bytes. They need
+/// not be a message. The bytes of `out` after them are unchanged. It allocates nothing.
+///
+/// # Errors
+///
+/// The first of these that applies. `out` is then unchanged.
+///
+/// - [`UnpackError::TooLarge`]: there are more than 2^53 packed bytes.
+/// - [`UnpackError::Truncated`]: they end inside a group.
+/// - [`UnpackError::BufferTooSmall`]: `out` is shorter than the words.
+///
+/// # Examples
+///
+/// ```
+/// use capvet::UnpackError;
+///
+/// let mut out = [7; 24];
+/// assert_eq!(capvet::unpack_into(&[0x10, 1, 0, 0], &mut out), Ok(16));
+/// assert_eq!(out[..16], [0, 0, 0, 0, 1, 0, 0, 0, 0, 0, 0, 0, 0, 0, 0, 0]);
+/// assert_eq!(out[16..], [7; 8]);
+/// let small = capvet::unpack_into(&[0, 255], &mut out);
+/// assert!(matches!(small, Err(UnpackError::BufferTooSmall { required: 2048, .. })));
+/// ```
+pub fn unpack_into(packed: &[u8], out: &mut [u8]) -> Result<usize, UnpackError> {
+    let (answer, required) = sys::unpack(packed, out);
+    match answer {
+        Answer::OK => Ok(required),
+        _ => Err(UnpackError::of(answer, required)),
+    }
+}
+
+/// Unpacks all of `packed`, as [`unpack_into`] does, and returns the bytes of the words, at most `max_size` of them.
+///
+/// Two packed bytes may encode 2 KiB. So it computes the length of the words first, and allocates just that length, if it
+/// is at most `max_size`.
+///
+/// # Errors
+///
+/// The first of these that applies. Nothing is then allocated.
+///
+/// - [`UnpackError::TooLarge`]: there are more than 2^53 packed bytes.
+/// - [`UnpackError::Truncated`]: they end inside a group.
+/// - [`UnpackError::BufferTooSmall`]: the words have more than `max_size` bytes.
+///
+/// # Examples
+///
+/// ```
+/// use capvet::{Limits, UnpackError};
+///
+/// let limits = Limits::DEFAULT;
+/// let message = capvet::unpack(&[0x10, 1, 0, 0], limits.frame_bound())?;
+/// assert_eq!(message, [0, 0, 0, 0, 1, 0, 0, 0, 0, 0, 0, 0, 0, 0, 0, 0]);
+/// assert!(capvet::vet(&message, limits).is_ok());
+///
+/// let large = capvet::unpack(&[0, 255], 1024);
+/// assert!(matches!(large, Err(UnpackError::BufferTooSmall { required: 2048, .. })));
+/// # Ok::<(), UnpackError>(())
+/// ```
+#[cfg(feature = "alloc")]
+pub fn unpack(packed: &[u8], max_size: usize) -> Result<Vec<u8>, UnpackError> {
+    let required = match unpack_into(packed, &mut []) {
+        Err(UnpackError::BufferTooSmall { required }) if required <= max_size => required,
+        answer => return answer.map(|_| Vec::new()),
+    };
+    let mut words = vec![0; required];
+    unpack_into(packed, &mut words)?;
+    Ok(words)
 }
 
 #[cfg(all(test, feature = "alloc"))]
 mod tests {
     use super::*;
-    use crate::unpack;
 
     const CONTACTS: &[u8] = include_bytes!("../../../examples/contacts.bin");
     const PACKED: &[u8] = include_bytes!("../../../examples/contacts.packed");
 
     #[test]
-    fn every_front_is_packed_and_back_or_is_cut() {
+    fn the_sample_is_packed_and_unpacked() {
+        assert_eq!(pack(CONTACTS).as_deref(), Ok(PACKED));
+        assert_eq!(unpack(PACKED, CONTACTS.len()).as_deref(), Ok(CONTACTS));
+        assert_eq!(pack(&[]), Ok(Vec::new()));
+        assert_eq!(unpack(&[], 0), Ok(Vec::new()));
+        let required = CONTACTS.len();
+        let small = unpack(PACKED, required - 1);
+        assert_eq!(small, Err(UnpackError::BufferTooSmall { required }));
+    }
+
+    #[test]
+    fn each_prefix_of_the_words_is_packed_or_truncated() {
         for length in 0..=CONTACTS.len() {
             let words = &CONTACTS[..length];
-            match pack(words) {
-                Ok(packed) => assert_eq!(unpack(&packed, length).as_deref(), Ok(words)),
-                fault => {
-                    assert!(length % 8 != 0);
-                    assert_eq!(fault, Err(PackError::Truncated));
+            let packed = pack(words);
+            if length % 8 != 0 {
+                assert_eq!(packed, Err(PackError::Truncated));
+            } else {
+                let packed = packed.expect("these are whole words");
+                assert_eq!(unpack(&packed, length).as_deref(), Ok(words));
+            }
+        }
+    }
+
+    #[test]
+    fn each_prefix_of_packed_bytes_is_a_prefix_of_the_words_or_truncated() {
+        let (mut whole, mut truncated) = (0, 0);
+        for length in 0..=PACKED.len() {
+            match unpack(&PACKED[..length], CONTACTS.len()) {
+                Ok(words) => {
+                    assert_eq!(words, CONTACTS[..words.len()]);
+                    whole += 1;
+                }
+                error => {
+                    assert_eq!(error, Err(UnpackError::Truncated));
+                    // (whatever the maximum size)
+                    assert_eq!(unpack(&PACKED[..length], 0), error);
+                    truncated += 1;
                 }
             }
         }
-        assert_eq!(pack(&[]), Ok(Vec::new()));
+        assert!(whole > 100 && truncated > 100, "{whole}, {truncated}");
     }
 
     #[test]
-    fn the_sample_has_the_packed_sample() {
-        assert_eq!(pack(CONTACTS).as_deref(), Ok(PACKED));
-    }
-
-    #[test]
-    fn a_room_that_is_too_small_stays_as_it_was() {
-        let required = PACKED.len();
-        for room in 0..required {
-            let mut out = vec![0xee; room];
-            assert_eq!(
-                pack_into(CONTACTS, &mut out),
-                Err(PackError::BufferTooSmall { required })
-            );
-            assert!(out.iter().all(|byte| *byte == 0xee), "room {room}");
+    fn a_buffer_that_is_too_small_is_unchanged() {
+        for size in 0..PACKED.len() {
+            let mut out = vec![0xee; size];
+            let required = PACKED.len();
+            let small = pack_into(CONTACTS, &mut out);
+            assert_eq!(small, Err(PackError::BufferTooSmall { required }));
+            assert!(out.iter().all(|byte| *byte == 0xee), "size {size}");
         }
-        let mut out = vec![0xee; required + 9];
-        assert_eq!(pack_into(CONTACTS, &mut out), Ok(required));
-        assert_eq!(out[..required], *PACKED);
-        assert_eq!(out[required..], [0xee; 9]);
+        for size in 0..CONTACTS.len() {
+            let mut out = vec![0xee; size];
+            let required = CONTACTS.len();
+            let small = unpack_into(PACKED, &mut out);
+            assert_eq!(small, Err(UnpackError::BufferTooSmall { required }));
+            assert!(out.iter().all(|byte| *byte == 0xee), "size {size}");
+        }
     }
 
     #[test]
-    fn faults_say_what_they_are() {
+    fn the_bytes_after_the_result_are_unchanged() {
+        let mut out = vec![0xee; CONTACTS.len() + 9];
+        assert_eq!(pack_into(CONTACTS, &mut out), Ok(PACKED.len()));
+        let (packed, rest) = out.split_at(PACKED.len());
+        assert_eq!(packed, PACKED);
+        assert!(rest.iter().all(|byte| *byte == 0xee));
+        out.fill(0xee);
+        assert_eq!(unpack_into(PACKED, &mut out), Ok(CONTACTS.len()));
+        assert_eq!(out, [CONTACTS, &[0xee; 9]].concat());
+    }
+
+    #[test]
+    fn errors_have_the_names_of_answers() {
         for (answer, text) in [
             (Answer::TRUNCATED, "Truncated"),
             (
@@ -162,6 +319,9 @@ mod tests {
             (Answer(99), "unknown answer 99"),
         ] {
             assert_eq!(PackError::of(answer, 77).to_string(), text);
+            assert_eq!(UnpackError::of(answer, 77).to_string(), text);
         }
+        let large = UnpackError::of(Answer::TOO_LARGE, 77);
+        assert_eq!(large.to_string(), "TooLarge");
     }
 }

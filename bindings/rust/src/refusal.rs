@@ -51,7 +51,7 @@ pub enum Reason {
 }
 
 impl Reason {
-    // Those that the header has, each with the number of its answer.
+    // The reasons of the header, each with the number of its answer.
     pub(crate) const ALL: [(Self, u32); 17] = [
         (Self::Overlap, 18),
         (Self::NullPad, 19),
@@ -146,12 +146,12 @@ impl fmt::Display for Refusal {
 #[cfg(feature = "std")]
 impl std::error::Error for Refusal {}
 
-/// Bytes that hold no complete frame within the limits, or more than the frame.
+/// The error of bytes that hold no complete frame within the limits, or more than the frame.
 #[derive(Clone, Copy, Debug, PartialEq, Eq, Hash)]
 #[non_exhaustive]
 pub enum FrameError {
     /// There are no bytes, as at the end of a stream.
-    Empty,
+    NoMessage,
     /// The segment table says more than 512 segments.
     #[non_exhaustive]
     TooManySegments {
@@ -168,7 +168,7 @@ pub enum FrameError {
     #[non_exhaustive]
     Truncated {
         /// The least number of bytes that gets further: 8, then those of the table, then those of the whole frame. It is a
-        /// claim of the sender, at most `8 * message_words + 2056`.
+        /// claim of the sender, at most [`Limits::frame_bound`](crate::Limits::frame_bound).
         required: usize,
     },
     /// Trailing bytes follow the message, which isn't allowed.
@@ -181,17 +181,60 @@ pub enum FrameError {
         /// The number of its segments.
         segments: u32,
     },
+    /// An answer of a later library that this crate doesn't know. It is never an acceptance.
+    Other(
+        /// The number of the answer.
+        u32,
+    ),
+}
+
+impl FrameError {
+    // The error of an answer about the frame of a message.
+    fn of(answer: Answer, raw: &RawReport) -> Option<Self> {
+        Some(match answer {
+            Answer::NO_MESSAGE => Self::NoMessage,
+            Answer::TOO_MANY_SEGMENTS => Self::TooManySegments { count: raw.detail },
+            Answer::TOO_LARGE => Self::TooLarge { words: raw.detail },
+            Answer::TRUNCATED => Self::Truncated {
+                required: raw.required as usize,
+            },
+            Answer::TRAILING => Self::Trailing {
+                bytes: raw.detail,
+                length: raw.length(),
+                segments: raw.segments,
+            },
+            Answer(number @ 1..=Answer::LAST_OF_FRAMES) => Self::Other(number),
+            _ => return None,
+        })
+    }
+
+    // The error of a call that reads the frame alone.
+    pub(crate) fn of_frame(answer: Answer, raw: &RawReport) -> Self {
+        Self::of(answer, raw).unwrap_or(Self::Other(answer.0))
+    }
+
+    /// The least number of bytes that gets further, if more bytes may help: 8 if there are none, and otherwise that of
+    /// [`FrameError::Truncated`].
+    #[must_use]
+    pub const fn required(&self) -> Option<usize> {
+        match self {
+            Self::NoMessage => Some(8),
+            Self::Truncated { required } => Some(*required),
+            _ => None,
+        }
+    }
 }
 
 /// As in the lines of the program, where it has one.
 impl fmt::Display for FrameError {
     fn fmt(&self, f: &mut fmt::Formatter<'_>) -> fmt::Result {
         match self {
-            Self::Empty => f.write_str("NoMessage"),
+            Self::NoMessage => f.write_str("NoMessage"),
             Self::TooManySegments { count } => write!(f, "TooManySegments {count}"),
             Self::TooLarge { words } => write!(f, "TooLarge {words}"),
             Self::Truncated { required } => write!(f, "Truncated, {required} bytes are required"),
             Self::Trailing { bytes, .. } => write!(f, "Trailing {bytes}"),
+            Self::Other(answer) => write!(f, "unknown answer {answer}"),
         }
     }
 }
@@ -205,12 +248,12 @@ impl std::error::Error for FrameError {}
 pub enum VetError {
     /// The bytes hold no complete frame within the limits, or more than the frame.
     Frame(
-        /// What is wrong with it.
+        /// The reason.
         FrameError,
     ),
     /// The message is refused at a pointer.
     Refused(
-        /// The pointer, and why.
+        /// The pointer and the reason.
         Refusal,
     ),
     /// Not strict: the message has 512 segments, one more than common readers take.
@@ -221,41 +264,37 @@ pub enum VetError {
     },
     /// An answer of a later library that this crate doesn't know. It is never an acceptance.
     Other(
-        /// The number.
+        /// The number of the answer.
         u32,
     ),
+}
+
+impl From<FrameError> for VetError {
+    fn from(error: FrameError) -> Self {
+        Self::Frame(error)
+    }
 }
 
 impl VetError {
     // The error of an answer other than that of an accepted message.
     pub(crate) fn of(answer: Answer, raw: &RawReport) -> Self {
-        match answer {
-            Answer::NO_MESSAGE => Self::Frame(FrameError::Empty),
-            Answer::TOO_MANY_SEGMENTS => {
-                Self::Frame(FrameError::TooManySegments { count: raw.detail })
-            }
-            Answer::TOO_LARGE => Self::Frame(FrameError::TooLarge { words: raw.detail }),
-            Answer::TRUNCATED => Self::Frame(FrameError::Truncated {
-                required: raw.required as usize,
-            }),
-            Answer::TRAILING => Self::Frame(FrameError::Trailing {
-                bytes: raw.detail,
+        if let Some(error) = FrameError::of(answer, raw) {
+            return Self::Frame(error);
+        }
+        if answer == Answer::MANY_SEGMENTS {
+            return Self::ManySegments {
+                length: raw.length(),
+            };
+        }
+        match Reason::of(answer) {
+            Some(reason) => Self::Refused(Refusal {
+                reason,
+                position: Position::of(raw),
+                pointers: raw.pointers,
                 length: raw.length(),
                 segments: raw.segments,
             }),
-            Answer::MANY_SEGMENTS => Self::ManySegments {
-                length: raw.length(),
-            },
-            other => match Reason::of(other) {
-                Some(reason) => Self::Refused(Refusal {
-                    reason,
-                    position: Position::of(raw),
-                    pointers: raw.pointers,
-                    length: raw.length(),
-                    segments: raw.segments,
-                }),
-                None => Self::Other(other.0),
-            },
+            None => Self::Other(answer.0),
         }
     }
 
@@ -275,7 +314,7 @@ impl VetError {
 impl fmt::Display for VetError {
     fn fmt(&self, f: &mut fmt::Formatter<'_>) -> fmt::Result {
         match self {
-            Self::Frame(fault) => fault.fmt(f),
+            Self::Frame(error) => error.fmt(f),
             Self::Refused(refusal) => refusal.fmt(f),
             Self::ManySegments { .. } => f.write_str("refused ManySegments at 0:0 pointers 0"),
             Self::Other(answer) => write!(f, "unknown answer {answer}"),

@@ -19,27 +19,37 @@ impl Answer {
     pub(crate) const HAS_CAPABILITY: Self = Self(17);
     pub(crate) const MANY_SEGMENTS: Self = Self(23);
 
-    /// The least number of an answer for a message that isn't valid. Each names a pointer.
+    /// The last answer about the frame of a message.
+    pub(crate) const LAST_OF_FRAMES: u32 = 7;
+    /// The first answer for a message that isn't valid. Each names a pointer.
     pub(crate) const FIRST_REASON: u32 = 32;
 }
 
-// `capvet_limits`.
+// The flags of `capvet_limits`.
+pub(crate) const ALLOW_TRAILING: u32 = 1;
+pub(crate) const ALLOW_NONSTRICT: u32 = 2;
+pub(crate) const ALLOW_AMPLIFIED: u32 = 4;
+
+/// `capvet_limits`.
 #[repr(C)]
-struct RawLimits {
-    message_words: u64,
-    charge: u64,
-    depth: u32,
-    flags: u32,
-    reserved: [u64; 2],
+pub(crate) struct RawLimits {
+    pub(crate) message_words: u64,
+    pub(crate) charge: u64,
+    pub(crate) depth: u32,
+    pub(crate) flags: u32,
+    pub(crate) reserved: [u64; 2],
 }
 
 impl RawLimits {
-    fn of(limits: &Limits) -> Self {
+    pub(crate) fn of(limits: &Limits) -> Self {
+        let flag = |is_set: bool, flag: u32| if is_set { flag } else { 0 };
         Self {
-            message_words: limits.message_words(),
-            charge: limits.charge(),
-            depth: limits.depth(),
-            flags: limits.flags(),
+            message_words: limits.message_words,
+            charge: limits.charge,
+            depth: limits.depth,
+            flags: flag(limits.allow_trailing, ALLOW_TRAILING)
+                | flag(limits.allow_nonstrict, ALLOW_NONSTRICT)
+                | flag(limits.allow_amplified, ALLOW_AMPLIFIED),
             reserved: [0; 2],
         }
     }
@@ -97,6 +107,15 @@ extern "C" {
         limits: *const RawLimits,
         report: *mut RawReport,
     ) -> Answer;
+    fn capvet_canonical(
+        bytes: *const u8,
+        length: usize,
+        limits: *const RawLimits,
+        out: *mut u8,
+        out_size: usize,
+        required: *mut usize,
+        report: *mut RawReport,
+    ) -> Answer;
     fn capvet_pack(
         bytes: *const u8,
         length: usize,
@@ -111,19 +130,10 @@ extern "C" {
         out_size: usize,
         required: *mut usize,
     ) -> Answer;
-    fn capvet_canonical(
-        bytes: *const u8,
-        length: usize,
-        limits: *const RawLimits,
-        out: *mut u8,
-        out_size: usize,
-        required: *mut usize,
-        report: *mut RawReport,
-    ) -> Answer;
     fn capvet_version() -> u32;
 }
 
-// The address of a slice's first byte, or of a byte of ours for an empty slice, as the header asks.
+// The address of a buffer's first byte, or of a byte of ours for an empty buffer, as the header asks.
 fn address(bytes: &[u8]) -> *const u8 {
     if bytes.is_empty() {
         static NONE: u8 = 0;
@@ -133,45 +143,48 @@ fn address(bytes: &[u8]) -> *const u8 {
     }
 }
 
-/// The length of the frame that the bytes begin with.
+// The address of a buffer's first element, or of `spare` for an empty buffer, as the header asks.
+fn address_mut<T>(buffer: &mut [T], spare: &mut T) -> *mut T {
+    if buffer.is_empty() {
+        spare
+    } else {
+        buffer.as_mut_ptr()
+    }
+}
+
+/// Reads the length of the frame that the bytes begin with.
 pub(crate) fn frame(bytes: &[u8], limits: &Limits) -> (Answer, RawReport) {
     let (limits, mut report) = (RawLimits::of(limits), RawReport::default());
-    // SAFETY: the declaration is the header's. The address and length are those of a slice that is borrowed for the call,
-    // or 0 bytes at a byte of ours. The limits are borrowed too, and the report is a local of this function.
+    // SAFETY: the declaration is the header's. `bytes` is borrowed for the call, and the structs are locals.
     let answer = unsafe { capvet_frame(address(bytes), bytes.len(), &limits, &mut report) };
     (answer, report)
 }
 
-/// The verdict of the message that the bytes begin with.
+/// Vets the message.
 pub(crate) fn vet(bytes: &[u8], limits: &Limits) -> (Answer, RawReport) {
     let (limits, mut report) = (RawLimits::of(limits), RawReport::default());
-    // SAFETY: as in `frame`, whose arguments these are.
+    // SAFETY: the declaration is the header's. `bytes` is borrowed for the call, and the structs are locals.
     let answer = unsafe { capvet_vet(address(bytes), bytes.len(), &limits, &mut report) };
     (answer, report)
 }
 
-/// The verdict of the message that the bytes begin with, which may use no word twice, and how many numbers the
-/// marks take.
+/// Vets the message, which may use no word twice. The number is how many elements the marks take.
 pub(crate) fn vet_exclusive(
     bytes: &[u8],
     limits: &Limits,
     marks: &mut [u64],
 ) -> (Answer, usize, RawReport) {
     let (limits, mut report) = (RawLimits::of(limits), RawReport::default());
-    let (size, mut required, mut none) = (marks.len(), 0, 0);
-    let start: *mut u64 = if size == 0 {
-        &mut none
-    } else {
-        marks.as_mut_ptr()
-    };
-    // SAFETY: as in `frame`. `marks` is borrowed mutably for the call, or is 0 numbers at a local. `required` is a local.
+    let (mut spare, mut required) = (0, 0);
+    // SAFETY: the declaration is the header's. `bytes` is borrowed for the call, `marks` is borrowed mutably, and the
+    // numbers and structs are locals.
     let answer = unsafe {
         capvet_vet_exclusive(
             address(bytes),
             bytes.len(),
             &limits,
-            start,
-            size,
+            address_mut(marks, &mut spare),
+            marks.len(),
             &mut required,
             &mut report,
         )
@@ -179,70 +192,70 @@ pub(crate) fn vet_exclusive(
     (answer, required, report)
 }
 
-/// Whether the message that the bytes begin with is its own canonical copy.
+/// Checks that the message is its own canonical form.
 pub(crate) fn is_canonical(bytes: &[u8], limits: &Limits) -> (Answer, RawReport) {
     let (limits, mut report) = (RawLimits::of(limits), RawReport::default());
-    // SAFETY: as in `frame`, whose arguments these are.
+    // SAFETY: the declaration is the header's. `bytes` is borrowed for the call, and the structs are locals.
     let answer = unsafe { capvet_is_canonical(address(bytes), bytes.len(), &limits, &mut report) };
     (answer, report)
 }
 
-/// Packs the words to the start of `out`, and returns the length of the packed bytes.
-pub(crate) fn pack(words: &[u8], out: &mut [u8]) -> (Answer, usize) {
-    let (mut none, mut required) = (0, 0);
-    let size = out.len();
-    let out = if out.is_empty() {
-        &mut none
-    } else {
-        out.as_mut_ptr()
-    };
-    // SAFETY: the declaration is the header's. The words are passed as in `frame`. `out` is borrowed mutably for the call,
-    // or is 0 bytes at a local. `required` is a local.
-    let answer = unsafe { capvet_pack(address(words), words.len(), out, size, &mut required) };
-    (answer, required)
-}
-
-/// Unpacks all the packed bytes to the start of `out`, and returns the length of the words in bytes.
-pub(crate) fn unpack(packed: &[u8], out: &mut [u8]) -> (Answer, usize) {
-    let (mut none, mut required) = (0, 0);
-    let size = out.len();
-    let out = if out.is_empty() {
-        &mut none
-    } else {
-        out.as_mut_ptr()
-    };
-    // SAFETY: the declaration is the header's. The packed bytes are passed as in `frame`. `out` is borrowed mutably for the
-    // call, or is 0 bytes at a local. `required` is a local.
-    let answer = unsafe { capvet_unpack(address(packed), packed.len(), out, size, &mut required) };
-    (answer, required)
-}
-
-/// Writes the canonical copy of the message that the bytes begin with to the start of `out`, and returns its length.
+/// Writes the canonical form of the message to the start of `out`. The number is its length in bytes.
 pub(crate) fn canonical(
     bytes: &[u8],
     limits: &Limits,
     out: &mut [u8],
 ) -> (Answer, usize, RawReport) {
     let (limits, mut report) = (RawLimits::of(limits), RawReport::default());
-    let (size, mut required, mut none) = (out.len(), 0, 0);
-    let start: *mut u8 = if size == 0 {
-        &mut none
-    } else {
-        out.as_mut_ptr()
-    };
-    // SAFETY: as in `frame`. `out` is borrowed mutably for the call, or is 0 bytes at a local. `required` is a local.
+    let (mut spare, mut required) = (0, 0);
+    // SAFETY: the declaration is the header's. `bytes` is borrowed for the call, `out` is borrowed mutably, and the
+    // numbers and structs are locals.
     let answer = unsafe {
         capvet_canonical(
             address(bytes),
             bytes.len(),
             &limits,
-            start,
-            size,
+            address_mut(out, &mut spare),
+            out.len(),
             &mut required,
             &mut report,
         )
     };
     (answer, required, report)
+}
+
+/// Packs the words to the start of `out`. The number is the length of the packed bytes.
+pub(crate) fn pack(words: &[u8], out: &mut [u8]) -> (Answer, usize) {
+    let (mut spare, mut required) = (0, 0);
+    // SAFETY: the declaration is the header's. `words` is borrowed for the call, `out` is borrowed mutably, and the
+    // numbers are locals.
+    let answer = unsafe {
+        capvet_pack(
+            address(words),
+            words.len(),
+            address_mut(out, &mut spare),
+            out.len(),
+            &mut required,
+        )
+    };
+    (answer, required)
+}
+
+/// Unpacks all packed bytes to the start of `out`. The number is the length of the words in bytes.
+pub(crate) fn unpack(packed: &[u8], out: &mut [u8]) -> (Answer, usize) {
+    let (mut spare, mut required) = (0, 0);
+    // SAFETY: the declaration is the header's. `packed` is borrowed for the call, `out` is borrowed mutably, and the
+    // numbers are locals.
+    let answer = unsafe {
+        capvet_unpack(
+            address(packed),
+            packed.len(),
+            address_mut(out, &mut spare),
+            out.len(),
+            &mut required,
+        )
+    };
+    (answer, required)
 }
 
 /// The version of the library, as one number.

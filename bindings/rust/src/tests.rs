@@ -1,13 +1,13 @@
-//! The declarations against the header, and what the archive answers against what is known of the samples.
+//! The declarations against the header, and the answers of the library against what is known of the samples.
 
-use crate::sys::{Answer, RawReport};
+use crate::sys::{Answer, RawLimits, RawReport, ALLOW_AMPLIFIED, ALLOW_NONSTRICT, ALLOW_TRAILING};
 use crate::{
     canonical_into, frame_length, is_canonical, messages, vet, vet_exclusive, CanonicalError,
     ExclusiveError, FrameError, Limits, Position, Reason, VetError,
 };
-use core::mem::size_of;
 
 const HEADER: &str = include_str!("../../../include/capvet.h");
+const SYS: &str = include_str!("sys.rs");
 const CONTACTS: &[u8] = include_bytes!("../../../examples/contacts.bin");
 const MANY_SEGMENTS: &[u8] = include_bytes!("../../../examples/contacts-many-segments.bin");
 const TELEMETRY: &[u8] = include_bytes!("../../../examples/telemetry.bin");
@@ -17,24 +17,30 @@ const TELEMETRY_COPY: &[u8] = include_bytes!("../../../examples/canonical/teleme
 const NULL: [u8; 16] = [0, 0, 0, 0, 1, 0, 0, 0, 0, 0, 0, 0, 0, 0, 0, 0];
 const CYCLE: [u8; 16] = [0, 0, 0, 0, 1, 0, 0, 0, 0xfc, 0xff, 0xff, 0xff, 0, 0, 1, 0];
 
+// The header without its comments.
+fn header() -> String {
+    let parts = HEADER.split("/*");
+    let code = parts.map(|part| part.split_once("*/").map_or(part, |(_, code)| code));
+    code.collect()
+}
+
+// The text between two others.
+fn between<'t>(text: &'t str, start: &str, end: &str) -> &'t str {
+    let rest = text.split_once(start).expect(start).1;
+    rest.split_once(end).expect(end).0
+}
+
 // The answers of the header, each with its number.
 fn answers() -> Vec<(String, u32)> {
-    let body = HEADER
-        .split("enum capvet_answer {")
-        .nth(1)
-        .and_then(|it| it.split("} capvet_answer;").next());
-    body.expect("the header has an enum")
-        .lines()
-        // (the last one only makes the enum large enough)
-        .filter(|line| !line.contains("0x"))
-        .filter_map(|line| {
-            let (name, number) = line.trim().strip_prefix("CAPVET_")?.split_once(" = ")?;
-            let digits = number
-                .find(|it: char| !it.is_ascii_digit())
-                .unwrap_or(number.len());
-            Some((name.to_owned(), number[..digits].parse().ok()?))
-        })
-        .collect()
+    let code = header();
+    let members = between(&code, "CAPVET_OK = 0,", "}").split(',');
+    let answers = members.filter_map(|member| {
+        let (name, number) = member.trim().strip_prefix("CAPVET_")?.split_once(" = ")?;
+        // (the last member, in hex, gives the enum its size)
+        Some((name.to_owned(), number.parse().ok()?))
+    });
+    let absent = |name: &str| ABSENT.contains(&name);
+    answers.filter(|(name, _)| !absent(name)).collect()
 }
 
 // A constant's name as a variant's: `PAD_IS_FAR` is `PadIsFar`.
@@ -44,9 +50,8 @@ fn variant(name: &str) -> String {
         .collect()
 }
 
-// The answers that are no reason of a refusal at a pointer.
-const OTHERS: [(&str, Answer); 13] = [
-    ("OK", Answer::OK),
+// The answers of the header that are no reason of a refusal at a pointer.
+const OTHERS: [(&str, Answer); 10] = [
     ("NO_MESSAGE", Answer::NO_MESSAGE),
     ("TOO_MANY_SEGMENTS", Answer::TOO_MANY_SEGMENTS),
     ("TOO_LARGE", Answer::TOO_LARGE),
@@ -54,12 +59,13 @@ const OTHERS: [(&str, Answer); 13] = [
     ("TRAILING", Answer::TRAILING),
     ("BAD_LIMITS", Answer(8)),
     ("BUFFER_TOO_SMALL", Answer::BUFFER_TOO_SMALL),
-    ("NO_SEGMENT", Answer(11)),
-    ("BAD_SEGMENT", Answer(12)),
     ("NOT_CANONICAL", Answer::NOT_CANONICAL),
     ("HAS_CAPABILITY", Answer::HAS_CAPABILITY),
     ("MANY_SEGMENTS", Answer::MANY_SEGMENTS),
 ];
+
+// The answers of calls that this crate doesn't have.
+const ABSENT: [&str; 4] = ["BAD_PATH", "NO_SEGMENT", "BAD_SEGMENT", "NO_NODE"];
 
 #[test]
 fn answers_are_those_of_the_header() {
@@ -90,6 +96,7 @@ fn every_other_answer_is_no_acceptance() {
         let error = VetError::of(Answer(number), &RawReport::default());
         let known = Reason::ALL.iter().find(|(_, it)| *it == number);
         match error {
+            VetError::Frame(FrameError::Other(it)) => assert_eq!((it, known), (number, None)),
             VetError::Frame(_) => assert!((1..=5).contains(&number), "{number}"),
             VetError::ManySegments { .. } => assert_eq!(number, 23),
             VetError::Refused(refusal) => match known {
@@ -106,6 +113,7 @@ fn every_other_answer_is_no_acceptance() {
 
 #[test]
 fn limits_are_those_of_the_header() {
+    let raw = RawLimits::of(&Limits::DEFAULT);
     for line in [
         format!(
             "#define CAPVET_MAX_MESSAGE_WORDS UINT64_C({})",
@@ -114,100 +122,145 @@ fn limits_are_those_of_the_header() {
         format!("#define CAPVET_MAX_CHARGE UINT64_C({})", Limits::MAX_CHARGE),
         format!("#define CAPVET_MAX_DEPTH {}", Limits::MAX_DEPTH),
         format!("#define CAPVET_SLACK {}", Limits::SLACK),
+        format!("#define CAPVET_ALLOW_TRAILING {ALLOW_TRAILING:#x}u"),
+        format!("#define CAPVET_ALLOW_NONSTRICT {ALLOW_NONSTRICT:#x}u"),
+        format!("#define CAPVET_ALLOW_AMPLIFIED {ALLOW_AMPLIFIED:#x}u"),
         format!(
-            "#define CAPVET_ALLOW_TRAILING {:#x}u",
-            Limits::DEFAULT.allow_trailing(true).flags()
-        ),
-        format!(
-            "#define CAPVET_ALLOW_NONSTRICT {:#x}u",
-            Limits::DEFAULT.allow_nonstrict(true).flags()
-        ),
-        format!(
-            "#define CAPVET_ALLOW_AMPLIFIED {:#x}u",
-            Limits::DEFAULT.allow_amplified(true).flags()
-        ),
-        format!(
-            "#define CAPVET_LIMITS_INIT {{ {}, {}, {}, {}, {{ 0, 0 }} }}",
-            Limits::DEFAULT.message_words(),
-            Limits::DEFAULT.charge(),
-            Limits::DEFAULT.depth(),
-            Limits::DEFAULT.flags()
+            "#define CAPVET_LIMITS_INIT {{ {}, {}, {}, {}, {{ {}, {} }} }}",
+            raw.message_words, raw.charge, raw.depth, raw.flags, raw.reserved[0], raw.reserved[1]
         ),
     ] {
         assert!(HEADER.contains(&line), "{line}");
     }
     assert_eq!(Limits::default(), Limits::DEFAULT);
+}
+
+#[test]
+fn each_limit_is_passed_on() {
+    let limits = Limits::DEFAULT.message_words(1).charge(2).depth(3);
+    let raw = RawLimits::of(&limits);
+    assert_eq!((raw.message_words, raw.charge, raw.depth), (1, 2, 3));
+    for (limits, flags) in [
+        (limits, 0),
+        (limits.allow_trailing(true), ALLOW_TRAILING),
+        (limits.allow_nonstrict(true), ALLOW_NONSTRICT),
+        (limits.allow_amplified(true), ALLOW_AMPLIFIED),
+    ] {
+        assert_eq!(RawLimits::of(&limits).flags, flags);
+        let none = limits.allow_trailing(false).allow_nonstrict(false);
+        assert_eq!(RawLimits::of(&none.allow_amplified(false)).flags, 0);
+    }
+}
+
+#[test]
+fn the_library_takes_every_limit() {
+    let none = Limits::DEFAULT.message_words(0).charge(0).depth(0);
     let most = Limits::DEFAULT
-        .with_message_words(Limits::MAX_MESSAGE_WORDS)
-        .and_then(|it| it.with_charge(Limits::MAX_CHARGE))
-        .and_then(|it| it.with_depth(Limits::MAX_DEPTH))
-        .expect("the greatest")
+        .message_words(u64::MAX)
+        .charge(u64::MAX)
+        .depth(u32::MAX)
         .allow_trailing(true)
         .allow_nonstrict(true)
         .allow_amplified(true);
     assert_eq!(frame_length(&NULL, most), Ok(16));
     assert_eq!(vet(&NULL, most).map(|report| report.length), Ok(16));
-    assert_eq!(most.with_message_words(Limits::MAX_MESSAGE_WORDS + 1), None);
-    assert_eq!(most.with_charge(Limits::MAX_CHARGE + 1), None);
-    assert_eq!(most.with_depth(Limits::MAX_DEPTH + 1), None);
+    let large = FrameError::TooLarge { words: 1 };
+    assert_eq!(frame_length(&NULL, none), Err(large));
+    assert_eq!(vet(&NULL, none), Err(large.into()));
 }
 
 #[test]
-fn flags_are_set_one_by_one() {
-    let none = Limits::DEFAULT;
-    for (one, trailing, nonstrict, amplified) in [
-        (none, false, false, false),
-        (none.allow_trailing(true), true, false, false),
-        (none.allow_nonstrict(true), false, true, false),
-        (none.allow_amplified(true), false, false, true),
-    ] {
-        let has = (
-            one.allows_trailing(),
-            one.allows_nonstrict(),
-            one.allows_amplified(),
-        );
-        assert_eq!(has, (trailing, nonstrict, amplified));
-        let back = one
-            .allow_trailing(false)
-            .allow_nonstrict(false)
-            .allow_amplified(false);
-        assert_eq!(back, none);
+fn a_frame_is_at_most_as_long_as_its_bound() {
+    // 512 segments, the first of which has all words.
+    let limits = Limits::DEFAULT.message_words(3);
+    let frame = framed(&[&[&[0, 0, 0][..]], &[&[][..]; 511][..]].concat());
+    assert_eq!(frame.len(), limits.frame_bound());
+    assert_eq!(frame_length(&frame, limits), Ok(frame.len()));
+}
+
+// A type of the header, as a declaration for Rust has it.
+fn in_rust(text: &str) -> String {
+    let name = |text: &str| match text {
+        "uint8_t" => "u8",
+        "uint32_t" => "u32",
+        "uint64_t" => "u64",
+        "size_t" => "usize",
+        "capvet_limits" => "RawLimits",
+        "capvet_report" => "RawReport",
+        "capvet_answer" => "Answer",
+        other => panic!("an unknown type {other}"),
+    };
+    match (text.strip_prefix("const "), text.strip_suffix(" *")) {
+        (Some(target), Some(_)) => format!("*const {}", name(target.trim_end_matches(" *"))),
+        (None, Some(target)) => format!("*mut {}", name(target)),
+        _ => name(text).to_owned(),
+    }
+}
+
+// A parameter or a field of the header, as a declaration for Rust has it.
+fn field_in_rust(text: &str) -> String {
+    let start = text.rfind([' ', '*']).expect("a type and a name") + 1;
+    let (of, name) = (text[..start].trim(), &text[start..]);
+    match name.strip_suffix(']').and_then(|it| it.split_once('[')) {
+        Some((name, count)) => format!("{name}: [{}; {count}]", in_rust(of)),
+        None => format!("{name}: {}", in_rust(of)),
+    }
+}
+
+// A text on one line, with single spaces.
+fn on_one_line(text: &str) -> String {
+    text.split_whitespace().collect::<Vec<_>>().join(" ")
+}
+
+#[test]
+fn calls_are_declared_as_in_the_header() {
+    let code = header();
+    let declared = between(SYS, "extern \"C\" {", "\n}");
+    let calls: Vec<_> = declared.split("fn ").skip(1).collect();
+    assert_eq!(calls.len(), 8);
+    for call in calls {
+        let (name, here) = call.split_once('(').expect("parameters");
+        let there = between(&code, &format!(" {name}("), ")");
+        let parameters: Vec<_> = match there {
+            "void" => Vec::new(),
+            _ => there
+                .split(',')
+                .map(|it| field_in_rust(&on_one_line(it)))
+                .collect(),
+        };
+        let here = on_one_line(here);
+        let (here, result) = here.split_once(") -> ").expect("a result");
+        let here = here.trim().trim_end_matches(',');
+        assert_eq!(here, parameters.join(", "), "{name}");
+        let wanted = if parameters.is_empty() {
+            "u32"
+        } else {
+            "Answer"
+        };
+        assert_eq!(result.trim_end_matches(';'), wanted, "{name}");
     }
 }
 
 #[test]
-fn the_report_has_the_size_of_its_fields() {
-    assert_eq!(size_of::<RawReport>(), 6 * 8 + 4 * 4 + 4 * 8);
-    let fields = HEADER
-        .split("typedef struct capvet_report {")
-        .nth(1)
-        .and_then(|it| it.split("} capvet_report;").next());
-    let names: Vec<_> = fields
-        .expect("the header has a report")
-        .lines()
-        .filter_map(|line| {
-            line.trim()
-                .strip_prefix("uint")?
-                .split_once("_t ")?
-                .1
-                .split([';', '['])
-                .next()
-        })
-        .collect();
-    let here = [
-        "length",
-        "required",
-        "detail",
-        "charge",
-        "pointers",
-        "capabilities",
-        "depth",
-        "segments",
-        "segment",
-        "word",
-        "reserved",
-    ];
-    assert_eq!(names, here);
+fn structs_are_declared_as_in_the_header() {
+    let code = header();
+    for (here, there) in [
+        ("RawLimits", "capvet_limits"),
+        ("RawReport", "capvet_report"),
+    ] {
+        let fields = between(SYS, &format!("pub(crate) struct {here} {{"), "\n}");
+        let fields: Vec<_> = fields
+            .lines()
+            .filter_map(|line| line.trim().strip_prefix("pub(crate) ")?.strip_suffix(','))
+            .collect();
+        let of_header = between(&code, &format!("typedef struct {there} {{"), "}");
+        let of_header: Vec<_> = of_header
+            .trim()
+            .split_terminator(';')
+            .map(|field| field_in_rust(field.trim()))
+            .collect();
+        assert_eq!(fields, of_header);
+    }
 }
 
 #[test]
@@ -248,14 +301,13 @@ fn samples_are_accepted() {
 fn samples_use_no_word_twice() {
     for bytes in [CONTACTS, MANY_SEGMENTS, TELEMETRY] {
         let report = vet(bytes, Limits::DEFAULT).expect("the sample is accepted");
-        let needed = match vet_exclusive(bytes, Limits::DEFAULT, &mut []) {
+        let required = match vet_exclusive(bytes, Limits::DEFAULT, &mut []) {
             Err(ExclusiveError::BufferTooSmall { required, .. }) => required,
-            answer => panic!("marks take a buffer: {answer:?}"),
+            other => panic!("marks take a buffer: {other:?}"),
         };
-        assert!(needed <= report.length / 512 + 1);
-        let mut marks = vec![u64::MAX; needed + 1];
-        let short = vet_exclusive(bytes, Limits::DEFAULT, &mut marks[..needed - 1]);
-        let required = needed;
+        assert!(required <= report.length / 512 + 1);
+        let mut marks = vec![u64::MAX; required + 1];
+        let short = vet_exclusive(bytes, Limits::DEFAULT, &mut marks[..required - 1]);
         assert_eq!(
             short,
             Err(ExclusiveError::BufferTooSmall { required, report })
@@ -265,7 +317,7 @@ fn samples_use_no_word_twice() {
             vet_exclusive(bytes, Limits::DEFAULT, &mut marks),
             Ok(report)
         );
-        assert_eq!(marks[needed], u64::MAX);
+        assert_eq!(marks[required], u64::MAX);
         assert_eq!(
             crate::vet_exclusive_alloc(bytes, Limits::DEFAULT),
             Ok(report)
@@ -316,6 +368,22 @@ fn copies_are_those_of_the_samples() {
     );
 }
 
+#[cfg(feature = "std")]
+#[test]
+fn no_text_is_twice_in_a_chain_of_sources() {
+    use std::error::Error;
+    let error = vet(&CYCLE, Limits::DEFAULT).expect_err("it is refused");
+    let errors: [Box<dyn Error>; 3] = [
+        error.into(),
+        CanonicalError::NotAccepted(error).into(),
+        ExclusiveError::NotAccepted(error).into(),
+    ];
+    for error in errors {
+        assert_eq!(error.to_string(), "refused DepthLimit at 0:0 pointers 65");
+        assert!(error.source().is_none());
+    }
+}
+
 #[test]
 fn the_first_capability_is_reported() {
     // A struct of two pointers, the second of them a capability.
@@ -343,41 +411,29 @@ fn the_first_capability_is_reported() {
 
 #[test]
 fn refusals_read_as_in_the_program() {
-    let line = |bytes: &[u8], limits: Option<Limits>| {
-        vet(bytes, limits.expect("limits are within the greatest"))
-            .expect_err("it is refused")
-            .to_string()
-    };
+    let line =
+        |bytes: &[u8], limits: Limits| vet(bytes, limits).expect_err("it is refused").to_string();
     let limits = Limits::DEFAULT;
     assert_eq!(
-        line(CONTACTS, limits.with_charge(100)),
+        line(CONTACTS, limits.charge(100)),
         "refused WordLimit at 0:21 pointers 22"
     );
     assert_eq!(
-        line(CONTACTS, limits.with_depth(3)),
+        line(CONTACTS, limits.depth(3)),
         "refused DepthLimit at 0:7 pointers 3"
     );
+    assert_eq!(line(CONTACTS, limits.message_words(391)), "TooLarge 392");
     assert_eq!(
-        line(CONTACTS, limits.with_message_words(391)),
-        "TooLarge 392"
-    );
-    assert_eq!(
-        line(&CYCLE, Some(limits)),
+        line(&CYCLE, limits),
         "refused DepthLimit at 0:0 pointers 65"
     );
     assert_eq!(
-        line(&[0, 2, 0, 0, 0, 0, 0, 0], Some(limits)),
+        line(&[0, 2, 0, 0, 0, 0, 0, 0], limits),
         "TooManySegments 513"
     );
-    assert_eq!(line(&[], Some(limits)), "NoMessage");
-    assert_eq!(
-        line(&NULL[..9], Some(limits)),
-        "Truncated, 16 bytes are required"
-    );
-    assert_eq!(
-        line(&[0; 8], Some(limits)),
-        "refused NoRoot at 0:0 pointers 0"
-    );
+    assert_eq!(line(&[], limits), "NoMessage");
+    assert_eq!(line(&NULL[..9], limits), "Truncated, 16 bytes are required");
+    assert_eq!(line(&[0; 8], limits), "refused NoRoot at 0:0 pointers 0");
 }
 
 // A message of these segments, each a list of words.
@@ -473,7 +529,7 @@ fn a_stream_is_its_messages() {
 }
 
 #[test]
-fn every_cut_of_a_stream_says_what_is_required() {
+fn each_prefix_of_a_stream_reports_what_is_required() {
     let stream = [NULL, CYCLE, NULL].concat();
     for length in 0..=stream.len() {
         let mut iterator = messages(&stream[..length], Limits::DEFAULT);

@@ -1,8 +1,8 @@
-//! Vets the messages of a file in process, and writes of each the line that `capvet vet --strict --unamplified` writes.
+//! Vets the messages of a file in process, and prints for each the line of `capvet vet --strict --unamplified`.
 //!
 //!     PKG_CONFIG_PATH=PREFIX/lib/pkgconfig cargo run -- FILE
 //!
-//! The status is 0 where all are accepted, 1 where one isn't, 2 for a wrong command line, and 3 where the file can't be
+//! The status is 0 if all messages are accepted, 1 if one is not, 2 for a wrong command line, and 3 if the file can't be
 //! read.
 
 use capvet::{Limits, VetError};
@@ -10,8 +10,8 @@ use std::process::ExitCode;
 use std::{env, fs};
 
 fn main() -> ExitCode {
-    let mut words = env::args_os().skip(1);
-    let name = match (words.next(), words.next()) {
+    let mut arguments = env::args_os().skip(1);
+    let name = match (arguments.next(), arguments.next()) {
         (Some(name), None) => name,
         _ => {
             eprintln!("usage: vet FILE");
@@ -19,7 +19,7 @@ fn main() -> ExitCode {
         }
     };
     match fs::read(&name) {
-        Ok(bytes) => ExitCode::from(u8::from(!are_accepted(&bytes))),
+        Ok(bytes) => ExitCode::from(u8::from(!vet_all(&bytes))),
         Err(error) => {
             eprintln!("vet: {}: {error}", name.to_string_lossy());
             ExitCode::from(3)
@@ -27,14 +27,14 @@ fn main() -> ExitCode {
     }
 }
 
-// Writes the line of each message; whether all are accepted.
-fn are_accepted(bytes: &[u8]) -> bool {
+// Prints the line of each message, and returns whether all are accepted.
+fn vet_all(bytes: &[u8]) -> bool {
     let mut all = true;
     for (number, message) in capvet::messages(bytes, Limits::DEFAULT).enumerate() {
         all &= message.is_ok();
         match message {
             Ok(message) => println!("message {number}: {}", message.report()),
-            Err(fault @ VetError::Frame(_)) => eprintln!("vet: message {number}: {fault}"),
+            Err(error @ VetError::Frame(_)) => eprintln!("vet: message {number}: {error}"),
             Err(refusal) => println!("message {number}: {refusal}"),
         }
     }

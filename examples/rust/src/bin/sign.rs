@@ -3,22 +3,22 @@
 //!
 //!     PKG_CONFIG_PATH=PREFIX/lib/pkgconfig cargo run --bin sign -- FILE COMMAND..
 //!
-//! for example `sign FILE sha256sum`, or `sign FILE openssl dgst -sha256 -sign key.pem`. FILE is one message and nothing else.
+//! For example `sign FILE sha256sum`, or `sign FILE openssl dgst -sha256 -sign key.pem`. FILE is one message and nothing else.
 //!
-//! The words don't name their schema. If one key signs messages of several schemas, sign the schema's name before them.
+//! The form doesn't name its schema. If one key signs messages of several schemas, sign the schema's name before it.
 //!
 //! The status is that of the command. It is 1 if the message has no canonical form, 2 for a wrong command line, and 3 if
 //! the file can't be read or the command doesn't run.
 
-use capvet::{CanonicalError, Limits};
+use capvet::Limits;
 use std::ffi::OsString;
 use std::io::Write;
 use std::process::{Command, ExitCode, Stdio};
 use std::{env, fs, io};
 
 fn main() -> ExitCode {
-    let words: Vec<OsString> = env::args_os().skip(1).collect();
-    let (name, command) = match &words[..] {
+    let arguments: Vec<OsString> = env::args_os().skip(1).collect();
+    let (name, command) = match &arguments[..] {
         [name, command @ ..] if !command.is_empty() => (name, command),
         _ => {
             eprintln!("usage: sign FILE COMMAND..");
@@ -32,14 +32,14 @@ fn main() -> ExitCode {
             return ExitCode::from(3);
         }
     };
-    let copy = match copy_of(&bytes) {
-        Ok(copy) => copy,
-        Err(why) => {
-            eprintln!("sign: {why}");
+    let form = match capvet::canonical(&bytes, Limits::DEFAULT) {
+        Ok((form, _report)) => form,
+        Err(error) => {
+            eprintln!("sign: {error}");
             return ExitCode::from(1);
         }
     };
-    match handed(&copy, command) {
+    match run(command, &form) {
         Ok(status) => ExitCode::from(status),
         Err(error) => {
             eprintln!("sign: {}: {error}", command[0].to_string_lossy());
@@ -48,20 +48,14 @@ fn main() -> ExitCode {
     }
 }
 
-// The canonical form of bytes that are one message and nothing else, or the reason why there is none.
-fn copy_of(bytes: &[u8]) -> Result<Vec<u8>, CanonicalError> {
-    let (copy, _report) = capvet::canonical(bytes, Limits::DEFAULT)?;
-    Ok(copy)
-}
-
 // Runs a command with these bytes as its input, and returns its status, or 3 if a signal ended it.
-fn handed(bytes: &[u8], command: &[OsString]) -> io::Result<u8> {
+fn run(command: &[OsString], input: &[u8]) -> io::Result<u8> {
     let mut child = Command::new(&command[0])
         .args(&command[1..])
         .stdin(Stdio::piped())
         .spawn()?;
-    // (its input ends when the handle to it is dropped)
-    let written = child.stdin.take().map(|mut input| input.write_all(bytes));
+    // (the pipe is closed when the handle is dropped)
+    let written = child.stdin.take().map(|mut pipe| pipe.write_all(input));
     let status = child.wait()?;
     written.unwrap_or(Ok(()))?;
     let code = status.code().and_then(|code| u8::try_from(code).ok());
