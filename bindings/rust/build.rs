@@ -1,11 +1,11 @@
-//! Finds `libcapvet.a`: in `CAPVET_LIB_DIR`, or where `pkg-config` says that capvet was installed.
+//! Finds `libcapvet.a`: in the folder `CAPVET_LIB_DIR`, or else where `pkg-config` says that capvet was installed.
 
-use std::path::{Path, PathBuf};
-use std::process::Command;
+use std::path::PathBuf;
+use std::process::{exit, Command};
 use std::{env, str};
 
-// The archive fits where its major version is this crate's, and its minor not less.
-const FITTING: [&str; 2] = ["capvet >= 1.0", "capvet < 2"];
+// The library has the major version of this crate's declarations, and at least their minor version.
+const VERSIONS: [&str; 2] = ["capvet >= 1.0", "capvet < 2"];
 
 fn main() {
     for name in [
@@ -19,56 +19,70 @@ fn main() {
         println!("cargo:rerun-if-env-changed={name}");
     }
     println!("cargo:rerun-if-changed=build.rs");
-    // Pages alone need no archive.
+    // Pages alone need no library.
     if env::var_os("DOCS_RS").is_some() {
         return;
     }
-    let folder = match env::var_os("CAPVET_LIB_DIR") {
-        Some(folder) => PathBuf::from(folder),
-        None => installed().unwrap_or_else(|why| {
-            panic!("libcapvet.a was not found, {why}: set CAPVET_LIB_DIR to its folder, or PKG_CONFIG_PATH to that of capvet.pc")
-        }),
-    };
-    let archive = folder.join("libcapvet.a");
-    assert!(archive.is_file(), "there is no {}", archive.display());
-    println!("cargo:rerun-if-changed={}", archive.display());
-    println!("cargo:rustc-link-search=native={}", folder.display());
-    println!("cargo:rustc-link-lib=static=capvet");
+    if let Err(error) = link() {
+        eprintln!("capvet: {error}");
+        exit(1);
+    }
 }
 
-// The folder that `pkg-config` names, if the version fits.
+// Prints what cargo needs to link the library.
+fn link() -> Result<(), String> {
+    let folder = match env::var_os("CAPVET_LIB_DIR") {
+        Some(folder) => PathBuf::from(folder),
+        None => installed().map_err(|error| {
+            format!("libcapvet.a was not found ({error}): set CAPVET_LIB_DIR to its folder, or PKG_CONFIG_PATH to that of capvet.pc")
+        })?,
+    };
+    let archive = folder.join("libcapvet.a");
+    println!("cargo:rerun-if-changed={}", archive.display());
+    if !archive.is_file() {
+        return Err(format!("there is no file {}", archive.display()));
+    }
+    println!("cargo:rustc-link-search=native={}", folder.display());
+    println!("cargo:rustc-link-lib=static=capvet");
+    Ok(())
+}
+
+// The folder of the installed library.
 fn installed() -> Result<PathBuf, String> {
+    // (`pkg-config` knows the libraries of this machine)
+    if env::var_os("HOST") != env::var_os("TARGET")
+        && env::var_os("PKG_CONFIG_SYSROOT_DIR").is_none()
+    {
+        return Err(
+            "the target is another machine, and PKG_CONFIG_SYSROOT_DIR is not set".to_owned(),
+        );
+    }
+    let flags = pkg_config("--libs-only-L")?;
+    Ok(match flags.split_whitespace().next() {
+        Some(flag) => PathBuf::from(flag.trim_start_matches("-L")),
+        // (it leaves out the system's own folders)
+        None => PathBuf::from(pkg_config("--variable=libdir")?),
+    })
+}
+
+// What `pkg-config` prints for this option, or its first line about what is wrong.
+fn pkg_config(option: &str) -> Result<String, String> {
     let program = env::var_os("PKG_CONFIG").unwrap_or_else(|| "pkg-config".into());
-    let asked = |option: &str| {
-        let told = Command::new(&program)
-            .arg(option)
-            .args(FITTING)
-            .output()
-            .map_err(|error| format!("pkg-config: {error}"))?;
-        let text = if told.status.success() {
-            &told.stdout
-        } else {
-            &told.stderr
-        };
-        let text = str::from_utf8(text)
-            .map_err(|error| error.to_string())?
-            .trim()
-            .to_owned();
-        if told.status.success() {
-            Ok(text)
-        } else {
-            Err(text)
-        }
+    let ran = Command::new(program)
+        .arg(option)
+        .args(VERSIONS)
+        .output()
+        .map_err(|error| format!("pkg-config: {error}"))?;
+    let text = if ran.status.success() {
+        &ran.stdout
+    } else {
+        &ran.stderr
     };
-    let flags = asked("--libs-only-L")?;
-    let folder = match flags.split_whitespace().next() {
-        Some(flag) => flag.trim_start_matches("-L").to_owned(),
-        // (`pkg-config` leaves out the system's own folders)
-        None => asked("--variable=libdir")?
-            .lines()
-            .next()
-            .unwrap_or_default()
-            .to_owned(),
-    };
-    Ok(Path::new(&folder).to_owned())
+    let text = str::from_utf8(text).map_err(|error| format!("pkg-config: {error}"))?;
+    let line = text.lines().next().unwrap_or_default().trim().to_owned();
+    if ran.status.success() {
+        Ok(line)
+    } else {
+        Err(line)
+    }
 }
