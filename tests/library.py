@@ -21,6 +21,7 @@ from install import PROGRAM, TOP, compare, make, missing, run
 
 SAMPLES = ("contacts.bin", "contacts-many-segments.bin", "telemetry.bin", "stream-of-four.bin")
 CYCLE = bytes.fromhex("0000000001000000fcffffff00000100")
+CARGO = ("--offline", "--quiet")
 STRICT = ("-Wall", "-Wextra", "-pedantic", "-Werror")
 # Messages, each with the canonical words of its content, as Cap'n Proto's own tools write them.
 COPIES = (("contacts.bin", "contacts.bin"), ("contacts-many-segments.bin", "contacts.bin"), ("telemetry.bin", "telemetry.bin"))
@@ -80,13 +81,13 @@ def described(prefix, environment):
     compare("the flags", [f"-I{prefix}/include", f"-L{prefix}/lib", "-lcapvet"], flags(environment, "capvet"))
 
 
-def of_pages(language, folder, front="", behind=""):
-    """What the pages show in a language, the blocks of each page as one file."""
+def of_pages(language, folder, whole="{}", block="{}"):
+    """What the pages show in a language, the blocks of each page as one file, by the forms of a file and of a block."""
     for page in ("README.md", "docs/guide.md"):
         blocks = re.findall(rf"^```{language}\n(.*?)^```$", (TOP / page).read_text(), re.M | re.S)
         compare(f"{page} has blocks of {language}", True, len(blocks) > 0)
         file = folder / f"{Path(page).stem.lower()}.{language}"
-        file.write_text(front + "".join(blocks) + behind)
+        file.write_text(whole.format("".join(block.format(text, number=number) for number, text in enumerate(blocks))))
         yield file
 
 
@@ -167,6 +168,21 @@ def from_cplusplus(folder, environment, files):
     compare("serve", (SERVED, 0), run([program, files[0], cycle, files[1]]))
 
 
+def without_a_library(folder, environment):
+    """The build of the crate names the library that it doesn't find, in one line."""
+    nothing = folder / "nothing"
+    nothing.mkdir()
+    for name, variables, line in (
+        ("CAPVET_LIB_DIR without the library", {"CAPVET_LIB_DIR": str(nothing)}, f"capvet: there is no file {nothing}/libcapvet.a"),
+        ("no capvet.pc", {"PKG_CONFIG_PATH": str(nothing), "PKG_CONFIG_LIBDIR": str(nothing)}, "capvet: libcapvet.a was not found "),
+    ):
+        text, status = run(["cargo", "check", *CARGO], cwd=folder / "copy/bindings/rust", env={**environment, **variables})
+        lines = [it.strip() for it in text.splitlines() if it.strip().startswith("capvet: ")]
+        compare(f"cargo check, {name}", (True, True, 1), (status != 0, lines[0].startswith(line) if lines else text, len(lines)))
+    found = {**environment, "CAPVET_LIB_DIR": str(folder / "x/lib"), "PKG_CONFIG_LIBDIR": str(nothing), "PKG_CONFIG_PATH": ""}
+    compare("cargo check, CAPVET_LIB_DIR", ("", 0), run(["cargo", "check", *CARGO], cwd=folder / "copy/bindings/rust", env=found))
+
+
 def from_rust(folder, environment, files):
     """The tests of the crate, those of its pages too, and the example over it."""
     if any(missing("the crate and the example in Rust", tool) for tool in ("cargo", "rustc")):
@@ -175,19 +191,22 @@ def from_rust(folder, environment, files):
     if not version or int(version[1]) < 63:
         print("not tested, with a rustc before 1.63: the crate and the example in Rust")
         return
-    environment = {**environment, "CARGO_TARGET_DIR": str(folder / "target")}
+    environment = {**environment, "CARGO_TARGET_DIR": str(folder / "target"), "CAPVET_PROGRAM": str(PROGRAM),
+                   "RUSTDOCFLAGS": "-D warnings"}
     environment.pop("CAPVET_LIB_DIR", None)
     # (cargo writes a lock file beside a crate, so each is taken from a copy of the repository's files)
     for part in ("bindings", "examples", "include"):
         shutil.copytree(TOP / part, folder / "copy" / part, ignore=shutil.ignore_patterns("target", "Cargo.lock"))
-    for words in (["test"], ["build", "--no-default-features"], ["build", "--no-default-features", "--features", "alloc"]):
-        text, status = run(["cargo", *words, "--offline", "--quiet"], cwd=folder / "copy/bindings/rust", env=environment)
+    for words in (["test", *CARGO, "--", "--include-ignored"], ["build", *CARGO, "--no-default-features"],
+                  ["build", *CARGO, "--no-default-features", "--features", "alloc"], ["doc", *CARGO, "--no-deps"]):
+        text, status = run(["cargo", *words], cwd=folder / "copy/bindings/rust", env=environment)
         compare(f"cargo {words}", 0, status)
         if status:
             print(text)
-    for file in of_pages("rust", folder, "#![allow(dead_code)]\n", "fn main() {}\n"):
+    without_a_library(folder, environment)
+    for file in of_pages("rust", folder, "#![allow(dead_code)]\n{}fn main() {{}}\n", "mod block{number} {{\n{}}}\n"):
         file.rename(folder / f"copy/examples/rust/src/bin/{file.stem}.rs")
-    built = run(["cargo", "build", "--offline", "--quiet"], cwd=folder / "copy/examples/rust", env=environment)
+    built = run(["cargo", "build", *CARGO], cwd=folder / "copy/examples/rust", env=environment)
     compare("cargo build of the example", ("", 0), built)
     same("the example in Rust", [folder / "target/debug/vet"], files)
     signs_from_rust(folder / "target/debug/sign")

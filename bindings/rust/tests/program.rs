@@ -1,0 +1,224 @@
+//! Compares the calls with the program `capvet`, over the samples and over messages of which one bit is changed. The
+//! variable `CAPVET_PROGRAM` is the path of the program.
+
+#![cfg(feature = "alloc")]
+
+use capvet::{CanonicalError, ExclusiveError, Limits, Report, VetError};
+use std::path::PathBuf;
+use std::process::Command;
+use std::{env, fs};
+
+const CONTACTS: &[u8] = include_bytes!("../../../examples/contacts.bin");
+const MANY_SEGMENTS: &[u8] = include_bytes!("../../../examples/contacts-many-segments.bin");
+const SHARED: &[u8] = include_bytes!("../../../examples/shared.bin");
+const STREAM: &[u8] = include_bytes!("../../../examples/stream-of-four.bin");
+const TELEMETRY: &[u8] = include_bytes!("../../../examples/telemetry.bin");
+
+// What the program writes of these bytes to its standard output, and its status.
+fn program(test: &str, options: &[&str], bytes: &[u8]) -> (Vec<u8>, Option<i32>) {
+    let program = env::var_os("CAPVET_PROGRAM").expect("CAPVET_PROGRAM is the program's path");
+    let file = PathBuf::from(env!("CARGO_TARGET_TMPDIR")).join(test);
+    fs::write(&file, bytes).expect("the folder can be written");
+    let ran = Command::new(program).args(options).arg(file).output();
+    let ran = ran.expect("the program runs");
+    (ran.stdout, ran.status.code())
+}
+
+// What the program should write, by these texts of the messages: a line for each, up to the first without one.
+fn expected(
+    texts: &[Result<String, VetError>],
+    is_accepted: impl Fn(&str) -> bool,
+) -> (Vec<u8>, Option<i32>) {
+    let lines = texts.iter().map_while(|text| text.as_ref().ok());
+    let lines = lines
+        .enumerate()
+        .map(|(number, text)| format!("message {number}: {text}\n"));
+    let all = texts
+        .iter()
+        .all(|text| matches!(text, Ok(text) if is_accepted(text)));
+    (
+        lines.collect::<String>().into_bytes(),
+        Some(i32::from(!all)),
+    )
+}
+
+// The text of a verdict, or the error of bytes that hold no frame.
+fn verdict<T: ToString>(result: Result<T, VetError>) -> Result<String, VetError> {
+    match result {
+        Ok(report) => Ok(report.to_string()),
+        Err(error @ VetError::Frame(_)) => Err(error),
+        Err(refusal) => Ok(refusal.to_string()),
+    }
+}
+
+// 500 messages, each of them a sample of which one bit after the table is changed.
+fn changed() -> Vec<Vec<u8>> {
+    let mut state = 7_u64;
+    let mut random = |below: usize| {
+        state ^= state << 13;
+        state ^= state >> 7;
+        state ^= state << 17;
+        (state % below as u64) as usize
+    };
+    let changed = (0..500).map(|_| {
+        let mut message = [CONTACTS, MANY_SEGMENTS, TELEMETRY, SHARED][random(4)].to_vec();
+        let table = (usize::from(message[0]) + 3) / 2 * 8;
+        let at = table + random(message.len() - table);
+        message[at] ^= 1 << random(8);
+        message
+    });
+    changed.collect()
+}
+
+// Streams: a sample with several messages, a prefix of it, nothing, and the changed messages.
+fn streams() -> [Vec<u8>; 4] {
+    [
+        STREAM.to_vec(),
+        STREAM[..3200].to_vec(),
+        Vec::new(),
+        changed().concat(),
+    ]
+}
+
+// Options of the program, with the limits that have the same effect.
+fn limits() -> [(&'static [&'static str], Limits); 5] {
+    let limits = Limits::DEFAULT;
+    [
+        (&["--strict", "--unamplified"], limits),
+        (&["--unamplified"], limits.allow_nonstrict(true)),
+        (&["--strict"], limits.allow_amplified(true)),
+        (&[], limits.allow_nonstrict(true).allow_amplified(true)),
+        (
+            &[
+                "--strict",
+                "--unamplified",
+                "--size",
+                "392",
+                "--words",
+                "300",
+                "--depth",
+                "6",
+            ],
+            limits.message_words(392).charge(300).depth(6),
+        ),
+    ]
+}
+
+#[test]
+#[ignore = "CAPVET_PROGRAM has to be the path of the program"]
+fn messages_are_accepted_and_refused_as_by_the_program() {
+    for (options, limits) in limits() {
+        for stream in streams() {
+            let messages = capvet::messages(&stream, limits);
+            let reports = messages.map(|message| message.map(|message| *message.report()));
+            let texts: Vec<_> = reports.map(verdict).collect();
+            let wanted = expected(&texts, |text| text.starts_with("accepted"));
+            let printed = program("vet", &[&["vet"][..], options].concat(), &stream);
+            assert_eq!(printed, wanted, "{options:?}");
+        }
+    }
+    let known: Vec<_> = capvet::messages(&changed().concat(), Limits::DEFAULT)
+        .map(|message| message.is_ok())
+        .collect();
+    let accepted = known.iter().filter(|is_accepted| **is_accepted).count();
+    assert!((50..450).contains(&accepted), "{accepted} of 500");
+}
+
+// The report of a message that uses no word twice, or why it isn't accepted.
+fn vet_exclusive(message: &[u8], limits: Limits) -> Result<Report, VetError> {
+    capvet::vet_exclusive_alloc(message, limits).map_err(|error| match error {
+        ExclusiveError::NotAccepted(error) => error,
+        other => panic!("{other:?}"),
+    })
+}
+
+#[test]
+#[ignore = "CAPVET_PROGRAM has to be the path of the program"]
+fn a_word_that_is_used_twice_is_found_as_by_the_program() {
+    let changed = changed();
+    for (options, limits) in limits() {
+        let texts: Vec<_> = changed
+            .iter()
+            .map(|it| verdict(vet_exclusive(it, limits)))
+            .collect();
+        let wanted = expected(&texts, |text| text.starts_with("accepted"));
+        assert!(texts.iter().flatten().any(|text| text.contains("Overlap")));
+        let options = [&["vet", "--exclusive"][..], options].concat();
+        let printed = program("exclusive", &options, &changed.concat());
+        assert_eq!(printed, wanted, "{options:?}");
+    }
+}
+
+#[test]
+#[ignore = "CAPVET_PROGRAM has to be the path of the program"]
+fn messages_are_canonical_as_for_the_program() {
+    let changed = changed();
+    let copies = [CONTACTS, TELEMETRY, SHARED].map(framed_copy);
+    let messages = [&changed[..100], &copies].concat();
+    for (options, limits) in limits() {
+        let results = messages.iter().map(|it| capvet::is_canonical(it, limits));
+        let texts: Vec<_> = results
+            .map(|result| result.map(|it| if it { "canonical" } else { "not canonical" }))
+            .map(verdict)
+            .collect();
+        let wanted = expected(&texts, |text| text == "canonical");
+        let printed = program(
+            "check",
+            &[&["check"][..], options].concat(),
+            &messages.concat(),
+        );
+        assert_eq!(printed, wanted, "{options:?}");
+    }
+}
+
+// The canonical form of a message, with a table.
+fn framed_copy(message: &[u8]) -> Vec<u8> {
+    let (words, _report) = capvet::canonical(message, Limits::DEFAULT).expect("it has a form");
+    framed(&words)
+}
+
+// One segment with its table.
+fn framed(words: &[u8]) -> Vec<u8> {
+    let size = (words.len() as u32 / 8).to_le_bytes();
+    [&[0; 4][..], &size, words].concat()
+}
+
+#[test]
+#[ignore = "CAPVET_PROGRAM has to be the path of the program"]
+fn canonical_forms_are_those_of_the_program() {
+    let changed = changed();
+    let options = ["canon", "--strict", "--unamplified"];
+    let (mut forms, mut refused) = (0, 0);
+    for message in changed
+        .iter()
+        .take(150)
+        .map(Vec::as_slice)
+        .chain([STREAM, SHARED])
+    {
+        let limits = Limits::DEFAULT;
+        let length = capvet::frame_length(message, limits).expect("it has a frame");
+        let message = &message[..length];
+        let (printed, status) = program("canon", &options, message);
+        match capvet::canonical(message, limits) {
+            Ok((words, report)) => {
+                assert_eq!((printed, status), (framed(&words), Some(0)));
+                assert_eq!(Ok(report), capvet::vet(message, limits));
+                forms += 1;
+            }
+            Err(error) => {
+                assert_eq!((printed, status), (Vec::new(), Some(1)));
+                let known = capvet::vet(message, limits);
+                match error {
+                    CanonicalError::NotAccepted(error) => assert_eq!(known, Err(error)),
+                    CanonicalError::HasCapability { report, .. } => assert_eq!(known, Ok(report)),
+                    other => panic!("{other:?}"),
+                }
+                refused += 1;
+            }
+        }
+    }
+    assert!(
+        forms > 20 && refused > 20,
+        "{forms} forms, {refused} refused"
+    );
+}
