@@ -1,7 +1,7 @@
 //! The canonical form of a message, to be hashed or signed.
 
 #[cfg(feature = "alloc")]
-use crate::frame_length;
+use crate::input_length;
 use crate::sys::{self, Answer};
 use crate::{Limits, Position, Report, VetError};
 #[cfg(feature = "alloc")]
@@ -138,7 +138,7 @@ pub fn canonical_into(
 /// ```
 #[cfg(feature = "alloc")]
 pub fn canonical(bytes: &[u8], limits: Limits) -> Result<(Vec<u8>, Report), CanonicalError> {
-    let length = frame_length(bytes, limits).map_err(VetError::Frame)?;
+    let length = input_length(bytes, limits)?;
     let mut form = vec![0; length];
     let (length, report) = match canonical_into(bytes, limits, &mut form) {
         Err(CanonicalError::BufferTooSmall { required, .. }) => {

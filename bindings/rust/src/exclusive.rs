@@ -1,7 +1,7 @@
 //! Messages that use no word twice.
 
 #[cfg(feature = "alloc")]
-use crate::frame_length;
+use crate::input_length;
 use crate::sys::{self, Answer};
 use crate::{Limits, Report, VetError};
 #[cfg(feature = "alloc")]
@@ -126,6 +126,6 @@ pub fn vet_exclusive(
 /// ```
 #[cfg(feature = "alloc")]
 pub fn vet_exclusive_alloc(bytes: &[u8], limits: Limits) -> Result<Report, ExclusiveError> {
-    let length = frame_length(bytes, limits).map_err(VetError::Frame)?;
+    let length = input_length(bytes, limits)?;
     vet_exclusive(bytes, limits, &mut vec![0; length / 512 + 1])
 }

@@ -66,6 +66,7 @@ mod messages;
 mod packing;
 mod refusal;
 mod report;
+mod segments;
 #[allow(unsafe_code)]
 mod sys;
 #[cfg(test)]
@@ -84,6 +85,7 @@ pub use packing::{pack, unpack};
 pub use packing::{pack_into, unpack_into, PackError, UnpackError};
 pub use refusal::{FrameError, Reason, Refusal, VetError};
 pub use report::{Position, Report};
+pub use segments::{segments, vet_segments, Segments};
 
 use sys::Answer;
 
@@ -144,6 +146,7 @@ pub fn vet(bytes: &[u8], limits: Limits) -> Result<Report, VetError> {
 ///
 /// The first of these that applies (encoding: Serialization Over a Stream).
 ///
+/// - [`FrameError::BadLimits`]: the limits have [`Limits::no_table`].
 /// - [`FrameError::NoMessage`]: `bytes` is empty.
 /// - [`FrameError::Truncated`]: there are less than 8 bytes.
 /// - [`FrameError::TooManySegments`]: the table says more than 512 segments.
@@ -169,6 +172,15 @@ pub fn frame_length(bytes: &[u8], limits: Limits) -> Result<usize, FrameError> {
         Answer::OK => Ok(raw.length()),
         _ => Err(FrameError::of_frame(answer, &raw)),
     }
+}
+
+// The length in bytes of the message that the bytes begin with.
+#[cfg(feature = "alloc")]
+fn input_length(bytes: &[u8], limits: Limits) -> Result<usize, VetError> {
+    if limits.no_table {
+        return Ok(bytes.len());
+    }
+    Ok(frame_length(bytes, limits)?)
 }
 
 /// Returns the version of the linked library, major and minor. Within a major version nothing is removed or changed.

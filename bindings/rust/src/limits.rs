@@ -3,9 +3,10 @@
 /// What a call accepts.
 ///
 /// Begin with [`Limits::DEFAULT`] and change what you need: each method returns a changed copy. Each of the three flags
-/// allows something that is refused without it. A higher limit or an additional flag never refuses more.
+/// `allow_..` allows something that is refused without it. A higher limit or an additional one of these flags never refuses
+/// more.
 ///
-/// A number above its maximum counts as the maximum, so the library takes every value of this type.
+/// A number above its maximum counts as the maximum, so every number is valid.
 ///
 /// # Examples
 ///
@@ -24,6 +25,7 @@ pub struct Limits {
     pub(crate) allow_trailing: bool,
     pub(crate) allow_nonstrict: bool,
     pub(crate) allow_amplified: bool,
+    pub(crate) no_table: bool,
 }
 
 impl Limits {
@@ -49,6 +51,7 @@ impl Limits {
         allow_trailing: false,
         allow_nonstrict: false,
         allow_amplified: false,
+        no_table: false,
     };
 
     /// Sets the most words in all segments.
@@ -94,6 +97,18 @@ impl Limits {
     #[must_use]
     pub const fn allow_amplified(mut self, allow: bool) -> Self {
         self.allow_amplified = allow;
+        self
+    }
+
+    /// Sets whether the bytes are the words of one segment, without a table, as [`canonical_into`](crate::canonical_into)
+    /// writes them. [`vet`](crate::vet), [`vet_exclusive`](crate::vet_exclusive), [`canonical_into`](crate::canonical_into)
+    /// and [`is_canonical`](crate::is_canonical) take such bytes. The lengths that they report are then that of the bytes.
+    ///
+    /// Other calls return [`FrameError::BadLimits`](crate::FrameError::BadLimits) if it is set. So do these four if trailing
+    /// bytes are allowed too.
+    #[must_use]
+    pub const fn no_table(mut self, no_table: bool) -> Self {
+        self.no_table = no_table;
         self
     }
 

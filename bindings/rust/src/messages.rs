@@ -40,6 +40,7 @@ pub struct Messages<'b> {
 /// A message that isn't accepted gives an error with its [length](VetError::length), and the iterator goes on. A
 /// [`VetError::Frame`] means that the rest of the bytes doesn't begin with a frame within the limits, and is the last item.
 /// If the bytes end between two messages, the iterator ends without an error. So for no bytes there is no item.
+/// If the limits have [`Limits::no_table`], the only item is [`FrameError::BadLimits`](crate::FrameError::BadLimits).
 ///
 /// # Examples
 ///

@@ -181,6 +181,15 @@ pub enum FrameError {
         /// The number of its segments.
         segments: u32,
     },
+    /// The limits have [`no_table`](crate::Limits::no_table) in a call over frames, or together with
+    /// [`allow_trailing`](crate::Limits::allow_trailing).
+    BadLimits,
+    /// The length of a separate segment is not a multiple of 8. Only [`vet_segments`](crate::vet_segments) looks for it.
+    #[non_exhaustive]
+    BadSegment {
+        /// The number of the first such segment, from 0.
+        index: usize,
+    },
     /// An answer of a later library that this crate doesn't know. It is never an acceptance.
     Other(
         /// The number of the answer.
@@ -202,6 +211,10 @@ impl FrameError {
                 bytes: raw.detail,
                 length: raw.length(),
                 segments: raw.segments,
+            },
+            Answer::BAD_LIMITS => Self::BadLimits,
+            Answer::BAD_SEGMENT => Self::BadSegment {
+                index: raw.detail as usize,
             },
             Answer(number @ 1..=Answer::LAST_OF_FRAMES) => Self::Other(number),
             _ => return None,
@@ -234,6 +247,8 @@ impl fmt::Display for FrameError {
             Self::TooLarge { words } => write!(f, "TooLarge {words}"),
             Self::Truncated { required } => write!(f, "Truncated, {required} bytes are required"),
             Self::Trailing { bytes, .. } => write!(f, "Trailing {bytes}"),
+            Self::BadLimits => f.write_str("BadLimits"),
+            Self::BadSegment { index } => write!(f, "BadSegment {index}"),
             Self::Other(answer) => write!(f, "unknown answer {answer}"),
         }
     }

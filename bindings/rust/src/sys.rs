@@ -14,7 +14,9 @@ impl Answer {
     pub(crate) const TOO_LARGE: Self = Self(3);
     pub(crate) const TRUNCATED: Self = Self(4);
     pub(crate) const TRAILING: Self = Self(5);
+    pub(crate) const BAD_LIMITS: Self = Self(8);
     pub(crate) const BUFFER_TOO_SMALL: Self = Self(9);
+    pub(crate) const BAD_SEGMENT: Self = Self(12);
     pub(crate) const NOT_CANONICAL: Self = Self(16);
     pub(crate) const HAS_CAPABILITY: Self = Self(17);
     pub(crate) const MANY_SEGMENTS: Self = Self(23);
@@ -29,6 +31,7 @@ impl Answer {
 pub(crate) const ALLOW_TRAILING: u32 = 1;
 pub(crate) const ALLOW_NONSTRICT: u32 = 2;
 pub(crate) const ALLOW_AMPLIFIED: u32 = 4;
+pub(crate) const NO_TABLE: u32 = 8;
 
 /// `capvet_limits`.
 #[repr(C)]
@@ -49,7 +52,8 @@ impl RawLimits {
             depth: limits.depth,
             flags: flag(limits.allow_trailing, ALLOW_TRAILING)
                 | flag(limits.allow_nonstrict, ALLOW_NONSTRICT)
-                | flag(limits.allow_amplified, ALLOW_AMPLIFIED),
+                | flag(limits.allow_amplified, ALLOW_AMPLIFIED)
+                | flag(limits.no_table, NO_TABLE),
             reserved: [0; 2],
         }
     }
@@ -79,6 +83,14 @@ impl RawReport {
     }
 }
 
+/// `capvet_segment`.
+#[repr(C)]
+#[derive(Clone, Copy)]
+pub(crate) struct RawSegment {
+    pub(crate) bytes: *const u8,
+    pub(crate) length: usize,
+}
+
 extern "C" {
     fn capvet_frame(
         bytes: *const u8,
@@ -100,6 +112,19 @@ extern "C" {
         marks_count: usize,
         required: *mut usize,
         report: *mut RawReport,
+    ) -> Answer;
+    fn capvet_vet_segments(
+        segments: *const RawSegment,
+        count: usize,
+        limits: *const RawLimits,
+        report: *mut RawReport,
+    ) -> Answer;
+    fn capvet_segment_at(
+        bytes: *const u8,
+        length: usize,
+        index: u32,
+        offset: *mut usize,
+        segment_length: *mut usize,
     ) -> Answer;
     fn capvet_is_canonical(
         bytes: *const u8,
@@ -132,6 +157,14 @@ extern "C" {
     ) -> Answer;
     fn capvet_version() -> u32;
 }
+
+extern "C" {
+    fn capvet_abi_1();
+}
+
+// A library of another major version doesn't link.
+#[used]
+static ABI: unsafe extern "C" fn() = capvet_abi_1;
 
 // The address of a buffer's first byte, or of a byte of ours for an empty buffer, as the header asks.
 fn address(bytes: &[u8]) -> *const u8 {
@@ -190,6 +223,36 @@ pub(crate) fn vet_exclusive(
         )
     };
     (answer, required, report)
+}
+
+/// Vets a message of separate segments. More than 512 of them count as 513.
+pub(crate) fn vet_segments(segments: &[&[u8]], limits: &Limits) -> (Answer, RawReport) {
+    const MOST: usize = 513;
+    let (limits, mut report) = (RawLimits::of(limits), RawReport::default());
+    let empty = RawSegment {
+        bytes: address(&[]),
+        length: 0,
+    };
+    let (mut list, count) = ([empty; MOST], segments.len().min(MOST));
+    for (raw, segment) in list.iter_mut().zip(segments) {
+        *raw = RawSegment {
+            bytes: address(segment),
+            length: segment.len(),
+        };
+    }
+    // SAFETY: the declaration is the header's. `list` is a local of at least `count` elements. Each of them is a slice that is
+    // borrowed for the call. The other structs are locals.
+    let answer = unsafe { capvet_vet_segments(list.as_ptr(), count, &limits, &mut report) };
+    (answer, report)
+}
+
+/// Reads where a segment is in the frame that the bytes begin with. The numbers are its offset and its length in bytes.
+pub(crate) fn segment_at(bytes: &[u8], index: u32) -> (Answer, usize, usize) {
+    let (mut offset, mut length) = (0, 0);
+    // SAFETY: the declaration is the header's. `bytes` is borrowed for the call, and the numbers are locals.
+    let answer =
+        unsafe { capvet_segment_at(address(bytes), bytes.len(), index, &mut offset, &mut length) };
+    (answer, offset, length)
 }
 
 /// Checks that the message is its own canonical form.

@@ -1,6 +1,8 @@
 //! The declarations against the header, and the answers of the library against what is known of the samples.
 
-use crate::sys::{Answer, RawLimits, RawReport, ALLOW_AMPLIFIED, ALLOW_NONSTRICT, ALLOW_TRAILING};
+use crate::sys::{
+    Answer, RawLimits, RawReport, ALLOW_AMPLIFIED, ALLOW_NONSTRICT, ALLOW_TRAILING, NO_TABLE,
+};
 use crate::{
     canonical_into, frame_length, is_canonical, messages, vet, vet_exclusive, CanonicalError,
     ExclusiveError, FrameError, Limits, Position, Reason, VetError,
@@ -51,13 +53,15 @@ fn variant(name: &str) -> String {
 }
 
 // The answers of the header that are no reason of a refusal at a pointer.
-const OTHERS: [(&str, Answer); 10] = [
+const OTHERS: [(&str, Answer); 12] = [
     ("NO_MESSAGE", Answer::NO_MESSAGE),
     ("TOO_MANY_SEGMENTS", Answer::TOO_MANY_SEGMENTS),
     ("TOO_LARGE", Answer::TOO_LARGE),
     ("TRUNCATED", Answer::TRUNCATED),
     ("TRAILING", Answer::TRAILING),
-    ("BAD_LIMITS", Answer(8)),
+    ("BAD_LIMITS", Answer::BAD_LIMITS),
+    ("NO_SEGMENT", Answer(11)),
+    ("BAD_SEGMENT", Answer::BAD_SEGMENT),
     ("BUFFER_TOO_SMALL", Answer::BUFFER_TOO_SMALL),
     ("NOT_CANONICAL", Answer::NOT_CANONICAL),
     ("HAS_CAPABILITY", Answer::HAS_CAPABILITY),
@@ -65,7 +69,7 @@ const OTHERS: [(&str, Answer); 10] = [
 ];
 
 // The answers of calls that this crate doesn't have.
-const ABSENT: [&str; 4] = ["BAD_PATH", "NO_SEGMENT", "BAD_SEGMENT", "NO_NODE"];
+const ABSENT: [&str; 2] = ["BAD_PATH", "NO_NODE"];
 
 #[test]
 fn answers_are_those_of_the_header() {
@@ -97,7 +101,7 @@ fn every_other_answer_is_no_acceptance() {
         let known = Reason::ALL.iter().find(|(_, it)| *it == number);
         match error {
             VetError::Frame(FrameError::Other(it)) => assert_eq!((it, known), (number, None)),
-            VetError::Frame(_) => assert!((1..=5).contains(&number), "{number}"),
+            VetError::Frame(_) => assert!(matches!(number, 1..=5 | 8 | 12), "{number}"),
             VetError::ManySegments { .. } => assert_eq!(number, 23),
             VetError::Refused(refusal) => match known {
                 Some((reason, _)) => assert_eq!(refusal.reason, *reason),
@@ -125,6 +129,7 @@ fn limits_are_those_of_the_header() {
         format!("#define CAPVET_ALLOW_TRAILING {ALLOW_TRAILING:#x}u"),
         format!("#define CAPVET_ALLOW_NONSTRICT {ALLOW_NONSTRICT:#x}u"),
         format!("#define CAPVET_ALLOW_AMPLIFIED {ALLOW_AMPLIFIED:#x}u"),
+        format!("#define CAPVET_NO_TABLE {NO_TABLE:#x}u"),
         format!(
             "#define CAPVET_LIMITS_INIT {{ {}, {}, {}, {}, {{ {}, {} }} }}",
             raw.message_words, raw.charge, raw.depth, raw.flags, raw.reserved[0], raw.reserved[1]
@@ -145,10 +150,12 @@ fn each_limit_is_passed_on() {
         (limits.allow_trailing(true), ALLOW_TRAILING),
         (limits.allow_nonstrict(true), ALLOW_NONSTRICT),
         (limits.allow_amplified(true), ALLOW_AMPLIFIED),
+        (limits.no_table(true), NO_TABLE),
     ] {
         assert_eq!(RawLimits::of(&limits).flags, flags);
         let none = limits.allow_trailing(false).allow_nonstrict(false);
-        assert_eq!(RawLimits::of(&none.allow_amplified(false)).flags, 0);
+        let none = none.allow_amplified(false).no_table(false);
+        assert_eq!(RawLimits::of(&none).flags, 0);
     }
 }
 
@@ -188,6 +195,7 @@ fn in_rust(text: &str) -> String {
         "capvet_limits" => "RawLimits",
         "capvet_report" => "RawReport",
         "capvet_answer" => "Answer",
+        "capvet_segment" => "RawSegment",
         other => panic!("an unknown type {other}"),
     };
     match (text.strip_prefix("const "), text.strip_suffix(" *")) {
@@ -217,7 +225,7 @@ fn calls_are_declared_as_in_the_header() {
     let code = header();
     let declared = between(SYS, "extern \"C\" {", "\n}");
     let calls: Vec<_> = declared.split("fn ").skip(1).collect();
-    assert_eq!(calls.len(), 8);
+    assert_eq!(calls.len(), 10);
     for call in calls {
         let (name, here) = call.split_once('(').expect("parameters");
         let there = between(&code, &format!(" {name}("), ")");
@@ -247,6 +255,7 @@ fn structs_are_declared_as_in_the_header() {
     for (here, there) in [
         ("RawLimits", "capvet_limits"),
         ("RawReport", "capvet_report"),
+        ("RawSegment", "capvet_segment"),
     ] {
         let fields = between(SYS, &format!("pub(crate) struct {here} {{"), "\n}");
         let fields: Vec<_> = fields
@@ -474,6 +483,80 @@ fn what_is_not_strict_is_refused_without_its_flag() {
         let limits = Limits::DEFAULT.allow_nonstrict(true);
         assert_eq!(vet(&message, limits).map(|it| it.length), Ok(message.len()));
     }
+}
+
+#[test]
+fn words_without_a_table_are_a_message() {
+    let limits = Limits::DEFAULT.no_table(true);
+    for (frame, words) in [
+        (CONTACTS, &CONTACTS[8..]),
+        (TELEMETRY, &TELEMETRY[8..]),
+        (&NULL, &NULL[8..]),
+    ] {
+        let report = vet(frame, Limits::DEFAULT).expect("the sample is accepted");
+        let length = words.len();
+        assert_eq!(vet(words, limits), Ok(crate::Report { length, ..report }));
+    }
+    assert_eq!(is_canonical(CONTACTS_COPY, limits), Ok(true));
+    assert_eq!(is_canonical(&CONTACTS[8..], limits), Ok(false));
+    let error = vet(&NULL[8..15], limits).expect_err("it is no word");
+    assert_eq!(error.to_string(), "Truncated, 8 bytes are required");
+    let bad = Err(VetError::Frame(FrameError::BadLimits));
+    assert_eq!(vet(&NULL, limits.allow_trailing(true)), bad);
+    assert_eq!(frame_length(&NULL, limits), Err(FrameError::BadLimits));
+    assert_eq!(crate::vet_segments(&[&NULL], limits), bad);
+    let items: Vec<_> = messages(&NULL, limits).collect();
+    assert_eq!(items, [Err(VetError::Frame(FrameError::BadLimits))]);
+    assert_eq!(error.length(), 0);
+}
+
+#[cfg(feature = "alloc")]
+#[test]
+fn words_without_a_table_have_a_form_and_marks() {
+    let limits = Limits::DEFAULT.no_table(true);
+    let report = vet(&CONTACTS[8..], limits).expect("the sample is accepted");
+    assert_eq!(
+        crate::canonical(&CONTACTS[8..], limits),
+        Ok((CONTACTS_COPY.to_vec(), report))
+    );
+    assert_eq!(
+        crate::vet_exclusive_alloc(&CONTACTS[8..], limits),
+        Ok(report)
+    );
+    for (bytes, text) in [
+        (&[][..], "NoMessage"),
+        (&NULL[9..], "Truncated, 8 bytes are required"),
+    ] {
+        let error = crate::canonical(bytes, limits).expect_err("it is no word");
+        assert_eq!(error.to_string(), text);
+        let error = crate::vet_exclusive_alloc(bytes, limits).expect_err("it is no word");
+        assert_eq!(error.to_string(), text);
+    }
+}
+
+#[test]
+fn segments_that_are_no_message_are_refused() {
+    let line = |segments: &[&[u8]]| {
+        let error = crate::vet_segments(segments, Limits::DEFAULT.message_words(512));
+        error.expect_err("it is refused").to_string()
+    };
+    let words = [0; 8 * 513];
+    assert_eq!(line(&[]), "NoMessage");
+    assert_eq!(line(&[&[][..]; 513]), "TooManySegments 513");
+    assert_eq!(line(&[&[][..]; 600]), "TooManySegments 600");
+    assert_eq!(
+        line(&[&words[..8], &words[..9], &words[..7]]),
+        "BadSegment 1"
+    );
+    assert_eq!(line(&[&words]), "TooLarge 513");
+    assert_eq!(
+        line(&[&words[..8]; 512]),
+        "refused ManySegments at 0:0 pointers 0"
+    );
+    assert_eq!(
+        line(&[&[], &words[..8]]),
+        "refused NoRoot at 0:0 pointers 0"
+    );
 }
 
 #[test]

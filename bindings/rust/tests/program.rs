@@ -133,6 +133,58 @@ fn vet_exclusive(message: &[u8], limits: Limits) -> Result<Report, VetError> {
 }
 
 #[test]
+fn separate_segments_are_vetted_as_their_frame() {
+    for (_, limits) in limits() {
+        for message in changed()
+            .iter()
+            .map(Vec::as_slice)
+            .chain([STREAM, TELEMETRY])
+        {
+            let length = capvet::frame_length(message, Limits::DEFAULT).expect("it has a frame");
+            let message = &message[..length];
+            let segments: Vec<_> = capvet::segments(message).expect("it has a frame").collect();
+            let found = capvet::vet_segments(&segments, limits);
+            match (capvet::vet(message, limits), found) {
+                (Ok(framed), Ok(separate)) => {
+                    assert_eq!(framed.to_string(), separate.to_string());
+                    assert_eq!(framed.segments, separate.segments);
+                    assert_eq!(
+                        framed.length - separate.length,
+                        (segments.len() / 2 + 1) * 8
+                    );
+                }
+                (framed, separate) => {
+                    let text =
+                        |result: Result<Report, VetError>| result.map_err(|it| it.to_string());
+                    assert_eq!(text(framed), text(separate));
+                }
+            }
+        }
+    }
+}
+
+#[test]
+#[ignore = "CAPVET_PROGRAM has to be the path of the program"]
+fn segments_are_those_of_the_program() {
+    let changed = changed();
+    let mut text = String::new();
+    for (number, message) in changed.iter().enumerate() {
+        let segments: Vec<_> = capvet::segments(message).expect("it has a frame").collect();
+        let words: Vec<_> = segments.iter().map(|segment| segment.len() / 8).collect();
+        let sum: usize = words.iter().sum();
+        text += &format!("message {number}: segments {} words {sum}\n", words.len());
+        for (index, words) in words.iter().enumerate() {
+            text += &format!("segment {index}: {words}\n");
+        }
+        let root = segments[0][..8].iter().map(|byte| format!("{byte:02x}"));
+        text += &format!("root {}\n", root.collect::<String>());
+    }
+    let (printed, status) = program("segments", &["segments"], &changed.concat());
+    assert_eq!(status, Some(0));
+    assert!(printed == text.into_bytes());
+}
+
+#[test]
 #[ignore = "CAPVET_PROGRAM has to be the path of the program"]
 fn a_word_that_is_used_twice_is_found_as_by_the_program() {
     let changed = changed();
