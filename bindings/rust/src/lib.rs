@@ -81,8 +81,9 @@ pub use exclusive::{vet_exclusive, ExclusiveError};
 pub use limits::Limits;
 pub use messages::{messages, Message, Messages};
 #[cfg(feature = "alloc")]
-pub use packing::{pack, unpack};
-pub use packing::{pack_into, unpack_into, PackError, UnpackError};
+pub use packing::{pack, pack_message, unpack};
+pub use packing::{pack_into, pack_message_into, unpack_into};
+pub use packing::{PackError, PackMessageError, UnpackError};
 pub use refusal::{FrameError, Reason, Refusal, VetError};
 pub use report::{Position, Report};
 pub use segments::{segments, vet_segments, Segments};

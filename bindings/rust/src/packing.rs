@@ -1,6 +1,7 @@
 //! Packs and unpacks words, from one buffer into another.
 
 use crate::sys::{self, Answer};
+use crate::{FrameError, Limits};
 #[cfg(feature = "alloc")]
 use alloc::{vec, vec::Vec};
 use core::fmt;
@@ -49,6 +50,38 @@ impl fmt::Display for PackError {
 
 #[cfg(feature = "std")]
 impl std::error::Error for PackError {}
+
+/// The error of [`pack_message_into`] and `pack_message`.
+#[derive(Clone, Copy, Debug, PartialEq, Eq, Hash)]
+#[non_exhaustive]
+pub enum PackMessageError {
+    /// The bytes hold no complete frame within the limits, or more than the frame.
+    Frame(
+        /// The reason.
+        FrameError,
+    ),
+    /// The buffer is smaller than the packed bytes.
+    #[non_exhaustive]
+    BufferTooSmall {
+        /// The length of the packed bytes.
+        required: usize,
+    },
+}
+
+impl fmt::Display for PackMessageError {
+    fn fmt(&self, f: &mut fmt::Formatter<'_>) -> fmt::Result {
+        match self {
+            Self::Frame(error) => error.fmt(f),
+            Self::BufferTooSmall { required } => PackError::BufferTooSmall {
+                required: *required,
+            }
+            .fmt(f),
+        }
+    }
+}
+
+#[cfg(feature = "std")]
+impl std::error::Error for PackMessageError {}
 
 /// The error of [`unpack_into`] and `unpack`.
 #[derive(Clone, Copy, Debug, PartialEq, Eq, Hash)]
@@ -157,6 +190,78 @@ pub fn pack(words: &[u8]) -> Result<Vec<u8>, PackError> {
     Ok(packed)
 }
 
+/// Packs the frame that `bytes` are to the start of `out`, as libcapnp packs a message: the table and each segment by itself
+/// (encoding: Packing). Returns the length of the packed bytes. The bytes of `out` after them are unchanged. It checks no
+/// pointer and allocates nothing.
+///
+/// libcapnp refuses a packed message with a run that goes on from the table or a segment into the next. [`pack_into`] over
+/// a whole frame can write such runs. Of the limits only [`Limits::message_words`] and [`Limits::allow_trailing`] have an
+/// effect.
+///
+/// `bytes.len() / 8 * 10` bytes are always enough.
+///
+/// # Errors
+///
+/// The first of these that applies. `out` is then unchanged.
+///
+/// - [`PackMessageError::Frame`]: the bytes hold no complete frame within the limits, or trailing bytes follow it.
+/// - [`PackMessageError::BufferTooSmall`]: `out` is shorter than the packed bytes.
+///
+/// # Examples
+///
+/// ```
+/// use capvet::Limits;
+///
+/// // Two segments, of one word and of none. The table ends in zeros, and the first segment is zeros.
+/// let message = [1, 0, 0, 0, 1, 0, 0, 0, 0, 0, 0, 0, 0, 0, 0, 0, 0, 0, 0, 0, 0, 0, 0, 0];
+/// let mut out = [7; 9];
+/// assert_eq!(capvet::pack_message_into(&message, Limits::DEFAULT, &mut out), Ok(7));
+/// assert_eq!(out, [0x11, 1, 1, 0, 0, 0, 0, 7, 7]);
+/// assert_eq!(capvet::pack_into(&message, &mut out), Ok(5));
+/// assert_eq!(out[..5], [0x11, 1, 1, 0, 1]);
+/// ```
+pub fn pack_message_into(
+    bytes: &[u8],
+    limits: Limits,
+    out: &mut [u8],
+) -> Result<usize, PackMessageError> {
+    let (answer, required, raw) = sys::pack_message(bytes, &limits, out);
+    match answer {
+        Answer::OK => Ok(required),
+        Answer::BUFFER_TOO_SMALL => Err(PackMessageError::BufferTooSmall { required }),
+        _ => Err(PackMessageError::Frame(FrameError::of_frame(answer, &raw))),
+    }
+}
+
+/// Packs the frame that `bytes` are, as [`pack_message_into`] does, and returns the packed bytes. It allocates just their
+/// length.
+///
+/// # Errors
+///
+/// - [`PackMessageError::Frame`]: the bytes hold no complete frame within the limits, or trailing bytes follow it.
+///
+/// # Examples
+///
+/// ```
+/// use capvet::Limits;
+///
+/// let message = [0, 0, 0, 0, 1, 0, 0, 0, 0, 0, 0, 0, 0, 0, 0, 0];
+/// assert_eq!(capvet::pack_message(&message, Limits::DEFAULT)?, [0x10, 1, 0, 0]);
+/// let error = capvet::pack_message(&message[..15], Limits::DEFAULT).unwrap_err();
+/// assert_eq!(error.to_string(), "Truncated, 16 bytes are required");
+/// # Ok::<(), capvet::PackMessageError>(())
+/// ```
+#[cfg(feature = "alloc")]
+pub fn pack_message(bytes: &[u8], limits: Limits) -> Result<Vec<u8>, PackMessageError> {
+    let required = match pack_message_into(bytes, limits, &mut []) {
+        Err(PackMessageError::BufferTooSmall { required }) => required,
+        answer => return answer.map(|_| Vec::new()),
+    };
+    let mut packed = vec![0; required];
+    pack_message_into(bytes, limits, &mut packed)?;
+    Ok(packed)
+}
+
 /// Unpacks all of `packed` to the start of `out` (encoding: Packing). Returns the length of the words in bytes. They need
 /// not be a message. The bytes of `out` after them are unchanged. It allocates nothing.
 ///
@@ -242,6 +347,35 @@ mod tests {
         let required = CONTACTS.len();
         let small = unpack(PACKED, required - 1);
         assert_eq!(small, Err(UnpackError::BufferTooSmall { required }));
+    }
+
+    #[test]
+    fn messages_are_packed_by_parts() {
+        const MANY: &[u8] = include_bytes!("../../../examples/contacts-many-segments.bin");
+        for message in [CONTACTS, MANY] {
+            let segments = crate::segments(message).expect("it has a frame");
+            let mut table = message.len();
+            let mut parts = Vec::new();
+            for segment in segments {
+                table -= segment.len();
+                parts.extend(pack(segment).expect("these are whole words"));
+            }
+            parts.splice(..0, pack(&message[..table]).expect("these are whole words"));
+            let packed = pack_message(message, Limits::DEFAULT);
+            assert_eq!(packed.as_deref(), Ok(&parts[..]));
+            assert_eq!(unpack(&parts, message.len()).as_deref(), Ok(message));
+
+            let more = [message, &[7]].concat();
+            let limits = Limits::DEFAULT.allow_trailing(true);
+            assert_eq!(pack_message(&more, limits).as_deref(), Ok(&parts[..]));
+            let error = pack_message(&more, Limits::DEFAULT).expect_err("a byte follows");
+            assert_eq!(error.to_string(), "Trailing 1");
+            let mut out = vec![0xee; parts.len() - 1];
+            let required = parts.len();
+            let small = pack_message_into(message, Limits::DEFAULT, &mut out);
+            assert_eq!(small, Err(PackMessageError::BufferTooSmall { required }));
+            assert!(out.iter().all(|byte| *byte == 0xee));
+        }
     }
 
     #[test]

@@ -155,6 +155,15 @@ extern "C" {
         out_size: usize,
         required: *mut usize,
     ) -> Answer;
+    fn capvet_pack_message(
+        bytes: *const u8,
+        length: usize,
+        limits: *const RawLimits,
+        out: *mut u8,
+        out_size: usize,
+        required: *mut usize,
+        report: *mut RawReport,
+    ) -> Answer;
     fn capvet_version() -> u32;
 }
 
@@ -319,6 +328,30 @@ pub(crate) fn unpack(packed: &[u8], out: &mut [u8]) -> (Answer, usize) {
         )
     };
     (answer, required)
+}
+
+/// Packs the message to the start of `out`. The number is the length of the packed bytes.
+pub(crate) fn pack_message(
+    bytes: &[u8],
+    limits: &Limits,
+    out: &mut [u8],
+) -> (Answer, usize, RawReport) {
+    let (limits, mut report) = (RawLimits::of(limits), RawReport::default());
+    let (mut spare, mut required) = (0, 0);
+    // SAFETY: the declaration is the header's. `bytes` is borrowed for the call, `out` is borrowed mutably, and the
+    // numbers and structs are locals.
+    let answer = unsafe {
+        capvet_pack_message(
+            address(bytes),
+            bytes.len(),
+            &limits,
+            address_mut(out, &mut spare),
+            out.len(),
+            &mut required,
+            &mut report,
+        )
+    };
+    (answer, required, report)
 }
 
 /// The version of the library, as one number.
