@@ -8,9 +8,6 @@ use Rattle.cap_spec.specs.declared.StrictRefusal.{StrictRefusal}
 use Rattle.cap_spec.specs.declared.StrictRefusal.TheVariants.{Refused, ManySegments, Pointer}
 use Rattle.cap_spec.proofs.Strict.Faults.{one_strict_fault, strict_not_fault, within_not_refused}
 use Rattle.cap_frame.specs.Framed.{TellsFront}
-use Rattle.cap_frame.specs.Fronts.{TellsLarge, TellsMany, Wants}
-use Rattle.cap_spec.specs.Frames.{IsPartial}
-use Rattle.cap_spec.specs.Plain.{plain_is_cut, plain_words}
 use Rattle.cap_frame.specs.declared.fault.FrontFault.{FrontFault}
 use Rattle.cap_frame.specs.declared.fault.FrontFault.TheVariants.{TooManySegments, TooLarge, Truncated}
 use Rattle.cap_frame.specs.declared.framed.Framed.{Framed}
@@ -37,19 +34,6 @@ use Rattle.cap_calls.proofs.Words.{no_word_cause, one_input, one_word_cause}
 -- an answer without a frame
 abbrev Without-fault : FrontFault → Result (Option Framed) FrontFault
 Without-fault e = Err e
-
--- what a fault tells, by the clauses of the call that answers it
-pub fault_told : (limit : ℕ) (bs : List ℕ) (e : FrontFault)
-    → ((n : ℕ) → Without-fault e ≡ Without-fault (TooManySegments n) → TellsMany bs n)
-    → ((n : ℕ) → Without-fault e ≡ Without-fault (TooLarge n) → TellsLarge limit bs n)
-    → ((n : ℕ) → Without-fault e ≡ Without-fault (Truncated n) → IsPartial limit (plain_words bs) (plain_is_cut bs)
-    × Wants (plain_words bs) n)
-    → ((n : ℕ) → Without-fault e ≡ Without-fault (Truncated n) → (length bs < n) × (n ≤ 8 * limit + 2056))
-    → TellsFront limit bs (Err e)
-fault_told limit bs (TooManySegments n) many large short more = many n refl
-fault_told limit bs (TooLarge n) many large short more = large n refl
-fault_told limit bs (Truncated n) many large short more =
-    (let h = short n refl in let k = more n refl in (h.0, h.1, k.0, k.1))
 
 -- bytes begin with no message in one way
 one_fault : (limit : ℕ) (bs : List ℕ) (a b : FrontFault) → TellsFront limit bs (Err a) → TellsFront limit bs (Err b)

@@ -1,30 +1,14 @@
 -- The group in front of packed bytes, by its kind.
 use Rattle.std.proofs.Common.{ℕ, List, [], ◌∷◌, ◌++◌, ◌≡◌, ◌≢◌, ◌∙◌, ◌<◌, ◌≤◌, ◌+◌, ◌*◌, ◌/◌, ap, sym, length, take}
 use Rattle.std.proofs.Common.{drop, arith}
-use Rattle.std.proofs.lemmas.List.{drop-drop, length-append, length-drop, length-replicate, length-take-le}
+use Rattle.std.proofs.lemmas.List.{drop-drop, length-append, length-drop, length-take-le}
 use Rattle.std.specs.Prelude.{slice_index}
 use lib.Count.{ones}
 use Rattle.cap_spec.specs.Plain.{plain_words}
 use Rattle.cap_spec.specs.Unpacking.{group_length, group_words, marks, packed_is_cut, unpacked}
-use Rattle.cap_spec.proofs.Packed.Unpacking.{cut_front, length_marked, unpacked_front, words_marked}
+use Rattle.cap_spec.proofs.Packed.Unpacking.{cut_front, length_marked, unpacked_front}
 use Rattle.cap_spec.proofs.Bytes.Plain.{words_exact}
 use Rattle.cap_pack.proofs.Heads.{head_rest-marked, head_rest-ones}
-
--- a run of zero words has two bytes, the second of which tells how many follow the first
-pub zeros_length : (bs : List ℕ) → 0 < length bs → slice_index bs 0 ≡ 0 → group_length bs ≡ 2
-zeros_length [] l e = absurd (omega (arith, l))
-zeros_length (tag ∷ rest) l e = let t : tag ≡ 0 = e in ap (λ (x : ℕ). group_length (x ∷ rest)) t
-
-pub zeros_words : (bs : List ℕ) → 2 ≤ length bs → slice_index bs 0 ≡ 0 → length (group_words bs) ≡ 1 + slice_index bs 1
-zeros_words [] l e = absurd (omega (arith, l))
-zeros_words (tag ∷ rest) l e =
-    let t : tag ≡ 0 = e in ap (λ (x : ℕ). length (group_words (x ∷ rest))) t
-    ∙ length-replicate (1 + slice_index rest 0) 0
-
--- a run of words as they are has them behind the tag, with how many follow the first behind that one
-pub plain_length : (bs : List ℕ) → 0 < length bs → slice_index bs 0 ≡ 255 → group_length bs ≡ 10 + 8 * slice_index bs 9
-plain_length [] l e = absurd (omega (arith, l))
-plain_length (tag ∷ rest) l e = let t : tag ≡ 255 = e in ap (λ (x : ℕ). group_length (x ∷ rest)) t
 
 pub plain_count : (bs : List ℕ) → slice_index bs 0 ≡ 255 → 10 + 8 * slice_index bs 9 ≤ length bs
     → length (group_words bs) ≡ 1 + slice_index bs 9
@@ -51,11 +35,6 @@ marked_length [] l p z f = absurd (omega (arith, l))
 marked_length (tag ∷ rest) l p z f =
     let same : ones tag ≡ marks 8 tag = head_rest-ones tag p z f ∙ head_rest-marked tag z f in
     length_marked tag rest (omega (arith, z)) (omega (arith, p, f)) ∙ ap (λ (n : ℕ). 1 + n) (sym same)
-
-pub marked_words : (bs : List ℕ) → 0 < length bs → slice_index bs 0 < 256 → slice_index bs 0 ≢ 0
-    → slice_index bs 0 ≢ 255 → length (group_words bs) ≡ 1
-marked_words [] l p z f = absurd (omega (arith, l))
-marked_words (tag ∷ rest) l p z f = ap length (words_marked tag rest (omega (arith, z)) (omega (arith, p, f)))
 
 -- the groups behind the one in front go on with the words and with the end
 pub goes_on : (bs front : List ℕ) (at n k words : ℕ) → front ≡ drop at bs → 0 < length front → n ≡ group_length front

@@ -3,7 +3,7 @@ use Rattle.std.proofs.Common.{◌≡◌, ◌∙◌, ℕ, ◌+◌, ◌<◌, ◌�
 use Rattle.std.proofs.Common.{get_or, refl, sym, ap, subst, arith, add-one, append-nil, length-append}
 use Rattle.std.proofs.Math.ListN.{set}
 use Rattle.std.proofs.Math.Seq.{drop-cons}
-use Rattle.std.proofs.lemmas.List.{take_more, map-append, take_more_set, drop-set-lt, length-set, take_all}
+use Rattle.std.proofs.lemmas.List.{take_more, map-append, take_more_set, drop-set-lt, length-set}
 use Rattle.std.proofs.lemmas.Grind.{flat_map-append}
 use Rattle.cap_words.specs.declared.sources.WordSource as source
 use Rattle.cap_words.specs.declared.sources.SourceFault.{SourceFault}
@@ -75,15 +75,6 @@ module _ {X : Type 0} (g : source.Ghosts X) where
       rooms = r;
     }
 
-    -- the next room
-    pub segments_room : (old now : X) (s : ℕ) (segments : List V) (sizes : List ℕ) (v : V) (n : ℕ) → s < length sizes → v ≡ get_or segments s v
-        → n ≡ get_or sizes s 0
-        → SegmentsSoFar old now s segments sizes → (f v ≡ []) × (n ≤ room v)
-    segments_room old now s segments sizes v n h e d t =
-        let inside : s < length segments = omega (arith, t.many) in
-        let r = rooms_from f room s segments sizes v inside h t.rooms in
-        (ap f e ∙ r.0.0, subst (λ (w : V). n ≤ room w) (sym e) (omega (arith, r.0.1)))
-
     -- one more segment
     pub segments_more : (old now new : X) (s : ℕ) (segments longer : List V) (sizes : List ℕ) (v : V) (n : ℕ) → s < length sizes → n ≡ get_or sizes s 0
         → SegmentsSoFar old now s segments sizes → Takes g now new (f v) → length (f v) ≡ n → Reads g now new → IsUsable g now new
@@ -113,11 +104,3 @@ module _ {X : Type 0} (g : source.Ghosts X) where
         let words : length (joined (map f (take s segments))) ≡ sum (take s sizes) = length_joined (map f (take s segments)) ∙ ap sum t.sizes_are in
         let enough : length (joined (map f (take s segments))) + n ≤ sum sizes = omega (arith, words, front_sum sizes s h, d) in
         took_stop g old now new (joined (map f (take s segments))) n (sum sizes) fault enough t.took stops
-
-    -- all were read
-    pub segments_end : (old now : X) (s : ℕ) (segments : List V) (sizes : List ℕ) → length sizes ≤ s → SegmentsSoFar old now s segments sizes
-        → Takes g old now (joined (map f segments)) × (sizes_of (map f segments) ≡ sizes)
-    segments_end old now s segments sizes h t =
-        let vs : take s segments ≡ segments = take_all s segments (omega (arith, t.many)) in
-        let ns : take s sizes ≡ sizes = take_all s sizes h in
-        (rw vs at t.took.takes, rw vs at (t.sizes_are ∙ ns))

@@ -1,5 +1,5 @@
 -- Words that are read into one buffer, piece by piece.
-use Rattle.std.proofs.Common.{◌≡◌, ◌∙◌, ℕ, ◌+◌, ◌-◌, ◌*◌, ◌/◌, ◌%◌, ◌≤◌, false, List, [], ◌∷◌, ◌++◌, length, take, drop}
+use Rattle.std.proofs.Common.{◌≡◌, ◌∙◌, ℕ, ◌+◌, ◌-◌, ◌*◌, ◌/◌, ◌%◌, ◌≤◌, List, [], ◌∷◌, ◌++◌, length, take, drop}
 use Rattle.std.proofs.Common.{sum, refl, sym, ap, arith, append-nil, append_assoc, length-append, length-drop}
 use Rattle.std.proofs.Math.Seq.{take-add, take-append_seam}
 use Rattle.std.proofs.lemmas.List.{length-take-le, take-append-le, take-take, take_all}
@@ -13,7 +13,7 @@ use Rattle.cap_frame.specs.Bytes.{cut}
 use Rattle.cap_frame.specs.Taking.{Takes, Reads, IsUsable, Stops}
 use Rattle.cap_frame.proofs.Cuts.{words_inside}
 use Rattle.cap_spec.proofs.Bytes.Plain.{words_exact}
-use Rattle.cap_frame.proofs.Taking.{Took, took_more, took_none, took_stop}
+use Rattle.cap_frame.proofs.Taking.{Took, took_more, took_stop}
 
 -- what stands in a buffer up to the end of a piece that was written over it
 pub piece_in : (start end many : ℕ) (before held more items piece post rest : List ℕ) → start ≤ length before → end ≤ many → length piece ≡ end - start
@@ -75,10 +75,6 @@ module _ {X : Type 0} (g : source.Ghosts X) where
     pub whole : done % 8 ≡ 0
     pub within : done ≤ length bytes
     pub took : Took g old now (plain_words (take done bytes))
-
-  -- none yet
-  pub bytes_none : (s : X) (bytes : List ℕ) → g.spent s ≡ false → BytesSoFar s s 0 bytes
-  bytes_none s bytes u = record { whole = refl; within = omega arith; took = took_none g s u }
 
   -- one more piece
   pub bytes_more : (old now new : X) (done end : ℕ) (bytes longer piece : List ℕ) → end % 8 ≡ 0 → end ≤ length longer

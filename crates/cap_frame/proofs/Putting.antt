@@ -6,7 +6,7 @@ use Rattle.std.proofs.Math.Seq.{drop-cons}
 use Rattle.std.proofs.lemmas.List.{length-map}
 use Rattle.std.specs.Io.KnownBytes.{Keeps}
 use Rattle.std.specs.Prelude.{slice_get}
-use Rattle.std.proofs.KnownBytes.{Keeps-refl, Keeps-trans}
+use Rattle.std.proofs.KnownBytes.{Keeps-trans}
 use Rattle.cap_words.specs.Sinks.{Begins, StoppedPutting, WasPut}
 use Rattle.cap_words.specs.Ends.{Failures, DeviceFails, GrowthFails, WasSpent}
 use Rattle.cap_words.specs.declared.sinks.WordSink as sink
@@ -90,14 +90,6 @@ module _ {K : Type 0} (g : sink.Ghosts K) where
     pub done : List ℕ
     pub whole : all ≡ done ++ rest
     pub puts : Puts g old now done
-
-  -- none was put
-  pub leaves_all : (s : K) (all : List ℕ) → g.closed s ≡ false → Leaves s s all all
-  leaves_all s all o = record {
-    done = [];
-    whole = refl;
-    puts = record { put = λ ws. Keeps-refl (g.text s ws); was_open = o; is_open = o; spent = refl; none_failed = refl };
-  }
 
   -- the next ones were put
   pub leaves_less : (old now new : K) (all rest front less : List ℕ) → rest ≡ front ++ less → Leaves old now all rest → Puts g now new front

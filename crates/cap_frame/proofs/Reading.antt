@@ -108,8 +108,3 @@ module _ {X : Type 0} (g : source.Ghosts X) (is : List (List ℕ) → Type 0) (l
   frame_stopped fault f e n table within stops reads =
       let faults = subst (Faults g limit old new) (sym e) (behind_contents g limit old mid new sizes fault table n.works within stops) in
       no_frame g is limit old new (Err f) (λ i. absurd (cc)) (next_later g limit old mid new (Err f) n reads tt faults (λ i. absurd (cc)))
-
--- what is said of a message may be said otherwise
-pub read_as : {X : Type 0} (g : source.Ghosts X) (is other : List (List ℕ) → Type 0) (limit : ℕ) (old new : X) (r : Result Bool FrameFault)
-    → ((m : List (List ℕ)) → is m → other m) → ReadsFrame g is limit old new r → ReadsFrame g other limit old new r
-read_as g is other limit old new r h f = read_frame g other limit old new r (λ e. let t = f.message e in (t.0, t.1, h t.0 t.2)) f.next

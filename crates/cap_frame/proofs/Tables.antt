@@ -1,5 +1,5 @@
 -- Reading the table of segments word by word.
-use Rattle.std.proofs.Common.{◌≡◌, ◌∙◌, ℕ, ◌+◌, ◌*◌, ◌/◌, ◌%◌, ◌^◌, ◌<◌, false, List, [], ◌∷◌, ◌++◌, length, take}
+use Rattle.std.proofs.Common.{◌≡◌, ◌∙◌, ℕ, ◌+◌, ◌*◌, ◌/◌, ◌%◌, ◌^◌, ◌<◌, List, [], ◌∷◌, ◌++◌, length, take}
 use Rattle.std.proofs.Common.{flat_map, refl, sym, ap, arith, length-append}
 use Rattle.std.specs.List.{AllByRecursion}
 use Rattle.std.proofs.lemmas.List.{length-take, take_all}
@@ -11,7 +11,7 @@ use Rattle.cap_spec.specs.Words.{IsWord}
 use Rattle.cap_spec.proofs.Frames.Framing.{length_halves}
 use Rattle.cap_spec.proofs.Bytes.Lists.{all_append}
 use Rattle.cap_frame.specs.Taking.{Takes, Reads, IsUsable, Stops}
-use Rattle.cap_frame.proofs.Taking.{Took, took_more, took_none, took_stop}
+use Rattle.cap_frame.proofs.Taking.{Took, took_more, took_stop}
 
 -- the numbers of a table: those of its further words, behind the high half of its first
 abbrev pub behind : ℕ → List ℕ → List ℕ
@@ -28,16 +28,6 @@ module _ {X : Type 0} (g : source.Ghosts X) where
     pub took : Took g old now more
     pub fit : AllByRecursion IsWord more
     pub sizes_are : sizes ≡ take (first % 2 ^ 32 + 1) (behind first more)
-
-  -- only the first word was read
-  pub table_start : (first : ℕ) (s : X) (sizes : List ℕ) → g.spent s ≡ false → sizes ≡ first / 2 ^ 32 ∷ [] → TableSoFar first 0 s s sizes
-  table_start first s sizes u e = record {
-    more = [];
-    length_is = refl;
-    took = took_none g s u;
-    fit = tt;
-    sizes_are = e ∙ sym (take_all (first % 2 ^ 32 + 1) (first / 2 ^ 32 ∷ []) (omega arith));
-  }
 
   -- one more word
   pub table_more : (first many : ℕ) (old now new : X) (sizes longer : List ℕ) (word : ℕ) → word < 2 ^ 64 → many < (first % 2 ^ 32 + 1) / 2

@@ -4,7 +4,7 @@ use Rattle.std.proofs.Common.{length, take, drop, refl, sym, ap, subst, arith, a
 use Rattle.std.proofs.Common.{length-drop, take-append-drop, false}
 use Rattle.std.proofs.lemmas.List.{length-take-le, take_rest}
 use Rattle.std.specs.Io.KnownBytes.{Keeps}
-use Rattle.std.proofs.KnownBytes.{Keeps-refl, Keeps-trans}
+use Rattle.std.proofs.KnownBytes.{Keeps-trans}
 use Rattle.byteorder.specs.Endian.{IsRead, little_number}
 use Rattle.cap_spec.specs.Plain.{plain_words}
 use Rattle.cap_spec.proofs.Bytes.Plain.{plain_short}
@@ -68,10 +68,6 @@ module _ {K : Type 0} (text : K → List ℕ → Option (List ℕ)) (taken : K �
     pub is_open : closed now ≡ false
     pub same_spent : spent now ≡ spent old
     pub none_failed : failures now ≡ failures old
-
-  -- none was put
-  pub put_none : (s : K) (all : List ℕ) → closed s ≡ false → PutSoFar s s all all
-  put_none s all o = record { done = []; whole = refl; put = λ ws. Keeps-refl (text s ws); is_open = o; same_spent = refl; none_failed = refl }
 
   -- the next ones were put
   pub put_more : (old now new : K) (all rest less xs : List ℕ) → rest ≡ xs ++ less → PutSoFar old now all rest → WasPut text now new xs

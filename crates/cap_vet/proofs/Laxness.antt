@@ -1,22 +1,18 @@
 -- What a walk knows of lax pointers, and which messages are strict.
-use Rattle.std.proofs.Common.{ℕ, ◌+◌, ◌<◌, ◌≤◌, ◌≡◌, ◌≢◌, List, [], ◌∷◌, length, inl, inr, refl, ap}
+use Rattle.std.proofs.Common.{ℕ, ◌<◌, ◌≤◌, ◌≡◌, List, [], ◌∷◌, length, inl, inr}
 use Rattle.std.proofs.Common.{subst, arith, Option, None, Some}
-use Rattle.std.specs.Prelude.{false, is_some, pos}
-use Rattle.cap_spec.specs.Following.{Lead, Leads, to_cap, to_null, to_object}
-use Rattle.cap_spec.specs.Messages.{HasWord, IsMessage, segment_of}
+use Rattle.std.specs.Prelude.{false, is_some}
+use Rattle.cap_spec.specs.Messages.{HasWord, IsMessage}
 use Rattle.cap_spec.specs.Paths.{Before, Costs}
 use Rattle.cap_spec.specs.Pointers.{far_segment, kind, pad, two}
 use Rattle.cap_spec.specs.Strict.{IsFirstLax, IsLax, IsLaxAt, IsStrict, IsWithin}
 use Rattle.cap_spec.specs.declared.Lax.{Lax}
-use Rattle.cap_spec.specs.declared.Lax.TheVariants.{CapabilityPad, EmptySegment, NullPad}
+use Rattle.cap_spec.specs.declared.Lax.TheVariants.{CapabilityPad, NullPad}
 use Rattle.cap_spec.specs.declared.Step.{Step}
-use Rattle.cap_spec.proofs.Disjoint.Places.{pads_inside}
-use Rattle.cap_spec.proofs.Frames.Messages.{HasWord-at}
 use Rattle.cap_spec.proofs.Paths.Preorder.{Before-irreflexive}
-use Rattle.cap_spec.proofs.Pointers.Following.{leads-two}
 use Rattle.cap_spec.proofs.Strict.Faults.{strict_kept, strict_wider}
 use Rattle.cap_spec.proofs.Strict.FirstLax.{first_by_tour, first_is_lax}
-use Rattle.cap_spec.proofs.Strict.Looking.{cap_pad, empty_pad, filled_pad, zero_pad}
+use Rattle.cap_spec.proofs.Strict.Looking.{cap_pad, zero_pad}
 use Rattle.cap_vet.specs.StrictNulls.{not_lax_path, still_knows}
 use Rattle.cap_vet.specs.Limits.{depth_of, words_of}
 use Rattle.cap_vet.specs.Reports.{IsAccepted, IsVetted}
@@ -30,17 +26,6 @@ use Rattle.cap_vet.proofs.Keeping.{vetted_kept}
 use Rattle.cap_vet.proofs.Tours.{in_order, in_order-IsOneOf, length-in_order, tour_of}
 use Rattle.cap_vet.proofs.Verdicts.{accepted_at_end, none_ahead}
 
--- a pointer that can be followed leads somewhere
-leads_of : (m : List (List ℕ)) (s w cost : ℕ) → Costs m s w cost → (k : ℕ) × (r : Lead) × Leads m s w k r
-leads_of m s w cost (inl h) = (cost, to_null, h)
-leads_of m s w cost (inr (inl (i, h))) = (cost, to_cap i, h)
-leads_of m s w cost (inr (inr (k, t, b, q, tag, f, has, e))) = (k, to_object t (pos b) q, f.leads)
-
--- its landing pad is inside its segment
-pub pad_there : (m : List (List ℕ)) (s w p cost : ℕ) → Costs m s w cost → HasWord m s w p → kind p ≡ 2
-    → (far_segment p < length m) × (pad p + (1 + two p) ≤ length (segment_of m (far_segment p)))
-pad_there m s w p cost h has far = let l = leads_of m s w cost h in pads_inside m s w l.0 p l.1 l.2 has far
-
 -- It has a one-word pad q, at t:b.
 module _ (m : List (List ℕ)) (s w p t b q : ℕ) (has : HasWord m s w p) (far : kind p ≡ 2) (one : two p ≡ 0)
     (segment : t ≡ far_segment p) (at : b ≡ pad p) (hasq : HasWord m t b q) where
@@ -52,41 +37,6 @@ module _ (m : List (List ℕ)) (s w p t b q : ℕ) (has : HasWord m s w p) (far 
 
   pub cap_form : (cost : ℕ) → Costs m s w cost → kind q ≡ 3 → IsLaxAt m s w CapabilityPad
   cap_form cost costs e = cap_pad m s w p q has (far, one) own cost costs e
-
-no_words : (xs : List ℕ) → length xs ≡ 0 → xs ≡ []
-no_words [] e = refl
-no_words (x ∷ xs) e = absurd (omega arith)
-
--- It has a two-word pad, whose first word is f.
-module _ (m : List (List ℕ)) (s w p f cost : ℕ) (costs : Costs m s w cost) (has : HasWord m s w p) (far : kind p ≡ 2)
-    (both : two p ≡ 1) (hasf : HasWord m (far_segment p) (pad p) f) where
-  second : (q : ℕ) × HasWord m (far_segment p) (pad p + 1) q
-  second = HasWord-at m (far_segment p) (pad p + 1) (omega (arith, both, (pad_there m s w p cost costs has far).1))
-
-  -- its object's segment exists
-  pub object_segment : far_segment f < length m
-  object_segment = by costs
-    where
-      by : Costs m s w cost → far_segment f < length m
-      by (inl h) =
-          let x : to_null ≡ to_object (far_segment f) (pos (pad f)) second.0 =
-          (leads-two m s w cost to_null h p f second.0 has (far, both) hasf second.1).1 in absurd cc
-      by (inr (inl (i, h))) =
-          let x : to_cap i ≡ to_object (far_segment f) (pos (pad f)) second.0 =
-          (leads-two m s w cost (to_cap i) h p f second.0 has (far, both) hasf second.1).1 in absurd cc
-      by (inr (inr (k, t, b, y, tag, finds, tagged, sum))) =
-          let x : to_object t (pos b) y ≡ to_object (far_segment f) (pos (pad f)) second.0 =
-          (leads-two m s w k (to_object t (pos b) y) finds.leads p f second.0 has (far, both) hasf second.1).1 in
-          let z : t ≡ far_segment f = cc x in
-          subst (λ u. u < length m) z finds.sits.exists
-
-  -- it has words, or it hasn't
-  pub into_empty : length (segment_of m (far_segment f)) ≡ 0 → IsLaxAt m s w EmptySegment
-  into_empty e = empty_pad m s w p f second.0 has (far, both) hasf second.1 cost costs
-      (no_words (segment_of m (far_segment f)) e)
-
-  pub into_filled : length (segment_of m (far_segment f)) ≢ 0 → (what : Lax) → ¬ IsLaxAt m s w what
-  into_filled n = filled_pad m s w p f second.0 has (far, both) hasf second.1 (λ e. n (ap length e))
 
 -- The next pointer isn't lax,
 pub knows_on : (m : List (List ℕ)) (seen : List (List Step)) (a : Ahead) (s w n : ℕ) (found : Option LaxPointer)

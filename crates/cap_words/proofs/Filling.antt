@@ -163,20 +163,6 @@ module _ {X : Type 0} (g : source.Ghosts X) where
         not_failed = λ x. absurd (not_failed x);
       }
 
-  -- nothing yet
-  pub filled_none : (s : X) (out : List ℕ) → FilledSoFar s s 0 out
-  filled_none s out = record {
-    whole = refl;
-    within = omega arith;
-    text = refl;
-    takes = record { consumed = Consumes-nil (g.words s); goes_on = on_some (g.words s) _ (refl, refl) };
-    reads = record { bytes = []; lost = Consumes-nil (g.unread s); counted = omega arith };
-    none = λ e. refl;
-    some = λ few. absurd (omega arith);
-    ended = λ e. refl;
-    failed = λ e. refl;
-  }
-
   -- without a fault so far, and then
   pub works_both : (old now new : X) (done : ℕ) (out : List ℕ) → FilledSoFar old now done out →
       Works (g.spent now) (g.spent new) (g.failures now) (g.failures new)
