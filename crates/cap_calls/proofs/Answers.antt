@@ -1,5 +1,5 @@
 -- The bytes decide what each call finds.
-use Rattle.std.proofs.Common.{ℕ, ap₂, List, [], ◌∷◌, ◌≡◌, ◌∙◌, ◌<◌, ◌≤◌, ◌+◌, ◌*◌, ap, sym, subst, refl, length, Option}
+use Rattle.std.proofs.Common.{ℕ, ap₂, List, [], ◌∷◌, ◌≡◌, ◌∙◌, ◌*◌, ap, sym, subst, refl, length, Option}
 use Rattle.std.proofs.Common.{None, Result, Ok, Err}
 use Rattle.std.specs.Prelude.{◌-◌, Bool, ⊤, not, true}
 use Rattle.cap_spec.proofs.Frames.Framing.{one_frame}
