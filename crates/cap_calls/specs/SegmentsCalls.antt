@@ -5,7 +5,7 @@ use Rattle.cap_calls.specs.declared.slices.SlicesFault.{SlicesFault}
 use Rattle.cap_calls.specs.declared.slices.SlicesFault.TheVariants as fault
 use Rattle.cap_calls.specs.CallFindings.{Judges, Returns, framed_found, none_found}
 use Rattle.cap_calls.specs.CallFlags.{demands_of}
-use Rattle.cap_calls.specs.CallFrames.{AreLimits}
+use Rattle.cap_calls.specs.CallFrames.{AreLimits, HasFrame}
 use Rattle.cap_calls.specs.CallReports.{none_report}
 use Rattle.cap_calls.specs.Calls.{IsGood}
 use Rattle.cap_calls.specs.declared.answer.Answer.{Answer}
@@ -44,6 +44,11 @@ pub data FindsSegments (l : CallLimits) (parts : List (List ℕ)) (f : Found) : 
       → Judges (demands_of l) ⊤ IsGood (segments_in parts) l.charge l.depth g
       → f ≡ framed_found (8 * words_in parts) (length parts) g
       → FindsSegments l parts f
+
+-- the bytes are a frame of these segments, within the limits
+abbrev pub FramesParts : CallLimits → List (List ℕ) → List ℕ → Type 0
+FramesParts l parts bytes = AreSegments l.message_words parts
+    × ((n : ℕ) × HasFrame l bytes (length bytes) n (segments_in parts))
 
 abbrev pub TellsSegments : CallLimits → List (List ℕ) → Answer → CallReport → Type 0
 TellsSegments l parts a r = (f : Found) × FindsSegments l parts f × Returns f a r

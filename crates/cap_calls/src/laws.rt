@@ -3,10 +3,8 @@
 
 ghost use Rattle.cap_calls.specs.CallFindings.{JudgesAny, Returns, Tells, TellsWhole};
 ghost use Rattle.cap_calls.specs.CallFlags.{AllowsMore};
-ghost use Rattle.cap_calls.specs.CallFrames.{HasFrame};
 ghost use Rattle.cap_calls.specs.CallInputs.{AreInputLimits};
-ghost use Rattle.cap_calls.specs.SegmentsCalls.{TellsSegments};
-ghost use Rattle.cap_calls.specs.Slices.{AreSegments, segments_in};
+ghost use Rattle.cap_calls.specs.SegmentsCalls.{FramesParts, TellsSegments};
 ghost use Rattle.cap_calls.specs.Calls.{IsCheck, IsGood, TellsCheck, TellsVet};
 ghost use Rattle.cap_calls.specs.CanonicalCalls.{TellsAnyCopy, TellsCopy};
 ghost use Rattle.cap_calls.specs.ExclusiveCalls.{MarksAny, TellsExclusive};
@@ -45,8 +43,7 @@ pub fn wider_limits_accept_as_much()
 /// What [`crate::vet_segments`] returns of separate segments, [`crate::vet`] returns of the bytes that
 /// frame them, with the same report apart from its length.
 pub fn separate_segments_are_vetted_as_framed()
-    ensures { (l : CallLimits) (parts : List (List ℕ)) (bytes : List ℕ) (n : ℕ) (a : Answer)
-        (r : CallReport) → AreSegments l.message_words parts →
-        HasFrame l bytes (length bytes) n (segments_in parts) → TellsSegments l parts a r →
+    ensures { (l : CallLimits) (parts : List (List ℕ)) (bytes : List ℕ) (a : Answer)
+        (r : CallReport) → FramesParts l parts bytes → TellsSegments l parts a r →
         TellsVet l bytes a (record r { length = length bytes }) }
 {}

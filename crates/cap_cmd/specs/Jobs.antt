@@ -52,6 +52,9 @@ is_packed Canon told = told
 is_packed Pack told = false
 is_packed Unpack told = true
 
+abbrev pub reads_packed : Job → Bool
+reads_packed job = is_packed job.task job.packed
+
 -- the words of an input that is packed or not, where its bytes are known
 abbrev pub input_words : Bool → Option (List ℕ) → Option (List ℕ)
 input_words packed bytes = if packed then option_map unpacked bytes

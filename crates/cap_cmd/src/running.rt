@@ -1,6 +1,6 @@
 //! Doing a job: its engine is run over an input, an output and an output for faults.
 
-ghost use Rattle.cap_cmd.specs.Jobs.{CanonsTo, CopiesTo, DoesJob, DoesTask, ReportsCopy, ReportsRun, WritesAll, input_is_cut, input_words, is_packed};
+ghost use Rattle.cap_cmd.specs.Jobs.{CanonsTo, CopiesTo, DoesJob, DoesTask, ReportsCopy, ReportsRun, WritesAll, input_is_cut, input_words, reads_packed};
 ghost use Rattle.cap_run.specs.Engines.{most_packed_at_once, most_unpacked_at_once};
 ghost use Rattle.cap_spec.specs.Packing.{pack_text};
 ghost use Rattle.cap_spec.specs.Plain.{plain_text};
@@ -22,7 +22,7 @@ const MOST_WORDS: u64 = 1099511627776;
 
 /// Whether the input of a job is packed.
 fn input_is_packed(job: &Job) -> bool
-    ensures { result ≡ is_packed job.now.task job.now.packed }
+    ensures { result ≡ reads_packed job.now }
 {
     match &job.task {
         Task::Segments | Task::Vet { .. } | Task::Dump | Task::Get { .. } => job.packed,
@@ -199,17 +199,17 @@ pub fn run_job<I: ByteIn + Drop, O: ByteOut, E: ByteOut>(
 ) -> (u8, O)
     // There is an answer of the task's engine that meets the engine's contract.
     // The status and the line of a fault report it.
-    ensures plain { let j = job.now in is_packed j.task j.packed ≡ false →
+    ensures plain { let j = job.now in reads_packed j ≡ false →
         DoesJob I.ByteIn ⟦<PlainWords<I> as WordSource>⟧ O.ByteOut E.ByteOut
         ⟦<Packer<O> as WordSink>⟧ ⟦<PlainSink<O> as WordSink>⟧
         false j input out result.1 err.old err.new result.0 }
-    ensures packed { let j = job.now in is_packed j.task j.packed ≡ true →
+    ensures packed { let j = job.now in reads_packed j ≡ true →
         DoesJob I.ByteIn ⟦<Unpacker<I> as WordSource>⟧ O.ByteOut E.ByteOut
         ⟦<Packer<O> as WordSink>⟧ ⟦<PlainSink<O> as WordSink>⟧
         true j input out result.1 err.old err.new result.0 }
     // So with status 0 all of the input was read, and exactly this was written.
     ensures success { result.0 ≡ 0 →
-        let j = job.now in let packed = is_packed j.task j.packed in
+        let j = job.now in let packed = reads_packed j in
         WritesAll j.task j.settings j.demands (input_words packed (I.to_come input))
         (input_is_cut packed (I.to_come input)) (O.written out) (O.written result.1) }
 {

@@ -7,7 +7,9 @@ use Rattle.cap_spec.specs.declared.Step.{Step}
 use Rattle.cap_spec.specs.declared.StrictRefusal.{StrictRefusal}
 use Rattle.cap_spec.specs.declared.StrictRefusal.TheVariants.{Refused as bad, ManySegments, Pointer}
 use Rattle.cap_vet.specs.Demands.{IsDemandFault, words_under}
+use Rattle.cap_vet.specs.Limits.{depth_of, words_of}
 use Rattle.cap_vet.specs.declared.demands.Demands.{Demands}
+use Rattle.cap_vet.specs.declared.limits.Limits.{Limits}
 use Rattle.cap_run.specs.Checking.{TellsChecked}
 use Rattle.cap_run.specs.Telling.{Tells}
 use Rattle.cap_run.specs.Vetting.{TellsAccepted, TellsNode, TellsOverlap, TellsTree, WantsMarks}
@@ -50,6 +52,13 @@ abbrev pub WantsUnder : Demands → (ℕ → ℕ → List (List ℕ) → Type 0)
     → Type 0
 WantsUnder demands wants words depth m = IsStrictUnder demands m words depth
     × wants (words_under demands m words) depth m
+
+-- both under the limits of the charge and of the depth
+abbrev pub OrFaultIn : Demands → (ℕ → ℕ → Tells) → Limits → Tells
+OrFaultIn demands tells limits = OrFault demands tells (words_of limits) (depth_of limits)
+
+abbrev pub WantsIn : Demands → (ℕ → ℕ → List (List ℕ) → Type 0) → Limits → List (List ℕ) → Type 0
+WantsIn demands wants limits = WantsUnder demands wants (words_of limits) (depth_of limits)
 
 -- the line of `vet`
 abbrev pub TellsVerdictUnder : Demands → ℕ → ℕ → Tells

@@ -5,6 +5,7 @@ ghost use Rattle.cap_spec.specs.Faults.{IsRefused};
 ghost use Rattle.cap_spec.specs.Messages.{segment_of};
 ghost use Rattle.cap_spec.specs.Frames.{sizes_of};
 ghost use Rattle.cap_spec.specs.Occupying.{IsDisjoint, IsFirstOverlap, empty_count};
+ghost use Rattle.cap_spec.specs.Strict.{IsWithin};
 ghost use Rattle.cap_spec.specs.Tree.{Tree};
 ghost use Rattle.cap_spec.specs.declared.Refusal.{Refusal};
 ghost use Rattle.cap_vet.specs.Exclusives.{OverlapsFirst, vetted_of};
@@ -97,8 +98,8 @@ pub fn vet_exclusive<'m, M: Segments>(
     ensures accepts { let m = M.segments message.now in (t : Tree) (c d : ℕ) →
         Denotes m 0 0 t c d → c ≤ words_of limits → d ≤ depth_of limits →
         IsDisjoint m → IsOk result ⊎ (result ≡ Err ExclusiveRefusal.Memory) }
-    ensures names { let m = M.segments message.now in (t : Tree) (c d s w n : ℕ) →
-        Denotes m 0 0 t c d → c ≤ words_of limits → d ≤ depth_of limits → IsFirstOverlap m s w n →
+    ensures names { let m = M.segments message.now in (s w n : ℕ) →
+        IsWithin m (words_of limits) (depth_of limits) → IsFirstOverlap m s w n →
         (result ≡ Err (ExclusiveRefusal.Overlap s w n)) ⊎ (result ≡ Err ExclusiveRefusal.Memory) }
 {
     match vet(message, limits) {

@@ -1,6 +1,6 @@
 //! The engine that writes for each message whether it is accepted and uses no word twice.
 
-ghost use Rattle.cap_run.specs.Demanding.{TellsExclusiveUnder, TellsMarked, WantsMarksUnder};
+ghost use Rattle.cap_run.specs.Demanding.{OrFaultIn, TellsMarked, WantsIn};
 ghost use Rattle.cap_run.specs.Engines.{TellsStream};
 ghost use Rattle.cap_run.specs.Vetting.{TellsExclusive, WantsMarks};
 ghost use Rattle.cap_frame.specs.Limit.{limit_of};
@@ -129,9 +129,8 @@ pub fn run_vet_exclusive_with<S: WordSource, O: ByteOut>(
     settings: &Settings,
     demands: Demands,
 ) -> Result<Outcome, RunFault>
-    ensures { let s = settings.now in let w = words_of s.limits in let d = depth_of s.limits in
-        TellsStream S.WordSource O.ByteOut
-        (TellsExclusiveUnder demands w d) (WantsMarksUnder demands w d)
+    ensures { let s = settings.now in TellsStream S.WordSource O.ByteOut
+        (OrFaultIn demands TellsMarked s.limits) (WantsIn demands WantsMarks s.limits)
         (limit_of s.size) s.messages source.old source.new out.old out.new result }
 {
     let teller = ExclusiveTeller { alloc };

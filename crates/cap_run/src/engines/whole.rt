@@ -1,10 +1,9 @@
 //! Writing a text about each message of a stream, with the whole message in memory.
 
 ghost use Rattle.cap_frame.specs.Limit.{limit_of};
-ghost use Rattle.cap_run.specs.Demanding.{OrFault, WantsUnder};
+ghost use Rattle.cap_run.specs.Demanding.{OrFaultIn, WantsIn};
 ghost use Rattle.cap_run.specs.Engines.{TellsStream};
 ghost use Rattle.cap_run.specs.Running.{WritesOneOf, counted_after};
-ghost use Rattle.cap_vet.specs.Limits.{depth_of, words_of};
 ghost use Rattle.cap_vet.specs.Reports.{IsReport};
 ghost use Rattle.cap_vet.specs.Vettings.{message_of, report_of};
 ghost use Rattle.cap_spec.specs.Tree.{Tree};
@@ -42,10 +41,10 @@ pub(crate) trait Teller {
         number: u32,
         vetted: &Vetted<'_, M>,
     ) -> Result<Counted, Cause>
-        ensures { (words depth : ℕ) (t : Tree) → let m = M.segments (message_of vetted.now) in
-            IsReport m words depth (report_of vetted.now) t →
-            WritesOneOf O.ByteOut (tells self.now words depth number m)
-            (wants self.now words depth m) out.old out.new result };
+        ensures { (w d : ℕ) (t : Tree) → let m = M.segments (message_of vetted.now) in
+            IsReport m w d (report_of vetted.now) t →
+            WritesOneOf O.ByteOut (tells self.now w d number m) (wants self.now w d m)
+            out.old out.new result };
 }
 
 /// What is counted of a message whose text was written, or the fault of the output.
@@ -82,9 +81,8 @@ impl<T: Teller> Vetting<T> {
         message: &M,
     ) -> Result<Counted, Cause>
         ensures { let m = M.segments message.now in let v = self.now in
-            let words = words_of v.limits in let depth = depth_of v.limits in
-            WritesOneOf O.ByteOut (OrFault v.demands (T.tells v.teller) words depth number m)
-            (WantsUnder v.demands (T.wants v.teller) words depth m) out.old out.new result }
+            WritesOneOf O.ByteOut (OrFaultIn v.demands (T.tells v.teller) v.limits number m)
+            (WantsIn v.demands (T.wants v.teller) v.limits m) out.old out.new result }
     {
         match vet_with(message, self.limits, self.demands) {
             Ok(vetted) => self.teller.tell(page, out, number, &vetted),
@@ -112,10 +110,10 @@ struct Whole<T> {
 
 impl<T: Teller> Engine for Whole<T> {
     ghost tells = { λ w. let v = w.vetting in
-        OrFault v.demands (T.tells v.teller) (words_of v.limits) (depth_of v.limits) };
+        OrFaultIn v.demands (T.tells v.teller) v.limits };
 
     ghost wants = { λ w. let v = w.vetting in
-        WantsUnder v.demands (T.wants v.teller) (words_of v.limits) (depth_of v.limits) };
+        WantsIn v.demands (T.wants v.teller) v.limits };
 
     ghost takes_memory = { true };
 
@@ -161,10 +159,9 @@ pub(crate) fn vet_all<S: WordSource, O: ByteOut, T: Teller + Drop>(
     demands: Demands,
     teller: T,
 ) -> Result<Outcome, RunFault>
-    ensures { let s = settings.now in let words = words_of s.limits in
-        let depth = depth_of s.limits in TellsStream S.WordSource O.ByteOut
-        (OrFault demands (T.tells teller) words depth)
-        (WantsUnder demands (T.wants teller) words depth)
+    ensures { let s = settings.now in TellsStream S.WordSource O.ByteOut
+        (OrFaultIn demands (T.tells teller) s.limits)
+        (WantsIn demands (T.wants teller) s.limits)
         (limit_of s.size) s.messages source.old source.new out.old out.new result }
 {
     let vetting = Vetting {

@@ -23,7 +23,7 @@ returns-in-Ok-clause-bound g c =
     c.into_exclusive.result c.into_exclusive.ensures.value c.into_exclusive.ensures.ok
 
 pub returns-in-Ok-clause-names : goal.returns-in-Ok-clause-names
-returns-in-Ok-clause-names g c = λ t charge d s w n h e f first.
+returns-in-Ok-clause-names g c = λ s w n within first.
     c.into_exclusive.ensures.names s w n
     (subst (λ u. IsFirstOverlap (g.M.Segments.segments u) s w n) (sym c.in-Ok.ensures.message) first)
 
@@ -46,9 +46,9 @@ returns-in-Err-clause-accepts g c =
 
 pub returns-in-Err-clause-names : goal.returns-in-Err-clause-names
 returns-in-Err-clause-names g c =
-    λ t charge d s w n h e f first. absurd (tree_not_refused (g.M.Segments.segments c.args.message.now) t charge d
+    λ s w n h first. absurd (tree_not_refused (g.M.Segments.segments c.args.message.now) h.tree h.charge h.levels
     (words_of c.args.limits)
-    (depth_of c.args.limits) c.in-Err.refusal h e f c.in-Err.ensures.err)
+    (depth_of c.args.limits) c.in-Err.refusal h.denotes h.few_words h.few_levels c.in-Err.ensures.err)
 
 pub returns-in-Err-clause-refused : goal.returns-in-Err-clause-refused
 returns-in-Err-clause-refused g c = λ r e.
