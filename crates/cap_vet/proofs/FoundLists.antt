@@ -1,16 +1,15 @@
--- Which lists a word describes, alone or with the list's tag.
-use Rattle.std.proofs.Common.{ℕ, ◌+◌, ◌*◌, ◌^◌, ◌<◌, ◌≤◌, ◌≡◌, ◌==◌, false, List, length, pos, refl, sym, arith}
+-- Which lists of structs a word describes with the list's tag.
+use Rattle.std.proofs.Common.{ℕ, ◌+◌, ◌*◌, ◌^◌, ◌<◌, ◌≤◌, ◌≡◌, ◌==◌, false, List, length, pos, refl, arith}
 use Rattle.std.proofs.lemmas.Bool.{ne_eqb}
 use Rattle.cap_spec.specs.Messages.{HasWord, segment_of}
-use Rattle.cap_spec.specs.Following.{extra}
 use Rattle.cap_spec.specs.Pointers.{code, data_size, extent, kind, list_size, middle, pointer_size}
 use Rattle.cap_spec.proofs.Canonical.PointerFields.{start_after}
 use Rattle.cap_spec.proofs.Trees.Charges.{extent_structs}
 use Rattle.cap_ptr.specs.Reaching.{LeadsTo, StandsFor}
 use Rattle.cap_ptr.specs.Shapes.{FindsTarget}
-use Rattle.cap_ptr.specs.declared.shapes.Shape.TheVariants.{Scalars, Structs}
-use Rattle.cap_ptr.proofs.Objects.{found-plain, found-structs}
-use Rattle.cap_ptr.proofs.Pads.{object-lead, stands-near}
+use Rattle.cap_ptr.specs.declared.shapes.Shape.TheVariants.{Structs}
+use Rattle.cap_ptr.proofs.Objects.{found-structs}
+use Rattle.cap_ptr.proofs.Pads.{object-lead}
 
 -- a list after the word that takes the place of its pointer word
 list_lead : (m : List (List ℕ)) (s w k t at q start : ℕ) → StandsFor m s w k t at q → kind q ≡ 1 → middle q < 2 ^ 29 → start ≡ at + 1 + middle q
@@ -41,25 +40,4 @@ structs_found m s w k t at q start tag size count d p stands there few list c be
       tag,
       found-structs m s w k t start q (list_lead m s w k t at q start stands list behind start_is) there tag size count d p 0 (1 + size) (k + 1 + size)
           few within (list, c) has_tag size_is tag_kind count_is d_is p_is fits' (rw have refl) (omega arith) refl (omega arith),
-    )
-
--- a list of elements without bits takes no words,
-void_extent : (q : ℕ) → kind q ≡ 1 → code q ≡ 0 → extent q ≡ 0
-void_extent q list c = rw (list, c) (omega arith)
-
--- and is charged one for each
-void_extra : (q : ℕ) → kind q ≡ 1 → code q ≡ 0 → extra q 0 ≡ list_size q
-void_extra q list c = rw (list, c) refl
-
-pub void_found : (m : List (List ℕ)) (s w q start count : ℕ) → HasWord m s w q → s < length m → kind q ≡ 1 → code q ≡ 0
-    → middle q < 2 ^ 29 → start ≡ w + 1 + middle q → start ≤ length (segment_of m s) → count ≡ list_size q
-    → FindsTarget m s w record { segment = s; start = start; words = 0; pads = 0; charge = count; shape = Scalars 0 count }
-void_found m s w q start count has there list c behind start_is inside count_is =
-    let stands = stands-near m s w q has (λ x. omega (arith, list, x)) in (
-      q,
-      0,
-      found-plain m s w 0 s start q (list_lead m s w 0 s w q start stands list behind start_is) there count 0 count (Scalars 0 count)
-          (omega arith) (λ x. omega (arith, x.1, c)) (sym (void_extent q list c)) (omega arith) (omega (arith, inside))
-          (omega (arith, count_is, void_extra q list c)) (omega (arith, count_is)) (omega arith)
-          (record { kind = list; code = sym c; scalar = omega arith; count = count_is }),
     )

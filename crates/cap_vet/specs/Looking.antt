@@ -1,5 +1,5 @@
 -- What comes of looking at one pointer word of a walk (profile).
-use Rattle.std.specs.Prelude.{ℕ, ◌+◌, ◌≤◌, ◌≡◌, ◌==◌, if◌then◌else◌, List, [], Option, None, Some, ⊤}
+use Rattle.std.specs.Prelude.{ℕ, ◌+◌, ◌<◌, ◌≤◌, ◌≡◌, ◌==◌, if◌then◌else◌, List, [], Option, None, Some, ⊤}
 use Rattle.cap_spec.specs.Messages.{HasWord}
 use Rattle.cap_spec.specs.Pointers.{kind, middle, code, data_size, pointer_size, list_size, extent}
 use Rattle.cap_spec.specs.Following.{Leads, to_null, to_cap, extra, IsComposite}
@@ -7,6 +7,7 @@ use Rattle.cap_spec.specs.Denoting.{Finds, element_levels}
 use Rattle.cap_spec.specs.Verdicts.{levels_below}
 use Rattle.cap_spec.specs.declared.Step.{Step}
 use Rattle.cap_spec.specs.declared.Step.TheVariants.{Ptr, Item}
+use Rattle.cap_ptr.specs.Reaching.{StandsFor}
 use Rattle.cap_ptr.specs.Shapes.{IsFollowed, charge_of}
 use Rattle.cap_ptr.specs.declared.shapes.Followed.{Followed}
 use Rattle.cap_ptr.specs.declared.shapes.Followed.TheVariants as followed
@@ -35,6 +36,10 @@ object_children base q tag t b level =
 abbrev pub FrameRises : ℕ → ℕ → Option PointerRun → Type 0
 FrameRises level depth None = ⊤
 FrameRises level depth (Some f) = (level + 1 ≤ f.level) × (f.level ≤ depth + 1)
+
+-- the word at t:b takes the place of the pointer word at s:w, over k pads, if it is that of an object
+abbrev pub MayStandFor : List (List ℕ) → ℕ → ℕ → ℕ → ℕ → ℕ → Type 0
+MayStandFor m s w k t b = (q : ℕ) → HasWord m t b q → kind q < 2 → StandsFor m s w k t b q
 
 -- An object is found, which keeps to the limits. Its pointer words are those of the frame.
 pub record LooksObject (m : List (List ℕ)) (words depth spent s w level cost deep : ℕ) (frame : Option PointerRun) (k t b q tag : ℕ) : Type 0 where

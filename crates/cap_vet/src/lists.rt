@@ -1,8 +1,7 @@
-//! Lists that a pointer word describes alone, or with the list's tag.
+//! Lists of structs that a pointer word describes with the list's tag.
 
 ghost use Rattle.cap_ptr.specs.Reaching.{StandsFor};
 ghost use Rattle.cap_ptr.specs.Shapes.{FindsTarget};
-ghost use Rattle.cap_spec.specs.Messages.{HasWord};
 ghost use Rattle.cap_spec.specs.Pointers.{kind};
 ghost use Rattle.std.specs.Prelude.{◌<◌, ◌≡◌, ◌≤◌, IfSome, length, ℕ};
 
@@ -23,6 +22,7 @@ pub(crate) fn struct_list<M: Segments>(
     requires exists { segment < length (M.segments message.now) }
     requires pads { pads ≤ 2 }
     ensures list { IfSome result (λ _. kind word ≡ 1) }
+    ensures over { IfSome result (λ x. x.pads ≡ pads) }
     ensures found { let m = M.segments message.now in (s w : ℕ) →
         StandsFor m s w pads segment at word → IfSome result (FindsTarget m s w) }
 {
@@ -56,32 +56,5 @@ pub(crate) fn struct_list<M: Segments>(
             data_words,
             pointers,
         },
-    })
-}
-
-/// The list of elements without bits that word `w` of segment `s` describes, if it lies after the
-/// word (encoding: Lists).
-#[inline(always)]
-pub(crate) fn void_list<M: Segments>(message: &M, s: u32, w: u32, word: u64) -> Option<Target>
-    requires exists { s < length (M.segments message.now) }
-    requires word { HasWord (M.segments message.now) s w word }
-    ensures { IfSome result (FindsTarget (M.segments message.now) s w) }
-{
-    let offset = u64::from(middle(word));
-    if kind(word) != 1 || code(word) != 0 || offset >= 1 << 29 {
-        return None;
-    }
-    let start = u64::from(w) + 1 + offset;
-    if start > u64::from(message.len(s)) {
-        return None;
-    }
-    let count = list_size(word);
-    Some(Target {
-        segment: s,
-        start: start as u32,
-        words: 0,
-        pads: 0,
-        charge: u64::from(count),
-        shape: Shape::Scalars { code: 0, count },
     })
 }

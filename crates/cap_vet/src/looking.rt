@@ -2,17 +2,20 @@
 
 ghost use Rattle.cap_ptr.specs.Reaching.{StandsFor};
 ghost use Rattle.cap_ptr.specs.Rows.{FindsRow};
+ghost use Rattle.cap_ptr.specs.Shapes.{FindsTarget, FindsTargetBy};
 ghost use Rattle.cap_spec.specs.Faults.{IsFirstReason};
-ghost use Rattle.cap_spec.specs.Messages.{segment_of};
+ghost use Rattle.cap_spec.specs.Messages.{IsMessage, segment_of};
+ghost use Rattle.cap_spec.specs.Pointers.{IsCap};
 ghost use Rattle.cap_vet.specs.Limits.{depth_of, words_of};
-ghost use Rattle.cap_vet.specs.Looking.{FollowsWithin, IsLooked, deepest_of};
-ghost use Rattle.std.specs.Prelude.{◌+◌, ◌-◌, ◌<◌, ◌^◌, ◌≡◌, ◌≤◌, IfErr, IfOk, IfSome, List, length, ℕ};
+ghost use Rattle.cap_vet.specs.Looking.{FollowsWithin, IsLooked, MayStandFor, deepest_of};
+ghost use Rattle.std.specs.Prelude.{◌+◌, ◌-◌, ◌<◌, ◌^◌, ◌≡◌, ◌≤◌, ◌↔◌, IfErr, IfOk, IfSome, IsTrue, List, length, ℕ};
 
 use crate::limits::Limits;
+use crate::lists::struct_list;
 use crate::pointer_run::PointerRun;
 use crate::targets::{frame_of, levels_taken, row_frame};
 use cap_frame::Segments;
-use cap_ptr::{Followed, Reason, Row, follow, near_row};
+use cap_ptr::{Followed, Reason, Row, Target, follow, kind, middle, near_row};
 
 /// What a pointer word leads to, within the limits.
 pub(crate) enum Looked {
@@ -66,9 +69,9 @@ fn deepest_level(followed: &Followed, level: u64) -> u64
 
 /// Looks at word `w` of segment `s`, whose target has this level, where `spent` words were charged
 /// before. The error is the first reason that applies.
-// Few words need it, and a walk's loop without it keeps more in registers.
-#[cold]
-#[inline(never)]
+// It is inlined into the function outside of a walk's loop that asks it, so that its result stays in
+// registers.
+#[inline(always)]
 pub(crate) fn look<M: Segments>(
     message: &M,
     limits: &Limits,
@@ -98,8 +101,8 @@ pub(crate) fn look<M: Segments>(
     }
 }
 
-/// Looks at the same word. Returns a result only if it is null, or if the word alone describes its
-/// object, and if that is within the limits.
+/// Looks at the same word. Returns a result only if it is null or a capability, or if it describes
+/// its object, alone or with the tag of a list of structs, and if that is within the limits.
 // A walk asks here first: most words are such, and what they lead to then stays in registers.
 #[inline(always)]
 pub(crate) fn look_near<M: Segments>(
@@ -121,14 +124,56 @@ pub(crate) fn look_near<M: Segments>(
     if word == 0 {
         return Some(Looked::Null(0));
     }
-    let row = near_row(word, w, message.len(s))?;
-    row_within(limits, spent, 0, s, &row, level)
+    if let Some(looked) = described_within(message, limits, spent, 0, s, w, level) {
+        return Some(looked);
+    }
+    if is_cap(word) {
+        return Some(Looked::Cap(0));
+    }
+    None
 }
 
-/// What a pointer word leads to over `pads` words of landing pads, where that is the object of this
-/// row of this segment. Returns a result only if that is within the limits.
+// A word is that of a capability.
 #[inline(always)]
-pub(crate) fn row_within(
+fn is_cap(word: u64) -> bool
+    ensures { IsTrue result ↔ IsCap word }
+{
+    kind(word) == 3 && middle(word) == 0
+}
+
+/// What a pointer word leads to over `pads` words of landing pads, where word `at` of this segment
+/// takes its place. Returns a result only if that word describes the object, alone or with the tag
+/// of a list of structs, and if that is within the limits.
+#[inline(always)]
+pub(crate) fn described_within<M: Segments>(
+    message: &M,
+    limits: &Limits,
+    spent: u64,
+    pads: u8,
+    segment: u32,
+    at: u32,
+    level: u32,
+) -> Option<Looked>
+    requires exists { segment < length (M.segments message.now) }
+    requires inside { at < length (segment_of (M.segments message.now) segment) }
+    requires pads { pads ≤ 2 }
+    requires stands { (s w : ℕ) × MayStandFor (M.segments message.now) s w pads segment at }
+    requires spent { spent ≤ words_of limits.now }
+    requires level { level ≤ depth_of limits.now + 1 }
+    ensures { let m = M.segments message.now in (s w : ℕ) → MayStandFor m s w pads segment at →
+        IfSome result (IsLooked m (words_of limits.now) (depth_of limits.now) spent s w level) }
+{
+    let word = message.word(segment, at);
+    if let Some(row) = near_row(word, at, message.len(segment)) {
+        return row_within(limits, spent, pads, segment, &row, level);
+    }
+    let list = struct_list(message, pads, segment, at, word)?;
+    target_within(limits, spent, &list, level)
+}
+
+// This row of an object, over some pads. Returns a result only if it is within the limits.
+#[inline(always)]
+fn row_within(
     limits: &Limits,
     spent: u64,
     pads: u8,
@@ -149,4 +194,21 @@ pub(crate) fn row_within(
     }
     let frame = row_frame(segment, row.pointers_start, row.pointer_count, level + 1);
     Some(Looked::Object(cost, level, frame))
+}
+
+// This target of a pointer word. Returns a result only if it is within the limits.
+#[inline(always)]
+fn target_within(limits: &Limits, spent: u64, target: &Target, level: u32) -> Option<Looked>
+    requires found { (m : List (List ℕ)) × (s w q tag : ℕ) × IsMessage m
+        × FindsTargetBy m s w q tag target.now }
+    requires spent { spent ≤ words_of limits.now }
+    requires level { level ≤ depth_of limits.now + 1 }
+    ensures { (m : List (List ℕ)) (s w : ℕ) → FindsTarget m s w target.now →
+        IfSome result (IsLooked m (words_of limits.now) (depth_of limits.now) spent s w level) }
+{
+    let deepest = level + levels_taken(&target.shape);
+    if deepest > limits.depth() || target.charge > limits.words() - spent {
+        return None;
+    }
+    Some(Looked::Object(target.charge, deepest, frame_of(target, level)))
 }

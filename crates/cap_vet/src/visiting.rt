@@ -7,7 +7,7 @@ ghost use Rattle.cap_vet.specs.Turns.{HasVisited};
 ghost use Rattle.cap_vet.specs.Walking.{IsNext};
 ghost use Rattle.std.specs.Prelude.{◌<◌, ◌≡◌, ◌^◌, IfErr, IfOk, List};
 
-use crate::far_looking::{look_far, look_list};
+use crate::far_looking::look_far;
 use crate::limits::Limits;
 use crate::looking::{Looked, look_near};
 use crate::pointer_run::PointerRun;
@@ -36,9 +36,6 @@ pub(crate) fn visit<M: Segments>(
         (IsFirstFault (M.segments message.now) (words_of limits.now) (depth_of limits.now)) }
 {
     if let Some(looked) = look_near(message, limits, report.charge, s, w, level) {
-        return Ok(add(report, s, w, looked));
-    }
-    if let Some(looked) = look_list(message, limits, report.charge, s, w, level) {
         return Ok(add(report, s, w, looked));
     }
     visit_other(message, limits, report, s, w, level)

@@ -9,14 +9,3 @@ look_near-requires-clause-inside g c = c.requires.next.1.within
 
 pub returns-in-Some-clause-ok : goal.returns-in-Some-clause-ok
 returns-in-Some-clause-ok g c = λ runs next. rw (c.add.ensures.report, c.add.ensures.run) (visited _ _ _ _ _ runs _ _ next c.in-Some.ensures)
-
-pub look_list-requires-clause-exists : goal.look_list-requires-clause-exists
-look_list-requires-clause-exists g c = c.requires.next.1.exists
-
-pub look_list-requires-clause-inside : goal.look_list-requires-clause-inside
-look_list-requires-clause-inside g c = c.requires.next.1.within
-
-pub returns-in-Some-look_list-clause-ok : goal.returns-in-Some-look_list-clause-ok
-returns-in-Some-look_list-clause-ok g c = λ runs next.
-    rw (c.add-in-Some-look_list.ensures.report, c.add-in-Some-look_list.ensures.run)
-    (visited _ _ _ _ _ runs _ _ next c.in-Some-look_list.ensures)

@@ -1,7 +1,7 @@
 use Rattle.std.proofs.Common.{arith, ◌≤◌, ◌+◌}
 use Rattle.cap_vet.specs.Levels.{levels_of}
 use Rattle.cap_vet.proofs.Looks.{looks_object}
-use Rattle.cap_vet.proofs.far_looking.target_within.Goals as goal
+use Rattle.cap_vet.proofs.looking.target_within.Goals as goal
 
 pub returns : goal.returns
 returns c = λ m s w f.
