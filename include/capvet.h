@@ -265,8 +265,9 @@ CAPVET_INLINE const char *capvet_answer_name(uint32_t answer) CAPVET_NOEXCEPT {
 /* What a call accepts. All zero is valid, and refuses nearly everything. Begin with CAPVET_LIMITS_INIT or
  * capvet_limits_default, and change fields.
  *
- * A higher limit or an additional CAPVET_ALLOW_ flag never refuses more. A value above its maximum, a flag that the library
- * does not know, or a reserved field that is not 0 gives CAPVET_BAD_LIMITS, in every call with limits. */
+ * A higher limit or an additional CAPVET_ALLOW_ flag never refuses more. A value above its maximum, a flag
+ * that the library does not know, or a reserved field that is not 0 gives CAPVET_BAD_LIMITS, in every call
+ * with limits. */
 typedef struct capvet_limits {
   uint64_t message_words; /* most words in all segments: at most CAPVET_MAX_MESSAGE_WORDS */
   uint64_t charge;        /* highest charge: at most CAPVET_MAX_CHARGE */
