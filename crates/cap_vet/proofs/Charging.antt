@@ -1,23 +1,31 @@
 -- What a path arrives at, step by step, and what following the pointers on it costs.
-use Rattle.std.proofs.Common.{ℕ, ◌+◌, ◌-◌, ◌<◌, ◌≤◌, List, [], ◌∷◌, ◌++◌, ◌≡◌, refl, subst, sym, ◌∙◌, arith, length, length-append}
+use Rattle.std.proofs.Common.{ℕ, zero, suc, ◌+◌, ◌-◌, ◌<◌, ◌≤◌, List, [], ◌∷◌, ◌++◌, ◌≡◌, refl, subst, sym, ◌∙◌, arith}
+use Rattle.std.proofs.Common.{inl, inr, length, length-append, Option, None}
+use Rattle.std.proofs.lemmas.Bool.Decides.{leb_tells}
 use Rattle.cap_spec.specs.Arriving.{ArrivesAt}
-use Rattle.cap_spec.specs.Denoting.{element_levels}
+use Rattle.cap_spec.specs.Denoting.{Finds, element_levels}
 use Rattle.cap_spec.specs.Faults.{AreShallow, IsDeepAt, IsFirstReason}
+use Rattle.cap_spec.specs.Following.{IsComposite}
 use Rattle.cap_spec.specs.Getting.{AreOnPath, Charges, IsFaultOnPath}
 use Rattle.cap_spec.specs.Messages.{HasWord, segment_of}
+use Rattle.cap_spec.specs.Pointers.{middle}
 use Rattle.cap_spec.specs.Paths.{Comes, Costs, Goes, Reaches, Spot, element, word}
-use Rattle.cap_spec.specs.Verdicts.{CostOf}
+use Rattle.cap_spec.specs.Verdicts.{CostOf, levels_below}
 use Rattle.cap_spec.specs.declared.Kind.{Kind}
 use Rattle.cap_spec.specs.declared.Reason.{Reason}
 use Rattle.cap_spec.specs.declared.Refusal.{Refusal}
 use Rattle.cap_spec.specs.declared.Step.{Step}
+use Rattle.cap_spec.specs.declared.Step.TheVariants.{Ptr, Item}
 use Rattle.cap_spec.proofs.Verdicts.OnPath.{begins_itself, begins_longer, cost_last, on_element, on_nowhere, on_root, on_word, shallow_last}
 use Rattle.cap_spec.proofs.Paths.Walks.{coming_last}
 use Rattle.cap_vet.specs.Charging.{Arrives}
+use Rattle.cap_vet.specs.PathStrictness.{AddsPointer, KnowsLaxOnPath}
 use Rattle.cap_vet.specs.Finding.{IsFound, element_of}
 use Rattle.cap_vet.specs.declared.charged.Arrival.{Arrival}
 use Rattle.cap_vet.specs.declared.found.Found.{Found}
+use Rattle.cap_vet.specs.declared.strict_turn.LaxPointer.{LaxPointer}
 use Rattle.cap_vet.proofs.Nodes.{comes_nowhere}
+use Rattle.cap_vet.proofs.PathLax.{lax_added, lax_same}
 
 -- none of no paths is too deep
 none_deep : (m : List (List ℕ)) (depth : ℕ) → AreShallow m depth []
@@ -28,10 +36,10 @@ root_reached : (m : List (List ℕ)) (root : ℕ) → HasWord m 0 0 root → Rea
 root_reached m root has = (root, 0, has, (refl, refl), refl)
 
 -- At the root,
-pub arrives_root : (m : List (List ℕ)) (words depth root spent : ℕ) (f : Found) → HasWord m 0 0 root
-    → IsFound m (word 0 0) f → Costs m 0 0 spent → spent ≤ words → ¬ IsDeepAt m depth 0 0 1
-    → Arrives m words depth [] (word 0 0) record { found = f; level = 1; spent = spent; pointers = 1 }
-arrives_root m words depth root spent f has found costs within shallow = record {
+pub arrives_root : (m : List (List ℕ)) (words depth root spent : ℕ) (f : Found) (lax : Option LaxPointer) → HasWord m 0 0 root
+    → IsFound m (word 0 0) f → Costs m 0 0 spent → spent ≤ words → ¬ IsDeepAt m depth 0 0 1 → AddsPointer m 0 0 1 None lax
+    → Arrives m words depth [] (word 0 0) record { found = f; level = 1; spent = spent; pointers = 1; lax = lax }
+arrives_root m words depth root spent f lax has found costs within shallow adds = record {
   comes = root_reached m root has;
   found = found;
   ways = [] ∷ [];
@@ -41,6 +49,9 @@ arrives_root m words depth root spent f has found costs within shallow = record 
   shallow = shallow_last m depth [] [] 1 0 0 (none_deep m depth) (root_reached m root has) shallow;
   within = within;
   pointers = refl;
+  levels = omega arith;
+  few = omega arith;
+  lax = lax_added m [] [] [] 1 0 0 1 None lax (on_root m root has) (root_reached m root has) refl (λ q i l. absurd i) adds;
 }
 
 -- whose fault is the first on each path.
@@ -67,12 +78,63 @@ pub next_comes : (m : List (List ℕ)) (words depth : ℕ) (path : List Step) (a
     → Reaches m (path ++ step ∷ []) (at.level + 1) s w
 next_comes m words depth path a at step s w h g = (coming_last m path step (at.level + 1) (word s w)).1 (a, at.level, h.comes, g, refl)
 
+-- What a path within the depth limit comes to takes no level past it.
+shallow_here : (m : List (List ℕ)) (words depth : ℕ) (path : List Step) (s w k t b q tag : ℕ) (at : Arrival)
+    → Arrives m words depth path (word s w) at → Finds m s w k t b q → (IsComposite q → HasWord m t b tag)
+    → at.level + levels_below q tag ≤ depth
+shallow_here m words depth path s w k t b q tag at h f tagged = elim (leb_tells (at.level + levels_below q tag) depth) [
+  | inl le ↦ le.1
+  | inr over ↦ absurd (h.shallow path at.level s w (h.on_path.all path at.level s w (begins_itself path) h.comes) h.comes
+      (k, t, b, q, tag, f, tagged, over.1))
+]
+
+-- no list of structs
+no_tag : (m : List (List ℕ)) (t b q : ℕ) → (IsComposite q → ⊥) → IsComposite q → HasWord m t b 0
+no_tag m t b q none c = absurd (none c)
+
+-- So its pointers are at most one level past the limit,
+low_word : (m : List (List ℕ)) (words depth : ℕ) (path : List Step) (a : Spot) (at : Arrival) (step : Step) (s w : ℕ)
+    → Arrives m words depth path a at → Goes m a step (word s w) → at.level ≤ depth
+low_word m words depth path (element t b ds ps) at step s w h g = h.levels
+low_word m words depth path (word s' w') at (Ptr i) s w h (k, t, b, q, f, struct, lt, e) =
+    let l = shallow_here m words depth path s' w' k t b q 0 at h f (no_tag m t b q (λ c. omega (arith, c.0, struct))) in
+    omega (arith, l)
+low_word m words depth path (word s' w') at (Item i) s w h (inl (k, t, b, q, f, list, code, lt, e)) =
+    let l = shallow_here m words depth path s' w' k t b q 0 at h f (no_tag m t b q (λ c. omega (arith, c.1, code))) in
+    omega (arith, l)
+low_word m words depth path (word s' w') at (Item i) s w h (inr (k, t, b, q, tag, f, list, code, has, lt, e)) = absurd (cc e)
+
+-- a list with elements takes a level for them
+some_elements : (i n : ℕ) → i < n → element_levels n ≡ 1
+some_elements i zero h = absurd (omega (arith, h))
+some_elements i (suc n) h = refl
+
+-- and its elements are within it.
+low_element : (m : List (List ℕ)) (words depth : ℕ) (path : List Step) (a : Spot) (at : Arrival) (step : Step) (t b ds ps : ℕ)
+    → Arrives m words depth path a at → Goes m a step (element t b ds ps) → at.level + 1 ≤ depth
+low_element m words depth path (element t' b' d p) at (Ptr i) t b ds ps h (lt, e) = absurd (cc e)
+low_element m words depth path (element t' b' d p) at (Item i) t b ds ps h g = absurd g
+low_element m words depth path (word s' w') at (Ptr i) t b ds ps h (k, t', b', q, f, struct, lt, e) = absurd (cc e)
+low_element m words depth path (word s' w') at (Item i) t b ds ps h (inl (k, t', b', q, f, list, code, lt, e)) = absurd (cc e)
+low_element m words depth path (word s' w') at (Item i) t b ds ps h (inr (k, t', b', q, tag, f, list, code, has, lt, e)) =
+    let l = shallow_here m words depth path s' w' k t' b' q tag at h f (λ c. has) in
+    let x : levels_below q tag ≡ element_levels (middle tag) = rw (list, code) refl in
+    omega (arith, l, x, some_elements i (middle tag) lt)
+
+-- A path comes to no level past the one after the limit.
+pub arrives_low : (m : List (List ℕ)) (words depth : ℕ) (path : List Step) (a : Spot) (at : Arrival)
+    → Arrives m words depth path a at → (at.level ≤ depth + 1) × (at.pointers ≤ depth + 1)
+arrives_low m words depth path (word s w) at h = (h.levels, omega (arith, h.levels, h.few))
+arrives_low m words depth path (element t b ds ps) at h = (omega (arith, h.levels), omega (arith, h.levels, h.few))
+
 -- One step on at a pointer word,
 pub arrives_word : (m : List (List ℕ)) (words depth : ℕ) (path : List Step) (a : Spot) (at : Arrival) (step : Step)
-    (s w cost : ℕ) (f : Found) → Arrives m words depth path a at → Goes m a step (word s w)
+    (s w cost : ℕ) (f : Found) (lax : Option LaxPointer) → Arrives m words depth path a at → Goes m a step (word s w)
     → IsFound m (word s w) f → Costs m s w cost → cost ≤ words - at.spent → ¬ IsDeepAt m depth s w (at.level + 1)
-    → Arrives m words depth (path ++ step ∷ []) (word s w) record { found = f; level = at.level + 1; spent = at.spent + cost; pointers = at.pointers + 1 }
-arrives_word m words depth path a at step s w cost f h g found costs within shallow =
+    → AddsPointer m s w (at.pointers + 1) at.lax lax
+    → Arrives m words depth (path ++ step ∷ []) (word s w)
+    record { found = f; level = at.level + 1; spent = at.spent + cost; pointers = at.pointers + 1; lax = lax }
+arrives_word m words depth path a at step s w cost f lax h g found costs within shallow adds =
     let r : Reaches m (path ++ step ∷ []) (at.level + 1) s w = next_comes m words depth path a at step s w h g in
     let l = length-append h.ways ((path ++ step ∷ []) ∷ []) in
     record {
@@ -85,6 +147,10 @@ arrives_word m words depth path a at step s w cost f h g found costs within shal
       shallow = shallow_last m depth h.ways (path ++ step ∷ []) (at.level + 1) s w h.shallow r shallow;
       within = omega (arith, within, h.within);
       pointers = omega (arith, l, h.pointers);
+      levels = omega (arith, low_word m words depth path a at step s w h g);
+      few = omega (arith, h.few);
+      lax = lax_added m path (step ∷ []) h.ways (at.level + 1) s w (at.pointers + 1) at.lax lax
+          (on_word m path h.ways step (at.level + 1) s w h.on_path r) r (omega (arith, l, h.pointers)) h.lax adds;
     }
 
 -- whose fault is the first,
@@ -114,8 +180,9 @@ pub arrives_element : (m : List (List ℕ)) (words depth : ℕ) (path : List Ste
     (step : Step) (t b ds ps : ℕ) → Arrives m words depth path a at
     → Goes m a step (element t b ds ps) → t < length m → b + ds + ps ≤ length (segment_of m t)
     → next.found ≡ element_of t b ds ps → next.level ≡ at.level + element_levels 1
-    → next.spent ≡ at.spent → next.pointers ≡ at.pointers → Arrives m words depth (path ++ step ∷ []) (element t b ds ps) next
-arrives_element m words depth path a at next step t b ds ps h g exists inside e1 e2 e3 e4 =
+    → next.spent ≡ at.spent → next.pointers ≡ at.pointers → next.lax ≡ at.lax
+    → Arrives m words depth (path ++ step ∷ []) (element t b ds ps) next
+arrives_element m words depth path a at next step t b ds ps h g exists inside e1 e2 e3 e4 e5 =
     let c : Comes m (path ++ step ∷ []) next.level (element t b ds ps) =
     (coming_last m path step next.level (element t b ds ps)).1 (a, at.level, h.comes, g, e2) in
     record {
@@ -134,6 +201,9 @@ arrives_element m words depth path a at next step t b ds ps h g exists inside e1
       shallow = h.shallow;
       within = omega (arith, e3, h.within);
       pointers = e4 ∙ h.pointers;
+      levels = omega (arith, e2, low_element m words depth path a at step t b ds ps h g);
+      few = omega (arith, e2, e4, h.few);
+      lax = subst (λ o. KnowsLaxOnPath m (path ++ step ∷ []) h.ways o) (sym e5) (lax_same m path (step ∷ []) h.ways at.lax h.lax);
     }
 
 -- The first fault on the beginning of a path is the first on the path.

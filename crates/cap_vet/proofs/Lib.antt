@@ -24,7 +24,10 @@ mod Stepping
 mod NodeTrees
 mod Placed
 mod Views
+mod PathLax
 mod Charging
+mod PathEnds
+pub mod PathFaults
 mod Bits
 mod Marking
 mod Pointing

@@ -13,6 +13,8 @@ pub mod Nodes
 pub mod NullMarks
 pub mod Owing
 pub mod Passing
+pub mod PathDemands
+pub mod PathStrictness
 pub mod PointerRuns
 pub mod Reports
 pub mod Spots

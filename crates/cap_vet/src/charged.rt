@@ -16,7 +16,9 @@ ghost use Rattle.std.specs.Prelude.{[], ◌∷◌, ◌++◌, ◌+◌, ◌-◌, �
 use crate::budget::Budget;
 use crate::found::{Found, element, found_of};
 use crate::looking::follow_within;
+use crate::path_strictness::first_lax;
 use crate::spot::Spot;
+use crate::strict_turn::LaxPointer;
 use crate::targets::levels_of_elements;
 use crate::view::View;
 use cap_frame::Segments;
@@ -33,10 +35,12 @@ pub(crate) struct Arrival {
     pub(crate) spent: u64,
     // How many pointers that were.
     pub(crate) pointers: u64,
+    // The first of them that common readers reject.
+    pub(crate) lax: Option<LaxPointer>,
 }
 
 // Arrives at the root.
-fn at_root<M: Segments>(message: &M, words: u64, depth: u32) -> Result<Arrival, Refusal>
+pub(crate) fn at_root<M: Segments>(message: &M, words: u64, depth: u32) -> Result<Arrival, Refusal>
     ensures ok { IfOk result (Arrives (M.segments message.now) words depth [] (word 0 0)) }
     ensures level { IfOk result (λ at. at.level ≡ 1) }
     ensures pointers { IfOk result (λ at. at.pointers ≡ 1) }
@@ -57,6 +61,7 @@ fn at_root<M: Segments>(message: &M, words: u64, depth: u32) -> Result<Arrival, 
             level: 1,
             spent: followed.charge(),
             pointers: 1,
+            lax: first_lax(message, None, 0, 0, 1),
         }),
         Err(reason) => Err(Refusal {
             segment: 0,
@@ -70,7 +75,7 @@ fn at_root<M: Segments>(message: &M, words: u64, depth: u32) -> Result<Arrival, 
 impl Arrival {
     // Takes one step, to what the step's pointer leads to or to an element. `None` if the step
     // leads to nothing.
-    fn step<M: Segments>(
+    pub(crate) fn step<M: Segments>(
         &self,
         message: &M,
         words: u64,
@@ -107,6 +112,7 @@ impl Arrival {
                         level,
                         spent: self.spent + followed.charge(),
                         pointers,
+                        lax: first_lax(message, self.lax, segment, word, pointers),
                     })),
                     Err(reason) => Err(Refusal {
                         segment,
@@ -128,6 +134,7 @@ impl Arrival {
                 level: self.level + u64::from(levels_of_elements(1)),
                 spent: self.spent,
                 pointers: self.pointers,
+                lax: self.lax,
             })),
         }
     }

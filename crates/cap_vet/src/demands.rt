@@ -79,7 +79,7 @@ pub fn vet_with<'m, M: Segments>(
 }
 
 // The limits of a message under the demands.
-fn limits_under<M: Segments>(message: &M, limits: Limits, demands: Demands) -> Limits
+pub(crate) fn limits_under<M: Segments>(message: &M, limits: Limits, demands: Demands) -> Limits
     ensures words { let m = M.segments message.now in
         words_of result ≡ words_under demands m (words_of limits) }
     ensures depth { depth_of result ≡ depth_of limits }

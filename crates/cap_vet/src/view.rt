@@ -6,6 +6,7 @@ ghost use Rattle.cap_vet.specs.Finding.{own_words};
 ghost use Rattle.std.specs.Prelude.{◌+◌, ◌<◌, ◌≡◌, ◌≤◌, ⊤, length};
 
 use crate::found::Found;
+use crate::lengths::words_before;
 use crate::place::Place;
 use cap_frame::{ByteView, Segments};
 use cap_ptr::element_bits;
@@ -42,6 +43,7 @@ impl<'m, M: Segments> View<'m, M> {
     ghost use Rattle.cap_spec.specs.Scalars.{scalar_words};
     ghost use Rattle.cap_spec.specs.Showing.{bit_of, byte_of, count_of, data_word_of, kind_of, scalar_of, words_of_own};
     ghost use Rattle.cap_vet.specs.Handles.{kept_place, shown, view_kind, view_message, view_place};
+    ghost use Rattle.cap_vet.specs.Taken.{start_of};
     ghost use Rattle.std.specs.Prelude.{◌^◌, IfSome, slice_get};
 
     /// What it is, with its sizes.
@@ -65,6 +67,19 @@ impl<'m, M: Segments> View<'m, M> {
             Kind::Null | Kind::Cap { .. } => None,
             _ => Some(self.found.place),
         }
+    }
+
+    /// How many words of the message come before those of its [`place`](View::place), where the
+    /// segments follow one another (encoding: Serialization Over a Stream). One step for each segment
+    /// before its own. 0 for null and a capability.
+    pub fn words_before(&self) -> u64
+        ensures value { let m = M.segments (view_message self.now) in
+            let place = kept_place self.now in
+            result ≡ start_of m place.segment + place.start }
+        ensures few { result < 2 ^ 42 }
+    {
+        let place = self.found.place;
+        words_before(self.message, place.segment) + u64::from(place.start)
     }
 
     /// Data word `i` of a struct, or word `i` of a list of values that aren't pointers, its bits past

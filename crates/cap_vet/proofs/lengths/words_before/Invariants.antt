@@ -1,6 +1,6 @@
 use Rattle.std.proofs.Common.{◌≡◌, ◌≤◌, ◌*◌, ◌^◌}
 use Rattle.cap_vet.specs.Taken.{start_of}
-use Rattle.cap_vet.proofs.lengths.message_words.Given as goal
+use Rattle.cap_vet.proofs.lengths.words_before.Given as goal
 
 abbrev pub invariant-loop-s : goal.invariant-loop-s
 invariant-loop-s g l = record {

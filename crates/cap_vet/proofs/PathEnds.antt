@@ -1,0 +1,131 @@
+-- What the end of a path says of the pointers on it.
+use Rattle.std.proofs.Common.{ℕ, ◌-◌, ◌<◌, ◌≤◌, ◌≡◌, ◌∙◌, List, [], ◌∷◌, ◌++◌, Option, None, Some, length, refl, subst, sym, arith}
+use Rattle.std.specs.Prelude.{Bool, true, false, IsTrue, if◌then◌else◌}
+use Rattle.cap_spec.specs.Arriving.{ArrivesAt}
+use Rattle.cap_spec.specs.Getting.{AreOnPath, Begins, Charges, IsRefusedOnPath}
+use Rattle.cap_spec.specs.Paths.{Goes, Spot}
+use Rattle.cap_spec.specs.Strict.{IsLax}
+use Rattle.cap_spec.specs.declared.Kind.{Kind}
+use Rattle.cap_spec.specs.declared.Lax.{Lax}
+use Rattle.cap_spec.specs.declared.Refusal.{Refusal}
+use Rattle.cap_spec.specs.declared.Step.{Step}
+use Rattle.cap_spec.specs.declared.StrictRefusal.{StrictRefusal}
+use Rattle.cap_spec.specs.declared.StrictRefusal.TheVariants.{Refused, ManySegments, Pointer}
+use Rattle.cap_spec.proofs.Verdicts.OnPath.{on_nowhere}
+use Rattle.cap_vet.specs.Charging.{Arrives, EndsAt, EndsEarly}
+use Rattle.cap_vet.specs.Demands.{words_under}
+use Rattle.cap_vet.specs.PathDemands.{IsFirstLaxOnPath, IsPathFault, MeetsOnPath}
+use Rattle.cap_vet.specs.PathStrictness.{HasNoFaultBy, IsFaultBy, KnowsLaxOnPath}
+use Rattle.cap_vet.specs.declared.charged.Arrival.{Arrival}
+use Rattle.cap_vet.specs.declared.demands.Demands.{Demands}
+use Rattle.cap_vet.specs.declared.strict_turn.LaxPointer.{LaxPointer}
+use Rattle.cap_vet.proofs.Charging.{arrives_nowhere, charges_nowhere}
+use Rattle.cap_vet.proofs.PathLax.{lax_same}
+
+-- The pointers on the path, and what is known of them.
+record Known (m : List (List ℕ)) (words depth : ℕ) (path : List Step) (at : Arrival) : Type 0 where
+  ways : List (List Step)
+  on_path : AreOnPath m path ways
+  lax : KnowsLaxOnPath m path ways at.lax
+  left : ℕ
+  charges : Charges m words depth path left
+
+known : (m : List (List ℕ)) (words depth : ℕ) (path : List Step) (at : Arrival) (found : Bool)
+    → EndsAt m words depth path at found → Known m words depth path at
+known m words depth path at true (a, h) = record {
+  ways = h.ways;
+  on_path = h.on_path;
+  lax = h.lax;
+  left = words - at.spent;
+  charges = record {
+    ways = h.ways;
+    on_path = h.on_path;
+    some = h.some;
+    cost = at.spent;
+    costs = h.costs;
+    shallow = h.shallow;
+    spent = omega (arith, h.within);
+  };
+}
+known m words depth path at false e =
+    let h = e.arrives in
+    let on : AreOnPath m (e.done ++ e.step ∷ e.rest) h.ways =
+    on_nowhere m e.done e.rest h.ways e.step at.level e.spot h.on_path h.comes e.nowhere in
+    record {
+      ways = h.ways;
+      on_path = subst (λ x. AreOnPath m x h.ways) (sym e.whole) on;
+      lax = subst (λ x. KnowsLaxOnPath m x h.ways at.lax) (sym e.whole)
+          (lax_same m e.done (e.step ∷ e.rest) h.ways at.lax h.lax);
+      left = words - at.spent;
+      charges = charges_nowhere m words depth e.done e.rest path e.step e.spot at (sym e.whole) h e.nowhere;
+    }
+
+-- Nothing is at the path.
+pub nothing_at : (m : List (List ℕ)) (words depth : ℕ) (path : List Step) (at : Arrival)
+    → EndsEarly m words depth path at → (k : Kind) (t b n : ℕ) → ¬ ArrivesAt m path k t b n
+nothing_at m words depth path at e k t b n =
+    arrives_nowhere m words depth e.done e.rest path e.step e.spot at e.whole e.arrives e.nowhere k t b n
+
+-- Something is.
+pub something_at : (m : List (List ℕ)) (words depth : ℕ) (path : List Step) (at : Arrival) (a : Spot)
+    → Arrives m words depth path a at
+    → ArrivesAt m path at.found.kind at.found.place.segment at.found.place.start at.found.place.words
+something_at m words depth path at a h = (at.level, a, h.comes, h.found.stands)
+
+-- No pointer on it is rejected where none is known,
+none_lax : (m : List (List ℕ)) (path : List Step) (ways : List (List Step)) → AreOnPath m path ways
+    → KnowsLaxOnPath m path ways None → (q : List Step) → Begins q path → ¬ IsLax m q
+none_lax m path ways on k q b l = k q (on.all q l.0 l.1 l.2 b l.4) l
+
+-- and the known one is the first.
+pub meets_at : (demands : Demands) (m : List (List ℕ)) (words depth : ℕ) (path : List Step) (at : Arrival) (found : Bool)
+    → EndsAt m (words_under demands m words) depth path at found → HasNoFaultBy demands (length m) at.lax
+    → MeetsOnPath demands m words depth path
+meets_at demands m words depth path at found e none =
+    let h = known m (words_under demands m words) depth path at found e in
+    record {
+      within = (h.left, h.charges);
+      strict = λ strict.
+          let n = none strict in
+          (n.0, none_lax m path h.ways h.on_path (subst (λ o. KnowsLaxOnPath m path h.ways o) n.1 h.lax));
+    }
+
+-- the fields of the first one
+first_fields : (m : List (List ℕ)) (path : List Step) (ways : List (List Step)) (x : LaxPointer) (what : Lax) (s w n : ℕ)
+    → KnowsLaxOnPath m path ways (Some x) → what ≡ x.what → s ≡ x.segment → w ≡ x.word → n ≡ x.pointers
+    → IsFirstLaxOnPath m path s w what n
+first_fields m path ways x what s w n k e f g h =
+    subst (λ y. IsFirstLaxOnPath m path s w what y) (sym h)
+    (subst (λ y. IsFirstLaxOnPath m path s y what x.pointers) (sym g)
+    (subst (λ y. IsFirstLaxOnPath m path y x.word what x.pointers) (sym f)
+    (subst (λ (y : Lax). IsFirstLaxOnPath m path x.segment x.word y x.pointers) (sym e) k)))
+
+fault_by : (demands : Demands) (m : List (List ℕ)) (words depth : ℕ) (path : List Step) (at : Arrival) (o : Option LaxPointer)
+    → length m ≤ 512 → at.lax ≡ o → Known m (words_under demands m words) depth path at → (fault : StrictRefusal)
+    → IsFaultBy demands (length m) o fault → IsPathFault demands m words depth path fault
+fault_by demands m words depth path at o few e h (Refused r) f = absurd f
+fault_by demands m words depth path at o few e h ManySegments f = (f.0, (h.left, h.charges), omega (arith, f.1, few))
+fault_by demands m words depth path at None few e h (Pointer what s w n) f = absurd f
+fault_by demands m words depth path at (Some x) few e h (Pointer what s w n) f = (
+  f.0,
+  (h.left, h.charges),
+  f.1,
+  first_fields m path h.ways x what s w n (subst (λ o. KnowsLaxOnPath m path h.ways o) e h.lax) f.2 f.3 f.4 f.5,
+)
+
+pub fault_at : (demands : Demands) (m : List (List ℕ)) (words depth : ℕ) (path : List Step) (at : Arrival) (found : Bool)
+    (fault : StrictRefusal) → length m ≤ 512 → EndsAt m (words_under demands m words) depth path at found
+    → IsFaultBy demands (length m) at.lax fault → IsPathFault demands m words depth path fault
+fault_at demands m words depth path at found fault few e f =
+    fault_by demands m words depth path at at.lax few refl (known m (words_under demands m words) depth path at found e) fault f
+
+-- The limits by other names.
+pub ends_as : (m : List (List ℕ)) (w x d y : ℕ) (path : List Step) (at : Arrival) (found : Bool) → w ≡ x → d ≡ y
+    → EndsAt m w d path at found → EndsAt m x y path at found
+ends_as m w x d y path at found e f h =
+    subst (λ z. EndsAt m x z path at found) f (subst (λ z. EndsAt m z d path at found) e h)
+
+pub refused_as : (m : List (List ℕ)) (w x d y : ℕ) (path : List Step) (r : Refusal) → w ≡ x → d ≡ y
+    → IsRefusedOnPath m w d path r → IsRefusedOnPath m x y path r
+refused_as m w x d y path r e f h =
+    subst (λ z. IsRefusedOnPath m x z path r) f (subst (λ z. IsRefusedOnPath m z d path r) e h)

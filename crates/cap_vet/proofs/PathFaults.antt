@@ -1,0 +1,113 @@
+-- The pointers on a path meet the demands, or have one fault.
+use Rattle.std.proofs.Common.{ℕ, ◌≡◌, ◌∙◌, ◌⊎◌, List, [], ◌∷◌, ◌++◌, inl, inr, length, length-append, ap, subst, sym, arith, refl}
+use Rattle.std.specs.Prelude.{◌≤◌}
+use Rattle.cap_spec.specs.Getting.{AreOnPath, Begins, Charges, IsRefusedOnPath}
+use Rattle.cap_spec.specs.Paths.{IsOneOf, Reaches}
+use Rattle.cap_spec.specs.Strict.{IsLax, IsLaxAt}
+use Rattle.cap_spec.specs.declared.Lax.{Lax}
+use Rattle.cap_spec.specs.declared.Refusal.{Refusal}
+use Rattle.cap_spec.specs.declared.Step.{Step}
+use Rattle.cap_spec.specs.declared.StrictRefusal.{StrictRefusal}
+use Rattle.cap_spec.specs.declared.StrictRefusal.TheVariants.{Refused, ManySegments, Pointer}
+use Rattle.cap_spec.proofs.Paths.Walks.{one_reached}
+use Rattle.cap_spec.proofs.Strict.LaxForms.{one_lax}
+use Rattle.cap_spec.proofs.Verdicts.OneFault.{one_of_last}
+use Rattle.cap_spec.proofs.Verdicts.OnPath.{one_path_list, one_path_refusal, path_not_refused}
+use Rattle.cap_vet.specs.Demands.{words_under}
+use Rattle.cap_vet.specs.PathDemands.{IsFirstLaxOnPath, IsPathFault, KeepsToLimits, MeetsOnPath}
+use Rattle.cap_vet.specs.declared.demands.Demands.{Demands}
+
+-- pointers that keep to the limits aren't refused
+kept_not_refused : (m : List (List ℕ)) (words depth : ℕ) (path : List Step) (r : Refusal) → KeepsToLimits m words depth path
+    → IsRefusedOnPath m words depth path r → ⊥
+kept_not_refused m words depth path r (left, k) refused =
+    path_not_refused m words depth path k.ways k.cost r k.on_path k.some k.costs k.shallow (omega (arith, k.spent)) refused
+
+-- the first one on a path is one of them
+first_is_lax : (m : List (List ℕ)) (path : List Step) (s w : ℕ) (what : Lax) (n : ℕ)
+    → (f : IsFirstLaxOnPath m path s w what n) → IsLax m f.way
+first_is_lax m path s w what n f = (f.level, s, w, what, f.reached, f.lax)
+
+-- What meets the demands has no fault.
+pub meets_no_path_fault : (demands : Demands) (m : List (List ℕ)) (words depth : ℕ) (path : List Step) (r : StrictRefusal)
+    → MeetsOnPath demands m words depth path → IsPathFault demands m words depth path r → ⊥
+meets_no_path_fault demands m words depth path (Refused r) h k =
+    kept_not_refused m (words_under demands m words) depth path r h.within k
+meets_no_path_fault demands m words depth path ManySegments h k = omega (arith, (h.strict k.0).0, k.2)
+meets_no_path_fault demands m words depth path (Pointer what s w n) h k =
+    (h.strict k.0).1 k.3.way k.3.begin (first_is_lax m path s w what n k.3)
+
+-- of two beginnings of one path, each is the other or goes on from it
+begins_order : (p q rest s : List Step) → p ++ rest ≡ q ++ s → (p ≡ q) ⊎ ((x : Step) × (more : List Step) × (q ≡ p ++ x ∷ more))
+    ⊎ ((x : Step) × (more : List Step) × (p ≡ q ++ x ∷ more))
+begins_order [] [] rest s e = inl refl
+begins_order [] (y ∷ q) rest s e = inr (inl (y, q, refl))
+begins_order (x ∷ p) [] rest s e = inr (inr (x, p, refl))
+begins_order (x ∷ p) (y ∷ q) rest s e = go (begins_order p q rest s cc) cc
+  where
+    go : (p ≡ q) ⊎ ((z : Step) × (more : List Step) × (q ≡ p ++ z ∷ more)) ⊎ ((z : Step) × (more : List Step) × (p ≡ q ++ z ∷ more))
+        → x ≡ y → (x ∷ p ≡ y ∷ q) ⊎ ((z : Step) × (more : List Step) × (y ∷ q ≡ (x ∷ p) ++ z ∷ more))
+        ⊎ ((z : Step) × (more : List Step) × (x ∷ p ≡ (y ∷ q) ++ z ∷ more))
+    go (inl f) g = inl cc
+    go (inr (inl (z, more, f))) g = let h : y ∷ q ≡ x ∷ (p ++ z ∷ more) = cc in inr (inl (z, more, h))
+    go (inr (inr (z, more, f))) g = let h : x ∷ p ≡ y ∷ (q ++ z ∷ more) = cc in inr (inr (z, more, h))
+
+-- a path that goes on from another comes after it
+shorter : (m : List (List ℕ)) (p way : List Step) (x : Step) (more : List Step) (before : List (List Step)) (level s w : ℕ)
+    → way ≡ p ++ x ∷ more → Reaches m p level s w → AreOnPath m way (before ++ way ∷ []) → IsOneOf p before
+shorter m p way x more before level s w e r on = elim (one_of_last p way before (on.all p level s w (x ∷ more, e) r)) [
+  | inl same ↦ let long = ap length (same ∙ e) in absurd (omega (arith, long, length-append p (x ∷ more)))
+  | inr i ↦ i
+]
+
+-- There is one first one on a path.
+module _ (m : List (List ℕ)) (path : List Step) (s w s' w' : ℕ) (u v : Lax) (n n' : ℕ)
+    (f : IsFirstLaxOnPath m path s w u n) (g : IsFirstLaxOnPath m path s' w' v n') where
+  same_way : f.way ≡ g.way → (u ≡ v) × (s ≡ s') × (w ≡ w') × (n ≡ n')
+  same_way e =
+      let r = one_reached m f.way f.level g.level s w s' w' f.reached
+      (subst (λ (x : List Step). Reaches m x g.level s' w') (sym e) g.reached) in
+      let x : IsLaxAt m s w v = subst (λ y. IsLaxAt m s y v) (sym r.2) (subst (λ y. IsLaxAt m y w' v) (sym r.1) g.lax) in
+      let on : AreOnPath m f.way (g.before ++ f.way ∷ []) =
+      subst (λ (y : List Step). AreOnPath m y (g.before ++ y ∷ [])) (sym e) g.on_path in
+      let lists = one_path_list m f.way (f.before ++ f.way ∷ []) (g.before ++ f.way ∷ []) f.on_path on in (
+        one_lax m s w u v f.lax x,
+        r.1,
+        r.2,
+        f.number ∙ ap length lists ∙ ap (λ (y : List Step). length (g.before ++ y ∷ [])) e ∙ sym g.number,
+      )
+
+  pub one_first_on_path : (u ≡ v) × (s ≡ s') × (w ≡ w') × (n ≡ n')
+  one_first_on_path = by_order (begins_order f.way g.way f.begin.0 g.begin.0 (sym f.begin.1 ∙ g.begin.1))
+    where
+      by_order : (f.way ≡ g.way) ⊎ ((x : Step) × (more : List Step) × (g.way ≡ f.way ++ x ∷ more))
+          ⊎ ((x : Step) × (more : List Step) × (f.way ≡ g.way ++ x ∷ more)) → (u ≡ v) × (s ≡ s') × (w ≡ w') × (n ≡ n')
+      by_order (inl e) = same_way e
+      by_order (inr (inl (x, more, e))) = absurd
+          (g.first f.way (shorter m f.way g.way x more g.before f.level s w e f.reached g.on_path) (first_is_lax m path s w u n f))
+      by_order (inr (inr (x, more, e))) = absurd
+          (f.first g.way (shorter m g.way f.way x more f.before g.level s' w' e g.reached f.on_path) (first_is_lax m path s' w' v n' g))
+
+-- faults of equal parts are equal
+same_pointer : (u v : Lax) (s w n s' w' n' : ℕ) → u ≡ v → s ≡ s' → w ≡ w' → n ≡ n' → Pointer u s w n ≡ Pointer v s' w' n'
+same_pointer u v s w n s' w' n' e1 e2 e3 e4 = cc
+
+-- There is one fault.
+pub one_path_fault : (demands : Demands) (m : List (List ℕ)) (words depth : ℕ) (path : List Step) (f g : StrictRefusal)
+    → IsPathFault demands m words depth path f → IsPathFault demands m words depth path g → f ≡ g
+one_path_fault demands m words depth path (Refused r) (Refused r') h k =
+    ap Refused (one_path_refusal m (words_under demands m words) depth path r r' h k)
+one_path_fault demands m words depth path (Refused r) ManySegments h k =
+    absurd (kept_not_refused m (words_under demands m words) depth path r k.1 h)
+one_path_fault demands m words depth path (Refused r) (Pointer v s' w' n') h k =
+    absurd (kept_not_refused m (words_under demands m words) depth path r k.1 h)
+one_path_fault demands m words depth path ManySegments (Refused r) h k =
+    absurd (kept_not_refused m (words_under demands m words) depth path r h.1 k)
+one_path_fault demands m words depth path ManySegments ManySegments h k = refl
+one_path_fault demands m words depth path ManySegments (Pointer v s' w' n') h k = absurd (omega (arith, h.2, k.2))
+one_path_fault demands m words depth path (Pointer u s w n) (Refused r) h k =
+    absurd (kept_not_refused m (words_under demands m words) depth path r h.1 k)
+one_path_fault demands m words depth path (Pointer u s w n) ManySegments h k = absurd (omega (arith, h.2, k.2))
+one_path_fault demands m words depth path (Pointer u s w n) (Pointer v s' w' n') h k =
+    let e = one_first_on_path m path s w s' w' u v n n' h.3 k.3 in
+    same_pointer u v s w n s' w' n' e.0 e.1 e.2 e.3

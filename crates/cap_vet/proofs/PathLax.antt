@@ -1,0 +1,62 @@
+-- What is known of the pointers on a path that common readers reject, step by step.
+use Rattle.std.proofs.Common.{ℕ, ◌≡◌, ◌∙◌, List, [], ◌∷◌, ◌++◌, Option, None, Some, inl, inr, length, subst, sym}
+use Rattle.cap_spec.specs.Getting.{AreOnPath}
+use Rattle.cap_spec.specs.Paths.{Reaches}
+use Rattle.cap_spec.specs.Strict.{IsLaxAt}
+use Rattle.cap_spec.specs.declared.Lax.{Lax}
+use Rattle.cap_spec.specs.declared.Step.{Step}
+use Rattle.cap_spec.proofs.Paths.Walks.{one_reached}
+use Rattle.cap_spec.proofs.Verdicts.OneFault.{one_of_last}
+use Rattle.cap_spec.proofs.Verdicts.OnPath.{begins_itself, begins_longer}
+use Rattle.cap_vet.specs.PathDemands.{IsFirstLaxOnPath}
+use Rattle.cap_vet.specs.PathStrictness.{AddsPointer, KnowsLaxOnPath}
+use Rattle.cap_vet.specs.declared.strict_turn.LaxPointer.{LaxPointer}
+
+-- The first on the beginning of a path is the first on the path.
+lax_longer : (m : List (List ℕ)) (prev more : List Step) (s w : ℕ) (what : Lax) (n : ℕ)
+    → IsFirstLaxOnPath m prev s w what n → IsFirstLaxOnPath m (prev ++ more) s w what n
+lax_longer m prev more s w what n f = record {
+  way = f.way;
+  begin = begins_longer f.way prev more f.begin;
+  before = f.before;
+  level = f.level;
+  reached = f.reached;
+  on_path = f.on_path;
+  lax = f.lax;
+  first = f.first;
+  number = f.number;
+}
+
+-- Without a pointer more the same is known,
+pub lax_same : (m : List (List ℕ)) (prev more : List Step) (ways : List (List Step)) (o : Option LaxPointer)
+    → KnowsLaxOnPath m prev ways o → KnowsLaxOnPath m (prev ++ more) ways o
+lax_same m prev more ways None k = k
+lax_same m prev more ways (Some x) k = lax_longer m prev more x.segment x.word x.what x.pointers k
+
+-- and with one more what it adds.
+pub lax_added : (m : List (List ℕ)) (prev more : List Step) (ways : List (List Step)) (level s w n : ℕ)
+    (before after : Option LaxPointer) → AreOnPath m (prev ++ more) (ways ++ (prev ++ more) ∷ [])
+    → Reaches m (prev ++ more) level s w → n ≡ length (ways ++ (prev ++ more) ∷ [])
+    → KnowsLaxOnPath m prev ways before → AddsPointer m s w n before after
+    → KnowsLaxOnPath m (prev ++ more) (ways ++ (prev ++ more) ∷ []) after
+lax_added m prev more ways level s w n (Some x) after on r e k a =
+    subst (λ (o : Option LaxPointer). KnowsLaxOnPath m (prev ++ more) (ways ++ (prev ++ more) ∷ []) o) (sym a)
+    (lax_longer m prev more x.segment x.word x.what x.pointers k)
+lax_added m prev more ways level s w n None None on r e k a = λ q i l. elim (one_of_last q (prev ++ more) ways i) [
+  | inl same ↦
+      let z = one_reached m (prev ++ more) l.0 level l.1 l.2 s w (subst (λ y. Reaches m y l.0 l.1 l.2) same l.4) r in
+      a l.3 (subst (λ y. IsLaxAt m s y l.3) z.2 (subst (λ y. IsLaxAt m y l.2 l.3) z.1 l.5))
+  | inr j ↦ k q j l
+]
+lax_added m prev more ways level s w n None (Some x) on r e k a = record {
+  way = prev ++ more;
+  begin = begins_itself (prev ++ more);
+  before = ways;
+  level = level;
+  reached = subst (λ y. Reaches m (prev ++ more) level x.segment y) (sym a.2)
+      (subst (λ y. Reaches m (prev ++ more) level y w) (sym a.1) r);
+  on_path = on;
+  lax = subst (λ y. IsLaxAt m x.segment y x.what) (sym a.2) (subst (λ y. IsLaxAt m y w x.what) (sym a.1) a.0);
+  first = k;
+  number = a.3 ∙ e;
+}

@@ -1,0 +1,115 @@
+//! Getters of messages that weren't vetted, under demands.
+
+ghost use Rattle.cap_path.specs.PathSteps.{AreLeft};
+ghost use Rattle.cap_spec.specs.Arriving.{ArrivesAt};
+ghost use Rattle.cap_spec.specs.Getting.{IsRefusedOnPath};
+ghost use Rattle.cap_spec.specs.Paths.{Spot as Where};
+ghost use Rattle.cap_spec.specs.declared.Kind.{Kind};
+ghost use Rattle.cap_spec.specs.declared.Step.{Step};
+ghost use Rattle.cap_spec.specs.declared.StrictRefusal.{StrictRefusal};
+ghost use Rattle.cap_vet.specs.Charging.{Arrives, EndsAt};
+ghost use Rattle.cap_vet.specs.Handles.{kept_place, view_kind, view_message};
+ghost use Rattle.cap_vet.specs.Limits.{depth_of, words_of};
+ghost use Rattle.cap_vet.specs.PathDemands.{IsPathFault, MeetsOnPath};
+ghost use Rattle.std.specs.Prelude.{◌≡◌, Err, IfErr, IfNone, IfOk, IfSome, IsOk, List, ℕ};
+
+use crate::charged::{Arrival, at_root};
+use crate::demands::{Demands, limits_under};
+use crate::limits::Limits;
+use crate::path_strictness::strict_fault;
+use crate::view::View;
+use cap_frame::Segments;
+use cap_path::PathSteps;
+use cap_spec::{Refusal, StrictRefusal};
+
+/// Follows a path in a message that needn't be vetted, under demands, and gives what it arrives at
+/// (encoding: Security Considerations). The limits and demands are those of [`crate::vet_with`], and
+/// apply to the pointers on the path alone, the root's among them. A word that two steps lead to is
+/// charged twice. What is wrong beside the path isn't noticed. Allocates nothing.
+///
+/// `None` if the path arrives at nothing.
+///
+/// # Errors
+///
+/// - [`StrictRefusal::Refused`]: the first pointer on the path that is wrong, or past a limit, as for
+///   [`crate::get_charged`].
+/// - [`StrictRefusal::ManySegments`], [`StrictRefusal::Pointer`]: a strict message is demanded, no
+///   pointer on the path is refused, and the message has 512 segments, or a pointer on the path has
+///   a form in [`crate::Lax`]. The first one on the path is named. Its `pointers` counts the
+///   pointers on the path up to it, that one included.
+pub fn get_with<'m, M: Segments>(
+    message: &'m M,
+    limits: Limits,
+    demands: Demands,
+    path: PathSteps<'_>,
+) -> Result<Option<View<'m, M>>, StrictRefusal>
+    ensures meets { let m = M.segments message.now in
+        (steps : List Step) → AreLeft path.entry steps → IfOk result (λ _.
+        MeetsOnPath demands m (words_of limits) (depth_of limits) steps) }
+    ensures none { let m = M.segments message.now in
+        (steps : List Step) → AreLeft path.entry steps → IfOk result (λ o. IfNone o (
+        (k : Kind) (t b n : ℕ) → ¬ ArrivesAt m steps k t b n)) }
+    ensures some { let m = M.segments message.now in
+        (steps : List Step) → AreLeft path.entry steps → IfOk result (λ o. IfSome o (λ v.
+        let place = kept_place v in
+        ArrivesAt m steps (view_kind v) place.segment place.start place.words)) }
+    ensures message { IfOk result (λ o. IfSome o (λ v. view_message v ≡ message.now)) }
+    ensures err { let m = M.segments message.now in
+        (steps : List Step) → AreLeft path.entry steps →
+        IfErr result (IsPathFault demands m (words_of limits) (depth_of limits) steps) }
+    // The other direction.
+    ensures accepts { let m = M.segments message.now in
+        (steps : List Step) → AreLeft path.entry steps →
+        MeetsOnPath demands m (words_of limits) (depth_of limits) steps → IsOk result }
+    ensures refuses { let m = M.segments message.now in
+        (steps : List Step) (r : StrictRefusal) → AreLeft path.entry steps →
+        IsPathFault demands m (words_of limits) (depth_of limits) steps r → result ≡ Err r }
+{
+    let limits = limits_under(message, limits, demands);
+    let (at, is_found) = match along(message, limits.words(), limits.depth(), path) {
+        Ok(end) => end,
+        Err(refusal) => return Err(StrictRefusal::Refused(refusal)),
+    };
+    if let Some(fault) = strict_fault(message, demands, at.lax) {
+        return Err(fault);
+    }
+    if !is_found {
+        return Ok(None);
+    }
+    let view = View {
+        message,
+        found: at.found,
+    };
+    Ok(Some(view))
+}
+
+// Follows the path as far as it leads, and says whether something is at its end.
+fn along<M: Segments>(
+    message: &M,
+    words: u64,
+    depth: u32,
+    path: PathSteps<'_>,
+) -> Result<(Arrival, bool), Refusal>
+    ensures ends { let m = M.segments message.now in
+        (steps : List Step) → AreLeft path.entry steps →
+        IfOk result (λ end. EndsAt m words depth steps end.0 end.1) }
+    ensures arrived { let m = M.segments message.now in IfOk result (λ end.
+        (steps : List Step) × (a : Where) × Arrives m words depth steps a end.0) }
+    ensures err { let m = M.segments message.now in
+        (steps : List Step) → AreLeft path.entry steps →
+        IfErr result (IsRefusedOnPath m words depth steps) }
+{
+    let mut left = path;
+    let mut at = match at_root(message, words, depth) {
+        Ok(root) => root,
+        Err(refusal) => return Err(refusal),
+    };
+    while let Some(step) = left.next() {
+        match at.step(message, words, depth, step) {
+            Ok(Some(next)) => at = next,
+            Ok(None) => return Ok((at, false)),
+            Err(fault) => return Err(fault),
+        }
+    }
+    Ok((at, true))
+}
