@@ -2,7 +2,9 @@ pub mod AllFlags
 pub mod Answers
 pub mod Bounds
 pub mod Copied
+pub mod Gotten
 pub mod Marked
+pub mod OneNode
 pub mod Packed
 pub mod Segments
 pub mod SeparateSegments

@@ -10,7 +10,7 @@ use Rattle.cap_calls.specs.declared.answer.Answer.{Answer}
 use Rattle.cap_calls.specs.declared.answer.Answer.TheVariants.{Good, NoMessage, TooManySegments, TooLarge, Truncated}
 use Rattle.cap_calls.specs.declared.answer.Answer.TheVariants.{Trailing}
 use Rattle.cap_calls.specs.declared.answer.Answer.TheVariants.{BadLimits, BufferTooSmall, NotCanonical, HasCapability}
-use Rattle.cap_calls.specs.declared.answer.Answer.TheVariants.{NoSegment, BadSegment, Overlap}
+use Rattle.cap_calls.specs.declared.answer.Answer.TheVariants.{BadPath, NoSegment, BadSegment, NoNode, Overlap}
 use Rattle.cap_calls.specs.declared.answer.Answer.TheVariants.{NullPad, EmptySegment, CapabilityPad, ManySegments}
 use Rattle.cap_calls.specs.declared.answer.Answer.TheVariants.{NoRoot, Reserved, SegmentMissing, PadOutside, PadIsFar}
 use Rattle.cap_calls.specs.declared.answer.Answer.TheVariants.{PadNotFar, TagKind, TagOffset, OutOfSegment}
@@ -26,6 +26,7 @@ number_of Truncated = 4
 number_of Trailing = 5
 number_of BadLimits = 8
 number_of BufferTooSmall = 9
+number_of BadPath = 10
 number_of NoSegment = 11
 number_of BadSegment = 12
 number_of NotCanonical = 16
@@ -33,6 +34,7 @@ number_of HasCapability = 17
 number_of Overlap = 18
 number_of NullPad = 19
 number_of EmptySegment = 20
+number_of NoNode = 21
 number_of CapabilityPad = 22
 number_of ManySegments = 23
 number_of NoRoot = 32

@@ -4,10 +4,12 @@ pub mod CallFindings
 pub mod CallFlags
 pub mod CallFrames
 pub mod CallInputs
+pub mod CallNodes
 pub mod CallReports
 pub mod Calls
 pub mod CanonicalCalls
 pub mod ExclusiveCalls
+pub mod NodeCalls
 pub mod PackCalls
 pub mod SegmentCalls
 pub mod SegmentsCalls

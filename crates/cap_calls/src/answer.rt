@@ -26,6 +26,8 @@ pub enum Answer {
     BadLimits = 8,
     /// The output buffer is too small.
     BufferTooSmall = 9,
+    /// The text isn't a path.
+    BadPath = 10,
     /// The message has no segment of this number.
     NoSegment = 11,
     /// The length of a segment is no multiple of 8.
@@ -40,6 +42,8 @@ pub enum Answer {
     NullPad = 19,
     /// The same for [`Lax::EmptySegment`].
     EmptySegment = 20,
+    /// Nothing is at the path.
+    NoNode = 21,
     /// The same for [`Lax::CapabilityPad`].
     CapabilityPad = 22,
     /// The message is valid, and isn't strict: it has 512 segments.

@@ -8,6 +8,7 @@ mod front;
 mod input;
 mod laws;
 mod limits;
+mod node;
 mod over;
 mod packing_laws;
 mod report;
@@ -16,6 +17,7 @@ mod slices;
 pub use answer::Answer;
 pub use calls::canonical::canonical;
 pub use calls::frame::frame;
+pub use calls::get::get;
 pub use calls::is_canonical::is_canonical;
 pub use calls::pack::pack;
 pub use calls::pack_message::pack_message;
@@ -30,5 +32,6 @@ pub use laws::{
     all_flags_demand_nothing, separate_segments_are_vetted_as_framed, wider_limits_accept_as_much,
 };
 pub use limits::CallLimits;
+pub use node::CallNode;
 pub use packing_laws::packed_message_unpacks;
 pub use report::CallReport;

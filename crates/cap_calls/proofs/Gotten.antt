@@ -1,0 +1,104 @@
+-- The bytes and the path decide what the call for the node at a path finds.
+use Rattle.std.proofs.Common.{ℕ, List, [], ◌∷◌, ◌≡◌, ◌∙◌, ap, get_or, refl, subst, sym}
+use Rattle.std.specs.Prelude.{Bool, not, slice_set}
+use Rattle.std.specs.List.{AllByRecursion}
+use Rattle.cap_spec.specs.PathTexts.{IsBadAt, IsPath, IsStep, path_text}
+use Rattle.cap_spec.specs.declared.Step.{Step}
+use Rattle.cap_spec.proofs.Paths.PathTexts.{one_bad_place, one_path_text, path_not_bad}
+use Rattle.cap_vet.specs.declared.demands.Demands.{Demands}
+use Rattle.cap_vet.proofs.PathFaults.{meets_no_path_fault, one_path_fault}
+use Rattle.cap_path.specs.PathSteps.{AreLeft}
+use Rattle.cap_path.specs.declared.steps.PathSteps.{PathSteps}
+use Rattle.cap_calls.specs.CallFindings.{Returns, TellsWhole, framed, none_found, refused_found, tells, trailing, without}
+use Rattle.cap_calls.specs.CallFlags.{allows_trailing, demands_of}
+use Rattle.cap_calls.specs.CallFrames.{AreLimits, HasNoFrame}
+use Rattle.cap_calls.specs.CallNodes.{none_node}
+use Rattle.cap_calls.specs.Calls.{TellsMessage}
+use Rattle.cap_calls.specs.NodeCalls.{Gets, GetsFirst, TellsGet, TellsPath, a_node, a_path, bad_limits, bad_path, bad_path_found, no_meeting, no_node}
+use Rattle.cap_calls.specs.declared.answer.Answer.{Answer}
+use Rattle.cap_calls.specs.declared.found.Found.{Found}
+use Rattle.cap_calls.specs.declared.front.NoFrame.{NoFrame}
+use Rattle.cap_calls.specs.declared.front.NoFrame.TheVariants.{BadLimits, NoMessage, Fault}
+use Rattle.cap_calls.specs.declared.limits.CallLimits.{CallLimits}
+use Rattle.cap_calls.specs.declared.node.CallNode.{CallNode}
+use Rattle.cap_calls.specs.declared.report.CallReport.{CallReport}
+use Rattle.cap_calls.proofs.Answers.{one_returned, one_whole_told}
+use Rattle.cap_calls.proofs.OneNode.{one_node}
+
+-- of a path in a message
+one_gets : (path : List Step) (demands : Demands) (x y : CallNode) (m : List (List ℕ)) (w d : ℕ) (f g : Found)
+    → Gets path x demands m w d f → Gets path y demands m w d g → (f ≡ g) × (x ≡ y)
+one_gets path demands x y m w d f g (no_meeting r h e n) (no_meeting q k i o) =
+    (e ∙ ap refused_found (one_path_fault demands m w d path r q h k) ∙ sym i, n ∙ sym o)
+one_gets path demands x y m w d f g (no_meeting r h e n) (no_node k none i o) = absurd (meets_no_path_fault demands m w d path r k h)
+one_gets path demands x y m w d f g (no_meeting r h e n) (a_node k t b z meets at i o) = absurd (meets_no_path_fault demands m w d path r meets h)
+one_gets path demands x y m w d f g (no_node h none e n) (no_meeting q k i o) = absurd (meets_no_path_fault demands m w d path q h k)
+one_gets path demands x y m w d f g (no_node h none e n) (no_node k also i o) = (e ∙ sym i, n ∙ sym o)
+one_gets path demands x y m w d f g (no_node h none e n) (a_node k t b z meets at i o) = absurd (none k t b z at)
+one_gets path demands x y m w d f g (a_node k t b z meets at e n) (no_meeting q h i o) = absurd (meets_no_path_fault demands m w d path q meets h)
+one_gets path demands x y m w d f g (a_node k t b z meets at e n) (no_node h none i o) = absurd (none k t b z at)
+one_gets path demands x y m w d f g (a_node k t b z meets at e n) (a_node k' t' b' z' meets' at' i o) =
+    (e ∙ sym i, n ∙ one_node m path k k' t b z t' b' z' at at' ∙ sym o)
+
+-- Bad limits are all that is found.
+limits_alone : {K : Type 0} {P : List (List ℕ) → ℕ → ℕ → Found → Type 0} (whole : Bool) (l : CallLimits) (bs : List ℕ)
+    (f : Found) → ¬ AreLimits l → TellsWhole whole K P l bs f → (f ≡ none_found BadLimits) × K
+limits_alone whole l bs f bad (trailing m x y t h more e k) = absurd (bad h.are_limits)
+limits_alone whole l bs f bad (tells only (without BadLimits h e k)) = (e, k)
+limits_alone whole l bs f bad (tells only (without NoMessage h e k)) = absurd (bad h.0)
+limits_alone whole l bs f bad (tells only (without (Fault c) h e k)) = absurd (bad h.0)
+limits_alone whole l bs f bad (tells only (framed m x y g h p e)) = absurd (bad h.are_limits)
+
+one_told_path : (l : CallLimits) (bs text : List ℕ) (x y : CallNode) (f g : Found) → TellsPath l bs text x f
+    → TellsPath l bs text y g → (f ≡ g) × (x ≡ y)
+one_told_path l bs text x y f g (bad_limits h e n) (bad_limits k i o) = (e ∙ sym i, n ∙ sym o)
+one_told_path l bs text x y f g (bad_limits h e n) (bad_path at are bad i o) = absurd (h are)
+one_told_path l bs text x y f g (bad_limits h e n) (a_path p are is t) =
+    (let u = limits_alone (not (allows_trailing l)) l bs g h t in (e ∙ sym u.0, n ∙ sym u.1))
+one_told_path l bs text x y f g (bad_path at are bad e n) (bad_limits k i o) = absurd (k are)
+one_told_path l bs text x y f g (bad_path at are bad e n) (bad_path at' are' bad' i o) =
+    (e ∙ ap bad_path_found (one_bad_place text at at' bad bad') ∙ sym i, n ∙ sym o)
+one_told_path l bs text x y f g (bad_path at are bad e n) (a_path p steps is t) = absurd (path_not_bad text at (p, steps, is) bad)
+one_told_path l bs text x y f g (a_path p are is t) (bad_limits k i o) =
+    (let u = limits_alone (not (allows_trailing l)) l bs f k t in (u.0 ∙ sym i, u.1 ∙ sym o))
+one_told_path l bs text x y f g (a_path p steps is t) (bad_path at are bad i o) = absurd (path_not_bad text at (p, steps, is) bad)
+one_told_path l bs text x y f g (a_path p are is t) (a_path q also too u) =
+    let same = one_path_text p q are also (sym is ∙ too) in
+    let v : TellsMessage (y ≡ none_node) (Gets p y (demands_of l)) l bs g =
+    subst (λ (z : List Step). TellsMessage (y ≡ none_node) (Gets z y (demands_of l)) l bs g) (sym same) u in
+    one_whole_told {S = x ≡ y} (not (allows_trailing l)) l bs f g (λ a b. a ∙ sym b)
+    (λ m a b r s. one_gets p (demands_of l) x y m l.charge l.depth a b r s) t v
+
+pub one_get_told : (l : CallLimits) (bs text : List ℕ) (a b : Answer) (x y : CallNode) (r q : CallReport)
+    → TellsGet l bs text a x r → TellsGet l bs text b y q → (a ≡ b) × (x ≡ y) × (r ≡ q)
+one_get_told l bs text a b x y r q (f, t, h) (g, u, k) =
+    let same = one_told_path l bs text x y f g t u in
+    let one = one_returned f g a b r q same.0 h k in
+    (one.0, same.1, one.1)
+
+-- The first of some nodes is the one that was put there.
+put_first : (old other : CallNode) (nodes : List CallNode) (node : CallNode) → nodes ≡ slice_set (old ∷ []) 0 node
+    → get_or nodes 0 other ≡ node
+put_first old other nodes node e = ap (λ (l : List CallNode). get_or l 0 other) e
+
+-- So what is found of the first of some nodes is found of it.
+module _ (l : CallLimits) (bs : List ℕ) (path : List Step) (steps : PathSteps) (old other : CallNode)
+    (nodes : List CallNode) (f : Found) (blank : old ≡ none_node) (left : AreLeft steps path) where
+  kept : nodes ≡ old ∷ [] → get_or nodes 0 other ≡ none_node
+  kept k = ap (λ (z : List CallNode). get_or z 0 other) k ∙ blank
+
+  pub first_told : TellsMessage (nodes ≡ old ∷ [])
+      (λ m w d g. (p : List Step) → AreLeft steps p → GetsFirst p (old ∷ []) nodes (demands_of l) m w d g) l bs f
+      → TellsMessage (get_or nodes 0 other ≡ none_node) (Gets path (get_or nodes 0 other) (demands_of l)) l bs f
+  first_told (trailing m x y t h more e k) = trailing m x y t h more e (kept k)
+  first_told (tells only (without c h e k)) = tells only (without c h e (kept k))
+  first_told (tells only (framed m x y g h p e)) =
+      let q = p path left in
+      tells only (framed m x y g h
+      (subst (λ (z : CallNode). Gets path z (demands_of l) m l.charge l.depth g) (sym (put_first old other nodes q.0 q.2)) q.1) e)
+
+-- The limits are right if there is another reason why there is no frame.
+pub limits_by_cause : (l : CallLimits) (bs : List ℕ) (c : NoFrame) → HasNoFrame l bs c → (c ≡ BadLimits → ⊥) → AreLimits l
+limits_by_cause l bs BadLimits h other = absurd (other refl)
+limits_by_cause l bs NoMessage h other = h.0
+limits_by_cause l bs (Fault c) h other = h.0

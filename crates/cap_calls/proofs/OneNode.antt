@@ -1,0 +1,134 @@
+-- One node is at a path.
+use Rattle.std.proofs.Common.{ℕ, ◌<◌, ◌≡◌, ◌∙◌, List, ap, ap₂, arith, refl, subst, sym}
+use Rattle.std.specs.Prelude.{pos}
+use Rattle.cap_spec.specs.Arriving.{ArrivesAt, StandsAs}
+use Rattle.cap_spec.specs.Denoting.{Finds}
+use Rattle.cap_spec.specs.Following.{Lead, Leads, to_cap, to_null, to_object}
+use Rattle.cap_spec.specs.Messages.{HasWord}
+use Rattle.cap_spec.specs.Paths.{Comes, Spot, element, word}
+use Rattle.cap_spec.specs.Pointers.{code, data_size, kind, list_size, middle, pointer_size}
+use Rattle.cap_spec.specs.declared.Kind.{Kind}
+use Rattle.cap_spec.specs.declared.Kind.TheVariants.{Null, Cap, Struct, Scalars, Pointers, Structs}
+use Rattle.cap_spec.specs.declared.Step.{Step}
+use Rattle.cap_spec.proofs.Frames.Messages.{one_word}
+use Rattle.cap_spec.proofs.Paths.Walks.{one_coming}
+use Rattle.cap_spec.proofs.Pointers.Following.{one_lead}
+use Rattle.cap_spec.proofs.Trees.Finding.{one_object}
+use Rattle.cap_calls.specs.CallNodes.{kind_node, offset_of}
+use Rattle.cap_calls.specs.declared.node.CallNode.{CallNode}
+
+-- the kind of an object of shape q
+data KindOf (m : List (List ℕ)) (t b q : ℕ) (k : Kind) : Type 0 where
+  struct : kind q ≡ 0 → k ≡ Struct (data_size q) (pointer_size q) → KindOf m t b q k
+  scalars : kind q ≡ 1 → code q < 6 → k ≡ Scalars (code q) (list_size q) → KindOf m t b q k
+  pointers : kind q ≡ 1 → code q ≡ 6 → k ≡ Pointers (list_size q) → KindOf m t b q k
+  structs : (tag : ℕ) → kind q ≡ 1 → code q ≡ 7 → HasWord m t b tag
+      → k ≡ Structs (middle tag) (data_size tag) (pointer_size tag) → KindOf m t b q k
+
+one_kind : (m : List (List ℕ)) (t b q : ℕ) (k k' : Kind) → KindOf m t b q k → KindOf m t b q k' → k ≡ k'
+one_kind m t b q k k' (struct a e) (struct a' e') = e ∙ sym e'
+one_kind m t b q k k' (struct a e) (scalars a' c' e') = absurd (omega (arith, a, a'))
+one_kind m t b q k k' (struct a e) (pointers a' c' e') = absurd (omega (arith, a, a'))
+one_kind m t b q k k' (struct a e) (structs g a' c' h' e') = absurd (omega (arith, a, a'))
+one_kind m t b q k k' (scalars a c e) (struct a' e') = absurd (omega (arith, a, a'))
+one_kind m t b q k k' (scalars a c e) (scalars a' c' e') = e ∙ sym e'
+one_kind m t b q k k' (scalars a c e) (pointers a' c' e') = absurd (omega (arith, c, c'))
+one_kind m t b q k k' (scalars a c e) (structs g a' c' h' e') = absurd (omega (arith, c, c'))
+one_kind m t b q k k' (pointers a c e) (struct a' e') = absurd (omega (arith, a, a'))
+one_kind m t b q k k' (pointers a c e) (scalars a' c' e') = absurd (omega (arith, c, c'))
+one_kind m t b q k k' (pointers a c e) (pointers a' c' e') = e ∙ sym e'
+one_kind m t b q k k' (pointers a c e) (structs g a' c' h' e') = absurd (omega (arith, c, c'))
+one_kind m t b q k k' (structs g a c h e) (struct a' e') = absurd (omega (arith, a, a'))
+one_kind m t b q k k' (structs g a c h e) (scalars a' c' e') = absurd (omega (arith, c, c'))
+one_kind m t b q k k' (structs g a c h e) (pointers a' c' e') = absurd (omega (arith, c, c'))
+one_kind m t b q k k' (structs g a c h e) (structs g' a' c' h' e') =
+    let same = one_word m t b g g' h h' in
+    e ∙ ap (λ (x : ℕ). Structs (middle x) (data_size x) (pointer_size x)) same ∙ sym e'
+
+-- what a pointer word leads to
+data Seen (m : List (List ℕ)) (s w : ℕ) (k : Kind) (t b : ℕ) : Type 0 where
+  null : (x : ℕ) → Leads m s w x to_null → k ≡ Null → Seen m s w k t b
+  cap : (x i : ℕ) → Leads m s w x (to_cap i) → k ≡ Cap i → Seen m s w k t b
+  object : (x q : ℕ) → Finds m s w x t b q → KindOf m t b q k → Seen m s w k t b
+
+seen : (m : List (List ℕ)) (s w : ℕ) (k : Kind) (t b n : ℕ) → StandsAs m (word s w) k t b n → Seen m s w k t b
+seen m s w Null t b n (x, h) = null x h refl
+seen m s w (Cap i) t b n (x, h) = cap x i h refl
+seen m s w (Struct d p) t b n (x, q, h) = object x q h.finds (struct h.kind (ap₂ Struct h.data_words h.pointers))
+seen m s w (Scalars c y) t b n (x, q, h) =
+    object x q h.finds (scalars h.kind (omega (arith, h.scalar, h.code)) (ap₂ Scalars h.code h.count))
+seen m s w (Pointers y) t b n (x, q, h) = object x q h.finds (pointers h.kind h.code (ap Pointers h.count))
+seen m s w (Structs y d p) t b n (x, q, tag, h) =
+    object x q h.finds (structs tag h.kind h.code h.has_tag (structs_of y d p tag h.count h.data_words h.pointers))
+  where
+    structs_of : (y d p tag : ℕ) → y ≡ middle tag → d ≡ data_size tag → p ≡ pointer_size tag
+        → Structs y d p ≡ Structs (middle tag) (data_size tag) (pointer_size tag)
+    structs_of y d p tag e f g = cc
+
+-- two leads of one word
+same_lead : (m : List (List ℕ)) (s w x y : ℕ) (r u : Lead) → Leads m s w x r → Leads m s w y u → r ≡ u
+same_lead m s w x y r u h g = (one_lead m s w x y r u h g).1
+
+-- a node by its kind and its place
+abbrev node_at : List (List ℕ) → Kind → ℕ → ℕ → CallNode
+node_at m k t b = kind_node k (offset_of m t b)
+
+one_seen : (m : List (List ℕ)) (s w : ℕ) (k k' : Kind) (t b t' b' : ℕ) → Seen m s w k t b → Seen m s w k' t' b'
+    → node_at m k t b ≡ node_at m k' t' b'
+one_seen m s w k k' t b t' b' (null x h e) (null y g f) =
+    ap (λ (z : Kind). node_at m z t b) e ∙ sym (ap (λ (z : Kind). node_at m z t' b') f)
+one_seen m s w k k' t b t' b' (null x h e) (cap y i g f) =
+    let c : to_null ≡ to_cap i = same_lead m s w x y to_null (to_cap i) h g in absurd (cc c)
+one_seen m s w k k' t b t' b' (null x h e) (object y q g f) =
+    let c : to_null ≡ to_object t' (pos b') q = same_lead m s w x y to_null (to_object t' (pos b') q) h g.leads in absurd (cc c)
+one_seen m s w k k' t b t' b' (cap x i h e) (null y g f) =
+    let c : to_cap i ≡ to_null = same_lead m s w x y (to_cap i) to_null h g in absurd (cc c)
+one_seen m s w k k' t b t' b' (cap x i h e) (cap y j g f) =
+    let c : to_cap i ≡ to_cap j = same_lead m s w x y (to_cap i) (to_cap j) h g in
+    let d : i ≡ j = cc in
+    ap (λ (z : Kind). node_at m z t b) e ∙ ap (λ (z : ℕ). node_at m (Cap z) t b) d
+    ∙ sym (ap (λ (z : Kind). node_at m z t' b') f)
+one_seen m s w k k' t b t' b' (cap x i h e) (object y q g f) =
+    let c : to_cap i ≡ to_object t' (pos b') q = same_lead m s w x y (to_cap i) (to_object t' (pos b') q) h g.leads in absurd (cc c)
+one_seen m s w k k' t b t' b' (object x q h e) (null y g f) =
+    let c : to_object t (pos b) q ≡ to_null = same_lead m s w x y (to_object t (pos b) q) to_null h.leads g in absurd (cc c)
+one_seen m s w k k' t b t' b' (object x q h e) (cap y i g f) =
+    let c : to_object t (pos b) q ≡ to_cap i = same_lead m s w x y (to_object t (pos b) q) (to_cap i) h.leads g in absurd (cc c)
+one_seen m s w k k' t b t' b' (object x q h e) (object y u g f) =
+    let o = one_object m s w x t b q y t' b' u h g in
+    let f' : KindOf m t b q k' = subst (λ z. KindOf m t b z k') (sym o.shape)
+    (subst (λ z. KindOf m t z u k') (sym o.start) (subst (λ z. KindOf m z b' u k') (sym o.segment) f)) in
+    ap (λ (z : Kind). node_at m z t b) (one_kind m t b q k k' e f')
+    ∙ ap₂ (λ (z v : ℕ). node_at m k' z v) o.segment o.start
+
+-- an element is a struct
+record IsElement (t' b' ds ps : ℕ) (k : Kind) (t b : ℕ) : Type 0 where
+  kind : k ≡ Struct ds ps
+  segment : t ≡ t'
+  start : b ≡ b'
+
+element_seen : (m : List (List ℕ)) (t' b' ds ps : ℕ) (k : Kind) (t b n : ℕ) → StandsAs m (element t' b' ds ps) k t b n
+    → IsElement t' b' ds ps k t b
+element_seen m t' b' ds ps Null t b n h = absurd h
+element_seen m t' b' ds ps (Cap i) t b n h = absurd h
+element_seen m t' b' ds ps (Struct d p) t b n h =
+    record { kind = ap₂ Struct h.data_words h.pointers; segment = h.segment; start = h.start }
+element_seen m t' b' ds ps (Scalars c x) t b n h = absurd h
+element_seen m t' b' ds ps (Pointers x) t b n h = absurd h
+element_seen m t' b' ds ps (Structs x d p) t b n h = absurd h
+
+one_stand : (m : List (List ℕ)) (a : Spot) (k k' : Kind) (t b n t' b' n' : ℕ) → StandsAs m a k t b n
+    → StandsAs m a k' t' b' n' → node_at m k t b ≡ node_at m k' t' b'
+one_stand m (word s w) k k' t b n t' b' n' h g = one_seen m s w k k' t b t' b' (seen m s w k t b n h) (seen m s w k' t' b' n' g)
+one_stand m (element u v ds ps) k k' t b n t' b' n' h g =
+    let e = element_seen m u v ds ps k t b n h in
+    let f = element_seen m u v ds ps k' t' b' n' g in
+    ap (λ (z : Kind). node_at m z t b) (e.kind ∙ sym f.kind)
+    ∙ ap₂ (λ (x y : ℕ). node_at m k' x y) (e.segment ∙ sym f.segment) (e.start ∙ sym f.start)
+
+-- The node at a path is one.
+pub one_node : (m : List (List ℕ)) (path : List Step) (k k' : Kind) (t b n t' b' n' : ℕ) → ArrivesAt m path k t b n
+    → ArrivesAt m path k' t' b' n' → kind_node k (offset_of m t b) ≡ kind_node k' (offset_of m t' b')
+one_node m path k k' t b n t' b' n' (l, a, c, h) (l', a', c', g) =
+    let same : a ≡ a' = (one_coming m path l l' a a' c c').1 in
+    one_stand m a k k' t b n t' b' n' h (subst (λ (x : Spot). StandsAs m x k' t' b' n') (sym same) g)

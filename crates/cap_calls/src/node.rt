@@ -1,0 +1,120 @@
+//! A node that a call reports.
+
+use cap_frame::Segments;
+use cap_ptr::element_bits;
+use cap_vet::{Kind, View};
+
+/// A node, laid out as C has it. A field that doesn't apply to its kind is 0.
+#[repr(C)]
+#[derive(Clone, Copy, Debug, PartialEq, Eq)]
+pub struct CallNode {
+    /// 0: null. 1: a struct. 2: a list of values. 3: a list of pointers. 4: a list of structs. 5: a
+    /// capability.
+    pub kind: u32,
+    /// Of a list: the code of its elements, 0 to 7 (encoding: Lists).
+    pub element: u32,
+    /// Of a list: how many elements it has.
+    pub count: u32,
+    /// Of a struct: its data words. Of a list of structs: those of each element.
+    pub data_words: u32,
+    /// Of a struct: its pointers. Of a list of structs: those of each element.
+    pub pointers: u32,
+    /// Of a capability: its index.
+    pub capability: u32,
+    /// How many bytes of the input come before its own, those of the table included.
+    pub offset: u64,
+    /// How many bytes its own are: of a struct its data words, of a list of values the values, and
+    /// of a list of structs the elements, each with its data words and then its pointers.
+    pub length: u64,
+    /// They are 0.
+    pub reserved: [u64; 2],
+}
+
+impl CallNode {
+    ghost use Rattle.cap_calls.specs.CallNodes.{kind_node, none_node, offset_of};
+    ghost use Rattle.cap_vet.specs.Handles.{kept_place, view_kind, view_message};
+    ghost use Rattle.std.specs.Prelude.{◌<◌, ◌^◌, ◌≡◌, length};
+
+    // With nothing in it, as of null.
+    pub(crate) fn none() -> CallNode
+        ensures { result ≡ none_node }
+    {
+        CallNode {
+            kind: 0,
+            element: 0,
+            count: 0,
+            data_words: 0,
+            pointers: 0,
+            capability: 0,
+            offset: 0,
+            length: 0,
+            reserved: [0; 2],
+        }
+    }
+
+    // What a view shows, in a frame of a message of so many segments.
+    pub(crate) fn of<M: Segments>(view: &View<'_, M>, segments: u32) -> CallNode
+        requires { segments ≡ length (M.segments (view_message view.now)) }
+        ensures { let m = M.segments (view_message view.now) in let place = kept_place view.now in
+            result ≡ kind_node (view_kind view.now) (offset_of m place.segment place.start) }
+    {
+        let table = u64::from(segments) / 2 + 1;
+        CallNode::of_kind(view.kind(), 8 * (table + view.words_before()))
+    }
+
+    // Of this kind, with this many bytes before the words of its object.
+    fn of_kind(kind: Kind, before: u64) -> CallNode
+        requires { before < 2 ^ 60 }
+        ensures { result ≡ kind_node kind before }
+    {
+        match kind {
+            Kind::Null => CallNode::none(),
+            Kind::Cap { index } => CallNode {
+                kind: 5,
+                capability: index,
+                ..CallNode::none()
+            },
+            Kind::Struct {
+                data_words,
+                pointers,
+            } => CallNode {
+                kind: 1,
+                data_words: u32::from(data_words),
+                pointers: u32::from(pointers),
+                offset: before,
+                length: 8 * u64::from(data_words),
+                ..CallNode::none()
+            },
+            Kind::Scalars { code, count } => CallNode {
+                kind: 2,
+                element: u32::from(code),
+                count,
+                offset: before,
+                length: (u64::from(element_bits(code)) * u64::from(count) + 7) / 8,
+                ..CallNode::none()
+            },
+            Kind::Pointers { count } => CallNode {
+                kind: 3,
+                element: 6,
+                count,
+                offset: before,
+                ..CallNode::none()
+            },
+            // Its tag comes before its elements.
+            Kind::Structs {
+                count,
+                data_words,
+                pointers,
+            } => CallNode {
+                kind: 4,
+                element: 7,
+                count,
+                data_words: u32::from(data_words),
+                pointers: u32::from(pointers),
+                offset: before + 8,
+                length: 8 * (u64::from(count) * (u64::from(data_words) + u64::from(pointers))),
+                ..CallNode::none()
+            },
+        }
+    }
+}
