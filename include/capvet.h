@@ -22,6 +22,7 @@
  *   check        capvet_vet, capvet_vet_exclusive, capvet_vet_segments
  *   frames       capvet_frame, capvet_segment_at
  *   canonical    capvet_canonical, capvet_is_canonical
+ *   read         capvet_get
  *   packing      capvet_pack, capvet_unpack, capvet_pack_message
  *   other        capvet_answer_name, capvet_limits_default, capvet_version
  *
@@ -68,7 +69,7 @@
  * asks for the size. A CAPVET_..._BOUND macro gives a size that always suffices, without asking.
  *
  * Order. If more than one answer applies, the first of these is returned:
- *   1. CAPVET_BAD_LIMITS
+ *   1. CAPVET_BAD_LIMITS, then CAPVET_BAD_PATH
  *   2. the frame: CAPVET_NO_MESSAGE, CAPVET_TRUNCATED (less than 8 bytes), CAPVET_TOO_MANY_SEGMENTS,
  *      CAPVET_TRUNCATED (the table), CAPVET_TOO_LARGE, CAPVET_TRUNCATED (the segments), CAPVET_TRAILING;
  *      for other inputs see CAPVET_NO_TABLE and capvet_vet_segments
@@ -77,7 +78,7 @@
  *      pointer comes first in preorder
  *   5. CAPVET_HAS_CAPABILITY
  *   6. CAPVET_BUFFER_TOO_SMALL
- *   7. CAPVET_NOT_CANONICAL, CAPVET_OVERLAP, CAPVET_NO_SEGMENT
+ *   7. CAPVET_NOT_CANONICAL, CAPVET_OVERLAP, CAPVET_NO_NODE, CAPVET_NO_SEGMENT
  * For capvet_pack and capvet_unpack see there.
  *
  * Cost. A walk is one pass over all pointers. A step takes about 10 ns on a current machine. By default a walk
@@ -166,6 +167,7 @@ typedef enum capvet_answer {
 
   CAPVET_BAD_LIMITS = 8,       /* a limit above its maximum, an unknown flag, a reserved field not 0 */
   CAPVET_BUFFER_TOO_SMALL = 9, /* the output buffer is too small; the required size was reported */
+  CAPVET_BAD_PATH = 10,        /* not a path; report->detail: the byte where it goes wrong */
   CAPVET_NO_SEGMENT = 11,      /* the message has no segment of this number */
   CAPVET_BAD_SEGMENT = 12,     /* a segment's length is no multiple of 8; report->detail: which segment */
 
@@ -174,6 +176,7 @@ typedef enum capvet_answer {
   CAPVET_OVERLAP = 18,        /* a word is used twice; the place is the pointer's that uses it again */
   CAPVET_NULL_PAD = 19,       /* not strict: a one-word landing pad of zeros */
   CAPVET_EMPTY_SEGMENT = 20,  /* not strict: a two-word landing pad leads into a segment without words */
+  CAPVET_NO_NODE = 21,        /* the path leads to nothing */
   CAPVET_CAPABILITY_PAD = 22, /* not strict: a one-word landing pad that is a capability */
   CAPVET_MANY_SEGMENTS = 23,  /* not strict: 512 segments, which few readers take */
 
@@ -208,6 +211,7 @@ CAPVET_INLINE const char *capvet_answer_name(uint32_t answer) CAPVET_NOEXCEPT {
     case CAPVET_TRAILING: return "Trailing";
     case CAPVET_BAD_LIMITS: return "BadLimits";
     case CAPVET_BUFFER_TOO_SMALL: return "BufferTooSmall";
+    case CAPVET_BAD_PATH: return "BadPath";
     case CAPVET_NO_SEGMENT: return "NoSegment";
     case CAPVET_BAD_SEGMENT: return "BadSegment";
     case CAPVET_NOT_CANONICAL: return "NotCanonical";
@@ -215,6 +219,7 @@ CAPVET_INLINE const char *capvet_answer_name(uint32_t answer) CAPVET_NOEXCEPT {
     case CAPVET_OVERLAP: return "Overlap";
     case CAPVET_NULL_PAD: return "NullPad";
     case CAPVET_EMPTY_SEGMENT: return "EmptySegment";
+    case CAPVET_NO_NODE: return "NoNode";
     case CAPVET_CAPABILITY_PAD: return "CapabilityPad";
     case CAPVET_MANY_SEGMENTS: return "ManySegments";
     case CAPVET_NO_ROOT: return "NoRoot";
@@ -294,7 +299,7 @@ void capvet_limits_default(capvet_limits *limits) CAPVET_NOEXCEPT;
  * A library of a later minor version may set reserved fields: do not compare reports by memcmp. */
 typedef struct capvet_report {
   uint64_t length;       /* bytes of the frame, table included, also of a refused message; 0 after the
-                            answers 1 to 4, 8 and 12: the next message of a buffer starts after them */
+                            answers 1 to 4, 8, 10 and 12: the next message of a buffer starts after them */
   uint64_t required;     /* CAPVET_NO_MESSAGE, CAPVET_TRUNCATED: the least length of the input that gets
                             further: 8, then the bytes of the table, then those of the whole frame */
   uint64_t detail;       /* the number that the answer's comment names */
@@ -477,6 +482,60 @@ capvet_answer capvet_canonical(const uint8_t *bytes, size_t length, const capvet
 CAPVET_CALL((3, 4))
 capvet_answer capvet_is_canonical(const uint8_t *bytes, size_t length, const capvet_limits *limits,
                                   capvet_report *report) CAPVET_NOEXCEPT;
+
+/* ------------------------------------------------------------------------------------------------------
+ * Reading nodes
+ * ------------------------------------------------------------------------------------------------------ */
+
+/* The kinds of node. */
+enum {
+  CAPVET_KIND_NULL = 0,
+  CAPVET_KIND_STRUCT = 1,
+  CAPVET_KIND_VALUES = 2,   /* a list of numbers, bits or bytes; Text and Data are lists of bytes */
+  CAPVET_KIND_POINTERS = 3, /* a list of pointers */
+  CAPVET_KIND_STRUCTS = 4,  /* a list of structs */
+  CAPVET_KIND_CAPABILITY = 5
+};
+
+/* A node. Fields that do not apply to its kind are 0. */
+typedef struct capvet_node {
+  uint32_t kind;        /* one of the kinds above */
+  uint32_t element;     /* a list: the element's code in the format, 0 to 7 */
+  uint32_t count;       /* a list: how many elements */
+  uint32_t data_words;  /* a struct: its data words; a list of structs: those of each element */
+  uint32_t pointers;    /* a struct: its pointers; a list of structs: those of each element */
+  uint32_t capability;  /* a capability: its index */
+  uint64_t offset;      /* its own bytes, counted from the first byte of the input, table included */
+  uint64_t length;      /* a struct: its data words; a list of values: the values; a list of structs: the
+                           elements, each its data words and then its pointers; else 0 */
+  uint64_t reserved[2]; /* 0 */
+} capvet_node;
+
+/* capvet_get -- the node at a path that is written as text.
+ *
+ *   bytes, length      the message, as for capvet_vet; it need not have been vetted
+ *   path, path_length  the path, without a final zero byte: strlen(path)
+ *   node               filled in on CAPVET_OK, and all 0 otherwise
+ *
+ * "/" is the root. "/p0/i7/p2" is the root's pointer 0, its element 7, and that element's pointer 2. /p steps
+ * from a struct to one of its pointers, /i from a list of pointers or structs to an element. Numbers are
+ * decimal, without leading zeros.
+ *
+ * Returns CAPVET_OK, or CAPVET_NO_NODE if the path leads to nothing. A reader with a schema takes both
+ * CAPVET_NO_NODE and a null node as the field's default. CAPVET_BAD_PATH: not a path.
+ *
+ * ONLY THE POINTERS ON THE PATH ARE CHECKED. What is wrong on the path gives the answer that capvet_vet has
+ * for it; what is wrong next to the path is not noticed. Their charges count, the root's among them. For a
+ * message that capvet_vet accepts with the same limits, every path gives CAPVET_OK or CAPVET_NO_NODE.
+ *
+ * The bytes of a node are contiguous: bytes + node->offset, node->length of them, inside the frame. Bits after
+ * the last value of a list of bits may be anything. On CAPVET_OK and CAPVET_NO_NODE the report has `length`
+ * and `segments`. Of a refusal it has the place, and `pointers` counts those on the path up to it.
+ *
+ * Cost: one step for each step of the path and each segment. */
+CAPVET_CALL((3, 6, 7))
+capvet_answer capvet_get(const uint8_t *bytes, size_t length, const capvet_limits *limits, const char *path,
+                         size_t path_length, capvet_node *node, capvet_report *report) CAPVET_NOEXCEPT;
 
 /* ------------------------------------------------------------------------------------------------------
  * Packing

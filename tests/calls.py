@@ -1,9 +1,10 @@
 #!/usr/bin/env python3
 """Builds the C programs of tests/c over the built archive, and runs them, beside the built program.
 
-    calls.py ARCHIVE PROGRAM [messages | packed | flags]
+    calls.py ARCHIVE PROGRAM [messages | packed | flags | nodes]
 
-With a word only that part is tested: what is about messages, about packed bytes, or about flags and reports.
+With a word only that part is tested: what is about messages, about packed bytes, about flags and reports, or about
+nodes.
 
 The header alone is compiled in each standard of C and C++ that it is promised for. `calls` looks at known
 buffers, and `allocations` counts how often memory is taken.
@@ -14,6 +15,7 @@ copies of as many messages are compared too, with the line of some that have non
 the samples, of each prefix of one, and of 1,000 that are made up. `texts` unpacks 100,000 texts, many with changed bytes.
 
 `flags` makes calls with flags, and each field of their reports is compared with tests/model.py: see tests/flags.py.
+`nodes` gets the nodes at 100,000 paths, which are compared with tests/nodes.py.
 
 `packing` looks at known words, and packs 100,000 lists of words, as the program does. They are the samples, each prefix
 of one, changed ones, runs of about the greatest length of a group, and words of few kinds.
@@ -35,6 +37,7 @@ from pathlib import Path
 
 import flags
 import header
+import nodes
 import strict
 
 TOP = Path(__file__).resolve().parent.parent
@@ -82,8 +85,8 @@ def wanted_symbols(archive):
     own = {line.split()[-1] for line in lines if " T " in line}
     told("what the archive wants", undefined - own <= {"memcpy", "memmove", "memset"}, str(undefined - own))
     for name in ("capvet_version", "capvet_frame", "capvet_vet", "capvet_vet_exclusive", "capvet_is_canonical",
-                 "capvet_canonical", "capvet_pack", "capvet_unpack", "capvet_pack_message", "capvet_limits_default",
-                 "capvet_abi_1", "capvet_segment_at", "capvet_vet_segments"):
+                 "capvet_canonical", "capvet_get", "capvet_pack", "capvet_unpack", "capvet_pack_message",
+                 "capvet_limits_default", "capvet_abi_1", "capvet_segment_at", "capvet_vet_segments"):
         told(f"the archive has {name}", name in own)
 
 
@@ -512,7 +515,14 @@ def test_flags(folder, compilers, archive, program):
         flags.test(told, asking, samples(), made_up, changed, random.Random(SEED))
 
 
-PARTS = {"messages": test_messages, "packed": test_packed, "flags": test_flags}
+def test_nodes(folder, compilers, archive, program):
+    """The nodes at paths, and reports, field by field."""
+    asking = compiled(folder, "nodes", compilers[0], "c11", archive, "-O1", *CHECKS)
+    if asking is not None:
+        nodes.test(told, asking, program, samples(), made_up, changed, random.Random(SEED))
+
+
+PARTS = {"messages": test_messages, "packed": test_packed, "flags": test_flags, "nodes": test_nodes}
 
 
 def main():

@@ -1,14 +1,16 @@
 #!/usr/bin/env python3
-"""Compares the answers and constants of include/capvet.h, their numbers and the names of answers, with those of the code
-and of the definitions.
+"""Compares the answers, the kinds of node and the constants of include/capvet.h, their numbers and the names of answers, with
+those of the code and of the definitions.
 
-Each answer and constant is a case. The last line is 'N passed, 0 failed', or says which one differs.
+Each answer, kind and constant is a case. The last line is 'N passed, 0 failed', or says which one differs.
 """
 
 import pathlib
 import re
 import sys
 
+# the header's names of the kinds
+KINDS = dict(Cap="CAPABILITY", Struct="STRUCT", Scalars="VALUES", Pointers="POINTERS", Structs="STRUCTS")
 ROOT = pathlib.Path(__file__).resolve().parent.parent
 LIMITS, DEMANDS, FLAGS = "crates/cap_vet/src/limits.rt", "crates/cap_vet/src/demands.rt", "crates/cap_calls/specs/CallFlags.antt"
 # Constants of the header, and the one place of each in the code or in a definition.
@@ -55,7 +57,7 @@ def names():
 
 
 def main():
-    header = answers("include/capvet.h", r"^\s*CAPVET_([A-Z_]+) = (\d+)")
+    header = answers("include/capvet.h", r"^\s*CAPVET_(?!KIND_)([A-Z_]+) = (\d+)")
     code = answers("crates/cap_calls/src/answer.rt", CODE)
     specs = answers("crates/cap_calls/specs/AnswerNumbers.antt", r"^number_of ([A-Z]\w+) = (\d+)")
     for path, told in (("answer.rt", code), ("AnswerNumbers.antt", specs)):
@@ -71,7 +73,14 @@ def main():
     told = re.findall(r'^    case CAPVET_([A-Z_]+): return "(\w+)";', (ROOT / "include/capvet.h").read_text(), re.MULTILINE)
     if [name for name, _ in told] != list(header) or {header[name]: text for name, text in told} != names():
         sys.exit(f"header: capvet_answer_name has {told}")
-    print(f"{len(header) + len(CONSTANTS)} passed, 0 failed")
+    kinds = answers("include/capvet.h", r"^\s*CAPVET_KIND_([A-Z_]+) = (\d+)")
+    code = answers("crates/cap_calls/src/node.rt", r"Kind::(\w+)[^=]*=> CallNode \{\s*kind: (\d+)")
+    specs = answers("crates/cap_calls/specs/CallNodes.antt", r"^kind_node \(?(\w+)[^=]*=\s*record none_node \{\s*kind = (\d+)")
+    for path, told in (("node.rt", code), ("CallNodes.antt", specs)):
+        there = {"NULL": 0} | {KINDS[name]: number for name, number in told.items()}
+        if there != kinds:
+            sys.exit(f"header: the kinds of node are {kinds}, and in {path} {there}")
+    print(f"{len(header) + len(CONSTANTS) + len(kinds)} passed, 0 failed")
 
 
 if __name__ == "__main__":

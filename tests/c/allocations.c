@@ -5,6 +5,7 @@
 
 #include <stdio.h>
 #include <stdlib.h>
+#include <string.h>
 
 void *__libc_malloc(size_t);
 void *__libc_calloc(size_t, size_t);
@@ -76,14 +77,14 @@ static const struct {
   reporting call;
 } CALLS[] = {{"capvet_frame", capvet_frame}, {"capvet_vet", capvet_vet}, {"capvet_is_canonical", capvet_is_canonical}};
 
-enum { FRAME, VET, IS_CANONICAL, UNPACK, PACK, EXCLUSIVE, SEGMENT_AT, VET_SEGMENTS, COUNT };
+enum { FRAME, VET, IS_CANONICAL, UNPACK, PACK, EXCLUSIVE, SEGMENT_AT, VET_SEGMENTS, GET, COUNT };
 
 /* How often each call gave each answer. */
 static unsigned long seen[COUNT][64];
 
 static void answered(int call, unsigned long before, uint32_t answer) {
   static const char *const others[] = {"capvet_unpack", "capvet_pack", "capvet_vet_exclusive", "capvet_segment_at",
-                                       "capvet_vet_segments"};
+                                       "capvet_vet_segments", "capvet_get"};
   const char *name = call >= UNPACK ? others[call - UNPACK] : CALLS[call].name;
   expect(taken == before, name, taken - before);
   if (answer < 64) seen[call][answer]++;
@@ -132,6 +133,19 @@ static void marks(const uint8_t *bytes, size_t length) {
   }
 }
 
+/* A few paths, and a text that is none. */
+static void nodes(const uint8_t *bytes, size_t length) {
+  static const char *const PATHS[] = {"/", "/p0/i1/p4", "/p9", "/p"};
+  size_t i;
+  for (i = 0; i < sizeof PATHS / sizeof *PATHS; i++) {
+    capvet_report report;
+    capvet_node node;
+    unsigned long before = taken;
+    uint32_t answer = capvet_get(bytes, length, &LIMITS[1], PATHS[i], strlen(PATHS[i]), &node, &report);
+    answered(GET, before, answer);
+  }
+}
+
 /* Each of the first two segments, and these as separate ones. */
 static void segments(const uint8_t *bytes, size_t length) {
   capvet_segment parts[2] = {{NULL, 0}, {NULL, 0}};
@@ -174,6 +188,7 @@ static void parts(const uint8_t *bytes, size_t length) {
     reports(bytes, at);
     marks(bytes, at);
     segments(bytes, at);
+    nodes(bytes, at);
     spells(UNPACK, capvet_unpack, bytes, at);
     spells(PACK, capvet_pack, bytes, at);
   }
@@ -206,6 +221,10 @@ static const struct {
               {SEGMENT_AT, CAPVET_NO_SEGMENT},
               {VET_SEGMENTS, CAPVET_OK},
               {VET_SEGMENTS, CAPVET_NO_ROOT},
+              {GET, CAPVET_OK},
+              {GET, CAPVET_NO_NODE},
+              {GET, CAPVET_BAD_PATH},
+              {GET, CAPVET_TRUNCATED},
               {UNPACK, CAPVET_OK},
               {UNPACK, CAPVET_BUFFER_TOO_SMALL},
               {UNPACK, CAPVET_TRUNCATED},

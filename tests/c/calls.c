@@ -54,6 +54,10 @@ static void layout(void) {
   EXPECT(offsetof(capvet_report, depth) == 48, "report.depth", offsetof(capvet_report, depth));
   EXPECT(offsetof(capvet_report, word) == 60, "report.word", offsetof(capvet_report, word));
   EXPECT(offsetof(capvet_report, reserved) == 64, "report.reserved", offsetof(capvet_report, reserved));
+  EXPECT(sizeof(capvet_node) == 56, "size of a node", sizeof(capvet_node));
+  EXPECT(offsetof(capvet_node, capability) == 20, "node.capability", offsetof(capvet_node, capability));
+  EXPECT(offsetof(capvet_node, offset) == 24, "node.offset", offsetof(capvet_node, offset));
+  EXPECT(offsetof(capvet_node, reserved) == 40, "node.reserved", offsetof(capvet_node, reserved));
 }
 
 /* Each field of an accepted message's report, at each alignment. */
@@ -74,6 +78,43 @@ static void fields(void) {
     EXPECT(r.segments == 2, "segments", r.segments);
     EXPECT((r.reserved[0] | r.reserved[1] | r.reserved[2] | r.reserved[3]) == 0, "reserved", r.reserved[0]);
     EXPECT(memcmp(whole + odd, TWO, sizeof TWO) == 0, "the bytes stay", odd);
+    free(whole);
+  }
+}
+
+/* The nodes of TWO, at each alignment, and texts that are no paths. */
+static void nodes(void) {
+  static const struct {
+    const char *path;
+    uint32_t answer, kind, pointers, capability;
+    uint64_t offset, detail;
+  } ROWS[] = {
+      {"/", CAPVET_OK, CAPVET_KIND_STRUCT, 2, 0, 32, 0},   {"/p0", CAPVET_OK, CAPVET_KIND_NULL, 0, 0, 0, 0},
+      {"/p1", CAPVET_OK, CAPVET_KIND_CAPABILITY, 0, 5, 0, 0}, {"/p2", CAPVET_NO_NODE, 0, 0, 0, 0, 0},
+      {"/i0", CAPVET_NO_NODE, 0, 0, 0, 0, 0},              {"/p0/p0", CAPVET_NO_NODE, 0, 0, 0, 0, 0},
+      {"", CAPVET_BAD_PATH, 0, 0, 0, 0, 0},                {"/p00", CAPVET_BAD_PATH, 0, 0, 0, 0, 3},
+      {"/p0/", CAPVET_BAD_PATH, 0, 0, 0, 0, 4},            {"/p65536", CAPVET_BAD_PATH, 0, 0, 0, 0, 6}};
+  size_t odd, i;
+  for (odd = 0; odd < 8; odd++) {
+    uint8_t *whole = block(TWO, sizeof TWO, odd);
+    for (i = 0; i < sizeof ROWS / sizeof *ROWS; i++) {
+      capvet_report r = unwritten();
+      capvet_node n;
+      size_t length = strlen(ROWS[i].path);
+      char *path = (char *)block((const uint8_t *)ROWS[i].path, length, 0);
+      uint32_t got;
+      memset(&n, 0xa5, sizeof n);
+      got = capvet_get(whole + odd, sizeof TWO, &LIMITS, path, length, &n, &r);
+      EXPECT(got == ROWS[i].answer, ROWS[i].path, got);
+      EXPECT(n.kind == ROWS[i].kind && n.pointers == ROWS[i].pointers, "kind and pointers of a node", i);
+      EXPECT(n.capability == ROWS[i].capability && n.offset == ROWS[i].offset, "capability and offset of a node", i);
+      EXPECT(n.data_words == (i == 0) && n.length == 8 * n.data_words, "data words of a node", i);
+      EXPECT((n.element | n.count | n.reserved[0] | n.reserved[1]) == 0, "the rest of a node", i);
+      EXPECT(r.detail == ROWS[i].detail, "the first bad byte", r.detail);
+      EXPECT(r.length == (got == CAPVET_BAD_PATH ? 0u : 56u), "length of the frame", r.length);
+      EXPECT((r.required | r.charge | r.pointers | r.capabilities | r.depth | r.segment | r.word) == 0, "the rest", i);
+      free(path);
+    }
     free(whole);
   }
 }
@@ -510,6 +551,7 @@ int main(void) {
          capvet_version());
   layout();
   fields();
+  nodes();
   arriving();
   faults();
   refusals();

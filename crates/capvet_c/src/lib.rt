@@ -7,19 +7,21 @@ ghost use Rattle.cap_calls.specs.CallBounds.{canonical_bound, frame_bound, marks
 ghost use Rattle.cap_calls.specs.CallFlags.{allows_amplified, default_limits};
 ghost use Rattle.cap_calls.specs.CanonicalCalls.{TellsCopy};
 ghost use Rattle.cap_calls.specs.ExclusiveCalls.{TellsExclusive};
+ghost use Rattle.cap_calls.specs.NodeCalls.{TellsGet};
 ghost use Rattle.cap_calls.specs.PackCalls.{TellsPack, TellsUnpack};
 ghost use Rattle.cap_calls.specs.SegmentCalls.{AreSegmentWords, TellsSegment};
 ghost use Rattle.cap_calls.specs.SegmentsCalls.{TellsSegments};
 ghost use Rattle.cap_calls.specs.PackedMessages.{TellsPackMessage};
 ghost use Rattle.cap_calls.specs.declared.answer.Answer.{Answer};
 ghost use Rattle.cap_calls.specs.declared.answer.Answer.TheVariants.{Good, Overlap};
+ghost use Rattle.cap_calls.specs.declared.node.CallNode.{CallNode};
 ghost use Rattle.cap_calls.specs.declared.report.CallReport.{CallReport};
 ghost use Rattle.cap_calls.specs.Slices.{bytes_of};
 ghost use Rattle.std.specs.Prelude.{◌*◌, ◌+◌, ◌/◌, ◌≡◌, ◌≤◌, ◌⊎◌, IsFalse, List, drop, length, ℕ};
 
 use cap_calls::{
-    CallLimits, CallReport, canonical, frame, is_canonical, pack, pack_message, segment_at, unpack,
-    version, vet, vet_exclusive, vet_segments,
+    CallLimits, CallNode, CallReport, canonical, frame, get, is_canonical, pack, pack_message,
+    segment_at, unpack, version, vet, vet_exclusive, vet_segments,
 };
 
 /// Returns the version of the library: 65536 times its major number, 256 times its minor number,
@@ -206,6 +208,32 @@ pub extern "C" fn capvet_is_canonical(
         (result ≡ number_of a) × (report.new ≡ r) }
 {
     is_canonical(bytes, limits, report).number()
+}
+
+/// Follows `path` in the message, and reports the node there. Only the pointers on the path are
+/// checked, so the message needn't be vetted. `CAPVET_BAD_PATH`: `path` isn't a path, from byte
+/// `report.detail` on; it comes after `CAPVET_BAD_LIMITS` and before all others. `CAPVET_NO_NODE`:
+/// nothing is at the path; it comes last.
+///
+/// With `CAPVET_OK`, `node` is the node, and its bytes are `node.length` bytes from `node.offset`
+/// on. With any other result it is all 0. The result is the number of what [`get`] returns. The
+/// report is written whole. Allocates nothing.
+#[unsafe(no_mangle)]
+pub extern "C" fn capvet_get(
+    bytes: &[u8],
+    limits: &CallLimits,
+    path: &[u8],
+    node: &mut CallNode,
+    report: &mut CallReport,
+) -> u32
+    ensures tells { (a : Answer) × TellsGet limits.now bytes.now path.now a node.new report.new
+        × (result ≡ number_of a) }
+    // The bytes and the path allow no other result.
+    ensures only { (a : Answer) (n : CallNode) (r : CallReport) →
+        TellsGet limits.now bytes.now path.now a n r →
+        (result ≡ number_of a) × (node.new ≡ n) × (report.new ≡ r) }
+{
+    get(bytes, limits, path, node, report).number()
 }
 
 /// Packs the words of `bytes`, all of them, to the start of `out`; they need be no message.

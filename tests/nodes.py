@@ -1,0 +1,313 @@
+"""Compares capvet_get, from C, field by field with a model that follows the path only. tests/calls.py runs it.
+
+The messages are the samples, changed, cut and made ones, each with some paths: most lead along the pointers that are
+there, others to what isn't, and some are no paths. Of the messages that are accepted, the nodes are compared with what
+the program's `get` prints. The bytes of each node are those of its object."""
+import struct
+import subprocess
+import tempfile
+from collections import Counter
+from pathlib import Path
+
+import model
+from flags import framed as made
+from model import FIELDS, SLACK, Limits, Refused, followed, framed, lax_form
+from trees import BITS, bits, hexadecimal
+
+ANSWERS = model.ANSWERS | dict(BAD_PATH=10, NO_NODE=21)
+KINDS = dict(null=0, struct=1, list=2, pointers=3, structs=4, cap=5)
+NODE = ("kind", "element", "count", "data_words", "pointers", "capability", "offset", "length")
+# the answer, the node and the report, with the reserved fields
+REPLY = struct.Struct("<I6I2Q2Q6Q4I4Q")
+MANY = 100_000
+LEAST = 20_000
+
+
+def steps_of(text):
+    """The steps of a path's text, as letters and numbers, or the first byte at which it is none."""
+    if text == b"/":
+        return []
+    steps, at = [], 0
+    while at < len(text) or not steps:
+        if text[at:at + 1] != b"/":
+            return at
+        letter, at = text[at + 1:at + 2], at + 1
+        if letter not in (b"p", b"i"):
+            return at
+        first = at = at + 1
+        most = 65535 if letter == b"p" else 4294967295
+        while text[at:at + 1].isdigit() and str(int(text[first:at + 1])) == text[first:at + 1].decode() and int(
+                text[first:at + 1]) <= most:
+            at += 1
+        if at == first or text[at:at + 1] not in (b"", b"/"):
+            return at
+        steps.append((letter.decode(), int(text[first:at])))
+    return steps
+
+
+class Walk:
+    """Where a path has come to, and what following the pointers on it costs."""
+
+    def __init__(self, message, words, depth):
+        self.message, self.words, self.depth = message, words, depth
+        self.level = self.charge = self.pointers = 0
+        self.lax = None
+        if not message[0]:
+            raise Refused("NO_ROOT", 0, 0, 0)
+        self.follow(0, 0)
+
+    def follow(self, segment, at):
+        self.level, self.pointers = self.level + 1, self.pointers + 1
+        place = segment, at, self.pointers
+        try:
+            self.found = followed(self.message, segment, at)
+        except Refused as fault:
+            raise Refused(*fault.args, *place) from None
+        has_levels = self.found.kind == "structs" and self.found.sizes[0] > 0
+        if self.found.kind not in ("null", "cap") and self.level + has_levels > self.depth:
+            raise Refused("DEPTH_LIMIT", *place)
+        self.charge += self.found.charge
+        if self.charge > self.words:
+            raise Refused("WORD_LIMIT", *place)
+        form = lax_form(self.message, segment, at)
+        if form and not self.lax:
+            self.lax = form, *place
+        if self.found.kind == "cap":
+            word = self.message[segment][at]
+            if bits(word, 0, 2) == 2:
+                word = self.message[bits(word, 32, 32)][bits(word, 3, 29)]
+            self.found.sizes = (bits(word, 32, 32),)
+
+    def step(self, letter, number):
+        """Whether the step leads anywhere."""
+        found, sizes = self.found, self.found.sizes
+        if letter == "p" and found.kind == "struct" and number < sizes[1]:
+            self.follow(found.segment, found.start + sizes[0] + number)
+        elif letter == "i" and found.kind == "pointers" and number < sizes[1]:
+            self.follow(found.segment, found.start + number)
+        elif letter == "i" and found.kind == "structs" and number < sizes[0]:
+            start = found.start + 1 + number * (sizes[1] + sizes[2])
+            self.found = model.Object("struct", found.segment, start, sizes[1] + sizes[2], sizes[1:])
+            self.level += 1
+        else:
+            return False
+        return True
+
+
+def node_fields(message, found):
+    """The fields of the node, by their names."""
+    sizes = found.sizes
+    before = 8 * (len(message) // 2 + 1 + sum(map(len, message[:found.segment])) + found.start)
+    fields = dict(kind=KINDS[found.kind])
+    if found.kind == "cap":
+        return fields | dict(capability=sizes[0])
+    if found.kind == "struct":
+        return fields | dict(data_words=sizes[0], pointers=sizes[1], offset=before, length=8 * sizes[0])
+    if found.kind == "list":
+        return fields | dict(element=sizes[0], count=sizes[1], offset=before, length=(BITS[sizes[0]] * sizes[1] + 7) // 8)
+    if found.kind == "pointers":
+        return fields | dict(element=6, count=sizes[1], offset=before)
+    if found.kind == "structs":
+        return fields | dict(element=7, count=sizes[0], data_words=sizes[1], pointers=sizes[2], offset=before + 8,
+                             length=8 * sizes[0] * (sizes[1] + sizes[2]))
+    return fields
+
+
+def got(data, limits, path):
+    """The answer of capvet_get, the fields of its node and of its report."""
+
+    def result(answer, node=None, **fields):
+        return (ANSWERS[answer], tuple((node or {}).get(name, 0) for name in NODE),
+                tuple(fields.get(name, 0) for name in FIELDS))
+
+    if not limits.are_good():
+        return result("BAD_LIMITS")
+    steps = steps_of(path)
+    if isinstance(steps, int):
+        return result("BAD_PATH", detail=steps)
+    message, frame = framed(data, limits)
+    if message is None:
+        answer, fields = frame
+        return result(answer, **fields)
+    extent = dict(length=frame, segments=len(message))
+    if len(data) > frame and not limits.flags & model.TRAILING:
+        return result("TRAILING", detail=len(data) - frame, **extent)
+    words = limits.charge if limits.flags & model.AMPLIFIED else min(limits.charge, sum(map(len, message)) + SLACK)
+    try:
+        walk = Walk(message, words, limits.depth)
+        leads = all(walk.step(*step) for step in steps)
+        if not limits.flags & model.NONSTRICT:
+            if len(message) > 511:
+                raise Refused("MANY_SEGMENTS", 0, 0, 0)
+            if walk.lax:
+                raise Refused(*walk.lax)
+    except Refused as fault:
+        answer, segment, word, pointers = fault.args
+        return result(answer, segment=segment, word=word, pointers=pointers, **extent)
+    return result("OK", node_fields(message, walk.found), **extent) if leads else result("NO_NODE", **extent)
+
+
+def path_in(data, limits, chance):
+    """A path of a few steps, most of which lead somewhere."""
+    message, _ = framed(data, limits)
+    try:
+        walk = Walk(message, 1 << 28, 256)
+    except (Refused, TypeError):
+        return b"/p0" * chance.randrange(3) or b"/"
+    text = ""
+    for _ in range(chance.choice((0, 1, 1, 2, 2, 3, 3, 4, 5, 8))):
+        found, sizes = walk.found, walk.found.sizes
+        letter, count = {"struct": ("p", (*sizes, 0, 0)[1]), "pointers": ("i", (*sizes, 0, 0)[1]),
+                         "structs": ("i", (*sizes, 0)[0])}.get(found.kind, ("p", 0))
+        odd = chance.randrange(40)
+        number = chance.randrange(count) if count and odd else count + chance.choice((0, 1, 65535 - count % 65536))
+        letter = "pi"[letter == "p"] if odd == 1 else letter
+        text += f"/{letter}{min(number, 65535)}"
+        try:
+            if not walk.step(letter, number):
+                break
+        except Refused:
+            break
+    return text.encode() or b"/"
+
+
+def spoiled(path, chance):
+    """A text that is near a path."""
+    text = bytearray(path)
+    at = chance.randrange(len(text) + 1)
+    text[at:at + chance.randrange(2)] = chance.choice((b"", b"/", b"0", b"9", b"p", b"i", b"65536", b"x", b"\0", b"-1"))
+    return bytes(text)
+
+
+def requests(samples, made_up, changed, chance):
+    """Calls with their message, limits and path."""
+    small = [message for message in samples if len(message) < 1000]
+    known = [*samples, *strict_messages()]
+    while True:
+        kind = chance.randrange(12)
+        data = chance.choice(known) if kind < 2 else made_up(chance) if kind < 4 else changed(chance.choice(small), chance)
+        if kind == 11:
+            data = data[:chance.randrange(len(data) + 1)]
+        flags = chance.choice((0, 0, 0, 2, 4, 6, 7))
+        limits = Limits(flags=flags)
+        if chance.randrange(8) == 0:
+            limits = Limits(charge=chance.randrange(40), depth=chance.randrange(5), flags=flags)
+        if chance.randrange(200) == 0:
+            limits = chance.choice((Limits(flags=8), Limits(depth=257), Limits(charge=1 << 28 | 1), Limits(reserved=(0, 1))))
+        if chance.randrange(50) == 0:
+            data += chance.randbytes(chance.choice((1, 7, 8, 16)))
+        for _ in range(4):
+            path = path_in(data, limits, chance)
+            yield data, limits, spoiled(path, chance) if chance.randrange(25) == 0 else path
+
+
+def strict_messages():
+    """Messages that aren't strict, each for another reason, and one of 512 segments."""
+    yield made([2 | 1 << 32], [0, 0])
+    yield made([2 | 1 << 32], [3 | 9 << 32])
+    yield made([1 << 48, 2 | 1 << 32], [3 | 9 << 32])
+    yield made([1 << 48, 6 | 1 << 32], [2 | 2 << 32, 0], [])
+    yield made([1 << 48, 0], *[[] for _ in range(511)])
+
+
+def replies(program, many):
+    """What C answers to these calls."""
+    with tempfile.TemporaryDirectory() as folder:
+        path = Path(folder) / "requests"
+        with path.open("wb") as file:
+            for data, limits, text in many:
+                file.write(limits.packed() + struct.pack("<II", len(text), len(data)) + text + data)
+        ran = subprocess.run([program, path], capture_output=True)
+    size = REPLY.size
+    return ran, [REPLY.unpack_from(ran.stdout, at) for at in range(0, len(ran.stdout) - size + 1, size)]
+
+
+def is_beside(data, limits):
+    """Whether the message has a fault, for the same limits and flags."""
+    return model.called(model.VET, data, limits, 0)[0] != ANSWERS["OK"]
+
+
+def object_bytes(data, node):
+    """The own bytes of a node, or nothing where they are not inside the input."""
+    kind, element, count, data_words, pointers, capability, offset, length = node
+    return data[offset:offset + length] if offset + length <= len(data) else None
+
+
+def own_lines(data, node):
+    """The lines that the program prints for a node."""
+    kind, element, count, data_words, pointers, capability, offset, length = node
+    own = object_bytes(data, node)
+    heads = ("null", f"struct {data_words} {pointers}", f"list {element} {count}", f"pointers {count}",
+             f"structs {count} {data_words} {pointers}", f"cap {capability}")
+    lines = [f"node {heads[kind]}"]
+    if kind == KINDS["struct"]:
+        lines += [f"  d{i} {own[8 * i:8 * i + 8].hex()}" for i in range(data_words)]
+    if kind == KINDS["list"]:
+        used = BITS[element] * count
+        padded = own + bytes(-len(own) % 8)
+        words = struct.unpack(f"<{len(padded) // 8}Q", padded)
+        lines += [f"  w{i} {hexadecimal(bits(word, 0, min(64, used - 64 * i)))}" for i, word in enumerate(words)]
+    return lines
+
+
+def compare(told, program, many):
+    """The calls beside the model. How often each answer came, and paths with a fault beside them and on them."""
+    ran, found = replies(program, many)
+    told("nodes, with the compiler's checks", (ran.returncode, ran.stderr) == (0, b""), ran.stderr)
+    told("a reply to each call", len(found) == len(many), f"{len(found)}")
+    answers, beside, on, seen = Counter(), 0, 0, {}
+    for (data, limits, path), reply in zip(many, found):
+        wanted = got(data, limits, path)
+        node, report = reply[1:11], reply[11:]
+        told(f"get {path} of {data.hex()} in {limits}",
+             (reply[0], node[:8], report[:10]) == wanted and not any(node[8:] + report[10:]), f"  {reply}\n  {wanted}")
+        answers[reply[0]] += 1
+        if reply[0] >= 18 and reply[0] != ANSWERS["NO_NODE"]:
+            on += 1
+        if reply[0] in (0, ANSWERS["NO_NODE"]):
+            if (data, limits) not in seen:
+                seen = {(data, limits): is_beside(data, limits)}
+            beside += seen[data, limits]
+        if reply[0] == 0:
+            told(f"bytes of {path} of {data.hex()}", object_bytes(data, node[:8]) is not None, f"  {reply}")
+    return answers, beside, on
+
+
+def compare_with_program(told, asking, program, samples, made_up, changed, chance):
+    """The nodes of accepted messages, beside what the program prints for them."""
+    small = [message for message in samples if len(message) < 1000]
+    limits, nodes = Limits(flags=6), 0
+    for _ in range(60):
+        messages = samples + [made_up(chance) if chance.randrange(3) == 0 else changed(chance.choice(small), chance)
+                              for _ in range(120)]
+        good = [data for data in messages if model.called(model.VET, data, limits, 0)[0] == 0]
+        text = path_in(chance.choice(good), limits, chance)
+        with tempfile.TemporaryDirectory() as folder:
+            path = Path(folder) / "stream"
+            path.write_bytes(b"".join(good))
+            ran = subprocess.run([program, "get", text, path], capture_output=True, text=True)
+        lines = []
+        for number, (data, reply) in enumerate(zip(good, replies(asking, [(data, limits, text) for data in good])[1])):
+            is_node = reply[0] == 0
+            nodes += is_node
+            lines += [f"message {number}: {'found' if is_node else 'none'}", *(own_lines(data, reply[1:9]) if is_node else ())]
+        told(f"get {text} of {len(good)} messages", ran.stdout == "".join(line + "\n" for line in lines), ran.stdout[:500])
+    told("nodes of accepted messages", nodes >= 1000, f"{nodes}")
+    return nodes
+
+
+def test(told, asking, program, samples, made_up, changed, chance):
+    calls = requests(samples, made_up, changed, chance)
+    answers, beside, on, paths = Counter(), 0, 0, 0
+    while paths < MANY:
+        many = [next(calls) for _ in range(20_000)]
+        more, off, at = compare(told, asking, many)
+        answers, beside, on, paths = answers + more, beside + off, on + at, paths + len(many)
+    told("paths with a fault beside them", beside >= LEAST, f"{beside}")
+    told("paths with a fault on them", on >= LEAST, f"{on}")
+    for name in ("OK", "BAD_LIMITS", "BAD_PATH", "NO_NODE", "TRAILING", "TRUNCATED", "NullPad", "EmptySegment",
+                 "CapabilityPad", "MANY_SEGMENTS", "NO_ROOT", "DEPTH_LIMIT", "WORD_LIMIT", "OUT_OF_SEGMENT"):
+        told(f"paths that answer {name}", answers[ANSWERS[name]] >= 10, f"{answers[ANSWERS[name]]}")
+    nodes = compare_with_program(told, asking, program, samples, made_up, changed, chance)
+    print(f"calls: {paths} paths compared with the model, {beside} with a fault beside them, {on} with one on them; "
+          f"{nodes} nodes with the program's")
