@@ -63,6 +63,7 @@ mod canonical;
 mod exclusive;
 mod limits;
 mod messages;
+mod node;
 mod packing;
 mod refusal;
 mod report;
@@ -80,6 +81,7 @@ pub use exclusive::vet_exclusive_alloc;
 pub use exclusive::{vet_exclusive, ExclusiveError};
 pub use limits::Limits;
 pub use messages::{messages, Message, Messages};
+pub use node::{node, Elements, GetError, Kind, Node};
 #[cfg(feature = "alloc")]
 pub use packing::{pack, pack_message, unpack};
 pub use packing::{pack_into, pack_message_into, unpack_into};

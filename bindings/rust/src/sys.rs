@@ -16,9 +16,11 @@ impl Answer {
     pub(crate) const TRAILING: Self = Self(5);
     pub(crate) const BAD_LIMITS: Self = Self(8);
     pub(crate) const BUFFER_TOO_SMALL: Self = Self(9);
+    pub(crate) const BAD_PATH: Self = Self(10);
     pub(crate) const BAD_SEGMENT: Self = Self(12);
     pub(crate) const NOT_CANONICAL: Self = Self(16);
     pub(crate) const HAS_CAPABILITY: Self = Self(17);
+    pub(crate) const NO_NODE: Self = Self(21);
     pub(crate) const MANY_SEGMENTS: Self = Self(23);
 
     /// The last answer about the frame of a message.
@@ -91,6 +93,21 @@ pub(crate) struct RawSegment {
     pub(crate) length: usize,
 }
 
+/// `capvet_node`.
+#[repr(C)]
+#[derive(Clone, Copy, Debug, Default, PartialEq, Eq)]
+pub(crate) struct RawNode {
+    pub(crate) kind: u32,
+    pub(crate) element: u32,
+    pub(crate) count: u32,
+    pub(crate) data_words: u32,
+    pub(crate) pointers: u32,
+    pub(crate) capability: u32,
+    pub(crate) offset: u64,
+    pub(crate) length: u64,
+    pub(crate) reserved: [u64; 2],
+}
+
 extern "C" {
     fn capvet_frame(
         bytes: *const u8,
@@ -139,6 +156,15 @@ extern "C" {
         out: *mut u8,
         out_size: usize,
         required: *mut usize,
+        report: *mut RawReport,
+    ) -> Answer;
+    fn capvet_get(
+        bytes: *const u8,
+        length: usize,
+        limits: *const RawLimits,
+        path: *const u8,
+        path_length: usize,
+        node: *mut RawNode,
         report: *mut RawReport,
     ) -> Answer;
     fn capvet_pack(
@@ -294,6 +320,25 @@ pub(crate) fn canonical(
         )
     };
     (answer, required, report)
+}
+
+/// Finds the node at a path.
+pub(crate) fn get(bytes: &[u8], limits: &Limits, path: &str) -> (Answer, RawNode, RawReport) {
+    let (limits, mut report) = (RawLimits::of(limits), RawReport::default());
+    let mut node = RawNode::default();
+    // SAFETY: the declaration is the header's. `bytes` and `path` are borrowed for the call, and the structs are locals.
+    let answer = unsafe {
+        capvet_get(
+            address(bytes),
+            bytes.len(),
+            &limits,
+            address(path.as_bytes()),
+            path.len(),
+            &mut node,
+            &mut report,
+        )
+    };
+    (answer, node, report)
 }
 
 /// Packs the words to the start of `out`. The number is the length of the packed bytes.

@@ -36,13 +36,12 @@ fn between<'t>(text: &'t str, start: &str, end: &str) -> &'t str {
 fn answers() -> Vec<(String, u32)> {
     let code = header();
     let members = between(&code, "CAPVET_OK = 0,", "}").split(',');
-    let answers = members.filter_map(|member| {
+    let answer = |member: &str| {
         let (name, number) = member.trim().strip_prefix("CAPVET_")?.split_once(" = ")?;
         // (the last member, in hex, gives the enum its size)
         Some((name.to_owned(), number.parse().ok()?))
-    });
-    let absent = |name: &str| ABSENT.contains(&name);
-    answers.filter(|(name, _)| !absent(name)).collect()
+    };
+    members.filter_map(answer).collect()
 }
 
 // A constant's name as a variant's: `PAD_IS_FAR` is `PadIsFar`.
@@ -53,7 +52,7 @@ fn variant(name: &str) -> String {
 }
 
 // The answers of the header that are no reason of a refusal at a pointer.
-const OTHERS: [(&str, Answer); 12] = [
+const OTHERS: [(&str, Answer); 14] = [
     ("NO_MESSAGE", Answer::NO_MESSAGE),
     ("TOO_MANY_SEGMENTS", Answer::TOO_MANY_SEGMENTS),
     ("TOO_LARGE", Answer::TOO_LARGE),
@@ -63,13 +62,12 @@ const OTHERS: [(&str, Answer); 12] = [
     ("NO_SEGMENT", Answer(11)),
     ("BAD_SEGMENT", Answer::BAD_SEGMENT),
     ("BUFFER_TOO_SMALL", Answer::BUFFER_TOO_SMALL),
+    ("BAD_PATH", Answer::BAD_PATH),
     ("NOT_CANONICAL", Answer::NOT_CANONICAL),
     ("HAS_CAPABILITY", Answer::HAS_CAPABILITY),
+    ("NO_NODE", Answer::NO_NODE),
     ("MANY_SEGMENTS", Answer::MANY_SEGMENTS),
 ];
-
-// The answers of calls that this crate doesn't have.
-const ABSENT: [&str; 2] = ["BAD_PATH", "NO_NODE"];
 
 #[test]
 fn answers_are_those_of_the_header() {
@@ -188,12 +186,13 @@ fn a_frame_is_at_most_as_long_as_its_bound() {
 // A type of the header, as a declaration for Rust has it.
 fn in_rust(text: &str) -> String {
     let name = |text: &str| match text {
-        "uint8_t" => "u8",
+        "uint8_t" | "char" => "u8",
         "uint32_t" => "u32",
         "uint64_t" => "u64",
         "size_t" => "usize",
         "capvet_limits" => "RawLimits",
         "capvet_report" => "RawReport",
+        "capvet_node" => "RawNode",
         "capvet_answer" => "Answer",
         "capvet_segment" => "RawSegment",
         other => panic!("an unknown type {other}"),
@@ -256,6 +255,7 @@ fn structs_are_declared_as_in_the_header() {
         ("RawLimits", "capvet_limits"),
         ("RawReport", "capvet_report"),
         ("RawSegment", "capvet_segment"),
+        ("RawNode", "capvet_node"),
     ] {
         let fields = between(SYS, &format!("pub(crate) struct {here} {{"), "\n}");
         let fields: Vec<_> = fields

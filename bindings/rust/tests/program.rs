@@ -3,7 +3,7 @@
 
 #![cfg(feature = "alloc")]
 
-use capvet::{CanonicalError, ExclusiveError, Limits, Report, VetError};
+use capvet::{CanonicalError, ExclusiveError, Kind, Limits, Node, Report, VetError};
 use std::path::PathBuf;
 use std::process::Command;
 use std::{env, fs};
@@ -273,4 +273,87 @@ fn canonical_forms_are_those_of_the_program() {
         forms > 20 && refused > 20,
         "{forms} forms, {refused} refused"
     );
+}
+
+// The node at a path of an accepted message.
+fn node<'b>(message: &'b [u8], path: &str, limits: Limits) -> Node<'b> {
+    let node = capvet::node(message, path, limits);
+    node.expect("the message is accepted").expect(path)
+}
+
+// The lines of a node, of its words and of the nodes below it.
+fn dump(message: &[u8], limits: Limits, path: &str, label: &str, level: usize) -> String {
+    let (node, indent) = (node(message, path, limits), "  ".repeat(level));
+    let mut text = format!("{indent}{label} {node}\n");
+    let (words, children) = match node.kind() {
+        Kind::Struct {
+            data_words,
+            pointers,
+            ..
+        } => (('d', u64::from(data_words)), ('p', pointers)),
+        Kind::Values { .. } => (('w', (node.data().len() as u64 + 7) / 8), ('i', 0)),
+        Kind::Pointers { count, .. } => (('w', 0), ('i', count)),
+        Kind::Structs {
+            data_words: 0,
+            pointers: 0,
+            ..
+        } => (('w', 0), ('i', 0)),
+        Kind::Structs { count, .. } => (('w', 0), ('i', count)),
+        _ => (('w', 0), ('i', 0)),
+    };
+    for i in 0..words.1 {
+        text += &format!(
+            "{indent}  {}{i} {:016x}\n",
+            words.0,
+            word(&node, i as usize).swap_bytes()
+        );
+    }
+    let elements: Vec<_> = node.elements().collect();
+    for i in 0..children.1 {
+        let step = format!("{}{i}", children.0);
+        let below = format!("{}/{step}", path.trim_end_matches('/'));
+        if let Some(element) = elements.get(i as usize) {
+            assert_eq!(*element, self::node(message, &below, limits));
+        }
+        text += &dump(message, limits, &below, &step, level + 1);
+    }
+    text
+}
+
+// The word `i` of a node's own, of which bits after the last value are zero.
+fn word(node: &Node, i: usize) -> u64 {
+    if let Kind::Values { element: 1, .. } = node.kind() {
+        let bits = (0..64).map(|bit| u64::from(node.bool_at(64 * i + bit) == Some(true)) << bit);
+        return bits.sum();
+    }
+    let bytes = (0..8).map(|byte| u64::from(node.u8_at(8 * i + byte).unwrap_or(0)) << (8 * byte));
+    let word = bytes.sum();
+    assert!(node.u64_at(i).map_or(true, |it| it == word));
+    word
+}
+
+#[test]
+#[ignore = "CAPVET_PROGRAM has to be the path of the program"]
+fn nodes_are_those_of_the_program() {
+    let stream = [STREAM.to_vec(), MANY_SEGMENTS.to_vec(), changed().concat()].concat();
+    for (options, limits) in limits() {
+        let mut text = String::new();
+        let mut refused = false;
+        for (number, message) in capvet::messages(&stream, limits).enumerate() {
+            match message {
+                Ok(message) => {
+                    text += &format!("message {number}: {}\n", message.report());
+                    text += &dump(message.bytes(), limits, "/", "root", 0);
+                }
+                Err(VetError::Frame(_)) => refused = true,
+                Err(error) => {
+                    text += &format!("message {number}: {error}\n");
+                    refused = true;
+                }
+            }
+        }
+        let wanted = (text.into_bytes(), Some(i32::from(refused)));
+        let printed = program("dump", &[&["dump"][..], options].concat(), &stream);
+        assert!(printed == wanted, "{options:?}");
+    }
 }
