@@ -41,16 +41,16 @@
 //!
 //! # Errors
 //!
-//! The text of an error includes its cause, so `source()` of each is `None`. Texts are the lines of the program
-//! `capvet`, where it has one. Enums and structs may get more variants and fields: match them with `..` and a last arm.
+//! The text of an error includes its cause, so its `source()` is `None`. Texts are the lines of the program `capvet`,
+//! where it has one. Enums and structs may get more variants and fields: match them with `..` and a last arm.
 //!
 //! # Features
 //!
-//! With the feature `std`, which is on by default, the errors are [`std::error::Error`]s; without it the crate is `no_std`.
-//! The feature `alloc`, which is part of `std`, has the calls that return a `Vec`, and `vet_exclusive_alloc`. No other
-//! call allocates.
+//! With the feature `std`, which is on by default, the errors implement `std::error::Error`. Without it the crate is
+//! `no_std`. The feature `alloc`, which is part of `std`, has the calls that return a `Vec`, and `vet_exclusive_alloc`. No
+//! other call allocates.
 
-#![cfg_attr(not(any(feature = "std", test)), no_std)]
+#![cfg_attr(not(feature = "std"), no_std)]
 #![deny(unsafe_code, missing_docs, missing_debug_implementations)]
 
 #[cfg(not(target_pointer_width = "64"))]
@@ -70,7 +70,7 @@ mod report;
 mod segments;
 #[allow(unsafe_code)]
 mod sys;
-#[cfg(test)]
+#[cfg(all(test, feature = "std"))]
 mod tests;
 
 #[cfg(feature = "alloc")]

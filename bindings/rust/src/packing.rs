@@ -331,7 +331,7 @@ pub fn unpack(packed: &[u8], max_size: usize) -> Result<Vec<u8>, UnpackError> {
     Ok(words)
 }
 
-#[cfg(all(test, feature = "alloc"))]
+#[cfg(all(test, feature = "std"))]
 mod tests {
     use super::*;
 

@@ -224,7 +224,7 @@ fn calls_are_declared_as_in_the_header() {
     let code = header();
     let declared = between(SYS, "extern \"C\" {", "\n}");
     let calls: Vec<_> = declared.split("fn ").skip(1).collect();
-    assert_eq!(calls.len(), 11);
+    assert_eq!(calls.len(), 12);
     for call in calls {
         let (name, here) = call.split_once('(').expect("parameters");
         let there = between(&code, &format!(" {name}("), ")");
@@ -305,7 +305,6 @@ fn samples_are_accepted() {
     }
 }
 
-#[cfg(feature = "std")]
 #[test]
 fn samples_use_no_word_twice() {
     for bytes in [CONTACTS, MANY_SEGMENTS, TELEMETRY] {
@@ -343,7 +342,6 @@ fn samples_use_no_word_twice() {
     }
 }
 
-#[cfg(feature = "std")]
 #[test]
 fn copies_are_those_of_the_samples() {
     for (bytes, copy) in [
@@ -377,7 +375,6 @@ fn copies_are_those_of_the_samples() {
     );
 }
 
-#[cfg(feature = "std")]
 #[test]
 fn no_text_is_twice_in_a_chain_of_sources() {
     use std::error::Error;
@@ -510,7 +507,6 @@ fn words_without_a_table_are_a_message() {
     assert_eq!(error.length(), 0);
 }
 
-#[cfg(feature = "alloc")]
 #[test]
 fn words_without_a_table_have_a_form_and_marks() {
     let limits = Limits::DEFAULT.no_table(true);
