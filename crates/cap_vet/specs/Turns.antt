@@ -19,6 +19,10 @@ pub record IsWalking (m : List (List ℕ)) (limits : Limits) (runs : List Pointe
   pub walks : Walks m (words_of limits) (depth_of limits) runs report seen ahead
   pub known : K seen
 
+-- the next word to look at is s:w within these limits
+abbrev pub IsNextIn : List (List ℕ) → Limits → ℕ → ℕ → ℕ → List PointerRun → Report → Type 0
+IsNextIn m limits = IsNext m (words_of limits) (depth_of limits)
+
 -- The next word to look at is s:w, then those of the runs, and K holds of the paths before it.
 pub record IsAt (m : List (List ℕ)) (limits : Limits) (s w level : ℕ) (runs : List PointerRun) (report : Report) (K : List (List Step) → Type 0) : Type 0 where
   pub next : IsNext m (words_of limits) (depth_of limits) s w level runs report
@@ -35,6 +39,12 @@ pub record HasVisited (m : List (List ℕ)) (limits : Limits) (s w level : ℕ) 
 pub record GoesOn (m : List (List ℕ)) (limits : Limits) (runs : List PointerRun) (report : Report) (K : List (List Step) → Type 0) (left : ℕ) : Type 0 where
   pub walking : IsWalking m limits runs report K
   pub less : work_left (words_of limits) runs report < left
+
+-- the same after the next word, with the run below it
+abbrev pub GoesOnBelow : List (List ℕ) → Limits → List PointerRun → Option PointerRun → Report → Report
+    → (List (List Step) → Type 0) → Type 0
+GoesOnBelow m limits runs below before after K =
+    GoesOn m limits (runs ++ option_to_list below) after K (work_next (words_of limits) runs before)
 
 -- why a walk stops: at the first fault, or for a reason of its turn
 abbrev pub IsStopped : {S : Type 0} → List (List ℕ) → Limits → (S → Type 0) → Stopped S → Type 0

@@ -3,8 +3,7 @@
 ghost use Rattle.cap_spec.specs.Faults.{IsFirstFault};
 ghost use Rattle.cap_vet.specs.Limits.{depth_of, words_of};
 ghost use Rattle.cap_vet.specs.Turning.{added, run_below};
-ghost use Rattle.cap_vet.specs.Turns.{HasVisited};
-ghost use Rattle.cap_vet.specs.Walking.{IsNext};
+ghost use Rattle.cap_vet.specs.Turns.{HasVisited, IsNextIn};
 ghost use Rattle.std.specs.Prelude.{◌<◌, ◌≡◌, ◌^◌, IfErr, IfOk, List};
 
 use crate::far_looking::look_far;
@@ -28,9 +27,9 @@ pub(crate) fn visit<M: Segments>(
     level: u32,
 ) -> Result<Option<PointerRun>, Refusal>
     requires next { let m = M.segments message.now in (runs : List PointerRun)
-        × IsNext m (words_of limits.now) (depth_of limits.now) s w level runs report.old }
+        × IsNextIn m limits.now s w level runs report.old }
     ensures ok { let m = M.segments message.now in (runs : List PointerRun)
-        (n : IsNext m (words_of limits.now) (depth_of limits.now) s w level runs report.old) →
+        (n : IsNextIn m limits.now s w level runs report.old) →
         IfOk result (λ below. HasVisited m limits.now s w level runs report.old n below report.new) }
     ensures err { IfErr result
         (IsFirstFault (M.segments message.now) (words_of limits.now) (depth_of limits.now)) }
@@ -53,9 +52,9 @@ fn visit_other<M: Segments>(
     level: u32,
 ) -> Result<Option<PointerRun>, Refusal>
     requires next { let m = M.segments message.now in (runs : List PointerRun)
-        × IsNext m (words_of limits.now) (depth_of limits.now) s w level runs report.old }
+        × IsNextIn m limits.now s w level runs report.old }
     ensures ok { let m = M.segments message.now in (runs : List PointerRun)
-        (n : IsNext m (words_of limits.now) (depth_of limits.now) s w level runs report.old) →
+        (n : IsNextIn m limits.now s w level runs report.old) →
         IfOk result (λ below. HasVisited m limits.now s w level runs report.old n below report.new) }
     ensures err { IfErr result
         (IsFirstFault (M.segments message.now) (words_of limits.now) (depth_of limits.now)) }
@@ -74,9 +73,9 @@ fn visit_far<M: Segments>(
     level: u32,
 ) -> Result<Option<PointerRun>, Refusal>
     requires next { let m = M.segments message.now in (runs : List PointerRun)
-        × IsNext m (words_of limits.now) (depth_of limits.now) s w level runs report.old }
+        × IsNextIn m limits.now s w level runs report.old }
     ensures ok { let m = M.segments message.now in (runs : List PointerRun)
-        (n : IsNext m (words_of limits.now) (depth_of limits.now) s w level runs report.old) →
+        (n : IsNextIn m limits.now s w level runs report.old) →
         IfOk result (λ below. HasVisited m limits.now s w level runs report.old n below report.new) }
     ensures err { IfErr result
         (IsFirstFault (M.segments message.now) (words_of limits.now) (depth_of limits.now)) }

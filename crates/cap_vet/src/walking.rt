@@ -3,10 +3,9 @@
 ghost use Rattle.cap_spec.specs.declared.Step.{Step};
 ghost use Rattle.cap_vet.specs.PointerRuns.{kept};
 ghost use Rattle.cap_vet.specs.Passing.{Passes};
-ghost use Rattle.cap_vet.specs.Limits.{words_of};
-ghost use Rattle.cap_vet.specs.Turns.{GoesOn, IsAt, IsStopped, IsWalking};
+ghost use Rattle.cap_vet.specs.Turns.{GoesOnBelow, IsAt, IsStopped, IsWalking};
 ghost use Rattle.cap_vet.specs.Trails.{Ahead};
-ghost use Rattle.cap_vet.specs.Walking.{Walks, work_next};
+ghost use Rattle.cap_vet.specs.Walking.{Walks};
 ghost use Rattle.std.specs.Option.{option_to_list};
 ghost use Rattle.std.specs.Prelude.{◌+◌, ◌++◌, ◌<◌, ◌≡◌, ◌≤◌, ◌^◌, [], ◌∷◌, IfErr, IfNone, IfOk, IfSome, List, length, ℕ};
 
@@ -171,8 +170,8 @@ fn turn_at<M: Segments, T: Turn>(
         × IsAt m limits.now s w level runs report.old (T.knows turn.old m) }
     ensures ok { let m = M.segments message.now in
         (runs : List PointerRun) → IsAt m limits.now s w level runs report.old (T.knows turn.old m) →
-        IfOk result (λ below. GoesOn m limits.now (runs ++ option_to_list below) report.new
-        (T.knows turn.new m) (work_next (words_of limits.now) runs report.old)) }
+        IfOk result (λ b. GoesOnBelow m limits.now runs b report.old report.new
+        (T.knows turn.new m)) }
     ensures err { let m = M.segments message.now in
         IfErr result (IsStopped m limits.now (T.stops m)) }
 {
@@ -196,10 +195,9 @@ fn pass_nulls<M: Segments>(message: &M, run: &mut PointerRun, report: &mut Repor
     requires { let m = M.segments message.now in (words depth : ℕ) × (runs : List PointerRun)
         × (seen : List (List Step)) × (ahead : List Ahead)
         × Walks m words depth (runs ++ run.old ∷ []) report.old seen ahead }
-    ensures { let m = M.segments message.now in (words depth : ℕ) (runs : List PointerRun)
-        (seen : List (List Step)) (ahead : List Ahead) →
-        Walks m words depth (runs ++ run.old ∷ []) report.old seen ahead →
-        Passes m words depth runs seen run.old report.old run.new report.new }
+    ensures { let m = M.segments message.now in (w d : ℕ) (rs : List PointerRun)
+        (seen : List (List Step)) (a : List Ahead) → Walks m w d (rs ++ run.old ∷ []) report.old seen a →
+        Passes m w d rs seen run.old report.old run.new report.new }
 {
     'nulls: while run.left > 1 && message.word(run.segment, run.at) == 0 {
         // The count stays below the charge, a number of 64 bits.
