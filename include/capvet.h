@@ -583,9 +583,10 @@ capvet_answer capvet_unpack(const uint8_t *bytes, size_t length, uint8_t *out, s
  *   required       how many they are
  *   report         `length` and `segments` of the frame, or why there is none
  *
- * Packs the table and each segment by itself, so no run of words goes on from one into the next. libcapnp
- * refuses a message with such a run. capvet_pack over a whole frame can write one, for example where the table
- * and the first segment meet in zeros. The padding of the table is packed as zero. Checks no pointer.
+ * Packs the table and each segment by itself, so no run of words goes on from one into the next. Readers such
+ * as libcapnp refuse a message with such a run. The result of capvet_pack for a whole frame can have one, for
+ * example where the table and the first segment meet in zeros. The padding of the table is packed as zero.
+ * Checks no pointer.
  *
  * Returns what is wrong with the frame, or CAPVET_TRAILING, else CAPVET_BUFFER_TOO_SMALL or CAPVET_OK. On
  * CAPVET_OK the bytes after the result are unchanged.
