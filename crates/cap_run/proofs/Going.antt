@@ -10,7 +10,7 @@ use Rattle.cap_text.specs.declared.fault.Cause.{Cause}
 use Rattle.cap_text.specs.declared.fault.Cause.TheVariants.{TooManyMessages, Frame, Output, Refused, NotStrict, Canon}
 use Rattle.cap_text.specs.declared.fault.Cause.TheVariants.{Memory as no_marks}
 use Rattle.cap_run.specs.declared.settings.Outcome.{Outcome}
-use Rattle.cap_run.specs.Running.{Appended, EndStops, RunStops, StepStops, StopsIn}
+use Rattle.cap_run.specs.Running.{Appended, RunStops, StepStops, StopsIn}
 use Rattle.cap_run.specs.Streams.{ReadsStream}
 use Rattle.cap_run.specs.Telling.{Tells, Told, messages_of, texts_of, TellsEach, one_refused, one_noncanonical, outcome_of}
 use Rattle.cap_text.specs.Writing.{Wrote, Stopped}
@@ -135,15 +135,3 @@ module _ {S O : Type 0} (gs : source.Ghosts S) (go : output.Ghosts O) (tells : T
   going_stops old mid new before between after outcome number most (NotStrict fault) w h q = absurd q
   going_stops old mid new before between after outcome number most (Canon fault) w h q = absurd q
   going_stops old mid new before between after outcome number most no_marks w h q = (omega (arith, w.many), rw q.3 w.appended, (q.0, q.1, q.2))
-
-  -- it ended behind the last message that it may read
-  pub going_over : (old mid new : S) (before after : O) (outcome : Outcome) (most : ℕ) (cause : Cause)
-      → (w : Going gs go tells limit old mid before after outcome most)
-      → EndStops gs limit mid new cause → RunStops gs go tells wants limit most w.ts mid new before after cause
-  going_over old mid new before after outcome most TooManyMessages w q = (w.many, w.appended, q)
-  going_over old mid new before after outcome most (Frame fault) w q = (w.appended, q)
-  going_over old mid new before after outcome most (Output fault) w q = absurd q
-  going_over old mid new before after outcome most (Refused refusal) w q = absurd q
-  going_over old mid new before after outcome most (NotStrict fault) w q = absurd q
-  going_over old mid new before after outcome most (Canon fault) w q = absurd q
-  going_over old mid new before after outcome most no_marks w q = absurd q

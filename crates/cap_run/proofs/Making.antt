@@ -1,7 +1,6 @@
 -- Copies that are put one after the other.
-use Rattle.std.proofs.Common.{◌≡◌, ◌∙◌, ℕ, ◌+◌, ◌<◌, ◌≤◌, false, true, inl, inr, Result, Ok, Err, OnOk, IfErr, IsErrOf}
+use Rattle.std.proofs.Common.{◌≡◌, ◌∙◌, ℕ, ◌+◌, ◌<◌, true, inr, Result, Ok, Err, IsErrOf}
 use Rattle.std.proofs.Common.{List, [], ◌∷◌, ◌++◌, refl, sym, ap, subst, arith, append_assoc, append-nil, length-append}
-use Rattle.std.specs.Io.KnownBytes.{Keeps}
 use Rattle.std.proofs.lemmas.Bool.{false≢true}
 use Rattle.std.proofs.lemmas.List.{map-append}
 use Rattle.std.proofs.lemmas.Grind.{flat_map-append}
@@ -22,15 +21,14 @@ use Rattle.cap_vet.specs.declared.demands.Demands.{Demands}
 use Rattle.cap_canon.specs.declared.fault.CanonFault.{CanonFault}
 use Rattle.cap_canon.specs.declared.fault.CanonFault.TheVariants.{HasCapability, Memory}
 use Rattle.cap_run.specs.Canons.{CanonEnds, Canonised, HasNoCopy, IsCanonised, canonised, copies_of}
-use Rattle.cap_run.specs.Copying.{Fills, Finishes}
-use Rattle.cap_run.specs.Making.{CopiesEnd, CopiesSoFar, CopyStops, Made, Making, NextStops, StopsMaking}
+use Rattle.cap_run.specs.Copying.{Fills}
+use Rattle.cap_run.specs.Making.{CopiesSoFar, CopyStops, Made, Making, NextStops, StopsMaking}
 use Rattle.cap_run.specs.Making.{is_unfinished, refused_cause}
-use Rattle.cap_run.specs.Running.{EndStops}
-use Rattle.cap_run.specs.Streams.{EndsStream, ReadsStream}
+use Rattle.cap_run.specs.Streams.{ReadsStream}
 use Rattle.cap_text.specs.declared.fault.Cause.{Cause}
 use Rattle.cap_text.specs.declared.fault.Cause.TheVariants.{TooManyMessages, Frame, Output, Refused, NotStrict, Canon}
 use Rattle.cap_text.specs.declared.fault.Cause.TheVariants.{Memory as no_marks}
-use Rattle.cap_run.proofs.Copying.{fills_both, fills_none, finishes_behind, spoils_last}
+use Rattle.cap_run.proofs.Copying.{fills_both, fills_none, spoils_last}
 use Rattle.cap_run.proofs.Streams.{reads_both, reads_none}
 
 -- what the two clauses on faults say of the one that came
@@ -97,13 +95,6 @@ module _ {S K : Type 0} (gs : source.Ghosts S) (gk : sink.Ghosts K) (demands : D
     fills = rw (copies_of-snoc w.cs c) (fills_both gk before between after (copies_of w.cs) (frame_text (c.copy ∷ [])) w.fills fills);
   }
 
-  -- the stream ended
-  pub making_ended : (most : ℕ) (old mid new : S) (before after : K) (n : ℕ) → n ≤ most
-      → CopiesSoFar gs gk demands words depth limit old mid before after n → EndsStream gs mid new
-      → Making gs gk demands words depth limit most old new before after n (Ok tt)
-  making_ended most old mid new before after n few w ends =
-      record { cs = w.cs; mid = mid; many = w.many; few = few; reads = w.reads; each = w.each; stops = (ends, w.fills) }
-
   -- the run ended at the next message
   stops_next : (most : ℕ) (old mid new : S) (before between after : K) (n : ℕ) (cause : Cause) → n < most
       → (w : CopiesSoFar gs gk demands words depth limit old mid before between n)
@@ -139,64 +130,6 @@ module _ {S K : Type 0} (gs : source.Ghosts S) (gk : sink.Ghosts K) (demands : D
     stops = stops_next most old mid new before between after n cause less w s;
   }
 
-  -- as many messages were read as may be
-  stops_last : (most : ℕ) (old mid new : S) (before after : K) (end : Result (Unit {0}) Cause)
-      → (w : CopiesSoFar gs gk demands words depth limit old mid before after most)
-      → OnOk end (EndsStream gs mid new) → IfErr end (λ cause. EndStops gs limit mid new cause)
-      → StopsMaking gs gk demands words depth limit most w.cs mid new before after end
-  stops_last most old mid new before after (Ok ended) w e s = (e, w.fills)
-  stops_last most old mid new before after (Err TooManyMessages) w e s = ((w.many, s.0, s.1), w.fills)
-  stops_last most old mid new before after (Err (Frame fault)) w e s = (s, w.fills)
-  stops_last most old mid new before after (Err (Output fault)) w e s = absurd s
-  stops_last most old mid new before after (Err (Refused refusal)) w e s = absurd s
-  stops_last most old mid new before after (Err (NotStrict fault)) w e s = absurd s
-  stops_last most old mid new before after (Err (Canon fault)) w e s = absurd s
-  stops_last most old mid new before after (Err no_marks) w e s = absurd s
-
-  pub making_last : (most : ℕ) (old mid new : S) (before after : K) (end : Result (Unit {0}) Cause)
-      → CopiesSoFar gs gk demands words depth limit old mid before after most
-      → OnOk end (EndsStream gs mid new) → IfErr end (λ cause. EndStops gs limit mid new cause)
-      → Making gs gk demands words depth limit most old new before after most end
-  making_last most old mid new before after end w e s =
-      record {
-        cs = w.cs;
-        mid = mid;
-        many = w.many;
-        few = omega arith;
-        reads = w.reads;
-        each = w.each;
-        stops =
-            stops_last most old mid new before after end w e s;
-      }
-
-  -- the output failed before the sink was finished
-  ends_failed : (most : ℕ) (cs : List Canonised) (mid new : S) (before after : K) (end : Result (Unit {0}) Cause) → is_unfinished end ≡ false
-      → StopsMaking gs gk demands words depth limit most cs mid new before after end
-      → CopiesEnd gs gk demands words depth limit most cs mid new before after end
-  ends_failed most cs mid new before after (Ok ended) e s = absurd (false≢true (sym e))
-  ends_failed most cs mid new before after (Err TooManyMessages) e s = absurd (false≢true (sym e))
-  ends_failed most cs mid new before after (Err (Frame fault)) e s = absurd (false≢true (sym e))
-  ends_failed most cs mid new before after (Err (Output fault)) e s = inl s
-  ends_failed most cs mid new before after (Err (Refused refusal)) e s = absurd (false≢true (sym e))
-  ends_failed most cs mid new before after (Err (NotStrict fault)) e s = absurd (false≢true (sym e))
-  ends_failed most cs mid new before after (Err (Canon fault)) e s = absurd (false≢true (sym e))
-  ends_failed most cs mid new before after (Err no_marks) e s = absurd s
-
-  pub made_failed : (most : ℕ) (old new : S) (before after : K) (n : ℕ) (end : Result (Unit {0}) Cause) → is_unfinished end ≡ false
-      → Making gs gk demands words depth limit most old new before after n end
-      → Made gs gk demands words depth limit most old new before after n end
-  made_failed most old new before after n end e w =
-      record {
-        cs = w.cs;
-        mid = w.mid;
-        many = w.many;
-        few = w.few;
-        reads = w.reads;
-        each = w.each;
-        ends = ends_failed
-            most w.cs w.mid new before after end e w.stops;
-      }
-
   -- what is known before the sink is finished
   ends_before : (most : ℕ) (cs : List Canonised) (mid new : S) (before after : K) (end : Result (Unit {0}) Cause) → is_unfinished end ≡ true
       → StopsMaking gs gk demands words depth limit most cs mid new before after end
@@ -209,37 +142,6 @@ module _ {S K : Type 0} (gs : source.Ghosts S) (gk : sink.Ghosts K) (demands : D
   ends_before most cs mid new before after (Err (NotStrict fault)) e s = s
   ends_before most cs mid new before after (Err (Canon fault)) e s = s
   ends_before most cs mid new before after (Err no_marks) e s = absurd s
-
-  -- and once it is
-  ends_behind : (most : ℕ) (cs : List Canonised) (mid new : S) (before after : K) (end : Result (Unit {0}) Cause)
-      → CanonEnds gs gk demands words depth limit most cs mid new end
-      → Finishes gk before after (copies_of cs)
-      → CopiesEnd gs gk demands words depth limit most cs mid new before after end
-  ends_behind most cs mid new before after (Ok ended) s f = (s, f)
-  ends_behind most cs mid new before after (Err TooManyMessages) s f = (s, f)
-  ends_behind most cs mid new before after (Err (Frame fault)) s f = (s, f)
-  ends_behind most cs mid new before after (Err (Output fault)) s f = absurd s
-  ends_behind most cs mid new before after (Err (Refused refusal)) s f = (s, f)
-  ends_behind most cs mid new before after (Err (NotStrict fault)) s f = (s, f)
-  ends_behind most cs mid new before after (Err (Canon fault)) s f = (s, f)
-  ends_behind most cs mid new before after (Err no_marks) s f = absurd s
-
-  pub made_finished : (most : ℕ) (old new : S) (before between after : K) (n : ℕ) (end : Result (Unit {0}) Cause) → is_unfinished end ≡ true
-      → Making gs gk demands words depth limit most old new before between n end
-      → Keeps (gk.text between []) (gk.taken after)
-      → (gk.closed between ≡ false) × (gk.closed after ≡ true) × (gk.failures after ≡ gk.failures between)
-      → Made gs gk demands words depth limit most old new before after n end
-  made_finished most old new before between after n end e w k o =
-      let s = ends_before most w.cs w.mid new before between end e w.stops in
-      record {
-        cs = w.cs;
-        mid = w.mid;
-        many = w.many;
-        few = w.few;
-        reads = w.reads;
-        each = w.each;
-        ends = ends_behind most w.cs w.mid new before after end s.0 (finishes_behind gk before between after (copies_of w.cs) s.1 k o);
-      }
 
   -- the output failed as it was finished
   pub made_spoiled : (most : ℕ) (old new : S) (before between after : K) (n : ℕ) (end : Result (Unit {0}) Cause) (out : OutFault) → is_unfinished end ≡ true

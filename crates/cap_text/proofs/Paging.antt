@@ -1,15 +1,11 @@
 -- Texts that are put on a page one after the other.
-use Rattle.std.proofs.Common.{◌≡◌, ◌⊎◌, ◌<◌, ℕ, List, [], ◌∷◌, ◌++◌, length, refl, sym, ap, ◌∙◌, append_assoc}
-use Rattle.std.proofs.Common.{append-nil, subst, Result, Ok, Err, inl, inr, arith}
+use Rattle.std.proofs.Common.{◌≡◌, ◌⊎◌, ℕ, List, [], ◌++◌, refl, sym, ap, ◌∙◌, append_assoc}
+use Rattle.std.proofs.Common.{append-nil, subst, Result, Ok, Err, inl, inr}
 use Rattle.cap_words.specs.declared.ends.ByteOut as output
 use Rattle.cap_words.specs.declared.ends.OutFault.{OutFault}
 use Rattle.cap_text.specs.Paging.{Added, Halted, Adds}
 use Rattle.cap_text.specs.Writing.{Wrote, Stopped, Writes}
 use Rattle.cap_text.proofs.Writing.{stopped_more, stopped_then, writes_then, wrote_then}
-
-none_of : (xs : List ℕ) → length xs ≡ 0 → xs ≡ []
-none_of [] e = refl
-none_of (x ∷ xs) e = absurd (omega (arith, e))
 
 module _ {O : Type 0} (g : output.Ghosts O) where
   -- nothing went out, or this text
@@ -87,14 +83,6 @@ module _ {O : Type 0} (g : output.Ghosts O) where
   -- what stood on a page went out, and it is empty
   pub turned : (a b : O) (held : List ℕ) → Wrote g a b held → Added g (a, held) (b, []) []
   turned a b held w = record { gone = held; whole = refl; out = inr w }
-
-  gone_whole : (a b : O) (all gone : List ℕ) → 0 < length all → all ≡ gone → Gone a b gone → Wrote g a b all
-  gone_whole a b all gone h e (inl k) = let none = ap length (e ∙ k.1) in absurd (omega (arith, h, none))
-  gone_whole a b all gone h e (inr w) = subst (Wrote g a b) (sym e) w
-
-  -- the last page is empty, so the whole text is out
-  pub all_gone : (a b : O) (held now text : List ℕ) → 0 < length (held ++ text) → length now ≡ 0 → Added g (a, held) (b, now) text → Wrote g a b (held ++ text)
-  all_gone a b held now text h e p = gone_whole a b (held ++ text) p.gone h (p.whole ∙ ap (λ t. p.gone ++ t) (none_of now e) ∙ append-nil p.gone) p.out
 
   gone_out : {T : Type 0} (a b c : O) (r : Result T OutFault) (all gone now : List ℕ) → all ≡ gone ++ now
       → Gone a b gone → Writes g b c r now → Writes g a c r all
