@@ -1,6 +1,5 @@
 use Rattle.std.proofs.Common.{arith}
 use Rattle.cap_ptr.proofs.Pads.{stands-one_pad}
-use Rattle.cap_vet.specs.Looking.{MayStandFor}
 use Rattle.cap_vet.proofs.far_looking.look_over_pad.Goals as goal
 
 pub described_within-requires-clause-stands : goal.described_within-requires-clause-stands
