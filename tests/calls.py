@@ -517,9 +517,10 @@ def test_flags(folder, compilers, archive, program):
 
 def test_nodes(folder, compilers, archive, program):
     """The nodes at paths, and reports, field by field."""
+    watched = compiled(folder, "nodes", compilers[0], "c99", archive)
     asking = compiled(folder, "nodes", compilers[0], "c11", archive, "-O1", *CHECKS)
     if asking is not None:
-        nodes.test(told, asking, program, samples(), made_up, changed, random.Random(SEED))
+        nodes.test(told, asking, watched, program, samples(), made_up, changed, random.Random(SEED))
 
 
 PARTS = {"messages": test_messages, "packed": test_packed, "flags": test_flags, "nodes": test_nodes}

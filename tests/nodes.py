@@ -3,6 +3,7 @@
 The messages are the samples, changed, cut and made ones, each with some paths: most lead along the pointers that are
 there, others to what isn't, and some are no paths. Of the messages that are accepted, the nodes are compared with what
 the program's `get` prints. The bytes of each node are those of its object."""
+import shutil
 import struct
 import subprocess
 import tempfile
@@ -211,13 +212,13 @@ def strict_messages():
 
 
 def replies(program, many):
-    """What C answers to these calls."""
+    """What C answers to these calls, from a program and its words."""
     with tempfile.TemporaryDirectory() as folder:
         path = Path(folder) / "requests"
         with path.open("wb") as file:
             for data, limits, text in many:
                 file.write(limits.packed() + struct.pack("<II", len(text), len(data)) + text + data)
-        ran = subprocess.run([program, path], capture_output=True)
+        ran = subprocess.run([*program, path], capture_output=True)
     size = REPLY.size
     return ran, [REPLY.unpack_from(ran.stdout, at) for at in range(0, len(ran.stdout) - size + 1, size)]
 
@@ -252,7 +253,7 @@ def own_lines(data, node):
 
 def compare(told, program, many):
     """The calls beside the model. How often each answer came, and paths with a fault beside them and on them."""
-    ran, found = replies(program, many)
+    ran, found = replies([program], many)
     told("nodes, with the compiler's checks", (ran.returncode, ran.stderr) == (0, b""), ran.stderr)
     told("a reply to each call", len(found) == len(many), f"{len(found)}")
     answers, beside, on, seen = Counter(), 0, 0, {}
@@ -277,7 +278,7 @@ def compare_with_program(told, asking, program, samples, made_up, changed, chanc
     """The nodes of accepted messages, beside what the program prints for them."""
     small = [message for message in samples if len(message) < 1000]
     limits, nodes = Limits(flags=6), 0
-    for _ in range(60):
+    for _ in range(200):
         messages = samples + [made_up(chance) if chance.randrange(3) == 0 else changed(chance.choice(small), chance)
                               for _ in range(120)]
         good = [data for data in messages if model.called(model.VET, data, limits, 0)[0] == 0]
@@ -287,17 +288,25 @@ def compare_with_program(told, asking, program, samples, made_up, changed, chanc
             path.write_bytes(b"".join(good))
             ran = subprocess.run([program, "get", text, path], capture_output=True, text=True)
         lines = []
-        for number, (data, reply) in enumerate(zip(good, replies(asking, [(data, limits, text) for data in good])[1])):
+        for number, (data, reply) in enumerate(zip(good, replies([asking], [(data, limits, text) for data in good])[1])):
             is_node = reply[0] == 0
             nodes += is_node
             lines += [f"message {number}: {'found' if is_node else 'none'}", *(own_lines(data, reply[1:9]) if is_node else ())]
         told(f"get {text} of {len(good)} messages", ran.stdout == "".join(line + "\n" for line in lines), ran.stdout[:500])
-    told("nodes of accepted messages", nodes >= 1000, f"{nodes}")
+    told("nodes of accepted messages", nodes >= 2000, f"{nodes}")
     return nodes
 
 
-def test(told, asking, program, samples, made_up, changed, chance):
+def watch(told, watched, asking, many):
+    """The same replies under valgrind, where that is installed."""
+    if watched is not None and shutil.which("valgrind"):
+        ran, wanted = (replies(program, many)[0] for program in (["valgrind", "-q", "--error-exitcode=9", watched], [asking]))
+        told("nodes, under valgrind", (ran.returncode, ran.stdout) == (0, wanted.stdout), ran.stderr)
+
+
+def test(told, asking, watched, program, samples, made_up, changed, chance):
     calls = requests(samples, made_up, changed, chance)
+    watch(told, watched, asking, [next(calls) for _ in range(2000)])
     answers, beside, on, paths = Counter(), 0, 0, 0
     while paths < MANY:
         many = [next(calls) for _ in range(20_000)]
