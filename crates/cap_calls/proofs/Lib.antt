@@ -1,10 +1,14 @@
 pub mod AllFlags
 pub mod Answers
+pub mod AppendedWords
 pub mod Bounds
 pub mod Copied
+pub mod GivenWords
 pub mod Gotten
 pub mod Marked
+pub mod MessageStages
 pub mod OneNode
+pub mod OneStop
 pub mod Packed
 pub mod Segments
 pub mod SeparateSegments
@@ -13,7 +17,11 @@ pub mod SegmentPlaces
 pub mod SegmentsAsFramed
 pub mod PackedFrames
 pub mod PackedMessages
+pub mod PackedStreams
 pub mod Texts
 pub mod Unpacked
+pub mod UnpackedFound
+pub mod UnpackedMessages
+pub mod UnpackedPieces
 pub mod Wider
 pub mod Words

@@ -9,9 +9,12 @@ pub mod CallReports
 pub mod Calls
 pub mod CanonicalCalls
 pub mod ExclusiveCalls
+pub mod MessageStages
 pub mod NodeCalls
 pub mod PackCalls
 pub mod SegmentCalls
 pub mod SegmentsCalls
 pub mod Slices
 pub mod PackedMessages
+pub mod PackedStreams
+pub mod UnpackingMessages

@@ -8,6 +8,7 @@ pub(crate) mod pack;
 pub(crate) mod pack_message;
 pub(crate) mod segment_at;
 pub(crate) mod unpack;
+pub(crate) mod unpack_message;
 pub(crate) mod version;
 pub(crate) mod vet;
 pub(crate) mod vet_exclusive;

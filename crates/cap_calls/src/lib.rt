@@ -10,9 +10,11 @@ mod laws;
 mod limits;
 mod node;
 mod over;
+mod packed_stream;
 mod packing_laws;
 mod report;
 mod slices;
+mod unpacking;
 
 pub use answer::Answer;
 pub use calls::canonical::canonical;
@@ -23,6 +25,7 @@ pub use calls::pack::pack;
 pub use calls::pack_message::pack_message;
 pub use calls::segment_at::segment_at;
 pub use calls::unpack::unpack;
+pub use calls::unpack_message::unpack_message;
 pub use calls::version::version;
 pub use calls::vet::vet;
 pub use calls::vet_exclusive::vet_exclusive;
@@ -33,5 +36,6 @@ pub use laws::{
 };
 pub use limits::CallLimits;
 pub use node::CallNode;
-pub use packing_laws::packed_message_unpacks;
+pub use packing_laws::{packed_message_unpacks, pieces_unpack_as_one};
 pub use report::CallReport;
+pub use unpacking::Unpacking;

@@ -1,0 +1,59 @@
+-- The words that a call gave are appended to the message.
+use Rattle.std.proofs.Common.{ℕ, List, [], ◌++◌, ◌≡◌, ◌∙◌, ◌<◌, ◌≤◌, ◌+◌, ◌-◌, ◌*◌, ◌/◌, ◌%◌, ap, ap₂, refl, sym, subst, arith}
+use Rattle.std.proofs.Common.{append-nil, append_assoc, drop, length, length-drop, take, take-append-drop, take-take}
+use Rattle.std.specs.List.{AllByRecursion}
+use Rattle.std.proofs.lemmas.List.{drop_all, length-take-le}
+use Rattle.cap_spec.specs.Plain.{plain_text, plain_words}
+use Rattle.cap_spec.proofs.Bytes.Lists.{all_drop, all_take}
+use Rattle.cap_spec.proofs.Bytes.Plain.{plain_split, words_exact}
+use Rattle.cap_calls.specs.PackedStreams.{Gives}
+use Rattle.cap_calls.specs.UnpackingMessages.{Appends, IsOpen}
+use Rattle.cap_calls.specs.declared.packed_stream.Given.{Given}
+use Rattle.cap_calls.specs.declared.unpacking.Unpacking.{Unpacking}
+
+-- the words of the buffer from where the call began
+abbrev pub words_given : ℕ → List ℕ → Given → List ℕ
+words_given start new g = plain_words (drop start (take g.written new))
+
+-- how many bytes they have
+pub given_long : (start z p : ℕ) (bytes old new : List ℕ) (g : Given) → start % 8 ≡ 0 → Gives start z p bytes old new g
+    → start + 8 * length (words_given start new g) ≡ g.written
+given_long start z p bytes old new g first f =
+    let inside : g.written ≤ length new = omega (arith, f.fits, f.long) in
+    omega (
+      arith,
+      words_exact (drop start (take g.written new)),
+      length-drop start (take g.written new),
+      length-take-le g.written new inside,
+      f.whole,
+      first,
+      f.after,
+    )
+
+pub appended : (limit : ℕ) (bytes old new : List ℕ) (state : Unpacking) (g : Given) → AllByRecursion (λ b. b < 256) new
+    → state.written % 8 ≡ 0 → Gives state.written state.zero_words state.literal_words bytes old new g
+    → ((n : ℕ) → state.written ≤ n → n < g.written → n % 8 ≡ 0 → (wanted : ℕ) × IsOpen limit (take n new) wanted)
+    → Appends limit bytes old state (words_given state.written new g) g.taken g.zeros g.literal new
+appended limit bytes old new state g small first f before =
+    let W = state.written in
+    let own = drop W (take g.written new) in
+    let ws = plain_words own in
+    let total : W + 8 * length ws ≡ g.written = given_long W state.zero_words state.literal_words bytes old new g first f in
+    let inside : g.written ≤ length new = omega (arith, f.fits, f.long) in
+    let s = plain_split own (all_drop (λ (b : ℕ). b < 256) W (take g.written new) (all_take (λ (b : ℕ). b < 256) g.written new small)) in
+    let none : drop (8 * length ws) own ≡ [] =
+    drop_all (8 * length ws) own (omega (arith, length-drop W (take g.written new), length-take-le g.written new inside, total)) in
+    let text : own ≡ plain_text ws = s.whole ∙ (ap (λ (l : List ℕ). plain_text ws ++ l) none ∙ append-nil (plain_text ws)) in
+    let front : take W (take g.written new) ≡ take W old = take-take W g.written new f.after ∙ f.front in
+    record {
+      fits = omega (arith, total, f.fits);
+      leads = f.leads;
+      text =
+          sym (take-append-drop g.written new)
+          ∙ (ap (λ (l : List ℕ). l ++ drop g.written new) (sym (take-append-drop W (take g.written new)))
+          ∙ (ap₂ (λ (k l : List ℕ). (k ++ l) ++ drop g.written new) front text
+          ∙ (append_assoc (take W old) (plain_text ws) (drop g.written new)
+          ∙ ap (λ (l : List ℕ). take W old ++ (plain_text ws ++ l)) (f.rest ∙ ap (λ (k : ℕ). drop k old) (sym total)))));
+      before = λ n l. before (W + 8 * n) (omega arith) (omega (arith, l, total)) (omega (arith, first));
+      left = f.left;
+    }

@@ -1,0 +1,90 @@
+-- Words in a buffer, one step after the other.
+use Rattle.std.proofs.Common.{ℕ, List, [], ◌∷◌, ◌++◌, ◌≡◌, ◌∙◌, ◌<◌, ◌≤◌, ◌+◌, ◌-◌, ◌*◌, ◌/◌, ◌%◌, ap, refl, sym, subst}
+use Rattle.std.proofs.Common.{arith, append_assoc, drop, drop-drop, length, length-append, length-drop, length-take, take}
+use Rattle.std.proofs.Common.{take-append-drop, take-take}
+use Rattle.std.proofs.lemmas.List.{drop-append-le, drop_at, length-take-le, take-append-le}
+use Rattle.std.proofs.lemmas.Slice.{take-put_mid_below}
+use Rattle.cap_spec.specs.Plain.{plain_words}
+use Rattle.cap_words.proofs.Filling.{plain_join}
+use Rattle.cap_words.proofs.Turns.{filled, filled_within}
+use Rattle.cap_calls.specs.PackedStreams.{Gives, IsRest, Leads}
+use Rattle.cap_calls.specs.declared.packed_stream.Given.{Given}
+use Rattle.cap_calls.proofs.PackedStreams.{leads_both, leads_none}
+use borrow.Rule.Slice.PartMut.{post_of, put_mid}
+
+-- nothing yet
+pub gives_none : (start z p : ℕ) (bytes old : List ℕ) → start ≤ length old → start % 8 ≡ 0 → IsRest z p
+    → Gives start z p bytes old old (record { taken = 0; written = start; zeros = z; literal = p })
+gives_none start z p bytes old fits whole rest =
+    let none : plain_words (drop start (take start old)) ≡ [] =
+    ap plain_words (nothing (drop start (take start old)) (omega (arith, length-drop start (take start old), length-take start old))) in
+    record {
+      after = omega arith;
+      fits = fits;
+      long = refl;
+      whole = whole;
+      leads = subst (λ (ws : List ℕ). Leads z p bytes ws 0 z p) (sym none) (leads_none z p bytes);
+      front = refl;
+      rest = refl;
+      left = rest;
+    }
+  where
+    nothing : (xs : List ℕ) → length xs ≡ 0 → xs ≡ []
+    nothing [] e = refl
+    nothing (x ∷ xs) e = absurd (omega (arith, e))
+
+-- Some words, and then others in the next part of the buffer.
+pub gives_more : (start z p k : ℕ) (bytes rest old out part given : List ℕ) (d e : Given) → start % 8 ≡ 0
+    → Gives start z p bytes old out d → part ≡ take k (drop d.written out) → length given ≡ length part
+    → rest ≡ drop d.taken bytes → Gives 0 d.zeros d.literal rest part given e
+    → Gives start z p bytes old (put_mid d.written k out given)
+    (record { taken = d.taken + e.taken; written = d.written + e.written; zeros = e.zeros; literal = e.literal })
+gives_more start z p k bytes rest old out part given d e first s place size more t =
+    let at = d.written in
+    let n = e.written in
+    let longer = put_mid at k out given in
+    let post = post_of at k out in
+    let inside : at ≤ length out = omega (arith, s.fits, s.long) in
+    let few : n ≤ length given = omega (arith, t.fits, size) in
+    let space : length part ≤ length out - at = omega (arith, ap length place, length-take k (drop at out), length-drop at out) in
+    let behind : drop at out ≡ part ++ post =
+    sym (take-append-drop k (drop at out)) ∙ ap (λ (l : List ℕ). l ++ post) (sym place) in
+    let text : take (at + n) longer ≡ take at out ++ take n given = filled at k n out given inside few in
+    let front : length (take at out) ≡ at = length-take-le at out inside in
+    let own = drop start (take at out) in
+    let both : drop start (take (at + n) longer) ≡ own ++ take n given =
+    ap (drop start) text ∙ drop-append-le start (take at out) (take n given) (omega (arith, front, s.after)) in
+    let eight : length own % 8 ≡ 0 = omega (arith, length-drop start (take at out), front, s.whole, first, s.after) in
+    let words : plain_words (drop start (take (at + n) longer)) ≡ plain_words own ++ plain_words (take n given) =
+    ap plain_words both ∙ plain_join own (take n given) eight in
+    let after : drop at longer ≡ given ++ post = drop_at (take at out) (given ++ post) at front in
+    let total : length longer ≡ length out =
+    omega (
+      arith,
+      length-append (take at out) (given ++ post),
+      length-append given post,
+      front,
+      size,
+      ap length behind,
+      length-append part post,
+      length-drop at out,
+    ) in
+    record {
+      after = omega (arith, s.after);
+      fits = omega (arith, t.fits, space, s.long, inside);
+      long = total ∙ s.long;
+      whole = omega (arith, s.whole, t.whole);
+      leads = subst (λ (ws : List ℕ). Leads z p bytes ws (d.taken + e.taken) e.zeros e.literal) (sym words)
+          (leads_both z p d.zeros d.literal e.zeros e.literal d.taken e.taken bytes rest (plain_words own)
+          (plain_words (take n given)) s.leads more t.leads);
+      front = take-put_mid_below at k out given start (omega (arith, s.after)) inside ∙ s.front;
+      rest =
+          sym (drop-drop n at longer)
+          ∙ (ap (drop n) after
+          ∙ (drop-append-le n given post few
+          ∙ (ap (λ (l : List ℕ). l ++ post) t.rest
+          ∙ (sym (drop-append-le n part post (omega (arith, few, size)))
+          ∙ (ap (drop n) (sym behind)
+          ∙ (ap (drop n) s.rest ∙ drop-drop n at old))))));
+      left = t.left;
+    }

@@ -1,0 +1,165 @@
+-- A message that more words belong to, and the end of one.
+use Rattle.std.proofs.Common.{ℕ, List, [], ◌∷◌, ◌++◌, ◌≡◌, ◌∙◌, ◌<◌, ◌≤◌, ◌+◌, ◌-◌, ◌*◌, ◌/◌, ◌%◌, ◌^◌, ap, refl, sym, subst}
+use Rattle.std.proofs.Common.{inl, inr, arith, append_assoc, append-nil, drop, false, true, length, length-append, length-drop}
+use Rattle.std.proofs.Common.{Err, Option, Result, sum, take, take-append-drop, take_at}
+use Rattle.std.proofs.Math.Seq.{take-append-add}
+use Rattle.std.proofs.lemmas.Bool.{cases_lt, false≢true}
+use Rattle.std.proofs.lemmas.List.{length-take-le}
+use Rattle.cap_spec.specs.Endings.{BeginsMessage, message, partial, too_large, too_many}
+use Rattle.cap_spec.specs.Frames.{IsPartial, in_contents, in_table, in_word}
+use Rattle.cap_spec.specs.Plain.{plain_is_cut, plain_words}
+use Rattle.cap_spec.proofs.Frames.Endings.{frame_some}
+use Rattle.cap_spec.proofs.Frames.OneEnding.{one_ending}
+use Rattle.cap_frame.specs.Framed.{TellsFront}
+use Rattle.cap_frame.specs.Fronts.{IsFront, TellsLarge, TellsMany, Wants, a_frame, a_table, a_word, table_words}
+use Rattle.cap_frame.specs.declared.fault.FrontFault.{FrontFault}
+use Rattle.cap_frame.specs.declared.fault.FrontFault.TheVariants.{Truncated}
+use Rattle.cap_frame.specs.declared.framed.Framed.{Framed}
+use Rattle.cap_frame.proofs.Cuts.{words_inside}
+use Rattle.cap_frame.proofs.FrontAnswers.{short_answer}
+use Rattle.cap_frame.proofs.Parts.{take_words}
+use Rattle.cap_words.proofs.Filling.{plain_join}
+use Rattle.cap_words.proofs.Turns.{filled}
+use Rattle.cap_calls.specs.MessageStages.{EndsAt, IsStage}
+use Rattle.cap_calls.specs.PackedStreams.{words_to_come}
+use Rattle.cap_calls.specs.UnpackingMessages.{IsOpen}
+use Rattle.cap_calls.specs.declared.calls.unpack_message.Stage.{Stage}
+use Rattle.cap_calls.specs.declared.calls.unpack_message.Stage.TheVariants.{Open, TooLarge, TooMany, Whole}
+use Rattle.cap_calls.specs.declared.packed_stream.Given.{Given}
+use borrow.Rule.Slice.PartMut.{put_mid}
+use Rattle.cap_calls.proofs.Packed.{whole_by_length}
+
+abbrev Fault : ℕ → Result (Option Framed) FrontFault
+Fault n = Err (Truncated n)
+
+same_wanted : (a b : ℕ) → Fault a ≡ Fault b → a ≡ b
+same_wanted a b e = cc
+
+nothing : (xs : List ℕ) → length xs ≡ 0 → xs ≡ []
+nothing [] e = refl
+nothing (x ∷ xs) e = absurd (omega (arith, e))
+
+-- With more words, but fewer bytes than wanted, the message is still open.
+pub open_longer : (limit wanted : ℕ) (held longer words : List ℕ) → length held % 8 ≡ 0 → length longer % 8 ≡ 0
+    → plain_words longer ≡ plain_words held ++ words → length longer < wanted → IsOpen limit held wanted
+    → IsOpen limit longer wanted
+open_longer limit wanted held longer words h i e few (inl none) = inl
+    (nothing longer (omega (arith, none.1, few, i)), none.1)
+open_longer limit wanted held longer words h i e few (inr t) = inr (further t.0)
+  where
+    further : IsPartial limit (plain_words held) (plain_is_cut held) → TellsFront limit longer (Fault wanted)
+    further (in_word none cut) = absurd (false≢true (sym (whole_by_length held h) ∙ cut))
+    further (in_table first rest w many short) =
+        let need : ℕ = 8 * table_words (first % 2 ^ 32 + 1) in
+        let same : wanted ≡ need =
+        same_wanted wanted need (short_answer limit held (Fault wanted) need t.0 (a_table first rest w short refl) t) in
+        let whole : plain_words longer ≡ first ∷ (rest ++ words) = e ∙ ap (λ (l : List ℕ). l ++ words) w in
+        let less : length (rest ++ words) < (first % 2 ^ 32 + 1) / 2 =
+        omega (arith, same, few, words_inside longer, ap length whole) in
+        (in_table first (rest ++ words) whole many less, a_table first (rest ++ words) whole less same, few, t.3)
+    further (in_contents table sizes rest w s within short) =
+        let need : ℕ = 8 * (length table + sum sizes) in
+        let same : wanted ≡ need =
+        same_wanted wanted need (short_answer limit held (Fault wanted) need t.0 (a_frame table sizes rest w s refl) t) in
+        let whole : plain_words longer ≡ table ++ (rest ++ words) =
+        e ∙ (ap (λ (l : List ℕ). l ++ words) w ∙ append_assoc table rest words) in
+        let less : length (rest ++ words) < sum sizes =
+        omega (arith, same, few, words_inside longer, ap length whole, length-append table (rest ++ words)) in
+        (in_contents table sizes (rest ++ words) whole s within less, a_frame table sizes (rest ++ words) whole s same, few, t.3)
+
+-- No bytes are open and begin a whole message.
+pub open_not_whole : (limit wanted n : ℕ) (held : List ℕ) (m : List (List ℕ)) → IsOpen limit held wanted → IsFront limit held m n → ⊥
+open_not_whole limit wanted n held m (inl none) f =
+    let some = frame_some f.own m f.frames in
+    omega (arith, some, ap length f.words, length-append f.own f.rest, words_inside held, ap length none.0)
+open_not_whole limit wanted n held m (inr t) f =
+    let b : BeginsMessage limit (plain_words held) = record
+    { own = f.own; rest = f.rest; message = m; whole = f.words; frames = f.frames; within = f.within } in
+    (let e = one_ending limit (plain_words held) (plain_is_cut held) message partial b t.0 in cc)
+
+-- A whole message at the start of bytes is one at the start of any prefix that has all of it.
+front_within : (limit n j : ℕ) (held : List ℕ) (m : List (List ℕ)) → n ≤ j → j % 8 ≡ 0 → IsFront limit held m n
+    → IsFront limit (take j held) m n
+front_within limit n j held m less eight f =
+    let k = j / 8 in
+    let at : j ≡ 8 * k = omega (arith, eight) in
+    let long : length f.own ≤ k = omega (arith, f.long, less) in
+    let more : k ≡ length f.own + (k - length f.own) = omega (arith, long) in
+    record {
+      own = f.own;
+      rest = take (k - length f.own) f.rest;
+      words =
+          ap (λ (i : ℕ). plain_words (take i held)) at
+          ∙ (sym (take_words k held)
+          ∙ (ap (take k) f.words
+          ∙ (ap (λ (i : ℕ). take i (f.own ++ f.rest)) more ∙ take-append-add f.own f.rest (k - length f.own))));
+      frames = f.frames;
+      within = f.within;
+      long = f.long;
+    }
+
+-- A message that was open before its last word, and not whole at the start, is all of the bytes.
+pub all_of_message : (limit start n : ℕ) (held : List ℕ) (m : List (List ℕ)) → start % 8 ≡ 0
+    → ((k : ℕ) → start ≤ k → k < length held → k % 8 ≡ 0 → (wanted : ℕ) × IsOpen limit (take k held) wanted)
+    → ((m : List (List ℕ)) (n : ℕ) → ¬ IsFront limit (take start held) m n) → IsFront limit held m n → n ≡ length held
+all_of_message limit start n held m eight before unfinished f =
+    let inside : n ≤ length held =
+    omega (arith, f.long, words_inside held, ap length f.words, length-append f.own f.rest) in
+    let whole : n % 8 ≡ 0 = omega (arith, f.long) in
+    elim (cases_lt n (length held)) [
+      | inl less ↦ elim (cases_lt n start) [
+        | inl before ↦ absurd (unfinished m n (front_within limit n start held m (omega (arith, before)) eight f))
+        | inr after ↦
+            let goes_on = before n after less whole in
+            absurd (open_not_whole limit goes_on.0 n (take n held) m goes_on.1
+            (front_within limit n n held m (omega arith) whole f))
+      ]
+      | inr all ↦ omega (arith, inside, all)
+    ]
+
+-- A message is open up to the bytes that it wants.
+pub still_open : (limit wanted at k n : ℕ) (out given : List ℕ) → at % 8 ≡ 0 → n % 8 ≡ 0 → at ≤ n → n ≤ at + length given → n < wanted
+    → at ≤ length out → IsOpen limit (take at out) wanted → IsOpen limit (take n (put_mid at k out given)) wanted
+still_open limit wanted at k n out given whole eight from within less inside o =
+    let m = n - at in
+    let sum_is : n ≡ at + m = omega (arith, from) in
+    let few : m ≤ length given = omega (arith, within) in
+    let text : take n (put_mid at k out given) ≡ take at out ++ take m given =
+    ap (λ (i : ℕ). take i (put_mid at k out given)) sum_is ∙ filled at k m out given inside few in
+    let front : length (take at out) ≡ at = length-take-le at out inside in
+    let long : length (take n (put_mid at k out given)) ≡ n =
+    omega (arith, ap length text, length-append (take at out) (take m given), front, length-take-le m given few, sum_is) in
+    open_longer limit wanted (take at out) (take n (put_mid at k out given)) (plain_words (take m given)) (omega (arith, front, whole))
+    (omega (arith, long, eight)) (ap plain_words text ∙ plain_join (take at out) (take m given) (omega (arith, front, whole)))
+    (omega (arith, long, less)) o
+
+-- It wants whole words.
+pub wanted_whole : (limit wanted : ℕ) (held : List ℕ) → IsOpen limit held wanted → wanted % 8 ≡ 0
+wanted_whole limit wanted held (inl none) = omega (arith, none.1)
+wanted_whole limit wanted held (inr t) = by_words t.1
+  where
+    by_words : Wants (plain_words held) wanted → wanted % 8 ≡ 0
+    by_words (a_word e n) = omega (arith, n)
+    by_words (a_table first rest e short n) = omega (arith, n)
+    by_words (a_frame table sizes rest e t n) = omega (arith, n)
+
+-- how a call ends at any stage
+pub ends_at : (stage : Stage) (size : ℕ) (g : Given) (rest : List ℕ)
+    → (g.written + 8 ≤ size → words_to_come g.zeros g.literal rest ≡ []) → EndsAt stage size g rest
+ends_at (Open wanted) size g rest h = h
+ends_at (Whole segments) size g rest h = tt
+ends_at (TooMany count) size g rest h = tt
+ends_at (TooLarge words) size g rest h = tt
+
+-- A message that is too large, or has too many segments, is not whole.
+pub many_not_whole : (limit count n : ℕ) (held : List ℕ) (m : List (List ℕ)) → TellsMany held count → IsFront limit held m n → ⊥
+many_not_whole limit count n held m t f =
+    let b : BeginsMessage limit (plain_words held) = record
+    { own = f.own; rest = f.rest; message = m; whole = f.words; frames = f.frames; within = f.within } in
+    (let e = one_ending limit (plain_words held) (plain_is_cut held) message too_many b t.0 in cc)
+
+pub large_not_whole : (limit words n : ℕ) (held : List ℕ) (m : List (List ℕ)) → TellsLarge limit held words → IsFront limit held m n → ⊥
+large_not_whole limit words n held m t f =
+    let b : BeginsMessage limit (plain_words held) = record
+    { own = f.own; rest = f.rest; message = m; whole = f.words; frames = f.frames; within = f.within } in
+    (let e = one_ending limit (plain_words held) (plain_is_cut held) message too_large b t.0 in cc)

@@ -1,0 +1,241 @@
+-- The bytes, the state and the buffer decide what the call that unpacks a message returns and writes.
+use Rattle.std.proofs.Common.{ℕ, List, [], ◌∷◌, ◌++◌, ◌≡◌, ◌≢◌, ◌∙◌, ◌<◌, ◌≤◌, ◌+◌, ◌-◌, ◌*◌, ◌/◌, ◌%◌, ap, ap₂, refl, sym, subst}
+use Rattle.std.proofs.Common.{inl, inr, arith, append-nil, append_assoc, drop, length, length-append, replicate, take}
+use Rattle.std.proofs.Common.{take-append-drop, take_all, take_at}
+use Rattle.std.proofs.lemmas.Bool.{cases_lt}
+use Rattle.std.proofs.lemmas.List.{append_cancel_left, drop-replicate, drop_all, length-replicate, length-take-le, take-append-le}
+use Rattle.std.proofs.lemmas.List.{take-replicate}
+use Rattle.cap_spec.specs.Plain.{plain_text, plain_words, word_bytes}
+use Rattle.cap_spec.specs.Unpacking.{unpacked}
+use Rattle.cap_spec.proofs.Bytes.Plain.{length_plain, words_exact}
+use Rattle.std.proofs.lemmas.List.Concat.{flat_map-append}
+use Rattle.cap_spec.specs.Endings.{too_large, too_many}
+use Rattle.cap_calls.specs.PackedStreams.{Leads, words_to_come}
+use Rattle.cap_calls.specs.UnpackingMessages.{Appends, IsOpen, Stops, TellsUnpackMessage, bad, state_of, unpacks}
+use Rattle.cap_calls.specs.UnpackingMessages as stop
+use Rattle.cap_calls.specs.declared.answer.Answer.{Answer}
+use Rattle.cap_calls.specs.declared.limits.CallLimits.{CallLimits}
+use Rattle.cap_calls.specs.declared.report.CallReport.{CallReport}
+use Rattle.cap_calls.specs.declared.unpacking.Unpacking.{Unpacking}
+use Rattle.cap_calls.proofs.MessageStages.{open_not_whole}
+use Rattle.cap_calls.proofs.OneStop.{never_open, none_comes, one_stop}
+
+-- no bytes give the zero words of a run alone
+nothing_more : (z p : ℕ) → words_to_come z p [] ≡ replicate z 0
+nothing_more z p =
+    ap (λ (x : List ℕ). replicate z 0 ++ (plain_words x ++ unpacked (drop (8 * p) []))) (take_all (8 * p) [] (omega arith))
+    ∙ (ap (λ (x : List ℕ). replicate z 0 ++ (plain_words [] ++ unpacked x)) (drop_all (8 * p) [] (omega arith))
+    ∙ append-nil (replicate z 0))
+
+-- zero bytes for p literal words and a group more
+abbrev probe : ℕ → List ℕ
+probe p = replicate (8 * p + 2) 0
+
+probe_long : (z p : ℕ) → length (words_to_come z p (probe p)) ≡ z + (p + 1)
+probe_long z p =
+    let words = plain_words (take (8 * p) (probe p)) in
+    let front : take (8 * p) (probe p) ≡ replicate (8 * p) 0 = take-replicate (8 * p) (8 * p + 2) 0 (omega arith) in
+    let two : 8 * p + 2 - 8 * p ≡ 2 = omega arith in
+    let back : drop (8 * p) (probe p) ≡ 0 ∷ 0 ∷ [] = drop-replicate (8 * p) (8 * p + 2) 0 ∙ ap (λ (k : ℕ). replicate k 0) two in
+    omega (
+      arith,
+      length-append (replicate z 0) (words ++ unpacked (drop (8 * p) (probe p))),
+      length-replicate {A = ℕ} z 0,
+      length-append words (unpacked (drop (8 * p) (probe p))),
+      ap (λ (x : List ℕ). length (unpacked x)) back,
+      words_exact (take (8 * p) (probe p)),
+      ap length front,
+      length-replicate {A = ℕ} (8 * p) 0,
+    )
+
+probe_short : (z p q : ℕ) → p < q → length (words_to_come z q (probe p)) ≡ z + p
+probe_short z p q h =
+    let many = length-replicate {A = ℕ} (8 * p + 2) 0 in
+    let front : take (8 * q) (probe p) ≡ probe p = take_all (8 * q) (probe p) (omega (arith, many, h)) in
+    let back : drop (8 * q) (probe p) ≡ [] = drop_all (8 * q) (probe p) (omega (arith, many, h)) in
+    let words = plain_words (take (8 * q) (probe p)) in
+    omega (
+      arith,
+      length-append (replicate z 0) (words ++ unpacked (drop (8 * q) (probe p))),
+      length-replicate {A = ℕ} z 0,
+      length-append words (unpacked (drop (8 * q) (probe p))),
+      ap (λ (x : List ℕ). length (unpacked x)) back,
+      words_exact (take (8 * q) (probe p)),
+      ap length front,
+      many,
+    )
+
+-- Two places that give the same words, whatever bytes follow, are one.
+one_place : (z p y q : ℕ) → ((more : List ℕ) → words_to_come z p more ≡ words_to_come y q more) → (z ≡ y) × (p ≡ q)
+one_place z p y q same =
+    let zeros : z ≡ y =
+    sym (length-replicate z 0) ∙ (ap length (sym (nothing_more z p) ∙ (same [] ∙ nothing_more y q)) ∙ length-replicate y 0) in (
+      zeros,
+      elim (cases_lt p q) [
+        | inl less ↦ (let e = ap length (same (probe p)) in absurd (omega (arith, e, probe_long z p, probe_short y p q less, zeros)))
+        | inr more ↦ elim (cases_lt q p) [
+          | inl less ↦ (let e = ap length (same (probe q)) in absurd (omega (arith, e, probe_long y q, probe_short z q p less, zeros)))
+          | inr also ↦ omega (arith, more, also)
+        ]
+      ],
+    )
+
+-- fewer bytes do not give the words
+not_fewer : (z p y q x r t u : ℕ) (bytes ws : List ℕ) → Leads z p bytes ws t y q → Leads z p bytes ws u x r → t < u → ⊥
+not_fewer z p y q x r t u bytes ws f g less =
+    let few = g.least t less in
+    let come : words_to_come z p (take t bytes) ≡ ws ++ words_to_come y q [] =
+    ap (words_to_come z p) (sym (append-nil (take t bytes))) ∙ f.gives [] in
+    omega (arith, few, ap length come, length-append ws (words_to_come y q []))
+
+-- So words are followed by one place.
+pub one_lead : (z p y q x r t u : ℕ) (bytes ws : List ℕ) → Leads z p bytes ws t y q → Leads z p bytes ws u x r
+    → (t ≡ u) × (y ≡ x) × (q ≡ r)
+one_lead z p y q x r t u bytes ws f g = elim (cases_lt t u) [
+  | inl less ↦ absurd (not_fewer z p y q x r t u bytes ws f g less)
+  | inr more ↦ elim (cases_lt u t) [
+    | inl less ↦ absurd (not_fewer z p x r y q u t bytes ws g f less)
+    | inr also ↦
+        let same : t ≡ u = omega (arith, more, also) in
+        let at = one_place y q x r
+        (λ more. append_cancel_left ws _ _
+        (sym (f.gives more) ∙ (ap (λ (k : ℕ). words_to_come z p (take k bytes ++ more)) same ∙ g.gives more))) in
+        (same, at.0, at.1)
+  ]
+]
+
+-- The words that came are the first of those that the bytes give.
+pub words_first : (z p y q t : ℕ) (bytes ws : List ℕ) → Leads z p bytes ws t y q
+    → words_to_come z p bytes ≡ ws ++ words_to_come y q (drop t bytes)
+words_first z p y q t bytes ws f =
+    ap (words_to_come z p) (sym (take-append-drop t bytes)) ∙ f.gives (drop t bytes)
+
+-- The bytes of the message after some of the appended words.
+held_after : (limit : ℕ) (bytes old new : List ℕ) (state : Unpacking) (ws front tail : List ℕ) (c z p : ℕ) → ws ≡ front ++ tail
+    → Appends limit bytes old state ws c z p new
+    → take (state.written + 8 * length front) new ≡ take state.written old ++ plain_text front
+held_after limit bytes old new state ws front tail c z p e t =
+    let start = take state.written old in
+    let more = plain_text tail ++ drop (state.written + 8 * length ws) old in
+    let text : new ≡ (start ++ plain_text front) ++ more =
+    t.text
+    ∙ (ap (λ (l : List ℕ). start ++ (plain_text l ++ drop (state.written + 8 * length ws) old)) e
+    ∙ (ap (λ (l : List ℕ). start ++ (l ++ drop (state.written + 8 * length ws) old)) (flat_map-append word_bytes front tail)
+    ∙ (ap (λ (l : List ℕ). start ++ l) (append_assoc (plain_text front) (plain_text tail) (drop (state.written + 8 * length ws) old))
+    ∙ sym (append_assoc start (plain_text front) more)))) in
+    let long : length start ≡ state.written = length-take-le state.written old (omega (arith, t.fits)) in
+    ap (take (state.written + 8 * length front)) text
+    ∙ take_at (start ++ plain_text front) more (state.written + 8 * length front)
+    (omega (arith, length-append start (plain_text front), long, length_plain front))
+
+-- A call that stops does not append fewer words than another.
+stops_last : (limit : ℕ) (bytes old new longer : List ℕ) (state : Unpacking) (ws vs : List ℕ) (c z p d y q : ℕ) (a : Answer)
+    (n w : ℕ) (r : CallReport) → Appends limit bytes old state ws c z p new → Appends limit bytes old state vs d y q longer
+    → length ws < length vs
+    → Stops limit (length old) (take (state.written + 8 * length ws) new) z p (drop c bytes) a n w r → ⊥
+stops_last limit bytes old new longer state ws vs c z p d y q a n w r f g less s =
+    let more = words_to_come z p (drop c bytes) in
+    let others = words_to_come y q (drop d bytes) in
+    let all : ws ++ more ≡ vs ++ others =
+    sym (words_first state.zero_words state.literal_words z p c bytes ws f.leads)
+    ∙ words_first state.zero_words state.literal_words y q d bytes vs g.leads in
+    let front : ws ≡ take (length ws) vs =
+    sym (take_at ws more (length ws) refl) ∙ (ap (take (length ws)) all ∙ take-append-le (length ws) vs others (omega (arith, less))) in
+    let tail = drop (length ws) vs in
+    let split : vs ≡ ws ++ tail =
+    sym (take-append-drop (length ws) vs) ∙ ap (λ (l : List ℕ). l ++ tail) (sym front) in
+    let held = take (state.written + 8 * length ws) new in
+    let same : take (state.written + 8 * length ws) longer ≡ held =
+    held_after limit bytes old longer state vs ws tail d y q split g
+    ∙ sym (held_after limit bytes old new state ws ws [] c z p (sym (append-nil ws)) f) in
+    let goes_on = g.before (length ws) less in
+    let still : IsOpen limit held goes_on.0 = subst (λ (l : List ℕ). IsOpen limit l goes_on.0) same goes_on.1 in
+    let some : 0 < length more = omega (arith, ap length all, length-append ws more, length-append vs others, less) in
+    let long : length held ≡ state.written + 8 * length ws =
+    length-take-le (state.written + 8 * length ws) new
+    (omega (
+      arith,
+      ap length f.text,
+      length-append (take state.written old) (plain_text ws ++ drop (state.written + 8 * length ws) old),
+      length-append (plain_text ws) (drop (state.written + 8 * length ws) old),
+      length_plain ws,
+      length-take-le state.written old (omega (arith, f.fits)),
+    )) in
+    not_last held goes_on.0 still s some (omega (arith, long, g.fits, less))
+  where
+    not_last : (held : List ℕ) (wanted : ℕ) → IsOpen limit held wanted
+        → Stops limit (length old) held z p (drop c bytes) a n w r → 0 < length (words_to_come z p (drop c bytes))
+        → length held + 8 ≤ length old → ⊥
+    not_last held wanted o (stop.whole m f e g h i) some room = open_not_whole limit wanted (length held) held m o f
+    not_last held wanted o (stop.too_many k f e g h i) some room = never_open limit held too_many wanted (λ j. cc) (λ j. cc) f.0 o
+    not_last held wanted o (stop.too_large k f e g h i) some room = never_open limit held too_large wanted (λ j. cc) (λ j. cc) f.0 o
+    not_last held wanted o (stop.too_small x y e g h i) some room = omega (arith, e, room)
+    not_last held wanted o (stop.no_message x y e g h i j k) some room =
+        omega (arith, some, ap length (none_comes limit held z p (drop c bytes) y e g))
+    not_last held wanted o (stop.truncated k x y e g h i j) some room = omega (arith, some, ap length y)
+
+-- So two calls append the same words.
+same_words : (limit : ℕ) (bytes old new longer : List ℕ) (state : Unpacking) (ws vs : List ℕ) (c z p d y q : ℕ) (a b : Answer)
+    (n k w v : ℕ) (r s : CallReport) → Appends limit bytes old state ws c z p new → Appends limit bytes old state vs d y q longer
+    → Stops limit (length old) (take (state.written + 8 * length ws) new) z p (drop c bytes) a n w r
+    → Stops limit (length old) (take (state.written + 8 * length vs) longer) y q (drop d bytes) b k v s → ws ≡ vs
+same_words limit bytes old new longer state ws vs c z p d y q a b n k w v r s f g h i = elim (cases_lt (length ws) (length vs)) [
+  | inl less ↦ absurd (stops_last limit bytes old new longer state ws vs c z p d y q a n w r f g less h)
+  | inr more ↦ elim (cases_lt (length vs) (length ws)) [
+    | inl less ↦ absurd (stops_last limit bytes old longer new state vs ws d y q c z p b k v s g f less i)
+    | inr also ↦
+        let all = sym (words_first state.zero_words state.literal_words z p c bytes ws f.leads)
+        ∙ words_first state.zero_words state.literal_words y q d bytes vs g.leads in
+        let one : length ws ≡ length vs = omega (arith, more, also) in
+        sym (take_at ws (words_to_come z p (drop c bytes)) (length ws) refl)
+        ∙ (ap (take (length ws)) all ∙ take_at vs (words_to_come y q (drop d bytes)) (length ws) (sym one))
+  ]
+]
+
+-- What is told of the same words.
+told_once : (limit : ℕ) (bytes old new longer : List ℕ) (state left last : Unpacking) (ws vs : List ℕ) (c z p d y x : ℕ) (a b : Answer)
+    (n k w v : ℕ) (r q : CallReport) → Appends limit bytes old state ws c z p new → Appends limit bytes old state vs d y x longer
+    → Stops limit (length old) (take (state.written + 8 * length ws) new) z p (drop c bytes) a n w r
+    → Stops limit (length old) (take (state.written + 8 * length vs) longer) y x (drop d bytes) b k v q
+    → left ≡ state_of w z p state → last ≡ state_of v y x state
+    → (a ≡ b) × (c ≡ d) × (n ≡ k) × (new ≡ longer) × (left ≡ last) × (r ≡ q)
+told_once limit bytes old new longer state left last ws vs c z p d y x a b n k w v r q f g h i e j =
+    let same = same_words limit bytes old new longer state ws vs c z p d y x a b n k w v r q f g h i in
+    let text : new ≡ longer =
+    f.text
+    ∙ (ap (λ (l : List ℕ). take state.written old ++ (plain_text l ++ drop (state.written + 8 * length l) old)) same
+    ∙ sym g.text) in
+    let place = one_lead state.zero_words state.literal_words z p y x c d bytes ws f.leads
+    (subst (λ (l : List ℕ). Leads state.zero_words state.literal_words bytes l d y x) (sym same) g.leads) in
+    let held : take (state.written + 8 * length vs) longer ≡ take (state.written + 8 * length ws) new =
+    ap₂ (λ (l m : List ℕ). take (state.written + 8 * length l) m) (sym same) (sym text) in
+    let stop = subst (λ (m : List ℕ). Stops limit (length old) m z p (drop c bytes) b k v q) held
+    (subst (λ (t : ℕ). Stops limit (length old) (take (state.written + 8 * length vs) longer) z p (drop t bytes) b k v q)
+    (sym place.0)
+    (subst (λ (t : ℕ). Stops limit (length old) (take (state.written + 8 * length vs) longer) z t (drop d bytes) b k v q)
+    (sym place.2)
+    (subst (λ (t : ℕ). Stops limit (length old) (take (state.written + 8 * length vs) longer) t x (drop d bytes) b k v q)
+    (sym place.1) i))) in
+    let one = one_stop limit (take (state.written + 8 * length ws) new) (length old) z p (drop c bytes) a b n k w v r q h stop in (
+      one.0,
+      place.0,
+      one.1,
+      text,
+      e
+          ∙ (ap (λ (t : ℕ). state_of t z p state) one.2
+          ∙ (ap (λ (t : ℕ). state_of v t p state) place.1 ∙ (ap (λ (t : ℕ). state_of v y t state) place.2 ∙ sym j))),
+      one.3,
+    )
+
+pub one_unpack_told : (l : CallLimits) (bs old : List ℕ) (state : Unpacking) (a b : Answer) (c d n k : ℕ) (xs ys : List ℕ)
+    (left last : Unpacking) (r q : CallReport) → TellsUnpackMessage l bs old state a c n xs left r
+    → TellsUnpackMessage l bs old state b d k ys last q
+    → (a ≡ b) × (c ≡ d) × (n ≡ k) × (xs ≡ ys) × (left ≡ last) × (r ≡ q)
+one_unpack_told l bs old state a b c d n k xs ys left last r q (bad not_good e f g h i j) (bad also s t u v w x) =
+    (e ∙ sym s, f ∙ sym t, g ∙ sym u, h ∙ sym v, i ∙ sym w, j ∙ sym x)
+one_unpack_told l bs old state a b c d n k xs ys left last r q (bad not_good e f g h i j) (unpacks vs y x v lim is g2 s w) =
+    absurd (not_good (lim, is))
+one_unpack_told l bs old state a b c d n k xs ys left last r q (unpacks ws z p w lim is f s e) (bad not_good t u v g h i) =
+    absurd (not_good (lim, is))
+one_unpack_told l bs old state a b c d n k xs ys left last r q (unpacks ws z p w lim is f h e) (unpacks vs y x v also it g i j) =
+    told_once l.message_words bs old xs ys state left last ws vs c z p d y x a b n k w v r q f g h i e j

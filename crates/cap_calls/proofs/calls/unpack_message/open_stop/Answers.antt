@@ -1,0 +1,31 @@
+-- The buffer is full, or the input ends.
+use Rattle.std.proofs.Common.{List, ℕ, [], ◌≡◌, ◌≢◌, ◌∙◌, ◌<◌, ◌+◌, ap, ap₂, arith, inl, inr, length, refl, sym}
+use Rattle.std.proofs.lemmas.Bool.{cases_lt}
+use Rattle.std.proofs.lemmas.Bool.Decides.{nat_tests}
+use Rattle.cap_calls.specs.PackedStreams.{words_to_come}
+use Rattle.cap_calls.specs.UnpackingMessages.{too_small, truncated}
+use Rattle.cap_calls.specs.declared.report.CallReport.{CallReport}
+use Rattle.cap_calls.proofs.calls.unpack_message.open_stop.Goals as goal
+use Rattle.cap_calls.proofs.calls.unpack_message.open_stop.Goals.{else-given-eq0-via-then-given-eq0+then-given-eq0-2+else-is_empty, else-given-eq0-via-then-given-eq0+else-given-eq0-2, else-given-eq0-via-else-given-eq0}
+
+pub returns-then-has_word-clause-stops : goal.returns-then-has_word-clause-stops
+returns-then-has_word-clause-stops c = λ limit size held e same.
+    let some = c.has_word.ensures.some c.if-has_word.true in
+    let full : size < length held + 8 = elim (cases_lt size (length held + 8)) [
+      | inl less ↦ less
+      | inr more ↦ absurd (some (e.ends (omega (arith, more, e.long))))
+    ] in
+    too_small e.is_stage some full refl (same ∙ sym e.long) c.requires.2
+
+pub returns-clause-stops : goal.returns-clause-stops
+returns-clause-stops c = λ limit size held e same.
+    truncated c.args.wanted e.is_stage (c.has_word.ensures.none c.if-has_word.false)
+    (λ (h, p, r). elim c.else-given-eq0.branch [
+      | else-given-eq0-via-then-given-eq0+then-given-eq0-2+else-is_empty w ↦
+          let some : 0 < length c.args.rest.now = grind (arith, nat_tests, w.is_empty.ensures, w.if-is_empty.false) in
+          omega (arith, some, ap length r)
+      | else-given-eq0-via-then-given-eq0+else-given-eq0-2 w ↦ w.if-given-eq0-2.false p
+      | else-given-eq0-via-else-given-eq0 w ↦ w.if-given-eq0.false (sym e.long ∙ ap length h)
+    ])
+    c.requires.0 c.requires.1 (same ∙ sym e.long)
+    (ap₂ (λ (x : CallReport) (k : ℕ). record x { required = k }) c.requires.2 c.needed.ensures)

@@ -1,0 +1,37 @@
+-- The first word of a group.
+use Rattle.std.proofs.Common.{List, ℕ, [], ◌∷◌, ◌≡◌, ◌∙◌, ◌<◌, ◌≤◌, ◌+◌, ◌-◌, ◌*◌, ◌^◌, ◌++◌, ap, arith, drop, inl, length, refl, rules, subst, sym, take}
+use Rattle.std.proofs.lemmas.List.{drop_at, length-append, length-drop, take_at}
+use Rattle.cap_spec.specs.Plain.{plain_words, word_bytes}
+use Rattle.cap_spec.specs.Words.{IsWord}
+use Rattle.cap_spec.proofs.Bytes.Plain.{plain_back}
+use Rattle.cap_calls.specs.PackedStreams.{IsRest, Leads}
+use Rattle.cap_calls.proofs.GivenWords.{gives_none}
+use Rattle.cap_calls.proofs.packed_stream.give_first.Goals as goal
+
+pub returns-in-Some-clause-gives : goal.returns-in-Some-clause-gives
+returns-in-Some-clause-gives c =
+    let bs = c.args.bytes.now in
+    let out = c.args.out.now in
+    let h = c.in-Some.head in
+    let given = c.copy_from_slice.new.self in
+    let bytes : given ≡ word_bytes h.word = c.copy_from_slice.ensures.after ∙ c.bytes_of.ensures.value in
+    let long : length given ≡ 8 = ap length bytes in
+    let small : IsWord h.word = search rules in
+    let front : take 8 (given ++ drop 8 out) ≡ word_bytes h.word = take_at given (drop 8 out) 8 long ∙ bytes in
+    let words : plain_words (take 8 (given ++ drop 8 out)) ≡ h.word ∷ [] =
+    ap plain_words front ∙ plain_back (h.word ∷ []) [] (small, tt) in
+    record {
+      after = omega arith;
+      fits = c.requires;
+      long = omega (arith, length-append given (drop 8 out), length-drop 8 out, long, c.requires);
+      whole = refl;
+      leads = subst (λ (ws : List ℕ). Leads 0 0 bs ws h.length h.zeros h.literal) (sym words) c.in-Some.ensures.leads;
+      front = refl;
+      rest = drop_at given (drop 8 out) 8 long;
+      left = c.in-Some.ensures.left;
+    }
+
+pub returns-in-None-clause-gives : goal.returns-in-None-clause-gives
+returns-in-None-clause-gives c =
+    gives_none 0 0 0 c.args.bytes.now c.args.out.now (omega arith) refl
+    (record { zeros_fit = omega arith; literal_fit = omega arith; one = inl refl })

@@ -1,0 +1,90 @@
+-- What the call that unpacks one message of a stream, a piece at a time, returns and writes
+-- (standard: Packing, Serialization Over a Stream; where each call stops is the profile's).
+use Rattle.std.specs.Prelude.{ℕ, ◌+◌, ◌*◌, ◌%◌, ◌<◌, ◌≡◌, ◌≢◌, ◌≤◌, ◌⊎◌, ◌==◌, if◌then◌else◌, Err, List, [], ◌++◌, length}
+use Rattle.std.specs.Prelude.{drop, slice_index, take}
+use Rattle.cap_spec.specs.Plain.{plain_text}
+use Rattle.cap_frame.specs.Framed.{TellsFront}
+use Rattle.cap_frame.specs.Fronts.{IsFront, TellsLarge, TellsMany}
+use Rattle.cap_frame.specs.declared.fault.FrontFault.TheVariants.{Truncated}
+use Rattle.cap_calls.specs.CallFrames.{AreLimits}
+use Rattle.cap_calls.specs.CallReports.{none_report}
+use Rattle.cap_calls.specs.PackedStreams.{IsRest, Leads, head_length, words_to_come}
+use Rattle.cap_calls.specs.declared.answer.Answer.{Answer}
+use Rattle.cap_calls.specs.declared.answer.Answer.TheVariants as answer
+use Rattle.cap_calls.specs.declared.limits.CallLimits.{CallLimits}
+use Rattle.cap_calls.specs.declared.report.CallReport.{CallReport}
+use Rattle.cap_calls.specs.declared.unpacking.Unpacking.{Unpacking}
+
+-- The bytes are none, or end inside a message within the limit. It has at least `wanted` bytes: those of its
+-- first word, of its table, or of its frame.
+abbrev pub IsOpen : ℕ → List ℕ → ℕ → Type 0
+IsOpen limit held wanted = ((held ≡ []) × (wanted ≡ 8)) ⊎ TellsFront limit held (Err (Truncated wanted))
+
+-- A state that a call may leave, for a buffer with these bytes.
+pub record IsState (limit : ℕ) (state : Unpacking) (out : List ℕ) : Type 0 where
+  pub left : IsRest state.zero_words state.literal_words
+  pub first : slice_index state.reserved 0 ≡ 0
+  pub second : slice_index state.reserved 1 ≡ 0
+  pub whole : state.written % 8 ≡ 0
+  pub inside : state.written ≤ length out
+  pub unfinished : (m : List (List ℕ)) (n : ℕ) → ¬ IsFront limit (take state.written out) m n
+
+-- The words that were appended to the bytes of the message, and what the call left of the input.
+pub record Appends (limit : ℕ) (bytes old : List ℕ) (state : Unpacking) (words : List ℕ) (consumed zeros literal : ℕ)
+    (new : List ℕ) : Type 0 where
+  pub fits : state.written + 8 * length words ≤ length old
+  pub leads : Leads state.zero_words state.literal_words bytes words consumed zeros literal
+  pub text : new ≡ take state.written old ++ (plain_text words ++ drop (state.written + 8 * length words) old)
+  -- none after the end of a message
+  pub before : (n : ℕ) → n < length words
+      → (wanted : ℕ) × IsOpen limit (take (state.written + 8 * n) new) wanted
+  pub left : IsRest zeros literal
+
+-- how many bytes the rest of the input needs at least for its next word, or for the tag before it
+abbrev pub bytes_needed : ℕ → List ℕ → ℕ
+bytes_needed literal rest = if literal == 0 then head_length rest else 8
+
+-- Why a call stops, if the buffer of `size` bytes then holds these bytes of a message, and the input
+-- is left at this place with these bytes.
+pub data Stops (limit size : ℕ) (held : List ℕ) (zeros literal : ℕ) (rest : List ℕ) (a : Answer) (required written : ℕ)
+    (r : CallReport) : Type 0 where
+  -- the message is whole
+  whole : (m : List (List ℕ)) → IsFront limit held m (length held) → a ≡ answer.Good → required ≡ length held
+      → written ≡ 0 → r ≡ record none_report { length = length held; segments = length m }
+      → Stops limit size held zeros literal rest a required written r
+  -- it has too many segments, or too many words
+  too_many : (count : ℕ) → TellsMany held count → a ≡ answer.TooManySegments → required ≡ 0 → written ≡ length held
+      → r ≡ record none_report { detail = count } → Stops limit size held zeros literal rest a required written r
+  too_large : (words : ℕ) → TellsLarge limit held words → a ≡ answer.TooLarge → required ≡ 0 → written ≡ length held
+      → r ≡ record none_report { detail = words } → Stops limit size held zeros literal rest a required written r
+  -- a word comes next, for which the buffer is too small
+  too_small : IsOpen limit held required → words_to_come zeros literal rest ≢ [] → size < length held + 8
+      → a ≡ answer.BufferTooSmall → written ≡ length held → r ≡ none_report
+      → Stops limit size held zeros literal rest a required written r
+  -- no word comes next: nothing is pending
+  no_message : held ≡ [] → zeros ≡ 0 → literal ≡ 0 → rest ≡ [] → a ≡ answer.NoMessage → required ≡ 0 → written ≡ 0
+      → r ≡ record none_report { required = 1 } → Stops limit size held zeros literal rest a required written r
+  -- or the input ends before the next word of the message
+  truncated : (wanted : ℕ) → IsOpen limit held wanted → words_to_come zeros literal rest ≡ []
+      → ¬ ((held ≡ []) × (literal ≡ 0) × (rest ≡ [])) → a ≡ answer.Truncated → required ≡ 0 → written ≡ length held
+      → r ≡ record none_report { required = bytes_needed literal rest }
+      → Stops limit size held zeros literal rest a required written r
+
+-- the state with so many bytes of the message, and this rest of a run
+abbrev pub state_of : ℕ → ℕ → ℕ → Unpacking → Unpacking
+state_of written zeros literal state = record state { written = written; zero_words = zeros; literal_words = literal }
+
+-- What a call tells of a piece of the stream.
+pub data TellsUnpackMessage (l : CallLimits) (bytes old : List ℕ) (state : Unpacking) (a : Answer) (consumed required : ℕ)
+    (new : List ℕ) (left : Unpacking) (r : CallReport) : Type 0 where
+  -- the limits are bad, or no call leaves this state
+  bad : ¬ (AreLimits l × IsState l.message_words state old) → a ≡ answer.BadLimits → consumed ≡ 0 → required ≡ 0
+      → new ≡ old → left ≡ state → r ≡ none_report
+      → TellsUnpackMessage l bytes old state a consumed required new left r
+  -- words are appended, and then the call stops
+  unpacks : (words : List ℕ) (zeros literal written : ℕ) → AreLimits l → IsState l.message_words state old
+      → Appends l.message_words bytes old state words consumed zeros literal new
+      → Stops l.message_words (length old) (take (state.written + 8 * length words) new) zeros literal
+      (drop consumed bytes) a required written r
+      → left ≡ state_of written zeros literal state
+      → TellsUnpackMessage l bytes old state a consumed required new left r

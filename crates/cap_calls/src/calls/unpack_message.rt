@@ -1,0 +1,307 @@
+//! The call that unpacks one message of a packed stream, a piece at a time.
+
+ghost use Rattle.cap_calls.specs.CallFrames.{AreLimits};
+ghost use Rattle.cap_calls.specs.CallReports.{none_report};
+ghost use Rattle.cap_calls.specs.MessageStages.{IsEnd, IsStage, Reaches};
+ghost use Rattle.cap_calls.specs.PackedStreams.{IsRest};
+ghost use Rattle.cap_calls.specs.UnpackingMessages.{IsState, Stops, TellsUnpackMessage, state_of};
+ghost use Rattle.cap_calls.specs.declared.answer.Answer.{Answer};
+ghost use Rattle.cap_calls.specs.declared.report.CallReport.{CallReport};
+ghost use Rattle.cap_calls.specs.declared.unpacking.Unpacking.{Unpacking};
+ghost use Rattle.cap_frame.specs.Limit.{limit_of};
+ghost use Rattle.std.specs.Prelude.{◌%◌, ◌≡◌, Decides, IfNone, IfSome, List, length, slice_index, ℕ};
+
+use crate::answer::Answer;
+use crate::limits::CallLimits;
+use crate::packed_stream::{Given, give, has_word, needed};
+use crate::report::CallReport;
+use crate::unpacking::Unpacking;
+use cap_frame::{FrontFault, SizeLimit, front_of};
+use cap_vet::Limits;
+
+/// Unpacks words of a packed stream to `out`, after those that earlier calls wrote there, up to the
+/// end of one message (encoding: Packing, Serialization Over a Stream). `bytes` are the packed bytes
+/// that were received and not consumed; `consumed` is how many of them are done with. A run of words
+/// may go on into the next message; `state` keeps the rest of it. It checks no pointer. Allocates
+/// nothing.
+///
+/// The first of these that applies is returned:
+/// - [`Answer::BadLimits`], if the limits are bad or no call leaves this state; `state` and `out` are
+///   then unchanged, and no byte is consumed;
+/// - [`Answer::TooManySegments`] or [`Answer::TooLarge`], if the message is; a later call returns it
+///   again;
+/// - [`Answer::Good`], if `out` starts with the whole frame of a message, of `required` bytes;
+///   `state.written` is then 0;
+/// - [`Answer::BufferTooSmall`], if the next word is there and `out` has no space for it; `required`
+///   is then how many bytes `out` has to have, as far as the message says so far;
+/// - [`Answer::NoMessage`], if there are no bytes and no words are pending;
+/// - [`Answer::Truncated`], if the bytes end before the next word; `report.required` is how many bytes
+///   the next call needs at least.
+///
+/// Words that were unpacked stay in `out` after any other answer than the first, and `state.written`
+/// counts their bytes. The bytes after them are unchanged. The report is written whole.
+pub fn unpack_message(
+    bytes: &[u8],
+    limits: &CallLimits,
+    out: &mut [u8],
+    state: &mut Unpacking,
+    consumed: &mut usize,
+    required: &mut usize,
+    report: &mut CallReport,
+) -> Answer
+    ensures tells { TellsUnpackMessage limits.now bytes.now out.old state.old result consumed.new
+        required.new out.new state.new report.new }
+    // The bytes, the state and the contents of the buffer allow no other result.
+    ensures only { (a : Answer) (n k : ℕ) (new : List ℕ) (left : Unpacking) (r : CallReport) →
+        TellsUnpackMessage limits.now bytes.now out.old state.old a n k new left r →
+        (result ≡ a) × (consumed.new ≡ n) × (required.new ≡ k) × (out.new ≡ new)
+        × (state.new ≡ left) × (report.new ≡ r) }
+{
+    let stop = unpacked(bytes, limits, out, *state);
+    *state = stop.state;
+    *consumed = stop.consumed;
+    *required = stop.required;
+    *report = stop.report;
+    stop.answer
+}
+
+// What a call returns.
+#[derive(Clone, Copy)]
+struct Stop {
+    answer: Answer,
+    consumed: usize,
+    required: usize,
+    state: Unpacking,
+    report: CallReport,
+}
+
+// How a message goes on of which a buffer holds the first bytes.
+#[derive(Clone, Copy)]
+pub(crate) enum Stage {
+    // More words belong to it, up to `wanted` bytes.
+    Open { wanted: u64 },
+    // It is whole.
+    Whole { segments: u32 },
+    // It has too many segments.
+    TooMany { count: u64 },
+    // Its segments have too many words.
+    TooLarge { words: u64 },
+}
+
+// What a call returns, for a buffer that is written.
+fn unpacked(bytes: &[u8], limits: &CallLimits, out: &mut [u8], state: Unpacking) -> Stop
+    ensures { TellsUnpackMessage limits.now bytes.now out.old state result.answer result.consumed
+        result.required out.new result.state result.report }
+{
+    let Some(size) = size_limit(limits) else {
+        return bad_stop(state);
+    };
+    if !is_state(&state, out, size) {
+        return bad_stop(state);
+    }
+    let (given, stage) = fill(bytes, size, out, state);
+    stop_of(&bytes[given.taken..], given, stage, state)
+}
+
+// What a call returns if the limits are bad, or no call leaves this state.
+fn bad_stop(state: Unpacking) -> Stop
+    ensures answer { result.answer ≡ Answer.BadLimits }
+    ensures numbers { (result.consumed ≡ 0) × (result.required ≡ 0) }
+    ensures state { result.state ≡ state }
+    ensures report { result.report ≡ none_report }
+{
+    Stop {
+        answer: Answer::BadLimits,
+        consumed: 0,
+        required: 0,
+        state,
+        report: CallReport::none(),
+    }
+}
+
+// The limit of a message, or `None` if the limits are bad.
+fn size_limit(limits: &CallLimits) -> Option<SizeLimit>
+    ensures some { IfSome result (λ size. AreLimits limits.now
+        × (limit_of size ≡ limits.now.message_words)) }
+    ensures none { IfNone result (¬ AreLimits limits.now) }
+{
+    if !limits.has_known_flags() || Limits::new(limits.charge, limits.depth).is_none() {
+        return None;
+    }
+    SizeLimit::new(limits.message_words)
+}
+
+// Whether a call may leave this state, for a buffer with these bytes.
+fn is_state(state: &Unpacking, out: &[u8], size: SizeLimit) -> bool
+    ensures { Decides result (IsState (limit_of size) state.now out.now) }
+{
+    if !has_rest(state) || state.written % 8 != 0 || state.written > out.len() as u64 {
+        return false;
+    }
+    match stage_of(&out[..state.written as usize], size) {
+        Stage::Whole { .. } => false,
+        Stage::Open { .. } => true,
+        Stage::TooMany { .. } => true,
+        Stage::TooLarge { .. } => true,
+    }
+}
+
+// Whether its run is one, and its reserved fields are 0.
+fn has_rest(state: &Unpacking) -> bool
+    ensures { Decides result (IsRest state.now.zero_words state.now.literal_words
+        × (slice_index state.now.reserved 0 ≡ 0) × (slice_index state.now.reserved 1 ≡ 0)) }
+{
+    state.zero_words <= 255
+        && state.literal_words <= 255
+        && (state.zero_words == 0 || state.literal_words == 0)
+        && state.reserved[0] == 0
+        && state.reserved[1] == 0
+}
+
+// How a message goes on that begins with these bytes.
+fn stage_of(held: &[u8], size: SizeLimit) -> Stage
+    requires { length held.now % 8 ≡ 0 }
+    ensures { IsStage (limit_of size) held.now result }
+{
+    match front_of(held, size) {
+        Ok(Some(framed)) => Stage::Whole {
+            segments: framed.count(),
+        },
+        Ok(None) => Stage::Open { wanted: 8 },
+        Err(FrontFault::Truncated { wanted }) => Stage::Open { wanted },
+        Err(FrontFault::TooManySegments { count }) => Stage::TooMany { count },
+        Err(FrontFault::TooLarge { words }) => Stage::TooLarge { words },
+    }
+}
+
+// Appends words to the message in the buffer, up to its end, or as long as there are some and space.
+fn fill(bytes: &[u8], size: SizeLimit, out: &mut [u8], state: Unpacking) -> (Given, Stage)
+    requires { IsState (limit_of size) state out.old }
+    ensures { Reaches (limit_of size) state.written state.zero_words state.literal_words bytes.now
+        out.old out.new result.0 result.1 }
+{
+    let mut done = Given {
+        taken: 0,
+        written: state.written as usize,
+        zeros: state.zero_words,
+        literal: state.literal_words,
+    };
+    let most = out.len() / 8 * 8;
+    'stages: loop {
+        let stage = stage_of(&out[..done.written], size);
+        let wanted = match stage {
+            Stage::Open { wanted } => wanted,
+            Stage::Whole { .. } => return (done, stage),
+            Stage::TooMany { .. } => return (done, stage),
+            Stage::TooLarge { .. } => return (done, stage),
+        };
+        let end = most.min(wanted as usize);
+        let next = give(
+            &bytes[done.taken..],
+            &mut out[done.written..end],
+            done.zeros,
+            done.literal,
+        );
+        done = Given {
+            taken: done.taken + next.taken,
+            written: done.written + next.written,
+            ..next
+        };
+        if (done.written as u64) < wanted {
+            return (done, stage_of(&out[..done.written], size));
+        }
+    }
+}
+
+// What a call returns at this stage, with these bytes left.
+fn stop_of(rest: &[u8], given: Given, stage: Stage, state: Unpacking) -> Stop
+    ensures stops { (limit size : ℕ) (held : List ℕ) → IsEnd limit size held rest.now given stage →
+        Stops limit size held given.zeros given.literal rest.now result.answer result.required
+        result.state.written result.report }
+    ensures consumed { result.consumed ≡ given.taken }
+    ensures state { result.state
+        ≡ state_of result.state.written given.zeros given.literal state }
+{
+    let stop = Stop {
+        answer: Answer::Truncated,
+        consumed: given.taken,
+        required: 0,
+        state: Unpacking {
+            written: given.written as u64,
+            zero_words: given.zeros,
+            literal_words: given.literal,
+            ..state
+        },
+        report: CallReport::none(),
+    };
+    match stage {
+        Stage::Open { wanted } => open_stop(rest, given, wanted, stop),
+        Stage::Whole { segments } => Stop {
+            answer: Answer::Good,
+            required: given.written,
+            state: Unpacking {
+                written: 0,
+                ..stop.state
+            },
+            report: CallReport {
+                length: given.written as u64,
+                segments,
+                ..stop.report
+            },
+            ..stop
+        },
+        Stage::TooMany { count } => Stop {
+            answer: Answer::TooManySegments,
+            report: CallReport {
+                detail: count,
+                ..stop.report
+            },
+            ..stop
+        },
+        Stage::TooLarge { words } => Stop {
+            answer: Answer::TooLarge,
+            report: CallReport {
+                detail: words,
+                ..stop.report
+            },
+            ..stop
+        },
+    }
+}
+
+// The same if more words belong to the message, up to `wanted` bytes.
+fn open_stop(rest: &[u8], given: Given, wanted: u64, stop: Stop) -> Stop
+    requires { (stop.answer ≡ Answer.Truncated) × (stop.required ≡ 0) × (stop.report ≡ none_report) }
+    ensures stops { (limit size : ℕ) (held : List ℕ) →
+        IsEnd limit size held rest.now given (Stage.Open wanted) →
+        stop.state.written ≡ given.written →
+        Stops limit size held given.zeros given.literal rest.now result.answer result.required
+        result.state.written result.report }
+    ensures consumed { result.consumed ≡ stop.consumed }
+    ensures state { result.state ≡ stop.state }
+{
+    if has_word(rest, given.zeros, given.literal) {
+        return Stop {
+            answer: Answer::BufferTooSmall,
+            required: wanted as usize,
+            ..stop
+        };
+    }
+    if given.written == 0 && given.literal == 0 && rest.is_empty() {
+        return Stop {
+            answer: Answer::NoMessage,
+            report: CallReport {
+                required: 1,
+                ..stop.report
+            },
+            ..stop
+        };
+    }
+    Stop {
+        report: CallReport {
+            required: needed(rest, given.literal),
+            ..stop.report
+        },
+        ..stop
+    }
+}
