@@ -23,7 +23,7 @@
  *   frames       capvet_frame, capvet_segment_at
  *   canonical    capvet_canonical, capvet_is_canonical
  *   read         capvet_get
- *   packing      capvet_pack, capvet_unpack, capvet_pack_message
+ *   packing      capvet_pack, capvet_unpack, capvet_pack_message, capvet_unpack_message
  *   other        capvet_answer_name, capvet_limits_default, capvet_version
  *
  * TERMS
@@ -59,9 +59,9 @@
  *
  * Memory. Calls allocate nothing, use at most 24 KiB of stack, do not recurse, and leave errno alone.
  *
- * Failure. If a call does not return CAPVET_OK, output buffers are unchanged. capvet_vet_exclusive has an
- * exception. Structs and numbers that are passed to be filled in are always written, and are 0 where they do
- * not apply.
+ * Failure. If a call does not return CAPVET_OK, output buffers are unchanged. capvet_vet_exclusive and
+ * capvet_unpack_message have exceptions. Structs and numbers that are passed to be filled in are always
+ * written, and are 0 where they do not apply.
  *
  * Required size. Calls that fill a buffer have a parameter `required`. It is how much of the buffer the
  * result takes, in the units of the buffer's size or count. It is set on CAPVET_OK, where it is the length of
@@ -79,7 +79,7 @@
  *   5. CAPVET_HAS_CAPABILITY
  *   6. CAPVET_BUFFER_TOO_SMALL
  *   7. CAPVET_NOT_CANONICAL, CAPVET_OVERLAP, CAPVET_NO_NODE, CAPVET_NO_SEGMENT
- * For capvet_pack and capvet_unpack see there.
+ * For capvet_pack, capvet_unpack and capvet_unpack_message see there.
  *
  * Cost. A walk is one pass over all pointers. A step takes about 10 ns on a current machine. By default a walk
  * takes at most the words of the segments + CAPVET_SLACK + 1 steps, and with CAPVET_ALLOW_AMPLIFIED
@@ -596,6 +596,50 @@ CAPVET_CALL((3, 6, 7))
 capvet_answer capvet_pack_message(const uint8_t *bytes, size_t length, const capvet_limits *limits,
                                   uint8_t *out, size_t out_size, size_t *required,
                                   capvet_report *report) CAPVET_NOEXCEPT;
+
+/* How far a message of a packed stream is unpacked. All zero is the start of a stream. */
+typedef struct capvet_unpacking {
+  uint64_t written;       /* how many bytes of the current message `out` has; 0 after CAPVET_OK */
+  uint32_t zero_words;    /* words of zeros that the last run still has */
+  uint32_t literal_words; /* unpacked words that the last run still has */
+  uint64_t reserved[2];   /* 0 */
+} capvet_unpacking;
+
+/* capvet_unpack_message -- unpacks one message of a packed stream, a piece at a time.
+ *
+ *   bytes, length  packed bytes that have been received and not yet consumed
+ *   limits         only `message_words` has an effect; CAPVET_NO_TABLE gives CAPVET_BAD_LIMITS
+ *   out, out_size  the buffer for the message; earlier calls wrote its first state->written bytes
+ *   state          all zero at first, then as the last call left it
+ *   consumed       set to how many of `bytes` are done with: drop them before the next call
+ *   required       CAPVET_OK: the length of the frame; CAPVET_BUFFER_TOO_SMALL: the size of `out`; else 0
+ *
+ * Appends words to `out` up to the end of the frame, never further. A run of words may go on into the next
+ * message: `state` keeps the rest of it. Every packed stream is read, however it was cut into groups. Words
+ * that were unpacked stay in `out`, and state->written counts their bytes. The bytes after them are unchanged.
+ *
+ * Returns
+ *
+ *   - CAPVET_OK: `out` starts with the frame, of report->length bytes. Vet it. Call again before you receive
+ *     more, since `state` and the rest of `bytes` may hold whole messages.
+ *   - CAPVET_NO_MESSAGE: no input, and nothing is pending. `length`, state->written and both rests are 0.
+ *   - CAPVET_TRUNCATED: receive more, so that the next input has report->required bytes at least (at most 10).
+ *     If the connection has ended, the message is cut.
+ *   - CAPVET_BUFFER_TOO_SMALL: the next word is there, and `out` has no space for it. Call again with a buffer
+ *     of at least *required bytes that keeps the first state->written. *required is 8, then the bytes of the
+ *     table, then those of the frame.
+ *   - CAPVET_TOO_LARGE, CAPVET_TOO_MANY_SEGMENTS: as for capvet_frame. They end the stream: a later call
+ *     returns them again.
+ *   - CAPVET_BAD_LIMITS: also if no call leaves this state. `state` and `out` are unchanged, and *consumed is 0.
+ *
+ * No value of `state` makes a call leave its buffers.
+ *
+ * Cost: proportional to `length`, and to the words that are written in this call. */
+CAPVET_CALL((3, 6, 7, 8, 9))
+capvet_answer capvet_unpack_message(const uint8_t *bytes, size_t length, const capvet_limits *limits,
+                                    uint8_t *out, size_t out_size, capvet_unpacking *state,
+                                    size_t *consumed, size_t *required,
+                                    capvet_report *report) CAPVET_NOEXCEPT;
 
 #ifdef __cplusplus
 }

@@ -21,10 +21,11 @@ the samples, of each prefix of one, and of 1,000 that are made up. `texts` unpac
 of one, changed ones, runs of about the greatest length of a group, and words of few kinds.
 
 `messages` packs the samples and 20,000 made messages of 1 to 20 segments. Where Cap'n Proto's C++ library is installed,
-the bytes are those that its writePackedMessage gives.
+the bytes are those that its writePackedMessage gives. `pieces` unpacks packed streams a piece at a time, and what it finds
+is compared with a model here: samples and made messages, packed each by itself or as a whole, and cut at each byte.
 
-All but `allocations` run with the compiler's checks of memory, and `calls`, `texts`, `packing` and `messages` under
-valgrind, where these are installed. The last line is 'N passed, M failed', and the status is 1 where something failed.
+All but `allocations` run with the compiler's checks of memory, and `calls`, `texts`, `packing`, `messages` and
+`pieces` under valgrind, where these are installed. The last line is 'N passed, M failed', and the status is 1 where something failed.
 """
 import random
 import re
@@ -86,7 +87,8 @@ def wanted_symbols(archive):
     told("what the archive wants", undefined - own <= {"memcpy", "memmove", "memset"}, str(undefined - own))
     for name in ("capvet_version", "capvet_frame", "capvet_vet", "capvet_vet_exclusive", "capvet_is_canonical",
                  "capvet_canonical", "capvet_get", "capvet_pack", "capvet_unpack", "capvet_pack_message",
-                 "capvet_limits_default", "capvet_abi_1", "capvet_segment_at", "capvet_vet_segments"):
+                 "capvet_unpack_message", "capvet_limits_default", "capvet_abi_1", "capvet_segment_at",
+                 "capvet_vet_segments"):
         told(f"the archive has {name}", name in own)
 
 
@@ -338,7 +340,7 @@ def parts_of(output):
     return parts
 
 
-def test_packed_messages(folder, compiler, archive):
+def test_packed_messages(folder, compiler, archive, program):
     """Messages that are packed, each part by itself, beside those of Cap'n Proto's own library."""
     chance = random.Random(SEED)
     frames = samples() + [made_frame(chance) for _ in range(20_000)]
@@ -352,6 +354,7 @@ def test_packed_messages(folder, compiler, archive):
     told("packing of messages, with its checks", (got.returncode, got.stderr) == (0, b""), got.stderr)
     texts = parts_of(got.stdout)
     told("each message is packed", len(texts) == len(frames), f"{len(texts)} of {len(frames)}")
+    test_pieces(folder, compiler, archive, program, texts, frames)
     if watched is not None and shutil.which("valgrind"):
         few = folder / "few"
         few.write_bytes(b"".join(struct.pack("<I", len(frame)) + frame for frame in frames[:500]))
@@ -364,6 +367,92 @@ def test_packed_messages(folder, compiler, archive):
     for frame, text, wanted in zip(frames, texts, parts_of(output)):
         told(f"the packed message {frame.hex()}", text == wanted, f"  {text.hex()}\n  {wanted.hex()}")
     print(f"calls: {len(texts)} messages packed as Cap'n Proto's C++ library does")
+
+
+def words_of_text(text):
+    """The words that packed bytes give, and whether something is left: bytes of a group, or words of a run."""
+    words, at = [], 0
+    while at < len(text):
+        tag, rest = text[at], len(text) - at
+        need = 2 if tag == 0 else 10 if tag == 255 else 1 + bin(tag).count("1")
+        if rest < need:
+            return words, True
+        if tag == 0:
+            words += [bytes(8)] * (1 + text[at + 1])
+        elif tag == 255:
+            many = min(text[at + 9], (rest - 10) // 8)
+            words += [text[at + 1:at + 9], *(text[at + 10 + 8 * k:at + 18 + 8 * k] for k in range(many))]
+            if many < text[at + 9]:
+                return words, True
+            need += 8 * many
+        else:
+            present = iter(text[at + 1:at + need])
+            words.append(bytes(next(present) if tag >> bit & 1 else 0 for bit in range(8)))
+        at += need
+    return words, False
+
+
+def frames_of_text(text):
+    """The whole frames in a packed stream, and what the last call answers."""
+    words, is_left = words_of_text(text)
+    stream, frames = b"".join(words), []
+    while len(stream) >= 8:
+        count = struct.unpack_from("<I", stream)[0] + 1
+        table = 8 * (count // 2 + 1)
+        if len(stream) < table:
+            break
+        end = table + 8 * sum(struct.unpack_from(f"<{count}I", stream, 4))
+        if len(stream) < end:
+            break
+        frames.append(stream[:end])
+        stream = stream[end:]
+    return frames, 4 if stream or is_left else 1
+
+
+def packed_streams(texts, frames, program, chance):
+    """Packed streams, each with the length of its pieces: of packed messages, of messages that are packed together, and
+    the fronts of some."""
+    small = [text for text in texts if len(text) < 300]
+    small_frames = [frame for frame in frames if len(frame) < 300]
+    for text in texts[:7]:
+        yield 1000, text
+    for number in range(400):
+        some = [chance.choice(small) for _ in range(chance.randrange(1, 5))]
+        joined = b"".join(chance.choice(small_frames) for _ in range(chance.randrange(1, 5)))
+        joined += chance.choice((b"", bytes(8), bytes(32)))
+        run = subprocess.run([program, "pack"], input=joined, stdout=subprocess.PIPE, check=True).stdout
+        for text in (b"".join(some), run):
+            for piece in (1, 7, 64, 1 << 20):
+                yield piece, text
+            if number < 20 and len(text) < 600:
+                for end in range(len(text)):
+                    yield chance.choice((1, 3, 1 << 20)), text[:end]
+
+
+def test_pieces(folder, compiler, archive, program, texts, frames):
+    """Packed streams that are unpacked a piece at a time, beside the model."""
+    cases = list(packed_streams(texts, frames, program, random.Random(SEED)))
+    path = folder / "streams"
+    path.write_bytes(b"".join(struct.pack("<II", piece, len(text)) + text for piece, text in cases))
+    pieces = compiled(folder, "pieces", compiler, "c11", archive, "-O1", *CHECKS)
+    watched = compiled(folder, "pieces", compiler, "c99", archive)
+    if pieces is None:
+        return
+    got = subprocess.run([pieces, path], capture_output=True)
+    told("pieces, with its checks", (got.returncode, got.stderr) == (0, b""), got.stderr)
+    if watched is not None and shutil.which("valgrind"):
+        few = folder / "few-streams"
+        few.write_bytes(b"".join(struct.pack("<II", piece, len(text)) + text for piece, text in cases[:500]))
+        ran = subprocess.run(["valgrind", "-q", "--error-exitcode=9", watched, few], capture_output=True)
+        told("pieces, under valgrind", ran.returncode == 0, ran.stderr)
+    at = count = 0
+    for piece, text in cases:
+        wanted, answer = frames_of_text(text)
+        known = b"".join(struct.pack("<I", len(frame)) + frame for frame in wanted) + struct.pack("<II", 0xFFFFFFFF, answer)
+        told(f"pieces of {piece} of {text.hex()}", got.stdout[at:at + len(known)] == known, got.stdout[at:at + len(known)].hex())
+        at, count = at + len(known), count + len(wanted)
+    told("no more messages", at == len(got.stdout))
+    print(f"calls: {len(cases)} packed streams unpacked in pieces, {count} messages")
 
 
 def packed_texts(program, chance):
@@ -498,7 +587,7 @@ def test_messages(folder, compilers, archive, program):
 def test_packed(folder, compilers, archive, program):
     """Packing and unpacking."""
     test_packing(folder, compilers[0], archive, program)
-    test_packed_messages(folder, compilers[0], archive)
+    test_packed_messages(folder, compilers[0], archive, program)
     lines = compiled(folder, "lines", compilers[0], "c99", archive, "-O1", *CHECKS)
     if lines is not None:
         compare_words(lines, program)

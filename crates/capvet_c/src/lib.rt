@@ -12,16 +12,18 @@ ghost use Rattle.cap_calls.specs.PackCalls.{TellsPack, TellsUnpack};
 ghost use Rattle.cap_calls.specs.SegmentCalls.{AreSegmentWords, TellsSegment};
 ghost use Rattle.cap_calls.specs.SegmentsCalls.{TellsSegments};
 ghost use Rattle.cap_calls.specs.PackedMessages.{TellsPackMessage};
+ghost use Rattle.cap_calls.specs.UnpackingMessages.{TellsUnpackMessage};
 ghost use Rattle.cap_calls.specs.declared.answer.Answer.{Answer};
 ghost use Rattle.cap_calls.specs.declared.answer.Answer.TheVariants.{Good, Overlap};
 ghost use Rattle.cap_calls.specs.declared.node.CallNode.{CallNode};
 ghost use Rattle.cap_calls.specs.declared.report.CallReport.{CallReport};
+ghost use Rattle.cap_calls.specs.declared.unpacking.Unpacking.{Unpacking};
 ghost use Rattle.cap_calls.specs.Slices.{bytes_of};
 ghost use Rattle.std.specs.Prelude.{◌*◌, ◌+◌, ◌/◌, ◌≡◌, ◌≤◌, ◌⊎◌, IsFalse, List, drop, length, ℕ};
 
 use cap_calls::{
-    CallLimits, CallNode, CallReport, canonical, frame, get, is_canonical, pack, pack_message,
-    segment_at, unpack, version, vet, vet_exclusive, vet_segments,
+    CallLimits, CallNode, CallReport, Unpacking, canonical, frame, get, is_canonical, pack,
+    pack_message, segment_at, unpack, unpack_message, version, vet, vet_exclusive, vet_segments,
 };
 
 /// Returns the version of the library: 65536 times its major number, 256 times its minor number,
@@ -303,4 +305,35 @@ pub extern "C" fn capvet_pack_message(
     ensures few { required.new ≤ report.new.length / 8 * 10 }
 {
     pack_message(bytes, limits, out, required, report).number()
+}
+
+/// Unpacks one message of a packed stream, a piece at a time. `bytes` are the packed bytes that
+/// were received and not consumed. Words are appended to `out`, after those that earlier calls
+/// wrote, up to the end of the frame and never further. Only `message_words` has an effect, though
+/// all limits are checked. It checks no pointer.
+///
+/// `consumed` is how many of `bytes` are done with. With `CAPVET_OK`, `out` starts with the frame,
+/// of `required` bytes. With `CAPVET_BUFFER_TOO_SMALL`, `out` needs `required` bytes. With
+/// `CAPVET_TRUNCATED` and `CAPVET_NO_MESSAGE`, the next call needs `report.required` bytes at
+/// least. With `CAPVET_BAD_LIMITS`, `state` and `out` are unchanged. The result is the number of
+/// what [`unpack_message`] returns. The report is written whole. Allocates nothing.
+#[unsafe(no_mangle)]
+pub extern "C" fn capvet_unpack_message(
+    bytes: &[u8],
+    limits: &CallLimits,
+    out: &mut [u8],
+    state: &mut Unpacking,
+    consumed: &mut usize,
+    required: &mut usize,
+    report: &mut CallReport,
+) -> u32
+    ensures tells { (a : Answer) × TellsUnpackMessage limits.now bytes.now out.old state.old a
+        consumed.new required.new out.new state.new report.new × (result ≡ number_of a) }
+    // The bytes, the state and the contents of the buffer allow no other result.
+    ensures only { (a : Answer) (n k : ℕ) (new : List ℕ) (left : Unpacking) (r : CallReport) →
+        TellsUnpackMessage limits.now bytes.now out.old state.old a n k new left r →
+        (result ≡ number_of a) × (consumed.new ≡ n) × (required.new ≡ k) × (out.new ≡ new)
+        × (state.new ≡ left) × (report.new ≡ r) }
+{
+    unpack_message(bytes, limits, out, state, consumed, required, report).number()
 }

@@ -1,0 +1,12 @@
+-- The number is that of the one answer.
+use Rattle.std.proofs.Common.{ap, ◌∙◌}
+use Rattle.cap_calls.specs.AnswerNumbers.{number_of}
+use Rattle.capvet_c.proofs.capvet_unpack_message.Goals as goal
+
+pub returns-clause-only : goal.returns-clause-only
+returns-clause-only c = λ a n k new left r h.
+    let same = c.unpack_message.ensures.only a n k new left r h in
+    (c.number.ensures ∙ ap number_of same.0, same.1, same.2, same.3, same.4, same.5)
+
+pub returns-clause-tells : goal.returns-clause-tells
+returns-clause-tells c = (c.unpack_message.result, c.unpack_message.ensures.tells, c.number.ensures)
