@@ -608,11 +608,11 @@ typedef struct capvet_unpacking {
 /* capvet_unpack_message -- unpacks one message of a packed stream, a piece at a time.
  *
  *   bytes, length  packed bytes that have been received and not yet consumed
- *   limits         only `message_words` has an effect; CAPVET_NO_TABLE gives CAPVET_BAD_LIMITS
- *   out, out_size  the buffer for the message; earlier calls wrote its first state->written bytes
+ *   limits         only `message_words` has an effect. CAPVET_NO_TABLE gives CAPVET_BAD_LIMITS.
+ *   out, out_size  the buffer for the message. Earlier calls wrote its first state->written bytes.
  *   state          all zero at first, then as the last call left it
- *   consumed       set to how many of `bytes` are done with: drop them before the next call
- *   required       CAPVET_OK: the length of the frame; CAPVET_BUFFER_TOO_SMALL: the size of `out`; else 0
+ *   consumed       set to how many of `bytes` are done with. Drop them before the next call.
+ *   required       on CAPVET_OK the length of the frame, on CAPVET_BUFFER_TOO_SMALL the size of `out`, else 0
  *
  * Appends words to `out` up to the end of the frame, never further. A run of words may go on into the next
  * message: `state` keeps the rest of it. Every packed stream is read, however it was cut into groups. Words

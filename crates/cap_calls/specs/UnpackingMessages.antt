@@ -88,3 +88,30 @@ pub data TellsUnpackMessage (l : CallLimits) (bytes old : List ℕ) (state : Unp
       (drop consumed bytes) a required written r
       → left ≡ state_of written zeros literal state
       → TellsUnpackMessage l bytes old state a consumed required new left r
+
+-- what a call returns and writes
+pub record Unpacked : Type 0 where
+  pub answer : Answer
+  pub consumed : ℕ
+  pub required : ℕ
+  pub out : List ℕ
+  pub state : Unpacking
+  pub report : CallReport
+
+abbrev pub UnpacksTo : CallLimits → List ℕ → List ℕ → Unpacking → Unpacked → Type 0
+UnpacksTo l bytes old state u =
+    TellsUnpackMessage l bytes old state u.answer u.consumed u.required u.out u.state u.report
+
+-- these are what it leaves beside its answer
+abbrev pub Leaves : Unpacked → ℕ → ℕ → List ℕ → Unpacking → CallReport → Type 0
+Leaves u consumed required out state report = (consumed ≡ u.consumed) × (required ≡ u.required) × (out ≡ u.out)
+    × (state ≡ u.state) × (report ≡ u.report)
+
+-- It asks for more input, and the next call is over the bytes that it left and the next piece.
+abbrev pub GoesOnWith : CallLimits → List ℕ → List ℕ → Unpacked → Unpacked → Type 0
+GoesOnWith l piece more u v = ((u.answer ≡ answer.Truncated) ⊎ (u.answer ≡ answer.NoMessage))
+    × UnpacksTo l (drop u.consumed piece ++ more) u.out u.state v
+
+-- both calls together
+abbrev pub together : Unpacked → Unpacked → Unpacked
+together u v = record v { consumed = u.consumed + v.consumed }

@@ -12,12 +12,11 @@ ghost use Rattle.cap_calls.specs.PackCalls.{TellsPack, TellsUnpack};
 ghost use Rattle.cap_calls.specs.SegmentCalls.{AreSegmentWords, TellsSegment};
 ghost use Rattle.cap_calls.specs.SegmentsCalls.{TellsSegments};
 ghost use Rattle.cap_calls.specs.PackedMessages.{TellsPackMessage};
-ghost use Rattle.cap_calls.specs.UnpackingMessages.{TellsUnpackMessage};
+ghost use Rattle.cap_calls.specs.UnpackingMessages.{Leaves, TellsUnpackMessage, Unpacked, UnpacksTo};
 ghost use Rattle.cap_calls.specs.declared.answer.Answer.{Answer};
 ghost use Rattle.cap_calls.specs.declared.answer.Answer.TheVariants.{Good, Overlap};
 ghost use Rattle.cap_calls.specs.declared.node.CallNode.{CallNode};
 ghost use Rattle.cap_calls.specs.declared.report.CallReport.{CallReport};
-ghost use Rattle.cap_calls.specs.declared.unpacking.Unpacking.{Unpacking};
 ghost use Rattle.cap_calls.specs.Slices.{bytes_of};
 ghost use Rattle.std.specs.Prelude.{◌*◌, ◌+◌, ◌/◌, ◌≡◌, ◌≤◌, ◌⊎◌, IsFalse, List, drop, length, ℕ};
 
@@ -330,10 +329,9 @@ pub extern "C" fn capvet_unpack_message(
     ensures tells { (a : Answer) × TellsUnpackMessage limits.now bytes.now out.old state.old a
         consumed.new required.new out.new state.new report.new × (result ≡ number_of a) }
     // The bytes, the state and the contents of the buffer allow no other result.
-    ensures only { (a : Answer) (n k : ℕ) (new : List ℕ) (left : Unpacking) (r : CallReport) →
-        TellsUnpackMessage limits.now bytes.now out.old state.old a n k new left r →
-        (result ≡ number_of a) × (consumed.new ≡ n) × (required.new ≡ k) × (out.new ≡ new)
-        × (state.new ≡ left) × (report.new ≡ r) }
+    ensures only { (u : Unpacked) → UnpacksTo limits.now bytes.now out.old state.old u →
+        (result ≡ number_of u.answer)
+        × Leaves u consumed.new required.new out.new state.new report.new }
 {
     unpack_message(bytes, limits, out, state, consumed, required, report).number()
 }

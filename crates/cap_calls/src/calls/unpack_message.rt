@@ -4,7 +4,7 @@ ghost use Rattle.cap_calls.specs.CallFrames.{AreLimits};
 ghost use Rattle.cap_calls.specs.CallReports.{none_report};
 ghost use Rattle.cap_calls.specs.MessageStages.{IsEnd, IsStage, Reaches};
 ghost use Rattle.cap_calls.specs.PackedStreams.{IsRest};
-ghost use Rattle.cap_calls.specs.UnpackingMessages.{IsState, Stops, TellsUnpackMessage, state_of};
+ghost use Rattle.cap_calls.specs.UnpackingMessages.{IsState, Leaves, Stops, TellsUnpackMessage, Unpacked, UnpacksTo, state_of};
 ghost use Rattle.cap_calls.specs.declared.answer.Answer.{Answer};
 ghost use Rattle.cap_calls.specs.declared.report.CallReport.{CallReport};
 ghost use Rattle.cap_calls.specs.declared.unpacking.Unpacking.{Unpacking};
@@ -52,10 +52,9 @@ pub fn unpack_message(
     ensures tells { TellsUnpackMessage limits.now bytes.now out.old state.old result consumed.new
         required.new out.new state.new report.new }
     // The bytes, the state and the contents of the buffer allow no other result.
-    ensures only { (a : Answer) (n k : ℕ) (new : List ℕ) (left : Unpacking) (r : CallReport) →
-        TellsUnpackMessage limits.now bytes.now out.old state.old a n k new left r →
-        (result ≡ a) × (consumed.new ≡ n) × (required.new ≡ k) × (out.new ≡ new)
-        × (state.new ≡ left) × (report.new ≡ r) }
+    ensures only { (u : Unpacked) → UnpacksTo limits.now bytes.now out.old state.old u →
+        (result ≡ u.answer)
+        × Leaves u consumed.new required.new out.new state.new report.new }
 {
     let stop = unpacked(bytes, limits, out, *state);
     *state = stop.state;
@@ -271,10 +270,10 @@ fn stop_of(rest: &[u8], given: Given, stage: Stage, state: Unpacking) -> Stop
 
 // The same if more words belong to the message, up to `wanted` bytes.
 fn open_stop(rest: &[u8], given: Given, wanted: u64, stop: Stop) -> Stop
-    requires { (stop.answer ≡ Answer.Truncated) × (stop.required ≡ 0) × (stop.report ≡ none_report) }
+    requires { (stop.answer ≡ Answer.Truncated) × (stop.required ≡ 0) × (stop.report ≡ none_report)
+        × (stop.state.written ≡ given.written) }
     ensures stops { (limit size : ℕ) (held : List ℕ) →
         IsEnd limit size held rest.now given (Stage.Open wanted) →
-        stop.state.written ≡ given.written →
         Stops limit size held given.zeros given.literal rest.now result.answer result.required
         result.state.written result.report }
     ensures consumed { result.consumed ≡ stop.consumed }

@@ -4,8 +4,8 @@ use Rattle.cap_calls.specs.AnswerNumbers.{number_of}
 use Rattle.capvet_c.proofs.capvet_unpack_message.Goals as goal
 
 pub returns-clause-only : goal.returns-clause-only
-returns-clause-only c = λ a n k new left r h.
-    let same = c.unpack_message.ensures.only a n k new left r h in
+returns-clause-only c = λ u h.
+    let same = c.unpack_message.ensures.only u h in
     (c.number.ensures ∙ ap number_of same.0, same.1, same.2, same.3, same.4, same.5)
 
 pub returns-clause-tells : goal.returns-clause-tells

@@ -9,16 +9,16 @@ use Rattle.cap_calls.proofs.calls.unpack_message.open_stop.Goals as goal
 use Rattle.cap_calls.proofs.calls.unpack_message.open_stop.Goals.{else-given-eq0-via-then-given-eq0+then-given-eq0-2+else-is_empty, else-given-eq0-via-then-given-eq0+else-given-eq0-2, else-given-eq0-via-else-given-eq0}
 
 pub returns-then-has_word-clause-stops : goal.returns-then-has_word-clause-stops
-returns-then-has_word-clause-stops c = λ limit size held e same.
+returns-then-has_word-clause-stops c = λ limit size held e.
     let some = c.has_word.ensures.some c.if-has_word.true in
     let full : size < length held + 8 = elim (cases_lt size (length held + 8)) [
       | inl less ↦ less
       | inr more ↦ absurd (some (e.ends (omega (arith, more, e.long))))
     ] in
-    too_small e.is_stage some full refl (same ∙ sym e.long) c.requires.2
+    too_small e.is_stage some full refl (c.requires.3 ∙ sym e.long) c.requires.2
 
 pub returns-clause-stops : goal.returns-clause-stops
-returns-clause-stops c = λ limit size held e same.
+returns-clause-stops c = λ limit size held e.
     truncated c.args.wanted e.is_stage (c.has_word.ensures.none c.if-has_word.false)
     (λ (h, p, r). elim c.else-given-eq0.branch [
       | else-given-eq0-via-then-given-eq0+then-given-eq0-2+else-is_empty w ↦
@@ -27,5 +27,5 @@ returns-clause-stops c = λ limit size held e same.
       | else-given-eq0-via-then-given-eq0+else-given-eq0-2 w ↦ w.if-given-eq0-2.false p
       | else-given-eq0-via-else-given-eq0 w ↦ w.if-given-eq0.false (sym e.long ∙ ap length h)
     ])
-    c.requires.0 c.requires.1 (same ∙ sym e.long)
+    c.requires.0 c.requires.1 (c.requires.3 ∙ sym e.long)
     (ap₂ (λ (x : CallReport) (k : ℕ). record x { required = k }) c.requires.2 c.needed.ensures)

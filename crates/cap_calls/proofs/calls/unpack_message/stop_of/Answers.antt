@@ -10,7 +10,7 @@ use Rattle.cap_calls.proofs.calls.unpack_message.stop_of.Goals as goal
 pub returns-in-Open-clause-stops : goal.returns-in-Open-clause-stops
 returns-in-Open-clause-stops c = λ limit size held e.
     c.open_stop.ensures.stops limit size held
-    (subst (λ (s : Stage). IsEnd limit size held c.args.rest.now c.args.given s) c.in-Open.is e) refl
+    (subst (λ (s : Stage). IsEnd limit size held c.args.rest.now c.args.given s) c.in-Open.is e)
 
 pub returns-in-Whole-clause-stops : goal.returns-in-Whole-clause-stops
 returns-in-Whole-clause-stops c = λ limit size held e.
