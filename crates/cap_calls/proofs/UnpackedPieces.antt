@@ -66,11 +66,12 @@ module _ (limit : ℕ) (bytes more old new newer : List ℕ) (state : Unpacking)
   pub both_appended : Appends limit (bytes ++ more) old state (ws ++ vs) (c + d) y q newer
   both_appended =
       let count = length-append ws vs in
+      let here : state.written + 8 * length ws + 8 * length vs ≡ state.written + 8 * length (ws ++ vs) = omega (arith, count) in
       let after : drop (w + 8 * length vs) new ≡ drop (state.written + 8 * length (ws ++ vs)) old =
       sym (drop-drop (8 * length vs) w new)
       ∙ (ap (drop (8 * length vs)) back
       ∙ (drop-drop (8 * length vs) (state.written + 8 * length ws) old
-      ∙ ap (λ (k : ℕ). drop k old) (let e : state.written + 8 * length ws + 8 * length vs ≡ state.written + 8 * length (ws ++ vs) = omega (arith, count) in e))) in
+      ∙ ap (λ (k : ℕ). drop k old) here)) in
       let held = take state.written old ++ plain_text ws in
       let rest = plain_text vs ++ drop (w + 8 * length vs) new in
       let text : newer ≡ held ++ rest = g.text ∙ ap (λ (l : List ℕ). l ++ rest) front in

@@ -1,7 +1,7 @@
 -- What the call that unpacks one message of a stream, a piece at a time, returns and writes
 -- (standard: Packing, Serialization Over a Stream; where each call stops is the profile's).
-use Rattle.std.specs.Prelude.{ℕ, ◌+◌, ◌*◌, ◌%◌, ◌<◌, ◌≡◌, ◌≢◌, ◌≤◌, ◌⊎◌, ◌==◌, if◌then◌else◌, Err, List, [], ◌++◌, length}
-use Rattle.std.specs.Prelude.{drop, slice_index, take}
+use Rattle.std.specs.Prelude.{ℕ, ◌+◌, ◌*◌, ◌%◌, ◌<◌, ◌≡◌, ◌≢◌, ◌≤◌, ◌⊎◌, ◌==◌, if◌then◌else◌}
+use Rattle.std.specs.Prelude.{Err, List, [], ◌++◌, drop, length, slice_index, take}
 use Rattle.cap_spec.specs.Plain.{plain_text}
 use Rattle.cap_frame.specs.Framed.{TellsFront}
 use Rattle.cap_frame.specs.Fronts.{IsFront, TellsLarge, TellsMany}
@@ -75,8 +75,8 @@ abbrev pub state_of : ℕ → ℕ → ℕ → Unpacking → Unpacking
 state_of written zeros literal state = record state { written = written; zero_words = zeros; literal_words = literal }
 
 -- What a call tells of a piece of the stream.
-pub data TellsUnpackMessage (l : CallLimits) (bytes old : List ℕ) (state : Unpacking) (a : Answer) (consumed required : ℕ)
-    (new : List ℕ) (left : Unpacking) (r : CallReport) : Type 0 where
+pub data TellsUnpackMessage (l : CallLimits) (bytes old : List ℕ) (state : Unpacking) (a : Answer)
+    (consumed required : ℕ) (new : List ℕ) (left : Unpacking) (r : CallReport) : Type 0 where
   -- the limits are bad, or no call leaves this state
   bad : ¬ (AreLimits l × IsState l.message_words state old) → a ≡ answer.BadLimits → consumed ≡ 0 → required ≡ 0
       → new ≡ old → left ≡ state → r ≡ none_report

@@ -34,7 +34,8 @@ struct Head {
 
 // The head at the start of the bytes, or `None` if they end inside it.
 fn head_of(bytes: &[u8]) -> Option<Head>
-    ensures leads { IfSome result (λ h. Leads 0 0 bytes.now (h.word ∷ []) h.length h.zeros h.literal) }
+    ensures leads { IfSome result (λ h.
+        Leads 0 0 bytes.now (h.word ∷ []) h.length h.zeros h.literal) }
     ensures left { IfSome result (λ h. IsRest h.zeros h.literal) }
     ensures none { IfNone result (words_to_come 0 0 bytes.now ≡ []) }
 {
@@ -159,9 +160,9 @@ fn give_some(bytes: &[u8], out: &mut [u8], zeros: u32, literal: u32) -> Given
     }
 }
 
-/// Writes the next words of a stream at the start of a buffer, as long as it has space and the bytes
-/// have the next word whole. Before these bytes `zeros` zero words and `literal` literal words of a
-/// run are still to come.
+/// Writes the next words of a stream at the start of a buffer, as long as it has space and the
+/// bytes have the next word whole. Before these bytes `zeros` zero words and `literal` literal
+/// words of a run are still to come.
 pub(crate) fn give(bytes: &[u8], out: &mut [u8], zeros: u32, literal: u32) -> Given
     requires { IsRest zeros literal }
     ensures gives { Gives 0 zeros literal bytes.now out.old out.new result }

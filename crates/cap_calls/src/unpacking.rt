@@ -1,8 +1,8 @@
 //! How far a message of a packed stream is unpacked.
 
-/// How far a message of a packed stream is unpacked, laid out as C has it. All zero is the start of a
-/// stream. Any numbers make one. A call returns [`crate::Answer::BadLimits`] for those that no call
-/// leaves.
+/// How far a message of a packed stream is unpacked, laid out as C has it. All zero is the start of
+/// a stream. Any numbers make one. A call returns [`crate::Answer::BadLimits`] for those that no
+/// call leaves.
 #[repr(C)]
 #[derive(Clone, Copy, Debug, PartialEq, Eq)]
 pub struct Unpacking {

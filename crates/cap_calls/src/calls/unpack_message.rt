@@ -20,26 +20,27 @@ use cap_frame::{FrontFault, SizeLimit, front_of};
 use cap_vet::Limits;
 
 /// Unpacks words of a packed stream to `out`, after those that earlier calls wrote there, up to the
-/// end of one message (encoding: Packing, Serialization Over a Stream). `bytes` are the packed bytes
-/// that were received and not consumed; `consumed` is how many of them are done with. A run of words
-/// may go on into the next message; `state` keeps the rest of it. It checks no pointer. Allocates
-/// nothing.
+/// end of one message (encoding: Packing, Serialization Over a Stream). `bytes` are the packed
+/// bytes that were received and not consumed; `consumed` is how many of them are done with. A run
+/// of words may go on into the next message; `state` keeps the rest of it. It checks no pointer.
+/// Allocates nothing.
 ///
 /// The first of these that applies is returned:
-/// - [`Answer::BadLimits`], if the limits are bad or no call leaves this state; `state` and `out` are
-///   then unchanged, and no byte is consumed;
-/// - [`Answer::TooManySegments`] or [`Answer::TooLarge`], if the message is; a later call returns it
-///   again;
+/// - [`Answer::BadLimits`], if the limits are bad or no call leaves this state; `state` and `out`
+///   are then unchanged, and no byte is consumed;
+/// - [`Answer::TooManySegments`] or [`Answer::TooLarge`], if the message is; a later call returns
+///   it again;
 /// - [`Answer::Good`], if `out` starts with the whole frame of a message, of `required` bytes;
 ///   `state.written` is then 0;
-/// - [`Answer::BufferTooSmall`], if the next word is there and `out` has no space for it; `required`
-///   is then how many bytes `out` has to have, as far as the message says so far;
+/// - [`Answer::BufferTooSmall`], if the next word is there and `out` has no space for it;
+///   `required` is then how many bytes the message has at least, as far as its table is there;
 /// - [`Answer::NoMessage`], if there are no bytes and no words are pending;
-/// - [`Answer::Truncated`], if the bytes end before the next word; `report.required` is how many bytes
-///   the next call needs at least.
+/// - [`Answer::Truncated`], if the bytes end before the next word; `report.required` is how many
+///   bytes the next call needs at least.
 ///
-/// Words that were unpacked stay in `out` after any other answer than the first, and `state.written`
-/// counts their bytes. The bytes after them are unchanged. The report is written whole.
+/// Words that were unpacked stay in `out` after any other answer than the first, and
+/// `state.written` counts their bytes. The bytes after them are unchanged. The report is written
+/// whole.
 pub fn unpack_message(
     bytes: &[u8],
     limits: &CallLimits,
@@ -173,7 +174,8 @@ fn stage_of(held: &[u8], size: SizeLimit) -> Stage
     }
 }
 
-// Appends words to the message in the buffer, up to its end, or as long as there are some and space.
+// Appends words to the message in the buffer, up to its end, or as long as there are some and the
+// buffer has space.
 fn fill(bytes: &[u8], size: SizeLimit, out: &mut [u8], state: Unpacking) -> (Given, Stage)
     requires { IsState (limit_of size) state out.old }
     ensures { Reaches (limit_of size) state.written state.zero_words state.literal_words bytes.now

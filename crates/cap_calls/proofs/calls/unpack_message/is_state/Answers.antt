@@ -33,7 +33,8 @@ returns-in-TooMany c =
         second = rest.2;
         whole = c.if-state-ne0.false;
         inside = c.if-state-out.false;
-        unfinished = λ m n f. many_not_whole (limit_of c.args.size) c.in-TooMany.count n (take c.args.state.now.written c.args.out.now) m c.in-TooMany.ensures f;
+        unfinished = λ m n f. many_not_whole (limit_of c.args.size) c.in-TooMany.count n
+            (take c.args.state.now.written c.args.out.now) m c.in-TooMany.ensures f;
       },
       λ _. refl,
     )
@@ -47,7 +48,8 @@ returns-in-TooLarge c =
         second = rest.2;
         whole = c.if-state-ne0.false;
         inside = c.if-state-out.false;
-        unfinished = λ m n f. large_not_whole (limit_of c.args.size) c.in-TooLarge.words n (take c.args.state.now.written c.args.out.now) m c.in-TooLarge.ensures f;
+        unfinished = λ m n f. large_not_whole (limit_of c.args.size) c.in-TooLarge.words n
+            (take c.args.state.now.written c.args.out.now) m c.in-TooLarge.ensures f;
       },
       λ _. refl,
     )

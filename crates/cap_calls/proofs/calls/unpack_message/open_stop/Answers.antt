@@ -6,7 +6,9 @@ use Rattle.cap_calls.specs.PackedStreams.{words_to_come}
 use Rattle.cap_calls.specs.UnpackingMessages.{too_small, truncated}
 use Rattle.cap_calls.specs.declared.report.CallReport.{CallReport}
 use Rattle.cap_calls.proofs.calls.unpack_message.open_stop.Goals as goal
-use Rattle.cap_calls.proofs.calls.unpack_message.open_stop.Goals.{else-given-eq0-via-then-given-eq0+then-given-eq0-2+else-is_empty, else-given-eq0-via-then-given-eq0+else-given-eq0-2, else-given-eq0-via-else-given-eq0}
+use Rattle.cap_calls.proofs.calls.unpack_message.open_stop.Goals.{else-given-eq0-via-then-given-eq0+then-given-eq0-2+else-is_empty}
+use Rattle.cap_calls.proofs.calls.unpack_message.open_stop.Goals.{else-given-eq0-via-then-given-eq0+else-given-eq0-2}
+use Rattle.cap_calls.proofs.calls.unpack_message.open_stop.Goals.{else-given-eq0-via-else-given-eq0}
 
 pub returns-then-has_word-clause-stops : goal.returns-then-has_word-clause-stops
 returns-then-has_word-clause-stops c = λ limit size held e.
