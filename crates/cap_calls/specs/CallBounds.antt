@@ -13,6 +13,6 @@ marks_bound long = long / 512 + 1
 abbrev pub canonical_bound : ℕ → ℕ
 canonical_bound long = long + 8 * (4096 + 1)
 
--- the most bytes that packing so many bytes gives: CAPVET_PACK_BOUND
+-- the most bytes that packing gives, by the length of the words in bytes: CAPVET_PACK_BOUND
 abbrev pub pack_bound : ℕ → ℕ
 pack_bound long = long / 8 * 10

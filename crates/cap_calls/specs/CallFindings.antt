@@ -49,7 +49,7 @@ pub data Tells (kept : Type 0) (finds : List (List ℕ) → ℕ → ℕ → Foun
       → f ≡ framed_found frame segments g → Tells kept finds l bytes f
 
 -- The bytes have to be one message and nothing else, and more bytes follow it; then something is kept.
--- Or the call tells the same as above.
+-- Or the call reports the same as above.
 pub data TellsWhole (whole : Bool) (kept : Type 0) (finds : List (List ℕ) → ℕ → ℕ → Found → Type 0) (l : CallLimits)
     (bytes : List ℕ) (f : Found) : Type 0 where
   trailing : (m : List (List ℕ)) (frame segments : ℕ) → whole ≡ true → HasFrame l bytes frame segments m

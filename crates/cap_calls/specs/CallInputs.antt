@@ -39,7 +39,7 @@ pub record HasWords (l : CallLimits) (bytes : List ℕ) : Type 0 where
   pub within : length bytes ≤ 8 * l.message_words
   pub whole : length bytes % 8 ≡ 0
 
--- What a call tells of its input: of a frame, or with the flag 8 of a segment, whose length is then the input's.
+-- What a call reports of its input. It is a frame, or with the flag 8 a segment: its length is then the input's.
 pub data TellsInput (whole : Bool) (kept : Type 0) (finds : List (List ℕ) → ℕ → ℕ → Found → Type 0) (l : CallLimits)
     (bytes : List ℕ) (f : Found) : Type 0 where
   of_frame : IsFalse (has_no_table l) → TellsWhole whole kept finds l bytes f → TellsInput whole kept finds l bytes f

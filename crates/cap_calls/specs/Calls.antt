@@ -21,7 +21,7 @@ Frames m words depth f = f ≡ record { answer = Good; count = 0; report = none_
 abbrev pub TellsFrame : CallLimits → List ℕ → Answer → CallReport → Type 0
 TellsFrame l bytes a r = (f : Found) × Tells ⊤ Frames l bytes f × Returns f a r
 
--- What a call tells of the message that the bytes are, or start with if the flags allow it.
+-- What a call reports of the message that the bytes are, or start with if the flags allow it.
 abbrev pub TellsMessage : Type 0 → (List (List ℕ) → ℕ → ℕ → Found → Type 0) → CallLimits → List ℕ → Found → Type 0
 TellsMessage kept finds l = TellsWhole (not (allows_trailing l)) kept finds l
 

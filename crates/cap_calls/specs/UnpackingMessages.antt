@@ -70,11 +70,11 @@ pub data Stops (limit size : ℕ) (held : List ℕ) (zeros literal : ℕ) (rest 
       → r ≡ record none_report { required = bytes_needed literal rest }
       → Stops limit size held zeros literal rest a required written r
 
--- the state with so many bytes of the message, and this rest of a run
+-- the state with `written` bytes of the message, and this rest of a run
 abbrev pub state_of : ℕ → ℕ → ℕ → Unpacking → Unpacking
 state_of written zeros literal state = record state { written = written; zero_words = zeros; literal_words = literal }
 
--- What a call tells of a piece of the stream.
+-- What a call reports of a piece of the stream.
 pub data TellsUnpackMessage (l : CallLimits) (bytes old : List ℕ) (state : Unpacking) (a : Answer)
     (consumed required : ℕ) (new : List ℕ) (left : Unpacking) (r : CallReport) : Type 0 where
   -- the limits are bad, or no call leaves this state

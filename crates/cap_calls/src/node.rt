@@ -23,8 +23,8 @@ pub struct CallNode {
     pub capability: u32,
     /// How many bytes of the input come before its own, those of the table included.
     pub offset: u64,
-    /// How many bytes its own are: of a struct its data words, of a list of values the values, and
-    /// of a list of structs the elements, each with its data words and then its pointers.
+    /// How many bytes its own are. A struct has its data words, a list of values the values. A list
+    /// of structs has the elements, each with its data words and then its pointers.
     pub length: u64,
     /// They are 0.
     pub reserved: [u64; 2],
@@ -52,7 +52,7 @@ impl CallNode {
         }
     }
 
-    // What a view shows, in a frame of a message of so many segments.
+    // What a view shows, in a frame of a message of this number of segments.
     pub(crate) fn of<M: Segments>(view: &View<'_, M>, segments: u32) -> CallNode
         requires { segments ≡ length (M.segments (view_message view.now)) }
         ensures { let m = M.segments (view_message view.now) in let place = kept_place view.now in

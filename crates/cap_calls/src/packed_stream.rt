@@ -160,8 +160,8 @@ fn give_some(bytes: &[u8], out: &mut [u8], zeros: u32, literal: u32) -> Given
     }
 }
 
-/// Writes the next words of a stream at the start of a buffer, as long as it has space and the
-/// bytes have the next word whole. Before these bytes `zeros` zero words and `literal` literal
+/// Writes the next words of a stream at the start of a buffer, while it has space and the bytes
+/// have the next word whole. Before these bytes `zeros` zero words and `literal` literal
 /// words of a run are still to come.
 pub(crate) fn give(bytes: &[u8], out: &mut [u8], zeros: u32, literal: u32) -> Given
     requires { IsRest zeros literal }

@@ -85,7 +85,7 @@ impl CallReport {
         }
     }
 
-    // Of a pointer, if so many were checked.
+    // Of a pointer, if this number of them were checked.
     pub(crate) fn of_place(segment: u32, word: u32, pointers: u64) -> CallReport
         ensures { result ≡ place_report segment word pointers }
     {

@@ -60,7 +60,7 @@ pub record Meets (m : List (List ℕ)) (depth : ℕ) (p : PointerPlace) (runs : 
   pub is : IsObject m d p.segment p.word tree object
   pub levels : d + length runs ≤ depth
 
--- Runs with the pointer words of an object on top, whose own words end there.
+-- Runs with the pointer words of an object on top. The object's other words end there.
 abbrev pub Enters : List CopyRun → Object → ℕ → ℕ → List CopyRun → Type 0
 Enters old object end result new = (m : List (List ℕ)) (depth : ℕ) (p : PointerPlace) (tree : Tree) (due : List Due)
     → Meets m depth p old end tree due object

@@ -81,7 +81,7 @@ fn settings_of(options: &ArgMatches<'_>) -> Option<Settings>
     })
 }
 
-// What the options demand of each message.
+// The demands of the options on each message.
 fn demands_of(options: &ArgMatches<'_>) -> Demands {
     Demands {
         strict: options.get_flag("strict"),

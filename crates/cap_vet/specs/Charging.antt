@@ -30,7 +30,7 @@ pub record Arrives (m : List (List ℕ)) (words depth : ℕ) (path : List Step) 
   pub few : at.pointers ≤ at.level
   pub lax : KnowsLaxOnPath m path ways at.lax
 
--- The path leads to nothing: it goes on from what its beginning arrives at by a step that leads nowhere.
+-- The path leads to nothing: its beginning arrives at something from which the next step leads to nothing.
 pub record EndsEarly (m : List (List ℕ)) (words depth : ℕ) (path : List Step) (at : Arrival) : Type 0 where
   pub done : List Step
   pub step : Step

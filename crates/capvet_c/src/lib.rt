@@ -276,10 +276,10 @@ pub extern "C" fn capvet_unpack(bytes: &[u8], out: &mut [u8], required: &mut usi
     unpack(bytes, out, required).number()
 }
 
-/// Packs the message that `bytes` are to the start of `out`: its table and each of its segments by
-/// itself, with zero padding, so that no run of words goes on from one into the next. Only
-/// `message_words` and `CAPVET_ALLOW_TRAILING` have an effect, though all limits are checked. It
-/// checks no pointer.
+/// Packs the message that `bytes` are to the start of `out`. Its table, with zero padding, and each
+/// of its segments are packed by themselves. So no run of words goes on from one into the next.
+/// Only `message_words` and `CAPVET_ALLOW_TRAILING` have an effect, though all limits are checked.
+/// It checks no pointer.
 ///
 /// With `CAPVET_OK`, `required` is the length in bytes, and the bytes after it are unchanged. With
 /// `CAPVET_BUFFER_TOO_SMALL` it is that length too, and with any other result 0. Without

@@ -174,8 +174,8 @@ fn stage_of(held: &[u8], size: SizeLimit) -> Stage
     }
 }
 
-// Appends words to the message in the buffer, up to its end, or as long as there are some and the
-// buffer has space.
+// Appends words to the message in the buffer, up to its end, or while there are some and the buffer
+// has space.
 fn fill(bytes: &[u8], size: SizeLimit, out: &mut [u8], state: Unpacking) -> (Given, Stage)
     requires { IsState (limit_of size) state out.old }
     ensures { Reaches (limit_of size) state.written state.zero_words state.literal_words bytes.now

@@ -19,8 +19,8 @@ use cap_vet::{Demands, Limits, vet_with};
 /// those after it are never looked at. Allocates nothing (encoding: Security Considerations).
 ///
 /// It returns [`Answer::Good`] if the message is accepted: its root denotes a finite tree within
-/// the limits, it is strict or flag 2 is set, and its charge is at most 4096 words above the words
-/// of its segments or flag 4 is set.
+/// the limits. It is also strict, or flag 2 is set. Its charge is at most 4096 words above the
+/// words of its segments, or flag 4 is set.
 ///
 /// Otherwise it returns the first of these that applies: why there is no frame,
 /// [`Answer::Trailing`], the reason of a refusal, [`Answer::ManySegments`], the form of the first
