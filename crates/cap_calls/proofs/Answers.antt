@@ -2,6 +2,7 @@
 use Rattle.std.proofs.Common.{ℕ, ap₂, List, [], ◌∷◌, ◌≡◌, ◌∙◌, ◌*◌, ap, sym, subst, refl, length, Option}
 use Rattle.std.proofs.Common.{None, Result, Ok, Err}
 use Rattle.std.specs.Prelude.{◌-◌, Bool, ⊤, not, true}
+use Rattle.cap_spec.specs.Plain.{plain_words}
 use Rattle.cap_spec.proofs.Frames.Framing.{one_frame}
 use Rattle.cap_spec.specs.Strict.{IsStrictFault}
 use Rattle.cap_spec.specs.declared.StrictRefusal.{StrictRefusal}
@@ -22,7 +23,7 @@ use Rattle.cap_calls.specs.CallFindings.{none_found, refused, refused_found, tel
 use Rattle.cap_calls.specs.CallFlags.{allows_trailing, demands_of}
 use Rattle.cap_calls.specs.CallFrames.{HasFrame, HasNoFrame}
 use Rattle.cap_calls.specs.CallInputs.{TellsInput, of_frame, of_no_words, of_words}
-use Rattle.cap_calls.specs.Calls.{IsCheck, TellsCheck, TellsFrame, TellsVet, canonical, not_canonical}
+use Rattle.cap_calls.specs.Calls.{IsCheck, TellsCheck, TellsFrame, TellsVet, canonical, not_canonical, TellsMessage}
 use Rattle.cap_calls.specs.declared.answer.Answer.{Answer}
 use Rattle.cap_calls.specs.declared.found.Found.{Found}
 use Rattle.cap_calls.specs.declared.front.NoFrame.{NoFrame}
@@ -101,6 +102,10 @@ pub by_flag : {K : Type 0} {P : List (List ℕ) → ℕ → ℕ → Found → Ty
     (w : Bool)
     → w ≡ allows_trailing l → TellsInput (not w) K P l bs f → TellsInput (not (allows_trailing l)) K P l bs f
 by_flag {K} {P} l bs f w e t = subst (λ (z : Bool). TellsInput (not z) K P l bs f) e t
+
+pub message_by_flag : {K : Type 0} {P : List (List ℕ) → ℕ → ℕ → Found → Type 0} (l : CallLimits) (bs : List ℕ)
+    (f : Found) (w : Bool) → w ≡ allows_trailing l → TellsWhole (not w) K P l bs f → TellsMessage K P l bs f
+message_by_flag {K} {P} l bs f w e t = subst (λ (z : Bool). TellsWhole (not z) K P l bs f) e t
 
 -- There is one thing to be found, if there is one of each message.
 pub one_told : {K L S : Type 0} {P Q : List (List ℕ) → ℕ → ℕ → Found → Type 0} (l : CallLimits) (bs : List ℕ)

@@ -6,7 +6,7 @@ use Rattle.capvet_c.proofs.capvet_unpack_message.Goals as goal
 pub returns-clause-only : goal.returns-clause-only
 returns-clause-only c = λ u h.
     let same = c.unpack_message.ensures.only u h in
-    (c.number.ensures ∙ ap number_of same.0, same.1, same.2, same.3, same.4, same.5)
+    (c.number.ensures ∙ ap number_of same.0, same.1)
 
 pub returns-clause-tells : goal.returns-clause-tells
 returns-clause-tells c = (c.unpack_message.result, c.unpack_message.ensures.tells, c.number.ensures)
