@@ -11,11 +11,13 @@ import os
 import random
 import re
 import shutil
+import struct
 import subprocess
 import sys
 import tempfile
 from pathlib import Path
 
+import connections
 import install
 from install import PROGRAM, TOP, compare, make, missing, run
 
@@ -27,9 +29,10 @@ STRICT = ("-Wall", "-Wextra", "-pedantic", "-Werror")
 COPIES = (("contacts.bin", "contacts.bin"), ("contacts-many-segments.bin", "contacts.bin"), ("telemetry.bin", "telemetry.bin"))
 SERVED = """\
 accepted, 391 words in libcapnp
-refused, answer 43 at 0:0
+refused DepthLimit at 0:0
 accepted, 391 words in libcapnp
-no frame: the connection is dropped
+closed: the peer has cut a message
+closed: the peer is too slow
 """
 
 
@@ -105,28 +108,75 @@ def as_shown(folder):
 
 
 def from_c(folder, environment, files):
-    """The example in C and what the pages show, by each compiler that is there."""
+    """The examples in C and what the pages show, by each compiler that is there."""
     for compiler in ("cc", "clang"):
-        if missing(f"the example in C, by {compiler}", compiler):
+        if missing(f"the examples in C, by {compiler}", compiler):
             continue
-        program = folder / f"vet-{compiler}"
-        built = run([compiler, "-std=c99", *STRICT, TOP / "examples/c/vet.c", *flags(environment, "capvet"), "-o", program])
-        compare(f"{compiler} vet.c", ("", 0), built)
-        same(f"vet.c by {compiler}", [program], files)
+        build = [compiler, "-std=c99", *STRICT]
+        link = flags(environment, "capvet")
+        include = [it for it in link if it.startswith("-I")]
+        programs = {name: folder / f"{name}-{compiler}" for name in ("vet", "route", "packed_server")}
+        for name, program in programs.items():
+            compare(f"{compiler} {name}.c", ("", 0), run([*build, TOP / f"examples/c/{name}.c", *link, "-o", program]))
+        same(f"vet.c by {compiler}", [programs["vet"]], files)
+        routed(f"route.c by {compiler}", programs["route"], folder / f"routed-{compiler}")
+        connections.served(f"packed_server.c by {compiler}", programs["packed_server"], folder, interrupting(folder))
         for file in of_pages("c", folder):
-            include = run(["pkg-config", "--cflags", "capvet"], env=environment)[0].split()
-            built = run([compiler, "-std=c99", *STRICT, *include, "-c", file, "-o", folder / "block.o"])
-            compare(f"{compiler} {file.name}", ("", 0), built)
+            compare(f"{compiler} {file.name}", ("", 0), run([*build, *include, "-c", file, "-o", folder / "block.o"]))
+
+
+def interrupting(folder):
+    """The library that interrupts calls to the system."""
+    made = folder / "interrupt.so"
+    if not made.exists():
+        compare("cc interrupt.c", ("", 0), run(["cc", "-shared", "-fPIC", TOP / "tests/interrupt.c", "-ldl", "-o", made]))
+    return made
+
+
+def book(job, tags, owner=1 << 2 | 1 << 32):
+    """A Book of examples/contacts.capnp: its owner has this job and is not active, and it has a number of null tags."""
+    words = [1 << 32 | 3 << 48, 7, 0, owner, 1 | 1 << 2 | 6 << 32 | tags << 35, job << 32 | 1 << 48, *[0] * tags]
+    return struct.pack(f"<II{len(words)}Q", 0, len(words), *words)
+
+
+def routed(name, program, folder):
+    """Each message of a stream is appended to the file that its fields say, as it is."""
+    folder.mkdir()
+    stream, found = folder / "stream", folder / "found"
+    found.mkdir()
+    contacts = (TOP / "examples/contacts.bin").read_bytes()
+    # (without an owner, with one that has no data, with a job of a later schema, and with a pointer out of the segment)
+    messages = [("employer.bin", book(1, 0)), ("employer-tagged.bin", book(1, 2)), ("none.bin", book(0, 0)),
+                ("school-tagged.bin", book(2, 1)), ("self.bin", book(3, 0)), ("other.bin", book(4, 0)),
+                ("other-tagged.bin", book(0x8001, 3)), ("none.bin", book(1, 0, 0)), ("none-tagged.bin", book(1, 2, 1 << 2)),
+                ("employer-tagged.bin", contacts)]
+    refused = [("refused.bin", book(1, 0, 1000 << 2 | 1 << 32)), ("self.bin", book(3, 0))]
+    for part, status in ((messages, 0), (messages + refused, 1), (refused, 1)):
+        for file in found.iterdir():
+            file.unlink()
+        stream.write_bytes(b"".join(message for _, message in part))
+        lines = "".join(f"message {number}: {file}\n" for number, (file, _) in enumerate(part))
+        for times in (1, 2):
+            compare(f"{name}, {len(part)} messages", (lines, status), run([program, found, stream]))
+            wanted = {file: b"".join(message for it, message in part if it == file) * times for file, _ in part}
+            compare(f"{name}, the files of {len(part)} messages", wanted, {it.name: it.read_bytes() for it in found.iterdir()})
+    stream.write_bytes(contacts + contacts[:-8])
+    cut = ("message 0: employer-tagged.bin\nroute: message 1: no frame\n", 1)
+    ran = run([program, found, stream])
+    compare(f"{name}, of a cut stream", cut, ("".join(sorted(ran[0].splitlines(True))), ran[1]))
+    compare(f"{name}, without a folder", ("route: cannot write employer-tagged.bin\n", 3), run([program, folder / "no", stream]))
+    compare(f"{name}, without a file", (f"route: cannot read {folder}/no\n", 3), run([program, found, folder / "no"]))
+    compare(f"{name}, without arguments", ("usage: route FOLDER FILE\n", 2), run([program]))
 
 
 def signs_from_c(folder, environment):
-    """What the example signs verifies with the canonical words of the message, and with no others."""
+    """What the example signs is the canonical words of the message and no others: openssl verifies it, and so does the example."""
     if any(missing("the example in C that signs", tool) for tool in ("cc", "openssl")):
         return
     if run(["pkg-config", "libcrypto"], env=environment)[1]:
         print("not tested, without libcrypto for pkg-config: the example in C that signs")
         return
-    program, key, public, signature = (folder / name for name in ("sign", "key.pem", "public.pem", "signature"))
+    program, key, public, signature, words = (folder / name for name in ("sign", "key.pem", "public.pem", "signature", "words"))
     built = run(["cc", "-std=c99", *STRICT, TOP / "examples/c/sign.c", *flags(environment, "capvet", "libcrypto"), "-o", program])
     compare("cc sign.c", ("", 0), built)
     run(["openssl", "genpkey", "-algorithm", "EC", "-pkeyopt", "ec_paramgen_curve:P-256", "-out", key])
@@ -135,10 +185,19 @@ def signs_from_c(folder, environment):
         text, status = verdicts([program, key, TOP / "examples" / name])
         signature.write_bytes(text)
         compare(f"sign.c of {name}", 0, status)
-        for words in ("contacts.bin", "telemetry.bin"):
-            verified = run(["openssl", "dgst", "-sha256", "-verify", public, "-signature", signature,
-                            TOP / "examples/canonical" / words])
-            compare(f"sign.c of {name}, against the words of {words}", words == copy, verified == ("Verified OK\n", 0))
+        for other in ("contacts.bin", "telemetry.bin"):
+            shutil.copy(TOP / "examples/canonical" / other, words)
+            verified = run(["openssl", "dgst", "-sha256", "-verify", public, "-signature", signature, words])
+            compare(f"sign.c of {name}, against the words of {other}", other == copy, verified == ("Verified OK\n", 0))
+            wanted = ("verified\n", 0) if other == copy else ("sign: not signed by this key\n", 1)
+            compare(f"sign.c verifies {name} with the words of {other}", wanted, run([program, public, words, signature]))
+    # (signed, and yet no canonical form: words of another order, and words that are cut)
+    message = (TOP / "examples/contacts.bin").read_bytes()
+    for text, answer in ((message[8:], "NotCanonical"), (message[8:-8], "OutOfSegment"), (message[8:-1], "Truncated"),
+                         (b"", "NoMessage")):
+        words.write_bytes(text)
+        run(["openssl", "dgst", "-sha256", "-sign", key, "-out", signature, words])
+        compare(f"sign.c verifies {len(text)} bytes", (f"sign: signed, but {answer}\n", 1), run([program, public, words, signature]))
     compare("sign.c of a stream", ("sign: bytes follow the message\n", 1), run([program, key, TOP / "examples/stream-of-four.bin"]))
 
 
@@ -166,6 +225,8 @@ def from_cplusplus(folder, environment, files):
     built = run(["c++", "-std=c++17", *STRICT, TOP / "examples/c/serve.cpp", *flags(environment, "capvet", "capnp"), "-o", program])
     compare("c++ serve.cpp", ("", 0), built)
     compare("serve", (SERVED, 0), run([program, files[0], cycle, files[1]]))
+    interrupted = {**os.environ, "LD_PRELOAD": str(interrupting(folder))}
+    compare("serve, interrupted", (SERVED, 0), run([program, files[0], cycle, files[1]], env=interrupted))
 
 
 def without_a_library(folder, environment):

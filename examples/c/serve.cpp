@@ -4,19 +4,24 @@
 //     c++ -std=c++17 serve.cpp $(pkg-config --cflags --libs capvet capnp) -o serve
 //     ./serve FILE..
 //
-// The peer sends each file as it is, then the first half of the first one, and ends. The server reads message by message
-// into a buffer of its own, which the peer can't write, vets it there, and answers each by a byte. If the peer could write it
-// during a call, the answer would mean nothing, and the process might be killed. The server ends with status 0.
+// The first peer sends each file as it is, then the first half of the first one, and ends. The second peer sends that half and
+// then nothing more. The server reads message by message into a buffer of its own, which the peer can't write, vets it there,
+// and answers each by a byte. If the peer could write it during a call, the answer would mean nothing, and the process might be
+// killed. A peer has a second for each message. The server ends with status 0.
 #include <capnp/any.h>
 #include <capnp/serialize.h>
 #include <capvet.h>
 #include <kj/exception.h>
+#include <poll.h>
 #include <sys/socket.h>
 #include <sys/wait.h>
 #include <unistd.h>
 
 #include <algorithm>
+#include <cerrno>
+#include <chrono>
 #include <cstdio>
+#include <cstring>
 #include <fstream>
 #include <iterator>
 #include <vector>
@@ -29,7 +34,22 @@ const capvet_limits limits = {1 << 16, 1 << 16, 64, 0, {0, 0}};
 // How many times the program reads a message.
 const uint64_t readings = 1;
 
-// The bytes of a message that have come, in words, as libcapnp needs them.
+using Clock = std::chrono::steady_clock;
+
+// How long a peer has for each message.
+const std::chrono::milliseconds patience{1000};
+
+// Whether to repeat a call that failed. If the socket was not ready, it waits until it is, or until the deadline.
+bool again(int socket, short events, Clock::time_point deadline) {
+  if (errno == EINTR) return true;
+  if (errno != EAGAIN) return false;
+  const auto left = std::chrono::ceil<std::chrono::milliseconds>(deadline - Clock::now()).count();
+  if (left <= 0) return errno = ETIMEDOUT, false;
+  pollfd one{socket, events, 0};
+  return poll(&one, 1, static_cast<int>(left)) >= 0 || errno == EINTR;
+}
+
+// The bytes of a message that were received, in words, as libcapnp needs them.
 class Buffer {
  public:
   const uint8_t *bytes() const { return reinterpret_cast<const uint8_t *>(words_.data()); }
@@ -38,13 +58,18 @@ class Buffer {
     return {reinterpret_cast<const capnp::word *>(words_.data()), length_ / sizeof(capnp::word)};
   }
 
-  // Reads until there are `required` bytes. False if the peer ends before.
-  bool fill(int socket, size_t required) {
+  // Receives until there are `required` bytes. Otherwise it returns false, and errno is 0 if the peer has ended.
+  bool fill(int socket, size_t required, Clock::time_point deadline) {
     if (words_.size() * 8 < required) words_.resize((required + 7) / 8);
     while (length_ < required) {
-      ssize_t more = read(socket, reinterpret_cast<uint8_t *>(words_.data()) + length_, required - length_);
-      if (more <= 0) return false;
-      length_ += static_cast<size_t>(more);
+      uint8_t *next = reinterpret_cast<uint8_t *>(words_.data()) + length_;
+      const ssize_t more = recv(socket, next, required - length_, MSG_DONTWAIT);
+      if (more == 0) return errno = 0, false;
+      if (more > 0) {
+        length_ += static_cast<size_t>(more);
+      } else if (!again(socket, POLLIN, deadline)) {
+        return false;
+      }
     }
     return true;
   }
@@ -57,14 +82,22 @@ class Buffer {
 };
 
 // Reads only the next message. Its length is a claim of the peer, and `limits.message_words` bounds it.
-capvet_answer receive(int socket, Buffer &buffer) {
+capvet_answer receive(int socket, Buffer &buffer, Clock::time_point deadline) {
   buffer.clear();
   for (;;) {
     capvet_report report;
     capvet_answer answer = capvet_frame(buffer.bytes(), buffer.length(), &limits, &report);
     bool is_short = answer == CAPVET_NO_MESSAGE || answer == CAPVET_TRUNCATED;
-    if (!is_short || !buffer.fill(socket, report.required)) return answer;
+    if (!is_short || !buffer.fill(socket, report.required, deadline)) return answer;
   }
+}
+
+// Why there is no next message.
+const char *ending(capvet_answer answer) {
+  if (answer != CAPVET_NO_MESSAGE && answer != CAPVET_TRUNCATED) return capvet_answer_name(answer);
+  if (errno == ETIMEDOUT) return "the peer is too slow";
+  if (errno != 0) return std::strerror(errno);
+  return answer == CAPVET_NO_MESSAGE ? "the peer has ended" : "the peer has cut a message";
 }
 
 // The work of the program on a message. libcapnp gets accepted messages only, and counts in other ways: these limits serve
@@ -82,12 +115,15 @@ void handle(const Buffer &buffer, const capvet_report &report) try {
 }
 
 // Writes all of it, and raises no signal if the other end is closed.
-bool send_all(int socket, const char *bytes, size_t length) {
+bool send_all(int socket, const char *bytes, size_t length, Clock::time_point deadline) {
   while (length > 0) {
-    ssize_t some = send(socket, bytes, length, MSG_NOSIGNAL);
-    if (some <= 0) return false;
-    bytes += some;
-    length -= static_cast<size_t>(some);
+    const ssize_t some = send(socket, bytes, length, MSG_NOSIGNAL | MSG_DONTWAIT);
+    if (some >= 0) {
+      bytes += some;
+      length -= static_cast<size_t>(some);
+    } else if (!again(socket, POLLOUT, deadline)) {
+      return false;
+    }
   }
   return true;
 }
@@ -96,9 +132,10 @@ bool send_all(int socket, const char *bytes, size_t length) {
 void serve(int socket) {
   Buffer buffer;
   for (;;) {
-    capvet_answer answer = receive(socket, buffer);
+    const auto deadline = Clock::now() + patience;
+    capvet_answer answer = receive(socket, buffer, deadline);
     if (answer != CAPVET_OK) {
-      std::printf("%s\n", answer == CAPVET_NO_MESSAGE ? "the peer has ended" : "no frame: the connection is dropped");
+      std::printf("closed: %s\n", ending(answer));
       return;
     }
     capvet_report report;
@@ -106,41 +143,67 @@ void serve(int socket) {
     if (answer == CAPVET_OK) {
       handle(buffer, report);
     } else {
-      std::printf("refused, answer %u at %u:%u\n", answer, report.segment, report.word);
+      std::printf("refused %s at %u:%u\n", capvet_answer_name(answer), report.segment, report.word);
     }
-    char said = answer == CAPVET_OK ? '+' : '-';
-    if (!send_all(socket, &said, 1)) return;
+    const char said = answer == CAPVET_OK ? '+' : '-';
+    if (!send_all(socket, &said, 1, deadline)) return;
   }
 }
 
-// The peer.
-int attack(int socket, char **files, int count) {
-  std::vector<char> first;
-  for (int at = 0; at < count; at++) {
-    std::ifstream file(files[at], std::ios::binary);
-    std::vector<char> bytes{std::istreambuf_iterator<char>(file), std::istreambuf_iterator<char>()};
-    char said;
-    if (!send_all(socket, bytes.data(), bytes.size()) || read(socket, &said, 1) != 1) return 1;
-    if (at == 0) first = bytes;
+using Files = std::vector<std::vector<char>>;
+
+// Receives one byte. False if the server has closed the connection.
+bool receive_byte(int socket, Clock::time_point deadline) {
+  char said;
+  ssize_t more;
+  do {
+    more = recv(socket, &said, 1, MSG_DONTWAIT);
+  } while (more < 0 && again(socket, POLLIN, deadline));
+  return more == 1;
+}
+
+// A peer that sends each file, then half of the first one, and ends.
+bool cutting_peer(int socket, const Files &files) {
+  const auto deadline = Clock::now() + 10 * patience;
+  for (const auto &file : files) {
+    if (!send_all(socket, file.data(), file.size(), deadline) || !receive_byte(socket, deadline)) return false;
   }
-  return send_all(socket, first.data(), first.size() / 2) ? 0 : 1;
+  return send_all(socket, files[0].data(), files[0].size() / 2, deadline);
+}
+
+// A peer that sends half of the first file, and then waits until the server closes the connection.
+bool silent_peer(int socket, const Files &files) {
+  const auto deadline = Clock::now() + 10 * patience;
+  return send_all(socket, files[0].data(), files[0].size() / 2, deadline) && !receive_byte(socket, deadline);
+}
+
+// Serves a peer, which is a process of its own, and returns whether the peer did all of its part.
+bool serve_peer(bool (*peer)(int, const Files &), const Files &files) {
+  int ends[2], status = 0;
+  if (socketpair(AF_UNIX, SOCK_STREAM, 0, ends) != 0) return false;
+  const pid_t child = fork();
+  if (child < 0) return false;
+  if (child == 0) {
+    close(ends[0]);
+    _exit(peer(ends[1], files) ? 0 : 1);
+  }
+  close(ends[1]);
+  serve(ends[0]);
+  close(ends[0]);
+  while (waitpid(child, &status, 0) < 0) {
+    if (errno != EINTR) return false;
+  }
+  return status == 0;
 }
 
 }  // namespace
 
 int main(int count, char **words) {
-  int ends[2];
   if (count < 2) return std::fputs("usage: serve FILE..\n", stderr), 2;
-  if (socketpair(AF_UNIX, SOCK_STREAM, 0, ends) != 0) return std::perror("serve"), 3;
-  pid_t peer = fork();
-  if (peer < 0) return std::perror("serve"), 3;
-  if (peer == 0) {
-    close(ends[0]);
-    _exit(attack(ends[1], words + 1, count - 1));
+  Files files;
+  for (int at = 1; at < count; at++) {
+    std::ifstream file(words[at], std::ios::binary);
+    files.emplace_back(std::istreambuf_iterator<char>(file), std::istreambuf_iterator<char>());
   }
-  close(ends[1]);
-  serve(ends[0]);
-  close(ends[0]);
-  int status = 0;
-  return waitpid(peer, &status, 0) == peer && status == 0 ? 0 : 3;
+  return serve_peer(cutting_peer, files) && serve_peer(silent_peer, files) ? 0 : 3;
 }

@@ -1,19 +1,26 @@
-/* Signs the content of a message, however it is encoded: the bytes of its canonical form, by their SHA-256.
+/* Signs the content of a message, however it is encoded, and verifies such a signature.
  *
  *     export PKG_CONFIG_PATH=PREFIX/lib/pkgconfig
  *     cc sign.c $(pkg-config --cflags --libs capvet libcrypto) -o sign
  *     openssl genpkey -algorithm EC -pkeyopt ec_paramgen_curve:P-256 -out key.pem
  *     ./sign key.pem FILE > signature
  *
- * FILE is one message and nothing else. The owner of the public key makes the same bytes, and verifies them:
+ * FILE is one message and nothing else. What is signed is the words of its canonical form, by their SHA-256. Send these words
+ * with the signature:
+ *
+ *     capvet canon FILE | tail -c +9 > words
+ *
+ * The owner of the public key verifies them. Then the words are checked in place, without a table and without a copy. They are
+ * one message that a reader can follow, and no other canonical words have its content.
  *
  *     openssl pkey -in key.pem -pubout -out public.pem
- *     capvet canon FILE | tail -c +9 | openssl dgst -sha256 -verify public.pem -signature signature
+ *     ./sign public.pem words signature
  *
  * The words don't name their schema. If one key signs messages of several schemas, sign the schema's name before them.
  *
- * The status is 0 if it is signed, 1 if the message has no canonical form, and 2 for a wrong command line. It is 3 if a
- * file can't be read, the key doesn't sign, memory runs out or the output fails. */
+ * The status is 0 if it is signed or verified. It is 1 if the message has no canonical form, if the signature is not of these
+ * words, or if they are no canonical form. It is 2 for a wrong command line. It is 3 if a file can't be read, the key doesn't
+ * sign, memory runs out or the output fails. */
 #include <capvet.h>
 #include <inttypes.h>
 #include <openssl/evp.h>
@@ -21,7 +28,7 @@
 #include <stdio.h>
 #include <stdlib.h>
 
-/* The whole file, in a block of its own, or NULL. One byte more than it has, since no buffer may be NULL. */
+/* The whole file, in a block of its own, or NULL. One byte more than it has, since malloc(0) may return NULL. */
 static uint8_t *contents(const char *name, size_t *length) {
   FILE *file = fopen(name, "rb");
   uint8_t *bytes = NULL;
@@ -39,11 +46,13 @@ static uint8_t *contents(const char *name, size_t *length) {
   return bytes;
 }
 
-/* The private key of a PEM file, or NULL. */
-static EVP_PKEY *key_of(const char *name) {
+/* The private key of a PEM file or, to verify, the public key; or NULL. */
+static EVP_PKEY *key_of(const char *name, int is_private) {
   FILE *file = fopen(name, "r");
-  EVP_PKEY *key = file == NULL ? NULL : PEM_read_PrivateKey(file, NULL, NULL, NULL);
-  if (file != NULL) fclose(file);
+  EVP_PKEY *key = NULL;
+  if (file == NULL) return NULL;
+  key = is_private ? PEM_read_PrivateKey(file, NULL, NULL, NULL) : PEM_read_PUBKEY(file, NULL, NULL, NULL);
+  fclose(file);
   return key;
 }
 
@@ -76,7 +85,7 @@ static int sign_copy(EVP_PKEY *key, const uint8_t *bytes, size_t length) {
   if (answer != CAPVET_OK) {
     free(copy);
     if (answer == CAPVET_TRAILING) return fputs("sign: bytes follow the message\n", stderr), 1;
-    fprintf(stderr, "sign: no canonical form, answer %" PRIu32 " at %" PRIu32 ":%" PRIu32 "\n", answer, report.segment,
+    fprintf(stderr, "sign: no canonical form, %s at %" PRIu32 ":%" PRIu32 "\n", capvet_answer_name(answer), report.segment,
             report.word);
     return 1;
   }
@@ -85,17 +94,55 @@ static int sign_copy(EVP_PKEY *key, const uint8_t *bytes, size_t length) {
   return good ? 0 : (fputs("sign: it can't be signed\n", stderr), 3);
 }
 
+/* Whether the signature is of these bytes. */
+static int is_signed(EVP_PKEY *key, const uint8_t *bytes, size_t length, const uint8_t *signature, size_t size) {
+  EVP_MD_CTX *context = EVP_MD_CTX_new();
+  int good = context != NULL && EVP_DigestVerifyInit(context, NULL, EVP_sha256(), NULL, key) == 1 &&
+             EVP_DigestVerify(context, signature, size, bytes, length) == 1;
+  EVP_MD_CTX_free(context);
+  return good;
+}
+
+/* Verifies the signature of these words, then checks that they are a canonical form, and returns the exit status.
+ *
+ * The words have no table. CAPVET_ALLOW_AMPLIFIED is needed, because structs whose fields are all default lose their words in
+ * a canonical form. So the limit for the charge is lower than the default: a reader of these words does no more work. */
+static int verify_words(EVP_PKEY *key, const uint8_t *words, size_t length, const uint8_t *signature, size_t size) {
+  capvet_limits limits = CAPVET_LIMITS_INIT;
+  capvet_report report;
+  capvet_answer answer;
+  if (!is_signed(key, words, length, signature, size)) return fputs("sign: not signed by this key\n", stderr), 1;
+  limits.charge = 1 << 20;
+  limits.flags = CAPVET_NO_TABLE | CAPVET_ALLOW_AMPLIFIED;
+  answer = capvet_is_canonical(words, length, &limits, &report);
+  if (answer != CAPVET_OK) return fprintf(stderr, "sign: signed, but %s\n", capvet_answer_name(answer)), 1;
+  puts("verified");
+  return 0;
+}
+
+static int cannot_read(const char *name) {
+  fprintf(stderr, "sign: cannot read %s\n", name);
+  return 3;
+}
+
 int main(int count, char **words) {
-  size_t length = 0;
-  uint8_t *bytes;
+  size_t length = 0, size = 0;
+  uint8_t *bytes, *signature;
   EVP_PKEY *key;
   int status;
-  if (count != 3) return fputs("usage: sign KEY FILE\n", stderr), 2;
-  key = key_of(words[1]);
-  if (key == NULL) return fprintf(stderr, "sign: no private key in %s\n", words[1]), 3;
+  if (count != 3 && count != 4) return fputs("usage: sign PRIVATE FILE, or sign PUBLIC WORDS SIGNATURE\n", stderr), 2;
+  key = key_of(words[1], count == 3);
+  if (key == NULL) return cannot_read(words[1]);
   bytes = contents(words[2], &length);
-  if (bytes == NULL) return fprintf(stderr, "sign: cannot read %s\n", words[2]), 3;
-  status = sign_copy(key, bytes, length);
+  if (bytes == NULL) return cannot_read(words[2]);
+  if (count == 3) {
+    status = sign_copy(key, bytes, length);
+  } else {
+    signature = contents(words[3], &size);
+    if (signature == NULL) return cannot_read(words[3]);
+    status = verify_words(key, bytes, length, signature, size);
+    free(signature);
+  }
   free(bytes);
   EVP_PKEY_free(key);
   return status;
