@@ -123,6 +123,7 @@ def from_c(folder, environment, files):
         connections.served(f"packed_server.c by {compiler}", programs["packed_server"], folder, interrupting(folder))
         for file in of_pages("c", folder):
             compare(f"{compiler} {file.name}", ("", 0), run([*build, *include, "-c", file, "-o", folder / "block.o"]))
+        page_from_c(compiler, build, link, folder)
 
 
 def interrupting(folder):
@@ -131,6 +132,25 @@ def interrupting(folder):
     if not made.exists():
         compare("cc interrupt.c", ("", 0), run(["cc", "-shared", "-fPIC", TOP / "tests/interrupt.c", "-ldl", "-o", made]))
     return made
+
+
+def page_from_c(compiler, build, link, folder):
+    """The programs of docs/c.md are built and run as the page shows, and each call of the header is in one of them."""
+    text, place = (TOP / "docs/c.md").read_text(), folder / f"page-{compiler}"
+    shutil.copytree(TOP / "examples", place / "examples")
+    programs = dict(re.findall(r"^```c\n/\* (\w+)\.c: .*?\*/\n(.*?)^```$", text, re.M | re.S))
+    compare("each program of docs/c.md has a name", text.count("```c\n"), len(programs))
+    for name, program in programs.items():
+        (place / f"{name}.c").write_text(program)
+        compare(f"{compiler} {name}.c of docs/c.md", ("", 0), run([*build, place / f"{name}.c", *link, "-o", place / name]))
+    declared = set(re.findall(r"\b(capvet_\w+)\([^()]*\) CAPVET_NOEXCEPT", (TOP / "include/capvet.h").read_text()))
+    called = set(re.findall(r"\b(capvet_\w+)\(", "".join(programs.values())))
+    compare("the calls that docs/c.md lacks", {"capvet_abi_1"}, declared - called)
+    environment = {**os.environ, "PATH": f"{PROGRAM.parent}:{os.environ['PATH']}", "LC_ALL": "C.UTF-8", "HOME": str(folder)}
+    for language, block in re.findall(r"^```(sh|console)\n(.*?)^```$", text, re.M | re.S):
+        shown = re.findall(r"^\$ (.*)\n((?:(?!\$ ).*\n)*)", block, re.M) if language == "console" else [(block, "")]
+        for command, wanted in shown:
+            compare(f"docs/c.md by {compiler}: {command}", wanted, run(["bash", "-c", command], cwd=place, env=environment)[0])
 
 
 def book(job, tags, owner=1 << 2 | 1 << 32):
