@@ -23,9 +23,12 @@ of one, changed ones, runs of about the greatest length of a group, and words of
 `messages` packs the samples and 20,000 made messages of 1 to 20 segments. Where Cap'n Proto's C++ library is installed,
 the bytes are those that its writePackedMessage gives. `pieces` unpacks packed streams a piece at a time, and what it finds
 is compared with a model here: samples and made messages, packed each by itself or as a whole, and cut at each byte.
+`unpacking` makes the calls over 100,000 packed streams, many with changed bytes, and each is compared with
+tests/unpacking.py.
 
-All but `allocations` run with the compiler's checks of memory, and `calls`, `texts`, `packing`, `messages` and
-`pieces` under valgrind, where these are installed. The last line is 'N passed, M failed', and the status is 1 where something failed.
+All but `allocations` run with the compiler's checks of memory, and `calls`, `texts`, `packing`, `messages`, `pieces`,
+`unpacking` and `nodes` under valgrind, where these are installed. The last line is 'N passed, M failed', and the status is
+1 where something failed.
 """
 import random
 import re
@@ -40,6 +43,7 @@ import flags
 import header
 import nodes
 import strict
+import unpacking
 
 TOP = Path(__file__).resolve().parent.parent
 WARN = ["-Wall", "-Wextra", "-pedantic", "-Werror", f"-I{TOP / 'include'}"]
@@ -355,6 +359,7 @@ def test_packed_messages(folder, compiler, archive, program):
     texts = parts_of(got.stdout)
     told("each message is packed", len(texts) == len(frames), f"{len(texts)} of {len(frames)}")
     test_pieces(folder, compiler, archive, program, texts, frames)
+    test_unpacking(folder, compiler, archive, texts)
     if watched is not None and shutil.which("valgrind"):
         few = folder / "few"
         few.write_bytes(b"".join(struct.pack("<I", len(frame)) + frame for frame in frames[:500]))
@@ -453,6 +458,14 @@ def test_pieces(folder, compiler, archive, program, texts, frames):
         at, count = at + len(known), count + len(wanted)
     told("no more messages", at == len(got.stdout))
     print(f"calls: {len(cases)} packed streams unpacked in pieces, {count} messages")
+
+
+def test_unpacking(folder, compiler, archive, texts):
+    """The calls over packed streams, each beside the model."""
+    watched = compiled(folder, "unpacking", compiler, "c99", archive)
+    asking = compiled(folder, "unpacking", compiler, "c11", archive, "-O1", *CHECKS)
+    if asking is not None:
+        unpacking.test(told, asking, watched, texts, made_up, made_text, changed_text, random.Random(SEED))
 
 
 def packed_texts(program, chance):

@@ -1,8 +1,8 @@
 """Compares capvet_get, from C, field by field with a model that follows the path only. tests/calls.py runs it.
 
 The messages are the samples, changed, cut and made ones, each with some paths: most lead along the pointers that are
-there, others to what isn't, and some are no paths. Of the messages that are accepted, the nodes are compared with what
-the program's `get` prints. The bytes of each node are those of its object."""
+there, others to what isn't, and some are no paths. Of the messages that are accepted, no path is refused, and the nodes
+are compared with what the program's `get` prints. The bytes of each node are those of its object."""
 import shutil
 import struct
 import subprocess
@@ -70,7 +70,7 @@ class Walk:
         self.charge += self.found.charge
         if self.charge > self.words:
             raise Refused("WORD_LIMIT", *place)
-        form = lax_form(self.message, segment, at)
+        form = lax_form(self.message, self.found)
         if form and not self.lax:
             self.lax = form, *place
         if self.found.kind == "cap":
@@ -121,7 +121,7 @@ def got(data, limits, path):
         return (ANSWERS[answer], tuple((node or {}).get(name, 0) for name in NODE),
                 tuple(fields.get(name, 0) for name in FIELDS))
 
-    if not limits.are_good():
+    if not limits.are_good(model.FRAME):
         return result("BAD_LIMITS")
     steps = steps_of(path)
     if isinstance(steps, int):
@@ -265,12 +265,14 @@ def compare(told, program, many):
         answers[reply[0]] += 1
         if reply[0] >= 18 and reply[0] != ANSWERS["NO_NODE"]:
             on += 1
+        if (data, limits) not in seen:
+            seen = {(data, limits): is_beside(data, limits)}
         if reply[0] in (0, ANSWERS["NO_NODE"]):
-            if (data, limits) not in seen:
-                seen = {(data, limits): is_beside(data, limits)}
             beside += seen[data, limits]
+        elif reply[0] not in (ANSWERS["BAD_LIMITS"], ANSWERS["BAD_PATH"]):
+            told(f"{path} of {data.hex()} in {limits} is refused, so the message is", seen[data, limits], f"  {reply}")
         if reply[0] == 0:
-            told(f"bytes of {path} of {data.hex()}", object_bytes(data, node[:8]) is not None, f"  {reply}")
+            told(f"bytes of {path} of {data.hex()}", object_bytes(data[:report[0]], node[:8]) is not None, f"  {reply}")
     return answers, beside, on
 
 

@@ -77,14 +77,15 @@ static const struct {
   reporting call;
 } CALLS[] = {{"capvet_frame", capvet_frame}, {"capvet_vet", capvet_vet}, {"capvet_is_canonical", capvet_is_canonical}};
 
-enum { FRAME, VET, IS_CANONICAL, UNPACK, PACK, EXCLUSIVE, SEGMENT_AT, VET_SEGMENTS, GET, COUNT };
+enum { FRAME, VET, IS_CANONICAL, UNPACK, PACK, EXCLUSIVE, SEGMENT_AT, VET_SEGMENTS, GET, PACK_MESSAGE, UNPACK_MESSAGE, COUNT };
 
 /* How often each call gave each answer. */
 static unsigned long seen[COUNT][64];
 
 static void answered(int call, unsigned long before, uint32_t answer) {
   static const char *const others[] = {"capvet_unpack", "capvet_pack", "capvet_vet_exclusive", "capvet_segment_at",
-                                       "capvet_vet_segments", "capvet_get"};
+                                       "capvet_vet_segments", "capvet_get", "capvet_pack_message",
+                                       "capvet_unpack_message"};
   const char *name = call >= UNPACK ? others[call - UNPACK] : CALLS[call].name;
   expect(taken == before, name, taken - before);
   if (answer < 64) seen[call][answer]++;
@@ -181,6 +182,25 @@ static void spells(int number, spelling call, const uint8_t *bytes, size_t lengt
   }
 }
 
+/* Packed as a message, and unpacked as one of a stream: without a buffer, and then with one. */
+static void messages(const uint8_t *bytes, size_t length) {
+  static uint8_t out[1 << 16];
+  static const size_t SIZES[] = {0, sizeof out};
+  capvet_unpacking state = {0, 0, 0, {0, 0}};
+  size_t i, from = 0;
+  for (i = 0; i < sizeof SIZES / sizeof *SIZES; i++) {
+    capvet_report report;
+    size_t required, consumed;
+    unsigned long before = taken;
+    uint32_t answer = capvet_pack_message(bytes, length, &LIMITS[1], out, SIZES[i], &required, &report);
+    answered(PACK_MESSAGE, before, answer);
+    before = taken;
+    answer = capvet_unpack_message(bytes + from, length - from, &LIMITS[0], out, SIZES[i], &state, &consumed, &required, &report);
+    answered(UNPACK_MESSAGE, before, answer);
+    from += consumed;
+  }
+}
+
 /* Each prefix of the bytes, and the bytes from the start of each of their words on. */
 static void parts(const uint8_t *bytes, size_t length) {
   size_t at;
@@ -189,6 +209,7 @@ static void parts(const uint8_t *bytes, size_t length) {
     marks(bytes, at);
     segments(bytes, at);
     nodes(bytes, at);
+    messages(bytes, at);
     spells(UNPACK, capvet_unpack, bytes, at);
     spells(PACK, capvet_pack, bytes, at);
   }
@@ -225,6 +246,13 @@ static const struct {
               {GET, CAPVET_NO_NODE},
               {GET, CAPVET_BAD_PATH},
               {GET, CAPVET_TRUNCATED},
+              {PACK_MESSAGE, CAPVET_OK},
+              {PACK_MESSAGE, CAPVET_BUFFER_TOO_SMALL},
+              {PACK_MESSAGE, CAPVET_TRUNCATED},
+              {UNPACK_MESSAGE, CAPVET_OK},
+              {UNPACK_MESSAGE, CAPVET_NO_MESSAGE},
+              {UNPACK_MESSAGE, CAPVET_TRUNCATED},
+              {UNPACK_MESSAGE, CAPVET_BUFFER_TOO_SMALL},
               {UNPACK, CAPVET_OK},
               {UNPACK, CAPVET_BUFFER_TOO_SMALL},
               {UNPACK, CAPVET_TRUNCATED},

@@ -546,6 +546,32 @@ static void nulls(void) {
          "unpacked in NULL", required);
 }
 
+/* The same of the calls for a node and for packed messages. */
+static void more_nulls(void) {
+  capvet_report r = unwritten();
+  capvet_node n;
+  capvet_unpacking state = {0, 0, 0, {0, 0}};
+  size_t required = 77, consumed = 77;
+  EXPECT(capvet_get(NULL, 0, &LIMITS, "/", 1, &n, &r) == CAPVET_NO_MESSAGE && r.required == 8 && n.kind == 0, "get of NULL",
+         r.required);
+  r = unwritten();
+  EXPECT(capvet_get(TWO, sizeof TWO, &LIMITS, NULL, 0, &n, &r) == CAPVET_BAD_PATH && r.detail == 0 && r.length == 0,
+         "a path at NULL", r.detail);
+  EXPECT(capvet_pack_message(NULL, 0, &LIMITS, NULL, 0, &required, &r) == CAPVET_NO_MESSAGE && required == 0 && r.required == 8,
+         "pack_message of NULL", required);
+  EXPECT(capvet_pack_message(TWO, sizeof TWO, &LIMITS, NULL, 0, &required, &r) == CAPVET_BUFFER_TOO_SMALL && required == 18 &&
+             r.length == 56,
+         "a message packed in NULL", required);
+  required = 77;
+  EXPECT(capvet_unpack_message(NULL, 0, &LIMITS, NULL, 0, &state, &consumed, &required, &r) == CAPVET_NO_MESSAGE &&
+             consumed == 0 && required == 0 && r.required == 1,
+         "unpack_message of NULL", required);
+  EXPECT(capvet_unpack_message(PACKED, sizeof PACKED, &LIMITS, NULL, 0, &state, &consumed, &required, &r) ==
+                 CAPVET_BUFFER_TOO_SMALL &&
+             consumed == 0 && required == 8 && state.written == 0,
+         "a message unpacked in NULL", required);
+}
+
 int main(void) {
   EXPECT(capvet_version() == 65536ul * CAPVET_VERSION_MAJOR + 256ul * CAPVET_VERSION_MINOR + CAPVET_VERSION_PATCH, "version",
          capvet_version());
@@ -563,6 +589,7 @@ int main(void) {
   words();
   separate();
   nulls();
+  more_nulls();
   if (failures == 0) printf("calls: all as promised\n");
   return failures != 0;
 }

@@ -77,9 +77,11 @@ static void message(const uint8_t *bytes, size_t length) {
   answer = packed(more + 1, length + 3, CAPVET_ALLOW_TRAILING, out + 1, size, &required, &report);
   expect(answer == CAPVET_OK && required == size && report.length == length, "the answer if they may follow", answer);
   answer = packed(bytes, length - 1, 0, out + 1, size, &required, &report);
-  expect(answer == CAPVET_TRUNCATED && report.required == (length > 8 ? report.required : 8), "a cut message", answer);
+  expect(answer == CAPVET_TRUNCATED && report.required == length && required == 0, "a cut message", answer);
   answer = packed(bytes, length, 8u << 20, out + 1, size, &required, &report);
   expect(answer == CAPVET_BAD_LIMITS && required == 0, "an unknown flag", answer);
+  answer = packed(bytes, length, CAPVET_NO_TABLE, out + 1, size, &required, &report);
+  expect(answer == CAPVET_BAD_LIMITS && required == 0 && report.length == 0, "no table", answer);
   free(more);
   free(back);
   free(out);

@@ -1,0 +1,208 @@
+"""Compares capvet_unpack_message, from C, call by call with a model. tests/calls.py runs it.
+
+The streams are packed messages, cut into groups in many ways, packed texts of the library, both of them changed, and made
+bytes. Each is unpacked a piece at a time: the model says what a call leaves, and the next call begins with that. Some
+calls have other limits, bad ones, or a state that is not the one that was left. Compared are the answer, the bytes that
+were consumed, the required size, the state, each field of the report, and the whole buffer."""
+import shutil
+import struct
+import subprocess
+import tempfile
+from collections import Counter
+from pathlib import Path
+
+import model
+from model import ANSWERS, FIELDS, Limits, framed
+
+# the answer, consumed, required, the state and the report, with the reserved fields
+REPLY = struct.Struct("<I2QQ2I2Q6Q4I4Q")
+STREAMS = 100_000
+LEAST = 1000
+ZERO = (0, 0, 0, 0, 0)
+
+
+def next_word(data, zeros, literal):
+    """The next word of a packed stream, how many bytes it takes, and the rest of its run. Otherwise how many bytes are
+    needed."""
+    if zeros:
+        return (bytes(8), 0, zeros - 1, 0), 0
+    if literal:
+        return ((data[:8], 8, 0, literal - 1), 0) if len(data) >= 8 else (None, 8)
+    tag = data[0] if data else None
+    need = 1 if tag is None else 2 if tag == 0 else 10 if tag == 255 else 1 + bin(tag).count("1")
+    if tag is None or len(data) < need:
+        return None, need
+    if tag == 0:
+        return (bytes(8), 2, data[1], 0), 0
+    if tag == 255:
+        return (data[1:9], 10, 0, data[9]), 0
+    present = iter(data[1:need])
+    return (bytes(next(present) if tag >> bit & 1 else 0 for bit in range(8)), need, 0, 0), 0
+
+
+def is_state(state, out, limits):
+    """Whether a call may leave this state."""
+    written, zeros, literal, *reserved = state
+    if any(reserved) or max(zeros, literal) > 255 or (zeros and literal) or written % 8 or written > len(out):
+        return False
+    return framed(out[:written], limits)[0] is None
+
+
+def unpacked(data, out, state, limits):
+    """The answer of a call, what it consumed, the required size, the state, the fields of the report, and the buffer."""
+
+    def result(answer, consumed, size, left, **fields):
+        return ANSWERS[answer], consumed, size, left, tuple(fields.get(name, 0) for name in FIELDS), bytes(out)
+
+    if not limits.are_good(model.FRAME) or not is_state(state, out, limits):
+        return result("BAD_LIMITS", 0, 0, state)
+    out, (written, zeros, literal, *_), at = bytearray(out), state, 0
+    while True:
+        message, fault = framed(bytes(out[:written]), limits)
+        answer, fields = ("OK", {}) if message is not None else fault
+        if answer not in ("NO_MESSAGE", "TRUNCATED"):
+            break
+        word, need = next_word(data[at:at + 10], zeros, literal)
+        if word is None or written + 8 > len(out):
+            break
+        out[written:written + 8], more, zeros, literal = word
+        written, at = written + 8, at + more
+    left = written, zeros, literal, 0, 0
+    if answer == "OK":
+        return result("OK", at, written, (0, *left[1:]), length=written, segments=len(message))
+    if answer not in ("NO_MESSAGE", "TRUNCATED"):
+        return result(answer, at, 0, left, **fields)
+    if word is not None:
+        return result("BUFFER_TOO_SMALL", at, fields["required"], left)
+    if (written, literal) == (0, 0) and at == len(data):
+        return result("NO_MESSAGE", at, 0, left, required=1)
+    return result("TRUNCATED", at, 0, left, required=need)
+
+
+def packed(frame, chance):
+    """A packed text of these words, whose groups end anywhere."""
+    words, text = [frame[at:at + 8] for at in range(0, len(frame), 8)], b""
+    while words:
+        word, most = words[0], chance.choice((0, 1, 3, 255))
+        if not any(word):
+            count = next((k for k, other in enumerate(words) if any(other)), len(words))
+            count = min(count, 1 + most)
+            text += bytes((0, count - 1))
+        elif all(word):
+            count = min(len(words), 1 + most)
+            text += b"\xff" + word + bytes((count - 1,)) + b"".join(words[1:count])
+        else:
+            count = 1
+            text += bytes((sum(1 << bit for bit in range(8) if word[bit]),)) + bytes(filter(None, word))
+        words = words[count:]
+    return text
+
+
+def streams(texts, made_up, made_text, changed_text, chance):
+    """Packed streams: of messages, of their texts one after another, changed ones, and made ones."""
+    small = [text for text in texts if len(text) < 300]
+    # tables of more than 512 segments, of many words, and of just 512
+    tables = [struct.pack("<II", 512, 0), struct.pack("<II", 0, 9_000_000), struct.pack("<II", 0xFFFFFFFF, 1),
+              struct.pack("<II", 2, 1 << 31) + struct.pack("<II", 1 << 31, 1), struct.pack("<II", 511, 1) + bytes(2048)]
+    while True:
+        kind = chance.randrange(8)
+        frames = b"".join(made_up(chance) for _ in range(chance.randrange(1, 4)))
+        if chance.randrange(10) == 0:
+            frames += chance.choice(tables) + bytes(8 * chance.randrange(3))
+        text = made_text(chance) if kind == 7 else b"".join(chance.choice(small) for _ in range(chance.randrange(1, 3)))
+        text = packed(frames, chance) if kind < 4 else text
+        text = changed_text(text, chance) if kind % 2 else text
+        yield text[:chance.randrange(len(text) + 1)] if chance.randrange(4) == 0 else text
+
+
+def other_state(state, out, chance):
+    """A state beside the one that a call left."""
+    return chance.choice(((state[0] + 4, *state[1:]), (len(out) // 8 * 8 + 8, *state[1:]), (1 << 63, *state[1:]),
+                          (state[0], 256, 0, 0, 0), (state[0], 0, 256, 0, 0), (state[0], 1, 1, 0, 0),
+                          (*state[:3], 1, 0), (*state[:3], 0, 1 << 63), (state[0], 0, chance.randrange(1, 4), 0, 0),
+                          (len(out) // 8 * 8, 0, 0, 0, 0), (state[0], 255, 0, 0, 0), ZERO))
+
+
+def other_limits(limits, chance):
+    """Other limits, most of which are bad."""
+    return chance.choice((Limits(flags=8), Limits(flags=1 << 23), Limits(depth=257), Limits(charge=1 << 28 | 1),
+                          Limits(message_words=1 << 28 | 1), Limits(reserved=(0, 1)), Limits(depth=0, charge=0, flags=7),
+                          Limits(message_words=limits.message_words + 1), Limits(message_words=1 << 28)))
+
+
+def calls_over(text, chance):
+    """The calls over a stream, each with its input, buffer, state and limits, and what the model says of it."""
+    limits = Limits(message_words=chance.choice((8388608, 8388608, 0, 2, 6)))
+    out, state, at = chance.randbytes(chance.choice((0, 0, 7, 8, 20, 64, 200))), ZERO, 0
+    piece = chance.choice((1, 3, 9, 40, len(text) + 1))
+    end = min(len(text), chance.choice((0, piece)))
+    for _ in range(24):
+        if chance.randrange(40) == 0:
+            state = other_state(state, out, chance)
+        call = text[at:end], out, state, other_limits(limits, chance) if chance.randrange(60) == 0 else limits
+        wanted = answer, consumed, required, state, _, out = unpacked(*call)
+        yield call, wanted
+        at += consumed
+        if answer in (ANSWERS["TRUNCATED"], ANSWERS["NO_MESSAGE"]):
+            if end == len(text):
+                return
+            end = min(len(text), end + piece)
+        elif answer == ANSWERS["BUFFER_TOO_SMALL"]:
+            if required > 1 << 14:
+                return
+            out = out[:state[0]] + chance.randbytes(required - state[0] + chance.choice((0, 0, 3, 40)))
+        elif answer == ANSWERS["BAD_LIMITS"]:
+            state = ZERO
+        elif answer != ANSWERS["OK"] and chance.randrange(2):
+            return
+
+
+def replies(program, calls):
+    """What C answers to these calls, from a program and its words, each as the model has it."""
+    with tempfile.TemporaryDirectory() as folder:
+        path = Path(folder) / "requests"
+        with path.open("wb") as file:
+            for (data, out, state, limits), _ in calls:
+                file.write(limits.packed() + struct.pack("<Q2I2Q2I", *state, len(data), len(out)) + data + out)
+        ran = subprocess.run([*program, path], capture_output=True)
+    found, at = [], 0
+    for (_, out, _, _), _ in calls:
+        if at + REPLY.size + len(out) > len(ran.stdout):
+            break
+        reply = REPLY.unpack_from(ran.stdout, at)
+        at += REPLY.size
+        found.append((*reply[:3], reply[3:8], reply[8:18], ran.stdout[at:at + len(out)], reply[18:]))
+        at += len(out)
+    return ran, found, at == len(ran.stdout)
+
+
+def compare(told, program, calls):
+    """The calls beside the model, and how often each answer came."""
+    ran, found, is_all = replies([program], calls)
+    told("unpacking, with the compiler's checks", (ran.returncode, ran.stderr) == (0, b""), ran.stderr)
+    told("a reply to each call of unpacking", is_all and len(found) == len(calls), f"{len(found)}")
+    for (call, wanted), reply in zip(calls, found):
+        holds = reply[:-1] == wanted and not any(reply[-1])
+        told("" if holds else f"unpacking {call}", holds, "" if holds else f"  {reply}\n  {wanted}")
+        most = 8 * call[3].message_words + 2056
+        told("the bound of a frame", reply[2] <= most, f"  {reply} is above {most}")
+    return Counter(reply[0] for reply in found)
+
+
+def watch(told, watched, asking, calls):
+    """The same replies under valgrind, where that is installed."""
+    if watched is not None and shutil.which("valgrind"):
+        ran, wanted = (replies(program, calls)[0] for program in (["valgrind", "-q", "--error-exitcode=9", watched], [asking]))
+        told("unpacking, under valgrind", (ran.returncode, ran.stdout) == (0, wanted.stdout), ran.stderr)
+
+
+def test(told, asking, watched, texts, made_up, made_text, changed_text, chance):
+    source, answers, count = streams(texts, made_up, made_text, changed_text, chance), Counter(), 0
+    watch(told, watched, asking, [call for _ in range(500) for call in calls_over(next(source), chance)])
+    for _ in range(STREAMS // 10_000):
+        calls = [call for _ in range(10_000) for call in calls_over(next(source), chance)]
+        answers, count = answers + compare(told, asking, calls), count + len(calls)
+    for name in ("OK", "NO_MESSAGE", "TOO_MANY_SEGMENTS", "TOO_LARGE", "TRUNCATED", "BAD_LIMITS", "BUFFER_TOO_SMALL"):
+        told(f"calls of unpacking that answer {name}", answers[ANSWERS[name]] >= LEAST, f"{answers[ANSWERS[name]]}")
+    told("no other answer of unpacking", len(answers) == 7, f"{answers}")
+    print(f"calls: {count} calls over {STREAMS} packed streams compared with the model")
