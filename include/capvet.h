@@ -66,7 +66,8 @@
  * Required size. Calls that fill a buffer have a parameter `required`. It is how much of the buffer the
  * result takes, in the units of the buffer's size or count. It is set on CAPVET_OK, where it is the length of
  * the result. It is set on CAPVET_BUFFER_TOO_SMALL, where nothing was written. So a call with (NULL, 0)
- * asks for the size. A CAPVET_..._BOUND macro gives a size that always suffices, without asking.
+ * asks for the size. A CAPVET_..._BOUND macro gives a size that always suffices, without asking. For
+ * capvet_unpack_message see there.
  *
  * Order. If more than one answer applies, the first of these is returned:
  *   1. CAPVET_BAD_LIMITS, then CAPVET_BAD_PATH
@@ -270,9 +271,9 @@ CAPVET_INLINE const char *capvet_answer_name(uint32_t answer) CAPVET_NOEXCEPT {
 /* What a call accepts. All zero is valid, and refuses nearly everything. Begin with CAPVET_LIMITS_INIT or
  * capvet_limits_default, and change fields.
  *
- * A higher limit or an additional CAPVET_ALLOW_ flag never refuses more. A value above its maximum, a flag
- * that the library does not know, or a reserved field that is not 0 gives CAPVET_BAD_LIMITS, in every call
- * with limits. */
+ * A higher limit or an additional CAPVET_ALLOW_ flag never refuses more, unless it gives CAPVET_BAD_LIMITS.
+ * A value above its maximum, a flag that the library does not know, or a reserved field that is not 0 gives
+ * that answer, in every call with limits. */
 typedef struct capvet_limits {
   uint64_t message_words; /* most words in all segments: at most CAPVET_MAX_MESSAGE_WORDS */
   uint64_t charge;        /* highest charge: at most CAPVET_MAX_CHARGE */
@@ -294,14 +295,18 @@ void capvet_limits_default(capvet_limits *limits) CAPVET_NOEXCEPT;
  *
  * The tree numbers (charge, pointers, capabilities, depth) are set if the call checked the whole message and
  * accepted it: CAPVET_OK, CAPVET_NOT_CANONICAL, CAPVET_HAS_CAPABILITY, CAPVET_BUFFER_TOO_SMALL.
- * capvet_frame checks no message, so it sets none.
+ * capvet_frame, capvet_get, capvet_pack_message and capvet_unpack_message check no whole message, so they set
+ * none.
  *
  * A library of a later minor version may set reserved fields: do not compare reports by memcmp. */
 typedef struct capvet_report {
   uint64_t length;       /* bytes of the frame, table included, also of a refused message; 0 after the
-                            answers 1 to 4, 8, 10 and 12: the next message of a buffer starts after them */
+                            answers 1 to 4, 8, 10 and 12: the next message of a buffer starts after them;
+                            capvet_unpack_message: only on CAPVET_OK */
   uint64_t required;     /* CAPVET_NO_MESSAGE, CAPVET_TRUNCATED: the least length of the input that gets
-                            further: 8, then the bytes of the table, then those of the whole frame */
+                            further: 8, then the bytes of the table, then those of the whole frame;
+                            for other inputs see CAPVET_NO_TABLE, capvet_vet_segments and
+                            capvet_unpack_message */
   uint64_t detail;       /* the number that the answer's comment names */
   uint64_t charge;       /* a tree number */
   uint64_t pointers;     /* a tree number, null pointers included; answers with a place: how many pointers
@@ -514,19 +519,21 @@ typedef struct capvet_node {
 /* capvet_get -- the node at a path that is written as text.
  *
  *   bytes, length      the message, as for capvet_vet; it need not have been vetted
+ *   limits             as for capvet_vet, but CAPVET_NO_TABLE gives CAPVET_BAD_LIMITS
  *   path, path_length  the path, without a final zero byte: strlen(path)
  *   node               filled in on CAPVET_OK, and all 0 otherwise
  *
  * "/" is the root. "/p0/i7/p2" is the root's pointer 0, its element 7, and that element's pointer 2. /p steps
  * from a struct to one of its pointers, /i from a list of pointers or structs to an element. Numbers are
- * decimal, without leading zeros.
+ * decimal, without leading zeros. After /p they are at most 65535, after /i at most 4294967295.
  *
  * Returns CAPVET_OK, or CAPVET_NO_NODE if the path leads to nothing. A reader with a schema takes both
- * CAPVET_NO_NODE and a null node as the field's default. CAPVET_BAD_PATH: not a path.
+ * CAPVET_NO_NODE and a null node as the field's default. CAPVET_BAD_PATH: not a path, or a greater number.
  *
  * ONLY THE POINTERS ON THE PATH ARE CHECKED. What is wrong on the path gives the answer that capvet_vet has
  * for it; what is wrong next to the path is not noticed. Their charges count, the root's among them. For a
- * message that capvet_vet accepts with the same limits, every path gives CAPVET_OK or CAPVET_NO_NODE.
+ * message that capvet_vet accepts with the same limits, every path gives CAPVET_OK or CAPVET_NO_NODE, unless
+ * CAPVET_NO_TABLE is set.
  *
  * The bytes of a node are contiguous: bytes + node->offset, node->length of them, inside the frame. Bits after
  * the last value of a list of bits may be anything. On CAPVET_OK and CAPVET_NO_NODE the report has `length`
@@ -578,7 +585,7 @@ capvet_answer capvet_unpack(const uint8_t *bytes, size_t length, uint8_t *out, s
  *
  *   bytes, length  the frame; with CAPVET_ALLOW_TRAILING, a buffer that starts with it
  *   limits         only `message_words` and CAPVET_ALLOW_TRAILING have an effect; CAPVET_NO_TABLE gives
- *                 CAPVET_BAD_LIMITS
+ *                  CAPVET_BAD_LIMITS
  *   out, out_size  where to write the packed bytes: CAPVET_PACK_BOUND(length) always suffices
  *   required       how many they are
  *   report         `length` and `segments` of the frame, or why there is none
@@ -616,7 +623,8 @@ typedef struct capvet_unpacking {
  *
  * Appends words to `out` up to the end of the frame, never further. A run of words may go on into the next
  * message: `state` keeps the rest of it. Every packed stream is read, however it was cut into groups. Words
- * that were unpacked stay in `out`, and state->written counts their bytes. The bytes after them are unchanged.
+ * that were unpacked stay in `out`, whatever the answer. The bytes after them are unchanged. state->written
+ * counts the bytes of these words, but on CAPVET_OK it is 0.
  *
  * Returns
  *
@@ -627,14 +635,17 @@ typedef struct capvet_unpacking {
  *     If the connection has ended, the message is cut.
  *   - CAPVET_BUFFER_TOO_SMALL: the next word is there, and `out` has no space for it. Call again with a buffer
  *     of at least *required bytes that keeps the first state->written. *required is 8, then the bytes of the
- *     table, then those of the frame.
- *   - CAPVET_TOO_LARGE, CAPVET_TOO_MANY_SEGMENTS: as for capvet_frame. They end the stream: a later call
- *     returns them again.
- *   - CAPVET_BAD_LIMITS: also if no call leaves this state. `state` and `out` are unchanged, and *consumed is 0.
+ *     table, then those of the frame. It is at most CAPVET_FRAME_BOUND(limits->message_words).
+ *   - CAPVET_TOO_LARGE, CAPVET_TOO_MANY_SEGMENTS: as for capvet_frame. They end the stream: a later call with
+ *     the same limits returns them again.
+ *   - CAPVET_BAD_LIMITS: also for a bad state. Its `written` is above `out_size`, is no multiple of 8, or counts
+ *     bytes that start with a whole frame within the limits. Or a rest is above 255, both rests are not 0, or a
+ *     reserved field is not 0. `state` and `out` are unchanged, and *consumed is 0.
  *
  * No value of `state` makes a call leave its buffers.
  *
- * Cost: proportional to `length`, and to the words that are written in this call. */
+ * Cost: proportional to `length` and to the words that are written in this call, and up to three steps for
+ * each segment. */
 CAPVET_CALL((3, 6, 7, 8, 9))
 capvet_answer capvet_unpack_message(const uint8_t *bytes, size_t length, const capvet_limits *limits,
                                     uint8_t *out, size_t out_size, capvet_unpacking *state,

@@ -302,13 +302,17 @@ impl std::error::Error for GetError {}
 /// struct to one of its pointers, and `/i` from a list of pointers or structs to an element. A reader with a schema takes
 /// both `None` and a null node as the default of the field.
 ///
+/// A number is at most 65535 after `/p`, and at most 4294967295 after `/i`.
+///
 /// Only the pointers on the path are checked, so the message need not have been vetted. For a message that
-/// [`vet`](crate::vet) accepts with the same limits, no path but a bad one is an error.
+/// [`vet`](crate::vet) accepts with the same limits, and without [`Limits::no_table`], no path but a bad one is an error.
 ///
 /// # Errors
 ///
 /// The first of these that applies.
 ///
+/// - [`GetError::NotAccepted`] with [`FrameError::BadLimits`](crate::FrameError::BadLimits): the limits have
+///   [`Limits::no_table`].
 /// - [`GetError::BadPath`]: `path` is not a path.
 /// - [`GetError::NotAccepted`] with [`VetError::Frame`]: the bytes hold no complete frame within the limits, or trailing bytes
 ///   follow the message.

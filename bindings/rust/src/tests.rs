@@ -504,6 +504,9 @@ fn words_without_a_table_are_a_message() {
     assert_eq!(crate::vet_segments(&[&NULL], limits), bad);
     let items: Vec<_> = messages(&NULL, limits).collect();
     assert_eq!(items, [Err(VetError::Frame(FrameError::BadLimits))]);
+    // (the path is bad too)
+    let node = crate::node(&NULL, "x", limits);
+    assert_eq!(node, Err(VetError::Frame(FrameError::BadLimits).into()));
     assert_eq!(error.length(), 0);
 }
 
