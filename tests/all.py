@@ -25,6 +25,7 @@ SCRIPTS = (
     ("the built program", ["program.py", PROGRAM]),
     ("the calls from C, packed bytes", ["calls.py", ARCHIVE, PROGRAM, "packed"]),
     ("the calls from C, messages", ["calls.py", ARCHIVE, PROGRAM, "messages"]),
+    ("the calls from C, nodes", ["calls.py", ARCHIVE, PROGRAM, "nodes"]),
     ("the calls from C, flags and reports", ["calls.py", ARCHIVE, PROGRAM, "flags"]),
     ("strict messages by other readers", ["readers.py", PROGRAM]),
     ("the library from C, C++ and Rust", ["library.py", PROGRAM, ARCHIVE]),
