@@ -22,6 +22,7 @@ PROGRAM, ARCHIVE = "build/capvet", "build/libcapvet.a"
 COUNTED = re.compile(r"(\d+) passed, (\d+) failed")
 # (those that take longest come first, so that none of them is left over at the end)
 SCRIPTS = (
+    ("the calls from C, packed messages", ["calls.py", ARCHIVE, PROGRAM, "streams"]),
     ("the built program", ["program.py", PROGRAM]),
     ("the calls from C, packed bytes", ["calls.py", ARCHIVE, PROGRAM, "packed"]),
     ("the calls from C, messages", ["calls.py", ARCHIVE, PROGRAM, "messages"]),

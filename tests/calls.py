@@ -1,10 +1,10 @@
 #!/usr/bin/env python3
 """Builds the C programs of tests/c over the built archive, and runs them, beside the built program.
 
-    calls.py ARCHIVE PROGRAM [messages | packed | flags | nodes]
+    calls.py ARCHIVE PROGRAM [messages | packed | streams | flags | nodes]
 
-With a word only that part is tested: what is about messages, about packed bytes, about flags and reports, or about
-nodes.
+With a word only that part is tested: what is about messages, packed bytes, packed messages (`streams`), flags and
+reports, or nodes.
 
 The header alone is compiled in each standard of C and C++ that it is promised for. `calls` looks at known
 buffers, and `allocations` counts how often memory is taken.
@@ -598,9 +598,8 @@ def test_messages(folder, compilers, archive, program):
 
 
 def test_packed(folder, compilers, archive, program):
-    """Packing and unpacking."""
+    """Packing and unpacking words."""
     test_packing(folder, compilers[0], archive, program)
-    test_packed_messages(folder, compilers[0], archive, program)
     lines = compiled(folder, "lines", compilers[0], "c99", archive, "-O1", *CHECKS)
     if lines is not None:
         compare_words(lines, program)
@@ -608,6 +607,11 @@ def test_packed(folder, compilers, archive, program):
     texts = compiled(folder, "texts", compilers[0], "c11", archive, "-O1", *CHECKS)
     if texts is not None:
         compare_texts(texts, watched, program)
+
+
+def test_streams(folder, compilers, archive, program):
+    """Packing and unpacking messages."""
+    test_packed_messages(folder, compilers[0], archive, program)
 
 
 def test_flags(folder, compilers, archive, program):
@@ -625,7 +629,7 @@ def test_nodes(folder, compilers, archive, program):
         nodes.test(told, asking, watched, program, samples(), made_up, changed, random.Random(SEED))
 
 
-PARTS = {"messages": test_messages, "packed": test_packed, "flags": test_flags, "nodes": test_nodes}
+PARTS = {"messages": test_messages, "packed": test_packed, "streams": test_streams, "flags": test_flags, "nodes": test_nodes}
 
 
 def main():
