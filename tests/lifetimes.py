@@ -12,8 +12,9 @@ import sys
 import tempfile
 from pathlib import Path
 
+from prove import below, listed
+
 TOP = Path(__file__).resolve().parent.parent
-BELOW = ("cap_spec", "cap_words", "cap_frame", "cap_ptr", "cap_vet")
 LEFT_OUT = shutil.ignore_patterns("out", "must-fail")
 ROOT = """//! A node and its message.
 #![tactic(auto)]
@@ -65,10 +66,11 @@ def main():
     passed = failed = 0
     with tempfile.TemporaryDirectory(prefix="capvet-") as root:
         root = Path(root)
-        for name in BELOW:
+        lines = listed(TOP)
+        names = below(["cap_vet"], lines)
+        for name in names:
             shutil.copytree(TOP / "crates" / name, root / "crates" / name, ignore=LEFT_OUT)
-        lines = [line for line in (TOP / "crates.txt").read_text().splitlines() if line.split(":")[0] in BELOW]
-        (root / "crates.txt").write_text("\n".join(lines + ["lifetimes: cap_frame cap_vet", ""]))
+        (root / "crates.txt").write_text("\n".join([lines[name] for name in names] + ["lifetimes: cap_frame cap_vet", ""]))
         shutil.copy(TOP / "HANDLES", root)
         folder = root / "crates/lifetimes"
         (folder / "src").mkdir(parents=True)
