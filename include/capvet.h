@@ -571,7 +571,7 @@ capvet_answer capvet_pack(const uint8_t *bytes, size_t length, uint8_t *out, siz
  *   out, out_size  where to write the words
  *   required       their length in bytes
  *
- * The result can be 1024 times as long as the input. Ask for *required with (NULL, 0). Compare it with your
+ * The result can have 1024 times the length of the input. Ask for *required with (NULL, 0). Compare it with your
  * own limit before you allocate. Returns the first that applies: CAPVET_TOO_LARGE if `length` is above
  * 2^53, CAPVET_TRUNCATED if the input ends inside a group, CAPVET_BUFFER_TOO_SMALL, CAPVET_OK. On CAPVET_OK
  * the bytes after the result are unchanged.

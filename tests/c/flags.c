@@ -1,8 +1,8 @@
 /* flags REQUESTS: makes the calls that a file asks for, and writes what each of them answers and reports.
  *
- * A request is the number of a call (0 capvet_frame, 1 capvet_vet, 2 capvet_vet_exclusive, 3 capvet_canonical,
- * 4 capvet_is_canonical, 5 capvet_segment_at, 6 capvet_vet_segments), the size or count of its output buffer or
- * the number of the segment, the limits, the length of the input and the input. Separate segments come after
+ * The calls are 0 capvet_frame, 1 capvet_vet, 2 capvet_vet_exclusive, 3 capvet_canonical, 4 capvet_is_canonical,
+ * 5 capvet_segment_at, 6 capvet_vet_segments. A request is the number of a call, the size or count of its output
+ * buffer or the number of the segment, the limits, the length of the input and the input. Separate segments come after
  * their lengths, and the number before the limits is how many they are. The size 0xffffffff of a copy is
  * CAPVET_CANONICAL_BOUND of the input's length. The flags are bits in the order of NAMED.
  *
