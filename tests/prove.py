@@ -5,11 +5,13 @@
     prove.py --code     only the crates that the program and the archive are built from
     prove.py --edits    as without a word, and the prover has to refuse each must-fail edit
 
-`rt ci` does the work. It proves each crate from nothing, and keeps on this machine what it proved, by the checksums of all
-that it read. So a crate is proved again only where it, or a crate below it, has changed. Without --edits it works on a copy
-of the sources that lacks the must-fail edits; what it proves there counts with --edits too. The last line of its output is
-'N passed, M failed'. The status is 1 where something failed, and then build/ stays as it was.
+`rt ci` does the work, on a copy of the tree. The copy has the must-fail edits only with --edits. Some kits keep on the machine
+what `rt ci` proved, and then prove only what has changed. With any kit, where nothing has changed since build/ was made,
+nothing is proved again, unless --edits is given. The last line of the output is 'N passed, M failed'. The status is 1 where
+something failed, and then build/ stays as it was.
 """
+import hashlib
+import re
 import shutil
 import subprocess
 import sys
@@ -39,12 +41,12 @@ def below(names, lines):
     return found
 
 
-def copy(root):
-    """Copies all that `rt ci` reads, but the must-fail edits."""
-    left_out = lambda folder, names: ("out", "must-fail") if Path(folder).parent == TOP / "crates" else ()
-    shutil.copytree(TOP / "crates", root / "crates", ignore=left_out)
-    for name in ("crates.txt", "HANDLES"):
-        shutil.copy(TOP / name, root / name)
+def copy(root, left_out):
+    """Copies the tree, but what git and the builds keep in it, and the folders of this name in each crate."""
+    def ignored(folder, names):
+        at = Path(folder)
+        return (".git", "build") if at == TOP else ("out", left_out) if at.parent == TOP / "crates" else ("target",)
+    shutil.copytree(TOP, root, ignore=ignored)
 
 
 def keep_only(root, names):
@@ -77,29 +79,71 @@ def take(file, name):
     (BUILT / f"{name}.new").replace(BUILT / name)
 
 
-def prove_and_build(is_code_alone):
+def is_read(file):
+    """Whether the proofs read this file of crates/."""
+    return file.is_file() and file.relative_to(TOP / "crates").parts[1] not in ("out", "must-fail")
+
+
+def checksum():
+    """The checksum of all that the proofs read, of the kit's name, and of what was built."""
+    whole = hashlib.sha256(subprocess.run(["rt", "version"], capture_output=True, check=True).stdout)
+    files = [TOP / "crates.txt", TOP / "HANDLES", *filter(is_read, sorted((TOP / "crates").glob("*/**/*")))]
+    for file in [*files, BUILT / "capvet", BUILT / "libcapvet.a"]:
+        whole.update(f"{file.relative_to(TOP)}\n{file.stat().st_size}\n".encode() + file.read_bytes())
+    return whole.hexdigest()
+
+
+def kept():
+    """How many cases passed when build/ was made, where nothing has changed since. Else None."""
+    if not all((BUILT / name).is_file() for name in ("capvet", "libcapvet.a", "proved")):
+        return None
+    found, passed = (BUILT / "proved").read_text().split()
+    return int(passed) if found == checksum() else None
+
+
+def run_ci(root):
+    """Runs `rt ci`, shows its output, and returns how many cases passed, or None where one failed."""
+    passed = None
+    with subprocess.Popen(["rt", "ci"], cwd=root, stdout=subprocess.PIPE, text=True, errors="replace") as ran:
+        for line in ran.stdout:
+            print(line, end="", flush=True)
+            counted = re.fullmatch(r"(\d+) passed, 0 failed\n", line)
+            passed = int(counted[1]) if counted else passed
+    return None if ran.returncode else passed
+
+
+def prove_and_build(is_code_alone, left_out):
+    """Returns how many cases passed, or None where something failed."""
     with tempfile.TemporaryDirectory(prefix="capvet-") as folder:
         root = Path(folder) / "capvet"
-        copy(root)
+        copy(root, left_out)
         if is_code_alone:
             keep_only(root, below((PROGRAM, ARCHIVE), listed(root)))
-        if subprocess.run(["rt", "ci"], cwd=root).returncode:
-            return False
+        passed = run_ci(root)
+        if passed is None:
+            return None
         if not build_archive(root):
             print("the archive was not built\n0 passed, 1 failed")
-            return False
+            return None
         take(root / "crates" / PROGRAM / "out" / PROGRAM, "capvet")
         take(root / "crates" / ARCHIVE / "out" / f"lib{ARCHIVE}.a", "libcapvet.a")
-        return True
+        return passed
 
 
 def main(words):
     if words not in ([], ["--code"], ["--edits"]):
         sys.exit(__doc__)
-    if "--edits" in words:
-        # (what is proved here is only taken up again below, from what `rt ci` keeps)
-        return not (subprocess.run(["rt", "ci"], cwd=TOP).returncode == 0 and prove_and_build(is_code_alone=True))
-    return not prove_and_build("--code" in words)
+    passed = None if words == ["--edits"] else kept()
+    if passed is not None:
+        print(f"nothing has changed since build/ was proved\n{passed} passed, 0 failed")
+        return 0
+    (BUILT / "proved").unlink(missing_ok=True)
+    passed = prove_and_build(words == ["--code"], "out" if words == ["--edits"] else "must-fail")
+    if passed is None:
+        return 1
+    if words != ["--code"]:
+        (BUILT / "proved").write_text(f"{checksum()} {passed}\n")
+    return 0
 
 
 if __name__ == "__main__":
