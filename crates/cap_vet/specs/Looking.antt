@@ -1,5 +1,5 @@
 -- What comes of looking at one pointer word of a walk (profile).
-use Rattle.std.specs.Prelude.{ℕ, ◌+◌, ◌<◌, ◌≤◌, ◌≡◌, ◌==◌, if◌then◌else◌, List, [], Option, None, Some, ⊤}
+use Rattle.std.specs.Prelude.{ℕ, ◌+◌, ◌<◌, ◌≤◌, ◌≡◌, ◌≢◌, ◌==◌, if◌then◌else◌, List, [], Option, None, Some, ⊤}
 use Rattle.cap_spec.specs.Messages.{HasWord}
 use Rattle.cap_spec.specs.Pointers.{kind, middle, code, data_size, pointer_size, list_size, extent}
 use Rattle.cap_spec.specs.Following.{Leads, to_null, to_cap, extra, IsComposite}
@@ -40,6 +40,10 @@ FrameRises level depth (Some f) = (level + 1 ≤ f.level) × (f.level ≤ depth 
 -- the word at t:b takes the place of the pointer word at s:w, over k pads, if it is that of an object
 abbrev pub MayStandFor : List (List ℕ) → ℕ → ℕ → ℕ → ℕ → ℕ → Type 0
 MayStandFor m s w k t b = (q : ℕ) → HasWord m t b q → kind q < 2 → StandsFor m s w k t b q
+
+-- the pointer word at s:w isn't far
+abbrev pub IsNotFar : List (List ℕ) → ℕ → ℕ → Type 0
+IsNotFar m s w = (q : ℕ) → HasWord m s w q → kind q ≢ 2
 
 -- An object is found, which keeps to the limits. Its pointer words are those of the frame.
 pub record LooksObject (m : List (List ℕ)) (words depth spent s w level cost deep : ℕ) (frame : Option PointerRun) (k t b q tag : ℕ) : Type 0 where

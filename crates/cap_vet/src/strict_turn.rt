@@ -12,7 +12,6 @@ use crate::lax::lax_form;
 use crate::place::Place;
 use crate::turn::Turn;
 use cap_frame::Segments;
-use cap_ptr::kind;
 use cap_spec::Lax;
 use std::convert::Infallible;
 
@@ -79,9 +78,10 @@ impl Turn for LaxSearch {
         s: u32,
         w: u32,
         _used: Option<Place>,
+        far: bool,
         pointers: u64,
     ) -> Result<(), Infallible> {
-        if kind(message.word(s, w)) == 2 {
+        if far {
             self.look_at(message, s, w, pointers);
         }
         Ok(())

@@ -2,9 +2,10 @@
 
 ghost use Rattle.cap_spec.specs.Faults.{IsFirstFault};
 ghost use Rattle.cap_vet.specs.Limits.{depth_of, words_of};
+ghost use Rattle.cap_vet.specs.Looking.{IsNotFar};
 ghost use Rattle.cap_vet.specs.Turning.{added, run_below};
 ghost use Rattle.cap_vet.specs.Turns.{HasVisited, IsNextIn};
-ghost use Rattle.std.specs.Prelude.{◌<◌, ◌≡◌, ◌^◌, IfErr, IfOk, List};
+ghost use Rattle.std.specs.Prelude.{◌<◌, ◌≡◌, ◌^◌, IfErr, IfOk, IsFalse, List};
 
 use crate::far_looking::look_far;
 use crate::limits::Limits;
@@ -13,6 +14,15 @@ use crate::pointer_run::PointerRun;
 use crate::report::Report;
 use cap_frame::Segments;
 use cap_spec::Refusal;
+
+/// What a visit found.
+#[derive(Drop)]
+pub(crate) struct Visited {
+    /// The run of the object's pointers.
+    pub(crate) below: Option<PointerRun>,
+    /// Whether the word may be a far pointer.
+    pub(crate) far: bool,
+}
 
 /// Looks at the next pointer word, and gives the run of its object's pointers. This word is then the
 /// last that was looked at. The error is the first fault.
@@ -25,19 +35,22 @@ pub(crate) fn visit<M: Segments>(
     s: u32,
     w: u32,
     level: u32,
-) -> Result<Option<PointerRun>, Refusal>
+) -> Result<Visited, Refusal>
     requires next { let m = M.segments message.now in (runs : List PointerRun)
         × IsNextIn m limits.now s w level runs report.old }
     ensures ok { let m = M.segments message.now in (runs : List PointerRun)
-        (n : IsNextIn m limits.now s w level runs report.old) →
-        IfOk result (λ below. HasVisited m limits.now s w level runs report.old n below report.new) }
+        (n : IsNextIn m limits.now s w level runs report.old) → IfOk result (λ v.
+        HasVisited m limits.now s w level runs report.old n v.below report.new) }
+    ensures near { IfOk result (λ v. IsFalse v.far → IsNotFar (M.segments message.now) s w) }
     ensures err { IfErr result
         (IsFirstFault (M.segments message.now) (words_of limits.now) (depth_of limits.now)) }
 {
     if let Some(looked) = look_near(message, limits, report.charge, s, w, level) {
-        return Ok(add(report, s, w, looked));
+        let below = add(report, s, w, looked);
+        return Ok(Visited { below, far: false });
     }
-    visit_other(message, limits, report, s, w, level)
+    let below = visit_other(message, limits, report, s, w, level)?;
+    Ok(Visited { below, far: true })
 }
 
 // The same of another word.

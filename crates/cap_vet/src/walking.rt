@@ -13,7 +13,7 @@ use crate::limits::Limits;
 use crate::pointer_run::PointerRun;
 use crate::report::Report;
 use crate::turn::{Stopped, Turn};
-use crate::visiting::visit;
+use crate::visiting::{Visited, visit};
 use arrayvec::ArrayVec;
 use cap_frame::Segments;
 use cap_spec::{Reason, Refusal};
@@ -178,11 +178,11 @@ fn turn_at<M: Segments, T: Turn>(
     // The words that the pointer uses are looked up before the visit, and used after it. If nothing
     // is written in between, both take its fields from the word once.
     let used = turn.before(message, s, w);
-    let below = match visit(message, limits, report, s, w, level) {
-        Ok(below) => below,
+    let (below, far) = match visit(message, limits, report, s, w, level) {
+        Ok(Visited { below, far }) => (below, far),
         Err(refusal) => return Err(Stopped::Refused(refusal)),
     };
-    match turn.after(message, s, w, used, report.pointers) {
+    match turn.after(message, s, w, used, far, report.pointers) {
         Ok(()) => Ok(below),
         Err(stop) => Err(Stopped::ByTurn(stop)),
     }

@@ -13,6 +13,6 @@ described_within-requires-clause-stands g c = (
 
 pub returns : goal.returns
 returns g c =
-    c.described_within.ensures c.args.s c.args.w (λ q has object. stands-one_pad _ c.args.s c.args.w c.word-word.result c.far_segment-segment.result
+    c.described_within.ensures.looked c.args.s c.args.w (λ q has object. stands-one_pad _ c.args.s c.args.w c.word-word.result c.far_segment-segment.result
     c.pad-at.result q c.word-word.ensures (omega (arith, c.kind.ensures, c.if-kind-ne2.false), omega (arith, c.two.ensures, c.if-two-ne0.false))
     c.far_segment-segment.ensures c.pad-at.ensures has)

@@ -1,9 +1,17 @@
-use Rattle.std.proofs.Common.{arith, rules, sym}
+use Rattle.std.proofs.Common.{Option, None, Some, arith, rules, subst, sym}
+use Rattle.std.specs.Prelude.{◌≢◌, IfSome}
 use Rattle.cap_spec.specs.Messages.{IsMessage}
+use Rattle.cap_spec.specs.Pointers.{kind}
+use Rattle.cap_spec.proofs.Frames.Messages.{one_word}
+use Rattle.cap_vet.specs.Looking.{IsNotFar}
 use Rattle.cap_vet.proofs.looking.described_within.Goals as goal
 
-pub returns-in-Some : goal.returns-in-Some
-returns-in-Some g c = λ s w stands.
+if_some : {A B : Type 0} (o : Option A) → B → IfSome o (λ _. B)
+if_some None b = tt
+if_some (Some x) b = b
+
+pub returns-in-Some-clause-looked : goal.returns-in-Some-clause-looked
+returns-in-Some-clause-looked g c = λ s w stands.
     let m = g.M.Segments.segments c.args.message.now in
     let q = c.word-word.result in
     c.row_within.ensures m s w c.args.at q (c.in-Some.ensures.row m c.args.segment c.word-word.ensures (sym c.len.ensures))
@@ -18,8 +26,24 @@ target_within-requires-clause-found g c =
     let f = list.found s w (stands c.word-word.result c.word-word.ensures (omega (arith, list.list))) in
     (m, s, w, f.0, f.1, message, f.2)
 
-pub returns : goal.returns
-returns g c = λ s w stands.
+pub returns-clause-looked : goal.returns-clause-looked
+returns-clause-looked g c = λ s w stands.
     let m = g.M.Segments.segments c.args.message.now in
     let list = c.in_ok-list.ensures in
     c.target_within.ensures m s w (list.found s w (stands c.word-word.result c.word-word.ensures (omega (arith, list.list))))
+
+pub returns-in-Some-clause-near : goal.returns-in-Some-clause-near
+returns-in-Some-clause-near g c =
+    let m = g.M.Segments.segments c.args.message.now in
+    let plain = c.in-Some.ensures.plain.0 in
+    let near : IsNotFar m c.args.segment c.args.at = λ q has.
+        subst (λ u. kind u ≢ 2) (one_word m c.args.segment c.args.at c.word-word.result q c.word-word.ensures has) (omega (arith, plain)) in
+    if_some _ near
+
+pub returns-clause-near : goal.returns-clause-near
+returns-clause-near g c =
+    let m = g.M.Segments.segments c.args.message.now in
+    let list = c.in_ok-list.ensures.list in
+    let near : IsNotFar m c.args.segment c.args.at = λ q has.
+        subst (λ u. kind u ≢ 2) (one_word m c.args.segment c.args.at c.word-word.result q c.word-word.ensures has) (omega (arith, list)) in
+    if_some _ near

@@ -1,22 +1,35 @@
-use Rattle.std.proofs.Common.{arith, refl}
+use Rattle.std.proofs.Common.{arith, refl, subst}
+use Rattle.std.specs.Prelude.{◌≢◌}
 use Rattle.cap_spec.specs.Following.{near}
-use Rattle.cap_spec.specs.Pointers.{IsCap, cap_index}
+use Rattle.cap_spec.specs.Pointers.{IsCap, cap_index, kind}
+use Rattle.cap_spec.proofs.Frames.Messages.{one_word}
 use Rattle.cap_ptr.proofs.Pads.{stands-near}
 use Rattle.cap_vet.proofs.looking.look_near.Goals as goal
 
-pub returns-then-word-eq0 : goal.returns-then-word-eq0
-returns-then-word-eq0 g c =
+pub returns-then-word-eq0-clause-looked : goal.returns-then-word-eq0-clause-looked
+returns-then-word-eq0-clause-looked g c =
     let e = c.if-word-eq0.true in
     (near c.word-word.result c.word-word.ensures (omega (arith, e)) e refl, omega (arith, c.requires.spent))
 
 pub described_within-requires-clause-stands : goal.described_within-requires-clause-stands
 described_within-requires-clause-stands g c = (c.args.s, c.args.w, λ q has object. stands-near _ c.args.s c.args.w q has (λ k. omega (arith, k, object)))
 
-pub returns-in-Some : goal.returns-in-Some
-returns-in-Some g c =
-    c.in-Some.ensures c.args.s c.args.w (λ q has object. stands-near _ c.args.s c.args.w q has (λ k. omega (arith, k, object)))
+pub returns-in-Some-clause-looked : goal.returns-in-Some-clause-looked
+returns-in-Some-clause-looked g c =
+    c.in-Some.ensures.looked c.args.s c.args.w (λ q has object. stands-near _ c.args.s c.args.w q has (λ k. omega (arith, k, object)))
 
-pub returns-then-is_cap : goal.returns-then-is_cap
-returns-then-is_cap g c =
+pub returns-then-is_cap-clause-looked : goal.returns-then-is_cap-clause-looked
+returns-then-is_cap-clause-looked g c =
     let cap : IsCap c.word-word.result = c.is_cap.ensures.0 c.if-is_cap.true in
     ((cap_index c.word-word.result, near c.word-word.result c.word-word.ensures (omega (arith, cap.0)) (cap, refl) refl), omega (arith, c.requires.spent))
+
+pub returns-then-word-eq0-clause-near : goal.returns-then-word-eq0-clause-near
+returns-then-word-eq0-clause-near g c = λ q has.
+    let e = c.if-word-eq0.true in
+    let same = one_word (g.M.Segments.segments c.args.message.now) c.args.s c.args.w c.word-word.result q c.word-word.ensures has in
+    omega (arith, e, same)
+
+pub returns-then-is_cap-clause-near : goal.returns-then-is_cap-clause-near
+returns-then-is_cap-clause-near g c = λ q has.
+    let cap : IsCap c.word-word.result = c.is_cap.ensures.0 c.if-is_cap.true in
+    subst (λ u. kind u ≢ 2) (one_word (g.M.Segments.segments c.args.message.now) c.args.s c.args.w c.word-word.result q c.word-word.ensures has) (omega (arith, cap.0))
