@@ -19,6 +19,7 @@ GROWTHS = {
     "reading::a_table_past_the_limits": 1,
     "copies::a_copy_in_words": 1,
     "copies::a_copy_in_bytes": 1,
+    "copies::a_copy_over_a_buffer": 1,
 }
 # More allocations than any test makes.
 MOST = 20

@@ -15,6 +15,7 @@ mod LaidSteps
 mod Laying
 mod Lengths
 mod Needed
+pub mod Overs
 mod Owing
 mod PointerForms
 mod Ranges

@@ -1,4 +1,5 @@
 pub mod Checked
+pub mod CopyOvers
 pub mod CopyRooms
 pub mod CopyRuns
 pub mod CopyTurns

@@ -4,7 +4,7 @@ ghost use Rattle.cap_canon.specs.FirstWords.{first_words};
 ghost use Rattle.cap_canon.specs.Roots.{ForTrimmed, HasTree};
 ghost use Rattle.cap_spec.specs.Canonical.{layout};
 ghost use Rattle.cap_spec.specs.Plain.{plain_text, plain_words};
-ghost use Rattle.std.specs.Prelude.{◌*◌, ◌+◌, ◌/◌, ◌≡◌, ◌≤◌, [], length, slice_set};
+ghost use Rattle.std.specs.Prelude.{◌*◌, ◌+◌, ◌/◌, ◌≡◌, ◌≤◌, [], length, slice_set, take};
 
 use crate::copying::copy_into;
 use crate::output::CopyOutput;
@@ -19,19 +19,38 @@ pub(crate) fn fill<M: Segments>(message: &M, depth: u32, out: &mut [u8])
     ensures text { ForTrimmed (M.segments message.now) (λ u. out.new ≡ plain_text (layout u)) }
     ensures words { ForTrimmed (M.segments message.now) (λ u. plain_words out.new ≡ layout u) }
 {
-    write_words(message, depth, out);
+    let _words = write_words(message, depth, out);
+}
+
+/// Writes the same over the start of bytes that are long enough for it, and returns how many words
+/// it has.
+pub(crate) fn fill_front<M: Segments>(message: &M, depth: u32, out: &mut [u8]) -> usize
+    requires tree { HasTree (M.segments message.now) depth }
+    requires length { let m = M.segments message.now in
+        ForTrimmed m (λ u. 8 * length (layout u) ≤ length out.old) }
+    ensures count { let m = M.segments message.now in
+        ForTrimmed m (λ u. result ≡ length (layout u)) }
+    ensures words { let m = M.segments message.now in
+        ForTrimmed m (λ u. first_words (length (layout u)) out.new ≡ layout u) }
+    ensures text { let m = M.segments message.now in
+        ForTrimmed m (λ u. take (8 * length (layout u)) out.new ≡ plain_text (layout u)) }
+{
+    write_words(message, depth, out)
 }
 
 // The same, as the words that the bytes begin with.
-fn write_words<M: Segments>(message: &M, depth: u32, out: &mut [u8])
+fn write_words<M: Segments>(message: &M, depth: u32, out: &mut [u8]) -> usize
     requires tree { HasTree (M.segments message.now) depth }
     requires length { let m = M.segments message.now in
-        ForTrimmed m (λ u. length out.old ≡ 8 * length (layout u)) }
-    ensures { let m = M.segments message.now in
+        ForTrimmed m (λ u. 8 * length (layout u) ≤ length out.old) }
+    ensures count { let m = M.segments message.now in
+        ForTrimmed m (λ u. result ≡ length (layout u)) }
+    ensures words { let m = M.segments message.now in
         ForTrimmed m (λ u. first_words (length (layout u)) out.new ≡ layout u) }
 {
     let mut copy = WordBytes::over(out);
     copy_into(message, depth, &mut copy);
+    copy.count
 }
 
 // Words as their bytes, over bytes that are borrowed for them.

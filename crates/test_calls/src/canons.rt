@@ -5,7 +5,9 @@ mod values;
 
 use super::held::{Forms, repeated, words};
 use crate::same::{same, same_of};
-use cap_canon::{CanonFault, canonical, canonical_bytes, canonical_len, is_canonical};
+use cap_canon::{
+    CanonFault, canonical, canonical_bytes, canonical_len, canonical_over, is_canonical,
+};
 use cap_frame::{OneSegment, Segments};
 use cap_vet::{Limits, Vetted, vet};
 use cap_words::bytes_of;
@@ -110,6 +112,7 @@ fn copies<M: Segments>(
         text.extend_from_slice(&bytes_of(*word))?;
     }
     same_of(rt, &spelled, bytes.as_slice(), text.as_slice());
+    has_copy_over(rt, alloc, vetted, &text)?;
     // Neither has capacity for more.
     let capacities = (made.capacity(), bytes.capacity());
     same_of(rt, &spelled, capacities, (copied.len(), text.len()));
@@ -118,6 +121,27 @@ fn copies<M: Segments>(
     let again = accepted(&copy, report.charge, report.depth)?;
     same_of(rt, &spelled, again.report().depth, report.depth);
     assert!(rt; is_canonical(&again), "of {spelled:?}");
+    Ok(())
+}
+
+// The same bytes over an empty buffer, over one of their length, and over a longer one.
+fn has_copy_over<M: Segments>(
+    rt: &impl Abort,
+    alloc: Global,
+    vetted: &Vetted<'_, M>,
+    text: &[u8],
+) -> Result<(), Fail> {
+    let most = 8 * (vetted.report().charge as usize + 1);
+    for length in [0, text.len(), most.min(65_536)] {
+        let mut buffer = Vec::new(alloc);
+        buffer.resize(length, 0xff)?;
+        let Ok(count) = canonical_over(alloc, vetted, &mut buffer) else {
+            return Err("no copy over a buffer".into());
+        };
+        same(rt, count, text.len());
+        same(rt, buffer.get(..count), Some(text));
+        same(rt, buffer.len(), length.max(text.len()));
+    }
     Ok(())
 }
 
@@ -137,6 +161,13 @@ fn has_none<M: Segments>(
         return Err("bytes".into());
     };
     same(rt, found, fault);
+    let mut buffer = Vec::new(alloc);
+    buffer.resize(65_536, 7)?;
+    let Err(found) = canonical_over(alloc, vetted, &mut buffer) else {
+        return Err("a copy over a buffer".into());
+    };
+    same(rt, found, fault);
+    assert!(rt; buffer.iter().all(|byte| *byte == 7));
     Ok(())
 }
 

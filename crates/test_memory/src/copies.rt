@@ -2,7 +2,7 @@
 
 use crate::reading::{another_answer, refused};
 use crate::same::same;
-use cap_canon::{CanonFault, canonical, canonical_bytes};
+use cap_canon::{CanonFault, canonical, canonical_bytes, canonical_over};
 use cap_frame::OneSegment;
 use cap_run::{PathFault, Step, parse_path};
 use cap_vet::{ExclusiveRefusal, Limits, vet, vet_exclusive};
@@ -46,6 +46,34 @@ fn a_copy_in_bytes(rt: HostRuntime) -> Result<(), Fail> {
             Ok(())
         }
         Err(CanonFault::Memory) => refused(),
+        _ => another_answer(),
+    }
+}
+
+#[test]
+fn a_copy_over_a_buffer(rt: HostRuntime) -> Result<(), Fail> {
+    let limits = Limits::new(100, 64).ok_or("limits")?;
+    let message = OneSegment::new(&WORDS).ok_or("a message")?;
+    let Ok(vetted) = vet(&message, limits) else {
+        return another_answer();
+    };
+    let mut buffer = Vec::new(rt.alloc());
+    match canonical_over(rt.alloc(), &vetted, &mut buffer) {
+        Ok(count) => {
+            same(&rt, buffer.get(..count), Some(COPY_BYTES));
+            // The buffer is long enough for the same copy, so nothing is allocated.
+            same(
+                &rt,
+                canonical_over(rt.alloc(), &vetted, &mut buffer),
+                Ok(count),
+            );
+            same(&rt, buffer.as_slice(), COPY_BYTES);
+            Ok(())
+        }
+        Err(CanonFault::Memory) => {
+            assert!(rt; buffer.is_empty());
+            refused()
+        }
         _ => another_answer(),
     }
 }

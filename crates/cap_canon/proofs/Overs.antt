@@ -1,0 +1,102 @@
+-- The words and the text of a copy at the start of a buffer.
+use Rattle.std.proofs.Common.{ℕ, ◌*◌, ◌<◌, ◌≤◌, ◌≡◌, ◌∙◌, ◌++◌, List, Result, Ok, Err, Option, Some, None, false, refl, ap, sym, arith, length, take, drop}
+use Rattle.std.specs.List.{AllByRecursion}
+use Rattle.std.specs.Option.{is_some}
+use Rattle.std.proofs.lemmas.List.{length-take-le, take-append-drop, take-append-le, take_all}
+use Rattle.cap_spec.specs.Canonical.{layout, trim}
+use Rattle.cap_spec.specs.Copies.{HasCopy}
+use Rattle.cap_spec.specs.Denoting.{Denotes}
+use Rattle.cap_spec.specs.Plain.{plain_text, plain_words}
+use Rattle.cap_spec.proofs.Bytes.Lists.{all_take}
+use Rattle.cap_spec.proofs.Bytes.Plain.{length_plain, words_exact}
+use Rattle.cap_words.proofs.Filling.{plain_join}
+use Rattle.cap_canon.specs.CopyOvers.{MakesEnough, TellsOver, has_capability, no_memory, over, grown, no_copy, refused, enough, made}
+use Rattle.cap_canon.specs.FirstWords.{first_words}
+use Rattle.cap_canon.specs.declared.fault.CanonFault.{CanonFault}
+use Rattle.cap_canon.specs.declared.fault.CanonFault.TheVariants.{HasCapability, Memory}
+use Rattle.cap_canon.proofs.Copies.{copy_length, copy_of}
+use Rattle.cap_canon.proofs.FirstWords.{whole_words}
+
+pub is_none : {A : Type 0} (o : Option A) → is_some o ≡ false → o ≡ None
+is_none None e = refl
+is_none (Some x) e = absurd (cc)
+
+-- the words of the first bytes are the first words
+first_taken : (n : ℕ) (bytes : List ℕ) → 8 * n ≤ length bytes → plain_words (take (8 * n) bytes) ≡ first_words n bytes
+first_taken n bytes h =
+    let front = take (8 * n) bytes in
+    let long : length front ≡ 8 * n = length-take-le (8 * n) bytes h in
+    let many : length (plain_words front) ≡ n = omega (arith, words_exact front, long) in
+    let split : plain_words bytes ≡ plain_words front ++ plain_words (drop (8 * n) bytes) =
+    ap plain_words (sym (take-append-drop (8 * n) bytes)) ∙ plain_join front (drop (8 * n) bytes) (omega (arith, long)) in
+    sym (ap (take n) split ∙ take-append-le n (plain_words front) (plain_words (drop (8 * n) bytes)) (omega (arith, many))
+    ∙ take_all n (plain_words front) (omega (arith, many)))
+
+-- the first bytes are the text of the first words
+pub first_text : (words bytes : List ℕ) → AllByRecursion (λ b. b < 256) bytes → 8 * length words ≤ length bytes
+    → first_words (length words) bytes ≡ words → take (8 * length words) bytes ≡ plain_text words
+first_text words bytes small h e =
+    let n = length words in
+    let front = take (8 * n) bytes in
+    let long : length front ≡ 8 * n = length-take-le (8 * n) bytes h in
+    let whole : front ≡ plain_text (plain_words front) =
+    whole_words front (all_take (λ b. b < 256) (8 * n) bytes small) (omega (arith, long)) in
+    whole ∙ ap plain_text (first_taken n bytes h ∙ e)
+
+fault_of : (f f' : CanonFault) → ◌≡◌ {A = Result (Unit {0}) CanonFault} (Err f) (Err f') → f ≡ f'
+fault_of f f' e = cc
+
+-- a buffer that wasn't made long enough
+pub tells_err : (m : List (List ℕ)) (old new : List ℕ) (fault : CanonFault) → MakesEnough m old (Err fault) new → TellsOver m old (Err fault) new
+tells_err m old new fault (no_copy s w f e g) = has_capability s w f (ap Err (fault_of fault (HasCapability s w) e)) g
+tells_err m old new fault (refused words h l e g) = no_memory words h l (ap Err (fault_of fault Memory e)) g
+tells_err m old new fault (enough words h l e g) = absurd (cc)
+tells_err m old new fault (made words h l e g) = absurd (cc)
+
+-- one that is long enough, for this copy
+pub enough_of : (m : List (List ℕ)) (old new : List ℕ) → MakesEnough m old (Ok tt) new
+    → (words : List ℕ) × HasCopy m words × (8 * length words ≤ length new)
+enough_of m old new (no_copy s w f e g) = absurd (cc)
+enough_of m old new (refused words h l e g) = absurd (cc)
+enough_of m old new (enough words h l e g) = (words, h, omega (arith, l, length_plain words, ap length g))
+enough_of m old new (made words h l e g) = (words, h, omega (arith, length_plain words, g))
+
+-- and so for what is laid
+pub enough_for : (m : List (List ℕ)) (old new : List ℕ) → MakesEnough m old (Ok tt) new
+    → (t : _) (c d : ℕ) → Denotes m 0 0 t c d → 8 * length (layout (trim t)) ≤ length new
+enough_for m old new e t c d h =
+    let x = enough_of m old new e in
+    omega (arith, x.2, copy_length m x.0 t c d x.1 h)
+
+-- n words were written at the start of it
+module _ (m : List (List ℕ)) (old mid new : List ℕ) (n : ℕ) (same : length new ≡ length mid)
+    (counts : (t : _) (c d : ℕ) → Denotes m 0 0 t c d → n ≡ length (layout (trim t)))
+    (writes : (t : _) (c d : ℕ) → Denotes m 0 0 t c d → first_words (length (layout (trim t))) new ≡ layout (trim t))
+    (texts : (t : _) (c d : ℕ) → Denotes m 0 0 t c d → take (8 * length (layout (trim t))) new ≡ plain_text (layout (trim t))) where
+  text_of : (words : List ℕ) → HasCopy m words → (n ≡ length words) × (take (length (plain_text words)) new ≡ plain_text words)
+  text_of words h = (
+    counts h.tree h.charge h.depth h.denotes ∙ ap length (sym h.laid),
+    ap (λ (k : ℕ). take k new) (length_plain words)
+        ∙ (ap (λ (ws : List ℕ). take (8 * length ws) new) h.laid ∙ (texts h.tree h.charge h.depth h.denotes ∙ ap plain_text (sym h.laid))),
+  )
+
+  pub tells_ok : MakesEnough m old (Ok tt) mid → TellsOver m old (Ok (8 * n)) new
+  tells_ok (no_copy s w f e g) = absurd (cc)
+  tells_ok (refused words h l e g) = absurd (cc)
+  tells_ok (enough words h l e g) =
+      let x = text_of words h in
+      over words h l (ap Ok (omega (arith, length_plain words, x.0))) x.1 (same ∙ ap length g)
+  tells_ok (made words h l e g) =
+      let x = text_of words h in
+      grown words h l (ap Ok (omega (arith, length_plain words, x.0))) x.1 (same ∙ g)
+
+  pub within_ok : MakesEnough m old (Ok tt) mid → 8 * n ≤ length new
+  within_ok e =
+      let x = enough_of m old mid e in
+      omega (arith, x.2, same, (text_of x.0 x.1).0)
+
+  pub copy_ok : MakesEnough m old (Ok tt) mid → HasCopy m (plain_words (take (8 * n) new))
+  copy_ok e =
+      let x = enough_of m old mid e in
+      copy_of m x.0 (plain_words (take (8 * n) new)) x.1
+      (λ t c d h. first_taken n new (within_ok e) ∙ (ap (λ (k : ℕ). first_words k new) (counts t c d h) ∙ writes t c d h))

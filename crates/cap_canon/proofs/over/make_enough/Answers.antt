@@ -1,0 +1,43 @@
+-- Enough for every copy, no copy, enough for this one, and a new buffer.
+use Rattle.std.proofs.Common.{◌*◌, ◌≡◌, ◌∙◌, Err, ap, arith, length, refl, sym, ℕ}
+use Rattle.cap_spec.specs.Canonical.{layout, trim}
+use Rattle.cap_spec.specs.Plain.{plain_text}
+use Rattle.cap_spec.proofs.Bytes.Plain.{length_plain}
+use Rattle.cap_vet.specs.Vettings.{message_of}
+use Rattle.cap_canon.specs.CopyOvers.{enough, made, no_copy, refused}
+use Rattle.cap_canon.proofs.Copies.{copy_charged, has_copy}
+use Rattle.cap_canon.proofs.Overs.{is_none}
+use Rattle.cap_canon.proofs.over.make_enough.Goals as goal
+
+pub returns-then-len-report : goal.returns-then-len-report
+returns-then-len-report g c =
+    let m = g.M.Segments.segments (message_of c.args.v.now) in
+    let r = c.report-report.result in
+    let k = c.report-report.ensures.accepted in
+    let words = layout (trim k.0) in
+    let h = has_copy m r k.0 k.1 (is_none r.first_cap c.if-is_none.ensures) in
+    let few = copy_charged m k.0 r.charge r.depth words k.1.denotes h in
+    enough words h (omega (arith, few, length_plain words, c.if-len-report.true, c.len.ensures)) refl refl
+
+pub returns-in-Err : goal.returns-in-Err
+returns-in-Err g c =
+    let h = c.in-Err.ensures.err in
+    no_copy h.0 h.1 h.3 (ap Err h.2) refl
+
+pub returns-then-len-count : goal.returns-then-len-count
+returns-then-len-count g c =
+    let h = c.in-Ok.ensures.ok in
+    let long : length (plain_text h.0) ≡ 8 * c.in-Ok.words = length_plain h.0 ∙ ap (λ (k : ℕ). 8 * k) (sym h.2) in
+    enough h.0 h.1 (omega (arith, long, c.if-len-count.true, c.len-2.ensures)) refl refl
+
+pub returns-in-Ok-replace_zeros : goal.returns-in-Ok-replace_zeros
+returns-in-Ok-replace_zeros g c =
+    let h = c.in-Ok.ensures.ok in
+    let long : length (plain_text h.0) ≡ 8 * c.in-Ok.words = length_plain h.0 ∙ ap (λ (k : ℕ). 8 * k) (sym h.2) in
+    made h.0 h.1 (omega (arith, long, c.if-len-count.false, c.len-2.ensures)) refl (c.in-Ok-replace_zeros.ensures.ok ∙ sym long)
+
+pub returns-in-Err-replace_zeros : goal.returns-in-Err-replace_zeros
+returns-in-Err-replace_zeros g c =
+    let h = c.in-Ok.ensures.ok in
+    let long : length (plain_text h.0) ≡ 8 * c.in-Ok.words = length_plain h.0 ∙ ap (λ (k : ℕ). 8 * k) (sym h.2) in
+    refused h.0 h.1 (omega (arith, long, c.if-len-count.false, c.len-2.ensures)) refl c.in-Err-replace_zeros.ensures.err

@@ -1,0 +1,86 @@
+//! The canonical copy of a message, over the buffer of an earlier one.
+
+ghost use Rattle.cap_canon.specs.CopyOvers.{MakesEnough, TellsOver};
+ghost use Rattle.cap_spec.specs.Copies.{HasCopy};
+ghost use Rattle.cap_spec.specs.Plain.{plain_words};
+ghost use Rattle.cap_vet.specs.Vettings.{message_of, report_of};
+ghost use Rattle.std.specs.Prelude.{◌*◌, ◌+◌, ◌≡◌, ◌≤◌, [], IfErr, IfOk, length, take};
+
+use crate::fault::CanonFault;
+use crate::length::canonical_len;
+use crate::word_bytes::fill_front;
+use cap_frame::Segments;
+use cap_vet::Vetted;
+use std::alloc::{AllocError, Global};
+
+/// Writes the canonical copy of a message over the start of a buffer as bytes, eight a word, the
+/// lowest byte first, and returns how many these are (encoding: Canonicalization, 64-bit Words).
+/// The bytes of the buffer after the copy may be any.
+///
+/// Allocates only if the copy has more bytes than the buffer: the buffer is freed, and one of just
+/// the length of the copy allocated. Its length isn't computed first if the buffer has eight bytes
+/// for each word of the charge and eight more, because every copy fits these.
+///
+/// # Errors
+///
+/// - [`CanonFault::HasCapability`]: a capability is reached, so there is no copy. The error names
+///   the first in preorder. The buffer is as it was.
+/// - [`CanonFault::Memory`]: there is a copy, and the allocation failed. The buffer is empty.
+pub fn canonical_over<M: Segments>(
+    alloc: Global,
+    v: &Vetted<'_, M>,
+    buffer: &mut Vec<u8>,
+) -> Result<usize, CanonFault>
+    ensures tells { let m = M.segments (message_of v.now) in
+        TellsOver m buffer.old.items result buffer.new.items }
+    // What was written is the copy, within the buffer.
+    ensures ok { let m = M.segments (message_of v.now) in IfOk result (λ count.
+        HasCopy m (plain_words (take count buffer.new.items))) }
+    ensures within { IfOk result (λ count. count ≤ length buffer.new.items) }
+    ensures few { IfOk result (λ count. count ≤ 8 * ((report_of v.now).charge + 1)) }
+{
+    if let Err(fault) = make_enough(alloc, v, buffer) {
+        return Err(fault);
+    }
+    let words = fill_front(v.message(), v.report().depth, buffer.as_mut_slice());
+    Ok(8 * words)
+}
+
+// Makes sure that a buffer has as many bytes as the copy.
+fn make_enough<M: Segments>(
+    alloc: Global,
+    v: &Vetted<'_, M>,
+    buffer: &mut Vec<u8>,
+) -> Result<(), CanonFault>
+    ensures { let m = M.segments (message_of v.now) in
+        MakesEnough m buffer.old.items result buffer.new.items }
+{
+    let report = v.report();
+    if report.first_cap.is_none() && buffer.len() >= 8 * (report.charge as usize + 1) {
+        return Ok(());
+    }
+    let words = match canonical_len(v) {
+        Ok(words) => words,
+        Err(fault) => return Err(fault),
+    };
+    let count = 8 * words as usize;
+    if buffer.len() >= count {
+        return Ok(());
+    }
+    match replace_zeros(alloc, buffer, count) {
+        Ok(()) => Ok(()),
+        Err(_) => Err(CanonFault::Memory),
+    }
+}
+
+// Frees a buffer, and makes one of `count` zeros in its place.
+fn replace_zeros(alloc: Global, buffer: &mut Vec<u8>, count: usize) -> Result<(), AllocError>
+    ensures ok { IfOk result (λ _. length buffer.new.items ≡ count) }
+    ensures err { IfErr result (λ _. buffer.new.items ≡ []) }
+{
+    *buffer = Vec::new(alloc);
+    *buffer = Vec::with_capacity(alloc, count)?;
+    // within what was reserved, so that nothing grows
+    buffer.resize(count, 0).unwrap();
+    Ok(())
+}
