@@ -1,6 +1,6 @@
 -- Copies that are put one after the other.
-use Rattle.std.proofs.Common.{◌≡◌, ◌∙◌, ℕ, ◌+◌, ◌<◌, true, inr, Result, Ok, Err, IsErrOf}
-use Rattle.std.proofs.Common.{List, [], ◌∷◌, ◌++◌, refl, sym, ap, subst, arith, append_assoc, append-nil, length-append}
+use Rattle.std.proofs.Common.{◌≡◌, ◌∙◌, ℕ, ◌+◌, ◌<◌, true, inr, Result, Ok, Err}
+use Rattle.std.proofs.Common.{List, [], ◌∷◌, ◌++◌, refl, sym, ap, subst, arith, append_assoc, append-nil, length, length-append}
 use Rattle.std.proofs.lemmas.Bool.{false≢true}
 use Rattle.std.proofs.lemmas.List.{map-append}
 use Rattle.std.proofs.lemmas.Grind.{flat_map-append}
@@ -18,25 +18,34 @@ use Rattle.cap_frame.specs.Putting.{Blames, Halts}
 use Rattle.cap_frame.proofs.Putting.{begins_kept, blames_later}
 use Rattle.cap_vet.specs.Demands.{IsDemandFault}
 use Rattle.cap_vet.specs.declared.demands.Demands.{Demands}
+use Rattle.cap_canon.specs.CopyOvers.{TellsOver, grown, has_capability, no_memory, over}
 use Rattle.cap_canon.specs.declared.fault.CanonFault.{CanonFault}
 use Rattle.cap_canon.specs.declared.fault.CanonFault.TheVariants.{HasCapability, Memory}
+use Rattle.cap_canon.proofs.Copies.{cap_no_copy}
 use Rattle.cap_run.specs.Canons.{CanonEnds, Canonised, HasNoCopy, IsCanonised, canonised, copies_of}
 use Rattle.cap_run.specs.Copying.{Fills}
 use Rattle.cap_run.specs.Making.{CopiesSoFar, CopyStops, Made, Making, NextStops, StopsMaking}
 use Rattle.cap_run.specs.Making.{is_unfinished, refused_cause}
-use Rattle.cap_run.specs.Streams.{ReadsStream}
+use Rattle.cap_run.specs.Running.{EndStops}
+use Rattle.cap_run.specs.Streams.{EndsStream, ReadsStream}
+use Rattle.std.specs.Prelude.{IfErr, OnOk}
 use Rattle.cap_text.specs.declared.fault.Cause.{Cause}
 use Rattle.cap_text.specs.declared.fault.Cause.TheVariants.{TooManyMessages, Frame, Output, Refused, NotStrict, Canon}
 use Rattle.cap_text.specs.declared.fault.Cause.TheVariants.{Memory as no_marks}
 use Rattle.cap_run.proofs.Copying.{fills_both, fills_none, spoils_last}
 use Rattle.cap_run.proofs.Streams.{reads_both, reads_none}
 
--- what the two clauses on faults say of the one that came
-pub has_no_copy : {T : Type 0} (m : List (List ℕ)) (r : Result T CanonFault) (fault : CanonFault) → r ≡ Err fault
-    → ((s w : ℕ) → IsErrOf r (HasCapability s w) → IsFirstCap m s w)
-    → (IsErrOf r Memory → (s w : ℕ) → ¬ IsFirstCap m s w) → HasNoCopy m fault
-has_no_copy m r (HasCapability s w) e cap memory = cap s w e
-has_no_copy m r Memory e cap memory = memory e
+-- equal faults, whatever the results would be
+fault_of : (f f' : CanonFault) → ◌≡◌ {A = Result ℕ CanonFault} (Err f) (Err f') → f ≡ f'
+fault_of f f' e = cc
+
+-- what is told of the fault that came
+pub has_no_copy : (m : List (List ℕ)) (old new : List ℕ) (fault : CanonFault) → TellsOver m old (Err fault) new → HasNoCopy m fault
+has_no_copy m old new fault (has_capability s w f e g) = subst (HasNoCopy m) (sym (fault_of fault (HasCapability s w) e)) f
+has_no_copy m old new fault (no_memory words h l e g) =
+    subst (HasNoCopy m) (sym (fault_of fault Memory e)) (λ s w f. cap_no_copy m s w words f h)
+has_no_copy m old new fault (over words h l e t n) = absurd (cc)
+has_no_copy m old new fault (grown words h l e t n) = absurd (cc)
 
 module _ {K : Type 0} (gk : sink.Ghosts K) where
   -- a fault came behind other words
@@ -128,6 +137,33 @@ module _ {S K : Type 0} (gs : source.Ghosts S) (gk : sink.Ghosts K) (demands : D
     reads = w.reads;
     each = w.each;
     stops = stops_next most old mid new before between after n cause less w s;
+  }
+
+  stops_end : (most : ℕ) (mid new : S) (before after : K) (cs : List Canonised) (end : Result (Unit {0}) Cause) → length cs ≡ most
+      → Fills gk before after (copies_of cs) → OnOk end (EndsStream gs mid new) → IfErr end (λ cause. EndStops gs limit mid new cause)
+      → StopsMaking gs gk demands words depth limit most cs mid new before after end
+  stops_end most mid new before after cs (Ok ended) many f ok err = (ok, f)
+  stops_end most mid new before after cs (Err TooManyMessages) many f ok err = ((many, err.0, err.1), f)
+  stops_end most mid new before after cs (Err (Frame fault)) many f ok err = (err, f)
+  stops_end most mid new before after cs (Err (Output fault)) many f ok err = absurd err
+  stops_end most mid new before after cs (Err (Refused refusal)) many f ok err = absurd err
+  stops_end most mid new before after cs (Err (NotStrict fault)) many f ok err = absurd err
+  stops_end most mid new before after cs (Err (Canon fault)) many f ok err = absurd err
+  stops_end most mid new before after cs (Err no_marks) many f ok err = absurd err
+
+  -- as many copies were put as are allowed
+  pub making_ends : (most : ℕ) (old mid new : S) (before after : K) (n : ℕ) (end : Result (Unit {0}) Cause) → n ≡ most
+      → CopiesSoFar gs gk demands words depth limit old mid before after n
+      → OnOk end (EndsStream gs mid new) → IfErr end (λ cause. EndStops gs limit mid new cause)
+      → Making gs gk demands words depth limit most old new before after most end
+  making_ends most old mid new before after n end e w ok err = record {
+    cs = w.cs;
+    mid = mid;
+    many = w.many ∙ e;
+    few = omega arith;
+    reads = w.reads;
+    each = w.each;
+    stops = stops_end most mid new before after w.cs end (w.many ∙ e) w.fills ok err;
   }
 
   -- what is known before the sink is finished

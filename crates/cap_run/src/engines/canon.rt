@@ -15,7 +15,7 @@ ghost use Rattle.std.specs.Prelude.{◌*◌, ◌<◌, ◌≡◌, ◌^◌, [], �
 use crate::engines::stream::end_stream;
 use crate::fault::output_fault;
 use crate::settings::{Outcome, Settings};
-use cap_canon::canonical_bytes;
+use cap_canon::canonical_over;
 use cap_frame::{ByteMessage, Segments, read_into};
 use cap_spec::StrictRefusal;
 use cap_text::{Cause, RunFault};
@@ -60,12 +60,13 @@ fn refused_by(refusal: StrictRefusal) -> Cause
     }
 }
 
-/// Vets a message under demands, and puts its canonical copy to the sink. If the message doesn't
-/// meet them, or no copy can be made, nothing is put.
+/// Vets a message under demands, writes its canonical copy over the buffer of the last one, and puts
+/// it to the sink. If the message doesn't meet them, or no copy can be made, nothing is put.
 fn put_copy<K: WordSink, M: Segments>(
     alloc: Global,
     sink: &mut K,
     message: &M,
+    copy: &mut Vec<u8>,
     limits: Limits,
     demands: Demands,
 ) -> Result<(), Cause>
@@ -81,11 +82,11 @@ fn put_copy<K: WordSink, M: Segments>(
         Ok(vetted) => vetted,
         Err(refusal) => return Err(refused_by(refusal)),
     };
-    let copy = match canonical_bytes(alloc, &vetted) {
-        Ok(copy) => copy,
+    let count = match canonical_over(alloc, &vetted, copy) {
+        Ok(count) => count,
         Err(fault) => return Err(Cause::Canon(fault)),
     };
-    match put_framed(sink, &copy) {
+    match put_framed(sink, &copy[..count]) {
         Ok(()) => Ok(()),
         Err(fault) => Err(Cause::Output(output_fault(fault))),
     }
@@ -107,11 +108,12 @@ fn flush_before_waiting<S: WordSource, K: WordSink>(
     sink.flush()
 }
 
-/// Reads the next message into the buffer of the last one, and puts its copy. `false` if the stream
-/// ends before it.
+/// Reads the next message into the buffer of the last one, and puts its copy, for which there is a
+/// buffer too. `false` if the stream ends before it.
 fn put_next<S: WordSource, K: WordSink>(
     alloc: Global,
     message: &mut ByteMessage,
+    copy: &mut Vec<u8>,
     source: &mut S,
     sink: &mut K,
     settings: &Settings,
@@ -128,7 +130,8 @@ fn put_next<S: WordSource, K: WordSink>(
 {
     match read_into(alloc, source, settings.size, message) {
         Ok(true) => {
-            if let Err(cause) = put_copy(alloc, sink, &message.view(), settings.limits, demands) {
+            let view = message.view();
+            if let Err(cause) = put_copy(alloc, sink, &view, copy, settings.limits, demands) {
                 return Err(cause);
             }
             match flush_before_waiting(source, sink) {
@@ -155,8 +158,9 @@ fn put_copies<S: WordSource, K: WordSink>(
         source.old source.new sink.old sink.new result.0 result.1 }
 {
     let mut message = ByteMessage::blank(alloc);
+    let mut copy = Vec::new(alloc);
     for number in 0..settings.messages {
-        match put_next(alloc, &mut message, source, sink, settings, demands) {
+        match put_next(alloc, &mut message, &mut copy, source, sink, settings, demands) {
             Ok(true) => {}
             Ok(false) => return (number, Ok(())),
             Err(cause) => return (number, Err(cause)),
@@ -204,8 +208,8 @@ fn make_copies<S: WordSource, K: WordSink>(
 /// next message is buffered. The sink is finished at the end, and before an error is returned,
 /// unless the output failed. It is closed after the call in any case.
 ///
-/// Allocates to hold a message only if it is larger than all before it. Allocates each copy, and
-/// frees it once it is put. Both take eight bytes for each word.
+/// Allocates to hold a message only if it is larger than all before it, and to hold a copy only if
+/// it is longer than all before it. Both take eight bytes for each word.
 ///
 /// # Errors
 ///

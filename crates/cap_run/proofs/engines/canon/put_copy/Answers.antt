@@ -1,4 +1,5 @@
 use Rattle.std.proofs.Common.{arith, refl, subst}
+use Rattle.std.proofs.lemmas.List.{length-take-le}
 use Rattle.cap_vet.specs.Limits.{depth_of, words_of}
 use Rattle.cap_vet.specs.Vettings.{report_of}
 use Rattle.cap_run.specs.Canons.{HasNoCopy}
@@ -6,14 +7,13 @@ use Rattle.cap_run.proofs.Demanding.{under_few}
 use Rattle.cap_run.proofs.Making.{has_no_copy, stops_refused}
 use Rattle.cap_run.proofs.engines.canon.put_copy.Goals as goal
 
-pub returns-in-Err-canonical_bytes-clause-err : goal.returns-in-Err-canonical_bytes-clause-err
-returns-in-Err-canonical_bytes-clause-err g c = (
+pub returns-in-Err-canonical_over-clause-err : goal.returns-in-Err-canonical_over-clause-err
+returns-in-Err-canonical_over-clause-err g c = (
   report_of c.in-Ok.vetted,
   c.in-Ok.ensures.ok.0,
   c.in-Ok.ensures.ok.1.strict,
-  subst (λ m. HasNoCopy (g.M.Segments.segments m) c.in-Err-canonical_bytes.fault) c.in-Ok.ensures.message
-      (has_no_copy _ c.canonical_bytes.result c.in-Err-canonical_bytes.fault c.in-Err-canonical_bytes.is
-      c.canonical_bytes.ensures.cap c.canonical_bytes.ensures.memory),
+  subst (λ m. HasNoCopy (g.M.Segments.segments m) c.in-Err-canonical_over.fault) c.in-Ok.ensures.message
+      (has_no_copy _ c.args.copy.now.items c.canonical_over.new.buffer.items c.in-Err-canonical_over.fault c.in-Err-canonical_over.ensures.tells),
   refl,
 )
 
@@ -27,6 +27,7 @@ pub put_framed-requires : goal.put_framed-requires
 put_framed-requires g c =
     let under = under_few c.args.demands (g.M.Segments.segments c.args.message.now) (words_of c.args.limits) in
     let within = c.in-Ok.ensures.ok.0.1.within in
-    let few = c.in-Ok-canonical_bytes.ensures.few in
+    let few = c.in-Ok-canonical_over.ensures.few in
+    let front = length-take-le c.in-Ok-canonical_over.count c.canonical_over.new.buffer.items c.in-Ok-canonical_over.ensures.within in
     let most = c.args.limits.few in
-    rw c.deref.ensures.value (omega (arith, under, within, few, most))
+    rw c.deref.ensures.value (omega (arith, under, within, few, most, front))

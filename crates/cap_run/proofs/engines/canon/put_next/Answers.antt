@@ -9,7 +9,7 @@ use Rattle.cap_run.proofs.engines.canon.put_next.Goals as goal
 pub returns-in-Ok-clause-some : goal.returns-in-Ok-clause-some
 returns-in-Ok-clause-some g c = λ _.
     let r = c.in-Ok-true.ensures.read.message (cc) in
-    let put = rw c.view.ensures at c.in_default.ensures.ok in (
+    let put = rw c.view-view.ensures at c.in_default.ensures.ok in (
       record { message = _; copy = put.0 },
       reads_named g.S.WordSource (limit_of c.args.settings.now.size) c.args.source.now c.read_into.new.source _ r c.in-Ok-true.ensures.read.next.works,
       put.1,
@@ -19,7 +19,7 @@ returns-in-Ok-clause-some g c = λ _.
 pub returns-in-Err-flush_before_waiting-clause-err : goal.returns-in-Err-flush_before_waiting-clause-err
 returns-in-Err-flush_before_waiting-clause-err g c =
     let r = c.in-Ok-true.ensures.read.message (cc) in
-    let put = rw c.view.ensures at c.in_default.ensures.ok in (
+    let put = rw c.view-view.ensures at c.in_default.ensures.ok in (
       _,
       reads_named g.S.WordSource (limit_of c.args.settings.now.size) c.args.source.now c.read_into.new.source _ r c.in-Ok-true.ensures.read.next.works,
       (
@@ -35,7 +35,7 @@ returns-in-Err-put_copy-clause-err g c =
     let r = c.in-Ok-true.ensures.read.message (cc) in
     next_stops _ _ _ _ _ _ _ _ _ c.args.sink.now c.put_copy.new.sink c.in-Err-put_copy.cause
     (reads_named g.S.WordSource (limit_of c.args.settings.now.size) c.args.source.now c.read_into.new.source _ r c.in-Ok-true.ensures.read.next.works)
-    (rw c.view.ensures at c.in-Err-put_copy.ensures.err)
+    (rw c.view-view.ensures at c.in-Err-put_copy.ensures.err)
 
 pub returns-in-Err-put_copy-clause-some : goal.returns-in-Err-put_copy-clause-some
 returns-in-Err-put_copy-clause-some g c = λ e. absurd (cc)
