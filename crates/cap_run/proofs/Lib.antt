@@ -8,6 +8,8 @@ pub mod Handed
 pub mod Handing
 pub mod Judging
 pub mod Making
+pub mod Passing
 pub mod Settling
+pub mod Sifting
 pub mod Streams
 pub mod Telling

@@ -3,10 +3,12 @@ pub mod Checking
 pub mod Copying
 pub mod Demanding
 pub mod Engines
+pub mod Filtering
 pub mod Handed
 pub mod Making
 pub mod PuttingEnds
 pub mod Running
+pub mod Sifting
 pub mod Streams
 pub mod Telling
 pub mod Vetting

@@ -13,4 +13,6 @@ mod engines;
 #[cfg(test)]
 mod faults;
 #[cfg(test)]
+mod filters;
+#[cfg(test)]
 mod same;

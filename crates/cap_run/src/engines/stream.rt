@@ -107,7 +107,7 @@ fn output_fault_at(message: u32, fault: OutFault) -> RunFault
 }
 
 /// Counts one more message.
-fn count(outcome: Outcome, counted: Counted) -> Outcome
+pub(crate) fn count(outcome: Outcome, counted: Counted) -> Outcome
     requires messages { outcome.messages < 2 ^ 32 - 1 }
     requires refused { outcome.refused ≤ outcome.messages }
     requires noncanonical { outcome.noncanonical ≤ outcome.messages }

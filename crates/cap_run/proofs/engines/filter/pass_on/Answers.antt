@@ -1,0 +1,11 @@
+use Rattle.cap_spec.specs.Frames.{frame_text}
+use Rattle.cap_spec.specs.Plain.{plain_text}
+use Rattle.cap_frame.specs.Bytes.{cut}
+use Rattle.cap_text.proofs.Writing.{writes_kept}
+use Rattle.cap_run.proofs.engines.filter.pass_on.Goals as goal
+
+pub returns-in-Ok : goal.returns-in-Ok
+returns-in-Ok g c =
+    writes_kept g.O.ByteOut c.args.out.now c.write_frame.new.out c.flush.new.self c.flush.result
+    (plain_text (frame_text (cut c.args.message.now.sizes.now c.args.message.now.bytes.now))) c.in-Ok.ensures c.flush.ensures.bytes
+    c.flush.ensures.ok c.flush.ensures.device c.flush.ensures.memory c.flush.ensures.was_spent
