@@ -1,6 +1,5 @@
 //! Getters of messages that weren't vetted, under demands.
 
-ghost use Rattle.cap_path.specs.PathSteps.{AreLeft};
 ghost use Rattle.cap_spec.specs.Arriving.{ArrivesAt};
 ghost use Rattle.cap_spec.specs.Getting.{IsRefusedOnPath};
 ghost use Rattle.cap_spec.specs.Paths.{Spot as Where};
@@ -17,9 +16,9 @@ use crate::charged::{Arrival, at_root};
 use crate::demands::{Demands, limits_under};
 use crate::limits::Limits;
 use crate::path_strictness::strict_fault;
+use crate::step_source::StepSource;
 use crate::view::View;
 use cap_frame::Segments;
-use cap_path::PathSteps;
 use cap_spec::{Refusal, StrictRefusal};
 
 /// Follows a path in a message that needn't be vetted, under demands, and gives what it arrives at
@@ -37,32 +36,32 @@ use cap_spec::{Refusal, StrictRefusal};
 ///   pointer on the path is refused, and the message has 512 segments, or a pointer on the path has
 ///   a form in [`crate::Lax`]. The first one on the path is named. Its `pointers` counts the
 ///   pointers on the path up to it, that one included.
-pub fn get_with<'m, M: Segments>(
+pub fn get_with<'m, M: Segments, S: StepSource + Copy>(
     message: &'m M,
     limits: Limits,
     demands: Demands,
-    path: PathSteps<'_>,
+    path: S,
 ) -> Result<Option<View<'m, M>>, StrictRefusal>
     ensures meets { let m = M.segments message.now in
-        (steps : List Step) → AreLeft path.entry steps → IfOk result (λ _.
+        (steps : List Step) → S.gives path steps → IfOk result (λ _.
         MeetsOnPath demands m (words_of limits) (depth_of limits) steps) }
     ensures none { let m = M.segments message.now in
-        (steps : List Step) → AreLeft path.entry steps → IfOk result (λ o. IfNone o (
+        (steps : List Step) → S.gives path steps → IfOk result (λ o. IfNone o (
         (k : Kind) (t b n : ℕ) → ¬ ArrivesAt m steps k t b n)) }
     ensures some { let m = M.segments message.now in
-        (steps : List Step) → AreLeft path.entry steps → IfOk result (λ o. IfSome o (λ v.
+        (steps : List Step) → S.gives path steps → IfOk result (λ o. IfSome o (λ v.
         let place = kept_place v in
         ArrivesAt m steps (view_kind v) place.segment place.start place.words)) }
     ensures message { IfOk result (λ o. IfSome o (λ v. view_message v ≡ message.now)) }
     ensures err { let m = M.segments message.now in
-        (steps : List Step) → AreLeft path.entry steps →
+        (steps : List Step) → S.gives path steps →
         IfErr result (IsPathFault demands m (words_of limits) (depth_of limits) steps) }
     // The other direction.
     ensures accepts { let m = M.segments message.now in
-        (steps : List Step) → AreLeft path.entry steps →
+        (steps : List Step) → S.gives path steps →
         MeetsOnPath demands m (words_of limits) (depth_of limits) steps → IsOk result }
     ensures refuses { let m = M.segments message.now in
-        (steps : List Step) (r : StrictRefusal) → AreLeft path.entry steps →
+        (steps : List Step) (r : StrictRefusal) → S.gives path steps →
         IsPathFault demands m (words_of limits) (depth_of limits) steps r → result ≡ Err r }
 {
     let limits = limits_under(message, limits, demands);
@@ -84,19 +83,19 @@ pub fn get_with<'m, M: Segments>(
 }
 
 // Follows the path as far as it leads, and says whether something is at its end.
-fn along<M: Segments>(
+fn along<M: Segments, S: StepSource + Copy>(
     message: &M,
     words: u64,
     depth: u32,
-    path: PathSteps<'_>,
+    path: S,
 ) -> Result<(Arrival, bool), Refusal>
     ensures ends { let m = M.segments message.now in
-        (steps : List Step) → AreLeft path.entry steps →
+        (steps : List Step) → S.gives path steps →
         IfOk result (λ end. EndsAt m words depth steps end.0 end.1) }
     ensures arrived { let m = M.segments message.now in IfOk result (λ end.
         (steps : List Step) × (a : Where) × Arrives m words depth steps a end.0) }
     ensures err { let m = M.segments message.now in
-        (steps : List Step) → AreLeft path.entry steps →
+        (steps : List Step) → S.gives path steps →
         IfErr result (IsRefusedOnPath m words depth steps) }
 {
     let mut left = path;
@@ -104,7 +103,7 @@ fn along<M: Segments>(
         Ok(root) => root,
         Err(refusal) => return Err(refusal),
     };
-    while let Some(step) = left.next() {
+    while let Some(step) = left.next_step() {
         match at.step(message, words, depth, step) {
             Ok(Some(next)) => at = next,
             Ok(None) => return Ok((at, false)),

@@ -1,10 +1,10 @@
 -- The path is followed step by step.
 use Rattle.std.proofs.Common.{◌≡◌, ◌∙◌, ◌+◌, ◌++◌, ◌∷◌, [], List, Some, None, ap, arith, inr, refl, subst, sym, append_assoc, append-nil}
-use Rattle.cap_path.proofs.StepsLeft.{no_step_left, step_left}
 use Rattle.cap_spec.specs.Paths.{Spot, word}
 use Rattle.cap_spec.specs.declared.Step.{Step}
 use Rattle.cap_vet.specs.Charging.{Arrives}
 use Rattle.cap_vet.proofs.Charging.{arrives_low, fault_longer}
+use Rattle.cap_vet.proofs.StepsGiven.{no_step_given, step_given}
 use Rattle.cap_vet.proofs.getting.along.Goals as goal
 
 pub loop-step-init : goal.loop-step-init
@@ -32,7 +32,7 @@ loop-step-preserved g c =
       r.1,
       λ steps left.
           let k = h.3 steps left in
-          let n = step_left c.loop-step.left c.next.new.self c.next.result step k.0 c.in-Some.is c.next.ensures.some c.next.ensures.none k.2 in
+          let n = step_given g.S.StepSource.gives c.loop-step.left c.next_step.new.self c.next_step.result step k.0 c.in-Some.is c.next_step.ensures.some c.next_step.ensures.none k.2 in
           (n.0, k.1 ∙ ap (λ (ss : List Step). h.0 ++ ss) n.1 ∙ sym (append_assoc h.0 (step ∷ []) n.0), n.2),
     )
 
@@ -41,7 +41,7 @@ returns-in-Ok-None-clause-ends g c = λ steps left.
     let h = c.loop-step.invariant in
     let step = c.in-Some.step in
     let k = h.3 steps left in
-    let n = step_left c.loop-step.left c.next.new.self c.next.result step k.0 c.in-Some.is c.next.ensures.some c.next.ensures.none k.2 in
+    let n = step_given g.S.StepSource.gives c.loop-step.left c.next_step.new.self c.next_step.result step k.0 c.in-Some.is c.next_step.ensures.some c.next_step.ensures.none k.2 in
     record {
       done = h.0;
       step = step;
@@ -60,7 +60,7 @@ returns-in-Err-step-clause-err g c = λ steps left.
     let h = c.loop-step.invariant in
     let step = c.in-Some.step in
     let k = h.3 steps left in
-    let n = step_left c.loop-step.left c.next.new.self c.next.result step k.0 c.in-Some.is c.next.ensures.some c.next.ensures.none k.2 in
+    let n = step_given g.S.StepSource.gives c.loop-step.left c.next_step.new.self c.next_step.result step k.0 c.in-Some.is c.next_step.ensures.some c.next_step.ensures.none k.2 in
     let whole : (h.0 ++ step ∷ []) ++ n.0 ≡ steps =
     append_assoc h.0 (step ∷ []) n.0 ∙ sym (k.1 ∙ ap (λ (ss : List Step). h.0 ++ ss) n.1) in
     inr (fault_longer _ _ _ (h.0 ++ step ∷ []) n.0 steps c.in-Err-step.fault whole (c.in-Err-step.ensures.err h.0 h.1 h.2))
@@ -69,7 +69,7 @@ pub returns-clause-ends : goal.returns-clause-ends
 returns-clause-ends g c = λ steps left.
     let h = c.loop-step.invariant in
     let k = h.3 steps left in
-    let none = no_step_left c.loop-step.left c.next.new.self c.next.result k.0 c.in_default.is c.next.ensures.some k.2 in
+    let none = no_step_given g.S.StepSource.gives c.loop-step.left c.next_step.new.self c.next_step.result k.0 c.in_default.is c.next_step.ensures.some k.2 in
     let all : steps ≡ h.0 = k.1 ∙ ap (λ (ss : List Step). h.0 ++ ss) none ∙ append-nil h.0 in
     (h.1, subst (λ (ss : List Step). Arrives (g.M.Segments.segments c.args.message.now) c.args.words c.args.depth ss h.1 c.loop-step.at) (sym all) h.2)
 

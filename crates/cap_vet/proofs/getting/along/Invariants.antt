@@ -1,5 +1,4 @@
 use Rattle.std.proofs.Common.{◌≡◌, List, ◌++◌}
-use Rattle.cap_path.specs.PathSteps.{AreLeft, bytes_left}
 use Rattle.cap_spec.specs.Paths.{Spot}
 use Rattle.cap_spec.specs.declared.Step.{Step}
 use Rattle.cap_vet.specs.Charging.{Arrives}
@@ -8,7 +7,7 @@ use Rattle.cap_vet.proofs.getting.along.Given as goal
 abbrev pub invariant-loop-step : goal.invariant-loop-step
 invariant-loop-step g l =
     (done : List Step) × (a : Spot) × Arrives (g.M.Segments.segments l.message) l.words l.depth done a l.at
-    × ((steps : List Step) → AreLeft l.fn.path steps → (more : List Step) × (steps ≡ done ++ more) × AreLeft l.left more)
+    × ((steps : List Step) → g.S.StepSource.gives l.fn.path steps → (more : List Step) × (steps ≡ done ++ more) × g.S.StepSource.gives l.left more)
 
 abbrev pub decreases-loop-step : goal.decreases-loop-step
-decreases-loop-step g l = bytes_left l.left
+decreases-loop-step g l = g.S.StepSource.most l.left
