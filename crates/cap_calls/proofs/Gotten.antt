@@ -26,7 +26,7 @@ use Rattle.cap_calls.proofs.Answers.{one_returned, one_whole_told}
 use Rattle.cap_calls.proofs.OneNode.{one_node}
 
 -- of a path in a message
-one_gets : (path : List Step) (demands : Demands) (x y : CallNode) (m : List (List ℕ)) (w d : ℕ) (f g : Found)
+pub one_gets : (path : List Step) (demands : Demands) (x y : CallNode) (m : List (List ℕ)) (w d : ℕ) (f g : Found)
     → Gets path x demands m w d f → Gets path y demands m w d g → (f ≡ g) × (x ≡ y)
 one_gets path demands x y m w d f g (no_meeting r h e n) (no_meeting q k i o) =
     (e ∙ ap refused_found (one_path_fault demands m w d path r q h k) ∙ sym i, n ∙ sym o)
@@ -41,7 +41,7 @@ one_gets path demands x y m w d f g (a_node k t b z meets at e n) (a_node k' t' 
     (e ∙ sym i, n ∙ one_node m path k k' t b z t' b' z' at at' ∙ sym o)
 
 -- Bad limits are all that is found.
-limits_alone : {K : Type 0} {P : List (List ℕ) → ℕ → ℕ → Found → Type 0} (whole : Bool) (l : CallLimits) (bs : List ℕ)
+pub limits_alone : {K : Type 0} {P : List (List ℕ) → ℕ → ℕ → Found → Type 0} (whole : Bool) (l : CallLimits) (bs : List ℕ)
     (f : Found) → ¬ AreLimits l → TellsWhole whole K P l bs f → (f ≡ none_found BadLimits) × K
 limits_alone whole l bs f bad (trailing m x y t h more e k) = absurd (bad h.are_limits)
 limits_alone whole l bs f bad (tells only (without BadLimits h e k)) = (e, k)

@@ -10,6 +10,7 @@ pub mod MessageStages
 pub mod OneNode
 pub mod OneStop
 pub mod Packed
+pub mod RangeGotten
 pub mod Segments
 pub mod SeparateSegments
 pub mod SliceSegments

@@ -14,6 +14,7 @@ pub mod NodeCalls
 pub mod PackCalls
 pub mod SegmentCalls
 pub mod SegmentsCalls
+pub mod RangeCalls
 pub mod Slices
 pub mod PackedMessages
 pub mod PackedStreams

@@ -3,6 +3,7 @@
 pub(crate) mod canonical;
 pub(crate) mod frame;
 pub(crate) mod get;
+pub(crate) mod get_range;
 pub(crate) mod is_canonical;
 pub(crate) mod pack;
 pub(crate) mod pack_message;

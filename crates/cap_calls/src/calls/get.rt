@@ -81,7 +81,7 @@ fn find(bytes: &[u8], limits: &CallLimits, path: &[u8], node: &mut CallNode) -> 
 
 // Whether no limit is above its maximum, no flag is unknown, and the reserved fields are 0.
 // Of no bytes nothing else is found before bad limits.
-fn are_limits(limits: &CallLimits) -> bool
+pub(crate) fn are_limits(limits: &CallLimits) -> bool
     ensures { Decides result (AreLimits limits.now) }
 {
     match front(&[], limits) {
@@ -91,7 +91,7 @@ fn are_limits(limits: &CallLimits) -> bool
 }
 
 // What is found of a text that stops being a path at this byte.
-fn bad_path(at: usize) -> Found
+pub(crate) fn bad_path(at: usize) -> Found
     ensures { result ≡ bad_path_found at }
 {
     Found {
@@ -152,7 +152,7 @@ fn at_path<'b>(
 }
 
 // What is found of a path whose pointers meet the demands.
-fn path_answer(answer: Answer) -> Found
+pub(crate) fn path_answer(answer: Answer) -> Found
     ensures { result ≡ path_found answer }
 {
     Found {

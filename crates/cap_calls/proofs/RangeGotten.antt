@@ -1,0 +1,211 @@
+-- The bytes and the steps decide what the call for the nodes of a range finds.
+use Rattle.std.proofs.Common.{ℕ, ◌+◌, ◌<◌, ◌≤◌, ◌≡◌, ◌∙◌, ◌⊎◌, inl, inr, List, ap, arith, eqb, ext_get_or, get_or, length, length-set, refl, subst, sym}
+use Rattle.std.proofs.Common.{get_or-set_same, get_or-set_other}
+use Rattle.std.specs.Prelude.{Bool, true, false, not, slice_set}
+use Rattle.std.proofs.lemmas.Bool.Decides.{eqb_tells, leb_tells}
+use Rattle.cap_spec.specs.declared.Lax.{Lax}
+use Rattle.cap_spec.specs.declared.Lax.TheVariants as lax
+use Rattle.cap_spec.specs.declared.Reason.{Reason}
+use Rattle.cap_spec.specs.declared.Reason.TheVariants as reason
+use Rattle.cap_spec.specs.declared.Step.{Step}
+use Rattle.cap_spec.specs.declared.StrictRefusal.{StrictRefusal}
+use Rattle.cap_spec.specs.declared.StrictRefusal.TheVariants.{Refused, ManySegments, Pointer}
+use Rattle.cap_vet.specs.declared.demands.Demands.{Demands}
+use Rattle.cap_calls.specs.AnswerNumbers.{lax_answer, reason_answer, refusal_answer}
+use Rattle.cap_calls.specs.CallFindings.{refused_found}
+use Rattle.cap_calls.specs.CallFlags.{allows_trailing, demands_of}
+use Rattle.cap_calls.specs.CallNodes.{none_node}
+use Rattle.cap_calls.specs.NodeCalls.{Gets, bad_path_found, path_found}
+use Rattle.cap_calls.specs.RangeCalls.{AreSteps, EndsRange, GetsRange, IsBadStep, TellsRange, TellsSteps, bad_limits, bad_steps, full, kind_at, past, path_after, range, stops, unknown}
+use Rattle.cap_calls.specs.declared.answer.Answer.{Answer}
+use Rattle.cap_calls.specs.declared.answer.Answer.TheVariants.{Good, NoNode}
+use Rattle.cap_calls.specs.declared.found.Found.{Found}
+use Rattle.cap_calls.specs.declared.limits.CallLimits.{CallLimits}
+use Rattle.cap_calls.specs.declared.node.CallNode.{CallNode}
+use Rattle.cap_calls.specs.declared.report.CallReport.{CallReport}
+use Rattle.cap_calls.specs.declared.step.CallStep.{CallStep}
+use Rattle.cap_calls.proofs.Answers.{one_returned, one_whole_told}
+use Rattle.cap_calls.proofs.Gotten.{limits_alone, one_gets}
+
+-- A refusal isn't good.
+no_good_reason : (r : Reason) → reason_answer r ≡ Good → ⊥
+no_good_reason reason.NoRoot e = absurd (cc e)
+no_good_reason reason.Reserved e = absurd (cc e)
+no_good_reason reason.SegmentMissing e = absurd (cc e)
+no_good_reason reason.PadOutside e = absurd (cc e)
+no_good_reason reason.PadIsFar e = absurd (cc e)
+no_good_reason reason.PadNotFar e = absurd (cc e)
+no_good_reason reason.TagKind e = absurd (cc e)
+no_good_reason reason.TagOffset e = absurd (cc e)
+no_good_reason reason.OutOfSegment e = absurd (cc e)
+no_good_reason reason.CompositeTag e = absurd (cc e)
+no_good_reason reason.CompositeOverrun e = absurd (cc e)
+no_good_reason reason.DepthLimit e = absurd (cc e)
+no_good_reason reason.WordLimit e = absurd (cc e)
+
+no_good_lax : (what : Lax) → lax_answer what ≡ Good → ⊥
+no_good_lax lax.NullPad e = absurd (cc e)
+no_good_lax lax.EmptySegment e = absurd (cc e)
+no_good_lax lax.CapabilityPad e = absurd (cc e)
+
+no_good_refusal : (r : StrictRefusal) → refusal_answer r ≡ Good → ⊥
+no_good_refusal (Refused r) e = no_good_reason r.reason e
+no_good_refusal ManySegments e = absurd (cc e)
+no_good_refusal (Pointer what s w n) e = no_good_lax what e
+
+pub refused_not_good : (r : StrictRefusal) → refused_found r ≡ path_found Good → ⊥
+refused_not_good r e = no_good_refusal r (ap (λ (f : Found). f.answer) e)
+
+pub nothing_not_good : path_found NoNode ≡ path_found Good → ⊥
+nothing_not_good e = let f : NoNode ≡ Good = ap (λ (f : Found). f.answer) e in absurd (cc f)
+
+-- The first k nodes of a range were got, and the others are as they were.
+pub record RangeSoFar (path : ℕ → List Step) (old new : List CallNode) (demands : Demands) (m : List (List ℕ)) (words depth k : ℕ)
+    : Type 0 where
+  pub size : length new ≡ length old
+  pub nodes : (j : ℕ) → j < k → Gets (path j) (get_or new j none_node) demands m words depth (path_found Good)
+  pub rest : (j : ℕ) → k ≤ j → get_or new j none_node ≡ get_or old j none_node
+
+module _ (path : ℕ → List Step) (old : List CallNode) (demands : Demands) (m : List (List ℕ)) (w d : ℕ) where
+  pub none_so_far : RangeSoFar path old old demands m w d 0
+  none_so_far = record { size = refl; nodes = λ j l. absurd (omega (arith, l)); rest = λ j l. refl }
+
+  -- one node more
+  pub more_so_far : (new after : List CallNode) (k : ℕ) (node : CallNode) → RangeSoFar path old new demands m w d k
+      → k < length new → Gets (path k) node demands m w d (path_found Good) → after ≡ slice_set new k node
+      → RangeSoFar path old after demands m w d (k + 1)
+  more_so_far new after k node so lt gets is =
+      subst (λ (xs : List CallNode). RangeSoFar path old xs demands m w d (k + 1)) (sym is)
+      record {
+        size = length-set new k node ∙ so.size;
+        nodes = λ j l. at j l (eqb_tells j k);
+        rest = λ j l. get_or-set_other new k j node none_node (λ e. omega (arith, l, e)) ∙ so.rest j (omega (arith, l));
+      }
+    where
+      at : (j : ℕ) → j < k + 1 → (((eqb j k) ≡ true) × (j ≡ k)) ⊎ (((eqb j k) ≡ false) × (j ≡ k → ⊥))
+          → Gets (path j) (get_or (slice_set new k node) j none_node) demands m w d (path_found Good)
+      at j l (inl h) =
+          subst (λ (i : ℕ). Gets (path i) (get_or (slice_set new k node) i none_node) demands m w d (path_found Good)) (sym h.1)
+          (subst (λ (x : CallNode). Gets (path k) x demands m w d (path_found Good)) (sym (get_or-set_same new k node none_node lt)) gets)
+      at j l (inr h) =
+          subst (λ (x : CallNode). Gets (path j) x demands m w d (path_found Good)) (sym (get_or-set_other new k j node none_node h.1))
+          (so.nodes j (let ne = h.1 in grind (arith, l, ne)))
+
+  -- all nodes
+  pub range_full : (new : List CallNode) (k : ℕ) (f : Found) → RangeSoFar path old new demands m w d k → k ≡ length old
+      → f ≡ record (path_found Good) { count = k } → GetsRange path old new demands m w d f
+  range_full new k f so all e =
+      let count : f.count ≡ k = ap (λ (x : Found). x.count) e in
+      record {
+        size = so.size;
+        nodes = λ j l. so.nodes j (omega (arith, l, count));
+        rest = λ j l. so.rest j (omega (arith, l, count));
+        end = full (e ∙ ap (λ (n : ℕ). record (path_found Good) { count = n }) all);
+      }
+
+  -- the first path without one
+  pub range_stops : (new : List CallNode) (k : ℕ) (f g : Found) → RangeSoFar path old new demands m w d k → k < length old
+      → Gets (path k) none_node demands m w d g → (g ≡ path_found Good → ⊥) → f ≡ record g { count = k }
+      → GetsRange path old new demands m w d f
+  range_stops new k f g so lt gets other e =
+      let count : f.count ≡ k = ap (λ (x : Found). x.count) e in
+      record {
+        size = so.size;
+        nodes = λ j l. so.nodes j (omega (arith, l, count));
+        rest = λ j l. so.rest j (omega (arith, l, count));
+        end = stops (omega (arith, lt, count)) g
+            (subst (λ (i : ℕ). Gets (path i) none_node demands m w d g) (sym count) gets) other
+            (e ∙ ap (λ (n : ℕ). record g { count = n }) (sym count));
+      }
+
+  -- A range doesn't stop where another has a node.
+  not_before : (x y : List CallNode) (f g : Found) → GetsRange path old x demands m w d f → GetsRange path old y demands m w d g
+      → g.count < f.count → f.count ≤ length old → ⊥
+  not_before x y f g a b lt le = by_end b.end
+    where
+      by_end : EndsRange path (length old) demands m w d g → ⊥
+      by_end (full e) = let n : g.count ≡ length old = ap (λ (z : Found). z.count) e in omega (arith, n, lt, le)
+      by_end (stops l h gets other e) =
+          other (sym (one_gets (path g.count) demands (get_or x g.count none_node) none_node m w d (path_found Good) h (a.nodes g.count lt) gets).0)
+
+  within_count : (f : Found) → EndsRange path (length old) demands m w d f → f.count ≤ length old
+  within_count f (full e) = let n : f.count ≡ length old = ap (λ (z : Found). z.count) e in omega (arith, n)
+  within_count f (stops l h gets other e) = omega (arith, l)
+
+  one_count : (x y : List CallNode) (f g : Found) → GetsRange path old x demands m w d f → GetsRange path old y demands m w d g
+      → f.count ≡ g.count
+  one_count x y f g a b = elim (leb_tells f.count g.count) [
+    | inl le ↦ elim (leb_tells g.count f.count) [
+      | inl ge ↦ (let p = le.1 in let q = ge.1 in omega (arith, p, q))
+      | inr lt ↦ absurd (not_before y x g f b a lt.1 (within_count g b.end))
+    ]
+    | inr lt ↦ absurd (not_before x y f g a b lt.1 (within_count f a.end))
+  ]
+
+  one_end : (f g : Found) → f.count ≡ g.count → EndsRange path (length old) demands m w d f
+      → EndsRange path (length old) demands m w d g → f ≡ g
+  one_end f g n (full e) (full i) = e ∙ sym i
+  one_end f g n (full e) (stops l h gets other i) =
+      let c : f.count ≡ length old = ap (λ (z : Found). z.count) e in absurd (omega (arith, c, n, l))
+  one_end f g n (stops l h gets other e) (full i) =
+      let c : g.count ≡ length old = ap (λ (z : Found). z.count) i in absurd (omega (arith, c, n, l))
+  one_end f g n (stops l h gets other e) (stops k j also none i) =
+      let there = subst (λ (c : ℕ). Gets (path c) none_node demands m w d j) (sym n) also in
+      let same = (one_gets (path f.count) demands none_node none_node m w d h j gets there).0 in
+      e ∙ ap (λ (z : Found). record z { count = f.count }) same ∙ ap (λ (c : ℕ). record j { count = c }) n ∙ sym i
+
+  pub one_range : (x y : List CallNode) (f g : Found) → GetsRange path old x demands m w d f
+      → GetsRange path old y demands m w d g → (f ≡ g) × (x ≡ y)
+  one_range x y f g a b =
+      let n = one_count x y f g a b in (
+        one_end f g n a.end b.end,
+        ext_get_or none_node x y (a.size ∙ sym b.size) (λ k low. elim (leb_tells f.count k) [
+          | inl le ↦ (let l = le.1 in a.rest k l ∙ sym (b.rest k (omega (arith, l, n))))
+          | inr lt ↦ (let l = lt.1 in
+              (one_gets (path k) demands (get_or x k none_node) (get_or y k none_node) m w d (path_found Good) (path_found Good)
+              (a.nodes k l) (b.nodes k (omega (arith, l, n)))).1)
+        ]),
+      )
+
+-- Steps are bad in one way, and aren't good then.
+one_bad_step : (steps : List CallStep) (v a b : ℕ) → IsBadStep steps v a → IsBadStep steps v b → a ≡ b
+one_bad_step steps v a b (unknown l h first) (unknown k i also) = elim (leb_tells a b) [
+  | inl le ↦ elim (leb_tells b a) [
+    | inl ge ↦ (let p = le.1 in let q = ge.1 in omega (arith, p, q))
+    | inr lt ↦ (let no = also a lt.1 in absurd (omega (arith, no, h)))
+  ]
+  | inr lt ↦ (let no = first b lt.1 in absurd (omega (arith, no, i)))
+]
+one_bad_step steps v a b (unknown l h first) (past all k i) = (let no = all a l in absurd (omega (arith, no, h)))
+one_bad_step steps v a b (past all l e) (unknown k h first) = (let no = all b k in absurd (omega (arith, no, h)))
+one_bad_step steps v a b (past all l e) (past also k i) = e ∙ sym i
+
+good_steps : (steps : List CallStep) (v a : ℕ) → AreSteps steps v → IsBadStep steps v a → ⊥
+good_steps steps v a are (unknown l h first) = (let no = are.known a l in omega (arith, no, h))
+good_steps steps v a are (past all l e) = (let i = are.inside in omega (arith, i, l))
+
+module _ (l : CallLimits) (bs : List ℕ) (steps : List CallStep) (v : ℕ) (old : List CallNode) where
+  one_told_steps : (x y : List CallNode) (f g : Found) → TellsSteps l bs steps v old x f → TellsSteps l bs steps v old y g
+      → (f ≡ g) × (x ≡ y)
+  one_told_steps x y f g (bad_limits h e n) (bad_limits k i o) = (e ∙ sym i, n ∙ sym o)
+  one_told_steps x y f g (bad_limits h e n) (bad_steps at are bad i o) = absurd (h are)
+  one_told_steps x y f g (bad_limits h e n) (range are t) =
+      (let u = limits_alone (not (allows_trailing l)) l bs g h t in (e ∙ sym u.0, n ∙ sym u.1))
+  one_told_steps x y f g (bad_steps at are bad e n) (bad_limits k i o) = absurd (k are)
+  one_told_steps x y f g (bad_steps at are bad e n) (bad_steps at' are' bad' i o) =
+      (e ∙ ap bad_path_found (one_bad_step steps v at at' bad bad') ∙ sym i, n ∙ sym o)
+  one_told_steps x y f g (bad_steps at are bad e n) (range good t) = absurd (good_steps steps v at good bad)
+  one_told_steps x y f g (range are t) (bad_limits k i o) =
+      (let u = limits_alone (not (allows_trailing l)) l bs f k t in (u.0 ∙ sym i, u.1 ∙ sym o))
+  one_told_steps x y f g (range good t) (bad_steps at are bad i o) = absurd (good_steps steps v at good bad)
+  one_told_steps x y f g (range good t) (range also u) =
+      one_whole_told {S = x ≡ y} (not (allows_trailing l)) l bs f g (λ a b. a ∙ sym b)
+      (λ m a b r s. one_range (λ k. path_after steps v k) old (demands_of l) m l.charge l.depth x y a b r s) t u
+
+  pub one_range_told : (a b : Answer) (p q : ℕ) (x y : List CallNode) (r s : CallReport)
+      → TellsRange l bs steps v old a p x r → TellsRange l bs steps v old b q y s
+      → (a ≡ b) × (p ≡ q) × (x ≡ y) × (r ≡ s)
+  one_range_told a b p q x y r s (f, t, h, n) (g, u, k, o) =
+      let same = one_told_steps x y f g t u in
+      let one = one_returned f g a b r s same.0 h k in
+      (one.0, n ∙ ap (λ (z : Found). z.count) same.0 ∙ sym o, same.1, one.1)

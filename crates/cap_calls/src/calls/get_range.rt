@@ -1,0 +1,175 @@
+//! The call for the nodes at the paths of a range.
+
+ghost use Rattle.cap_calls.specs.NodeCalls.{path_found};
+ghost use Rattle.cap_calls.specs.RangeCalls.{AreSteps, GetsRange, IsBadStep, TellsRange, TellsSteps, path_after};
+ghost use Rattle.cap_calls.specs.declared.answer.Answer.{Answer};
+ghost use Rattle.cap_calls.specs.declared.node.CallNode.{CallNode};
+ghost use Rattle.cap_calls.specs.declared.report.CallReport.{CallReport};
+ghost use Rattle.std.specs.Prelude.{◌≡◌, IfNone, IfSome, List, length, ℕ};
+
+use crate::answer::Answer;
+use crate::calls::get::{are_limits, bad_path, path_answer};
+use crate::found::Found;
+use crate::front::NoFrame;
+use crate::limits::CallLimits;
+use crate::node::CallNode;
+use crate::over::{Call, over};
+use crate::report::CallReport;
+use crate::step::CallStep;
+use cap_frame::{ByteView, Segments};
+use cap_vet::{Demands, Limits, Step, StepSource, get_with};
+
+/// Follows paths of which one step varies in the message that bytes are, and reports the node at
+/// each. Node k is at the path whose step `varying` has its number and k more. The steps that lead
+/// to it are given as numbers. Each node is what [`crate::get`] reports for its path, with the
+/// limits applied to each path by itself. No number wraps: where there is none so high, nothing is
+/// at the path. Allocates nothing.
+///
+/// `found` is how many nodes were reported. They are the first of `nodes`, and the others are
+/// unchanged. The first of these that applies is returned:
+/// - [`Answer::BadLimits`];
+/// - [`Answer::BadPath`], if the kind of a step is neither 0 nor 1, and `detail` is the first such
+///   step; or else if there is no step `varying`, and `detail` is the number of steps;
+/// - why there is no frame, or [`Answer::Trailing`], as for [`crate::vet`];
+/// - for the first path that has no node, what [`crate::get`] returns and reports for it;
+/// - [`Answer::Good`]: all nodes were found.
+///
+/// The report is written whole.
+pub fn get_range(
+    bytes: &[u8],
+    limits: &CallLimits,
+    steps: &[CallStep],
+    varying: usize,
+    nodes: &mut [CallNode],
+    found: &mut usize,
+    report: &mut CallReport,
+) -> Answer
+    ensures tells { TellsRange limits.now bytes.now steps.now varying nodes.old result found.new
+        nodes.new report.new }
+    // The bytes and the steps allow no other result.
+    ensures only { (a : Answer) (n : ℕ) (new : List CallNode) (r : CallReport) →
+        TellsRange limits.now bytes.now steps.now varying nodes.old a n new r →
+        (result ≡ a) × (found.new ≡ n) × (nodes.new ≡ new) × (report.new ≡ r) }
+{
+    let what = find(bytes, limits, steps, varying, nodes);
+    *found = what.count;
+    *report = what.report;
+    what.answer
+}
+
+// What the call finds.
+fn find(
+    bytes: &[u8],
+    limits: &CallLimits,
+    steps: &[CallStep],
+    varying: usize,
+    nodes: &mut [CallNode],
+) -> Found
+    ensures { TellsSteps limits.now bytes.now steps.now varying nodes.old nodes.new result }
+{
+    match bad_step(steps, varying) {
+        Some(at) => {
+            if are_limits(limits) {
+                bad_path(at)
+            } else {
+                Found::without(NoFrame::BadLimits)
+            }
+        }
+        None => {
+            let whole = !limits.allows_trailing();
+            over(&GettingRange { steps, varying }, whole, bytes, limits, nodes)
+        }
+    }
+}
+
+// Where the steps are no path of a range.
+fn bad_step(steps: &[CallStep], varying: usize) -> Option<usize>
+    ensures some { IfSome result (IsBadStep steps.now varying) }
+    ensures none { IfNone result (AreSteps steps.now varying) }
+{
+    'steps: for at in 0..steps.len() {
+        if steps[at].kind > 1 {
+            return Some(at);
+        }
+    }
+    if varying >= steps.len() {
+        return Some(steps.len());
+    }
+    None
+}
+
+// The steps that are left of a path of a range.
+#[derive(Clone, Copy, Drop)]
+struct RangeSteps<'s> {
+    rest: &'s [CallStep],
+    // which of them varies; if none is left that varies, `more` is 0
+    varying: usize,
+    // what is added to its number
+    more: u64,
+}
+
+impl<'s> StepSource for RangeSteps<'s> {
+    ghost gives = { λ left path. path ≡ path_after left.rest.now left.varying left.more };
+
+    ghost most = { λ left. length left.rest.now };
+
+    fn next_step(&mut self) -> Option<Step> {
+        if self.rest.is_empty() {
+            return None;
+        }
+        let step = self.rest[0];
+        self.rest = &self.rest[1..];
+        if self.varying > 0 {
+            self.varying -= 1;
+            return Some(step.after(0));
+        }
+        let more = self.more;
+        self.more = 0;
+        Some(step.after(more))
+    }
+}
+
+// The call on a message, for these steps.
+#[derive(Clone, Copy, Drop)]
+struct GettingRange<'s> {
+    steps: &'s [CallStep],
+    varying: usize,
+}
+
+impl<'s> Call for GettingRange<'s> {
+    type Item = CallNode;
+
+    ghost finds = { λ call demands m words depth old f new.
+        GetsRange (λ k. path_after call.steps.now call.varying k) old new demands m words depth f };
+
+    #[inline(never)]
+    fn on<'b>(
+        &self,
+        view: &ByteView<'b>,
+        _words: u64,
+        limits: Limits,
+        demands: Demands,
+        out: &mut [CallNode],
+    ) -> Found {
+        'nodes: for k in 0..out.len() {
+            let path = RangeSteps {
+                rest: self.steps,
+                varying: self.varying,
+                more: k as u64,
+            };
+            match get_with(view, limits, demands, path) {
+                Ok(Some(at)) => out[k] = CallNode::of(&at, view.count()),
+                Ok(None) => return stopped(path_answer(Answer::NoNode), k),
+                Err(refusal) => return stopped(Found::refused(refusal), k),
+            }
+        }
+        stopped(path_answer(Answer::Good), out.len())
+    }
+}
+
+// The same, with this many nodes found.
+fn stopped(found: Found, count: usize) -> Found
+    ensures { result ≡ record found { count = count } }
+{
+    Found { count, ..found }
+}

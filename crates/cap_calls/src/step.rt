@@ -1,0 +1,44 @@
+//! A step of a path, in numbers.
+
+ghost use Rattle.std.specs.Prelude.{◌+◌, ◌≡◌, ◌≤◌, min};
+
+use cap_vet::Step;
+
+/// A step of a path, laid out as C has it. A path of such steps is written `/p0/i7` as text.
+#[repr(C)]
+#[derive(Clone, Copy, Debug, PartialEq, Eq, Drop)]
+pub struct CallStep {
+    /// 0: to a pointer of a struct. 1: to an element of a list of pointers or structs.
+    pub kind: u32,
+    /// The number of the pointer or the element, from 0.
+    pub number: u32,
+}
+
+impl CallStep {
+    ghost use Rattle.cap_calls.specs.RangeCalls.{step_after};
+    ghost use Rattle.std.specs.Prelude.{◌≡◌};
+
+    // The step with this added to its number. Numbers stop at the highest of their kind, where
+    // nothing ever is.
+    pub(crate) fn after(self, more: u64) -> Step
+        ensures { result ≡ step_after self more }
+    {
+        if self.kind == 0 {
+            Step::Ptr(up_to(self.number, more, 65535) as u16)
+        } else {
+            Step::Item(up_to(self.number, more, 4294967295))
+        }
+    }
+}
+
+// The sum, or `most` if it is more.
+fn up_to(number: u32, more: u64, most: u32) -> u32
+    ensures sum { result ≡ min (number + more) most }
+    ensures within { result ≤ most }
+{
+    if number >= most || more >= u64::from(most - number) {
+        most
+    } else {
+        number + more as u32
+    }
+}
