@@ -233,6 +233,21 @@ def signs_from_rust(program):
     compare("sign of a stream, in Rust", refused, run([program, TOP / "examples/stream-of-four.bin", "sha256sum"]))
 
 
+def receives_from_rust(program, files, folder):
+    """The example that reads a packed stream writes what the program writes of it, also of a stream that is cut."""
+    packed = folder / "stream.packed"
+    for file in files:
+        # (the end of a cut stream may not be a whole word)
+        words = folder / "words.bin"
+        words.write_bytes(file.read_bytes()[:file.stat().st_size // 8 * 8])
+        text = verdicts([PROGRAM, "pack", words])[0]
+        for length in (len(text), len(text) * 2 // 3):
+            packed.write_bytes(text[:length])
+            wanted = verdicts([PROGRAM, "vet", "--packed", "--strict", "--unamplified", packed])
+            got = verdicts(["sh", "-c", 'exec "$0" < "$1"', program, packed])
+            compare(f"receive, of {length} packed bytes of {file.name}", wanted, got)
+
+
 def from_cplusplus(folder, environment, files):
     """The server that vets messages before it passes them to libcapnp."""
     if missing("the server in front of libcapnp", "c++"):
@@ -291,6 +306,7 @@ def from_rust(folder, environment, files):
     compare("cargo build of the example", ("", 0), built)
     same("the example in Rust", [folder / "target/debug/vet"], files)
     signs_from_rust(folder / "target/debug/sign")
+    receives_from_rust(folder / "target/debug/receive", files, folder)
 
 
 def main():

@@ -72,6 +72,7 @@ mod segments;
 mod sys;
 #[cfg(all(test, feature = "std"))]
 mod tests;
+mod unpacking;
 
 #[cfg(feature = "alloc")]
 pub use canonical::canonical;
@@ -89,6 +90,7 @@ pub use packing::{PackError, PackMessageError, UnpackError};
 pub use refusal::{FrameError, Reason, Refusal, VetError};
 pub use report::{Position, Report};
 pub use segments::{segments, vet_segments, Segments};
+pub use unpacking::{unpack_message, UnpackMessageError, Unpacking};
 
 use sys::Answer;
 

@@ -108,6 +108,16 @@ pub(crate) struct RawNode {
     pub(crate) reserved: [u64; 2],
 }
 
+/// `capvet_unpacking`.
+#[repr(C)]
+#[derive(Clone, Debug, Default, PartialEq, Eq)]
+pub(crate) struct RawUnpacking {
+    pub(crate) written: u64,
+    pub(crate) zero_words: u32,
+    pub(crate) literal_words: u32,
+    pub(crate) reserved: [u64; 2],
+}
+
 extern "C" {
     fn capvet_frame(
         bytes: *const u8,
@@ -187,6 +197,17 @@ extern "C" {
         limits: *const RawLimits,
         out: *mut u8,
         out_size: usize,
+        required: *mut usize,
+        report: *mut RawReport,
+    ) -> Answer;
+    fn capvet_unpack_message(
+        bytes: *const u8,
+        length: usize,
+        limits: *const RawLimits,
+        out: *mut u8,
+        out_size: usize,
+        state: *mut RawUnpacking,
+        consumed: *mut usize,
         required: *mut usize,
         report: *mut RawReport,
     ) -> Answer;
@@ -397,6 +418,48 @@ pub(crate) fn pack_message(
         )
     };
     (answer, required, report)
+}
+
+/// The result of `unpack_message`.
+pub(crate) struct Unpacked {
+    pub(crate) answer: Answer,
+    /// How many of the packed bytes are done with.
+    pub(crate) consumed: usize,
+    /// The length of the frame, or how many bytes `out` has to have.
+    pub(crate) required: usize,
+    pub(crate) report: RawReport,
+}
+
+/// Unpacks packed bytes to `out`, up to the end of a message.
+pub(crate) fn unpack_message(
+    packed: &[u8],
+    limits: &Limits,
+    out: &mut [u8],
+    state: &mut RawUnpacking,
+) -> Unpacked {
+    let (limits, mut report) = (RawLimits::of(limits), RawReport::default());
+    let (mut spare, mut consumed, mut required) = (0, 0, 0);
+    // SAFETY: the declaration is the header's. `packed` is borrowed for the call, `out` and `state` are borrowed mutably, and
+    // the numbers and structs are locals. No value of the state makes the call leave its buffers.
+    let answer = unsafe {
+        capvet_unpack_message(
+            address(packed),
+            packed.len(),
+            &limits,
+            address_mut(out, &mut spare),
+            out.len(),
+            state,
+            &mut consumed,
+            &mut required,
+            &mut report,
+        )
+    };
+    Unpacked {
+        answer,
+        consumed,
+        required,
+        report,
+    }
 }
 
 /// The version of the library, as one number.

@@ -195,6 +195,7 @@ fn in_rust(text: &str) -> String {
         "capvet_node" => "RawNode",
         "capvet_answer" => "Answer",
         "capvet_segment" => "RawSegment",
+        "capvet_unpacking" => "RawUnpacking",
         other => panic!("an unknown type {other}"),
     };
     match (text.strip_prefix("const "), text.strip_suffix(" *")) {
@@ -224,7 +225,7 @@ fn calls_are_declared_as_in_the_header() {
     let code = header();
     let declared = between(SYS, "extern \"C\" {", "\n}");
     let calls: Vec<_> = declared.split("fn ").skip(1).collect();
-    assert_eq!(calls.len(), 12);
+    assert_eq!(calls.len(), 13);
     for call in calls {
         let (name, here) = call.split_once('(').expect("parameters");
         let there = between(&code, &format!(" {name}("), ")");
@@ -256,6 +257,7 @@ fn structs_are_declared_as_in_the_header() {
         ("RawReport", "capvet_report"),
         ("RawSegment", "capvet_segment"),
         ("RawNode", "capvet_node"),
+        ("RawUnpacking", "capvet_unpacking"),
     ] {
         let fields = between(SYS, &format!("pub(crate) struct {here} {{"), "\n}");
         let fields: Vec<_> = fields
