@@ -32,14 +32,15 @@ build: build/capvet build/libcapvet.a
 build/capvet build/libcapvet.a &: $(SOURCES)
 	python3 tests/prove.py --code
 
-# Puts the program, its manual page and its completions under PREFIX, and the library with its header and what
-# pkg-config wants to know; builds first what has a newer source.
+# Puts the program and its completions under PREFIX, the library with its header and what pkg-config wants to know, and
+# the manual pages of both; builds first what has a newer source.
 install: $(BUILT_PROGRAM) $(BUILT_ARCHIVE)
 	@case '$(PREFIX)' in /*) ;; *) echo "PREFIX has to be a path from /, and is '$(PREFIX)'" >&2; exit 2;; esac
-	$(INSTALL) -d '$(DESTDIR)$(bindir)' '$(DESTDIR)$(mandir)/man1' '$(DESTDIR)$(completionsdir)'
+	$(INSTALL) -d '$(DESTDIR)$(bindir)' '$(DESTDIR)$(mandir)/man1' '$(DESTDIR)$(mandir)/man3' '$(DESTDIR)$(completionsdir)'
 	$(INSTALL) -d '$(DESTDIR)$(includedir)' '$(DESTDIR)$(libdir)' '$(DESTDIR)$(pkgconfigdir)'
 	$(INSTALL) -m 755 '$(BUILT_PROGRAM)' '$(DESTDIR)$(bindir)/capvet'
 	$(INSTALL) -m 644 docs/capvet.1 '$(DESTDIR)$(mandir)/man1/capvet.1'
+	$(INSTALL) -m 644 docs/capvet.3 '$(DESTDIR)$(mandir)/man3/capvet.3'
 	$(INSTALL) -m 644 completions/capvet.bash '$(DESTDIR)$(completionsdir)/capvet'
 	$(INSTALL) -m 644 include/capvet.h '$(DESTDIR)$(includedir)/capvet.h'
 	$(INSTALL) -m 644 '$(BUILT_ARCHIVE)' '$(DESTDIR)$(libdir)/libcapvet.a'
@@ -49,7 +50,8 @@ install: $(BUILT_PROGRAM) $(BUILT_ARCHIVE)
 
 # Takes away just these files, and leaves their folders.
 uninstall:
-	rm -f '$(DESTDIR)$(bindir)/capvet' '$(DESTDIR)$(mandir)/man1/capvet.1' '$(DESTDIR)$(completionsdir)/capvet'
+	rm -f '$(DESTDIR)$(bindir)/capvet' '$(DESTDIR)$(completionsdir)/capvet'
+	rm -f '$(DESTDIR)$(mandir)/man1/capvet.1' '$(DESTDIR)$(mandir)/man3/capvet.3'
 	rm -f '$(DESTDIR)$(includedir)/capvet.h' '$(DESTDIR)$(libdir)/libcapvet.a' '$(DESTDIR)$(pkgconfigdir)/capvet.pc'
 
 # Proves all crates and their tests, and then tests the built program and library as their users run them.

@@ -19,10 +19,11 @@ TOP = Path(__file__).resolve().parent.parent
 PROGRAM = Path(sys.argv[1] if len(sys.argv) > 1 else TOP / "build/capvet").resolve()
 ARCHIVE = Path(sys.argv[2] if len(sys.argv) > 2 else TOP / "build/libcapvet.a").resolve()
 COMPLETIONS = "share/bash-completion/completions/capvet"
-PAGE = "share/man/man1/capvet.1"
+PAGE, CALLS_PAGE = "share/man/man1/capvet.1", "share/man/man3/capvet.3"
 DESCRIPTION = "lib/pkgconfig/capvet.pc"
 # What is installed, its mode, and the file that it is a copy of, where it is one.
 FILES = {"bin/capvet": (0o755, PROGRAM), PAGE: (0o644, TOP / "docs/capvet.1"),
+         CALLS_PAGE: (0o644, TOP / "docs/capvet.3"),
          COMPLETIONS: (0o644, TOP / "completions/capvet.bash"), "include/capvet.h": (0o644, TOP / "include/capvet.h"),
          "lib/libcapvet.a": (0o644, ARCHIVE), DESCRIPTION: (0o644, None)}
 COMMANDS = ("segments", "vet", "dump", "get", "check", "canon", "pack", "unpack")
@@ -94,17 +95,40 @@ def installed(folder, prefix, *variables):
 
 
 def works(prefix):
-    """The installed program runs, its page is found and read without a warning, and its completions are loaded."""
+    """The installed program runs, and the manual pages are found and read without a warning."""
     program = prefix / "bin/capvet"
     compare("the installed program", (CONTACTS, 0), run([program, "vet", TOP / "examples/contacts.bin"]))
-    if not missing("that the manual page is found and read", "man"):
+    if not missing("that the manual pages are found and read", "man"):
         environment = {**os.environ, "LC_ALL": "C.UTF-8", "MANPATH": str(prefix / "share/man")}
         environment["PATH"] = f"{program.parent}:{os.environ['PATH']}"
-        text, status = run(["man", "--warnings", "capvet"], env={**environment, "MANWIDTH": "200"})
-        compare("man capvet", (True, 0), ("check untrusted Cap'n Proto messages without a schema" in text, status))
-        page = prefix / PAGE
-        text = run(["man", "--warnings", "-l", "-Tutf8", "-Z", page], env={**environment, "MANWIDTH": "80"})
-        compare("warnings of the manual page", [], [line for line in text[0].splitlines() if "warning" in line])
+        for section, name in (("1", PAGE), ("3", CALLS_PAGE)):
+            text, status = run(["man", "--warnings", section, "capvet"], env={**environment, "MANWIDTH": "200"})
+            found = f"CAPVET({section})" in text and "check untrusted Cap'n Proto messages without a schema" in text
+            compare(f"man {section} capvet", (True, 0), (found, status))
+            text = run(["man", "--warnings", "-l", "-Tutf8", "-Z", prefix / name], env={**environment, "MANWIDTH": "80"})
+            compare(f"warnings of {name}", [], [line for line in text[0].splitlines() if "warning" in line])
+
+
+def without_faces(line):
+    """The text of a line of a manual page in one face, or in two by turns."""
+    if line.startswith(".B "):
+        return line[3:]
+    return "".join(quoted or word for quoted, word in re.findall(r'"([^"]*)"|(\S+)', line[4:]))
+
+
+def calls():
+    """The page on the calls has each call of the header, with its parameters, and no other."""
+    header = re.sub(r"/\*.*?\*/", "", (TOP / "include/capvet.h").read_text(), flags=re.S)
+    declared = re.findall(r"^(?:CAPVET_INLINE )?((?:const )?\w+ \*?capvet_\w+\([^)]*\)) CAPVET_NOEXCEPT", header, re.M)
+    page = (TOP / "docs/capvet.3").read_text().replace("\\-", "-")
+    lines = page.partition(".SH SYNOPSIS\n")[2].partition(".SH ")[0].splitlines()
+    text = " ".join(without_faces(line) for line in lines if line.startswith((".B ", ".BI ")))
+    shown = re.findall(r"((?:const )?\w+ \*?capvet_\w+\([^)]*\));", text)
+    compare("calls of the header are found", True, len(declared) > 12)
+    compare("calls of the page", *(sorted(" ".join(call.split()) for call in calls) for calls in (declared, shown)))
+    for call in declared:
+        name = re.search(r"capvet_\w+(?=\()", call)[0]
+        compare(f"the page says what {name} does", True, re.search(rf"^\.TP\n\.BR? .*\b{name}\b", page, re.M) is not None)
 
 
 def options_of_help(command):
@@ -179,6 +203,7 @@ def main():
                 ("PREFIX has to be a path from /, and is 'usr'\n", False), (text.partition("make:")[0], status == 0))
         compare("files of a prefix that isn't whole", ["usr/bin/other"], list(files_of(stage)))
     options()
+    calls()
     examples()
     if not missing("what bash completes", "bash"):
         completions()

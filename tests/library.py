@@ -124,6 +124,19 @@ def from_c(folder, environment, files):
         for file in of_pages("c", folder):
             compare(f"{compiler} {file.name}", ("", 0), run([*build, *include, "-c", file, "-o", folder / "block.o"]))
         page_from_c(compiler, build, link, folder)
+        manual_from_c(compiler, build, link, folder)
+
+
+def manual_from_c(compiler, build, link, folder):
+    """The program of the manual page for the calls prints the answer of capvet_vet."""
+    page = (TOP / "docs/capvet.3").read_text()
+    text = re.search(r"^\.EX\n(.*?)^\.EE$", page, re.M | re.S)[1]
+    source, program = folder / "manual.c", folder / f"manual-{compiler}"
+    source.write_text(text.replace("\\&\n", "\n").replace("\\e", "\\"))
+    compare(f"{compiler} of the manual page", ("", 0), run([*build, source, *link, "-o", program]))
+    for sample, wanted in (("contacts.bin", ("Ok\n", 0)), ("cycle.bin", ("DepthLimit\n", 1)), ("stream-of-four.bin", ("Trailing\n", 1))):
+        got = run(["sh", "-c", 'exec "$0" < "$1"', program, TOP / "examples" / sample])
+        compare(f"the manual page by {compiler}, of {sample}", wanted, got)
 
 
 def interrupting(folder):

@@ -6,7 +6,7 @@
 A block of a page that has lines '$ COMMAND' is run line by line in a folder with the samples. Each command has to print
 exactly what the page shows after it. A block of docs/proofs.md has to be in a file that the page names; a block of shell
 there has to run at the top of the repository. Links lead to a file and to a heading that exist. The pages, the manual
-page, the header and help have no word of docs/words.md, no sentence of more than 40 words, and one tagline. The last line
+pages, the header and help have no word of docs/words.md, no sentence of more than 40 words, and one tagline. The last line
 is 'N passed, M failed', and the status is 1 if a case failed.
 """
 import os
@@ -24,7 +24,7 @@ PROGRAM = Path(sys.argv[1] if len(sys.argv) > 1 else TOP / "build/capvet").resol
 PAGES = ("README.md", "docs/guide.md", "docs/output.md", "docs/format.md")
 MARKDOWN = ("README.md", *(f"docs/{path.name}" for path in sorted((TOP / "docs").glob("*.md"))))
 TAGLINE = "untrusted Cap'n Proto messages without a schema"
-TAGGED = ("README.md", "docs/capvet.1", "include/capvet.h", "capvet.pc.in", "crates/cap_cmd/src/commands.rt",
+TAGGED = ("README.md", "docs/capvet.1", "docs/capvet.3", "include/capvet.h", "capvet.pc.in", "crates/cap_cmd/src/commands.rt",
           "bindings/rust/Cargo.toml", "bindings/rust/src/lib.rs")
 LONGEST = 40
 BLOCK = re.compile(r"^```(\w*)\n(.*?)^```$", re.M | re.S)
@@ -97,7 +97,8 @@ def links(page):
 
 def paragraphs(name, text):
     """The prose of a page, of the manual page, of a header or of help: paragraphs, items and cells, without code."""
-    if name.endswith(".1"):
+    if name.endswith((".1", ".3")):
+        text = re.sub(r"^\.EX$.*?^\.EE$", "", text, flags=re.M | re.S)
         text = re.sub(r"^\.(SH|TP|PP|RS).*$|^\.\w+.*$", lambda line: "" if line[1] else "x", text, flags=re.M)
         text = re.sub(r"^\$ .*\n(?:[^.$].*\n)*", "", text.replace("\\-", "-"), flags=re.M)
     elif name.endswith(".h"):
@@ -139,7 +140,7 @@ quoted("docs/proofs.md")
 for name in MARKDOWN:
     links(name)
 BANNED = list_of_words()
-for name in (*MARKDOWN, "docs/capvet.1", "include/capvet.h"):
+for name in (*MARKDOWN, "docs/capvet.1", "docs/capvet.3", "include/capvet.h"):
     plain(name, (TOP / name).read_text(), BANNED)
 for asked, text in HELPS:
     plain(f"capvet {asked[0]}", text, BANNED)
