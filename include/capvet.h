@@ -128,7 +128,7 @@ typedef char capvet_needs_64_bits[sizeof(size_t) == 8 ? 1 : -1];
 #define CAPVET_VERSION_PATCH 0
 
 /* capvet_version -- the version of the library: its major version * 65536 + its minor version * 256 + its
- * patch.
+ * patch. The program and the bindings of the same release have the same version.
  *
  * A library is compatible if its major version is equal to this header's and its minor version is equal or
  * higher. Within a major version, numbers and structs keep their values and layout. Calls, answers and

@@ -149,6 +149,23 @@ def options():
     compare("commands of the synopsis", [*COMMANDS, "help", "--version"], re.findall(r"^\.B capvet (\S+)$", synopsis, re.M))
 
 
+def versions():
+    """The program, the crates, the other bindings and the pages have the version of the header."""
+    header = (TOP / "include/capvet.h").read_text()
+    numbers = [re.search(rf"^#define CAPVET_VERSION_{part} (\d+)$", header, re.M)[1] for part in ("MAJOR", "MINOR", "PATCH")]
+    version = ".".join(numbers)
+    compare("the version of the program", (f"capvet {version}\n", 0), run([PROGRAM, "--version"]))
+    for name in ("docs/capvet.1", "docs/capvet.3"):
+        compare(f"the version of {name}", [version], re.findall(r'^\.TH .*"capvet (.*?)"', (TOP / name).read_text(), re.M))
+    manifests = sorted(file for folder in ("bindings", "examples") for name in ("Cargo.toml", "pyproject.toml")
+                       for file in (TOP / folder).glob(f"*/{name}"))
+    compare("manifests are found", True, len(manifests) >= 2)
+    for file in manifests:
+        compare(f"the version of {file.relative_to(TOP)}", [version], re.findall(r'^version = "(.*)"$', file.read_text(), re.M))
+    wanted = re.findall(r'"capvet ([^"]*)"', re.search(r"VERSIONS: \[&str; 2\] = (.*);", (TOP / "bindings/rust/build.rs").read_text())[1])
+    compare("the versions that the crate takes", [f">= {numbers[0]}.{numbers[1]}", f"< {int(numbers[0]) + 1}"], wanted)
+
+
 def examples():
     """Each example of the manual page, run as it is there."""
     page = (TOP / "docs/capvet.1").read_text().replace("\\-", "-")
@@ -204,6 +221,7 @@ def main():
         compare("files of a prefix that isn't whole", ["usr/bin/other"], list(files_of(stage)))
     options()
     calls()
+    versions()
     examples()
     if not missing("what bash completes", "bash"):
         completions()

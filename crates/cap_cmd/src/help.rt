@@ -1,7 +1,7 @@
 //! The texts of help.
 
 /// The version that `--version` prints.
-pub(crate) const VERSION: &str = "0.1.0";
+pub(crate) const VERSION: &str = "1.0.0";
 
 /// The help of the program, after the list of its commands.
 pub(crate) const PROGRAM_NOTES: &str = "\
