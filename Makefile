@@ -1,5 +1,5 @@
 # What capvet does with a sample, all proofs and tests, what is installed, and how fast it is.
-.PHONY: run build install uninstall test gate growths bench
+.PHONY: run build install uninstall dist test gate growths bench
 
 # Where things are installed. DESTDIR goes before each of these paths, and no installed file has it in its text.
 PREFIX ?= /usr/local
@@ -53,6 +53,10 @@ uninstall:
 	rm -f '$(DESTDIR)$(bindir)/capvet' '$(DESTDIR)$(completionsdir)/capvet'
 	rm -f '$(DESTDIR)$(mandir)/man1/capvet.1' '$(DESTDIR)$(mandir)/man3/capvet.3'
 	rm -f '$(DESTDIR)$(includedir)/capvet.h' '$(DESTDIR)$(libdir)/libcapvet.a' '$(DESTDIR)$(pkgconfigdir)/capvet.pc'
+
+# Packs all that is installed, with a shared library, bindings and pages, into dist/; see packaging/dist.py.
+dist: $(BUILT_PROGRAM) $(BUILT_ARCHIVE)
+	python3 packaging/dist.py
 
 # Proves all crates and their tests, and then tests the built program and library as their users run them.
 test:

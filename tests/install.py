@@ -157,6 +157,7 @@ def versions():
     compare("the version of the program", (f"capvet {version}\n", 0), run([PROGRAM, "--version"]))
     for name in ("docs/capvet.1", "docs/capvet.3"):
         compare(f"the version of {name}", [version], re.findall(r'^\.TH .*"capvet (.*?)"', (TOP / name).read_text(), re.M))
+    compare("the version of CHANGELOG.md", version, re.search(r"^## (\S+)", (TOP / "CHANGELOG.md").read_text(), re.M)[1])
     manifests = sorted(file for folder in ("bindings", "examples") for name in ("Cargo.toml", "pyproject.toml")
                        for file in (TOP / folder).glob(f"*/{name}"))
     compare("manifests are found", True, len(manifests) >= 2)

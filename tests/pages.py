@@ -22,10 +22,10 @@ from helps import HELPS
 TOP = Path(__file__).resolve().parent.parent
 PROGRAM = Path(sys.argv[1] if len(sys.argv) > 1 else TOP / "build/capvet").resolve()
 PAGES = ("README.md", "docs/guide.md", "docs/output.md", "docs/format.md")
-MARKDOWN = ("README.md", *(f"docs/{path.name}" for path in sorted((TOP / "docs").glob("*.md"))))
+MARKDOWN = ("README.md", "CHANGELOG.md", "SECURITY.md", *(f"docs/{path.name}" for path in sorted((TOP / "docs").glob("*.md"))))
 TAGLINE = "untrusted Cap'n Proto messages without a schema"
 TAGGED = ("README.md", "docs/capvet.1", "docs/capvet.3", "include/capvet.h", "capvet.pc.in", "crates/cap_cmd/src/commands.rt",
-          "bindings/rust/Cargo.toml", "bindings/rust/src/lib.rs")
+          "bindings/rust/Cargo.toml", "bindings/rust/src/lib.rs", "packaging/README.md", "packaging/debian/control")
 LONGEST = 40
 BLOCK = re.compile(r"^```(\w*)\n(.*?)^```$", re.M | re.S)
 passed = failed = 0
@@ -140,7 +140,7 @@ quoted("docs/proofs.md")
 for name in MARKDOWN:
     links(name)
 BANNED = list_of_words()
-for name in (*MARKDOWN, "docs/capvet.1", "docs/capvet.3", "include/capvet.h"):
+for name in (*MARKDOWN, "packaging/README.md", "docs/capvet.1", "docs/capvet.3", "include/capvet.h"):
     plain(name, (TOP / name).read_text(), BANNED)
 for asked, text in HELPS:
     plain(f"capvet {asked[0]}", text, BANNED)
