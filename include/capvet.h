@@ -163,7 +163,7 @@ typedef enum capvet_answer {
   CAPVET_NO_MESSAGE = 1,        /* the input is empty: the regular end of a stream */
   CAPVET_TOO_MANY_SEGMENTS = 2, /* more than 512; report->detail: how many */
   CAPVET_TOO_LARGE = 3,         /* more words than limits->message_words; report->detail: how many */
-  CAPVET_TRUNCATED = 4,         /* more input is required; report->required: its least length */
+  CAPVET_TRUNCATED = 4,         /* more input is required; report->input_required: its least length */
   CAPVET_TRAILING = 5,          /* trailing bytes after the message; report->detail: how many */
 
   CAPVET_BAD_LIMITS = 8,       /* a limit above its maximum, an unknown flag, a reserved field not 0 */
@@ -261,7 +261,7 @@ CAPVET_INLINE const char *capvet_answer_name(uint32_t answer) CAPVET_NOEXCEPT {
  *
  *   - CAPVET_NO_MESSAGE: the input is empty
  *   - CAPVET_TOO_LARGE: it has more than limits->message_words words, where a part of a word counts as one
- *   - CAPVET_TRUNCATED: its length is no multiple of 8; report->required is the next multiple
+ *   - CAPVET_TRUNCATED: its length is no multiple of 8; report->input_required is the next multiple
  *
  * CAPVET_BAD_LIMITS: it is set in another call, or together with CAPVET_ALLOW_TRAILING. */
 
@@ -300,25 +300,25 @@ void capvet_limits_default(capvet_limits *limits) CAPVET_NOEXCEPT;
  *
  * A library of a later minor version may set reserved fields: do not compare reports by memcmp. */
 typedef struct capvet_report {
-  uint64_t length;       /* bytes of the frame, table included, also of a refused message; 0 after the
-                            answers 1 to 4, 8, 10 and 12: the next message of a buffer starts after them;
-                            capvet_unpack_message: only on CAPVET_OK */
-  uint64_t required;     /* CAPVET_NO_MESSAGE, CAPVET_TRUNCATED: the least length of the input that gets
-                            further: 8, then the bytes of the table, then those of the whole frame;
-                            for other inputs see CAPVET_NO_TABLE, capvet_vet_segments and
-                            capvet_unpack_message */
-  uint64_t detail;       /* the number that the answer's comment names */
-  uint64_t charge;       /* a tree number */
-  uint64_t pointers;     /* a tree number, null pointers included; answers with a place: how many pointers
-                            were checked, the named one included (0 after CAPVET_NO_ROOT) */
-  uint64_t capabilities; /* a tree number */
-  uint32_t depth;        /* a tree number: the deepest level */
-  uint32_t segments;     /* how many segments, whenever `length` is set */
-  uint32_t segment;      /* the place of the pointer that the answer is about: CAPVET_OVERLAP, */
-  uint32_t word;         /* CAPVET_NULL_PAD, CAPVET_EMPTY_SEGMENT, CAPVET_CAPABILITY_PAD, and from
-                            CAPVET_NO_ROOT on; else the place of the first capability, if
-                            `capabilities` is not 0 */
-  uint64_t reserved[4];  /* 0 */
+  uint64_t length;         /* bytes of the frame, table included, also of a refused message; 0 after the
+                              answers 1 to 4, 8, 10 and 12: the next message of a buffer starts after them;
+                              capvet_unpack_message: only on CAPVET_OK */
+  uint64_t input_required; /* CAPVET_NO_MESSAGE, CAPVET_TRUNCATED: the least length of the input that gets
+                              further: 8, then the bytes of the table, then those of the whole frame;
+                              for other inputs see CAPVET_NO_TABLE, capvet_vet_segments and
+                              capvet_unpack_message */
+  uint64_t detail;         /* the number that the answer's comment names */
+  uint64_t charge;         /* a tree number */
+  uint64_t pointers;       /* a tree number, null pointers included; answers with a place: how many pointers
+                              were checked, the named one included (0 after CAPVET_NO_ROOT) */
+  uint64_t capabilities;   /* a tree number */
+  uint32_t depth;          /* a tree number: the deepest level */
+  uint32_t segments;       /* how many segments, whenever `length` is set */
+  uint32_t segment;        /* the place of the pointer that the answer is about: CAPVET_OVERLAP, */
+  uint32_t word;           /* CAPVET_NULL_PAD, CAPVET_EMPTY_SEGMENT, CAPVET_CAPABILITY_PAD, and from
+                              CAPVET_NO_ROOT on; else the place of the first capability, if
+                              `capabilities` is not 0 */
+  uint64_t reserved[4];    /* 0 */
 } capvet_report;
 
 /* ------------------------------------------------------------------------------------------------------
@@ -392,7 +392,7 @@ typedef struct capvet_segment {
  * report->length is the bytes of all segments, without a table. In place of the answers about the frame,
  * the first of these that applies:
  *
- *   - CAPVET_NO_MESSAGE: `count` is 0 (report->required is then 0 too)
+ *   - CAPVET_NO_MESSAGE: `count` is 0 (report->input_required is then 0 too)
  *   - CAPVET_TOO_MANY_SEGMENTS: it is more than 512
  *   - CAPVET_BAD_SEGMENT: a length is no multiple of 8; report->detail: the first such segment
  *   - CAPVET_TOO_LARGE: all segments have more than limits->message_words words
@@ -417,7 +417,7 @@ capvet_answer capvet_vet_segments(const capvet_segment *segments, size_t count, 
  *
  * Reads the table only, and checks no pointer. Returns CAPVET_OK if the whole frame is there.
  *
- * To read one message from a connection, receive until the buffer has report->required bytes, and repeat
+ * To read one message from a connection, receive until the buffer has report->input_required bytes, and repeat
  * while the answer is CAPVET_NO_MESSAGE or CAPVET_TRUNCATED. The number is the sender's claim, and is
  * never more than CAPVET_FRAME_BOUND(limits->message_words). So set message_words to what you would hold for
  * a stranger. If the connection ends, CAPVET_NO_MESSAGE means between two messages, and CAPVET_TRUNCATED in
@@ -631,8 +631,8 @@ typedef struct capvet_unpacking {
  *   - CAPVET_OK: `out` starts with the frame, of report->length bytes. Vet it. Call again before you receive
  *     more, since `state` and the rest of `bytes` may hold whole messages.
  *   - CAPVET_NO_MESSAGE: no input, and nothing is pending. `length`, state->written and both rests are 0.
- *   - CAPVET_TRUNCATED: receive more, so that the next input has report->required bytes at least (at most 10).
- *     If the connection has ended, the message is cut.
+ *   - CAPVET_TRUNCATED: receive more, so that the next input has report->input_required bytes at least (at
+ *     most 10). If the connection has ended, the message is cut.
  *   - CAPVET_BUFFER_TOO_SMALL: the next word is there, and `out` has no space for it. Call again with a buffer
  *     of at least *required bytes that keeps the first state->written. *required is 8, then the bytes of the
  *     table, then those of the frame. It is at most CAPVET_FRAME_BOUND(limits->message_words).

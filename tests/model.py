@@ -12,7 +12,7 @@ ANSWERS = dict(
     TAG_OFFSET=39, OUT_OF_SEGMENT=40, COMPOSITE_TAG=41, COMPOSITE_OVERRUN=42, DEPTH_LIMIT=43, WORD_LIMIT=44)
 FRAME, VET, EXCLUSIVE, CANONICAL, IS_CANONICAL, SEGMENT_AT, VET_SEGMENTS = range(7)
 TRAILING, NONSTRICT, AMPLIFIED, NO_TABLE = 1, 2, 4, 8
-FIELDS = ("length", "required", "detail", "charge", "pointers", "capabilities", "depth", "segments", "segment", "word")
+FIELDS = ("length", "input_required", "detail", "charge", "pointers", "capabilities", "depth", "segments", "segment", "word")
 ELEMENT_BITS = (0, 1, 8, 16, 32, 64, 64)
 # How many segments a strict message may have, and how many words more than its own an unamplified one may be charged.
 MOST_SEGMENTS = 511
@@ -259,21 +259,21 @@ def canonical(message):
 def framed(data, limits):
     """The segments that the bytes start with, and the length of their frame. Otherwise the answer with its fields."""
     if not data:
-        return None, ("NO_MESSAGE", dict(required=8))
+        return None, ("NO_MESSAGE", dict(input_required=8))
     if len(data) < 8:
-        return None, ("TRUNCATED", dict(required=8))
+        return None, ("TRUNCATED", dict(input_required=8))
     count = struct.unpack_from("<I", data)[0] + 1
     if count > 512:
         return None, ("TOO_MANY_SEGMENTS", dict(detail=count))
     table = 8 * (count // 2 + 1)
     if len(data) < table:
-        return None, ("TRUNCATED", dict(required=table))
+        return None, ("TRUNCATED", dict(input_required=table))
     sizes = struct.unpack_from(f"<{count}I", data, 4)
     if sum(sizes) > limits.message_words:
         return None, ("TOO_LARGE", dict(detail=sum(sizes)))
     frame = table + 8 * sum(sizes)
     if len(data) < frame:
-        return None, ("TRUNCATED", dict(required=frame))
+        return None, ("TRUNCATED", dict(input_required=frame))
     message, at = [], table
     for size in sizes:
         message.append(struct.unpack_from(f"<{size}Q", data, at))
@@ -285,11 +285,11 @@ def of_words(data, limits):
     """The one segment whose words the bytes are, and their length. Otherwise the answer with its fields."""
     words = (len(data) + 7) // 8
     if not data:
-        return None, ("NO_MESSAGE", dict(required=8))
+        return None, ("NO_MESSAGE", dict(input_required=8))
     if words > limits.message_words:
         return None, ("TOO_LARGE", dict(detail=words))
     if len(data) % 8:
-        return None, ("TRUNCATED", dict(required=8 * words))
+        return None, ("TRUNCATED", dict(input_required=8 * words))
     return [struct.unpack(f"<{words}Q", data)], len(data)
 
 

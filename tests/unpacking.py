@@ -73,10 +73,10 @@ def unpacked(data, out, state, limits):
     if answer not in ("NO_MESSAGE", "TRUNCATED"):
         return result(answer, at, 0, left, **fields)
     if word is not None:
-        return result("BUFFER_TOO_SMALL", at, fields["required"], left)
+        return result("BUFFER_TOO_SMALL", at, fields["input_required"], left)
     if (written, literal) == (0, 0) and at == len(data):
-        return result("NO_MESSAGE", at, 0, left, required=1)
-    return result("TRUNCATED", at, 0, left, required=need)
+        return result("NO_MESSAGE", at, 0, left, input_required=1)
+    return result("TRUNCATED", at, 0, left, input_required=need)
 
 
 def packed(frame, chance):

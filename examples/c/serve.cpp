@@ -88,7 +88,7 @@ capvet_answer receive(int socket, Buffer &buffer, Clock::time_point deadline) {
     capvet_report report;
     capvet_answer answer = capvet_frame(buffer.bytes(), buffer.length(), &limits, &report);
     bool is_short = answer == CAPVET_NO_MESSAGE || answer == CAPVET_TRUNCATED;
-    if (!is_short || !buffer.fill(socket, report.required, deadline)) return answer;
+    if (!is_short || !buffer.fill(socket, report.input_required, deadline)) return answer;
   }
 }
 

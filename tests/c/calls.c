@@ -68,7 +68,7 @@ static void fields(void) {
     capvet_report r = unwritten();
     EXPECT(capvet_vet(whole + odd, sizeof TWO, &LIMITS, &r) == CAPVET_OK, "vet", odd);
     EXPECT(r.length == 56, "length", r.length);
-    EXPECT(r.required == 0 && r.detail == 0, "required and detail", r.required);
+    EXPECT(r.input_required == 0 && r.detail == 0, "required and detail", r.input_required);
     EXPECT(r.charge == 4, "charge", r.charge);
     EXPECT(r.pointers == 3, "pointers", r.pointers);
     EXPECT(r.capabilities == 1, "capabilities", r.capabilities);
@@ -112,7 +112,7 @@ static void nodes(void) {
       EXPECT((n.element | n.count | n.reserved[0] | n.reserved[1]) == 0, "the rest of a node", i);
       EXPECT(r.detail == ROWS[i].detail, "the first bad byte", r.detail);
       EXPECT(r.length == (got == CAPVET_BAD_PATH ? 0u : 56u), "length of the frame", r.length);
-      EXPECT((r.required | r.charge | r.pointers | r.capabilities | r.depth | r.segment | r.word) == 0, "the rest", i);
+      EXPECT((r.input_required | r.charge | r.pointers | r.capabilities | r.depth | r.segment | r.word) == 0, "the rest", i);
       free(path);
     }
     free(whole);
@@ -133,8 +133,8 @@ static void arriving(void) {
     uint32_t answer = length == 0 ? CAPVET_NO_MESSAGE : length < 56 ? CAPVET_TRUNCATED : CAPVET_OK;
     EXPECT(f == answer, "frame of a front", length);
     EXPECT(v == answer, "vet of a front", length);
-    EXPECT(framed.required == (length < 56 ? wanted(length) : 0), "required", framed.required);
-    EXPECT(vetted.required == framed.required && vetted.detail == 0, "required by vet", vetted.required);
+    EXPECT(framed.input_required == (length < 56 ? wanted(length) : 0), "required", framed.input_required);
+    EXPECT(vetted.input_required == framed.input_required && vetted.detail == 0, "required by vet", vetted.input_required);
     EXPECT(framed.length == (length < 56 ? 0u : 56u), "length of a frame", framed.length);
     EXPECT(framed.segments == (length < 56 ? 0u : 2u), "segments of a frame", framed.segments);
     EXPECT(framed.charge == 0 && framed.pointers == 0 && framed.capabilities == 0, "a frame vets nothing", 1);
@@ -149,7 +149,7 @@ static void answers(const uint8_t *bytes, size_t length, capvet_limits limits, u
   capvet_report r = unwritten();
   uint32_t got = capvet_vet(whole, length, &limits, &r);
   EXPECT(got == answer, "answer", got);
-  EXPECT(r.required == required, "required", r.required);
+  EXPECT(r.input_required == required, "required", r.input_required);
   EXPECT(r.detail == detail, "detail", r.detail);
   free(whole);
 }
@@ -416,7 +416,7 @@ static void marking(void) {
     EXPECT(r.depth == (room == 0 ? 2u : 0u), "the depth of an overlap", r.depth);
     EXPECT(r.pointers == 3 && r.segment == 0 && r.word == (room == 0 ? 0u : 2u), "the pointer that overlaps", r.word);
     EXPECT(marked(SHARED, 32, room, &needed, &kept, &r) == CAPVET_TRUNCATED, "marks of a cut message", room);
-    EXPECT(needed == 0 && kept == room + 1 && r.required == 40, "no marks of a cut message", needed);
+    EXPECT(needed == 0 && kept == room + 1 && r.input_required == 40, "no marks of a cut message", needed);
     enough = marked(REFUSING, sizeof REFUSING, room, &needed, &kept, &r);
     EXPECT(enough == CAPVET_DEPTH_LIMIT, "marks of a refused message", enough);
     EXPECT(needed == 0 && kept == room + 1 && r.length == 16, "no marks of a refused message", needed);
@@ -468,11 +468,12 @@ static void words(void) {
          "vet_exclusive of words", required);
   EXPECT(capvet_canonical(whole + 1, 32, &l, NULL, 0, &required, &r) == CAPVET_BUFFER_TOO_SMALL && required == 32,
          "canonical of words", required);
-  EXPECT(capvet_vet(whole + 1, 31, &l, &r) == CAPVET_TRUNCATED && r.required == 32, "a part of a word", r.required);
+  EXPECT(capvet_vet(whole + 1, 31, &l, &r) == CAPVET_TRUNCATED && r.input_required == 32, "a part of a word", r.input_required);
   l.message_words = 3;
   EXPECT(capvet_vet(whole + 1, 25, &l, &r) == CAPVET_TOO_LARGE && r.detail == 4, "too many words", r.detail);
-  EXPECT(capvet_vet(whole + 1, 23, &l, &r) == CAPVET_TRUNCATED && r.required == 24, "words up to the limit", r.required);
-  EXPECT(capvet_vet(NULL, 0, &l, &r) == CAPVET_NO_MESSAGE, "no words", r.required);
+  EXPECT(capvet_vet(whole + 1, 23, &l, &r) == CAPVET_TRUNCATED && r.input_required == 24, "words up to the limit",
+         r.input_required);
+  EXPECT(capvet_vet(NULL, 0, &l, &r) == CAPVET_NO_MESSAGE, "no words", r.input_required);
   EXPECT(capvet_frame(whole + 1, 32, &l, &r) == CAPVET_BAD_LIMITS, "a frame without a table", r.length);
   l.flags |= CAPVET_ALLOW_TRAILING;
   EXPECT(capvet_vet(whole + 1, 32, &l, &r) == CAPVET_BAD_LIMITS, "trailing words", r.length);
@@ -505,7 +506,7 @@ static void separate(void) {
   EXPECT(capvet_vet_segments(parts, 2, &WHOLE, &r) == CAPVET_TOO_LARGE && r.detail == parts[1].length / 8 + 1,
          "words past the limit", r.detail);
   r = unwritten();
-  EXPECT(capvet_vet_segments(NULL, 0, &WHOLE, &r) == CAPVET_NO_MESSAGE && r.required == 0, "no segments", r.required);
+  EXPECT(capvet_vet_segments(NULL, 0, &WHOLE, &r) == CAPVET_NO_MESSAGE && r.input_required == 0, "no segments", r.input_required);
   free(first);
   free(second);
 }
@@ -515,12 +516,12 @@ static void nulls(void) {
   capvet_report r;
   size_t required, own;
   r = unwritten();
-  EXPECT(capvet_frame(NULL, 0, &LIMITS, &r) == CAPVET_NO_MESSAGE && r.required == 8, "frame of NULL", r.required);
+  EXPECT(capvet_frame(NULL, 0, &LIMITS, &r) == CAPVET_NO_MESSAGE && r.input_required == 8, "frame of NULL", r.input_required);
   r = unwritten();
-  EXPECT(capvet_vet(NULL, 0, &LIMITS, &r) == CAPVET_NO_MESSAGE && r.required == 8, "vet of NULL", r.required);
+  EXPECT(capvet_vet(NULL, 0, &LIMITS, &r) == CAPVET_NO_MESSAGE && r.input_required == 8, "vet of NULL", r.input_required);
   r = unwritten();
-  EXPECT(capvet_is_canonical(NULL, 0, &LIMITS, &r) == CAPVET_NO_MESSAGE && r.required == 8, "is_canonical of NULL",
-         r.required);
+  EXPECT(capvet_is_canonical(NULL, 0, &LIMITS, &r) == CAPVET_NO_MESSAGE && r.input_required == 8, "is_canonical of NULL",
+         r.input_required);
   required = own = 77;
   EXPECT(capvet_segment_at(NULL, 0, 0, &required, &own) == CAPVET_NO_MESSAGE && required == 0 && own == 0,
          "segment_at of NULL", required);
@@ -552,19 +553,20 @@ static void more_nulls(void) {
   capvet_node n;
   capvet_unpacking state = {0, 0, 0, {0, 0}};
   size_t required = 77, consumed = 77;
-  EXPECT(capvet_get(NULL, 0, &LIMITS, "/", 1, &n, &r) == CAPVET_NO_MESSAGE && r.required == 8 && n.kind == 0, "get of NULL",
-         r.required);
+  EXPECT(capvet_get(NULL, 0, &LIMITS, "/", 1, &n, &r) == CAPVET_NO_MESSAGE && r.input_required == 8 && n.kind == 0, "get of NULL",
+         r.input_required);
   r = unwritten();
   EXPECT(capvet_get(TWO, sizeof TWO, &LIMITS, NULL, 0, &n, &r) == CAPVET_BAD_PATH && r.detail == 0 && r.length == 0,
          "a path at NULL", r.detail);
-  EXPECT(capvet_pack_message(NULL, 0, &LIMITS, NULL, 0, &required, &r) == CAPVET_NO_MESSAGE && required == 0 && r.required == 8,
+  EXPECT(capvet_pack_message(NULL, 0, &LIMITS, NULL, 0, &required, &r) == CAPVET_NO_MESSAGE && required == 0 &&
+             r.input_required == 8,
          "pack_message of NULL", required);
   EXPECT(capvet_pack_message(TWO, sizeof TWO, &LIMITS, NULL, 0, &required, &r) == CAPVET_BUFFER_TOO_SMALL && required == 18 &&
              r.length == 56,
          "a message packed in NULL", required);
   required = 77;
   EXPECT(capvet_unpack_message(NULL, 0, &LIMITS, NULL, 0, &state, &consumed, &required, &r) == CAPVET_NO_MESSAGE &&
-             consumed == 0 && required == 0 && r.required == 1,
+             consumed == 0 && required == 0 && r.input_required == 1,
          "unpack_message of NULL", required);
   EXPECT(capvet_unpack_message(PACKED, sizeof PACKED, &LIMITS, NULL, 0, &state, &consumed, &required, &r) ==
                  CAPVET_BUFFER_TOO_SMALL &&

@@ -243,7 +243,7 @@ int main(int count, char **words) {
     }
     free(block);
     if (status > 1) return status;
-    if (report.length != framed.length || report.detail != framed.detail || report.required != framed.required || report.segments != framed.segments)
+    if (report.length != framed.length || report.detail != framed.detail || report.input_required != framed.input_required || report.segments != framed.segments)
       return 4;
     if (report.length == 0) {
       fault(n, answer, &report, length);

@@ -56,7 +56,7 @@ static void message(const uint8_t *bytes, size_t length) {
   uint32_t answer = packed(bytes, length, 0, none, 0, &size, &report);
   expect(answer == CAPVET_BUFFER_TOO_SMALL, "the answer without a buffer", answer);
   expect(size <= length / 8 * 10, "the length of the text", size);
-  expect(report.length == length && report.segments > 0 && report.required == 0, "the report", report.length);
+  expect(report.length == length && report.segments > 0 && report.input_required == 0, "the report", report.length);
   out = block(size);
   answer = packed(bytes, length, 0, out + 1, size - 1, &required, &report);
   expect(answer == CAPVET_BUFFER_TOO_SMALL && required == size, "the answer for a byte too few", answer);
@@ -77,7 +77,7 @@ static void message(const uint8_t *bytes, size_t length) {
   answer = packed(more + 1, length + 3, CAPVET_ALLOW_TRAILING, out + 1, size, &required, &report);
   expect(answer == CAPVET_OK && required == size && report.length == length, "the answer if they may follow", answer);
   answer = packed(bytes, length - 1, 0, out + 1, size, &required, &report);
-  expect(answer == CAPVET_TRUNCATED && report.required == length && required == 0, "a cut message", answer);
+  expect(answer == CAPVET_TRUNCATED && report.input_required == length && required == 0, "a cut message", answer);
   answer = packed(bytes, length, 8u << 20, out + 1, size, &required, &report);
   expect(answer == CAPVET_BAD_LIMITS && required == 0, "an unknown flag", answer);
   answer = packed(bytes, length, CAPVET_NO_TABLE, out + 1, size, &required, &report);

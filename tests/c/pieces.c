@@ -72,7 +72,7 @@ static void stream(const uint8_t *text, size_t length, size_t piece) {
     }
     expect(required == 0, "nothing is required", required);
     if (answer == CAPVET_TRUNCATED || answer == CAPVET_NO_MESSAGE) {
-      expect(report.required > end - from && report.required <= 10, "the bytes that are needed", (size_t)report.required);
+      expect(report.input_required > end - from && report.input_required <= 10, "the bytes that are needed", (size_t)report.input_required);
       expect(answer == CAPVET_TRUNCATED || (state.written == 0 && from == end), "nothing is pending", end - from);
       if (end < length) {
         end = end + piece < length ? end + piece : length;

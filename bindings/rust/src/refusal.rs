@@ -205,7 +205,7 @@ impl FrameError {
             Answer::TOO_MANY_SEGMENTS => Self::TooManySegments { count: raw.detail },
             Answer::TOO_LARGE => Self::TooLarge { words: raw.detail },
             Answer::TRUNCATED => Self::Truncated {
-                required: raw.required as usize,
+                required: raw.input_required as usize,
             },
             Answer::TRAILING => Self::Trailing {
                 bytes: raw.detail,

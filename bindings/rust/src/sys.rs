@@ -66,7 +66,7 @@ impl RawLimits {
 #[derive(Clone, Copy, Debug, Default, PartialEq, Eq)]
 pub(crate) struct RawReport {
     pub(crate) length: u64,
-    pub(crate) required: u64,
+    pub(crate) input_required: u64,
     pub(crate) detail: u64,
     pub(crate) charge: u64,
     pub(crate) pointers: u64,

@@ -59,7 +59,7 @@ impl UnpackMessageError {
         match answer {
             Answer::NO_MESSAGE => Self::NoMessage,
             Answer::TRUNCATED => Self::Truncated {
-                required: raw.required as usize,
+                required: raw.input_required as usize,
             },
             Answer::BUFFER_TOO_SMALL => Self::BufferTooSmall { required },
             _ => Self::Frame(FrameError::of_frame(answer, raw)),
