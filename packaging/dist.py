@@ -179,14 +179,12 @@ def for_debian(folder, built, epoch):
         env={**os.environ, "SOURCE_DATE_EPOCH": str(epoch)})
 
 
-def wheels(epoch):
-    """The wheel for Python, if there is a target for it."""
-    if subprocess.run(["make", "-n", "wheel"], cwd=TOP, stdout=subprocess.DEVNULL, stderr=subprocess.DEVNULL).returncode:
-        print("dist: there is no target for a wheel")
-        return
-    run("make", "-s", "wheel", env={**os.environ, "SOURCE_DATE_EPOCH": str(epoch)})
-    for wheel in (TOP / "build").glob("*.whl"):
-        shutil.copyfile(wheel, DIST / wheel.name)
+def wheel(epoch):
+    """The wheel for Python, if there is a target for it, and what it needs."""
+    # (debugging information would name the folder)
+    environment = {**os.environ, "SOURCE_DATE_EPOCH": str(epoch), "CFLAGS": "-g0"}
+    if subprocess.run(["make", "-s", "wheel", f"wheeldir={DIST}"], cwd=TOP, env=environment).returncode:
+        print("dist: no wheel was built")
 
 
 def main():
@@ -204,7 +202,7 @@ def main():
             built += f"{digest(file)}  {file.name}\n"
         for_linux(folder, built, epoch)
         for_debian(folder, built, epoch)
-    wheels(epoch)
+    wheel(epoch)
     (DIST / "BUILT").write_text(built)
     packages = sorted(path for path in DIST.iterdir() if path.name != "BUILT")
     (DIST / "SHA256SUMS").write_text("".join(f"{digest(path)}  {path.name}\n" for path in packages))

@@ -158,11 +158,12 @@ def versions():
     for name in ("docs/capvet.1", "docs/capvet.3"):
         compare(f"the version of {name}", [version], re.findall(r'^\.TH .*"capvet (.*?)"', (TOP / name).read_text(), re.M))
     compare("the version of CHANGELOG.md", version, re.search(r"^## (\S+)", (TOP / "CHANGELOG.md").read_text(), re.M)[1])
-    manifests = sorted(file for folder in ("bindings", "examples") for name in ("Cargo.toml", "pyproject.toml")
+    manifests = sorted(file for folder in ("bindings", "examples") for name in ("Cargo.toml", "pyproject.toml", "setup.cfg")
                        for file in (TOP / folder).glob(f"*/{name}"))
-    compare("manifests are found", True, len(manifests) >= 2)
+    found = {file: re.findall(r'^version = "?([^"\n]*)"?$', file.read_text(), re.M) for file in manifests}
+    compare("manifests have a version", True, len([file for file in manifests if found[file]]) >= 2)
     for file in manifests:
-        compare(f"the version of {file.relative_to(TOP)}", [version], re.findall(r'^version = "(.*)"$', file.read_text(), re.M))
+        compare(f"the version of {file.relative_to(TOP)}", [version] * len(found[file]), found[file])
     wanted = re.findall(r'"capvet ([^"]*)"', re.search(r"VERSIONS: \[&str; 2\] = (.*);", (TOP / "bindings/rust/build.rs").read_text())[1])
     compare("the versions that the crate takes", [f">= {numbers[0]}.{numbers[1]}", f"< {int(numbers[0]) + 1}"], wanted)
 
