@@ -1,0 +1,112 @@
+/* The calls of capvet.h in the form that cgo passes best. Structs are passed and returned by value, so Go
+ * allocates none of them. A Go string is passed as it is. */
+#ifndef CAPVET_GO_CALLS_H
+#define CAPVET_GO_CALLS_H
+
+#define CAPVET_LINK_CHECK
+#include <capvet.h>
+
+/* What a call answers. */
+typedef struct capvet_go_result {
+  capvet_report report;
+  uint64_t required;
+  capvet_answer answer;
+} capvet_go_result;
+
+static inline capvet_go_result capvet_go_vet(const uint8_t *bytes, size_t length, capvet_limits limits) {
+  capvet_go_result result = {0};
+  result.answer = capvet_vet(bytes, length, &limits, &result.report);
+  return result;
+}
+
+static inline capvet_go_result capvet_go_vet_exclusive(const uint8_t *bytes, size_t length, capvet_limits limits,
+                                                       uint64_t *marks, size_t marks_count) {
+  capvet_go_result result = {0};
+  result.answer =
+      capvet_vet_exclusive(bytes, length, &limits, marks, marks_count, &result.required, &result.report);
+  return result;
+}
+
+static inline capvet_go_result capvet_go_frame(const uint8_t *bytes, size_t length, capvet_limits limits) {
+  capvet_go_result result = {0};
+  result.answer = capvet_frame(bytes, length, &limits, &result.report);
+  return result;
+}
+
+static inline capvet_go_result capvet_go_is_canonical(const uint8_t *bytes, size_t length, capvet_limits limits) {
+  capvet_go_result result = {0};
+  result.answer = capvet_is_canonical(bytes, length, &limits, &result.report);
+  return result;
+}
+
+static inline capvet_go_result capvet_go_canonical(const uint8_t *bytes, size_t length, capvet_limits limits,
+                                                   uint8_t *out, size_t out_size) {
+  capvet_go_result result = {0};
+  result.answer = capvet_canonical(bytes, length, &limits, out, out_size, &result.required, &result.report);
+  return result;
+}
+
+static inline capvet_go_result capvet_go_pack(const uint8_t *bytes, size_t length, uint8_t *out, size_t out_size) {
+  capvet_go_result result = {0};
+  result.answer = capvet_pack(bytes, length, out, out_size, &result.required);
+  return result;
+}
+
+static inline capvet_go_result capvet_go_unpack(const uint8_t *bytes, size_t length, uint8_t *out, size_t out_size) {
+  capvet_go_result result = {0};
+  result.answer = capvet_unpack(bytes, length, out, out_size, &result.required);
+  return result;
+}
+
+static inline capvet_go_result capvet_go_pack_message(const uint8_t *bytes, size_t length, capvet_limits limits,
+                                                      uint8_t *out, size_t out_size) {
+  capvet_go_result result = {0};
+  result.answer = capvet_pack_message(bytes, length, &limits, out, out_size, &result.required, &result.report);
+  return result;
+}
+
+/* Where a segment is. */
+typedef struct capvet_go_place {
+  size_t offset;
+  size_t length;
+  capvet_answer answer;
+} capvet_go_place;
+
+static inline capvet_go_place capvet_go_segment_at(const uint8_t *bytes, size_t length, uint32_t index) {
+  capvet_go_place place = {0};
+  place.answer = capvet_segment_at(bytes, length, index, &place.offset, &place.length);
+  return place;
+}
+
+/* What a call for a node answers. */
+typedef struct capvet_go_found {
+  capvet_go_result result;
+  capvet_node node;
+} capvet_go_found;
+
+static inline capvet_go_found capvet_go_get(const uint8_t *bytes, size_t length, capvet_limits limits,
+                                            const char *path, size_t path_length) {
+  capvet_go_found found = {0};
+  found.result.answer =
+      capvet_get(bytes, length, &limits, path, path_length, &found.node, &found.result.report);
+  return found;
+}
+
+/* What a call for a message of a packed stream answers, and the state after it. */
+typedef struct capvet_go_unpacked {
+  capvet_go_result result;
+  capvet_unpacking state;
+  size_t consumed;
+} capvet_go_unpacked;
+
+static inline capvet_go_unpacked capvet_go_unpack_message(const uint8_t *bytes, size_t length, capvet_limits limits,
+                                                          uint8_t *out, size_t out_size, capvet_unpacking state) {
+  capvet_go_unpacked unpacked = {0};
+  unpacked.state = state;
+  unpacked.result.answer =
+      capvet_unpack_message(bytes, length, &limits, out, out_size, &unpacked.state, &unpacked.consumed,
+                            &unpacked.result.required, &unpacked.result.report);
+  return unpacked;
+}
+
+#endif

@@ -1,0 +1,192 @@
+package capvet_test
+
+import (
+	"bytes"
+	"crypto/sha256"
+	"errors"
+	"fmt"
+	"io"
+	"log"
+	"os"
+
+	"capvet"
+)
+
+// null is one segment of one word, which is the null pointer.
+var null = []byte{0, 0, 0, 0, 1, 0, 0, 0, 0, 0, 0, 0, 0, 0, 0, 0}
+
+// cycle is a struct whose pointer leads back to itself.
+var cycle = []byte{0, 0, 0, 0, 1, 0, 0, 0, 0xfc, 0xff, 0xff, 0xff, 0, 0, 1, 0}
+
+// sample returns a file of the folder of examples.
+func sample(name string) []byte {
+	b, err := os.ReadFile("../../examples/" + name)
+	if err != nil {
+		log.Fatal(err)
+	}
+	return b
+}
+
+func ExampleVet() {
+	for _, b := range [][]byte{sample("contacts.bin"), cycle, null[:12]} {
+		report, err := capvet.Vet(b, capvet.Limits{})
+		var refusal *capvet.Refusal
+		switch {
+		case err == nil:
+			fmt.Println("accepted, charge", report.Charge)
+		case errors.As(err, &refusal):
+			fmt.Println("refused", refusal.Reason, "at", refusal.Position)
+		default:
+			fmt.Println(err)
+		}
+	}
+	// Output:
+	// accepted, charge 391
+	// refused DepthLimit at 0:0
+	// Truncated, 16 bytes are required
+}
+
+// The messages of a buffer, one after the other.
+func ExampleVet_buffer() {
+	rest := sample("stream-of-four.bin")
+	for len(rest) > 0 {
+		report, err := capvet.Vet(rest, capvet.Limits{AllowTrailing: true})
+		if err != nil {
+			log.Fatal(err)
+		}
+		fmt.Println(report)
+		rest = rest[report.Length:]
+	}
+	// Output:
+	// accepted charge 391 depth 11 pointers 125 caps 0
+	// accepted charge 76 depth 4 pointers 34 caps 0
+	// accepted charge 20 depth 2 pointers 7 caps 0
+	// accepted charge 78 depth 7 pointers 21 caps 0
+}
+
+func ExampleVetExclusive() {
+	_, err := capvet.VetExclusive(sample("shared.bin"), capvet.Limits{})
+	fmt.Println(err)
+	// Output: refused Overlap at 0:2 pointers 3
+}
+
+func ExampleAppendCanonical() {
+	for _, name := range []string{"contacts.bin", "contacts-many-segments.bin"} {
+		words, err := capvet.AppendCanonical(nil, sample(name), capvet.Limits{})
+		if err != nil {
+			log.Fatal(err)
+		}
+		fmt.Printf("%x\n", sha256.Sum256(words))
+	}
+	// Output:
+	// da5b2d724a838dca43e56e40db89de68bba3d3772cd838de0fa7e9029481403e
+	// da5b2d724a838dca43e56e40db89de68bba3d3772cd838de0fa7e9029481403e
+}
+
+func ExampleIsCanonical() {
+	words, err := capvet.AppendCanonical(nil, sample("contacts.bin"), capvet.Limits{})
+	if err != nil {
+		log.Fatal(err)
+	}
+	fmt.Println(capvet.IsCanonical(words, capvet.Limits{NoTable: true, AllowAmplified: true}))
+	fmt.Println(capvet.IsCanonical(sample("contacts.bin"), capvet.Limits{}))
+	// Output:
+	// true <nil>
+	// false <nil>
+}
+
+func ExampleFrameLength() {
+	for _, received := range []int{0, 7, 8, 16} {
+		length, err := capvet.FrameLength(null[:received], capvet.Limits{})
+		var frame *capvet.FrameError
+		if errors.As(err, &frame) {
+			fmt.Println(received, "bytes, of which", frame.Required, "are required")
+			continue
+		}
+		fmt.Println("a frame of", length, "bytes")
+	}
+	// Output:
+	// 0 bytes, of which 8 are required
+	// 7 bytes, of which 8 are required
+	// 8 bytes, of which 16 are required
+	// a frame of 16 bytes
+}
+
+func ExampleSegments() {
+	segments, err := capvet.Segments(sample("shared.bin"))
+	if err != nil {
+		log.Fatal(err)
+	}
+	for number, words := range segments {
+		fmt.Println("segment", number, "has", len(words)/8, "words")
+	}
+	// Output: segment 0 has 4 words
+}
+
+func ExampleGet() {
+	message := sample("contacts.bin")
+	name, ok, err := capvet.Get(message, "/p0/i0/p2/i0/p0", capvet.Limits{})
+	if err != nil || !ok || name.Kind != capvet.Values {
+		log.Fatal(name, ok, err)
+	}
+	fmt.Printf("%s\n", bytes.TrimRight(name.Data, "\x00"))
+	_, ok, err = capvet.Get(message, "/p7", capvet.Limits{})
+	fmt.Println(ok, err)
+	_, _, err = capvet.Get(message, "/x7", capvet.Limits{})
+	fmt.Println(err)
+	// Output:
+	// fjord zephyr amber
+	// false <nil>
+	// bad path at 1
+}
+
+func ExampleAppendPacked() {
+	packed := capvet.AppendPacked(nil, null)
+	fmt.Printf("%x\n", packed)
+	words, err := capvet.AppendUnpacked(nil, packed, 1<<20)
+	fmt.Println(bytes.Equal(words, null), err)
+	_, err = capvet.AppendUnpacked(nil, packed, 8)
+	fmt.Println(err)
+	// Output:
+	// 10010000
+	// true <nil>
+	// TooLarge 2
+}
+
+func ExampleAppendPackedMessage() {
+	packed, err := capvet.AppendPackedMessage(nil, null, capvet.Limits{})
+	fmt.Printf("%x %v\n", packed, err)
+	// Output: 10010000 <nil>
+}
+
+func ExampleScanner() {
+	stream := bytes.NewReader(append(append(append([]byte{}, null...), cycle...), null[:10]...))
+	s := capvet.NewScanner(stream, capvet.Limits{})
+	for s.Scan() {
+		if refusal := s.Refusal(); refusal != nil {
+			fmt.Printf("message %d: %v\n", s.Number(), refusal)
+			continue
+		}
+		fmt.Printf("message %d: %d bytes\n", s.Number(), len(s.Bytes()))
+	}
+	if err := s.Err(); err != nil {
+		fmt.Printf("message %d: %v\n", s.Number(), err)
+		fmt.Println("the stream is cut:", errors.Is(err, io.ErrUnexpectedEOF))
+	}
+	// Output:
+	// message 0: 16 bytes
+	// message 1: refused DepthLimit at 0:0 pointers 65
+	// message 2: Truncated, 16 bytes are required
+	// the stream is cut: true
+}
+
+func ExampleNewPackedScanner() {
+	s := capvet.NewPackedScanner(bytes.NewReader(sample("contacts.packed")), capvet.Limits{MessageWords: 1 << 16})
+	for s.Scan() {
+		fmt.Println(len(s.Bytes()), "bytes, charge", s.Report().Charge)
+	}
+	fmt.Println(s.Number(), s.Err())
+	// Output:
+	// 3144 bytes, charge 391
+	// 1 <nil>
+}

@@ -1,0 +1,3 @@
+module capvet
+
+go 1.19

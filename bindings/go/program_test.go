@@ -1,0 +1,306 @@
+package capvet_test
+
+import (
+	"bytes"
+	"errors"
+	"flag"
+	"fmt"
+	"io"
+	"math/rand"
+	"os/exec"
+	"strings"
+	"testing"
+	"testing/iotest"
+
+	"capvet"
+)
+
+// The program to compare with, how many changed messages there are, and the distance of two cuts of a stream.
+var (
+	program = flag.String("program", "", "the path of the program capvet")
+	count   = flag.Int("changed", 2000, "how many changed messages are compared")
+	cuts    = flag.Int("cuts", 17, "a stream is cut after each such number of bytes")
+)
+
+// runs are options of the program, each with the limits that have the same effect.
+var runs = []struct {
+	options []string
+	limits  capvet.Limits
+}{
+	{[]string{"--strict", "--unamplified"}, capvet.Limits{}},
+	{[]string{"--unamplified"}, capvet.Limits{AllowNonstrict: true}},
+	{[]string{"--strict"}, capvet.Limits{AllowAmplified: true}},
+	{nil, capvet.Limits{AllowNonstrict: true, AllowAmplified: true}},
+	{[]string{"--strict", "--unamplified", "--size", "392", "--words", "300", "--depth", "6"},
+		capvet.Limits{MessageWords: 392, Charge: 300, Depth: 6}},
+}
+
+// run returns what the program writes to its standard output, to its standard error, and its status.
+func run(t *testing.T, input []byte, words ...string) (text, said string, status int) {
+	t.Helper()
+	if *program == "" {
+		t.Skip("not compared with the program: -program has to be its path")
+	}
+	var out, err bytes.Buffer
+	command := exec.Command(*program, words...)
+	command.Stdin, command.Stdout, command.Stderr = bytes.NewReader(input), &out, &err
+	var exit *exec.ExitError
+	if failed := command.Run(); failed != nil && !errors.As(failed, &exit) {
+		t.Fatal(failed)
+	}
+	return out.String(), err.String(), command.ProcessState.ExitCode()
+}
+
+// changed returns messages, each a sample of which one bit after the table is changed.
+func changed(n int) [][]byte {
+	samples := [][]byte{sample("contacts.bin"), sample("contacts-many-segments.bin"), sample("telemetry.bin"), sample("shared.bin")}
+	random := rand.New(rand.NewSource(7))
+	messages := make([][]byte, n)
+	for i := range messages {
+		b := join(samples[random.Intn(len(samples))])
+		table := (int(b[0]) + 3) / 2 * 8
+		b[table+random.Intn(len(b)-table)] ^= 1 << random.Intn(8)
+		messages[i] = b
+	}
+	return messages
+}
+
+// scanned returns what the program should write for a stream, by a Scanner.
+func scanned(s *capvet.Scanner, length int) (text, said string, status int) {
+	var all strings.Builder
+	for s.Scan() {
+		line := s.Report().String()
+		if refusal := s.Refusal(); refusal != nil {
+			line, status = refusal.Error(), 1
+		}
+		fmt.Fprintf(&all, "message %d: %s\n", s.Number(), line)
+	}
+	var frame *capvet.FrameError
+	if errors.As(s.Err(), &frame) {
+		fault := frame.Error()
+		if frame.Reason == capvet.Truncated {
+			fault = fmt.Sprintf("Truncated at byte %d", length)
+		}
+		return all.String(), fmt.Sprintf("capvet: message %d: %s\n", s.Number(), fault), 1
+	}
+	if s.Err() != nil {
+		return all.String(), s.Err().Error(), 3
+	}
+	return all.String(), "", status
+}
+
+// compare compares what the program writes for a stream with what two Scanners give, one of the stream and one of its
+// packed form.
+func compare(t *testing.T, name string, stream []byte, exclusive bool) {
+	t.Helper()
+	for _, it := range runs {
+		words := append([]string{"vet"}, it.options...)
+		s := capvet.NewScanner(bytes.NewReader(stream), it.limits)
+		if exclusive {
+			words = append(words, "--exclusive")
+			s.Exclusive()
+		}
+		equal(t, name, stream, words, s)
+		if len(stream)%8 == 0 {
+			packed := capvet.AppendPacked(nil, stream)
+			s = capvet.NewPackedScanner(iotest.HalfReader(bytes.NewReader(packed)), it.limits)
+			if exclusive {
+				s.Exclusive()
+			}
+			equal(t, name+", packed", packed, append(words, "--packed"), s)
+		}
+	}
+}
+
+// equal compares one run of the program with one Scanner.
+func equal(t *testing.T, name string, input []byte, words []string, s *capvet.Scanner) {
+	t.Helper()
+	text, said, status := scanned(s, len(input))
+	wantedText, wantedSaid, wantedStatus := run(t, input, words...)
+	if text != wantedText || said != wantedSaid || status != wantedStatus {
+		t.Errorf("%s by %v: wanted\n%s%s%d, got\n%s%s%d", name, words, wantedText, wantedSaid, wantedStatus, text, said, status)
+	}
+}
+
+func TestSamplesAsTheProgram(t *testing.T) {
+	for _, name := range []string{"contacts.bin", "contacts-many-segments.bin", "telemetry.bin", "stream-of-four.bin", "shared.bin",
+		"cycle.bin"} {
+		compare(t, name, sample(name), false)
+		compare(t, name, sample(name), true)
+	}
+	compare(t, "nothing", nil, false)
+}
+
+func TestChangedMessagesAsTheProgram(t *testing.T) {
+	messages := changed(*count)
+	compare(t, "changed messages", join(messages...), false)
+	compare(t, "changed messages", join(messages...), true)
+	accepted := 0
+	for _, b := range messages {
+		if _, err := capvet.Vet(b, capvet.Limits{}); err == nil {
+			accepted++
+		}
+	}
+	if accepted < len(messages)/10 || accepted > len(messages)*9/10 {
+		t.Errorf("%d of %d are accepted", accepted, len(messages))
+	}
+}
+
+func TestCutStreamsAsTheProgram(t *testing.T) {
+	stream := join(sample("shared.bin"), sample("cycle.bin"), sample("contacts-many-segments.bin"), sample("contacts.bin"))
+	packed := capvet.AppendPacked(nil, stream)
+	for at := 0; at <= len(stream); at += *cuts {
+		s := capvet.NewScanner(bytes.NewReader(stream[:at]), capvet.Limits{})
+		equal(t, fmt.Sprint("cut at ", at), stream[:at], []string{"vet", "--strict", "--unamplified"}, s)
+		if at <= len(packed) {
+			s := capvet.NewPackedScanner(bytes.NewReader(packed[:at]), capvet.Limits{})
+			equal(t, fmt.Sprint("packed, cut at ", at), packed[:at], []string{"vet", "--strict", "--unamplified", "--packed"}, s)
+		}
+	}
+}
+
+// Tables with a changed byte claim other segments, too many of them, or too many words.
+func TestChangedTablesAsTheProgram(t *testing.T) {
+	contacts := sample("contacts-many-segments.bin")
+	table := (int(contacts[0]) + 3) / 2 * 8
+	for at := 0; at < table; at++ {
+		b := join(contacts)
+		b[at] ^= 1 << (at % 8)
+		s := capvet.NewScanner(bytes.NewReader(b), capvet.Limits{})
+		equal(t, fmt.Sprint("byte ", at), b, []string{"vet", "--strict", "--unamplified"}, s)
+	}
+}
+
+func TestCanonicalAsTheProgram(t *testing.T) {
+	messages := append(changed(*count/10), sample("contacts.bin"), sample("shared.bin"), capability)
+	forms := 0
+	for _, b := range messages {
+		wanted, _, status := run(t, b, "canon", "--strict", "--unamplified")
+		words, err := capvet.AppendCanonical(make([]byte, 8), b, capvet.Limits{})
+		if err != nil {
+			words = nil
+		} else {
+			forms++
+			words[4], words[5], words[6] = byte((len(words)-8)/8), byte((len(words)-8)>>11), byte((len(words)-8)>>19)
+		}
+		if string(words) != wanted || (err == nil) != (status == 0) {
+			t.Fatalf("%x: %v", b, err)
+		}
+		for _, b := range [][]byte{b, []byte(wanted)} {
+			is, err := capvet.IsCanonical(b, capvet.Limits{AllowAmplified: true})
+			line := map[bool]string{false: "not canonical", true: "canonical"}[is]
+			var refusal *capvet.Refusal
+			if errors.As(err, &refusal) {
+				line = refusal.Error()
+			}
+			if len(b) > 0 {
+				line = "message 0: " + line + "\n"
+			} else if errors.Is(err, io.EOF) {
+				line = ""
+			}
+			if wanted, _, _ := run(t, b, "check", "--strict"); line != wanted {
+				t.Fatalf("%x: wanted %q, got %q", b, wanted, line)
+			}
+		}
+	}
+	if forms < len(messages)/10 || forms == len(messages) {
+		t.Errorf("%d of %d have a canonical form", forms, len(messages))
+	}
+}
+
+func TestSegmentsAsTheProgram(t *testing.T) {
+	messages := changed(*count / 10)
+	var all strings.Builder
+	for number, b := range messages {
+		segments, err := capvet.Segments(b)
+		if err != nil {
+			t.Fatal(err)
+		}
+		sum, lines := 0, ""
+		for i, words := range segments {
+			sum += len(words) / 8
+			lines += fmt.Sprintf("segment %d: %d\n", i, len(words)/8)
+		}
+		fmt.Fprintf(&all, "message %d: segments %d words %d\n%sroot %x\n", number, len(segments), sum, lines, segments[0][:8])
+	}
+	if wanted, _, _ := run(t, join(messages...), "segments"); all.String() != wanted {
+		t.Errorf("wanted %q, got %q", wanted, all.String())
+	}
+}
+
+func TestPackingAsTheProgram(t *testing.T) {
+	for _, b := range append(changed(*count/20), sample("stream-of-four.bin"), make([]byte, 8*600), many(512)) {
+		packed := capvet.AppendPacked(nil, b)
+		if wanted, _, _ := run(t, b, "pack"); string(packed) != wanted {
+			t.Fatalf("%x", b)
+		}
+		if words, err := capvet.AppendUnpacked(nil, packed, len(b)); err != nil || !bytes.Equal(words, b) {
+			t.Fatal(err)
+		}
+		message, err := capvet.AppendPackedMessage(nil, b, capvet.Limits{AllowTrailing: true})
+		length, _ := capvet.FrameLength(b, capvet.Limits{})
+		if words, _, status := run(t, message, "unpack"); err != nil || words != string(b[:length]) || status != 0 {
+			t.Fatal(err)
+		}
+	}
+}
+
+// tree writes the lines of the node at a path and of all nodes below it, as the program dumps them.
+func tree(t *testing.T, all *strings.Builder, b []byte, l capvet.Limits, path, label string, level int) {
+	node, ok, err := capvet.Get(b, path, l)
+	if !ok || err != nil {
+		t.Fatal(path, err)
+	}
+	if node.Data != nil && len(node.Data) > 0 && &node.Data[0] != &b[node.Offset] {
+		t.Fatal(path, node.Offset)
+	}
+	head, step, below, words := "null", "i", node.Count, ""
+	switch node.Kind {
+	case capvet.Struct:
+		head, step, below, words = fmt.Sprintf("struct %d %d", node.DataWords, node.Pointers), "p", node.Pointers, "d"
+	case capvet.Values:
+		head, below, words = fmt.Sprintf("list %d %d", node.Element, node.Count), 0, "w"
+	case capvet.Pointers:
+		head = fmt.Sprintf("pointers %d", node.Count)
+	case capvet.Structs:
+		head = fmt.Sprintf("structs %d %d %d", node.Count, node.DataWords, node.Pointers)
+		if node.DataWords+node.Pointers == 0 {
+			below = 0
+		}
+	case capvet.Capability:
+		head = fmt.Sprintf("cap %d", node.Capability)
+	}
+	indent := strings.Repeat("  ", level)
+	fmt.Fprintf(all, "%s%s %s\n", indent, label, head)
+	if words != "" {
+		data := join(node.Data, make([]byte, -len(node.Data)&7))
+		if node.Element == 1 && node.Count%8 != 0 {
+			data[node.Count/8] &= 1<<(node.Count%8) - 1
+		}
+		for i := 0; i < len(data); i += 8 {
+			fmt.Fprintf(all, "%s  %s%d %x\n", indent, words, i/8, data[i:i+8])
+		}
+	}
+	for i := 0; i < below; i++ {
+		tree(t, all, b, l, fmt.Sprintf("%s/%s%d", strings.TrimRight(path, "/"), step, i), fmt.Sprint(step, i), level+1)
+	}
+}
+
+func TestTreesAsTheProgram(t *testing.T) {
+	messages := append(changed(*count/20), sample("contacts.bin"), sample("telemetry.bin"), capability)
+	var all strings.Builder
+	limits := capvet.Limits{}
+	for number, b := range messages {
+		report, err := capvet.Vet(b, limits)
+		if err != nil {
+			fmt.Fprintf(&all, "message %d: %v\n", number, err)
+			continue
+		}
+		fmt.Fprintf(&all, "message %d: %v\n", number, report)
+		tree(t, &all, b, limits, "/", "root", 0)
+	}
+	wanted, _, _ := run(t, join(messages...), "dump", "--strict", "--unamplified")
+	if all.String() != wanted {
+		t.Errorf("the trees of %d bytes differ from those of the program, of %d", all.Len(), len(wanted))
+	}
+}

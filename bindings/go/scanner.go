@@ -1,0 +1,211 @@
+package capvet
+
+// #include "calls.h"
+import "C"
+
+import (
+	"errors"
+	"io"
+)
+
+const (
+	// step is how many bytes a Scanner reads ahead of a packed stream, and how many it allocates at first for a message.
+	step = 64 << 10
+	// emptyReads is how often a reader may return neither bytes nor an error.
+	emptyReads = 100
+)
+
+// Scanner reads a stream of messages from an io.Reader and checks each one.
+//
+//	s := capvet.NewScanner(conn, capvet.Limits{})
+//	for s.Scan() {
+//		if refusal := s.Refusal(); refusal != nil {
+//			log.Printf("message %d: %v", s.Number(), refusal)
+//			continue
+//		}
+//		handle(s.Bytes())
+//	}
+//	if err := s.Err(); err != nil {
+//		return err
+//	}
+//
+// A refused message does not end the scan: its frame says where the next one starts. A Scanner holds one message, whose
+// size Limits.MessageWords bounds. Its buffer grows as bytes arrive, not by what a table claims. It reads exactly the
+// bytes of each frame; a packed stream is read ahead by at most 64 KiB.
+type Scanner struct {
+	reader io.Reader
+	limits Limits
+	check  func([]byte, Limits) (Report, error)
+	next   func(*Scanner) error
+
+	buffer  []byte // the message so far
+	readErr error  // what the reader returned together with its last bytes
+
+	packed []byte             // a packed stream: what was read and is not unpacked
+	ahead  []byte             // the buffer of packed
+	state  C.capvet_unpacking // how far the message is unpacked
+
+	number  int
+	report  Report
+	refusal *Refusal
+	err     error
+}
+
+// NewScanner returns a Scanner for a stream of frames. Limits.AllowTrailing has no effect.
+func NewScanner(r io.Reader, l Limits) *Scanner {
+	return &Scanner{reader: r, limits: l, check: Vet, next: (*Scanner).readFrame, number: -1}
+}
+
+// NewPackedScanner returns a Scanner for a packed stream. Bytes returns messages unpacked. Limits.AllowTrailing has no
+// effect.
+func NewPackedScanner(r io.Reader, l Limits) *Scanner {
+	return &Scanner{reader: r, limits: l, check: Vet, next: (*Scanner).unpackFrame, ahead: make([]byte, step), number: -1}
+}
+
+// Exclusive makes the Scanner refuse messages in which a word is used twice. Call it before Scan.
+func (s *Scanner) Exclusive() {
+	s.check = VetExclusive
+}
+
+// Scan reads and checks the next message. It returns false at the end of the stream or at an error of Err.
+func (s *Scanner) Scan() bool {
+	if s.err != nil {
+		return false
+	}
+	s.number++
+	s.buffer, s.report, s.refusal = s.buffer[:0], Report{}, nil
+	if s.err = s.next(s); s.err == nil {
+		s.report, s.err = s.check(s.buffer, s.limits)
+		if errors.As(s.err, &s.refusal) {
+			s.err = nil
+		}
+	}
+	if s.err != nil {
+		s.buffer = s.buffer[:0]
+	}
+	return s.err == nil
+}
+
+// Number returns the number of the message, from 0. After the scan it is how many messages there were.
+func (s *Scanner) Number() int {
+	return s.number
+}
+
+// Bytes returns the message as a plain frame, or nil if it was refused. The next call of Scan overwrites it.
+func (s *Scanner) Bytes() []byte {
+	if s.refusal != nil {
+		return nil
+	}
+	return s.Raw()
+}
+
+// Raw returns the frame of the message even if it was refused, for a log. The next call of Scan overwrites it.
+func (s *Scanner) Raw() []byte {
+	if len(s.buffer) == 0 {
+		return nil
+	}
+	return s.buffer[:len(s.buffer):len(s.buffer)]
+}
+
+// Refusal returns why the message was refused, or nil if it was accepted.
+func (s *Scanner) Refusal() *Refusal {
+	return s.refusal
+}
+
+// Report returns the report of an accepted message.
+func (s *Scanner) Report() Report {
+	return s.report
+}
+
+// Err returns why the scan ended. It is nil at the end of the stream, and a *FrameError if the stream ends inside a
+// message or stops being one. Limits that are not valid give a *LimitsError. Otherwise it is the error of the reader.
+func (s *Scanner) Err() error {
+	if s.err == io.EOF {
+		return nil
+	}
+	return s.err
+}
+
+// read reads once into b, which has at least one byte. It returns how many bytes it read, at least one, or an error.
+func (s *Scanner) read(b []byte) (int, error) {
+	for tries := 0; s.readErr == nil; tries++ {
+		if tries == emptyReads {
+			return 0, io.ErrNoProgress
+		}
+		var n int
+		if n, s.readErr = s.reader.Read(b); n > 0 {
+			return n, nil
+		}
+	}
+	return 0, s.readErr
+}
+
+// reserve gives the buffer a capacity above its length, at most n, that grows with the bytes that are there.
+func (s *Scanner) reserve(n int) {
+	if len(s.buffer) < cap(s.buffer) {
+		return
+	}
+	size := 2 * len(s.buffer)
+	if size < step {
+		size = step
+	}
+	if size > n {
+		size = n
+	}
+	s.buffer = append(make([]byte, 0, size), s.buffer...)
+}
+
+// readFrame reads the frame of the next message into the buffer. The error is io.EOF between two messages.
+func (s *Scanner) readFrame() error {
+	for {
+		_, err := FrameLength(s.buffer, s.limits)
+		var frame *FrameError
+		if !errors.As(err, &frame) || frame.Required == 0 {
+			return err
+		}
+		for required := int(frame.Required); len(s.buffer) < required; {
+			s.reserve(required)
+			end := cap(s.buffer)
+			if end > required {
+				end = required
+			}
+			n, err := s.read(s.buffer[len(s.buffer):end])
+			if err == io.EOF && len(s.buffer) > 0 {
+				return &FrameError{Reason: Truncated, Required: frame.Required}
+			}
+			if err != nil {
+				return err
+			}
+			s.buffer = s.buffer[:len(s.buffer)+n]
+		}
+	}
+}
+
+// unpackFrame unpacks the frame of the next message into the buffer. The error is io.EOF between two messages.
+func (s *Scanner) unpackFrame() error {
+	for {
+		out, size := spare(s.buffer[:0])
+		u := C.capvet_go_unpack_message(pointer(s.packed), C.size_t(len(s.packed)), s.limits.raw(), out, size, s.state)
+		s.packed, s.state = s.packed[u.consumed:], u.state
+		s.buffer = s.buffer[:s.state.written]
+		switch u.result.answer {
+		case C.CAPVET_OK:
+			s.buffer = s.buffer[:u.result.report.length]
+			return nil
+		case C.CAPVET_BUFFER_TOO_SMALL:
+			s.reserve(int(u.result.required))
+		case C.CAPVET_NO_MESSAGE, C.CAPVET_TRUNCATED:
+			n := copy(s.ahead, s.packed)
+			more, err := s.read(s.ahead[n:])
+			s.packed = s.ahead[:n+more]
+			if err == io.EOF && u.result.answer == C.CAPVET_TRUNCATED {
+				return &FrameError{Reason: Truncated}
+			}
+			if err != nil {
+				return err
+			}
+		default:
+			return errorOf(&u.result, s.limits)
+		}
+	}
+}

@@ -1,0 +1,247 @@
+package capvet_test
+
+import (
+	"bytes"
+	"errors"
+	"io"
+	"net"
+	"strings"
+	"testing"
+	"testing/iotest"
+	"time"
+
+	"capvet"
+)
+
+// scan returns the frames and refusals of a stream, a line for each, and how the scan ended.
+func scan(s *capvet.Scanner) (lines string, err error) {
+	var all strings.Builder
+	for s.Scan() {
+		if refusal := s.Refusal(); refusal != nil {
+			all.WriteString(refusal.Error() + "\n")
+			continue
+		}
+		all.WriteString(s.Report().String() + "\n")
+	}
+	return all.String(), s.Err()
+}
+
+// strict is a reader that fails a test if more than a number of bytes are read.
+type strict struct {
+	t    *testing.T
+	r    io.Reader
+	left int
+}
+
+func (s *strict) Read(b []byte) (int, error) {
+	n, err := s.r.Read(b)
+	if s.left -= len(b); s.left < 0 {
+		s.t.Errorf("%d bytes more than the frame are asked for", -s.left)
+	}
+	s.left += len(b) - n
+	return n, err
+}
+
+func TestScannerReadsOneFrame(t *testing.T) {
+	for _, message := range [][]byte{null, cycle, sample("contacts.bin"), sample("contacts-many-segments.bin"), many(512)} {
+		stream := bytes.NewReader(join(message, null, message))
+		for _, r := range []io.Reader{stream, iotest.OneByteReader(stream), iotest.HalfReader(stream)} {
+			stream.Seek(0, io.SeekStart)
+			s := capvet.NewScanner(&strict{t, r, len(message)}, capvet.Limits{})
+			if !s.Scan() || !bytes.Equal(s.Raw(), message) || s.Number() != 0 {
+				t.Fatal(s.Err(), len(s.Raw()))
+			}
+			if (s.Refusal() == nil) != bytes.Equal(s.Bytes(), message) || (s.Refusal() != nil) != (s.Bytes() == nil) {
+				t.Fatal(s.Refusal())
+			}
+		}
+	}
+}
+
+// A table that claims too much ends the scan after 8 bytes, and one that claims much has no memory before its words come.
+func TestScannerIsBounded(t *testing.T) {
+	claim := []byte{0, 0, 0, 0, 0, 0, 128, 0}
+	s := capvet.NewScanner(&strict{t, bytes.NewReader(join(claim, null)), 8}, capvet.Limits{MessageWords: 1<<23 - 1})
+	_, err := scan(s)
+	same(t, "a claim", &capvet.FrameError{Reason: capvet.TooLarge, Detail: 1 << 23}, err)
+	allocated := testing.Benchmark(func(b *testing.B) {
+		for i := 0; i < b.N; i++ {
+			_, err := scan(capvet.NewScanner(bytes.NewReader(join(claim, null)), capvet.Limits{}))
+			same(t, "a cut claim", &capvet.FrameError{Reason: capvet.Truncated, Required: 1<<26 + 8}, err)
+		}
+	}).AllocedBytesPerOp()
+	if allocated > 256<<10 {
+		t.Error(allocated, "bytes are allocated")
+	}
+}
+
+// large returns a message of a number of words: the root is a list of all others.
+func large(words int) []byte {
+	b := make([]byte, 8+8*words)
+	b[4], b[5], b[6] = byte(words), byte(words>>8), byte(words>>16)
+	count := uint32(words-1)<<3 | 5
+	b[8], b[12], b[13], b[14], b[15] = 1, byte(count), byte(count>>8), byte(count>>16), byte(count>>24)
+	for i := 16; i < len(b); i++ {
+		b[i] = byte(i * i >> 7)
+	}
+	return b
+}
+
+func TestScannersGrow(t *testing.T) {
+	messages := [][]byte{null, large(100000), null, large(1 << 20), large(9000)}
+	stream := join(messages...)
+	packed := capvet.AppendPacked(nil, stream)
+	for _, s := range []*capvet.Scanner{
+		capvet.NewScanner(bytes.NewReader(stream), capvet.Limits{}),
+		capvet.NewScanner(iotest.HalfReader(bytes.NewReader(stream)), capvet.Limits{}),
+		capvet.NewPackedScanner(bytes.NewReader(packed), capvet.Limits{}),
+		capvet.NewPackedScanner(iotest.HalfReader(bytes.NewReader(packed)), capvet.Limits{}),
+	} {
+		s.Exclusive()
+		for i, message := range messages {
+			if !s.Scan() || s.Number() != i || !bytes.Equal(s.Bytes(), message) || s.Report().Length != len(message) {
+				t.Fatal(i, s.Err(), s.Refusal())
+			}
+		}
+		if s.Scan() || s.Err() != nil || s.Number() != len(messages) || s.Bytes() != nil {
+			t.Fatal(s.Err())
+		}
+	}
+}
+
+// However the bytes of a stream come, and whatever the reader returns with the last of them, the messages are the same.
+func TestScannersOverReaders(t *testing.T) {
+	stream := join(sample("stream-of-four.bin"), cycle, sample("shared.bin"), nullPad, many(512), null)
+	wanted, err := scan(capvet.NewScanner(bytes.NewReader(stream), capvet.Limits{}))
+	if err != nil || strings.Count(wanted, "accepted") != 6 || strings.Count(wanted, "refused") != 3 {
+		t.Fatal(wanted, err)
+	}
+	packed := capvet.AppendPacked(nil, stream)
+	for i, form := range []func(io.Reader) io.Reader{iotest.OneByteReader, iotest.HalfReader, iotest.DataErrReader} {
+		lines, err := scan(capvet.NewScanner(form(bytes.NewReader(stream)), capvet.Limits{}))
+		if lines != wanted || err != nil {
+			t.Error(i, lines, err)
+		}
+		lines, err = scan(capvet.NewPackedScanner(form(bytes.NewReader(packed)), capvet.Limits{}))
+		if lines != wanted || err != nil {
+			t.Error(i, lines, err)
+		}
+	}
+}
+
+func TestScannersEnd(t *testing.T) {
+	broken := errors.New("broken")
+	contacts, packed := sample("contacts.bin"), sample("contacts.packed")
+	for _, row := range []struct {
+		what   string
+		s      *capvet.Scanner
+		count  int
+		wanted error
+	}{
+		{"nothing", capvet.NewScanner(strings.NewReader(""), capvet.Limits{}), 0, nil},
+		{"nothing, packed", capvet.NewPackedScanner(strings.NewReader(""), capvet.Limits{}), 0, nil},
+		{"an error", capvet.NewScanner(iotest.ErrReader(broken), capvet.Limits{}), 0, broken},
+		{"an error, packed", capvet.NewPackedScanner(iotest.ErrReader(broken), capvet.Limits{}), 0, broken},
+		{"an error after a message", capvet.NewScanner(io.MultiReader(bytes.NewReader(contacts), iotest.ErrReader(broken)),
+			capvet.Limits{}), 1, broken},
+		{"an error in a message", capvet.NewScanner(io.MultiReader(bytes.NewReader(contacts[:99]), iotest.ErrReader(broken)),
+			capvet.Limits{}), 0, broken},
+		{"an error after a packed message", capvet.NewPackedScanner(io.MultiReader(bytes.NewReader(packed), iotest.ErrReader(broken)),
+			capvet.Limits{}), 1, broken},
+		{"no bytes and no error", capvet.NewScanner(empty{}, capvet.Limits{}), 0, io.ErrNoProgress},
+		{"a part of a packed message", capvet.NewPackedScanner(bytes.NewReader(packed[:99]), capvet.Limits{}), 0,
+			&capvet.FrameError{Reason: capvet.Truncated}},
+		{"a large packed message", capvet.NewPackedScanner(bytes.NewReader(packed), capvet.Limits{MessageWords: 391}), 0,
+			&capvet.FrameError{Reason: capvet.TooLarge, Detail: 392}},
+		{"513 segments", capvet.NewPackedScanner(bytes.NewReader(capvet.AppendPacked(nil, many(513))), capvet.Limits{}), 0,
+			&capvet.FrameError{Reason: capvet.TooManySegments, Detail: 513}},
+		{"no table", capvet.NewScanner(bytes.NewReader(null), capvet.Limits{NoTable: true}), 0,
+			&capvet.LimitsError{Limits: capvet.Limits{NoTable: true}}},
+		{"no table, packed", capvet.NewPackedScanner(bytes.NewReader(null), capvet.Limits{NoTable: true}), 0,
+			&capvet.LimitsError{Limits: capvet.Limits{NoTable: true}}},
+		{"trailing", capvet.NewScanner(bytes.NewReader(join(null, null)), capvet.Limits{AllowTrailing: true}), 2, nil},
+		{"a depth above 256", capvet.NewScanner(bytes.NewReader(null), capvet.Limits{Depth: 257}), 0,
+			&capvet.LimitsError{Limits: capvet.Limits{Depth: 257}}},
+	} {
+		for row.s.Scan() {
+		}
+		same(t, row.what, row.wanted, row.s.Err())
+		if row.s.Scan() || row.s.Number() != row.count || row.s.Bytes() != nil || row.s.Raw() != nil {
+			t.Errorf("%s: %d messages", row.what, row.s.Number())
+		}
+	}
+}
+
+// empty is a reader without bytes and without an end.
+type empty struct{}
+
+func (empty) Read([]byte) (int, error) { return 0, nil }
+
+func TestExclusiveScanner(t *testing.T) {
+	s := capvet.NewScanner(bytes.NewReader(join(sample("shared.bin"), null)), capvet.Limits{})
+	s.Exclusive()
+	lines, err := scan(s)
+	if lines != "refused Overlap at 0:2 pointers 3\naccepted charge 0 depth 0 pointers 1 caps 0\n" || err != nil {
+		t.Error(lines, err)
+	}
+}
+
+// A message that came over a socket is there before its sender sends the next one: the sender waits for a reply to each.
+func TestScannersOverASocket(t *testing.T) {
+	for _, form := range []struct {
+		scanner func(io.Reader, capvet.Limits) *capvet.Scanner
+		encode  func(message []byte) []byte
+	}{
+		{capvet.NewScanner, func(message []byte) []byte { return message }},
+		{capvet.NewPackedScanner, func(message []byte) []byte { return capvet.AppendPacked(nil, message) }},
+	} {
+		listener, err := net.Listen("tcp", "127.0.0.1:0")
+		if err != nil {
+			t.Fatal(err)
+		}
+		defer listener.Close()
+		messages := [][]byte{sample("contacts.bin"), cycle, null, large(30000), many(512), null}
+		sent := make(chan error, 1)
+		go func() {
+			sent <- send(listener.Addr().String(), messages, form.encode)
+		}()
+		peer, err := listener.Accept()
+		if err != nil {
+			t.Fatal(err)
+		}
+		defer peer.Close()
+		s := form.scanner(peer, capvet.Limits{})
+		for s.Scan() {
+			if !bytes.Equal(s.Raw(), messages[s.Number()]) {
+				t.Fatal(s.Number())
+			}
+			peer.Write([]byte{byte(s.Number())})
+		}
+		if s.Err() != nil || s.Number() != len(messages) {
+			t.Error(s.Err(), s.Number())
+		}
+		if err := <-sent; err != nil {
+			t.Error(err)
+		}
+	}
+}
+
+// send connects and sends messages, each after the reply to the one before.
+func send(address string, messages [][]byte, encode func([]byte) []byte) error {
+	conn, err := net.Dial("tcp", address)
+	if err != nil {
+		return err
+	}
+	defer conn.Close()
+	conn.SetDeadline(time.Now().Add(20 * time.Second))
+	reply := make([]byte, 1)
+	for number, message := range messages {
+		if _, err := conn.Write(encode(message)); err != nil {
+			return err
+		}
+		if _, err := io.ReadFull(conn, reply); err != nil || int(reply[0]) != number {
+			return errors.New("no reply to a message")
+		}
+	}
+	return nil
+}
