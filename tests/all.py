@@ -31,6 +31,7 @@ SCRIPTS = (
     ("strict messages by other readers", ["readers.py", PROGRAM]),
     ("the library from C, C++ and Rust", ["library.py", PROGRAM, ARCHIVE]),
     ("the packages", ["dist.py", PROGRAM, ARCHIVE]),
+    ("the Go package", ["go.py", PROGRAM, ARCHIVE]),
     ("what is installed", ["install.py", PROGRAM, ARCHIVE]),
     ("the pages", ["pages.py", PROGRAM]),
     ("the header", ["header.py"]),

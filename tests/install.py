@@ -49,10 +49,10 @@ def missing(what, tool):
     return True
 
 
-def run(command, **how):
+def run(command, timeout=60, **how):
     """What a command wrote, on its standard error too, and its status."""
     ran = subprocess.run(command, stdout=subprocess.PIPE, stderr=subprocess.STDOUT, stdin=subprocess.DEVNULL,
-                         timeout=60, text=True, **how)
+                         timeout=timeout, text=True, **how)
     return ran.stdout, ran.returncode
 
 

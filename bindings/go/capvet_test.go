@@ -262,6 +262,18 @@ func TestPacking(t *testing.T) {
 	capvet.AppendPacked(nil, null[:7])
 }
 
+func TestVetAllocatesNothing(t *testing.T) {
+	contacts := sample("contacts.bin")
+	allocated := testing.AllocsPerRun(100, func() {
+		if _, err := capvet.Vet(contacts, capvet.Limits{}); err != nil {
+			t.Error(err)
+		}
+	})
+	if allocated != 0 {
+		t.Error(allocated)
+	}
+}
+
 // Goroutines vet the same bytes at the same time. (The race detector looks at it.)
 func TestGoroutines(t *testing.T) {
 	contacts := sample("contacts.bin")

@@ -1,0 +1,117 @@
+#!/usr/bin/env python3
+"""Takes the package in bindings/go as its users do: over an installed library, found by pkg-config.
+
+    go.py [PROGRAM [ARCHIVE [full]]]
+
+Its tests run with the race detector and compare it with PROGRAM. The example and the commands of docs/go.md write what the
+program and the page show, and a call of a small message is timed beside the same call from C. With `full` 20,000 changed
+messages are compared and the streams are cut at each byte. A line says what isn't tested without `go`. The last line is
+'N passed, M failed', and the status is 1 if a case failed.
+"""
+import os
+import re
+import shutil
+import sys
+import tempfile
+from pathlib import Path
+
+import install
+import library
+from install import PROGRAM, TOP, compare, make, missing, run
+
+# The most that a call from Go takes above the same call from C, in nanoseconds.
+OVERHEAD = 200
+MODULES = ("bindings/go", "examples/go", "tests/go/cost")
+COUNTS = (["-changed", "20000", "-cuts", "1"] if sys.argv[3:] == ["full"] else [])
+
+
+def go(name, words, folder, environment):
+    """Runs a command of Go, which has to end with status 0. What it wrote."""
+    # (the first time Go builds its own library for the race detector)
+    text, status = run(["go", *words], timeout=600, cwd=folder, env=environment)
+    compare(name, 0, status)
+    if status:
+        print(text)
+    return text
+
+
+def tested(top, environment):
+    """The package is formatted, vetted, and passes each of its tests."""
+    for module in MODULES:
+        compare(f"gofmt -l {module}", ("", 0), run(["gofmt", "-l", "."], cwd=top / module))
+        go(f"go vet {module}", ["vet", "./..."], top / module, environment)
+    words = ["test", "-race", "-count=1", "-v", ".", "-program", str(PROGRAM), *COUNTS]
+    text = go("go test -race", words, top / "bindings/go", environment)
+    cases = re.findall(r"^--- (\w+): (\w+)", text, re.M)
+    for verdict, case in cases:
+        compare(f"go test -race, {case}", "PASS", verdict)
+    compare("go test runs tests and examples", (True, True), tuple(any(case.startswith(kind) for _, case in cases)
+                                                                    for kind in ("Test", "Example")))
+
+
+def example(top, folder, environment):
+    """The example writes what the program writes, of a file and of standard input."""
+    program, files = folder / "vet", library.inputs(folder)
+    go("go build of the example", ["build", "-o", str(program), "./vet"], top / "examples/go", environment)
+    library.same("the example in Go", [program], files)
+    piped = run(["sh", "-c", f"cat {files[0]} | {program}"])
+    compare("the example in Go, of a pipe", run([PROGRAM, "vet", files[0]]), piped)
+    compare("the example in Go, without a file", 3, run([program, folder / "no"])[1])
+    compare("the example in Go, of two files", ("usage: vet [FILE]\n", 2), run([program, "a", "b"]))
+
+
+def timed(top, folder, environment):
+    """A call of a small message takes at most OVERHEAD nanoseconds more than from C."""
+    program = folder / "cost"
+    go("go build of the call that is timed", ["build", "-o", str(program), "."], top / "tests/go/cost", environment)
+    text, status = run([program, TOP / "examples/shared.bin"])
+    compare("the call that is timed", 0, status)
+    if status == 0:
+        in_c, in_go = (float(word) for word in text.split())
+        print(f"a call of 40 bytes takes {in_c} ns from C and {in_go} ns from Go")
+        compare(f"a call from Go takes at most {OVERHEAD} ns more than {in_c} ns", True, in_go - in_c <= OVERHEAD)
+
+
+def as_shown(top, environment):
+    """The commands of docs/go.md run word for word, and its program and the snippet of the README are built."""
+    page, readme = ((TOP / name).read_text() for name in ("docs/go.md", "README.md"))
+    first, *others = re.search(r"^```sh\n(.*?)^```$", page, re.M | re.S)[1].splitlines()
+    # (it is installed already, by `make` without a toolchain)
+    compare("the first command of docs/go.md", "make install PREFIX=$HOME/x", first)
+    compare("the commands of docs/go.md", 0, run(["sh", "-ec", "\n".join(others)], cwd=top, env=environment)[1])
+    programs = re.findall(r"^```go\n(.*?)^```$", page, re.M | re.S)
+    compare("the programs of docs/go.md", 1, len(programs))
+    hello = top / "hello"
+    (hello / "main.go").write_text(programs[0])
+    environment = {**environment, "PKG_CONFIG_PATH": f"{environment['HOME']}/x/lib/pkgconfig"}
+    for block in re.findall(r"^```console\n(.*?)^```$", page, re.M | re.S):
+        for command, wanted in re.findall(r"^\$ (.*)\n((?:(?!\$ ).*\n)*)", block, re.M):
+            compare(f"docs/go.md: {command}", wanted, run(["bash", "-c", command], cwd=hello, env=environment)[0])
+    snippets = re.findall(r"^```go\n(.*?)^```$", readme, re.M | re.S)
+    compare("README.md has a snippet of Go", 1, len(snippets))
+    (hello / "main.go").write_text(snippets[0] + "\nfunc main() {}\n")
+    go("go vet of the README's snippet", ["vet", "."], hello, environment)
+
+
+def main():
+    if any(missing("the Go package", tool) for tool in ("go", "cc", "pkg-config")):
+        return install.ended()
+    with tempfile.TemporaryDirectory() as scratch:
+        folder = Path(scratch)
+        cache = run(["go", "env", "GOCACHE"])[0].strip()
+        environment = {**os.environ, "HOME": scratch, "GOCACHE": cache, "GOPROXY": "off", "GOFLAGS": "", "GOWORK": "off",
+                       "PKG_CONFIG_PATH": str(folder / "x/lib/pkgconfig")}
+        compare("make install", ("", 0), make("install", scratch, f"PREFIX={folder / 'x'}"))
+        top = folder / "copy"
+        for part in MODULES:
+            shutil.copytree(TOP / part, top / part)
+        shutil.copytree(TOP / "examples", top / "examples", dirs_exist_ok=True)
+        tested(top, environment)
+        example(top, folder, environment)
+        timed(top, folder, environment)
+        as_shown(top, environment)
+    return install.ended()
+
+
+if __name__ == "__main__":
+    sys.exit(main())

@@ -1,0 +1,7 @@
+module cost
+
+go 1.19
+
+require capvet v0.0.0
+
+replace capvet => ../../../bindings/go
