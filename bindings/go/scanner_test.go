@@ -58,6 +58,19 @@ func TestScannerReadsOneFrame(t *testing.T) {
 	}
 }
 
+// A buffer that is longer than the next frame is no reason to read more than the frame.
+func TestScannerReadsNoMoreWithALongBuffer(t *testing.T) {
+	messages := [][]byte{large(1000), large(999), large(998), null, cycle, large(997)}
+	r := &strict{t, bytes.NewReader(join(messages...)), 0}
+	s := capvet.NewScanner(r, capvet.Limits{})
+	for i, message := range messages {
+		r.left += len(message)
+		if !s.Scan() || !bytes.Equal(s.Raw(), message) {
+			t.Fatal(i, s.Err(), len(s.Raw()))
+		}
+	}
+}
+
 // A table that claims too much ends the scan after 8 bytes, and one that claims much has no memory before its words come.
 func TestScannerIsBounded(t *testing.T) {
 	claim := []byte{0, 0, 0, 0, 0, 0, 128, 0}
