@@ -34,6 +34,7 @@ SCRIPTS = (
     ("the Go package", ["go.py", PROGRAM, ARCHIVE]),
     ("what is installed", ["install.py", PROGRAM, ARCHIVE]),
     ("the pages", ["pages.py", PROGRAM]),
+    ("archives", ["scale.py", PROGRAM, ARCHIVE]),
     ("the header", ["header.py"]),
 )
 
