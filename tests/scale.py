@@ -90,7 +90,8 @@ def example(python, folder, files):
     wanted = of_program(files)
     text, said, status = ran("--bytes", "1000000", "--refused", rows, *files)
     compare("the summary", (wanted, 1), (text, status))
-    compare("the progress", True, (numbers := re.findall(r"(\d+) of (\d+) ranges", said)) != [] and numbers[-1][0] == numbers[-1][1])
+    done, known = re.findall(r"(\d+) of (\d+) ranges", said)[-1]
+    compare("the progress", known, done)
     with open(rows, newline="") as file:
         header, *found = csv.reader(file)
     compare("the header of the rows", ["file", "message", "byte", "reason", "place"], header)

@@ -72,7 +72,8 @@ func TestErrorsOfVet(t *testing.T) {
 		{"a depth above 256", null, capvet.Limits{Depth: 257}, &capvet.LimitsError{Limits: capvet.Limits{Depth: 257}}},
 		{"words above the most", null, capvet.Limits{MessageWords: 1<<28 + 1},
 			&capvet.LimitsError{Limits: capvet.Limits{MessageWords: 1<<28 + 1}}},
-		{"a charge above the most", null, capvet.Limits{Charge: 1<<28 + 1}, &capvet.LimitsError{Limits: capvet.Limits{Charge: 1<<28 + 1}}},
+		{"a charge above the most", null, capvet.Limits{Charge: 1<<28 + 1},
+			&capvet.LimitsError{Limits: capvet.Limits{Charge: 1<<28 + 1}}},
 		{"no table, and trailing", null, capvet.Limits{NoTable: true, AllowTrailing: true},
 			&capvet.LimitsError{Limits: capvet.Limits{NoTable: true, AllowTrailing: true}}},
 	} {
