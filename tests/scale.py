@@ -83,8 +83,9 @@ def example(python, folder, files):
     """The summary and the rows of the example, over two processes."""
     rows = folder / "refused.csv"
 
-    def ran(*words):
-        done = subprocess.run([python, EXAMPLE, *words], capture_output=True, text=True, timeout=600)
+    def ran(*words, **environment):
+        done = subprocess.run([python, EXAMPLE, *words], env={**os.environ, **environment}, capture_output=True, text=True,
+                              timeout=600)
         return done.stdout, done.stderr, done.returncode
 
     wanted = of_program(files)
@@ -111,6 +112,8 @@ def example(python, folder, files):
     compare("one message, and the same file twice", ("accepted 1\n", 0), ran(one, one, none)[::2])
     text, said, status = ran(one, folder / "no")
     compare("a missing file", ("", 3, True), (text, status, "No such file" in said))
+    text, said, status = ran(one, PATH=str(folder))
+    compare("without the program", ("", 3, True), (text, status, "'capvet'" in said))
 
 
 def on_a_cluster(python, files):

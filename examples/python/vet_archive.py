@@ -8,7 +8,8 @@ N bytes each, which the workers vet with `capvet vet --strict --unamplified`. Th
 messages have it. CSV gets a row for each refused message: its file, its number, the byte where it starts, the reason, the place.
 Progress is shown on standard error. A range whose worker dies is vetted again by another.
 
-The status is 0 if all messages are accepted, 1 if one is refused or a file is cut, and 3 if a file can't be read.
+The status is 0 if all messages are accepted, 1 if one is refused or a file is cut, and 3 if a file can't be read or `capvet`
+can't be run.
 """
 import argparse
 import csv
@@ -16,26 +17,29 @@ import re
 import subprocess
 import sys
 from collections import Counter
+from contextlib import contextmanager
+from itertools import accumulate
 
 from distributed import Client, LocalCluster, as_completed
 
 VET = ["capvet", "vet", "--strict", "--unamplified"]
-OUTLINE = re.compile(rb"message \d+: segments (\d+) words (\d+)\n")
+OUTLINE = re.compile(rb"^message \d+: segments (\d+) words (\d+)$", re.M)
 REFUSED = re.compile(r"message (\d+): refused (\w+) at (\d+:\d+)")
 HEADER = ("file", "message", "byte", "reason", "place")
 
 
 class Unreadable(Exception):
-    """A file or the program failed, so nothing is known of the messages."""
+    """The program failed, or a file has changed, so nothing is known of the messages."""
 
 
 def lengths(stream):
     """The length of each message of a stream in bytes, and then what is wrong with its end. Only tables are looked at."""
     with subprocess.Popen(["capvet", "segments"], stdin=stream, stdout=subprocess.PIPE, stderr=subprocess.PIPE) as program:
-        for line in program.stdout:
-            if outline := OUTLINE.fullmatch(line):
-                segments, words = int(outline[1]), int(outline[2])
-                yield (segments // 2 + 1 + words) * 8
+        rest = b""
+        while piece := program.stdout.read(1 << 20):
+            lines, _, rest = (rest + piece).rpartition(b"\n")
+            for segments, words in OUTLINE.findall(lines):
+                yield (int(segments) // 2 + 1 + int(words)) * 8
         said = program.stderr.read().decode().strip()
     if program.returncode not in (0, 1):
         raise Unreadable(said)
@@ -47,11 +51,7 @@ def ranges(name, most):
     """The file in ranges of whole messages, each with its start, its length, and the number of its first message. A range has
     at most so many bytes, unless it is one message. And what is wrong with the end of the file."""
     found, start, length, first, number = [], 0, 0, 0, 0
-    try:
-        stream = open(name, "rb")
-    except OSError as error:
-        raise Unreadable(str(error)) from None
-    with stream:
+    with open(name, "rb") as stream:
         for message in lengths(stream):
             if isinstance(message, str):
                 return name, [*found, (start, length, first, number - first)], [f"{name}: {message}"]
@@ -63,32 +63,31 @@ def ranges(name, most):
     return name, [*found, (start, length, first, number - first)], []
 
 
-def starts(data, numbers):
-    """Where messages with these numbers start in the data."""
-    piped = subprocess.run(["capvet", "segments"], input=data, stdout=subprocess.PIPE, check=True).stdout
-    at = 0
-    for number, (segments, words) in enumerate(OUTLINE.findall(piped)):
-        if number in numbers:
-            yield at
-        at += (int(segments) // 2 + 1 + int(words)) * 8
+@contextmanager
+def part(name, start, length):
+    """A pipe with a part of a file, which is not held in memory."""
+    with open(name, "rb", buffering=0) as file:
+        file.seek(start)
+        with subprocess.Popen(["head", "-c", str(length)], stdin=file, stdout=subprocess.PIPE) as head:
+            yield head.stdout
 
 
 def vet(name, start, length, first, count):
     """How often each verdict occurs in a range of a file, and a row for each refused message."""
-    with open(name, "rb") as file:
-        file.seek(start)
-        data = file.read(length)
-    ran = subprocess.run(VET, input=data, stdout=subprocess.PIPE, stderr=subprocess.PIPE)
-    text = ran.stdout.decode()
+    with part(name, start, length) as stream:
+        ran = subprocess.run(VET, stdin=stream, capture_output=True)
+    lines = ran.stdout.decode().splitlines()
     # (a file that somebody writes meanwhile)
-    if ran.stderr or text.count("\n") != count:
+    if ran.stderr or len(lines) != count:
         raise Unreadable(f"{name} has changed: {ran.stderr.decode().strip()}")
-    refused = REFUSED.findall(text)
-    places = starts(data, {int(number) for number, _, _ in refused}) if refused else ()
-    rows = [(name, first + int(number), start + at, reason, place) for at, (number, reason, place) in zip(places, refused)]
+    refused = [REFUSED.match(line).groups() for line in lines if "refused" in line]
     verdicts = Counter(reason for _, reason, _ in refused)
     verdicts["accepted"] = count - len(refused)
-    return verdicts, rows
+    if not refused:
+        return verdicts, []
+    with part(name, start, length) as stream:
+        starts = list(accumulate(lengths(stream), initial=start))
+    return verdicts, [(name, first + int(number), starts[int(number)], reason, place) for number, reason, place in refused]
 
 
 def vet_all(client, files, most):
@@ -128,7 +127,7 @@ def main():
     with Client(cluster) as client:
         try:
             verdicts, rows, faults = vet_all(client, list(dict.fromkeys(args.files)), args.bytes)
-        except Unreadable as error:
+        except (OSError, Unreadable) as error:
             print(f"vet_archive: {error}", file=sys.stderr)
             return 3
     for verdict, count in sorted(verdicts.items()):
