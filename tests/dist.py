@@ -58,6 +58,13 @@ def packed(folder):
     return {path.name: sum_of(path) for path in sorted((folder / "dist").glob("*"))}
 
 
+def makes_wheel():
+    """Whether there is a target for the wheel, and an interpreter that can build it."""
+    if not re.search(r"^wheel:", (TOP / "Makefile").read_text(), re.M):
+        return False
+    return any(shutil.which(it) and run([it, "-c", "import cffi, setuptools, wheel"])[1] == 0 for it in ("/usr/bin/python3", "python3"))
+
+
 def summed(dist):
     """SHA256SUMS has all packages, and BUILT the sums of what was built."""
     compare("sha256sum -c", 0, run(["sha256sum", "-c", "--quiet", "SHA256SUMS"], cwd=dist)[1])
@@ -196,6 +203,7 @@ def main():
         one, other = (packed(place) for place in clones)
         compare("packages of two clones", one, other)
         compare("packages are made", True, len(one) >= 4)
+        compare("a wheel is made", makes_wheel(), any(name.endswith(".whl") for name in one))
         dist = clones[0] / "dist"
         built = summed(dist)
         root = unpacked(dist, folder, built)
