@@ -127,7 +127,7 @@ func errorOf(r *C.capvet_go_result, l Limits) error {
 	case r.answer < C.CAPVET_BAD_LIMITS:
 		return &FrameError{
 			Reason:   Reason(r.answer),
-			Required: uint64(r.report.required),
+			Required: uint64(r.report.input_required),
 			Detail:   uint64(r.report.detail),
 			Length:   int(r.report.length),
 		}
