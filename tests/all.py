@@ -30,6 +30,7 @@ SCRIPTS = (
     ("the calls from C, flags and reports", ["calls.py", ARCHIVE, PROGRAM, "flags"]),
     ("strict messages by other readers", ["readers.py", PROGRAM]),
     ("the library from C, C++ and Rust", ["library.py", PROGRAM, ARCHIVE]),
+    ("the package for Python", ["python.py", PROGRAM, ARCHIVE]),
     ("what is installed", ["install.py", PROGRAM, ARCHIVE]),
     ("the pages", ["pages.py", PROGRAM]),
     ("the header", ["header.py"]),
