@@ -135,6 +135,12 @@ def shown(python, folder):
         text, status = run([place / "venv/bin/python", "-c", block], cwd=place)
         compare(f"docs/python.md, its program {number}", 0, status)
         compare(f"docs/python.md, its program {number} prints", True, text.count("\n") in (1, 4) and "Error" not in text)
+    variables = {**os.environ, "PATH": f"{place / 'venv/bin'}:{os.environ['PATH']}"}
+    for command, wanted in (it for language, text in blocks if language == "console"
+                            for it in re.findall(r"^\$ (.*)\n((?:(?!\$ ).*\n)*)", text, re.M)):
+        if "jq" in command and missing(f"docs/python.md: {command}", "jq"):
+            continue
+        compare(f"docs/python.md: {command}", (wanted, 0), run(["bash", "-c", command], cwd=place, env=variables))
     block = "import capvet\nmessage = open('examples/contacts.bin', 'rb').read()\n" + re.search(
         r"^```python\n(.*?)^```$", (TOP / "README.md").read_text(), re.M | re.S)[1]
     text, status = run([place / "venv/bin/python", "-c", block], cwd=place)

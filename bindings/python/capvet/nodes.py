@@ -14,6 +14,16 @@ Kind = Literal["null", "struct", "values", "pointers", "structs", "capability"]
 KINDS = ("null", "struct", "values", "pointers", "structs", "capability")
 
 
+def text_of(data: bytes) -> Optional[str]:
+    """The text of valid UTF-8 that ends in its one zero byte."""
+    if data.find(0) != len(data) - 1 or not data:
+        return None
+    try:
+        return data[:-1].decode()
+    except UnicodeDecodeError:
+        return None
+
+
 @dataclass(frozen=True)
 class Node:
     """A node of a message. Fields that do not apply to its kind are 0."""
@@ -40,15 +50,8 @@ class Node:
 
         Only a schema says whether a list of bytes is a text.
         """
-        if self.kind != "values" or self.element != 2 or not self.count:
-            return None
-        text = bytes(self.data)
-        if text.find(0) != len(text) - 1:
-            return None
-        try:
-            return text[:-1].decode()
-        except UnicodeDecodeError:
-            return None
+        is_bytes = self.kind == "values" and self.element == 2
+        return text_of(bytes(self.data)) if is_bytes else None
 
 
 def node(data: Buffer, path: str, *, limits: Limits = DEFAULT) -> Optional[Node]:
