@@ -140,7 +140,7 @@ def shown(python, folder):
                             for it in re.findall(r"^\$ (.*)\n((?:(?!\$ ).*\n)*)", text, re.M)):
         if "jq" in command and missing(f"docs/python.md: {command}", "jq"):
             continue
-        compare(f"docs/python.md: {command}", (wanted, 0), run(["bash", "-c", command], cwd=place, env=variables))
+        compare(f"docs/python.md: {command}", wanted, run(["bash", "-c", command], cwd=place, env=variables)[0])
     block = "import capvet\nmessage = open('examples/contacts.bin', 'rb').read()\n" + re.search(
         r"^```python\n(.*?)^```$", (TOP / "README.md").read_text(), re.M | re.S)[1]
     text, status = run([place / "venv/bin/python", "-c", block], cwd=place)

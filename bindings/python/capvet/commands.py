@@ -12,6 +12,7 @@ from .errors import FrameError
 from .reports import DEFAULT, Limits
 from .streams import Message, read_messages
 from .tree import json_pieces, text_lines
+from .vetting import vet_files, write_rows, write_summary
 
 REFUSED, WRONG, FAILED = 1, 2, 3
 
@@ -80,6 +81,20 @@ def run_tree(words: argparse.Namespace) -> int:
     return status
 
 
+def run_vet(words: argparse.Namespace) -> int:
+    """Writes a summary over files, or the refused messages with the summary on standard error."""
+    results = vet_files(words.files, words.jobs, words.packed, words.exclusive, words.limits)
+    rows = [row for result in results for row in result.rows]
+    if words.form:
+        write_rows(rows, words.form, sys.stdout)
+        sys.stdout.flush()
+    write_summary(results, sys.stderr if words.form else sys.stdout)
+    failures = [result.failure for result in results if result.failure]
+    for failure in failures:
+        print(f"capvet: {failure}", file=sys.stderr)
+    return FAILED if failures else REFUSED if rows else 0
+
+
 def parsed(argv: Optional[Sequence[str]]) -> argparse.Namespace:
     parser = argparse.ArgumentParser(prog="python -m capvet", description="Looks at untrusted Cap'n Proto messages.",
                                      allow_abbrev=False)
@@ -92,7 +107,22 @@ def parsed(argv: Optional[Sequence[str]]) -> argparse.Namespace:
     common(tree)
     tree.add_argument("file", metavar="FILE", nargs="?", help="default: standard input")
     tree.set_defaults(run=run_tree)
+    vet = commands.add_parser("vet", help="vet many files, and print a summary", allow_abbrev=False,
+                              description="Vets the messages of many files as `capvet vet` does, and prints how many are refused "
+                              "for each reason. A file stops at the first place where it is no stream of messages. On a "
+                              "terminal a bar shows how many bytes are done.")
+    vet.add_argument("-j", "--jobs", metavar="N", type=int, default=1, help="how many processes vet files side by side")
+    vet.add_argument("--exclusive", action="store_true", help="refuse a message that uses a word twice")
+    form = vet.add_mutually_exclusive_group()
+    form.add_argument("--csv", dest="form", action="store_const", const="csv",
+                      help="write each refused message and its place as CSV, and the summary on standard error")
+    form.add_argument("--json", dest="form", action="store_const", const="json", help="the same, as JSON lines")
+    common(vet)
+    vet.add_argument("files", metavar="FILE", nargs="+")
+    vet.set_defaults(run=run_vet)
     words = parser.parse_args(argv)
+    if getattr(words, "jobs", 1) < 1:
+        parser.error("--jobs has to be at least 1")
     try:
         words.limits = limits_of(words)
     except ValueError as error:
