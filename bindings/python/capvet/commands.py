@@ -9,6 +9,7 @@ import sys
 from typing import Any, BinaryIO, Iterator, Optional, Sequence
 
 from .errors import FrameError
+from .mapping import write_page
 from .reports import DEFAULT, Limits
 from .streams import Message, read_messages
 from .tree import json_pieces, text_lines
@@ -95,6 +96,23 @@ def run_vet(words: argparse.Namespace) -> int:
     return FAILED if failures else REFUSED if rows else 0
 
 
+def run_map(words: argparse.Namespace) -> int:
+    """Writes the page about one message of a stream."""
+    with open(words.file, "rb") as stream:
+        file, number = Counted(stream), 0
+        try:
+            for message in read(words, file):
+                if message.number == words.message:
+                    write_page(message, words.limits, words.output)
+                    return REFUSED if message.refusal else 0
+                number = message.number + 1
+        except FrameError as error:
+            print(f"capvet: message {number}: {fault_text(error, file.count)}", file=sys.stderr)
+            return REFUSED
+    print(f"capvet: there is no message {words.message}", file=sys.stderr)
+    return REFUSED
+
+
 def parsed(argv: Optional[Sequence[str]]) -> argparse.Namespace:
     parser = argparse.ArgumentParser(prog="python -m capvet", description="Looks at untrusted Cap'n Proto messages.",
                                      allow_abbrev=False)
@@ -107,6 +125,14 @@ def parsed(argv: Optional[Sequence[str]]) -> argparse.Namespace:
     common(tree)
     tree.add_argument("file", metavar="FILE", nargs="?", help="default: standard input")
     tree.set_defaults(run=run_tree)
+    drawn = commands.add_parser("map", help="write a page with a picture of a message's words", allow_abbrev=False,
+                                description="Writes one HTML page that loads no other file: the words of a message in rows, "
+                                "by what they are used for. Words of a refused message are shown as used up to the refused pointer.")
+    drawn.add_argument("-o", "--output", metavar="PAGE", required=True, help="the page to write")
+    drawn.add_argument("--message", metavar="N", type=int, default=0, help="the number of the message in the stream, from 0")
+    common(drawn)
+    drawn.add_argument("file", metavar="FILE")
+    drawn.set_defaults(run=run_map)
     vet = commands.add_parser("vet", help="vet many files, and print a summary", allow_abbrev=False,
                               description="Vets the messages of many files as `capvet vet` does, and prints how many are refused "
                               "for each reason. A file stops at the first place where it is no stream of messages. On a "
