@@ -10,6 +10,7 @@ tool, a line says what isn't tested. The last line is 'N passed, M failed', and 
 import os
 import re
 import shutil
+import struct
 import subprocess
 import sys
 import tempfile
@@ -41,7 +42,7 @@ def interpreter(modules):
     return None
 
 
-def wheel_of(folder, prefix):
+def wheel_of(folder):
     """The wheel, as `make wheel` builds it."""
     text, status = run(["make", "-s", "wheel", f"BUILT_PROGRAM={PROGRAM}", f"BUILT_ARCHIVE={ARCHIVE}", f"wheeldir={folder}"],
                        cwd=TOP)
@@ -82,6 +83,34 @@ def tested(python, folder):
     compare("pytest", (0, True), (status, counted.get("passed", 0) > 0))
     print("\n".join(line for line in text.splitlines() if status or line.startswith(("SKIPPED", "python:", "two threads"))))
     print(f"python: {counted} of pytest")
+
+
+def instructions(command):
+    """How many instructions a command takes, by valgrind."""
+    ran = run(["valgrind", "--tool=callgrind", "--callgrind-out-file=/dev/null", *command])
+    compare(f"{command[0].name} under valgrind", 0, ran[1])
+    found = re.search(r"Collected : (\d+)", ran[0])
+    return int(found[1]) if found else 0
+
+
+def cost_of_a_call(python, folder):
+    """A call on 16 MiB takes at most 5 % more instructions than from C."""
+    if missing("the cost of a call from Python", "valgrind"):
+        return
+    words, message, script = (16 << 20) // 8, folder / "message", folder / "times.py"
+    # (a list of pointers to structs without words)
+    message.write_bytes(struct.pack(f"<II{words}Q", 0, words, 1 | 6 << 32 | words - 1 << 35, *[0xFFFFFFFC] * (words - 1)))
+    script.write_text("import sys, capvet\ndata = open(sys.argv[1], 'rb').read()\n"
+                      "for _ in range(int(sys.argv[2])):\n    capvet.vet(data)\n")
+    program = folder / "times"
+    built = run(["cc", "-std=c99", "-O2", f"-I{TOP / 'include'}", TOP / "tests/c/times.c", ARCHIVE, "-o", program])
+    compare("cc times.c", ("", 0), built)
+    costs = []
+    for command in ([program, message], [python, script, message]):
+        few, more = (instructions([*command, str(count)]) for count in (1, 5))
+        costs.append((more - few) / 4)
+    compare("a call on 16 MiB costs at most 5 % more than from C", True, 0 < costs[1] <= 1.05 * costs[0])
+    print(f"python: a call on 16 MiB takes {costs[1] / max(costs[0], 1):.4f} of the instructions of the call from C")
 
 
 def from_sources(python, folder, prefix):
@@ -155,12 +184,14 @@ def main():
         folder = Path(scratch)
         prefix = folder / "x"
         compare("make install", ("", 0), make("install", scratch, f"PREFIX={prefix}"))
-        wheel = wheel_of(folder / "wheels", prefix)
+        wheel = wheel_of(folder / "wheels")
         if wheel is not None:
             installed = environment(python, folder / "fresh")
             compare("pip install of the wheel", ("", 0), run([installed, *PIP, "install", "-q", "--no-index", wheel], cwd=folder))
             needs(installed, folder)
             tested(installed, folder)
+            if IS_FULL:
+                cost_of_a_call(installed, folder)
         shown(python, folder / "shown")
         from_sources(environment(python, folder / "other"), folder, prefix)
     return install.ended()
