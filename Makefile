@@ -1,5 +1,6 @@
 # What capvet does with a sample, all proofs and tests, what is installed, and how fast it is.
 .PHONY: run build install uninstall dist test gate growths bench
+.PHONY: run build install uninstall wheel test gate growths bench
 
 # Where things are installed. DESTDIR goes before each of these paths, and no installed file has it in its text.
 PREFIX ?= /usr/local
@@ -57,6 +58,16 @@ uninstall:
 # Packs all that is installed, with a shared library, bindings and pages, into dist/; see packaging/dist.py.
 dist: $(BUILT_PROGRAM) $(BUILT_ARCHIVE)
 	python3 packaging/dist.py
+# Builds the wheel of the package for Python, with the archive linked in. It takes cffi, setuptools and wheel from the first
+# interpreter that has them, and nothing from a network. (pip builds a copy, so the sources stay as they are)
+wheeldir ?= build
+wheel: $(BUILT_ARCHIVE)
+	@python=$$(for it in /usr/bin/python3 python3; do $$it -c 'import cffi, setuptools, wheel' 2> /dev/null && echo $$it && break; done); \
+	test -n "$$python" || { echo 'make wheel: no python3 has cffi, setuptools and wheel' >&2; exit 2; }; \
+	folder=$$(mktemp -d) && trap 'rm -r "$$folder"' EXIT && mkdir "$$folder/lib" && cp -r include "$$folder/" && \
+	cp '$(BUILT_ARCHIVE)' "$$folder/lib/libcapvet.a" && cp -r bindings/python "$$folder/python" && \
+	CAPVET_LIB_DIR="$$folder/lib" "$$python" -m pip --disable-pip-version-check wheel -q --no-index --no-deps \
+	  --no-build-isolation -w '$(wheeldir)' "$$folder/python"
 
 # Proves all crates and their tests, and then tests the built program and library as their users run them.
 test:

@@ -32,6 +32,7 @@ SCRIPTS = (
     ("the library from C, C++ and Rust", ["library.py", PROGRAM, ARCHIVE]),
     ("the packages", ["dist.py", PROGRAM, ARCHIVE]),
     ("the Go package", ["go.py", PROGRAM, ARCHIVE]),
+    ("the package for Python", ["python.py", PROGRAM, ARCHIVE]),
     ("what is installed", ["install.py", PROGRAM, ARCHIVE]),
     ("the pages", ["pages.py", PROGRAM]),
     ("archives", ["scale.py", PROGRAM, ARCHIVE]),

@@ -1,0 +1,104 @@
+"""Builds the module capvet._capvet over libcapvet.a, which is linked in.
+
+The archive is the one in the folder CAPVET_LIB_DIR, with the header in ../include of that folder. Otherwise both are where
+pkg-config says that capvet was installed."""
+import os
+import subprocess
+from pathlib import Path
+
+from cffi import FFI
+
+# The least version that has these declarations. (A library of another major version lacks capvet_abi_1.)
+VERSION = "capvet >= 1.0"
+
+# (the compiler compares each declaration with the header, and takes the numbers for `...` from there)
+DECLARATIONS = """
+#define CAPVET_MAX_MESSAGE_WORDS ...
+#define CAPVET_MAX_CHARGE ...
+#define CAPVET_MAX_DEPTH ...
+#define CAPVET_ALLOW_TRAILING ...
+#define CAPVET_ALLOW_NONSTRICT ...
+#define CAPVET_ALLOW_AMPLIFIED ...
+#define CAPVET_NO_TABLE ...
+#define CAPVET_SLACK ...
+
+typedef enum {
+  CAPVET_OK, CAPVET_NO_MESSAGE, CAPVET_TOO_MANY_SEGMENTS, CAPVET_TOO_LARGE, CAPVET_TRUNCATED, CAPVET_TRAILING,
+  CAPVET_BAD_LIMITS, CAPVET_BUFFER_TOO_SMALL, CAPVET_BAD_PATH, CAPVET_NO_SEGMENT, CAPVET_BAD_SEGMENT,
+  CAPVET_NOT_CANONICAL, CAPVET_HAS_CAPABILITY, CAPVET_OVERLAP, CAPVET_NO_NODE, CAPVET_WORD_LIMIT, ...
+} capvet_answer;
+
+typedef struct {
+  uint64_t message_words; uint64_t charge; uint32_t depth; uint32_t flags; uint64_t reserved[2];
+} capvet_limits;
+typedef struct {
+  uint64_t length; uint64_t required; uint64_t detail; uint64_t charge; uint64_t pointers; uint64_t capabilities;
+  uint32_t depth; uint32_t segments; uint32_t segment; uint32_t word; uint64_t reserved[4];
+} capvet_report;
+typedef struct { const uint8_t *bytes; size_t length; } capvet_segment;
+typedef struct {
+  uint32_t kind; uint32_t element; uint32_t count; uint32_t data_words; uint32_t pointers; uint32_t capability;
+  uint64_t offset; uint64_t length; uint64_t reserved[2];
+} capvet_node;
+typedef struct {
+  uint64_t written; uint32_t zero_words; uint32_t literal_words; uint64_t reserved[2];
+} capvet_unpacking;
+
+uint32_t capvet_version(void);
+void capvet_abi_1(void);
+const char *capvet_answer_name(uint32_t answer);
+capvet_answer capvet_vet(const uint8_t *bytes, size_t length, const capvet_limits *limits, capvet_report *report);
+capvet_answer capvet_vet_exclusive(const uint8_t *bytes, size_t length, const capvet_limits *limits, uint64_t *marks,
+                                   size_t marks_count, size_t *required, capvet_report *report);
+capvet_answer capvet_vet_segments(const capvet_segment *segments, size_t count, const capvet_limits *limits,
+                                  capvet_report *report);
+capvet_answer capvet_frame(const uint8_t *bytes, size_t length, const capvet_limits *limits, capvet_report *report);
+capvet_answer capvet_segment_at(const uint8_t *bytes, size_t length, uint32_t index, size_t *offset,
+                                size_t *segment_length);
+capvet_answer capvet_canonical(const uint8_t *bytes, size_t length, const capvet_limits *limits, uint8_t *out,
+                               size_t out_size, size_t *required, capvet_report *report);
+capvet_answer capvet_is_canonical(const uint8_t *bytes, size_t length, const capvet_limits *limits, capvet_report *report);
+capvet_answer capvet_get(const uint8_t *bytes, size_t length, const capvet_limits *limits, const char *path,
+                         size_t path_length, capvet_node *node, capvet_report *report);
+capvet_answer capvet_pack(const uint8_t *bytes, size_t length, uint8_t *out, size_t out_size, size_t *required);
+capvet_answer capvet_unpack(const uint8_t *bytes, size_t length, uint8_t *out, size_t out_size, size_t *required);
+capvet_answer capvet_pack_message(const uint8_t *bytes, size_t length, const capvet_limits *limits, uint8_t *out,
+                                  size_t out_size, size_t *required, capvet_report *report);
+capvet_answer capvet_unpack_message(const uint8_t *bytes, size_t length, const capvet_limits *limits, uint8_t *out,
+                                    size_t out_size, capvet_unpacking *state, size_t *consumed, size_t *required,
+                                    capvet_report *report);
+"""
+
+
+def variable(name):
+    """A variable of capvet.pc, as pkg-config prints it."""
+    try:
+        program = os.environ.get("PKG_CONFIG", "pkg-config")
+        ran = subprocess.run([program, name, VERSION], capture_output=True, text=True)
+        error = ran.stderr.partition("\n")[0] if ran.returncode else None
+    except OSError as fault:
+        error = str(fault)
+    if error is not None:
+        raise SystemExit(f"capvet: libcapvet.a was not found ({error}): "
+                         "set CAPVET_LIB_DIR to its folder, or PKG_CONFIG_PATH to that of capvet.pc")
+    return Path(os.environ.get("PKG_CONFIG_SYSROOT_DIR", "") + ran.stdout.strip())
+
+
+def places():
+    """The archive, and the folder of its header."""
+    folder = os.environ.get("CAPVET_LIB_DIR")
+    if folder:
+        archive, include = Path(folder).resolve() / "libcapvet.a", Path(folder).resolve().parent / "include"
+    else:
+        archive, include = variable("--variable=libdir") / "libcapvet.a", variable("--variable=includedir")
+    for file in (archive, include / "capvet.h"):
+        if not file.is_file():
+            raise SystemExit(f"capvet: there is no file {file}")
+    return archive, include
+
+
+archive, include = places()
+builder = FFI()
+builder.cdef(DECLARATIONS)
+builder.set_source("capvet._capvet", "#define CAPVET_LINK_CHECK\n#include <capvet.h>\n", include_dirs=[str(include)],
+                   extra_objects=[str(archive)], py_limited_api=True)
