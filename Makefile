@@ -1,6 +1,5 @@
 # What capvet does with a sample, all proofs and tests, what is installed, and how fast it is.
-.PHONY: run build install uninstall dist test gate growths bench
-.PHONY: run build install uninstall wheel test gate growths bench
+.PHONY: run build install uninstall wheel dist test gate growths bench
 
 # Where things are installed. DESTDIR goes before each of these paths, and no installed file has it in its text.
 PREFIX ?= /usr/local
@@ -58,6 +57,7 @@ uninstall:
 # Packs all that is installed, with a shared library, bindings and pages, into dist/; see packaging/dist.py.
 dist: $(BUILT_PROGRAM) $(BUILT_ARCHIVE)
 	python3 packaging/dist.py
+
 # Builds the wheel of the package for Python, with the archive linked in. It takes cffi, setuptools and wheel from the first
 # interpreter that has them, and nothing from a network. (pip builds a copy, so the sources stay as they are)
 wheeldir ?= build

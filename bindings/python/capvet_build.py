@@ -32,7 +32,7 @@ typedef struct {
   uint64_t message_words; uint64_t charge; uint32_t depth; uint32_t flags; uint64_t reserved[2];
 } capvet_limits;
 typedef struct {
-  uint64_t length; uint64_t required; uint64_t detail; uint64_t charge; uint64_t pointers; uint64_t capabilities;
+  uint64_t length; uint64_t input_required; uint64_t detail; uint64_t charge; uint64_t pointers; uint64_t capabilities;
   uint32_t depth; uint32_t segments; uint32_t segment; uint32_t word; uint64_t reserved[4];
 } capvet_report;
 typedef struct { const uint8_t *bytes; size_t length; } capvet_segment;

@@ -84,7 +84,7 @@ _FRAME_TEXTS = {
     lib.CAPVET_NO_MESSAGE: "no message: the data are empty",
     lib.CAPVET_TOO_MANY_SEGMENTS: "TooManySegments {0.detail}",
     lib.CAPVET_TOO_LARGE: "TooLarge: {0.detail} words",
-    lib.CAPVET_TRUNCATED: "Truncated: at least {0.required} bytes are required",
+    lib.CAPVET_TRUNCATED: "Truncated: at least {0.input_required} bytes are required",
     lib.CAPVET_TRAILING: "Trailing: {0.detail} bytes follow the message",
     lib.CAPVET_BAD_SEGMENT: "BadSegment: the length of segment {0.detail} is no multiple of 8",
 }
@@ -96,7 +96,7 @@ def name_of(answer: int) -> str:
 
 
 def frame_error(answer: int, report: Any) -> FrameError:
-    return FrameError(_FRAME_TEXTS[answer].format(report), answer=answer, reason=name_of(answer), required=report.required,
+    return FrameError(_FRAME_TEXTS[answer].format(report), answer=answer, reason=name_of(answer), required=report.input_required,
                       detail=report.detail, length=report.length)
 
 

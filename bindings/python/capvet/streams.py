@@ -113,9 +113,9 @@ def _plain_frames(file: BinaryIO, limits: Limits) -> Iterator[Tuple[int, memoryv
                 answer = lib.capvet_frame(pointer_to(view), len(view), raw_limits, report)
             if answer not in (lib.CAPVET_NO_MESSAGE, lib.CAPVET_TRUNCATED):
                 break
-            while len(frame) < report.required:
+            while len(frame) < report.input_required:
                 # (in pieces, so that a table that claims much makes no large buffer)
-                piece = _some(file, min(report.required - len(frame), 16 * _PIECE), file.read)
+                piece = _some(file, min(report.input_required - len(frame), 16 * _PIECE), file.read)
                 if not piece and not frame:
                     return
                 if not piece:
