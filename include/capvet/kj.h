@@ -43,7 +43,7 @@ struct Options {
   /* The limits and flags of capvet.h. CAPVET_NO_TABLE refuses every message, with CAPVET_BAD_LIMITS. */
   capvet_limits limits = CAPVET_LIMITS_INIT;
 
-  /* How many times the program goes through a message. Each time takes up to 3 * report.charge + 2 words of libcapnp's
+  /* The number of times that the program goes through a message. Each time takes up to 3 * report.charge + 2 words of libcapnp's
    * traversal limit. */
   uint32_t readings = 1;
 };
@@ -145,32 +145,41 @@ inline Vetted vetted(kj::ArrayPtr<const kj::byte> bytes, const Options &options 
   kj::throwFatalException(exceptionOf(refusal));
 }
 
-/* The segments of a message that another reader holds, each asked for once. */
+/* The segments of a message that another reader holds, each asked for once. Most messages have one. */
 class Segments {
  public:
-  explicit Segments(capnp::MessageReader &reader) {
+  explicit Segments(capnp::MessageReader &reader) : first(segmentOf(reader, 0)) {
+    // (libcapnp gives none of a message whose segments are all empty, and it has no root like this one)
+    if (first.bytes == nullptr) return;
+    auto next = segmentOf(reader, 1);
+    if (next.bytes == nullptr) return;
+    all.add(first);
     // (one more than are ever accepted is enough to be refused)
-    for (unsigned int id = 0; id <= CAPVET_MAX_SEGMENTS; id++) {
-      auto segment = reader.getSegment(id).asBytes();
-      if (segment.begin() == nullptr) break;
-      segments.add(capvet_segment{segment.begin(), segment.size()});
+    while (next.bytes != nullptr && all.size() <= CAPVET_MAX_SEGMENTS) {
+      all.add(next);
+      next = segmentOf(reader, static_cast<unsigned int>(all.size()));
     }
-    // (libcapnp gives none of a message whose segments are all empty)
-    if (segments.size() == 0) segments.add(capvet_segment{nullptr, 0});
   }
 
   capvet_answer vet(const capvet_limits &limits, capvet_report &report) const {
-    return capvet_vet_segments(segments.begin(), segments.size(), &limits, &report);
+    if (all.size() == 0) return capvet_vet_segments(&first, 1, &limits, &report);
+    return capvet_vet_segments(all.begin(), all.size(), &limits, &report);
   }
 
   kj::ArrayPtr<const capnp::word> get(unsigned int id) const {
-    if (id >= segments.size()) return nullptr;
-    const auto words = reinterpret_cast<const capnp::word *>(segments[id].bytes);
-    return kj::arrayPtr(words, segments[id].length / sizeof(capnp::word));
+    const auto &segment = id == 0 ? first : id < all.size() ? all[id] : none;
+    return {reinterpret_cast<const capnp::word *>(segment.bytes), segment.length / sizeof(capnp::word)};
   }
 
  private:
-  kj::Vector<capvet_segment> segments;
+  static capvet_segment segmentOf(capnp::MessageReader &reader, unsigned int id) {
+    auto bytes = reader.getSegment(id).asBytes();
+    return {bytes.begin(), bytes.size()};
+  }
+
+  static constexpr capvet_segment none = {nullptr, 0};
+  capvet_segment first;
+  kj::Vector<capvet_segment> all;
 };
 
 /* Reads a vetted message that another reader holds. */
@@ -193,8 +202,8 @@ class VettedMessageReader final : public capnp::MessageReader {
  * the peer, and closes the connection.
  *
  * The inner stream reads the frame. It holds at most `limits.message_words` words, and refuses by exceptions of its own
- * what is larger, what is cut, and 512 or more segments: `onRefused` isn't called for these. CAPVET_ALLOW_TRAILING has
- * no effect.
+ * what is larger, what is cut, and 512 or more segments. These end the stream too, but `onRefused` isn't called.
+ * CAPVET_ALLOW_TRAILING has no effect.
  *
  * libcapnp's limits for a message are at least those that are passed to tryReadMessage (`receiveOptions` of
  * TwoPartyVatNetwork), and are raised to what the message needs. */
@@ -205,7 +214,8 @@ class VettingStream final : public capnp::MessageStream {
   using capnp::MessageStream::writeMessage;
   using capnp::MessageStream::writeMessages;
 
-  /* The inner stream has to outlive this, and this each promise of a read. */
+  /* The inner stream has to outlive this, and this each promise of a read. Pass a new function or a moved one:
+   * kj::Function keeps one that has a name by reference. */
   explicit VettingStream(capnp::MessageStream &inner, const Options &options = {},
                          OnRefused onRefused = [](const Refusal &) {})
       : inner(inner), options(options), onRefused(kj::mv(onRefused)) {}
@@ -213,15 +223,18 @@ class VettingStream final : public capnp::MessageStream {
   kj::Promise<kj::Maybe<capnp::MessageReaderAndFds>> tryReadMessage(kj::ArrayPtr<kj::AutoCloseFd> fdSpace,
                                                                     capnp::ReaderOptions atLeast,
                                                                     kj::ArrayPtr<capnp::word> scratchSpace) override {
-    KJ_IF_MAYBE(exception, end_) { return kj::cp(*exception); }
+    KJ_IF_MAYBE(exception, ended) { return kj::cp(*exception); }
     // (this limit of the inner stream bounds what it holds)
     auto held = atLeast;
     held.traversalLimitInWords = options.limits.message_words;
+    using Read = kj::Maybe<capnp::MessageReaderAndFds>;
     return inner.tryReadMessage(fdSpace, held, scratchSpace)
-        .then([this, atLeast](kj::Maybe<capnp::MessageReaderAndFds> &&read) {
-          KJ_IF_MAYBE(message, read) { vet(*message, atLeast); }
-          return kj::mv(read);
-        });
+        .then(
+            [this, atLeast](Read &&read) {
+              KJ_IF_MAYBE(message, read) { vet(*message, atLeast); }
+              return kj::mv(read);
+            },
+            [this](kj::Exception &&exception) -> Read { fail(kj::mv(exception)); });
   }
 
   kj::Promise<void> writeMessage(kj::ArrayPtr<const int> fds,
@@ -249,16 +262,19 @@ class VettingStream final : public capnp::MessageStream {
 
   [[noreturn]] void refuse(capnp::MessageReaderAndFds &message, const Refusal &refusal) {
     for (auto &fd : message.fds) fd = nullptr;
-    auto exception = exceptionOf(refusal);
-    end_ = kj::cp(exception);
     onRefused(refusal);
+    fail(exceptionOf(refusal));
+  }
+
+  [[noreturn]] void fail(kj::Exception &&exception) {
+    ended = kj::cp(exception);
     kj::throwFatalException(kj::mv(exception));
   }
 
   capnp::MessageStream &inner;
   Options options;
   OnRefused onRefused;
-  kj::Maybe<kj::Exception> end_;
+  kj::Maybe<kj::Exception> ended;
 };
 
 }  // namespace capvet
