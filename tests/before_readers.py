@@ -1,20 +1,20 @@
 #!/usr/bin/env python3
-"""Vets messages before Cap'n Proto's own C++ library and the Rust crate `capnp` read them, by include/capvet/kj.h and by
-bindings/rust-capnp.
+"""Vets messages before Cap'n Proto's own C++ library and the Rust crate `capnp` read them, by include/capvet/kj.h and
+by bindings/rust-capnp.
 
     before_readers.py PROGRAM ARCHIVE [MANY]
 
-MANY messages of fixed seeds are changed (5,000 if no number is given) and vetted in process. What is refused has to have
-the line of `capvet vet --strict --unamplified`. What is accepted is read under no more than the limits that a message
-needs, and no reading may fail: the readers have to find the bytes, the pointers and the capabilities of the model in
-tests/readers.py.
+MANY messages of fixed seeds are changed (5,000 if no number is given) and vetted in process. What is refused has to
+have the line of `capvet vet --strict --unamplified`. What is accepted is read under no more than the limits that a
+message needs, and no reading may fail: the readers have to find the bytes, the pointers and the capabilities of the
+model in tests/readers.py.
 
-MANY changed messages of RPC are also sent to a server over `VettingStream`, on loopback, each on a connection of its own.
-Each has to be refused or accepted as the program does. No exception may come from reading pointers or from limits, and
-a client has to get the same results afterwards. Calls have the same results with vetting and without.
+MANY changed messages of RPC are also sent to a server over `VettingStream`, on loopback, each on a connection of its
+own. Each has to be refused or accepted as the program does. No exception may come from reading pointers or from limits,
+and a client has to get the same results afterwards. Calls have the same results with vetting and without.
 
-All of it runs again with the compilers' checks of memory, with a tenth of the messages. What isn't installed is said in a
-line of its own. The last line is 'N passed, M failed', and the status is 1 if a case failed.
+All of it runs again with the compilers' checks of memory, with a tenth of the messages. What isn't installed is said in
+a line of its own. The last line is 'N passed, M failed', and the status is 1 if a case failed.
 """
 import os
 import random
@@ -49,7 +49,7 @@ received 10000 rows, stored 10000
 failed: remote exception: this call always fails
 """
 PROGRAMS = ("rpc_server", "rpc_client", "vetted", "rpc")
-# What tests/readers/rpc.cpp prints of each stream. Its limits are at least 10 words and 3 levels, as the reader asks for.
+# What tests/readers/rpc.cpp prints of each stream. Its limits are at least the 10 words and 3 levels that are asked for.
 REFUSED = "  onRefused {0}\n" + 3 * "  {0}; 0 open\n"
 FAILED = "  {0}; 2 open\n" + 2 * "  {0}; 0 open\n"
 READ = "  {}; 2 open\n  0 words, 0 files, limits 10 and 3; 0 open\n  ended; 0 open\n"
@@ -61,8 +61,9 @@ STREAMS = {
     "one empty segment": REFUSED.format("refused NoRoot at 0:0 pointers 0"),
     "empty segments": REFUSED.format("refused NoRoot at 0:0 pointers 0"),
     "an empty first segment": REFUSED.format("refused NoRoot at 0:0 pointers 0"),
-    "too large": FAILED.format("expected totalWords <= getOptions().traversalLimitInWords [100 <= 50]; Message is too large.  "
-                               "To increase the limit on the receiving end, see capnp::ReaderOptions."),
+    "too large": FAILED.format(
+        "expected totalWords <= getOptions().traversalLimitInWords [100 <= 50]; Message is too large.  "
+        "To increase the limit on the receiving end, see capnp::ReaderOptions."),
     "511 segments": READ.format("0 words, 2 files, limits 511 and 3"),
     "512 segments": FAILED.format("expected segmentCount() < 512 [512 < 512]; Message has too many segments."),
 }
@@ -258,7 +259,8 @@ def from_rust(folder, environment, count):
     for words in (["test"], ["doc", "--no-deps"]):
         text, status = run(["cargo", *words, *CARGO], cwd=crate, env={**environment, "RUSTDOCFLAGS": "-D warnings"})
         compare(f"cargo {words[0]} in bindings/rust-capnp", (0, ""), (status, text if status else ""))
-    text, status = run(["cargo", "build", "--release", *CARGO], cwd=folder / "copy/tests/readers/rust-vetted", env=environment)
+    rust_vetted = folder / "copy/tests/readers/rust-vetted"
+    text, status = run(["cargo", "build", "--release", *CARGO], cwd=rust_vetted, env=environment)
     compare("cargo build of rust-vetted", ("", 0), (text, status))
     vetted("reader, in Rust", [folder / "target/release/vetted"], count, folder)
     blocks = re.findall(r"^```rust\n(.*?)^```$", (TOP / "docs/guide.md").read_text(), re.M | re.S)

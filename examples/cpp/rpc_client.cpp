@@ -3,7 +3,8 @@
 //     c++ -std=c++17 rpc_client.cpp calculator.capnp.c++ $(pkg-config --cflags --libs capvet-kj) -o rpc_client
 //     ./rpc_client 127.0.0.1:PORT
 //
-// A client that doesn't trust its server vets what it receives in the same way. The status is 0 if the server was reached.
+// A client that doesn't trust its server vets what it receives in the same way. The status is 0 if the server was
+// reached.
 #include <capnp/rpc-twoparty.h>
 #include <capvet/kj.h>
 #include <kj/async-io.h>

@@ -5,8 +5,8 @@
 //     c++ -std=c++17 rpc_server.cpp calculator.capnp.c++ $(pkg-config --cflags --libs capvet-kj) -o rpc_server
 //     ./rpc_server 127.0.0.1:0
 //
-// It prints its port, and then a line for each refused message. A refused message costs its sender the connection, and no
-// other one. It serves until it is stopped.
+// It prints its port, and then a line for each refused message. A refused message costs its sender the connection, and
+// no other one. It serves until it is stopped.
 #include <capnp/rpc-twoparty.h>
 #include <capvet/kj.h>
 #include <kj/async-io.h>
@@ -52,7 +52,9 @@ class Server final : private kj::TaskSet::ErrorHandler {
   }
 
  private:
-  void taskFailed(kj::Exception &&exception) override { std::fprintf(stderr, "%s\n", exception.getDescription().cStr()); }
+  void taskFailed(kj::Exception &&exception) override {
+    std::fprintf(stderr, "%s\n", exception.getDescription().cStr());
+  }
 
   kj::ConnectionReceiver &listener;
   capnp::Capability::Client service = kj::heap<CalculatorServer>();

@@ -43,8 +43,8 @@ struct Options {
   /* The limits and flags of capvet.h. CAPVET_NO_TABLE refuses every message, with CAPVET_BAD_LIMITS. */
   capvet_limits limits = CAPVET_LIMITS_INIT;
 
-  /* The number of times that the program goes through a message. Each time takes up to 3 * report.charge + 2 words of libcapnp's
-   * traversal limit. */
+  /* The number of times that the program goes through a message. Each time takes up to
+   * 3 * report.charge + 2 words of libcapnp's traversal limit. */
   uint32_t readings = 1;
 };
 
@@ -54,8 +54,8 @@ struct Refusal {
   capvet_report report;
 };
 
-/* "refused DepthLimit at 0:7 pointers 3", as `capvet vet` prints it. If the bytes are no frame, or more than one, it has
- * a number in place of a pointer's: that of `report.required` or else of `report.detail`. */
+/* "refused DepthLimit at 0:7 pointers 3", as `capvet vet` prints it. If the bytes are no frame, or more than one,
+ * it has a number in place of a pointer's: that of `report.required` or else of `report.detail`. */
 inline kj::String KJ_STRINGIFY(const Refusal &refusal) {
   const auto &report = refusal.report;
   kj::StringPtr name = capvet_answer_name(refusal.answer);
@@ -197,9 +197,9 @@ class VettedMessageReader final : public capnp::MessageReader {
 
 /* A stream that vets each message that is read, before its reader gets it. Nothing is copied. Writing passes through.
  *
- * A refused message ends the stream. `onRefused` is called, file descriptors that came with the message are closed, and
- * this read and all later ones throw `exceptionOf` the refusal. The RPC system then sends the exception's description to
- * the peer, and closes the connection.
+ * A refused message ends the stream. `onRefused` is called, file descriptors that came with the message are closed,
+ * and this read and all later ones throw `exceptionOf` the refusal. The RPC system then sends the exception's
+ * description to the peer, and closes the connection.
  *
  * The inner stream reads the frame. It holds at most `limits.message_words` words, and refuses by exceptions of its own
  * what is larger, what is cut, and 512 or more segments. These end the stream too, but `onRefused` isn't called.

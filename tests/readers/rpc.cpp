@@ -141,7 +141,8 @@ uint64_t sumOf(capnp::List<Row>::Reader rows) {
 }
 
 // Calls of each kind, and their results.
-std::string resultsOf(Calculator::Client calculator, uint32_t calls, std::vector<uint32_t> lists, kj::WaitScope &scope) {
+std::string resultsOf(Calculator::Client calculator, uint32_t calls, std::vector<uint32_t> lists,
+                      kj::WaitScope &scope) {
   double sum = 0;
   uint64_t counted = 0;
   for (uint32_t at = 0; at < calls; at++) {
@@ -235,7 +236,8 @@ Bytes contentOf(const char *path) {
 void send(Server &server, const Bytes &bytes, kj::AsyncIoContext &io) {
   auto stream = server.connect(io.waitScope);
   // (the server may close it before all is sent)
-  auto sent = stream->write(bytes.data(), bytes.size()).then([&]() { stream->shutdownWrite(); }, [](kj::Exception &&) {});
+  auto sent = stream->write(bytes.data(), bytes.size())
+                  .then([&]() { stream->shutdownWrite(); }, [](kj::Exception &&) {});
   auto replies = stream->readAllBytes().then([](auto &&) {}, [](kj::Exception &&) {});
   sent.wait(io.waitScope);
   io.provider->getTimer().timeoutAfter(20 * kj::SECONDS, kj::mv(replies)).wait(io.waitScope);
@@ -251,7 +253,7 @@ int attack(kj::AsyncIoContext &io, const char *path, const char *validPath) {
     memcpy(&length, &all[at], sizeof length);
     Bytes bytes;
     if (number % 3 == 0) bytes = valid;
-    bytes.insert(bytes.end(), all.begin() + static_cast<ptrdiff_t>(at + 4), all.begin() + static_cast<ptrdiff_t>(at + 4 + length));
+    bytes.insert(bytes.end(), &all[at + 4], &all[at + 4] + length);
     at += 4 + length;
     server.refused.clear();
     const auto unread = watch.counts["serialize-async.c++"];
@@ -305,7 +307,8 @@ void readOne(const char *name, kj::ArrayPtr<const kj::ArrayPtr<const capnp::word
   {
     auto pipe = io.provider->newCapabilityPipe();
     capnp::AsyncCapabilityMessageStream in(*pipe.ends[0]), out(*pipe.ends[1]);
-    capvet::VettingStream vetting(in, options, [](auto &refusal) { printf("  onRefused %s\n", kj::str(refusal).cStr()); });
+    auto onRefused = [](auto &refusal) { printf("  onRefused %s\n", kj::str(refusal).cStr()); };
+    capvet::VettingStream vetting(in, options, kj::mv(onRefused));
     const int files[] = {0, 1};
     // (written through, in one batch with a message after it)
     capvet::VettingStream writing(out);
@@ -324,7 +327,8 @@ void readOne(const char *name, kj::ArrayPtr<const kj::ArrayPtr<const capnp::word
       printf("  %s; %u open\n", got.c_str(), open);
       for (auto &fd : space) fd = nullptr;
     }
-    printf("  the same buffer: %d\n", vetting.getSendBufferSize().orDefault(-1) == in.getSendBufferSize().orDefault(-1));
+    const auto size = vetting.getSendBufferSize().orDefault(-1);
+    printf("  the same buffer: %d\n", size == in.getSendBufferSize().orDefault(-1));
   }
   printf("  left open: %d\n", static_cast<int>(openFiles() - before));
 }

@@ -2,12 +2,13 @@
 //
 //     vetted FILE
 //
-// FILE has for each message its length in bytes (4 bytes, the lowest first), and then its bytes. Each message is put at an
-// address that is a multiple of 8, and then at one that isn't. libcapnp gets the limits of the header alone. One reader has
-// those for one reading, a `walk`. Another has those for four: `walk`, `upgraded`, `size` and `copy` of read.cpp.
+// FILE has for each message its length in bytes (4 bytes, the lowest first), and then its bytes. Each message is put
+// at an address that is a multiple of 8, and then at one that isn't. libcapnp gets the limits of the header alone. One
+// reader has those for one reading, a `walk`. Another has those for four: `walk`, `upgraded`, `size` and `copy` of
+// read.cpp.
 //
-// The line is the text of the refusal, or 'sum N pointers N caps N'. Where the library throws, or two readings differ, it
-// says so.
+// The line is the text of the refusal, or 'sum N pointers N caps N'. Where the library throws, or two readings differ,
+// it says so.
 #include <capvet/kj.h>
 #include <stdio.h>
 

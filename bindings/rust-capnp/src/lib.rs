@@ -72,7 +72,9 @@ impl Segments<'_> {
         let mut options = ReaderOptions::new();
         let least = self.least_options(readings);
         options.nesting_limit(options.nesting_limit.max(least.nesting_limit));
-        let traversal = options.traversal_limit_in_words.max(least.traversal_limit_in_words);
+        let traversal = options
+            .traversal_limit_in_words
+            .max(least.traversal_limit_in_words);
         options.traversal_limit_in_words(traversal);
         options
     }
@@ -85,7 +87,9 @@ impl Segments<'_> {
         let once = words.max(charge.saturating_mul(3).saturating_add(2));
         let nesting = i32::try_from(2 * self.report.depth + 1).unwrap_or(i32::MAX);
         let mut options = ReaderOptions::new();
-        options.traversal_limit_in_words(Some(once.saturating_mul(readings))).nesting_limit(nesting);
+        options
+            .traversal_limit_in_words(Some(once.saturating_mul(readings)))
+            .nesting_limit(nesting);
         options
     }
 }
@@ -148,7 +152,11 @@ pub fn segments(bytes: &[u8], limits: Limits) -> Result<Segments<'_>, VetError> 
         end += length;
         end
     });
-    Ok(Segments { ends: ends.collect(), frame: Frame::of(frame), report })
+    Ok(Segments {
+        ends: ends.collect(),
+        frame: Frame::of(frame),
+        report,
+    })
 }
 
 /// Vets the message that `bytes` are, and returns a reader over them, with [`Segments::options`] for one reading.
@@ -207,7 +215,10 @@ mod tests {
             assert_eq!((segments.len(), segments.report().length), (3, 40));
             for (index, length) in [8, 16, 0].into_iter().enumerate() {
                 let segment = segments.get_segment(index as u32).unwrap();
-                assert_eq!((segment.len(), segment.as_ptr() as usize % WORD), (length, 0));
+                assert_eq!(
+                    (segment.len(), segment.as_ptr() as usize % WORD),
+                    (length, 0)
+                );
             }
             assert!(segments.get_segment(3).is_none());
             let is_borrowed = segments.get_segment(0).unwrap().as_ptr() == bytes[16..].as_ptr();
@@ -228,7 +239,10 @@ mod tests {
         assert_eq!(options.traversal_limit_in_words, Some(8 * 1024 * 1024));
         assert_eq!(options.nesting_limit, 64);
         let many = segments.options(10_000_000);
-        assert_eq!(many.traversal_limit_in_words, Some(10_000_000 * (3 * charge + 2)));
+        assert_eq!(
+            many.traversal_limit_in_words,
+            Some(10_000_000 * (3 * charge + 2))
+        );
     }
 
     #[test]
