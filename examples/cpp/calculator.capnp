@@ -4,7 +4,6 @@
 struct Row {
   id @0 :UInt64;
   name @1 :Text;
-  parts @2 :List(Row);
 }
 
 interface Counter {

@@ -39,7 +39,6 @@ class CalculatorServer final : public Calculator::Server {
     for (uint32_t at = 0; at < count; at++) {
       rows[at].setId(at);
       rows[at].setName(kj::str("row ", at));
-      for (auto part : rows[at].initParts(at % 3)) part.setName("part");
     }
     return kj::READY_NOW;
   }

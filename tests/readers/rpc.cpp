@@ -136,7 +136,7 @@ struct Client {
 // The sum of what a list of rows has.
 uint64_t sumOf(capnp::List<Row>::Reader rows) {
   uint64_t sum = 0;
-  for (auto row : rows) sum = 31 * sum + row.getId() + row.getName().size() + sumOf(row.getParts());
+  for (auto row : rows) sum = 31 * sum + row.getId() + row.getName().size();
   return sum;
 }
 
