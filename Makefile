@@ -7,6 +7,7 @@ bindir ?= $(PREFIX)/bin
 libdir ?= $(PREFIX)/lib
 includedir ?= $(PREFIX)/include
 pkgconfigdir ?= $(libdir)/pkgconfig
+cmakedir ?= $(libdir)/cmake/capvet
 mandir ?= $(PREFIX)/share/man
 completionsdir ?= $(PREFIX)/share/bash-completion/completions
 INSTALL ?= install
@@ -38,21 +39,40 @@ install: $(BUILT_PROGRAM) $(BUILT_ARCHIVE)
 	@case '$(PREFIX)' in /*) ;; *) echo "PREFIX has to be a path from /, and is '$(PREFIX)'" >&2; exit 2;; esac
 	$(INSTALL) -d '$(DESTDIR)$(bindir)' '$(DESTDIR)$(mandir)/man1' '$(DESTDIR)$(mandir)/man3' '$(DESTDIR)$(completionsdir)'
 	$(INSTALL) -d '$(DESTDIR)$(includedir)' '$(DESTDIR)$(libdir)' '$(DESTDIR)$(pkgconfigdir)'
+# What a description says about this installation. The package for CMake has its folders as paths from its own.
+DESCRIBED = -e 's|@prefix@|$(PREFIX)|' -e 's|@libdir@|$(libdir)|' -e 's|@includedir@|$(includedir)|' \
+  -e 's|@version@|$(VERSION)|' -e "s|@to_libdir@|$$(realpath -ms --relative-to='$(cmakedir)' '$(libdir)')|" \
+  -e "s|@to_includedir@|$$(realpath -ms --relative-to='$(cmakedir)' '$(includedir)')|"
+PC_FILES = capvet.pc capvet-kj.pc
+CMAKE_FILES = capvetConfig.cmake capvetConfigVersion.cmake
+
+# Puts the program, its manual page and its completions under PREFIX, and the library with its headers and what
+# pkg-config and CMake want to know; builds first what has a newer source.
+install: $(BUILT_PROGRAM) $(BUILT_ARCHIVE)
+	@case '$(PREFIX)' in /*) ;; *) echo "PREFIX has to be a path from /, and is '$(PREFIX)'" >&2; exit 2;; esac
+	$(INSTALL) -d '$(DESTDIR)$(bindir)' '$(DESTDIR)$(mandir)/man1' '$(DESTDIR)$(completionsdir)'
+	$(INSTALL) -d '$(DESTDIR)$(includedir)/capvet' '$(DESTDIR)$(libdir)' '$(DESTDIR)$(pkgconfigdir)' '$(DESTDIR)$(cmakedir)'
 	$(INSTALL) -m 755 '$(BUILT_PROGRAM)' '$(DESTDIR)$(bindir)/capvet'
 	$(INSTALL) -m 644 docs/capvet.1 '$(DESTDIR)$(mandir)/man1/capvet.1'
 	$(INSTALL) -m 644 docs/capvet.3 '$(DESTDIR)$(mandir)/man3/capvet.3'
 	$(INSTALL) -m 644 completions/capvet.bash '$(DESTDIR)$(completionsdir)/capvet'
 	$(INSTALL) -m 644 include/capvet.h '$(DESTDIR)$(includedir)/capvet.h'
+	$(INSTALL) -m 644 include/capvet/kj.h '$(DESTDIR)$(includedir)/capvet/kj.h'
 	$(INSTALL) -m 644 '$(BUILT_ARCHIVE)' '$(DESTDIR)$(libdir)/libcapvet.a'
-	sed -e 's|@prefix@|$(PREFIX)|' -e 's|@libdir@|$(libdir)|' -e 's|@includedir@|$(includedir)|' \
-	  -e 's|@version@|$(VERSION)|' capvet.pc.in > '$(DESTDIR)$(pkgconfigdir)/capvet.pc'
-	chmod 644 '$(DESTDIR)$(pkgconfigdir)/capvet.pc'
+	for file in $(PC_FILES); do sed $(DESCRIBED) "$$file.in" > '$(DESTDIR)$(pkgconfigdir)/'"$$file" || exit 1; done
+	for file in $(CMAKE_FILES); do sed $(DESCRIBED) "cmake/$$file.in" > '$(DESTDIR)$(cmakedir)/'"$$file" || exit 1; done
+	cd '$(DESTDIR)$(pkgconfigdir)' && chmod 644 $(PC_FILES)
+	cd '$(DESTDIR)$(cmakedir)' && chmod 644 $(CMAKE_FILES)
 
 # Takes away just these files, and leaves their folders.
 uninstall:
 	rm -f '$(DESTDIR)$(bindir)/capvet' '$(DESTDIR)$(completionsdir)/capvet'
 	rm -f '$(DESTDIR)$(mandir)/man1/capvet.1' '$(DESTDIR)$(mandir)/man3/capvet.3'
 	rm -f '$(DESTDIR)$(includedir)/capvet.h' '$(DESTDIR)$(libdir)/libcapvet.a' '$(DESTDIR)$(pkgconfigdir)/capvet.pc'
+	rm -f '$(DESTDIR)$(bindir)/capvet' '$(DESTDIR)$(mandir)/man1/capvet.1' '$(DESTDIR)$(completionsdir)/capvet'
+	rm -f '$(DESTDIR)$(includedir)/capvet.h' '$(DESTDIR)$(includedir)/capvet/kj.h' '$(DESTDIR)$(libdir)/libcapvet.a'
+	for file in $(PC_FILES); do rm -f '$(DESTDIR)$(pkgconfigdir)/'"$$file"; done
+	for file in $(CMAKE_FILES); do rm -f '$(DESTDIR)$(cmakedir)/'"$$file"; done
 
 # Packs all that is installed, with a shared library, bindings and pages, into dist/; see packaging/dist.py.
 dist: $(BUILT_PROGRAM) $(BUILT_ARCHIVE)

@@ -29,6 +29,7 @@ SCRIPTS = (
     ("the calls from C, nodes", ["calls.py", ARCHIVE, PROGRAM, "nodes"]),
     ("the calls from C, flags and reports", ["calls.py", ARCHIVE, PROGRAM, "flags"]),
     ("strict messages by other readers", ["readers.py", PROGRAM]),
+    ("messages before their readers", ["before_readers.py", PROGRAM, ARCHIVE]),
     ("the library from C, C++ and Rust", ["library.py", PROGRAM, ARCHIVE]),
     ("the packages", ["dist.py", PROGRAM, ARCHIVE]),
     ("the Go package", ["go.py", PROGRAM, ARCHIVE]),

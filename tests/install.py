@@ -21,11 +21,14 @@ ARCHIVE = Path(sys.argv[2] if len(sys.argv) > 2 else TOP / "build/libcapvet.a").
 COMPLETIONS = "share/bash-completion/completions/capvet"
 PAGE, CALLS_PAGE = "share/man/man1/capvet.1", "share/man/man3/capvet.3"
 DESCRIPTION = "lib/pkgconfig/capvet.pc"
+PACKAGE = "lib/cmake/capvet"
 # What is installed, its mode, and the file that it is a copy of, where it is one.
 FILES = {"bin/capvet": (0o755, PROGRAM), PAGE: (0o644, TOP / "docs/capvet.1"),
          CALLS_PAGE: (0o644, TOP / "docs/capvet.3"),
          COMPLETIONS: (0o644, TOP / "completions/capvet.bash"), "include/capvet.h": (0o644, TOP / "include/capvet.h"),
-         "lib/libcapvet.a": (0o644, ARCHIVE), DESCRIPTION: (0o644, None)}
+         "include/capvet/kj.h": (0o644, TOP / "include/capvet/kj.h"), "lib/libcapvet.a": (0o644, ARCHIVE),
+         DESCRIPTION: (0o644, None), "lib/pkgconfig/capvet-kj.pc": (0o644, None),
+         f"{PACKAGE}/capvetConfig.cmake": (0o644, None), f"{PACKAGE}/capvetConfigVersion.cmake": (0o644, None)}
 COMMANDS = ("segments", "vet", "dump", "get", "check", "canon", "pack", "unpack")
 CONTACTS = "message 0: accepted charge 391 depth 11 pointers 125 caps 0\n"
 passed = failed = 0
@@ -63,7 +66,7 @@ def make(target, folder, *variables):
     for tool in ("rt", "cargo", "cc"):
         (refused / tool).write_text(f"#!/bin/sh\necho {tool} was called\nexit 1\n")
         (refused / tool).chmod(0o755)
-    told = ("PREFIX", "DESTDIR", "bindir", "libdir", "includedir", "mandir", "pkgconfigdir", "completionsdir", "INSTALL",
+    told = ("PREFIX", "DESTDIR", "bindir", "libdir", "includedir", "mandir", "pkgconfigdir", "cmakedir", "completionsdir", "INSTALL",
             "MAKEFLAGS", "MAKELEVEL")
     environment = {name: value for name, value in os.environ.items() if name not in told}
     environment["PATH"] = f"{refused}:{os.environ['PATH']}"

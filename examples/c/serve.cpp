@@ -1,7 +1,7 @@
 // A server that passes only accepted messages to libcapnp. It reads from a socket pair; the other end is an untrusted peer.
 //
 //     export PKG_CONFIG_PATH=PREFIX/lib/pkgconfig
-//     c++ -std=c++17 serve.cpp $(pkg-config --cflags --libs capvet capnp) -o serve
+//     c++ -std=c++17 serve.cpp $(pkg-config --cflags --libs capvet-kj) -o serve
 //     ./serve FILE..
 //
 // The first peer sends each file as it is, then the first half of the first one, and ends. The second peer sends that half and
@@ -9,15 +9,12 @@
 // and answers each by a byte. If the peer could write it during a call, the answer would mean nothing, and the process might be
 // killed. A peer has a second for each message. The server ends with status 0.
 #include <capnp/any.h>
-#include <capnp/serialize.h>
-#include <capvet.h>
-#include <kj/exception.h>
+#include <capvet/kj.h>
 #include <poll.h>
 #include <sys/socket.h>
 #include <sys/wait.h>
 #include <unistd.h>
 
-#include <algorithm>
 #include <cerrno>
 #include <chrono>
 #include <cstdio>
@@ -29,10 +26,7 @@
 namespace {
 
 // No flags: a message is passed on only if it is whole, strict and unamplified.
-const capvet_limits limits = {1 << 16, 1 << 16, 64, 0, {0, 0}};
-
-// How many times the program reads a message.
-const uint64_t readings = 1;
+const capvet::Options options{{1 << 16, 1 << 16, 64, 0, {0, 0}}, 1};
 
 using Clock = std::chrono::steady_clock;
 
@@ -52,10 +46,8 @@ bool again(int socket, short events, Clock::time_point deadline) {
 // The bytes of a message that were received, in words, as libcapnp needs them.
 class Buffer {
  public:
-  const uint8_t *bytes() const { return reinterpret_cast<const uint8_t *>(words_.data()); }
-  size_t length() const { return length_; }
-  kj::ArrayPtr<const capnp::word> words() const {
-    return {reinterpret_cast<const capnp::word *>(words_.data()), length_ / sizeof(capnp::word)};
+  kj::ArrayPtr<const kj::byte> bytes() const {
+    return {reinterpret_cast<const kj::byte *>(words_.data()), length_};
   }
 
   // Receives until there are `required` bytes. Otherwise it returns false, and errno is 0 if the peer has ended.
@@ -81,12 +73,13 @@ class Buffer {
   size_t length_ = 0;
 };
 
-// Reads only the next message. Its length is a claim of the peer, and `limits.message_words` bounds it.
+// Reads only the next message. Its length is a claim of the peer, and `message_words` bounds it.
 capvet_answer receive(int socket, Buffer &buffer, Clock::time_point deadline) {
   buffer.clear();
   for (;;) {
     capvet_report report;
-    capvet_answer answer = capvet_frame(buffer.bytes(), buffer.length(), &limits, &report);
+    const auto bytes = buffer.bytes();
+    capvet_answer answer = capvet_frame(bytes.begin(), bytes.size(), &options.limits, &report);
     bool is_short = answer == CAPVET_NO_MESSAGE || answer == CAPVET_TRUNCATED;
     if (!is_short || !buffer.fill(socket, report.input_required, deadline)) return answer;
   }
@@ -100,18 +93,24 @@ const char *ending(capvet_answer answer) {
   return answer == CAPVET_NO_MESSAGE ? "the peer has ended" : "the peer has cut a message";
 }
 
-// The work of the program on a message. libcapnp gets accepted messages only, and counts in other ways: these limits serve
-// it for every strict message. That is tested and not proved, so an exception of libcapnp is caught all the same.
-void handle(const Buffer &buffer, const capvet_report &report) try {
-  const uint64_t table = report.segments / 2 + 1, words = report.length / sizeof(capnp::word) - table;
-  capnp::ReaderOptions options;
-  options.traversalLimitInWords = std::max(words, 3 * report.charge + 2) * readings;
-  options.nestingLimit = static_cast<int>(2 * report.depth + 1);
-  capnp::FlatArrayMessageReader reader(buffer.words(), options);
-  auto size = reader.getRoot<capnp::AnyPointer>().targetSize();
+// The work of the program on a message. libcapnp gets accepted messages only, and limits that serve it for every strict
+// message. That is tested and not proved, so an exception of libcapnp is caught all the same.
+void handle(capvet::Vetted &message) try {
+  const auto size = message.getRoot<capnp::AnyPointer>().targetSize();
   std::printf("accepted, %llu words in libcapnp\n", static_cast<unsigned long long>(size.wordCount));
 } catch (const kj::Exception &fault) {
   std::printf("accepted, but not by libcapnp: %s\n", fault.getDescription().cStr());
+}
+
+// Vets a message, and returns whether it was accepted.
+bool take(const Buffer &buffer) {
+  capvet::Refusal refusal;
+  KJ_IF_MAYBE(message, capvet::tryVetted(buffer.bytes(), refusal, options)) {
+    handle(*message);
+    return true;
+  }
+  std::puts(kj::str(refusal).cStr());
+  return false;
 }
 
 // Writes all of it, and raises no signal if the other end is closed.
@@ -133,19 +132,12 @@ void serve(int socket) {
   Buffer buffer;
   for (;;) {
     const auto deadline = Clock::now() + patience;
-    capvet_answer answer = receive(socket, buffer, deadline);
+    const capvet_answer answer = receive(socket, buffer, deadline);
     if (answer != CAPVET_OK) {
       std::printf("closed: %s\n", ending(answer));
       return;
     }
-    capvet_report report;
-    answer = capvet_vet(buffer.bytes(), buffer.length(), &limits, &report);
-    if (answer == CAPVET_OK) {
-      handle(buffer, report);
-    } else {
-      std::printf("refused %s at %u:%u\n", capvet_answer_name(answer), report.segment, report.word);
-    }
-    const char said = answer == CAPVET_OK ? '+' : '-';
+    const char said = take(buffer) ? '+' : '-';
     if (!send_all(socket, &said, 1, deadline)) return;
   }
 }

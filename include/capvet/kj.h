@@ -1,0 +1,281 @@
+/* capvet/kj.h: checks untrusted Cap'n Proto messages before libcapnp reads them. C++17, libcapnp 0.8 or later.
+ *
+ * A message in memory:
+ *
+ *     auto message = capvet::vetted(bytes);
+ *     auto book = message.getRoot<AddressBook>();
+ *
+ * An RPC server:
+ *
+ *     capnp::AsyncIoMessageStream messages(*connection);
+ *     capvet::VettingStream vetting(messages);
+ *     capnp::TwoPartyVatNetwork network(vetting, capnp::rpc::twoparty::Side::SERVER);
+ *
+ * By default a message has to be whole, strict and unamplified, as for capvet_vet. libcapnp then gets limits under
+ * which it reads the whole message. They are tested, not proved, and schemas are not checked: a text may lack its
+ * last zero byte. So catch kj::Exception around a message, as without capvet. The RPC system does so itself.
+ *
+ * Build with `pkg-config --cflags --libs capvet-kj`, or in CMake with find_package(capvet COMPONENTS kj) and the
+ * target capvet::kj. */
+#ifndef CAPVET_KJ_H
+#define CAPVET_KJ_H
+
+#include <capnp/message.h>
+#include <capnp/serialize-async.h>
+#include <capnp/serialize.h>
+#include <capvet.h>
+#include <kj/array.h>
+#include <kj/exception.h>
+#include <kj/function.h>
+#include <kj/io.h>
+#include <kj/memory.h>
+#include <kj/string.h>
+#include <kj/vector.h>
+
+#include <algorithm>
+#include <cstdint>
+#include <cstring>
+
+namespace capvet {
+
+/* What is accepted, and how often the program reads it. */
+struct Options {
+  /* The limits and flags of capvet.h. CAPVET_NO_TABLE refuses every message, with CAPVET_BAD_LIMITS. */
+  capvet_limits limits = CAPVET_LIMITS_INIT;
+
+  /* The number of times that the program goes through a message. Each time takes up to
+   * 3 * report.charge + 2 words of libcapnp's traversal limit. */
+  uint32_t readings = 1;
+};
+
+/* Why a message was refused. The report is that of capvet_vet, or of capvet_vet_segments for a message of a stream. */
+struct Refusal {
+  capvet_answer answer;
+  capvet_report report;
+};
+
+/* "refused DepthLimit at 0:7 pointers 3", as `capvet vet` prints it. If the bytes are no frame, or more than one,
+ * it has a number in place of a pointer's: that of `report.required` or else of `report.detail`. */
+inline kj::String KJ_STRINGIFY(const Refusal &refusal) {
+  const auto &report = refusal.report;
+  kj::StringPtr name = capvet_answer_name(refusal.answer);
+  if (refusal.answer < CAPVET_NOT_CANONICAL) {
+    return kj::str("refused ", name, " ", report.required > 0 ? report.required : report.detail);
+  }
+  return kj::str("refused ", name, " at ", report.segment, ":", report.word, " pointers ", report.pointers);
+}
+
+/* The refusal as an exception of type FAILED. Its description is the text above. */
+inline kj::Exception exceptionOf(const Refusal &refusal) {
+  return kj::Exception(kj::Exception::Type::FAILED, __FILE__, __LINE__, kj::str(refusal));
+}
+
+/* The limits for libcapnp to read a vetted message. They are never below those that are passed in.
+ *
+ *   report    of the message
+ *   words     the words of its segments
+ *   readings  as in Options */
+inline capnp::ReaderOptions readerOptions(const capvet_report &report, uint64_t words, uint32_t readings,
+                                          capnp::ReaderOptions atLeast = capnp::ReaderOptions()) {
+  const uint64_t traversal = std::max(words, 3 * report.charge + 2) * readings;
+  atLeast.traversalLimitInWords = std::max(atLeast.traversalLimitInWords, traversal);
+  atLeast.nestingLimit = std::max(atLeast.nestingLimit, static_cast<int>(2 * report.depth + 1));
+  return atLeast;
+}
+
+/* An accepted message, with a reader over its bytes. */
+class Vetted {
+ public:
+  /* The bytes are an accepted frame, and maybe more. They have to outlive this. */
+  Vetted(kj::ArrayPtr<const kj::byte> bytes, const capvet_report &report, const Options &options,
+         capnp::ReaderOptions atLeast)
+      : itsReport(report) {
+    const uint64_t table = report.segments / 2 + 1, length = report.length / sizeof(capnp::word);
+    auto limits = readerOptions(report, length - table, options.readings, atLeast);
+    itsReader = kj::heap<capnp::FlatArrayMessageReader>(aligned(bytes.begin(), length), limits);
+  }
+
+  capnp::FlatArrayMessageReader &reader() { return *itsReader; }
+  const capvet_report &report() const { return itsReport; }
+
+  template <typename Type>
+  typename Type::Reader getRoot() {
+    return itsReader->getRoot<Type>();
+  }
+
+ private:
+  /* These words where they are, or a copy of them if libcapnp can't read them there. */
+  kj::ArrayPtr<const capnp::word> aligned(const kj::byte *bytes, size_t length) {
+    if (reinterpret_cast<uintptr_t>(bytes) % alignof(capnp::word) == 0) {
+      return kj::arrayPtr(reinterpret_cast<const capnp::word *>(bytes), length);
+    }
+    copy = kj::heapArray<capnp::word>(length);
+    std::memcpy(copy.begin(), bytes, length * sizeof(capnp::word));
+    return copy;
+  }
+
+  capvet_report itsReport;
+  kj::Array<capnp::word> copy;
+  kj::Own<capnp::FlatArrayMessageReader> itsReader;
+};
+
+/* Vets the message that the bytes are, and gives a reader over them. With CAPVET_ALLOW_TRAILING they may go on after
+ * it: the next message begins at `report().length`.
+ *
+ *   refusal  filled in if the message is refused; then nothing is returned
+ *   atLeast  limits for libcapnp, which are raised to what the message needs
+ *
+ * The bytes have to outlive the result. They are copied only if they are at an address that is no multiple of 8. If the
+ * sender can still write them, copy them first. */
+inline kj::Maybe<Vetted> tryVetted(kj::ArrayPtr<const kj::byte> bytes, Refusal &refusal, const Options &options = {},
+                                   capnp::ReaderOptions atLeast = capnp::ReaderOptions()) {
+  refusal = {CAPVET_BAD_LIMITS, {}};
+  // (libcapnp's reader looks for a table)
+  if (options.limits.flags & CAPVET_NO_TABLE) return nullptr;
+  refusal.answer = capvet_vet(bytes.begin(), bytes.size(), &options.limits, &refusal.report);
+  if (refusal.answer != CAPVET_OK) return nullptr;
+  return Vetted(bytes, refusal.report, options, atLeast);
+}
+
+/* The same, and throws `exceptionOf` a refusal. */
+inline Vetted vetted(kj::ArrayPtr<const kj::byte> bytes, const Options &options = {},
+                     capnp::ReaderOptions atLeast = capnp::ReaderOptions()) {
+  Refusal refusal;
+  KJ_IF_MAYBE(message, tryVetted(bytes, refusal, options, atLeast)) { return kj::mv(*message); }
+  kj::throwFatalException(exceptionOf(refusal));
+}
+
+/* The segments of a message that another reader holds, each asked for once. Most messages have one. */
+class Segments {
+ public:
+  explicit Segments(capnp::MessageReader &reader) : first(segmentOf(reader, 0)) {
+    // (libcapnp gives none of a message whose segments are all empty, and it has no root like this one)
+    if (first.bytes == nullptr) return;
+    auto next = segmentOf(reader, 1);
+    if (next.bytes == nullptr) return;
+    all.add(first);
+    // (one more than are ever accepted is enough to be refused)
+    while (next.bytes != nullptr && all.size() <= CAPVET_MAX_SEGMENTS) {
+      all.add(next);
+      next = segmentOf(reader, static_cast<unsigned int>(all.size()));
+    }
+  }
+
+  capvet_answer vet(const capvet_limits &limits, capvet_report &report) const {
+    if (all.size() == 0) return capvet_vet_segments(&first, 1, &limits, &report);
+    return capvet_vet_segments(all.begin(), all.size(), &limits, &report);
+  }
+
+  kj::ArrayPtr<const capnp::word> get(unsigned int id) const {
+    const auto &segment = id == 0 ? first : id < all.size() ? all[id] : none;
+    return {reinterpret_cast<const capnp::word *>(segment.bytes), segment.length / sizeof(capnp::word)};
+  }
+
+ private:
+  static capvet_segment segmentOf(capnp::MessageReader &reader, unsigned int id) {
+    auto bytes = reader.getSegment(id).asBytes();
+    return {bytes.begin(), bytes.size()};
+  }
+
+  static constexpr capvet_segment none = {nullptr, 0};
+  capvet_segment first;
+  kj::Vector<capvet_segment> all;
+};
+
+/* Reads a vetted message that another reader holds. */
+class VettedMessageReader final : public capnp::MessageReader {
+ public:
+  VettedMessageReader(kj::Own<capnp::MessageReader> holder, Segments segments, capnp::ReaderOptions options)
+      : capnp::MessageReader(options), holder(kj::mv(holder)), segments(kj::mv(segments)) {}
+
+  kj::ArrayPtr<const capnp::word> getSegment(unsigned int id) override { return segments.get(id); }
+
+ private:
+  kj::Own<capnp::MessageReader> holder;
+  Segments segments;
+};
+
+/* A stream that vets each message that is read, before its reader gets it. Nothing is copied. Writing passes through.
+ *
+ * A refused message ends the stream. `onRefused` is called, file descriptors that came with the message are closed,
+ * and this read and all later ones throw `exceptionOf` the refusal. The RPC system then sends the exception's
+ * description to the peer, and closes the connection.
+ *
+ * The inner stream reads the frame. It holds at most `limits.message_words` words, and refuses by exceptions of its own
+ * what is larger, what is cut, and 512 or more segments. These end the stream too, but `onRefused` isn't called.
+ * CAPVET_ALLOW_TRAILING has no effect.
+ *
+ * libcapnp's limits for a message are at least those that are passed to tryReadMessage (`receiveOptions` of
+ * TwoPartyVatNetwork), and are raised to what the message needs. */
+class VettingStream final : public capnp::MessageStream {
+ public:
+  using OnRefused = kj::Function<void(const Refusal &)>;
+  using capnp::MessageStream::tryReadMessage;
+  using capnp::MessageStream::writeMessage;
+  using capnp::MessageStream::writeMessages;
+
+  /* The inner stream has to outlive this, and this each promise of a read. Pass a new function or a moved one:
+   * kj::Function keeps one that has a name by reference. */
+  explicit VettingStream(capnp::MessageStream &inner, const Options &options = {},
+                         OnRefused onRefused = [](const Refusal &) {})
+      : inner(inner), options(options), onRefused(kj::mv(onRefused)) {}
+
+  kj::Promise<kj::Maybe<capnp::MessageReaderAndFds>> tryReadMessage(kj::ArrayPtr<kj::AutoCloseFd> fdSpace,
+                                                                    capnp::ReaderOptions atLeast,
+                                                                    kj::ArrayPtr<capnp::word> scratchSpace) override {
+    KJ_IF_MAYBE(exception, ended) { return kj::cp(*exception); }
+    // (this limit of the inner stream bounds what it holds)
+    auto held = atLeast;
+    held.traversalLimitInWords = options.limits.message_words;
+    using Read = kj::Maybe<capnp::MessageReaderAndFds>;
+    return inner.tryReadMessage(fdSpace, held, scratchSpace)
+        .then(
+            [this, atLeast](Read &&read) {
+              KJ_IF_MAYBE(message, read) { vet(*message, atLeast); }
+              return kj::mv(read);
+            },
+            [this](kj::Exception &&exception) -> Read { fail(kj::mv(exception)); });
+  }
+
+  kj::Promise<void> writeMessage(kj::ArrayPtr<const int> fds,
+                                 kj::ArrayPtr<const kj::ArrayPtr<const capnp::word>> segments) override {
+    return inner.writeMessage(fds, segments);
+  }
+
+  kj::Promise<void> writeMessages(kj::ArrayPtr<kj::ArrayPtr<const kj::ArrayPtr<const capnp::word>>> messages) override {
+    return inner.writeMessages(messages);
+  }
+
+  kj::Maybe<int> getSendBufferSize() override { return inner.getSendBufferSize(); }
+  kj::Promise<void> end() override { return inner.end(); }
+
+ private:
+  void vet(capnp::MessageReaderAndFds &message, capnp::ReaderOptions atLeast) {
+    Segments segments(*message.reader);
+    Refusal refusal;
+    refusal.answer = segments.vet(options.limits, refusal.report);
+    if (refusal.answer != CAPVET_OK) refuse(message, refusal);
+    const uint64_t words = refusal.report.length / sizeof(capnp::word);
+    auto limits = readerOptions(refusal.report, words, options.readings, atLeast);
+    message.reader = kj::heap<VettedMessageReader>(kj::mv(message.reader), kj::mv(segments), limits);
+  }
+
+  [[noreturn]] void refuse(capnp::MessageReaderAndFds &message, const Refusal &refusal) {
+    for (auto &fd : message.fds) fd = nullptr;
+    onRefused(refusal);
+    fail(exceptionOf(refusal));
+  }
+
+  [[noreturn]] void fail(kj::Exception &&exception) {
+    ended = kj::cp(exception);
+    kj::throwFatalException(kj::mv(exception));
+  }
+
+  capnp::MessageStream &inner;
+  Options options;
+  OnRefused onRefused;
+  kj::Maybe<kj::Exception> ended;
+};
+
+}  // namespace capvet
+#endif

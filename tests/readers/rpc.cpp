@@ -1,0 +1,441 @@
+// Runs an RPC server over capvet::VettingStream, and one without it, on this machine alone.
+//
+//     rpc same                 the results of calls by either server, over loopback
+//     rpc record               the frames that a client sends for these calls, to standard output
+//     rpc attack FILE VALID    sends each message of FILE to the server with vetting, over loopback
+//     rpc streams              file descriptors, refusals and limits of a stream, in process
+//     rpc cost CALLS           the time of calls to either server, over a pipe in process
+//
+// FILE has for each message its length in bytes (4 bytes, the lowest first), and then its frame. Each is sent on a
+// connection of its own, every third one after the frames of VALID. The line of a message is the text of its refusal,
+// or 'accepted', or 'not read' where libcapnp's own stream refuses the frame. The last lines count exceptions by the
+// file of libcapnp that they come from, and then the results of calls follow, as for `same`.
+//
+// An exception from reading pointers or from limits is a line 'threw'. Those about what a schema expects are counted.
+#include <capnp/rpc-twoparty.h>
+#include <capvet/kj.h>
+#include <fcntl.h>
+#include <kj/async-io.h>
+#include <kj/debug.h>
+#include <stdio.h>
+#include <string.h>
+#include <sys/socket.h>
+#include <unistd.h>
+
+#include <algorithm>
+#include <chrono>
+#include <map>
+#include <string>
+#include <vector>
+
+#include "calculator.h"
+
+namespace {
+
+using capnp::rpc::twoparty::Side;
+using capnp::rpc::twoparty::VatId;
+
+// What libcapnp's getters throw of messages that aren't of the schema. They are no matter of pointers and limits.
+const char *const OF_SCHEMAS[] = {
+    "where struct pointer was expected", "where list pointer was expected", "where text was expected",
+    "where data was expected", "not NUL-terminated", "where capability pointer was expected", "non-data",
+    "Expected a primitive list", "incompatible", "Found struct list", "Found bit list", "invalid capability pointer"};
+
+// Sees each exception that libcapnp raises, before it is caught.
+class Watch final : public kj::ExceptionCallback {
+ public:
+  void onRecoverableException(kj::Exception &&exception) override {
+    note(exception);
+    next.onRecoverableException(kj::mv(exception));
+  }
+  void onFatalException(kj::Exception &&exception) override {
+    note(exception);
+    next.onFatalException(kj::mv(exception));
+  }
+
+  std::map<std::string, unsigned> counts;
+
+ private:
+  void note(const kj::Exception &exception) {
+    const std::string path = exception.getFile(), file = path.substr(path.rfind('/') + 1);
+    const std::string text = exception.getDescription().cStr();
+    const bool is_reading = file == "layout.c++" || file == "arena.c++" || file == "message.c++";
+    auto is_told = [&](const char *words) { return text.find(words) != std::string::npos; };
+    const bool is_schema = std::any_of(std::begin(OF_SCHEMAS), std::end(OF_SCHEMAS), is_told);
+    if (is_reading && !is_schema) printf("threw %s: %s\n", file.c_str(), text.c_str());
+    counts[is_reading ? "of schemas" : file]++;
+  }
+};
+
+// A connection to the server, with vetting or without.
+struct Connection {
+  Connection(kj::Own<kj::AsyncIoStream> accepted, capnp::Capability::Client service, bool is_vetting,
+             capvet::VettingStream::OnRefused onRefused)
+      : stream(kj::mv(accepted)),
+        vetting(messages, capvet::Options(), kj::mv(onRefused)),
+        network(is_vetting ? static_cast<capnp::MessageStream &>(vetting) : messages, Side::SERVER),
+        rpc(capnp::makeRpcServer(network, kj::mv(service))) {}
+
+  kj::Own<kj::AsyncIoStream> stream;
+  capnp::AsyncIoMessageStream messages{*stream};
+  capvet::VettingStream vetting;
+  capnp::TwoPartyVatNetwork network;
+  capnp::RpcSystem<VatId> rpc;
+};
+
+class Server final : private kj::TaskSet::ErrorHandler {
+ public:
+  Server(kj::AsyncIoProvider &provider, kj::WaitScope &scope, bool is_vetting)
+      : is_vetting(is_vetting),
+        listener(provider.getNetwork().parseAddress("127.0.0.1").wait(scope)->listen()),
+        address(provider.getNetwork().parseAddress(kj::str("127.0.0.1:", listener->getPort())).wait(scope)),
+        tasks(*this) {
+    tasks.add(serve());
+  }
+
+  kj::Own<kj::AsyncIoStream> connect(kj::WaitScope &scope) { return address->connect().wait(scope); }
+
+  std::string refused;
+
+ private:
+  kj::Promise<void> serve() {
+    return listener->accept().then([this](kj::Own<kj::AsyncIoStream> &&stream) {
+      // (moved, since kj::Function keeps what has a name by reference)
+      auto onRefused = [this](const capvet::Refusal &refusal) { refused = kj::str(refusal).cStr(); };
+      auto connection = kj::heap<Connection>(kj::mv(stream), service, is_vetting, kj::mv(onRefused));
+      auto ended = connection->network.onDisconnect();
+      tasks.add(ended.attach(kj::mv(connection)));
+      return serve();
+    });
+  }
+  void taskFailed(kj::Exception &&exception) override { printf("task: %s\n", exception.getDescription().cStr()); }
+
+  bool is_vetting;
+  kj::Own<kj::ConnectionReceiver> listener;
+  kj::Own<kj::NetworkAddress> address;
+  capnp::Capability::Client service = kj::heap<CalculatorServer>();
+  kj::TaskSet tasks;
+};
+
+// A client of one connection.
+struct Client {
+  explicit Client(capnp::MessageStream &messages)
+      : network(messages, Side::CLIENT), rpc(capnp::makeRpcClient(network)), calculator(bootstrap()) {}
+
+  Calculator::Client bootstrap() {
+    capnp::MallocMessageBuilder id;
+    id.initRoot<VatId>().setSide(Side::SERVER);
+    return rpc.bootstrap(id.getRoot<VatId>()).castAs<Calculator>();
+  }
+
+  capnp::TwoPartyVatNetwork network;
+  capnp::RpcSystem<VatId> rpc;
+  Calculator::Client calculator;
+};
+
+// The sum of what a list of rows has.
+uint64_t sumOf(capnp::List<Row>::Reader rows) {
+  uint64_t sum = 0;
+  for (auto row : rows) sum = 31 * sum + row.getId() + row.getName().size();
+  return sum;
+}
+
+// Calls of each kind, and their results.
+std::string resultsOf(Calculator::Client calculator, uint32_t calls, std::vector<uint32_t> lists,
+                      kj::WaitScope &scope) {
+  double sum = 0;
+  uint64_t counted = 0;
+  for (uint32_t at = 0; at < calls; at++) {
+    auto add = calculator.addRequest();
+    add.setA(at);
+    add.setB(0.5);
+    sum += add.send().wait(scope).getSum();
+    auto start = calculator.counterRequest();
+    start.setStart(at);
+    auto counter = start.send().getCounter();
+    auto first = counter.nextRequest().send(), second = counter.nextRequest().send();
+    counted += first.wait(scope).getNumber() + 3 * second.wait(scope).getNumber();
+  }
+  std::string text = "sums " + std::to_string(sum) + " counted " + std::to_string(counted);
+  for (uint32_t count : lists) {
+    auto rows = calculator.rowsRequest();
+    rows.setCount(count);
+    auto received = rows.send().wait(scope);
+    auto store = calculator.storeRequest();
+    store.setRows(received.getRows());
+    text += " rows " + std::to_string(sumOf(received.getRows())) + " of " +
+            std::to_string(store.send().wait(scope).getCount());
+  }
+  auto failed = kj::runCatchingExceptions([&]() { calculator.failRequest().send().wait(scope); });
+  KJ_IF_MAYBE(exception, failed) { text += std::string(" failed ") + exception->getDescription().cStr(); }
+  return text;
+}
+
+const std::vector<uint32_t> LISTS = {0, 1, 1000, 20'000};
+
+void printResults(Server &server, const char *name, kj::WaitScope &scope) {
+  auto stream = server.connect(scope);
+  capnp::AsyncIoMessageStream messages(*stream);
+  Client client(messages);
+  printf("%s: %s\n", name, resultsOf(client.calculator, 300, LISTS, scope).c_str());
+}
+
+int same(kj::AsyncIoContext &io) {
+  Server plain(*io.provider, io.waitScope, false), vetting(*io.provider, io.waitScope, true);
+  printResults(plain, "without", io.waitScope);
+  printResults(vetting, "with", io.waitScope);
+  return 0;
+}
+
+// Writes all frames to standard output too.
+class Recorder final : public capnp::MessageStream {
+ public:
+  explicit Recorder(capnp::MessageStream &inner) : inner(inner) {}
+
+  kj::Promise<kj::Maybe<capnp::MessageReaderAndFds>> tryReadMessage(kj::ArrayPtr<kj::AutoCloseFd> fds,
+                                                                    capnp::ReaderOptions options,
+                                                                    kj::ArrayPtr<capnp::word> scratch) override {
+    return inner.tryReadMessage(fds, options, scratch);
+  }
+  kj::Promise<void> writeMessage(kj::ArrayPtr<const int> fds,
+                                 kj::ArrayPtr<const kj::ArrayPtr<const capnp::word>> segments) override {
+    capnp::writeMessage(out, segments);
+    return inner.writeMessage(fds, segments);
+  }
+  kj::Promise<void> writeMessages(kj::ArrayPtr<kj::ArrayPtr<const kj::ArrayPtr<const capnp::word>>> messages) override {
+    for (auto segments : messages) capnp::writeMessage(out, segments);
+    return inner.writeMessages(messages);
+  }
+  kj::Maybe<int> getSendBufferSize() override { return inner.getSendBufferSize(); }
+  kj::Promise<void> end() override { return inner.end(); }
+
+ private:
+  capnp::MessageStream &inner;
+  kj::FdOutputStream out{1};
+};
+
+int record(kj::AsyncIoContext &io) {
+  Server server(*io.provider, io.waitScope, true);
+  auto stream = server.connect(io.waitScope);
+  capnp::AsyncIoMessageStream messages(*stream);
+  Recorder recorder(messages);
+  Client client(recorder);
+  resultsOf(client.calculator, 4, {0, 1, 3, 20}, io.waitScope);
+  return 0;
+}
+
+using Bytes = std::vector<kj::byte>;
+
+Bytes contentOf(const char *path) {
+  kj::FdInputStream in(kj::AutoCloseFd(open(path, O_RDONLY)));
+  auto all = in.readAllBytes();
+  return Bytes(all.begin(), all.end());
+}
+
+// Sends bytes on a connection of their own, until the server closes it.
+void send(Server &server, const Bytes &bytes, kj::AsyncIoContext &io) {
+  auto stream = server.connect(io.waitScope);
+  // (the server may close it before all is sent)
+  auto sent = stream->write(bytes.data(), bytes.size())
+                  .then([&]() { stream->shutdownWrite(); }, [](kj::Exception &&) {});
+  auto replies = stream->readAllBytes().then([](auto &&) {}, [](kj::Exception &&) {});
+  sent.wait(io.waitScope);
+  io.provider->getTimer().timeoutAfter(20 * kj::SECONDS, kj::mv(replies)).wait(io.waitScope);
+}
+
+int attack(kj::AsyncIoContext &io, const char *path, const char *validPath) {
+  Server server(*io.provider, io.waitScope, true);
+  const Bytes all = contentOf(path), valid = contentOf(validPath);
+  Watch watch;
+  unsigned number = 0;
+  for (size_t at = 0; at < all.size(); number++) {
+    uint32_t length;
+    memcpy(&length, &all[at], sizeof length);
+    Bytes bytes;
+    if (number % 3 == 0) bytes = valid;
+    bytes.insert(bytes.end(), &all[at + 4], &all[at + 4] + length);
+    at += 4 + length;
+    server.refused.clear();
+    const auto unread = watch.counts["serialize-async.c++"];
+    send(server, bytes, io);
+    const char *otherwise = watch.counts["serialize-async.c++"] > unread ? "not read" : "accepted";
+    puts(server.refused.empty() ? otherwise : server.refused.c_str());
+  }
+  for (auto &[file, count] : watch.counts) printf("exceptions %s: %u\n", file.c_str(), count);
+  printResults(server, "with", io.waitScope);
+  return 0;
+}
+
+// A message of these words in one segment.
+kj::Array<capnp::word> wordsOf(std::initializer_list<uint64_t> values) {
+  auto words = kj::heapArray<capnp::word>(values.size());
+  auto bytes = reinterpret_cast<const kj::byte *>(values.begin());
+  std::copy(bytes, bytes + 8 * values.size(), words.asBytes().begin());
+  return words;
+}
+
+const uint64_t CYCLE = 0x00010000fffffffc;
+
+unsigned openFiles() {
+  unsigned count = 0;
+  for (int fd = 0; fd < 1024; fd++) count += fcntl(fd, F_GETFD) >= 0;
+  return count;
+}
+
+// A read of a stream: what its root has, and how many file descriptors came with it. Otherwise the exception.
+std::string read(capnp::MessageStream &stream, kj::ArrayPtr<kj::AutoCloseFd> fds, capnp::ReaderOptions options,
+                 kj::WaitScope &scope) {
+  std::string text;
+  auto failed = kj::runCatchingExceptions([&]() {
+    auto got = stream.tryReadMessage(fds, options).wait(scope);
+    text = "ended";
+    KJ_IF_MAYBE(message, got) {
+      auto root = message->reader->getRoot<capnp::AnyPointer>().targetSize();
+      auto limits = message->reader->getOptions();
+      text = std::to_string(root.wordCount) + " words, " + std::to_string(message->fds.size()) + " files, limits " +
+             std::to_string(limits.traversalLimitInWords) + " and " + std::to_string(limits.nestingLimit);
+    }
+  });
+  KJ_IF_MAYBE(exception, failed) { text = exception->getDescription().cStr(); }
+  return text;
+}
+
+// Writes a message with two file descriptors to a pipe, and reads it by a vetting stream.
+void readOne(const char *name, kj::ArrayPtr<const kj::ArrayPtr<const capnp::word>> segments, capvet::Options options,
+             kj::AsyncIoContext &io) {
+  const auto before = openFiles();
+  {
+    auto pipe = io.provider->newCapabilityPipe();
+    capnp::AsyncCapabilityMessageStream in(*pipe.ends[0]), out(*pipe.ends[1]);
+    auto onRefused = [](auto &refusal) { printf("  onRefused %s\n", kj::str(refusal).cStr()); };
+    capvet::VettingStream vetting(in, options, kj::mv(onRefused));
+    const int files[] = {0, 1};
+    // (written through, in one batch with a message after it)
+    capvet::VettingStream writing(out);
+    const auto ok = wordsOf({0});
+    const kj::ArrayPtr<const capnp::word> after[] = {ok};
+    writing.writeMessage(files, segments).wait(io.waitScope);
+    kj::ArrayPtr<const kj::ArrayPtr<const capnp::word>> batch[] = {after};
+    writing.writeMessages(batch).wait(io.waitScope);
+    writing.end().wait(io.waitScope);
+    kj::AutoCloseFd space[4];
+    printf("%s\n", name);
+    for (int reading = 0; reading < 3; reading++) {
+      const auto got = read(vetting, space, {10, 3}, io.waitScope);
+      unsigned open = 0;
+      for (auto &fd : space) open += fd != nullptr;
+      printf("  %s; %u open\n", got.c_str(), open);
+      for (auto &fd : space) fd = nullptr;
+    }
+    const auto size = vetting.getSendBufferSize().orDefault(-1);
+    printf("  the same buffer: %d\n", size == in.getSendBufferSize().orDefault(-1));
+  }
+  printf("  left open: %d\n", static_cast<int>(openFiles() - before));
+}
+
+int streams(kj::AsyncIoContext &io) {
+  const auto null = wordsOf({0}), cycle = wordsOf({CYCLE});
+  // (a struct of one word, which has one pointer to such a struct, and a segment without words)
+  const auto deep = wordsOf({0x0001000000000000, 0x0000000100000000, 7}), empty = wordsOf({});
+  auto large = kj::heapArray<capnp::word>(100);
+  memset(large.asBytes().begin(), 0, large.asBytes().size());
+  using Segments = std::vector<kj::ArrayPtr<const capnp::word>>;
+  auto of = [](const Segments &segments) { return kj::arrayPtr(segments.data(), segments.size()); };
+  capvet::Options options, four, small;
+  four.readings = 4;
+  small.limits.message_words = 50;
+  readOne("null", of({null}), options, io);
+  readOne("two levels", of({deep, empty}), options, io);
+  readOne("two levels, four readings", of({deep, empty}), four, io);
+  readOne("cycle", of({cycle}), options, io);
+  readOne("one empty segment", of({empty}), options, io);
+  readOne("empty segments", of({empty, empty, empty}), options, io);
+  readOne("an empty first segment", of({empty, null}), options, io);
+  readOne("too large", of({large}), small, io);
+  readOne("511 segments", of(Segments(511, null)), options, io);
+  readOne("512 segments", of(Segments(512, null)), options, io);
+  return 0;
+}
+
+// A client and a server in one process, with a pipe between them.
+struct Pair {
+  explicit Pair(bool is_vetting)
+      : pipe(kj::newTwoWayPipe()),
+        server(kj::mv(pipe.ends[0]), kj::heap<CalculatorServer>(), is_vetting, [](auto &) {}),
+        messages(*pipe.ends[1]),
+        client(messages) {}
+
+  kj::TwoWayPipe pipe;
+  Connection server;
+  capnp::AsyncIoMessageStream messages;
+  Client client;
+};
+
+// The nanoseconds of a number of calls.
+template <typename Call>
+double timeOf(unsigned calls, Call call) {
+  const auto begin = std::chrono::steady_clock::now();
+  for (unsigned at = 0; at < calls; at++) call();
+  return std::chrono::duration<double, std::nano>(std::chrono::steady_clock::now() - begin).count() / calls;
+}
+
+double median(std::vector<double> numbers) {
+  std::sort(numbers.begin(), numbers.end());
+  return numbers[numbers.size() / 2];
+}
+
+// Alternates blocks of calls to both servers, and prints the median of the ratios of two blocks.
+template <typename Call>
+void compare(const char *name, unsigned rounds, unsigned calls, Call call) {
+  Pair plain(false), vetting(true);
+  std::vector<double> ratios, without, with;
+  for (unsigned round = 0; round <= rounds; round++) {
+    const bool is_first = round % 2;
+    double times[2];
+    for (bool is_vetting : {is_first, !is_first}) {
+      auto &pair = is_vetting ? vetting : plain;
+      times[is_vetting] = timeOf(calls, [&]() { call(pair.client.calculator); });
+    }
+    // (the first round warms up)
+    if (round == 0) continue;
+    ratios.push_back(times[1] / times[0]);
+    without.push_back(times[0]);
+    with.push_back(times[1]);
+  }
+  printf("%s: ratio %.4f, %.0f ns without, %.0f ns with\n", name, median(ratios), median(without), median(with));
+}
+
+int cost(kj::AsyncIoContext &io, unsigned calls) {
+  capnp::MallocMessageBuilder message;
+  auto rows = message.initRoot<capnp::AnyPointer>().initAs<capnp::List<Row>>(20'000);
+  for (uint32_t at = 0; at < rows.size(); at++) {
+    rows[at].setId(at);
+    rows[at].setName(kj::str("row ", at));
+  }
+  const auto list = rows.asReader();
+  compare("small", 200, std::max(1u, calls / 200), [&](Calculator::Client &calculator) {
+    auto add = calculator.addRequest();
+    add.setA(1);
+    add.setB(2);
+    KJ_ASSERT(add.send().wait(io.waitScope).getSum() == 3);
+  });
+  compare("list", std::max(1u, calls / 1000), 1, [&](Calculator::Client &calculator) {
+    auto store = calculator.storeRequest();
+    store.setRows(list);
+    KJ_ASSERT(store.send().wait(io.waitScope).getCount() == 20'000);
+  });
+  return 0;
+}
+
+}  // namespace
+
+int main(int count, char **words) {
+  const std::string mode = count > 1 ? words[1] : "";
+  auto io = kj::setupAsyncIo();
+  if (mode == "same" && count == 2) return same(io);
+  if (mode == "record" && count == 2) return record(io);
+  if (mode == "attack" && count == 4) return attack(io, words[2], words[3]);
+  if (mode == "streams" && count == 2) return streams(io);
+  if (mode == "cost" && count == 3) return cost(io, static_cast<unsigned>(strtoul(words[2], nullptr, 10)));
+  return fputs("usage: rpc same | record | attack FILE VALID | streams | cost CALLS\n", stderr), 2;
+}
