@@ -33,12 +33,6 @@ build: build/capvet build/libcapvet.a
 build/capvet build/libcapvet.a &: $(SOURCES)
 	python3 tests/prove.py --code
 
-# Puts the program and its completions under PREFIX, the library with its header and what pkg-config wants to know, and
-# the manual pages of both; builds first what has a newer source.
-install: $(BUILT_PROGRAM) $(BUILT_ARCHIVE)
-	@case '$(PREFIX)' in /*) ;; *) echo "PREFIX has to be a path from /, and is '$(PREFIX)'" >&2; exit 2;; esac
-	$(INSTALL) -d '$(DESTDIR)$(bindir)' '$(DESTDIR)$(mandir)/man1' '$(DESTDIR)$(mandir)/man3' '$(DESTDIR)$(completionsdir)'
-	$(INSTALL) -d '$(DESTDIR)$(includedir)' '$(DESTDIR)$(libdir)' '$(DESTDIR)$(pkgconfigdir)'
 # What a description says about this installation. The package for CMake has its folders as paths from its own.
 DESCRIBED = -e 's|@prefix@|$(PREFIX)|' -e 's|@libdir@|$(libdir)|' -e 's|@includedir@|$(includedir)|' \
   -e 's|@version@|$(VERSION)|' -e "s|@to_libdir@|$$(realpath -ms --relative-to='$(cmakedir)' '$(libdir)')|" \
@@ -46,11 +40,11 @@ DESCRIBED = -e 's|@prefix@|$(PREFIX)|' -e 's|@libdir@|$(libdir)|' -e 's|@include
 PC_FILES = capvet.pc capvet-kj.pc
 CMAKE_FILES = capvetConfig.cmake capvetConfigVersion.cmake
 
-# Puts the program, its manual page and its completions under PREFIX, and the library with its headers and what
-# pkg-config and CMake want to know; builds first what has a newer source.
+# Puts the program and its completions under PREFIX, the library with its headers and what pkg-config and CMake want to
+# know, and the manual pages of both; builds first what has a newer source.
 install: $(BUILT_PROGRAM) $(BUILT_ARCHIVE)
 	@case '$(PREFIX)' in /*) ;; *) echo "PREFIX has to be a path from /, and is '$(PREFIX)'" >&2; exit 2;; esac
-	$(INSTALL) -d '$(DESTDIR)$(bindir)' '$(DESTDIR)$(mandir)/man1' '$(DESTDIR)$(completionsdir)'
+	$(INSTALL) -d '$(DESTDIR)$(bindir)' '$(DESTDIR)$(mandir)/man1' '$(DESTDIR)$(mandir)/man3' '$(DESTDIR)$(completionsdir)'
 	$(INSTALL) -d '$(DESTDIR)$(includedir)/capvet' '$(DESTDIR)$(libdir)' '$(DESTDIR)$(pkgconfigdir)' '$(DESTDIR)$(cmakedir)'
 	$(INSTALL) -m 755 '$(BUILT_PROGRAM)' '$(DESTDIR)$(bindir)/capvet'
 	$(INSTALL) -m 644 docs/capvet.1 '$(DESTDIR)$(mandir)/man1/capvet.1'
@@ -68,8 +62,6 @@ install: $(BUILT_PROGRAM) $(BUILT_ARCHIVE)
 uninstall:
 	rm -f '$(DESTDIR)$(bindir)/capvet' '$(DESTDIR)$(completionsdir)/capvet'
 	rm -f '$(DESTDIR)$(mandir)/man1/capvet.1' '$(DESTDIR)$(mandir)/man3/capvet.3'
-	rm -f '$(DESTDIR)$(includedir)/capvet.h' '$(DESTDIR)$(libdir)/libcapvet.a' '$(DESTDIR)$(pkgconfigdir)/capvet.pc'
-	rm -f '$(DESTDIR)$(bindir)/capvet' '$(DESTDIR)$(mandir)/man1/capvet.1' '$(DESTDIR)$(completionsdir)/capvet'
 	rm -f '$(DESTDIR)$(includedir)/capvet.h' '$(DESTDIR)$(includedir)/capvet/kj.h' '$(DESTDIR)$(libdir)/libcapvet.a'
 	for file in $(PC_FILES); do rm -f '$(DESTDIR)$(pkgconfigdir)/'"$$file"; done
 	for file in $(CMAKE_FILES); do rm -f '$(DESTDIR)$(cmakedir)/'"$$file"; done

@@ -47,7 +47,7 @@ def wheel_of(folder):
     text, status = run(["make", "-s", "wheel", f"BUILT_PROGRAM={PROGRAM}", f"BUILT_ARCHIVE={ARCHIVE}", f"wheeldir={folder}"],
                        cwd=TOP)
     wheels = [file.name for file in folder.glob("*.whl")]
-    compare("make wheel", (0, ["capvet-0.1.0-cp39-abi3-linux_x86_64.whl"]), (status, wheels))
+    compare("make wheel", (0, ["capvet-1.0.0-cp39-abi3-linux_x86_64.whl"]), (status, wheels))
     if status or len(wheels) != 1:
         print(text)
         return None

@@ -23,7 +23,7 @@ from .nodes import Kind, Node, node
 from .reports import DEFAULT, Limits, Position, Report
 from .streams import Message, messages, read_messages
 
-__version__ = "0.1.0"
+__version__ = "1.0.0"
 
 __all__ = ["CapabilityError", "CapvetError", "DEFAULT", "Frame", "FrameError", "Kind", "Limits", "Message", "Node", "PathError",
            "Position", "Refusal", "Report", "UnpackError", "canonical", "frame", "is_canonical", "messages", "node", "pack",
