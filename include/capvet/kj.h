@@ -60,7 +60,7 @@ inline kj::String KJ_STRINGIFY(const Refusal &refusal) {
   const auto &report = refusal.report;
   kj::StringPtr name = capvet_answer_name(refusal.answer);
   if (refusal.answer < CAPVET_NOT_CANONICAL) {
-    return kj::str("refused ", name, " ", report.required > 0 ? report.required : report.detail);
+    return kj::str("refused ", name, " ", report.input_required > 0 ? report.input_required : report.detail);
   }
   return kj::str("refused ", name, " at ", report.segment, ":", report.word, " pointers ", report.pointers);
 }
