@@ -22,7 +22,7 @@
  *   check        capvet_vet, capvet_vet_exclusive, capvet_vet_segments
  *   frames       capvet_frame, capvet_segment_at
  *   canonical    capvet_canonical, capvet_is_canonical
- *   read         capvet_get
+ *   read         capvet_get, capvet_get_range
  *   packing      capvet_pack, capvet_unpack, capvet_pack_message, capvet_unpack_message
  *   other        capvet_answer_name, capvet_limits_default, capvet_version
  *
@@ -59,9 +59,9 @@
  *
  * Memory. Calls allocate nothing, use at most 24 KiB of stack, do not recurse, and leave errno alone.
  *
- * Failure. If a call does not return CAPVET_OK, output buffers are unchanged. capvet_vet_exclusive and
- * capvet_unpack_message have exceptions. Structs and numbers that are passed to be filled in are always
- * written, and are 0 where they do not apply.
+ * Failure. If a call does not return CAPVET_OK, output buffers are unchanged. capvet_vet_exclusive,
+ * capvet_get_range and capvet_unpack_message have exceptions. Structs and numbers that are passed to be
+ * filled in are always written, and are 0 where they do not apply.
  *
  * Required size. Calls that fill a buffer have a parameter `required`. It is how much of the buffer the
  * result takes, in the units of the buffer's size or count. It is set on CAPVET_OK, where it is the length of
@@ -168,7 +168,7 @@ typedef enum capvet_answer {
 
   CAPVET_BAD_LIMITS = 8,       /* a limit above its maximum, an unknown flag, a reserved field not 0 */
   CAPVET_BUFFER_TOO_SMALL = 9, /* the output buffer is too small; the required size was reported */
-  CAPVET_BAD_PATH = 10,        /* not a path; report->detail: the byte where it goes wrong */
+  CAPVET_BAD_PATH = 10,        /* not a path; report->detail: the byte or step where it goes wrong */
   CAPVET_NO_SEGMENT = 11,      /* the message has no segment of this number */
   CAPVET_BAD_SEGMENT = 12,     /* a segment's length is no multiple of 8; report->detail: which segment */
 
@@ -543,6 +543,43 @@ typedef struct capvet_node {
 CAPVET_CALL((3, 6, 7))
 capvet_answer capvet_get(const uint8_t *bytes, size_t length, const capvet_limits *limits, const char *path,
                          size_t path_length, capvet_node *node, capvet_report *report) CAPVET_NOEXCEPT;
+
+/* One step of a path, in numbers. */
+typedef struct capvet_step {
+  uint32_t kind;   /* CAPVET_STEP_POINTER or CAPVET_STEP_ELEMENT */
+  uint32_t number; /* of the pointer or element, from 0 */
+} capvet_step;
+
+#define CAPVET_STEP_POINTER 0u
+#define CAPVET_STEP_ELEMENT 1u
+
+/* capvet_get_range -- the nodes at a series of paths, such as the elements of a list.
+ *
+ *   steps, step_count  the first path, of at least one step
+ *   varying            which of its steps varies, from 0
+ *   nodes, node_count  filled in: nodes[k] is at the path with k added to that step's number
+ *   found              how many were filled in
+ *
+ * With the steps /p0/i0 and `varying` 1 the nodes are the elements of a list. With /p0/i0/p2 and `varying` 1
+ * they are pointer 2 of each element. With `varying` 2 they are the pointers of element 0, from number 2 on.
+ *
+ * The message and the limits are as for capvet_get. The limits apply to each path by itself. Each node is
+ * what capvet_get has for its path, and so is the answer for a path without a node. Numbers do not wrap: the
+ * paths after UINT32_MAX lead to nothing, as do pointers from 65535 on.
+ *
+ * Returns CAPVET_OK if all nodes were filled in. Otherwise the answer and the report are about the first path
+ * without a node. CAPVET_NO_NODE: it is after the last element, or below a null one. Other answers: something
+ * on it is wrong. To skip that path, add *found + 1 to the step's number, and call again. Nodes after the
+ * first *found are unchanged. With node_count 0 the limits, steps and frame are checked.
+ *
+ * CAPVET_BAD_PATH: report->detail is the index of the first step of an unknown kind. If every kind is known,
+ * it is step_count, and `varying` is not less than that.
+ *
+ * Cost: each path is followed from the root. For each path one step for each of its steps and each segment. */
+CAPVET_CALL((3, 9, 10))
+capvet_answer capvet_get_range(const uint8_t *bytes, size_t length, const capvet_limits *limits,
+                               const capvet_step *steps, size_t step_count, size_t varying, capvet_node *nodes,
+                               size_t node_count, size_t *found, capvet_report *report) CAPVET_NOEXCEPT;
 
 /* ------------------------------------------------------------------------------------------------------
  * Packing

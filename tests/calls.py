@@ -15,7 +15,8 @@ copies of as many messages are compared too, with the line of some that have non
 the samples, of each prefix of one, and of 1,000 that are made up. `texts` unpacks 100,000 texts, many with changed bytes.
 
 `flags` makes calls with flags, and each field of their reports is compared with tests/model.py: see tests/flags.py.
-`nodes` gets the nodes at 100,000 paths, which are compared with tests/nodes.py.
+`nodes` gets the nodes at 100,000 paths, which are compared with tests/nodes.py, and `ranges` those of 40,000 ranges of
+paths, which are compared with tests/ranges.py.
 
 `packing` looks at known words, and packs 100,000 lists of words, as the program does. They are the samples, each prefix
 of one, changed ones, runs of about the greatest length of a group, and words of few kinds.
@@ -27,7 +28,7 @@ is compared with a model here: samples and made messages, packed each by itself 
 tests/unpacking.py.
 
 All but `allocations` run with the compiler's checks of memory, and `calls`, `texts`, `packing`, `messages`, `pieces`,
-`unpacking` and `nodes` under valgrind, where these are installed. The last line is 'N passed, M failed', and the status is
+`unpacking`, `nodes` and `ranges` under valgrind, where these are installed. The last line is 'N passed, M failed', and the status is
 1 where something failed.
 """
 import random
@@ -42,6 +43,7 @@ from pathlib import Path
 import flags
 import header
 import nodes
+import ranges
 import strict
 import unpacking
 
@@ -90,9 +92,9 @@ def wanted_symbols(archive):
     own = {line.split()[-1] for line in lines if " T " in line}
     told("what the archive wants", undefined - own <= {"memcpy", "memmove", "memset"}, str(undefined - own))
     for name in ("capvet_version", "capvet_frame", "capvet_vet", "capvet_vet_exclusive", "capvet_is_canonical",
-                 "capvet_canonical", "capvet_get", "capvet_pack", "capvet_unpack", "capvet_pack_message",
-                 "capvet_unpack_message", "capvet_limits_default", "capvet_abi_1", "capvet_segment_at",
-                 "capvet_vet_segments"):
+                 "capvet_canonical", "capvet_get", "capvet_get_range", "capvet_pack", "capvet_unpack",
+                 "capvet_pack_message", "capvet_unpack_message", "capvet_limits_default", "capvet_abi_1",
+                 "capvet_segment_at", "capvet_vet_segments"):
         told(f"the archive has {name}", name in own)
 
 
@@ -622,11 +624,15 @@ def test_flags(folder, compilers, archive, program):
 
 
 def test_nodes(folder, compilers, archive, program):
-    """The nodes at paths, and reports, field by field."""
-    watched = compiled(folder, "nodes", compilers[0], "c99", archive)
+    """The nodes at paths and in ranges, and reports, field by field."""
+    watched, several = (compiled(folder, name, compilers[0], "c99", archive) for name in ("nodes", "ranges"))
     asking = compiled(folder, "nodes", compilers[0], "c11", archive, "-O1", *CHECKS)
     if asking is not None:
         nodes.test(told, asking, watched, program, samples(), made_up, changed, random.Random(SEED))
+    asking = compiled(folder, "ranges", compilers[0], "c11", archive, "-O1", *CHECKS)
+    if asking is not None:
+        chance = random.Random(SEED)
+        ranges.test(told, asking, several, nodes.requests(samples(), made_up, changed, chance), chance)
 
 
 PARTS = {"messages": test_messages, "packed": test_packed, "streams": test_streams, "flags": test_flags, "nodes": test_nodes}

@@ -25,6 +25,8 @@ CONSTANTS = (
     ("ALLOW_NONSTRICT", FLAGS, r"^allows_nonstrict l = l\.flags(?: / (\d+))? % 2 == 1$"),
     ("ALLOW_AMPLIFIED", FLAGS, r"^allows_amplified l = l\.flags(?: / (\d+))? % 2 == 1$"),
     ("NO_TABLE", FLAGS, r"^has_no_table l = l\.flags(?: / (\d+))? % 2 == 1$"),
+    ("STEP_POINTER", "crates/cap_calls/src/step.rt", r"^        if self\.kind == (\d+) \{$"),
+    ("STEP_ELEMENT", "crates/cap_calls/src/calls/get_range.rt", r"^        if steps\[at\]\.kind > (\d+) \{$"),
 )
 # An answer of the enum in code.
 CODE = r"^    ([A-Z]\w+) = (\d+),"

@@ -114,18 +114,25 @@ def node_fields(message, found):
     return fields
 
 
+def result(answer, node=None, **fields):
+    """An answer, the fields of a node and those of a report."""
+    return (ANSWERS[answer], tuple((node or {}).get(name, 0) for name in NODE),
+            tuple(fields.get(name, 0) for name in FIELDS))
+
+
 def got(data, limits, path):
     """The answer of capvet_get, the fields of its node and of its report."""
+    steps = steps_of(path)
+    opened = frame_of(data, limits, steps if isinstance(steps, int) else None)
+    return along(*opened, limits, steps) if len(opened) == 2 else opened
 
-    def result(answer, node=None, **fields):
-        return (ANSWERS[answer], tuple((node or {}).get(name, 0) for name in NODE),
-                tuple(fields.get(name, 0) for name in FIELDS))
 
+def frame_of(data, limits, bad_step):
+    """The message and the fields of its frame, or the result of a call without them. Of a bad path, the place is given."""
     if not limits.are_good(model.FRAME):
         return result("BAD_LIMITS")
-    steps = steps_of(path)
-    if isinstance(steps, int):
-        return result("BAD_PATH", detail=steps)
+    if bad_step is not None:
+        return result("BAD_PATH", detail=bad_step)
     message, frame = framed(data, limits)
     if message is None:
         answer, fields = frame
@@ -133,6 +140,11 @@ def got(data, limits, path):
     extent = dict(length=frame, segments=len(message))
     if len(data) > frame and not limits.flags & model.TRAILING:
         return result("TRAILING", detail=len(data) - frame, **extent)
+    return message, extent
+
+
+def along(message, extent, limits, steps):
+    """The answer for a path of these steps, with the fields of the node and the report."""
     words = limits.charge if limits.flags & model.AMPLIFIED else min(limits.charge, sum(map(len, message)) + SLACK)
     try:
         walk = Walk(message, words, limits.depth)

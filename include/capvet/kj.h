@@ -55,7 +55,7 @@ struct Refusal {
 };
 
 /* "refused DepthLimit at 0:7 pointers 3", as `capvet vet` prints it. If the bytes are no frame, or more than one,
- * it has a number in place of a pointer's: that of `report.required` or else of `report.detail`. */
+ * it has a number in place of a pointer's: that of `report.input_required` or else of `report.detail`. */
 inline kj::String KJ_STRINGIFY(const Refusal &refusal) {
   const auto &report = refusal.report;
   kj::StringPtr name = capvet_answer_name(refusal.answer);

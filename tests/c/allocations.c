@@ -77,15 +77,18 @@ static const struct {
   reporting call;
 } CALLS[] = {{"capvet_frame", capvet_frame}, {"capvet_vet", capvet_vet}, {"capvet_is_canonical", capvet_is_canonical}};
 
-enum { FRAME, VET, IS_CANONICAL, UNPACK, PACK, EXCLUSIVE, SEGMENT_AT, VET_SEGMENTS, GET, PACK_MESSAGE, UNPACK_MESSAGE, COUNT };
+enum {
+  FRAME, VET, IS_CANONICAL, UNPACK, PACK, EXCLUSIVE, SEGMENT_AT, VET_SEGMENTS, GET, GET_RANGE, PACK_MESSAGE,
+  UNPACK_MESSAGE, COUNT
+};
 
 /* How often each call gave each answer. */
 static unsigned long seen[COUNT][64];
 
 static void answered(int call, unsigned long before, uint32_t answer) {
   static const char *const others[] = {"capvet_unpack", "capvet_pack", "capvet_vet_exclusive", "capvet_segment_at",
-                                       "capvet_vet_segments", "capvet_get", "capvet_pack_message",
-                                       "capvet_unpack_message"};
+                                       "capvet_vet_segments", "capvet_get", "capvet_get_range",
+                                       "capvet_pack_message", "capvet_unpack_message"};
   const char *name = call >= UNPACK ? others[call - UNPACK] : CALLS[call].name;
   expect(taken == before, name, taken - before);
   if (answer < 64) seen[call][answer]++;
@@ -144,6 +147,20 @@ static void nodes(const uint8_t *bytes, size_t length) {
     unsigned long before = taken;
     uint32_t answer = capvet_get(bytes, length, &LIMITS[1], PATHS[i], strlen(PATHS[i]), &node, &report);
     answered(GET, before, answer);
+  }
+}
+
+/* The first elements of a list, one field of each, and a step that is none. */
+static void ranges(const uint8_t *bytes, size_t length) {
+  static const capvet_step STEPS[] = {{CAPVET_STEP_POINTER, 0}, {CAPVET_STEP_ELEMENT, 0}, {CAPVET_STEP_POINTER, 0}, {2, 0}};
+  size_t count;
+  for (count = 2; count <= sizeof STEPS / sizeof *STEPS; count++) {
+    capvet_report report;
+    capvet_node some[3];
+    size_t found;
+    unsigned long before = taken;
+    uint32_t answer = capvet_get_range(bytes, length, &LIMITS[1], STEPS, count, 1, some, 3, &found, &report);
+    answered(GET_RANGE, before, answer);
   }
 }
 
@@ -209,6 +226,7 @@ static void parts(const uint8_t *bytes, size_t length) {
     marks(bytes, at);
     segments(bytes, at);
     nodes(bytes, at);
+    ranges(bytes, at);
     messages(bytes, at);
     spells(UNPACK, capvet_unpack, bytes, at);
     spells(PACK, capvet_pack, bytes, at);
@@ -246,6 +264,10 @@ static const struct {
               {GET, CAPVET_NO_NODE},
               {GET, CAPVET_BAD_PATH},
               {GET, CAPVET_TRUNCATED},
+              {GET_RANGE, CAPVET_OK},
+              {GET_RANGE, CAPVET_NO_NODE},
+              {GET_RANGE, CAPVET_BAD_PATH},
+              {GET_RANGE, CAPVET_TRUNCATED},
               {PACK_MESSAGE, CAPVET_OK},
               {PACK_MESSAGE, CAPVET_BUFFER_TOO_SMALL},
               {PACK_MESSAGE, CAPVET_TRUNCATED},

@@ -58,6 +58,7 @@ static void layout(void) {
   EXPECT(offsetof(capvet_node, capability) == 20, "node.capability", offsetof(capvet_node, capability));
   EXPECT(offsetof(capvet_node, offset) == 24, "node.offset", offsetof(capvet_node, offset));
   EXPECT(offsetof(capvet_node, reserved) == 40, "node.reserved", offsetof(capvet_node, reserved));
+  EXPECT(sizeof(capvet_step) == 8 && offsetof(capvet_step, number) == 4, "a step", sizeof(capvet_step));
 }
 
 /* Each field of an accepted message's report, at each alignment. */
@@ -549,6 +550,7 @@ static void nulls(void) {
 
 /* The same of the calls for a node and for packed messages. */
 static void more_nulls(void) {
+  static const capvet_step FIRST = {CAPVET_STEP_POINTER, 0};
   capvet_report r = unwritten();
   capvet_node n;
   capvet_unpacking state = {0, 0, 0, {0, 0}};
@@ -558,6 +560,18 @@ static void more_nulls(void) {
   r = unwritten();
   EXPECT(capvet_get(TWO, sizeof TWO, &LIMITS, NULL, 0, &n, &r) == CAPVET_BAD_PATH && r.detail == 0 && r.length == 0,
          "a path at NULL", r.detail);
+  EXPECT(capvet_get_range(NULL, 0, &LIMITS, &FIRST, 1, 0, NULL, 0, &required, &r) == CAPVET_NO_MESSAGE && required == 0 &&
+             r.input_required == 8,
+         "a range of NULL", required);
+  required = 77;
+  EXPECT(capvet_get_range(TWO, sizeof TWO, &LIMITS, &FIRST, 1, 0, NULL, 0, &required, &r) == CAPVET_OK && required == 0 &&
+             r.length == 56,
+         "a range in NULL", required);
+  required = 77;
+  EXPECT(capvet_get_range(TWO, sizeof TWO, &LIMITS, NULL, 0, 0, &n, 1, &required, &r) == CAPVET_BAD_PATH && required == 0 &&
+             r.detail == 0,
+         "steps at NULL", required);
+  required = 77;
   EXPECT(capvet_pack_message(NULL, 0, &LIMITS, NULL, 0, &required, &r) == CAPVET_NO_MESSAGE && required == 0 &&
              r.input_required == 8,
          "pack_message of NULL", required);

@@ -8,6 +8,7 @@ ghost use Rattle.cap_calls.specs.CallFlags.{allows_amplified, default_limits};
 ghost use Rattle.cap_calls.specs.CanonicalCalls.{TellsCopy};
 ghost use Rattle.cap_calls.specs.ExclusiveCalls.{TellsExclusive};
 ghost use Rattle.cap_calls.specs.NodeCalls.{TellsGet};
+ghost use Rattle.cap_calls.specs.RangeCalls.{TellsRange};
 ghost use Rattle.cap_calls.specs.PackCalls.{TellsPack, TellsUnpack};
 ghost use Rattle.cap_calls.specs.SegmentCalls.{AreSegmentWords, TellsSegment};
 ghost use Rattle.cap_calls.specs.SegmentsCalls.{TellsSegments};
@@ -21,8 +22,9 @@ ghost use Rattle.cap_calls.specs.Slices.{bytes_of};
 ghost use Rattle.std.specs.Prelude.{◌*◌, ◌+◌, ◌/◌, ◌≡◌, ◌≤◌, ◌⊎◌, IsFalse, List, drop, length, ℕ};
 
 use cap_calls::{
-    CallLimits, CallNode, CallReport, Unpacking, canonical, frame, get, is_canonical, pack,
-    pack_message, segment_at, unpack, unpack_message, version, vet, vet_exclusive, vet_segments,
+    CallLimits, CallNode, CallReport, CallStep, Unpacking, canonical, frame, get, get_range,
+    is_canonical, pack, pack_message, segment_at, unpack, unpack_message, version, vet,
+    vet_exclusive, vet_segments,
 };
 
 /// Returns the version of the library: 65536 times its major number, 256 times its minor number,
@@ -235,6 +237,34 @@ pub extern "C" fn capvet_get(
         (result ≡ number_of a) × (node.new ≡ n) × (report.new ≡ r) }
 {
     get(bytes, limits, path, node, report).number()
+}
+
+/// Follows paths of which step `varying` varies in the message, and reports the node at each: node
+/// k is at the path whose varying step has its number and k more. Each node is what [`capvet_get`]
+/// reports for its path. `CAPVET_BAD_PATH`: the kind of step `report.detail` is unknown, or there
+/// is no step `varying`.
+///
+/// `found` is how many nodes were reported, and those after them are unchanged. With any result but
+/// `CAPVET_OK`, the result and the report are about the first path without a node. The result is
+/// the number of what [`get_range`] returns. The report is written whole. Allocates nothing.
+#[unsafe(no_mangle)]
+pub extern "C" fn capvet_get_range(
+    bytes: &[u8],
+    limits: &CallLimits,
+    steps: &[CallStep],
+    varying: usize,
+    nodes: &mut [CallNode],
+    found: &mut usize,
+    report: &mut CallReport,
+) -> u32
+    ensures tells { (a : Answer) × TellsRange limits.now bytes.now steps.now varying nodes.old a
+        found.new nodes.new report.new × (result ≡ number_of a) }
+    // The bytes and the steps allow no other result.
+    ensures only { (a : Answer) (n : ℕ) (new : List CallNode) (r : CallReport) →
+        TellsRange limits.now bytes.now steps.now varying nodes.old a n new r →
+        (result ≡ number_of a) × (found.new ≡ n) × (nodes.new ≡ new) × (report.new ≡ r) }
+{
+    get_range(bytes, limits, steps, varying, nodes, found, report).number()
 }
 
 /// Packs the words of `bytes`, all of them, to the start of `out`; they need be no message.

@@ -77,7 +77,13 @@ fn find(
         }
         None => {
             let whole = !limits.allows_trailing();
-            over(&GettingRange { steps, varying }, whole, bytes, limits, nodes)
+            over(
+                &GettingRange { steps, varying },
+                whole,
+                bytes,
+                limits,
+                nodes,
+            )
         }
     }
 }
