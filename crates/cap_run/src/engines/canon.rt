@@ -160,7 +160,15 @@ fn put_copies<S: WordSource, K: WordSink>(
     let mut message = ByteMessage::blank(alloc);
     let mut copy = Vec::new(alloc);
     for number in 0..settings.messages {
-        match put_next(alloc, &mut message, &mut copy, source, sink, settings, demands) {
+        match put_next(
+            alloc,
+            &mut message,
+            &mut copy,
+            source,
+            sink,
+            settings,
+            demands,
+        ) {
             Ok(true) => {}
             Ok(false) => return (number, Ok(())),
             Err(cause) => return (number, Err(cause)),

@@ -37,7 +37,7 @@ returns-in-Some-clause-near g c =
     let m = g.M.Segments.segments c.args.message.now in
     let plain = c.in-Some.ensures.plain.0 in
     let near : IsNotFar m c.args.segment c.args.at = λ q has.
-        subst (λ u. kind u ≢ 2) (one_word m c.args.segment c.args.at c.word-word.result q c.word-word.ensures has) (omega (arith, plain)) in
+    subst (λ u. kind u ≢ 2) (one_word m c.args.segment c.args.at c.word-word.result q c.word-word.ensures has) (omega (arith, plain)) in
     if_some _ near
 
 pub returns-clause-near : goal.returns-clause-near
@@ -45,5 +45,5 @@ returns-clause-near g c =
     let m = g.M.Segments.segments c.args.message.now in
     let list = c.in_ok-list.ensures.list in
     let near : IsNotFar m c.args.segment c.args.at = λ q has.
-        subst (λ u. kind u ≢ 2) (one_word m c.args.segment c.args.at c.word-word.result q c.word-word.ensures has) (omega (arith, list)) in
+    subst (λ u. kind u ≢ 2) (one_word m c.args.segment c.args.at c.word-word.result q c.word-word.ensures has) (omega (arith, list)) in
     if_some _ near
