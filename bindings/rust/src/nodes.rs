@@ -57,7 +57,7 @@ pub struct Nodes<'b, S> {
 /// afterwards.
 ///
 /// Each node is what [`node`](crate::node) returns for its path, and the limits apply to each path by itself. The iterator
-/// ends at the first path that leads to nothing: after the last element, or below a null pointer. Nothing is at a pointer
+/// ends at the first path that leads to nothing, after the last element or below a null pointer. Nothing is at a pointer
 /// from number 65535 on. After an error it ends too. To skip such a path, call again with a greater number in the step.
 ///
 /// It finds 16 nodes at a time, and keeps them: it has a size of about 1 KiB. Each path is followed from the root.
@@ -284,12 +284,31 @@ mod tests {
     }
 
     #[test]
-    fn a_path_below_a_null_pointer_is_the_last() {
-        // Element 0 of people has no staff, so nothing is below it.
-        let steps = [Pointer(0), Element(0), Pointer(3), Pointer(0)];
-        let first = node(CONTACTS, "/p0/i0/p3", Limits::DEFAULT);
-        assert_eq!(first.map(|it| it.map(|it| it.kind())), Ok(Some(Kind::Null)));
-        assert_eq!(nodes(CONTACTS, steps, 1, Limits::DEFAULT).next(), None);
+    fn a_path_without_a_node_is_the_last() {
+        // The first phone of each person: numbers 1 and 3 have none, and 6 is the last and has none.
+        for (from, count) in [(0, 1), (1, 0), (2, 1), (3, 0), (4, 2), (6, 0), (7, 0)] {
+            let steps = [Pointer(0), Element(from), Pointer(2), Element(0)];
+            let found = nodes(CONTACTS, steps, 1, Limits::DEFAULT);
+            let kinds: Result<Vec<_>, _> = found.map(|node| Ok(node?.kind())).collect();
+            let wanted = by_node(CONTACTS, steps.to_vec(), 1);
+            assert_eq!(
+                (kinds, wanted.len()),
+                (Ok::<_, GetError>(wanted), count),
+                "{from}"
+            );
+        }
+    }
+
+    #[test]
+    fn a_fault_before_the_step_is_one_item() {
+        let mut message = list_of(&capabilities(40));
+        // The pointer to the list leads outside.
+        message[16] ^= 0x40;
+        let mut nodes = elements(&message, 0);
+        let error = nodes.next().expect("an item").expect_err("it is refused");
+        assert_eq!(Err(error), node(&message, "/p0/i0", Limits::DEFAULT));
+        assert_eq!(error.to_string(), "refused OutOfSegment at 0:1 pointers 2");
+        assert_eq!((nodes.next(), nodes.next()), (None, None));
     }
 
     #[test]
