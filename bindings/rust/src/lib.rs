@@ -64,6 +64,7 @@ mod exclusive;
 mod limits;
 mod messages;
 mod node;
+mod nodes;
 mod packing;
 mod refusal;
 mod report;
@@ -83,6 +84,7 @@ pub use exclusive::{vet_exclusive, ExclusiveError};
 pub use limits::Limits;
 pub use messages::{messages, Message, Messages};
 pub use node::{node, Elements, GetError, Kind, Node};
+pub use nodes::{nodes, Nodes, Step};
 #[cfg(feature = "alloc")]
 pub use packing::{pack, pack_message, unpack};
 pub use packing::{pack_into, pack_message_into, unpack_into};

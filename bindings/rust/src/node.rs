@@ -120,7 +120,7 @@ pub struct Node<'b> {
 }
 
 impl<'b> Node<'b> {
-    fn of(bytes: &'b [u8], raw: &RawNode) -> Self {
+    pub(crate) fn of(bytes: &'b [u8], raw: &RawNode) -> Self {
         let (offset, length) = (raw.offset as usize, raw.length as usize);
         Self {
             kind: Kind::of(raw),
@@ -261,7 +261,7 @@ impl ExactSizeIterator for Elements<'_> {}
 
 impl FusedIterator for Elements<'_> {}
 
-/// The error of [`node`].
+/// The error of [`node`] and of [`nodes`](crate::nodes).
 #[derive(Clone, Copy, Debug, PartialEq, Eq, Hash)]
 #[non_exhaustive]
 pub enum GetError {
@@ -270,6 +270,12 @@ pub enum GetError {
     BadPath {
         /// The first byte at which it is no path, counted from 0, or its length if it ends too early.
         position: usize,
+    },
+    /// The path has no step that varies. Only [`nodes`](crate::nodes) has this error.
+    #[non_exhaustive]
+    NoStep {
+        /// How many steps it has.
+        steps: usize,
     },
     /// The bytes hold no complete frame within the limits, or a pointer on the path isn't accepted.
     NotAccepted(
@@ -288,6 +294,7 @@ impl fmt::Display for GetError {
     fn fmt(&self, f: &mut fmt::Formatter<'_>) -> fmt::Result {
         match self {
             Self::BadPath { position } => write!(f, "BadPath at byte {position}"),
+            Self::NoStep { steps } => write!(f, "BadPath at step {steps}"),
             Self::NotAccepted(error) => error.fmt(f),
         }
     }

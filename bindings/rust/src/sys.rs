@@ -1,6 +1,6 @@
 //! The calls of the library, as `include/capvet.h` declares them. This is the only file with `unsafe`.
 
-use crate::Limits;
+use crate::{Limits, Step};
 
 /// The result of a call, by the numbers of the header.
 #[derive(Clone, Copy, Debug, PartialEq, Eq)]
@@ -175,6 +175,18 @@ extern "C" {
         path: *const u8,
         path_length: usize,
         node: *mut RawNode,
+        report: *mut RawReport,
+    ) -> Answer;
+    fn capvet_get_range(
+        bytes: *const u8,
+        length: usize,
+        limits: *const RawLimits,
+        steps: *const Step,
+        step_count: usize,
+        varying: usize,
+        nodes: *mut RawNode,
+        node_count: usize,
+        found: *mut usize,
         report: *mut RawReport,
     ) -> Answer;
     fn capvet_pack(
@@ -360,6 +372,42 @@ pub(crate) fn get(bytes: &[u8], limits: &Limits, path: &str) -> (Answer, RawNode
         )
     };
     (answer, node, report)
+}
+
+/// Finds the nodes at the paths of a range. The number is how many are found.
+pub(crate) fn get_range(
+    bytes: &[u8],
+    limits: &Limits,
+    steps: &[Step],
+    varying: usize,
+    nodes: &mut [RawNode],
+) -> (Answer, usize, RawReport) {
+    let (limits, mut report) = (RawLimits::of(limits), RawReport::default());
+    let (mut spare, mut found) = (RawNode::default(), 0);
+    // (as `address` for bytes)
+    static NONE: Step = Step::Pointer(0);
+    let first_step = if steps.is_empty() {
+        &NONE
+    } else {
+        steps.as_ptr()
+    };
+    // SAFETY: the declaration is the header's. A `Step` is laid out as a `capvet_step`, by its `repr`. `bytes` and `steps` are
+    // borrowed for the call, `nodes` is borrowed mutably, and the number and structs are locals.
+    let answer = unsafe {
+        capvet_get_range(
+            address(bytes),
+            bytes.len(),
+            &limits,
+            first_step,
+            steps.len(),
+            varying,
+            address_mut(nodes, &mut spare),
+            nodes.len(),
+            &mut found,
+            &mut report,
+        )
+    };
+    (answer, found, report)
 }
 
 /// Packs the words to the start of `out`. The number is the length of the packed bytes.

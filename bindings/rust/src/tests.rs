@@ -5,8 +5,9 @@ use crate::sys::{
 };
 use crate::{
     canonical_into, frame_length, is_canonical, messages, vet, vet_exclusive, CanonicalError,
-    ExclusiveError, FrameError, Limits, Position, Reason, VetError,
+    ExclusiveError, FrameError, Limits, Position, Reason, Step, VetError,
 };
+use core::mem::{align_of, size_of};
 
 const HEADER: &str = include_str!("../../../include/capvet.h");
 const SYS: &str = include_str!("sys.rs");
@@ -193,6 +194,7 @@ fn in_rust(text: &str) -> String {
         "capvet_limits" => "RawLimits",
         "capvet_report" => "RawReport",
         "capvet_node" => "RawNode",
+        "capvet_step" => "Step",
         "capvet_answer" => "Answer",
         "capvet_segment" => "RawSegment",
         "capvet_unpacking" => "RawUnpacking",
@@ -225,7 +227,7 @@ fn calls_are_declared_as_in_the_header() {
     let code = header();
     let declared = between(SYS, "extern \"C\" {", "\n}");
     let calls: Vec<_> = declared.split("fn ").skip(1).collect();
-    assert_eq!(calls.len(), 13);
+    assert_eq!(calls.len(), 14);
     for call in calls {
         let (name, here) = call.split_once('(').expect("parameters");
         let there = between(&code, &format!(" {name}("), ")");
@@ -247,6 +249,20 @@ fn calls_are_declared_as_in_the_header() {
         };
         assert_eq!(result.trim_end_matches(';'), wanted, "{name}");
     }
+}
+
+#[test]
+fn a_step_is_laid_out_as_in_the_header() {
+    let code = header();
+    let fields = between(&code, "typedef struct capvet_step {", "}");
+    assert_eq!(on_one_line(fields), "uint32_t kind; uint32_t number;");
+    for line in [
+        "#define CAPVET_STEP_POINTER 0u\n",
+        "#define CAPVET_STEP_ELEMENT 1u\n",
+    ] {
+        assert!(code.contains(line), "{line}");
+    }
+    assert_eq!((size_of::<Step>(), align_of::<Step>()), (8, 4));
 }
 
 #[test]
