@@ -26,18 +26,8 @@ def one_by_one(data, path, limits=capvet.DEFAULT, first=0, count=LAST):
     return got, None
 
 
-def together(data, path, limits=capvet.DEFAULT, **which):
-    """What `nodes` returns, and its error."""
-    got = []
-    try:
-        got.extend(capvet.nodes(data, path, limits=limits, **which))
-    except capvet.CapvetError as error:
-        return got, (type(error), str(error), vars(error))
-    return got, None
-
-
 def iterated(data, path, limits=capvet.DEFAULT, **which):
-    """As `together`, one by one, so that nothing is lost before an error."""
+    """What `nodes` yields, and its error. The iteration has ended after an error."""
     got, stream = [], capvet.nodes(data, path, limits=limits, **which)
     try:
         for it in stream:
