@@ -135,10 +135,10 @@ def slow_peers(name, program, folder, **environment):
     """Peers that send nothing more, or a byte from time to time, lose the connection after the seconds for a message."""
     contacts = (TOP / "examples/contacts.packed").read_bytes()
     with Server(program, folder, 1, **environment) as server:
-        for what, pieces in (("half a message", [contacts[:500]]), ("a message by drops", drops(contacts, 0.1, 10))):
+        for what, pieces in (("half a message", [contacts[:500]]), ("a message by drops", drops(contacts, 0.1, 70))):
             begin = time.monotonic()
             compare(f"{name}, {what}", b"+", send(server, itertools.chain([contacts], pieces), ends=False))
-            compare(f"{name}, {what} is dropped after its time", True, 0.9 < time.monotonic() - begin < 8)
+            compare(f"{name}, {what} is dropped after its time", True, 0.9 < time.monotonic() - begin < 60)
         late = [CONTACTS, "closed: the peer is too slow"]
         compare(f"{name}, what it prints of slow peers", (late * 2, 0), server.stop())
 

@@ -147,9 +147,9 @@ def shown(python, folder):
     (folder / "bin/python3").symlink_to(python)
     for number, block in enumerate(text for language, text in blocks if language == "sh"):
         place = folder / f"way-{number}"
-        for part in ("bindings", "include", "examples", "docs", "completions"):
+        for part in ("bindings", "include", "examples", "docs", "completions", "cmake"):
             shutil.copytree(TOP / part, place / part, ignore=shutil.ignore_patterns("target", "__pycache__", "Cargo.lock"))
-        for part in ("Makefile", "crates.txt", "capvet.pc.in"):
+        for part in ("Makefile", "crates.txt", "capvet.pc.in", "capvet-kj.pc.in"):
             shutil.copy2(TOP / part, place / part)
         (place / "crates").mkdir()
         (place / "build").mkdir()

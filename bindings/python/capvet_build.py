@@ -21,6 +21,8 @@ DECLARATIONS = """
 #define CAPVET_ALLOW_AMPLIFIED ...
 #define CAPVET_NO_TABLE ...
 #define CAPVET_SLACK ...
+#define CAPVET_STEP_POINTER ...
+#define CAPVET_STEP_ELEMENT ...
 
 typedef enum {
   CAPVET_OK, CAPVET_NO_MESSAGE, CAPVET_TOO_MANY_SEGMENTS, CAPVET_TOO_LARGE, CAPVET_TRUNCATED, CAPVET_TRAILING,
@@ -40,12 +42,14 @@ typedef struct {
   uint32_t kind; uint32_t element; uint32_t count; uint32_t data_words; uint32_t pointers; uint32_t capability;
   uint64_t offset; uint64_t length; uint64_t reserved[2];
 } capvet_node;
+typedef struct { uint32_t kind; uint32_t number; } capvet_step;
 typedef struct {
   uint64_t written; uint32_t zero_words; uint32_t literal_words; uint64_t reserved[2];
 } capvet_unpacking;
 
 uint32_t capvet_version(void);
 void capvet_abi_1(void);
+void capvet_limits_default(capvet_limits *limits);
 const char *capvet_answer_name(uint32_t answer);
 capvet_answer capvet_vet(const uint8_t *bytes, size_t length, const capvet_limits *limits, capvet_report *report);
 capvet_answer capvet_vet_exclusive(const uint8_t *bytes, size_t length, const capvet_limits *limits, uint64_t *marks,
@@ -60,6 +64,9 @@ capvet_answer capvet_canonical(const uint8_t *bytes, size_t length, const capvet
 capvet_answer capvet_is_canonical(const uint8_t *bytes, size_t length, const capvet_limits *limits, capvet_report *report);
 capvet_answer capvet_get(const uint8_t *bytes, size_t length, const capvet_limits *limits, const char *path,
                          size_t path_length, capvet_node *node, capvet_report *report);
+capvet_answer capvet_get_range(const uint8_t *bytes, size_t length, const capvet_limits *limits, const capvet_step *steps,
+                               size_t step_count, size_t varying, capvet_node *nodes, size_t node_count, size_t *found,
+                               capvet_report *report);
 capvet_answer capvet_pack(const uint8_t *bytes, size_t length, uint8_t *out, size_t out_size, size_t *required);
 capvet_answer capvet_unpack(const uint8_t *bytes, size_t length, uint8_t *out, size_t out_size, size_t *required);
 capvet_answer capvet_pack_message(const uint8_t *bytes, size_t length, const capvet_limits *limits, uint8_t *out,

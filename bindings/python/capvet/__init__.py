@@ -4,6 +4,8 @@
     >>> report = capvet.vet(data)          # raises CapvetError if `data` is not one safe message
     >>> capvet.node(data, "/p0/i1/p2").text()
     'Ada'
+    >>> [it and it.text() for it in capvet.nodes(data, "/p0/i*/p2")]
+    ['Grace', 'Ada']
 
 Every function takes any object with the buffer protocol. The interpreter lock is released while a call runs. So a
 buffer that Python can write (bytearray, array, most memoryviews) is copied first, and a read-only one (bytes) is not.
@@ -19,14 +21,14 @@ from ._capvet import lib as _lib
 from .calls import (Frame, canonical, frame, is_canonical, pack, pack_message, unpack, vet, vet_exclusive,
                     vet_segments)
 from .errors import CapabilityError, CapvetError, FrameError, PathError, Refusal, UnpackError
-from .nodes import Kind, Node, node
+from .nodes import Kind, Node, node, nodes
 from .reports import DEFAULT, Limits, Position, Report
 from .streams import Message, messages, read_messages
 
 __version__ = "1.0.0"
 
 __all__ = ["CapabilityError", "CapvetError", "DEFAULT", "Frame", "FrameError", "Kind", "Limits", "Message", "Node", "PathError",
-           "Position", "Refusal", "Report", "UnpackError", "canonical", "frame", "is_canonical", "messages", "node", "pack",
-           "pack_message", "read_messages", "unpack", "vet", "vet_exclusive", "vet_segments"]
+           "Position", "Refusal", "Report", "UnpackError", "canonical", "frame", "is_canonical", "messages", "node", "nodes",
+           "pack", "pack_message", "read_messages", "unpack", "vet", "vet_exclusive", "vet_segments"]
 
 _lib.capvet_abi_1()

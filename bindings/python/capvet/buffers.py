@@ -28,5 +28,9 @@ def read_only(data: Buffer) -> memoryview:
 
 
 def pointer_to(view: memoryview) -> Any:
-    """The address of bytes, for C. It keeps them alive."""
-    return ffi.from_buffer("uint8_t[]", view)
+    """The address of bytes, for C. The caller keeps the view as long as the address is used.
+
+    The address itself holds no buffer of the view. If both were in one cycle of garbage, such as an error with a traceback,
+    Python could clear the view before its buffer is released, and end in a segmentation fault.
+    """
+    return ffi.cast("uint8_t *", ffi.from_buffer("uint8_t[]", view))

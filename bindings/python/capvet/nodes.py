@@ -3,15 +3,20 @@
 from __future__ import annotations
 
 from dataclasses import dataclass, field
-from typing import Literal, Optional
+from typing import Any, Iterator, Literal, Optional, Tuple
 
 from ._capvet import ffi, lib
-from .buffers import Buffer, pointer_to, read_only
+from .buffers import Buffer, pointer_to, read_only, uncleared
 from .errors import PathError, error_of, name_of
 from .reports import DEFAULT, Limits, limits_of
 
 Kind = Literal["null", "struct", "values", "pointers", "structs", "capability"]
 KINDS = ("null", "struct", "values", "pointers", "structs", "capability")
+
+_BLOCK = 256
+"""How many nodes one call of the library reads."""
+_NUMBERS = 1 << 32
+"""Elements have numbers below this."""
 
 
 def text_of(data: bytes) -> Optional[str]:
@@ -67,9 +72,95 @@ def node(data: Buffer, path: str, *, limits: Limits = DEFAULT) -> Optional[Node]
     if answer == lib.CAPVET_NO_NODE:
         return None
     if answer == lib.CAPVET_BAD_PATH:
-        raise PathError(f"bad path at {report.detail}", answer=answer, reason=name_of(answer), position=report.detail)
+        raise _path_error(report.detail)
     if answer != lib.CAPVET_OK:
         raise error_of(answer, report)
-    own = view[found.offset:found.offset + found.length]
-    return Node(KINDS[found.kind], found.element, found.count, found.data_words, found.pointers, found.capability,
-                found.offset, own)
+    return _node_of(found, view)
+
+
+def _path_error(position: int) -> PathError:
+    answer = lib.CAPVET_BAD_PATH
+    return PathError(f"bad path at {position}", answer=answer, reason=name_of(answer), position=position)
+
+
+def _node_of(raw: Any, view: memoryview) -> Node:
+    """A node of C as a dataclass."""
+    return Node(KINDS[raw.kind], raw.element, raw.count, raw.data_words, raw.pointers, raw.capability, raw.offset,
+                view[raw.offset:raw.offset + raw.length])
+
+
+def nodes(data: Buffer, path: str, *, first: int = 0, count: Optional[int] = None,
+          limits: Limits = DEFAULT) -> Iterator[Optional[Node]]:
+    """Iterate over the nodes at a path with one `*`, such as "/p0/i*/p2": here pointer 2 of each element of a list.
+
+    The star is the number of an element or of a pointer. It is replaced by `first`, `first` + 1, and so on, to the end of
+    the list or of the struct's pointers, but at most `count` times. Each result is that of node() for its path. So it is
+    None where the path leads to nothing, for example below a null element, and enumerate() and zip() keep the numbers.
+    Nothing is yielded if there is no such list or struct.
+
+    PathError, and ValueError for Limits.no_table, `first` or `count`, are raised by this call. FrameError is raised by the
+    first step of the iteration. Refusal is raised after all nodes before that of the refused path. To go on after it, call
+    nodes() again with the next number as `first`.
+
+    Reads up to 256 nodes in one call of the library. `data` that Python can write are copied once, by this call.
+    """
+    steps, varying = _steps(path, limits)
+    for name, number in (("first", first), ("count", _NUMBERS if count is None else count)):
+        if not isinstance(number, int) or isinstance(number, bool):
+            raise TypeError(f"{name} has to be an int")
+        if number < 0:
+            raise ValueError(f"{name} has to be at least 0, and is {number}")
+    end = _NUMBERS if count is None else min(first + count, _NUMBERS)
+    return _nodes(read_only(data), path, steps, varying, first, end, limits)
+
+
+def _steps(path: str, limits: Limits) -> Tuple[Any, int]:
+    """The steps of a path with one star as C has them, and which of them has the star."""
+    text, report, found = path.replace("*", "0", 1).encode(), ffi.new("capvet_report *"), ffi.new("capvet_node *")
+    # (without a message, so that only the limits and the path are looked at)
+    answer = lib.capvet_get(ffi.NULL, 0, limits_of(limits), text, len(text), found, report)
+    if answer == lib.CAPVET_BAD_PATH:
+        raise _path_error(report.detail)
+    if answer != lib.CAPVET_NO_MESSAGE:
+        raise error_of(answer, report)
+    parts, star = path.split("/")[1:], path.find("*")
+    # ("/p1*" has a star, and no step that is one)
+    if all(part[1:] != "*" for part in parts):
+        raise _path_error(len(path) if star < 0 else star)
+    kinds = {"p": lib.CAPVET_STEP_POINTER, "i": lib.CAPVET_STEP_ELEMENT}
+    steps = [(kinds[part[0]], 0 if part[1:] == "*" else int(part[1:])) for part in parts]
+    return ffi.new("capvet_step[]", steps), path.count("/", 0, star) - 1
+
+
+def _nodes(view: memoryview, path: str, steps: Any, varying: int, number: int, end: int,
+           limits: Limits) -> Iterator[Optional[Node]]:
+    start, raw_limits, size = pointer_to(view), limits_of(limits), None
+    block, found, report = uncleared("capvet_node[]", _BLOCK), ffi.new("size_t *"), ffi.new("capvet_report *")
+    while number < end:
+        steps[varying].number = number
+        answer = lib.capvet_get_range(start, len(view), raw_limits, steps, len(steps), varying, block,
+                                      min(_BLOCK, end - number), found, report)
+        for index in range(found[0]):
+            yield _node_of(block[index], view)
+        number += found[0]
+        if answer not in (lib.CAPVET_OK, lib.CAPVET_NO_NODE):
+            raise error_of(answer, report)
+        if answer == lib.CAPVET_NO_NODE:
+            # (after the last number, or below a null element)
+            if size is None:
+                size = _size(view, path, limits)
+                end = min(end, size)
+            if number < end:
+                yield None
+            number += 1
+
+
+def _size(view: memoryview, path: str, limits: Limits) -> int:
+    """How many numbers the star of a path can have."""
+    above, _, kind = path[:path.index("*")].rpartition("/")
+    holder = node(view, above or "/", limits=limits)
+    if holder is None:
+        return 0
+    if kind == "p":
+        return holder.pointers if holder.kind == "struct" else 0
+    return holder.count if holder.kind in ("pointers", "structs") else 0

@@ -2,9 +2,13 @@
 import base64
 import json
 import os
+import select
 import shutil
 import subprocess
 import tempfile
+
+SECONDS = 60
+"""How long the browser may take for an answer, also beside other work."""
 
 
 class Browser:
@@ -37,13 +41,14 @@ class Browser:
 
     def __exit__(self, *_):
         self.process.terminate()
-        self.process.wait(10)
+        self.process.wait(SECONDS)
         os.close(self.commands)
         os.close(self.answers)
         self.folder.cleanup()
 
     def message(self):
         while b"\0" not in self.pending:
+            assert select.select([self.answers], [], [], SECONDS)[0], f"the browser wrote nothing for {SECONDS} seconds"
             piece = os.read(self.answers, 1 << 16)
             assert piece, "the browser has ended"
             self.pending += piece

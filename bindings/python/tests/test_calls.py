@@ -1,6 +1,7 @@
 """The calls about one message and about the messages of a buffer, beside the program."""
 import array
 import dataclasses
+import gc
 import io
 import mmap
 import pickle
@@ -183,6 +184,35 @@ def test_errors_can_be_pickled():
         again = pickle.loads(pickle.dumps(error.value))
         assert (type(again), str(again), vars(again)) == (type(error.value), str(error.value), vars(error.value))
     assert str(capvet.Position(0, 7)) == "0:7"
+
+
+def test_errors_in_cycles_are_collected():
+    """Such an error keeps the variables of the call that raised it, until Python looks for cycles."""
+    data, flat = (TOP / "examples/cycle.bin").read_bytes(), capvet.Limits(depth=1)
+    for call in (capvet.vet, capvet.vet_exclusive, capvet.canonical, capvet.is_canonical,
+                 lambda data: capvet.node(data, "/p0", limits=flat), lambda data: list(capvet.nodes(data, "/p*", limits=flat)),
+                 lambda data: capvet.frame(data[:-1]), lambda data: list(capvet.messages(data[:-1])),
+                 lambda data: list(capvet.read_messages(io.BytesIO(data[:-1]))), lambda data: capvet.vet_segments([data[8:]])):
+        with pytest.raises(capvet.CapvetError) as raised:
+            call(data)
+        raised.value.itself = raised.value
+        del raised
+        gc.collect()
+
+
+def declared(text):
+    """The calls that a text in C declares, each on one line."""
+    text = re.sub(r"/\*.*?\*/|^#.*?$", "", text.replace("\\\n", " "), flags=re.S | re.M)
+    calls = re.findall(r"((?:const )?\w+ \*?capvet_\w+\([^()]*\))", text)
+    return sorted(re.sub(r"\s+", " ", call) for call in calls)
+
+
+def test_declarations():
+    """The package declares each call of the header, as the header does."""
+    header = declared((TOP / "include/capvet.h").read_text())
+    text = (TOP / "bindings/python/capvet_build.py").read_text()
+    assert len(header) >= 17 and any("capvet_get_range(" in call for call in header)
+    assert declared(re.search(r'^DECLARATIONS = """(.*?)"""', text, re.S | re.M)[1]) == header
 
 
 def test_mapped_file():

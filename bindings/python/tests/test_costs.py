@@ -1,6 +1,7 @@
 """Memory and threads."""
 import os
 import resource
+import sys
 import threading
 import time
 
@@ -25,6 +26,7 @@ def test_no_leak():
             capvet.vet_exclusive(message)
             capvet.canonical(message)
             capvet.node(message, "/p0/i1/p4")
+            list(capvet.nodes(message, "/p0/i*/p4"))
             capvet.frame(message)
             capvet.unpack(packed)
             list(capvet.messages(message))
@@ -48,23 +50,39 @@ def vets():
         capvet.vet(LONG)
 
 
-def test_the_lock_is_released():
-    """Another thread runs during a call. Without that it would wait for the whole call."""
-    begin = time.perf_counter()
-    capvet.vet(LONG)
-    call = time.perf_counter() - begin
-    for _ in range(20):
-        thread = threading.Thread(target=capvet.vet, args=(LONG,))
+@pytest.fixture
+def no_interruptions():
+    """A thread runs until it waits or lets others run: Python interrupts none."""
+    interval = sys.getswitchinterval()
+    sys.setswitchinterval(600)
+    yield
+    sys.setswitchinterval(interval)
+
+
+def lets_others_run(call):
+    """Whether this thread runs during a call of another one, in one of 100 tries."""
+    def work():
+        steps.append("begun")
+        call()
+        steps.append("ended")
+
+    for _ in range(100):
+        steps = []
+        thread = threading.Thread(target=work)
         thread.start()
-        turns = 0
-        begin = time.perf_counter()
-        while thread.is_alive() and time.perf_counter() - begin < call / 2:
-            turns += 1
-        if turns > 100 and thread.is_alive():
-            thread.join()
-            return
+        while not steps:
+            time.sleep(0)
+        seen = len(steps)
         thread.join()
-    assert False, "no other thread ran during a call"
+        if seen == 1:
+            return True
+    return False
+
+
+def test_the_lock_is_released(no_interruptions):
+    assert lets_others_run(lambda: capvet.vet(LONG))
+    # (a call that keeps the lock is found out)
+    assert not lets_others_run(lambda: sum(range(1000)))
 
 
 @pytest.mark.skipif("CAPVET_IDLE" not in os.environ, reason="the ratio of times needs an idle machine")
