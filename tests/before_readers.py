@@ -173,7 +173,7 @@ def example(folder):
         port = (folder / "lines").read_text().split()[0]
         client = [folder / "rpc_client", f"127.0.0.1:{port}"]
         compare("rpc_client", (CALLED, 0), run(client, 60))
-        with socket.create_connection(("127.0.0.1", int(port)), timeout=20) as peer:
+        with socket.create_connection(("127.0.0.1", int(port)), timeout=60) as peer:
             peer.sendall((TOP / "examples/cycle.bin").read_bytes())
             told = b"".join(iter(lambda: peer.recv(4096), b""))
         line = "refused DepthLimit at 0:0 pointers 33"

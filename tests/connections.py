@@ -42,7 +42,7 @@ class Server:
         self.port = int(self.path.read_text().split()[-1])
 
     def connect(self):
-        peer = socket.create_connection(("127.0.0.1", self.port), timeout=20)
+        peer = socket.create_connection(("127.0.0.1", self.port), timeout=60)
         peer.setsockopt(socket.IPPROTO_TCP, socket.TCP_NODELAY, 1)
         return peer
 
@@ -54,7 +54,7 @@ class Server:
     def stop(self):
         """Ends the server. Its lines after the first, and its status."""
         self.process.send_signal(signal.SIGTERM)
-        status = self.process.wait(timeout=20)
+        status = self.process.wait(timeout=60)
         return self.path.read_text().splitlines()[1:], status
 
     def __enter__(self):

@@ -52,7 +52,7 @@ def missing(what, tool):
     return True
 
 
-def run(command, timeout=60, **how):
+def run(command, timeout=600, **how):
     """What a command wrote, on its standard error too, and its status."""
     ran = subprocess.run(command, stdout=subprocess.PIPE, stderr=subprocess.STDOUT, stdin=subprocess.DEVNULL,
                          timeout=timeout, text=True, **how)

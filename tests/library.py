@@ -55,7 +55,7 @@ def inputs(folder):
 
 def verdicts(command):
     """The standard output and the status of a command."""
-    ran = subprocess.run(command, stdout=subprocess.PIPE, stderr=subprocess.DEVNULL, stdin=subprocess.DEVNULL, timeout=60)
+    ran = subprocess.run(command, stdout=subprocess.PIPE, stderr=subprocess.DEVNULL, stdin=subprocess.DEVNULL, timeout=600)
     return ran.stdout, ran.returncode
 
 

@@ -55,7 +55,7 @@ def shown(page):
         count = 0
         for _, block in BLOCK.findall((TOP / page).read_text()):
             for command, wanted in commands(block):
-                ran = subprocess.run(["bash", "-c", command], cwd=folder, env=environment, timeout=60, text=True,
+                ran = subprocess.run(["bash", "-c", command], cwd=folder, env=environment, timeout=600, text=True,
                                      stdin=subprocess.DEVNULL, stdout=subprocess.PIPE, stderr=subprocess.STDOUT)
                 compare(f"{page}: {command}", wanted, ran.stdout)
                 count += 1
@@ -69,7 +69,7 @@ def quoted(page):
     blocks = BLOCK.findall(text)
     for language, block in blocks:
         if language == "sh":
-            ran = subprocess.run(["sh", "-ec", block], cwd=TOP, timeout=60, text=True, stdin=subprocess.DEVNULL,
+            ran = subprocess.run(["sh", "-ec", block], cwd=TOP, timeout=600, text=True, stdin=subprocess.DEVNULL,
                                  stdout=subprocess.PIPE, stderr=subprocess.STDOUT)
             lines = ran.stdout.splitlines()
             compare(f"{page} runs {block!r}", 0, ran.returncode)
