@@ -4,8 +4,8 @@
     dist.py [PROGRAM [ARCHIVE]]
 
 The clones have the files of this folder, committed. The archive for Linux is unpacked where there is no `rt`, and its README's
-commands are run word for word. The Debian package is installed below a folder and removed. What a machine has no tool for is
-said in a line of its own. The last line is 'N passed, M failed', and the status is 1 if a case failed.
+commands are run word for word, for Go and for the wheel too. The Debian package is installed below a folder and removed. What a
+machine has no tool for is said in a line of its own. The last line is 'N passed, M failed', and the status is 1 if a case failed.
 """
 import hashlib
 import os
@@ -51,7 +51,7 @@ def clone(folder):
 def packed(folder):
     """The packages that `make dist` makes of a clone, each with its sum."""
     environment = {name: value for name, value in os.environ.items() if name not in ("MAKEFLAGS", "MAKELEVEL", "SOURCE_DATE_EPOCH")}
-    text, status = run(["make", "-s", "dist"], cwd=folder, env=environment)
+    text, status = run(["make", "-s", "dist"], timeout=600, cwd=folder, env=environment)
     compare(f"make dist in {folder.name}", 0, status)
     if status:
         print(text)
@@ -89,6 +89,27 @@ def without_rt(folder):
     return environment
 
 
+def from_go(root, block, environment):
+    """The Go package of the archive, by the commands of the README."""
+    if any(missing("the Go package of the archive", tool) for tool in ("go", "cc", "pkg-config")):
+        return
+    environment = {**environment, "GOPROXY": "off", "GOFLAGS": "", "GOWORK": "off"}
+    compare("the README's commands for Go", (VETTED, 0), run(["sh", "-ec", block], timeout=600, cwd=root, env=environment))
+    environment["PKG_CONFIG_PATH"] = str(root / "lib/pkgconfig")
+    compare("go vet of the archive's package", ("", 0),
+            run(["go", "vet", "."], timeout=600, cwd=root / "bindings/go", env=environment))
+
+
+def from_python(root, block, dist, environment):
+    """The wheel, by the commands of the README, in a fresh environment."""
+    wheels = list(dist.glob("*.whl"))
+    if not wheels or run(["python3", "-c", "import cffi, venv"], env=environment)[1]:
+        print("not tested, without a wheel, cffi or venv: the package for Python")
+        return
+    shutil.copy(wheels[0], root.parent)
+    compare("the README's commands for Python", ("391\n", 0), run(["sh", "-ec", block], timeout=600, cwd=root, env=environment))
+
+
 def unpacked(dist, folder, built):
     """The archive for Linux, in another place, by the commands of its README."""
     name = next(dist.glob("*.tar.gz"))
@@ -106,7 +127,10 @@ def unpacked(dist, folder, built):
         compare(f"{part} of the archive", [], missing_there)
     environment = without_rt(folder)
     blocks = re.findall(r"^```sh\n(.*?)^```$", (root / "README.md").read_text(), re.M | re.S)
-    compare("the README has three blocks of commands", 3, len(blocks))
+    compare("the README has five blocks of commands", 5, len(blocks))
+    *blocks, in_go, in_python = blocks
+    from_go(root, in_go, environment)
+    from_python(root, in_python, dist, environment)
     if any(missing("the archive by its README", tool) for tool in ("cc", "pkg-config", "man")):
         return root
     if missing("the crate of the archive", "cargo"):

@@ -5,8 +5,8 @@
 
 Its tests run with the race detector and compare it with PROGRAM. The example and the commands of docs/go.md write what the
 program and the page show, and a call of a small message is timed beside the same call from C. With `full` 20,000 changed
-messages are compared and the streams are cut at each byte. A line says what isn't tested without `go`. The last line is
-'N passed, M failed', and the status is 1 if a case failed.
+messages are compared, the streams are cut at each byte, and the call has to take at most OVERHEAD more than from C.
+A line says what isn't tested without `go`. The last line is 'N passed, M failed', and the status is 1 if a case failed.
 """
 import os
 import re
@@ -22,7 +22,8 @@ from install import PROGRAM, TOP, compare, make, missing, run
 # The most that a call from Go takes above the same call from C, in nanoseconds.
 OVERHEAD = 200
 MODULES = ("bindings/go", "examples/go", "tests/go/cost")
-COUNTS = (["-changed", "20000", "-cuts", "1"] if sys.argv[3:] == ["full"] else [])
+FULL = sys.argv[3:] == ["full"]
+COUNTS = ["-changed", "20000", "-cuts", "1"] if FULL else []
 
 
 def go(name, words, folder, environment):
@@ -61,7 +62,7 @@ def example(top, folder, environment):
 
 
 def timed(top, folder, environment):
-    """A call of a small message takes at most OVERHEAD nanoseconds more than from C."""
+    """Prints the times of a call of a small message. With `full` that from Go takes at most OVERHEAD nanoseconds more."""
     program = folder / "cost"
     go("go build of the call that is timed", ["build", "-o", str(program), "."], top / "tests/go/cost", environment)
     text, status = run([program, TOP / "examples/shared.bin"])
@@ -69,7 +70,9 @@ def timed(top, folder, environment):
     if status == 0:
         in_c, in_go = (float(word) for word in text.split())
         print(f"a call of 40 bytes takes {in_c} ns from C and {in_go} ns from Go")
-        compare(f"a call from Go takes at most {OVERHEAD} ns more than {in_c} ns", True, in_go - in_c <= OVERHEAD)
+        # (other scripts of `make test` run at the same time, so times mean nothing there)
+        if FULL:
+            compare(f"a call from Go takes at most {OVERHEAD} ns more than {in_c} ns", True, in_go - in_c <= OVERHEAD)
 
 
 def as_shown(top, environment):

@@ -92,6 +92,21 @@ static inline capvet_go_found capvet_go_get(const uint8_t *bytes, size_t length,
   return found;
 }
 
+/* What a call for the nodes of a range answers. */
+typedef struct capvet_go_counted {
+  capvet_go_result result;
+  size_t found;
+} capvet_go_counted;
+
+static inline capvet_go_counted capvet_go_get_range(const uint8_t *bytes, size_t length, capvet_limits limits,
+                                                    const capvet_step *steps, size_t step_count, size_t varying,
+                                                    capvet_node *nodes, size_t node_count) {
+  capvet_go_counted counted = {0};
+  counted.result.answer = capvet_get_range(bytes, length, &limits, steps, step_count, varying, nodes, node_count,
+                                           &counted.found, &counted.result.report);
+  return counted;
+}
+
 /* What a call for a message of a packed stream answers, and the state after it. */
 typedef struct capvet_go_unpacked {
   capvet_go_result result;

@@ -140,6 +140,33 @@ func ExampleGet() {
 	// bad path at 1
 }
 
+// Pointer 0 of each element of a list of structs is a text. A null pointer is an empty text.
+func ExampleGetRange() {
+	message := sample("contacts.bin")
+	names := make([]capvet.Node, 3)
+	for first, n := 0, len(names); n == len(names); first += n {
+		var err error
+		n, err = capvet.GetRange(names, message, "/p0/i*/p0", uint32(first), capvet.Limits{})
+		if err != nil {
+			log.Fatal(err)
+		}
+		for k, name := range names[:n] {
+			fmt.Printf("%d %v %q\n", first+k, name.Kind, bytes.TrimRight(name.Data, "\x00"))
+		}
+	}
+	_, err := capvet.GetRange(names, message, "/p0/i0", 0, capvet.Limits{})
+	fmt.Println(err)
+	// Output:
+	// 0 Values "fjord Ω Grüße lantern Grüße"
+	// 1 Values ""
+	// 2 Values ""
+	// 3 Values "señal harbor thicket lantern fjord"
+	// 4 Values "señal salt"
+	// 5 Null ""
+	// 6 Values "lantern thicket 北京 zephyr"
+	// bad path at 6
+}
+
 func ExampleAppendPacked() {
 	packed := capvet.AppendPacked(nil, null)
 	fmt.Printf("%x\n", packed)
