@@ -12,7 +12,7 @@ pub trait StepSource {
     // The source gives these steps, in this order, and no more.
     ghost gives: { Self → List Step → Type 0 };
 
-    // It gives at most so many.
+    // It gives at most this number of steps.
     ghost most: { Self → ℕ };
 
     /// The next step of the path, and `None` after the last one.
