@@ -1,11 +1,12 @@
 -- The pointer words of a frame, word by word.
-use Rattle.std.proofs.Common.{◌≡◌, ℕ, zero, suc, ◌+◌, ◌-◌, ◌*◌, ◌<◌, ◌≤◌, List, [], ◌∷◌, ◌++◌, length, map, refl, ap, ◌∙◌, arith, None, Some}
+use Rattle.std.proofs.Common.{◌≡◌, ℕ, zero, suc, ◌+◌, ◌-◌, ◌*◌, ◌<◌, ◌≤◌, List, [], ◌∷◌, ◌++◌, length, map, refl, ap, ◌∙◌, arith, Option, None, Some}
 use Rattle.std.proofs.lemmas.List.{map-append}
 use Rattle.cap_spec.specs.Messages.{segment_of}
 use Rattle.cap_spec.specs.declared.Step.{Step}
 use Rattle.cap_spec.specs.declared.Step.TheVariants.{Ptr, Item}
 use Rattle.cap_vet.specs.Trails.{row, element_rows}
 use Rattle.cap_vet.specs.PointerRuns.{place_of, row_places, element_places, IsRest}
+use Rattle.cap_vet.specs.declared.pointer_run.PointerRun.{PointerRun}
 
 -- behind the first of several words in a row
 pub rest_of_row : (s b n more ds ps level : ℕ) → 1 < n → IsRest
@@ -55,6 +56,17 @@ rest_of_elements s b n (suc more) ds ps level e h =
 pub rest_of_last : (s b n more ds ps level : ℕ) → n ≡ 1 → more ≡ 0
     → IsRest record { segment = s; at = b; left = n; more = more; data_words = ds; pointers = ps; level = level } None
 rest_of_last s b n more ds ps level e h = record { words = rw (e, h) refl; inside = λ m i. tt; level = tt }
+
+-- There is always such a rest.
+has_rest_of : (s b n more ds ps level : ℕ) → 0 < n → (rest : Option PointerRun) × IsRest
+    record { segment = s; at = b; left = n; more = more; data_words = ds; pointers = ps; level = level } rest
+has_rest_of s b zero more ds ps level h = absurd (omega arith)
+has_rest_of s b (suc zero) zero ds ps level h = (None, rest_of_last s b 1 0 ds ps level refl refl)
+has_rest_of s b (suc zero) (suc more) ds ps level h = (_, rest_of_elements s b 1 (suc more) ds ps level refl (omega arith))
+has_rest_of s b (suc (suc n)) more ds ps level h = (_, rest_of_row s b (suc (suc n)) more ds ps level (omega arith))
+
+pub has_rest : (f : PointerRun) → 0 < f.left → (rest : Option PointerRun) × IsRest f rest
+has_rest f some = has_rest_of f.segment f.at f.left f.more f.data_words f.pointers f.level some
 
 -- where a row of words stands
 pub places-row : (base : List Step) (level : ℕ) (step : ℕ → Step) (t b i n : ℕ) → map place_of (row base level step t b i n) ≡ row_places level t b n

@@ -1,22 +1,21 @@
 -- What a walk knows of lax pointers, and which messages are strict.
-use Rattle.std.proofs.Common.{ℕ, ◌<◌, ◌≤◌, ◌≡◌, List, [], ◌∷◌, length, inl, inr}
+use Rattle.std.proofs.Common.{ℕ, ◌<◌, ◌≤◌, ◌≡◌, ◌≢◌, List, [], ◌∷◌, length, inl, inr}
 use Rattle.std.proofs.Common.{subst, arith, Option, None, Some}
 use Rattle.std.specs.Prelude.{false, is_some}
-use Rattle.cap_spec.specs.Messages.{HasWord, IsMessage, segment_of}
+use Rattle.cap_spec.specs.Messages.{HasWord, IsMessage}
 use Rattle.cap_spec.specs.Paths.{Before, Costs}
 use Rattle.cap_spec.specs.Pointers.{far_segment, kind, pad, two}
 use Rattle.cap_spec.specs.Strict.{IsFirstLax, IsLax, IsLaxAt, IsStrict, IsWithin}
 use Rattle.cap_spec.specs.declared.Lax.{Lax}
 use Rattle.cap_spec.specs.declared.Lax.TheVariants.{CapabilityPad, NullPad}
 use Rattle.cap_spec.specs.declared.Step.{Step}
-use Rattle.cap_spec.proofs.Frames.Messages.{HasWord-at}
 use Rattle.cap_spec.proofs.Paths.Preorder.{Before-irreflexive}
 use Rattle.cap_spec.proofs.Strict.Faults.{strict_kept, strict_wider}
 use Rattle.cap_spec.proofs.Strict.FirstLax.{first_by_tour, first_is_lax}
-use Rattle.cap_spec.proofs.Strict.Looking.{cap_pad, near_has_none, zero_pad}
+use Rattle.cap_spec.proofs.Strict.Looking.{cap_pad, other_pad, zero_pad}
 use Rattle.cap_vet.specs.StrictNulls.{not_lax_path, still_knows}
 use Rattle.cap_vet.specs.Limits.{depth_of, words_of}
-use Rattle.cap_vet.specs.Looking.{IsNotFar}
+use Rattle.cap_vet.specs.Looking.{IsNotLax}
 use Rattle.cap_vet.specs.Reports.{IsAccepted, IsVetted}
 use Rattle.cap_vet.specs.Stricts.{KnowsLax}
 use Rattle.cap_vet.specs.Trails.{Ahead, IsTrail}
@@ -40,17 +39,13 @@ module _ (m : List (List ℕ)) (s w p t b q : ℕ) (has : HasWord m s w p) (far 
   pub cap_form : (cost : ℕ) → Costs m s w cost → kind q ≡ 3 → IsLaxAt m s w CapabilityPad
   cap_form cost costs e = cap_pad m s w p q has (far, one) own cost costs e
 
--- A word that isn't far has no such form.
-pub not_far_has_none : (m : List (List ℕ)) (s w : ℕ) → w < length (segment_of m s) → IsNotFar m s w
-    → (what : Lax) → ¬ IsLaxAt m s w what
-not_far_has_none m s w inside near =
-    let (p, has) = HasWord-at m s w inside in
-    near_has_none m s w p has (near p has)
+  pub object_form : (kind q < 2) × (q ≢ 0) → IsNotLax m s w
+  object_form object = other_pad m s w p q has (far, one) own object.1 (omega (arith, object.0))
 
 -- The next pointer isn't lax,
 pub knows_on : (m : List (List ℕ)) (seen : List (List Step)) (a : Ahead) (s w n : ℕ) (found : Option LaxPointer)
     → IsLookedAt m seen a s w n
-    → ((what : Lax) → ¬ IsLaxAt m s w what) → KnowsLax m seen found → KnowsLax m (a.path ∷ seen) found
+    → IsNotLax m s w → KnowsLax m seen found → KnowsLax m (a.path ∷ seen) found
 knows_on m seen a s w n found l none k =
     let r = rw (l.segment, l.word) at l.trail.ahead_reached.0 in
     still_knows m seen a.path found (not_lax_path m a.path a.level s w r none) k

@@ -4,7 +4,9 @@ use Rattle.cap_spec.specs.Messages.{HasWord}
 use Rattle.cap_spec.specs.Pointers.{kind, middle, code, data_size, pointer_size, list_size, extent}
 use Rattle.cap_spec.specs.Following.{Leads, to_null, to_cap, extra, IsComposite}
 use Rattle.cap_spec.specs.Denoting.{Finds, element_levels}
+use Rattle.cap_spec.specs.Strict.{IsLaxAt}
 use Rattle.cap_spec.specs.Verdicts.{levels_below}
+use Rattle.cap_spec.specs.declared.Lax.{Lax}
 use Rattle.cap_spec.specs.declared.Step.{Step}
 use Rattle.cap_spec.specs.declared.Step.TheVariants.{Ptr, Item}
 use Rattle.cap_ptr.specs.Reaching.{StandsFor}
@@ -41,9 +43,13 @@ FrameRises level depth (Some f) = (level + 1 ≤ f.level) × (f.level ≤ depth 
 abbrev pub MayStandFor : List (List ℕ) → ℕ → ℕ → ℕ → ℕ → ℕ → Type 0
 MayStandFor m s w k t b = (q : ℕ) → HasWord m t b q → kind q < 2 → StandsFor m s w k t b q
 
--- the pointer word at s:w isn't far
-abbrev pub IsNotFar : List (List ℕ) → ℕ → ℕ → Type 0
-IsNotFar m s w = (q : ℕ) → HasWord m s w q → kind q ≢ 2
+-- the word at s:w is neither null nor far nor a capability
+abbrev pub IsObjectWord : List (List ℕ) → ℕ → ℕ → Type 0
+IsObjectWord m s w = (q : ℕ) → HasWord m s w q → (kind q < 2) × (q ≢ 0)
+
+-- the pointer at s:w has none of the forms that common readers reject
+abbrev pub IsNotLax : List (List ℕ) → ℕ → ℕ → Type 0
+IsNotLax m s w = (what : Lax) → ¬ IsLaxAt m s w what
 
 -- An object is found, which keeps to the limits. Its pointer words are those of the frame.
 pub record LooksObject (m : List (List ℕ)) (words depth spent s w level cost deep : ℕ) (frame : Option PointerRun) (k t b q tag : ℕ) : Type 0 where

@@ -239,7 +239,7 @@ impl Turn for Marks<'_> {
         s: u32,
         w: u32,
         used: Option<Place>,
-        _far: bool,
+        _may_be_lax: bool,
         pointers: u64,
     ) -> Result<(), Overlap> {
         if self.mark_pointer(message, s, w, used) {

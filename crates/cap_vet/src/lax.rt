@@ -3,7 +3,7 @@
 ghost use Rattle.cap_spec.specs.Messages.{segment_of};
 ghost use Rattle.cap_spec.specs.Paths.{Costs};
 ghost use Rattle.cap_spec.specs.Strict.{IsLaxAt};
-ghost use Rattle.cap_spec.specs.declared.Lax.{Lax};
+ghost use Rattle.cap_vet.specs.Looking.{IsNotLax};
 ghost use Rattle.std.specs.Prelude.{◌<◌, IfNone, IfSome, length, ℕ};
 
 use cap_frame::Segments;
@@ -17,7 +17,7 @@ pub(crate) fn lax_form<M: Segments>(message: &M, s: u32, w: u32) -> Option<Lax>
     requires inside { w < length (segment_of (M.segments message.now) s) }
     requires followed { (cost : ℕ) × Costs (M.segments message.now) s w cost }
     ensures some { IfSome result (IsLaxAt (M.segments message.now) s w) }
-    ensures none { IfNone result ((what : Lax) → ¬ IsLaxAt (M.segments message.now) s w what) }
+    ensures none { IfNone result (IsNotLax (M.segments message.now) s w) }
 {
     let word = message.word(s, w);
     if kind(word) != 2 {

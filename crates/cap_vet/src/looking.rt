@@ -7,7 +7,7 @@ ghost use Rattle.cap_spec.specs.Faults.{IsFirstReason};
 ghost use Rattle.cap_spec.specs.Messages.{IsMessage, segment_of};
 ghost use Rattle.cap_spec.specs.Pointers.{IsCap};
 ghost use Rattle.cap_vet.specs.Limits.{depth_of, words_of};
-ghost use Rattle.cap_vet.specs.Looking.{FollowsWithin, IsLooked, IsNotFar, MayStandFor, deepest_of};
+ghost use Rattle.cap_vet.specs.Looking.{FollowsWithin, IsLooked, IsNotLax, IsObjectWord, MayStandFor, deepest_of};
 ghost use Rattle.std.specs.Prelude.{◌+◌, ◌-◌, ◌<◌, ◌^◌, ◌≡◌, ◌≤◌, ◌↔◌, IfErr, IfOk, IfSome, IsTrue, List, length, ℕ};
 
 use crate::limits::Limits;
@@ -119,7 +119,7 @@ pub(crate) fn look_near<M: Segments>(
     requires level { level ≤ depth_of limits.now + 1 }
     ensures looked { let m = M.segments message.now in
         IfSome result (IsLooked m (words_of limits.now) (depth_of limits.now) spent s w level) }
-    ensures near { IfSome result (λ _. IsNotFar (M.segments message.now) s w) }
+    ensures strict { IfSome result (λ _. IsNotLax (M.segments message.now) s w) }
 {
     let word = message.word(s, w);
     if word == 0 {
@@ -163,7 +163,7 @@ pub(crate) fn described_within<M: Segments>(
     requires level { level ≤ depth_of limits.now + 1 }
     ensures looked { let m = M.segments message.now in (s w : ℕ) → MayStandFor m s w pads segment at →
         IfSome result (IsLooked m (words_of limits.now) (depth_of limits.now) spent s w level) }
-    ensures near { IfSome result (λ _. IsNotFar (M.segments message.now) segment at) }
+    ensures object { IfSome result (λ _. IsObjectWord (M.segments message.now) segment at) }
 {
     let word = message.word(segment, at);
     if let Some(row) = near_row(word, at, message.len(segment)) {

@@ -78,10 +78,10 @@ impl Turn for LaxSearch {
         s: u32,
         w: u32,
         _used: Option<Place>,
-        far: bool,
+        may_be_lax: bool,
         pointers: u64,
     ) -> Result<(), Infallible> {
-        if far {
+        if may_be_lax {
             self.look_at(message, s, w, pointers);
         }
         Ok(())

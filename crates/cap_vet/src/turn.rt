@@ -3,7 +3,7 @@
 ghost use Rattle.cap_spec.specs.Messages.{HasWord, segment_of};
 ghost use Rattle.cap_spec.specs.Paths.{Reaches};
 ghost use Rattle.cap_spec.specs.declared.Step.{Step};
-ghost use Rattle.cap_vet.specs.Looking.{IsNotFar};
+ghost use Rattle.cap_vet.specs.Looking.{IsNotLax};
 ghost use Rattle.cap_vet.specs.Marks.{UsesPlace};
 ghost use Rattle.cap_vet.specs.Trails.{Ahead};
 ghost use Rattle.cap_vet.specs.Walking.{IsLookedAt};
@@ -41,19 +41,19 @@ pub(crate) trait Turn {
         ensures { IfSome result (UsesPlace (M.segments message.now) s w) };
 
     /// The turn at this pointer word, which can be followed within the limits. It is number
-    /// `pointers` of those looked at, and `used` is what `before` returned. If `far` is false, the
-    /// word isn't a far pointer.
+    /// `pointers` of those looked at, and `used` is what `before` returned. If `may_be_lax` is
+    /// false, common readers don't reject the pointer.
     fn after<M: Segments>(
         &mut self,
         message: &M,
         s: u32,
         w: u32,
         used: Option<Place>,
-        far: bool,
+        may_be_lax: bool,
         pointers: u64,
     ) -> Result<(), Self::Stop>
         requires used { IfSome used (UsesPlace (M.segments message.now) s w) }
-        requires near { IsFalse far → IsNotFar (M.segments message.now) s w }
+        requires strict { IsFalse may_be_lax → IsNotLax (M.segments message.now) s w }
         requires known { let m = M.segments message.now in (seen : List (List Step)) × (a : Ahead)
             × IsLookedAt m seen a s w pointers × knows self.old m seen }
         ensures ok { let m = M.segments message.now in (seen : List (List Step)) (a : Ahead) →

@@ -85,7 +85,7 @@ impl Turn for Plain {
         _s: u32,
         _w: u32,
         _used: Option<Place>,
-        _far: bool,
+        _may_be_lax: bool,
         _pointers: u64,
     ) -> Result<(), Infallible> {
         Ok(())

@@ -2,14 +2,13 @@
 
 ghost use Rattle.cap_spec.specs.Faults.{IsFirstFault};
 ghost use Rattle.cap_vet.specs.Limits.{depth_of, words_of};
-ghost use Rattle.cap_vet.specs.Looking.{IsNotFar};
 ghost use Rattle.cap_vet.specs.Turning.{added, run_below};
-ghost use Rattle.cap_vet.specs.Turns.{HasVisited, IsNextIn};
-ghost use Rattle.std.specs.Prelude.{◌<◌, ◌≡◌, ◌^◌, IfErr, IfOk, IsFalse, List};
+ghost use Rattle.cap_vet.specs.Turns.{IsNextIn, IsVisited};
+ghost use Rattle.std.specs.Prelude.{◌<◌, ◌≡◌, ◌^◌, IfErr, IfOk, List};
 
-use crate::far_looking::look_far;
+use crate::far_looking::look_over_pad;
 use crate::limits::Limits;
-use crate::looking::{Looked, look_near};
+use crate::looking::{Looked, look, look_near};
 use crate::pointer_run::PointerRun;
 use crate::report::Report;
 use cap_frame::Segments;
@@ -20,8 +19,8 @@ use cap_spec::Refusal;
 pub(crate) struct Visited {
     /// The run of the object's pointers.
     pub(crate) below: Option<PointerRun>,
-    /// Whether the word may be a far pointer.
-    pub(crate) far: bool,
+    /// Whether common readers may reject the pointer.
+    pub(crate) may_be_lax: bool,
 }
 
 /// Looks at the next pointer word, and gives the run of its object's pointers. This word is then the
@@ -38,19 +37,19 @@ pub(crate) fn visit<M: Segments>(
 ) -> Result<Visited, Refusal>
     requires next { let m = M.segments message.now in (runs : List PointerRun)
         × IsNextIn m limits.now s w level runs report.old }
-    ensures ok { let m = M.segments message.now in (runs : List PointerRun)
-        (n : IsNextIn m limits.now s w level runs report.old) → IfOk result (λ v.
-        HasVisited m limits.now s w level runs report.old n v.below report.new) }
-    ensures near { IfOk result (λ v. IsFalse v.far → IsNotFar (M.segments message.now) s w) }
+    ensures ok { IfOk result (IsVisited (M.segments message.now) limits.now s w level report.old
+        report.new) }
     ensures err { IfErr result
         (IsFirstFault (M.segments message.now) (words_of limits.now) (depth_of limits.now)) }
 {
     if let Some(looked) = look_near(message, limits, report.charge, s, w, level) {
         let below = add(report, s, w, looked);
-        return Ok(Visited { below, far: false });
+        return Ok(Visited {
+            below,
+            may_be_lax: false,
+        });
     }
-    let below = visit_other(message, limits, report, s, w, level)?;
-    Ok(Visited { below, far: true })
+    visit_other(message, limits, report, s, w, level)
 }
 
 // The same of another word.
@@ -63,12 +62,11 @@ fn visit_other<M: Segments>(
     s: u32,
     w: u32,
     level: u32,
-) -> Result<Option<PointerRun>, Refusal>
+) -> Result<Visited, Refusal>
     requires next { let m = M.segments message.now in (runs : List PointerRun)
         × IsNextIn m limits.now s w level runs report.old }
-    ensures ok { let m = M.segments message.now in (runs : List PointerRun)
-        (n : IsNextIn m limits.now s w level runs report.old) →
-        IfOk result (λ below. HasVisited m limits.now s w level runs report.old n below report.new) }
+    ensures ok { IfOk result (IsVisited (M.segments message.now) limits.now s w level report.old
+        report.new) }
     ensures err { IfErr result
         (IsFirstFault (M.segments message.now) (words_of limits.now) (depth_of limits.now)) }
 {
@@ -84,23 +82,35 @@ fn visit_far<M: Segments>(
     s: u32,
     w: u32,
     level: u32,
-) -> Result<Option<PointerRun>, Refusal>
+) -> Result<Visited, Refusal>
     requires next { let m = M.segments message.now in (runs : List PointerRun)
         × IsNextIn m limits.now s w level runs report.old }
-    ensures ok { let m = M.segments message.now in (runs : List PointerRun)
-        (n : IsNextIn m limits.now s w level runs report.old) →
-        IfOk result (λ below. HasVisited m limits.now s w level runs report.old n below report.new) }
+    ensures ok { IfOk result (IsVisited (M.segments message.now) limits.now s w level report.old
+        report.new) }
     ensures err { IfErr result
         (IsFirstFault (M.segments message.now) (words_of limits.now) (depth_of limits.now)) }
 {
-    match look_far(message, limits, report.charge, s, w, level) {
+    if let Some(looked) = look_over_pad(message, limits, report.charge, s, w, level) {
+        let below = add(report, s, w, looked);
+        return Ok(Visited {
+            below,
+            may_be_lax: false,
+        });
+    }
+    match look(message, limits, report.charge, s, w, level) {
         Err(reason) => Err(Refusal {
             segment: s,
             word: w,
             reason,
             pointers: report.pointers + 1,
         }),
-        Ok(looked) => Ok(add(report, s, w, looked)),
+        Ok(looked) => {
+            let below = add(report, s, w, looked);
+            Ok(Visited {
+                below,
+                may_be_lax: true,
+            })
+        }
     }
 }
 

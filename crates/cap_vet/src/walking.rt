@@ -130,9 +130,9 @@ fn walk_on<M: Segments, T: Turn, const N: usize>(
     'walk: loop {
         let (s, w, level) = (run.segment, run.at, run.level);
         let is_null = message.word(s, w) == 0;
-        let more = run.advance();
         match turn_at(message, limits, turn, report, s, w, level) {
             Ok(Some(below)) => {
+                let more = run.advance();
                 push_kept(stack, more, run);
                 if stack.is_full() {
                     return Ok(Some(below));
@@ -140,7 +140,7 @@ fn walk_on<M: Segments, T: Turn, const N: usize>(
                 run = below;
             }
             Ok(None) => {
-                if !more {
+                if !run.advance() {
                     match stack.pop() {
                         Some(below) => run = below,
                         None => return Ok(None),
@@ -178,11 +178,11 @@ fn turn_at<M: Segments, T: Turn>(
     // The words that the pointer uses are looked up before the visit, and used after it. If nothing
     // is written in between, both take its fields from the word once.
     let used = turn.before(message, s, w);
-    let (below, far) = match visit(message, limits, report, s, w, level) {
-        Ok(Visited { below, far }) => (below, far),
+    let (below, may_be_lax) = match visit(message, limits, report, s, w, level) {
+        Ok(Visited { below, may_be_lax }) => (below, may_be_lax),
         Err(refusal) => return Err(Stopped::Refused(refusal)),
     };
-    match turn.after(message, s, w, used, far, report.pointers) {
+    match turn.after(message, s, w, used, may_be_lax, report.pointers) {
         Ok(()) => Ok(below),
         Err(stop) => Err(Stopped::ByTurn(stop)),
     }

@@ -1,8 +1,7 @@
-use Rattle.std.proofs.Common.{arith, refl, subst}
-use Rattle.std.specs.Prelude.{◌≢◌}
+use Rattle.std.proofs.Common.{arith, refl}
 use Rattle.cap_spec.specs.Following.{near}
-use Rattle.cap_spec.specs.Pointers.{IsCap, cap_index, kind}
-use Rattle.cap_spec.proofs.Frames.Messages.{one_word}
+use Rattle.cap_spec.specs.Pointers.{IsCap, cap_index}
+use Rattle.cap_spec.proofs.Strict.Looking.{near_has_none}
 use Rattle.cap_ptr.proofs.Pads.{stands-near}
 use Rattle.cap_vet.proofs.looking.look_near.Goals as goal
 
@@ -23,13 +22,17 @@ returns-then-is_cap-clause-looked g c =
     let cap : IsCap c.word-word.result = c.is_cap.ensures.0 c.if-is_cap.true in
     ((cap_index c.word-word.result, near c.word-word.result c.word-word.ensures (omega (arith, cap.0)) (cap, refl) refl), omega (arith, c.requires.spent))
 
-pub returns-then-word-eq0-clause-near : goal.returns-then-word-eq0-clause-near
-returns-then-word-eq0-clause-near g c = λ q has.
+pub returns-then-word-eq0-clause-strict : goal.returns-then-word-eq0-clause-strict
+returns-then-word-eq0-clause-strict g c =
     let e = c.if-word-eq0.true in
-    let same = one_word (g.M.Segments.segments c.args.message.now) c.args.s c.args.w c.word-word.result q c.word-word.ensures has in
-    omega (arith, e, same)
+    near_has_none _ c.args.s c.args.w c.word-word.result c.word-word.ensures (omega (arith, e))
 
-pub returns-then-is_cap-clause-near : goal.returns-then-is_cap-clause-near
-returns-then-is_cap-clause-near g c = λ q has.
+pub returns-in-Some-clause-strict : goal.returns-in-Some-clause-strict
+returns-in-Some-clause-strict g c =
+    let object = c.in-Some.ensures.object c.word-word.result c.word-word.ensures in
+    near_has_none _ c.args.s c.args.w c.word-word.result c.word-word.ensures (omega (arith, object.0))
+
+pub returns-then-is_cap-clause-strict : goal.returns-then-is_cap-clause-strict
+returns-then-is_cap-clause-strict g c =
     let cap : IsCap c.word-word.result = c.is_cap.ensures.0 c.if-is_cap.true in
-    subst (λ u. kind u ≢ 2) (one_word (g.M.Segments.segments c.args.message.now) c.args.s c.args.w c.word-word.result q c.word-word.ensures has) (omega (arith, cap.0))
+    near_has_none _ c.args.s c.args.w c.word-word.result c.word-word.ensures (omega (arith, cap.0))
