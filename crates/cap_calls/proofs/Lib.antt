@@ -10,6 +10,7 @@ pub mod MessageStages
 pub mod OneNode
 pub mod OneStop
 pub mod Packed
+pub mod PathCharges
 pub mod RangeGotten
 pub mod Segments
 pub mod SeparateSegments
@@ -24,5 +25,6 @@ pub mod Unpacked
 pub mod UnpackedFound
 pub mod UnpackedMessages
 pub mod UnpackedPieces
+pub mod VettedNodes
 pub mod Wider
 pub mod Words

@@ -33,10 +33,10 @@ use Rattle.cap_calls.specs.declared.report.CallReport.{CallReport}
 use Rattle.cap_calls.proofs.Answers.{one_extent}
 
 -- no other answer has the number 0
-not_zero : (a : Answer) → 1 ≤ number_of a → a ≡ answer.Good → ⊥
+pub not_zero : (a : Answer) → 1 ≤ number_of a → a ≡ answer.Good → ⊥
 not_zero a some e = omega (arith, some, ap number_of e)
 
-cause_not_zero : (c : NoFrame) → 1 ≤ number_of (cause_answer c)
+pub cause_not_zero : (c : NoFrame) → 1 ≤ number_of (cause_answer c)
 cause_not_zero BadLimits = omega arith
 cause_not_zero NoMessage = omega arith
 cause_not_zero (Fault (fault.TooManySegments n)) = omega arith
@@ -58,7 +58,7 @@ reason_not_zero reason.CompositeOverrun = omega arith
 reason_not_zero reason.DepthLimit = omega arith
 reason_not_zero reason.WordLimit = omega arith
 
-refusal_not_zero : (r : StrictRefusal) → 1 ≤ number_of (refusal_answer r)
+pub refusal_not_zero : (r : StrictRefusal) → 1 ≤ number_of (refusal_answer r)
 refusal_not_zero (strict.Refused it) = reason_not_zero it.reason
 refusal_not_zero strict.ManySegments = omega arith
 refusal_not_zero (strict.Pointer lax.NullPad s w n) = omega arith
