@@ -7,6 +7,7 @@ pub mod GivenWords
 pub mod Gotten
 pub mod Marked
 pub mod MessageStages
+pub mod NodeBytes
 pub mod OneNode
 pub mod OneStop
 pub mod Packed

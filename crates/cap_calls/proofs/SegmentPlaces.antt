@@ -12,7 +12,7 @@ use Rattle.cap_frame.proofs.Parts.{drop_words, take_words}
 use Rattle.cap_calls.specs.SegmentCalls.{segment_start}
 
 -- a segment of joined ones, from its place on
-joined_at : (m : List (List ℕ)) (s : ℕ) (rest : List ℕ) → s < length m
+pub joined_at : (m : List (List ℕ)) (s : ℕ) (rest : List ℕ) → s < length m
     → take (length (get_or m s [])) (drop (sum (take s (sizes_of m))) (joined m ++ rest)) ≡ get_or m s []
 joined_at [] s rest l = absurd (omega (arith, l))
 joined_at (xs ∷ m) zero rest l =

@@ -2,6 +2,8 @@
 //! they are inside the frame.
 
 ghost use Rattle.cap_calls.specs.CallFlags.{has_no_table};
+ghost use Rattle.cap_calls.specs.CallFrames.{HasFrame};
+ghost use Rattle.cap_calls.specs.CallNodes.{offset_of};
 ghost use Rattle.cap_calls.specs.Calls.{TellsVet};
 ghost use Rattle.cap_calls.specs.NodeCalls.{TellsGet};
 ghost use Rattle.cap_calls.specs.RangeCalls.{AreSteps, TellsRange};
@@ -11,12 +13,16 @@ ghost use Rattle.cap_calls.specs.declared.limits.CallLimits.{CallLimits};
 ghost use Rattle.cap_calls.specs.declared.node.CallNode.{CallNode};
 ghost use Rattle.cap_calls.specs.declared.report.CallReport.{CallReport};
 ghost use Rattle.cap_calls.specs.declared.step.CallStep.{CallStep};
+ghost use Rattle.cap_spec.specs.Denoting.{words_from};
+ghost use Rattle.cap_spec.specs.Messages.{segment_of};
 ghost use Rattle.cap_spec.specs.PathTexts.{IsPath};
+ghost use Rattle.cap_spec.specs.Paths.{IsPlace};
+ghost use Rattle.cap_spec.specs.Plain.{plain_words};
 ghost use Rattle.cap_spec.specs.declared.Step.{Step};
 ghost use Rattle.cap_vet.specs.Demands.{Meets};
 ghost use Rattle.cap_vet.specs.PathDemands.{MeetsOnPath};
 ghost use Rattle.cap_vet.specs.declared.demands.Demands.{Demands};
-ghost use Rattle.std.specs.Prelude.{◌≡◌, ◌⊎◌, IsFalse, List, ℕ};
+ghost use Rattle.std.specs.Prelude.{◌*◌, ◌+◌, ◌<◌, ◌≡◌, ◌≤◌, ◌⊎◌, IsFalse, List, length, slice_range, ℕ};
 
 /// If a message meets the demands, so do the pointers on each path. So [`crate::get`] and
 /// [`crate::get_range`] refuse no path in a message that [`crate::vet`] accepts with the same limits,
@@ -32,4 +38,18 @@ pub fn vetted_messages_have_their_nodes()
         (old : List CallNode) (a : Answer) (n : ℕ) (new : List CallNode) (r q : CallReport) →
         IsFalse (has_no_table l) → AreSteps steps varying → TellsVet l bytes Good r →
         TellsRange l bytes steps varying old a n new q → (a ≡ Good) ⊎ (a ≡ NoNode) }
+{}
+
+/// The words of the bytes from the offset of word b of segment t on are those of the segment from there
+/// on. So the bytes from the place of a path on are the words of the object there. (A node of a list of
+/// structs leaves out its tag, which is the first of them.)
+pub fn offsets_are_of_words()
+    ensures words { (l : CallLimits) (bytes : List ℕ) (frame segments : ℕ) (m : List (List ℕ))
+        (t b n k : ℕ) → HasFrame l bytes frame segments m →
+        t < length m → b + n ≤ length (segment_of m t) → offset_of m t b ≡ 8 * k →
+        slice_range (plain_words bytes) k (k + n) ≡ words_from m t b n }
+    ensures path { (l : CallLimits) (bytes : List ℕ) (frame segments : ℕ) (m : List (List ℕ))
+        (path : List Step) (t b n : ℕ) → HasFrame l bytes frame segments m →
+        IsPlace m path t b n → let at = offset_of m t b in
+        plain_words (slice_range bytes at (at + 8 * n)) ≡ words_from m t b n }
 {}
