@@ -53,7 +53,7 @@ frame_told l bs f (framed m x y g h p e) =
     (omega (arith, same, none), omega (arith, long, frame_short l.message_words bs m x h.front))
 
 -- The frame that is reported is in the bytes.
-length_inside : {K : Type 0} {P : List (List ℕ) → ℕ → ℕ → Found → Type 0} (whole : Bool) (l : CallLimits)
+pub length_inside : {K : Type 0} {P : List (List ℕ) → ℕ → ℕ → Found → Type 0} (whole : Bool) (l : CallLimits)
     (bs : List ℕ) (f : Found) → TellsWhole whole K P l bs f → f.report.length ≤ length bs
 length_inside whole l bs f (trailing m x y t h more e k) =
     let long : f.report.length ≡ x = ap (λ (z : Found). z.report.length) e in omega (arith, long, more)

@@ -8,6 +8,7 @@ pub mod Gotten
 pub mod Marked
 pub mod MessageStages
 pub mod NodeBytes
+pub mod NodeFrames
 pub mod OneNode
 pub mod OneStop
 pub mod Packed

@@ -39,7 +39,9 @@ pub use laws::{
 };
 pub use limits::CallLimits;
 pub use node::CallNode;
-pub use node_laws::{offsets_are_of_words, vetted_messages_have_their_nodes};
+pub use node_laws::{
+    nodes_are_inside_their_frame, offsets_are_of_words, vetted_messages_have_their_nodes,
+};
 pub use packing_laws::{packed_message_unpacks, pieces_unpack_as_one};
 pub use report::CallReport;
 pub use step::CallStep;

@@ -3,7 +3,7 @@
 
 ghost use Rattle.cap_calls.specs.CallFlags.{has_no_table};
 ghost use Rattle.cap_calls.specs.CallFrames.{HasFrame};
-ghost use Rattle.cap_calls.specs.CallNodes.{offset_of};
+ghost use Rattle.cap_calls.specs.CallNodes.{none_node, offset_of};
 ghost use Rattle.cap_calls.specs.Calls.{TellsVet};
 ghost use Rattle.cap_calls.specs.NodeCalls.{TellsGet};
 ghost use Rattle.cap_calls.specs.RangeCalls.{AreSteps, TellsRange};
@@ -22,7 +22,7 @@ ghost use Rattle.cap_spec.specs.declared.Step.{Step};
 ghost use Rattle.cap_vet.specs.Demands.{Meets};
 ghost use Rattle.cap_vet.specs.PathDemands.{MeetsOnPath};
 ghost use Rattle.cap_vet.specs.declared.demands.Demands.{Demands};
-ghost use Rattle.std.specs.Prelude.{◌*◌, ◌+◌, ◌<◌, ◌≡◌, ◌≤◌, ◌⊎◌, IsFalse, List, length, slice_range, ℕ};
+ghost use Rattle.std.specs.Prelude.{◌*◌, ◌+◌, ◌<◌, ◌≡◌, ◌≤◌, ◌⊎◌, IsFalse, List, length, slice_index_or, slice_range, ℕ};
 
 /// If a message meets the demands, so do the pointers on each path. So [`crate::get`] and
 /// [`crate::get_range`] refuse no path in a message that [`crate::vet`] accepts with the same limits,
@@ -52,4 +52,17 @@ pub fn offsets_are_of_words()
         (path : List Step) (t b n : ℕ) → HasFrame l bytes frame segments m →
         IsPlace m path t b n → let at = offset_of m t b in
         plain_words (slice_range bytes at (at + 8 * n)) ≡ words_from m t b n }
+{}
+
+/// The bytes of each node that [`crate::get`] or [`crate::get_range`] reports are inside the frame whose
+/// length it reports, and this frame is inside the input.
+pub fn nodes_are_inside_their_frame()
+    ensures get { (l : CallLimits) (bytes text : List ℕ) (a : Answer) (node : CallNode)
+        (r : CallReport) → TellsGet l bytes text a node r →
+        (node.offset + node.length ≤ r.length) × (r.length ≤ length bytes) }
+    ensures get_range { (l : CallLimits) (bytes : List ℕ) (steps : List CallStep) (varying : ℕ)
+        (old : List CallNode) (a : Answer) (n : ℕ) (new : List CallNode) (r : CallReport) (k : ℕ) →
+        TellsRange l bytes steps varying old a n new r → k < n →
+        let node = slice_index_or new k none_node in
+        (node.offset + node.length ≤ r.length) × (r.length ≤ length bytes) }
 {}
