@@ -24,7 +24,7 @@ step_of zero number = Ptr (min number 65535)
 step_of (suc k) number = Item (min number 4294967295)
 
 -- The step with `more` added to its number. No struct has a pointer 65535, and no list an element
--- 4294967295. So numbers past these lead to nothing as these do.
+-- 4294967295 (`high_numbers_lead_nowhere` in `cap_laws`). So numbers past these lead to nothing as these do.
 abbrev pub step_after : CallStep → ℕ → Step
 step_after s more = step_of s.kind (s.number + more)
 

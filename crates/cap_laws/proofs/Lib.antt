@@ -4,3 +4,4 @@ mod Examples
 mod TreeExamples
 mod CanonicalExamples
 mod StrictExamples
+pub mod HighSteps

@@ -1,7 +1,8 @@
 //! Where paths lead in a message.
 
-ghost use Rattle.std.specs.Prelude.{ℕ, true, length, List, [], ◌∷◌, ◌++◌, ◌≡◌, ◌↔◌, ◌⊎◌, ◌+◌, Some};
+ghost use Rattle.std.specs.Prelude.{ℕ, true, length, List, [], ◌∷◌, ◌++◌, ◌≡◌, ◌↔◌, ◌⊎◌, ◌+◌, ◌^◌, ◌≤◌, Some};
 ghost use Rattle.cap_spec.specs.declared.Step.{Step};
+ghost use Rattle.cap_spec.specs.declared.Step.TheVariants.{Item, Ptr};
 ghost use Rattle.cap_spec.specs.Tree.{Tree, node_at, pointer_count, cap_count, has_cap};
 ghost use Rattle.cap_spec.specs.Following.{Leads, to_cap};
 ghost use Rattle.cap_spec.specs.Denoting.{Denotes};
@@ -36,6 +37,14 @@ pub fn last_step()
         Comes m (path ++ step ∷ []) level c
         ↔ ((b : Spot) × (level' : ℕ) × Comes m path level' b × Goes m b step c
         × (level ≡ level' + level_of c)) }
+{}
+
+/// From where a path comes to, no step to pointer 65,535 or a later one leads anywhere. No step to
+/// element 2^30 or a later one ever does.
+pub fn high_numbers_lead_nowhere()
+    ensures pointer { (m : List (List ℕ)) (path : List Step) (level i : ℕ) (a b : Spot) →
+        Comes m path level a → 65535 ≤ i → ¬ Goes m a (Ptr i) b }
+    ensures element { (m : List (List ℕ)) (a b : Spot) (i : ℕ) → 2 ^ 30 ≤ i → ¬ Goes m a (Item i) b }
 {}
 
 /// If the root denotes a tree, a path comes to a spot exactly if the tree has a node at the path,
