@@ -19,7 +19,7 @@ use Rattle.cap_calls.specs.declared.front.NoFrame.TheVariants.{BadLimits, NoMess
 use Rattle.cap_calls.specs.declared.limits.CallLimits.{CallLimits}
 
 -- a frame within the limit, which is in the bytes
-frame_short : (limit : ℕ) (bs : List ℕ) (m : List (List ℕ)) (n : ℕ) → IsFront limit bs m n → n ≤ frame_bound limit
+pub frame_short : (limit : ℕ) (bs : List ℕ) (m : List (List ℕ)) (n : ℕ) → IsFront limit bs m n → n ≤ frame_bound limit
 frame_short limit bs m n h =
     let table = h.frames.table in
     let sizes = sizes_of m in

@@ -24,6 +24,7 @@ pub mod PackedMessages
 pub mod PackedStreams
 pub mod Texts
 pub mod Unpacked
+pub mod UnpackedBounds
 pub mod UnpackedFound
 pub mod UnpackedMessages
 pub mod UnpackedPieces

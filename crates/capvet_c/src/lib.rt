@@ -330,8 +330,9 @@ pub extern "C" fn capvet_pack_message(
     ensures only { (a : Answer) (n : ℕ) (new : List ℕ) (r : CallReport) →
         TellsPackMessage limits.now bytes.now out.old a n new r →
         (result ≡ number_of a) × (required.new ≡ n) × (out.new ≡ new) × (report.new ≡ r) }
-    // This capacity is always enough.
+    // These capacities are always enough.
     ensures few { required.new ≤ report.new.length / 8 * 10 }
+    ensures bound { required.new ≤ pack_bound (length bytes.now) }
 {
     pack_message(bytes, limits, out, required, report).number()
 }
@@ -362,6 +363,8 @@ pub extern "C" fn capvet_unpack_message(
     ensures only { (u : Unpacked) → UnpacksTo limits.now bytes.now out.old state.old u →
         (result ≡ number_of u.answer)
         × Leaves u consumed.new required.new out.new state.new report.new }
+    // This capacity is always enough.
+    ensures bound { required.new ≤ frame_bound limits.now.message_words }
 {
     unpack_message(bytes, limits, out, state, consumed, required, report).number()
 }

@@ -1,5 +1,6 @@
 //! The call that packs one message.
 
+ghost use Rattle.cap_calls.specs.CallBounds.{pack_bound};
 ghost use Rattle.cap_calls.specs.Calls.{TellsMessage};
 ghost use Rattle.cap_calls.specs.PackedMessages.{Packs, TellsPackMessage, packed_frame, table_of};
 ghost use Rattle.cap_calls.specs.declared.answer.Answer.{Answer};
@@ -50,8 +51,9 @@ pub fn pack_message(
     ensures only { (a : Answer) (n : ℕ) (new : List ℕ) (r : CallReport) →
         TellsPackMessage limits.now bytes.now out.old a n new r →
         (result ≡ a) × (required.new ≡ n) × (out.new ≡ new) × (report.new ≡ r) }
-    // This capacity is always enough.
+    // These capacities are always enough.
     ensures few { required.new ≤ report.new.length / 8 * 10 }
+    ensures bound { required.new ≤ pack_bound (length bytes.now) }
 {
     let found = packed(bytes, limits, out);
     *required = found.count;

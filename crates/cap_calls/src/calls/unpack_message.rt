@@ -1,5 +1,6 @@
 //! The call that unpacks one message of a packed stream, a piece at a time.
 
+ghost use Rattle.cap_calls.specs.CallBounds.{frame_bound};
 ghost use Rattle.cap_calls.specs.CallFrames.{AreLimits};
 ghost use Rattle.cap_calls.specs.CallReports.{none_report};
 ghost use Rattle.cap_calls.specs.MessageStages.{IsEnd, IsStage, Reaches};
@@ -9,7 +10,7 @@ ghost use Rattle.cap_calls.specs.declared.answer.Answer.{Answer};
 ghost use Rattle.cap_calls.specs.declared.report.CallReport.{CallReport};
 ghost use Rattle.cap_calls.specs.declared.unpacking.Unpacking.{Unpacking};
 ghost use Rattle.cap_frame.specs.Limit.{limit_of};
-ghost use Rattle.std.specs.Prelude.{◌%◌, ◌≡◌, Decides, IfNone, IfSome, List, length, slice_index, ℕ};
+ghost use Rattle.std.specs.Prelude.{◌%◌, ◌≡◌, ◌≤◌, Decides, IfNone, IfSome, List, length, slice_index, ℕ};
 
 use crate::answer::Answer;
 use crate::limits::CallLimits;
@@ -56,6 +57,8 @@ pub fn unpack_message(
     ensures only { (u : Unpacked) → UnpacksTo limits.now bytes.now out.old state.old u →
         (result ≡ u.answer)
         × Leaves u consumed.new required.new out.new state.new report.new }
+    // This capacity is always enough.
+    ensures bound { required.new ≤ frame_bound limits.now.message_words }
 {
     let stop = unpacked(bytes, limits, out, *state);
     *state = stop.state;

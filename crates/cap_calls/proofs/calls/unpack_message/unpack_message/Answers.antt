@@ -1,4 +1,5 @@
 -- Nothing else is told of the bytes, the state and the buffer.
+use Rattle.cap_calls.proofs.UnpackedBounds.{unpack_bounded}
 use Rattle.cap_calls.proofs.UnpackedMessages.{one_unpack_told}
 use Rattle.cap_calls.proofs.calls.unpack_message.unpack_message.Goals as goal
 
@@ -7,3 +8,7 @@ returns-clause-only c = λ u h.
     let one = one_unpack_told c.args.limits.now c.args.bytes.now c.args.out.now c.args.state.now _ u.answer
     _ u.consumed _ u.required _ u.out _ u.state _ u.report c.unpacked-stop.ensures h in
     (one.0, (one.1, one.2, one.3, one.4, one.5))
+
+pub returns-clause-bound : goal.returns-clause-bound
+returns-clause-bound c =
+    unpack_bounded c.args.limits.now c.args.bytes.now c.args.out.now c.args.state.now _ _ _ _ _ _ c.unpacked-stop.ensures

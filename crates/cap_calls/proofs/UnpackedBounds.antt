@@ -1,0 +1,34 @@
+-- A message that is unpacked has no more bytes than a frame within the limit.
+use Rattle.std.proofs.Common.{ℕ, List, ◌≤◌, arith, inl, inr, length}
+use Rattle.cap_calls.specs.CallBounds.{frame_bound}
+use Rattle.cap_calls.specs.UnpackingMessages.{IsOpen, Stops, TellsUnpackMessage, bad, no_message, too_large, too_many, too_small}
+use Rattle.cap_calls.specs.UnpackingMessages.{truncated, unpacks, whole}
+use Rattle.cap_calls.specs.declared.answer.Answer.{Answer}
+use Rattle.cap_calls.specs.declared.limits.CallLimits.{CallLimits}
+use Rattle.cap_calls.specs.declared.report.CallReport.{CallReport}
+use Rattle.cap_calls.specs.declared.unpacking.Unpacking.{Unpacking}
+use Rattle.cap_calls.proofs.Bounds.{frame_short}
+
+-- how many bytes an open message has
+open_bounded : (limit : ℕ) (held : List ℕ) (wanted : ℕ) → IsOpen limit held wanted → wanted ≤ frame_bound limit
+open_bounded limit held wanted (inl h) = omega (arith, h.1)
+open_bounded limit held wanted (inr h) = omega (arith, h.3)
+
+stop_bounded : (limit size : ℕ) (held : List ℕ) (z literal : ℕ) (rest : List ℕ) (a : Answer) (required written : ℕ)
+    (r : CallReport) → Stops limit size held z literal rest a required written r → required ≤ frame_bound limit
+stop_bounded limit size held z literal rest a required written r (whole m front e n w i) =
+    omega (arith, n, frame_short limit held m (length held) front)
+stop_bounded limit size held z literal rest a required written r (too_many count t e n w i) = omega (arith, n)
+stop_bounded limit size held z literal rest a required written r (too_large words t e n w i) = omega (arith, n)
+stop_bounded limit size held z literal rest a required written r (too_small still next less e w i) =
+    open_bounded limit held required still
+stop_bounded limit size held z literal rest a required written r (no_message none y l e q n w i) = omega (arith, n)
+stop_bounded limit size held z literal rest a required written r (truncated wanted still none some e n w i) =
+    omega (arith, n)
+
+pub unpack_bounded : (l : CallLimits) (bs old : List ℕ) (state : Unpacking) (a : Answer) (consumed required : ℕ)
+    (new : List ℕ) (left : Unpacking) (r : CallReport)
+    → TellsUnpackMessage l bs old state a consumed required new left r → required ≤ frame_bound l.message_words
+unpack_bounded l bs old state a consumed required new left r (bad limits e c n o s i) = omega (arith, n)
+unpack_bounded l bs old state a consumed required new left r (unpacks words z literal written limits is appends stops s) =
+    stop_bounded l.message_words (length old) _ z literal _ a required written r stops
