@@ -11,7 +11,7 @@ use Rattle.cap_calls.specs.CallBounds.{frame_bound}
 use Rattle.cap_calls.specs.CallFindings.{Tells, TellsWhole, framed, tells, trailing, without}
 use Rattle.cap_calls.specs.CallFrames.{HasNoFrame}
 use Rattle.cap_calls.specs.CallInputs.{TellsInput, of_frame, of_no_words, of_words}
-use Rattle.cap_calls.specs.CallReports.{cause_required}
+use Rattle.cap_calls.specs.CallReports.{cause_input_required}
 use Rattle.cap_calls.specs.Calls.{Frames}
 use Rattle.cap_calls.specs.declared.found.Found.{Found}
 use Rattle.cap_calls.specs.declared.front.NoFrame.{NoFrame}
@@ -33,7 +33,7 @@ frame_inside limit bs m n h =
     omega (arith, h.long, words, words_exact bs)
 
 -- what is required of an input
-cause_short : (l : CallLimits) (bs : List ℕ) (c : NoFrame) → HasNoFrame l bs c → cause_required c ≤ frame_bound l.message_words
+cause_short : (l : CallLimits) (bs : List ℕ) (c : NoFrame) → HasNoFrame l bs c → cause_input_required c ≤ frame_bound l.message_words
 cause_short l bs BadLimits h = omega arith
 cause_short l bs NoMessage h = omega arith
 cause_short l bs (Fault (TooManySegments n)) h = omega arith
@@ -41,14 +41,14 @@ cause_short l bs (Fault (TooLarge n)) h = omega arith
 cause_short l bs (Fault (Truncated n)) h = omega (arith, h.1.3)
 
 pub frame_told : (l : CallLimits) (bs : List ℕ) (f : Found) → Tells ⊤ Frames l bs f
-    → (f.report.required ≤ frame_bound l.message_words) × (f.report.length ≤ frame_bound l.message_words)
+    → (f.report.input_required ≤ frame_bound l.message_words) × (f.report.length ≤ frame_bound l.message_words)
 frame_told l bs f (without c h e k) =
-    let required : f.report.required ≡ cause_required c = ap (λ (x : Found). x.report.required) e in
+    let required : f.report.input_required ≡ cause_input_required c = ap (λ (x : Found). x.report.input_required) e in
     let none : f.report.length ≡ 0 = ap (λ (x : Found). x.report.length) e in
     (omega (arith, required, cause_short l bs c h), omega (arith, none))
 frame_told l bs f (framed m x y g h p e) =
-    let same : f.report.required ≡ g.report.required = ap (λ (x : Found). x.report.required) e in
-    let none : g.report.required ≡ 0 = ap (λ (x : Found). x.report.required) p in
+    let same : f.report.input_required ≡ g.report.input_required = ap (λ (x : Found). x.report.input_required) e in
+    let none : g.report.input_required ≡ 0 = ap (λ (x : Found). x.report.input_required) p in
     let long : f.report.length ≡ x = ap (λ (x : Found). x.report.length) e in
     (omega (arith, same, none), omega (arith, long, frame_short l.message_words bs m x h.front))
 

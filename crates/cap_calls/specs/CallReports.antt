@@ -15,7 +15,7 @@ abbrev pub none_report : CallReport
 none_report =
     record {
       length = 0;
-      required = 0;
+      input_required = 0;
       detail = 0;
       charge = 0;
       pointers = 0;
@@ -36,16 +36,17 @@ cause_detail (Fault (fault.TooLarge words)) = words
 cause_detail (Fault (fault.Truncated wanted)) = 0
 
 -- how many bytes the input needs at least
-abbrev pub cause_required : NoFrame → ℕ
-cause_required BadLimits = 0
-cause_required NoMessage = 8
-cause_required (Fault (fault.TooManySegments count)) = 0
-cause_required (Fault (fault.TooLarge words)) = 0
-cause_required (Fault (fault.Truncated wanted)) = wanted
+abbrev pub cause_input_required : NoFrame → ℕ
+cause_input_required BadLimits = 0
+cause_input_required NoMessage = 8
+cause_input_required (Fault (fault.TooManySegments count)) = 0
+cause_input_required (Fault (fault.TooLarge words)) = 0
+cause_input_required (Fault (fault.Truncated wanted)) = wanted
 
 -- of bytes without a frame
 abbrev pub no_frame_report : NoFrame → CallReport
-no_frame_report cause = record none_report { required = cause_required cause; detail = cause_detail cause }
+no_frame_report cause =
+    record none_report { input_required = cause_input_required cause; detail = cause_detail cause }
 
 -- of a message that this many bytes follow, apart from its frame
 abbrev pub trailing_report : ℕ → CallReport

@@ -63,11 +63,11 @@ pub data Stops (limit size : ℕ) (held : List ℕ) (zeros literal : ℕ) (rest 
       → Stops limit size held zeros literal rest a required written r
   -- no word comes next: nothing is pending
   no_message : held ≡ [] → zeros ≡ 0 → literal ≡ 0 → rest ≡ [] → a ≡ answer.NoMessage → required ≡ 0 → written ≡ 0
-      → r ≡ record none_report { required = 1 } → Stops limit size held zeros literal rest a required written r
+      → r ≡ record none_report { input_required = 1 } → Stops limit size held zeros literal rest a required written r
   -- or the input ends before the next word of the message
   truncated : (wanted : ℕ) → IsOpen limit held wanted → words_to_come zeros literal rest ≡ []
       → ¬ ((held ≡ []) × (literal ≡ 0) × (rest ≡ [])) → a ≡ answer.Truncated → required ≡ 0 → written ≡ length held
-      → r ≡ record none_report { required = bytes_needed literal rest }
+      → r ≡ record none_report { input_required = bytes_needed literal rest }
       → Stops limit size held zeros literal rest a required written r
 
 -- the state with `written` bytes of the message, and this rest of a run

@@ -12,7 +12,7 @@ pub struct CallReport {
     /// Bytes of the frame with its table, also of a refused message; 0 if there is no frame.
     pub length: u64,
     /// Of bytes that end before the frame does: how many bytes the input needs at least.
-    pub required: u64,
+    pub input_required: u64,
     /// How many segments, words or trailing bytes the answer is about.
     pub detail: u64,
     /// Of an accepted message: the charge of all followings, in words.
@@ -44,7 +44,7 @@ impl CallReport {
     {
         CallReport {
             length: 0,
-            required: 0,
+            input_required: 0,
             detail: 0,
             charge: 0,
             pointers: 0,
@@ -61,7 +61,7 @@ impl CallReport {
     pub(crate) fn of_no_frame(cause: NoFrame) -> CallReport
         ensures { result ≡ no_frame_report cause }
     {
-        let (required, detail) = match cause {
+        let (input_required, detail) = match cause {
             NoFrame::BadLimits => (0, 0),
             NoFrame::NoMessage => (8, 0),
             NoFrame::Fault(FrontFault::TooManySegments { count }) => (0, count),
@@ -69,7 +69,7 @@ impl CallReport {
             NoFrame::Fault(FrontFault::Truncated { wanted }) => (wanted, 0),
         };
         CallReport {
-            required,
+            input_required,
             detail,
             ..CallReport::none()
         }

@@ -53,9 +53,9 @@ pub extern "C" fn capvet_limits_default(limits: &mut CallLimits)
 /// the table, and checks no pointer. Bytes may follow the frame, whatever the flags are. Only
 /// `message_words` has an effect, though all limits are checked.
 ///
-/// If the result is `CAPVET_NO_MESSAGE` or `CAPVET_TRUNCATED`, `report.required` is how many bytes
-/// the next call needs at least. The result is the number of what [`frame`] returns. The report is
-/// written whole. Allocates nothing.
+/// If the result is `CAPVET_NO_MESSAGE` or `CAPVET_TRUNCATED`, `report.input_required` is how many
+/// bytes the next call needs at least. The result is the number of what [`frame`] returns. The report
+/// is written whole. Allocates nothing.
 #[unsafe(no_mangle)]
 pub extern "C" fn capvet_frame(bytes: &[u8], limits: &CallLimits, report: &mut CallReport) -> u32
     ensures tells { (a : Answer) × TellsFrame limits.now bytes.now a report.new
@@ -64,7 +64,7 @@ pub extern "C" fn capvet_frame(bytes: &[u8], limits: &CallLimits, report: &mut C
     ensures only { (a : Answer) (r : CallReport) → TellsFrame limits.now bytes.now a r →
         (result ≡ number_of a) × (report.new ≡ r) }
     // No more bytes are required than a frame within the limit has, and no frame has more.
-    ensures required { report.new.required ≤ frame_bound limits.now.message_words }
+    ensures input_required { report.new.input_required ≤ frame_bound limits.now.message_words }
     ensures whole { report.new.length ≤ frame_bound limits.now.message_words }
 {
     frame(bytes, limits, report).number()
@@ -344,7 +344,7 @@ pub extern "C" fn capvet_pack_message(
 ///
 /// `consumed` is how many of `bytes` are done with. With `CAPVET_OK`, `out` starts with the frame,
 /// of `required` bytes. With `CAPVET_BUFFER_TOO_SMALL`, `out` needs `required` bytes. With
-/// `CAPVET_TRUNCATED` and `CAPVET_NO_MESSAGE`, the next call needs `report.required` bytes at
+/// `CAPVET_TRUNCATED` and `CAPVET_NO_MESSAGE`, the next call needs `report.input_required` bytes at
 /// least. With `CAPVET_BAD_LIMITS`, `state` and `out` are unchanged. The result is the number of
 /// what [`unpack_message`] returns. The report is written whole. Allocates nothing.
 #[unsafe(no_mangle)]

@@ -24,7 +24,7 @@ pub fn frame(bytes: &[u8], limits: &CallLimits, report: &mut CallReport) -> Answ
     ensures only { (a : Answer) (r : CallReport) → TellsFrame limits.now bytes.now a r →
         (result ≡ a) × (report.new ≡ r) }
     // No more bytes are required than a frame within the limit has, and no frame has more.
-    ensures required { report.new.required ≤ frame_bound limits.now.message_words }
+    ensures input_required { report.new.input_required ≤ frame_bound limits.now.message_words }
     ensures whole { report.new.length ≤ frame_bound limits.now.message_words }
 {
     let found = extent(bytes, limits);

@@ -36,8 +36,8 @@ use cap_vet::Limits;
 /// - [`Answer::BufferTooSmall`], if the next word is there and `out` has no space for it;
 ///   `required` is then how many bytes the message has at least, as far as its table is there;
 /// - [`Answer::NoMessage`], if there are no bytes and no words are pending;
-/// - [`Answer::Truncated`], if the bytes end before the next word; `report.required` is how many
-///   bytes the next call needs at least.
+/// - [`Answer::Truncated`], if the bytes end before the next word; `report.input_required` is
+///   how many bytes the next call needs at least.
 ///
 /// Words that were unpacked stay in `out` after any other answer than the first, and
 /// `state.written` counts their bytes. The bytes after them are unchanged. The report is written
@@ -295,7 +295,7 @@ fn open_stop(rest: &[u8], given: Given, wanted: u64, stop: Stop) -> Stop
         return Stop {
             answer: Answer::NoMessage,
             report: CallReport {
-                required: 1,
+                input_required: 1,
                 ..stop.report
             },
             ..stop
@@ -303,7 +303,7 @@ fn open_stop(rest: &[u8], given: Given, wanted: u64, stop: Stop) -> Stop
     }
     Stop {
         report: CallReport {
-            required: needed(rest, given.literal),
+            input_required: needed(rest, given.literal),
             ..stop.report
         },
         ..stop

@@ -11,8 +11,8 @@ pub returns-clause-only : goal.returns-clause-only
 returns-clause-only c = λ a r h. one_frame_told c.args.limits.now c.args.bytes.now _ a _ r
     (c.extent-found.result, c.extent-found.ensures, (refl, refl)) h
 
-pub returns-clause-required : goal.returns-clause-required
-returns-clause-required c = (frame_told c.args.limits.now c.args.bytes.now c.extent-found.result c.extent-found.ensures).0
+pub returns-clause-input_required : goal.returns-clause-input_required
+returns-clause-input_required c = (frame_told c.args.limits.now c.args.bytes.now c.extent-found.result c.extent-found.ensures).0
 
 pub returns-clause-whole : goal.returns-clause-whole
 returns-clause-whole c = (frame_told c.args.limits.now c.args.bytes.now c.extent-found.result c.extent-found.ensures).1

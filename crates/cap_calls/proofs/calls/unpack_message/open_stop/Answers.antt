@@ -30,4 +30,4 @@ returns-clause-stops c = λ limit size held e.
       | else-given-eq0-via-else-given-eq0 w ↦ w.if-given-eq0.false (sym e.long ∙ ap length h)
     ])
     c.requires.0 c.requires.1 (c.requires.3 ∙ sym e.long)
-    (ap₂ (λ (x : CallReport) (k : ℕ). record x { required = k }) c.requires.2 c.needed.ensures)
+    (ap₂ (λ (x : CallReport) (k : ℕ). record x { input_required = k }) c.requires.2 c.needed.ensures)
