@@ -13,8 +13,9 @@ MANY changed messages of RPC are also sent to a server over `VettingStream`, on 
 own. Each has to be refused or accepted as the program does. No exception may come from reading pointers or from limits,
 and a client has to get the same results afterwards. Calls have the same results with vetting and without.
 
-All of it runs again with the compilers' checks of memory, with a tenth of the messages. What isn't installed is said in
-a line of its own. The last line is 'N passed, M failed', and the status is 1 if a case failed.
+All of it runs again with the checks of memory that gcc and clang have, with a tenth of the messages. valgrind counts
+the instructions of calls, with vetting and without. What isn't installed is said in a line of its own. The last line is
+'N passed, M failed', and the status is 1 if a case failed.
 """
 import os
 import random
@@ -40,6 +41,8 @@ STRICT = ("-std=c++17", "-Wall", "-Wextra", "-Wpedantic", "-Wconversion", "-Werr
 CHECKED = ("-O1", "-g", "-fsanitize=address,undefined", "-fno-sanitize-recover=all")
 CARGO = ("--offline", "--quiet")
 MANY = 5_000
+# The most instructions of a call to a server with vetting, as a part of those without.
+MOST = {"small": 1.03, "list": 1.3}
 # How many of the frames of valid calls come before a changed message.
 VALID = 9
 CALLED = """\
@@ -49,14 +52,18 @@ received 10000 rows, stored 10000
 failed: remote exception: this call always fails
 """
 PROGRAMS = ("rpc_server", "rpc_client", "vetted", "rpc")
-# What tests/readers/rpc.cpp prints of each stream. Its limits are at least the 10 words and 3 levels that are asked for.
+# What tests/readers/rpc.cpp prints of each stream that reads file descriptors. Its limits are at least those that are
+# asked for, mostly 10 words and 3 levels. A message has libcapnp's own reader if that has these limits.
 REFUSED = "  onRefused {0}\n" + 3 * "  {0}; 0 open\n"
 FAILED = "  {0}; 2 open\n" + 2 * "  {0}; 0 open\n"
-READ = "  {}; 2 open\n  0 words, 0 files, limits 10 and 3; 0 open\n  ended; 0 open\n"
+READ = "  {}; 2 open\n  0 words, 0 files, limits {}; 0 open\n  ended; 0 open\n"
 STREAMS = {
-    "null": READ.format("0 words, 2 files, limits 10 and 3"),
-    "two levels": READ.format("2 words, 2 files, limits 10 and 5"),
-    "two levels, four readings": READ.format("2 words, 2 files, limits 32 and 5"),
+    "null": READ.format("0 words, 2 files, limits 10 and 3", "10 and 3"),
+    "default limits": READ.format("0 words, 2 files, limits 8388608 and 64, own reader", "8388608 and 64, own reader"),
+    "default limits, two levels":
+        READ.format("2 words, 2 files, limits 8388608 and 5", "8388608 and 4, own reader"),
+    "two levels": READ.format("2 words, 2 files, limits 10 and 5", "10 and 3"),
+    "two levels, four readings": READ.format("2 words, 2 files, limits 32 and 5", "10 and 3"),
     "cycle": REFUSED.format("refused DepthLimit at 0:0 pointers 65"),
     "one empty segment": REFUSED.format("refused NoRoot at 0:0 pointers 0"),
     "empty segments": REFUSED.format("refused NoRoot at 0:0 pointers 0"),
@@ -64,7 +71,7 @@ STREAMS = {
     "too large": FAILED.format(
         "expected totalWords <= getOptions().traversalLimitInWords [100 <= 50]; Message is too large.  "
         "To increase the limit on the receiving end, see capnp::ReaderOptions."),
-    "511 segments": READ.format("0 words, 2 files, limits 511 and 3"),
+    "511 segments": READ.format("0 words, 2 files, limits 511 and 3", "10 and 3"),
     "512 segments": FAILED.format("expected segmentCount() < 512 [512 < 512]; Message has too many segments."),
 }
 
@@ -138,7 +145,8 @@ def attacked(name, program, count, folder):
     compare(f"{name}, frames of valid calls", True, len(frames) > VALID)
     (folder / "valid").write_bytes(b"".join(frames[:VALID]))
     same = run([program, "same"])[0].splitlines()
-    compare(f"{name}, the same results", same[0].replace("without:", "with:"), same[1])
+    compare(f"{name}, servers", ["without", "with", "around"], [line.partition(":")[0] for line in same])
+    compare(f"{name}, the same results", 1, len({line.partition(":")[2] for line in same}))
     segments = changed([Tree(message) for message in trees.messages(record)], count, 7)
     messages = [framed(it) for it in segments]
     wanted = ["not read" if len(it) > 511 else text for it, text in zip(segments, refusals(messages, folder))]
@@ -156,9 +164,36 @@ def attacked(name, program, count, folder):
 def streams(name, program):
     text, status = run([program, "streams"])
     compare(f"{name}, status", 0, status)
-    for part, wanted in STREAMS.items():
-        got = re.search(rf"^{part}\n((?:  .*\n)*)", text, re.M)
-        compare(f"{name}, {part}", wanted + "  the same buffer: 1\n  left open: 0\n", got and got[1])
+    for part, read in STREAMS.items():
+        not_read = read.replace("2 files", "0 files").replace("2 open", "0 open")
+        kinds = {"files read": read, "files not read": not_read, "around": read.replace(", own reader", "")}
+        for kind, wanted in kinds.items():
+            got = re.search(rf"^{part}, {kind}\n((?:  .*\n)*)", text, re.M)
+            compare(f"{name}, {part}, {kind}", wanted + "  the same buffer: 1\n  left open: 0\n", got and got[1])
+
+
+def instructions(command):
+    """How many instructions a command takes, by valgrind."""
+    text, status = run(["valgrind", "--tool=callgrind", "--callgrind-out-file=/dev/null", *command])
+    compare(f"{command[1]} under valgrind", 0, status)
+    found = re.search(r"Collected : (\d+)", text)
+    return int(found[1]) if found else 0
+
+
+def cost(program):
+    """A call to a server with vetting takes few instructions more than to one without."""
+    if missing("the cost of vetting in RPC", "valgrind"):
+        return
+    for kind, few, more in (("small", 300, 800), ("list", 2, 5)):
+        costs = {}
+        for server in ("without", "with", "around"):
+            counts = [instructions([program, "calls", server, kind, str(calls)]) for calls in (few, more)]
+            costs[server] = (counts[1] - counts[0]) / (more - few)
+        ratios = {server: costs[server] / max(costs["without"], 1) for server in ("with", "around")}
+        most = MOST[kind]
+        compare(f"a {kind} call takes at most {most} of the instructions", True, 1 <= ratios["with"] <= most)
+        print(f"rpc: a {kind} call takes {ratios['with']:.4f} of the instructions with vetting, "
+              f"and {ratios['around']:.4f} around another stream")
 
 
 def example(folder):
@@ -207,6 +242,19 @@ target_link_libraries(rpc_client capvet::kj)
     compare("cmake --build", (0, ""), (built[1], built[0] if built[1] else ""))
 
 
+def has_checks(compiler, folder):
+    """Whether a compiler is there, with its libraries for checks of memory."""
+    what = f"the checks of memory of {compiler}"
+    if missing(what, compiler):
+        return False
+    empty = folder / "empty.cpp"
+    empty.write_text("int main() {}\n")
+    if run([compiler, *CHECKED, empty, "-o", folder / "empty"])[1] == 0:
+        return True
+    print(f"not tested, without the libraries of {compiler} for them: {what}")
+    return False
+
+
 def from_cplusplus(folder, prefix, environment, count):
     if any(missing("messages before libcapnp", tool) for tool in ("c++", "pkg-config", "capnp")):
         return
@@ -232,14 +280,21 @@ def from_cplusplus(folder, prefix, environment, count):
         if not missing(f"{name} by clang++", "clang++"):
             command = ["clang++", *STRICT, "-fsyntax-only", "-I", folder, *link[:1], source]
             compare(f"clang++ {name}", ("", 0), run(command))
-    for name in ("vetted", "rpc"):
-        files = [sources[name]] if name == "vetted" else [sources[name], made]
-        command = ["c++", "-std=c++17", *CHECKED, "-I", folder, *files, *link, "-o", folder / f"{name}-checked"]
-        compare(f"c++ {name}.cpp, checked", ("", 0), run(command))
-    for suffix, many in (("", count), ("-checked", count // 10)):
+    suffixes = {"": count}
+    for compiler in ("c++", "clang++"):
+        suffix = f"-checked-{compiler}"
+        if not has_checks(compiler, folder):
+            continue
+        suffixes[suffix] = count // 10
+        for name in ("vetted", "rpc"):
+            files = [sources[name]] if name == "vetted" else [sources[name], made]
+            command = [compiler, "-std=c++17", *CHECKED, "-I", folder, *files, *link, "-o", folder / f"{name}{suffix}"]
+            compare(f"{compiler} {name}.cpp, checked", ("", 0), run(command))
+    for suffix, many in suffixes.items():
         vetted(f"vetted{suffix}", [folder / f"vetted{suffix}"], many, folder)
         streams(f"rpc{suffix} streams", folder / f"rpc{suffix}")
         attacked(f"rpc{suffix}", folder / f"rpc{suffix}", many, folder)
+    cost(folder / "rpc")
     example(folder)
     by_cmake(folder, prefix)
 

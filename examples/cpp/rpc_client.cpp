@@ -49,8 +49,7 @@ int main(int count, char **words) try {
   auto io = kj::setupAsyncIo();
   auto address = io.provider->getNetwork().parseAddress(words[1]).wait(io.waitScope);
   auto stream = address->connect().wait(io.waitScope);
-  capnp::AsyncIoMessageStream messages(*stream);
-  capvet::VettingStream vetting(messages);
+  capvet::VettingStream vetting(*stream);
   capnp::TwoPartyVatNetwork network(vetting, capnp::rpc::twoparty::Side::CLIENT);
   auto rpc = capnp::makeRpcClient(network);
   capnp::MallocMessageBuilder id;

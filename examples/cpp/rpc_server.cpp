@@ -25,14 +25,13 @@ void printRefusal(const capvet::Refusal &refusal) {
   std::fflush(stdout);
 }
 
-// A connection. The streams and the network outlive what uses them.
+// A connection. The stream and the network outlive what uses them.
 struct Connection {
   Connection(kj::Own<kj::AsyncIoStream> accepted, capnp::Capability::Client service)
       : stream(kj::mv(accepted)), rpc(capnp::makeRpcServer(network, kj::mv(service))) {}
 
   kj::Own<kj::AsyncIoStream> stream;
-  capnp::AsyncIoMessageStream messages{*stream};
-  capvet::VettingStream vetting{messages, options, printRefusal};
+  capvet::VettingStream vetting{*stream, options, printRefusal};
   capnp::TwoPartyVatNetwork network{vetting, capnp::rpc::twoparty::Side::SERVER};
   capnp::RpcSystem<capnp::rpc::twoparty::VatId> rpc;
 };

@@ -7,8 +7,7 @@
  *
  * An RPC server:
  *
- *     capnp::AsyncIoMessageStream messages(*connection);
- *     capvet::VettingStream vetting(messages);
+ *     capvet::VettingStream vetting(*connection);
  *     capnp::TwoPartyVatNetwork network(vetting, capnp::rpc::twoparty::Side::SERVER);
  *
  * By default a message has to be whole, strict and unamplified, as for capvet_vet. libcapnp then gets limits under
@@ -151,14 +150,8 @@ class Segments {
   explicit Segments(capnp::MessageReader &reader) : first(segmentOf(reader, 0)) {
     // (libcapnp gives none of a message whose segments are all empty, and it has no root like this one)
     if (first.bytes == nullptr) return;
-    auto next = segmentOf(reader, 1);
-    if (next.bytes == nullptr) return;
-    all.add(first);
-    // (one more than are ever accepted is enough to be refused)
-    while (next.bytes != nullptr && all.size() <= CAPVET_MAX_SEGMENTS) {
-      all.add(next);
-      next = segmentOf(reader, static_cast<unsigned int>(all.size()));
-    }
+    const auto second = segmentOf(reader, 1);
+    if (second.bytes != nullptr) all = allOf(reader, first, second);
   }
 
   capvet_answer vet(const capvet_limits &limits, capvet_report &report) const {
@@ -177,9 +170,22 @@ class Segments {
     return {bytes.begin(), bytes.size()};
   }
 
+  KJ_NOINLINE static kj::Array<capvet_segment> allOf(capnp::MessageReader &reader, capvet_segment first,
+                                                     capvet_segment next) {
+    kj::Vector<capvet_segment> all;
+    all.add(first);
+    // (one more than are ever accepted is enough to be refused)
+    while (next.bytes != nullptr && all.size() <= CAPVET_MAX_SEGMENTS) {
+      all.add(next);
+      next = segmentOf(reader, static_cast<unsigned int>(all.size()));
+    }
+    return all.releaseAsArray();
+  }
+
   static constexpr capvet_segment none = {nullptr, 0};
   capvet_segment first;
-  kj::Vector<capvet_segment> all;
+  // (empty for a message of one segment)
+  kj::Array<capvet_segment> all;
 };
 
 /* Reads a vetted message that another reader holds. */
@@ -201,12 +207,13 @@ class VettedMessageReader final : public capnp::MessageReader {
  * and this read and all later ones throw `exceptionOf` the refusal. The RPC system then sends the exception's
  * description to the peer, and closes the connection.
  *
- * The inner stream reads the frame. It holds at most `limits.message_words` words, and refuses by exceptions of its own
- * what is larger, what is cut, and 512 or more segments. These end the stream too, but `onRefused` isn't called.
+ * libcapnp reads the frame. It holds at most `limits.message_words` words, and refuses by exceptions of its own what is
+ * larger, what is cut, and 512 or more segments. These end the stream too, but `onRefused` isn't called.
  * CAPVET_ALLOW_TRAILING has no effect.
  *
  * libcapnp's limits for a message are at least those that are passed to tryReadMessage (`receiveOptions` of
- * TwoPartyVatNetwork), and are raised to what the message needs. */
+ * TwoPartyVatNetwork), and are raised to what the message needs. A message takes least time if its limits are those of
+ * the frame: if `limits.message_words` is the traversal limit that is passed, as by default. */
 class VettingStream final : public capnp::MessageStream {
  public:
   using OnRefused = kj::Function<void(const Refusal &)>;
@@ -214,64 +221,111 @@ class VettingStream final : public capnp::MessageStream {
   using capnp::MessageStream::writeMessage;
   using capnp::MessageStream::writeMessages;
 
-  /* The inner stream has to outlive this, and this each promise of a read. Pass a new function or a moved one:
-   * kj::Function keeps one that has a name by reference. */
-  explicit VettingStream(capnp::MessageStream &inner, const Options &options = {},
-                         OnRefused onRefused = [](const Refusal &) {})
-      : inner(inner), options(options), onRefused(kj::mv(onRefused)) {}
+  /* The messages of a connection, as capnp::AsyncIoMessageStream has them. The connection has to outlive this, and this
+   * each promise of a read. Pass a new function or a moved one: kj::Function keeps one that has a name by reference. */
+  explicit VettingStream(kj::AsyncIoStream &connection, const Options &options = {}, OnRefused onRefused = ignore)
+      : inner(kj::heap<capnp::AsyncIoMessageStream>(connection)),
+        bytes(connection),
+        isKeepingReaders(true),
+        options(options),
+        onRefused(kj::mv(onRefused)) {}
+
+  /* The same with file descriptors, as capnp::AsyncCapabilityMessageStream has them. */
+  explicit VettingStream(kj::AsyncCapabilityStream &connection, const Options &options = {},
+                         OnRefused onRefused = ignore)
+      : inner(kj::heap<capnp::AsyncCapabilityMessageStream>(connection)),
+        isKeepingReaders(true),
+        options(options),
+        onRefused(kj::mv(onRefused)) {}
+
+  /* The messages of any other stream, which has to outlive this. It takes longer: each message gets a reader of its
+   * own, which asks the stream's reader for each segment once. */
+  explicit VettingStream(capnp::MessageStream &inner, const Options &options = {}, OnRefused onRefused = ignore)
+      : inner(&inner, kj::NullDisposer::instance),
+        isKeepingReaders(false),
+        options(options),
+        onRefused(kj::mv(onRefused)) {}
 
   kj::Promise<kj::Maybe<capnp::MessageReaderAndFds>> tryReadMessage(kj::ArrayPtr<kj::AutoCloseFd> fdSpace,
                                                                     capnp::ReaderOptions atLeast,
                                                                     kj::ArrayPtr<capnp::word> scratchSpace) override {
     KJ_IF_MAYBE(exception, ended) { return kj::cp(*exception); }
-    // (this limit of the inner stream bounds what it holds)
+    // (this limit of the reader bounds what it holds)
     auto held = atLeast;
     held.traversalLimitInWords = options.limits.message_words;
-    using Read = kj::Maybe<capnp::MessageReaderAndFds>;
-    return inner.tryReadMessage(fdSpace, held, scratchSpace)
-        .then(
-            [this, atLeast](Read &&read) {
-              KJ_IF_MAYBE(message, read) { vet(*message, atLeast); }
-              return kj::mv(read);
-            },
-            [this](kj::Exception &&exception) -> Read { fail(kj::mv(exception)); });
+    auto onFailed = [this](kj::Exception &&exception) -> Read { fail(kj::mv(exception)); };
+    KJ_IF_MAYBE(connection, bytes) {
+      // (the inner stream would add a promise of its own, which is dear for a small message)
+      auto onRead = [this, atLeast](kj::Maybe<kj::Own<capnp::MessageReader>> &&read) -> Read {
+        KJ_IF_MAYBE(reader, read) {
+          vet(*reader, nullptr, atLeast);
+          return capnp::MessageReaderAndFds{kj::mv(*reader), nullptr};
+        }
+        return nullptr;
+      };
+      return capnp::tryReadMessage(*connection, held, scratchSpace).then(kj::mv(onRead), kj::mv(onFailed));
+    }
+    auto onRead = [this, atLeast](Read &&read) -> Read {
+      KJ_IF_MAYBE(message, read) { vet(message->reader, message->fds, atLeast); }
+      return kj::mv(read);
+    };
+    return inner->tryReadMessage(fdSpace, held, scratchSpace).then(kj::mv(onRead), kj::mv(onFailed));
   }
 
   kj::Promise<void> writeMessage(kj::ArrayPtr<const int> fds,
                                  kj::ArrayPtr<const kj::ArrayPtr<const capnp::word>> segments) override {
-    return inner.writeMessage(fds, segments);
+    return inner->writeMessage(fds, segments);
   }
 
   kj::Promise<void> writeMessages(kj::ArrayPtr<kj::ArrayPtr<const kj::ArrayPtr<const capnp::word>>> messages) override {
-    return inner.writeMessages(messages);
+    return inner->writeMessages(messages);
   }
 
-  kj::Maybe<int> getSendBufferSize() override { return inner.getSendBufferSize(); }
-  kj::Promise<void> end() override { return inner.end(); }
+  kj::Maybe<int> getSendBufferSize() override { return inner->getSendBufferSize(); }
+  kj::Promise<void> end() override { return inner->end(); }
 
  private:
-  void vet(capnp::MessageReaderAndFds &message, capnp::ReaderOptions atLeast) {
-    Segments segments(*message.reader);
+  using Read = kj::Maybe<capnp::MessageReaderAndFds>;
+
+  static void ignore(const Refusal &) {}
+
+  // Vets a message. Its reader is replaced by one with the limits that it needs, unless it has these.
+  void vet(kj::Own<capnp::MessageReader> &reader, kj::ArrayPtr<kj::AutoCloseFd> fds, capnp::ReaderOptions atLeast) {
+    Segments segments(*reader);
     Refusal refusal;
     refusal.answer = segments.vet(options.limits, refusal.report);
-    if (refusal.answer != CAPVET_OK) refuse(message, refusal);
+    if (refusal.answer != CAPVET_OK) refuse(fds, refusal);
     const uint64_t words = refusal.report.length / sizeof(capnp::word);
-    auto limits = readerOptions(refusal.report, words, options.readings, atLeast);
-    message.reader = kj::heap<VettedMessageReader>(kj::mv(message.reader), kj::mv(segments), limits);
+    const auto needed = readerOptions(refusal.report, words, options.readings, atLeast);
+    if (!isKeepingReaders || !areEqual(needed, reader->getOptions())) replace(reader, kj::mv(segments), needed);
   }
 
-  [[noreturn]] void refuse(capnp::MessageReaderAndFds &message, const Refusal &refusal) {
-    for (auto &fd : message.fds) fd = nullptr;
+  static bool areEqual(const capnp::ReaderOptions &left, const capnp::ReaderOptions &right) {
+    return left.traversalLimitInWords == right.traversalLimitInWords && left.nestingLimit == right.nestingLimit;
+  }
+
+  // (these are apart, so that what a small message takes is close together)
+  KJ_NOINLINE static void replace(kj::Own<capnp::MessageReader> &reader, Segments &&segments,
+                                  capnp::ReaderOptions needed) {
+    reader = kj::heap<VettedMessageReader>(kj::mv(reader), kj::mv(segments), needed);
+  }
+
+  [[noreturn]] KJ_NOINLINE void refuse(kj::ArrayPtr<kj::AutoCloseFd> fds, const Refusal &refusal) {
+    for (auto &fd : fds) fd = nullptr;
     onRefused(refusal);
     fail(exceptionOf(refusal));
   }
 
-  [[noreturn]] void fail(kj::Exception &&exception) {
+  [[noreturn]] KJ_NOINLINE void fail(kj::Exception &&exception) {
     ended = kj::cp(exception);
     kj::throwFatalException(kj::mv(exception));
   }
 
-  capnp::MessageStream &inner;
+  kj::Own<capnp::MessageStream> inner;
+  // (where the messages come from, if it has no file descriptors)
+  kj::Maybe<kj::AsyncInputStream &> bytes;
+  // (whether a reader of the inner stream gives a segment more than once: libcapnp's own do, and others needn't)
+  bool isKeepingReaders;
   Options options;
   OnRefused onRefused;
   kj::Maybe<kj::Exception> ended;

@@ -1,15 +1,20 @@
 // Runs an RPC server over capvet::VettingStream, and one without it, on this machine alone.
 //
-//     rpc same                 the results of calls by either server, over loopback
-//     rpc record               the frames that a client sends for these calls, to standard output
-//     rpc attack FILE VALID    sends each message of FILE to the server with vetting, over loopback
-//     rpc streams              file descriptors, refusals and limits of a stream, in process
-//     rpc cost CALLS           the time of calls to either server, over a pipe in process
+//     rpc same                      the results of calls by each server, over loopback
+//     rpc record                    the frames that a client sends for these calls, to standard output
+//     rpc attack FILE VALID         sends each message of FILE to a server with vetting, over loopback
+//     rpc streams                   file descriptors, refusals and limits of a stream, in process
+//     rpc cost CALLS                the time of calls to each server, over a pipe in process
+//     rpc calls SERVER KIND CALLS   these calls alone, so that another program can count their instructions
+//
+// SERVER is 'without', 'with' or 'around': a VettingStream of the connection, or one around another stream of messages.
+// KIND is 'small' for a call with two numbers, or 'list' for one with 20,000 structs that each have a text.
 //
 // FILE has for each message its length in bytes (4 bytes, the lowest first), and then its frame. Each is sent on a
-// connection of its own, every third one after the frames of VALID. The line of a message is the text of its refusal,
-// or 'accepted', or 'not read' where libcapnp's own stream refuses the frame. The last lines count exceptions by the
-// file of libcapnp that they come from, and then the results of calls follow, as for `same`.
+// connection of its own, every third one after the frames of VALID. The servers 'with' and 'around' take turns. The
+// line of a message is the text of its refusal, or 'accepted', or 'not read' where libcapnp's own stream refuses the
+// frame. The last lines count exceptions by the file of libcapnp that they come from. Then the results of calls follow,
+// as for `same`.
 //
 // An exception from reading pointers or from limits is a line 'threw'. Those about what a schema expects are counted.
 #include <capnp/rpc-twoparty.h>
@@ -20,10 +25,10 @@
 #include <stdio.h>
 #include <string.h>
 #include <sys/socket.h>
+#include <time.h>
 #include <unistd.h>
 
 #include <algorithm>
-#include <chrono>
 #include <map>
 #include <string>
 #include <vector>
@@ -67,26 +72,39 @@ class Watch final : public kj::ExceptionCallback {
   }
 };
 
-// A connection to the server, with vetting or without.
+// Whether a stream vets: not at all, as one of a connection, or as one around another stream.
+enum class Vetting { WITHOUT, WITH, AROUND };
+const char *const NAMES[] = {"without", "with", "around"};
+const Vetting ALL[] = {Vetting::WITHOUT, Vetting::WITH, Vetting::AROUND};
+
+// A connection to the server.
 struct Connection {
-  Connection(kj::Own<kj::AsyncIoStream> accepted, capnp::Capability::Client service, bool is_vetting,
+  Connection(kj::Own<kj::AsyncIoStream> accepted, capnp::Capability::Client service, Vetting vetting,
              capvet::VettingStream::OnRefused onRefused)
       : stream(kj::mv(accepted)),
-        vetting(messages, capvet::Options(), kj::mv(onRefused)),
-        network(is_vetting ? static_cast<capnp::MessageStream &>(vetting) : messages, Side::SERVER),
+        messages(streamOf(vetting, kj::mv(onRefused))),
+        network(*messages, Side::SERVER),
         rpc(capnp::makeRpcServer(network, kj::mv(service))) {}
 
+  kj::Own<capnp::MessageStream> streamOf(Vetting vetting, capvet::VettingStream::OnRefused onRefused) {
+    const capvet::Options options;
+    if (vetting == Vetting::WITH) return kj::heap<capvet::VettingStream>(*stream, options, kj::mv(onRefused));
+    auto plain = kj::heap<capnp::AsyncIoMessageStream>(*stream);
+    if (vetting == Vetting::WITHOUT) return plain;
+    auto around = kj::heap<capvet::VettingStream>(*plain, options, kj::mv(onRefused));
+    return around.attach(kj::mv(plain));
+  }
+
   kj::Own<kj::AsyncIoStream> stream;
-  capnp::AsyncIoMessageStream messages{*stream};
-  capvet::VettingStream vetting;
+  kj::Own<capnp::MessageStream> messages;
   capnp::TwoPartyVatNetwork network;
   capnp::RpcSystem<VatId> rpc;
 };
 
 class Server final : private kj::TaskSet::ErrorHandler {
  public:
-  Server(kj::AsyncIoProvider &provider, kj::WaitScope &scope, bool is_vetting)
-      : is_vetting(is_vetting),
+  Server(kj::AsyncIoProvider &provider, kj::WaitScope &scope, Vetting vetting)
+      : vetting(vetting),
         listener(provider.getNetwork().parseAddress("127.0.0.1").wait(scope)->listen()),
         address(provider.getNetwork().parseAddress(kj::str("127.0.0.1:", listener->getPort())).wait(scope)),
         tasks(*this) {
@@ -95,6 +113,8 @@ class Server final : private kj::TaskSet::ErrorHandler {
 
   kj::Own<kj::AsyncIoStream> connect(kj::WaitScope &scope) { return address->connect().wait(scope); }
 
+  // How the connections after this are vetted.
+  Vetting vetting;
   std::string refused;
 
  private:
@@ -102,7 +122,7 @@ class Server final : private kj::TaskSet::ErrorHandler {
     return listener->accept().then([this](kj::Own<kj::AsyncIoStream> &&stream) {
       // (moved, since kj::Function keeps what has a name by reference)
       auto onRefused = [this](const capvet::Refusal &refusal) { refused = kj::str(refusal).cStr(); };
-      auto connection = kj::heap<Connection>(kj::mv(stream), service, is_vetting, kj::mv(onRefused));
+      auto connection = kj::heap<Connection>(kj::mv(stream), service, vetting, kj::mv(onRefused));
       auto ended = connection->network.onDisconnect();
       tasks.add(ended.attach(kj::mv(connection)));
       return serve();
@@ -110,7 +130,6 @@ class Server final : private kj::TaskSet::ErrorHandler {
   }
   void taskFailed(kj::Exception &&exception) override { printf("task: %s\n", exception.getDescription().cStr()); }
 
-  bool is_vetting;
   kj::Own<kj::ConnectionReceiver> listener;
   kj::Own<kj::NetworkAddress> address;
   capnp::Capability::Client service = kj::heap<CalculatorServer>();
@@ -173,17 +192,19 @@ std::string resultsOf(Calculator::Client calculator, uint32_t calls, std::vector
 
 const std::vector<uint32_t> LISTS = {0, 1, 1000, 20'000};
 
-void printResults(Server &server, const char *name, kj::WaitScope &scope) {
+void printResults(Server &server, kj::WaitScope &scope) {
   auto stream = server.connect(scope);
   capnp::AsyncIoMessageStream messages(*stream);
   Client client(messages);
+  const char *name = NAMES[static_cast<int>(server.vetting)];
   printf("%s: %s\n", name, resultsOf(client.calculator, 300, LISTS, scope).c_str());
 }
 
 int same(kj::AsyncIoContext &io) {
-  Server plain(*io.provider, io.waitScope, false), vetting(*io.provider, io.waitScope, true);
-  printResults(plain, "without", io.waitScope);
-  printResults(vetting, "with", io.waitScope);
+  for (auto vetting : ALL) {
+    Server server(*io.provider, io.waitScope, vetting);
+    printResults(server, io.waitScope);
+  }
   return 0;
 }
 
@@ -215,7 +236,7 @@ class Recorder final : public capnp::MessageStream {
 };
 
 int record(kj::AsyncIoContext &io) {
-  Server server(*io.provider, io.waitScope, true);
+  Server server(*io.provider, io.waitScope, Vetting::WITH);
   auto stream = server.connect(io.waitScope);
   capnp::AsyncIoMessageStream messages(*stream);
   Recorder recorder(messages);
@@ -244,7 +265,7 @@ void send(Server &server, const Bytes &bytes, kj::AsyncIoContext &io) {
 }
 
 int attack(kj::AsyncIoContext &io, const char *path, const char *validPath) {
-  Server server(*io.provider, io.waitScope, true);
+  Server server(*io.provider, io.waitScope, Vetting::WITH);
   const Bytes all = contentOf(path), valid = contentOf(validPath);
   Watch watch;
   unsigned number = 0;
@@ -256,13 +277,15 @@ int attack(kj::AsyncIoContext &io, const char *path, const char *validPath) {
     bytes.insert(bytes.end(), &all[at + 4], &all[at + 4] + length);
     at += 4 + length;
     server.refused.clear();
+    server.vetting = number % 2 == 0 ? Vetting::WITH : Vetting::AROUND;
     const auto unread = watch.counts["serialize-async.c++"];
     send(server, bytes, io);
     const char *otherwise = watch.counts["serialize-async.c++"] > unread ? "not read" : "accepted";
     puts(server.refused.empty() ? otherwise : server.refused.c_str());
   }
   for (auto &[file, count] : watch.counts) printf("exceptions %s: %u\n", file.c_str(), count);
-  printResults(server, "with", io.waitScope);
+  server.vetting = Vetting::WITH;
+  printResults(server, io.waitScope);
   return 0;
 }
 
@@ -282,7 +305,8 @@ unsigned openFiles() {
   return count;
 }
 
-// A read of a stream: what its root has, and how many file descriptors came with it. Otherwise the exception.
+// A read of a stream: the words of its root, the file descriptors that came with it, its limits, and whether the reader
+// is libcapnp's own. Otherwise the exception.
 std::string read(capnp::MessageStream &stream, kj::ArrayPtr<kj::AutoCloseFd> fds, capnp::ReaderOptions options,
                  kj::WaitScope &scope) {
   std::string text;
@@ -294,43 +318,59 @@ std::string read(capnp::MessageStream &stream, kj::ArrayPtr<kj::AutoCloseFd> fds
       auto limits = message->reader->getOptions();
       text = std::to_string(root.wordCount) + " words, " + std::to_string(message->fds.size()) + " files, limits " +
              std::to_string(limits.traversalLimitInWords) + " and " + std::to_string(limits.nestingLimit);
+      const bool is_own = dynamic_cast<capvet::VettedMessageReader *>(message->reader.get()) == nullptr;
+      text += is_own ? ", own reader" : "";
     }
   });
   KJ_IF_MAYBE(exception, failed) { text = exception->getDescription().cStr(); }
   return text;
 }
 
-// Writes a message with two file descriptors to a pipe, and reads it by a vetting stream.
-void readOne(const char *name, kj::ArrayPtr<const kj::ArrayPtr<const capnp::word>> segments, capvet::Options options,
-             kj::AsyncIoContext &io) {
-  const auto before = openFiles();
-  {
-    auto pipe = io.provider->newCapabilityPipe();
-    capnp::AsyncCapabilityMessageStream in(*pipe.ends[0]), out(*pipe.ends[1]);
-    auto onRefused = [](auto &refusal) { printf("  onRefused %s\n", kj::str(refusal).cStr()); };
-    capvet::VettingStream vetting(in, options, kj::mv(onRefused));
-    const int files[] = {0, 1};
-    // (written through, in one batch with a message after it)
-    capvet::VettingStream writing(out);
-    const auto ok = wordsOf({0});
-    const kj::ArrayPtr<const capnp::word> after[] = {ok};
-    writing.writeMessage(files, segments).wait(io.waitScope);
-    kj::ArrayPtr<const kj::ArrayPtr<const capnp::word>> batch[] = {after};
-    writing.writeMessages(batch).wait(io.waitScope);
-    writing.end().wait(io.waitScope);
-    kj::AutoCloseFd space[4];
-    printf("%s\n", name);
-    for (int reading = 0; reading < 3; reading++) {
-      const auto got = read(vetting, space, {10, 3}, io.waitScope);
-      unsigned open = 0;
-      for (auto &fd : space) open += fd != nullptr;
-      printf("  %s; %u open\n", got.c_str(), open);
-      for (auto &fd : space) fd = nullptr;
-    }
-    const auto size = vetting.getSendBufferSize().orDefault(-1);
-    printf("  the same buffer: %d\n", size == in.getSendBufferSize().orDefault(-1));
+// Streams over a pipe that carries file descriptors: they are read, or they aren't, or another stream reads them.
+enum class Files { READ, NOT_READ, AROUND };
+const Files KINDS[] = {Files::READ, Files::NOT_READ, Files::AROUND};
+const char *const KIND_NAMES[] = {"files read", "files not read", "around"};
+
+// Writes a message with two file descriptors to a pipe, and reads it by a vetting stream of that kind.
+void readBy(Files kind, kj::ArrayPtr<const kj::ArrayPtr<const capnp::word>> segments, capvet::Options options,
+            capnp::ReaderOptions atLeast, kj::AsyncIoContext &io) {
+  auto pipe = io.provider->newCapabilityPipe();
+  auto &end = *pipe.ends[0];
+  capnp::AsyncCapabilityMessageStream in(end), out(*pipe.ends[1]);
+  auto onRefused = [](auto &refusal) { printf("  onRefused %s\n", kj::str(refusal).cStr()); };
+  kj::AsyncIoStream &bytes = end;
+  auto vetting = kind == Files::READ       ? kj::heap<capvet::VettingStream>(end, options, kj::mv(onRefused))
+                 : kind == Files::NOT_READ ? kj::heap<capvet::VettingStream>(bytes, options, kj::mv(onRefused))
+                                           : kj::heap<capvet::VettingStream>(in, options, kj::mv(onRefused));
+  const int files[] = {0, 1};
+  // (written through, in one batch with a message after it)
+  capvet::VettingStream writing(out);
+  const auto ok = wordsOf({0});
+  const kj::ArrayPtr<const capnp::word> after[] = {ok};
+  writing.writeMessage(files, segments).wait(io.waitScope);
+  kj::ArrayPtr<const kj::ArrayPtr<const capnp::word>> batch[] = {after};
+  writing.writeMessages(batch).wait(io.waitScope);
+  writing.end().wait(io.waitScope);
+  kj::AutoCloseFd space[4];
+  for (int reading = 0; reading < 3; reading++) {
+    const auto got = read(*vetting, space, atLeast, io.waitScope);
+    unsigned open = 0;
+    for (auto &fd : space) open += fd != nullptr;
+    printf("  %s; %u open\n", got.c_str(), open);
+    for (auto &fd : space) fd = nullptr;
   }
-  printf("  left open: %d\n", static_cast<int>(openFiles() - before));
+  const auto size = vetting->getSendBufferSize().orDefault(-1);
+  printf("  the same buffer: %d\n", size == in.getSendBufferSize().orDefault(-1));
+}
+
+void readOne(const char *name, kj::ArrayPtr<const kj::ArrayPtr<const capnp::word>> segments, capvet::Options options,
+             kj::AsyncIoContext &io, capnp::ReaderOptions atLeast = {10, 3}) {
+  for (auto kind : KINDS) {
+    printf("%s, %s\n", name, KIND_NAMES[static_cast<int>(kind)]);
+    const auto before = openFiles();
+    readBy(kind, segments, options, atLeast, io);
+    printf("  left open: %d\n", static_cast<int>(openFiles() - before));
+  }
 }
 
 int streams(kj::AsyncIoContext &io) {
@@ -345,6 +385,8 @@ int streams(kj::AsyncIoContext &io) {
   four.readings = 4;
   small.limits.message_words = 50;
   readOne("null", of({null}), options, io);
+  readOne("default limits", of({null}), options, io, capnp::ReaderOptions());
+  readOne("default limits, two levels", of({deep, empty}), options, io, {options.limits.message_words, 4});
   readOne("two levels", of({deep, empty}), options, io);
   readOne("two levels, four readings", of({deep, empty}), four, io);
   readOne("cycle", of({cycle}), options, io);
@@ -359,9 +401,9 @@ int streams(kj::AsyncIoContext &io) {
 
 // A client and a server in one process, with a pipe between them.
 struct Pair {
-  explicit Pair(bool is_vetting)
+  explicit Pair(Vetting vetting)
       : pipe(kj::newTwoWayPipe()),
-        server(kj::mv(pipe.ends[0]), kj::heap<CalculatorServer>(), is_vetting, [](auto &) {}),
+        server(kj::mv(pipe.ends[0]), kj::heap<CalculatorServer>(), vetting, [](auto &) {}),
         messages(*pipe.ends[1]),
         client(messages) {}
 
@@ -371,12 +413,19 @@ struct Pair {
   Client client;
 };
 
-// The nanoseconds of a number of calls.
+// The nanoseconds that the process has run for. Those of other processes don't count.
+double processTime() {
+  timespec time;
+  KJ_SYSCALL(clock_gettime(CLOCK_PROCESS_CPUTIME_ID, &time));
+  return 1e9 * static_cast<double>(time.tv_sec) + static_cast<double>(time.tv_nsec);
+}
+
+// The nanoseconds of each of a number of calls.
 template <typename Call>
 double timeOf(unsigned calls, Call call) {
-  const auto begin = std::chrono::steady_clock::now();
+  const double begin = processTime();
   for (unsigned at = 0; at < calls; at++) call();
-  return std::chrono::duration<double, std::nano>(std::chrono::steady_clock::now() - begin).count() / calls;
+  return (processTime() - begin) / calls;
 }
 
 double median(std::vector<double> numbers) {
@@ -384,17 +433,46 @@ double median(std::vector<double> numbers) {
   return numbers[numbers.size() / 2];
 }
 
-// Alternates blocks of calls to both servers, and prints the median of the ratios of two blocks.
-template <typename Call>
-void compare(const char *name, unsigned rounds, unsigned calls, Call call) {
-  Pair plain(false), vetting(true);
+// The calls of each kind.
+class Calls {
+ public:
+  explicit Calls(kj::WaitScope &scope) : scope(scope) {
+    for (uint32_t at = 0; at < rows.size(); at++) {
+      rows[at].setId(at);
+      rows[at].setName(kj::str("row ", at));
+    }
+  }
+
+  void call(Calculator::Client &calculator, bool is_small) {
+    if (is_small) {
+      auto add = calculator.addRequest();
+      add.setA(1);
+      add.setB(2);
+      KJ_ASSERT(add.send().wait(scope).getSum() == 3);
+    } else {
+      auto store = calculator.storeRequest();
+      store.setRows(rows);
+      KJ_ASSERT(store.send().wait(scope).getCount() == rows.size());
+    }
+  }
+
+ private:
+  kj::WaitScope &scope;
+  capnp::MallocMessageBuilder message;
+  capnp::List<Row>::Builder rows = message.initRoot<capnp::AnyPointer>().initAs<capnp::List<Row>>(20'000);
+};
+
+// Alternates blocks of calls to the server without vetting and to another, and prints the median of the ratios.
+void compare(Vetting vetting, bool is_small, unsigned rounds, unsigned calls, kj::AsyncIoContext &io) {
+  Calls all(io.waitScope);
+  Pair plain(Vetting::WITHOUT), vetted(vetting);
   std::vector<double> ratios, without, with;
   for (unsigned round = 0; round <= rounds; round++) {
     const bool is_first = round % 2;
     double times[2];
     for (bool is_vetting : {is_first, !is_first}) {
-      auto &pair = is_vetting ? vetting : plain;
-      times[is_vetting] = timeOf(calls, [&]() { call(pair.client.calculator); });
+      auto &pair = is_vetting ? vetted : plain;
+      times[is_vetting] = timeOf(calls, [&]() { all.call(pair.client.calculator, is_small); });
     }
     // (the first round warms up)
     if (round == 0) continue;
@@ -402,28 +480,24 @@ void compare(const char *name, unsigned rounds, unsigned calls, Call call) {
     without.push_back(times[0]);
     with.push_back(times[1]);
   }
-  printf("%s: ratio %.4f, %.0f ns without, %.0f ns with\n", name, median(ratios), median(without), median(with));
+  printf("%s, %s: ratio %.4f, %.0f ns without, %.0f ns with\n", is_small ? "small" : "list",
+         NAMES[static_cast<int>(vetting)], median(ratios), median(without), median(with));
 }
 
 int cost(kj::AsyncIoContext &io, unsigned calls) {
-  capnp::MallocMessageBuilder message;
-  auto rows = message.initRoot<capnp::AnyPointer>().initAs<capnp::List<Row>>(20'000);
-  for (uint32_t at = 0; at < rows.size(); at++) {
-    rows[at].setId(at);
-    rows[at].setName(kj::str("row ", at));
+  for (auto vetting : {Vetting::WITH, Vetting::AROUND}) {
+    compare(vetting, true, 200, std::max(1u, calls / 200), io);
+    compare(vetting, false, std::max(1u, calls / 1000), 1, io);
   }
-  const auto list = rows.asReader();
-  compare("small", 200, std::max(1u, calls / 200), [&](Calculator::Client &calculator) {
-    auto add = calculator.addRequest();
-    add.setA(1);
-    add.setB(2);
-    KJ_ASSERT(add.send().wait(io.waitScope).getSum() == 3);
-  });
-  compare("list", std::max(1u, calls / 1000), 1, [&](Calculator::Client &calculator) {
-    auto store = calculator.storeRequest();
-    store.setRows(list);
-    KJ_ASSERT(store.send().wait(io.waitScope).getCount() == 20'000);
-  });
+  return 0;
+}
+
+int callsAlone(kj::AsyncIoContext &io, const std::string &server, const std::string &kind, unsigned calls) {
+  const auto vetting = std::find(std::begin(NAMES), std::end(NAMES), server) - std::begin(NAMES);
+  KJ_REQUIRE(vetting < 3 && (kind == "small" || kind == "list"), "no such server, or no such call");
+  Calls all(io.waitScope);
+  Pair pair(ALL[vetting]);
+  for (unsigned at = 0; at < calls; at++) all.call(pair.client.calculator, kind == "small");
   return 0;
 }
 
@@ -431,11 +505,14 @@ int cost(kj::AsyncIoContext &io, unsigned calls) {
 
 int main(int count, char **words) {
   const std::string mode = count > 1 ? words[1] : "";
+  auto numberOf = [&](int at) { return static_cast<unsigned>(strtoul(words[at], nullptr, 10)); };
   auto io = kj::setupAsyncIo();
   if (mode == "same" && count == 2) return same(io);
   if (mode == "record" && count == 2) return record(io);
   if (mode == "attack" && count == 4) return attack(io, words[2], words[3]);
   if (mode == "streams" && count == 2) return streams(io);
-  if (mode == "cost" && count == 3) return cost(io, static_cast<unsigned>(strtoul(words[2], nullptr, 10)));
-  return fputs("usage: rpc same | record | attack FILE VALID | streams | cost CALLS\n", stderr), 2;
+  if (mode == "cost" && count == 3) return cost(io, numberOf(2));
+  if (mode == "calls" && count == 5) return callsAlone(io, words[2], words[3], numberOf(4));
+  fputs("usage: rpc same | record | attack FILE VALID | streams | cost CALLS | calls SERVER KIND CALLS\n", stderr);
+  return 2;
 }
