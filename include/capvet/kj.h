@@ -207,13 +207,13 @@ class VettedMessageReader final : public capnp::MessageReader {
  * and this read and all later ones throw `exceptionOf` the refusal. The RPC system then sends the exception's
  * description to the peer, and closes the connection.
  *
- * libcapnp reads the frame. It holds at most `limits.message_words` words, and refuses by exceptions of its own what is
- * larger, what is cut, and 512 or more segments. These end the stream too, but `onRefused` isn't called.
- * CAPVET_ALLOW_TRAILING has no effect.
+ * libcapnp reads the frame, or the other stream that is passed does. It holds at most `limits.message_words` words, and
+ * refuses by exceptions of its own what is larger, what is cut, and 512 or more segments. These end the stream too, but
+ * `onRefused` isn't called. CAPVET_ALLOW_TRAILING has no effect.
  *
  * libcapnp's limits for a message are at least those that are passed to tryReadMessage (`receiveOptions` of
- * TwoPartyVatNetwork), and are raised to what the message needs. A message takes least time if its limits are those of
- * the frame: if `limits.message_words` is the traversal limit that is passed, as by default. */
+ * TwoPartyVatNetwork), and are raised to what the message needs. A message takes least time if `limits.message_words`
+ * is the traversal limit that is passed, as by default: libcapnp's own reader then serves. */
 class VettingStream final : public capnp::MessageStream {
  public:
   using OnRefused = kj::Function<void(const Refusal &)>;
