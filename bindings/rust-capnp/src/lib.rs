@@ -146,10 +146,11 @@ pub fn segments(bytes: &[u8], limits: Limits) -> Result<Segments<'_>, VetError> 
     capvet::frame_length(bytes, limits)?;
     let report = capvet::vet(bytes, limits)?;
     let frame = &bytes[..report.length];
-    let lengths = capvet::segments(frame)?.map(<[u8]>::len);
+    // (the table of an accepted frame: the number of segments less one, and how many words each has)
+    let sizes = frame[4..].chunks_exact(4).take(report.segments as usize);
     let mut end = WORD * table_words(report.segments as usize);
-    let ends = lengths.map(|length| {
-        end += length;
+    let ends = sizes.map(|size| {
+        end += WORD * u32::from_le_bytes([size[0], size[1], size[2], size[3]]) as usize;
         end
     });
     Ok(Segments {
