@@ -1,7 +1,6 @@
 -- The words and the text of a copy at the start of a buffer.
-use Rattle.std.proofs.Common.{ℕ, ◌*◌, ◌<◌, ◌≤◌, ◌≡◌, ◌∙◌, ◌++◌, List, Result, Ok, Err, Option, Some, None, false, refl, ap, sym, arith, length, take, drop}
+use Rattle.std.proofs.Common.{ℕ, ◌*◌, ◌<◌, ◌≤◌, ◌≡◌, ◌∙◌, ◌++◌, List, Result, Ok, Err, ap, sym, arith, length, take, drop}
 use Rattle.std.specs.List.{AllByRecursion}
-use Rattle.std.specs.Option.{is_some}
 use Rattle.std.proofs.lemmas.List.{length-take-le, take-append-drop, take-append-le, take_all}
 use Rattle.cap_spec.specs.Canonical.{layout, trim}
 use Rattle.cap_spec.specs.Copies.{HasCopy}
@@ -16,10 +15,6 @@ use Rattle.cap_canon.specs.declared.fault.CanonFault.{CanonFault}
 use Rattle.cap_canon.specs.declared.fault.CanonFault.TheVariants.{HasCapability, Memory}
 use Rattle.cap_canon.proofs.Copies.{copy_length, copy_of}
 use Rattle.cap_canon.proofs.FirstWords.{whole_words}
-
-pub is_none : {A : Type 0} (o : Option A) → is_some o ≡ false → o ≡ None
-is_none None e = refl
-is_none (Some x) e = absurd (cc)
 
 -- the words of the first bytes are the first words
 first_taken : (n : ℕ) (bytes : List ℕ) → 8 * n ≤ length bytes → plain_words (take (8 * n) bytes) ≡ first_words n bytes

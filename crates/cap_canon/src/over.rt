@@ -4,13 +4,13 @@ ghost use Rattle.cap_canon.specs.CopyOvers.{MakesEnough, TellsOver};
 ghost use Rattle.cap_spec.specs.Copies.{HasCopy};
 ghost use Rattle.cap_spec.specs.Plain.{plain_words};
 ghost use Rattle.cap_vet.specs.Vettings.{message_of, report_of};
-ghost use Rattle.std.specs.Prelude.{◌*◌, ◌+◌, ◌≡◌, ◌≤◌, [], IfErr, IfOk, length, take};
+ghost use Rattle.std.specs.Prelude.{◌*◌, ◌+◌, ◌≡◌, ◌≤◌, ◌↔◌, [], IfErr, IfOk, IsTrue, None, length, take};
 
 use crate::fault::CanonFault;
 use crate::length::canonical_len;
 use crate::word_bytes::fill_front;
 use cap_frame::Segments;
-use cap_vet::Vetted;
+use cap_vet::{Report, Vetted};
 use std::alloc::{AllocError, Global};
 
 /// Writes the canonical copy of a message over the start of a buffer as bytes, eight a word, the
@@ -55,8 +55,7 @@ fn make_enough<M: Segments>(
     ensures { let m = M.segments (message_of v.now) in
         MakesEnough m buffer.old.items result buffer.new.items }
 {
-    let report = v.report();
-    if report.first_cap.is_none() && buffer.len() >= 8 * (report.charge as usize + 1) {
+    if fits_any(&v.report(), buffer.len()) {
         return Ok(());
     }
     let words = match canonical_len(v) {
@@ -71,6 +70,15 @@ fn make_enough<M: Segments>(
         Ok(()) => Ok(()),
         Err(_) => Err(CanonFault::Memory),
     }
+}
+
+// Whether a message with this report has a copy, and every such copy fits into `len` bytes.
+fn fits_any(report: &Report, len: usize) -> bool
+    requires { report.now.charge ≤ 268435456 }
+    ensures { IsTrue result
+        ↔ (report.now.first_cap ≡ None) × (8 * (report.now.charge + 1) ≤ len) }
+{
+    report.first_cap.is_none() && len >= 8 * (report.charge as usize + 1)
 }
 
 // Frees a buffer, and makes one of `count` zeros in its place.

@@ -6,18 +6,18 @@ use Rattle.cap_spec.proofs.Bytes.Plain.{length_plain}
 use Rattle.cap_vet.specs.Vettings.{message_of}
 use Rattle.cap_canon.specs.CopyOvers.{enough, made, no_copy, refused}
 use Rattle.cap_canon.proofs.Copies.{copy_charged, has_copy}
-use Rattle.cap_canon.proofs.Overs.{is_none}
 use Rattle.cap_canon.proofs.over.make_enough.Goals as goal
 
-pub returns-then-len-report : goal.returns-then-len-report
-returns-then-len-report g c =
+pub returns-then-fits_any : goal.returns-then-fits_any
+returns-then-fits_any g c =
     let m = g.M.Segments.segments (message_of c.args.v.now) in
-    let r = c.report-report.result in
-    let k = c.report-report.ensures.accepted in
+    let r = c.report.result in
+    let k = c.report.ensures.accepted in
     let words = layout (trim k.0) in
-    let h = has_copy m r k.0 k.1 (is_none r.first_cap c.if-is_none.ensures) in
+    let fits = c.fits_any.ensures.0 c.if-fits_any.true in
+    let h = has_copy m r k.0 k.1 fits.0 in
     let few = copy_charged m k.0 r.charge r.depth words k.1.denotes h in
-    enough words h (omega (arith, few, length_plain words, c.if-len-report.true, c.len.ensures)) refl refl
+    enough words h (omega (arith, few, length_plain words, fits.1, c.len.ensures)) refl refl
 
 pub returns-in-Err : goal.returns-in-Err
 returns-in-Err g c =
