@@ -1,14 +1,15 @@
 -- Words written as bytes over bytes that are there already.
 use Rattle.std.proofs.Common.{◌≡◌, ◌+◌, ◌*◌, ◌/◌, ◌<◌, ◌≤◌, ◌∙◌, ℕ, zero, suc, List, [], ◌∷◌, ◌++◌, length, take, drop}
-use Rattle.std.proofs.Common.{get_or, set, drop-drop, refl, ap, sym, arith}
+use Rattle.std.proofs.Common.{get_or, set, drop-drop, refl, ap, ap₂, sym, arith, append_assoc, length-append}
 use Rattle.std.specs.List.{AllByRecursion}
 use Rattle.cap_spec.specs.Plain.{plain_text, plain_words, word_bytes}
 use Rattle.cap_spec.specs.Words.{IsWord}
-use Rattle.cap_spec.proofs.Bytes.Plain.{plain_back, words_exact}
-use Rattle.std.proofs.lemmas.List.{length-take-le, take-append-le, take_all}
+use Rattle.cap_spec.proofs.Bytes.Plain.{length_plain, plain_back, words_exact}
+use Rattle.std.proofs.lemmas.List.{length-take-le, take-append-drop, take-append-le, take_all}
 use Rattle.std.proofs.lemmas.Grind.{take-set_at}
 use Rattle.std.proofs.Math.Seq.{take-set-lt}
 use Rattle.cap_canon.specs.FirstWords.{first_words}
+use Rattle.cap_words.proofs.Filling.{plain_join}
 use Rattle.cap_words.proofs.WholeWords.{whole_text}
 use borrow.Rule.Slice.PartMut.{put_mid}
 
@@ -53,6 +54,34 @@ pub whole_words : (bytes : List ℕ) → AllByRecursion (λ b. b < 256) bytes �
 whole_words bytes small h =
     let all : take (length bytes / 8 * 8) bytes ≡ bytes = take_all (length bytes / 8 * 8) bytes (omega (arith, h)) in
     sym all ∙ whole_text bytes small
+
+-- the words of the first bytes are the first words
+pub first_taken : (n : ℕ) (bytes : List ℕ) → 8 * n ≤ length bytes → plain_words (take (8 * n) bytes) ≡ first_words n bytes
+first_taken n bytes h =
+    let front = take (8 * n) bytes in
+    let long : length front ≡ 8 * n = length-take-le (8 * n) bytes h in
+    let many : length (plain_words front) ≡ n = omega (arith, words_exact front, long) in
+    let split : plain_words bytes ≡ plain_words front ++ plain_words (drop (8 * n) bytes) =
+    ap plain_words (sym (take-append-drop (8 * n) bytes)) ∙ plain_join front (drop (8 * n) bytes) (omega (arith, long)) in
+    sym (ap (take n) split ∙ take-append-le n (plain_words front) (plain_words (drop (8 * n) bytes)) (omega (arith, many))
+    ∙ take_all n (plain_words front) (omega (arith, many)))
+
+-- words in a row were written behind the first p
+pub row_written : (p k : ℕ) (bytes given words : List ℕ) → AllByRecursion IsWord words → given ≡ plain_text words → k ≡ length given → 8 * p + k ≤ length bytes
+    → first_words (p + length words) (put_mid (8 * p) k bytes given) ≡ first_words p bytes ++ words
+row_written p k bytes given words are e same h =
+    let front = take (8 * p) bytes in
+    let rest = drop k (drop (8 * p) bytes) in
+    let size : length given ≡ 8 * length words = ap length e ∙ length_plain words in
+    let long : length front ≡ 8 * p = length-take-le (8 * p) bytes (omega (arith, h)) in
+    let many : length (first_words p bytes) ≡ p = first_words_count p bytes (omega (arith, h)) in
+    let behind : plain_words (given ++ rest) ≡ words ++ plain_words rest = ap (λ xs. plain_words (xs ++ rest)) e ∙ plain_back words rest are in
+    let split : plain_words (front ++ (given ++ rest)) ≡ first_words p bytes ++ (words ++ plain_words rest) =
+    plain_join front (given ++ rest) (omega (arith, long)) ∙ ap₂ (λ xs ys. xs ++ ys) (first_taken p bytes (omega (arith, h))) behind in
+    let both : length (first_words p bytes ++ words) ≡ p + length words = length-append (first_words p bytes) words ∙ ap (λ n. n + length words) many in
+    ap (take (p + length words)) (split ∙ sym (append_assoc (first_words p bytes) words (plain_words rest)))
+    ∙ take-append-le (p + length words) (first_words p bytes ++ words) (plain_words rest) (omega (arith, both))
+    ∙ take_all (p + length words) (first_words p bytes ++ words) (omega (arith, both))
 
 -- word n was written behind the first n
 pub word_appended : (n w : ℕ) (given items : List ℕ) → 8 * n + 8 ≤ length items → plain_words given ≡ set (plain_words items) n w

@@ -1,31 +1,19 @@
 -- The words and the text of a copy at the start of a buffer.
-use Rattle.std.proofs.Common.{ℕ, ◌*◌, ◌<◌, ◌≤◌, ◌≡◌, ◌∙◌, ◌++◌, List, Result, Ok, Err, ap, sym, arith, length, take, drop}
+use Rattle.std.proofs.Common.{ℕ, ◌*◌, ◌<◌, ◌≤◌, ◌≡◌, ◌∙◌, List, Result, Ok, Err, ap, sym, arith, length, take}
 use Rattle.std.specs.List.{AllByRecursion}
-use Rattle.std.proofs.lemmas.List.{length-take-le, take-append-drop, take-append-le, take_all}
+use Rattle.std.proofs.lemmas.List.{length-take-le}
 use Rattle.cap_spec.specs.Canonical.{layout, trim}
 use Rattle.cap_spec.specs.Copies.{HasCopy}
 use Rattle.cap_spec.specs.Denoting.{Denotes}
 use Rattle.cap_spec.specs.Plain.{plain_text, plain_words}
 use Rattle.cap_spec.proofs.Bytes.Lists.{all_take}
-use Rattle.cap_spec.proofs.Bytes.Plain.{length_plain, words_exact}
-use Rattle.cap_words.proofs.Filling.{plain_join}
+use Rattle.cap_spec.proofs.Bytes.Plain.{length_plain}
 use Rattle.cap_canon.specs.CopyOvers.{MakesEnough, TellsOver, has_capability, no_memory, over, grown, no_copy, refused, enough, made}
 use Rattle.cap_canon.specs.FirstWords.{first_words}
 use Rattle.cap_canon.specs.declared.fault.CanonFault.{CanonFault}
 use Rattle.cap_canon.specs.declared.fault.CanonFault.TheVariants.{HasCapability, Memory}
 use Rattle.cap_canon.proofs.Copies.{copy_length, copy_of}
-use Rattle.cap_canon.proofs.FirstWords.{whole_words}
-
--- the words of the first bytes are the first words
-first_taken : (n : ℕ) (bytes : List ℕ) → 8 * n ≤ length bytes → plain_words (take (8 * n) bytes) ≡ first_words n bytes
-first_taken n bytes h =
-    let front = take (8 * n) bytes in
-    let long : length front ≡ 8 * n = length-take-le (8 * n) bytes h in
-    let many : length (plain_words front) ≡ n = omega (arith, words_exact front, long) in
-    let split : plain_words bytes ≡ plain_words front ++ plain_words (drop (8 * n) bytes) =
-    ap plain_words (sym (take-append-drop (8 * n) bytes)) ∙ plain_join front (drop (8 * n) bytes) (omega (arith, long)) in
-    sym (ap (take n) split ∙ take-append-le n (plain_words front) (plain_words (drop (8 * n) bytes)) (omega (arith, many))
-    ∙ take_all n (plain_words front) (omega (arith, many)))
+use Rattle.cap_canon.proofs.FirstWords.{first_taken, whole_words}
 
 -- the first bytes are the text of the first words
 pub first_text : (words bytes : List ℕ) → AllByRecursion (λ b. b < 256) bytes → 8 * length words ≤ length bytes

@@ -12,12 +12,12 @@ ghost use Rattle.std.specs.Prelude.{◌+◌, ◌++◌, ◌*◌, ◌<◌, ◌≡�
 
 use crate::objects::{Object, Part};
 use crate::output::CopyOutput;
+use crate::source::CopySource;
 use crate::words::{last_word, tag_word};
-use cap_frame::Segments;
 
 /// Appends the own words of what is left of an object: its data words, values, tag and pointer
 /// words, of which the last hold anything until their turn.
-pub(crate) fn append_own<M: Segments, T: CopyOutput>(message: &M, object: &Object, copy: &mut T)
+pub(crate) fn append_own<M: CopySource, T: CopyOutput>(message: &M, object: &Object, copy: &mut T)
     requires { let m = M.segments message.now in
         (d s w : ℕ) × (tree : Tree) × IsObject m d s w tree object.now
         × (length (T.words copy.old) + own_size tree ≤ T.capacity copy.old) }
@@ -47,7 +47,7 @@ pub(crate) fn append_own<M: Segments, T: CopyOutput>(message: &M, object: &Objec
 }
 
 // Appends the tag of a list of `count` structs, and what is left of each.
-fn append_tagged<M: Segments, T: CopyOutput>(message: &M, part: &Part, count: u32, copy: &mut T)
+fn append_tagged<M: CopySource, T: CopyOutput>(message: &M, part: &Part, count: u32, copy: &mut T)
     requires { let m = M.segments message.now in (d s w : ℕ) × (tree : Tree)
         × IsStructsObject m d s w tree count part.now
         × (length (T.words copy.old) + own_size tree ≤ T.capacity copy.old) }
@@ -62,7 +62,7 @@ fn append_tagged<M: Segments, T: CopyOutput>(message: &M, part: &Part, count: u3
 }
 
 // Appends what is left of one struct.
-fn append_struct<M: Segments, T: CopyOutput>(message: &M, part: &Part, copy: &mut T)
+fn append_struct<M: CopySource, T: CopyOutput>(message: &M, part: &Part, copy: &mut T)
     requires exists { part.now.segment < length (M.segments message.now) }
     requires inside { part.now.start + part.now.data_words + part.now.pointers
         ≤ length (segment_of (M.segments message.now) part.now.segment) }
@@ -86,7 +86,7 @@ fn append_struct<M: Segments, T: CopyOutput>(message: &M, part: &Part, copy: &mu
 }
 
 // Appends what is left of each of `count` structs in a row.
-fn append_structs<M: Segments, T: CopyOutput>(message: &M, part: &Part, count: u32, copy: &mut T)
+fn append_structs<M: CopySource, T: CopyOutput>(message: &M, part: &Part, count: u32, copy: &mut T)
     requires exists { part.now.segment < length (M.segments message.now) }
     requires inside { part.now.start + count * (part.now.data_words + part.now.pointers)
         ≤ length (segment_of (M.segments message.now) part.now.segment) }
@@ -113,7 +113,7 @@ fn append_structs<M: Segments, T: CopyOutput>(message: &M, part: &Part, count: u
 }
 
 // Appends the words of values, the last one without the bits after the last value.
-fn append_values<M: Segments, T: CopyOutput>(
+fn append_values<M: CopySource, T: CopyOutput>(
     message: &M,
     segment: u32,
     start: u32,

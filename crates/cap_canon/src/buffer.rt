@@ -7,8 +7,8 @@ ghost use Rattle.std.specs.Prelude.{◌≡◌, List, Result, ℕ};
 
 use crate::fault::{CanonFault, RoomFault};
 use crate::length::canonical_len;
+use crate::source::CopySource;
 use crate::word_bytes::fill;
-use cap_frame::Segments;
 use cap_vet::Vetted;
 
 /// Writes the canonical copy of a message at the start of `out` as bytes, eight a word, the lowest
@@ -23,7 +23,7 @@ use cap_vet::Vetted;
 ///   the first in preorder.
 /// - [`RoomFault::NoRoom`]: there is a copy, and `out` is shorter. The error says how many bytes
 ///   the copy has.
-pub fn canonical_into<M: Segments>(v: &Vetted<'_, M>, out: &mut [u8]) -> Result<usize, RoomFault>
+pub fn canonical_into<M: CopySource>(v: &Vetted<'_, M>, out: &mut [u8]) -> Result<usize, RoomFault>
     ensures tells { TellsRoom (M.segments (message_of v.now)) out.old result out.new }
     // The message and the buffer allow no other result.
     ensures only { let m = M.segments (message_of v.now) in
@@ -34,7 +34,7 @@ pub fn canonical_into<M: Segments>(v: &Vetted<'_, M>, out: &mut [u8]) -> Result<
 }
 
 // The same, by the result.
-fn fill_start<M: Segments>(v: &Vetted<'_, M>, out: &mut [u8]) -> Result<usize, RoomFault>
+fn fill_start<M: CopySource>(v: &Vetted<'_, M>, out: &mut [u8]) -> Result<usize, RoomFault>
     ensures { TellsRoom (M.segments (message_of v.now)) out.old result out.new }
 {
     let report = v.report();

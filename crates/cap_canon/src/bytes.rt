@@ -8,8 +8,8 @@ ghost use Rattle.std.specs.Prelude.{◌*◌, ◌+◌, ◌≡◌, ◌≤◌, IfOk
 
 use crate::fault::CanonFault;
 use crate::length::canonical_len;
+use crate::source::CopySource;
 use crate::word_bytes::fill;
-use cap_frame::Segments;
 use cap_vet::Vetted;
 use std::alloc::Global;
 
@@ -22,7 +22,10 @@ use std::alloc::Global;
 /// - [`CanonFault::HasCapability`]: a capability is reached, so there is no copy. The error names
 ///   the first in preorder.
 /// - [`CanonFault::Memory`]: there is a copy, and the allocation failed.
-pub fn canonical_bytes<M: Segments>(alloc: Global, v: &Vetted<'_, M>) -> Result<Vec<u8>, CanonFault>
+pub fn canonical_bytes<M: CopySource>(
+    alloc: Global,
+    v: &Vetted<'_, M>,
+) -> Result<Vec<u8>, CanonFault>
     ensures ok { let m = M.segments (message_of v.now) in IfOk result (λ bytes.
         let copy = plain_words bytes.items in HasCopy m copy × (bytes.items ≡ plain_text copy)) }
     ensures few { IfOk result (λ bytes.

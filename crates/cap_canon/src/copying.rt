@@ -19,6 +19,7 @@ use crate::length::canonical_len;
 use crate::objects::Object;
 use crate::output::CopyOutput;
 use crate::run::PointerPlace;
+use crate::source::CopySource;
 use crate::walk::{Pass, walk};
 use crate::words::pointer_word;
 use cap_frame::Segments;
@@ -33,7 +34,7 @@ use std::alloc::Global;
 /// - [`CanonFault::HasCapability`]: a capability is reached, so there is no copy. The error names
 ///   the first in preorder.
 /// - [`CanonFault::Memory`]: there is a copy, and the allocation failed.
-pub fn canonical<M: Segments>(alloc: Global, v: &Vetted<'_, M>) -> Result<Vec<u64>, CanonFault>
+pub fn canonical<M: CopySource>(alloc: Global, v: &Vetted<'_, M>) -> Result<Vec<u64>, CanonFault>
     ensures ok { IfOk result (λ words. HasCopy (M.segments (message_of v.now)) words.items) }
     ensures few { IfOk result (λ words. length words.items ≤ (report_of v.now).charge + 1) }
     ensures capacity { IfOk result (λ words. vec_capacity words ≡ length words.items) }
@@ -78,7 +79,7 @@ pub fn canonical<M: Segments>(alloc: Global, v: &Vetted<'_, M>) -> Result<Vec<u6
 }
 
 /// Appends the layout of a message of this depth, trimmed, to an output that is empty.
-pub(crate) fn copy_into<M: Segments, T: CopyOutput>(message: &M, depth: u32, copy: &mut T)
+pub(crate) fn copy_into<M: CopySource, T: CopyOutput>(message: &M, depth: u32, copy: &mut T)
     requires tree { HasTree (M.segments message.now) depth }
     requires capacity { let m = M.segments message.now in
         ForTrimmed m (λ u. length (layout u) ≤ T.capacity copy.old) }
@@ -88,24 +89,28 @@ pub(crate) fn copy_into<M: Segments, T: CopyOutput>(message: &M, depth: u32, cop
     ensures borrow { T.borrow copy.new ≡ T.borrow copy.old }
 {
     copy.push(0);
-    let mut copying = Copying { output: copy };
+    let mut copying = Copying {
+        source: message,
+        output: copy,
+    };
     match walk(message, depth, &mut copying) {
         Some(_) => {}
         None => unreachable!(),
     }
 }
 
-// A copy so far.
+// A copy so far, and the message that it is made of.
 #[derive(Drop)]
-struct Copying<'c, T> {
+struct Copying<'c, S, T> {
+    source: &'c S,
     output: &'c mut T,
 }
 
-impl<T: CopyOutput> Pass for Copying<'_, T> {
+impl<S: CopySource, T: CopyOutput> Pass for Copying<'_, S, T> {
     ghost in_place = { ⊥ };
 
-    ghost state = { λ s m u end due.
-        IsCopied (T.words s.output.now) (T.capacity s.output.now) u end due };
+    ghost state = { λ s m u end due. (S.segments s.source.now ≡ m)
+        × IsCopied (T.words s.output.now) (T.capacity s.output.now) u end due };
 
     ghost stopped = { λ _ _. ⊥ };
 
@@ -114,19 +119,25 @@ impl<T: CopyOutput> Pass for Copying<'_, T> {
     #[inline(always)]
     fn visit<M: Segments>(
         &mut self,
-        message: &M,
+        _message: &M,
         object: &Object,
         place: PointerPlace,
         end: u32,
     ) -> bool {
-        lay(message, object, place.slot, end, self.output);
+        lay(self.source, object, place.slot, end, self.output);
         true
     }
 }
 
 // Writes the pointer word of what is left of an object at `slot`, and its own words from `end` on,
 // where the copy ends so far.
-fn lay<M: Segments, T: CopyOutput>(message: &M, object: &Object, slot: u32, end: u32, copy: &mut T)
+fn lay<M: CopySource, T: CopyOutput>(
+    message: &M,
+    object: &Object,
+    slot: u32,
+    end: u32,
+    copy: &mut T,
+)
     requires ends { (length (T.words copy.old) ≡ end) × (slot < end) × (end < 2 ^ 29) }
     requires is { let m = M.segments message.now in
         (d s w : ℕ) × (tree : Tree) × IsObject m d s w tree object.now

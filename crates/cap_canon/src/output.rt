@@ -7,7 +7,7 @@ ghost use Rattle.std.specs.List.{AllByRecursion};
 ghost use Rattle.std.specs.Prelude.{◌+◌, ◌++◌, ◌<◌, ◌≡◌, ◌≤◌, [], ◌∷◌, List, length, slice_set, ℕ};
 ghost use Rattle.std.specs.Vec.{vec_capacity};
 
-use cap_frame::Segments;
+use crate::source::CopySource;
 
 /// Words with capacity for more of them.
 pub(crate) trait CopyOutput {
@@ -35,7 +35,7 @@ pub(crate) trait CopyOutput {
         ensures borrow { borrow self.new ≡ borrow self.old };
 
     /// Appends words of a segment.
-    fn append_from<M: Segments>(&mut self, message: &M, segment: u32, start: u32, count: u32)
+    fn append_from<M: CopySource>(&mut self, message: &M, segment: u32, start: u32, count: u32)
         requires exists { segment < length (M.segments message.now) }
         requires inside { start + count ≤ length (segment_of (M.segments message.now) segment) }
         requires capacity { length (words self.old) + count ≤ capacity self.old }

@@ -8,8 +8,8 @@ ghost use Rattle.std.specs.Prelude.{◌*◌, ◌+◌, ◌≡◌, ◌≤◌, ◌�
 
 use crate::fault::CanonFault;
 use crate::length::canonical_len;
+use crate::source::CopySource;
 use crate::word_bytes::fill_front;
-use cap_frame::Segments;
 use cap_vet::{Report, Vetted};
 use std::alloc::{AllocError, Global};
 
@@ -26,7 +26,7 @@ use std::alloc::{AllocError, Global};
 /// - [`CanonFault::HasCapability`]: a capability is reached, so there is no copy. The error names
 ///   the first in preorder. The buffer is as it was.
 /// - [`CanonFault::Memory`]: there is a copy, and the allocation failed. The buffer is empty.
-pub fn canonical_over<M: Segments>(
+pub fn canonical_over<M: CopySource>(
     alloc: Global,
     v: &Vetted<'_, M>,
     buffer: &mut Vec<u8>,
@@ -47,7 +47,7 @@ pub fn canonical_over<M: Segments>(
 }
 
 // Makes sure that a buffer has as many bytes as the copy.
-fn make_enough<M: Segments>(
+fn make_enough<M: CopySource>(
     alloc: Global,
     v: &Vetted<'_, M>,
     buffer: &mut Vec<u8>,

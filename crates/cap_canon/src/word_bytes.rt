@@ -3,16 +3,22 @@
 ghost use Rattle.cap_canon.specs.FirstWords.{first_words};
 ghost use Rattle.cap_canon.specs.Roots.{ForTrimmed, HasTree};
 ghost use Rattle.cap_spec.specs.Canonical.{layout};
+ghost use Rattle.cap_spec.specs.Denoting.{words_from};
+ghost use Rattle.cap_spec.specs.Messages.{segment_of};
 ghost use Rattle.cap_spec.specs.Plain.{plain_text, plain_words};
-ghost use Rattle.std.specs.Prelude.{◌*◌, ◌+◌, ◌/◌, ◌≡◌, ◌≤◌, [], length, slice_set, take};
+ghost use Rattle.cap_spec.specs.Words.{IsWord};
+ghost use Rattle.std.specs.List.{AllByRecursion};
+ghost use Rattle.std.specs.Prelude.{◌*◌, ◌+◌, ◌++◌, ◌/◌, ◌<◌, ◌≡◌, ◌≤◌, [], List, length, slice_set, take, ℕ};
 
 use crate::copying::copy_into;
+use crate::objects::read_range;
 use crate::output::CopyOutput;
+use crate::source::CopySource;
 use cap_frame::Segments;
 use cap_words::bytes_of;
 
 /// Writes the layout of a message of this depth, trimmed, over bytes of just its length.
-pub(crate) fn fill<M: Segments>(message: &M, depth: u32, out: &mut [u8])
+pub(crate) fn fill<M: CopySource>(message: &M, depth: u32, out: &mut [u8])
     requires tree { HasTree (M.segments message.now) depth }
     requires length { let m = M.segments message.now in
         ForTrimmed m (λ u. length out.old ≡ 8 * length (layout u)) }
@@ -24,7 +30,7 @@ pub(crate) fn fill<M: Segments>(message: &M, depth: u32, out: &mut [u8])
 
 /// Writes the same over the start of bytes that are long enough for it, and returns how many words
 /// it has.
-pub(crate) fn fill_front<M: Segments>(message: &M, depth: u32, out: &mut [u8]) -> usize
+pub(crate) fn fill_front<M: CopySource>(message: &M, depth: u32, out: &mut [u8]) -> usize
     requires tree { HasTree (M.segments message.now) depth }
     requires length { let m = M.segments message.now in
         ForTrimmed m (λ u. 8 * length (layout u) ≤ length out.old) }
@@ -39,7 +45,7 @@ pub(crate) fn fill_front<M: Segments>(message: &M, depth: u32, out: &mut [u8]) -
 }
 
 // The same, as the words that the bytes begin with.
-fn write_words<M: Segments>(message: &M, depth: u32, out: &mut [u8]) -> usize
+fn write_words<M: CopySource>(message: &M, depth: u32, out: &mut [u8]) -> usize
     requires tree { HasTree (M.segments message.now) depth }
     requires length { let m = M.segments message.now in
         ForTrimmed m (λ u. 8 * length (layout u) ≤ length out.old) }
@@ -90,6 +96,12 @@ impl CopyOutput for WordBytes<'_> {
     fn set(&mut self, place: u32, word: u64) {
         write_word(self.bytes, place as usize, word);
     }
+
+    fn append_from<M: CopySource>(&mut self, message: &M, segment: u32, start: u32, count: u32) {
+        read_range(message, segment, start, count);
+        write_from(self.bytes, self.count, message, segment, start, count);
+        self.count += count as usize;
+    }
 }
 
 // Writes a word in place of the one with this number.
@@ -100,4 +112,64 @@ fn write_word(bytes: &mut [u8], number: usize, word: u64)
     ensures words { plain_words bytes.new ≡ slice_set (plain_words bytes.old) number word }
 {
     bytes[8 * number..8 * number + 8].copy_from_slice(&bytes_of(word));
+}
+
+// Writes words of a segment in place of as many words, from the one with this number on. The caller
+// makes sure that they are words.
+#[inline(always)]
+fn write_from<M: CopySource>(
+    bytes: &mut [u8],
+    number: usize,
+    message: &M,
+    segment: u32,
+    start: u32,
+    count: u32,
+)
+    requires exists { segment < length (M.segments message.now) }
+    requires inside { start + count ≤ length (segment_of (M.segments message.now) segment) }
+    requires capacity { 8 * (number + count) ≤ length bytes.old }
+    requires are_words { let m = M.segments message.now in
+        AllByRecursion IsWord (words_from m segment start count) }
+    ensures len { length bytes.new ≡ length bytes.old }
+    ensures words { let m = M.segments message.now in first_words (number + count) bytes.new
+        ≡ first_words number bytes.old ++ words_from m segment start count }
+{
+    match message.row(segment, start, count) {
+        Some(row) => write_row(bytes, number, row),
+        None => write_each(bytes, number, message, segment, start, count),
+    }
+}
+
+// The same, word by word.
+fn write_each<M: Segments>(
+    bytes: &mut [u8],
+    number: usize,
+    message: &M,
+    segment: u32,
+    start: u32,
+    count: u32,
+)
+    requires exists { segment < length (M.segments message.now) }
+    requires inside { start + count ≤ length (segment_of (M.segments message.now) segment) }
+    requires capacity { 8 * (number + count) ≤ length bytes.old }
+    ensures len { length bytes.new ≡ length bytes.old }
+    ensures words { let m = M.segments message.now in first_words (number + count) bytes.new
+        ≡ first_words number bytes.old ++ words_from m segment start count }
+{
+    'words: for k in 0..count {
+        write_word(bytes, number + k as usize, message.word(segment, start + k));
+    }
+}
+
+// Writes the bytes of words in a row in place of those of as many words, from the one with this
+// number on.
+#[inline(always)]
+fn write_row(bytes: &mut [u8], number: usize, row: &[u8])
+    requires capacity { 8 * number + length row.now ≤ length bytes.old }
+    ensures len { length bytes.new ≡ length bytes.old }
+    ensures words { (words : List ℕ) → AllByRecursion IsWord words → row.now ≡ plain_text words
+        → first_words (number + length words) bytes.new
+        ≡ first_words number bytes.old ++ words }
+{
+    bytes[8 * number..8 * number + row.len()].copy_from_slice(row);
 }

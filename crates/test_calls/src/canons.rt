@@ -6,7 +6,7 @@ mod values;
 use super::held::{Forms, repeated, words};
 use crate::same::{same, same_of};
 use cap_canon::{
-    CanonFault, canonical, canonical_bytes, canonical_len, canonical_over, is_canonical,
+    CanonFault, CopySource, canonical, canonical_bytes, canonical_len, canonical_over, is_canonical,
 };
 use cap_frame::{OneSegment, Segments};
 use cap_vet::{Limits, Vetted, vet};
@@ -66,7 +66,7 @@ fn in_each_way(
 }
 
 // The four calls on a message as it is held. It is canonical where its only segment is the copy.
-fn answers<M: Segments>(
+fn answers<M: CopySource>(
     rt: &impl Abort,
     alloc: Global,
     message: &M,
@@ -92,7 +92,7 @@ fn answers<M: Segments>(
 
 // The copy has these words, is accepted under limits as low as the message's own numbers, and is
 // canonical.
-fn copies<M: Segments>(
+fn copies<M: CopySource>(
     rt: &impl Abort,
     alloc: Global,
     vetted: &Vetted<'_, M>,
@@ -125,7 +125,7 @@ fn copies<M: Segments>(
 }
 
 // The same bytes over an empty buffer, over one of their length, and over a longer one.
-fn has_copy_over<M: Segments>(
+fn has_copy_over<M: CopySource>(
     rt: &impl Abort,
     alloc: Global,
     vetted: &Vetted<'_, M>,
@@ -145,7 +145,7 @@ fn has_copy_over<M: Segments>(
     Ok(())
 }
 
-fn has_none<M: Segments>(
+fn has_none<M: CopySource>(
     rt: &impl Abort,
     alloc: Global,
     vetted: &Vetted<'_, M>,

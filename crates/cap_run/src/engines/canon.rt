@@ -15,8 +15,8 @@ ghost use Rattle.std.specs.Prelude.{◌*◌, ◌<◌, ◌≡◌, ◌^◌, [], �
 use crate::engines::stream::end_stream;
 use crate::fault::output_fault;
 use crate::settings::{Outcome, Settings};
-use cap_canon::canonical_over;
-use cap_frame::{ByteMessage, Segments, read_into};
+use cap_canon::{CopySource, canonical_over};
+use cap_frame::{ByteMessage, read_into};
 use cap_spec::StrictRefusal;
 use cap_text::{Cause, RunFault};
 use cap_vet::{Demands, Limits, vet_with};
@@ -62,7 +62,7 @@ fn refused_by(refusal: StrictRefusal) -> Cause
 
 /// Vets a message under demands, writes its canonical copy over the buffer of the last one, and puts
 /// it to the sink. If the message doesn't meet them, or no copy can be made, nothing is put.
-fn put_copy<K: WordSink, M: Segments>(
+fn put_copy<K: WordSink, M: CopySource>(
     alloc: Global,
     sink: &mut K,
     message: &M,

@@ -1,4 +1,4 @@
-use Rattle.std.proofs.Common.{◌≡◌, ◌∙◌, ◌++◌, [], ◌∷◌, ap, arith, length, rules, subst, sym}
+use Rattle.std.proofs.Common.{◌≡◌, ◌∙◌, ◌++◌, [], ◌∷◌, ap, arith, length, refl, rules, subst, sym}
 use Rattle.cap_spec.specs.Canonical.{layout, trim}
 use Rattle.cap_canon.specs.Filling.{Agrees}
 use Rattle.cap_canon.proofs.Agreeing.{agrees_all}
@@ -8,12 +8,14 @@ use Rattle.cap_canon.proofs.copying.copy_into.Goals as goal
 pub walk-requires-clause-start : goal.walk-requires-clause-start
 walk-requires-clause-start g c = λ t x d h.
     (let u = trim t in
-    let first : g.T.CopyOutput.words c.push.new.self ≡ 0 ∷ [] = c.push.ensures.words ∙ ap (λ xs. xs ++ 0 ∷ []) c.requires.empty in
-    record {
-      ends = ap length first;
-      agrees = subst (λ xs. Agrees xs (layout u) (record { slot = 0; tree = u } ∷ [])) (sym first) (root_agrees (layout u) 0 u);
-      space = omega (arith, c.requires.capacity t x d h, c.push.ensures.capacity);
-    })
+    let first : g.T.CopyOutput.words c.push.new.self ≡ 0 ∷ [] = c.push.ensures.words ∙ ap (λ xs. xs ++ 0 ∷ []) c.requires.empty in (
+      refl,
+      record {
+        ends = ap length first;
+        agrees = subst (λ xs. Agrees xs (layout u) (record { slot = 0; tree = u } ∷ [])) (sym first) (root_agrees (layout u) 0 u);
+        space = omega (arith, c.requires.capacity t x d h, c.push.ensures.capacity);
+      },
+    ))
 
 pub unreachable-requires : goal.unreachable-requires
 unreachable-requires g c = let h = c.requires.tree in c.in-None.ensures.stopped h.tree h.charge c.args.depth h.denotes
@@ -22,5 +24,5 @@ pub returns-clause-words : goal.returns-clause-words
 returns-clause-words g c = λ t x d h.
     let k = c.in-Some.ensures.done t x d h in
     let output = c.walk.new.pass.output in
-    let all : g.T.CopyOutput.words output.now ≡ layout (trim t) = agrees_all (g.T.CopyOutput.words output.now) (layout (trim t)) (k.1.ends ∙ k.0) k.1.agrees in
+    let all : g.T.CopyOutput.words output.now ≡ layout (trim t) = agrees_all (g.T.CopyOutput.words output.now) (layout (trim t)) (k.1.1.ends ∙ k.0) k.1.1.agrees in
     search (rules, all)

@@ -1,10 +1,9 @@
 -- No copy, or one at the start of a buffer that is long enough.
-use Rattle.std.proofs.Common.{◌*◌, ◌+◌, ◌≡◌, ◌≤◌, ◌∙◌, Ok, ap, arith, length, subst, sym, take}
-use Rattle.cap_spec.specs.Canonical.{layout, trim}
+use Rattle.std.proofs.Common.{◌*◌, ◌≡◌, ◌≤◌, ◌∙◌, Ok, ap, arith, length, subst, sym, take}
 use Rattle.cap_spec.specs.Copies.{HasCopy}
 use Rattle.cap_spec.specs.Plain.{plain_words}
 use Rattle.cap_spec.proofs.Canonical.Sizes.{layout_charged}
-use Rattle.cap_vet.specs.Vettings.{message_of, report_of}
+use Rattle.cap_vet.specs.Vettings.{message_of}
 use Rattle.cap_canon.specs.CopyOvers.{TellsOver}
 use Rattle.cap_canon.proofs.Copies.{has_tree}
 use Rattle.cap_canon.proofs.FirstWords.{written_back}

@@ -1,0 +1,7 @@
+use Rattle.std.proofs.Common.{◌∙◌, arith}
+use Rattle.cap_canon.proofs.FirstWords.{row_written}
+use Rattle.cap_canon.proofs.word_bytes.write_row.Goals as goal
+
+pub returns-clause-words : goal.returns-clause-words
+returns-clause-words c = λ words are e.
+    row_written c.args.number _ c.args.bytes.now c.copy_from_slice.new.self words are (c.copy_from_slice.ensures.after ∙ e) (omega arith) (omega arith)
