@@ -17,6 +17,7 @@ use crate::words::{last_word, tag_word};
 
 /// Appends the own words of what is left of an object: its data words, values, tag and pointer
 /// words, of which the last hold anything until their turn.
+#[inline(always)]
 pub(crate) fn append_own<M: CopySource, T: CopyOutput>(message: &M, object: &Object, copy: &mut T)
     requires { let m = M.segments message.now in
         (d s w : ℕ) × (tree : Tree) × IsObject m d s w tree object.now
@@ -47,6 +48,7 @@ pub(crate) fn append_own<M: CopySource, T: CopyOutput>(message: &M, object: &Obj
 }
 
 // Appends the tag of a list of `count` structs, and what is left of each.
+#[inline(never)]
 fn append_tagged<M: CopySource, T: CopyOutput>(message: &M, part: &Part, count: u32, copy: &mut T)
     requires { let m = M.segments message.now in (d s w : ℕ) × (tree : Tree)
         × IsStructsObject m d s w tree count part.now
@@ -62,6 +64,7 @@ fn append_tagged<M: CopySource, T: CopyOutput>(message: &M, part: &Part, count: 
 }
 
 // Appends what is left of one struct.
+#[inline(always)]
 fn append_struct<M: CopySource, T: CopyOutput>(message: &M, part: &Part, copy: &mut T)
     requires exists { part.now.segment < length (M.segments message.now) }
     requires inside { part.now.start + part.now.data_words + part.now.pointers
@@ -113,6 +116,7 @@ fn append_structs<M: CopySource, T: CopyOutput>(message: &M, part: &Part, count:
 }
 
 // Appends the words of values, the last one without the bits after the last value.
+#[inline(always)]
 fn append_values<M: CopySource, T: CopyOutput>(
     message: &M,
     segment: u32,

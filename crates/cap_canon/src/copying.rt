@@ -131,6 +131,8 @@ impl<S: CopySource, T: CopyOutput> Pass for Copying<'_, S, T> {
 
 // Writes the pointer word of what is left of an object at `slot`, and its own words from `end` on,
 // where the copy ends so far.
+// It is inlined, and so is what it calls at nearly every word: the object then stays in registers.
+#[inline(always)]
 fn lay<M: CopySource, T: CopyOutput>(
     message: &M,
     object: &Object,

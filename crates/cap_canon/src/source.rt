@@ -9,9 +9,9 @@ use cap_frame::{ByteView, OneSegment, Segments, WordMessage};
 
 /// A message of which a canonical copy is made.
 pub trait CopySource: Segments {
-    /// The bytes of `words` words of segment `s` from word `start` on, eight a word, the lowest byte
-    /// first (encoding: 64-bit Words). `None` if the message doesn't have its words as bytes: they
-    /// are then fetched one by one. The caller makes sure that the segment and these words exist.
+    /// The bytes of `words` words of segment `s` from word `start` on, eight a word, the lowest
+    /// byte first (encoding: 64-bit Words). `None` if the message doesn't have its words as bytes:
+    /// they are then fetched one by one. The caller makes sure that the segment and these words exist.
     /// Allocates nothing.
     #[inline]
     fn row(&self, s: u32, start: u32, words: u32) -> Option<&[u8]>

@@ -24,5 +24,6 @@ pub returns-clause-words : goal.returns-clause-words
 returns-clause-words g c = λ t x d h.
     let k = c.in-Some.ensures.done t x d h in
     let output = c.walk.new.pass.output in
-    let all : g.T.CopyOutput.words output.now ≡ layout (trim t) = agrees_all (g.T.CopyOutput.words output.now) (layout (trim t)) (k.1.1.ends ∙ k.0) k.1.1.agrees in
+    let same : length (g.T.CopyOutput.words output.now) ≡ length (layout (trim t)) = k.1.1.ends ∙ k.0 in
+    let all : g.T.CopyOutput.words output.now ≡ layout (trim t) = agrees_all (g.T.CopyOutput.words output.now) (layout (trim t)) same k.1.1.agrees in
     search (rules, all)

@@ -1,4 +1,4 @@
-use Rattle.std.proofs.Common.{◌≡◌, ◌∙◌, ◌++◌, ◌+◌, [], ◌∷◌, ap, sym, arith, append_assoc}
+use Rattle.std.proofs.Common.{◌≡◌, ◌∙◌, ◌++◌, ◌+◌, ◌*◌, ◌≤◌, [], ◌∷◌, ap, sym, arith, append_assoc, length}
 use Rattle.cap_spec.specs.Denoting.{words_from}
 use Rattle.cap_canon.specs.FirstWords.{first_words}
 use Rattle.cap_canon.proofs.FirstWords.{word_appended}
@@ -14,7 +14,8 @@ words-preserved g c =
     let front = words_from m a.segment a.start k in
     let more = range_more m a.segment a.start k c.word.result c.word.ensures in
     let next : a.number + (k + 1) ≡ a.number + k + 1 = omega arith in
-    let added = word_appended (a.number + k) c.word.result c.write_word.new.bytes c.words.bytes (omega (arith, c.words.invariant.len)) c.write_word.ensures.words in
+    let capacity : 8 * (a.number + k) + 8 ≤ length c.words.bytes = omega (arith, c.words.invariant.len) in
+    let added = word_appended (a.number + k) c.word.result c.write_word.new.bytes c.words.bytes capacity c.write_word.ensures.words in
     record {
       len = c.write_word.ensures.len ∙ c.words.invariant.len;
       words = ap (λ n. first_words n c.write_word.new.bytes) next ∙ (added ∙ (ap (λ xs. xs ++ c.word.result ∷ []) c.words.invariant.words
