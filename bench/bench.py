@@ -2,7 +2,7 @@
 """Times the built program beside plain copying of the same bytes, and beside Cap'n Proto's own C++ library and
 Rust crate where they are installed, and prints a table.
 
-    bench.py [--rounds N] [--only WORD] [--program PATH]
+    bench.py [--rounds N] [--only WORD] [--program PATH] [--write]
 
 The inputs are generated in a temporary folder. In each round every command runs once, in turn, so that
 a busy machine slows them alike; the table has the median of the rounds. MiB, MB/s and `ratio`, against `dd`
@@ -10,10 +10,14 @@ with blocks of 64 KiB, are those of the plain file also where a command gets it 
 is the largest resident size of any round, and never less than this script's own, some 17 MiB, which a
 program that it starts inherits. `peer` is capvet's seconds over those of the faster of the two libraries at
 the same job. They don't do just the same work: the programs in peers/ say what differs.
+
+With --write the table and the machine also go into docs/speed.md, between the marks there, and the column `peer` into
+docs/speed.svg as a chart, which README.md then shows. All rows have to run for this, beside both libraries.
 """
 import argparse
 import multiprocessing
 import os
+import platform
 import random
 import shutil
 import statistics
@@ -24,6 +28,8 @@ import tempfile
 import time
 from dataclasses import dataclass
 from pathlib import Path
+
+import chart
 
 TOP = Path(__file__).resolve().parent.parent
 MIB = 1 << 20
@@ -313,9 +319,12 @@ def options():
     parser.add_argument("--rounds", type=int, default=5)
     parser.add_argument("--only", default="", help="run the rows whose name or input has this word")
     parser.add_argument("--program", default=str(TOP / "build/capvet"))
+    parser.add_argument("--write", action="store_true", help="write docs/speed.md, docs/speed.svg and the chart's place in README.md")
     args = parser.parse_args()
     if not Path(args.program).is_file():
         sys.exit(f"{args.program} isn't there: build it by `make run`")
+    if args.write and args.only:
+        sys.exit("--write takes all rows, and so no --only")
     return args
 
 
@@ -358,15 +367,52 @@ def fastest_peers(chosen, results):
     return fastest
 
 
-def show(chosen, results, sizes):
+HEADS = ["input", "command", "MiB", "seconds", "MB/s", "ratio", "MiB used", "peer"]
+
+
+def lines_of(chosen, results, sizes):
+    """The cells of each row, as text. The last one is empty where no library does the job."""
     dd = {it.input: seconds for it, (seconds, _) in zip(chosen, results) if it.name == "dd bs=64K"}
     fastest = fastest_peers(chosen, results)
-    print(f"{'input':8} {'command':20} {'MiB':>7} {'seconds':>9} {'MB/s':>8} {'ratio':>7} {'MiB used':>9} {'peer':>7}")
+    lines = []
     for it, (seconds, memory) in zip(chosen, results):
         size = sizes[it.input]
         peer = None if it.timed.peer else fastest.get((it.input, it.timed.job))
-        print(f"{it.input:8} {it.name:20} {size / MIB:7.1f} {seconds:9.4f} {size / seconds / 1e6:8.0f}"
-              f" {seconds / dd[it.input]:7.2f} {memory / 1024:9.1f}" + (f" {seconds / peer:7.2f}" if peer else ""))
+        lines.append([it.input, it.name, f"{size / MIB:.1f}", f"{seconds:.4f}", f"{size / seconds / 1e6:.0f}", f"{seconds / dd[it.input]:.2f}",
+                      f"{memory / 1024:.1f}", f"{seconds / peer:.2f}" if peer else ""])
+    return lines
+
+
+def show(lines):
+    for line in [HEADS, *lines]:
+        name, command, *numbers = line
+        print(f"{name:8} {command:20} " + " ".join(f"{it:>{wide}}" for it, wide in zip(numbers, (7, 9, 8, 7, 9, 7))).rstrip())
+
+
+def ratios(chosen, results):
+    """The input, the job and the ratio of each row of capvet's that a library does too."""
+    fastest = fastest_peers(chosen, results)
+    return [(it.input, it.timed.job, seconds / fastest[it.input, it.timed.job]) for it, (seconds, _) in zip(chosen, results)
+            if it.timed.job and not it.timed.peer]
+
+
+def machine():
+    """The processor, how many of them, the memory and the system."""
+    info = Path("/proc/cpuinfo")
+    names = [line.partition(":")[2].strip() for line in info.read_text().splitlines() if line.startswith("model name")] if info.is_file() else []
+    memory = os.sysconf("SC_PAGE_SIZE") * os.sysconf("SC_PHYS_PAGES") / (1 << 30)
+    return f"{names[0] if names else platform.machine()}, {os.cpu_count()} processors, {memory:.0f} GiB, {platform.system()} {platform.release()}"
+
+
+def write_pages(chosen, lines, results, rounds):
+    """Puts the results into docs/speed.svg, docs/speed.md and README.md."""
+    (TOP / "docs/speed.svg").write_text(chart.svg(ratios(chosen, results)))
+    picture = "![capvet's time over that of the faster library]({})\n"
+    measured = f"Machine: {machine()}. The median of {rounds} rounds.\n\n{chart.table([HEADS, *lines])}\n{picture.format('speed.svg')}"
+    small = '<a href="docs/speed.md"><img src="docs/speed.svg" alt="capvet\'s time over that of the faster library" width="420"></a>\n'
+    for path, name, text in [("docs/speed.md", "measured", measured), ("README.md", "chart", small)]:
+        page = TOP / path
+        page.write_text(chart.between(page.read_text(), name, text))
 
 
 def main():
@@ -374,12 +420,18 @@ def main():
     chosen = choose(args.only)
     with tempfile.TemporaryDirectory() as folder:
         wanted = [name for name in PEERS if any(it.timed.peer == name for it in chosen)]
-        programs = build_peers(wanted, folder) | {"PROGRAM": args.program}
+        built = build_peers(wanted, folder)
+        if args.write and len(built) < len(PEERS):
+            sys.exit("--write takes both libraries")
+        programs = built | {"PROGRAM": args.program}
         chosen = [it for it in chosen if it.timed.peer is None or it.timed.peer in programs]
         files = make_files(args.program, chosen, folder)
         results = measure(chosen, programs, files, args.rounds)
         sizes = {it.input: files[it.input, False].stat().st_size for it in chosen}
-    show(chosen, results, sizes)
+    lines = lines_of(chosen, results, sizes)
+    show(lines)
+    if args.write:
+        write_pages(chosen, lines, results, args.rounds)
 
 
 if __name__ == "__main__":
