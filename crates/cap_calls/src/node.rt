@@ -100,21 +100,28 @@ impl CallNode {
                 offset: before,
                 ..CallNode::none()
             },
-            // Its tag comes before its elements.
             Kind::Structs {
                 count,
                 data_words,
                 pointers,
-            } => CallNode {
-                kind: 4,
-                element: 7,
-                count,
-                data_words: u32::from(data_words),
-                pointers: u32::from(pointers),
-                offset: before + 8,
-                length: 8 * (u64::from(count) * (u64::from(data_words) + u64::from(pointers))),
-                ..CallNode::none()
-            },
+            } => CallNode::of_structs(count, data_words, pointers, before),
+        }
+    }
+
+    // Of a list of structs. Its tag comes before its elements.
+    fn of_structs(count: u32, data_words: u16, pointers: u16, before: u64) -> CallNode
+        requires { before < 2 ^ 60 }
+        ensures { result ≡ kind_node (Kind.Structs count data_words pointers) before }
+    {
+        CallNode {
+            kind: 4,
+            element: 7,
+            count,
+            data_words: u32::from(data_words),
+            pointers: u32::from(pointers),
+            offset: before + 8,
+            length: 8 * (u64::from(count) * (u64::from(data_words) + u64::from(pointers))),
+            ..CallNode::none()
         }
     }
 }

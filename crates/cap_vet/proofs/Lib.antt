@@ -27,6 +27,7 @@ mod Views
 mod PathLax
 mod Charging
 mod PathEnds
+mod PathWays
 mod StepsGiven
 pub mod PathFaults
 mod Bits

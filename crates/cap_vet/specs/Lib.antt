@@ -15,6 +15,7 @@ pub mod Owing
 pub mod Passing
 pub mod PathDemands
 pub mod PathStrictness
+pub mod PathWays
 pub mod PointerRuns
 pub mod Reports
 pub mod Spots

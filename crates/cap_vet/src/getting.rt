@@ -1,16 +1,17 @@
 //! Getters of messages that weren't vetted, under demands.
 
 ghost use Rattle.cap_spec.specs.Arriving.{ArrivesAt};
-ghost use Rattle.cap_spec.specs.Getting.{IsRefusedOnPath};
 ghost use Rattle.cap_spec.specs.Paths.{Spot as Where};
 ghost use Rattle.cap_spec.specs.declared.Kind.{Kind};
 ghost use Rattle.cap_spec.specs.declared.Step.{Step};
 ghost use Rattle.cap_spec.specs.declared.StrictRefusal.{StrictRefusal};
-ghost use Rattle.cap_vet.specs.Charging.{Arrives, EndsAt};
+ghost use Rattle.cap_vet.specs.Charging.{Arrives};
+ghost use Rattle.cap_vet.specs.Demands.{words_under};
 ghost use Rattle.cap_vet.specs.Handles.{kept_place, view_kind, view_message};
 ghost use Rattle.cap_vet.specs.Limits.{depth_of, words_of};
 ghost use Rattle.cap_vet.specs.PathDemands.{IsPathFault, MeetsOnPath};
-ghost use Rattle.std.specs.Prelude.{◌≡◌, Err, IfErr, IfNone, IfOk, IfSome, IsOk, List, ℕ};
+ghost use Rattle.cap_vet.specs.PathWays.{HasFound, IsGiven, IsWay};
+ghost use Rattle.std.specs.Prelude.{◌++◌, ◌≡◌, Err, IfErr, IfNone, IfOk, IfSome, IsOk, List, ℕ};
 
 use crate::charged::{Arrival, at_root};
 use crate::demands::{Demands, limits_under};
@@ -18,8 +19,9 @@ use crate::limits::Limits;
 use crate::path_strictness::strict_fault;
 use crate::step_source::StepSource;
 use crate::view::View;
+use crate::way::Way;
 use cap_frame::Segments;
-use cap_spec::{Refusal, StrictRefusal};
+use cap_spec::StrictRefusal;
 
 /// Follows a path in a message that needn't be vetted, under demands, and gives what it arrives at
 /// (encoding: Security Considerations). The limits and demands are those of [`crate::vet_with`], and
@@ -65,50 +67,81 @@ pub fn get_with<'m, M: Segments, S: StepSource + Copy>(
         IsPathFault demands m (words_of limits) (depth_of limits) steps r → result ≡ Err r }
 {
     let limits = limits_under(message, limits, demands);
-    let (at, is_found) = match along(message, limits.words(), limits.depth(), path) {
-        Ok(end) => end,
-        Err(refusal) => return Err(StrictRefusal::Refused(refusal)),
-    };
-    if let Some(fault) = strict_fault(message, demands, at.lax) {
-        return Err(fault);
-    }
-    if !is_found {
-        return Ok(None);
-    }
-    let view = View {
-        message,
-        found: at.found,
-    };
-    Ok(Some(view))
+    let way = follow_path(message, limits.words(), limits.depth(), path);
+    given(message, demands, way)
 }
 
-// Follows the path as far as it leads, and says whether something is at its end.
-fn along<M: Segments, S: StepSource + Copy>(
+/// What is given under demands where a path leads this way.
+#[inline(always)]
+pub(crate) fn given<'m, M: Segments>(
+    message: &'m M,
+    demands: Demands,
+    way: Way,
+) -> Result<Option<View<'m, M>>, StrictRefusal>
+    requires found { HasFound (M.segments message.now) way }
+    ensures given { let m = M.segments message.now in
+        (words depth : ℕ) (path : List Step) →
+        IsWay m (words_under demands m words) depth path way →
+        IsGiven demands m words depth path result }
+    ensures message { IfOk result (λ o. IfSome o (λ v. view_message v ≡ message.now)) }
+{
+    match way {
+        Way::To(at) => match strict_fault(message, demands, at.lax) {
+            Some(fault) => Err(fault),
+            None => Ok(Some(View {
+                message,
+                found: at.found,
+            })),
+        },
+        Way::Nowhere(at) => match strict_fault(message, demands, at.lax) {
+            Some(fault) => Err(fault),
+            None => Ok(None),
+        },
+        Way::Refused(refusal) => Err(StrictRefusal::Refused(refusal)),
+    }
+}
+
+/// Follows a path from the root as far as it leads.
+pub(crate) fn follow_path<M: Segments, S: StepSource + Copy>(
     message: &M,
     words: u64,
     depth: u32,
     path: S,
-) -> Result<(Arrival, bool), Refusal>
-    ensures ends { let m = M.segments message.now in
-        (steps : List Step) → S.gives path steps →
-        IfOk result (λ end. EndsAt m words depth steps end.0 end.1) }
-    ensures arrived { let m = M.segments message.now in IfOk result (λ end.
-        (steps : List Step) × (a : Where) × Arrives m words depth steps a end.0) }
-    ensures err { let m = M.segments message.now in
-        (steps : List Step) → S.gives path steps →
-        IfErr result (IsRefusedOnPath m words depth steps) }
+) -> Way
+    ensures way { (steps : List Step) → S.gives path steps →
+        IsWay (M.segments message.now) words depth steps result }
+    ensures found { HasFound (M.segments message.now) result }
 {
-    let mut left = path;
-    let mut at = match at_root(message, words, depth) {
-        Ok(root) => root,
-        Err(refusal) => return Err(refusal),
-    };
+    match at_root(message, words, depth) {
+        Ok(root) => along(message, words, depth, root, path),
+        Err(refusal) => Way::Refused(refusal),
+    }
+}
+
+/// Goes on along a path from where its first steps arrived, as far as it leads.
+#[inline(always)]
+pub(crate) fn along<M: Segments, S: StepSource + Copy>(
+    message: &M,
+    words: u64,
+    depth: u32,
+    from: Arrival,
+    rest: S,
+) -> Way
+    requires arrived { let m = M.segments message.now in
+        (first : List Step) × (a : Where) × Arrives m words depth first a from }
+    ensures way { let m = M.segments message.now in
+        (first steps : List Step) (a : Where) → Arrives m words depth first a from →
+        S.gives rest steps → IsWay m words depth (first ++ steps) result }
+    ensures found { HasFound (M.segments message.now) result }
+{
+    let mut left = rest;
+    let mut at = from;
     while let Some(step) = left.next_step() {
         match at.step(message, words, depth, step) {
             Ok(Some(next)) => at = next,
-            Ok(None) => return Ok((at, false)),
-            Err(fault) => return Err(fault),
+            Ok(None) => return Way::Nowhere(at),
+            Err(refusal) => return Way::Refused(refusal),
         }
     }
-    Ok((at, true))
+    Way::To(at)
 }

@@ -1,11 +1,11 @@
 //! The call for the nodes at the paths of a range.
 
 ghost use Rattle.cap_calls.specs.NodeCalls.{path_found};
-ghost use Rattle.cap_calls.specs.RangeCalls.{AreSteps, GetsRange, IsBadStep, TellsRange, TellsSteps, path_after};
+ghost use Rattle.cap_calls.specs.RangeCalls.{AreSteps, GetsRange, IsBadStep, TellsRange, TellsSteps, path_after, step_after};
 ghost use Rattle.cap_calls.specs.declared.answer.Answer.{Answer};
 ghost use Rattle.cap_calls.specs.declared.node.CallNode.{CallNode};
 ghost use Rattle.cap_calls.specs.declared.report.CallReport.{CallReport};
-ghost use Rattle.std.specs.Prelude.{◌≡◌, IfNone, IfSome, List, length, ℕ};
+ghost use Rattle.std.specs.Prelude.{◌++◌, ◌<◌, ◌≡◌, ◌∷◌, IfNone, IfSome, List, length, ℕ};
 
 use crate::answer::Answer;
 use crate::calls::get::{are_limits, bad_path, path_answer};
@@ -17,7 +17,7 @@ use crate::over::{Call, over};
 use crate::report::CallReport;
 use crate::step::CallStep;
 use cap_frame::{ByteView, Segments};
-use cap_vet::{Demands, Limits, Step, StepSource, get_with};
+use cap_vet::{Demands, Limits, PathStart, Step, StepSource};
 
 /// Follows paths of which one step varies in the message that bytes are, and reports the node at
 /// each. Node k is at the path whose step `varying` has its number and k more. The steps that lead
@@ -104,34 +104,25 @@ fn bad_step(steps: &[CallStep], varying: usize) -> Option<usize>
     None
 }
 
-// The steps that are left of a path of a range.
+// Steps of a path, in numbers.
 #[derive(Clone, Copy, Drop)]
-struct RangeSteps<'s> {
+struct FixedSteps<'s> {
     rest: &'s [CallStep],
-    // which of them varies; if none is left that varies, `more` is 0
-    varying: usize,
-    // what is added to its number
-    more: u64,
 }
 
-impl<'s> StepSource for RangeSteps<'s> {
-    ghost gives = { λ left path. path ≡ path_after left.rest.now left.varying left.more };
+impl<'s> StepSource for FixedSteps<'s> {
+    ghost gives = { λ left path. path ≡ path_after left.rest.now 0 0 };
 
     ghost most = { λ left. length left.rest.now };
 
+    #[inline(always)]
     fn next_step(&mut self) -> Option<Step> {
         if self.rest.is_empty() {
             return None;
         }
         let step = self.rest[0];
         self.rest = &self.rest[1..];
-        if self.varying > 0 {
-            self.varying -= 1;
-            return Some(step.after(0));
-        }
-        let more = self.more;
-        self.more = 0;
-        Some(step.after(more))
+        Some(step.after(0))
     }
 }
 
@@ -140,6 +131,25 @@ impl<'s> StepSource for RangeSteps<'s> {
 struct GettingRange<'s> {
     steps: &'s [CallStep],
     varying: usize,
+    ghost inside: { varying < length steps.now },
+}
+
+impl<'s> GettingRange<'s> {
+    // The steps before the one that varies, that step, and those after it.
+    #[inline]
+    fn parts(&self) -> (FixedSteps<'s>, CallStep, FixedSteps<'s>)
+        ensures { (k : ℕ) → path_after self.now.steps.now self.now.varying k
+            ≡ path_after result.0.rest.now 0 0
+            ++ step_after result.1 k ∷ path_after result.2.rest.now 0 0 }
+    {
+        let first = FixedSteps {
+            rest: &self.steps[..self.varying],
+        };
+        let rest = FixedSteps {
+            rest: &self.steps[self.varying + 1..],
+        };
+        (first, self.steps[self.varying], rest)
+    }
 }
 
 impl<'s> Call for GettingRange<'s> {
@@ -148,6 +158,7 @@ impl<'s> Call for GettingRange<'s> {
     ghost finds = { λ call demands m words depth old f new.
         GetsRange (λ k. path_after call.steps.now call.varying k) old new demands m words depth f };
 
+    // The steps before the one that varies are followed once for all nodes.
     #[inline(never)]
     fn on<'b>(
         &self,
@@ -157,13 +168,10 @@ impl<'s> Call for GettingRange<'s> {
         demands: Demands,
         out: &mut [CallNode],
     ) -> Found {
+        let (first, step, rest) = self.parts();
+        let start = PathStart::new(view, limits, demands, first);
         'nodes: for k in 0..out.len() {
-            let path = RangeSteps {
-                rest: self.steps,
-                varying: self.varying,
-                more: k as u64,
-            };
-            match get_with(view, limits, demands, path) {
+            match start.get(step.after(k as u64), rest) {
                 Ok(Some(at)) => out[k] = CallNode::of(&at, view.count()),
                 Ok(None) => return stopped(path_answer(Answer::NoNode), k),
                 Err(refusal) => return stopped(Found::refused(refusal), k),

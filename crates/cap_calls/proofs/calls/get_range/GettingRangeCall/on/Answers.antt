@@ -1,46 +1,87 @@
 -- One node more is got, or the range ends.
-use Rattle.std.proofs.Common.{ℕ, ◌≡◌, ◌∙◌, ap, arith, length, refl}
+use Rattle.std.proofs.Common.{ℕ, ◌≡◌, ◌∙◌, ◌++◌, ◌∷◌, List, ap, arith, length, refl, subst, sym}
 use Rattle.cap_frame.specs.Bytes.{cut}
 use Rattle.cap_frame.specs.declared.view.ByteView.{ByteView}
+use Rattle.cap_spec.specs.declared.Step.{Step}
+use Rattle.cap_vet.specs.PathWays.{IsStart}
 use Rattle.cap_calls.specs.CallFindings.{refused_found}
 use Rattle.cap_calls.specs.CallNodes.{kind_node, offset_of}
 use Rattle.cap_calls.specs.NodeCalls.{a_node, no_meeting, no_node, path_found}
 use Rattle.cap_calls.specs.RangeCalls.{path_after}
 use Rattle.cap_calls.specs.declared.answer.Answer.TheVariants.{Good, NoNode}
 use Rattle.cap_calls.specs.declared.found.Found.{Found}
-use Rattle.cap_calls.proofs.RangeGotten.{more_so_far, nothing_not_good, range_full, range_stops, refused_not_good}
+use Rattle.cap_calls.proofs.RangeGotten.{more_so_far, none_so_far, nothing_not_good, range_full, range_stops, refused_not_good}
+use Rattle.cap_calls.proofs.RangePaths.{given_fault, given_node, given_nothing, given_path}
 use Rattle.cap_calls.proofs.calls.get_range.GettingRangeCall.on.Goals as goal
+
+pub nodes-init : goal.nodes-init
+nodes-init c =
+    let self = c.args.self.now in
+    none_so_far (λ k. path_after self.steps.now self.varying k) _ _ _ _ _
+
+pub get-requires : goal.get-requires
+get-requires c =
+    let first = path_after c.parts.result.0.rest.now 0 0 in
+    let is = c.new-start.ensures.start first refl in
+    (c.args.demands, c.args.limits.words, c.args.limits.depth, first,
+    subst (λ (v : ByteView). IsStart c.args.demands (cut v.sizes.now v.bytes.now) c.args.limits.words c.args.limits.depth first c.new-start.result)
+    (sym c.new-start.ensures.message) is)
 
 pub returns-in-Ok-None : goal.returns-in-Ok-None
 returns-in-Ok-None c =
     let self = c.args.self.now in
     let path = path_after self.steps.now self.varying c.nodes.k in
-    let none = rw c.in-Ok-None.field-0-is at (c.in-Ok-None.ensures.none path refl) in
+    let first = path_after c.parts.result.0.rest.now 0 0 in
+    let rest = path_after c.parts.result.2.rest.now 0 0 in
+    let m = cut c.args.view.now.sizes.now c.args.view.now.bytes.now in
+    let seen = ap (λ (v : ByteView). cut v.sizes.now v.bytes.now) c.new-start.ensures.message in
+    let whole = c.parts.ensures c.nodes.k ∙ ap (λ (s : Step). first ++ s ∷ rest) (sym c.after.ensures) in
+    let given = given_path c.args.demands m _ c.args.limits.words c.args.limits.depth first rest path c.after.result c.new-start.result
+    c.get.result seen (c.new-start.ensures.start first refl) whole (c.get.ensures.given rest refl) in
+    let nothing = given_nothing c.args.demands m c.args.limits.words c.args.limits.depth path c.get.result c.in-Ok-None.field-0
+    c.in-Ok-None.is c.in-Ok-None.field-0-is given in
     range_stops (λ k. path_after self.steps.now self.varying k) _ _ _ _ _ c.nodes.out c.nodes.k c.stopped.result (path_found NoNode)
-    c.nodes.invariant (omega (arith, c.nodes-test.true)) (no_node (c.in-Ok-None.ensures.meets path refl) none refl refl)
+    c.nodes.invariant (omega (arith, c.nodes-test.true)) (no_node nothing.0 nothing.1 refl refl)
     nothing_not_good (c.stopped.ensures ∙ ap (λ (f : Found). record f { count = c.nodes.k }) c.path_answer.ensures)
 
 pub returns-in-Err : goal.returns-in-Err
 returns-in-Err c =
     let self = c.args.self.now in
     let path = path_after self.steps.now self.varying c.nodes.k in
+    let first = path_after c.parts.result.0.rest.now 0 0 in
+    let rest = path_after c.parts.result.2.rest.now 0 0 in
+    let m = cut c.args.view.now.sizes.now c.args.view.now.bytes.now in
+    let seen = ap (λ (v : ByteView). cut v.sizes.now v.bytes.now) c.new-start.ensures.message in
+    let whole = c.parts.ensures c.nodes.k ∙ ap (λ (s : Step). first ++ s ∷ rest) (sym c.after.ensures) in
+    let given = given_path c.args.demands m _ c.args.limits.words c.args.limits.depth first rest path c.after.result c.new-start.result
+    c.get.result seen (c.new-start.ensures.start first refl) whole (c.get.ensures.given rest refl) in
+    let fault = given_fault c.args.demands m c.args.limits.words c.args.limits.depth path c.get.result c.in-Err.refusal c.in-Err.is given in
     range_stops (λ k. path_after self.steps.now self.varying k) _ _ _ _ _ c.nodes.out c.nodes.k c.stopped-in-Err.result
     (refused_found c.in-Err.refusal) c.nodes.invariant (omega (arith, c.nodes-test.true))
-    (no_meeting c.in-Err.refusal (c.in-Err.ensures.err path refl) refl refl) (refused_not_good c.in-Err.refusal)
+    (no_meeting c.in-Err.refusal fault refl refl) (refused_not_good c.in-Err.refusal)
     (c.stopped-in-Err.ensures ∙ ap (λ (f : Found). record f { count = c.nodes.k }) c.refused.ensures)
 
 pub nodes-preserved : goal.nodes-preserved
 nodes-preserved c =
     let self = c.args.self.now in
+    let path = path_after self.steps.now self.varying c.nodes.k in
+    let first = path_after c.parts.result.0.rest.now 0 0 in
+    let rest = path_after c.parts.result.2.rest.now 0 0 in
+    let m = cut c.args.view.now.sizes.now c.args.view.now.bytes.now in
+    let seen = ap (λ (v : ByteView). cut v.sizes.now v.bytes.now) c.new-start.ensures.message in
+    let whole = c.parts.ensures c.nodes.k ∙ ap (λ (s : Step). first ++ s ∷ rest) (sym c.after.ensures) in
+    let given = given_path c.args.demands m _ c.args.limits.words c.args.limits.depth first rest path c.after.result c.new-start.result
+    c.get.result seen (c.new-start.ensures.start first refl) whole (c.get.ensures.given rest refl) in
     let at = c.in-Ok-Some.at in
     let place = at.found.place in
-    let path = path_after self.steps.now self.varying c.nodes.k in
+    let node = given_node c.args.demands m c.args.limits.words c.args.limits.depth path c.get.result c.in-Ok-Some.field-0 at
+    c.in-Ok-Some.is c.in-Ok-Some.field-0-is given in
     let message = rw c.in-Ok-Some.field-0-is at c.in-Ok-Some.ensures.message in
-    let some = rw c.in-Ok-Some.field-0-is at (c.in-Ok-Some.ensures.some path refl) in
     more_so_far (λ k. path_after self.steps.now self.varying k) _ _ _ _ _ c.nodes.out _ c.nodes.k c.of.result c.nodes.invariant
     (omega (arith, c.nodes-test.true, c.nodes.invariant.size))
-    (a_node at.found.kind place.segment place.start place.words (c.in-Ok-Some.ensures.meets path refl) some refl
-    (c.of.ensures ∙ ap (λ (u : ByteView). kind_node at.found.kind (offset_of (cut u.sizes.now u.bytes.now) place.segment place.start)) message))
+    (a_node at.found.kind place.segment place.start place.words node.0 node.1 refl
+    (c.of.ensures ∙ ap (λ (u : ByteView). kind_node at.found.kind (offset_of (cut u.sizes.now u.bytes.now) place.segment place.start))
+    (message ∙ c.new-start.ensures.message)))
     refl
 
 pub returns : goal.returns

@@ -6,5 +6,5 @@ use Rattle.cap_calls.proofs.calls.get_range.GettingRangeCall.on.Given as goal
 
 abbrev pub invariant-nodes : goal.invariant-nodes
 invariant-nodes l =
-    RangeSoFar (λ k. path_after l.self.steps.now l.self.varying k) l.fn.out l.out l.demands
-    (cut l.view.sizes.now l.view.bytes.now) l.limits.words l.limits.depth l.k
+    RangeSoFar (λ k. path_after l.self.steps.now l.self.varying k) l.fn.out l.out l.fn.demands
+    (cut l.view.sizes.now l.view.bytes.now) l.fn.limits.words l.fn.limits.depth l.k

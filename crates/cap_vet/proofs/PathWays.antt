@@ -1,0 +1,145 @@
+-- What is given for a path, by where it leads.
+use Rattle.std.proofs.Common.{ℕ, ◌≡◌, ◌∙◌, ◌≤◌, List, [], ◌∷◌, ◌++◌, Err, Ok, None, Option, Some, ap, append_assoc, append-nil, inl, inr, length, refl, subst, sym}
+use Rattle.std.specs.Prelude.{true, false, IsOk, Result}
+use Rattle.cap_frame.specs.declared.segments.Segments as segments
+use Rattle.cap_spec.specs.Arriving.{ArrivesAt}
+use Rattle.cap_spec.specs.Getting.{IsFaultOnPath, IsRefusedOnPath}
+use Rattle.cap_spec.specs.Paths.{Goes, Spot}
+use Rattle.cap_spec.specs.declared.Refusal.{Refusal}
+use Rattle.cap_spec.specs.declared.Step.{Step}
+use Rattle.cap_spec.specs.declared.StrictRefusal.{StrictRefusal}
+use Rattle.cap_spec.specs.declared.StrictRefusal.TheVariants as fault
+use Rattle.cap_vet.specs.Charging.{Arrives, EndsEarly}
+use Rattle.cap_vet.specs.Demands.{words_under}
+use Rattle.cap_vet.specs.PathDemands.{IsPathFault, MeetsOnPath}
+use Rattle.cap_vet.specs.PathStrictness.{HasNoFaultBy, IsFaultBy}
+use Rattle.cap_vet.specs.PathWays.{GivesAfter, IsGiven, IsStart, IsWay}
+use Rattle.cap_vet.specs.declared.charged.Arrival.{Arrival}
+use Rattle.cap_vet.specs.declared.demands.Demands.{Demands}
+use Rattle.cap_vet.specs.declared.found.Found.{Found}
+use Rattle.cap_vet.specs.declared.path_start.PathStart.{PathStart}
+use Rattle.cap_vet.specs.declared.view.View.{View}
+use Rattle.cap_vet.specs.declared.way.Way.{Way}
+use Rattle.cap_vet.specs.declared.way.Way.TheVariants.{To, Nowhere, Refused}
+use Rattle.cap_vet.proofs.Charging.{fault_longer}
+use Rattle.cap_vet.proofs.PathEnds.{fault_at, meets_at, nothing_at, something_at}
+use Rattle.cap_vet.proofs.PathFaults.{meets_no_path_fault, one_path_fault}
+
+-- A path goes on as far as one that begins it, if that leads to nothing or is refused.
+module _ (m : List (List ℕ)) (words depth : ℕ) (path more : List Step) where
+  pub nowhere_longer : (at : Arrival) → EndsEarly m words depth path at → EndsEarly m words depth (path ++ more) at
+  nowhere_longer at e = record {
+    done = e.done;
+    step = e.step;
+    rest = e.rest ++ more;
+    spot = e.spot;
+    whole = ap (λ (ss : List Step). ss ++ more) e.whole ∙ append_assoc e.done (e.step ∷ e.rest) more;
+    arrives = e.arrives;
+    nowhere = e.nowhere;
+  }
+
+  pub refused_longer : (r : Refusal) → IsRefusedOnPath m words depth path r → IsRefusedOnPath m words depth (path ++ more) r
+  refused_longer r (inl h) = inl h
+  refused_longer r (inr f) = inr (fault_longer m words depth path more (path ++ more) r refl f)
+
+-- One step more leads to nothing,
+pub step_nowhere : (m : List (List ℕ)) (words depth : ℕ) (path rest : List Step) (step : Step) (a : Spot) (at : Arrival)
+    → Arrives m words depth path a at → ((b : Spot) → Goes m a step b → ⊥) → EndsEarly m words depth (path ++ step ∷ rest) at
+step_nowhere m words depth path rest step a at h none =
+    record { done = path; step = step; rest = rest; spot = a; whole = refl; arrives = h; nowhere = none }
+
+-- is refused,
+pub step_refused : (m : List (List ℕ)) (words depth : ℕ) (path rest : List Step) (step : Step) (r : Refusal)
+    → IsFaultOnPath m words depth (path ++ step ∷ []) r → IsRefusedOnPath m words depth (path ++ step ∷ rest) r
+step_refused m words depth path rest step r f =
+    inr (fault_longer m words depth (path ++ step ∷ []) rest (path ++ step ∷ rest) r (append_assoc path (step ∷ []) rest) f)
+
+-- or leads on.
+pub step_on : (m : List (List ℕ)) (words depth : ℕ) (path rest : List Step) (step : Step) (way : Way)
+    → IsWay m words depth ((path ++ step ∷ []) ++ rest) way → IsWay m words depth (path ++ step ∷ rest) way
+step_on m words depth path rest step way h =
+    subst (λ (ss : List Step). IsWay m words depth ss way) (append_assoc path (step ∷ []) rest) h
+
+-- The limits by other names.
+pub way_as : (m : List (List ℕ)) (w x d y : ℕ) (path : List Step) (way : Way) → w ≡ x → d ≡ y → IsWay m w d path way
+    → IsWay m x y path way
+way_as m w x d y path way e f h =
+    subst (λ z. IsWay m x z path way) f (subst (λ z. IsWay m z d path way) e h)
+
+module _ {M : Type 0} {g : segments.Ghosts M} (demands : Demands) (m : List (List ℕ)) (words depth : ℕ) (path : List Step) where
+  -- a reason why the pointers don't meet the demands
+  fault_given : (fault : StrictRefusal) → IsPathFault demands m words depth path fault
+      → IsGiven {M = M} {g = g} demands m words depth path (Err fault)
+  fault_given fault h = record { meets = tt; none = tt; some = tt; err = h }
+
+  pub refusal_given : (r : Refusal) → IsRefusedOnPath m (words_under demands m words) depth path r
+      → IsGiven {M = M} {g = g} demands m words depth path (Err (fault.Refused r))
+  refusal_given r h = fault_given (fault.Refused r) h
+
+  -- of a path to something
+  pub to_fault_given : (at : Arrival) (fault : StrictRefusal) → length m ≤ 512
+      → IsWay m (words_under demands m words) depth path (To at) → IsFaultBy demands (length m) at.lax fault
+      → IsGiven {M = M} {g = g} demands m words depth path (Err fault)
+  to_fault_given at fault few h f = fault_given fault (fault_at demands m words depth path at true fault few h f)
+
+  pub something_given : (at : Arrival) (v : View M g) → v.found ≡ at.found
+      → IsWay m (words_under demands m words) depth path (To at) → HasNoFaultBy demands (length m) at.lax
+      → IsGiven demands m words depth path (Ok (Some v))
+  something_given at v e h none = record {
+    meets = meets_at demands m words depth path at true h none;
+    none = tt;
+    some = subst (λ (f : Found). ArrivesAt m path f.kind f.place.segment f.place.start f.place.words) (sym e)
+        (something_at m (words_under demands m words) depth path at h.0 h.1);
+    err = tt;
+  }
+
+  -- and of a path to nothing
+  pub nowhere_fault_given : (at : Arrival) (fault : StrictRefusal) → length m ≤ 512
+      → IsWay m (words_under demands m words) depth path (Nowhere at) → IsFaultBy demands (length m) at.lax fault
+      → IsGiven {M = M} {g = g} demands m words depth path (Err fault)
+  nowhere_fault_given at fault few h f = fault_given fault (fault_at demands m words depth path at false fault few h f)
+
+  pub nothing_given : (at : Arrival) → IsWay m (words_under demands m words) depth path (Nowhere at)
+      → HasNoFaultBy demands (length m) at.lax → IsGiven {M = M} {g = g} demands m words depth path (Ok None)
+  nothing_given at h none = record {
+    meets = meets_at demands m words depth path at false h none;
+    none = nothing_at m (words_under demands m words) depth path at h;
+    some = tt;
+    err = tt;
+  }
+
+  -- What is given decides what is given.
+  pub given_accepts : (r : Result (Option (View M g)) StrictRefusal) → IsGiven demands m words depth path r
+      → MeetsOnPath demands m words depth path → IsOk r
+  given_accepts (Ok o) h meets = refl
+  given_accepts (Err fault) h meets = absurd (meets_no_path_fault demands m words depth path fault meets h.err)
+
+  pub given_refuses : (r : Result (Option (View M g)) StrictRefusal) (fault : StrictRefusal)
+      → IsGiven demands m words depth path r → IsPathFault demands m words depth path fault → r ≡ Err fault
+  given_refuses (Ok o) fault h f = absurd (meets_no_path_fault demands m words depth path fault h.meets f)
+  given_refuses (Err other) fault h f = ap Err (one_path_fault demands m words depth path other fault h.err f)
+
+-- the steps done, the next one and the others
+pub all_steps : (first done steps more rest : List Step) (step : Step) → steps ≡ done ++ more → more ≡ step ∷ rest
+    → (first ++ done) ++ step ∷ rest ≡ first ++ steps
+all_steps first done steps more rest step e f =
+    append_assoc first done (step ∷ rest) ∙ ap (λ (ss : List Step). first ++ ss) (sym (e ∙ ap (λ (ss : List Step). done ++ ss) f))
+
+-- no more steps
+pub done_steps : (first done steps more : List Step) → steps ≡ done ++ more → more ≡ [] → first ++ done ≡ first ++ steps
+done_steps first done steps more e f =
+    ap (λ (ss : List Step). first ++ ss) (sym (e ∙ ap (λ (ss : List Step). done ++ ss) f ∙ append-nil done))
+
+-- What is given after the first steps is what is given where the whole path leads.
+pub given_after : {M : Type 0} {g : segments.Ghosts M} (m : List (List ℕ)) (start : PathStart M) (step : Step) (rest : List Step) (way : Way)
+    (result : Result (Option (View M g)) StrictRefusal)
+    → ((words depth : ℕ) (path : List Step) → IsWay m (words_under start.demands m words) depth path way
+      → IsGiven start.demands m words depth path result)
+    → ((first : List Step) → IsWay m start.words start.depth first start.way
+      → IsWay m start.words start.depth (first ++ step ∷ rest) way)
+    → GivesAfter m start step rest result
+given_after m start step rest way result given on = λ demands words depth first is.
+    let path = first ++ step ∷ rest in
+    let limit : start.words ≡ words_under start.demands m words = is.limit ∙ ap (λ (d : Demands). words_under d m words) (sym is.under) in
+    let leads : IsWay m (words_under start.demands m words) depth path way = way_as m _ _ _ _ path way limit is.deepest (on first is.way) in
+    subst (λ (d : Demands). IsGiven d m words depth path result) is.under (given words depth path leads)
