@@ -53,6 +53,7 @@ impl CallNode {
     }
 
     // What a view shows, in a frame of a message of this number of segments.
+    #[inline(always)]
     pub(crate) fn of<M: Segments>(view: &View<'_, M>, segments: u32) -> CallNode
         requires { segments ≡ length (M.segments (view_message view.now)) }
         ensures { let m = M.segments (view_message view.now) in let place = kept_place view.now in
@@ -63,6 +64,7 @@ impl CallNode {
     }
 
     // Of this kind, with this many bytes before the words of its object.
+    #[inline(always)]
     fn of_kind(kind: Kind, before: u64) -> CallNode
         requires { before < 2 ^ 60 }
         ensures { result ≡ kind_node kind before }
@@ -109,6 +111,7 @@ impl CallNode {
     }
 
     // Of a list of structs. Its tag comes before its elements.
+    #[inline(always)]
     fn of_structs(count: u32, data_words: u16, pointers: u16, before: u64) -> CallNode
         requires { before < 2 ^ 60 }
         ensures { result ≡ kind_node (Kind.Structs count data_words pointers) before }

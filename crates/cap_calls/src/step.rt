@@ -20,6 +20,7 @@ impl CallStep {
 
     // The step with this added to its number. Numbers stop at the highest of their kind, where
     // nothing ever is.
+    #[inline(always)]
     pub(crate) fn after(self, more: u64) -> Step
         ensures { result ≡ step_after self more }
     {
@@ -32,6 +33,7 @@ impl CallStep {
 }
 
 // The sum, or `most` if it is more.
+#[inline(always)]
 fn up_to(number: u32, more: u64, most: u32) -> u32
     ensures sum { result ≡ min (number + more) most }
     ensures within { result ≤ most }

@@ -40,6 +40,7 @@ pub(crate) struct Arrival {
 }
 
 // Arrives at the root.
+#[inline(always)]
 pub(crate) fn at_root<M: Segments>(message: &M, words: u64, depth: u32) -> Result<Arrival, Refusal>
     ensures ok { IfOk result (Arrives (M.segments message.now) words depth [] (word 0 0)) }
     ensures level { IfOk result (λ at. at.level ≡ 1) }
@@ -75,6 +76,7 @@ pub(crate) fn at_root<M: Segments>(message: &M, words: u64, depth: u32) -> Resul
 impl Arrival {
     // Takes one step, to what the step's pointer leads to or to an element. `None` if the step
     // leads to nothing.
+    #[inline(always)]
     pub(crate) fn step<M: Segments>(
         &self,
         message: &M,

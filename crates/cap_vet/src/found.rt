@@ -22,6 +22,7 @@ pub(crate) struct Found {
 }
 
 // The kind of an object.
+#[inline(always)]
 fn kind_of(shape: Shape) -> Kind
     ensures { result ≡ kind_of_shape shape }
 {
@@ -50,6 +51,7 @@ fn kind_of(shape: Shape) -> Kind
 
 impl Found {
     /// Where a step leads from there.
+    #[inline(always)]
     pub(crate) fn step(&self, step: Step) -> Option<Spot>
         requires { (m : List (List ℕ)) × (a : Where) × IsMessage m × IsFound m a self.now }
         ensures { IsStep self.now step result }
@@ -61,6 +63,7 @@ impl Found {
     }
 
     // The pointer of a struct.
+    #[inline(always)]
     fn pointer(&self, i: u16) -> Option<Spot>
         requires { (m : List (List ℕ)) × (a : Where) × IsMessage m × IsFound m a self.now }
         ensures { IsStep self.now (Step.Ptr i) result }
@@ -82,6 +85,7 @@ impl Found {
     }
 
     // The element of a list of pointers or of structs.
+    #[inline(always)]
     fn item(&self, i: u32) -> Option<Spot>
         requires { (m : List (List ℕ)) × (a : Where) × IsMessage m × IsFound m a self.now }
         ensures { IsStep self.now (Step.Item i) result }
@@ -118,6 +122,7 @@ impl Found {
 }
 
 /// What a pointer word leads to.
+#[inline(always)]
 pub(crate) fn found_of(followed: Followed) -> Found
     ensures { (m : List (List ℕ)) (s w : ℕ) →
         IsMessage m → IsFollowed m s w followed → IsFound m (word s w) result }
@@ -177,6 +182,7 @@ fn found_far<M: Segments>(message: &M, s: u32, w: u32) -> Found
 }
 
 /// What an element of a list of structs is.
+#[inline(always)]
 pub(crate) fn element(segment: u32, start: u32, data_words: u16, pointers: u16) -> Found
     ensures { result ≡ element_of segment start data_words pointers }
 {

@@ -102,6 +102,7 @@ pub(crate) fn given<'m, M: Segments>(
 }
 
 /// Follows a path from the root as far as it leads.
+#[inline(always)]
 pub(crate) fn follow_path<M: Segments, S: StepSource + Copy>(
     message: &M,
     words: u64,

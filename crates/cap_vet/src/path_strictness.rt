@@ -16,6 +16,7 @@ const MOST_SEGMENTS: u32 = 511;
 
 /// The first such pointer on a path that goes on to the pointer at word `w` of segment `s`, if it
 /// was `before` up to there. The pointer can be followed, and is the one of this number.
+#[inline(always)]
 pub(crate) fn first_lax<M: Segments>(
     message: &M,
     before: Option<LaxPointer>,
@@ -43,6 +44,7 @@ pub(crate) fn first_lax<M: Segments>(
 }
 
 /// Why a message isn't strict, if that is demanded and this is the first such pointer on a path.
+#[inline(always)]
 pub(crate) fn strict_fault<M: Segments>(
     message: &M,
     demands: Demands,

@@ -47,6 +47,7 @@ impl<'m, M: Segments> View<'m, M> {
     ghost use Rattle.std.specs.Prelude.{◌^◌, IfSome, slice_get};
 
     /// What it is, with its sizes.
+    #[inline(always)]
     pub fn kind(&self) -> Kind
         ensures value { result ≡ view_kind self.now }
         ensures shows { result ≡ kind_of (shown self.now) }
@@ -72,6 +73,7 @@ impl<'m, M: Segments> View<'m, M> {
     /// How many words of the message come before those of its [`place`](View::place), where the
     /// segments follow one another (encoding: Serialization Over a Stream). One step for each segment
     /// before its own. 0 for null and a capability.
+    #[inline(always)]
     pub fn words_before(&self) -> u64
         ensures value { let m = M.segments (view_message self.now) in
             let place = kept_place self.now in
