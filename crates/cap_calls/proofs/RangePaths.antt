@@ -22,7 +22,7 @@ path_parts (s ∷ steps) zero k d l = refl
 path_parts (s ∷ steps) (suc v) k d l =
     ap (λ (ss : List Step). step_after s 0 ∷ ss) (path_parts steps v k d (omega (arith, l)))
 
--- What is given after the first steps is given for the whole path.
+-- After the first steps the path gives what it gives as a whole.
 pub given_path : {M : Type 0} {g : segments.Ghosts M} (demands : Demands) (m n : List (List ℕ)) (words depth : ℕ) (first rest path : List Step)
     (step : Step) (start : PathStart M) (r : Result (Option (View M g)) StrictRefusal) → n ≡ m → IsStart demands m words depth first start
     → path ≡ first ++ step ∷ rest → GivesAfter n start step rest r → IsGiven demands m words depth path r

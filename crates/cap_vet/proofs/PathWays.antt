@@ -108,7 +108,7 @@ module _ {M : Type 0} {g : segments.Ghosts M} (demands : Demands) (m : List (Lis
     err = tt;
   }
 
-  -- What is given decides what is given.
+  -- So a path that meets the demands gives no fault, and a fault is the one that it gives.
   pub given_accepts : (r : Result (Option (View M g)) StrictRefusal) → IsGiven demands m words depth path r
       → MeetsOnPath demands m words depth path → IsOk r
   given_accepts (Ok o) h meets = refl
@@ -130,13 +130,13 @@ pub done_steps : (first done steps more : List Step) → steps ≡ done ++ more 
 done_steps first done steps more e f =
     ap (λ (ss : List Step). first ++ ss) (sym (e ∙ ap (λ (ss : List Step). done ++ ss) f ∙ append-nil done))
 
--- What is given after the first steps is what is given where the whole path leads.
+-- After the first steps the path gives what it gives as a whole.
 pub given_after : {M : Type 0} {g : segments.Ghosts M} (m : List (List ℕ)) (start : PathStart M) (step : Step) (rest : List Step) (way : Way)
     (result : Result (Option (View M g)) StrictRefusal)
     → ((words depth : ℕ) (path : List Step) → IsWay m (words_under start.demands m words) depth path way
-      → IsGiven start.demands m words depth path result)
+    → IsGiven start.demands m words depth path result)
     → ((first : List Step) → IsWay m start.words start.depth first start.way
-      → IsWay m start.words start.depth (first ++ step ∷ rest) way)
+    → IsWay m start.words start.depth (first ++ step ∷ rest) way)
     → GivesAfter m start step rest result
 given_after m start step rest way result given on = λ demands words depth first is.
     let path = first ++ step ∷ rest in

@@ -24,12 +24,12 @@ IsWay m words depth path (To at) = (spot : Spot) × Arrives m words depth path s
 IsWay m words depth path (Nowhere at) = EndsEarly m words depth path at
 IsWay m words depth path (Refused refusal) = IsRefusedOnPath m words depth path refusal
 
--- What a way leads to is at a spot of the message.
+-- A way to something leads to a spot of the message.
 abbrev pub HasFound : List (List ℕ) → Way → Type 0
 HasFound m (To at) = (spot : Spot) × IsFound m spot at.found
 HasFound m _ = ⊤
 
--- What is given for a path: what is at it, if its pointers meet the demands, or else why they don't.
+-- A path gives what is at it, if its pointers meet the demands, and else why they don't (profile).
 pub record IsGiven {M : Type 0} {g : segments.Ghosts M} (demands : Demands) (m : List (List ℕ)) (words depth : ℕ) (path : List Step)
     (result : Result (Option (View M g)) StrictRefusal) : Type 0 where
   pub meets : IfOk result (λ o. MeetsOnPath demands m words depth path)
@@ -50,7 +50,7 @@ pub record IsStart {M : Type 0} (demands : Demands) (m : List (List ℕ)) (words
   pub deepest : start.depth ≡ depth
   pub way : IsWay m start.words start.depth first start.way
 
--- What is given for the paths that go on with this step and these others after it.
+-- After the first steps, a path that goes on with this step and these others gives this.
 abbrev pub GivesAfter : {M : Type 0} {g : segments.Ghosts M} → List (List ℕ) → PathStart M → Step → List Step
     → Result (Option (View M g)) StrictRefusal → Type 0
 GivesAfter m start step rest result =

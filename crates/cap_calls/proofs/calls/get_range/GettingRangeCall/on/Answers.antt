@@ -22,10 +22,14 @@ nodes-init c =
 pub get-requires : goal.get-requires
 get-requires c =
     let first = path_after c.parts.result.0.rest.now 0 0 in
-    let is = c.new-start.ensures.start first refl in
-    (c.args.demands, c.args.limits.words, c.args.limits.depth, first,
-    subst (λ (v : ByteView). IsStart c.args.demands (cut v.sizes.now v.bytes.now) c.args.limits.words c.args.limits.depth first c.new-start.result)
-    (sym c.new-start.ensures.message) is)
+    let is = c.new-start.ensures.start first refl in (
+      c.args.demands,
+      c.args.limits.words,
+      c.args.limits.depth,
+      first,
+      subst (λ (v : ByteView). IsStart c.args.demands (cut v.sizes.now v.bytes.now) c.args.limits.words c.args.limits.depth first c.new-start.result)
+          (sym c.new-start.ensures.message) is,
+    )
 
 pub returns-in-Ok-None : goal.returns-in-Ok-None
 returns-in-Ok-None c =
