@@ -30,8 +30,8 @@ HasFound m (To at) = (spot : Spot) × IsFound m spot at.found
 HasFound m _ = ⊤
 
 -- A path gives what is at it, if its pointers meet the demands, and else why they don't (profile).
-pub record IsGiven {M : Type 0} {g : segments.Ghosts M} (demands : Demands) (m : List (List ℕ)) (words depth : ℕ) (path : List Step)
-    (result : Result (Option (View M g)) StrictRefusal) : Type 0 where
+pub record IsGiven {M : Type 0} {g : segments.Ghosts M} (demands : Demands) (m : List (List ℕ)) (words depth : ℕ)
+    (path : List Step) (result : Result (Option (View M g)) StrictRefusal) : Type 0 where
   pub meets : IfOk result (λ o. MeetsOnPath demands m words depth path)
   pub none : IfOk result (λ o. IfNone o ((k : Kind) (t b n : ℕ) → ¬ ArrivesAt m path k t b n))
   pub some : IfOk result (λ o. IfSome o (λ v.
@@ -43,8 +43,8 @@ abbrev pub start_message : {M : Type 0} → PathStart M → M
 start_message start = start.message.now
 
 -- These are the first steps of some paths in a message, under these demands and within these limits.
-pub record IsStart {M : Type 0} (demands : Demands) (m : List (List ℕ)) (words depth : ℕ) (first : List Step) (start : PathStart M)
-    : Type 0 where
+pub record IsStart {M : Type 0} (demands : Demands) (m : List (List ℕ)) (words depth : ℕ) (first : List Step)
+    (start : PathStart M) : Type 0 where
   pub under : start.demands ≡ demands
   pub limit : start.words ≡ words_under demands m words
   pub deepest : start.depth ≡ depth

@@ -53,7 +53,8 @@ loop-step-preserved g c =
           (r.0, subst (λ (ss : List Step). Arrives m c.args.words c.args.depth ss r.0 c.in-Ok-Some.next) (append_assoc first h.0 (step ∷ [])) r.1),
       λ steps left.
           let k = h.2 steps left in
-          let n = step_given g.S.StepSource.gives c.loop-step.left c.next_step.new.self c.next_step.result step k.0 c.in-Some.is c.next_step.ensures.some c.next_step.ensures.none k.2 in
+          let n = step_given g.S.StepSource.gives c.loop-step.left c.next_step.new.self c.next_step.result step k.0 c.in-Some.is
+          c.next_step.ensures.some c.next_step.ensures.none k.2 in
           (n.0, k.1 ∙ ap (λ (ss : List Step). h.0 ++ ss) n.1 ∙ sym (append_assoc h.0 (step ∷ []) n.0), n.2),
     )
 
@@ -64,7 +65,8 @@ returns-in-Ok-None-clause-way g c = λ first steps a arrives left.
     let step = c.in-Some.step in
     let x = h.1 first a arrives in
     let k = h.2 steps left in
-    let n = step_given g.S.StepSource.gives c.loop-step.left c.next_step.new.self c.next_step.result step k.0 c.in-Some.is c.next_step.ensures.some c.next_step.ensures.none k.2 in
+    let n = step_given g.S.StepSource.gives c.loop-step.left c.next_step.new.self c.next_step.result step k.0 c.in-Some.is
+    c.next_step.ensures.some c.next_step.ensures.none k.2 in
     let none = rw c.in-Ok-None.field-0-is at (c.in-Ok-None.ensures.none (first ++ h.0) x.0 x.1) in
     subst (λ (ss : List Step). IsWay m c.args.words c.args.depth ss (Nowhere c.loop-step.at)) (all_steps first h.0 steps k.0 n.0 step k.1 n.1)
     (step_nowhere m c.args.words c.args.depth (first ++ h.0) n.0 step x.0 c.loop-step.at x.1 none)
@@ -76,7 +78,8 @@ returns-in-Err-clause-way g c = λ first steps a arrives left.
     let step = c.in-Some.step in
     let x = h.1 first a arrives in
     let k = h.2 steps left in
-    let n = step_given g.S.StepSource.gives c.loop-step.left c.next_step.new.self c.next_step.result step k.0 c.in-Some.is c.next_step.ensures.some c.next_step.ensures.none k.2 in
+    let n = step_given g.S.StepSource.gives c.loop-step.left c.next_step.new.self c.next_step.result step k.0 c.in-Some.is
+    c.next_step.ensures.some c.next_step.ensures.none k.2 in
     subst (λ (ss : List Step). IsWay m c.args.words c.args.depth ss (Refused c.in-Err.refusal)) (all_steps first h.0 steps k.0 n.0 step k.1 n.1)
     (step_refused m c.args.words c.args.depth (first ++ h.0) n.0 step c.in-Err.refusal (c.in-Err.ensures.err (first ++ h.0) x.0 x.1))
 
