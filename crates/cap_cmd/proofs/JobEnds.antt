@@ -1,5 +1,5 @@
 -- What a job did, and what it did whose status is that of success.
-use Rattle.std.proofs.Common.{◌≡◌, ◌∙◌, ℕ, Bool, false, true, Option, Some, None, List, Result, Ok, Err, subst, sym, arith}
+use Rattle.std.proofs.Common.{◌≡◌, ◌≤◌, ◌∙◌, ℕ, length, Bool, false, true, Option, Some, None, List, Result, Ok, Err, subst, sym, arith}
 use Rattle.std.specs.Io.KnownBytes.{Appends, Keeps, append_known}
 use Rattle.cap_words.specs.declared.ends.ByteIn as input
 use Rattle.cap_words.specs.declared.ends.ByteOut as output
@@ -19,8 +19,11 @@ use Rattle.cap_spec.specs.Plain.{plain_text}
 use Rattle.cap_run.specs.Canons.{copies_of}
 use Rattle.cap_run.specs.Copying.{Copied, CopiesAll}
 use Rattle.cap_run.specs.Engines.{TellsStream}
+use Rattle.cap_run.specs.Filtering.{FiltersStream, Passes}
+use Rattle.cap_run.specs.Running.{Appended}
+use Rattle.cap_run.specs.Streams.{ReadsAll}
 use Rattle.cap_run.specs.Engines.{most_packed_at_once, most_unpacked_at_once, most_words}
-use Rattle.cap_run.specs.Telling.{Tells, TellsSegments, WantsNone, outcome_of}
+use Rattle.cap_run.specs.Telling.{Tells, TellsEach, TellsSegments, Told, WantsNone, messages_of, outcome_of, texts_of}
 use Rattle.cap_run.specs.Demanding.{TellsCheckUnder, TellsDumpUnder, TellsExclusiveUnder, TellsGetUnder}
 use Rattle.cap_run.specs.Demanding.{TellsVerdictUnder, WantsMarksUnder}
 use Rattle.cap_text.specs.declared.fault.Cause.{Cause}
@@ -36,7 +39,7 @@ use Rattle.cap_cmd.specs.Jobs.{CanonsInput, CanonsTo, CopiesInput, CopiesTo, Doe
 use Rattle.cap_cmd.specs.Jobs.{TellsInput, WritesAll, input_is_cut, input_words}
 use Rattle.cap_cmd.specs.declared.job.Job.{Job}
 use Rattle.cap_cmd.specs.declared.job.Task.{Task}
-use Rattle.cap_cmd.specs.declared.job.Task.TheVariants.{Segments, Vet, Dump, Get, Check, Pack, Unpack}
+use Rattle.cap_cmd.specs.declared.job.Task.TheVariants.{Segments, Vet, Filter, Dump, Get, Check, Pack, Unpack}
 use Rattle.cap_cmd.specs.declared.job.Task.TheVariants.{Canon as canon_task}
 
 -- bytes that are what others and a text were are those others, continued by the text
@@ -85,25 +88,40 @@ none_noncanonical : (o : Outcome) → outcome_status o ≡ 0 → o.noncanonical 
 none_noncanonical o e = grind (arith, e)
 
 module _ {S O : Type 0} (gs : source.Ghosts S) (go : output.Ghosts O) (s : Settings) (old new : S) where
+  -- no message of these was refused, and each is canonical where that was asked
+  all_told : (tells : Tells) (before after : O) (o : Outcome) (ts : List Told) → outcome_status o ≡ 0 → o ≡ outcome_of ts
+      → ReadsAll gs (limit_of s.size) old new (messages_of ts) → TellsEach tells 0 ts
+      → Appended go before after (texts_of ts) → length ts ≤ s.messages
+      → TellsInput tells s (gs.words old) (gs.is_cut old) (go.written before) (go.written after)
+  all_told tells before after o ts e same reads each took many = record {
+    own = reads.own;
+    all = reads.all;
+    ts = ts;
+    stream = reads.stream;
+    within = reads.within;
+    many = many;
+    each = each;
+    accepted = none_refused (outcome_of ts) (subst (λ (x : Outcome). outcome_status x ≡ 0) same e);
+    canonical = none_noncanonical (outcome_of ts) (subst (λ (x : Outcome). outcome_status x ≡ 0) same e);
+    appended = took.appended;
+  }
+
   -- all messages were accepted
   told_all : (tells : Tells) (wants : List (List ℕ) → Type 0) (before after : O) (r : Result Outcome RunFault)
       → run_status r ≡ 0 → TellsStream gs go tells wants (limit_of s.size) s.messages old new before after r
       → TellsInput tells s (gs.words old) (gs.is_cut old) (go.written before) (go.written after)
   told_all tells wants before after (Ok o) e t =
-      let k = t.ok in
-      record {
-        own = k.1.own;
-        all = k.1.all;
-        ts = k.0;
-        stream = k.1.stream;
-        within = k.1.within;
-        many = k.4;
-        each = k.2;
-        accepted = none_refused (outcome_of k.0) (subst (λ (x : Outcome). outcome_status x ≡ 0) k.5 e);
-        canonical = none_noncanonical (outcome_of k.0) (subst (λ (x : Outcome). outcome_status x ≡ 0) k.5 e);
-        appended = k.3.appended;
-      }
+      let k = t.ok in all_told tells before after o k.0 e k.5 k.1 k.2 k.3 k.4
   told_all tells wants before after (Err fault) e t = absurd (cause_fails fault.cause e)
+
+  -- all messages went on
+  passed_all : {E : Type 0} (ge : output.Ghosts E) (verdict : Tells) (before after : O) (first last : E)
+      (r : Result Outcome RunFault) → run_status r ≡ 0
+      → FiltersStream gs go ge verdict (limit_of s.size) s.messages old new before after first last r
+      → TellsInput (Passes verdict) s (gs.words old) (gs.is_cut old) (go.written before) (go.written after)
+  passed_all ge verdict before after first last (Ok o) e t =
+      let k = t.ok in all_told (Passes verdict) before after o k.0 e k.5 k.1 k.2 k.3 k.4
+  passed_all ge verdict before after first last (Err fault) e t = absurd (cause_fails fault.cause e)
 
 module _ {S O K : Type 0} (gs : source.Ghosts S) (go : output.Ghosts O) (s : Settings) (old new : S)
     (gk : sink.Ghosts K) where
@@ -161,6 +179,9 @@ module _ {S O E P U : Type 0} (gs : source.Ghosts S) (go : output.Ghosts O) (ge 
       told_all gs go s first d.last (TellsExclusiveUnder demands (words_of s.limits) (depth_of s.limits))
       (WantsMarksUnder demands (words_of s.limits) (depth_of s.limits)) before after d.answer
       (sym d.reported.status_is ∙ e) d.does
+  writes_all Filter s demands first before after old new status e d =
+      passed_all gs go s first d.1.last ge (TellsVerdictUnder demands (words_of s.limits) (depth_of s.limits)) before after
+      old d.0 d.1.answer (sym d.1.reported.status_is ∙ e) d.1.does
   writes_all Dump s demands first before after old new status e d =
       told_all gs go s first d.last (TellsDumpUnder demands (words_of s.limits) (depth_of s.limits)) WantsNone before
       after

@@ -54,6 +54,7 @@ fn task_of(alloc: Global, name: &str, options: &ArgMatches<'_>) -> Result<Task, 
         "vet" => Ok(Task::Vet {
             exclusive: options.get_flag("exclusive"),
         }),
+        "filter" => Ok(Task::Filter),
         "dump" => Ok(Task::Dump),
         "get" => match path_of(alloc, options) {
             Ok(path) => Ok(Task::Get { path }),
@@ -81,11 +82,17 @@ fn settings_of(options: &ArgMatches<'_>) -> Option<Settings>
     })
 }
 
-// The demands of the options on each message.
-fn demands_of(options: &ArgMatches<'_>) -> Demands {
-    Demands {
-        strict: options.get_flag("strict"),
-        unamplified: options.get_flag("unamplified"),
+// The demands of the options on each message. A filter makes both, unless an option lifts one.
+fn demands_of(task: &Task, options: &ArgMatches<'_>) -> Demands {
+    match task {
+        Task::Filter => Demands {
+            strict: !options.get_flag("allow-nonstrict"),
+            unamplified: !options.get_flag("allow-amplified"),
+        },
+        _ => Demands {
+            strict: options.get_flag("strict"),
+            unamplified: options.get_flag("unamplified"),
+        },
     }
 }
 
@@ -108,12 +115,13 @@ fn job_of(alloc: Global, task: Task, options: &ArgMatches<'_>) -> Result<Job, Jo
     let Some(settings) = settings_of(options) else {
         return Err(usage_fault(alloc, "error: a limit is out of range\n"));
     };
+    let demands = demands_of(&task, options);
     match file_of(alloc, options) {
         Ok(file) => Ok(Job {
             task,
             packed: options.get_flag("packed"),
             settings,
-            demands: demands_of(options),
+            demands,
             file,
         }),
         Err(fault) => Err(fault),

@@ -1,8 +1,8 @@
 //! The commands, with their options and arguments.
 
 use crate::help::{
-    CANON_NOTES, CHECK_NOTES, DUMP_NOTES, GET_NOTES, PACK_NOTES, PROGRAM_NOTES, SEGMENTS_NOTES,
-    UNPACK_NOTES, VERSION, VET_NOTES,
+    CANON_NOTES, CHECK_NOTES, DUMP_NOTES, FILTER_NOTES, GET_NOTES, PACK_NOTES, PROGRAM_NOTES,
+    SEGMENTS_NOTES, UNPACK_NOTES, VERSION, VET_NOTES,
 };
 use clap::{Arg, ArgAction, Command, value_parser};
 use std::alloc::{AllocError, Global};
@@ -33,6 +33,10 @@ const STRICT_HELP: &str = "Refuse a message in a form that common readers reject
 
 const UNAMPLIFIED_HELP: &str = "Refuse a charge above the words of the message plus 4096";
 
+const ALLOW_NONSTRICT_HELP: &str = "Accept a message in a form that common readers reject";
+
+const ALLOW_AMPLIFIED_HELP: &str = "Accept a charge above the words of the message plus 4096";
+
 /// An option or an argument of a command.
 #[derive(Clone, Copy)]
 enum Part {
@@ -42,6 +46,8 @@ enum Part {
     Depth,
     Strict,
     Unamplified,
+    AllowNonstrict,
+    AllowAmplified,
     Exclusive,
     Path,
     File,
@@ -67,7 +73,7 @@ const VETTING: [Part; 7] = [
 ];
 
 /// The commands, in the order in which help lists them.
-static FORMS: [Form; 8] = [
+static FORMS: [Form; 9] = [
     Form {
         name: "segments",
         about: "Prints the segments of each message, their sizes in words, and the root pointer",
@@ -86,6 +92,20 @@ static FORMS: [Form; 8] = [
             Part::Strict,
             Part::Unamplified,
             Part::Exclusive,
+            Part::File,
+        ],
+    },
+    Form {
+        name: "filter",
+        about: "Writes each accepted message, and leaves out the others",
+        notes: FILTER_NOTES,
+        parts: &[
+            Part::Packed,
+            Part::Size,
+            Part::Words,
+            Part::Depth,
+            Part::AllowNonstrict,
+            Part::AllowAmplified,
             Part::File,
         ],
     },
@@ -173,6 +193,8 @@ fn argument<'a>(alloc: Global, part: Part) -> Arg<'a> {
         Part::Depth => depth_option(alloc),
         Part::Strict => flag(alloc, "strict", STRICT_HELP),
         Part::Unamplified => flag(alloc, "unamplified", UNAMPLIFIED_HELP),
+        Part::AllowNonstrict => flag(alloc, "allow-nonstrict", ALLOW_NONSTRICT_HELP),
+        Part::AllowAmplified => flag(alloc, "allow-amplified", ALLOW_AMPLIFIED_HELP),
         Part::Exclusive => flag(
             alloc,
             "exclusive",

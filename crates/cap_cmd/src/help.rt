@@ -49,6 +49,18 @@ Example:
   $ capvet vet --depth 3 examples/contacts.bin
   message 0: refused DepthLimit at 0:7 pointers 3";
 
+/// The help of `filter`, after the list of its options.
+pub(crate) const FILTER_NOTES: &str = "\
+It writes an accepted message in one plain frame: a table with zero padding, and all its segments as
+they came. This goes out before the next message is read. A message is accepted if 'vet --strict
+--unamplified' accepts it; --allow-nonstrict and --allow-amplified each leave out one of these two.
+For a refused message the line of 'vet' goes to standard error, and the run goes on.
+
+Example:
+  $ cat examples/cycle.bin examples/contacts.bin | capvet filter | capvet vet
+  message 0: refused DepthLimit at 0:0 pointers 65
+  message 0: accepted charge 391 depth 11 pointers 125 caps 0";
+
 /// The help of `dump`, after the list of its options.
 pub(crate) const DUMP_NOTES: &str = "\
 After the line of 'vet', an accepted message has the lines of its tree. A node has one line, then

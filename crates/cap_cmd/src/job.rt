@@ -12,6 +12,9 @@ pub enum Task {
         /// Whether it is refused too where some word is used twice.
         exclusive: bool,
     },
+    /// To write the frame of each message that is accepted. The line of each other is written to
+    /// the output for faults.
+    Filter,
     /// To write the tree of each message that is accepted.
     Dump,
     /// To show the node that each message's tree has at a path.

@@ -11,8 +11,8 @@ use crate::status::{stream_status, words_status};
 use cap_pack::{Packer, Unpacker};
 use cap_run::{
     CopyFault, Demands, Outcome, RunFault, Settings, run_canon_with, run_check_with, run_dump_with,
-    run_get_with, run_pack, run_segments, run_unpack, run_vet_exclusive_with, run_vet_with,
-    write_copy_fault, write_fault,
+    run_filter, run_get_with, run_pack, run_segments, run_unpack, run_vet_exclusive_with,
+    run_vet_with, write_copy_fault, write_fault,
 };
 use cap_words::{ByteIn, ByteOut, PlainSink, PlainWords, WordSink, WordSource};
 use std::alloc::Global;
@@ -26,7 +26,7 @@ fn input_is_packed(job: &Job) -> bool
 {
     match &job.task {
         Task::Segments | Task::Vet { .. } | Task::Dump | Task::Get { .. } => job.packed,
-        Task::Check | Task::Canon => job.packed,
+        Task::Filter | Task::Check | Task::Canon => job.packed,
         Task::Pack => false,
         Task::Unpack => true,
     }
@@ -142,6 +142,10 @@ fn run_over<S: WordSource + Drop, O: ByteOut, E: ByteOut>(
             );
             (status, out)
         }
+        Task::Filter => {
+            let answer = run_filter(alloc, &mut source, &mut out, err, settings, demands);
+            (report_run(err, &answer), out)
+        }
         Task::Dump => {
             let answer = run_dump_with(alloc, &mut source, &mut out, settings, demands);
             (report_run(err, &answer), out)
@@ -176,8 +180,9 @@ fn run_over<S: WordSource + Drop, O: ByteOut, E: ByteOut>(
     }
 }
 
-/// Does a job: reads the input, writes to the output, and writes the line of a fault to `err`. It
-/// returns the exit status and the output. A line that can't be written changes no status.
+/// Does a job: reads the input, writes to the output, and writes the line of a fault to `err`. If
+/// the task is [`Task::Filter`], the lines of refused messages go to `err` too, before that of a
+/// fault. It returns the exit status and the output. A line that can't be written changes no status.
 ///
 /// # Status
 ///

@@ -109,7 +109,7 @@ const GROUPS: &str = "51080302ff616161616161616101616263646566670000013119aa01";
 
 const NO_MESSAGE: &[(usize, &str)] = &[(0, "capvet: Device\n")];
 
-static ROWS: [Row; 17] = [
+static ROWS: [Row; 19] = [
     Row {
         command: "segments",
         options: &[],
@@ -196,6 +196,18 @@ static ROWS: [Row; 17] = [
     },
     Row {
         command: "canon",
+        options: &["--packed"],
+        stream: COPIED_PACKED,
+        lines: LINES_COPIED_PACKED,
+    },
+    Row {
+        command: "filter",
+        options: &[],
+        stream: COPIED,
+        lines: LINES_COPIED,
+    },
+    Row {
+        command: "filter",
         options: &["--packed"],
         stream: COPIED_PACKED,
         lines: LINES_COPIED_PACKED,

@@ -12,9 +12,10 @@ use test_support::{Reader, Writer};
 const NULL: &str = "00000000010000000000000000000000";
 
 // A command, an input of which it writes something, and the line of an input that was closed.
-static ROWS: [(&str, &str, &str); 4] = [
+static ROWS: [(&str, &str, &str); 5] = [
     ("vet", NULL, "capvet: message 0: Spent\n"),
     ("segments", NULL, "capvet: message 0: Spent\n"),
+    ("filter", NULL, "capvet: message 0: Spent\n"),
     ("pack", NULL, "capvet: Spent\n"),
     ("unpack", "51080302", "capvet: Spent\n"),
 ];

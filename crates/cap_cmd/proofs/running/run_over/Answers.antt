@@ -11,6 +11,17 @@ returns-in-Segments g c = rw c.in-Segments.is (record {
 pub returns-in-Vet : goal.returns-in-Vet
 returns-in-Vet g c = rw c.in-Vet.is c.vet_over-status.ensures
 
+pub returns-in-Filter : goal.returns-in-Filter
+returns-in-Filter g c = rw c.in-Filter.is (
+  c.run_filter-answer.new.log,
+  record {
+    last = c.run_filter-answer.new.source;
+    answer = c.run_filter-answer.result;
+    does = c.run_filter-answer.ensures;
+    reported = c.report_run-in-Filter.ensures;
+  },
+)
+
 pub returns-in-Dump : goal.returns-in-Dump
 returns-in-Dump g c = rw c.in-Dump.is (record {
   last = c.run_dump_with-answer.new.source;
