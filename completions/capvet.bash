@@ -2,7 +2,7 @@
 
 # Puts the completions of the current argument into COMPREPLY.
 _capvet() {
-  local commands="segments vet dump get check canon pack unpack help"
+  local commands="segments vet filter dump get check canon pack unpack help"
   local current=${COMP_WORDS[COMP_CWORD]} previous=${COMP_WORDS[COMP_CWORD - 1]}
   local command="" options="" places=0 file_at=0 ended="" word at
   COMPREPLY=()
@@ -28,6 +28,7 @@ _capvet() {
     "") options="--help --version" ;;
     segments) options="--packed --size --help" ;;
     vet) options="--packed --size --words --depth --strict --unamplified --exclusive --help" ;;
+    filter) options="--packed --size --words --depth --allow-nonstrict --allow-amplified --help" ;;
     dump | get | check | canon)
       options="--packed --size --words --depth --strict --unamplified --help"
       ;;

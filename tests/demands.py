@@ -1,4 +1,5 @@
-"""The rows of tests/program.py for the options --strict and --unamplified, as tables.py has those without them.
+"""The rows of tests/program.py for the options --strict and --unamplified, as tables.py has those without them. Each of them
+is a row of `filter` too.
 
 Lines were written from docs/output.md, and places and counts were worked out by hand. Nothing here was computed by the
 program.
@@ -9,14 +10,22 @@ from strict import CASES, many
 from tables import BITLESS, CAPABILITY, CYCLE, NULL, Row, SHARED, STRUCT, word
 
 TEXTS = ("vet", "vet --exclusive", "dump", "get /", "check")
+DEMANDS = {"--strict": "--allow-nonstrict", "--unamplified": "--allow-amplified"}
 NULL_COPY = NULL
 EMPTY_COPY = "0000000001000000 fcffffff00000000"
+
+
+def filtering(options):
+    """The filter with these options. It has both demands, unless an option lifts one."""
+    others = [word for word in options.split() if word not in DEMANDS]
+    return " ".join(["filter", *others, *(lifts for demand, lifts in DEMANDS.items() if demand not in options)])
 
 
 def refused(options, stream, said):
     """What each command writes of a message that it refuses."""
     at, _, _ = said.partition(" pointers")
     return (*(Row(f"{command} {options}", stream, f"message 0: refused {said}\n", status=1) for command in TEXTS),
+            Row(filtering(options), stream, "", f"message 0: refused {said}\n", 1),
             Row(f"canon {options}", stream, "", f"capvet: message 0: refused {at}\n", 1))
 
 
@@ -26,6 +35,7 @@ def accepted(options, stream, numbers, head, copy, below=""):
     is_canonical = copy == stream
     return (Row(f"vet {options}", stream, verdict),
             Row(f"vet --exclusive {options}", stream, verdict),
+            Row(filtering(options), stream, word(stream)),
             Row(f"dump {options}", stream, f"{verdict}root {head}\n{below}"),
             Row(f"get / {options}", stream, f"message 0: found\nnode {head}\n{below}"),
             Row(f"check {options}", stream, f"message 0: {'' if is_canonical else 'not '}canonical\n", status=int(not is_canonical)),
@@ -119,6 +129,10 @@ AFTER_IT = (
         "message 2: refused DepthLimit at 0:0 pointers 65\n"
         "message 3: refused ManySegments at 0:0 pointers 0\n"
         "message 4: accepted charge 1 depth 1 pointers 1 caps 0\n", status=1),
+    Row("filter", f"{NULL} {CAPABILITY_PAD} {CYCLE} {MANY_SEGMENTS} {STRUCT}", word(f"{NULL} {STRUCT}"),
+        "message 1: refused CapabilityPad at 0:0 pointers 1\n"
+        "message 2: refused DepthLimit at 0:0 pointers 65\n"
+        "message 3: refused ManySegments at 0:0 pointers 0\n", 1),
     Row("get /p0 --strict", f"{NULL} {NULL_PAD} {SHARED}",
         "message 0: none\n"
         "message 1: refused NullPad at 0:0 pointers 1\n"

@@ -10,6 +10,7 @@ Usage: capvet <COMMAND>
 Commands:
   segments  Prints the segments of each message, their sizes in words, and the root pointer
   vet       Checks that each message is safe to traverse
+  filter    Writes each accepted message, and leaves out the others
   dump      Prints the tree of each accepted message
   get       Prints the node at a path in each accepted message
   check     Checks that each message is canonical
@@ -93,6 +94,33 @@ then less than the words of the message, apart from list elements that have no b
 Example:
   $ capvet vet --depth 3 examples/contacts.bin
   message 0: refused DepthLimit at 0:7 pointers 3
+"""),
+    (("filter --help", "filter -h", "help filter"), """\
+Writes each accepted message, and leaves out the others
+
+Usage: capvet filter [OPTIONS] [FILE]
+
+Arguments:
+  [FILE]  File to read instead of standard input
+
+Options:
+      --packed           The input is packed
+      --size <N>         Maximum words of a message, without its table: 0 to 268435456 [default: 8388608]
+      --words <N>        Maximum charge of a message in words: 0 to 268435456 [default: 8388608]
+      --depth <N>        Maximum level of an object: 0 to 256; the root object has level 1 [default: 64]
+      --allow-nonstrict  Accept a message in a form that common readers reject
+      --allow-amplified  Accept a charge above the words of the message plus 4096
+  -h, --help             Print help
+
+It writes an accepted message in one plain frame: a table with zero padding, and all its segments as
+they came. This goes out before the next message is read. A message is accepted if 'vet --strict
+--unamplified' accepts it; --allow-nonstrict and --allow-amplified each leave out one of these two.
+For a refused message the line of 'vet' goes to standard error, and the run goes on.
+
+Example:
+  $ cat examples/cycle.bin examples/contacts.bin | capvet filter | capvet vet
+  message 0: refused DepthLimit at 0:0 pointers 65
+  message 0: accepted charge 391 depth 11 pointers 125 caps 0
 """),
     (("dump --help", "dump -h", "help dump"), """\
 Prints the tree of each accepted message

@@ -29,7 +29,7 @@ FILES = {"bin/capvet": (0o755, PROGRAM), PAGE: (0o644, TOP / "docs/capvet.1"),
          "include/capvet/kj.h": (0o644, TOP / "include/capvet/kj.h"), "lib/libcapvet.a": (0o644, ARCHIVE),
          DESCRIPTION: (0o644, None), "lib/pkgconfig/capvet-kj.pc": (0o644, None),
          f"{PACKAGE}/capvetConfig.cmake": (0o644, None), f"{PACKAGE}/capvetConfigVersion.cmake": (0o644, None)}
-COMMANDS = ("segments", "vet", "dump", "get", "check", "canon", "pack", "unpack")
+COMMANDS = ("segments", "vet", "filter", "dump", "get", "check", "canon", "pack", "unpack")
 CONTACTS = "message 0: accepted charge 391 depth 11 pointers 125 caps 0\n"
 passed = failed = 0
 
@@ -137,13 +137,13 @@ def calls():
 def options_of_help(command):
     """The long options that the program's own help lists."""
     text, _ = run([PROGRAM, "help", command])
-    return sorted(set(re.findall(r"^ +(?:-\w, |    )(--[a-z]+)", text.partition("\nOptions:\n")[2].partition("\n\n")[0], re.M)))
+    return sorted(set(re.findall(r"^ +(?:-\w, |    )(--[a-z-]+)", text.partition("\nOptions:\n")[2].partition("\n\n")[0], re.M)))
 
 
 def options():
     """The page, the completions and the program's help have the same commands and options."""
     page = (TOP / "docs/capvet.1").read_text().replace("\\-", "-")
-    told = set(re.findall(r"--[a-z]+", page))
+    told = set(re.findall(r"--[a-z-]+", page))
     of_help = {option for command in COMMANDS for option in options_of_help(command)} | {"--version"}
     compare("options of the manual page", of_help, told)
     commands, _, _ = page.partition(".SH COMMANDS\n")[2].partition("\n.SH ")

@@ -23,6 +23,7 @@ import time
 from pathlib import Path
 
 import demands
+import filtering
 import tables
 from helps import HELPS
 from trees import dump_text, get_text
@@ -185,9 +186,9 @@ COPIES = {
     "telemetry.bin": "telemetry.bin",
     "stream-of-four.bin": "stream-of-four.bin",
 }
-COMMANDS = ("segments", "vet", "dump", "get", "check", "canon", "pack", "unpack")
+COMMANDS = ("segments", "vet", "filter", "dump", "get", "check", "canon", "pack", "unpack")
 # Those that read messages, with what each of them needs besides its input; and all of them.
-READERS = ("segments", "vet", "dump", "get /", "check", "canon")
+READERS = ("segments", "vet", "filter", "dump", "get /", "check", "canon")
 RUNS = (*READERS, "pack", "unpack")
 PATHS = ("/", "/p0", "/p1/p0", "/p0/i0", "/p0/i1/p4", "/i0", "/p65535")
 
@@ -229,10 +230,11 @@ def samples():
             texts |= {f"get {path}": get_text(stream, path) for path in PATHS}
             # (samples are strict and unamplified)
             texts |= {f"{command} --strict --unamplified": text for command, text in texts.items() if command != "segments"}
+            texts |= {"filter": stream, "filter --allow-nonstrict --allow-amplified": stream}
             shell_case(f"capvet pack {file} > {packed}", "")
             text = Path(packed).read_bytes()
             for command, wanted in texts.items():
-                status = 1 if "not canonical" in wanted else 0
+                status = 1 if "not canonical" in str(wanted) else 0
                 case([*command.split(), file], wanted, status=status)
                 case(command, wanted, status=status, stdin=stream)
                 case([*command.split(), "--packed", packed], wanted, status=status)
@@ -313,6 +315,7 @@ for command, text in {
 live_pipe("check", CHECKS["contacts.bin"].encode(), status=1)
 copy = sample("canonical/contacts.bin")
 live_pipe("canon", struct.pack("<II", 0, len(copy) // 8) + copy)
+live_pipe("filter", contacts)
 resident("vet", "a table that claims 64 MiB and has nothing behind it", [word("0000000000008000")], [], 4 << 10)
 COPIES = (64 << 20) // len(contacts)
 resident("vet", "64 MiB of small messages", [contacts] * COPIES,
@@ -348,6 +351,7 @@ def large_messages():
     resident("vet", "a message of 64 MiB", stream, accepted, (64 + 2) << 10)
     resident("vet --exclusive", "a message of 64 MiB", stream, accepted, (64 + 1 + 2) << 10)
     resident("vet --strict --unamplified", "a message of 64 MiB", stream, accepted, (64 + 2) << 10)
+    resident("filter", "a message of 64 MiB", stream, stream, (64 + 2) << 10)
     resident("canon", "a message of 64 MiB", stream, stream, (64 + 64 + 2) << 10)
     words = 96 << 17
     limits = f"--size {words} --words {words}"
@@ -359,11 +363,6 @@ def large_messages():
 large_messages()
 case("unpack examples/contacts.packed", sample("contacts.bin"))
 case("vet --packed examples/contacts.packed", CONTACTS)
-# The two texts of the encoding specification's section on packing.
-case("pack", word("510803023119aa01"), stdin=word("080000000300020019000000aa010000"))
-case("pack", word("0003"), stdin=bytes(32))
-case("unpack", word("080000000300020019000000aa010000"), stdin=word("510803023119aa01"))
-case("unpack", bytes(32), stdin=word("0003"))
 
 # ------------------------------------------------------------------ inputs that are refused, cut short or past a limit
 case("vet", CYCLE_REFUSED, status=1, stdin=CYCLE)
@@ -409,10 +408,10 @@ deepest_dump()
 
 # ------------------------------------------------------------------ the streams of the tables
 for table in (tables.VERDICTS, tables.OTHER_LIMITS, tables.ENDS, tables.MESSAGES, tables.SEGMENTS, tables.DOUBLED, tables.PACKED_STREAMS,
-              tables.WORDS):
+              tables.WORDS, filtering.CUT):
     rows(table)
 for table in (tables.LEVELS, tables.NESTED, tables.LEVELS_WITH_A_POINTER_LEFT, tables.OVERLAPS, tables.DUMPS, tables.GETS, tables.LADDER,
-              tables.BEHIND_A_REFUSAL, tables.COPY_ENDS, demands.ROWS):
+              tables.BEHIND_A_REFUSAL, tables.COPY_ENDS, demands.ROWS, filtering.WHOLE):
     rows(table, also_packed=True)
 for stream, exclusive, plain in tables.EXCLUSIVES:
     for command, verdict in ("vet", plain), ("vet --exclusive", exclusive):
@@ -434,11 +433,12 @@ for stream, line in tables.TOO_LARGE:
 
 def limits():
     """Each command with each limit: at what a message takes, and at one less. And the default limits in the same way.
-    `canon` ends at a message that is refused. The other commands write the refusal, and go on."""
+    `canon` ends at a message that is refused. The other commands write the refusal, `filter` to standard error."""
     for command, text in tables.WITHIN_LIMITS.items():
         for allows, forbids, said in tables.LIMITS:
             refused = said.startswith("refused") and command != "canon"
             out, err = (f"message 0: {said} pointers 2\n", "") if refused else ("", f"capvet: message 0: {said}\n")
+            out, err = (out, err) if command != "filter" else ("", out + err)
             rows([(f"{command} {allows}", tables.LIMITED, text, "", 0),
                   (f"{command} {forbids}", tables.LIMITED, out, err, 1)], also_packed=True)
     for stream, said in tables.SIZE_DEFAULTS:
@@ -450,12 +450,13 @@ def limits():
               ("dump", stream, f"{verdict}root {head}\n{below}", "", 0),
               ("get /", stream, f"message 0: found\nnode {head}\n", "", 0),
               ("check", stream, "message 0: canonical\n", "", 0),
+              ("filter --allow-amplified", stream, word(stream), "", 0),
               ("canon", stream, word(stream), "", 0)], also_packed=True)
     for stream, said, pointers in tables.PAST_DEFAULTS:
         text = f"message 0: {said} pointers {pointers}\n"
-        rows([(command, stream, text, "", 1) for command in ("vet", "vet --exclusive", "dump", "get /", "check")],
-             also_packed=True)
-        rows([("canon", stream, "", f"capvet: message 0: {said}\n", 1)], also_packed=True)
+        rows([*((command, stream, text, "", 1) for command in ("vet", "vet --exclusive", "dump", "get /", "check")),
+              ("filter --allow-amplified", stream, "", text, 1),
+              ("canon", stream, "", f"capvet: message 0: {said}\n", 1)], also_packed=True)
 
 
 limits()
@@ -598,7 +599,7 @@ for command in RUNS:
     case(f"{command} examples", err=f"capvet: {at}Device\n", status=3, stdin=NULL)
 with open("/dev/full", "wb") as full:
     for stdout in (full, closed_pipe()):
-        for command in ("segments", "vet", "dump", "get /", "check", "canon", "pack"):
+        for command in (*READERS, "pack"):
             case(command, err=FAILED, status=3, stdin=NULL, stdout=stdout)
             case(command, err=FAILED, status=3, stdin=LONG, stdout=stdout)
         case("unpack", err=FAILED, status=3, stdin=word("0000"), stdout=stdout)
@@ -622,6 +623,7 @@ SHARED_TEXTS = {
     "get /p1": get_text(SHARED, "/p1"),
     "check": "message 0: not canonical\n",
     "canon": framed("0000000000000200", "0400000001000000", "0400000001000000", "0700000000000000", "0700000000000000"),
+    "filter": SHARED,
 }
 
 
@@ -663,16 +665,19 @@ def short_outputs():
 
 
 def short_errors():
-    """Standard error that takes a number of bytes of a fault's line and no more. The texts before it and the status
-    are the same."""
-    line = b"capvet: message 1: Truncated at byte 20\n"
-    for size in range(len(line)):
-        with tempfile.TemporaryFile() as err:
-            ran = subprocess.run([PROGRAM, "vet"], input=NULL + bytes(4), stdout=subprocess.PIPE, stderr=err, timeout=60,
-                                 preexec_fn=lambda: limit_files(size))
-            err.seek(0)
-            compare(f"capvet vet, with standard error that takes {size} bytes", (encoded(NULL_ACCEPTED), line[:size], 1),
-                    (ran.stdout, err.read(), ran.returncode))
+    """Standard error that takes a number of bytes of the lines and no more. The standard output and the status are the
+    same."""
+    cut = b"capvet: message 1: Truncated at byte 20\n"
+    refused = b"".join(b"message %d: refused DepthLimit at 0:0 pointers 65\n" % at for at in (1, 3))
+    for command, stream, text, lines in (("vet", NULL + bytes(4), encoded(NULL_ACCEPTED), cut),
+                                         ("filter", (NULL + CYCLE) * 2 + NULL, NULL * 3, refused)):
+        for size in range(len(lines)):
+            with tempfile.TemporaryFile() as err:
+                ran = subprocess.run([PROGRAM, command], input=stream, stdout=subprocess.PIPE, stderr=err, timeout=60,
+                                     preexec_fn=lambda: limit_files(size))
+                err.seek(0)
+                compare(f"capvet {command}, with standard error that takes {size} bytes", (text, lines[:size], 1),
+                        (ran.stdout, err.read(), ran.returncode))
     with open("/dev/full", "wb") as full:
         # (a directory is a device that fails)
         ran = subprocess.run([PROGRAM, "vet", "examples"], cwd=TOP, stdout=subprocess.PIPE, stderr=full, timeout=60)
@@ -730,7 +735,7 @@ def wants():
         "dump": NULL_DUMP,
         "get /": NULL_FOUND,
         "check": "message 0: canonical\n",
-        "canon": NULL,
+        "canon": NULL, "filter": NULL,
     }
     seconds = {
         "vet": accepted,
@@ -738,7 +743,7 @@ def wants():
         "dump": accepted + f"root list 2 {8 * words}\n" + "".join(f"  w{i} {'0' * 16}\n" for i in range(words)),
         "get /": f"message 1: found\nnode list 2 {8 * words}\n" + "".join(f"  w{i} {'0' * 16}\n" for i in range(words)),
         "check": "message 1: canonical\n",
-        "canon": large,
+        "canon": large, "filter": large,
     }
     for command, first in firsts.items():
         second = (first, "capvet: message 1: Memory\n", 3)
@@ -771,12 +776,12 @@ for lines, text in HELPS:
 
 
 def help_example(command, status):
-    """The example at the end of a command's help, run as it is there."""
+    """The example at the end of a command's help, run as it is there. It shows standard error too."""
     help_text, _, _ = run([PROGRAM, "help", *command.split()], stdout=subprocess.PIPE)
     _, _, example = help_text.decode().partition("\nExample:\n  $ ")
     line, _, wanted = example.partition("\n")
     wanted = wanted.replace("  ", "", 1).replace("\n  ", "\n")
-    shell_case(line or f"no example in the help of '{command}'", wanted, status)
+    shell_case(f"{{ {line}; }} 2>&1" if line else f"no example in the help of '{command}'", wanted, status)
 
 
 for command in ("", *COMMANDS):

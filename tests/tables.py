@@ -351,6 +351,7 @@ WITHIN_LIMITS = {
                "  d2 0700000000000000\n",
     "check": "message 0: canonical\n",
     "canon": word(LIMITED),
+    "filter": word(LIMITED),
 }
 
 # Each limit at what that message takes, the limit that is one less, and what is then said.
@@ -640,7 +641,7 @@ COPY_ENDS = (
         "message 4: refused NoRoot at 0:0 pointers 0\n", status=1),
 )
 
-# Words, and their packed encoding.
+# Words, and their packed encoding. The first and the fourth are texts of the encoding specification's section on packing.
 SPELLINGS = (
     ("0800000003000200 19000000aa010000", "51080302 3119aa01"),
     ("", ""),
@@ -719,7 +720,7 @@ MISTAKES = (
      "Usage: capvet vet --depth <N> [FILE]\n"),
     ("",
      "'capvet' requires a subcommand but one was not provided\n"
-     "  [subcommands: segments, vet, dump, get, check, canon, pack, unpack, help]\n"
+     "  [subcommands: segments, vet, filter, dump, get, check, canon, pack, unpack, help]\n"
      "\n"
      "Usage: capvet <COMMAND>\n"),
     ("vat",
@@ -744,7 +745,6 @@ MISTAKE_BEGINNINGS = (
     ("segments --nothing 1", "error: unexpected argument '--nothing' found"),
     ("segments --size many", "error: invalid value 'many' for '--size <N>'"),
     ("segments --words 1", "error: unexpected argument '--words' found"),
-    ("segments a b", "error: unexpected argument 'b' found"),
     ("segments one two", "error: unexpected argument 'two' found"),
     ("dump --exclusive", "error: unexpected argument '--exclusive' found"),
     ("vet --exclusive=1", "error: unexpected value '1' for '--exclusive' found"),
@@ -752,6 +752,8 @@ MISTAKE_BEGINNINGS = (
     ("segments --strict", "error: unexpected argument '--strict' found"),
     ("pack --unamplified", "error: unexpected argument '--unamplified' found"),
     ("unpack --size 1", "error: unexpected argument '--size' found"),
+    ("filter --strict", "error: unexpected argument '--strict' found"),
+    ("vet --allow-nonstrict", "error: unexpected argument '--allow-nonstrict' found"),
 )
 
 # Paths that are none, and where they go wrong.
@@ -789,6 +791,7 @@ NAMES = (
     ("vet --exclusive a", "a"),
     ("vet --strict --exclusive --unamplified a", "a"),
     ("canon a --unamplified --packed --strict", "a"),
+    ("filter --allow-nonstrict a --allow-amplified --packed", "a"),
     ("get /p65535 some.bin --packed", "some.bin"),
     ("get --size=1 --words=2 --depth=3 /i4294967295 -", "-"),
     ("pack a", "a"),
