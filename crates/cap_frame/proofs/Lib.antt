@@ -15,3 +15,4 @@ pub mod Halves
 pub mod Fronts
 pub mod FrontAnswers
 pub mod BehindTable
+pub mod TableBytes

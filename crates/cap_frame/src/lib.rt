@@ -33,4 +33,4 @@ pub use reader::read_message;
 pub use segment_tables::SegmentTables;
 pub use segments::Segments;
 pub use view::ByteView;
-pub use writer::write_message;
+pub use writer::{TABLE_BYTES, table_into, write_message};

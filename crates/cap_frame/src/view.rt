@@ -76,6 +76,20 @@ impl<'b> ByteView<'b> {
         let at = (self.starts[s as usize] + start) as usize;
         words_at(self.bytes, at, words as usize)
     }
+
+    /// All bytes of segment `s`, unchanged, eight for each word (encoding: 64-bit Words). The caller
+    /// makes sure that the segment exists. There are no errors. Allocates nothing.
+    #[inline]
+    pub fn segment(&self, s: u32) -> &'b [u8]
+        requires { let m = ⟦<ByteView<'b> as Segments>⟧.segments self.now in s < length m }
+        ensures text { let m = ⟦<ByteView<'b> as Segments>⟧.segments self.now in
+            result.now ≡ plain_text (segment_of m s) }
+        ensures words { let m = ⟦<ByteView<'b> as Segments>⟧.segments self.now in
+            plain_words result.now ≡ segment_of m s }
+    {
+        let at = self.starts[s as usize] as usize;
+        words_at(self.bytes, at, self.len(s) as usize)
+    }
 }
 
 /// The bytes of `words` words from word `at` on.

@@ -1,13 +1,17 @@
-//! Writing messages to a sink of words.
+//! Writing messages to a sink of words, and the bytes of a table.
 
 ghost use Rattle.cap_frame.specs.Numbers.{numbers_of, pair_at, table_rest};
 ghost use Rattle.cap_frame.specs.Putting.{PutsOrHalts};
-ghost use Rattle.cap_spec.specs.Frames.{frame_text, joined};
+ghost use Rattle.cap_spec.specs.Frames.{frame_text, joined, paired};
 ghost use Rattle.cap_spec.specs.Messages.{segment_of};
-ghost use Rattle.std.specs.Prelude.{◌*◌, ◌<◌, ◌≡◌, ◌≤◌, false, length, slice_index, true};
+ghost use Rattle.cap_spec.specs.Plain.{plain_text, plain_words};
+ghost use Rattle.std.specs.Prelude.{◌*◌, ◌<◌, ◌≡◌, ◌≤◌, false, length, slice_index, take, true};
 
 use crate::segments::Segments;
-use cap_words::{SinkFault, WordSink};
+use cap_words::{SinkFault, WordSink, bytes_of};
+
+/// How many bytes the longest table has: a number, 512 sizes and padding, four bytes each.
+pub const TABLE_BYTES: usize = 2056;
 
 // Number k of the table: how many segments there are besides the first, then the size of each, then
 // padding.
@@ -31,6 +35,26 @@ fn table_word<M: Segments>(message: &M, w: u32) -> u64
     let low = number(message, 2 * w);
     let high = number(message, 2 * w + 1);
     u64::from(low) + u64::from(high) * 0x1_0000_0000
+}
+
+/// Writes the bytes of a message's table at the start of `table`: how many segments there are besides
+/// the first, the size of each, and zero padding up to a whole word (encoding: Serialization Over a
+/// Stream). Returns how many bytes these are. The bytes of `table` after them are unchanged.
+///
+/// There are no errors. Allocates nothing.
+pub fn table_into<M: Segments>(message: &M, table: &mut [u8; TABLE_BYTES]) -> usize
+    ensures within { result ≤ 2056 }
+    ensures bytes { take result table.new
+        ≡ plain_text (paired (numbers_of (M.segments message.now))) }
+    ensures words { plain_words (take result table.new)
+        ≡ paired (numbers_of (M.segments message.now)) }
+{
+    let words = message.count() / 2 + 1;
+    'table: for w in 0..words {
+        let at = 8 * w as usize;
+        table[at..at + 8].copy_from_slice(&bytes_of(table_word(message, w)));
+    }
+    8 * words as usize
 }
 
 // Puts the table after its first word.
