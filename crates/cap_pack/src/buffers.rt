@@ -61,8 +61,8 @@ fn write_text(bytes: &[u8], text: &mut [u8])
     }
 }
 
-// How many bytes the words of the group in front have, and how many bytes spell them.
-fn front_group(bytes: &[u8]) -> (usize, usize)
+/// How many bytes the words of the group in front have, and how many bytes spell them.
+pub(crate) fn front_group(bytes: &[u8]) -> (usize, usize)
     requires { 8 ≤ length bytes.now }
     ensures size { result.0 ≡ 8 * group_size (plain_words bytes.now) }
     ensures within { (0 < result.0) × (result.0 ≤ 2048) × (result.0 ≤ length bytes.now) }
@@ -113,8 +113,8 @@ fn full_words(bytes: &[u8]) -> usize
     count
 }
 
-// Writes the group that spells just these words.
-fn write_group(bytes: &[u8], text: &mut [u8])
+/// Writes the group that spells just these words.
+pub(crate) fn write_group(bytes: &[u8], text: &mut [u8])
     requires words { (8 ≤ length bytes.now) × (length bytes.now ≤ 2048) × (length bytes.now % 8 ≡ 0) }
     requires room { length text.old ≡ length (front_text (plain_words bytes.now)) }
     ensures { text.new ≡ front_text (plain_words bytes.now) }

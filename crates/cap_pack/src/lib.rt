@@ -6,6 +6,7 @@ mod at_hand;
 mod buffers;
 mod group;
 mod head;
+mod in_parts;
 pub mod lanes;
 mod packer;
 mod pieces;
@@ -14,5 +15,6 @@ mod spelling;
 mod unpacker;
 
 pub use buffers::pack_into;
+pub use in_parts::{PART_BYTES, PackedPart, pack_part};
 pub use packer::Packer;
 pub use unpacker::Unpacker;
