@@ -1,10 +1,20 @@
--- Bytes that are written after others.
-use Rattle.std.proofs.Common.{◌≡◌, ◌∙◌, ◌<◌, ℕ, true, List, [], ◌∷◌, ◌++◌, Result, Ok, Err, length, take, drop, refl, sym, ap, subst, Option, arith}
-use Rattle.std.proofs.Common.{append_assoc, append-nil, take-append-drop}
-use Rattle.std.proofs.lemmas.Grind.{flat_map-append}
-use Rattle.std.specs.Prelude.{OnOk, OnErr, IsErrOf}
+-- Bytes that are written after others, and the bytes of a frame.
+use Rattle.std.proofs.Common.{◌≡◌, ◌∙◌, ◌<◌, ◌+◌, ℕ, suc, Bool, false, true, List, [], ◌∷◌, ◌++◌, Result, Ok, Err, length, take, drop, refl, sym, ap, subst, Option, arith}
+use Rattle.std.proofs.Common.{◌-◌, ◌≤◌, append_assoc, append-nil, drop-drop, length-drop, take-append-drop, take_at}
+use Rattle.std.proofs.lemmas.List.{take_rest}
+use Rattle.std.specs.Prelude.{◌==◌, if◌then◌else◌, OnOk, OnErr, IsErrOf}
 use Rattle.std.specs.Io.KnownBytes.{Appends}
-use Rattle.cap_spec.specs.Plain.{plain_text, word_bytes}
+use Rattle.std.proofs.Math.Seq.{drop-cons}
+use Rattle.std.specs.List.{flat_map}
+use Rattle.std.proofs.lemmas.Grind.{flat_map-append}
+use Rattle.cap_spec.specs.Frames.{joined, paired}
+use Rattle.cap_spec.specs.Messages.{segment_of}
+use Rattle.cap_spec.specs.Packing.{pack_text, zero_bytes}
+use Rattle.cap_spec.specs.PackedFrames.{table_of}
+use Rattle.cap_spec.specs.Plain.{plain_text, plain_words, word_bytes}
+use Rattle.cap_spec.proofs.Bytes.Plain.{length_plain, plain_short}
+use Rattle.cap_frame.specs.Numbers.{numbers_of, pair_at}
+use Rattle.cap_frame.proofs.Putting.{paired_from, segments_from}
 use Rattle.cap_words.specs.Ends.{Works, DeviceFails, GrowthFails}
 use Rattle.cap_words.specs.declared.ends.ByteOut as output
 use Rattle.cap_words.specs.declared.ends.OutFault.{OutFault}
@@ -46,52 +56,95 @@ module _ {O : Type 0} (g : output.Ghosts O) where
   writes_more o a b r text (x ∷ xs) w ok err none works device memory was_spent =
       writes_then g o a b r text (x ∷ xs) w (writes_all a b r (x ∷ xs) ok err (works (omega arith)) device memory was_spent)
 
-  -- After this text, words were written that leave the rest of them.
+  -- After this text, bytes were written that leave the rest of these.
   pub record Left (old now : O) (text all rest : List ℕ) : Type 0 where
     pub done : List ℕ
     pub whole : all ≡ done ++ rest
-    pub wrote : Wrote g old now (text ++ plain_text done)
+    pub wrote : Wrote g old now (text ++ done)
 
   -- none yet
   pub left_all : (old now : O) (text all : List ℕ) → Wrote g old now text → Left old now text all all
   left_all old now text all w = record { done = []; whole = refl; wrote = subst (Wrote g old now) (sym (append-nil text)) w }
 
   -- the next ones were written
-  pub left_less : (old now new : O) (text all rest front less : List ℕ) → rest ≡ front ++ less
-      → (l : Left old now text all rest)
-      → Wrote g old new ((text ++ plain_text l.done) ++ plain_text front) → Left old new text all less
+  pub left_less : (old now new : O) (text all rest front less : List ℕ) → rest ≡ front ++ less → Left old now text all rest
+      → ((t : List ℕ) → Wrote g old now t → Wrote g old new (t ++ front)) → Left old new text all less
   left_less old now new text all rest front less e l w = record {
     done = l.done ++ front;
-    whole = l.whole ∙ (ap (λ (ws : List ℕ). l.done ++ ws) e ∙ sym (append_assoc l.done front less));
-    wrote = subst (Wrote g old new)
-        (append_assoc text (plain_text l.done) (plain_text front)
-        ∙ ap (λ (t : List ℕ). text ++ t) (sym (flat_map-append word_bytes l.done front))) w;
+    whole = l.whole ∙ (ap (λ (t : List ℕ). l.done ++ t) e ∙ sym (append_assoc l.done front less));
+    wrote = subst (Wrote g old new) (append_assoc text l.done front) (w (text ++ l.done) l.wrote);
   }
 
   -- none is left
-  pub left_none : (old now : O) (text all rest : List ℕ) → rest ≡ [] → Left old now text all rest
-      → Wrote g old now (text ++ plain_text all)
+  pub left_none : (old now : O) (text all rest : List ℕ) → rest ≡ [] → Left old now text all rest → Wrote g old now (text ++ all)
   left_none old now text all rest e l =
-      subst (λ (ws : List ℕ). Wrote g old now (text ++ plain_text ws))
-      (sym (l.whole ∙ (ap (λ (ws : List ℕ). l.done ++ ws) e ∙ append-nil l.done))) l.wrote
+      subst (λ (t : List ℕ). Wrote g old now (text ++ t)) (sym (l.whole ∙ (ap (λ (t : List ℕ). l.done ++ t) e ∙ append-nil l.done))) l.wrote
 
   -- the output failed in the next ones
-  pub left_stops : (old now new : O) (text all rest front less : List ℕ) (fault : OutFault) → rest ≡ front ++ less
-      → (l : Left old now text all rest)
-      → Stopped g old new fault ((text ++ plain_text l.done) ++ plain_text front) → Stopped g old new fault (text ++ plain_text all)
+  pub left_stops : (old now new : O) (text all rest front less : List ℕ) (fault : OutFault) → rest ≡ front ++ less → Left old now text all rest
+      → ((t : List ℕ) → Wrote g old now t → Stopped g old new fault (t ++ front)) → Stopped g old new fault (text ++ all)
   left_stops old now new text all rest front less fault e l s =
-      let whole : all ≡ l.done ++ (front ++ less) = l.whole ∙ ap (λ (ws : List ℕ). l.done ++ ws) e in
-      let bytes : plain_text all ≡ plain_text l.done ++ (plain_text front ++ plain_text less) =
-      ap plain_text whole ∙ (flat_map-append word_bytes l.done (front ++ less)
-      ∙ ap (λ (t : List ℕ). plain_text l.done ++ t) (flat_map-append word_bytes front less)) in
-      let same : ((text ++ plain_text l.done) ++ plain_text front) ++ plain_text less ≡ text ++ plain_text all =
-      append_assoc (text ++ plain_text l.done) (plain_text front) (plain_text less)
-      ∙ (append_assoc text (plain_text l.done) (plain_text front ++ plain_text less)
-      ∙ ap (λ (t : List ℕ). text ++ t) (sym bytes)) in
-      subst (Stopped g old new fault) same
-      (stopped_more g old new fault ((text ++ plain_text l.done) ++ plain_text front) (plain_text less) s)
+      let whole : all ≡ l.done ++ (front ++ less) = l.whole ∙ ap (λ (t : List ℕ). l.done ++ t) e in
+      let same : ((text ++ l.done) ++ front) ++ less ≡ text ++ all =
+      append_assoc (text ++ l.done) front less
+      ∙ (append_assoc text l.done (front ++ less) ∙ ap (λ (t : List ℕ). text ++ t) (sym whole)) in
+      subst (Stopped g old new fault) same (stopped_more g old new fault ((text ++ l.done) ++ front) less (s (text ++ l.done) l.wrote))
 
 -- a list as long as none is none
 pub none_of : (xs : List ℕ) → length xs ≡ 0 → xs ≡ []
 none_of [] e = refl
 none_of (x ∷ xs) e = absurd (omega (arith, e))
+
+-- the bytes of segments, from the next one on
+pub contents_from : (m : List (List ℕ)) (s : ℕ) → s < length m
+    → plain_text (joined (drop s m)) ≡ plain_text (segment_of m s) ++ plain_text (joined (drop (s + 1) m))
+contents_from m s h = ap plain_text (segments_from m s h) ∙ flat_map-append word_bytes (segment_of m s) (joined (drop (s + 1) m))
+
+-- their packed texts
+pub texts_from : (m : List (List ℕ)) (s : ℕ) → s < length m
+    → flat_map pack_text (drop s m) ≡ pack_text (segment_of m s) ++ flat_map pack_text (drop (s + 1) m)
+texts_from m s h =
+    let one : suc s ≡ s + 1 = omega arith in
+    ap (flat_map pack_text) (drop-cons m s [] h) ∙ ap (λ (j : ℕ). pack_text (segment_of m s) ++ flat_map pack_text (drop j m)) one
+
+-- a table isn't empty
+table_first : (m : List (List ℕ)) → table_of m ≡ pair_at (numbers_of m) 0 ∷ paired (drop 2 (numbers_of m))
+table_first m = paired_from (numbers_of m) 0 (omega arith)
+
+pub some_table : (m : List (List ℕ)) → 0 < length (plain_text (table_of m))
+some_table m = omega (arith, length_plain (table_of m), ap length (table_first m))
+
+-- nor is the packed text of a word
+some_if : (a b : Bool) (x y z : ℕ) (xs ys zs rest : List ℕ) → 0 < length ((if a then x ∷ xs else (if b then y ∷ ys else (z ∷ zs))) ++ rest)
+some_if true b x y z xs ys zs rest = omega arith
+some_if false true x y z xs ys zs rest = omega arith
+some_if false false x y z xs ys zs rest = omega arith
+
+some_packed : (w : ℕ) (ws : List ℕ) → 0 < length (pack_text (w ∷ ws))
+some_packed w ws = some_if (w == 0) (zero_bytes w == 0) _ _ _ _ _ _ _
+
+pub some_packed_table : (m : List (List ℕ)) → 0 < length (pack_text (table_of m))
+some_packed_table m =
+    subst (λ (ws : List ℕ). 0 < length (pack_text ws)) (sym (table_first m)) (some_packed (pair_at (numbers_of m) 0) (paired (drop 2 (numbers_of m))))
+
+-- the text of a table that was packed into a buffer
+pub packed_written : (m : List (List ℕ)) (table text new : List ℕ) (n : ℕ) → plain_words table ≡ table_of m
+    → n ≡ length (pack_text (plain_words table)) → n ≤ length text → (n ≤ length text → new ≡ pack_text (plain_words table) ++ drop n text)
+    → take n new ≡ pack_text (table_of m)
+packed_written m table text new n e long few written =
+    ap (take n) (written few) ∙ (take_at (pack_text (plain_words table)) (drop n text) n (sym long) ∙ ap pack_text e)
+
+-- the text of some words, and then that of the words after them
+pub part_from : (bs : List ℕ) (done taken : ℕ) (part : List ℕ)
+    → (let rest = take (length bs - done) (drop done bs) in
+    pack_text (plain_words rest) ≡ part ++ pack_text (plain_words (drop taken rest)))
+    → pack_text (plain_words (drop done bs)) ≡ part ++ pack_text (plain_words (drop (done + taken) bs))
+part_from bs done taken part e =
+    let rest = take (length bs - done) (drop done bs) in
+    let same : rest ≡ drop done bs = take_rest bs done in
+    ap (λ (xs : List ℕ). pack_text (plain_words xs)) (sym same)
+    ∙ (e ∙ ap (λ (xs : List ℕ). part ++ pack_text (plain_words xs)) (ap (drop taken) same ∙ drop-drop taken done bs))
+
+-- less than a word is left
+pub no_word : (bytes : List ℕ) (done : ℕ) → length bytes - done < 8 → plain_words (drop done bytes) ≡ []
+no_word bytes done h = plain_short (drop done bytes) (omega (arith, length-drop done bytes, h))

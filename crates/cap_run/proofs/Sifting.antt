@@ -1,31 +1,46 @@
 -- How far the engine `run_filter` has come: the messages of a prefix of the stream were read and sifted.
 use Rattle.std.proofs.Common.{◌≡◌, ◌∙◌, ℕ, ◌+◌, ◌<◌, ◌≤◌, Bool, false, true, List, [], ◌∷◌, ◌++◌, length, refl, sym, ap, subst, arith, length-append}
-use Rattle.std.proofs.Common.{append_assoc, append-nil, Result, Ok, Err, sum, Some}
+use Rattle.std.proofs.Common.{append_assoc, append-nil, Option, None, Result, Ok, Err, sum, Some, ◌⊎◌, ◌≢◌, inl, inr}
 use Rattle.std.proofs.lemmas.Bool.{false≢true}
 use Rattle.std.specs.List.{AllByRecursion}
-use Rattle.cap_spec.specs.Frames.{Stream, frame_text, sizes_of}
-use Rattle.cap_spec.specs.Plain.{plain_text}
+use Rattle.std.specs.Prelude.{IsTrue}
+use Rattle.cap_spec.specs.Frames.{Stream, sizes_of}
+use Rattle.cap_spec.proofs.Bytes.Lists.{all_append}
 use Rattle.cap_spec.proofs.Frames.FrameTexts.{one_stream}
 use Rattle.cap_words.specs.declared.ends.ByteOut as output
 use Rattle.cap_words.specs.declared.ends.OutFault.{OutFault}
 use Rattle.cap_words.specs.declared.sources.WordSource as source
 use Rattle.cap_frame.proofs.Converse.{same_some}
+use Rattle.cap_spec.specs.declared.StrictRefusal.{StrictRefusal}
+use Rattle.cap_vet.specs.Demands.{IsDemandFault, words_under}
+use Rattle.cap_vet.specs.Limits.{depth_of, words_of}
+use Rattle.cap_vet.specs.Reports.{IsAccepted}
+use Rattle.cap_vet.specs.declared.demands.Demands.{Demands}
+use Rattle.cap_vet.specs.declared.limits.Limits.{Limits}
+use Rattle.cap_vet.specs.declared.report.Report.{Report}
+use Rattle.cap_text.specs.Lines.{accepted_text}
 use Rattle.cap_text.specs.Writing.{Stopped, Wrote}
 use Rattle.cap_text.specs.declared.fault.Cause.{Cause}
 use Rattle.cap_text.specs.declared.fault.Cause.TheVariants.{TooManyMessages, Frame, Output, Refused, NotStrict, Canon}
 use Rattle.cap_text.specs.declared.fault.Cause.TheVariants.{Memory as no_marks}
 use Rattle.cap_text.specs.declared.fault.RunFault.{RunFault}
-use Rattle.cap_run.specs.Filtering.{FiltersAll, FiltersUntil, Logged, Noted, Notes, Passes}
+use Rattle.cap_run.specs.Demanding.{IsStrictUnder, OrFaultIn, TellsMarked, WantsIn}
+use Rattle.cap_run.specs.Filtering.{AllAccepted, Covers, FiltersAll, FiltersUntil, LastRefused, Logged, Noted, Notes, Passes, PassesOn, ReadsUntil}
+use Rattle.cap_run.specs.Filtering.{TellsIn, TellsMet, WantsInForm, WantsMet, frame_in}
 use Rattle.cap_run.specs.Running.{Appended, EndStops, RunStops, Settled, StopsIn}
-use Rattle.cap_run.specs.Sifting.{LogsMore, SiftStops, Sifts, SiftsNext}
-use Rattle.cap_run.specs.Streams.{ReadsStream}
-use Rattle.cap_run.specs.Telling.{Tells, TellsEach, Told, WantsNone, messages_of, one_noncanonical, one_refused, outcome_of, texts_of}
+use Rattle.cap_run.specs.Sifting.{Judges, LogsMore, SiftStops, Sifts, SiftsNext, objection_text}
+use Rattle.cap_run.specs.Streams.{EndsStream, ReadsStream}
+use Rattle.cap_run.specs.Telling.{Tells, TellsEach, Told, messages_of, one_noncanonical, one_refused, outcome_of, texts_of}
+use Rattle.cap_run.specs.Vetting.{WantsMarks}
+use Rattle.cap_run.specs.declared.engines.sifting.Objection.{Objection}
+use Rattle.cap_run.specs.declared.engines.sifting.Objection.TheVariants.{Unmet}
 use Rattle.cap_run.specs.declared.engines.stream.Counted.{Counted}
-use Rattle.cap_run.specs.declared.engines.stream.Counted.TheVariants.{Accepted, Refused as was_refused}
+use Rattle.cap_run.specs.declared.engines.stream.Counted.TheVariants.{Accepted, NotCanonical, Refused as was_refused}
+use Rattle.cap_run.specs.declared.settings.FilterForm.{FilterForm}
 use Rattle.cap_run.specs.declared.settings.Outcome.{Outcome}
 use Rattle.cap_run.proofs.Going.{appended_more, appended_none, stops_in}
-use Rattle.cap_run.proofs.Settling.{on_known, settled_behind}
-use Rattle.cap_run.proofs.Streams.{reads_both, reads_none}
+use Rattle.cap_run.proofs.Settling.{on_known, reads_front, settled_behind}
+use Rattle.cap_run.proofs.Streams.{reads_all, reads_both, reads_none}
 use Rattle.cap_run.proofs.Telling.{each-snoc, messages_of-snoc, noncanonical_in_le, outcome_of-snoc, refused_in_le, texts_of-snoc}
 use Rattle.std.proofs.KnownBytes.{Appends-trans}
 
@@ -79,31 +94,95 @@ module _ {O : Type 0} (g : output.Ghosts O) where
   logged_stops first old new text line false fault e l s = (fault, stops_whole first new fault text line (stops_in g first old new fault text line l s))
   logged_stops first old new text line true fault e l s = absurd (false≢true (sym e))
 
-module _ {O E : Type 0} (go : output.Ghosts O) (ge : output.Ghosts E) (verdict : Tells) (n : ℕ) (m : List (List ℕ)) (said : List ℕ) where
+-- one thing is found of a message where others are
+pub judges_as : (tells others : Tells) (wants needs : List (List ℕ) → Type 0) (m : List (List ℕ)) (r : Result (Option Objection) Cause)
+    → ((n : ℕ) (text : List ℕ) (counted : Counted) → tells n m text counted → others n m text counted) → (wants m → needs m)
+    → Judges tells wants m r → Judges others needs m r
+judges_as tells others wants needs m (Ok None) h k j = λ n. let said = j n in (said.0, h n said.0 Accepted said.1)
+judges_as tells others wants needs m (Ok (Some objection)) h k j = λ n. h n (objection_text n objection) was_refused (j n)
+judges_as tells others wants needs m (Err cause) h k j = (j.0, k j.1)
+
+module _ (form : FilterForm) (demands : Demands) (limits : Limits) (m : List (List ℕ)) where
+  -- a message that doesn't meet the demands is refused
+  pub judges_unmet : (refusal : StrictRefusal) → IsDemandFault demands m (words_of limits) (depth_of limits) refusal
+      → Judges (TellsIn form demands limits) (WantsInForm form demands limits) m (Ok (Some (Unmet refusal)))
+  judges_unmet refusal f = λ n. inr (record { fault = refusal; is_fault = f; line = refl; counts = refl })
+
+  -- one that meets them is accepted
+  pub judges_met : (report : Report) → form.exclusive ≡ false → IsStrictUnder demands m (words_of limits) (depth_of limits)
+      → IsAccepted m (words_under demands m (words_of limits)) (depth_of limits) report
+      → Judges (TellsIn form demands limits) (WantsInForm form demands limits) m (Ok None)
+  judges_met report e strict accepted =
+      subst (λ (x : Bool). Judges (OrFaultIn demands (TellsMet x) limits) (WantsIn demands (WantsMet x) limits) m (Ok None)) (sym e)
+      (λ n. (accepted_text n report, inl (strict, record { report = report; is_accepted = accepted; line = refl; counts = refl })))
+
+  -- or it is vetted exclusively
+  pub judges_marked : (r : Result (Option Objection) Cause) → form.exclusive ≡ true → IsStrictUnder demands m (words_of limits) (depth_of limits)
+      → (let words = words_under demands m (words_of limits) in let depth = depth_of limits in
+      Judges (TellsMarked words depth) (WantsMarks words depth) m r)
+      → Judges (TellsIn form demands limits) (WantsInForm form demands limits) m r
+  judges_marked r e strict j =
+      let words = words_under demands m (words_of limits) in
+      let depth = depth_of limits in
+      subst (λ (x : Bool). Judges (OrFaultIn demands (TellsMet x) limits) (WantsIn demands (WantsMet x) limits) m r) (sym e)
+      (judges_as (TellsMarked words depth) (OrFaultIn demands TellsMarked limits) (WantsMarks words depth) (WantsIn demands WantsMarks limits) m r
+      (λ n text counted t. inl (strict, t)) (λ w. (strict, w)) j)
+
+module _ {O E : Type 0} (go : output.Ghosts O) (ge : output.Ghosts E) (pack : Bool) (verdict : Tells) (wants : List (List ℕ) → Type 0) (n : ℕ)
+    (m : List (List ℕ)) where
   -- nothing goes to the log of an accepted message
-  pub sifts_passed : (before after : O) (log : E) (failed : Bool) → verdict n m said Accepted
-      → Wrote go before after (plain_text (frame_text m)) → Sifts go ge verdict n m before after log log failed failed (Ok Accepted)
-  sifts_passed before after log failed v w = (
-    plain_text (frame_text m),
+  pub sifts_passed : (before after : O) (log : E) (failed : Bool) → (said : List ℕ) × verdict n m said Accepted
+      → Wrote go before after (frame_in pack m) → Sifts go ge pack verdict wants n m before after log log failed failed (Ok Accepted)
+  sifts_passed before after log failed (said, v) w = (
+    frame_in pack m,
     [],
     (said, v, refl),
     (said, v, refl),
-    wrote_appended go before after (plain_text (frame_text m)) w,
+    wrote_appended go before after (frame_in pack m) w,
     λ first text l. subst (λ (t : List ℕ). Logged ge first log t failed) (sym (append-nil text)) l,
   )
 
   -- the output failed in its frame
-  pub sifts_stopped : (before after : O) (log : E) (failed : Bool) (fault : OutFault) → verdict n m said Accepted
-      → Stopped go before after fault (plain_text (frame_text m)) → Sifts go ge verdict n m before after log log failed failed (Err fault)
-  sifts_stopped before after log failed fault v s = (plain_text (frame_text m), Accepted, (said, v, refl), s, refl, refl)
+  pub sifts_stopped : (before after : O) (log : E) (failed : Bool) (fault : OutFault) → (said : List ℕ) × verdict n m said Accepted
+      → Stopped go before after fault (frame_in pack m)
+      → Sifts go ge pack verdict wants n m before after log log failed failed (Err (Output fault))
+  sifts_stopped before after log failed fault (said, v) s = (frame_in pack m, Accepted, (refl, (said, v, refl)), s, (refl, refl))
 
   -- nothing goes to the output of a refused one
-  pub sifts_refused : (out : O) (old new : E) (failed fails : Bool) → verdict n m said was_refused
-      → LogsMore ge old new failed fails said → Sifts go ge verdict n m out out old new failed fails (Ok was_refused)
-  sifts_refused out old new failed fails v l = ([], said, (said, v, refl), (said, v, refl), appended_none go out, l)
+  pub sifts_refused : (out : O) (old new : E) (failed fails : Bool) (said : List ℕ) → verdict n m said was_refused
+      → LogsMore ge old new failed fails said → Sifts go ge pack verdict wants n m out out old new failed fails (Ok was_refused)
+  sifts_refused out old new failed fails said v l = ([], said, (said, v, refl), (said, v, refl), appended_none go out, l)
 
-module _ {S O E : Type 0} (gs : source.Ghosts S) (go : output.Ghosts O) (ge : output.Ghosts E) (verdict : Tells) (limit : ℕ) where
-  -- so many messages were read and sifted
+  -- an allocation failed
+  pub sifts_without : (out : O) (log : E) (failed : Bool) (cause : Cause) → (cause ≡ no_marks) × wants m
+      → Sifts go ge pack verdict wants n m out out log log failed failed (Err cause)
+  sifts_without out log failed cause (e, w) =
+      subst (λ (c : Cause). Sifts go ge pack verdict wants n m out out log log failed failed (Err c)) (sym e) (w, refl, (refl, refl))
+
+module _ {S O E : Type 0} (gs : source.Ghosts S) (go : output.Ghosts O) (ge : output.Ghosts E) (pack : Bool) (verdict : Tells)
+    (wants : List (List ℕ) → Type 0) (limit n : ℕ) (old new : S) (before after : O) (first last : E) (failed fails : Bool) where
+  -- a message was read, and no more came of it
+  pub sift_stopped : (cause : Cause)
+      → SiftsNext gs go ge pack verdict wants limit n old new before after first last failed fails (Err cause)
+      → SiftStops gs go ge pack verdict wants limit n old new before after first last failed fails cause
+  sift_stopped TooManyMessages q = absurd q.2
+  sift_stopped (Frame fault) q = absurd q.2
+  sift_stopped (Output fault) q = q
+  sift_stopped (Refused refusal) q = absurd q.2
+  sift_stopped (NotStrict fault) q = absurd q.2
+  sift_stopped (Canon fault) q = absurd q.2
+  sift_stopped no_marks q = q
+
+-- what isn't refused is accepted
+pub passed_accepted : (pack : Bool) (verdict : Tells) (n : ℕ) (m : List (List ℕ)) (text : List ℕ) (counted : Counted)
+    → Passes pack verdict n m text counted → counted ≢ was_refused → counted ≡ Accepted
+passed_accepted pack verdict n m text Accepted p h = refl
+passed_accepted pack verdict n m text was_refused p h = absurd (h refl)
+passed_accepted pack verdict n m text NotCanonical p h = absurd p.2
+
+module _ {S O E : Type 0} (gs : source.Ghosts S) (go : output.Ghosts O) (ge : output.Ghosts E) (form : FilterForm) (verdict : Tells)
+    (wants : List (List ℕ) → Type 0) (limit : ℕ) where
+  -- this many messages were read and sifted
   pub record Sifting (old new : S) (before after : O) (first last : E) (outcome : Outcome) (number : ℕ) (failed : Bool) : Type 0 where
     pub ts : List Told
     pub us : List Told
@@ -111,119 +190,215 @@ module _ {S O E : Type 0} (gs : source.Ghosts S) (go : output.Ghosts O) (ge : ou
     pub long : length us ≡ number
     pub counts : outcome ≡ outcome_of ts
     pub reads : ReadsStream gs limit old new (messages_of ts)
-    pub each : TellsEach (Passes verdict) 0 ts
+    pub each : TellsEach (Passes form.pack verdict) 0 ts
     pub appended : Appended go before after (texts_of ts)
     pub same : messages_of us ≡ messages_of ts
     pub notes : TellsEach (Notes verdict) 0 us
     pub logged : Logged ge first last (texts_of us) failed
 
-  -- none yet
-  pub sifting_none : (s : S) (o : O) (e : E) → Sifting s s o o e e (record { messages = 0; refused = 0; noncanonical = 0 }) 0 false
-  sifting_none s o e = record {
-    ts = [];
-    us = [];
-    many = refl;
-    long = refl;
-    counts = refl;
-    reads = reads_none gs limit s;
-    each = tt;
-    appended = appended_none go o;
-    same = refl;
-    notes = tt;
-    logged = appended_none ge e;
-  }
-
   -- one more
-  pub sifting_more : (old mid new : S) (before between after : O) (first held last : E) (outcome next : Outcome) (number : ℕ)
-      (failed fails : Bool) (counted : Counted) → Sifting old mid before between first held outcome number failed
-      → SiftsNext gs go ge verdict limit number mid new between after held last failed fails (Ok counted)
+  sifting_more : (old mid new : S) (before between after : O) (first held last : E) (outcome next : Outcome) (number : ℕ)
+      (failed fails : Bool) (counted : Counted) → (w : Sifting old mid before between first held outcome number failed)
+      → SiftsNext gs go ge form.pack verdict wants limit number mid new between after held last failed fails (Ok counted)
       → next ≡ record {
         messages = outcome.messages + 1;
         refused = outcome.refused + one_refused counted;
         noncanonical = outcome.noncanonical + one_noncanonical counted;
       }
-      → Sifting old new before after first last next (number + 1) fails
+      → (v : Sifting old new before after first last next (number + 1) fails)
+      × ((t : Told) × (t.counted ≡ counted) × (v.ts ≡ w.ts ++ t ∷ []))
   sifting_more old mid new before between after first held last outcome next number failed fails counted w (m, reads, (text, line, p, n, wrote, logs)) counts =
       let t : Told = record { message = m; text = text; counted = counted } in
       let u : Told = record { message = m; text = line; counted = counted } in
-      record {
+      let v : Sifting old new before after first last next (number + 1) fails = record {
         ts = w.ts ++ t ∷ [];
         us = w.us ++ u ∷ [];
         many = length-append w.ts (t ∷ []) ∙ ap (λ (k : ℕ). k + 1) w.many;
         long = length-append w.us (u ∷ []) ∙ ap (λ (k : ℕ). k + 1) w.long;
         counts = counts ∙ outcome_of-snoc w.ts t outcome w.counts;
         reads = rw (messages_of-snoc w.ts t) (reads_both gs limit old mid new (messages_of w.ts) (m ∷ []) w.reads reads);
-        each = each-snoc (Passes verdict) 0 w.ts t w.each (subst (λ (k : ℕ). Passes verdict k m text counted) (sym w.many ∙ omega arith) p);
+        each = each-snoc (Passes form.pack verdict) 0 w.ts t w.each
+            (subst (λ (k : ℕ). Passes form.pack verdict k m text counted) (sym w.many ∙ omega arith) p);
         appended = rw (texts_of-snoc w.ts t) (appended_both go before between after (texts_of w.ts) text w.appended wrote);
         same = messages_of-snoc w.us u ∙ (ap (λ (ms : List (List (List ℕ))). ms ++ m ∷ []) w.same ∙ sym (messages_of-snoc w.ts t));
         notes = each-snoc (Notes verdict) 0 w.us u w.notes (subst (λ (k : ℕ). Notes verdict k m line counted) (sym w.long ∙ omega arith) n);
         logged = rw (texts_of-snoc w.us u) (logs first (texts_of w.us) w.logged);
-      }
+      } in
+      (v, (t, refl, refl))
+
+  -- what the log has of them
+  noted : (old new : S) (before after : O) (first last : E) (outcome : Outcome) (number : ℕ) (failed : Bool)
+      (w : Sifting old new before after first last outcome number failed) → Noted ge verdict (messages_of w.ts) first last
+  noted old new before after first last outcome number failed w =
+      record { us = w.us; same = w.same; each = w.notes; failed = failed; logged = w.logged }
+
+  -- this many messages were read and sifted, and if it stops at a refused one, all were accepted
+  pub record Sieving (old new : S) (before after : O) (first last : E) (outcome : Outcome) (number : ℕ) (failed : Bool) : Type 0 where
+    pub sifting : Sifting old new before after first last outcome number failed
+    pub accepted : IsTrue form.stop → AllAccepted sifting.ts
+
+  -- none yet
+  pub sieving_none : (s : S) (o : O) (e : E) → Sieving s s o o e e (record { messages = 0; refused = 0; noncanonical = 0 }) 0 false
+  sieving_none s o e = record {
+    sifting = record {
+      ts = [];
+      us = [];
+      many = refl;
+      long = refl;
+      counts = refl;
+      reads = reads_none gs limit s;
+      each = tt;
+      appended = appended_none go o;
+      same = refl;
+      notes = tt;
+      logged = appended_none ge e;
+    };
+    accepted = λ e. tt;
+  }
 
   module _ (old mid new : S) (before between after : O) (first held last : E) (outcome : Outcome) (number : ℕ) (failed : Bool)
-      (w : Sifting old mid before between first held outcome number failed) where
+      (s : Sieving old mid before between first held outcome number failed) where
     -- no more were refused than there were
-    pub sifting_refused : outcome.refused ≤ outcome.messages
-    sifting_refused = rw w.counts (refused_in_le w.ts)
+    pub sieving_refused : outcome.refused ≤ outcome.messages
+    sieving_refused = rw s.sifting.counts (refused_in_le s.sifting.ts)
 
     -- no more weren't canonical than there were
-    pub sifting_noncanonical : outcome.noncanonical ≤ outcome.messages
-    sifting_noncanonical = rw w.counts (noncanonical_in_le w.ts)
+    pub sieving_noncanonical : outcome.noncanonical ≤ outcome.messages
+    sieving_noncanonical = rw s.sifting.counts (noncanonical_in_le s.sifting.ts)
 
-    -- what the log has of them
-    pub sifting_noted : Noted ge verdict (messages_of w.ts) first held
-    sifting_noted = record { us = w.us; same = w.same; each = w.notes; failed = failed; logged = w.logged }
+    module _ (next : Outcome) (fails : Bool) (counted : Counted)
+        (q : SiftsNext gs go ge form.pack verdict wants limit number mid new between after held last failed fails (Ok counted))
+        (counts : next ≡ record {
+          messages = outcome.messages + 1;
+          refused = outcome.refused + one_refused counted;
+          noncanonical = outcome.noncanonical + one_noncanonical counted;
+        }) where
+      -- one more, after which it goes on
+      pub sieving_more : (IsTrue form.stop → counted ≢ was_refused) → Sieving old new before after first last next (number + 1) fails
+      sieving_more h =
+          let v = sifting_more old mid new before between after first held last outcome next number failed fails counted s.sifting q counts in
+          let is : IsTrue form.stop → counted ≡ Accepted =
+          λ e. passed_accepted form.pack verdict number q.0 q.2.0 counted q.2.2 (h e) in
+          record {
+            sifting = v.0;
+            accepted = λ e. subst AllAccepted (sym v.1.2)
+                (all_append (λ (t : Told). t.counted ≡ Accepted) s.sifting.ts (v.1.0 ∷ []) (s.accepted e) (v.1.1 ∙ is e, tt));
+          }
+
+      -- or it ends after it
+      pub sieving_last : (most : ℕ) → number < most → IsTrue form.stop × (counted ≡ was_refused)
+          → FiltersAll gs go ge form verdict wants limit most old new before after first last (Ok next)
+      sieving_last most h (e, r) =
+          let v = sifting_more old mid new before between after first held last outcome next number failed fails counted s.sifting q counts in
+          let last_one : LastRefused v.0.ts =
+          record { front = s.sifting.ts; last = v.1.0; whole = v.1.2; accepted = s.accepted e; refused = v.1.1 ∙ r } in (
+            v.0.ts,
+            inr (e, last_one, v.0.reads),
+            v.0.each,
+            v.0.appended,
+            omega (arith, v.0.many),
+            v.0.counts,
+            noted old new before after first last next (number + 1) fails v.0,
+          )
+
+    -- the stream ended after them
+    pub sieving_done : (most : ℕ) → number ≤ most → EndsStream gs mid new
+        → FiltersAll gs go ge form verdict wants limit most old new before between first held (Ok outcome)
+    sieving_done most h e = (
+      s.sifting.ts,
+      inl (reads_all gs limit old mid new (messages_of s.sifting.ts) s.sifting.reads e, s.accepted),
+      s.sifting.each,
+      s.sifting.appended,
+      omega (arith, s.sifting.many),
+      s.sifting.counts,
+      noted old mid before between first held outcome number failed s.sifting,
+    )
 
     -- it ended at the next message
-    pub sifting_stops : (fails : Bool) (most : ℕ) (cause : Cause) → number < most
-        → SiftStops gs go ge verdict limit number mid new between after held last failed fails cause
-        → RunStops gs go (Passes verdict) WantsNone limit most w.ts mid new before after cause × Noted ge verdict (messages_of w.ts) first last
-    sifting_stops fails most TooManyMessages h q = absurd q
-    sifting_stops fails most (Frame fault) h (f, o, e, b) =
-        ((rw o w.appended, f), subst (Noted ge verdict (messages_of w.ts) first) (sym e) sifting_noted)
-    sifting_stops fails most (Output fault) h (m, reads, (text, counted, p, s, e, b)) = (
-      (
-        record { message = m; text = text; counted = counted },
-        omega (arith, w.many),
-        subst (λ (k : ℕ). Passes verdict k m text counted) (sym w.many) p,
-        reads,
-        stops_in go before between after fault (texts_of w.ts) text w.appended s,
-      ),
-      subst (Noted ge verdict (messages_of w.ts) first) (sym e) sifting_noted,
-    )
-    sifting_stops fails most (Refused refusal) h q = absurd q
-    sifting_stops fails most (NotStrict fault) h q = absurd q
-    sifting_stops fails most (Canon fault) h q = absurd q
-    sifting_stops fails most no_marks h q = absurd q
+    pub sieving_stops : (fails : Bool) (most : ℕ) (cause : Cause) → number < most
+        → SiftStops gs go ge form.pack verdict wants limit number mid new between after held last failed fails cause
+        → FiltersUntil gs go ge form verdict wants limit most old new before after first last (Err (record { message = number; cause = cause }))
+    sieving_stops fails most cause h q =
+        let w = s.sifting in
+        let p = stops cause q in
+        (w.ts, mid, sym w.many, omega (arith, w.many), w.reads, w.each, s.accepted, p.0, p.1)
+      where
+        stays : last ≡ held → Noted ge verdict (messages_of s.sifting.ts) first last
+        stays e = subst (Noted ge verdict (messages_of s.sifting.ts) first) (sym e)
+            (noted old mid before between first held outcome number failed s.sifting)
+
+        stops : (cause : Cause) → SiftStops gs go ge form.pack verdict wants limit number mid new between after held last failed fails cause
+            → RunStops gs go (PassesOn form.pack verdict) wants limit most s.sifting.ts mid new before after cause
+            × Noted ge verdict (messages_of s.sifting.ts) first last
+        stops TooManyMessages q = absurd q
+        stops (Frame fault) (f, o, e, b) = ((rw o s.sifting.appended, f), stays e)
+        stops (Output fault) (m, reads, (text, counted, p, z, (e, b))) = (
+          (
+            record { message = m; text = text; counted = counted },
+            omega (arith, s.sifting.many),
+            subst (λ (k : ℕ). PassesOn form.pack verdict k m text counted) (sym s.sifting.many) p,
+            reads,
+            stops_in go before between after fault (texts_of s.sifting.ts) text s.sifting.appended z,
+          ),
+          stays e,
+        )
+        stops (Refused refusal) q = absurd q
+        stops (NotStrict fault) q = absurd q
+        stops (Canon fault) q = absurd q
+        stops no_marks (m, reads, (want, o, (e, b))) =
+            ((omega (arith, s.sifting.many), rw o s.sifting.appended, (m, reads, want)), stays e)
 
     -- or after the most messages
-    pub sifting_ends : (most : ℕ) (cause : Cause) → number ≡ most → EndStops gs limit mid new cause
-        → RunStops gs go (Passes verdict) WantsNone limit most w.ts mid new before between cause
-    sifting_ends most TooManyMessages h q = (w.many ∙ h, w.appended, q)
-    sifting_ends most (Frame fault) h q = (w.appended, q)
-    sifting_ends most (Output fault) h q = absurd q
-    sifting_ends most (Refused refusal) h q = absurd q
-    sifting_ends most (NotStrict fault) h q = absurd q
-    sifting_ends most (Canon fault) h q = absurd q
-    sifting_ends most no_marks h q = absurd q
+    pub sieving_ends : (most : ℕ) (cause : Cause) → number ≡ most → EndStops gs limit mid new cause
+        → FiltersUntil gs go ge form verdict wants limit most old new before between first held (Err (record { message = most; cause = cause }))
+    sieving_ends most cause h q =
+        let w = s.sifting in (
+          w.ts,
+          mid,
+          sym (w.many ∙ h),
+          omega (arith, w.many),
+          w.reads,
+          w.each,
+          s.accepted,
+          ends cause q,
+          noted old mid before between first held outcome number failed w,
+        )
+      where
+        ends : (cause : Cause) → EndStops gs limit mid new cause
+            → RunStops gs go (PassesOn form.pack verdict) wants limit most s.sifting.ts mid new before between cause
+        ends TooManyMessages q = (s.sifting.many ∙ h, s.sifting.appended, q)
+        ends (Frame fault) q = (s.sifting.appended, q)
+        ends (Output fault) q = absurd q
+        ends (Refused refusal) q = absurd q
+        ends (NotStrict fault) q = absurd q
+        ends (Canon fault) q = absurd q
+        ends no_marks q = absurd q
 
-  -- a stream of messages within the limits is read to its end
+  -- the messages that were read begin a stream that is known
+  covers : (old new : S) (own : List ℕ) (ms : List (List (List ℕ))) (ts : List Told) → gs.words old ≡ Some own → Stream own ms
+      → ReadsUntil gs form.stop limit old new ts → Covers form.stop ts ms
+  covers old new own ms ts w s (inl (reads, accepted)) =
+      let all = on_known (gs.words old) own _ w reads.all in
+      let same = same_some own reads.own (sym w ∙ all.0) in
+      inl (one_stream own (messages_of ts) ms (subst (λ (ws : List ℕ). Stream ws (messages_of ts)) (sym same) reads.stream) s, accepted)
+  covers old new own ms ts w s (inr (stop, last, reads)) =
+      let more = reads_front gs limit old new new (messages_of ts) own ms w s reads in
+      inr (stop, last, (more.2.0, more.2.1))
+
+  -- a stream of messages within the limits is read to its end, or to the first that is refused
   pub filter_settled : (most : ℕ) (old new : S) (before after : O) (first last : E) (r : Result Outcome RunFault) (own : List ℕ)
-      (ms : List (List (List ℕ))) → FiltersAll gs go ge verdict limit most old new before after first last r
-      → FiltersUntil gs go ge verdict limit most old new before after first last r → gs.words old ≡ Some own
+      (ms : List (List (List ℕ))) → FiltersAll gs go ge form verdict wants limit most old new before after first last r
+      → FiltersUntil gs go ge form verdict wants limit most old new before after first last r → gs.words old ≡ Some own
       → gs.is_cut old ≡ false → Stream own ms → AllByRecursion (λ m. sum (sizes_of m) ≤ limit) ms → length ms ≤ most
-      → Settled r ((ts : List Told) × (messages_of ts ≡ ms) × TellsEach (Passes verdict) 0 ts × Appended go before after (texts_of ts)
-      × (r ≡ Ok (outcome_of ts)) × Noted ge verdict ms first last)
-  filter_settled most old new before after first last (Ok outcome) own ms end fault w c s l few =
-      let all = on_known (gs.words old) own _ w end.1.all in
-      let same = same_some own end.1.own (sym w ∙ all.0) in
-      let one = one_stream own (messages_of end.0) ms (subst (λ (ws : List ℕ). Stream ws (messages_of end.0)) (sym same) end.1.stream) s in (
-        end.0,
-        one,
-        end.2,
-        end.3,
-        ap (λ (o : Outcome). Ok o) end.5,
-        subst (λ (xs : List (List (List ℕ))). Noted ge verdict xs first last) one end.6,
-      )
+      → Settled r ((ts : List Told) × Covers form.stop ts ms × TellsEach (Passes form.pack verdict) 0 ts
+      × Appended go before after (texts_of ts) × (r ≡ Ok (outcome_of ts)) × Noted ge verdict (messages_of ts) first last)
+  filter_settled most old new before after first last (Ok outcome) own ms end fault w c s l few = (
+    end.0,
+    covers old new own ms end.0 w s end.1,
+    end.2,
+    end.3,
+    ap (λ (o : Outcome). Ok o) end.5,
+    end.6,
+  )
   filter_settled most old new before after first last (Err fault) own ms end f w c s l few =
-      settled_behind gs go (Passes verdict) limit most old new before after WantsNone f.1 f.0 own ms fault.cause _ w c s l few f.4 f.6
+      settled_behind gs go (PassesOn form.pack verdict) limit most old new before after wants f.1 f.0 own ms fault.cause _ w c s l few f.4 f.7

@@ -1,28 +1,57 @@
 -- What goes on of a stream that is filtered, and what is written about the rest (profile). The
 -- letters gs, go and ge are of the members of the source's, the output's and the log's types.
-use Rattle.std.specs.Prelude.{ℕ, ◌≡◌, ◌≤◌, false, true, Bool, List, [], length, sum, Some}
-use Rattle.std.specs.Prelude.{Result, Ok, IfOk, IfErr}
+use Rattle.std.specs.Prelude.{ℕ, ◌≡◌, ◌≤◌, ◌⊎◌, false, true, Bool, IsTrue, List, [], ◌∷◌, ◌++◌}
+use Rattle.std.specs.Prelude.{length, sum, Some, Result, Ok, IfOk, IfErr}
 use Rattle.std.specs.List.{AllByRecursion}
 use Rattle.cap_spec.specs.Frames.{Stream, frame_text, sizes_of}
+use Rattle.cap_spec.specs.PackedFrames.{packed_frame}
 use Rattle.cap_spec.specs.Plain.{plain_text}
+use Rattle.cap_vet.specs.declared.demands.Demands.{Demands}
+use Rattle.cap_vet.specs.declared.limits.Limits.{Limits}
 use Rattle.cap_words.specs.declared.ends.ByteOut as output
 use Rattle.cap_words.specs.declared.ends.OutFault.{OutFault}
 use Rattle.cap_words.specs.declared.sources.WordSource as source
+use Rattle.cap_run.specs.Demanding.{OrFaultIn, TellsMarked, WantsIn}
 use Rattle.cap_run.specs.Running.{Appended, RunStops, Settled, StopsIn}
 use Rattle.cap_run.specs.Streams.{ReadsAll, ReadsStream}
 use Rattle.cap_run.specs.Telling.{Tells, TellsEach, Told, WantsNone, messages_of, outcome_of}
 use Rattle.cap_run.specs.Telling.{texts_of}
+use Rattle.cap_run.specs.Vetting.{TellsAccepted, WantsMarks}
 use Rattle.cap_run.specs.declared.engines.stream.Counted.{Counted}
 use Rattle.cap_run.specs.declared.engines.stream.Counted.TheVariants.{Accepted, Refused}
 use Rattle.cap_run.specs.declared.engines.stream.Counted.TheVariants.{NotCanonical}
+use Rattle.cap_run.specs.declared.settings.FilterForm.{FilterForm}
 use Rattle.cap_run.specs.declared.settings.Outcome.{Outcome}
 use Rattle.cap_text.specs.declared.fault.RunFault.{RunFault}
 
--- of a message that is accepted, its frame with zero padding goes on; of another nothing
-abbrev pub GoesOn : List (List ℕ) → List ℕ → Counted → Type 0
-GoesOn m text Accepted = text ≡ plain_text (frame_text m)
-GoesOn m text Refused = text ≡ []
-GoesOn m text NotCanonical = ⊥
+-- the line of a message that meets the demands, as `vet` writes it, or `vet --exclusive`
+abbrev pub TellsMet : Bool → ℕ → ℕ → Tells
+TellsMet false = TellsAccepted
+TellsMet true = TellsMarked
+
+-- which of these messages need an allocation after they were read: if it is exclusive, all
+abbrev pub WantsMet : Bool → ℕ → ℕ → List (List ℕ) → Type 0
+WantsMet false words depth = WantsNone
+WantsMet true words depth = WantsMarks words depth
+
+-- the line of each message
+abbrev pub TellsIn : FilterForm → Demands → Limits → Tells
+TellsIn form demands limits = OrFaultIn demands (TellsMet form.exclusive) limits
+
+-- the messages that need an allocation after they were read
+abbrev pub WantsInForm : FilterForm → Demands → Limits → List (List ℕ) → Type 0
+WantsInForm form demands limits = WantsIn demands (WantsMet form.exclusive) limits
+
+-- the frame of a message with zero padding, plain or packed
+abbrev pub frame_in : Bool → List (List ℕ) → List ℕ
+frame_in false m = plain_text (frame_text m)
+frame_in true m = packed_frame m
+
+-- of a message that is accepted, its frame goes on; of another nothing
+abbrev pub GoesOn : Bool → List (List ℕ) → List ℕ → Counted → Type 0
+GoesOn pack m text Accepted = text ≡ frame_in pack m
+GoesOn pack m text Refused = text ≡ []
+GoesOn pack m text NotCanonical = ⊥
 
 -- the log gets the line of a message that is refused, and nothing of another
 abbrev pub IsNote : List ℕ → List ℕ → Counted → Type 0
@@ -31,14 +60,46 @@ IsNote line text Refused = text ≡ line
 IsNote line text NotCanonical = ⊥
 
 -- what goes on of message n, by the verdict that has this line
-abbrev pub Passes : Tells → Tells
-Passes verdict n m text counted = (line : List ℕ) × verdict n m line counted
-    × GoesOn m text counted
+abbrev pub Passes : Bool → Tells → Tells
+Passes pack verdict n m text counted = (line : List ℕ) × verdict n m line counted
+    × GoesOn pack m text counted
 
--- and what is written about it to the log
+-- what goes on of message n, which is accepted
+abbrev pub PassesOn : Bool → Tells → Tells
+PassesOn pack verdict n m text counted = (counted ≡ Accepted)
+    × Passes pack verdict n m text counted
+
+-- what is written about message n to the log
 abbrev pub Notes : Tells → Tells
 Notes verdict n m text counted = (line : List ℕ) × verdict n m line counted
     × IsNote line text counted
+
+-- all of these messages were accepted
+abbrev pub AllAccepted : List Told → Type 0
+AllAccepted ts = AllByRecursion (λ t. t.counted ≡ Accepted) ts
+
+-- The last of these messages was refused, and all before it were accepted.
+pub record LastRefused (ts : List Told) : Type 0 where
+  pub front : List Told
+  pub last : Told
+  pub whole : ts ≡ front ++ last ∷ []
+  pub accepted : AllAccepted front
+  pub refused : last.counted ≡ Refused
+
+-- These are all messages of a stream, and if it stops at a refused one, all were accepted. Or it
+-- stops there, and they are the messages up to the first that was refused.
+abbrev pub Covers : Bool → List Told → List (List (List ℕ)) → Type 0
+Covers stop ts ms = ((messages_of ts ≡ ms) × (IsTrue stop → AllAccepted ts))
+    ⊎ (IsTrue stop × LastRefused ts
+    × ((more : List (List (List ℕ))) × (ms ≡ messages_of ts ++ more)))
+
+module _ {S : Type 0} (gs : source.Ghosts S) where
+  -- All words of the source are frames of these messages, and if it stops at a refused one, all
+  -- were accepted. Or it stops there: nothing was read after the first that was refused.
+  abbrev pub ReadsUntil : Bool → ℕ → S → S → List Told → Type 0
+  ReadsUntil stop limit old new ts =
+      (ReadsAll gs limit old new (messages_of ts) × (IsTrue stop → AllAccepted ts))
+      ⊎ (IsTrue stop × LastRefused ts × ReadsStream gs limit old new (messages_of ts))
 
 module _ {E : Type 0} (ge : output.Ghosts E) where
   -- The text was written, or the log failed in it and wasn't called again.
@@ -55,32 +116,36 @@ module _ {E : Type 0} (ge : output.Ghosts E) where
     pub logged : Logged old new (texts_of us) failed
 
 module _ {S O E : Type 0} (gs : source.Ghosts S) (go : output.Ghosts O) (ge : output.Ghosts E)
-    (verdict : Tells) (limit most : ℕ) (old new : S) (before after : O) (first last : E) where
-  -- All words of the source are frames of these messages, and of each went on what passes.
+    (form : FilterForm) (verdict : Tells) (wants : List (List ℕ) → Type 0) (limit most : ℕ)
+    (old new : S) (before after : O) (first last : E) where
+  -- These messages were read, and of each went on what passes.
   abbrev pub FiltersAll : Result Outcome RunFault → Type 0
   FiltersAll answer = IfOk answer (λ outcome. (ts : List Told)
-      × ReadsAll gs limit old new (messages_of ts) × TellsEach (Passes verdict) 0 ts
+      × ReadsUntil gs form.stop limit old new ts × TellsEach (Passes form.pack verdict) 0 ts
       × Appended go before after (texts_of ts) × (length ts ≤ most) × (outcome ≡ outcome_of ts)
       × Noted ge verdict (messages_of ts) first last)
 
-  -- The source was `mid` after the messages before the error had been read.
+  -- The source was `mid` after the messages before the error had been read. If the output failed,
+  -- the message at the error was accepted.
   abbrev pub FiltersUntil : Result Outcome RunFault → Type 0
   FiltersUntil answer = IfErr answer (λ fault. (ts : List Told) × (mid : S)
       × (fault.message ≡ length ts) × (length ts ≤ most)
-      × ReadsStream gs limit old mid (messages_of ts) × TellsEach (Passes verdict) 0 ts
-      × RunStops gs go (Passes verdict) WantsNone limit most ts mid new before after fault.cause
-      × Noted ge verdict (messages_of ts) first last)
+      × ReadsStream gs limit old mid (messages_of ts) × TellsEach (Passes form.pack verdict) 0 ts
+      × (IsTrue form.stop → AllAccepted ts)
+      × RunStops gs go (PassesOn form.pack verdict) wants limit most ts mid new before after
+      fault.cause × Noted ge verdict (messages_of ts) first last)
 
   -- What an engine does that lets the accepted messages of a stream through: at most `most`
-  -- messages, each of at most `limit` words.
+  -- messages, each of at most `limit` words. A message in `wants` may need an allocation after it
+  -- was read.
   pub record FiltersStream (answer : Result Outcome RunFault) : Type 0 where
     pub ok : FiltersAll answer
     pub err : FiltersUntil answer
     -- And the other way round: a stream of at most `most` messages, each within the limit, is read
-    -- to its end.
+    -- to its end, or to the first refused message where it stops there.
     pub whole : (own : List ℕ) (ms : List (List (List ℕ))) → gs.words old ≡ Some own
         → gs.is_cut old ≡ false → Stream own ms
         → AllByRecursion (λ m. sum (sizes_of m) ≤ limit) ms → length ms ≤ most →
-        Settled answer ((ts : List Told) × (messages_of ts ≡ ms)
-        × TellsEach (Passes verdict) 0 ts × Appended go before after (texts_of ts)
-        × (answer ≡ Ok (outcome_of ts)) × Noted ge verdict ms first last)
+        Settled answer ((ts : List Told) × Covers form.stop ts ms
+        × TellsEach (Passes form.pack verdict) 0 ts × Appended go before after (texts_of ts)
+        × (answer ≡ Ok (outcome_of ts)) × Noted ge verdict (messages_of ts) first last)

@@ -1,19 +1,42 @@
 -- What the steps of the engine `run_filter` do (profile). gs, go and ge have the members of the
 -- types of the source, of the output, and of the log.
-use Rattle.std.specs.Prelude.{ℕ, ◌≡◌, Bool, List, [], ◌∷◌, ◌++◌, Result, Ok, Err}
+use Rattle.std.specs.Prelude.{ℕ, ◌≡◌, Bool, List, [], ◌∷◌, ◌++◌, Option, Some, None, Result, Ok, Err}
+use Rattle.std.specs.Prelude.{codes}
+use Rattle.cap_spec.specs.Texts.{Verdict, refused, strict_verdict, vet_text}
 use Rattle.cap_words.specs.declared.ends.ByteOut as output
-use Rattle.cap_words.specs.declared.ends.OutFault.{OutFault}
 use Rattle.cap_words.specs.declared.sources.WordSource as source
 use Rattle.cap_frame.specs.ReadingFaults.{Faults}
-use Rattle.cap_run.specs.Filtering.{Logged, Notes, Passes}
+use Rattle.cap_run.specs.Filtering.{Logged, Notes, Passes, PassesOn}
 use Rattle.cap_run.specs.Running.{Appended}
 use Rattle.cap_run.specs.Streams.{ReadsStream}
 use Rattle.cap_run.specs.Telling.{Tells}
+use Rattle.cap_run.specs.declared.engines.sifting.Objection.{Objection}
+use Rattle.cap_run.specs.declared.engines.sifting.Objection.TheVariants.{Unmet, Overlap}
 use Rattle.cap_run.specs.declared.engines.stream.Counted.{Counted}
+use Rattle.cap_run.specs.declared.engines.stream.Counted.TheVariants.{Accepted}
+use Rattle.cap_run.specs.declared.engines.stream.Counted.TheVariants.{Refused as was_refused}
 use Rattle.cap_text.specs.Writing.{Stopped}
 use Rattle.cap_text.specs.declared.fault.Cause.{Cause}
 use Rattle.cap_text.specs.declared.fault.Cause.TheVariants.{TooManyMessages, Frame, Output, Refused}
 use Rattle.cap_text.specs.declared.fault.Cause.TheVariants.{Canon, NotStrict, Memory as no_marks}
+
+-- what the line of a refused message says
+abbrev pub objection_verdict : Objection → Verdict
+objection_verdict (Unmet refusal) = strict_verdict refusal
+objection_verdict (Overlap s w pointers) = refused (codes "Overlap") s w pointers
+
+-- the line of message n, which is refused
+abbrev pub objection_text : ℕ → Objection → List ℕ
+objection_text n objection = vet_text n (objection_verdict objection)
+
+-- what is found of a message: it is accepted, or refused with this line, whatever its number is; or
+-- an allocation failed that it needs
+abbrev pub Judges : Tells → (List (List ℕ) → Type 0) → List (List ℕ)
+    → Result (Option Objection) Cause → Type 0
+Judges verdict wants m (Ok None) = (n : ℕ) → (line : List ℕ) × verdict n m line Accepted
+Judges verdict wants m (Ok (Some objection)) = (n : ℕ)
+    → verdict n m (objection_text n objection) was_refused
+Judges verdict wants m (Err cause) = (cause ≡ no_marks) × wants m
 
 module _ {E : Type 0} (ge : output.Ghosts E) where
   -- the log goes on with this line, unless it failed before or fails now
@@ -21,32 +44,43 @@ module _ {E : Type 0} (ge : output.Ghosts E) where
   LogsMore old new failed fails line = (first : E) (text : List ℕ)
       → Logged ge first old text failed → Logged ge first new (text ++ line) fails
 
-module _ {O E : Type 0} (go : output.Ghosts O) (ge : output.Ghosts E) (verdict : Tells) (n : ℕ)
-    (m : List (List ℕ)) (before after : O) (old new : E) (failed fails : Bool) where
+module _ {O E : Type 0} (go : output.Ghosts O) (ge : output.Ghosts E) (pack : Bool)
+    (verdict : Tells) (wants : List (List ℕ) → Type 0) (n : ℕ) (m : List (List ℕ))
+    (before after : O) (old new : E) (failed fails : Bool) where
+  -- nothing was written to the log
+  abbrev pub KeepsLog : Type 0
+  KeepsLog = (new ≡ old) × (fails ≡ failed)
+
   -- message n was accepted and its frame was written, or it was refused and its line was; or the
-  -- output failed in the frame
-  abbrev pub Sifts : Result Counted OutFault → Type 0
-  Sifts (Ok counted) = (text : List ℕ) × (line : List ℕ) × Passes verdict n m text counted
+  -- output failed in the frame of an accepted message, or an allocation failed
+  abbrev pub Sifts : Result Counted Cause → Type 0
+  Sifts (Ok counted) = (text : List ℕ) × (line : List ℕ) × Passes pack verdict n m text counted
       × Notes verdict n m line counted × Appended go before after text
       × LogsMore ge old new failed fails line
-  Sifts (Err fault) = (text : List ℕ) × (counted : Counted) × Passes verdict n m text counted
-      × Stopped go before after fault text × (new ≡ old) × (fails ≡ failed)
+  Sifts (Err TooManyMessages) = ⊥
+  Sifts (Err (Frame fault)) = ⊥
+  Sifts (Err (Output fault)) = (text : List ℕ) × (counted : Counted)
+      × PassesOn pack verdict n m text counted × Stopped go before after fault text × KeepsLog
+  Sifts (Err (Refused refusal)) = ⊥
+  Sifts (Err (NotStrict fault)) = ⊥
+  Sifts (Err (Canon fault)) = ⊥
+  Sifts (Err no_marks) = wants m × (after ≡ before) × KeepsLog
 
 module _ {S O E : Type 0} (gs : source.Ghosts S) (go : output.Ghosts O) (ge : output.Ghosts E)
-    (verdict : Tells) (limit n : ℕ) (old new : S) (before after : O) (first last : E)
-    (failed fails : Bool) where
+    (pack : Bool) (verdict : Tells) (wants : List (List ℕ) → Type 0) (limit n : ℕ) (old new : S)
+    (before after : O) (first last : E) (failed fails : Bool) where
   -- message n was read and sifted
-  abbrev pub SiftsNext : Result Counted OutFault → Type 0
+  abbrev pub SiftsNext : Result Counted Cause → Type 0
   SiftsNext r = (m : List (List ℕ)) × ReadsStream gs limit old new (m ∷ [])
-      × Sifts go ge verdict n m before after first last failed fails r
+      × Sifts go ge pack verdict wants n m before after first last failed fails r
 
   -- why the engine ended at message n
   abbrev pub SiftStops : Cause → Type 0
   SiftStops TooManyMessages = ⊥
   SiftStops (Frame fault) = Faults gs limit old new fault × (after ≡ before) × (last ≡ first)
       × (fails ≡ failed)
-  SiftStops (Output fault) = SiftsNext (Err fault)
+  SiftStops (Output fault) = SiftsNext (Err (Output fault))
   SiftStops (Refused refusal) = ⊥
   SiftStops (NotStrict fault) = ⊥
   SiftStops (Canon fault) = ⊥
-  SiftStops no_marks = ⊥
+  SiftStops no_marks = SiftsNext (Err no_marks)

@@ -9,6 +9,7 @@ pub mod filter;
 pub mod get;
 pub(crate) mod passing;
 pub mod segments;
+pub(crate) mod sifting;
 pub(crate) mod stream;
 pub mod transcode;
 pub mod vet;

@@ -21,4 +21,4 @@ pub use engines::get::{run_get, run_get_with};
 pub use engines::segments::run_segments;
 pub use engines::transcode::{run_pack, run_unpack};
 pub use engines::vet::{run_vet, run_vet_with};
-pub use settings::{Outcome, Settings};
+pub use settings::{FilterForm, Outcome, Settings};

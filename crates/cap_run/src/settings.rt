@@ -1,4 +1,4 @@
-//! The settings of an engine, and the counts that it returns.
+//! The settings of an engine, the form of a filter, and the counts that an engine returns.
 
 use cap_frame::SizeLimit;
 use cap_vet::Limits;
@@ -12,6 +12,19 @@ pub struct Settings {
     pub size: SizeLimit,
     /// The most messages of a stream.
     pub messages: u32,
+}
+
+/// The form of a run of [`run_filter`](crate::run_filter). With all of them false it lets a message
+/// through as [`run_vet_with`](crate::run_vet_with) accepts it, as a plain frame.
+#[derive(Clone, Copy, Debug, PartialEq, Eq, Drop)]
+pub struct FilterForm {
+    /// Refuse a message that uses a word twice, as
+    /// [`run_vet_exclusive_with`](crate::run_vet_exclusive_with) does.
+    pub exclusive: bool,
+    /// End the run after the first refused message.
+    pub stop: bool,
+    /// Write packed frames: the table and each segment are packed by themselves.
+    pub pack: bool,
 }
 
 /// The counts of a stream that was read to its end.

@@ -1,147 +1,58 @@
 //! The engine that lets the accepted messages of a stream through.
 
-ghost use Rattle.cap_run.specs.Demanding.{TellsVerdictUnder};
-ghost use Rattle.cap_run.specs.Filtering.{FiltersAll, FiltersStream, FiltersUntil, Logged};
-ghost use Rattle.cap_run.specs.Sifting.{SiftStops, Sifts, SiftsNext};
+ghost use Rattle.cap_run.specs.Filtering.{FiltersAll, FiltersStream, FiltersUntil, TellsIn};
+ghost use Rattle.cap_run.specs.Filtering.{WantsInForm};
+ghost use Rattle.cap_run.specs.Sifting.{SiftStops, SiftsNext};
 ghost use Rattle.cap_run.specs.Streams.{EndsStream};
 ghost use Rattle.cap_frame.specs.Limit.{limit_of};
-ghost use Rattle.cap_spec.specs.Frames.{frame_text};
-ghost use Rattle.cap_spec.specs.Plain.{plain_text};
-ghost use Rattle.cap_spec.specs.Texts.{strict_verdict, vet_text};
-ghost use Rattle.cap_text.specs.Writing.{Writes};
-ghost use Rattle.cap_vet.specs.Limits.{depth_of, words_of};
-ghost use Rattle.std.specs.Prelude.{◌++◌, ◌≡◌, IfErr, List, ℕ};
+ghost use Rattle.std.specs.Prelude.{◌≡◌, ◌≢◌, IfErr, IsFalse, IsTrue};
 
-use crate::engines::passing::write_frame;
+use crate::engines::sifting::Sieve;
 use crate::engines::stream::{Counted, count, end_stream};
-use crate::settings::{Outcome, Settings};
-use cap_frame::{ByteMessage, ByteView, Segments, read_into};
-use cap_spec::StrictRefusal;
-use cap_text::{Cause, Page, RunFault, write_refused};
-use cap_vet::{Demands, vet_with};
-use cap_words::{ByteOut, OutFault, WordSource};
+use crate::settings::{FilterForm, Outcome, Settings};
+use cap_frame::{ByteMessage, SizeLimit, read_into};
+use cap_text::{Cause, Page, RunFault};
+use cap_vet::Demands;
+use cap_words::{ByteOut, WordSource};
 use std::alloc::Global;
 
-/// The message that was read last, and the page for a line.
+/// The message that was read last, the page for a line, and whether the log has failed.
 #[derive(Drop)]
 struct FilterRoom {
     message: ByteMessage,
     page: Page,
-}
-
-/// Writes the line of a refused message, and flushes it.
-fn write_note<E: ByteOut>(
-    page: &mut Page,
-    log: &mut E,
-    number: u32,
-    refusal: &StrictRefusal,
-) -> Result<(), OutFault>
-    ensures { Writes E.ByteOut log.old log.new result
-        (vet_text number (strict_verdict refusal.now)) }
-{
-    match write_refused(page, log, number, refusal) {
-        Ok(()) => log.flush(),
-        Err(fault) => Err(fault),
-    }
-}
-
-/// Writes the line of a refused message, unless the log has failed. Whether it has failed now.
-fn note<E: ByteOut>(
-    page: &mut Page,
-    log: &mut E,
     failed: bool,
-    number: u32,
-    refusal: &StrictRefusal,
-) -> bool
-    ensures { (first : E) (text : List ℕ) → Logged E.ByteOut first log.old text failed →
-        Logged E.ByteOut first log.new (text ++ vet_text number (strict_verdict refusal.now)) result }
-{
-    if failed {
-        return true;
-    }
-    match write_note(page, log, number, refusal) {
-        Ok(()) => false,
-        Err(_) => true,
-    }
-}
-
-/// Writes the frame of a message, and flushes it.
-fn pass_on<'b, O: ByteOut>(out: &mut O, message: &ByteView<'b>) -> Result<(), OutFault>
-    ensures { let m = ⟦<ByteView<'b> as Segments>⟧.segments message.now in
-        Writes O.ByteOut out.old out.new result (plain_text (frame_text m)) }
-{
-    match write_frame(out, message) {
-        Ok(()) => out.flush(),
-        Err(fault) => Err(fault),
-    }
-}
-
-/// Vets a message under demands. Its frame goes on if the message meets them. Otherwise its line is
-/// written to the log.
-fn sift<'b, O: ByteOut, E: ByteOut>(
-    page: &mut Page,
-    out: &mut O,
-    log: &mut E,
-    failed: &mut bool,
-    number: u32,
-    message: &ByteView<'b>,
-    settings: &Settings,
-    demands: Demands,
-) -> Result<Counted, OutFault>
-    ensures { let m = ⟦<ByteView<'b> as Segments>⟧.segments message.now in
-        let s = settings.now in Sifts O.ByteOut E.ByteOut
-        (TellsVerdictUnder demands (words_of s.limits) (depth_of s.limits)) number m
-        out.old out.new log.old log.new failed.old failed.new result }
-{
-    match vet_with(message, settings.limits, demands) {
-        Ok(_) => match pass_on(out, message) {
-            Ok(()) => Ok(Counted::Accepted),
-            Err(fault) => Err(fault),
-        },
-        Err(refusal) => {
-            *failed = note(page, log, *failed, number, &refusal);
-            Ok(Counted::Refused)
-        }
-    }
 }
 
 /// Reads the next message and sifts it. `None` if the stream ends before it.
 fn sift_next<S: WordSource, O: ByteOut, E: ByteOut>(
-    alloc: Global,
+    sieve: &Sieve,
     room: &mut FilterRoom,
     source: &mut S,
     out: &mut O,
     log: &mut E,
-    failed: &mut bool,
+    size: SizeLimit,
     number: u32,
-    settings: &Settings,
-    demands: Demands,
 ) -> Result<Option<Counted>, Cause>
-    ensures some { (counted : Counted) → result ≡ Ok (Some counted) → let s = settings.now in
-        SiftsNext S.WordSource O.ByteOut E.ByteOut
-        (TellsVerdictUnder demands (words_of s.limits) (depth_of s.limits)) (limit_of s.size) number
-        source.old source.new out.old out.new log.old log.new failed.old failed.new (Ok counted) }
+    ensures some { (counted : Counted) → result ≡ Ok (Some counted) → let v = sieve.now in
+        SiftsNext S.WordSource O.ByteOut E.ByteOut v.form.pack
+        (TellsIn v.form v.demands v.limits) (WantsInForm v.form v.demands v.limits)
+        (limit_of size) number source.old source.new out.old out.new log.old log.new
+        room.old.failed room.new.failed (Ok counted) }
     ensures none { result ≡ Ok None → EndsStream S.WordSource source.old source.new
-        × (out.new ≡ out.old) × (log.new ≡ log.old) × (failed.new ≡ failed.old) }
-    ensures err { let s = settings.now in IfErr result (SiftStops S.WordSource O.ByteOut E.ByteOut
-        (TellsVerdictUnder demands (words_of s.limits) (depth_of s.limits)) (limit_of s.size) number
-        source.old source.new out.old out.new log.old log.new failed.old failed.new) }
+        × (out.new ≡ out.old) × (log.new ≡ log.old) × (room.new.failed ≡ room.old.failed) }
+    ensures err { let v = sieve.now in IfErr result (SiftStops S.WordSource O.ByteOut E.ByteOut
+        v.form.pack (TellsIn v.form v.demands v.limits)
+        (WantsInForm v.form v.demands v.limits) (limit_of size) number
+        source.old source.new out.old out.new log.old log.new
+        room.old.failed room.new.failed) }
 {
-    match read_into(alloc, source, settings.size, &mut room.message) {
+    match read_into(sieve.alloc, source, size, &mut room.message) {
         Ok(true) => {
             let message = room.message.view();
-            match sift(
-                &mut room.page,
-                out,
-                log,
-                failed,
-                number,
-                &message,
-                settings,
-                demands,
-            ) {
+            match sieve.sift(&mut room.page, out, log, &mut room.failed, number, &message) {
                 Ok(counted) => Ok(Some(counted)),
-                Err(fault) => Err(Cause::Output(fault)),
+                Err(cause) => Err(cause),
             }
         }
         Ok(false) => Ok(None),
@@ -149,45 +60,54 @@ fn sift_next<S: WordSource, O: ByteOut, E: ByteOut>(
     }
 }
 
-/// Sifts the messages of a stream to its end.
+/// Whether the run ends after a message of which this is counted.
+fn ends_after(counted: Counted, stop: bool) -> bool
+    ensures yes { IsTrue result → IsTrue stop × (counted ≡ Counted.Refused) }
+    ensures no { IsFalse result → IsTrue stop → counted ≢ Counted.Refused }
+{
+    match counted {
+        Counted::Refused => stop,
+        Counted::Accepted | Counted::NotCanonical => false,
+    }
+}
+
+/// Sifts the messages of a stream to its end, or to the first refused one.
 fn sift_each<S: WordSource, O: ByteOut, E: ByteOut>(
-    alloc: Global,
+    sieve: &Sieve,
     source: &mut S,
     out: &mut O,
     log: &mut E,
     settings: &Settings,
-    demands: Demands,
 ) -> Result<Outcome, RunFault>
-    ensures ok { let s = settings.now in FiltersAll S.WordSource O.ByteOut E.ByteOut
-        (TellsVerdictUnder demands (words_of s.limits) (depth_of s.limits)) (limit_of s.size)
-        s.messages source.old source.new out.old out.new log.old log.new result }
-    ensures err { let s = settings.now in FiltersUntil S.WordSource O.ByteOut E.ByteOut
-        (TellsVerdictUnder demands (words_of s.limits) (depth_of s.limits)) (limit_of s.size)
-        s.messages source.old source.new out.old out.new log.old log.new result }
+    ensures ok { let v = sieve.now in let s = settings.now in
+        FiltersAll S.WordSource O.ByteOut E.ByteOut v.form
+        (TellsIn v.form v.demands v.limits) (WantsInForm v.form v.demands v.limits)
+        (limit_of s.size) s.messages source.old source.new out.old out.new
+        log.old log.new result }
+    ensures err { let v = sieve.now in let s = settings.now in
+        FiltersUntil S.WordSource O.ByteOut E.ByteOut v.form
+        (TellsIn v.form v.demands v.limits) (WantsInForm v.form v.demands v.limits)
+        (limit_of s.size) s.messages source.old source.new out.old out.new
+        log.old log.new result }
 {
     let mut outcome = Outcome {
         messages: 0,
         refused: 0,
         noncanonical: 0,
     };
-    let mut failed = false;
     let mut room = FilterRoom {
-        message: ByteMessage::blank(alloc),
+        message: ByteMessage::blank(sieve.alloc),
         page: Page::new(),
+        failed: false,
     };
     for number in 0..settings.messages {
-        match sift_next(
-            alloc,
-            &mut room,
-            source,
-            out,
-            log,
-            &mut failed,
-            number,
-            settings,
-            demands,
-        ) {
-            Ok(Some(counted)) => outcome = count(outcome, counted),
+        match sift_next(sieve, &mut room, source, out, log, settings.size, number) {
+            Ok(Some(counted)) => {
+                outcome = count(outcome, counted);
+                if ends_after(counted, sieve.form.stop) {
+                    return Ok(outcome);
+                }
+            }
             Ok(None) => return Ok(outcome),
             Err(cause) => return Err(RunFault {
                 message: number,
@@ -204,27 +124,37 @@ fn sift_each<S: WordSource, O: ByteOut, E: ByteOut>(
     }
 }
 
-/// Reads the messages of a stream to its end, and vets each under demands (profile). Of a message
-/// that [`run_vet_with`](crate::run_vet_with) accepts, the frame is written to `out`: its table with
-/// zero padding, and its segments as they came (encoding: Serialization Over a Stream). Of any other
-/// nothing goes to `out`, and its line as in `run_vet_with` is written to `log`.
+/// Reads the messages of a stream to its end, and vets each under demands (profile). Of an accepted
+/// message the frame is written to `out`: its table with zero padding, and its segments as they
+/// came (encoding: Serialization Over a Stream). Of a refused one nothing goes to `out`, and its
+/// line is written to `log`.
 ///
-/// A refused message is counted, and doesn't end the run. The frame of a message, or its line, is
-/// written and flushed before the next message is read. No byte of a message is written before the
-/// whole message is vetted. If `log` fails, it isn't called again, and the run goes on.
+/// The verdict and the line are those of [`run_vet_with`](crate::run_vet_with), or with
+/// `form.exclusive` those of [`run_vet_exclusive_with`](crate::run_vet_exclusive_with). With
+/// `form.pack` the frame is packed, the table and each segment by itself (encoding: Packing).
 ///
-/// Allocates only to hold a message that is larger than all before it: eight bytes for each word.
+/// A refused message is counted. It ends the run only with `form.stop`: the source is then just
+/// after it, and nothing more was read. The frame of a message, or its line, is written and flushed
+/// before the next message is read. No byte of a message is written before the whole message is
+/// vetted. If `log` fails, it isn't called again, and the run goes on.
+///
+/// Allocates to hold a message only if it is larger than all before it: eight bytes for each word.
+/// With `form.exclusive` it allocates the marks for a message that meets the demands: one bit for
+/// each word, and at most 64 bits more.
 ///
 /// # Errors
 ///
 /// The error names the message at which the run ended, counted from 0. The frames of all accepted
-/// messages before it were written, and no message after it was read.
+/// messages before it were written, and no message after it was read. With `form.stop` all messages
+/// before it were accepted.
 ///
 /// - [`Cause::TooManyMessages`]: the stream has more than `settings.messages` messages.
 /// - [`Cause::Frame`]: the message can't be read within `settings.size`, see
 ///   [`FrameFault`](cap_frame::FrameFault).
-/// - [`Cause::Output`]: `out` failed as the frame was written or flushed. It took a prefix of the
-///   frame, or all of it.
+/// - [`Cause::Output`]: the message is accepted, and `out` failed as its frame was written or
+///   flushed. It took a prefix of the frame, or all of it.
+/// - [`Cause::Memory`]: with `form.exclusive` alone. The message meets the demands, and the
+///   allocation of the marks failed. Nothing was written for it.
 pub fn run_filter<S: WordSource, O: ByteOut, E: ByteOut>(
     alloc: Global,
     source: &mut S,
@@ -232,10 +162,18 @@ pub fn run_filter<S: WordSource, O: ByteOut, E: ByteOut>(
     log: &mut E,
     settings: &Settings,
     demands: Demands,
+    form: FilterForm,
 ) -> Result<Outcome, RunFault>
-    ensures { let s = settings.now in FiltersStream S.WordSource O.ByteOut E.ByteOut
-        (TellsVerdictUnder demands (words_of s.limits) (depth_of s.limits)) (limit_of s.size)
-        s.messages source.old source.new out.old out.new log.old log.new result }
+    ensures { let s = settings.now in FiltersStream S.WordSource O.ByteOut E.ByteOut form
+        (TellsIn form demands s.limits) (WantsInForm form demands s.limits)
+        (limit_of s.size) s.messages source.old source.new out.old out.new
+        log.old log.new result }
 {
-    sift_each(alloc, source, out, log, settings, demands)
+    let sieve = Sieve {
+        alloc,
+        limits: settings.limits,
+        demands,
+        form,
+    };
+    sift_each(&sieve, source, out, log, settings)
 }

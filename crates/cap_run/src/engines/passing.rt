@@ -1,37 +1,26 @@
-//! Writing the frame of a message to an output.
+//! Writing the frame of a message to an output, plain or packed.
 
-ghost use Rattle.cap_frame.specs.Numbers.{numbers_of, pair_at};
-ghost use Rattle.cap_spec.specs.Frames.{frame_text, joined, paired};
-ghost use Rattle.cap_spec.specs.Messages.{segment_of};
-ghost use Rattle.cap_spec.specs.Plain.{plain_text};
+ghost use Rattle.cap_spec.specs.Frames.{frame_text, joined};
+ghost use Rattle.cap_spec.specs.Packing.{pack_text};
+ghost use Rattle.cap_spec.specs.PackedFrames.{packed_frame, table_of};
+ghost use Rattle.cap_spec.specs.Plain.{plain_text, plain_words};
 ghost use Rattle.cap_text.specs.Writing.{Wrote, Writes};
-ghost use Rattle.std.specs.Prelude.{◌*◌, ◌++◌, ◌<◌, ◌≡◌, ◌≤◌, [], ◌∷◌, List, length, slice_index, ℕ};
+ghost use Rattle.std.specs.List.{flat_map};
+ghost use Rattle.std.specs.Prelude.{◌++◌, ◌<◌, List, length, ℕ};
 
-use cap_frame::{ByteView, Segments};
-use cap_words::{ByteOut, OutFault, bytes_of, write_all};
+use cap_frame::{ByteView, Segments, TABLE_BYTES, table_into};
+use cap_pack::{PART_BYTES, pack_into, pack_part};
+use cap_words::{ByteOut, OutFault, write_all};
 
-/// Number k of the table: how many segments there are besides the first, then the size of each, then
-/// padding.
-fn number<M: Segments>(message: &M, k: u32) -> u32
-    ensures { result ≡ slice_index (numbers_of (M.segments message.now)) k }
+/// How many bytes the packed text of the longest table has at most: ten for each word.
+const PACKED_TABLE_BYTES: usize = TABLE_BYTES / 8 * 10;
+
+/// Writes bytes, at least one.
+fn write_first<O: ByteOut>(out: &mut O, bytes: &[u8]) -> Result<(), OutFault>
+    requires { 0 < length bytes.now }
+    ensures { Writes O.ByteOut out.old out.new result bytes.now }
 {
-    if k == 0 {
-        message.count() - 1
-    } else if k <= message.count() {
-        message.len(k - 1)
-    } else {
-        0
-    }
-}
-
-/// Word w of the table.
-fn table_word<M: Segments>(message: &M, w: u32) -> u64
-    requires { w ≤ 256 }
-    ensures { result ≡ pair_at (numbers_of (M.segments message.now)) (2 * w) }
-{
-    let low = number(message, 2 * w);
-    let high = number(message, 2 * w + 1);
-    u64::from(low) + u64::from(high) * 0x1_0000_0000
+    write_all(out, bytes)
 }
 
 /// Writes bytes after a text that isn't empty.
@@ -42,28 +31,15 @@ fn write_more<O: ByteOut>(out: &mut O, bytes: &[u8]) -> Result<(), OutFault>
     write_all(out, bytes)
 }
 
-/// Writes the eight bytes of a word.
-fn write_word<O: ByteOut>(out: &mut O, word: u64) -> Result<(), OutFault>
-    ensures { Writes O.ByteOut out.old out.new result (plain_text (word ∷ [])) }
-{
-    write_all(out, &bytes_of(word))
-}
-
 /// Writes the table: how many segments there are, their sizes, and zero padding (encoding:
 /// Serialization Over a Stream).
 fn write_table<O: ByteOut, M: Segments>(out: &mut O, message: &M) -> Result<(), OutFault>
     ensures { Writes O.ByteOut out.old out.new result
-        (plain_text (paired (numbers_of (M.segments message.now)))) }
+        (plain_text (table_of (M.segments message.now))) }
 {
-    if let Err(fault) = write_word(out, table_word(message, 0)) {
-        return Err(fault);
-    }
-    'table: for w in 0..message.count() / 2 {
-        if let Err(fault) = write_more(out, &bytes_of(table_word(message, w + 1))) {
-            return Err(fault);
-        }
-    }
-    Ok(())
+    let mut table = [0; TABLE_BYTES];
+    let count = table_into(message, &mut table);
+    write_first(out, &table[..count])
 }
 
 /// Writes the bytes of all segments, each in one piece, after a text that isn't empty.
@@ -73,7 +49,7 @@ fn write_contents<'b, O: ByteOut>(out: &mut O, message: &ByteView<'b>) -> Result
         Writes O.ByteOut before out.new result (text ++ plain_text (joined m)) }
 {
     'segments: for s in 0..message.count() {
-        if let Err(fault) = write_more(out, message.bytes(s, 0, message.len(s))) {
+        if let Err(fault) = write_more(out, message.segment(s)) {
             return Err(fault);
         }
     }
@@ -95,6 +71,76 @@ pub(crate) fn write_frame<'b, O: ByteOut>(
 {
     match write_table(out, message) {
         Ok(()) => write_contents(out, message),
+        Err(fault) => Err(fault),
+    }
+}
+
+/// Writes the packed text of the table.
+fn write_packed_table<O: ByteOut, M: Segments>(out: &mut O, message: &M) -> Result<(), OutFault>
+    ensures { Writes O.ByteOut out.old out.new result
+        (pack_text (table_of (M.segments message.now))) }
+{
+    let mut table = [0; TABLE_BYTES];
+    let count = table_into(message, &mut table);
+    let mut text = [0; PACKED_TABLE_BYTES];
+    let length = pack_into(&table[..count], &mut text);
+    write_first(out, &text[..length])
+}
+
+/// Writes the packed text of the words of some bytes after a text that isn't empty. The buffer may
+/// hold anything.
+fn write_packed_more<O: ByteOut>(
+    out: &mut O,
+    bytes: &[u8],
+    part: &mut [u8; PART_BYTES],
+) -> Result<(), OutFault>
+    ensures { (before : O) (text : List ℕ) → Wrote O.ByteOut before out.old text →
+        Writes O.ByteOut before out.new result (text ++ pack_text (plain_words bytes.now)) }
+{
+    let mut done = 0;
+    'parts: while bytes.len() - done >= 8 {
+        let packed = pack_part(&bytes[done..], part);
+        if let Err(fault) = write_more(out, &part[..packed.length]) {
+            return Err(fault);
+        }
+        done += packed.taken;
+    }
+    Ok(())
+}
+
+/// Writes the packed text of each segment after a text that isn't empty.
+fn write_packed_contents<'b, O: ByteOut>(
+    out: &mut O,
+    message: &ByteView<'b>,
+) -> Result<(), OutFault>
+    ensures { let m = ⟦<ByteView<'b> as Segments>⟧.segments message.now in
+        (before : O) (text : List ℕ) → Wrote O.ByteOut before out.old text →
+        Writes O.ByteOut before out.new result (text ++ flat_map pack_text m) }
+{
+    let mut part = [0; PART_BYTES];
+    'texts: for s in 0..message.count() {
+        if let Err(fault) = write_packed_more(out, message.segment(s), &mut part) {
+            return Err(fault);
+        }
+    }
+    Ok(())
+}
+
+/// Writes the packed frame of a message, with zero padding: the table and each segment are packed by
+/// themselves (encoding: Packing, Serialization Over a Stream).
+///
+/// # Errors
+///
+/// The error of the output, which took a prefix of the packed frame.
+pub(crate) fn write_packed_frame<'b, O: ByteOut>(
+    out: &mut O,
+    message: &ByteView<'b>,
+) -> Result<(), OutFault>
+    ensures { let m = ⟦<ByteView<'b> as Segments>⟧.segments message.now in
+        Writes O.ByteOut out.old out.new result (packed_frame m) }
+{
+    match write_packed_table(out, message) {
+        Ok(()) => write_packed_contents(out, message),
         Err(fault) => Err(fault),
     }
 }

@@ -1,5 +1,6 @@
 use Rattle.std.proofs.Common.{List, ℕ, drop}
 use Rattle.cap_spec.specs.Frames.{joined}
+use Rattle.cap_spec.specs.Plain.{plain_text}
 use Rattle.cap_frame.specs.Bytes.{cut}
 use Rattle.cap_text.specs.Writing.{Wrote}
 use Rattle.cap_run.proofs.Passing.{Left}
@@ -7,5 +8,5 @@ use Rattle.cap_run.proofs.engines.passing.write_contents.Given as goal
 
 abbrev pub invariant-segments : goal.invariant-segments
 invariant-segments g l = (before : g.row.O.Denot) (text : List ℕ) → Wrote g.O.ByteOut before l.initial.out text
-    → Left g.O.ByteOut before l.out text (joined (cut l.message.sizes.now l.message.bytes.now))
-    (joined (drop l.s (cut l.message.sizes.now l.message.bytes.now)))
+    → Left g.O.ByteOut before l.out text (plain_text (joined (cut l.message.sizes.now l.message.bytes.now)))
+    (plain_text (joined (drop l.s (cut l.message.sizes.now l.message.bytes.now))))

@@ -1,0 +1,210 @@
+//! Vetting a message, and then passing it on or writing its line.
+
+ghost use Rattle.cap_run.specs.Filtering.{Logged, TellsIn, WantsInForm, frame_in};
+ghost use Rattle.cap_run.specs.Sifting.{Judges, Sifts, objection_text};
+ghost use Rattle.cap_run.specs.Demanding.{TellsMarked};
+ghost use Rattle.cap_run.specs.Vetting.{WantsMarks};
+ghost use Rattle.cap_spec.specs.Tree.{Tree};
+ghost use Rattle.cap_text.specs.Writing.{Writes};
+ghost use Rattle.cap_vet.specs.Reports.{IsReport};
+ghost use Rattle.cap_vet.specs.Vettings.{message_of, report_of};
+ghost use Rattle.std.specs.Prelude.{◌++◌, List, ℕ};
+
+use crate::engines::passing::{write_frame, write_packed_frame};
+use crate::engines::stream::Counted;
+use crate::settings::FilterForm;
+use cap_frame::{ByteView, Segments};
+use cap_spec::StrictRefusal;
+use cap_text::{Cause, Page, write_overlap, write_refused};
+use cap_vet::{Demands, ExclusiveRefusal, Limits, Vetted, vet_with};
+use cap_words::{ByteOut, OutFault};
+use std::alloc::Global;
+
+/// Why a message is refused.
+#[derive(Clone, Copy)]
+pub(crate) enum Objection {
+    /// It doesn't meet the demands.
+    Unmet(StrictRefusal),
+    /// It meets them, and uses a word twice. This is the first pointer that overlaps.
+    Overlap {
+        segment: u32,
+        word: u32,
+        pointers: u64,
+    },
+}
+
+/// The first pointer that overlaps in a message that meets the demands. `None` if there is none.
+///
+/// # Errors
+///
+/// [`Cause::Memory`]: the allocation of the marks failed.
+fn first_overlap<M: Segments>(
+    alloc: Global,
+    vetted: &Vetted<'_, M>,
+) -> Result<Option<Objection>, Cause>
+    ensures { (w d : ℕ) (t : Tree) → let m = M.segments (message_of vetted.now) in
+        IsReport m w d (report_of vetted.now) t →
+        Judges (TellsMarked w d) (WantsMarks w d) m result }
+{
+    match vetted.into_exclusive(alloc) {
+        Ok(_) => Ok(None),
+        Err(
+            ExclusiveRefusal::Overlap {
+                segment,
+                word,
+                pointers,
+            },
+        ) => Ok(Some(Objection::Overlap {
+            segment,
+            word,
+            pointers,
+        })),
+        Err(ExclusiveRefusal::Memory) => Err(Cause::Memory),
+        // The message is accepted.
+        Err(ExclusiveRefusal::Refused(_)) => unreachable!(),
+    }
+}
+
+/// Writes the line of a refused message.
+fn write_objection<E: ByteOut>(
+    page: &mut Page,
+    log: &mut E,
+    number: u32,
+    objection: &Objection,
+) -> Result<(), OutFault>
+    ensures { Writes E.ByteOut log.old log.new result (objection_text number objection.now) }
+{
+    match objection {
+        Objection::Unmet(refusal) => write_refused(page, log, number, refusal),
+        Objection::Overlap {
+            segment,
+            word,
+            pointers,
+        } => write_overlap(page, log, number, *segment, *word, *pointers),
+    }
+}
+
+/// Writes the line of a refused message, and flushes it.
+fn write_note<E: ByteOut>(
+    page: &mut Page,
+    log: &mut E,
+    number: u32,
+    objection: &Objection,
+) -> Result<(), OutFault>
+    ensures { Writes E.ByteOut log.old log.new result (objection_text number objection.now) }
+{
+    match write_objection(page, log, number, objection) {
+        Ok(()) => log.flush(),
+        Err(fault) => Err(fault),
+    }
+}
+
+/// Writes the line of a refused message, unless the log has failed. Whether it has failed now.
+fn note<E: ByteOut>(
+    page: &mut Page,
+    log: &mut E,
+    failed: bool,
+    number: u32,
+    objection: &Objection,
+) -> bool
+    ensures { (first : E) (text : List ℕ) → Logged E.ByteOut first log.old text failed →
+        Logged E.ByteOut first log.new (text ++ objection_text number objection.now) result }
+{
+    if failed {
+        return true;
+    }
+    match write_note(page, log, number, objection) {
+        Ok(()) => false,
+        Err(_) => true,
+    }
+}
+
+/// Writes the frame of a message, plain or packed.
+fn write_in<'b, O: ByteOut>(out: &mut O, message: &ByteView<'b>, pack: bool) -> Result<(), OutFault>
+    ensures { let m = ⟦<ByteView<'b> as Segments>⟧.segments message.now in
+        Writes O.ByteOut out.old out.new result (frame_in pack m) }
+{
+    if pack {
+        return write_packed_frame(out, message);
+    }
+    write_frame(out, message)
+}
+
+/// Writes the frame of a message, plain or packed, and flushes it.
+fn pass_on<'b, O: ByteOut>(out: &mut O, message: &ByteView<'b>, pack: bool) -> Result<(), OutFault>
+    ensures { let m = ⟦<ByteView<'b> as Segments>⟧.segments message.now in
+        Writes O.ByteOut out.old out.new result (frame_in pack m) }
+{
+    match write_in(out, message, pack) {
+        Ok(()) => out.flush(),
+        Err(fault) => Err(fault),
+    }
+}
+
+/// How messages are vetted and passed on.
+#[derive(Clone, Copy)]
+pub(crate) struct Sieve {
+    pub(crate) alloc: Global,
+    pub(crate) limits: Limits,
+    pub(crate) demands: Demands,
+    pub(crate) form: FilterForm,
+}
+
+impl Sieve {
+    /// Vets a message. `None` if it is accepted.
+    ///
+    /// # Errors
+    ///
+    /// [`Cause::Memory`]: an allocation failed.
+    fn judge<M: Segments>(&self, message: &M) -> Result<Option<Objection>, Cause>
+        ensures { let v = self.now in Judges (TellsIn v.form v.demands v.limits)
+            (WantsInForm v.form v.demands v.limits) (M.segments message.now) result }
+    {
+        match vet_with(message, self.limits, self.demands) {
+            Ok(vetted) => {
+                if self.form.exclusive {
+                    return first_overlap(self.alloc, &vetted);
+                }
+                Ok(None)
+            }
+            Err(refusal) => Ok(Some(Objection::Unmet(refusal))),
+        }
+    }
+
+    /// Vets a message. Its frame is written and flushed if it is accepted. Otherwise its line is
+    /// written to the log and flushed, unless the log has failed.
+    ///
+    /// # Errors
+    ///
+    /// The log took nothing.
+    ///
+    /// - [`Cause::Output`]: the message is accepted and the output failed. It took a prefix of the
+    ///   frame.
+    /// - [`Cause::Memory`]: an allocation failed. The output took nothing.
+    pub(crate) fn sift<'b, O: ByteOut, E: ByteOut>(
+        &self,
+        page: &mut Page,
+        out: &mut O,
+        log: &mut E,
+        failed: &mut bool,
+        number: u32,
+        message: &ByteView<'b>,
+    ) -> Result<Counted, Cause>
+        ensures { let m = ⟦<ByteView<'b> as Segments>⟧.segments message.now in
+            let v = self.now in Sifts O.ByteOut E.ByteOut v.form.pack
+            (TellsIn v.form v.demands v.limits) (WantsInForm v.form v.demands v.limits) number m
+            out.old out.new log.old log.new failed.old failed.new result }
+    {
+        match self.judge(message) {
+            Ok(None) => match pass_on(out, message, self.form.pack) {
+                Ok(()) => Ok(Counted::Accepted),
+                Err(fault) => Err(Cause::Output(fault)),
+            },
+            Ok(Some(objection)) => {
+                *failed = note(page, log, *failed, number, &objection);
+                Ok(Counted::Refused)
+            }
+            Err(cause) => Err(cause),
+        }
+    }
+}
