@@ -28,7 +28,7 @@ _capvet() {
     "") options="--help --version" ;;
     segments) options="--packed --size --help" ;;
     vet) options="--packed --size --words --depth --strict --unamplified --exclusive --help" ;;
-    filter) options="--packed --size --words --depth --allow-nonstrict --allow-amplified --help" ;;
+    filter) options="--packed --size --words --depth --exclusive --allow-nonstrict --allow-amplified --pack --stop --help" ;;
     dump | get | check | canon)
       options="--packed --size --words --depth --strict --unamplified --help"
       ;;

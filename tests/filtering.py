@@ -45,6 +45,28 @@ WHOLE = (
         "capvet: message 2: TooManySegments 513\n", 1),
 )
 
+# The three options by themselves and together.
+FORMS = (
+    # a message that uses a word twice
+    Row("filter --exclusive", f"{STRUCT} {SHARED} {CYCLE} {NULL}", word(f"{STRUCT} {NULL}"),
+        "message 1: refused Overlap at 0:2 pointers 3\n"
+        "message 2: refused DepthLimit at 0:0 pointers 65\n", 1),
+    # nothing of the stream counts after the first refused message, and without one all of it does
+    Row("filter --stop", f"{STRUCT} {CYCLE} {NULL} {ROOTLESS}", word(STRUCT), "message 1: refused DepthLimit at 0:0 pointers 65\n", 1),
+    Row("filter --stop", f"{ROOTLESS} {STRUCT}", "", "message 0: refused NoRoot at 0:0 pointers 0\n", 1),
+    Row("filter --stop", f"{NULL} {CYCLE} 0002000000000000", word(NULL), "message 1: refused DepthLimit at 0:0 pointers 65\n", 1),
+    Row("filter --stop", f"{NULL} {PADDED} {SHARED}", word(f"{NULL} {ZERO_PADDED} {SHARED}")),
+    Row("filter --stop", f"{NULL} 0002000000000000", word(NULL), "capvet: message 1: TooManySegments 513\n", 1),
+    # the table and each segment are packed by themselves, and no run goes on from one into the next
+    Row("filter --pack", NULL, word("1001 0000")),
+    Row("filter --pack", f"{STRUCT} {CYCLE} {NULL}", word("1002 1001 012a 1001 0000"),
+        "message 1: refused DepthLimit at 0:0 pointers 65\n", 1),
+    Row("filter --pack", PADDED, word("110101 0102 110201 1001 012a")),
+    Row("filter --pack", f"{NULL} {NULL}", word("10010000 10010000")),
+    Row("filter --pack --stop --exclusive", f"{STRUCT} {SHARED} {NULL}", word("1002 1001 012a"),
+        "message 1: refused Overlap at 0:2 pointers 3\n", 1),
+)
+
 # Streams that end inside a message, plain and packed.
 CUT = (
     Row("filter", f"{STRUCT} {CYCLE} {NULL} 0000000002000000 0000000001000000", word(f"{STRUCT} {NULL}"),

@@ -108,14 +108,21 @@ Options:
       --size <N>         Maximum words of a message, without its table: 0 to 268435456 [default: 8388608]
       --words <N>        Maximum charge of a message in words: 0 to 268435456 [default: 8388608]
       --depth <N>        Maximum level of an object: 0 to 256; the root object has level 1 [default: 64]
+      --exclusive        Refuse a message that uses a word twice
       --allow-nonstrict  Accept a message in a form that common readers reject
       --allow-amplified  Accept a charge above the words of the message plus 4096
+      --pack             Pack the output
+      --stop             End the run after the first refused message
   -h, --help             Print help
 
 It writes an accepted message in one plain frame: a table with zero padding, and all its segments as
 they came. This goes out before the next message is read. A message is accepted if 'vet --strict
 --unamplified' accepts it; --allow-nonstrict and --allow-amplified each leave out one of these two.
 For a refused message the line of 'vet' goes to standard error, and the run goes on.
+
+With --stop the run ends after the first refused message, for a protocol in which a missing message
+breaks the rest. With --pack the output is packed, its table and each segment by itself. With
+--exclusive a message is refused as in 'vet'.
 
 Example:
   $ cat examples/cycle.bin examples/contacts.bin | capvet filter | capvet vet

@@ -411,7 +411,7 @@ for table in (tables.VERDICTS, tables.OTHER_LIMITS, tables.ENDS, tables.MESSAGES
               tables.WORDS, filtering.CUT):
     rows(table)
 for table in (tables.LEVELS, tables.NESTED, tables.LEVELS_WITH_A_POINTER_LEFT, tables.OVERLAPS, tables.DUMPS, tables.GETS, tables.LADDER,
-              tables.BEHIND_A_REFUSAL, tables.COPY_ENDS, demands.ROWS, filtering.WHOLE):
+              tables.BEHIND_A_REFUSAL, tables.COPY_ENDS, demands.ROWS, filtering.WHOLE, filtering.FORMS):
     rows(table, also_packed=True)
 for stream, exclusive, plain in tables.EXCLUSIVES:
     for command, verdict in ("vet", plain), ("vet --exclusive", exclusive):

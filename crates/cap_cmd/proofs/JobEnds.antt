@@ -19,11 +19,13 @@ use Rattle.cap_spec.specs.Plain.{plain_text}
 use Rattle.cap_run.specs.Canons.{copies_of}
 use Rattle.cap_run.specs.Copying.{Copied, CopiesAll}
 use Rattle.cap_run.specs.Engines.{TellsStream}
-use Rattle.cap_run.specs.Filtering.{FiltersStream, Passes}
+use Rattle.cap_run.specs.Filtering.{FiltersStream, Passes, TellsIn, WantsInForm}
+use Rattle.cap_run.specs.declared.settings.FilterForm.{FilterForm}
 use Rattle.cap_run.specs.Running.{Appended}
 use Rattle.cap_run.specs.Streams.{ReadsAll}
 use Rattle.cap_run.specs.Engines.{most_packed_at_once, most_unpacked_at_once, most_words}
 use Rattle.cap_run.specs.Telling.{Tells, TellsEach, TellsSegments, Told, WantsNone, messages_of, outcome_of, texts_of}
+use Rattle.cap_run.proofs.FilterEnds.{reads_whole}
 use Rattle.cap_run.specs.Demanding.{TellsCheckUnder, TellsDumpUnder, TellsExclusiveUnder, TellsGetUnder}
 use Rattle.cap_run.specs.Demanding.{TellsVerdictUnder, WantsMarksUnder}
 use Rattle.cap_text.specs.declared.fault.Cause.{Cause}
@@ -115,13 +117,16 @@ module _ {S O : Type 0} (gs : source.Ghosts S) (go : output.Ghosts O) (s : Setti
   told_all tells wants before after (Err fault) e t = absurd (cause_fails fault.cause e)
 
   -- all messages went on
-  passed_all : {E : Type 0} (ge : output.Ghosts E) (verdict : Tells) (before after : O) (first last : E)
+  passed_all : {E : Type 0} (ge : output.Ghosts E) (form : FilterForm) (verdict : Tells)
+      (wants : List (List ℕ) → Type 0) (before after : O) (first last : E)
       (r : Result Outcome RunFault) → run_status r ≡ 0
-      → FiltersStream gs go ge verdict (limit_of s.size) s.messages old new before after first last r
-      → TellsInput (Passes verdict) s (gs.words old) (gs.is_cut old) (go.written before) (go.written after)
-  passed_all ge verdict before after first last (Ok o) e t =
-      let k = t.ok in all_told (Passes verdict) before after o k.0 e k.5 k.1 k.2 k.3 k.4
-  passed_all ge verdict before after first last (Err fault) e t = absurd (cause_fails fault.cause e)
+      → FiltersStream gs go ge form verdict wants (limit_of s.size) s.messages old new before after first last r
+      → TellsInput (Passes form.pack verdict) s (gs.words old) (gs.is_cut old) (go.written before) (go.written after)
+  passed_all ge form verdict wants before after first last (Ok o) e t =
+      let k = t.ok in
+      let none = none_refused (outcome_of k.0) (subst (λ (x : Outcome). outcome_status x ≡ 0) k.5 e) in
+      all_told (Passes form.pack verdict) before after o k.0 e k.5 (reads_whole gs (limit_of s.size) old new form.stop k.0 none k.1) k.2 k.3 k.4
+  passed_all ge form verdict wants before after first last (Err fault) e t = absurd (cause_fails fault.cause e)
 
 module _ {S O K : Type 0} (gs : source.Ghosts S) (go : output.Ghosts O) (s : Settings) (old new : S)
     (gk : sink.Ghosts K) where
@@ -179,9 +184,9 @@ module _ {S O E P U : Type 0} (gs : source.Ghosts S) (go : output.Ghosts O) (ge 
       told_all gs go s first d.last (TellsExclusiveUnder demands (words_of s.limits) (depth_of s.limits))
       (WantsMarksUnder demands (words_of s.limits) (depth_of s.limits)) before after d.answer
       (sym d.reported.status_is ∙ e) d.does
-  writes_all Filter s demands first before after old new status e d =
-      passed_all gs go s first d.1.last ge (TellsVerdictUnder demands (words_of s.limits) (depth_of s.limits)) before after
-      old d.0 d.1.answer (sym d.1.reported.status_is ∙ e) d.1.does
+  writes_all (Filter form) s demands first before after old new status e d =
+      passed_all gs go s first d.1.last ge form (TellsIn form demands s.limits) (WantsInForm form demands s.limits)
+      before after old d.0 d.1.answer (sym d.1.reported.status_is ∙ e) d.1.does
   writes_all Dump s demands first before after old new status e d =
       told_all gs go s first d.last (TellsDumpUnder demands (words_of s.limits) (depth_of s.limits)) WantsNone before
       after

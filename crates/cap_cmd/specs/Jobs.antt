@@ -27,13 +27,14 @@ use Rattle.cap_run.specs.Demanding.{TellsCheckUnder, TellsDumpUnder, TellsExclus
 use Rattle.cap_run.specs.Demanding.{TellsGetUnder, TellsVerdictUnder, WantsMarksUnder}
 use Rattle.cap_run.specs.Engines.{CopiesWords, ShowsStream, TellsStream}
 use Rattle.cap_run.specs.Engines.{most_packed_at_once, most_unpacked_at_once, most_words}
-use Rattle.cap_run.specs.Filtering.{FiltersStream, Passes}
+use Rattle.cap_run.specs.Filtering.{FiltersStream, Passes, TellsIn, WantsInForm}
 use Rattle.cap_text.specs.FaultLines.{copy_fault_line, run_fault_line}
 use Rattle.cap_run.specs.Telling.{Tells, TellsEach, TellsSegments, Told, WantsNone}
 use Rattle.cap_run.specs.Telling.{messages_of, noncanonical_in, refused_in, texts_of}
 use Rattle.cap_text.specs.Writing.{Writes}
 use Rattle.cap_text.specs.declared.fault.CopyFault.{CopyFault}
 use Rattle.cap_text.specs.declared.fault.RunFault.{RunFault}
+use Rattle.cap_run.specs.declared.settings.FilterForm.{FilterForm}
 use Rattle.cap_run.specs.declared.settings.Outcome.{Outcome}
 use Rattle.cap_run.specs.declared.settings.Settings.{Settings}
 use Rattle.cap_cmd.specs.Statuses.{copy_status, run_status}
@@ -46,7 +47,7 @@ use Rattle.cap_cmd.specs.declared.job.Task.TheVariants.{Canon, Pack, Unpack}
 abbrev pub is_packed : Task → Bool → Bool
 is_packed Segments told = told
 is_packed (Vet exclusive) told = told
-is_packed Filter told = told
+is_packed (Filter form) told = told
 is_packed Dump told = told
 is_packed (Get path) told = told
 is_packed Check told = told
@@ -164,11 +165,11 @@ module _ {S O E : Type 0} (gs : source.Ghosts S) (go : output.Ghosts O) (ge : ou
 
   -- The engine that lets accepted messages through writes the lines of the others before `mid`. Its
   -- answer is reported after them.
-  abbrev pub FiltersTask : Settings → Demands → S → O → O → E → E → ℕ → Type 0
-  FiltersTask s demands first before after old new status = (mid : E) × Runs
-      (λ last answer. FiltersStream gs go ge
-      (TellsVerdictUnder demands (words_of s.limits) (depth_of s.limits)) (limit_of s.size)
-      s.messages first last before after old mid answer)
+  abbrev pub FiltersTask : FilterForm → Settings → Demands → S → O → O → E → E → ℕ → Type 0
+  FiltersTask form s demands first before after old new status = (mid : E) × Runs
+      (λ last answer. FiltersStream gs go ge form (TellsIn form demands s.limits)
+      (WantsInForm form demands s.limits) (limit_of s.size) s.messages first last before after old
+      mid answer)
       (ReportsRun ge) mid new status
 
 module _ {S O E P U : Type 0} (gs : source.Ghosts S) (go : output.Ghosts O) (ge : output.Ghosts E)
@@ -185,7 +186,8 @@ module _ {S O E P U : Type 0} (gs : source.Ghosts S) (go : output.Ghosts O) (ge 
   DoesTask (Vet true) s demands first before after =
       TellsTask gs go ge (TellsExclusiveUnder demands (words_of s.limits) (depth_of s.limits))
       (WantsMarksUnder demands (words_of s.limits) (depth_of s.limits)) s first before after
-  DoesTask Filter s demands first before after = FiltersTask gs go ge s demands first before after
+  DoesTask (Filter form) s demands first before after =
+      FiltersTask gs go ge form s demands first before after
   DoesTask Dump s demands first before after =
       TellsTask gs go ge (TellsDumpUnder demands (words_of s.limits) (depth_of s.limits))
       WantsNone s first before after
@@ -258,8 +260,8 @@ WritesAll (Vet false) s demands =
     TellsInput (TellsVerdictUnder demands (words_of s.limits) (depth_of s.limits)) s
 WritesAll (Vet true) s demands =
     TellsInput (TellsExclusiveUnder demands (words_of s.limits) (depth_of s.limits)) s
-WritesAll Filter s demands =
-    TellsInput (Passes (TellsVerdictUnder demands (words_of s.limits) (depth_of s.limits))) s
+WritesAll (Filter form) s demands =
+    TellsInput (Passes form.pack (TellsIn form demands s.limits)) s
 WritesAll Dump s demands =
     TellsInput (TellsDumpUnder demands (words_of s.limits) (depth_of s.limits)) s
 WritesAll (Get path) s demands =

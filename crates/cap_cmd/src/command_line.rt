@@ -6,7 +6,7 @@ ghost use Rattle.std.specs.Prelude.{◌≡◌, IfOk, IfSome};
 use crate::commands::{DEFAULT_DEPTH, DEFAULT_WORDS, capvet_command};
 use crate::job::{Job, JobFault, Task};
 use cap_frame::SizeLimit;
-use cap_run::{Demands, PathFault, Settings, Step, parse_path};
+use cap_run::{Demands, FilterForm, PathFault, Settings, Step, parse_path};
 use cap_vet::Limits;
 use clap::error::ErrorKind;
 use clap::{ArgMatches, Error};
@@ -47,6 +47,15 @@ fn path_of(alloc: Global, options: &ArgMatches<'_>) -> Result<Vec<Step>, JobFaul
     }
 }
 
+// The form of a filter.
+fn form_of(options: &ArgMatches<'_>) -> FilterForm {
+    FilterForm {
+        exclusive: options.get_flag("exclusive"),
+        stop: options.get_flag("stop"),
+        pack: options.get_flag("pack"),
+    }
+}
+
 // The task of a subcommand by its name.
 fn task_of(alloc: Global, name: &str, options: &ArgMatches<'_>) -> Result<Task, JobFault> {
     match name {
@@ -54,7 +63,9 @@ fn task_of(alloc: Global, name: &str, options: &ArgMatches<'_>) -> Result<Task, 
         "vet" => Ok(Task::Vet {
             exclusive: options.get_flag("exclusive"),
         }),
-        "filter" => Ok(Task::Filter),
+        "filter" => Ok(Task::Filter {
+            form: form_of(options),
+        }),
         "dump" => Ok(Task::Dump),
         "get" => match path_of(alloc, options) {
             Ok(path) => Ok(Task::Get { path }),
@@ -85,7 +96,7 @@ fn settings_of(options: &ArgMatches<'_>) -> Option<Settings>
 // The demands of the options on each message. A filter makes both, unless an option lifts one.
 fn demands_of(task: &Task, options: &ArgMatches<'_>) -> Demands {
     match task {
-        Task::Filter => Demands {
+        Task::Filter { .. } => Demands {
             strict: !options.get_flag("allow-nonstrict"),
             unamplified: !options.get_flag("allow-amplified"),
         },

@@ -33,6 +33,8 @@ const STRICT_HELP: &str = "Refuse a message in a form that common readers reject
 
 const UNAMPLIFIED_HELP: &str = "Refuse a charge above the words of the message plus 4096";
 
+const EXCLUSIVE_HELP: &str = "Refuse a message that uses a word twice";
+
 const ALLOW_NONSTRICT_HELP: &str = "Accept a message in a form that common readers reject";
 
 const ALLOW_AMPLIFIED_HELP: &str = "Accept a charge above the words of the message plus 4096";
@@ -48,6 +50,8 @@ enum Part {
     Unamplified,
     AllowNonstrict,
     AllowAmplified,
+    Pack,
+    Stop,
     Exclusive,
     Path,
     File,
@@ -104,8 +108,11 @@ static FORMS: [Form; 9] = [
             Part::Size,
             Part::Words,
             Part::Depth,
+            Part::Exclusive,
             Part::AllowNonstrict,
             Part::AllowAmplified,
+            Part::Pack,
+            Part::Stop,
             Part::File,
         ],
     },
@@ -195,11 +202,9 @@ fn argument<'a>(alloc: Global, part: Part) -> Arg<'a> {
         Part::Unamplified => flag(alloc, "unamplified", UNAMPLIFIED_HELP),
         Part::AllowNonstrict => flag(alloc, "allow-nonstrict", ALLOW_NONSTRICT_HELP),
         Part::AllowAmplified => flag(alloc, "allow-amplified", ALLOW_AMPLIFIED_HELP),
-        Part::Exclusive => flag(
-            alloc,
-            "exclusive",
-            "Refuse a message that uses a word twice",
-        ),
+        Part::Pack => flag(alloc, "pack", "Pack the output"),
+        Part::Stop => flag(alloc, "stop", "End the run after the first refused message"),
+        Part::Exclusive => flag(alloc, "exclusive", EXCLUSIVE_HELP),
         Part::Path => Arg::new(alloc, "path")
             .value_name("PATH")
             .help("Path of the node, such as /p0/i3")

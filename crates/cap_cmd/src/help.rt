@@ -56,6 +56,10 @@ they came. This goes out before the next message is read. A message is accepted 
 --unamplified' accepts it; --allow-nonstrict and --allow-amplified each leave out one of these two.
 For a refused message the line of 'vet' goes to standard error, and the run goes on.
 
+With --stop the run ends after the first refused message, for a protocol in which a missing message
+breaks the rest. With --pack the output is packed, its table and each segment by itself. With
+--exclusive a message is refused as in 'vet'.
+
 Example:
   $ cat examples/cycle.bin examples/contacts.bin | capvet filter | capvet vet
   message 0: refused DepthLimit at 0:0 pointers 65

@@ -1,6 +1,6 @@
 //! A job that the command line names.
 
-use cap_run::{Demands, Settings, Step};
+use cap_run::{Demands, FilterForm, Settings, Step};
 
 /// What the program is asked to do.
 #[derive(Debug, PartialEq, Eq, Drop)]
@@ -14,7 +14,11 @@ pub enum Task {
     },
     /// To write the frame of each message that is accepted. The line of each other is written to
     /// the output for faults.
-    Filter,
+    Filter {
+        /// Whether it is refused too where some word is used twice, whether the run ends after the
+        /// first refused message, and whether the output is packed.
+        form: FilterForm,
+    },
     /// To write the tree of each message that is accepted.
     Dump,
     /// To show the node that each message's tree has at a path.

@@ -26,7 +26,7 @@ fn input_is_packed(job: &Job) -> bool
 {
     match &job.task {
         Task::Segments | Task::Vet { .. } | Task::Dump | Task::Get { .. } => job.packed,
-        Task::Filter | Task::Check | Task::Canon => job.packed,
+        Task::Filter { .. } | Task::Check | Task::Canon => job.packed,
         Task::Pack => false,
         Task::Unpack => true,
     }
@@ -142,8 +142,8 @@ fn run_over<S: WordSource + Drop, O: ByteOut, E: ByteOut>(
             );
             (status, out)
         }
-        Task::Filter => {
-            let answer = run_filter(alloc, &mut source, &mut out, err, settings, demands);
+        Task::Filter { form } => {
+            let answer = run_filter(alloc, &mut source, &mut out, err, settings, demands, *form);
             (report_run(err, &answer), out)
         }
         Task::Dump => {

@@ -2,6 +2,7 @@ pub mod CanonEnds
 pub mod Copying
 pub mod CopyEnds
 pub mod Demanding
+pub mod FilterEnds
 pub mod FoundNodes
 pub mod Going
 pub mod Handed
