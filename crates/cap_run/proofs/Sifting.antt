@@ -1,6 +1,6 @@
 -- How far the engine `run_filter` has come: the messages of a prefix of the stream were read and sifted.
 use Rattle.std.proofs.Common.{◌≡◌, ◌∙◌, ℕ, ◌+◌, ◌<◌, ◌≤◌, Bool, false, true, List, [], ◌∷◌, ◌++◌, length, refl, sym, ap, subst, arith, length-append}
-use Rattle.std.proofs.Common.{append_assoc, append-nil, Option, None, Result, Ok, Err, sum, Some, ◌⊎◌, ◌≢◌, inl, inr}
+use Rattle.std.proofs.Common.{append_assoc, append-nil, Option, None, Result, Ok, Err, sum, Some, ◌≢◌, inl, inr}
 use Rattle.std.proofs.lemmas.Bool.{false≢true}
 use Rattle.std.specs.List.{AllByRecursion}
 use Rattle.std.specs.Prelude.{IsTrue}

@@ -1,5 +1,5 @@
 -- Each turn writes one word more.
-use Rattle.std.proofs.Common.{◌≡◌, ◌+◌, ◌-◌, ◌*◌, ◌/◌, ◌++◌, ◌∙◌, ℕ, List, ap, arith, length, sym, take}
+use Rattle.std.proofs.Common.{◌≡◌, ◌+◌, ◌-◌, ◌*◌, ◌/◌, ◌++◌, ◌∙◌, ℕ, ap, arith, length, take}
 use Rattle.std.proofs.lemmas.Slice.{take-put_mid}
 use Rattle.cap_spec.specs.Plain.{word_bytes}
 use Rattle.cap_frame.proofs.TableBytes.{table_all, table_back, table_more}

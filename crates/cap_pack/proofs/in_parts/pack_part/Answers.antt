@@ -1,5 +1,5 @@
 -- The groups of a piece, or a run that begins with it.
-use Rattle.std.proofs.Common.{◌≡◌, ◌≤◌, ◌+◌, ◌*◌, ◌++◌, ◌∙◌, ℕ, List, ap, arith, drop, length, refl, sym, take, take_at, zero-add}
+use Rattle.std.proofs.Common.{◌≡◌, ◌≤◌, ◌*◌, ◌++◌, ◌∙◌, ℕ, List, ap, arith, drop, length, refl, sym, take, take_at, zero-add}
 use Rattle.std.proofs.lemmas.List.{drop-append-le, drop_at, length-take-le}
 use Rattle.cap_spec.specs.Packing.{pack_text}
 use Rattle.cap_spec.specs.Plain.{plain_words}

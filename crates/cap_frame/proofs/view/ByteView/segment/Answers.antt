@@ -5,7 +5,7 @@ use Rattle.cap_spec.specs.Messages.{segment_of}
 use Rattle.cap_spec.specs.Plain.{plain_text, plain_words}
 use Rattle.cap_frame.specs.Bytes.{cut}
 use Rattle.cap_frame.proofs.Cuts.{starts_length, cut_length}
-use Rattle.cap_frame.proofs.Parts.{PartFacts, part_facts}
+use Rattle.cap_frame.proofs.Parts.{part_facts}
 use Rattle.cap_frame.proofs.view.ByteView.segment.Goals as goal
 
 pub bounds-self-s : goal.bounds-self-s

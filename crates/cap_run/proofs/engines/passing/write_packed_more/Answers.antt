@@ -1,5 +1,5 @@
 -- Each turn writes the text of some words more, and at the end no word is left.
-use Rattle.std.proofs.Common.{◌≡◌, ◌≤◌, ◌+◌, ◌-◌, ◌++◌, ◌∙◌, List, ℕ, ap, arith, drop, length, length-drop, take}
+use Rattle.std.proofs.Common.{◌+◌, ap, arith, drop, length, length-drop, take}
 use Rattle.std.proofs.lemmas.List.{take_rest}
 use Rattle.cap_spec.specs.Packing.{pack_text}
 use Rattle.cap_spec.specs.Plain.{plain_words}

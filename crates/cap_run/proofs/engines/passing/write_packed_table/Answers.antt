@@ -1,8 +1,6 @@
 -- The table is packed whole, and its text isn't empty.
-use Rattle.std.proofs.Common.{◌≡◌, ◌≤◌, ◌<◌, ◌*◌, ◌+◌, ◌-◌, ◌++◌, ◌∙◌, List, ℕ, ap, arith, drop, length, length-append, subst, sym, take, take_at}
+use Rattle.std.proofs.Common.{◌<◌, List, ℕ, arith, length, subst, sym}
 use Rattle.std.proofs.lemmas.List.{length-take-le}
-use Rattle.cap_spec.specs.Packing.{pack_text}
-use Rattle.cap_spec.specs.PackedFrames.{table_of}
 use Rattle.cap_text.specs.Writing.{Writes}
 use Rattle.cap_run.proofs.Passing.{packed_written, some_packed_table}
 use Rattle.cap_run.proofs.engines.passing.write_packed_table.Goals as goal
