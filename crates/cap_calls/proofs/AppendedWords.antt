@@ -1,5 +1,5 @@
 -- The words that a call gave are appended to the message.
-use Rattle.std.proofs.Common.{ℕ, List, [], ◌++◌, ◌≡◌, ◌∙◌, ◌<◌, ◌≤◌, ◌+◌, ◌-◌, ◌*◌, ◌/◌, ◌%◌, ap, ap₂, refl, sym, subst, arith}
+use Rattle.std.proofs.Common.{ℕ, List, [], ◌++◌, ◌≡◌, ◌∙◌, ◌<◌, ◌≤◌, ◌+◌, ◌*◌, ◌%◌, ap, ap₂, sym, arith}
 use Rattle.std.proofs.Common.{append-nil, append_assoc, drop, length, length-drop, take, take-append-drop, take-take}
 use Rattle.std.specs.List.{AllByRecursion}
 use Rattle.std.proofs.lemmas.List.{drop_all, length-take-le}

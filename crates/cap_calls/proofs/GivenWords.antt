@@ -1,12 +1,12 @@
 -- Words in a buffer, one step after the other.
-use Rattle.std.proofs.Common.{ℕ, List, [], ◌∷◌, ◌++◌, ◌≡◌, ◌∙◌, ◌<◌, ◌≤◌, ◌+◌, ◌-◌, ◌*◌, ◌/◌, ◌%◌, ap, refl, sym, subst}
-use Rattle.std.proofs.Common.{arith, append_assoc, drop, drop-drop, length, length-append, length-drop, length-take, take}
-use Rattle.std.proofs.Common.{take-append-drop, take-take}
-use Rattle.std.proofs.lemmas.List.{drop-append-le, drop_at, length-take-le, take-append-le}
+use Rattle.std.proofs.Common.{ℕ, List, [], ◌∷◌, ◌++◌, ◌≡◌, ◌∙◌, ◌≤◌, ◌+◌, ◌-◌, ◌%◌, ap, refl, sym, subst}
+use Rattle.std.proofs.Common.{arith, drop, drop-drop, length, length-append, length-drop, length-take, take}
+use Rattle.std.proofs.Common.{take-append-drop}
+use Rattle.std.proofs.lemmas.List.{drop-append-le, drop_at, length-take-le}
 use Rattle.std.proofs.lemmas.Slice.{take-put_mid_below}
 use Rattle.cap_spec.specs.Plain.{plain_words}
 use Rattle.cap_words.proofs.Filling.{plain_join}
-use Rattle.cap_words.proofs.Turns.{filled, filled_within}
+use Rattle.cap_words.proofs.Turns.{filled}
 use Rattle.cap_calls.specs.PackedStreams.{Gives, IsRest, Leads}
 use Rattle.cap_calls.specs.declared.packed_stream.Given.{Given}
 use Rattle.cap_calls.proofs.PackedStreams.{leads_both, leads_none}

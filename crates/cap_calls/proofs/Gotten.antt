@@ -1,15 +1,13 @@
 -- The bytes and the path decide what the call for the node at a path finds.
 use Rattle.std.proofs.Common.{ℕ, List, [], ◌∷◌, ◌≡◌, ◌∙◌, ap, get_or, refl, subst, sym}
 use Rattle.std.specs.Prelude.{Bool, not, slice_set}
-use Rattle.std.specs.List.{AllByRecursion}
-use Rattle.cap_spec.specs.PathTexts.{IsBadAt, IsPath, IsStep, path_text}
 use Rattle.cap_spec.specs.declared.Step.{Step}
 use Rattle.cap_spec.proofs.Paths.PathTexts.{one_bad_place, one_path_text, path_not_bad}
 use Rattle.cap_vet.specs.declared.demands.Demands.{Demands}
 use Rattle.cap_vet.proofs.PathFaults.{meets_no_path_fault, one_path_fault}
 use Rattle.cap_path.specs.PathSteps.{AreLeft}
 use Rattle.cap_path.specs.declared.steps.PathSteps.{PathSteps}
-use Rattle.cap_calls.specs.CallFindings.{Returns, TellsWhole, framed, none_found, refused_found, tells, trailing, without}
+use Rattle.cap_calls.specs.CallFindings.{TellsWhole, framed, none_found, refused_found, tells, trailing, without}
 use Rattle.cap_calls.specs.CallFlags.{allows_trailing, demands_of}
 use Rattle.cap_calls.specs.CallFrames.{AreLimits, HasNoFrame}
 use Rattle.cap_calls.specs.CallNodes.{none_node}

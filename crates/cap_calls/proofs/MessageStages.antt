@@ -1,7 +1,7 @@
 -- A message that more words belong to, and the end of one.
-use Rattle.std.proofs.Common.{ℕ, List, [], ◌∷◌, ◌++◌, ◌≡◌, ◌∙◌, ◌<◌, ◌≤◌, ◌+◌, ◌-◌, ◌*◌, ◌/◌, ◌%◌, ◌^◌, ap, refl, sym, subst}
-use Rattle.std.proofs.Common.{inl, inr, arith, append_assoc, append-nil, drop, false, true, length, length-append, length-drop}
-use Rattle.std.proofs.Common.{Err, Option, Result, sum, take, take-append-drop, take_at}
+use Rattle.std.proofs.Common.{ℕ, List, [], ◌∷◌, ◌++◌, ◌≡◌, ◌∙◌, ◌<◌, ◌≤◌, ◌+◌, ◌-◌, ◌*◌, ◌/◌, ◌%◌, ◌^◌, ap, refl, sym}
+use Rattle.std.proofs.Common.{inl, inr, arith, append_assoc, length, length-append}
+use Rattle.std.proofs.Common.{Err, Option, Result, sum, take}
 use Rattle.std.proofs.Math.Seq.{take-append-add}
 use Rattle.std.proofs.lemmas.Bool.{cases_lt, false≢true}
 use Rattle.std.proofs.lemmas.List.{length-take-le}
@@ -20,7 +20,7 @@ use Rattle.cap_frame.proofs.FrontAnswers.{short_answer}
 use Rattle.cap_frame.proofs.Parts.{take_words}
 use Rattle.cap_words.proofs.Filling.{plain_join}
 use Rattle.cap_words.proofs.Turns.{filled}
-use Rattle.cap_calls.specs.MessageStages.{EndsAt, IsStage}
+use Rattle.cap_calls.specs.MessageStages.{EndsAt}
 use Rattle.cap_calls.specs.PackedStreams.{words_to_come}
 use Rattle.cap_calls.specs.UnpackingMessages.{IsOpen}
 use Rattle.cap_calls.specs.declared.calls.unpack_message.Stage.{Stage}

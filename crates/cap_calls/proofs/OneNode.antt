@@ -5,7 +5,7 @@ use Rattle.cap_spec.specs.Arriving.{ArrivesAt, StandsAs}
 use Rattle.cap_spec.specs.Denoting.{Finds}
 use Rattle.cap_spec.specs.Following.{Lead, Leads, to_cap, to_null, to_object}
 use Rattle.cap_spec.specs.Messages.{HasWord}
-use Rattle.cap_spec.specs.Paths.{Comes, Spot, element, word}
+use Rattle.cap_spec.specs.Paths.{Spot, element, word}
 use Rattle.cap_spec.specs.Pointers.{code, data_size, kind, list_size, middle, pointer_size}
 use Rattle.cap_spec.specs.declared.Kind.{Kind}
 use Rattle.cap_spec.specs.declared.Kind.TheVariants.{Null, Cap, Struct, Scalars, Pointers, Structs}

@@ -1,6 +1,6 @@
 -- A call that unpacks a message stops for one reason.
-use Rattle.std.proofs.Common.{ℕ, List, [], ◌∷◌, ◌++◌, ◌≡◌, ◌≢◌, ◌∙◌, ◌<◌, ◌≤◌, ◌+◌, ◌-◌, ◌*◌, ap, ap₂, refl, sym, subst, inl, inr}
-use Rattle.std.proofs.Common.{arith, length, Err, Ok, None, Option, Result, replicate, ◌++◌, length-append}
+use Rattle.std.proofs.Common.{ℕ, List, [], ◌≡◌, ◌≢◌, ◌∙◌, ap, refl, sym, inl, inr}
+use Rattle.std.proofs.Common.{length, Err, Option, Result}
 use Rattle.cap_spec.specs.Endings.{Ending, EndsIn, message, none, partial, too_large, too_many}
 use Rattle.cap_spec.specs.Plain.{plain_is_cut, plain_words}
 use Rattle.cap_spec.proofs.Frames.Framing.{one_frame}

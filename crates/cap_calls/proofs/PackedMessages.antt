@@ -1,6 +1,6 @@
 -- The bytes and the buffer decide what the call that packs a message finds and writes.
-use Rattle.std.proofs.Common.{ℕ, List, ◌≡◌, ◌∙◌, ◌<◌, ap, refl, subst, sym, length}
-use Rattle.std.specs.Prelude.{true, not}
+use Rattle.std.proofs.Common.{ℕ, List, ◌≡◌, ◌∙◌, ◌<◌, ap, subst, sym, length}
+use Rattle.std.specs.Prelude.{not}
 use Rattle.cap_calls.specs.CallFlags.{allows_trailing}
 use Rattle.cap_calls.specs.CallFrames.{HasFrame, HasTrailing}
 use Rattle.cap_calls.specs.PackedMessages.{Packs, TellsPackMessage, packed_frame}

@@ -1,14 +1,14 @@
 -- Words out of a packed stream, one step after the other.
-use Rattle.std.proofs.Common.{ℕ, zero, suc, List, [], ◌∷◌, ◌++◌, ◌≡◌, ◌≢◌, ◌∙◌, ◌<◌, ◌≤◌, ◌+◌, ◌-◌, ◌*◌, ◌/◌, ◌%◌, ap}
-use Rattle.std.proofs.Common.{refl, sym, subst, inl, inr, length, take, drop, replicate, min, arith, append_assoc, append-nil}
-use Rattle.std.proofs.Common.{length-append, length-drop, length-take, get_or, take-append-drop, take_all, ◌==◌}
+use Rattle.std.proofs.Common.{ℕ, zero, suc, List, [], ◌∷◌, ◌++◌, ◌≡◌, ◌≢◌, ◌∙◌, ◌<◌, ◌≤◌, ◌+◌, ◌-◌, ◌*◌, ap}
+use Rattle.std.proofs.Common.{refl, sym, subst, inl, inr, length, take, drop, replicate, arith, append_assoc, append-nil}
+use Rattle.std.proofs.Common.{length-append, length-drop, length-take, take-append-drop, take_all, ◌==◌}
 use Rattle.std.specs.Prelude.{slice_index}
 use Rattle.std.specs.List.{AllByRecursion}
 use Rattle.std.proofs.Math.Seq.{drop-append-add, take-add, take-append-add}
 use Rattle.std.proofs.lemmas.Bool.{cases_eq, cases_lt, cond-false, cond-true, le-ltb, lt-ltb, ne_eqb}
-use Rattle.std.proofs.lemmas.List.{drop_all, length-replicate, length-take-le, replicate-append-replicate, take-take}
+use Rattle.std.proofs.lemmas.List.{drop_all, length-take-le, replicate-append-replicate}
 use Rattle.cap_spec.specs.Plain.{plain_words}
-use Rattle.cap_spec.specs.Unpacking.{given_of, group_length, group_words, marked, marks, spread, unpacked, zeros}
+use Rattle.cap_spec.specs.Unpacking.{given_of, marked, marks, spread, unpacked, zeros}
 use Rattle.cap_spec.proofs.Bytes.Plain.{plain_short, words_exact}
 use Rattle.cap_spec.proofs.Packed.Groups.{group_off}
 use Rattle.cap_spec.proofs.Packed.Unpacking.{length_marked, unpacked_front, unpacked_short}

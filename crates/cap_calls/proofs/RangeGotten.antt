@@ -1,7 +1,7 @@
 -- The bytes and the steps decide what the call for the nodes of a range finds.
 use Rattle.std.proofs.Common.{ℕ, ◌+◌, ◌<◌, ◌≤◌, ◌≡◌, ◌∙◌, ◌⊎◌, inl, inr, List, ap, arith, eqb, ext_get_or, get_or, length, length-set, refl, subst, sym}
 use Rattle.std.proofs.Common.{get_or-set_same, get_or-set_other}
-use Rattle.std.specs.Prelude.{Bool, true, false, not, slice_set}
+use Rattle.std.specs.Prelude.{true, false, not, slice_set}
 use Rattle.std.proofs.lemmas.Bool.Decides.{eqb_tells, leb_tells}
 use Rattle.cap_spec.specs.declared.Lax.{Lax}
 use Rattle.cap_spec.specs.declared.Lax.TheVariants as lax
@@ -16,7 +16,7 @@ use Rattle.cap_calls.specs.CallFindings.{refused_found}
 use Rattle.cap_calls.specs.CallFlags.{allows_trailing, demands_of}
 use Rattle.cap_calls.specs.CallNodes.{none_node}
 use Rattle.cap_calls.specs.NodeCalls.{Gets, bad_path_found, path_found}
-use Rattle.cap_calls.specs.RangeCalls.{AreSteps, EndsRange, GetsRange, IsBadStep, TellsRange, TellsSteps, bad_limits, bad_steps, full, kind_at, past, path_after, range, stops, unknown}
+use Rattle.cap_calls.specs.RangeCalls.{AreSteps, EndsRange, GetsRange, IsBadStep, TellsRange, TellsSteps, bad_limits, bad_steps, full, past, path_after, range, stops, unknown}
 use Rattle.cap_calls.specs.declared.answer.Answer.{Answer}
 use Rattle.cap_calls.specs.declared.answer.Answer.TheVariants.{Good, NoNode}
 use Rattle.cap_calls.specs.declared.found.Found.{Found}

@@ -1,5 +1,5 @@
 -- What a call that unpacks a message tells, by the words that it gave and the stage of the message.
-use Rattle.std.proofs.Common.{ℕ, List, ◌≡◌, ◌∙◌, ◌<◌, ◌≤◌, ◌+◌, ◌*◌, ◌%◌, ap, sym, subst, arith, drop, length, take, take-take}
+use Rattle.std.proofs.Common.{ℕ, List, ◌≡◌, ◌∙◌, ◌<◌, ◌≤◌, ◌+◌, ◌*◌, sym, subst, arith, drop, length, take, take-take}
 use Rattle.std.specs.List.{AllByRecursion}
 use Rattle.std.proofs.lemmas.List.{length-take-le}
 use Rattle.cap_frame.specs.Fronts.{IsFront}

@@ -1,5 +1,5 @@
 -- The bytes, the state and the buffer decide what the call that unpacks a message returns and writes.
-use Rattle.std.proofs.Common.{ℕ, List, [], ◌∷◌, ◌++◌, ◌≡◌, ◌≢◌, ◌∙◌, ◌<◌, ◌≤◌, ◌+◌, ◌-◌, ◌*◌, ◌/◌, ◌%◌, ap, ap₂, refl, sym, subst}
+use Rattle.std.proofs.Common.{ℕ, List, [], ◌∷◌, ◌++◌, ◌≡◌, ◌∙◌, ◌<◌, ◌≤◌, ◌+◌, ◌-◌, ◌*◌, ap, ap₂, refl, sym, subst}
 use Rattle.std.proofs.Common.{inl, inr, arith, append-nil, append_assoc, drop, length, length-append, replicate, take}
 use Rattle.std.proofs.Common.{take-append-drop, take_all, take_at}
 use Rattle.std.proofs.lemmas.Bool.{cases_lt}

@@ -1,12 +1,11 @@
 -- Two pieces of a stream, one after the other, are unpacked as one.
-use Rattle.std.proofs.Common.{ℕ, List, [], ◌++◌, ◌≡◌, ◌∙◌, ◌<◌, ◌≤◌, ◌+◌, ◌-◌, ◌*◌, ◌%◌, ◌⊎◌, ap, ap₂, refl, sym, subst, inl, inr}
+use Rattle.std.proofs.Common.{ℕ, List, ◌++◌, ◌≡◌, ◌∙◌, ◌<◌, ◌≤◌, ◌+◌, ◌-◌, ◌*◌, ◌⊎◌, ap, ap₂, refl, sym, subst, inl, inr}
 use Rattle.std.proofs.Common.{append_assoc, arith, drop, drop-drop, drop_at, length, length-append, length-take, take, take_at}
 use Rattle.std.proofs.lemmas.Bool.{cases_lt}
 use Rattle.std.proofs.lemmas.List.{drop-append-le, length-drop, length-take-le, take-append-le}
 use Rattle.std.proofs.lemmas.List.Concat.{flat_map-append}
 use Rattle.cap_spec.specs.Plain.{plain_text, word_bytes}
 use Rattle.cap_spec.proofs.Bytes.Plain.{length_plain}
-use Rattle.cap_calls.specs.CallFrames.{AreLimits}
 use Rattle.cap_calls.specs.PackedStreams.{Leads, words_to_come}
 use Rattle.cap_calls.specs.UnpackingMessages.{Appends, IsOpen, IsState, Stops, TellsUnpackMessage, bad, state_of, unpacks}
 use Rattle.cap_calls.specs.UnpackingMessages as stop

@@ -1,5 +1,5 @@
 -- How a message goes on of which a buffer holds the first bytes (profile).
-use Rattle.std.specs.Prelude.{ℕ, ◌+◌, ◌*◌, ◌%◌, ◌<◌, ◌≡◌, ◌≤◌, List, [], ⊤, drop, length, take}
+use Rattle.std.specs.Prelude.{ℕ, ◌+◌, ◌%◌, ◌<◌, ◌≡◌, ◌≤◌, List, [], ⊤, drop, length, take}
 use Rattle.cap_frame.specs.Fronts.{IsFront, TellsLarge, TellsMany}
 use Rattle.cap_calls.specs.PackedStreams.{Gives, words_to_come}
 use Rattle.cap_calls.specs.UnpackingMessages.{IsOpen}

@@ -1,9 +1,9 @@
 -- What the end of a path says of the pointers on it.
-use Rattle.std.proofs.Common.{ℕ, ◌-◌, ◌<◌, ◌≤◌, ◌≡◌, ◌∙◌, List, [], ◌∷◌, ◌++◌, Option, None, Some, length, refl, subst, sym, arith}
-use Rattle.std.specs.Prelude.{Bool, true, false, IsTrue, if◌then◌else◌}
+use Rattle.std.proofs.Common.{ℕ, ◌-◌, ◌≤◌, ◌≡◌, List, ◌∷◌, ◌++◌, Option, None, Some, length, refl, subst, sym, arith}
+use Rattle.std.specs.Prelude.{Bool, true, false}
 use Rattle.cap_spec.specs.Arriving.{ArrivesAt}
 use Rattle.cap_spec.specs.Getting.{AreOnPath, Begins, Charges, IsRefusedOnPath}
-use Rattle.cap_spec.specs.Paths.{Goes, Spot}
+use Rattle.cap_spec.specs.Paths.{Spot}
 use Rattle.cap_spec.specs.Strict.{IsLax}
 use Rattle.cap_spec.specs.declared.Kind.{Kind}
 use Rattle.cap_spec.specs.declared.Lax.{Lax}

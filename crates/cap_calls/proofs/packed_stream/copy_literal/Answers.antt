@@ -1,5 +1,5 @@
 -- Some of the literal words.
-use Rattle.std.proofs.Common.{List, ℕ, [], ◌≡◌, ◌∙◌, ◌<◌, ◌≤◌, ◌+◌, ◌-◌, ◌*◌, ◌/◌, ◌++◌, ap, arith, drop, inl, length, refl, subst, sym, take}
+use Rattle.std.proofs.Common.{List, ℕ, ◌≡◌, ◌∙◌, ◌≤◌, ◌-◌, ◌*◌, ◌++◌, ap, arith, drop, inl, length, refl, subst, sym, take}
 use Rattle.std.proofs.lemmas.List.{drop_at, length-append, length-drop, length-take-le, take_at}
 use Rattle.cap_spec.specs.Plain.{plain_words}
 use Rattle.cap_calls.specs.PackedStreams.{Leads}

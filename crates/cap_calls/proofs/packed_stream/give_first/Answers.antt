@@ -1,10 +1,10 @@
 -- The first word of a group.
-use Rattle.std.proofs.Common.{List, ℕ, [], ◌∷◌, ◌≡◌, ◌∙◌, ◌<◌, ◌≤◌, ◌+◌, ◌-◌, ◌*◌, ◌^◌, ◌++◌, ap, arith, drop, inl, length, refl, rules, subst, sym, take}
+use Rattle.std.proofs.Common.{List, ℕ, [], ◌∷◌, ◌≡◌, ◌∙◌, ◌++◌, ap, arith, drop, inl, length, refl, rules, subst, sym, take}
 use Rattle.std.proofs.lemmas.List.{drop_at, length-append, length-drop, take_at}
 use Rattle.cap_spec.specs.Plain.{plain_words, word_bytes}
 use Rattle.cap_spec.specs.Words.{IsWord}
 use Rattle.cap_spec.proofs.Bytes.Plain.{plain_back}
-use Rattle.cap_calls.specs.PackedStreams.{IsRest, Leads}
+use Rattle.cap_calls.specs.PackedStreams.{Leads}
 use Rattle.cap_calls.proofs.GivenWords.{gives_none}
 use Rattle.cap_calls.proofs.packed_stream.give_first.Goals as goal
 

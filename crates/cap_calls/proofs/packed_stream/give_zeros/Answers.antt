@@ -1,5 +1,5 @@
 -- Some of the zero words.
-use Rattle.std.proofs.Common.{List, ℕ, ◌≡◌, ◌≤◌, ◌∙◌, ◌+◌, ◌-◌, ◌*◌, ◌/◌, ◌++◌, ap, arith, drop, inr, length, refl, replicate, subst, sym, take}
+use Rattle.std.proofs.Common.{List, ℕ, ◌≡◌, ◌≤◌, ◌∙◌, ◌-◌, ◌*◌, ◌++◌, ap, arith, drop, inr, length, refl, replicate, subst, sym, take}
 use Rattle.std.proofs.lemmas.List.{drop_at, length-append, length-drop, length-take-le, take_at}
 use Rattle.cap_spec.specs.Plain.{plain_words}
 use Rattle.cap_pack.proofs.AtHand.{zeros_are_words}

@@ -1,6 +1,5 @@
 -- The path is followed step by step.
-use Rattle.std.proofs.Common.{◌≡◌, ◌∙◌, ◌+◌, ◌++◌, ◌∷◌, [], List, Some, None, ap, arith, inr, refl, subst, sym, append_assoc, append-nil}
-use Rattle.cap_spec.specs.Paths.{Spot}
+use Rattle.std.proofs.Common.{◌∙◌, ◌++◌, ◌∷◌, [], List, ap, arith, refl, subst, sym, append_assoc, append-nil}
 use Rattle.cap_spec.specs.declared.Step.{Step}
 use Rattle.cap_vet.specs.Charging.{Arrives}
 use Rattle.cap_vet.specs.PathWays.{IsWay}

@@ -1,5 +1,5 @@
 -- Nothing else is told of the bytes and the buffer.
-use Rattle.std.proofs.Common.{◌≡◌, ap, arith}
+use Rattle.std.proofs.Common.{ap, arith}
 use Rattle.cap_calls.specs.declared.report.CallReport.{CallReport}
 use Rattle.cap_calls.proofs.Answers.{by_flag}
 use Rattle.cap_calls.proofs.Bounds.{input_inside}

@@ -1,5 +1,5 @@
 -- What is found of the frame is what is told.
-use Rattle.std.proofs.Common.{◌≡◌, ◌∙◌, ◌-◌, ◌<◌, ap, arith, length, refl, sym}
+use Rattle.std.proofs.Common.{◌≡◌, ◌∙◌, ◌-◌, ap, arith, length, refl, sym}
 use Rattle.std.specs.Prelude.{not, true, false}
 use Rattle.std.proofs.lemmas.Bool.{false≢true}
 use Rattle.cap_frame.specs.Framed.{frame_bytes, framed_segments}

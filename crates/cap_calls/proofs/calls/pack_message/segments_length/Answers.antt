@@ -1,6 +1,6 @@
 -- One segment more is counted.
-use Rattle.std.proofs.Common.{List, ℕ, [], ◌≡◌, ◌∙◌, ◌<◌, ◌≤◌, ◌+◌, ◌*◌, ◌^◌, ap, arith, flat_map, get_or, length}
-use Rattle.std.proofs.Common.{length-append, rules, sum, sym, take}
+use Rattle.std.proofs.Common.{List, ℕ, [], ◌≡◌, ◌∙◌, ◌<◌, ◌≤◌, ◌+◌, ◌^◌, ap, arith, flat_map, get_or, length}
+use Rattle.std.proofs.Common.{length-append, rules, sum, take}
 use Rattle.std.proofs.lemmas.List.{take_all}
 use Rattle.cap_spec.specs.Frames.{sizes_of}
 use Rattle.cap_spec.specs.Packing.{pack_text}

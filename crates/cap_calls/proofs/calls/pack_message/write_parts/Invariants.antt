@@ -1,4 +1,4 @@
-use Rattle.std.proofs.Common.{◌≡◌, ◌≤◌, ◌++◌, flat_map, length, take}
+use Rattle.std.proofs.Common.{◌≡◌, ◌++◌, flat_map, length, take}
 use Rattle.cap_spec.specs.Packing.{pack_text}
 use Rattle.cap_frame.specs.Bytes.{cut}
 use Rattle.cap_calls.specs.PackedMessages.{packed_frame, table_of}

@@ -1,5 +1,5 @@
 -- The words of one stage more.
-use Rattle.std.proofs.Common.{List, ℕ, ◌≡◌, ◌∙◌, ◌<◌, ◌≤◌, ◌+◌, ◌-◌, ◌*◌, ◌/◌, ◌%◌, ap, arith, drop, drop-drop, inl, inr, length, refl, subst, sym, take}
+use Rattle.std.proofs.Common.{List, ℕ, ◌∙◌, ◌≤◌, ◌+◌, ◌-◌, ap, arith, drop, drop-drop, inl, inr, length, refl, subst, sym, take}
 use Rattle.std.proofs.lemmas.Bool.{cases_lt}
 use Rattle.std.proofs.lemmas.List.{length-drop, length-take, take_rest}
 use Rattle.std.proofs.lemmas.Slice.{take-put_mid_below}

@@ -1,4 +1,4 @@
-use Rattle.std.proofs.Common.{ℕ, ◌≡◌, ◌<◌, ◌≤◌, ◌*◌, ◌-◌, ◌/◌, ◌%◌, length, take}
+use Rattle.std.proofs.Common.{ℕ, ◌≡◌, ◌<◌, ◌≤◌, ◌-◌, ◌%◌, length, take}
 use Rattle.cap_frame.specs.Limit.{limit_of}
 use Rattle.cap_calls.specs.PackedStreams.{Gives}
 use Rattle.cap_calls.specs.UnpackingMessages.{IsOpen}

@@ -1,8 +1,7 @@
 -- The buffer is full, or the input ends.
-use Rattle.std.proofs.Common.{List, ℕ, [], ◌≡◌, ◌≢◌, ◌∙◌, ◌<◌, ◌+◌, ap, ap₂, arith, inl, inr, length, refl, sym}
+use Rattle.std.proofs.Common.{ℕ, ◌∙◌, ◌<◌, ◌+◌, ap, ap₂, arith, inl, inr, length, refl, sym}
 use Rattle.std.proofs.lemmas.Bool.{cases_lt}
 use Rattle.std.proofs.lemmas.Bool.Decides.{nat_tests}
-use Rattle.cap_calls.specs.PackedStreams.{words_to_come}
 use Rattle.cap_calls.specs.UnpackingMessages.{too_small, truncated}
 use Rattle.cap_calls.specs.declared.report.CallReport.{CallReport}
 use Rattle.cap_calls.proofs.calls.unpack_message.open_stop.Goals as goal

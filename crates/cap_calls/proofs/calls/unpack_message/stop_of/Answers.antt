@@ -1,5 +1,5 @@
 -- The stop at each stage.
-use Rattle.std.proofs.Common.{List, ℕ, ◌≡◌, ◌∙◌, ap, ap₂, length, refl, subst, sym}
+use Rattle.std.proofs.Common.{ℕ, ◌∙◌, ap, ap₂, length, refl, subst, sym}
 use Rattle.cap_frame.specs.Fronts.{IsFront}
 use Rattle.cap_calls.specs.MessageStages.{IsEnd}
 use Rattle.cap_calls.specs.UnpackingMessages.{too_large, too_many, whole}

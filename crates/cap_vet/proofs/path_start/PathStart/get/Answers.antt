@@ -1,9 +1,7 @@
 -- The path goes on from the first steps.
-use Rattle.std.proofs.Common.{◌++◌, ◌∷◌, [], List, subst, sym}
-use Rattle.cap_spec.specs.declared.Step.{Step}
+use Rattle.std.proofs.Common.{◌++◌, ◌∷◌, [], subst, sym}
 use Rattle.cap_vet.specs.PathWays.{IsWay}
 use Rattle.cap_vet.specs.declared.way.Way.{Way}
-use Rattle.cap_vet.proofs.Charging.{arrives_low}
 use Rattle.cap_vet.proofs.PathWays.{given_after, nowhere_longer, refused_longer, step_nowhere, step_on, step_refused}
 use Rattle.cap_vet.proofs.path_start.PathStart.get.Goals as goal
 use Rattle.cap_vet.proofs.path_start.PathStart.get.Goals.{in-To+in-Ok-Some, in-To+in-Ok-None, in-To+in-Err, in-Nowhere, in-Refused}

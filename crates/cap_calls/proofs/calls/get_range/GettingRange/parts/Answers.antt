@@ -1,7 +1,6 @@
 -- The steps are cut around the one that varies.
 use Rattle.std.proofs.Common.{ℕ, suc, ◌≡◌, ◌∙◌, ◌++◌, ◌∷◌, ◌-◌, ◌+◌, List, ap, arith, drop, get_or, length, sym, take}
 use Rattle.std.proofs.lemmas.List.{length-drop, take_all}
-use Rattle.cap_spec.specs.declared.Step.{Step}
 use Rattle.cap_calls.specs.RangeCalls.{path_after, step_after}
 use Rattle.cap_calls.specs.declared.step.CallStep.{CallStep}
 use Rattle.cap_calls.proofs.RangePaths.{path_parts}

@@ -1,5 +1,5 @@
 -- One node more is got, or the range ends.
-use Rattle.std.proofs.Common.{ℕ, ◌≡◌, ◌∙◌, ◌++◌, ◌∷◌, List, ap, arith, length, refl, subst, sym}
+use Rattle.std.proofs.Common.{ℕ, ◌≡◌, ◌∙◌, ◌++◌, ◌∷◌, ap, arith, length, refl, subst, sym}
 use Rattle.cap_frame.specs.Bytes.{cut}
 use Rattle.cap_frame.specs.declared.view.ByteView.{ByteView}
 use Rattle.cap_spec.specs.declared.Step.{Step}

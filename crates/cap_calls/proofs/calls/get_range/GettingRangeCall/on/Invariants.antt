@@ -1,4 +1,3 @@
-use Rattle.std.proofs.Common.{ℕ}
 use Rattle.cap_frame.specs.Bytes.{cut}
 use Rattle.cap_calls.specs.RangeCalls.{path_after}
 use Rattle.cap_calls.proofs.RangeGotten.{RangeSoFar}
