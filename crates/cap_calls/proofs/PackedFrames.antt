@@ -19,23 +19,14 @@ use Rattle.cap_spec.proofs.Frames.FrameTexts.{frame_text_frames, paired_halves, 
 use Rattle.cap_spec.proofs.Packed.Repacking.{pack_text_unpacks}
 use Rattle.cap_frame.specs.Fronts.{IsFront}
 use Rattle.cap_frame.proofs.Cuts.{words_inside}
-use Rattle.cap_calls.specs.PackedMessages.{packed_frame, table_of}
+use Rattle.cap_frame.proofs.TableBytes.{numbers_fit, paired_words, words_back}
+use Rattle.cap_spec.specs.PackedFrames.{packed_frame, table_of}
 use borrow.Rule.Slice.PartMut.{post_of, put_mid}
 
 -- what holds of two lists joined holds of the first
 all_front : {A : Type 0} (P : A → Type 0) (xs ys : List A) → AllByRecursion P (xs ++ ys) → AllByRecursion P xs
 all_front P [] ys a = tt
 all_front P (x ∷ xs) ys a = (a.0, all_front P xs ys a.1)
-
--- pairs of numbers are words
-paired_words : (xs : List ℕ) → AllByRecursion (λ n. n < 2 ^ 32) xs → AllByRecursion IsWord (paired xs)
-paired_words [] all = tt
-paired_words (a ∷ []) all = (omega (arith, all.0), tt)
-paired_words (a ∷ b ∷ rest) all = (omega (arith, all.0, all.1.0), paired_words rest all.1.1)
-
--- words are those of their bytes
-pub words_back : (ws : List ℕ) → AllByRecursion IsWord ws → plain_words (plain_text ws) ≡ ws
-words_back ws all = ap plain_words (sym (append-nil (plain_text ws))) ∙ (plain_back ws [] all ∙ append-nil ws)
 
 -- texts that unpack to words do so one after the other
 unpacks_both : (a b ws vs : List ℕ) → Unpacks a ws → Unpacks b vs → Unpacks (a ++ b) (ws ++ vs)
@@ -53,13 +44,6 @@ segments_unpack : (m : List (List ℕ)) → AllByRecursion (AllByRecursion IsWor
 segments_unpack [] all = record { groups = []; each = tt; text = refl; spelled = refl }
 segments_unpack (s ∷ m) all =
     unpacks_both (pack_text s) (flat_map pack_text m) s (joined m) (pack_text_unpacks s all.0) (segments_unpack m all.1)
-
--- the numbers of a table fit four bytes
-numbers_fit : (m : List (List ℕ)) → IsMessage m
-    → AllByRecursion (λ n. n < 2 ^ 32) ((length m - 1) ∷ sizes_of m)
-numbers_fit m is =
-    let few = is.few in
-    (omega (arith, few), (frame_text_frames m is).is_table.fit)
 
 -- The packed text of a message unpacks to its frame with zero padding.
 pub frame_unpacks : (m : List (List ℕ)) → IsMessage m → AllByRecursion (AllByRecursion IsWord) m

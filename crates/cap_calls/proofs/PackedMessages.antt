@@ -3,7 +3,8 @@ use Rattle.std.proofs.Common.{ℕ, List, ◌≡◌, ◌∙◌, ◌<◌, ap, subs
 use Rattle.std.specs.Prelude.{not}
 use Rattle.cap_calls.specs.CallFlags.{allows_trailing}
 use Rattle.cap_calls.specs.CallFrames.{HasFrame, HasTrailing}
-use Rattle.cap_calls.specs.PackedMessages.{Packs, TellsPackMessage, packed_frame}
+use Rattle.cap_spec.specs.PackedFrames.{packed_frame}
+use Rattle.cap_calls.specs.PackedMessages.{Packs, TellsPackMessage}
 use Rattle.cap_calls.specs.declared.answer.Answer.{Answer}
 use Rattle.cap_calls.specs.declared.found.Found.{Found}
 use Rattle.cap_calls.specs.declared.limits.CallLimits.{CallLimits}

@@ -1,6 +1,6 @@
 //! What the packed text of a message unpacks to, and that a stream may be unpacked in pieces.
 
-ghost use Rattle.cap_calls.specs.PackedMessages.{packed_frame};
+ghost use Rattle.cap_spec.specs.PackedFrames.{packed_frame};
 ghost use Rattle.cap_calls.specs.UnpackingMessages.{GoesOnWith, Unpacked, UnpacksTo, together};
 ghost use Rattle.cap_calls.specs.declared.limits.CallLimits.{CallLimits};
 ghost use Rattle.cap_calls.specs.declared.unpacking.Unpacking.{Unpacking};

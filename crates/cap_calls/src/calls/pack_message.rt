@@ -2,13 +2,14 @@
 
 ghost use Rattle.cap_calls.specs.CallBounds.{pack_bound};
 ghost use Rattle.cap_calls.specs.Calls.{TellsMessage};
-ghost use Rattle.cap_calls.specs.PackedMessages.{Packs, TellsPackMessage, packed_frame, table_of};
+ghost use Rattle.cap_calls.specs.PackedMessages.{Packs, TellsPackMessage};
 ghost use Rattle.cap_calls.specs.declared.answer.Answer.{Answer};
 ghost use Rattle.cap_calls.specs.declared.report.CallReport.{CallReport};
 ghost use Rattle.cap_frame.specs.Framed.{frame_bytes, framed_segments};
 ghost use Rattle.cap_frame.specs.Fronts.{IsFront};
 ghost use Rattle.cap_spec.specs.Frames.{joined, sizes_of};
 ghost use Rattle.cap_spec.specs.Messages.{segment_of};
+ghost use Rattle.cap_spec.specs.PackedFrames.{packed_frame, table_of};
 ghost use Rattle.cap_spec.specs.Packing.{pack_text};
 ghost use Rattle.cap_spec.specs.Plain.{plain_words};
 ghost use Rattle.cap_spec.specs.Words.{IsWord};

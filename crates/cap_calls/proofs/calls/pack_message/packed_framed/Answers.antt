@@ -9,7 +9,8 @@ use Rattle.cap_spec.specs.Words.{IsWord}
 use Rattle.cap_frame.specs.Framed.{frame_bytes, framed_segments}
 use Rattle.cap_frame.proofs.BehindTable.{segments_are, words_are}
 use Rattle.cap_words.proofs.AtHand.{bytes_small}
-use Rattle.cap_calls.specs.PackedMessages.{Packs, table_of}
+use Rattle.cap_calls.specs.PackedMessages.{Packs}
+use Rattle.cap_spec.specs.PackedFrames.{table_of}
 use Rattle.cap_calls.proofs.PackedFrames.{frame_inside, joined_words, table_words}
 use Rattle.cap_calls.proofs.calls.pack_message.packed_framed.Goals as goal
 

@@ -5,7 +5,8 @@ use Rattle.cap_spec.specs.Messages.{segment_of}
 use Rattle.cap_spec.specs.Plain.{plain_text, plain_words}
 use Rattle.cap_spec.proofs.Bytes.Plain.{length_plain}
 use Rattle.cap_frame.specs.Bytes.{cut}
-use Rattle.cap_calls.proofs.PackedFrames.{segment_words, words_back}
+use Rattle.cap_frame.proofs.TableBytes.{words_back}
+use Rattle.cap_calls.proofs.PackedFrames.{segment_words}
 use Rattle.cap_calls.proofs.calls.pack_message.segment_bytes.Goals as goal
 
 pub returns-clause-words : goal.returns-clause-words

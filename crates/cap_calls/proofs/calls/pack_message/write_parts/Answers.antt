@@ -5,7 +5,7 @@ use Rattle.std.proofs.lemmas.List.{length-drop, take_rest}
 use Rattle.cap_spec.specs.Packing.{pack_text}
 use Rattle.cap_frame.specs.Bytes.{cut}
 use Rattle.cap_words.proofs.Turns.{filled}
-use Rattle.cap_calls.specs.PackedMessages.{table_of}
+use Rattle.cap_spec.specs.PackedFrames.{table_of}
 use Rattle.cap_calls.proofs.PackedFrames.{texts_fit, texts_more}
 use Rattle.cap_calls.proofs.calls.pack_message.write_parts.Goals as goal
 use borrow.Rule.Slice.PartMut.{same_len_mid}
