@@ -26,6 +26,7 @@ import demands
 import filtering
 import tables
 from helps import HELPS
+from packing import packed
 from trees import dump_text, get_text
 
 TOP = Path(__file__).resolve().parent.parent
@@ -104,24 +105,6 @@ def word(text):
 def framed(*words):
     """One message of one segment, of words in hexadecimal digits."""
     return struct.pack("<II", 0, len(words)) + b"".join(map(word, words))
-
-
-def packed(stream):
-    """The packed encoding of a stream of words, as the encoding specification and Cap'n Proto's own packer have it."""
-    words = [stream[at:at + 8] for at in range(0, len(stream), 8)]
-    text, at = bytearray(), 0
-    while at < len(words):
-        first = words[at]
-        tag = sum((byte != 0) << place for place, byte in enumerate(first))
-        text += bytes([tag]) + first.replace(b"\0", b"")
-        at += 1
-        if tag in (0x00, 0xff):
-            # (zero words, or words with one zero byte at most)
-            start, zeros = at, range(8, 9) if tag == 0 else range(2)
-            while at < len(words) and at - start < 255 and words[at].count(0) in zeros:
-                at += 1
-            text += bytes([at - start]) + (b"".join(words[start:at]) if tag else b"")
-    return bytes(text)
 
 
 def rows(table, also_packed=False):
