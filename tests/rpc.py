@@ -1,0 +1,299 @@
+#!/usr/bin/env python3
+"""Puts examples/rpc-guard.sh before servers on loopback, with the built program in it.
+
+    rpc.py PROGRAM
+
+A server and a client over ez-rpc (tests/readers/ez.cpp) have to give the same results through the guard as without it.
+Their calls have numbers, a returned capability with two pipelined calls on it, and a list of 20,000 structs in both
+directions. One call fails. A message that is refused, in either direction, must not arrive. It has to end its connection
+and no other one, with one line on the standard error of the guard. No process of a connection is left after its end.
+
+What isn't installed is said in a line of its own. The last line is 'N passed, M failed', and the status is 1 if a case
+failed.
+"""
+import os
+import shutil
+import socket
+import struct
+import subprocess
+import sys
+import tempfile
+import time
+from pathlib import Path
+
+import install
+from install import PROGRAM, TOP, compare, missing, run
+
+STRICT = ("-std=c++17", "-O1", "-Wall", "-Wextra", "-Wpedantic", "-Wconversion", "-Werror")
+SECONDS = 30
+CALLED = """\
+200 sums: 20000
+200 counters: 19900 and 20100
+20000 rows: ids 199990000, names of 168890 bytes, stored 20000
+failed: remote exception: this call always fails
+"""
+# A struct without words, a struct with a pointer to itself, and a table of 513 segments.
+EMPTY = bytes.fromhex("0000000001000000 fcffffff00000000")
+CYCLE = bytes.fromhex("0000000001000000 fcffffff00000100")
+TABLE = bytes.fromhex("0002000000000000")
+LINE = "message {}: refused DepthLimit at 0:0 pointers 65\n"
+
+
+def until(holds):
+    """Waits until something holds, for a bounded time. Whether it does."""
+    for _ in range(50 * SECONDS):
+        if holds():
+            return True
+        time.sleep(0.02)
+    return False
+
+
+def free_port():
+    with socket.create_server(("127.0.0.1", 0)) as listener:
+        return listener.getsockname()[1]
+
+
+def is_open(port):
+    """Whether a process listens at this port of the loopback device."""
+    return f" 0100007F:{port:04X} 00000000:0000 0A " in Path("/proc/net/tcp").read_text()
+
+
+class Guard:
+    """The guard before a server, with the built program on its path."""
+
+    def __init__(self, folder, server):
+        self.port, self.errors = free_port(), folder / "errors"
+        self.errors.unlink(missing_ok=True)
+        (folder / "bin").mkdir(exist_ok=True)
+        if not (folder / "bin/capvet").exists():
+            (folder / "bin/capvet").symlink_to(PROGRAM)
+        environment = {**os.environ, "PATH": f"{folder / 'bin'}:{os.environ['PATH']}"}
+        with open(self.errors, "a") as errors:
+            self.ran = subprocess.Popen([TOP / "examples/rpc-guard.sh", str(self.port), server], env=environment,
+                                        stdin=subprocess.DEVNULL, stdout=errors, stderr=errors)
+
+    def __enter__(self):
+        compare("the guard listens", True, until(lambda: is_open(self.port)))
+        return self
+
+    def __exit__(self, *_):
+        compare("processes of connections that have ended", True, until(lambda: not self.children()))
+        self.ran.terminate()
+        self.ran.wait(SECONDS)
+
+    def children(self):
+        return Path(f"/proc/{self.ran.pid}/task/{self.ran.pid}/children").read_text().split()
+
+    def connect(self):
+        return socket.create_connection(("127.0.0.1", self.port), timeout=SECONDS)
+
+    def lines(self):
+        """What was written since the last call. A line may come a little after the connection has ended."""
+        until(lambda: not self.children())
+        text = self.errors.read_text()
+        os.truncate(self.errors, 0)
+        return text
+
+
+def all_of(peer):
+    """What comes from a peer until it ends the connection, or what there is when the time is over."""
+    text = b""
+    try:
+        while part := peer.recv(65536):
+            text += part
+    except TimeoutError:
+        return text, "not closed"
+    except ConnectionError:
+        pass
+    return text, "closed"
+
+
+def exactly(peer, length):
+    """This many bytes from a peer, or those that came before it ended the connection or the time was over."""
+    text = b""
+    try:
+        while len(text) < length and (part := peer.recv(length - len(text))):
+            text += part
+    except (TimeoutError, ConnectionError):
+        pass
+    return text
+
+
+class Listener:
+    """A server that is played by this script."""
+
+    def __init__(self):
+        self.listener = socket.create_server(("127.0.0.1", 0))
+        self.listener.settimeout(SECONDS)
+        self.address = f"127.0.0.1:{self.listener.getsockname()[1]}"
+
+    def __enter__(self):
+        return self
+
+    def __exit__(self, *_):
+        self.listener.close()
+
+    def accept(self):
+        peer, _ = self.listener.accept()
+        peer.settimeout(SECONDS)
+        return peer
+
+
+def requests(guard, listener):
+    """A refused request doesn't arrive. Those before it do, and both ends of its connection are closed."""
+    for name, sent, first, said in (
+            ("a circle", EMPTY + CYCLE, EMPTY, LINE.format(1)),
+            ("a circle between others", EMPTY + EMPTY + CYCLE + EMPTY, EMPTY + EMPTY, LINE.format(2)),
+            ("a circle at first", CYCLE + EMPTY, b"", LINE.format(0)),
+            ("a circle in two parts", [EMPTY + CYCLE[:11], CYCLE[11:]], EMPTY, LINE.format(1)),
+            ("too many segments", EMPTY + TABLE, EMPTY, "capvet: message 1: TooManySegments 513\n")):
+        with guard.connect() as client, listener.accept() as server:
+            for part in [sent] if isinstance(sent, bytes) else sent:
+                client.sendall(part)
+                time.sleep(0.05)
+            got = all_of(server)
+            server.close()
+            compare(f"a request, {name}: what the server gets", (first, "closed"), got)
+            compare(f"a request, {name}: what the client gets", (b"", "closed"), all_of(client))
+        compare(f"a request, {name}: the line", said, guard.lines())
+
+
+def replies(guard, listener):
+    """A refused reply doesn't arrive either, and both ends are closed though the client is silent."""
+    with guard.connect() as client, listener.accept() as server:
+        client.sendall(EMPTY)
+        compare("a request before a refused reply", EMPTY, exactly(server, len(EMPTY)))
+        server.sendall(EMPTY + CYCLE + EMPTY)
+        compare("a refused reply: what the client gets", (EMPTY, "closed"), all_of(client))
+        compare("a refused reply: what the server gets", (b"", "closed"), all_of(server))
+    # (later versions of socat report the signal that ends them)
+    lines = [line for line in guard.lines().splitlines(keepends=True) if " socat[" not in line]
+    compare("a refused reply: the line", [LINE.format(1)], lines)
+
+
+def endings(guard, listener):
+    """Each side ends a connection, after messages in both directions."""
+    for closing in ("client", "server"):
+        with guard.connect() as client, listener.accept() as server:
+            client.sendall(EMPTY)
+            server.sendall(EMPTY + EMPTY)
+            got = exactly(server, len(EMPTY)), exactly(client, 2 * len(EMPTY))
+            compare(f"messages before the {closing} ends", (EMPTY, EMPTY + EMPTY), got)
+            (client if closing == "client" else server).shutdown(socket.SHUT_WR)
+            other = server if closing == "client" else client
+            compare(f"the {closing} ends: the other side", (b"", "closed"), all_of(other))
+    with guard.connect() as client, listener.accept() as server:
+        # (the server goes on after the last request)
+        client.sendall(EMPTY)
+        client.shutdown(socket.SHUT_WR)
+        compare("the last request", (EMPTY, "closed"), all_of(server))
+        server.sendall(EMPTY)
+        server.close()
+        compare("the reply to the last request", (EMPTY, "closed"), all_of(client))
+    compare("lines of connections that end", "", guard.lines())
+
+
+def side_by_side(guard, listener):
+    """A refused message ends no other connection."""
+    with guard.connect() as first, listener.accept() as first_server:
+        first.sendall(EMPTY)
+        compare("a connection", EMPTY, exactly(first_server, len(EMPTY)))
+        with guard.connect() as second, listener.accept() as second_server:
+            second.sendall(CYCLE)
+            compare("another one, with a circle", (b"", "closed"), all_of(second_server))
+        first.sendall(EMPTY)
+        first_server.sendall(EMPTY)
+        got = exactly(first_server, len(EMPTY)), exactly(first, len(EMPTY))
+        compare("the connection afterwards", (EMPTY, EMPTY), got)
+    compare("the line of the other one", LINE.format(0), guard.lines())
+
+
+def without_server(folder):
+    """A connection ends if nobody serves."""
+    with Guard(folder, f"127.0.0.1:{free_port()}") as guard, guard.connect() as client:
+        compare("a client without a server", (b"", "closed"), all_of(client))
+
+
+def build(folder):
+    """The server and client, or nothing without a compiler or libcapnp."""
+    if any(missing("RPC through the guard", tool) for tool in ("c++", "pkg-config", "capnp")):
+        return None
+    flags, status = run(["pkg-config", "--cflags", "--libs", "capnp-rpc"])
+    if status:
+        print("not tested, without libcapnp for pkg-config: RPC through the guard")
+        return None
+    for name in ("calculator.capnp", "calculator.h"):
+        shutil.copy(TOP / "examples/cpp" / name, folder)
+    made = run(["capnp", "compile", "-oc++", "calculator.capnp"], cwd=folder, env={**os.environ, "PWD": str(folder)})
+    compare("capnp compile", ("", 0), made)
+    command = ["c++", *STRICT, "-I", folder, TOP / "tests/readers/ez.cpp", folder / "calculator.capnp.c++", *flags.split(),
+               "-o", folder / "ez"]
+    compare("c++ ez.cpp", ("", 0), run(command))
+    return folder / "ez"
+
+
+def called(ez, port):
+    return run([ez, "call", f"127.0.0.1:{port}"], timeout=SECONDS)
+
+
+def first_request(ez):
+    """The first message that a client of RPC sends."""
+    with Listener() as listener:
+        client = subprocess.Popen([ez, "call", listener.address], stdin=subprocess.DEVNULL, stdout=subprocess.DEVNULL)
+        with listener.accept() as peer:
+            head = exactly(peer, 8)
+            message = head + exactly(peer, 8 * struct.unpack_from("<I", head, 4)[0])
+        client.wait(SECONDS)
+    return message
+
+
+def without_failed(lines):
+    """The lines without those of replies that came after the client had left: the server sends one when it notices."""
+    return [line for line in lines.splitlines() if line != "capvet: output failed"]
+
+
+def rpc(folder, ez):
+    """Calls through the guard, before and after a client that sends a circle after a valid message."""
+    hello = first_request(ez)
+    compare("the first request is of one segment", bytes(4), hello[:4])
+    with open(folder / "port", "w") as port:
+        server = subprocess.Popen([ez, "serve"], stdout=port, stdin=subprocess.DEVNULL)
+    try:
+        until(lambda: (folder / "port").read_text().endswith("\n"))
+        port = int((folder / "port").read_text())
+        compare("calls without the guard", (CALLED, 0), called(ez, port))
+        with Guard(folder, f"127.0.0.1:{port}") as guard:
+            compare("calls through the guard", (CALLED, 0), called(ez, guard.port))
+            compare("calls through the guard, again", (CALLED, 0), called(ez, guard.port))
+            compare("the lines of these calls", [], without_failed(guard.lines()))
+            with guard.connect() as client:
+                client.sendall(hello)
+                reply = exactly(client, 8)
+                compare("the reply to a valid message", 8, len(reply))
+                client.sendall(CYCLE)
+                compare("the connection after a circle", "closed", all_of(client)[1])
+            compare("the line of the circle", LINE.format(1), guard.lines())
+            compare("calls afterwards", (CALLED, 0), called(ez, guard.port))
+            compare("the lines of these calls", [], without_failed(guard.lines()))
+    finally:
+        server.kill()
+        server.wait()
+
+
+def main():
+    if not missing("a proxy before a server", "socat"):
+        with tempfile.TemporaryDirectory() as scratch:
+            folder = Path(scratch)
+            with Listener() as listener, Guard(folder, listener.address) as guard:
+                for part in (requests, replies, endings, side_by_side):
+                    part(guard, listener)
+            without_server(folder)
+            ez = build(folder)
+            if ez is not None:
+                rpc(folder, ez)
+    print(f"{install.passed} passed, {install.failed} failed")
+    return install.failed > 0
+
+
+if __name__ == "__main__":
+    sys.exit(main())
