@@ -9,7 +9,8 @@ a busy machine slows them alike; the table has the median of the rounds. MiB, MB
 with blocks of 64 KiB, are those of the plain file also where a command gets it packed or packs it. Memory
 is the largest resident size of any round, and never less than this script's own, some 17 MiB, which a
 program that it starts inherits. `peer` is capvet's seconds over those of the faster of the two libraries at
-the same job. They don't do just the same work: the programs in peers/ say what differs.
+the same job. They don't do just the same work: the programs in peers/ say what differs. `capvet vet --strict` has
+--unamplified too, as `capvet filter` has by itself.
 
 With --write the table and the machine also go into docs/speed.md, between the marks there, and the column `peer` into
 docs/speed.svg as a chart, which README.md then shows. All rows have to run for this, beside both libraries.
@@ -159,12 +160,13 @@ INPUTS = MESSAGES | WORDS
 @dataclass
 class Timed:
     """What is timed on a kind of inputs: its name in the table, its words, whether it gets the input packed, the
-    statuses that it may end with, and the job that peers do too."""
+    statuses that it may end with, the job that peers do too, and whether it writes into a pipe to `cat`."""
     name: str
     words: str
     packed: bool = False
     statuses: tuple = (0,)
     job: str = ""
+    piped: bool = False
 
     @property
     def peer(self):
@@ -219,6 +221,10 @@ ON_ALL = [
 ON_MESSAGES = [
     Timed("capvet segments", f"PROGRAM segments {SIZE} FILE"),
     *with_peers("vet", LIMITS, "walk"),
+    Timed("capvet vet --strict", f"PROGRAM vet --strict --unamplified {LIMITS} FILE"),
+    *with_peers("filter", LIMITS, "copy"),
+    Timed("capvet filter | cat", f"PROGRAM filter {LIMITS} FILE", piped=True),
+    Timed("capvet filter --pack", f"PROGRAM filter --pack {LIMITS} FILE"),
     Timed("capvet vet --exclusive", f"PROGRAM vet --exclusive {LIMITS} FILE", statuses=(0, 1)),
     *with_peers("check", LIMITS, statuses=(0, 1)),
     *with_peers("canon", LIMITS),
@@ -301,6 +307,8 @@ def build_peers(names, folder):
 def run(timed, programs, file):
     """Seconds, and the largest resident size in KiB. A command that ends with another status ends the run."""
     words = [programs[it] if it in programs else it.replace("FILE", str(file)) for it in timed.words.split()]
+    if timed.piped:
+        words = ["sh", "-c", '"$0" "$@" | cat', *words]
     null = os.open(os.devnull, os.O_WRONLY)
     started = time.perf_counter()
     pid = os.posix_spawnp(words[0], words, os.environ, file_actions=[

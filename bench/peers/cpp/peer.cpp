@@ -1,10 +1,11 @@
 // A peer that the benchmark times beside capvet: the same jobs by Cap'n Proto's own C++ library.
 //
-//     peer walk|canon|check|pack|unpack [--packed] [--words N] FILE
+//     peer walk|canon|check|copy|pack|unpack [--packed] [--words N] FILE
 //
 //     walk    reads every node of each message, and writes a line for it
 //     canon   writes the canonical copy of each message, as a message of one segment
 //     check   writes for each message whether it is canonical
+//     copy    writes the messages as they came
 //     pack    writes the messages packed
 //     unpack  reads packed messages and writes them plain
 //
@@ -17,6 +18,7 @@
 // - canon doesn't vet the message: it counts the words below the root, for the size of the copy, and copies.
 //   Both count against the traversal limit, so N has to be more than twice as large.
 // - check stops at the first difference, and never looks at what comes after it.
+// - copy follows no pointer, so it refuses no message; `capvet filter` vets each message before it writes it.
 // - pack and unpack need framed messages, and take one at a time; capvet copies words, whatever they mean.
 
 #include <capnp/any.h>
@@ -114,8 +116,8 @@ int main(int count, char** arguments) {
       name = argument;
     }
   }
-  if (job != "walk" && job != "canon" && job != "check" && job != "pack" && job != "unpack") {
-    fputs("usage: peer walk|canon|check|pack|unpack [--packed] [--words N] FILE\n", stderr);
+  if (job != "walk" && job != "canon" && job != "check" && job != "copy" && job != "pack" && job != "unpack") {
+    fputs("usage: peer walk|canon|check|copy|pack|unpack [--packed] [--words N] FILE\n", stderr);
     return 2;
   }
   int file = open(name.cStr(), O_RDONLY);

@@ -1,10 +1,11 @@
 //! A peer that the benchmark times beside capvet: the same jobs by the Rust crate `capnp`.
 //!
-//!     peer walk|canon|check|pack|unpack [--packed] [--words N] FILE
+//!     peer walk|canon|check|copy|pack|unpack [--packed] [--words N] FILE
 //!
 //!     walk    reads every node of each message, and writes a line for it
 //!     canon   writes the canonical copy of each message, as a message of one segment
 //!     check   writes for each message whether it is canonical
+//!     copy    writes the messages as they came
 //!     pack    writes the messages packed
 //!     unpack  reads packed messages and writes them plain
 //!
@@ -18,6 +19,7 @@
 //! - canon doesn't vet the message: it counts the words below the root, for the size of the copy, and copies.
 //!   Both count against the traversal limit, so N has to be more than twice as large.
 //! - check stops at the first difference, and never looks at what comes after it.
+//! - copy follows no pointer, so it refuses no message; `capvet filter` vets each message before it writes it.
 //! - pack makes a deep copy of each message, since the crate packs nothing but what was built with it. The
 //!   objects of the copy may be in another order, and in one segment.
 //! - pack and unpack need framed messages, and take one at a time; capvet copies words, whatever they mean.
@@ -157,7 +159,7 @@ fn run(job: &str, packed: bool, limits: ReaderOptions, file: File) -> Result<boo
 }
 
 fn usage() -> ! {
-    eprintln!("usage: peer walk|canon|check|pack|unpack [--packed] [--words N] FILE");
+    eprintln!("usage: peer walk|canon|check|copy|pack|unpack [--packed] [--words N] FILE");
     exit(2);
 }
 
@@ -177,7 +179,7 @@ fn main() {
             _ => name = argument,
         }
     }
-    if !["walk", "canon", "check", "pack", "unpack"].contains(&job.as_str()) {
+    if !["walk", "canon", "check", "copy", "pack", "unpack"].contains(&job.as_str()) {
         usage();
     }
     let Ok(file) = File::open(name) else { exit(3) };
