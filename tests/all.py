@@ -31,11 +31,13 @@ SCRIPTS = (
     ("strict messages by other readers", ["readers.py", PROGRAM]),
     ("messages before their readers", ["before_readers.py", PROGRAM, ARCHIVE]),
     ("the library from C, C++ and Rust", ["library.py", PROGRAM, ARCHIVE]),
+    ("the filter", ["filter.py", PROGRAM]),
     ("the packages", ["dist.py", PROGRAM, ARCHIVE]),
     ("the Go package", ["go.py", PROGRAM, ARCHIVE]),
     ("the package for Python", ["python.py", PROGRAM, ARCHIVE]),
     ("what is installed", ["install.py", PROGRAM, ARCHIVE]),
     ("the pages", ["pages.py", PROGRAM]),
+    ("the proxy before RPC", ["rpc.py", PROGRAM]),
     ("archives", ["scale.py", PROGRAM, ARCHIVE]),
     ("the header", ["header.py"]),
 )
