@@ -328,6 +328,14 @@ class Live:
         except BrokenPipeError:
             pass
 
+    def send_apart(self, data):
+        """Starts a process that sends bytes, since the filter writes while it reads. Its number is for `os.waitpid`."""
+        writer = os.fork()
+        if writer == 0:
+            self.send(data)
+            os._exit(0)
+        return writer
+
     def take(self, pipe, length):
         """What comes through a pipe, up to this many bytes, or until nothing came for a minute."""
         text = bytearray()
@@ -343,7 +351,7 @@ class Live:
         for _ in range(100 * SECONDS):
             unread = struct.unpack("i", fcntl.ioctl(self.ran.stdin.fileno(), termios.FIONREAD, bytes(4)))[0]
             state = Path(f"/proc/{self.ran.pid}/stat").read_text().rsplit(")", 1)[1].split()[0]
-            if unread == 0 and state == "S":
+            if state == "Z" or unread == 0 and state == "S":
                 break
             time.sleep(0.005)
         return select.select([self.ran.stdout, self.ran.stderr], [], [], 0)[0] == []
@@ -431,6 +439,21 @@ def both_outputs():
         compare(f"filter {options}, the end of that input", (b"", broken, 1), rest)
 
 
+def many_at_once():
+    """More messages than buffers hold, of which some are refused, and the beginning of one."""
+    part = NULL + PADDED + SHARED
+    stream = (50 * part + CYCLE) * 200
+    wanted, lines = accepted(part) * 10_000, lines_of(*range(150, 151 * 200, 151))
+    for options in ("", "--packed", "--pack"):
+        given = packed(stream + SHARED)[:-3] if "--packed" in options else stream + SHARED[:-3]
+        text = b"".join(map(packed_frame, cut(accepted(part)))) * 10_000 if options == "--pack" else wanted
+        with Live(options) as live:
+            writer = live.send_apart(given)
+            out, err = live.take(live.ran.stdout, len(text)), live.take(live.ran.stderr, len(lines))
+            os.waitpid(writer, 0)
+            compare(f"filter {options}, many messages at once", (text, lines, True), (out, err, live.waits()))
+
+
 def in_sips():
     """A stream of which one, three or seven bytes come at a time."""
     stream = NULL + PADDED + CYCLE + SHARED
@@ -453,6 +476,7 @@ def live_pipes():
     refused_halves("--packed", packed(CYCLE))
     runs_of_zeros()
     both_outputs()
+    many_at_once()
     in_sips()
     # with --stop it ends while the input stays open
     with Live("--stop") as live:
@@ -662,11 +686,7 @@ def most_memory(process):
 def large(name, options, stream, text, most):
     """A large message twice, from a pipe that stays open: its bytes, and the memory in KiB."""
     with Live(options) as live:
-        # (another process writes, since the filter writes while it reads)
-        writer = os.fork()
-        if writer == 0:
-            live.send(stream + stream)
-            os._exit(0)
+        writer = live.send_apart(stream + stream)
         faults = ["the text differs"] * (live.take(live.ran.stdout, len(text)) != text)
         faults += ["the second text differs"] * (live.take(live.ran.stdout, len(text)) != text)
         os.waitpid(writer, 0)
