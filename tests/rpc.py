@@ -119,6 +119,21 @@ def exactly(peer, length):
     return text
 
 
+def send(peer, *parts):
+    """Sends bytes, with a pause after each part. The guard may end the connection before all are sent."""
+    try:
+        for part in parts:
+            peer.sendall(part)
+            time.sleep(0.05)
+    except ConnectionError:
+        pass
+
+
+def of_capvet(lines):
+    """The lines without those of socat. It writes one if it still has bytes for a command that has ended."""
+    return "".join(line for line in lines.splitlines(keepends=True) if " socat[" not in line)
+
+
 class Listener:
     """A server that is played by this script."""
 
@@ -142,33 +157,31 @@ class Listener:
 def requests(guard, listener):
     """A refused request doesn't arrive. Those before it do, and both ends of its connection are closed."""
     for name, sent, first, said in (
-            ("a circle", EMPTY + CYCLE, EMPTY, LINE.format(1)),
-            ("a circle between others", EMPTY + EMPTY + CYCLE + EMPTY, EMPTY + EMPTY, LINE.format(2)),
-            ("a circle at first", CYCLE + EMPTY, b"", LINE.format(0)),
+            ("a circle", [EMPTY + CYCLE], EMPTY, LINE.format(1)),
+            ("a circle between others", [EMPTY + EMPTY + CYCLE + EMPTY], EMPTY + EMPTY, LINE.format(2)),
+            ("a circle at first", [CYCLE + EMPTY], b"", LINE.format(0)),
             ("a circle in two parts", [EMPTY + CYCLE[:11], CYCLE[11:]], EMPTY, LINE.format(1)),
-            ("too many segments", EMPTY + TABLE, EMPTY, "capvet: message 1: TooManySegments 513\n")):
+            ("a circle before many others", [EMPTY + CYCLE + EMPTY * 200_000], EMPTY, LINE.format(1)),
+            ("too many segments", [EMPTY + TABLE], EMPTY, "capvet: message 1: TooManySegments 513\n")):
         with guard.connect() as client, listener.accept() as server:
-            for part in [sent] if isinstance(sent, bytes) else sent:
-                client.sendall(part)
-                time.sleep(0.05)
+            send(client, *sent)
             got = all_of(server)
             server.close()
             compare(f"a request, {name}: what the server gets", (first, "closed"), got)
             compare(f"a request, {name}: what the client gets", (b"", "closed"), all_of(client))
-        compare(f"a request, {name}: the line", said, guard.lines())
+        compare(f"a request, {name}: the line", said, of_capvet(guard.lines()))
 
 
 def replies(guard, listener):
     """A refused reply doesn't arrive either, and both ends are closed though the client is silent."""
-    with guard.connect() as client, listener.accept() as server:
-        client.sendall(EMPTY)
-        compare("a request before a refused reply", EMPTY, exactly(server, len(EMPTY)))
-        server.sendall(EMPTY + CYCLE + EMPTY)
-        compare("a refused reply: what the client gets", (EMPTY, "closed"), all_of(client))
-        compare("a refused reply: what the server gets", (b"", "closed"), all_of(server))
-    # (later versions of socat report the signal that ends them)
-    lines = [line for line in guard.lines().splitlines(keepends=True) if " socat[" not in line]
-    compare("a refused reply: the line", [LINE.format(1)], lines)
+    for after in (EMPTY, EMPTY * 200_000):
+        with guard.connect() as client, listener.accept() as server:
+            client.sendall(EMPTY)
+            compare("a request before a refused reply", EMPTY, exactly(server, len(EMPTY)))
+            send(server, EMPTY + CYCLE + after)
+            compare("a refused reply: what the client gets", (EMPTY, "closed"), all_of(client))
+            compare("a refused reply: what the server gets", (b"", "closed"), all_of(server))
+        compare("a refused reply: the line", LINE.format(1), of_capvet(guard.lines()))
 
 
 def endings(guard, listener):
