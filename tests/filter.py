@@ -201,6 +201,14 @@ def amplified(chance):
     return bytes.fromhex(text)
 
 
+def runs():
+    """Messages with a null root and runs of equal words, which would go on from one part of a frame into the next."""
+    for word in (bytes(8), b"\x8a" * 8, b"\x8a" * 7 + b"\0"):
+        for sizes in (0, 0), (0, 0, 0), (1, 2, 0), (3, 1), (254, 2, 255), (260, 0, 260), (5, 600):
+            segments = [bytes(8) + sizes[0] * word, *(size * word for size in sizes[1:])]
+            yield frame(segments)
+
+
 def changed(count):
     """Messages of a fixed seed, most of them changed samples."""
     chance, bases = random.Random(40), samples()
@@ -232,7 +240,7 @@ def over_samples():
 
 
 def over_changed(messages):
-    """All changed messages in one stream, with each set of options, and what `vet` says of the output."""
+    """All messages in one stream, with each set of options, and what `vet` says of the output."""
     stream = b"".join(messages)
     as_packed, reasons = packed(stream), Counter()
     for options in OPTIONS:
@@ -252,7 +260,7 @@ def over_changed(messages):
     told("padding that isn't zero occurs", 20 * with_padding >= len(messages), with_padding)
     few = {name: reasons[name] for name, least in REASONS.items() if reasons[name] < least * len(messages) // 10_000}
     told("each reason occurs", not few, few)
-    print(f"filter: {len(messages)} changed messages, refused for {dict(reasons)}")
+    print(f"filter: {len(messages)} messages, refused for {dict(reasons)}")
 
 
 def stopping(messages):
@@ -294,10 +302,10 @@ def by_libcapnp(messages):
             if b" accepted " in line and line.endswith(b" caps 0") and has_struct(next(trees.messages(message)))]
     ran = filtered("--pack", b"".join(some))
     compare("filter --pack, for capnp convert", (b"".join(packed_frame(it) for it in cut(b"".join(some))), b"", 0), ran)
-    got = converted("packed:binary", ran[0])
-    compare("filter --pack, read by capnp convert", converted("binary:binary", accepted(*some)), got)
-    count = sum(1 for _ in cut(got[0]))
-    told("capnp convert reads all of them", (count, *got[1:]) == (len(some), b"", 0), count, len(some), got[1:])
+    wanted = converted("binary:binary", accepted(*some))
+    count = sum(1 for _ in cut(wanted[0]))
+    told("capnp convert reads all of the frames", (count, *wanted[1:]) == (len(some), b"", 0), count, len(some), wanted[1:])
+    compare("filter --pack, read by capnp convert", wanted, converted("packed:binary", ran[0]))
     told("these are many", 5 * count >= len(messages), count)
 
 
@@ -723,7 +731,7 @@ def large_messages():
 
 def main():
     count = int(sys.argv[2]) if len(sys.argv) > 2 else MANY
-    messages = list(changed(count))
+    messages = [*runs(), *changed(count)]
     over_samples()
     over_changed(messages)
     stopping(messages)
