@@ -288,7 +288,11 @@ def has_struct(message):
 
 def converted(conversion, stream):
     """What `capnp convert` makes of a stream, what it says, and its status."""
-    ran = subprocess.run(["capnp", "convert", "--quiet", conversion], input=stream, capture_output=True, timeout=600)
+    command = ["capnp", "convert", "--quiet", conversion]
+    try:
+        ran = subprocess.run(command, input=stream, capture_output=True, timeout=SECONDS)
+    except subprocess.TimeoutExpired:
+        return b"", b"", "no end within a minute"
     return ran.stdout, ran.stderr[:300], ran.returncode
 
 
