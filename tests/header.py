@@ -76,7 +76,7 @@ def main():
     if [name for name, _ in told] != list(header) or {header[name]: text for name, text in told} != names():
         sys.exit(f"header: capvet_answer_name has {told}")
     kinds = answers("include/capvet.h", r"^\s*CAPVET_KIND_([A-Z_]+) = (\d+)")
-    code = answers("crates/cap_calls/src/node.rt", r"Kind::(\w+)[^=]*=> CallNode \{\s*kind: (\d+)")
+    code = answers("crates/cap_calls/src/node.rt", r"Kind(?:::|\.)(\w+)(?:[^=]*=> | [^}]*\}\s*\{\s*)CallNode \{\s*kind: (\d+)")
     specs = answers("crates/cap_calls/specs/CallNodes.antt", r"^kind_node \(?(\w+)[^=]*=\s*record none_node \{\s*kind = (\d+)")
     for path, told in (("node.rt", code), ("CallNodes.antt", specs)):
         there = {"NULL": 0} | {KINDS[name]: number for name, number in told.items()}
