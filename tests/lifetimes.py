@@ -12,8 +12,6 @@ import sys
 import tempfile
 from pathlib import Path
 
-from prove import below, listed
-
 TOP = Path(__file__).resolve().parent.parent
 LEFT_OUT = shutil.ignore_patterns("out", "must-fail")
 ROOT = """//! A node and its message.
@@ -51,6 +49,23 @@ CASES = (
     ("a node of a message that is kept", "let limits = limits;", None),
     ("a node of a message that is dropped", "let message = message;", "error[borrow-e0597]: `message` does not live long enough"),
 )
+
+
+def listed(root):
+    """The lines of crates.txt by the crate that each is of, with the words after its name."""
+    lines = [line for line in (root / "crates.txt").read_text().splitlines() if line and not line.startswith("#")]
+    return {line.replace(":", " ").split()[0]: line for line in lines}
+
+
+def below(names, lines):
+    """These crates of the repository and all that they depend on."""
+    found, left = set(), list(names)
+    while left:
+        name = left.pop()
+        if name in lines and name not in found:
+            found.add(name)
+            left += lines[name].partition(":")[2].split()
+    return found
 
 
 def errors(folder, first):
