@@ -93,7 +93,7 @@ def main():
     parser.add_argument("--archive", default=str(bench.TOP / "build/libcapvet.a"))
     args = parser.parse_args()
     if not Path(args.program).is_file():
-        sys.exit(f"{args.program} isn't there: build it by `make run`")
+        sys.exit(f"{args.program} isn't there: build it by `make build`")
     with tempfile.TemporaryDirectory() as scratch:
         by_program(args, Path(scratch))
         in_process(args, Path(scratch))

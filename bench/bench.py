@@ -330,7 +330,7 @@ def options():
     parser.add_argument("--write", action="store_true", help="write docs/speed.md, docs/speed.svg and the chart's place in README.md")
     args = parser.parse_args()
     if not Path(args.program).is_file():
-        sys.exit(f"{args.program} isn't there: build it by `make run`")
+        sys.exit(f"{args.program} isn't there: build it by `make build`")
     if args.write and args.only:
         sys.exit("--write takes all rows, and so no --only")
     return args
