@@ -90,7 +90,7 @@ PACKED = bytes.fromhex("100100001004400211040110010107")
 
 with tempfile.TemporaryDirectory() as folder:
     refusing = library(folder)
-    for command in ("vet", "vet --exclusive", "filter", "dump", "get /p1", "check", "canon"):
+    for command in ("vet", "vet --exclusive", "filter", "filter --exclusive", "dump", "get /p1", "check", "canon"):
         first, _ = run(command.split(), NULL, refusing, 0)
         expect(command, NULL + SHARED, refusing, (b"", first[0]))
     expect("vet examples/contacts.bin", b"", refusing, (b"",))

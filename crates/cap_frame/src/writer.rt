@@ -39,7 +39,7 @@ fn table_word<M: Segments>(message: &M, w: u32) -> u64
 
 /// Writes the bytes of a message's table at the start of `table`: how many segments there are besides
 /// the first, the size of each, and zero padding up to a whole word (encoding: Serialization Over a
-/// Stream). Returns how many bytes these are. The bytes of `table` after them are unchanged.
+/// Stream). Returns how many bytes these are. The bytes of `table` after them may be changed.
 ///
 /// There are no errors. Allocates nothing.
 pub fn table_into<M: Segments>(message: &M, table: &mut [u8; TABLE_BYTES]) -> usize

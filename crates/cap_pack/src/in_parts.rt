@@ -23,8 +23,8 @@ pub struct PackedPart {
 /// Writes the start of the packed text of some words to the start of `text` (encoding: Packing).
 /// The words are those that `bytes` begin with, eight bytes each, the lowest first. The text of the
 /// words that it doesn't take is the rest of the packed text, so calls one after the other give the
-/// text of all. It takes at least one word if there is one, and at most 256. The bytes of `text`
-/// after its part may be overwritten.
+/// text of all. It takes at least one word if there is one. The bytes of `text` after its part may be
+/// overwritten.
 ///
 /// There are no errors. Allocates nothing.
 pub fn pack_part(bytes: &[u8], text: &mut [u8; PART_BYTES]) -> PackedPart
