@@ -10,7 +10,7 @@ use Rattle.cap_vet.specs.Demands.{IsDemandFault, Meets}
 use Rattle.cap_vet.specs.Reports.{IsAccepted}
 use Rattle.cap_vet.specs.Taken.{marks_of}
 use Rattle.cap_vet.specs.declared.demands.Demands.{Demands}
-use Rattle.cap_vet.specs.declared.exclusive_room.ExclusiveFault.TheVariants as fault
+use Rattle.cap_vet.specs.declared.exclusiveness.exclusive_room.ExclusiveFault.TheVariants as fault
 use Rattle.cap_vet.specs.declared.report.Report.{Report}
 use Rattle.cap_calls.specs.CallFindings.{Judges, JudgesAny, Tells, TellsWhole, accepted, framed}
 use Rattle.cap_calls.specs.CallFindings.{refused, refused_found, tells, trailing, without}

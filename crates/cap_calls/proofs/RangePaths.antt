@@ -9,8 +9,8 @@ use Rattle.cap_spec.specs.declared.StrictRefusal.{StrictRefusal}
 use Rattle.cap_vet.specs.PathDemands.{IsPathFault, MeetsOnPath}
 use Rattle.cap_vet.specs.PathWays.{GivesAfter, IsGiven, IsStart}
 use Rattle.cap_vet.specs.declared.demands.Demands.{Demands}
-use Rattle.cap_vet.specs.declared.path_start.PathStart.{PathStart}
-use Rattle.cap_vet.specs.declared.view.View.{View}
+use Rattle.cap_vet.specs.declared.nodes.path_start.PathStart.{PathStart}
+use Rattle.cap_vet.specs.declared.nodes.view.View.{View}
 use Rattle.cap_calls.specs.RangeCalls.{path_after, step_after}
 use Rattle.cap_calls.specs.declared.step.CallStep.{CallStep}
 

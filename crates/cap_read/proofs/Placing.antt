@@ -17,7 +17,7 @@ use Rattle.cap_spec.proofs.Trees.OneTree.{one_tree}
 use Rattle.cap_spec.proofs.Paths.Walks.{one_coming}
 use Rattle.cap_vet.specs.Handles.{bytes_of_place}
 use Rattle.cap_vet.specs.Reports.{IsReport}
-use Rattle.cap_vet.specs.declared.place.Place.{Place}
+use Rattle.cap_vet.specs.declared.nodes.place.Place.{Place}
 use Rattle.cap_vet.specs.declared.report.Report.{Report}
 use Rattle.cap_read.specs.ReadNodes.{IsPlaceInside, IsRead}
 

@@ -8,7 +8,7 @@ use Rattle.cap_spec.specs.Showing.{Own, own_of}
 use Rattle.cap_spec.specs.Tree.{Tree, node_at}
 use Rattle.cap_spec.specs.declared.Step.{Step}
 use Rattle.cap_vet.specs.Reports.{IsReport}
-use Rattle.cap_vet.specs.declared.place.Place.{Place}
+use Rattle.cap_vet.specs.declared.nodes.place.Place.{Place}
 use Rattle.cap_vet.specs.declared.report.Report.{Report}
 
 -- the place of a path, inside its segment

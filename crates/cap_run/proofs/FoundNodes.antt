@@ -5,7 +5,7 @@ use Rattle.cap_spec.specs.Standing.{DenotesAt}
 use Rattle.cap_spec.specs.Texts.{get_text}
 use Rattle.cap_spec.specs.Tree.{Tree}
 use Rattle.cap_vet.specs.Handles.{node_message, node_spot}
-use Rattle.cap_vet.specs.declared.node.Node.{Node}
+use Rattle.cap_vet.specs.declared.nodes.node.Node.{Node}
 
 module _ {M : Type 0} (g : segments.Ghosts M) where
   -- what holds of the text of a node that was found, and of the text that there is none, holds of the text of the tree's node

@@ -21,9 +21,9 @@ use Rattle.cap_spec.proofs.Paths.Walks.{coming_last}
 use Rattle.cap_vet.specs.Charging.{Arrives}
 use Rattle.cap_vet.specs.PathStrictness.{AddsPointer, KnowsLaxOnPath}
 use Rattle.cap_vet.specs.Finding.{IsFound, element_of}
-use Rattle.cap_vet.specs.declared.charged.Arrival.{Arrival}
-use Rattle.cap_vet.specs.declared.found.Found.{Found}
-use Rattle.cap_vet.specs.declared.strict_turn.LaxPointer.{LaxPointer}
+use Rattle.cap_vet.specs.declared.nodes.charged.Arrival.{Arrival}
+use Rattle.cap_vet.specs.declared.nodes.found.Found.{Found}
+use Rattle.cap_vet.specs.declared.strictness.strict_turn.LaxPointer.{LaxPointer}
 use Rattle.cap_vet.proofs.Nodes.{comes_nowhere}
 use Rattle.cap_vet.proofs.PathLax.{lax_added, lax_same}
 

@@ -6,8 +6,8 @@ use Rattle.cap_spec.proofs.Verdicts.OneFault.{one_refusal}
 use Rattle.cap_vet.specs.Exclusives.{IsExclusiveFault}
 use Rattle.cap_vet.specs.Reports.{IsAccepted}
 use Rattle.cap_vet.specs.Taken.{marks_of}
-use Rattle.cap_vet.specs.declared.exclusive_room.ExclusiveFault.{ExclusiveFault}
-use Rattle.cap_vet.specs.declared.exclusive_room.ExclusiveFault.TheVariants.{Refused, NoRoom, Overlap}
+use Rattle.cap_vet.specs.declared.exclusiveness.exclusive_room.ExclusiveFault.{ExclusiveFault}
+use Rattle.cap_vet.specs.declared.exclusiveness.exclusive_room.ExclusiveFault.TheVariants.{Refused, NoRoom, Overlap}
 use Rattle.cap_vet.specs.declared.report.Report.{Report}
 use Rattle.cap_vet.proofs.OneReport.{not_both, one_report}
 

@@ -6,7 +6,7 @@ use Rattle.cap_spec.specs.declared.Step.{Step}
 use Rattle.cap_spec.specs.declared.Step.TheVariants.{Ptr, Item}
 use Rattle.cap_vet.specs.Trails.{row, element_rows}
 use Rattle.cap_vet.specs.PointerRuns.{place_of, row_places, element_places, IsRest}
-use Rattle.cap_vet.specs.declared.pointer_run.PointerRun.{PointerRun}
+use Rattle.cap_vet.specs.declared.walk.pointer_run.PointerRun.{PointerRun}
 
 -- behind the first of several words in a row
 pub rest_of_row : (s b n more ds ps level : ℕ) → 1 < n → IsRest

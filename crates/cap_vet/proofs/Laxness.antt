@@ -22,7 +22,7 @@ use Rattle.cap_vet.specs.Trails.{Ahead, IsTrail}
 use Rattle.cap_vet.specs.Walking.{IsLookedAt, Walks}
 use Rattle.cap_vet.specs.declared.limits.Limits.{Limits}
 use Rattle.cap_vet.specs.declared.report.Report.{Report}
-use Rattle.cap_vet.specs.declared.strict_turn.LaxPointer.{LaxPointer}
+use Rattle.cap_vet.specs.declared.strictness.strict_turn.LaxPointer.{LaxPointer}
 use Rattle.cap_vet.proofs.Keeping.{vetted_kept}
 use Rattle.cap_vet.proofs.Tours.{in_order, in_order-IsOneOf, length-in_order, tour_of}
 use Rattle.cap_vet.proofs.Verdicts.{accepted_at_end, none_ahead}

@@ -18,7 +18,7 @@ use Rattle.cap_ptr.specs.declared.shapes.Followed.TheVariants as followed
 use Rattle.cap_vet.specs.PointerRuns.{OptionIn, option_spots}
 use Rattle.cap_vet.specs.Looking.{FrameRises, LooksObject, deepest_of, object_places}
 use Rattle.cap_vet.specs.Levels.{levels_of}
-use Rattle.cap_vet.specs.declared.pointer_run.PointerRun.{PointerRun}
+use Rattle.cap_vet.specs.declared.walk.pointer_run.PointerRun.{PointerRun}
 use Rattle.cap_vet.proofs.Steps.{cap_no_object, null_no_object}
 use Rattle.cap_vet.proofs.Turning.{deep_once}
 

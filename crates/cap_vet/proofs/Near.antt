@@ -14,8 +14,8 @@ use Rattle.cap_ptr.specs.declared.near.Row.{Row}
 use Rattle.cap_ptr.proofs.NearObjects.{pointers-no_extra, pointers-plain}
 use Rattle.cap_vet.specs.PointerRuns.{LevelIs, OptionIn, option_spots, row_places}
 use Rattle.cap_vet.specs.Looking.{FrameRises, IsLooked, object_places}
-use Rattle.cap_vet.specs.declared.pointer_run.PointerRun.{PointerRun}
-use Rattle.cap_vet.specs.declared.looking.Looked.TheVariants.{Object}
+use Rattle.cap_vet.specs.declared.walk.pointer_run.PointerRun.{PointerRun}
+use Rattle.cap_vet.specs.declared.walk.looking.Looked.TheVariants.{Object}
 
 -- a list of values has no pointers, and no levels below it
 six_not : (q : ℕ) → code q < 6 → (code q == 6) ≡ false

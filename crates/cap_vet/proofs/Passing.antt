@@ -11,8 +11,8 @@ use Rattle.cap_vet.specs.PointerRuns.{RunIn, IsRest, all_spots, element_places, 
 use Rattle.cap_vet.specs.Passing.{Passes}
 use Rattle.cap_vet.specs.Trails.{Ahead}
 use Rattle.cap_vet.specs.Walking.{Walks, work_left}
-use Rattle.cap_vet.specs.declared.pointer_run.PointerRun.{PointerRun}
-use Rattle.cap_vet.specs.declared.looking.Looked.TheVariants.{Null}
+use Rattle.cap_vet.specs.declared.walk.pointer_run.PointerRun.{PointerRun}
+use Rattle.cap_vet.specs.declared.walk.looking.Looked.TheVariants.{Null}
 use Rattle.cap_vet.specs.declared.report.Report.{Report}
 use Rattle.cap_vet.proofs.Frames.{rest_of_row}
 use Rattle.cap_vet.proofs.Stacks.{next_seen, walks_on, work_smaller}

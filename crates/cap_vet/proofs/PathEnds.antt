@@ -16,9 +16,9 @@ use Rattle.cap_vet.specs.Charging.{Arrives, EndsAt, EndsEarly}
 use Rattle.cap_vet.specs.Demands.{words_under}
 use Rattle.cap_vet.specs.PathDemands.{IsFirstLaxOnPath, IsPathFault, MeetsOnPath}
 use Rattle.cap_vet.specs.PathStrictness.{HasNoFaultBy, IsFaultBy, KnowsLaxOnPath}
-use Rattle.cap_vet.specs.declared.charged.Arrival.{Arrival}
+use Rattle.cap_vet.specs.declared.nodes.charged.Arrival.{Arrival}
 use Rattle.cap_vet.specs.declared.demands.Demands.{Demands}
-use Rattle.cap_vet.specs.declared.strict_turn.LaxPointer.{LaxPointer}
+use Rattle.cap_vet.specs.declared.strictness.strict_turn.LaxPointer.{LaxPointer}
 use Rattle.cap_vet.proofs.Charging.{arrives_nowhere, charges_nowhere}
 use Rattle.cap_vet.proofs.PathLax.{lax_same}
 

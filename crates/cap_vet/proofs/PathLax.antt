@@ -10,7 +10,7 @@ use Rattle.cap_spec.proofs.Verdicts.OneFault.{one_of_last}
 use Rattle.cap_spec.proofs.Verdicts.OnPath.{begins_itself, begins_longer}
 use Rattle.cap_vet.specs.PathDemands.{IsFirstLaxOnPath}
 use Rattle.cap_vet.specs.PathStrictness.{AddsPointer, KnowsLaxOnPath}
-use Rattle.cap_vet.specs.declared.strict_turn.LaxPointer.{LaxPointer}
+use Rattle.cap_vet.specs.declared.strictness.strict_turn.LaxPointer.{LaxPointer}
 
 -- The first on the beginning of a path is the first on the path.
 lax_longer : (m : List (List ℕ)) (prev more : List Step) (s w : ℕ) (what : Lax) (n : ℕ)

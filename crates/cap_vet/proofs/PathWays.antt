@@ -14,13 +14,13 @@ use Rattle.cap_vet.specs.Demands.{words_under}
 use Rattle.cap_vet.specs.PathDemands.{IsPathFault, MeetsOnPath}
 use Rattle.cap_vet.specs.PathStrictness.{HasNoFaultBy, IsFaultBy}
 use Rattle.cap_vet.specs.PathWays.{GivesAfter, IsGiven, IsWay}
-use Rattle.cap_vet.specs.declared.charged.Arrival.{Arrival}
+use Rattle.cap_vet.specs.declared.nodes.charged.Arrival.{Arrival}
 use Rattle.cap_vet.specs.declared.demands.Demands.{Demands}
-use Rattle.cap_vet.specs.declared.found.Found.{Found}
-use Rattle.cap_vet.specs.declared.path_start.PathStart.{PathStart}
-use Rattle.cap_vet.specs.declared.view.View.{View}
-use Rattle.cap_vet.specs.declared.way.Way.{Way}
-use Rattle.cap_vet.specs.declared.way.Way.TheVariants.{To, Nowhere}
+use Rattle.cap_vet.specs.declared.nodes.found.Found.{Found}
+use Rattle.cap_vet.specs.declared.nodes.path_start.PathStart.{PathStart}
+use Rattle.cap_vet.specs.declared.nodes.view.View.{View}
+use Rattle.cap_vet.specs.declared.nodes.way.Way.{Way}
+use Rattle.cap_vet.specs.declared.nodes.way.Way.TheVariants.{To, Nowhere}
 use Rattle.cap_vet.proofs.Charging.{fault_longer}
 use Rattle.cap_vet.proofs.PathEnds.{fault_at, meets_at, nothing_at, something_at}
 use Rattle.cap_vet.proofs.PathFaults.{meets_no_path_fault, one_path_fault}

@@ -10,12 +10,12 @@ use Rattle.cap_vet.specs.Exclusives.{IsExclusiveFault, vetted_of}
 use Rattle.cap_vet.specs.Limits.{depth_of, words_of}
 use Rattle.cap_vet.specs.Reports.{IsAccepted, IsReport}
 use Rattle.cap_vet.specs.Vettings.{message_of, report_of}
-use Rattle.cap_vet.specs.declared.exclusive.Exclusive.{Exclusive}
-use Rattle.cap_vet.specs.declared.exclusive_room.ExclusiveFault.{ExclusiveFault}
-use Rattle.cap_vet.specs.declared.exclusive_room.ExclusiveFault.TheVariants.{Refused, NoRoom, Overlap}
+use Rattle.cap_vet.specs.declared.exclusiveness.exclusive.Exclusive.{Exclusive}
+use Rattle.cap_vet.specs.declared.exclusiveness.exclusive_room.ExclusiveFault.{ExclusiveFault}
+use Rattle.cap_vet.specs.declared.exclusiveness.exclusive_room.ExclusiveFault.TheVariants.{Refused, NoRoom, Overlap}
 use Rattle.cap_vet.specs.declared.limits.Limits.{Limits}
 use Rattle.cap_vet.specs.declared.report.Report.{Report}
-use Rattle.cap_vet.specs.declared.vetted.Vetted.{Vetted}
+use Rattle.cap_vet.specs.declared.nodes.vetted.Vetted.{Vetted}
 use Rattle.cap_vet.proofs.OneReport.{not_both, one_report}
 use Rattle.cap_vet.proofs.Verdicts.{vetted_within}
 

@@ -17,10 +17,10 @@ use Rattle.cap_vet.specs.Turning.{added, run_below}
 use Rattle.cap_vet.specs.Limits.{depth_of, words_of}
 use Rattle.cap_vet.specs.Turns.{GoesOn, HasVisited, IsAt, IsWalking}
 use Rattle.cap_vet.specs.Walking.{AreNull, IsLookedAt, IsNext, AreStacked, Progress, Walks, work_left, work_next}
-use Rattle.cap_vet.specs.declared.pointer_run.PointerRun.{PointerRun}
+use Rattle.cap_vet.specs.declared.walk.pointer_run.PointerRun.{PointerRun}
 use Rattle.cap_vet.specs.declared.limits.Limits.{Limits}
-use Rattle.cap_vet.specs.declared.looking.Looked.{Looked}
-use Rattle.cap_vet.specs.declared.looking.Looked.TheVariants as looked
+use Rattle.cap_vet.specs.declared.walk.looking.Looked.{Looked}
+use Rattle.cap_vet.specs.declared.walk.looking.Looked.TheVariants as looked
 use Rattle.cap_vet.specs.declared.report.Report.{Report}
 use Rattle.cap_spec.proofs.Bytes.Lists.{reverse-more}
 use Rattle.cap_spec.proofs.Paths.Walks.{one_reached}

@@ -12,7 +12,7 @@ use Rattle.cap_spec.proofs.Trees.Finding.{SameObject, one_object}
 use Rattle.cap_spec.proofs.Frames.Messages.{one_word}
 use Rattle.cap_spec.specs.Arriving.{StandsAs, StandsElement}
 use Rattle.cap_vet.specs.Finding.{IsFound}
-use Rattle.cap_vet.specs.declared.found.Found.{Found}
+use Rattle.cap_vet.specs.declared.nodes.found.Found.{Found}
 use Rattle.cap_vet.proofs.Steps.{cap_no_object, null_no_object}
 
 -- what stands there, where its kind is known

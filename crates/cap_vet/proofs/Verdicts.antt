@@ -17,7 +17,7 @@ use Rattle.cap_vet.specs.PointerRuns.{place_of}
 use Rattle.cap_vet.specs.Limits.{depth_of, words_of}
 use Rattle.cap_vet.specs.Turns.{IsAt}
 use Rattle.cap_vet.specs.Walking.{IsFirstOf, IsNext, Progress, Walks}
-use Rattle.cap_vet.specs.declared.pointer_run.PointerRun.{PointerRun}
+use Rattle.cap_vet.specs.declared.walk.pointer_run.PointerRun.{PointerRun}
 use Rattle.cap_vet.specs.declared.limits.Limits.{Limits}
 use Rattle.cap_vet.specs.declared.report.Report.{Report}
 use Rattle.cap_vet.proofs.Tours.{in_order, in_order-IsOneOf, length-in_order, onto, tour_of}

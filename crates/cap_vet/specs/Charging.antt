@@ -7,7 +7,7 @@ use Rattle.cap_spec.specs.Verdicts.{CostOf}
 use Rattle.cap_spec.specs.declared.Step.{Step}
 use Rattle.cap_vet.specs.Finding.{IsFound}
 use Rattle.cap_vet.specs.PathStrictness.{KnowsLaxOnPath}
-use Rattle.cap_vet.specs.declared.charged.Arrival.{Arrival}
+use Rattle.cap_vet.specs.declared.nodes.charged.Arrival.{Arrival}
 
 -- the deepest level that a path within the depth limit comes to
 abbrev pub deepest_at : ℕ → Spot → ℕ

@@ -10,8 +10,8 @@ use Rattle.cap_spec.specs.declared.Step.{Step}
 use Rattle.cap_ptr.specs.declared.shapes.Shape.{Shape}
 use Rattle.cap_ptr.specs.declared.shapes.Shape.TheVariants as shape
 use Rattle.cap_vet.specs.Spots.{SpotIn, spot_of}
-use Rattle.cap_vet.specs.declared.found.Found.{Found}
-use Rattle.cap_vet.specs.declared.spot.Spot.{Spot as Kept}
+use Rattle.cap_vet.specs.declared.nodes.found.Found.{Found}
+use Rattle.cap_vet.specs.declared.nodes.spot.Spot.{Spot as Kept}
 
 -- the kind of an object
 abbrev pub kind_of_shape : Shape → Kind

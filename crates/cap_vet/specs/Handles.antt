@@ -9,9 +9,9 @@ use Rattle.cap_spec.specs.Showing.{Own}
 use Rattle.cap_spec.specs.declared.Kind.{Kind}
 use Rattle.cap_spec.specs.declared.Kind.TheVariants.{Null, Cap}
 use Rattle.cap_vet.specs.Spots.{spot_of}
-use Rattle.cap_vet.specs.declared.node.Node.{Node}
-use Rattle.cap_vet.specs.declared.place.Place.{Place}
-use Rattle.cap_vet.specs.declared.view.View.{View}
+use Rattle.cap_vet.specs.declared.nodes.node.Node.{Node}
+use Rattle.cap_vet.specs.declared.nodes.place.Place.{Place}
+use Rattle.cap_vet.specs.declared.nodes.view.View.{View}
 
 -- a node's message
 abbrev pub node_message : {M : Type 0} {g : segments.Ghosts M} → Node M g → M

@@ -16,9 +16,9 @@ use Rattle.cap_ptr.specs.declared.shapes.Followed.TheVariants as followed
 use Rattle.cap_vet.specs.Levels.{levels_of}
 use Rattle.cap_vet.specs.Trails.{Ahead, row, element_rows}
 use Rattle.cap_vet.specs.PointerRuns.{Place, row_places, element_places, option_spots, OptionIn}
-use Rattle.cap_vet.specs.declared.pointer_run.PointerRun.{PointerRun}
-use Rattle.cap_vet.specs.declared.looking.Looked.{Looked}
-use Rattle.cap_vet.specs.declared.looking.Looked.TheVariants.{Null, Cap, Object}
+use Rattle.cap_vet.specs.declared.walk.pointer_run.PointerRun.{PointerRun}
+use Rattle.cap_vet.specs.declared.walk.looking.Looked.{Looked}
+use Rattle.cap_vet.specs.declared.walk.looking.Looked.TheVariants.{Null, Cap, Object}
 
 -- the pointer words of the object of shape q at t:b, of this level
 abbrev pub object_places : ℕ → ℕ → ℕ → ℕ → ℕ → List Place

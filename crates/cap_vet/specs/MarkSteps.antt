@@ -4,7 +4,7 @@ use Rattle.cap_spec.specs.Messages.{segment_of}
 use Rattle.cap_spec.specs.Occupying.{IsPlaceOf, Occupies}
 use Rattle.cap_vet.specs.Marks.{Conflicts, MarksAll}
 use Rattle.cap_vet.specs.Taken.{HasRoom, IsTaken}
-use Rattle.cap_vet.specs.declared.marks.Marks.{Marks}
+use Rattle.cap_vet.specs.declared.exclusiveness.marks.Marks.{Marks}
 
 -- there is a bit for each word of the message
 abbrev pub HaveRoom : List (List ℕ) → Marks → Type 0

@@ -8,7 +8,7 @@ use Rattle.cap_spec.specs.declared.StrictRefusal.{StrictRefusal}
 use Rattle.cap_spec.specs.declared.StrictRefusal.TheVariants.{Refused, ManySegments, Pointer}
 use Rattle.cap_vet.specs.PathDemands.{IsFirstLaxOnPath}
 use Rattle.cap_vet.specs.declared.demands.Demands.{Demands}
-use Rattle.cap_vet.specs.declared.strict_turn.LaxPointer.{LaxPointer}
+use Rattle.cap_vet.specs.declared.strictness.strict_turn.LaxPointer.{LaxPointer}
 
 -- none of these pointers is one of them, or this is the first on the path
 abbrev pub KnowsLaxOnPath : List (List ℕ) → List Step → List (List Step) → Option LaxPointer → Type 0

@@ -13,10 +13,10 @@ use Rattle.cap_vet.specs.Finding.{IsFound}
 use Rattle.cap_vet.specs.Handles.{kept_place, view_kind}
 use Rattle.cap_vet.specs.PathDemands.{IsPathFault, MeetsOnPath}
 use Rattle.cap_vet.specs.declared.demands.Demands.{Demands}
-use Rattle.cap_vet.specs.declared.path_start.PathStart.{PathStart}
-use Rattle.cap_vet.specs.declared.view.View.{View}
-use Rattle.cap_vet.specs.declared.way.Way.{Way}
-use Rattle.cap_vet.specs.declared.way.Way.TheVariants.{To, Nowhere, Refused}
+use Rattle.cap_vet.specs.declared.nodes.path_start.PathStart.{PathStart}
+use Rattle.cap_vet.specs.declared.nodes.view.View.{View}
+use Rattle.cap_vet.specs.declared.nodes.way.Way.{Way}
+use Rattle.cap_vet.specs.declared.nodes.way.Way.TheVariants.{To, Nowhere, Refused}
 
 -- The path arrives at something, or at nothing, or is refused.
 abbrev pub IsWay : List (List ℕ) → ℕ → ℕ → List Step → Way → Type 0

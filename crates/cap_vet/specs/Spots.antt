@@ -2,8 +2,8 @@
 use Rattle.std.specs.Prelude.{ℕ, ◌+◌, ◌<◌, ◌≤◌, List, length}
 use Rattle.cap_spec.specs.Messages.{segment_of}
 use Rattle.cap_spec.specs.Paths.{Spot, word, element}
-use Rattle.cap_vet.specs.declared.spot.Spot.{Spot as Kept}
-use Rattle.cap_vet.specs.declared.spot.Spot.TheVariants.{Word, Element}
+use Rattle.cap_vet.specs.declared.nodes.spot.Spot.{Spot as Kept}
+use Rattle.cap_vet.specs.declared.nodes.spot.Spot.TheVariants.{Word, Element}
 
 abbrev pub spot_of : Kept → Spot
 spot_of (Word s w) = word s w

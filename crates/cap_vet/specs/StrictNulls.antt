@@ -9,7 +9,7 @@ use Rattle.cap_spec.specs.declared.Step.{Step}
 use Rattle.cap_spec.proofs.Paths.Walks.{one_reached}
 use Rattle.cap_spec.proofs.Strict.Looking.{near_has_none}
 use Rattle.cap_vet.specs.Stricts.{KnowsLax}
-use Rattle.cap_vet.specs.declared.strict_turn.LaxPointer.{LaxPointer}
+use Rattle.cap_vet.specs.declared.strictness.strict_turn.LaxPointer.{LaxPointer}
 
 -- a path isn't lax if the word that it reaches isn't
 pub not_lax_path : (m : List (List ℕ)) (p : List Step) (level s w : ℕ) → Reaches m p level s w

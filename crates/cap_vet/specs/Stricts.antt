@@ -4,9 +4,9 @@ use Rattle.cap_frame.specs.declared.segments.Segments as segments
 use Rattle.cap_spec.specs.Paths.{IsOneOf}
 use Rattle.cap_spec.specs.Strict.{IsFirstLax, IsLax}
 use Rattle.cap_spec.specs.declared.Step.{Step}
-use Rattle.cap_vet.specs.declared.strict.Strict.{Strict}
-use Rattle.cap_vet.specs.declared.strict_turn.LaxPointer.{LaxPointer}
-use Rattle.cap_vet.specs.declared.vetted.Vetted.{Vetted}
+use Rattle.cap_vet.specs.declared.strictness.strict.Strict.{Strict}
+use Rattle.cap_vet.specs.declared.strictness.strict_turn.LaxPointer.{LaxPointer}
+use Rattle.cap_vet.specs.declared.nodes.vetted.Vetted.{Vetted}
 
 -- the accepted message
 abbrev pub vetted_of : {M : Type 0} {g : segments.Ghosts M} → Strict M g → Vetted M g

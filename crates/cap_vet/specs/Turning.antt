@@ -1,8 +1,8 @@
 -- How a report changes at one pointer word (profile).
 use Rattle.std.specs.Prelude.{ℕ, ◌+◌, max, Option, None, Some}
-use Rattle.cap_vet.specs.declared.pointer_run.PointerRun.{PointerRun}
-use Rattle.cap_vet.specs.declared.looking.Looked.{Looked}
-use Rattle.cap_vet.specs.declared.looking.Looked.TheVariants.{Null, Cap, Object}
+use Rattle.cap_vet.specs.declared.walk.pointer_run.PointerRun.{PointerRun}
+use Rattle.cap_vet.specs.declared.walk.looking.Looked.{Looked}
+use Rattle.cap_vet.specs.declared.walk.looking.Looked.TheVariants.{Null, Cap, Object}
 use Rattle.cap_vet.specs.declared.report.Report.{Report}
 
 -- the first of two places, where there is a first

@@ -7,12 +7,12 @@ use Rattle.cap_vet.specs.Limits.{depth_of, words_of}
 use Rattle.cap_vet.specs.Looking.{IsNotLax}
 use Rattle.cap_vet.specs.Trails.{Ahead}
 use Rattle.cap_vet.specs.Walking.{IsNext, Walks, work_left, work_next}
-use Rattle.cap_vet.specs.declared.pointer_run.PointerRun.{PointerRun}
+use Rattle.cap_vet.specs.declared.walk.pointer_run.PointerRun.{PointerRun}
 use Rattle.cap_vet.specs.declared.limits.Limits.{Limits}
 use Rattle.cap_vet.specs.declared.report.Report.{Report}
-use Rattle.cap_vet.specs.declared.turn.Stopped.{Stopped}
-use Rattle.cap_vet.specs.declared.turn.Stopped.TheVariants.{Refused, ByTurn}
-use Rattle.cap_vet.specs.declared.visiting.Visited.{Visited}
+use Rattle.cap_vet.specs.declared.walk.turn.Stopped.{Stopped}
+use Rattle.cap_vet.specs.declared.walk.turn.Stopped.TheVariants.{Refused, ByTurn}
+use Rattle.cap_vet.specs.declared.walk.visiting.Visited.{Visited}
 
 -- The walk has come this far, and K holds of the paths that it has looked at.
 pub record IsWalking (m : List (List ℕ)) (limits : Limits) (runs : List PointerRun) (report : Report) (K : List (List Step) → Type 0) : Type 0 where

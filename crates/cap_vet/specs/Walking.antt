@@ -10,7 +10,7 @@ use Rattle.cap_spec.specs.declared.Step.{Step}
 use Rattle.cap_vet.specs.Trails.{Ahead, IsTrail}
 use Rattle.cap_vet.specs.Owing.{AreNear, IsCount}
 use Rattle.cap_vet.specs.PointerRuns.{RunIn, all_spots, place_of}
-use Rattle.cap_vet.specs.declared.pointer_run.PointerRun.{PointerRun}
+use Rattle.cap_vet.specs.declared.walk.pointer_run.PointerRun.{PointerRun}
 use Rattle.cap_vet.specs.declared.report.Report.{Report}
 
 -- each run's level is higher than there are runs below it

@@ -12,9 +12,9 @@ ghost use Rattle.std.specs.Prelude.{Err, ◌≡◌, IfErr, IfOk, IsFalse, IsOk};
 
 use crate::lengths::message_words;
 use crate::limits::Limits;
-use crate::strict_vetting::vet_strict;
-use crate::vetted::Vetted;
-use crate::vetting::vet;
+use crate::nodes::vetted::Vetted;
+use crate::strictness::strict_vetting::vet_strict;
+use crate::walk::vetting::vet;
 use cap_frame::Segments;
 use cap_spec::StrictRefusal;
 

@@ -6,7 +6,7 @@ ghost use Rattle.cap_calls.specs.declared.answer.Answer.{Answer};
 ghost use Rattle.cap_calls.specs.declared.answer.Answer.TheVariants.{Good, Overlap};
 ghost use Rattle.cap_calls.specs.declared.report.CallReport.{CallReport};
 ghost use Rattle.cap_spec.specs.declared.Refusal.{Refusal};
-ghost use Rattle.cap_vet.specs.declared.exclusive_room.ExclusiveFault.TheVariants.{Refused};
+ghost use Rattle.cap_vet.specs.declared.exclusiveness.exclusive_room.ExclusiveFault.TheVariants.{Refused};
 ghost use Rattle.std.specs.Prelude.{◌+◌, ◌/◌, ◌≡◌, ◌≤◌, ◌⊎◌, drop, length, ℕ};
 
 use crate::answer::Answer;

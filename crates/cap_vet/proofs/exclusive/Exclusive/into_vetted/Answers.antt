@@ -1,6 +1,0 @@
-use Rattle.cap_vet.specs.Vettings.{message_of}
-use Rattle.cap_vet.proofs.SecondWalk.{disjoint_kept}
-use Rattle.cap_vet.proofs.exclusive.Exclusive.into_vetted.Goals as goal
-
-pub returns-clause-disjoint : goal.returns-clause-disjoint
-returns-clause-disjoint g c = disjoint_kept (g.M.Segments.segments (message_of c.args.self.vetted)) c.args.self.disjoint

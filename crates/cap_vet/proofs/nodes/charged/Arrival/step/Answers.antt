@@ -1,0 +1,45 @@
+use Rattle.std.proofs.Common.{◌+◌, ◌≡◌, ◌∙◌, ap, arith, refl, rules}
+use Rattle.cap_spec.specs.Denoting.{element_levels}
+use Rattle.cap_spec.specs.Messages.{IsMessage}
+use Rattle.cap_spec.specs.Paths.{word, element}
+use Rattle.cap_ptr.specs.Shapes.{charge_of}
+use Rattle.cap_vet.proofs.Charging.{arrives_element, arrives_word, fault_word}
+use Rattle.cap_vet.proofs.Looks.{followed_costs, followed_shallow}
+use Rattle.cap_vet.proofs.nodes.charged.Arrival.step.Goals as goal
+
+pub returns-in-None-clause-none : goal.returns-in-None-clause-none
+returns-in-None-clause-none g c = λ path a h. c.in-None.ensures _ a h.found
+
+pub returns-in-Ok-clause-some : goal.returns-in-Ok-clause-some
+returns-in-Ok-clause-some g c = λ path a h.
+    let m = g.M.Segments.segments c.args.message.now in
+    let message : IsMessage m = search rules in
+    let goes = (rw c.in-Some-Word.field-0-is at c.in-Some-Word.ensures) m a h.found in
+    let r = c.in-Ok.ensures.ok in (
+      word c.in-Some-Word.segment c.in-Some-Word.word,
+      arrives_word m _ _ path a c.args.self.now c.args.step _ _ _ _ c.first_lax.result h goes.0
+          (c.found_of.ensures m _ _ message r.followed)
+          (rw c.charge.ensures (followed_costs m _ _ c.in-Ok.followed r.followed)) (omega (arith, c.charge.ensures, r.within))
+          (followed_shallow m _ _ _ _ c.in-Ok.followed r.followed r.shallow) c.first_lax.ensures,
+    )
+
+pub first_lax-requires-clause-followed : goal.first_lax-requires-clause-followed
+first_lax-requires-clause-followed g c = (charge_of c.in-Ok.followed, followed_costs _ _ _ c.in-Ok.followed c.in-Ok.ensures.ok.followed)
+
+pub returns-in-Err-clause-err : goal.returns-in-Err-clause-err
+returns-in-Err-clause-err g c = λ path a h.
+    let m = g.M.Segments.segments c.args.message.now in
+    let goes = (rw c.in-Some-Word.field-0-is at c.in-Some-Word.ensures) m a h.found in
+    fault_word m _ _ path a c.args.self.now c.args.step _ _ _ h goes.0 (c.in-Err.ensures.err c.args.words c.args.self.now.spent refl h.within)
+
+pub returns-in-Some-Element-clause-some : goal.returns-in-Some-Element-clause-some
+returns-in-Some-Element-clause-some g c = λ path a h.
+    let m = g.M.Segments.segments c.args.message.now in
+    let e = c.in-Some-Element in
+    let goes = (rw e.field-0-is at e.ensures) m a h.found in
+    let level : c.args.self.now.level + c.from.result ≡ c.args.self.now.level + element_levels 1 =
+    ap (λ x. c.args.self.now.level + x) (c.from.ensures ∙ c.levels_of_elements.ensures.value) in (
+      element e.segment e.start e.data_words e.pointers,
+      arrives_element m _ _ path a c.args.self.now _ c.args.step e.segment e.start e.data_words e.pointers h goes.0 goes.1.0 goes.1.1
+          c.element.ensures level refl refl refl,
+    )

@@ -1,0 +1,98 @@
+-- The path is followed step by step.
+use Rattle.std.proofs.Common.{◌∙◌, ◌++◌, ◌∷◌, [], List, ap, arith, refl, subst, sym, append_assoc, append-nil}
+use Rattle.cap_spec.specs.declared.Step.{Step}
+use Rattle.cap_vet.specs.Charging.{Arrives}
+use Rattle.cap_vet.specs.PathWays.{IsWay}
+use Rattle.cap_vet.specs.declared.nodes.way.Way.TheVariants.{To, Nowhere, Refused}
+use Rattle.cap_vet.proofs.Charging.{arrives_low}
+use Rattle.cap_vet.proofs.PathWays.{all_steps, done_steps, step_nowhere, step_refused}
+use Rattle.cap_vet.proofs.StepsGiven.{no_step_given, step_given}
+use Rattle.cap_vet.proofs.nodes.getting.along.Goals as goal
+
+pub loop-step-init : goal.loop-step-init
+loop-step-init g c =
+    let m = g.M.Segments.segments c.args.message.now in (
+      [],
+      λ first a h. (a, subst (λ (ss : List Step). Arrives m c.args.words c.args.depth ss a c.args.from) (sym (append-nil first)) h),
+      λ steps left. (steps, refl, left),
+    )
+
+pub step-requires-clause-arrived : goal.step-requires-clause-arrived
+step-requires-clause-arrived g c =
+    let r = c.requires.arrived in
+    let h = c.loop-step.invariant in
+    let x = h.1 r.0 r.1 r.2 in
+    (r.0 ++ h.0, x.0, x.1)
+
+pub step-requires-clause-levels : goal.step-requires-clause-levels
+step-requires-clause-levels g c =
+    let r = c.requires.arrived in
+    let h = c.loop-step.invariant in
+    let x = h.1 r.0 r.1 r.2 in
+    let l = (arrives_low _ _ _ (r.0 ++ h.0) x.0 _ x.1).0 in
+    omega (arith, l)
+
+pub step-requires-clause-few : goal.step-requires-clause-few
+step-requires-clause-few g c =
+    let r = c.requires.arrived in
+    let h = c.loop-step.invariant in
+    let x = h.1 r.0 r.1 r.2 in
+    let l = (arrives_low _ _ _ (r.0 ++ h.0) x.0 _ x.1).1 in
+    omega (arith, l)
+
+pub loop-step-preserved : goal.loop-step-preserved
+loop-step-preserved g c =
+    let m = g.M.Segments.segments c.args.message.now in
+    let h = c.loop-step.invariant in
+    let step = c.in-Some.step in (
+      h.0 ++ step ∷ [],
+      λ first a arrives.
+          let x = h.1 first a arrives in
+          let r = rw c.in-Ok-Some.field-0-is at (c.in-Ok-Some.ensures.some (first ++ h.0) x.0 x.1) in
+          (r.0, subst (λ (ss : List Step). Arrives m c.args.words c.args.depth ss r.0 c.in-Ok-Some.next) (append_assoc first h.0 (step ∷ [])) r.1),
+      λ steps left.
+          let k = h.2 steps left in
+          let n = step_given g.S.StepSource.gives c.loop-step.left c.next_step.new.self c.next_step.result step k.0 c.in-Some.is
+          c.next_step.ensures.some c.next_step.ensures.none k.2 in
+          (n.0, k.1 ∙ ap (λ (ss : List Step). h.0 ++ ss) n.1 ∙ sym (append_assoc h.0 (step ∷ []) n.0), n.2),
+    )
+
+pub returns-in-Ok-None-clause-way : goal.returns-in-Ok-None-clause-way
+returns-in-Ok-None-clause-way g c = λ first steps a arrives left.
+    let m = g.M.Segments.segments c.args.message.now in
+    let h = c.loop-step.invariant in
+    let step = c.in-Some.step in
+    let x = h.1 first a arrives in
+    let k = h.2 steps left in
+    let n = step_given g.S.StepSource.gives c.loop-step.left c.next_step.new.self c.next_step.result step k.0 c.in-Some.is
+    c.next_step.ensures.some c.next_step.ensures.none k.2 in
+    let none = rw c.in-Ok-None.field-0-is at (c.in-Ok-None.ensures.none (first ++ h.0) x.0 x.1) in
+    subst (λ (ss : List Step). IsWay m c.args.words c.args.depth ss (Nowhere c.loop-step.at)) (all_steps first h.0 steps k.0 n.0 step k.1 n.1)
+    (step_nowhere m c.args.words c.args.depth (first ++ h.0) n.0 step x.0 c.loop-step.at x.1 none)
+
+pub returns-in-Err-clause-way : goal.returns-in-Err-clause-way
+returns-in-Err-clause-way g c = λ first steps a arrives left.
+    let m = g.M.Segments.segments c.args.message.now in
+    let h = c.loop-step.invariant in
+    let step = c.in-Some.step in
+    let x = h.1 first a arrives in
+    let k = h.2 steps left in
+    let n = step_given g.S.StepSource.gives c.loop-step.left c.next_step.new.self c.next_step.result step k.0 c.in-Some.is
+    c.next_step.ensures.some c.next_step.ensures.none k.2 in
+    subst (λ (ss : List Step). IsWay m c.args.words c.args.depth ss (Refused c.in-Err.refusal)) (all_steps first h.0 steps k.0 n.0 step k.1 n.1)
+    (step_refused m c.args.words c.args.depth (first ++ h.0) n.0 step c.in-Err.refusal (c.in-Err.ensures.err (first ++ h.0) x.0 x.1))
+
+pub returns-clause-way : goal.returns-clause-way
+returns-clause-way g c = λ first steps a arrives left.
+    let m = g.M.Segments.segments c.args.message.now in
+    let h = c.loop-step.invariant in
+    let x = h.1 first a arrives in
+    let k = h.2 steps left in
+    let none = no_step_given g.S.StepSource.gives c.loop-step.left c.next_step.new.self c.next_step.result k.0 c.in_default.is c.next_step.ensures.some k.2 in
+    subst (λ (ss : List Step). IsWay m c.args.words c.args.depth ss (To c.loop-step.at)) (done_steps first h.0 steps k.0 k.1 none) (x.0, x.1)
+
+pub returns-clause-found : goal.returns-clause-found
+returns-clause-found g c =
+    let r = c.requires.arrived in
+    let x = c.loop-step.invariant.1 r.0 r.1 r.2 in
+    (x.0, x.1.found)

@@ -1,0 +1,13 @@
+-- A path is followed from the root on.
+use Rattle.std.proofs.Common.{[]}
+use Rattle.cap_spec.specs.Paths.{word}
+use Rattle.cap_vet.proofs.nodes.getting.follow_path.Goals as goal
+
+pub along-requires : goal.along-requires
+along-requires g c = record { arrived = ([], word 0 0, c.in-Ok.ensures.ok) }
+
+pub returns-in-Ok-clause-way : goal.returns-in-Ok-clause-way
+returns-in-Ok-clause-way g c = λ steps left. c.along.ensures.way [] steps (word 0 0) c.in-Ok.ensures.ok left
+
+pub returns-in-Err-clause-way : goal.returns-in-Err-clause-way
+returns-in-Err-clause-way g c = λ steps left. c.in-Err.ensures.err steps

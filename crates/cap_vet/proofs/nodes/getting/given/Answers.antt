@@ -1,0 +1,31 @@
+-- What is given where the path leads.
+use Rattle.std.proofs.Common.{refl, rules}
+use Rattle.cap_spec.specs.Messages.{IsMessage}
+use Rattle.cap_vet.proofs.PathWays.{nothing_given, nowhere_fault_given, refusal_given, something_given, to_fault_given}
+use Rattle.cap_vet.proofs.nodes.getting.given.Goals as goal
+
+pub returns-in-Some-clause-given : goal.returns-in-Some-clause-given
+returns-in-Some-clause-given g c = λ words depth path h.
+    let m = g.M.Segments.segments c.args.message.now in
+    let message : IsMessage m = search rules in
+    to_fault_given c.args.demands m words depth path c.in-To.at _ message.few (rw c.in-To.is at h) c.in-Some.ensures.some
+
+pub returns-in-None-clause-given : goal.returns-in-None-clause-given
+returns-in-None-clause-given g c = λ words depth path h.
+    let m = g.M.Segments.segments c.args.message.now in
+    something_given c.args.demands m words depth path c.in-To.at _ refl (rw c.in-To.is at h) c.in-None.ensures.none
+
+pub returns-in-Some-strict_fault-clause-given : goal.returns-in-Some-strict_fault-clause-given
+returns-in-Some-strict_fault-clause-given g c = λ words depth path h.
+    let m = g.M.Segments.segments c.args.message.now in
+    let message : IsMessage m = search rules in
+    nowhere_fault_given c.args.demands m words depth path c.in-Nowhere.at _ message.few (rw c.in-Nowhere.is at h) c.in-Some-strict_fault.ensures.some
+
+pub returns-in-None-strict_fault-clause-given : goal.returns-in-None-strict_fault-clause-given
+returns-in-None-strict_fault-clause-given g c = λ words depth path h.
+    let m = g.M.Segments.segments c.args.message.now in
+    nothing_given c.args.demands m words depth path c.in-Nowhere.at (rw c.in-Nowhere.is at h) c.in-None-strict_fault.ensures.none
+
+pub returns-in-Refused-clause-given : goal.returns-in-Refused-clause-given
+returns-in-Refused-clause-given g c = λ words depth path h.
+    refusal_given c.args.demands _ words depth path c.in-Refused.refusal (rw c.in-Refused.is at h)

@@ -1,0 +1,49 @@
+-- The path goes on from the first steps.
+use Rattle.std.proofs.Common.{◌++◌, ◌∷◌, [], subst, sym}
+use Rattle.cap_vet.specs.PathWays.{IsWay}
+use Rattle.cap_vet.specs.declared.nodes.way.Way.{Way}
+use Rattle.cap_vet.proofs.PathWays.{given_after, nowhere_longer, refused_longer, step_nowhere, step_on, step_refused}
+use Rattle.cap_vet.proofs.nodes.path_start.PathStart.get.Goals as goal
+use Rattle.cap_vet.proofs.nodes.path_start.PathStart.get.Goals.{in-To+in-Ok-Some, in-To+in-Ok-None, in-To+in-Err, in-Nowhere, in-Refused}
+
+pub step-requires-clause-arrived : goal.step-requires-clause-arrived
+step-requires-clause-arrived g c =
+    let r = c.requires in
+    let h = rw c.in-To.is at r.4.way in
+    (r.3, h.0, h.1)
+
+pub along-requires : goal.along-requires
+along-requires g c =
+    let r = c.requires in
+    let h = rw c.in-To.is at r.4.way in
+    let next = rw c.in-Ok-Some.field-0-is at (c.in-Ok-Some.ensures.some r.3 h.0 h.1) in
+    record { arrived = (r.3 ++ c.args.step ∷ [], next.0, next.1) }
+
+pub returns-clause-given : goal.returns-clause-given
+returns-clause-given g c = λ steps left.
+    let start = c.args.self.now in
+    let step = c.args.step in
+    let m = g.M.Segments.segments start.message.now in
+    given_after m start step steps c.match-self.way' c.given.result c.given.ensures.given
+    (λ first leads. elim c.match-self.branch [
+      | in-To+in-Ok-Some w ↦ (
+          let h = rw w.in-To.is at leads in
+          let next = rw w.in-Ok-Some.field-0-is at (w.in-Ok-Some.ensures.some first h.0 h.1) in
+          subst (λ (x : Way). IsWay m start.words start.depth (first ++ step ∷ steps) x) (sym w.way'-is)
+          (step_on m start.words start.depth first steps step w.along.result (w.along.ensures.way (first ++ step ∷ []) steps next.0 next.1 left)))
+      | in-To+in-Ok-None w ↦ (
+          let h = rw w.in-To.is at leads in
+          let none = rw w.in-Ok-None.field-0-is at (w.in-Ok-None.ensures.none first h.0 h.1) in
+          subst (λ (x : Way). IsWay m start.words start.depth (first ++ step ∷ steps) x) (sym w.way'-is)
+          (step_nowhere m start.words start.depth first steps step h.0 w.in-To.at h.1 none))
+      | in-To+in-Err w ↦ (
+          let h = rw w.in-To.is at leads in
+          subst (λ (x : Way). IsWay m start.words start.depth (first ++ step ∷ steps) x) (sym w.way'-is)
+          (step_refused m start.words start.depth first steps step w.in-Err.refusal (w.in-Err.ensures.err first h.0 h.1)))
+      | in-Nowhere w ↦ (
+          subst (λ (x : Way). IsWay m start.words start.depth (first ++ step ∷ steps) x) (sym w.way'-is)
+          (nowhere_longer m start.words start.depth first (step ∷ steps) w.in-Nowhere.at (rw w.in-Nowhere.is at leads)))
+      | in-Refused w ↦ (
+          subst (λ (x : Way). IsWay m start.words start.depth (first ++ step ∷ steps) x) (sym w.way'-is)
+          (refused_longer m start.words start.depth first (step ∷ steps) w.in-Refused.refusal (rw w.in-Refused.is at leads)))
+    ])

@@ -1,0 +1,52 @@
+use Rattle.std.proofs.Common.{◌≤◌, Err, ap, arith, length}
+use Rattle.cap_spec.proofs.Disjoint.Overlaps.{none_of_disjoint}
+use Rattle.cap_vet.specs.Taken.{marks_of}
+use Rattle.cap_vet.specs.declared.exclusiveness.exclusive_room.ExclusiveFault.TheVariants.{NoRoom, Overlap}
+use Rattle.cap_vet.proofs.ExclusiveFaults.{no_exclusive_fault, one_exclusive_fault}
+use Rattle.cap_vet.proofs.Keeping.{vetted_kept}
+use Rattle.cap_vet.proofs.nodes.vetted.Vetted.into_exclusive_in.Goals as goal
+
+pub returns-then-marks-needed-clause-err : goal.returns-then-marks-needed-clause-err
+returns-then-marks-needed-clause-err g c = (
+  vetted_kept _ _ c.args.self.accepted,
+  c.if-marks-needed.true,
+  c.numbers_for-needed.ensures.exact,
+)
+
+pub returns-then-marks-needed-clause-refuses : goal.returns-then-marks-needed-clause-refuses
+returns-then-marks-needed-clause-refuses g c = λ x h.
+    ap Err (one_exclusive_fault (g.M.Segments.segments c.args.self.message.now) 268435456 256 (length c.args.marks.now)
+    (NoRoom c.numbers_for-needed.result c.args.self.report) x
+    (vetted_kept _ _ c.args.self.accepted, c.if-marks-needed.true, c.numbers_for-needed.ensures.exact) h)
+
+pub mark_cleared-requires-clause-accepted : goal.mark_cleared-requires-clause-accepted
+mark_cleared-requires-clause-accepted g c =
+    (c.args.self.report, rw (c.greatest.ensures.words, c.greatest.ensures.depth) (vetted_kept _ _ c.args.self.accepted))
+
+pub returns-in-Ok-clause-refuses : goal.returns-in-Ok-clause-refuses
+returns-in-Ok-clause-refuses g c =
+    let room : marks_of (g.M.Segments.segments c.args.self.message.now) ≤ length c.args.marks.now =
+    omega (arith, c.numbers_for-needed.ensures.exact, c.if-marks-needed.false) in
+    λ x h. absurd (no_exclusive_fault _ _ _ _ c.args.self.report x (vetted_kept _ _ c.args.self.accepted)
+    c.in-Ok.ensures.ok room h)
+
+pub returns-in-Err-clause-err : goal.returns-in-Err-clause-err
+returns-in-Err-clause-err g c = (
+  c.args.self.report,
+  vetted_kept _ _ c.args.self.accepted,
+  omega (arith, c.numbers_for-needed.ensures.exact, c.if-marks-needed.false),
+  c.in-Err.ensures.err,
+)
+
+pub returns-in-Err-clause-accepts : goal.returns-in-Err-clause-accepts
+returns-in-Err-clause-accepts g c = λ disjoint room. absurd
+    (none_of_disjoint _ disjoint c.in-Err.ensures.err.path c.in-Err.ensures.err.overlaps)
+
+pub returns-in-Err-clause-refuses : goal.returns-in-Err-clause-refuses
+returns-in-Err-clause-refuses g c =
+    let room : marks_of (g.M.Segments.segments c.args.self.message.now) ≤ length c.args.marks.now =
+    omega (arith, c.numbers_for-needed.ensures.exact, c.if-marks-needed.false) in
+    λ x h. ap Err (one_exclusive_fault (g.M.Segments.segments c.args.self.message.now) 268435456 256
+    (length c.args.marks.now)
+    (Overlap c.in-Err.overlap.segment c.in-Err.overlap.word c.in-Err.overlap.pointers) x
+    (c.args.self.report, vetted_kept _ _ c.args.self.accepted, room, c.in-Err.ensures.err) h)

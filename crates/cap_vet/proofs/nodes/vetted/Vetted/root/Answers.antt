@@ -1,0 +1,15 @@
+use Rattle.std.proofs.Common.{rules}
+use Rattle.cap_spec.specs.Messages.{IsMessage}
+use Rattle.cap_vet.proofs.Nodes.{root_comes, root_inside, root_node}
+use Rattle.cap_vet.proofs.nodes.vetted.Vetted.root.Goals as goal
+
+pub invariant_of-result : goal.invariant_of-result
+invariant_of-result g c =
+    let message : IsMessage (g.M.Segments.segments c.args.self.now.message.now) = search rules in record {
+      exists = message.some;
+      inside = root_inside _ _ c.args.self.now.accepted;
+      stands = root_node _ _ c.args.self.now.accepted;
+    }
+
+pub returns-clause-comes : goal.returns-clause-comes
+returns-clause-comes g c = root_comes (g.M.Segments.segments c.args.self.now.message.now) (root_inside _ _ c.args.self.now.accepted)

@@ -1,0 +1,12 @@
+use Rattle.std.proofs.Common.{◌∙◌, ◌==◌, ℕ, ap, Some}
+use Rattle.cap_vet.proofs.Views.{shown_bit, shown_no_bit}
+use Rattle.cap_vet.proofs.nodes.view.View.bit.Goals as goal
+
+pub returns-in_err-word : goal.returns-in_err-word
+returns-in_err-word g c = c.from_residual.ensures ∙ shown_no_bit (g.M.Segments.segments c.args.self.now.message.now) _ _
+    _ _ _ _ c.struct_word.result c.in-Struct.is c.struct_word.ensures c.in_err-word.was
+
+pub returns : goal.returns
+returns g c =
+    ap (λ (x : ℕ). Some (x == 1)) c.bits.ensures
+    ∙ shown_bit (g.M.Segments.segments c.args.self.now.message.now) _ _ _ _ _ _ _ c.struct_word.result c.in-Struct.is c.struct_word.ensures c.in_ok-word.was

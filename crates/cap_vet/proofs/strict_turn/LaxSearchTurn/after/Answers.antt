@@ -1,6 +1,0 @@
-use Rattle.cap_vet.proofs.Laxness.{knows_on}
-use Rattle.cap_vet.proofs.strict_turn.LaxSearchTurn.after.Goals as goal
-
-pub returns-else-may_be_lax-clause-ok : goal.returns-else-may_be_lax-clause-ok
-returns-else-may_be_lax-clause-ok g c = λ seen a l k.
-    knows_on _ seen a c.args.s c.args.w c.args.pointers _ l (c.requires.strict c.if-may_be_lax.false) k

@@ -1,0 +1,54 @@
+use Rattle.std.proofs.Common.{Option, None, Some, arith, rules, subst, sym}
+use Rattle.std.specs.Prelude.{◌<◌, ◌≢◌, IfSome}
+use Rattle.cap_spec.specs.Messages.{IsMessage}
+use Rattle.cap_spec.specs.Pointers.{kind}
+use Rattle.cap_spec.proofs.Frames.Messages.{one_word}
+use Rattle.cap_spec.proofs.Pointers.Following.{leads-near}
+use Rattle.cap_vet.specs.Looking.{IsObjectWord}
+use Rattle.cap_vet.proofs.walk.looking.described_within.Goals as goal
+
+if_some : {A B : Type 0} (o : Option A) → B → IfSome o (λ _. B)
+if_some None b = tt
+if_some (Some x) b = b
+
+pub returns-in-Some-clause-looked : goal.returns-in-Some-clause-looked
+returns-in-Some-clause-looked g c = λ s w stands.
+    let m = g.M.Segments.segments c.args.message.now in
+    let q = c.word-word.result in
+    c.row_within.ensures m s w c.args.at q (c.in-Some.ensures.row m c.args.segment c.word-word.ensures (sym c.len.ensures))
+    (stands q c.word-word.ensures c.in-Some.ensures.plain.0)
+
+pub target_within-requires-clause-found : goal.target_within-requires-clause-found
+target_within-requires-clause-found g c =
+    let m = g.M.Segments.segments c.args.message.now in
+    let message : IsMessage m = search rules in
+    let (s, w, stands) = c.requires.stands in
+    let list = c.in_ok-list.ensures in
+    let f = list.found s w (stands c.word-word.result c.word-word.ensures (omega (arith, list.list))) in
+    (m, s, w, f.0, f.1, message, f.2)
+
+pub returns-clause-looked : goal.returns-clause-looked
+returns-clause-looked g c = λ s w stands.
+    let m = g.M.Segments.segments c.args.message.now in
+    let list = c.in_ok-list.ensures in
+    c.target_within.ensures m s w (list.found s w (stands c.word-word.result c.word-word.ensures (omega (arith, list.list))))
+
+pub returns-in-Some-clause-object : goal.returns-in-Some-clause-object
+returns-in-Some-clause-object g c =
+    let m = g.M.Segments.segments c.args.message.now in
+    let word = c.word-word.result in
+    let plain = c.in-Some.ensures.plain.0 in
+    let row = c.in-Some.ensures.row m c.args.segment c.word-word.ensures (sym c.len.ensures) in
+    let says = (leads-near m c.args.segment c.args.at 0 _ row.finds.leads word c.word-word.ensures (omega (arith, plain))).1 in
+    let object : IsObjectWord m c.args.segment c.args.at = λ q has.
+    subst (λ u. (kind u < 2) × (u ≢ 0)) (one_word m c.args.segment c.args.at word q c.word-word.ensures has) (says.0, says.1) in
+    if_some _ object
+
+pub returns-clause-object : goal.returns-clause-object
+returns-clause-object g c =
+    let m = g.M.Segments.segments c.args.message.now in
+    let list = c.in_ok-list.ensures.list in
+    let object : IsObjectWord m c.args.segment c.args.at = λ q has.
+    subst (λ u. (kind u < 2) × (u ≢ 0)) (one_word m c.args.segment c.args.at c.word-word.result q c.word-word.ensures has)
+    (omega (arith, list), λ e. omega (arith, list, e)) in
+    if_some _ object

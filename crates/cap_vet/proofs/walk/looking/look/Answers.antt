@@ -1,0 +1,30 @@
+use Rattle.std.proofs.Common.{arith, sym, ◌≤◌, ◌+◌}
+use Rattle.cap_vet.specs.Levels.{levels_of}
+use Rattle.cap_vet.proofs.Looks.{looks_object}
+use Rattle.cap_vet.proofs.walk.looking.look.Goals as goal
+
+pub returns-in-Null-clause-ok : goal.returns-in-Null-clause-ok
+returns-in-Null-clause-ok g c =
+    let h = rw c.in-Null.is at c.in_ok-followed.ensures.ok in
+    (rw c.from-in-Null.ensures h.followed, omega (arith, c.from-in-Null.ensures, c.words.ensures.value, c.requires.spent, h.within))
+
+pub returns-in-Cap-clause-ok : goal.returns-in-Cap-clause-ok
+returns-in-Cap-clause-ok g c =
+    let h = rw c.in-Cap.is at c.in_ok-followed.ensures.ok in
+    let lead = rw (sym c.from-in-Cap.ensures) at h.followed in
+    ((_, lead), omega (arith, c.from-in-Cap.ensures, c.words.ensures.value, c.requires.spent, h.within))
+
+pub returns-in-Target-clause-ok : goal.returns-in-Target-clause-ok
+returns-in-Target-clause-ok g c =
+    let h = rw c.in-Target.is at c.in_ok-followed.ensures.ok in
+    let f = h.followed in
+    let shallow : c.args.level + levels_of c.in-Target.target.shape ≤ c.depth.result = omega (arith, c.from.ensures, h.shallow) in (
+      _,
+      _,
+      _,
+      f.0,
+      f.1,
+      looks_object _ _ _ _ _ _ _ f.0 f.1 _ c.in-Target.target c.frame_of.result f.2 c.levels_taken.ensures.value (omega (arith, c.depth.ensures.value, shallow))
+          (omega (arith, c.words.ensures.value, h.within)) c.requires.spent (c.frame_of.ensures.places _ _ _ f.0 f.1 f.2)
+          (c.frame_of.ensures.inside _ _ _ f.0 f.1 f.2) (c.frame_of.ensures.rises _ (omega (arith, c.depth.ensures.value, shallow))),
+    )

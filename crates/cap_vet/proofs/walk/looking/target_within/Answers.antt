@@ -1,0 +1,19 @@
+use Rattle.std.proofs.Common.{arith, ◌≤◌, ◌+◌}
+use Rattle.cap_vet.specs.Levels.{levels_of}
+use Rattle.cap_vet.proofs.Looks.{looks_object}
+use Rattle.cap_vet.proofs.walk.looking.target_within.Goals as goal
+
+pub returns : goal.returns
+returns c = λ m s w f.
+    let x = c.args.target.now in
+    let shallow : c.args.level + levels_of x.shape ≤ c.depth.result = omega (arith, c.if-deepest-depth.false, c.levels_taken.ensures.value) in (
+      _,
+      _,
+      _,
+      f.0,
+      f.1,
+      looks_object m _ _ c.args.spent s w c.args.level f.0 f.1 _ x c.frame_of.result f.2 c.levels_taken.ensures.value
+          (omega (arith, c.depth.ensures.value, shallow)) (omega (arith, c.words.ensures.value, c.if-target-words.false)) c.requires.spent
+          (c.frame_of.ensures.places m s w f.0 f.1 f.2) (c.frame_of.ensures.inside m s w f.0 f.1 f.2)
+          (c.frame_of.ensures.rises _ (omega (arith, c.depth.ensures.value, shallow))),
+    )

@@ -1,0 +1,44 @@
+use Rattle.std.proofs.Common.{ℕ, ◌+◌, ◌≡◌, ◌∙◌, max, Bool, true, false, not, Option, Some, None, is_some, refl, ap, arith}
+use Rattle.cap_vet.specs.Turning.{added, or_place}
+use Rattle.cap_vet.specs.declared.walk.pointer_run.PointerRun.{PointerRun}
+use Rattle.cap_vet.specs.declared.walk.looking.Looked.TheVariants.{Cap, Object}
+use Rattle.cap_vet.specs.declared.report.Report.{Report}
+use Rattle.cap_vet.proofs.walk.visiting.add.Goals as goal
+
+first_place : (o : Option (ℕ × ℕ)) (s w : ℕ) (none : Bool) → is_some o ≡ not none → none ≡ true → Some (s, w) ≡ or_place o s w
+first_place None s w none e f = refl
+first_place (Some x) s w none e f = let y : true ≡ false = e ∙ ap not f in absurd (cc y)
+
+later_place : (o : Option (ℕ × ℕ)) (s w : ℕ) (none : Bool) → is_some o ≡ not none → none ≡ false → o ≡ or_place o s w
+later_place None s w none e f = let y : false ≡ true = e ∙ ap not f in absurd (cc y)
+later_place (Some x) s w none e f = refl
+
+cap_added : (r : Report) (s w cost : ℕ) (place : Option (ℕ × ℕ)) → place ≡ or_place r.first_cap s w
+    → ◌≡◌ {A = Report} record { charge = r.charge + cost; depth = r.depth; pointers = r.pointers + 1; caps = r.caps + 1; first_cap = place }
+    (added r s w (Cap cost))
+cap_added r s w cost place e = rw e refl
+
+object_added : (r : Report) (s w cost deepest depth : ℕ) (run : Option PointerRun) → depth ≡ max r.depth deepest
+    → ◌≡◌ {A = Report} record { charge = r.charge + cost; depth = depth; pointers = r.pointers + 1; caps = r.caps; first_cap = r.first_cap }
+    (added r s w (Object cost deepest run))
+object_added r s w cost deepest depth run e = rw e refl
+
+pub returns-in-Null-clause-report : goal.returns-in-Null-clause-report
+returns-in-Null-clause-report c = rw c.in-Null.is refl
+
+pub returns-then-is_none-clause-report : goal.returns-then-is_none-clause-report
+returns-then-is_none-clause-report c =
+    let r = c.args.report.now in
+    rw c.in-Cap.is (cap_added r c.args.s c.args.w c.in-Cap.cost (Some (c.args.s, c.args.w))
+    (first_place r.first_cap c.args.s c.args.w c.is_none.result c.is_none.ensures c.if-is_none.true))
+
+pub returns-else-is_none-clause-report : goal.returns-else-is_none-clause-report
+returns-else-is_none-clause-report c =
+    let r = c.args.report.now in
+    rw c.in-Cap.is (cap_added r c.args.s c.args.w c.in-Cap.cost r.first_cap
+    (later_place r.first_cap c.args.s c.args.w c.is_none.result c.is_none.ensures c.if-is_none.false))
+
+pub returns-then-report-deepest-clause-report : goal.returns-then-report-deepest-clause-report
+returns-then-report-deepest-clause-report c =
+    rw c.in-Object.is (object_added c.args.report.now c.args.s c.args.w c.in-Object.cost c.in-Object.deepest c.in-Object.deepest c.in-Object.below
+    (omega (arith, c.if-report-deepest.true)))

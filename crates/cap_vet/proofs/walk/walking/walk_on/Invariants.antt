@@ -1,0 +1,15 @@
+use Rattle.std.specs.Prelude.{◌++◌, ◌<◌, [], ◌∷◌, length}
+use Rattle.cap_vet.specs.Limits.{words_of}
+use Rattle.cap_vet.specs.Turns.{IsWalking}
+use Rattle.cap_vet.specs.Walking.{work_left}
+use Rattle.cap_vet.proofs.walk.walking.walk_on.Given as goal
+
+abbrev pub invariant-walk : goal.invariant-walk
+invariant-walk g l = record {
+  room : length l.stack.items < g.row.N;
+  walking : IsWalking (g.M.Segments.segments l.message) l.limits (l.stack.items ++ l.run ∷ []) l.report
+      (g.T.Turn.knows l.turn (g.M.Segments.segments l.message));
+}
+
+abbrev pub decreases-walk : goal.decreases-walk
+decreases-walk g l = work_left (words_of l.limits) (l.stack.items ++ l.run ∷ []) l.report

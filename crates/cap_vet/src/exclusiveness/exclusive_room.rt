@@ -1,0 +1,160 @@
+//! The verdict of a message of which no word may be used twice, with the caller's buffer for the
+//! marks.
+
+ghost use Rattle.cap_spec.specs.Occupying.{IsDisjoint, empty_count};
+ghost use Rattle.cap_spec.specs.Frames.{sizes_of};
+ghost use Rattle.cap_spec.specs.Tree.{Tree};
+ghost use Rattle.cap_spec.specs.declared.Refusal.{Refusal};
+ghost use Rattle.cap_vet.specs.Exclusives.{IsExclusiveFault, KeepsRoom, OverlapsFirst, vetted_of};
+ghost use Rattle.cap_vet.specs.Limits.{depth_of, words_of};
+ghost use Rattle.cap_vet.specs.Reports.{IsAccepted, IsReport};
+ghost use Rattle.cap_vet.specs.Taken.{marks_of, start_of};
+ghost use Rattle.cap_vet.specs.Vettings.{message_of, report_of};
+ghost use Rattle.cap_vet.specs.declared.exclusiveness.exclusive_room.ExclusiveFault.{ExclusiveFault};
+ghost use Rattle.cap_vet.specs.declared.report.Report.{Report};
+ghost use Rattle.std.specs.Prelude.{Err, ◌+◌, ◌*◌, ◌<◌, ◌≡◌, ◌≤◌, IfErr, IfOk, IsErrOf, IsOk, drop, length, sum, ℕ};
+
+use crate::exclusiveness::exclusive::Exclusive;
+use crate::exclusiveness::exclusive_vetting::{Overlap, mark_message};
+use crate::exclusiveness::marks::numbers_for;
+use crate::limits::Limits;
+use crate::nodes::vetted::Vetted;
+use crate::report::Report;
+use crate::walk::vetting::vet;
+use cap_frame::Segments;
+use cap_spec::Refusal;
+
+/// Why a message isn't found exclusive with the caller's buffer.
+#[derive(Clone, Copy, Debug, PartialEq, Eq, Drop)]
+pub enum ExclusiveFault {
+    /// It isn't accepted at all.
+    Refused(Refusal),
+    /// It is accepted, and the buffer is too small.
+    NoRoom {
+        /// How many numbers the marks take.
+        needed: usize,
+        /// The report of `vet`.
+        report: Report,
+    },
+    /// It is accepted, and a pointer uses a word twice, the root word, or a word that an earlier pointer
+    /// uses.
+    Overlap {
+        /// The segment of the first such pointer in preorder.
+        segment: u32,
+        /// Its word in that segment.
+        word: u32,
+        /// How many pointer words were looked at, that one included.
+        pointers: u64,
+    },
+}
+
+/// Vets a message as `vet_exclusive` does, with the marks in the caller's buffer `room`. Allocates
+/// nothing. The buffer may hold anything. Its first [`crate::marks_for`] numbers, for the words of
+/// the message, are cleared and used. The numbers after these stay as they are.
+///
+/// # Errors
+///
+/// - [`ExclusiveFault::Refused`]: `vet` refuses the message. The buffer is as it was.
+/// - [`ExclusiveFault::NoRoom`]: the message is accepted, and the buffer has fewer numbers than the
+///   marks take. The buffer is as it was.
+/// - [`ExclusiveFault::Overlap`]: a second walk found a pointer that overlaps. It is the first in
+///   preorder that uses a word which is used already.
+pub fn vet_exclusive_in<'m, M: Segments>(
+    message: &'m M,
+    limits: Limits,
+    marks: &mut [u64],
+) -> Result<Exclusive<'m, M>, ExclusiveFault>
+    ensures ok { let m = M.segments message.now in IfOk result (λ e.
+        IsAccepted m (words_of limits) (depth_of limits) (report_of (vetted_of e))
+        × IsDisjoint m × (marks_of m ≤ length marks.old)) }
+    ensures message { IfOk result (λ e. message_of (vetted_of e) ≡ message.now) }
+
+    // Without that of elements which take no bits or no words, the charge is less than the words of
+    // all segments.
+    ensures bound { let m = M.segments message.now in
+        IfOk result (λ e. let r = report_of (vetted_of e) in
+        (t : Tree) × IsReport m (words_of limits) (depth_of limits) r t
+        × (r.charge < sum (sizes_of m) + empty_count t)) }
+    ensures err { let m = M.segments message.now in
+        IfErr result (IsExclusiveFault m (words_of limits) (depth_of limits) (length marks.old)) }
+
+    // The other direction.
+    ensures accepts { let m = M.segments message.now in (report : Report) →
+        IsAccepted m (words_of limits) (depth_of limits) report → IsDisjoint m →
+        marks_of m ≤ length marks.old → IsOk result }
+    ensures refuses { let m = M.segments message.now in (fault : ExclusiveFault) →
+        IsExclusiveFault m (words_of limits) (depth_of limits) (length marks.old) fault →
+        result ≡ Err fault }
+
+    // The numbers of the buffer after the call.
+    ensures rest { let n = marks_of (M.segments message.now) in
+        drop n marks.new ≡ drop n marks.old }
+    ensures kept { IfErr result (λ fault. KeepsRoom fault marks.old marks.new) }
+{
+    match vet(message, limits) {
+        Ok(vetted) => vetted.into_exclusive_in(marks),
+        Err(refusal) => Err(ExclusiveFault::Refused(refusal)),
+    }
+}
+
+impl<'m, M: Segments> Vetted<'m, M> {
+    /// As [`into_exclusive`](Vetted::into_exclusive), with the marks in the caller's buffer, as for
+    /// [`crate::vet_exclusive_in`]. Walks the message once more. Allocates nothing.
+    ///
+    /// # Errors
+    ///
+    /// [`ExclusiveFault::Refused`] is never returned, since the message is accepted.
+    ///
+    /// - [`ExclusiveFault::NoRoom`]: the buffer has fewer numbers than the marks take. It is as it
+    ///   was.
+    /// - [`ExclusiveFault::Overlap`]: a pointer overlaps. It is the first in preorder that uses a
+    ///   word which is used already.
+    pub fn into_exclusive_in(self, marks: &mut [u64]) -> Result<Exclusive<'m, M>, ExclusiveFault>
+        ensures ok { let m = M.segments (message_of self.entry) in
+            IfOk result (λ e. IsDisjoint m × (marks_of m ≤ length marks.old)) }
+        ensures value { IfOk result (λ e. vetted_of e ≡ self.entry) }
+        ensures err { let m = M.segments (message_of self.entry) in
+            IfErr result (IsExclusiveFault m 268435456 256 (length marks.old)) }
+        ensures not_refused { (r : Refusal) → ¬ IsErrOf result (ExclusiveFault.Refused r) }
+
+        // The other direction.
+        ensures accepts { let m = M.segments (message_of self.entry) in
+            IsDisjoint m → marks_of m ≤ length marks.old → IsOk result }
+        ensures refuses { let m = M.segments (message_of self.entry) in (fault : ExclusiveFault) →
+            IsExclusiveFault m 268435456 256 (length marks.old) fault → result ≡ Err fault }
+
+        // The numbers of the buffer after the call.
+        ensures rest { let n = marks_of (M.segments (message_of self.entry)) in
+            drop n marks.new ≡ drop n marks.old }
+        ensures kept { IfErr result (λ fault. KeepsRoom fault marks.old marks.new) }
+    {
+        let needed = numbers_for(self.message);
+        if marks.len() < needed {
+            return Err(ExclusiveFault::NoRoom {
+                needed,
+                report: self.report,
+            });
+        }
+        match mark_cleared(self.message, &Limits::greatest(), &mut marks[..needed]) {
+            Ok(()) => Ok(Exclusive { vetted: self }),
+            Err(overlap) => Err(ExclusiveFault::Overlap {
+                segment: overlap.segment,
+                word: overlap.word,
+                pointers: overlap.pointers,
+            }),
+        }
+    }
+}
+
+// Clears the marks, whatever they are, and walks a message that is accepted once more.
+fn mark_cleared<M: Segments>(message: &M, limits: &Limits, bits: &mut [u64]) -> Result<(), Overlap>
+    requires enough { let m = M.segments message.now in
+        start_of m (length m) ≤ 64 * length bits.old }
+    requires accepted { let m = M.segments message.now in
+        (report : Report) × IsAccepted m (words_of limits.now) (depth_of limits.now) report }
+    ensures ok { IfOk result (λ _. IsDisjoint (M.segments message.now)) }
+    ensures err { IfErr result (OverlapsFirst (M.segments message.now)) }
+{
+    bits.fill(0);
+    mark_message(message, limits, bits)
+}

@@ -1,0 +1,177 @@
+//! Which words of a message are marked, a bit for each.
+
+ghost use Rattle.cap_spec.specs.Denoting.{places};
+ghost use Rattle.cap_spec.specs.Following.{Lead, Leads};
+ghost use Rattle.cap_spec.specs.Messages.{HasWord};
+ghost use Rattle.cap_spec.specs.Occupying.{pads_of};
+ghost use Rattle.cap_vet.specs.Marks.{UsesPlace};
+ghost use Rattle.cap_vet.specs.MarkSteps.{HasBits, MarksPlaces, MarksUse};
+ghost use Rattle.cap_vet.specs.Taken.{AreStarts, bit_of, marks_of, start_of};
+ghost use Rattle.std.specs.Prelude.{◌+◌, ◌-◌, ◌*◌, ◌/◌, ◌<◌, ◌^◌, ◌≡◌, ◌≤◌, IfSome, IsFalse, IsTrue, List, length, ℕ};
+
+use crate::exclusiveness::uses::structs_use;
+use crate::lengths::message_words;
+use crate::nodes::place::Place;
+use arrayvec::ArrayVec;
+use cap_frame::Segments;
+use cap_ptr::{Followed, Pointer, follow};
+
+/// The number of `u64`s that the marks of a message of `words` words take: one bit for each word of
+/// all segments together.
+pub fn marks_for(words: u64) -> usize
+    ensures { result ≡ words / 64 + 1 }
+{
+    (words / 64 + 1) as usize
+}
+
+/// How many numbers of 64 bits hold a bit for each word of a message.
+pub(crate) fn numbers_for<M: Segments>(message: &M) -> usize
+    ensures exact { result ≡ marks_of (M.segments message.now) }
+    ensures enough { let m = M.segments message.now in start_of m (length m) ≤ 64 * result }
+{
+    marks_for(message_words(message))
+}
+
+/// The marks of a message's words, a bit for each.
+#[derive(Drop)]
+pub(crate) struct Marks<'a> {
+    /// Where the bits of each segment's words start.
+    pub(crate) starts: &'a [u64],
+    pub(crate) bits: &'a mut [u64],
+}
+
+/// Where the bits of each segment's words start, those of one segment after those of the other.
+pub(crate) fn starts_in<M: Segments>(message: &M) -> ArrayVec<u64, 512>
+    ensures { AreStarts (M.segments message.now) result.items }
+{
+    let mut starts = ArrayVec::new();
+    let mut words = 0u64;
+    for s in 0..message.count() {
+        starts.push(words);
+        words += u64::from(message.len(s));
+    }
+    starts
+}
+
+impl Marks<'_> {
+    /// Marks what following the pointer at word `w` of segment `s` uses, or returns `false` if a part
+    /// of it is used twice or was marked before. A pointer that is wrong uses nothing. `near` is what
+    /// `near_use` returns for the word.
+    // It and what it calls for an object near by are inlined: a walk may look at millions of words.
+    #[inline(always)]
+    pub(crate) fn mark_pointer<M: Segments>(
+        &mut self,
+        message: &M,
+        s: u32,
+        w: u32,
+        near: Option<Place>,
+    ) -> bool
+        requires word { HasBits (M.segments message.now) self.old s w 1 }
+        requires near { IfSome near (UsesPlace (M.segments message.now) s w) }
+        ensures { MarksUse (M.segments message.now) self.old self.new s w result }
+    {
+        match near {
+            Some(place) => self.mark_words(place.segment, place.start, place.words),
+            None => self.mark_far(message, s, w),
+        }
+    }
+
+    // The same of a word that doesn't say it alone.
+    #[inline(never)]
+    fn mark_far<M: Segments>(&mut self, message: &M, s: u32, w: u32) -> bool
+        requires { HasBits (M.segments message.now) self.old s w 1 }
+        ensures { MarksUse (M.segments message.now) self.old self.new s w result }
+    {
+        if let Some(list) = structs_use(message, s, w) {
+            return self.mark_words(list.segment, list.start, list.words);
+        }
+        self.mark_followed(message, s, w)
+    }
+
+    // The same of a word that has to be followed.
+    #[inline(never)]
+    fn mark_followed<M: Segments>(&mut self, message: &M, s: u32, w: u32) -> bool
+        requires { HasBits (M.segments message.now) self.old s w 1 }
+        ensures { MarksUse (M.segments message.now) self.old self.new s w result }
+    {
+        match follow(message, s, w) {
+            Err(_) => true,
+            Ok(Followed::Null { .. }) => self.mark_pads(message, s, w),
+            Ok(Followed::Cap { .. }) => self.mark_pads(message, s, w),
+            Ok(Followed::Target(target)) => {
+                if !self.mark_pads(message, s, w) {
+                    return false;
+                }
+                self.mark_words(target.segment, target.start, target.words)
+            }
+        }
+    }
+
+    // Marks the pad words of a pointer.
+    fn mark_pads<M: Segments>(&mut self, message: &M, s: u32, w: u32) -> bool
+        requires word { HasBits (M.segments message.now) self.old s w 1 }
+        requires leads { (k : ℕ) × (r : Lead) × Leads (M.segments message.now) s w k r }
+        ensures { let m = M.segments message.now in (p : ℕ) → HasWord m s w p →
+            MarksPlaces m self.old self.new (pads_of p) result }
+    {
+        match Pointer::of(message.word(s, w)) {
+            Pointer::Far { two, pad, segment } => {
+                let pads = if two { 2 } else { 1 };
+                self.mark_words(segment, pad, pads)
+            }
+            _ => true,
+        }
+    }
+
+    /// Marks `count` words of segment `s` from word `from` on, or returns `false` if one of them was
+    /// marked before.
+    #[inline(always)]
+    pub(crate) fn mark_words(&mut self, s: u32, from: u32, count: u32) -> bool
+        requires { (m : List (List ℕ)) × HasBits m self.old s from count }
+        ensures { (m : List (List ℕ)) → HasBits m self.old s from count →
+            MarksPlaces m self.old self.new (places s from count) result }
+    {
+        let start = self.starts[s as usize] + u64::from(from);
+        set_bits(self.bits, start, u64::from(count))
+    }
+}
+
+// Sets `count` bits from bit `from` on, or answers `false` where one of them was set before.
+#[inline(always)]
+fn set_bits(words: &mut [u64], from: u64, count: u64) -> bool
+    requires inside { from + count ≤ 64 * length words.old }
+    requires small { from + count < 2 ^ 63 }
+    ensures length { length words.new ≡ length words.old }
+    ensures taken { IsTrue result → (i : ℕ) → from ≤ i → i < from + count → bit_of words.new i ≡ 1 }
+    ensures free { IsTrue result → (i : ℕ) → from ≤ i → i < from + count → bit_of words.old i ≡ 0 }
+    ensures below { IsTrue result → (i : ℕ) → i < from → bit_of words.new i ≡ bit_of words.old i }
+    ensures above { IsTrue result → (i : ℕ) → from + count ≤ i →
+        bit_of words.new i ≡ bit_of words.old i }
+    ensures conflict { IsFalse result →
+        (i : ℕ) × (from ≤ i) × (i < from + count) × (bit_of words.old i ≡ 1) }
+{
+    let end = from + count;
+    let mut at = from;
+    while at < end {
+        let low = at % 64;
+        let high = (low + (end - at)).min(64);
+        let ones = mask(low as u32, high as u32);
+        let k = (at / 64) as usize;
+        if words[k] & ones != 0 {
+            return false;
+        }
+        words[k] |= ones;
+        at += high - low;
+    }
+    true
+}
+
+// The bits from `low` up to `high`.
+#[inline(always)]
+fn mask(low: u32, high: u32) -> u64
+    requires some { low < high }
+    requires few { high ≤ 64 }
+    ensures { result ≡ 2 ^ high - 2 ^ low }
+{
+    (u64::MAX >> (64 - high)) - ((1 << low) - 1)
+}

@@ -1,0 +1,148 @@
+//! Getters of messages that weren't vetted, under demands.
+
+ghost use Rattle.cap_spec.specs.Arriving.{ArrivesAt};
+ghost use Rattle.cap_spec.specs.Paths.{Spot as Where};
+ghost use Rattle.cap_spec.specs.declared.Kind.{Kind};
+ghost use Rattle.cap_spec.specs.declared.Step.{Step};
+ghost use Rattle.cap_spec.specs.declared.StrictRefusal.{StrictRefusal};
+ghost use Rattle.cap_vet.specs.Charging.{Arrives};
+ghost use Rattle.cap_vet.specs.Demands.{words_under};
+ghost use Rattle.cap_vet.specs.Handles.{kept_place, view_kind, view_message};
+ghost use Rattle.cap_vet.specs.Limits.{depth_of, words_of};
+ghost use Rattle.cap_vet.specs.PathDemands.{IsPathFault, MeetsOnPath};
+ghost use Rattle.cap_vet.specs.PathWays.{HasFound, IsGiven, IsWay};
+ghost use Rattle.std.specs.Prelude.{◌++◌, ◌≡◌, Err, IfErr, IfNone, IfOk, IfSome, IsOk, List, ℕ};
+
+use crate::demands::{Demands, limits_under};
+use crate::limits::Limits;
+use crate::nodes::charged::{Arrival, at_root};
+use crate::nodes::step_source::StepSource;
+use crate::nodes::view::View;
+use crate::nodes::way::Way;
+use crate::strictness::path_strictness::strict_fault;
+use cap_frame::Segments;
+use cap_spec::StrictRefusal;
+
+/// Follows a path in a message that needn't be vetted, under demands, and gives what it arrives at
+/// (encoding: Security Considerations). The limits and demands are those of [`crate::vet_with`], and
+/// apply to the pointers on the path alone, the root's among them. A word that two steps lead to is
+/// charged twice. What is wrong beside the path isn't noticed. Allocates nothing.
+///
+/// `None` if the path arrives at nothing.
+///
+/// # Errors
+///
+/// - [`StrictRefusal::Refused`]: the first pointer on the path that is wrong, or past a limit, as for
+///   [`crate::get_charged`].
+/// - [`StrictRefusal::ManySegments`], [`StrictRefusal::Pointer`]: a strict message is demanded, no
+///   pointer on the path is refused, and the message has 512 segments, or a pointer on the path has
+///   a form in [`crate::Lax`]. The first one on the path is named. Its `pointers` counts the
+///   pointers on the path up to it, that one included.
+pub fn get_with<'m, M: Segments, S: StepSource + Copy>(
+    message: &'m M,
+    limits: Limits,
+    demands: Demands,
+    path: S,
+) -> Result<Option<View<'m, M>>, StrictRefusal>
+    ensures meets { let m = M.segments message.now in
+        (steps : List Step) → S.gives path steps → IfOk result (λ _.
+        MeetsOnPath demands m (words_of limits) (depth_of limits) steps) }
+    ensures none { let m = M.segments message.now in
+        (steps : List Step) → S.gives path steps → IfOk result (λ o. IfNone o (
+        (k : Kind) (t b n : ℕ) → ¬ ArrivesAt m steps k t b n)) }
+    ensures some { let m = M.segments message.now in
+        (steps : List Step) → S.gives path steps → IfOk result (λ o. IfSome o (λ v.
+        let place = kept_place v in
+        ArrivesAt m steps (view_kind v) place.segment place.start place.words)) }
+    ensures message { IfOk result (λ o. IfSome o (λ v. view_message v ≡ message.now)) }
+    ensures err { let m = M.segments message.now in
+        (steps : List Step) → S.gives path steps →
+        IfErr result (IsPathFault demands m (words_of limits) (depth_of limits) steps) }
+    // The other direction.
+    ensures accepts { let m = M.segments message.now in
+        (steps : List Step) → S.gives path steps →
+        MeetsOnPath demands m (words_of limits) (depth_of limits) steps → IsOk result }
+    ensures refuses { let m = M.segments message.now in
+        (steps : List Step) (r : StrictRefusal) → S.gives path steps →
+        IsPathFault demands m (words_of limits) (depth_of limits) steps r → result ≡ Err r }
+{
+    let limits = limits_under(message, limits, demands);
+    let way = follow_path(message, limits.words(), limits.depth(), path);
+    given(message, demands, way)
+}
+
+/// What is given under demands where a path leads this way.
+#[inline(always)]
+pub(crate) fn given<'m, M: Segments>(
+    message: &'m M,
+    demands: Demands,
+    way: Way,
+) -> Result<Option<View<'m, M>>, StrictRefusal>
+    requires found { HasFound (M.segments message.now) way }
+    ensures given { let m = M.segments message.now in
+        (words depth : ℕ) (path : List Step) →
+        IsWay m (words_under demands m words) depth path way →
+        IsGiven demands m words depth path result }
+    ensures message { IfOk result (λ o. IfSome o (λ v. view_message v ≡ message.now)) }
+{
+    match way {
+        Way::To(at) => match strict_fault(message, demands, at.lax) {
+            Some(fault) => Err(fault),
+            None => Ok(Some(View {
+                message,
+                found: at.found,
+            })),
+        },
+        Way::Nowhere(at) => match strict_fault(message, demands, at.lax) {
+            Some(fault) => Err(fault),
+            None => Ok(None),
+        },
+        Way::Refused(refusal) => Err(StrictRefusal::Refused(refusal)),
+    }
+}
+
+/// Follows a path from the root as far as it leads.
+#[inline(always)]
+pub(crate) fn follow_path<M: Segments, S: StepSource + Copy>(
+    message: &M,
+    words: u64,
+    depth: u32,
+    path: S,
+) -> Way
+    ensures way { (steps : List Step) → S.gives path steps →
+        IsWay (M.segments message.now) words depth steps result }
+    ensures found { HasFound (M.segments message.now) result }
+{
+    match at_root(message, words, depth) {
+        Ok(root) => along(message, words, depth, root, path),
+        Err(refusal) => Way::Refused(refusal),
+    }
+}
+
+/// Goes on along a path from where its first steps arrived, as far as it leads.
+#[inline(always)]
+pub(crate) fn along<M: Segments, S: StepSource + Copy>(
+    message: &M,
+    words: u64,
+    depth: u32,
+    from: Arrival,
+    rest: S,
+) -> Way
+    requires arrived { let m = M.segments message.now in
+        (first : List Step) × (a : Where) × Arrives m words depth first a from }
+    ensures way { let m = M.segments message.now in
+        (first steps : List Step) (a : Where) → Arrives m words depth first a from →
+        S.gives rest steps → IsWay m words depth (first ++ steps) result }
+    ensures found { HasFound (M.segments message.now) result }
+{
+    let mut left = rest;
+    let mut at = from;
+    while let Some(step) = left.next_step() {
+        match at.step(message, words, depth, step) {
+            Ok(Some(next)) => at = next,
+            Ok(None) => return Way::Nowhere(at),
+            Err(refusal) => return Way::Refused(refusal),
+        }
+    }
+    Way::To(at)
+}

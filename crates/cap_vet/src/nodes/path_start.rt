@@ -1,0 +1,100 @@
+//! The first steps that several paths have in common.
+
+ghost use Rattle.cap_spec.specs.declared.Step.{Step};
+ghost use Rattle.cap_vet.specs.Handles.{view_message};
+ghost use Rattle.cap_vet.specs.Limits.{depth_of, words_of};
+ghost use Rattle.cap_vet.specs.PathWays.{GivesAfter, IsStart, start_message};
+ghost use Rattle.cap_vet.specs.declared.demands.Demands.{Demands};
+ghost use Rattle.std.specs.Prelude.{◌≡◌, ⊤, IfOk, IfSome, List, ℕ};
+
+use crate::demands::{Demands, limits_under};
+use crate::limits::Limits;
+use crate::nodes::getting::{along, follow_path, given};
+use crate::nodes::step_source::StepSource;
+use crate::nodes::view::View;
+use crate::nodes::way::Way;
+use cap_frame::Segments;
+use cap_spec::{Step, StrictRefusal};
+use std::alloc::AllocError;
+
+/// The first steps of several paths in a message that needn't be vetted, and where they lead
+/// (encoding: Security Considerations). The pointers on them are followed once for all of the paths.
+pub struct PathStart<'m, M: Segments> {
+    message: &'m M,
+    demands: Demands,
+    // The limits under the demands.
+    words: u64,
+    depth: u32,
+    way: Way,
+}
+
+impl<'m, M: Segments> Clone for PathStart<'m, M> {
+    ghost is_clone = { λ s r. r ≡ s };
+
+    ghost is_infallible = { λ _. ⊤ };
+
+    fn clone(&self) -> Result<PathStart<'m, M>, AllocError> {
+        Ok(*self)
+    }
+}
+
+impl<'m, M: Segments> Copy for PathStart<'m, M> {}
+
+impl<'m, M: Segments> PathStart<'m, M> {
+    /// Follows the first steps of several paths. The limits and demands are those of
+    /// [`crate::get_with`], and apply to each of the paths by itself. Allocates nothing.
+    pub fn new<S: StepSource + Copy>(
+        message: &'m M,
+        limits: Limits,
+        demands: Demands,
+        first: S,
+    ) -> PathStart<'m, M>
+        ensures start { let m = M.segments message.now in
+            (steps : List Step) → S.gives first steps →
+            IsStart demands m (words_of limits) (depth_of limits) steps result }
+        ensures message { start_message result ≡ message.now }
+    {
+        let limits = limits_under(message, limits, demands);
+        let words = limits.words();
+        let depth = limits.depth();
+        PathStart {
+            message,
+            demands,
+            words,
+            depth,
+            way: follow_path(message, words, depth, first),
+        }
+    }
+
+    /// Goes on with one step more and then with the `rest`, and gives what [`crate::get_with`] gives
+    /// for the path of all the steps. Allocates nothing.
+    ///
+    /// # Errors
+    ///
+    /// Those of [`crate::get_with`] for that path.
+    #[inline(always)]
+    pub fn get<S: StepSource + Copy>(
+        &self,
+        step: Step,
+        rest: S,
+    ) -> Result<Option<View<'m, M>>, StrictRefusal>
+        requires { let m = M.segments (start_message self.now) in
+            (demands : Demands) × (words depth : ℕ) × (first : List Step)
+            × IsStart demands m words depth first self.now }
+        ensures given { let m = M.segments (start_message self.now) in
+            (steps : List Step) → S.gives rest steps → GivesAfter m self.now step steps result }
+        ensures message { IfOk result (λ o. IfSome o (λ v.
+            view_message v ≡ start_message self.now)) }
+    {
+        let way = match self.way {
+            Way::To(at) => match at.step(self.message, self.words, self.depth, step) {
+                Ok(Some(next)) => along(self.message, self.words, self.depth, next, rest),
+                Ok(None) => Way::Nowhere(at),
+                Err(refusal) => Way::Refused(refusal),
+            },
+            Way::Nowhere(at) => Way::Nowhere(at),
+            Way::Refused(refusal) => Way::Refused(refusal),
+        };
+        given(self.message, self.demands, way)
+    }
+}

@@ -1,0 +1,11 @@
+//! The walk through a message in preorder, one pointer word a turn, and the verdict.
+
+pub(crate) mod far_looking;
+pub(crate) mod lists;
+pub(crate) mod looking;
+pub(crate) mod pointer_run;
+pub(crate) mod targets;
+pub(crate) mod turn;
+pub(crate) mod vetting;
+pub(crate) mod visiting;
+pub(crate) mod walking;

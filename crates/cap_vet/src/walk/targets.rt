@@ -1,0 +1,101 @@
+//! What of an object a walk goes on with.
+
+ghost use Rattle.cap_ptr.specs.Shapes.{FindsTargetBy};
+ghost use Rattle.cap_spec.specs.Denoting.{element_levels};
+ghost use Rattle.cap_spec.specs.Messages.{IsMessage, segment_of};
+ghost use Rattle.cap_vet.specs.PointerRuns.{LevelIs, OptionIn, option_spots, row_places};
+ghost use Rattle.cap_vet.specs.Looking.{FrameRises, object_places};
+ghost use Rattle.cap_vet.specs.Levels.{levels_of};
+ghost use Rattle.std.specs.Prelude.{◌+◌, ◌<◌, ◌^◌, ◌≡◌, ◌≤◌, List, ℕ, length};
+
+use crate::walk::pointer_run::PointerRun;
+use cap_ptr::{Shape, Target};
+
+// How many levels the structs of a list of `count` elements take below their list.
+#[inline(always)]
+pub(crate) fn levels_of_elements(count: u32) -> u32
+    ensures value { result ≡ element_levels count }
+    ensures few { result ≤ 1 }
+{
+    if count == 0 { 0 } else { 1 }
+}
+
+// How many levels an object takes below its own.
+#[inline(always)]
+pub(crate) fn levels_taken(shape: &Shape) -> u32
+    ensures value { result ≡ levels_of shape.now }
+    ensures few { result ≤ 1 }
+{
+    match shape {
+        Shape::Structs { count, .. } => levels_of_elements(*count),
+        _ => 0,
+    }
+}
+
+// The pointer words of an object of this level.
+#[inline(always)]
+pub(crate) fn frame_of(target: &Target, level: u32) -> Option<PointerRun>
+    requires found { (m : List (List ℕ)) × (s w q tag : ℕ) × IsMessage m
+        × FindsTargetBy m s w q tag target.now }
+    requires level { level < 2 ^ 31 }
+    ensures places { let x = target.now in
+        (m : List (List ℕ)) (s w q tag : ℕ) → FindsTargetBy m s w q tag x →
+        option_spots result ≡ object_places q tag x.segment x.start level }
+    ensures inside { (m : List (List ℕ)) (s w q tag : ℕ) →
+        FindsTargetBy m s w q tag target.now → OptionIn m result }
+    ensures rises { (depth : ℕ) → level + levels_of target.now.shape ≤ depth →
+        FrameRises level depth result }
+{
+    match target.shape {
+        Shape::Struct {
+            data_words,
+            pointers,
+        } => {
+            let at = target.start + u32::from(data_words);
+            row_frame(target.segment, at, u32::from(pointers), level + 1)
+        }
+        Shape::Scalars { .. } => None,
+        Shape::Pointers { count } => row_frame(target.segment, target.start, count, level + 1),
+        Shape::Structs {
+            count,
+            data_words,
+            pointers,
+            ..
+        } => {
+            if count == 0 || pointers == 0 {
+                return None;
+            }
+            Some(PointerRun {
+                segment: target.segment,
+                at: target.start + 1 + u32::from(data_words),
+                left: u32::from(pointers),
+                more: count - 1,
+                data_words: u32::from(data_words),
+                pointers: u32::from(pointers),
+                level: level + 1 + levels_of_elements(1),
+            })
+        }
+    }
+}
+
+// The pointer words of a struct or of a list of pointers, which are in one row.
+#[inline(always)]
+pub(crate) fn row_frame(segment: u32, at: u32, left: u32, level: u32) -> Option<PointerRun>
+    ensures places { option_spots result ≡ row_places level segment at left }
+    ensures inside { (m : List (List ℕ)) → segment < length m →
+        at + left ≤ length (segment_of m segment) → OptionIn m result }
+    ensures level { LevelIs level result }
+{
+    if left == 0 {
+        return None;
+    }
+    Some(PointerRun {
+        segment,
+        at,
+        left,
+        more: 0,
+        data_words: 0,
+        pointers: 0,
+        level,
+    })
+}

@@ -1,0 +1,95 @@
+//! The verdict of a message.
+
+ghost use Rattle.cap_spec.specs.Denoting.{Denotes};
+ghost use Rattle.cap_spec.specs.Faults.{IsRefused};
+ghost use Rattle.cap_spec.specs.Tree.{Tree, pointer_count};
+ghost use Rattle.cap_spec.specs.declared.Refusal.{Refusal};
+ghost use Rattle.cap_spec.specs.Verdicts.{Justified};
+ghost use Rattle.cap_vet.specs.Limits.{depth_of, words_of};
+ghost use Rattle.cap_vet.specs.Reports.{IsAccepted};
+ghost use Rattle.cap_vet.specs.Vettings.{message_of, report_of};
+ghost use Rattle.std.specs.Prelude.{Err, ◌≡◌, ◌≤◌, IfErr, IfOk, IsOk, ⊤, ℕ};
+
+use crate::limits::Limits;
+use crate::nodes::place::Place;
+use crate::nodes::vetted::Vetted;
+use crate::walk::turn::{Stopped, Turn};
+use crate::walk::walking::walk;
+use cap_frame::Segments;
+use cap_spec::Refusal;
+use std::convert::Infallible;
+
+/// Walks a message from its root in preorder, the pointers of each object in order. Accepts it if
+/// the root denotes a finite tree within the limits (encoding: Security Considerations). Allocates
+/// nothing.
+///
+/// # Errors
+///
+/// A refusal names the first pointer word in preorder at which anything is wrong or a limit is
+/// passed, and the first reason that applies there. Its `pointers` counts the pointer words that
+/// were looked at, that one included.
+///
+/// - [`crate::Reason::NoRoot`]: segment 0 has no words. It is refused at 0:0, and `pointers` is 0.
+/// - `Reserved` to `CompositeOverrun`: the pointer can't be followed, see [`crate::Reason`].
+/// - [`crate::Reason::DepthLimit`]: its target is past the depth limit, or the structs of its target
+///   are.
+/// - [`crate::Reason::WordLimit`]: the charges up to it, its own included, are more than the word
+///   limit.
+pub fn vet<'m, M: Segments>(message: &'m M, limits: Limits) -> Result<Vetted<'m, M>, Refusal>
+    ensures ok { let m = M.segments message.now in
+        IfOk result (λ v. IsAccepted m (words_of limits) (depth_of limits) (report_of v)) }
+    ensures message { IfOk result (λ v. message_of v ≡ message.now) }
+    ensures err { let m = M.segments message.now in
+        IfErr result (IsRefused m (words_of limits) (depth_of limits)) }
+    ensures justified { let m = M.segments message.now in
+        IfErr result (Justified m (words_of limits) (depth_of limits)) }
+
+    // The other direction: what denotes a tree within the limits is accepted.
+    ensures accepts { let m = M.segments message.now in (t : Tree) (c d : ℕ) →
+        Denotes m 0 0 t c d → c ≤ words_of limits → d ≤ depth_of limits → IsOk result }
+    ensures refuses { let m = M.segments message.now in (r : Refusal) →
+        IsRefused m (words_of limits) (depth_of limits) r → result ≡ Err r }
+
+    // The reported numbers are those of the one tree that the root denotes.
+    ensures one { (t : Tree) (c d : ℕ) → Denotes (M.segments message.now) 0 0 t c d →
+        IfOk result (λ v. let r = report_of v in
+        (r.charge ≡ c) × (r.depth ≡ d) × (r.pointers ≡ pointer_count t)) }
+{
+    match walk(message, &limits, &mut Plain) {
+        Ok(report) => Ok(Vetted { message, report }),
+        Err(Stopped::Refused(refusal)) => Err(refusal),
+        Err(Stopped::ByTurn(never)) => match never {},
+    }
+}
+
+// A walk that only counts.
+#[derive(Drop)]
+struct Plain;
+
+impl Turn for Plain {
+    type Stop = Infallible;
+
+    ghost knows = { λ _ _ _. ⊤ };
+
+    ghost stops = { λ _ _. ⊥ };
+
+    #[inline(always)]
+    fn before<M: Segments>(&self, _message: &M, _s: u32, _w: u32) -> Option<Place> {
+        None
+    }
+
+    #[inline(always)]
+    fn after<M: Segments>(
+        &mut self,
+        _message: &M,
+        _s: u32,
+        _w: u32,
+        _used: Option<Place>,
+        _may_be_lax: bool,
+        _pointers: u64,
+    ) -> Result<(), Infallible> {
+        Ok(())
+    }
+
+    ghost passes = { λ _ _ _ _ _ _ _ _ _ _. tt };
+}
