@@ -110,8 +110,8 @@ fn stands_at<M: Segments>(message: &M, object: &Object, slot: u32, end: u32) -> 
     }
 }
 
-// Whether the words of a list of values have no bits set after the last value. If the list ends
-// with its last word, none of them has to be fetched.
+// Whether the words of a list of values have no bits set after the last value. Each is read, since a
+// word is known to be below 2^64 only once it is read.
 #[inline(always)]
 fn ends_with_values<M: Segments>(message: &M, start: u32, code: u8, count: u32, words: u32) -> bool
     requires exists { 0 < length (M.segments message.now) }

@@ -1,4 +1,5 @@
-//! Framed messages: reading them from a source of words, and writing them to a sink.
+//! Framed messages: the ways to hold one, reading them from a source of words or before other bytes,
+//! and writing them to a sink.
 #![tactic(auto)]
 
 mod byte_contents;

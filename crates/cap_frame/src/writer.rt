@@ -107,7 +107,7 @@ fn put_contents<K: WordSink, M: Segments>(sink: &mut K, message: &M) -> Result<(
 /// took is a beginning of the text.
 pub fn write_message<K: WordSink, M: Segments>(sink: &mut K, message: &M) -> Result<(), SinkFault>
     ensures put { PutsOrHalts K.WordSink sink.old sink.new (frame_text (M.segments message.now)) result }
-    ensures for_good { K.closed sink.old ≡ true → (result ≡ Err SinkFault.Spent)
+    ensures stays { K.closed sink.old ≡ true → (result ≡ Err SinkFault.Spent)
         × (sink.new ≡ sink.old) }
 {
     if let Err(fault) = sink.put(table_word(message, 0)) {

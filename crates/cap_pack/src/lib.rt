@@ -1,5 +1,5 @@
-//! Packed words: the source that unpacks them, the sink that packs them, and kernels that take a
-//! vector of words or bytes at a time.
+//! Packed words: the source that unpacks them, the sink that packs them, packing between buffers, and
+//! kernels that take a vector of words or bytes at a time.
 #![tactic(auto)]
 
 mod at_hand;

@@ -38,17 +38,17 @@ impl<O: ByteOut> Packer<O> {
     /// A sink that writes to `output`, after what it took before.
     pub fn new(output: O) -> Packer<O>
         ensures output { output_of result ≡ output }
-        ensures starts { ⟦<Packer<O> as WordSink>⟧.taken result ≡ O.written output }
+        ensures taken { ⟦<Packer<O> as WordSink>⟧.taken result ≡ O.written output }
         ensures empty { (ws : List ℕ) →
             ⟦<Packer<O> as WordSink>⟧.text result ws
             ≡ append_known (O.written output) (pack_text ws) }
-        ensures open { ⟦<Packer<O> as WordSink>⟧.closed result ≡ false }
+        ensures closed { ⟦<Packer<O> as WordSink>⟧.closed result ≡ false }
         ensures spent { ⟦<Packer<O> as WordSink>⟧.spent result ≡ O.spent output }
-        ensures taken { (s : Packer O) → ⟦<Packer<O> as WordSink>⟧.taken s ≡ O.written (output_of s) }
+        ensures shows_taken { (s : Packer O) → ⟦<Packer<O> as WordSink>⟧.taken s ≡ O.written (output_of s) }
         ensures when_spent { (s : Packer O) →
             ⟦<Packer<O> as WordSink>⟧.spent s
             ≡ (⟦<Packer<O> as WordSink>⟧.closed s || O.spent (output_of s)) }
-        ensures failures { (s : Packer O) →
+        ensures shows_failures { (s : Packer O) →
             ⟦<Packer<O> as WordSink>⟧.failures s ≡ O.failures (output_of s) }
         ensures text { (s : Packer O) →
             (h : List ℕ) × (group_size h ≡ length h)

@@ -94,6 +94,7 @@ impl<I: ByteIn> WordSource for Unpacker<I> {
     ghost spent = { λ s. source_spent s.phase (I.spent s.bytes.input) };
 
     fn next(&mut self) -> Result<Option<u64>, SourceFault> {
+        // For the proof alone: the range of this number.
         let _position = self.bytes.read;
         match self.phase {
             Phase::Ended => return Ok(None),
@@ -134,6 +135,7 @@ impl<I: ByteIn> WordSource for Unpacker<I> {
     }
 
     fn ready(&mut self, out: &mut [u8]) -> usize {
+        // For the proof alone: the range of this number.
         let _read = self.bytes.read;
         match self.phase {
             Phase::Open => {}
@@ -153,6 +155,7 @@ impl<I: ByteIn> WordSource for Unpacker<I> {
 
     // What is left of a run of words as they are.
     fn append(&mut self, out: &mut Vec<u8>, most: usize) -> usize {
+        // For the proof alone: the range of this number.
         let _read = self.bytes.read;
         match self.phase {
             Phase::Open => {}

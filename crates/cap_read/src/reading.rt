@@ -47,11 +47,11 @@ pub fn read<'m, M: Segments>(
         (option_map (λ v. shown v) r.view) r.place) }
     ensures message { IfOk result (λ r. IfSome r.view (λ v. view_message v ≡ message.now)) }
     ensures place { IfOk result (λ r. IfSome r.view (λ v. view_place v ≡ r.place)) }
-    ensures err { let m = M.segments message.now in
+    ensures justified { let m = M.segments message.now in
         IfErr result (Justified m (words_of limits) (depth_of limits)) }
 
     // It is the first fault in preorder, with its count of pointers.
-    ensures first { let m = M.segments message.now in
+    ensures err { let m = M.segments message.now in
         IfErr result (IsRefused m (words_of limits) (depth_of limits)) }
 
     // The other direction: a message that denotes a tree within the limits is read, and a first

@@ -1,4 +1,5 @@
-//! Vetted, strict and exclusive messages, their nodes and views, and getters with a budget.
+//! Limits and demands, vetted, strict and exclusive messages, their nodes and views, and getters for
+//! messages that were not vetted.
 #![tactic(auto)]
 
 mod demands;

@@ -84,6 +84,7 @@ impl<I: ByteIn> WordSource for PlainWords<I> {
     // Inlined, since it is called at each word of a message.
     #[inline(always)]
     fn next(&mut self) -> Result<Option<u64>, SourceFault> {
+        // For the proof alone: the range of this number.
         let _read = self.bytes.read;
         match self.phase {
             Phase::Ended => return Ok(None),
@@ -112,6 +113,7 @@ impl<I: ByteIn> WordSource for PlainWords<I> {
     }
 
     fn ready(&mut self, out: &mut [u8]) -> usize {
+        // For the proof alone: the range of this number.
         let _read = self.bytes.read;
         match self.phase {
             Phase::Open => {}
@@ -132,6 +134,7 @@ impl<I: ByteIn> WordSource for PlainWords<I> {
         if whole == 0 {
             return Ok(true);
         }
+        // For the proof alone: the range of this number.
         let _read = self.bytes.read;
         match self.phase {
             Phase::Ended => return Ok(false),

@@ -121,6 +121,7 @@ pub trait WordSource {
         ensures reads { ReadsBytes (unread self.old) (unread self.new) (place self.old)
             (place self.new) }
     {
+        // For the proof alone: the range of this number.
         let _room = out.len();
         0
     }
@@ -145,6 +146,7 @@ pub trait WordSource {
         ensures reads { ReadsBytes (unread self.old) (unread self.new) (place self.old)
             (place self.new) }
     {
+        // For the proof alone: the range of this number.
         let _room = out.len().min(most);
         0
     }
