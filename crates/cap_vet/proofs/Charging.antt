@@ -24,7 +24,7 @@ use Rattle.cap_vet.specs.Finding.{IsFound, element_of}
 use Rattle.cap_vet.specs.declared.nodes.charged.Arrival.{Arrival}
 use Rattle.cap_vet.specs.declared.nodes.found.Found.{Found}
 use Rattle.cap_vet.specs.declared.strictness.strict_turn.LaxPointer.{LaxPointer}
-use Rattle.cap_vet.proofs.Nodes.{comes_nowhere}
+use Rattle.cap_vet.proofs.NodeSteps.{comes_nowhere}
 use Rattle.cap_vet.proofs.PathLax.{lax_added, lax_same}
 
 -- none of no paths is too deep

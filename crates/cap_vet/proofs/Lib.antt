@@ -18,7 +18,7 @@ mod Near
 mod FoundLists
 mod Keeping
 mod Founds
-mod Nodes
+mod NodeSteps
 mod Shown
 mod Stepping
 mod NodeTrees

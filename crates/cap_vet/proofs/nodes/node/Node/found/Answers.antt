@@ -1,7 +1,7 @@
 use Rattle.std.proofs.Common.{subst}
 use Rattle.cap_vet.specs.Nodes.{IsNode}
 use Rattle.cap_vet.specs.Spots.{spot_of}
-use Rattle.cap_vet.proofs.Nodes.{node_not_wrong}
+use Rattle.cap_vet.proofs.NodeSteps.{node_not_wrong}
 use Rattle.cap_vet.proofs.nodes.node.Node.found.Goals as goal
 
 pub found_at-requires-clause-right : goal.found_at-requires-clause-right

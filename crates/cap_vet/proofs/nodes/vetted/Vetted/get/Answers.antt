@@ -6,7 +6,7 @@ use Rattle.cap_spec.specs.declared.Step.TheVariants.{Ptr}
 use Rattle.cap_spec.proofs.Paths.Arrivals.{coming_to_node}
 use Rattle.cap_vet.specs.Handles.{node_spot}
 use Rattle.cap_vet.specs.Vettings.{message_of}
-use Rattle.cap_vet.proofs.Nodes.{comes_nowhere, comes_on, no_node}
+use Rattle.cap_vet.proofs.NodeSteps.{comes_nowhere, comes_on, no_node}
 use Rattle.cap_vet.proofs.nodes.vetted.Vetted.get.Goals as goal
 
 pub returns-in-None-clause-none : goal.returns-in-None-clause-none

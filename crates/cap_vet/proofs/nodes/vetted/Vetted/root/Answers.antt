@@ -1,6 +1,6 @@
 use Rattle.std.proofs.Common.{rules}
 use Rattle.cap_spec.specs.Messages.{IsMessage}
-use Rattle.cap_vet.proofs.Nodes.{root_comes, root_inside, root_node}
+use Rattle.cap_vet.proofs.NodeSteps.{root_comes, root_inside, root_node}
 use Rattle.cap_vet.proofs.nodes.vetted.Vetted.root.Goals as goal
 
 pub invariant_of-result : goal.invariant_of-result
