@@ -1,11 +1,11 @@
 -- The first of the steps of a path is read, and the others are left.
 use Rattle.std.proofs.Common.{◌≡◌, ◌∙◌, ◌⊎◌, ◌==◌, true, false, inl, inr, ℕ, ◌+◌, ◌<◌, ◌≤◌, ◌^◌, ◌%◌, List, [], ◌∷◌, ◌++◌, Option, Some, None, decimal, length}
-use Rattle.std.proofs.Common.{codes, take, drop, get_or, refl, sym, ap, subst, arith, length-take}
+use Rattle.std.proofs.Common.{codes, take, drop, get_or, refl, sym, ap, subst, arith}
 use Rattle.std.specs.List.{flat_map, AllByRecursion}
 use Rattle.std.proofs.lemmas.Bool.Decides.{eqb_tells}
 use Rattle.std.proofs.lemmas.Fmt.{decimal_by_steps, decimal_injective}
 use Rattle.std.proofs.lemmas.List.{at_drop_more, take-append-drop}
-use Rattle.cap_spec.specs.PathTexts.{IsBadAt, IsPath, IsStep, step_text, path_text}
+use Rattle.cap_spec.specs.PathTexts.{IsBadAt, IsStep, step_text, path_text}
 use Rattle.cap_spec.specs.declared.Step.{Step}
 use Rattle.cap_spec.specs.declared.Step.TheVariants.{Ptr, Item as item}
 use Rattle.cap_spec.proofs.Bytes.Lists.{all_append}
@@ -103,15 +103,6 @@ steps_end text Slash step more h are e none = not_slash step more (sym h.spells 
 steps_end text Pointer step more h are e none = (bad_end text [] Pointer h tt).none (step ∷ more, are, e)
 steps_end text Item step more h are e none = (bad_end text [] Item h tt).none (step ∷ more, are, e)
 steps_end text (Number s) step more h are e none = none s refl
-
--- Nothing is left of no steps, and something of others.
-pub none_left : (text : List ℕ) (at : ℕ) → text ≡ flat_map step_text [] → at < length text → ⊥
-none_left text at e lt = let f = ap length e in absurd (omega (arith, f, lt))
-
--- A step is read of at least one byte.
-pub some_read : (text : List ℕ) (at : ℕ) (s : Step) → HasRead (take at text) [] (Number s) → 0 < at
-some_read text at (Ptr i) h = let f = ap length h.spells in omega (arith, f, length-take at text)
-some_read text at (item i) h = let f = ap length h.spells in omega (arith, f, length-take at text)
 
 -- The step that is read is the first of those that are left,
 pub step_left : (old new : PathSteps) (result : Option Step) (step : Step) (more : List Step) → result ≡ Some step

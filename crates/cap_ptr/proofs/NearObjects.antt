@@ -1,10 +1,10 @@
 -- Why a pointer word alone describes its object.
-use Rattle.std.proofs.Common.{◌≡◌, ◌≢◌, ℕ, ◌+◌, ◌+ℤ◌, ◌*◌, ◌/◌, ◌^◌, ◌<◌, ◌≤◌, ◌⊎◌, inl, inr, List, length, pos, refl, arith, true, false, ◌==◌}
-use Rattle.std.proofs.lemmas.Bool.{lt-ltb, ne_eqb}
+use Rattle.std.proofs.Common.{◌≡◌, ◌≢◌, ℕ, ◌+◌, ◌+ℤ◌, ◌*◌, ◌/◌, ◌^◌, ◌≤◌, ◌⊎◌, inl, inr, List, length, pos, refl, arith, true, false, ◌==◌}
+use Rattle.std.proofs.lemmas.Bool.{ne_eqb}
 use Rattle.std.proofs.lemmas.Bool.Decides.{eqb_tells}
 use Rattle.cap_spec.specs.Words.{signed_offset_of}
 use Rattle.cap_spec.specs.Messages.{HasWord, segment_of}
-use Rattle.cap_spec.specs.Pointers.{code, element_bits, extent, list_words, middle}
+use Rattle.cap_spec.specs.Pointers.{code, element_bits, extent, list_words}
 use Rattle.cap_spec.specs.Following.{extra}
 use Rattle.cap_spec.proofs.Frames.Messages.{HasWord-segment}
 use Rattle.cap_spec.proofs.Trees.Charges.{extra_pointers, extra_struct}
@@ -13,10 +13,6 @@ use Rattle.cap_ptr.specs.Shapes.{FindsTarget, IsPlain, IsShape}
 use Rattle.cap_ptr.specs.declared.near.Row.{Row}
 use Rattle.cap_ptr.specs.declared.shapes.Shape.{Shape}
 use Rattle.cap_ptr.proofs.Pads.{object-lead, stands-near}
-
--- an offset that isn't negative
-pub offset-behind : (q : ℕ) → middle q < 2 ^ 29 → signed_offset_of q ≡ pos (middle q)
-offset-behind q h = rw (lt-ltb (middle q) (2 ^ 29) h) refl
 
 -- a word that describes its object alone has no tag,
 pub pointers-plain : (q n : ℕ) → HasPointers q n → IsPlain q

@@ -10,8 +10,6 @@ use Rattle.cap_path.specs.declared.reading.Reading.{Reading}
 use Rattle.cap_path.proofs.PathReading.{Unfinished, bad_end, bad_here, finished, slash_after_steps, slash_alone, unfinished_other, unfinished_slash}
 use Rattle.cap_path.proofs.ReadSteps.{HasRead, read_next, with_step}
 use Rattle.cap_path.proofs.StepsLeft.{path_steps}
-use Rattle.cap_path.specs.PathSteps.{AreLeft}
-use Rattle.cap_path.specs.declared.steps.PathSteps.{PathSteps}
 use Rattle.cap_path.proofs.steps.read_path.Goals as goal
 use Rattle.cap_path.proofs.steps.read_path.Goals.{in_default-via-in-Slash+else-text-eq1, in_default-via-in_default}
 

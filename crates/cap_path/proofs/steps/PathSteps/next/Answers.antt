@@ -8,7 +8,7 @@ use Rattle.cap_path.specs.PathReading.{ended_by, next_of}
 use Rattle.cap_path.specs.declared.reading.Reading.{Reading}
 use Rattle.cap_path.specs.declared.reading.Reading.TheVariants.{Number}
 use Rattle.cap_path.proofs.ReadSteps.{HasRead, read_next, with_step}
-use Rattle.cap_path.proofs.StepsLeft.{ended_is, first_read, last_read, none_left, steps_end, steps_go_on}
+use Rattle.cap_path.proofs.StepsLeft.{ended_is, first_read, last_read, steps_end, steps_go_on}
 use Rattle.cap_path.proofs.steps.PathSteps.next.Goals as goal
 
 pub returns-in-Some-clause-some : goal.returns-in-Some-clause-some
