@@ -1,5 +1,5 @@
 # What capvet does with a sample, all proofs and tests, what is installed, and how fast it is.
-.PHONY: run build install uninstall wheel dist test gate growths bench
+.PHONY: run build install uninstall wheel dist test gate growths times bench
 
 # Where things are installed. DESTDIR goes before each of these paths, and no installed file has it in its text.
 PREFIX ?= /usr/local
@@ -85,10 +85,10 @@ wheel: $(BUILT_ARCHIVE)
 test:
 	python3 tests/all.py
 
-# The same, and the prover has to refuse each must-fail edit. Then each allocation fails in turn, and a node that
-# outlives its message is refused.
+# The same with all cases of each script, and the prover has to refuse each must-fail edit. Then each allocation fails in
+# turn, and a node that outlives its message is refused.
 gate:
-	python3 tests/all.py --edits
+	python3 tests/all.py --edits --full
 	@$(MAKE) --no-print-directory growths
 	python3 tests/lifetimes.py
 
@@ -96,6 +96,12 @@ gate:
 growths:
 	python3 tests/growths.py
 	python3 tests/refusals.py build/capvet
+
+# Compares times of the packages for Go and Python and of archives, for which the machine may do nothing else.
+times:
+	python3 tests/go.py build/capvet build/libcapvet.a --idle
+	python3 tests/python.py build/capvet build/libcapvet.a --idle
+	python3 tests/scale.py build/capvet build/libcapvet.a --idle
 
 # Times the built program beside plain copying of the same bytes. Where Cap'n Proto's own C++ library and Rust
 # crate are installed, it times them too. Then it times the library's calls beside the C++ library, in one process, and

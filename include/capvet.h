@@ -150,7 +150,7 @@ static void (*const capvet_link_check)(void) __attribute__((used)) = capvet_abi_
  * Answers
  * ------------------------------------------------------------------------------------------------------ */
 
-/* What a call returns. Numbers never change. Later versions may add some, so treat unknown answers as
+/* The answer of a call. Numbers never change. Later versions may add some, so treat unknown answers as
  * refusals.
  *
  *   - 1 to 7: the bytes hold no complete frame, or more than the frame
@@ -265,10 +265,10 @@ CAPVET_INLINE const char *capvet_answer_name(uint32_t answer) CAPVET_NOEXCEPT {
  *
  * CAPVET_BAD_LIMITS: it is set in another call, or together with CAPVET_ALLOW_TRAILING. */
 
-/* How many words the charge may be above the words of the segments, unless CAPVET_ALLOW_AMPLIFIED is set. */
+/* The charge may exceed the words of the segments by this number, unless CAPVET_ALLOW_AMPLIFIED is set. */
 #define CAPVET_SLACK 4096
 
-/* What a call accepts. All zero is valid, and refuses nearly everything. Begin with CAPVET_LIMITS_INIT or
+/* The limits of a call. All zero is valid, and refuses nearly everything. Begin with CAPVET_LIMITS_INIT or
  * capvet_limits_default, and change fields.
  *
  * A higher limit or an additional CAPVET_ALLOW_ flag never refuses more, unless it gives CAPVET_BAD_LIMITS.
@@ -291,7 +291,7 @@ __attribute__((nonnull(1)))
 #endif
 void capvet_limits_default(capvet_limits *limits) CAPVET_NOEXCEPT;
 
-/* What a call reports besides its answer. A field is 0 where its comment does not apply.
+/* The report of a call, besides its answer. A field is 0 where its comment does not apply.
  *
  * The tree numbers (charge, pointers, capabilities, depth) are set if the call checked the whole message and
  * accepted it: CAPVET_OK, CAPVET_NOT_CANONICAL, CAPVET_HAS_CAPABILITY, CAPVET_BUFFER_TOO_SMALL.
@@ -641,7 +641,7 @@ capvet_answer capvet_pack_message(const uint8_t *bytes, size_t length, const cap
                                   uint8_t *out, size_t out_size, size_t *required,
                                   capvet_report *report) CAPVET_NOEXCEPT;
 
-/* How far a message of a packed stream is unpacked. All zero is the start of a stream. */
+/* The state of unpacking a message of a packed stream. All zero is the start of a stream. */
 typedef struct capvet_unpacking {
   uint64_t written;       /* how many bytes of the current message `out` has; 0 after CAPVET_OK */
   uint32_t zero_words;    /* words of zeros that the last run still has */

@@ -1,10 +1,10 @@
 #!/usr/bin/env python3
 """Proves and tests all of it: the proofs, then the built program and archive, as their users run and install them.
 
-    all.py [--edits]
+    all.py [--edits] [--full]
 
-With --edits the prover also has to refuse each must-fail edit. The scripts after the proofs run side by side, one for each
-core. What each of them writes is shown at its end, in the order of SCRIPTS. Each step ends with a line 'N passed, M failed'.
+With --edits the prover also has to refuse each must-fail edit. With --full the scripts make all of their cases. They run
+after the proofs, side by side, one for each core. What each of them writes is shown at its end, in the order of SCRIPTS. Each step ends with a line 'N passed, M failed'.
 A table of the steps follows them, with the time that each took and the processor time of all its processes. The last line
 sums up the cases, and the status is 1 where one failed. Where the proofs fail, nothing else is run.
 """
@@ -16,6 +16,8 @@ import time
 from concurrent.futures import ThreadPoolExecutor
 from dataclasses import dataclass
 from pathlib import Path
+
+from amount import IS_FULL
 
 TOP = Path(__file__).resolve().parent.parent
 PROGRAM, ARCHIVE = "build/capvet", "build/libcapvet.a"
@@ -80,12 +82,13 @@ def run(name, words, show):
 def run_apart(name, words):
     """Runs a script beside others, and keeps what it writes."""
     lines = []
-    step = run(name, words, lines.append)
+    step = run(name, words + ["--full"] * IS_FULL, lines.append)
     step.text = "".join(lines)
     return step
 
 
 def main(words):
+    begin = time.monotonic()
     if words not in ([], ["--edits"]):
         sys.exit(__doc__)
     steps = [run("proofs and must-fail edits" if words else "proofs", ["prove.py", *words],
@@ -96,6 +99,7 @@ def main(words):
                 print(step.text, end="", flush=True)
                 steps.append(step)
     print("\n" + "\n".join(step.line for step in steps))
+    print(f"all of it took {minutes(time.monotonic() - begin)}")
     passed, failed = sum(step.passed for step in steps), sum(step.failed for step in steps)
     print(f"{passed} passed, {failed} failed")
     return failed > 0

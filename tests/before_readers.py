@@ -2,20 +2,20 @@
 """Vets messages before Cap'n Proto's own C++ library and the Rust crate `capnp` read them, by include/capvet/kj.h and
 by bindings/rust-capnp.
 
-    before_readers.py PROGRAM ARCHIVE [MANY]
+    before_readers.py PROGRAM ARCHIVE [--full]
 
-MANY messages of fixed seeds are changed (5,000 if no number is given) and vetted in process. What is refused has to
+Many messages of fixed seeds are changed and vetted in process: 1,000, or 5,000 with --full. What is refused has to
 have the line of `capvet vet --strict --unamplified`. What is accepted is read under no more than the limits that a
 message needs, and no reading may fail: the readers have to find the bytes, the pointers and the capabilities of the
 model in tests/readers.py.
 
-MANY changed messages of RPC are also sent to a server over `VettingStream`, on loopback, each on a connection of its
+As many changed messages of RPC are also sent to a server over `VettingStream`, on loopback, each on a connection of its
 own. Each has to be refused or accepted as the program does. No exception may come from reading pointers or from limits,
 and a client has to get the same results afterwards. Calls have the same results with vetting and without.
 
-All of it runs again with the checks of memory that gcc and clang have, with a tenth of the messages. valgrind counts
-the instructions of calls, with vetting and without. What isn't installed is said in a line of its own. The last line is
-'N passed, M failed', and the status is 1 if a case failed.
+All of it runs again with the checks of memory that clang has, or else gcc, with a tenth of the messages. With --full it
+runs with the checks of both, and valgrind counts the instructions of calls, with vetting and without. What isn't installed
+is said in a line of its own. The last line is 'N passed, M failed', and the status is 1 if a case failed.
 """
 import os
 import random
@@ -33,14 +33,15 @@ from pathlib import Path
 import install
 import readers
 import trees
+from amount import IS_FULL, cases
 from install import PROGRAM, TOP, compare, make, missing
 from readers import Tree, framed
 
 CPP = TOP / "examples/cpp"
 STRICT = ("-std=c++17", "-Wall", "-Wextra", "-Wpedantic", "-Wconversion", "-Werror")
-CHECKED = ("-O1", "-g", "-fsanitize=address,undefined", "-fno-sanitize-recover=all")
+CHECKED = ("-O0", "-g", "-fsanitize=address,undefined", "-fno-sanitize-recover=all")
 CARGO = ("--offline", "--quiet")
-MANY = 5_000
+MANY = cases(1_000, full=5_000)
 # The most instructions of a call to a server with vetting, as a part of those without.
 MOST = {"small": 1.03, "list": 1.3}
 # How many of the frames of valid calls come before a changed message.
@@ -255,6 +256,12 @@ def has_checks(compiler, folder):
     return False
 
 
+def checkers(folder):
+    """The compilers with checks of memory. Without --full it is the first one, which is also the faster one."""
+    found = (compiler for compiler in ("clang++", "c++") if has_checks(compiler, folder))
+    return list(found) if IS_FULL else list(found)[:1]
+
+
 def from_cplusplus(folder, prefix, environment, count):
     if any(missing("messages before libcapnp", tool) for tool in ("c++", "pkg-config", "capnp")):
         return
@@ -281,10 +288,8 @@ def from_cplusplus(folder, prefix, environment, count):
             command = ["clang++", *STRICT, "-fsyntax-only", "-I", folder, *link[:1], source]
             compare(f"clang++ {name}", ("", 0), run(command))
     suffixes = {"": count}
-    for compiler in ("c++", "clang++"):
+    for compiler in checkers(folder):
         suffix = f"-checked-{compiler}"
-        if not has_checks(compiler, folder):
-            continue
         suffixes[suffix] = count // 10
         for name in ("vetted", "rpc"):
             files = [sources[name]] if name == "vetted" else [sources[name], made]
@@ -294,7 +299,8 @@ def from_cplusplus(folder, prefix, environment, count):
         vetted(f"vetted{suffix}", [folder / f"vetted{suffix}"], many, folder)
         streams(f"rpc{suffix} streams", folder / f"rpc{suffix}")
         attacked(f"rpc{suffix}", folder / f"rpc{suffix}", many, folder)
-    cost(folder / "rpc")
+    if IS_FULL:
+        cost(folder / "rpc")
     example(folder)
     by_cmake(folder, prefix)
 
@@ -333,13 +339,12 @@ def from_rust(folder, environment, count):
 
 
 def main():
-    count = int(sys.argv[3]) if len(sys.argv) > 3 else MANY
     with tempfile.TemporaryDirectory() as scratch:
         folder, prefix = Path(scratch), Path(scratch) / "x"
         compare("make install", ("", 0), make("install", scratch, f"PREFIX={prefix}"))
         environment = {**os.environ, "PKG_CONFIG_PATH": str(prefix / "lib/pkgconfig")}
-        from_cplusplus(folder, prefix, environment, count)
-        from_rust(folder, environment, count)
+        from_cplusplus(folder, prefix, environment, MANY)
+        from_rust(folder, environment, MANY)
     return install.ended()
 
 

@@ -1,31 +1,30 @@
 #!/usr/bin/env python3
 """Builds the C programs of tests/c over the built archive, and runs them, beside the built program.
 
-    calls.py ARCHIVE PROGRAM [messages | packed | streams | flags | nodes]
+    calls.py ARCHIVE PROGRAM [messages | packed | streams | flags | nodes] [--full]
 
 With a word only that part is tested: what is about messages, packed bytes, packed messages (`streams`), flags and
-reports, or nodes.
+reports, or nodes. MANY is 20,000, and with --full 100,000.
 
 The header alone is compiled in each standard of C and C++ that it is promised for. `calls` looks at known
 buffers, and `allocations` counts how often memory is taken.
 
 `lines` writes what the program writes for a stream, and both outputs are compared. The streams are the samples, each
-prefix of one of them, and 100,000 messages of a fixed seed, most of which are samples with changed bytes. The canonical
+prefix of one of them, and MANY messages of a fixed seed, most of which are samples with changed bytes. The canonical
 copies of as many messages are compared too, with the line of some that have none. So are the words of packed texts: of
-the samples, of each prefix of one, and of 1,000 that are made up. `texts` unpacks 100,000 texts, many with changed bytes.
+the samples, of each prefix of one, and of some that are made up. `texts` unpacks MANY texts, many with changed bytes.
 
 `flags` makes calls with flags, and each field of their reports is compared with tests/model.py: see tests/flags.py.
-`nodes` gets the nodes at 100,000 paths, which are compared with tests/nodes.py, and `ranges` those of 40,000 ranges of
-paths, which are compared with tests/ranges.py.
+`nodes` gets the nodes at MANY paths, which are compared with tests/nodes.py, and `ranges` those of ranges of paths, which
+are compared with tests/ranges.py.
 
-`packing` looks at known words, and packs 100,000 lists of words, as the program does. They are the samples, each prefix
+`packing` looks at known words, and packs MANY lists of words, as the program does. They are the samples, each prefix
 of one, changed ones, runs of about the greatest length of a group, and words of few kinds.
 
-`messages` packs the samples and 20,000 made messages of 1 to 20 segments. Where Cap'n Proto's C++ library is installed,
+`messages` packs the samples and made messages of 1 to 20 segments, a fifth of MANY. Where Cap'n Proto's C++ library is installed,
 the bytes are those that its writePackedMessage gives. `pieces` unpacks packed streams a piece at a time, and what it finds
 is compared with a model here: samples and made messages, packed each by itself or as a whole, and cut at each byte.
-`unpacking` makes the calls over 100,000 packed streams, many with changed bytes, and each is compared with
-tests/unpacking.py.
+`unpacking` makes the calls over packed streams, many with changed bytes, and each is compared with tests/unpacking.py.
 
 All but `allocations` run with the compiler's checks of memory, and `calls`, `texts`, `packing`, `messages`, `pieces`,
 `unpacking`, `nodes` and `ranges` under valgrind, where these are installed. The last line is 'N passed, M failed', and the status is
@@ -46,22 +45,28 @@ import nodes
 import ranges
 import strict
 import unpacking
+from amount import cases
 
 TOP = Path(__file__).resolve().parent.parent
 WARN = ["-Wall", "-Wextra", "-pedantic", "-Werror", f"-I{TOP / 'include'}"]
 CHECKS = ["-fsanitize=address,undefined", "-fno-sanitize-recover=all"]
-MANY = 100_000
+MANY = cases(20_000, full=100_000)
 SEED = 20240229
+# Packed texts that the program and the library unpack each by a run of its own.
+TEXTS = cases(400, full=1000)
+# Of this number of lists of words one is also packed under valgrind, and of packed texts one is unpacked.
+WATCHED = cases(10, full=1)
 passed = failed = 0
 
 
 def told(name, holds, said=""):
+    """A case. What it is and what was seen are texts, or calls that make them, since most of them are never shown."""
     global passed, failed
     if holds:
         passed += 1
     else:
         failed += 1
-        print(f"FAILED: {name}\n{said}")
+        print("FAILED:", "\n".join(text() if callable(text) else str(text) for text in (name, said)))
 
 
 def run(command):
@@ -213,7 +218,7 @@ def compare(lines, program):
                 told(f"{command} of stream {path} of {len(stream)} bytes",
                      (got.stdout, got.stderr, got.returncode) == (wanted.stdout, wanted.stderr, wanted.returncode),
                      f"  {got.returncode} {got.stderr[:300]!r}\n  {wanted.returncode} {wanted.stderr[:300]!r}")
-    told("messages with a word that is used twice", overlaps >= 1000, f"{overlaps}")
+    told("messages with a word that is used twice", 100 * overlaps >= MANY, f"{overlaps}")
     print(f"calls: {count} lines compared with the program's, {overlaps} of a word that is used twice")
 
 
@@ -257,7 +262,7 @@ def compare_copies(lines, program):
 
 
 def plain_texts(chance):
-    """100,000 lists of bytes to be packed, some of which end inside a word."""
+    """Lists of bytes to be packed, some of which end inside a word."""
     messages = samples()
     small = min(messages, key=len)
     kinds = (bytes(8), b"\x8a" * 8, b"\x8a" * 7 + b"\0", b"\0" + b"\x8a" * 6 + b"\0", b"\0\x8a" * 4, b"\0" * 7 + b"\x8a")
@@ -288,19 +293,21 @@ def compare_packed(packing, watched, program):
         got = subprocess.run([packing, path], capture_output=True)
         told("packing, with its checks", (got.returncode, got.stderr) == (0, b""), got.stderr)
         if watched is not None and shutil.which("valgrind"):
+            path.write_bytes(b"".join(struct.pack("<I", len(text)) + text for text in (whole + cut)[::WATCHED]))
+            wanted = subprocess.run([packing, path], capture_output=True).stdout
             ran = subprocess.run(["valgrind", "-q", "--error-exitcode=9", watched, path], capture_output=True)
-            told("packing, under valgrind", (ran.returncode, ran.stdout) == (0, got.stdout), ran.stderr)
+            told("packing, under valgrind", (ran.returncode, ran.stdout) == (0, wanted), ran.stderr)
     at = place = 0
     for text in whole:
         size = struct.unpack_from("<I", got.stdout, at)[0]
         packed = got.stdout[at + 4:at + 4 + size]
-        told(f"pack of {text.hex()}", given[place:place + size + 5] == packed + end_text, f"  {packed.hex()}")
+        told(lambda: f"pack of {text.hex()}", given[place:place + size + 5] == packed + end_text, lambda: f"  {packed.hex()}")
         at, place = at + 4 + size, place + size + 5
     told("no other text was packed", place == len(given) and got.stdout[at:] == b"\xff" * 4 * len(cut))
     for text in cut[:50]:
         ran = subprocess.run([program, "pack"], input=text, capture_output=True)
         told(f"pack of {text.hex()}", ran.stderr.decode() == f"capvet: Truncated at byte {len(text)}\n", ran.stderr)
-    told("texts of both kinds", len(cut) >= 1000, f"{len(cut)} cut")
+    told("texts of both kinds", 100 * len(cut) >= MANY, f"{len(cut)} cut")
     print(f"calls: {len(whole)} lists of words packed as the program does, and {len(cut)} that are cut")
 
 
@@ -349,7 +356,7 @@ def parts_of(output):
 def test_packed_messages(folder, compiler, archive, program):
     """Messages that are packed, each part by itself, beside those of Cap'n Proto's own library."""
     chance = random.Random(SEED)
-    frames = samples() + [made_frame(chance) for _ in range(20_000)]
+    frames = samples() + [made_frame(chance) for _ in range(MANY // 5)]
     path = folder / "frames"
     path.write_bytes(b"".join(struct.pack("<I", len(frame)) + frame for frame in frames))
     packing = compiled(folder, "messages", compiler, "c11", archive, "-O1", *CHECKS)
@@ -372,7 +379,7 @@ def test_packed_messages(folder, compiler, archive, program):
         print("calls: packed messages weren't compared with those of Cap'n Proto's C++ library, which isn't installed")
         return
     for frame, text, wanted in zip(frames, texts, parts_of(output)):
-        told(f"the packed message {frame.hex()}", text == wanted, f"  {text.hex()}\n  {wanted.hex()}")
+        told(lambda: f"the packed message {frame.hex()}", text == wanted, lambda: f"  {text.hex()}\n  {wanted.hex()}")
     print(f"calls: {len(texts)} messages packed as Cap'n Proto's C++ library does")
 
 
@@ -423,7 +430,7 @@ def packed_streams(texts, frames, program, chance):
     small_frames = [frame for frame in frames if len(frame) < 300]
     for text in texts[:7]:
         yield 1000, text
-    for number in range(400):
+    for number in range(cases(100, full=400)):
         some = [chance.choice(small) for _ in range(chance.randrange(1, 5))]
         joined = b"".join(chance.choice(small_frames) for _ in range(chance.randrange(1, 5)))
         joined += chance.choice((b"", bytes(8), bytes(32)))
@@ -431,7 +438,7 @@ def packed_streams(texts, frames, program, chance):
         for text in (b"".join(some), run):
             for piece in (1, 7, 64, 1 << 20):
                 yield piece, text
-            if number < 20 and len(text) < 600:
+            if number < cases(5, full=20) and len(text) < 600:
                 for end in range(len(text)):
                     yield chance.choice((1, 3, 1 << 20)), text[:end]
 
@@ -456,7 +463,8 @@ def test_pieces(folder, compiler, archive, program, texts, frames):
     for piece, text in cases:
         wanted, answer = frames_of_text(text)
         known = b"".join(struct.pack("<I", len(frame)) + frame for frame in wanted) + struct.pack("<II", 0xFFFFFFFF, answer)
-        told(f"pieces of {piece} of {text.hex()}", got.stdout[at:at + len(known)] == known, got.stdout[at:at + len(known)].hex())
+        found = got.stdout[at:at + len(known)]
+        told(lambda: f"pieces of {piece} of {text.hex()}", found == known, found.hex)
         at, count = at + len(known), count + len(wanted)
     told("no more messages", at == len(got.stdout))
     print(f"calls: {len(cases)} packed streams unpacked in pieces, {count} messages")
@@ -477,7 +485,7 @@ def packed_texts(program, chance):
     small = min(texts, key=len)
     for end in range(len(small)):
         yield small[:end]
-    for _ in range(1000):
+    for _ in range(TEXTS):
         yield bytes(chance.choice((0, 0xFF, 0x11, 1, 2, chance.randrange(256))) for _ in range(chance.randrange(64)))
 
 
@@ -495,7 +503,7 @@ def compare_words(lines, program):
                  (got.stdout, got.stderr, got.returncode) == (wanted.stdout if is_whole else b"", wanted.stderr,
                                                               wanted.returncode),
                  f"  {got.returncode} {got.stderr[:300]!r}\n  {wanted.returncode} {wanted.stderr[:300]!r}")
-    told("packed texts of both kinds", whole >= 50 and cut >= 50, f"{whole} whole, {cut} cut")
+    told("packed texts of both kinds", 20 * min(whole, cut) >= TEXTS, f"{whole} whole, {cut} cut")
     print(f"calls: the words of {whole} packed texts compared with the program's, and {cut} that are cut")
 
 
@@ -524,7 +532,7 @@ def changed_text(text, chance):
 
 
 def many_texts(program, chance):
-    """100,000 packed texts: made of groups, the small samples, both of them changed, and bytes as they come."""
+    """Packed texts: made of groups, the small samples, both of them changed, and bytes as they come."""
     packed = [subprocess.run([program, "pack"], input=message, stdout=subprocess.PIPE).stdout for message in samples()]
     small = [text for text in packed if len(text) < 500]
     for _ in range(MANY):
@@ -553,8 +561,10 @@ def compare_texts(texts, watched, program):
         got = subprocess.run([texts, path], capture_output=True)
         told("texts, with its checks", (got.returncode, got.stderr) == (0, b""), got.stderr)
         if watched is not None and shutil.which("valgrind"):
+            path.write_bytes(b"".join(struct.pack("<I", len(text)) + text for text in many[::WATCHED]))
+            wanted = subprocess.run([texts, path], capture_output=True).stdout
             ran = subprocess.run(["valgrind", "-q", "--error-exitcode=9", "--leak-check=full", watched, path], capture_output=True)
-            told("texts, under valgrind", (ran.returncode, ran.stdout) == (0, got.stdout), ran.stderr)
+            told("texts, under valgrind", (ran.returncode, ran.stdout) == (0, wanted), ran.stderr)
     found = list(words_of(got.stdout))
     told("a result for each text", len(found) == len(many), f"{len(found)}")
     text = words = b""
@@ -565,11 +575,11 @@ def compare_texts(texts, watched, program):
             fault = f"capvet: Truncated at byte {len(text)}\n" if its is None else ""
             # (of a text that is cut the program also writes the words before that)
             holds = ran.stdout.startswith(words) if its is None else ran.stdout == words
-            told(f"unpack of {text.hex()}", holds and (ran.stderr.decode(), ran.returncode) == (fault, int(its is None)),
-                 f"  wanted {words.hex()} {fault!r}\n  got {ran.stdout.hex()} {ran.returncode} {ran.stderr!r}")
+            told(lambda: f"unpack of {text.hex()}", holds and (ran.stderr.decode(), ran.returncode) == (fault, int(its is None)),
+                 lambda: f"  wanted {words.hex()} {fault!r}\n  got {ran.stdout.hex()} {ran.returncode} {ran.stderr!r}")
             text = words = b""
     cut = found.count(None)
-    told("texts of both kinds", 1000 <= cut <= len(many) // 2, f"{cut} cut")
+    told("texts of both kinds", len(many) // 100 <= cut <= len(many) // 2, f"{cut} cut")
     print(f"calls: {len(many) - cut} packed texts unpacked as the program does, and {cut} that are cut")
 
 

@@ -1,11 +1,11 @@
 #!/usr/bin/env python3
 """Runs `capvet filter` over samples, changed messages, pipes and devices that fail, beside `capvet vet`.
 
-    filter.py PROGRAM [MANY]
+    filter.py PROGRAM [--full]
 
 `vet` with the same options writes a line for each message, and a reader of frames in this file cuts the stream. The
 frames of the accepted messages, with zero padding, have to be the output. The lines of the others have to be standard
-error. MANY messages of fixed seeds are changed (10,000 if no number is given). What is passed on has to be accepted by
+error. 5,000 messages of a fixed seed are changed, or 10,000 with --full. What is passed on has to be accepted by
 `vet --strict --unamplified`. Packed output has to be each table and each segment packed by itself, and `capnp convert`
 has to read it.
 
@@ -35,11 +35,12 @@ from pathlib import Path
 import demands
 import readers
 import trees
+from amount import cases
 from calls import TOP, made_up
 from packing import packed
 
 PROGRAM = Path(sys.argv[1]).resolve()
-MANY = 10_000
+MANY = cases(5_000, full=10_000)
 MIB = 1 << 20
 SECONDS = 60
 FAILED = b"capvet: output failed\n"
@@ -734,8 +735,7 @@ def large_messages():
 
 
 def main():
-    count = int(sys.argv[2]) if len(sys.argv) > 2 else MANY
-    messages = [*runs(), *changed(count)]
+    messages = [*runs(), *changed(MANY)]
     over_samples()
     over_changed(messages)
     stopping(messages)

@@ -1,12 +1,12 @@
 #!/usr/bin/env python3
 """Takes the package in bindings/go as its users do: over an installed library, found by pkg-config.
 
-    go.py [PROGRAM [ARCHIVE [full]]]
+    go.py [PROGRAM [ARCHIVE]] [--full] [--idle]
 
 Its tests run with the race detector and compare it with PROGRAM. The example and the commands of docs/go.md write what the
-program and the page show, and a call of a small message is timed beside the same call from C. With `full` 20,000 changed
-messages are compared, the streams are cut at each byte, and the call has to take at most OVERHEAD more than from C.
-A line says what isn't tested without `go`. The last line is 'N passed, M failed', and the status is 1 if a case failed.
+program and the page show, and a call of a small message is timed beside the same call from C. With --full 20,000 changed
+messages are compared, and the streams are cut at each byte. With --idle the call has to take at most OVERHEAD more than from
+C, for which the machine may do nothing else. A line says what isn't tested without `go`. The last line is 'N passed, M failed', and the status is 1 if a case failed.
 """
 import os
 import re
@@ -17,13 +17,13 @@ from pathlib import Path
 
 import install
 import library
+from amount import IS_FULL, IS_IDLE
 from install import PROGRAM, TOP, compare, make, missing, run
 
 # The most that a call from Go takes above the same call from C, in nanoseconds.
 OVERHEAD = 200
 MODULES = ("bindings/go", "examples/go", "tests/go/cost")
-FULL = sys.argv[3:] == ["full"]
-COUNTS = ["-changed", "20000", "-cuts", "1"] if FULL else []
+COUNTS = ["-changed", "20000", "-cuts", "1"] if IS_FULL else []
 
 
 def go(name, words, folder, environment):
@@ -62,7 +62,7 @@ def example(top, folder, environment):
 
 
 def timed(top, folder, environment):
-    """Prints the times of a call of a small message. With `full` that from Go takes at most OVERHEAD nanoseconds more."""
+    """Prints the times of a call of a small message. With --idle that from Go takes at most OVERHEAD nanoseconds more."""
     program = folder / "cost"
     go("go build of the call that is timed", ["build", "-o", str(program), "."], top / "tests/go/cost", environment)
     text, status = run([program, TOP / "examples/shared.bin"])
@@ -70,8 +70,7 @@ def timed(top, folder, environment):
     if status == 0:
         in_c, in_go = (float(word) for word in text.split())
         print(f"a call of 40 bytes takes {in_c} ns from C and {in_go} ns from Go")
-        # (other scripts of `make test` run at the same time, so times mean nothing there)
-        if FULL:
+        if IS_IDLE:
             compare(f"a call from Go takes at most {OVERHEAD} ns more than {in_c} ns", True, in_go - in_c <= OVERHEAD)
 
 

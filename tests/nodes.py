@@ -11,6 +11,7 @@ from collections import Counter
 from pathlib import Path
 
 import model
+from amount import cases
 from flags import framed as made
 from model import FIELDS, SLACK, Limits, Refused, followed, framed, lax_form
 from trees import BITS, bits, hexadecimal
@@ -20,8 +21,8 @@ KINDS = dict(null=0, struct=1, list=2, pointers=3, structs=4, cap=5)
 NODE = ("kind", "element", "count", "data_words", "pointers", "capability", "offset", "length")
 # the answer, the node and the report, with the reserved fields
 REPLY = struct.Struct("<I6I2Q2Q6Q4I4Q")
-MANY = 100_000
-LEAST = 20_000
+MANY = cases(20_000, full=100_000)
+LEAST = MANY // 5
 
 
 def steps_of(text):
@@ -272,8 +273,8 @@ def compare(told, program, many):
     for (data, limits, path), reply in zip(many, found):
         wanted = got(data, limits, path)
         node, report = reply[1:11], reply[11:]
-        told(f"get {path} of {data.hex()} in {limits}",
-             (reply[0], node[:8], report[:10]) == wanted and not any(node[8:] + report[10:]), f"  {reply}\n  {wanted}")
+        told(lambda: f"get {path} of {data.hex()} in {limits}",
+             (reply[0], node[:8], report[:10]) == wanted and not any(node[8:] + report[10:]), lambda: f"  {reply}\n  {wanted}")
         answers[reply[0]] += 1
         if reply[0] >= 18 and reply[0] != ANSWERS["NO_NODE"]:
             on += 1
@@ -282,17 +283,19 @@ def compare(told, program, many):
         if reply[0] in (0, ANSWERS["NO_NODE"]):
             beside += seen[data, limits]
         elif reply[0] not in (ANSWERS["BAD_LIMITS"], ANSWERS["BAD_PATH"]):
-            told(f"{path} of {data.hex()} in {limits} is refused, so the message is", seen[data, limits], f"  {reply}")
+            told(lambda: f"{path} of {data.hex()} in {limits} is refused, so the message is", seen[data, limits],
+                 lambda: f"  {reply}")
         if reply[0] == 0:
-            told(f"bytes of {path} of {data.hex()}", object_bytes(data[:report[0]], node[:8]) is not None, f"  {reply}")
+            told(lambda: f"bytes of {path} of {data.hex()}", object_bytes(data[:report[0]], node[:8]) is not None,
+                 lambda: f"  {reply}")
     return answers, beside, on
 
 
 def compare_with_program(told, asking, program, samples, made_up, changed, chance):
     """The nodes of accepted messages, beside what the program prints for them."""
     small = [message for message in samples if len(message) < 1000]
-    limits, nodes = Limits(flags=6), 0
-    for _ in range(200):
+    limits, nodes, times = Limits(flags=6), 0, cases(40, full=200)
+    for _ in range(times):
         messages = samples + [made_up(chance) if chance.randrange(3) == 0 else changed(chance.choice(small), chance)
                               for _ in range(120)]
         good = [data for data in messages if model.called(model.VET, data, limits, 0)[0] == 0]
@@ -307,7 +310,7 @@ def compare_with_program(told, asking, program, samples, made_up, changed, chanc
             nodes += is_node
             lines += [f"message {number}: {'found' if is_node else 'none'}", *(own_lines(data, reply[1:9]) if is_node else ())]
         told(f"get {text} of {len(good)} messages", ran.stdout == "".join(line + "\n" for line in lines), ran.stdout[:500])
-    told("nodes of accepted messages", nodes >= 2000, f"{nodes}")
+    told("nodes of accepted messages", nodes >= 10 * times, f"{nodes}")
     return nodes
 
 
@@ -323,7 +326,7 @@ def test(told, asking, watched, program, samples, made_up, changed, chance):
     watch(told, watched, asking, [next(calls) for _ in range(2000)])
     answers, beside, on, paths = Counter(), 0, 0, 0
     while paths < MANY:
-        many = [next(calls) for _ in range(20_000)]
+        many = [next(calls) for _ in range(min(20_000, MANY))]
         more, off, at = compare(told, asking, many)
         answers, beside, on, paths = answers + more, beside + off, on + at, paths + len(many)
     told("paths with a fault beside them", beside >= LEAST, f"{beside}")

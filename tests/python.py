@@ -1,9 +1,10 @@
 #!/usr/bin/env python3
 """Builds the wheel of bindings/python over the archive, installs it in fresh environments, and runs its tests.
 
-    python.py [PROGRAM [ARCHIVE]] [--full]
+    python.py [PROGRAM [ARCHIVE]] [--full] [--idle]
 
-With --full the tests make 20,000 cases and a million calls, and compare times, which needs an idle machine. The environments
+With --full the tests make 20,000 cases and a million calls, and valgrind counts the instructions of a call. With --idle they
+compare times, for which the machine may do nothing else. The environments
 take cffi, pytest and hypothesis from the interpreter that has them: Debian's, or the first python3 on the path. Without a
 tool, a line says what isn't tested. The last line is 'N passed, M failed', and the status is 1 where a case failed.
 """
@@ -17,12 +18,12 @@ import tempfile
 from pathlib import Path
 
 import install
+from amount import IS_FULL, IS_IDLE, cases
 from install import ARCHIVE, PROGRAM, TOP, compare, make, missing
 
 BUILDERS = "import cffi, setuptools, venv, wheel"
 TESTERS = "import hypothesis, pytest"
 PIP = ("-m", "pip", "--disable-pip-version-check")
-IS_FULL = "--full" in sys.argv
 
 
 def run(command, **how):
@@ -73,9 +74,10 @@ def tested(python, folder):
     if run([python, "-c", TESTERS])[1]:
         print("not tested, without pytest and hypothesis: the calls of the package for Python")
         return
-    counts = dict(CAPVET_CASES="20000", CAPVET_CALLS="1000000", CAPVET_IDLE="1") if IS_FULL else dict(CAPVET_CASES="600")
+    counts = dict(CAPVET_CASES=str(cases(600, full=20_000)), CAPVET_CALLS=str(cases(100_000, full=1_000_000)))
+    counts |= dict(CAPVET_IDLE="1") if IS_IDLE else {}
     variables = {**os.environ, "CAPVET_PROGRAM": str(PROGRAM), "PYTHONDONTWRITEBYTECODE": "1", **counts}
-    text, status = run([python, "-m", "pytest", "-q", "-rs", "-p", "no:cacheprovider", *["-s"] * IS_FULL, "."],
+    text, status = run([python, "-m", "pytest", "-q", "-rs", "-p", "no:cacheprovider", *["-s"] * IS_IDLE, "."],
                        cwd=TOP / "bindings/python/tests", env=variables)
     counted = {word: int(number) for number, word in re.findall(r"(\d+) (passed|failed|error|skipped)", text)}
     install.passed += counted.get("passed", 0)

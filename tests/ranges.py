@@ -11,12 +11,14 @@ from collections import Counter
 from pathlib import Path
 
 import nodes
+from amount import cases
 from model import Limits
 from nodes import ANSWERS, NODE
 
 KINDS = "pi"
 NODE_FIELDS, REPORT = struct.Struct("<6I2Q2Q"), struct.Struct("<6Q4I4Q")
-MANY, LEAST = 40_000, 2_000
+MANY = cases(10_000, full=40_000)
+LEAST = MANY // 20
 # A root of two pointers. The first is to a list of three structs of a word and a pointer: to a byte, null, and out of bounds.
 THREE = nodes.made([2 << 48, 1 | 1 << 2 | 7 << 32 | 6 << 35, 3 | 5 << 32, 3 << 2 | 1 << 32 | 1 << 48,
                     10, 1 | 4 << 2 | 2 << 32 | 1 << 35, 11, 0, 12, 1 | 1000 << 2 | 2 << 32 | 1 << 35, 7])
@@ -127,9 +129,9 @@ def compare(told, program, many):
         wanted = got(data, limits, steps, varying, count)
         # (the fields of a node and of a report are followed by reserved ones)
         reserved = [*report[10:], *(number for node in found for number in node[len(NODE):])]
-        told(f"range {steps} {varying} {count} of {data.hex()} in {limits}",
+        told(lambda: f"range {steps} {varying} {count} of {data.hex()} in {limits}",
              (answer, [node[:len(NODE)] for node in found], report[:10]) == wanted and not any(reserved),
-             f"  {answer} {found} {report}\n  {wanted}")
+             lambda: f"  {answer} {found} {report}\n  {wanted}")
     return [(answer, len(found), report) for answer, found, report in made]
 
 

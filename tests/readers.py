@@ -1,10 +1,10 @@
 #!/usr/bin/env python3
 """Reads messages by Cap'n Proto's own C++ library and by the Rust crate `capnp`, beside the built program.
 
-    readers.py PROGRAM [MANY]
+    readers.py PROGRAM [--full]
 
 A message is strict if it is accepted, has at most 511 segments, and no pointer that a path reaches is of one of three
-constructs that a reader fails on. MANY messages of fixed seeds are changed (200,000 if no number is given). Each strict one
+constructs that a reader fails on. 20,000 messages of fixed seeds are changed, or 200,000 with --full. Each strict one
 is read under the limits that the guide gives for a reader. No reading may fail. The readers have to find the bytes, the
 pointers and the capabilities that a model here finds, and to make the canonical copy that the program makes.
 
@@ -26,12 +26,13 @@ from itertools import zip_longest
 from pathlib import Path
 
 import trees
+from amount import cases
 from calls import TOP, made_up
 from model import SLACK
 
 HERE = TOP / "tests/readers"
 BITS = (0, 1, 8, 16, 32, 64)
-MANY = 200_000
+MANY = cases(20_000, full=200_000)
 BATCH = 50_000
 CONTENTS = 30
 # The limit of the charge, which a reader goes through word by word.
@@ -393,11 +394,10 @@ class Tests:
 
 def main():
     program = Path(sys.argv[1]).resolve()
-    count = int(sys.argv[2]) if len(sys.argv) > 2 else MANY
     with tempfile.TemporaryDirectory() as folder:
         tests = Tests(program, build(Path(folder)), Path(folder))
         tests.constructs()
-        tests.many(tests.of_encoders(), count)
+        tests.many(tests.of_encoders(), MANY)
     print(f"{passed} passed, {failed} failed")
     return 1 if failed else 0
 

@@ -1,10 +1,11 @@
 #!/usr/bin/env python3
 """Runs what docs/scale.md shows: files by GNU parallel, and archives by Dask (examples/python/vet_archive.py).
 
-    scale.py [PROGRAM [ARCHIVE [full]]]
+    scale.py [PROGRAM [ARCHIVE]] [--idle]
 
-The summary of the Dask example is that of PROGRAM, also if a worker is killed halfway. With `full` the archive has 1 GiB and
-not 32 MiB, and two workers have to need at most 0.6 of the time of one. A line says what isn't tested without `parallel` or
+The summary of the Dask example is that of PROGRAM, also if a worker is killed halfway. With --idle, for
+which the machine may do nothing else, the archive has 1 GiB and not 32 MiB, and two workers have to need at most 0.6 of the
+time of one. A line says what isn't tested without `parallel` or
 Dask. The last line is 'N passed, M failed', and the status is 1 if a case failed.
 """
 import csv
@@ -19,10 +20,10 @@ from collections import Counter
 from pathlib import Path
 
 import install
+from amount import IS_IDLE
 from install import PROGRAM, TOP, compare, make, missing, run
 
-FULL = sys.argv[3:] == ["full"]
-FILES, MIB = (16, 64) if FULL else (4, 8)
+FILES, MIB = (16, 64) if IS_IDLE else (4, 8)
 MOST_RATIO = 0.6
 SAMPLES = ("contacts.bin", "contacts-many-segments.bin", "telemetry.bin", "stream-of-four.bin", "shared.bin")
 CYCLE = (TOP / "examples/cycle.bin").read_bytes()
@@ -117,10 +118,10 @@ def example(python, folder, files):
 
 
 def on_a_cluster(python, files):
-    """The same summary after a worker is killed halfway. With `full` two workers are timed beside one."""
+    """The same summary after a worker is killed halfway. With --idle two workers are timed beside one."""
     wanted = of_program(files)
     environment = {**os.environ, "PYTHONPATH": str(EXAMPLE.parent)}
-    done = subprocess.run([python, TOP / "tests/scale_cluster.py", "time" if FULL else "kill", *files], env=environment,
+    done = subprocess.run([python, TOP / "tests/scale_cluster.py", "time" if IS_IDLE else "kill", *files], env=environment,
                           capture_output=True, text=True, timeout=1200)
     compare("the runs on a cluster", 0, done.returncode)
     if done.returncode:
@@ -130,7 +131,7 @@ def on_a_cluster(python, files):
     compare("a worker was killed", True, told["killed"])
     for name, summary in told["summaries"].items():
         compare(f"the summary, {name}", wanted, summary)
-    if FULL:
+    if IS_IDLE:
         one, two = (min(told["seconds"][name]) for name in ("1", "2"))
         print(f"1 GiB takes {one:.1f} s by one worker and {two:.1f} s by two")
         compare(f"two workers need at most {MOST_RATIO} of the time of one", True, two <= MOST_RATIO * one)

@@ -12,12 +12,13 @@ from collections import Counter
 from pathlib import Path
 
 import model
+from amount import cases
 from model import ANSWERS, FIELDS, Limits, framed
 
 # the answer, consumed, required, the state and the report, with the reserved fields
 REPLY = struct.Struct("<I2QQ2I2Q6Q4I4Q")
-STREAMS = 100_000
-LEAST = 1000
+STREAMS = cases(20_000, full=100_000)
+LEAST = STREAMS // 100
 ZERO = (0, 0, 0, 0, 0)
 
 
@@ -183,9 +184,9 @@ def compare(told, program, calls):
     told("a reply to each call of unpacking", is_all and len(found) == len(calls), f"{len(found)}")
     for (call, wanted), reply in zip(calls, found):
         holds = reply[:-1] == wanted and not any(reply[-1])
-        told("" if holds else f"unpacking {call}", holds, "" if holds else f"  {reply}\n  {wanted}")
+        told(lambda: f"unpacking {call}", holds, lambda: f"  {reply}\n  {wanted}")
         most = 8 * call[3].message_words + 2056
-        told("the bound of a frame", reply[2] <= most, f"  {reply} is above {most}")
+        told("the bound of a frame", reply[2] <= most, lambda: f"  {reply} is above {most}")
     return Counter(reply[0] for reply in found)
 
 
