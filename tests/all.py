@@ -4,7 +4,8 @@
     all.py [--edits] [--full]
 
 With --edits the prover also has to refuse each must-fail edit. With --full the scripts make all of their cases. They run
-after the proofs, side by side, one for each core. What each of them writes is shown at its end, in the order of SCRIPTS. Each step ends with a line 'N passed, M failed'.
+after the proofs, side by side, one for each core. What each of them writes is shown at its end, in the order of SCRIPTS.
+Each step ends with a line 'N passed, M failed'.
 A table of the steps follows them, with the time that each took and the processor time of all its processes. The last line
 sums up the cases, and the status is 1 where one failed. Where the proofs fail, nothing else is run.
 """
@@ -24,23 +25,23 @@ PROGRAM, ARCHIVE = "build/capvet", "build/libcapvet.a"
 COUNTED = re.compile(r"(\d+) passed, (\d+) failed")
 # (those that take longest come first, so that none of them is left over at the end)
 SCRIPTS = (
-    ("the calls from C, packed messages", ["calls.py", ARCHIVE, PROGRAM, "streams"]),
-    ("the built program", ["program.py", PROGRAM]),
-    ("the calls from C, packed bytes", ["calls.py", ARCHIVE, PROGRAM, "packed"]),
-    ("the calls from C, messages", ["calls.py", ARCHIVE, PROGRAM, "messages"]),
-    ("the calls from C, nodes", ["calls.py", ARCHIVE, PROGRAM, "nodes"]),
-    ("the calls from C, flags and reports", ["calls.py", ARCHIVE, PROGRAM, "flags"]),
-    ("strict messages by other readers", ["readers.py", PROGRAM]),
+    ("the package for Python", ["python.py", PROGRAM, ARCHIVE]),
+    ("the packages", ["dist.py", PROGRAM, ARCHIVE]),
     ("messages before their readers", ["before_readers.py", PROGRAM, ARCHIVE]),
     ("the library from C, C++ and Rust", ["library.py", PROGRAM, ARCHIVE]),
-    ("the filter", ["filter.py", PROGRAM]),
-    ("the packages", ["dist.py", PROGRAM, ARCHIVE]),
+    ("archives", ["scale.py", PROGRAM, ARCHIVE]),
     ("the Go package", ["go.py", PROGRAM, ARCHIVE]),
-    ("the package for Python", ["python.py", PROGRAM, ARCHIVE]),
+    ("the built program", ["program.py", PROGRAM]),
+    ("the calls from C, packed messages", ["calls.py", ARCHIVE, PROGRAM, "streams"]),
+    ("the filter", ["filter.py", PROGRAM]),
+    ("the calls from C, flags and reports", ["calls.py", ARCHIVE, PROGRAM, "flags"]),
+    ("the calls from C, messages", ["calls.py", ARCHIVE, PROGRAM, "messages"]),
+    ("strict messages by other readers", ["readers.py", PROGRAM]),
+    ("the calls from C, packed bytes", ["calls.py", ARCHIVE, PROGRAM, "packed"]),
+    ("the calls from C, nodes", ["calls.py", ARCHIVE, PROGRAM, "nodes"]),
+    ("the proxy before RPC", ["rpc.py", PROGRAM]),
     ("what is installed", ["install.py", PROGRAM, ARCHIVE]),
     ("the pages", ["pages.py", PROGRAM]),
-    ("the proxy before RPC", ["rpc.py", PROGRAM]),
-    ("archives", ["scale.py", PROGRAM, ARCHIVE]),
     ("the header", ["header.py"]),
 )
 

@@ -21,14 +21,14 @@ are compared with tests/ranges.py.
 `packing` looks at known words, and packs MANY lists of words, as the program does. They are the samples, each prefix
 of one, changed ones, runs of about the greatest length of a group, and words of few kinds.
 
-`messages` packs the samples and made messages of 1 to 20 segments, a fifth of MANY. Where Cap'n Proto's C++ library is installed,
-the bytes are those that its writePackedMessage gives. `pieces` unpacks packed streams a piece at a time, and what it finds
-is compared with a model here: samples and made messages, packed each by itself or as a whole, and cut at each byte.
+`messages` packs the samples and made messages of 1 to 20 segments, a fifth of MANY. Where Cap'n Proto's C++ library is
+installed, the bytes are those that its writePackedMessage gives. `pieces` unpacks packed streams a piece at a time, and what
+it finds is compared with a model here: samples and made messages, packed each by itself or as a whole, and cut at each byte.
 `unpacking` makes the calls over packed streams, many with changed bytes, and each is compared with tests/unpacking.py.
 
 All but `allocations` run with the compiler's checks of memory, and `calls`, `texts`, `packing`, `messages`, `pieces`,
-`unpacking`, `nodes` and `ranges` under valgrind, where these are installed. The last line is 'N passed, M failed', and the status is
-1 where something failed.
+`unpacking`, `nodes` and `ranges` under valgrind, where these are installed. The last line is 'N passed, M failed', and the
+status is 1 where something failed.
 """
 import random
 import re
@@ -301,7 +301,8 @@ def compare_packed(packing, watched, program):
     for text in whole:
         size = struct.unpack_from("<I", got.stdout, at)[0]
         packed = got.stdout[at + 4:at + 4 + size]
-        told(lambda: f"pack of {text.hex()}", given[place:place + size + 5] == packed + end_text, lambda: f"  {packed.hex()}")
+        told(lambda: f"pack of {text.hex()}", given[place:place + size + 5] == packed + end_text,
+             lambda: f"  {packed.hex()}")
         at, place = at + 4 + size, place + size + 5
     told("no other text was packed", place == len(given) and got.stdout[at:] == b"\xff" * 4 * len(cut))
     for text in cut[:50]:
@@ -575,7 +576,8 @@ def compare_texts(texts, watched, program):
             fault = f"capvet: Truncated at byte {len(text)}\n" if its is None else ""
             # (of a text that is cut the program also writes the words before that)
             holds = ran.stdout.startswith(words) if its is None else ran.stdout == words
-            told(lambda: f"unpack of {text.hex()}", holds and (ran.stderr.decode(), ran.returncode) == (fault, int(its is None)),
+            told(lambda: f"unpack of {text.hex()}",
+                 holds and (ran.stderr.decode(), ran.returncode) == (fault, int(its is None)),
                  lambda: f"  wanted {words.hex()} {fault!r}\n  got {ran.stdout.hex()} {ran.returncode} {ran.stderr!r}")
             text = words = b""
     cut = found.count(None)

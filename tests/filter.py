@@ -290,8 +290,10 @@ def has_struct(message):
 def converted(conversion, stream):
     """What `capnp convert` makes of a stream, what it says, and its status."""
     command = ["capnp", "convert", "--quiet", conversion]
+    # (it warns where PWD is another folder, as after `make -C`)
+    environment = {**os.environ, "PWD": os.getcwd()}
     try:
-        ran = subprocess.run(command, input=stream, capture_output=True, timeout=SECONDS)
+        ran = subprocess.run(command, input=stream, capture_output=True, timeout=SECONDS, env=environment)
     except subprocess.TimeoutExpired:
         return b"", b"", "no end within a minute"
     return ran.stdout, ran.stderr[:300], ran.returncode

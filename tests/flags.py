@@ -11,11 +11,10 @@ from pathlib import Path
 
 import model
 import strict
-from amount import cases
 from model import (AMPLIFIED, ANSWERS, CANONICAL, EXCLUSIVE, FIELDS, NO_TABLE, NONSTRICT, SEGMENT_AT, SLACK, VET,
                    VET_SEGMENTS, Limits)
 
-MANY = cases(10_000, full=20_000)
+MANY = 20_000
 # In place of a size: that of CAPVET_CANONICAL_BOUND.
 BOUND = 0xFFFFFFFF
 # `required` of a call that has none, and a report's fields with the reserved ones
@@ -177,6 +176,6 @@ def test(told, program, samples, made_up, changed, chance):
     for (call, answer), count in answers.items():
         by_answer[answer] += count
     for name, number in ANSWERS.items():
-        told(f"calls that answer {name}", 2000 * by_answer[number] >= MANY, f"{by_answer[number]}")
+        told(f"calls that answer {name}", by_answer[number] >= 10, f"{by_answer[number]}")
     refused = sum(count for answer, count in by_answer.items() if answer)
     print(f"calls: {len(many)} calls with flags compared with the model, {refused} of them with an answer other than OK")

@@ -56,8 +56,8 @@ def wheel_of(folder):
 
 
 def environment(python, folder):
-    """A fresh virtual environment, which has what the interpreter has."""
-    compare("a fresh environment", ("", 0), run([python, "-m", "venv", "--system-site-packages", folder]))
+    """A fresh virtual environment, which has what the interpreter has, pip too."""
+    compare("a fresh environment", ("", 0), run([python, "-m", "venv", "--system-site-packages", "--without-pip", folder]))
     return folder / "bin/python"
 
 
