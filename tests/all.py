@@ -77,7 +77,7 @@ def run(name, words, show):
         show(f"FAILED: {words[0]} ended with status {script.returncode}\n")
         failed = max(failed, 1)
     took = f"{minutes(time.monotonic() - begin):>14}, {minutes(used.ru_utime + used.ru_stime):>14} of processor time"
-    return Step(f"{name:34}{took}: {passed} passed, {failed} failed", passed, failed)
+    return Step(f"{name:36}{took}: {passed} passed, {failed} failed", passed, failed)
 
 
 def run_apart(name, words):
