@@ -77,18 +77,22 @@ impl<'b> ByteView<'b> {
         words_at(self.bytes, at, words as usize)
     }
 
-    /// All bytes of segment `s`, unchanged, eight for each word (encoding: 64-bit Words). The caller
-    /// makes sure that the segment exists. There are no errors. Allocates nothing.
+    /// All bytes of segment `s`, unchanged, eight for each word (encoding: 64-bit Words). `None` if
+    /// there is no such segment. Allocates nothing.
     #[inline]
-    pub fn segment(&self, s: u32) -> &'b [u8]
-        requires { let m = ⟦<ByteView<'b> as Segments>⟧.segments self.now in s < length m }
+    pub fn segment(&self, s: u32) -> Option<&'b [u8]>
+        ensures some { let m = ⟦<ByteView<'b> as Segments>⟧.segments self.now in
+            IsSome result ↔ s < length m }
         ensures text { let m = ⟦<ByteView<'b> as Segments>⟧.segments self.now in
-            result.now ≡ plain_text (segment_of m s) }
+            IfSome result (λ bytes. bytes.now ≡ plain_text (segment_of m s)) }
         ensures words { let m = ⟦<ByteView<'b> as Segments>⟧.segments self.now in
-            plain_words result.now ≡ segment_of m s }
+            IfSome result (λ bytes. plain_words bytes.now ≡ segment_of m s) }
     {
+        if s >= self.count() {
+            return None;
+        }
         let at = self.starts[s as usize] as usize;
-        words_at(self.bytes, at, self.len(s) as usize)
+        Some(words_at(self.bytes, at, self.len(s) as usize))
     }
 }
 

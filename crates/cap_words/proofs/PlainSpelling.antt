@@ -1,5 +1,5 @@
 -- What a read and a write of the plain spelling do to what is known of words.
-use Rattle.std.proofs.Common.{◌≡◌, ◌+◌, ◌∙◌, ℕ, List, ◌∷◌, ◌++◌, take, drop, Option, None, Some}
+use Rattle.std.proofs.Common.{◌≡◌, ◌∙◌, ℕ, List, ◌∷◌, ◌++◌, take, drop, Option, None, Some}
 use Rattle.std.proofs.Common.{ap, sym, append_assoc, take-append-drop}
 use Rattle.std.proofs.KnownBytes.{append_known-moved}
 use Rattle.std.specs.Io.KnownBytes.{Appends, Keeps, append_known}

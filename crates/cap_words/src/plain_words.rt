@@ -8,7 +8,7 @@ ghost use Rattle.cap_words.specs.PlainSource.{bytes_left};
 ghost use Rattle.cap_words.specs.declared.plain_words.PlainWords.{PlainWords};
 ghost use Rattle.std.specs.List.{AllByRecursion};
 ghost use Rattle.std.specs.Option.{option_map};
-ghost use Rattle.std.specs.Prelude.{◌*◌, ◌/◌, ◌<◌, ◌≡◌, ◌≤◌, ◌||◌, [], OnSome, false, if◌then◌else◌, length, take, unwrap_or, ℕ};
+ghost use Rattle.std.specs.Prelude.{◌*◌, ◌++◌, ◌/◌, ◌<◌, ◌≡◌, ◌≤◌, ◌||◌, [], IfSome, List, OnSome, false, if◌then◌else◌, length, take, true, unwrap_or, ℕ};
 
 use super::counted::Counted;
 use super::ends::ByteIn;
@@ -51,6 +51,24 @@ impl<I: ByteIn> PlainWords<I> {
         PlainWords {
             bytes: Counted { input, read: 0 },
             phase: Phase::Open,
+        }
+    }
+
+    /// The buffered bytes of the input, which spell the next words. They can be taken without a call
+    /// of the device. A source that has ended or failed has none.
+    pub fn held(&self) -> &[u8]
+        ensures words { IfSome (⟦<PlainWords<I> as WordSource>⟧.words self.now)
+            (λ ws. (rest : List ℕ) × (ws ≡ plain_words result.now ++ rest)) }
+        ensures open { ⟦<PlainWords<I> as WordSource>⟧.ended self.now ≡ false →
+            ⟦<PlainWords<I> as WordSource>⟧.failed self.now ≡ false →
+            result.now ≡ I.at_hand (input_of self.now) }
+        ensures stays { ⟦<PlainWords<I> as WordSource>⟧.ended self.now ≡ true → result.now ≡ [] }
+        ensures for_good { ⟦<PlainWords<I> as WordSource>⟧.failed self.now ≡ true →
+            result.now ≡ [] }
+    {
+        match self.phase {
+            Phase::Open => self.bytes.input.held(),
+            _ => &[],
         }
     }
 

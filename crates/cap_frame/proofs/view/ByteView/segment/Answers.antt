@@ -1,5 +1,5 @@
 -- The words of a segment are where the table of starts says.
-use Rattle.std.proofs.Common.{arith, ◌≡◌, ◌+◌, ◌-◌, ◌*◌, ◌∙◌, ℕ, ap, drop, length, slice_index_or, slice_range, take}
+use Rattle.std.proofs.Common.{arith, ◌≡◌, ◌<◌, ◌+◌, ◌-◌, ◌*◌, ◌∙◌, ℕ, ap, drop, length, slice_index_or, slice_range, take}
 use Rattle.std.proofs.lemmas.List.{take_all}
 use Rattle.cap_spec.specs.Messages.{segment_of}
 use Rattle.cap_spec.specs.Plain.{plain_text, plain_words}
@@ -12,12 +12,13 @@ pub bounds-self-s : goal.bounds-self-s
 bounds-self-s c =
     let m = c.args.self.now in
     let e : length m.starts.now ≡ length m.sizes.now = ap length m.starts_are ∙ starts_length 0 m.sizes.now in
-    omega (arith, cut_length m.sizes.now m.bytes.now, c.requires, e)
+    omega (arith, cut_length m.sizes.now m.bytes.now, c.count.ensures, c.if-s-count.false, e)
 
 pub words_at-requires : goal.words_at-requires
 words_at-requires c =
     let m = c.args.self.now in
-    let p = part_facts m.sizes.now m.starts.now m.bytes.now c.args.s 0 c.len.result m.starts_are m.inside c.requires (omega (arith, c.len.ensures)) in
+    let l : c.args.s < length (cut m.sizes.now m.bytes.now) = omega (arith, c.count.ensures, c.if-s-count.false) in
+    let p = part_facts m.sizes.now m.starts.now m.bytes.now c.args.s 0 c.len.result m.starts_are m.inside l (omega (arith, c.len.ensures)) in
     omega (arith, p.sums, m.inside)
 
 pub returns-clause-words : goal.returns-clause-words
@@ -25,7 +26,8 @@ returns-clause-words c =
     let m = c.args.self.now in
     let own = segment_of (cut m.sizes.now m.bytes.now) c.args.s in
     let n = c.len.result in
-    let p = part_facts m.sizes.now m.starts.now m.bytes.now c.args.s 0 n m.starts_are m.inside c.requires (omega (arith, c.len.ensures)) in
+    let l : c.args.s < length (cut m.sizes.now m.bytes.now) = omega (arith, c.count.ensures, c.if-s-count.false) in
+    let p = part_facts m.sizes.now m.starts.now m.bytes.now c.args.s 0 n m.starts_are m.inside l (omega (arith, c.len.ensures)) in
     let at = slice_index_or m.starts.now c.args.s 0 in
     let same : at ≡ at + 0 = omega arith in
     let all : slice_range own 0 (0 + n) ≡ own = take_all (0 + n - 0) own (omega (arith, c.len.ensures)) in
@@ -37,7 +39,8 @@ returns-clause-text c =
     let m = c.args.self.now in
     let own = segment_of (cut m.sizes.now m.bytes.now) c.args.s in
     let n = c.len.result in
-    let p = part_facts m.sizes.now m.starts.now m.bytes.now c.args.s 0 n m.starts_are m.inside c.requires (omega (arith, c.len.ensures)) in
+    let l : c.args.s < length (cut m.sizes.now m.bytes.now) = omega (arith, c.count.ensures, c.if-s-count.false) in
+    let p = part_facts m.sizes.now m.starts.now m.bytes.now c.args.s 0 n m.starts_are m.inside l (omega (arith, c.len.ensures)) in
     let at = slice_index_or m.starts.now c.args.s 0 in
     let same : at ≡ at + 0 = omega arith in
     let all : slice_range own 0 (0 + n) ≡ own = take_all (0 + n - 0) own (omega (arith, c.len.ensures)) in

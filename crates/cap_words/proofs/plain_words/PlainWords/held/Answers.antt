@@ -1,0 +1,38 @@
+-- The words of a prefix of bytes are a prefix of their words.
+use Rattle.std.proofs.Common.{◌≡◌, ◌++◌, [], ◌∷◌, List, Option, None, Some, IfSome, ap, refl, ℕ}
+use Rattle.std.specs.Option.{option_map}
+use Rattle.byteorder.specs.Endian.{little_number}
+use Rattle.cap_spec.specs.Plain.{plain_words}
+use Rattle.cap_words.specs.PlainSource.{bytes_left}
+use Rattle.cap_words.specs.declared.phase.Phase.{Phase}
+use Rattle.cap_words.specs.declared.phase.Phase.TheVariants.{Open}
+use Rattle.cap_words.proofs.plain_words.PlainWords.held.Goals as goal
+
+-- bytes begin with the words of a prefix
+front_words : (xs ys : List ℕ) → (rest : List ℕ) × (plain_words (xs ++ ys) ≡ plain_words xs ++ rest)
+front_words [] ys = (plain_words ys, refl)
+front_words (a ∷ []) ys = (plain_words (a ∷ ys), refl)
+front_words (a ∷ b ∷ []) ys = (plain_words (a ∷ b ∷ ys), refl)
+front_words (a ∷ b ∷ c ∷ []) ys = (plain_words (a ∷ b ∷ c ∷ ys), refl)
+front_words (a ∷ b ∷ c ∷ d ∷ []) ys = (plain_words (a ∷ b ∷ c ∷ d ∷ ys), refl)
+front_words (a ∷ b ∷ c ∷ d ∷ e ∷ []) ys = (plain_words (a ∷ b ∷ c ∷ d ∷ e ∷ ys), refl)
+front_words (a ∷ b ∷ c ∷ d ∷ e ∷ f ∷ []) ys = (plain_words (a ∷ b ∷ c ∷ d ∷ e ∷ f ∷ ys), refl)
+front_words (a ∷ b ∷ c ∷ d ∷ e ∷ f ∷ g ∷ []) ys = (plain_words (a ∷ b ∷ c ∷ d ∷ e ∷ f ∷ g ∷ ys), refl)
+front_words (a ∷ b ∷ c ∷ d ∷ e ∷ f ∷ g ∷ h ∷ xs) ys =
+    let t = front_words xs ys in
+    (t.0, ap (λ (ws : List ℕ). little_number 8 (a ∷ b ∷ c ∷ d ∷ e ∷ f ∷ g ∷ h ∷ []) ∷ ws) t.1)
+
+-- the same of a source that is open
+shown : (phase : Phase) (known : Option (List ℕ)) (bytes : List ℕ) → phase ≡ Open
+    → IfSome known (λ xs. (rest : List ℕ) × (xs ≡ bytes ++ rest))
+    → IfSome (option_map plain_words (bytes_left phase known)) (λ ws. (rest : List ℕ) × (ws ≡ plain_words bytes ++ rest))
+shown phase known bytes is_open h = rw is_open (go known h)
+  where
+    go : (known : Option (List ℕ)) → IfSome known (λ xs. (rest : List ℕ) × (xs ≡ bytes ++ rest))
+        → IfSome (option_map plain_words known) (λ ws. (rest : List ℕ) × (ws ≡ plain_words bytes ++ rest))
+    go None h = tt
+    go (Some xs) h = let t = front_words bytes h.0 in (t.0, rw h.1 t.1)
+
+pub returns-in-Open-clause-words : goal.returns-in-Open-clause-words
+returns-in-Open-clause-words g c =
+    shown c.args.self.now.phase (g.I.ByteIn.to_come c.args.self.now.bytes.input) c.held.result.now c.in-Open.is c.held.ensures.known
