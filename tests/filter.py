@@ -454,6 +454,35 @@ def both_outputs():
         compare(f"filter {options}, the end of that input", (b"", broken, 1), rest)
 
 
+def whole_and_half():
+    """Whole messages and the beginning of one in one write, for each length of the beginning. All that are whole come
+    out before more comes. Plain ones share a write."""
+    streams = {
+        "three messages": (NULL + PADDED + SHARED, accepted(NULL, PADDED, SHARED), b""),
+        "a refused one between two": (NULL + CYCLE + PADDED, accepted(NULL, PADDED), lines_of(1)),
+        "a refused one after two": (NULL + PADDED + CYCLE, accepted(NULL, PADDED), lines_of(2)),
+    }
+    for name, (stream, wanted, lines) in streams.items():
+        for options in ("", "--packed", "--pack"):
+            is_packed = "--packed" in options
+            given, more = (packed(stream), packed(PADDED)) if is_packed else (stream, PADDED)
+            text = b"".join(map(packed_frame, cut(wanted))) if options == "--pack" else wanted
+            faults = []
+            for size in range(len(more)):
+                with Live(options) as live:
+                    live.send(given + more[:size])
+                    got = live.take(live.ran.stdout, len(text)), live.take(live.ran.stderr, len(lines)), live.waits()
+                if got != (text, lines, True):
+                    faults.append(f"{got}, with {size} bytes of the next")
+            told(f"filter {options}, {name} and the beginning of one more", not faults, *faults)
+    for options in ("", "--pack"):
+        text = b"".join(map(packed_frame, cut(3 * NULL))) if options else 3 * NULL
+        with Live(options) as live:
+            live.send(3 * NULL + NULL[:7])
+            first = select.select([live.ran.stdout], [], [], SECONDS)[0] and os.read(live.ran.stdout.fileno(), MIB)
+        told(f"filter {options}, three messages share a write", first == text, first)
+
+
 def many_at_once():
     """More messages than buffers hold, of which some are refused, and the beginning of one."""
     part = NULL + PADDED + SHARED
@@ -491,6 +520,7 @@ def live_pipes():
     refused_halves("--packed", packed(CYCLE))
     runs_of_zeros()
     both_outputs()
+    whole_and_half()
     many_at_once()
     in_sips()
     # with --stop it ends while the input stays open
@@ -588,20 +618,22 @@ def limit_files(size):
 
 def short_outputs():
     """An output that takes a number of bytes, and a reader that takes a number of bytes and leaves."""
-    stream = PADDED + CYCLE + SHARED
+    # (the messages before the refused one, the refused one, and the rest)
+    front, rest = NULL + PADDED, SHARED + NULL + PADDED
+    stream = front + CYCLE + rest
     for options in ("", "--pack", "--packed"):
         given = packed(stream) if "--packed" in options else stream
         text, lines, _ = to_pass_on(options, stream, given)
-        first = len(packed_frame(next(cut(PADDED)))) if options == "--pack" else len(PADDED)
+        before = sum(len(packed_frame(it)) for it in cut(front)) if options == "--pack" else len(front)
         for size in range(len(text)):
             with tempfile.TemporaryFile() as out:
                 _, err, status = filtered(options, given, stdout=out, preexec_fn=lambda: limit_files(size))
                 out.seek(0)
                 got = out.read()
-            # (the first frame may be written after the line of the second message)
-            said = (lines + FAILED, FAILED) if size < first else (lines + FAILED,)
+            # (the frames before a refused message are flushed before its line is written)
+            said = FAILED if size < before else lines + FAILED
             told(f"filter {options}, to a file that takes {size} bytes",
-                 (got, status) == (text[:size], 3) and err in said, got, err, status)
+                 (got, err, status) == (text[:size], said, 3), got, err, status)
             with Live(options) as live:
                 live.send(given)
                 got = live.take(live.ran.stdout, size)

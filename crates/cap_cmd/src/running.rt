@@ -10,9 +10,9 @@ use crate::job::{Job, Task};
 use crate::status::{stream_status, words_status};
 use cap_pack::{Packer, Unpacker};
 use cap_run::{
-    CopyFault, Demands, Outcome, RunFault, Settings, run_canon_with, run_check_with, run_dump_with,
-    run_filter, run_get_with, run_pack, run_segments, run_unpack, run_vet_exclusive_with,
-    run_vet_with, write_copy_fault, write_fault,
+    CopyFault, Demands, Outcome, Peek, RunFault, Settings, run_canon_with, run_check_with,
+    run_dump_with, run_filter, run_get_with, run_pack, run_segments, run_unpack,
+    run_vet_exclusive_with, run_vet_with, write_copy_fault, write_fault,
 };
 use cap_words::{ByteIn, ByteOut, PlainSink, PlainWords, WordSink, WordSource};
 use std::alloc::Global;
@@ -113,7 +113,7 @@ fn vet_over<S: WordSource, O: ByteOut, E: ByteOut>(
 }
 
 /// Does a job over the words of its input.
-fn run_over<S: WordSource + Drop, O: ByteOut, E: ByteOut>(
+fn run_over<S: Peek + Drop, O: ByteOut, E: ByteOut>(
     alloc: Global,
     job: &Job,
     source: S,

@@ -3,7 +3,7 @@ use Rattle.std.proofs.Common.{◌≡◌, ◌∙◌, ℕ, ◌+◌, ◌<◌, ◌�
 use Rattle.std.proofs.Common.{append_assoc, append-nil, Option, None, Result, Ok, Err, sum, Some, ◌≢◌, inl, inr}
 use Rattle.std.proofs.lemmas.Bool.{false≢true}
 use Rattle.std.specs.List.{AllByRecursion}
-use Rattle.std.specs.Prelude.{IsTrue}
+use Rattle.std.specs.Prelude.{◌⊎◌, IsTrue}
 use Rattle.cap_spec.specs.Frames.{Stream, sizes_of}
 use Rattle.cap_spec.proofs.Bytes.Lists.{all_append}
 use Rattle.cap_spec.proofs.Frames.FrameTexts.{one_stream}
@@ -25,7 +25,8 @@ use Rattle.cap_text.specs.declared.fault.Cause.TheVariants.{TooManyMessages, Fra
 use Rattle.cap_text.specs.declared.fault.Cause.TheVariants.{Memory as no_marks}
 use Rattle.cap_text.specs.declared.fault.RunFault.{RunFault}
 use Rattle.cap_run.specs.Demanding.{IsStrictUnder, OrFaultIn, TellsMarked, WantsIn}
-use Rattle.cap_run.specs.Filtering.{AllAccepted, Covers, FiltersAll, FiltersUntil, LastRefused, Logged, Noted, Notes, Passes, PassesOn, ReadsUntil}
+use Rattle.cap_run.specs.Filtering.{AllAccepted, Covers, FiltersAll, FiltersUntil, LastAccepted, LastRefused, Logged, Noted, Notes}
+use Rattle.cap_run.specs.Filtering.{Passes, PassesLast, ReadsUntil}
 use Rattle.cap_run.specs.Filtering.{TellsIn, TellsMet, WantsInForm, WantsMet, frame_in}
 use Rattle.cap_run.specs.Running.{Appended, EndStops, RunStops, Settled, StopsIn}
 use Rattle.cap_run.specs.Sifting.{Judges, LogsMore, SiftStops, Sifts, SiftsNext, objection_text}
@@ -131,40 +132,48 @@ module _ (form : FilterForm) (demands : Demands) (limits : Limits) (m : List (Li
 module _ {O E : Type 0} (go : output.Ghosts O) (ge : output.Ghosts E) (pack : Bool) (verdict : Tells) (wants : List (List ℕ) → Type 0) (n : ℕ)
     (m : List (List ℕ)) where
   -- nothing goes to the log of an accepted message
-  pub sifts_passed : (before after : O) (log : E) (failed : Bool) → (said : List ℕ) × verdict n m said Accepted
-      → Wrote go before after (frame_in pack m) → Sifts go ge pack verdict wants n m before after log log failed failed (Ok Accepted)
-  sifts_passed before after log failed (said, v) w = (
+  pub sifts_passed : (before after : O) (log : E) (failed waits stays : Bool) → (said : List ℕ) × verdict n m said Accepted
+      → Wrote go before after (frame_in pack m) → Sifts go ge pack verdict wants n m before after log log failed failed waits stays (Ok Accepted)
+  sifts_passed before after log failed waits stays (said, v) w = (
     frame_in pack m,
     [],
     (said, v, refl),
     (said, v, refl),
     wrote_appended go before after (frame_in pack m) w,
     λ first text l. subst (λ (t : List ℕ). Logged ge first log t failed) (sym (append-nil text)) l,
+    λ e. refl,
   )
 
   -- the output failed in its frame
-  pub sifts_stopped : (before after : O) (log : E) (failed : Bool) (fault : OutFault) → (said : List ℕ) × verdict n m said Accepted
+  pub sifts_stopped : (before after : O) (log : E) (failed waits stays : Bool) (fault : OutFault) → (said : List ℕ) × verdict n m said Accepted
       → Stopped go before after fault (frame_in pack m)
-      → Sifts go ge pack verdict wants n m before after log log failed failed (Err (Output fault))
-  sifts_stopped before after log failed fault (said, v) s = (frame_in pack m, Accepted, (refl, (said, v, refl)), s, (refl, refl))
+      → Sifts go ge pack verdict wants n m before after log log failed failed waits stays (Err (Output fault))
+  sifts_stopped before after log failed waits stays fault (said, v) s = (frame_in pack m, Accepted, inl refl, (said, v, refl), s, (refl, refl))
+
+  -- or in a flush before the line of a refused one
+  pub sifts_unflushed : (before after : O) (log : E) (failed waits stays : Bool) (fault : OutFault) (said : List ℕ)
+      → verdict n m said was_refused → IsTrue waits × Stopped go before after fault []
+      → Sifts go ge pack verdict wants n m before after log log failed failed waits stays (Err (Output fault))
+  sifts_unflushed before after log failed waits stays fault said v (w, s) = ([], was_refused, inr w, (said, v, refl), s, (refl, refl))
 
   -- nothing goes to the output of a refused one
-  pub sifts_refused : (out : O) (old new : E) (failed fails : Bool) (said : List ℕ) → verdict n m said was_refused
-      → LogsMore ge old new failed fails said → Sifts go ge pack verdict wants n m out out old new failed fails (Ok was_refused)
-  sifts_refused out old new failed fails said v l = ([], said, (said, v, refl), (said, v, refl), appended_none go out, l)
+  pub sifts_refused : (before after : O) (old new : E) (failed fails waits : Bool) (said : List ℕ) → verdict n m said was_refused
+      → Appended go before after [] → LogsMore ge old new failed fails said
+      → Sifts go ge pack verdict wants n m before after old new failed fails waits false (Ok was_refused)
+  sifts_refused before after old new failed fails waits said v a l = ([], said, (said, v, refl), (said, v, refl), a, l, λ e. absurd (false≢true e))
 
   -- an allocation failed
-  pub sifts_without : (out : O) (log : E) (failed : Bool) (cause : Cause) → (cause ≡ no_marks) × wants m
-      → Sifts go ge pack verdict wants n m out out log log failed failed (Err cause)
-  sifts_without out log failed cause (e, w) =
-      subst (λ (c : Cause). Sifts go ge pack verdict wants n m out out log log failed failed (Err c)) (sym e) (w, refl, (refl, refl))
+  pub sifts_without : (out : O) (log : E) (failed waits stays : Bool) (cause : Cause) → (cause ≡ no_marks) × wants m
+      → Sifts go ge pack verdict wants n m out out log log failed failed waits stays (Err cause)
+  sifts_without out log failed waits stays cause (e, w) =
+      subst (λ (c : Cause). Sifts go ge pack verdict wants n m out out log log failed failed waits stays (Err c)) (sym e) (w, refl, (refl, refl))
 
 module _ {S O E : Type 0} (gs : source.Ghosts S) (go : output.Ghosts O) (ge : output.Ghosts E) (pack : Bool) (verdict : Tells)
-    (wants : List (List ℕ) → Type 0) (limit n : ℕ) (old new : S) (before after : O) (first last : E) (failed fails : Bool) where
+    (wants : List (List ℕ) → Type 0) (limit n : ℕ) (old new : S) (before after : O) (first last : E) (failed fails waits stays : Bool) where
   -- a message was read, and no more came of it
   pub sift_stopped : (cause : Cause)
-      → SiftsNext gs go ge pack verdict wants limit n old new before after first last failed fails (Err cause)
-      → SiftStops gs go ge pack verdict wants limit n old new before after first last failed fails cause
+      → SiftsNext gs go ge pack verdict wants limit n old new before after first last failed fails waits stays (Err cause)
+      → SiftStops gs go ge pack verdict wants limit n old new before after first last failed fails waits stays cause
   sift_stopped TooManyMessages q = absurd q.2
   sift_stopped (Frame fault) q = absurd q.2
   sift_stopped (Output fault) q = q
@@ -198,8 +207,8 @@ module _ {S O E : Type 0} (gs : source.Ghosts S) (go : output.Ghosts O) (ge : ou
 
   -- one more
   sifting_more : (old mid new : S) (before between after : O) (first held last : E) (outcome next : Outcome) (number : ℕ)
-      (failed fails : Bool) (counted : Counted) → (w : Sifting old mid before between first held outcome number failed)
-      → SiftsNext gs go ge form.pack verdict wants limit number mid new between after held last failed fails (Ok counted)
+      (failed fails waits stays : Bool) (counted : Counted) → (w : Sifting old mid before between first held outcome number failed)
+      → SiftsNext gs go ge form.pack verdict wants limit number mid new between after held last failed fails waits stays (Ok counted)
       → next ≡ record {
         messages = outcome.messages + 1;
         refused = outcome.refused + one_refused counted;
@@ -207,7 +216,8 @@ module _ {S O E : Type 0} (gs : source.Ghosts S) (go : output.Ghosts O) (ge : ou
       }
       → (v : Sifting old new before after first last next (number + 1) fails)
       × ((t : Told) × (t.counted ≡ counted) × (v.ts ≡ w.ts ++ t ∷ []))
-  sifting_more old mid new before between after first held last outcome next number failed fails counted w (m, reads, (text, line, p, n, wrote, logs)) counts =
+  sifting_more old mid new before between after first held last outcome next number failed fails waits stays counted w
+      (m, reads, (text, line, p, n, wrote, logs, waiting)) counts =
       let t : Told = record { message = m; text = text; counted = counted } in
       let u : Told = record { message = m; text = line; counted = counted } in
       let v : Sifting old new before after first last next (number + 1) fails = record {
@@ -233,13 +243,16 @@ module _ {S O E : Type 0} (gs : source.Ghosts S) (go : output.Ghosts O) (ge : ou
       record { us = w.us; same = w.same; each = w.notes; failed = failed; logged = w.logged }
 
   -- this many messages were read and sifted, and if it stops at a refused one, all were accepted
-  pub record Sieving (old new : S) (before after : O) (first last : E) (outcome : Outcome) (number : ℕ) (failed : Bool) : Type 0 where
+  pub record Sieving (old new : S) (before after : O) (first last : E) (outcome : Outcome) (number : ℕ) (failed waits : Bool) : Type 0 where
     pub sifting : Sifting old new before after first last outcome number failed
     pub accepted : IsTrue form.stop → AllAccepted sifting.ts
+    -- only the frame of an accepted message waits
+    pub waiting : IsTrue waits → LastAccepted sifting.ts
 
   -- none yet
-  pub sieving_none : (s : S) (o : O) (e : E) → Sieving s s o o e e (record { messages = 0; refused = 0; noncanonical = 0 }) 0 false
-  sieving_none s o e = record {
+  pub sieving_none : (s : S) (o : O) (e : E) (failed waits : Bool) → failed ≡ false → waits ≡ false
+      → Sieving s s o o e e (record { messages = 0; refused = 0; noncanonical = 0 }) 0 failed waits
+  sieving_none s o e failed waits not_failed none_wait = rw (not_failed, none_wait) record {
     sifting = record {
       ts = [];
       us = [];
@@ -254,10 +267,11 @@ module _ {S O E : Type 0} (gs : source.Ghosts S) (go : output.Ghosts O) (ge : ou
       logged = appended_none ge e;
     };
     accepted = λ e. tt;
+    waiting = λ e. absurd (false≢true e);
   }
 
-  module _ (old mid new : S) (before between after : O) (first held last : E) (outcome : Outcome) (number : ℕ) (failed : Bool)
-      (s : Sieving old mid before between first held outcome number failed) where
+  module _ (old mid new : S) (before between after : O) (first held last : E) (outcome : Outcome) (number : ℕ)
+      (failed waits : Bool) (s : Sieving old mid before between first held outcome number failed waits) where
     -- no more were refused than there were
     pub sieving_refused : outcome.refused ≤ outcome.messages
     sieving_refused = rw s.sifting.counts (refused_in_le s.sifting.ts)
@@ -266,30 +280,31 @@ module _ {S O E : Type 0} (gs : source.Ghosts S) (go : output.Ghosts O) (ge : ou
     pub sieving_noncanonical : outcome.noncanonical ≤ outcome.messages
     sieving_noncanonical = rw s.sifting.counts (noncanonical_in_le s.sifting.ts)
 
-    module _ (next : Outcome) (fails : Bool) (counted : Counted)
-        (q : SiftsNext gs go ge form.pack verdict wants limit number mid new between after held last failed fails (Ok counted))
+    module _ (next : Outcome) (fails stays : Bool) (counted : Counted)
+        (q : SiftsNext gs go ge form.pack verdict wants limit number mid new between after held last failed fails waits stays (Ok counted))
         (counts : next ≡ record {
           messages = outcome.messages + 1;
           refused = outcome.refused + one_refused counted;
           noncanonical = outcome.noncanonical + one_noncanonical counted;
         }) where
       -- one more, after which it goes on
-      pub sieving_more : (IsTrue form.stop → counted ≢ was_refused) → Sieving old new before after first last next (number + 1) fails
+      pub sieving_more : (IsTrue form.stop → counted ≢ was_refused) → Sieving old new before after first last next (number + 1) fails stays
       sieving_more h =
-          let v = sifting_more old mid new before between after first held last outcome next number failed fails counted s.sifting q counts in
+          let v = sifting_more old mid new before between after first held last outcome next number failed fails waits stays counted s.sifting q counts in
           let is : IsTrue form.stop → counted ≡ Accepted =
           λ e. passed_accepted form.pack verdict number q.0 q.2.0 counted q.2.2 (h e) in
           record {
             sifting = v.0;
             accepted = λ e. subst AllAccepted (sym v.1.2)
                 (all_append (λ (t : Told). t.counted ≡ Accepted) s.sifting.ts (v.1.0 ∷ []) (s.accepted e) (v.1.1 ∙ is e, tt));
+            waiting = λ e. record { front = s.sifting.ts; last = v.1.0; whole = v.1.2; accepted = v.1.1 ∙ q.2.6 e };
           }
 
       -- or it ends after it
       pub sieving_last : (most : ℕ) → number < most → IsTrue form.stop × (counted ≡ was_refused)
           → FiltersAll gs go ge form verdict wants limit most old new before after first last (Ok next)
       sieving_last most h (e, r) =
-          let v = sifting_more old mid new before between after first held last outcome next number failed fails counted s.sifting q counts in
+          let v = sifting_more old mid new before between after first held last outcome next number failed fails waits stays counted s.sifting q counts in
           let last_one : LastRefused v.0.ts =
           record { front = s.sifting.ts; last = v.1.0; whole = v.1.2; accepted = s.accepted e; refused = v.1.1 ∙ r } in (
             v.0.ts,
@@ -315,38 +330,42 @@ module _ {S O E : Type 0} (gs : source.Ghosts S) (go : output.Ghosts O) (ge : ou
     )
 
     -- it ended at the next message
-    pub sieving_stops : (fails : Bool) (most : ℕ) (cause : Cause) → number < most
-        → SiftStops gs go ge form.pack verdict wants limit number mid new between after held last failed fails cause
+    pub sieving_stops : (fails stays : Bool) (most : ℕ) (cause : Cause) → number < most
+        → SiftStops gs go ge form.pack verdict wants limit number mid new between after held last failed fails waits stays cause
         → FiltersUntil gs go ge form verdict wants limit most old new before after first last (Err (record { message = number; cause = cause }))
-    sieving_stops fails most cause h q =
+    sieving_stops fails stays most cause h q =
         let w = s.sifting in
         let p = stops cause q in
         (w.ts, mid, sym w.many, omega (arith, w.many), w.reads, w.each, s.accepted, p.0, p.1)
       where
-        stays : last ≡ held → Noted ge verdict (messages_of s.sifting.ts) first last
-        stays e = subst (Noted ge verdict (messages_of s.sifting.ts) first) (sym e)
+        keeps : last ≡ held → Noted ge verdict (messages_of s.sifting.ts) first last
+        keeps e = subst (Noted ge verdict (messages_of s.sifting.ts) first) (sym e)
             (noted old mid before between first held outcome number failed s.sifting)
 
-        stops : (cause : Cause) → SiftStops gs go ge form.pack verdict wants limit number mid new between after held last failed fails cause
-            → RunStops gs go (PassesOn form.pack verdict) wants limit most s.sifting.ts mid new before after cause
+        late : (counted : Counted) → (counted ≡ Accepted) ⊎ IsTrue waits → (counted ≡ Accepted) ⊎ LastAccepted s.sifting.ts
+        late counted (inl a) = inl a
+        late counted (inr w) = inr (s.waiting w)
+
+        stops : (cause : Cause) → SiftStops gs go ge form.pack verdict wants limit number mid new between after held last failed fails waits stays cause
+            → RunStops gs go (PassesLast form.pack verdict s.sifting.ts) wants limit most s.sifting.ts mid new before after cause
             × Noted ge verdict (messages_of s.sifting.ts) first last
         stops TooManyMessages q = absurd q
-        stops (Frame fault) (f, o, e, b) = ((rw o s.sifting.appended, f), stays e)
-        stops (Output fault) (m, reads, (text, counted, p, z, (e, b))) = (
+        stops (Frame fault) (f, o, e, b) = ((rw o s.sifting.appended, f), keeps e)
+        stops (Output fault) (m, reads, (text, counted, l, p, z, (e, b))) = (
           (
             record { message = m; text = text; counted = counted },
             omega (arith, s.sifting.many),
-            subst (λ (k : ℕ). PassesOn form.pack verdict k m text counted) (sym s.sifting.many) p,
+            (late counted l, subst (λ (k : ℕ). Passes form.pack verdict k m text counted) (sym s.sifting.many) p),
             reads,
             stops_in go before between after fault (texts_of s.sifting.ts) text s.sifting.appended z,
           ),
-          stays e,
+          keeps e,
         )
         stops (Refused refusal) q = absurd q
         stops (NotStrict fault) q = absurd q
         stops (Canon fault) q = absurd q
         stops no_marks (m, reads, (want, o, (e, b))) =
-            ((omega (arith, s.sifting.many), rw o s.sifting.appended, (m, reads, want)), stays e)
+            ((omega (arith, s.sifting.many), rw o s.sifting.appended, (m, reads, want)), keeps e)
 
     -- or after the most messages
     pub sieving_ends : (most : ℕ) (cause : Cause) → number ≡ most → EndStops gs limit mid new cause
@@ -365,7 +384,7 @@ module _ {S O E : Type 0} (gs : source.Ghosts S) (go : output.Ghosts O) (ge : ou
         )
       where
         ends : (cause : Cause) → EndStops gs limit mid new cause
-            → RunStops gs go (PassesOn form.pack verdict) wants limit most s.sifting.ts mid new before between cause
+            → RunStops gs go (PassesLast form.pack verdict s.sifting.ts) wants limit most s.sifting.ts mid new before between cause
         ends TooManyMessages q = (s.sifting.many ∙ h, s.sifting.appended, q)
         ends (Frame fault) q = (s.sifting.appended, q)
         ends (Output fault) q = absurd q
@@ -401,4 +420,4 @@ module _ {S O E : Type 0} (gs : source.Ghosts S) (go : output.Ghosts O) (ge : ou
     end.6,
   )
   filter_settled most old new before after first last (Err fault) own ms end f w c s l few =
-      settled_behind gs go (PassesOn form.pack verdict) limit most old new before after wants f.1 f.0 own ms fault.cause _ w c s l few f.4 f.7
+      settled_behind gs go (PassesLast form.pack verdict f.0) limit most old new before after wants f.1 f.0 own ms fault.cause _ w c s l few f.4 f.7

@@ -64,11 +64,6 @@ abbrev pub Passes : Bool → Tells → Tells
 Passes pack verdict n m text counted = (line : List ℕ) × verdict n m line counted
     × GoesOn pack m text counted
 
--- what goes on of message n, which is accepted
-abbrev pub PassesOn : Bool → Tells → Tells
-PassesOn pack verdict n m text counted = (counted ≡ Accepted)
-    × Passes pack verdict n m text counted
-
 -- what is written about message n to the log
 abbrev pub Notes : Tells → Tells
 Notes verdict n m text counted = (line : List ℕ) × verdict n m line counted
@@ -92,6 +87,19 @@ abbrev pub Covers : Bool → List Told → List (List (List ℕ)) → Type 0
 Covers stop ts ms = ((messages_of ts ≡ ms) × (IsTrue stop → AllAccepted ts))
     ⊎ (IsTrue stop × LastRefused ts
     × ((more : List (List (List ℕ))) × (ms ≡ messages_of ts ++ more)))
+
+-- The last of these messages was accepted.
+pub record LastAccepted (ts : List Told) : Type 0 where
+  pub front : List Told
+  pub last : Told
+  pub whole : ts ≡ front ++ last ∷ []
+  pub accepted : last.counted ≡ Accepted
+
+-- What goes on of message n after these, at which the output fails: it is accepted, or it is
+-- refused and the one before it was accepted.
+abbrev pub PassesLast : Bool → Tells → List Told → Tells
+PassesLast pack verdict ts n m text counted = ((counted ≡ Accepted) ⊎ LastAccepted ts)
+    × Passes pack verdict n m text counted
 
 module _ {S : Type 0} (gs : source.Ghosts S) where
   -- All words of the source are frames of these messages, and if it stops at a refused one, all
@@ -126,14 +134,14 @@ module _ {S O E : Type 0} (gs : source.Ghosts S) (go : output.Ghosts O) (ge : ou
       × Noted ge verdict (messages_of ts) first last)
 
   -- The source was `mid` after the messages before the error had been read. If the output failed,
-  -- the message at the error was accepted.
+  -- the message at the error was accepted, or the one before it was.
   abbrev pub FiltersUntil : Result Outcome RunFault → Type 0
   FiltersUntil answer = IfErr answer (λ fault. (ts : List Told) × (mid : S)
       × (fault.message ≡ length ts) × (length ts ≤ most)
       × ReadsStream gs limit old mid (messages_of ts) × TellsEach (Passes form.pack verdict) 0 ts
       × (IsTrue form.stop → AllAccepted ts)
-      × RunStops gs go (PassesOn form.pack verdict) wants limit most ts mid new before after
-      fault.cause × Noted ge verdict (messages_of ts) first last)
+      × RunStops gs go (PassesLast form.pack verdict ts) wants limit most ts mid new before
+      after fault.cause × Noted ge verdict (messages_of ts) first last)
 
   -- What an engine does that lets the accepted messages of a stream through: at most `most`
   -- messages, each of at most `limit` words. A message in `wants` may need an allocation after it

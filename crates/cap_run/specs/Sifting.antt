@@ -1,12 +1,13 @@
 -- What the steps of the engine `run_filter` do (profile). gs, go and ge have the members of the
 -- types of the source, of the output, and of the log.
-use Rattle.std.specs.Prelude.{ℕ, ◌≡◌, Bool, List, [], ◌∷◌, ◌++◌, Option, Some, None, Result, Ok, Err}
-use Rattle.std.specs.Prelude.{codes}
+use Rattle.std.specs.Prelude.{ℕ, ◌≡◌, ◌⊎◌, Bool, IsTrue, List, [], ◌∷◌, ◌++◌, Option, Some, None}
+use Rattle.std.specs.Prelude.{Result, Ok, Err, codes}
 use Rattle.cap_spec.specs.Texts.{Verdict, refused, strict_verdict, vet_text}
 use Rattle.cap_words.specs.declared.ends.ByteOut as output
 use Rattle.cap_words.specs.declared.sources.WordSource as source
+use Rattle.cap_frame.specs.Fronts.{IsFront}
 use Rattle.cap_frame.specs.ReadingFaults.{Faults}
-use Rattle.cap_run.specs.Filtering.{Logged, Notes, Passes, PassesOn}
+use Rattle.cap_run.specs.Filtering.{Logged, Notes, Passes}
 use Rattle.cap_run.specs.Running.{Appended}
 use Rattle.cap_run.specs.Streams.{ReadsStream}
 use Rattle.cap_run.specs.Telling.{Tells}
@@ -19,6 +20,10 @@ use Rattle.cap_text.specs.Writing.{Stopped}
 use Rattle.cap_text.specs.declared.fault.Cause.{Cause}
 use Rattle.cap_text.specs.declared.fault.Cause.TheVariants.{TooManyMessages, Frame, Output, Refused}
 use Rattle.cap_text.specs.declared.fault.Cause.TheVariants.{Canon, NotStrict, Memory as no_marks}
+
+-- these bytes begin with the frame of a message within the limit
+abbrev pub ShowsFrame : ℕ → List ℕ → Type 0
+ShowsFrame limit bytes = (m : List (List ℕ)) × (n : ℕ) × IsFront limit bytes m n
 
 -- what the line of a refused message says
 abbrev pub objection_verdict : Objection → Verdict
@@ -46,21 +51,23 @@ module _ {E : Type 0} (ge : output.Ghosts E) where
 
 module _ {O E : Type 0} (go : output.Ghosts O) (ge : output.Ghosts E) (pack : Bool)
     (verdict : Tells) (wants : List (List ℕ) → Type 0) (n : ℕ) (m : List (List ℕ))
-    (before after : O) (old new : E) (failed fails : Bool) where
+    (before after : O) (old new : E) (failed fails waits stays : Bool) where
   -- nothing was written to the log
   abbrev pub KeepsLog : Type 0
   KeepsLog = (new ≡ old) × (fails ≡ failed)
 
-  -- message n was accepted and its frame was written, or it was refused and its line was; or the
-  -- output failed in the frame of an accepted message, or an allocation failed
+  -- Message n was accepted and its frame was written, or it was refused and its line was. Or the
+  -- output failed, in the frame of an accepted message or in a flush of frames that waited. Or an
+  -- allocation failed. Only the frame of an accepted message waits after it.
   abbrev pub Sifts : Result Counted Cause → Type 0
   Sifts (Ok counted) = (text : List ℕ) × (line : List ℕ) × Passes pack verdict n m text counted
       × Notes verdict n m line counted × Appended go before after text
-      × LogsMore ge old new failed fails line
+      × LogsMore ge old new failed fails line × (IsTrue stays → counted ≡ Accepted)
   Sifts (Err TooManyMessages) = ⊥
   Sifts (Err (Frame fault)) = ⊥
   Sifts (Err (Output fault)) = (text : List ℕ) × (counted : Counted)
-      × PassesOn pack verdict n m text counted × Stopped go before after fault text × KeepsLog
+      × ((counted ≡ Accepted) ⊎ IsTrue waits) × Passes pack verdict n m text counted
+      × Stopped go before after fault text × KeepsLog
   Sifts (Err (Refused refusal)) = ⊥
   Sifts (Err (NotStrict fault)) = ⊥
   Sifts (Err (Canon fault)) = ⊥
@@ -68,11 +75,11 @@ module _ {O E : Type 0} (go : output.Ghosts O) (ge : output.Ghosts E) (pack : Bo
 
 module _ {S O E : Type 0} (gs : source.Ghosts S) (go : output.Ghosts O) (ge : output.Ghosts E)
     (pack : Bool) (verdict : Tells) (wants : List (List ℕ) → Type 0) (limit n : ℕ) (old new : S)
-    (before after : O) (first last : E) (failed fails : Bool) where
+    (before after : O) (first last : E) (failed fails waits stays : Bool) where
   -- message n was read and sifted
   abbrev pub SiftsNext : Result Counted Cause → Type 0
   SiftsNext r = (m : List (List ℕ)) × ReadsStream gs limit old new (m ∷ [])
-      × Sifts go ge pack verdict wants n m before after first last failed fails r
+      × Sifts go ge pack verdict wants n m before after first last failed fails waits stays r
 
   -- why the engine ended at message n
   abbrev pub SiftStops : Cause → Type 0

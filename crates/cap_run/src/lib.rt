@@ -6,6 +6,7 @@
 
 mod engines;
 mod fault;
+mod peek;
 mod settings;
 
 pub use cap_path::{PathFault, parse_path};
@@ -21,4 +22,5 @@ pub use engines::get::{run_get, run_get_with};
 pub use engines::segments::run_segments;
 pub use engines::transcode::{run_pack, run_unpack};
 pub use engines::vet::{run_vet, run_vet_with};
+pub use peek::Peek;
 pub use settings::{FilterForm, Outcome, Settings};

@@ -2,30 +2,43 @@
 
 ghost use Rattle.cap_run.specs.Filtering.{FiltersAll, FiltersStream, FiltersUntil, TellsIn};
 ghost use Rattle.cap_run.specs.Filtering.{WantsInForm};
-ghost use Rattle.cap_run.specs.Sifting.{SiftStops, SiftsNext};
+ghost use Rattle.cap_run.specs.Sifting.{ShowsFrame, SiftStops, SiftsNext};
 ghost use Rattle.cap_run.specs.Streams.{EndsStream};
 ghost use Rattle.cap_frame.specs.Limit.{limit_of};
-ghost use Rattle.std.specs.Prelude.{◌≡◌, ◌≢◌, IfErr, IsFalse, IsTrue};
+ghost use Rattle.std.specs.Prelude.{◌≡◌, ◌≢◌, ◌↔◌, IfErr, IsFalse, IsTrue};
 
-use crate::engines::sifting::Sieve;
+use crate::engines::sifting::{Passage, Sieve};
 use crate::engines::stream::{Counted, count, end_stream};
+use crate::peek::Peek;
 use crate::settings::{FilterForm, Outcome, Settings};
-use cap_frame::{ByteMessage, SizeLimit, read_into};
-use cap_text::{Cause, Page, RunFault};
+use cap_frame::{ByteMessage, SizeLimit, front_of, read_into};
+use cap_text::{Cause, RunFault};
 use cap_vet::Demands;
-use cap_words::{ByteOut, WordSource};
+use cap_words::ByteOut;
 use std::alloc::Global;
 
-/// The message that was read last, the page for a line, and whether the log has failed.
+/// The message that was read last, and what else is kept from one message to the next.
 #[derive(Drop)]
 struct FilterRoom {
     message: ByteMessage,
-    page: Page,
-    failed: bool,
+    passage: Passage,
 }
 
-/// Reads the next message and sifts it. `None` if the stream ends before it.
-fn sift_next<S: WordSource, O: ByteOut, E: ByteOut>(
+/// Whether the source shows a whole message within the limit, so that it gives this message without
+/// a call of the device.
+fn shows_next<S: Peek>(source: &S, size: SizeLimit) -> bool
+    ensures { IsTrue result ↔ ShowsFrame (limit_of size) (S.ahead source.now) }
+{
+    match front_of(source.ahead(), size) {
+        Ok(Some(_)) => true,
+        Ok(None) => false,
+        Err(_) => false,
+    }
+}
+
+/// Reads the next message and sifts it. `None` if the stream ends before it. The frame of an
+/// accepted message is flushed unless the source shows the whole message after it.
+fn sift_next<S: Peek, O: ByteOut, E: ByteOut>(
     sieve: &Sieve,
     room: &mut FilterRoom,
     source: &mut S,
@@ -38,19 +51,23 @@ fn sift_next<S: WordSource, O: ByteOut, E: ByteOut>(
         SiftsNext S.WordSource O.ByteOut E.ByteOut v.form.pack
         (TellsIn v.form v.demands v.limits) (WantsInForm v.form v.demands v.limits)
         (limit_of size) number source.old source.new out.old out.new log.old log.new
-        room.old.failed room.new.failed (Ok counted) }
+        room.old.passage.failed room.new.passage.failed
+        room.old.passage.waits room.new.passage.waits (Ok counted) }
     ensures none { result ≡ Ok None → EndsStream S.WordSource source.old source.new
-        × (out.new ≡ out.old) × (log.new ≡ log.old) × (room.new.failed ≡ room.old.failed) }
+        × (out.new ≡ out.old) × (log.new ≡ log.old)
+        × (room.new.passage.failed ≡ room.old.passage.failed) }
     ensures err { let v = sieve.now in IfErr result (SiftStops S.WordSource O.ByteOut E.ByteOut
         v.form.pack (TellsIn v.form v.demands v.limits)
         (WantsInForm v.form v.demands v.limits) (limit_of size) number
         source.old source.new out.old out.new log.old log.new
-        room.old.failed room.new.failed) }
+        room.old.passage.failed room.new.passage.failed
+        room.old.passage.waits room.new.passage.waits) }
 {
     match read_into(sieve.alloc, source, size, &mut room.message) {
         Ok(true) => {
+            let wait = shows_next(source, size);
             let message = room.message.view();
-            match sieve.sift(&mut room.page, out, log, &mut room.failed, number, &message) {
+            match sieve.sift(&mut room.passage, out, log, wait, number, &message) {
                 Ok(counted) => Ok(Some(counted)),
                 Err(cause) => Err(cause),
             }
@@ -72,7 +89,7 @@ fn ends_after(counted: Counted, stop: bool) -> bool
 }
 
 /// Sifts the messages of a stream to its end, or to the first refused one.
-fn sift_each<S: WordSource, O: ByteOut, E: ByteOut>(
+fn sift_each<S: Peek, O: ByteOut, E: ByteOut>(
     sieve: &Sieve,
     source: &mut S,
     out: &mut O,
@@ -97,8 +114,7 @@ fn sift_each<S: WordSource, O: ByteOut, E: ByteOut>(
     };
     let mut room = FilterRoom {
         message: ByteMessage::blank(sieve.alloc),
-        page: Page::new(),
-        failed: false,
+        passage: Passage::new(),
     };
     for number in 0..settings.messages {
         match sift_next(sieve, &mut room, source, out, log, settings.size, number) {
@@ -134,9 +150,14 @@ fn sift_each<S: WordSource, O: ByteOut, E: ByteOut>(
 /// `form.pack` the frame is packed, the table and each segment by itself (encoding: Packing).
 ///
 /// A refused message is counted. It ends the run only with `form.stop`: the source is then just
-/// after it, and nothing more was read. The frame of a message, or its line, is written and flushed
-/// before the next message is read. No byte of a message is written before the whole message is
-/// vetted. If `log` fails, it isn't called again, and the run goes on.
+/// after it, and nothing more was read. No byte of a message is written before the whole message is
+/// vetted. The frame of a message, or its line, is written before the next message is read. If `log`
+/// fails, it isn't called again, and the run goes on.
+///
+/// A frame is flushed before the next message is read, unless the source shows this message whole
+/// and within `settings.size`, see [`Peek`](crate::Peek). So the input isn't asked for bytes while a
+/// frame waits. The frames that wait are flushed before a line is written. They still wait if the
+/// run ends with [`Cause::TooManyMessages`], or as an allocation fails.
 ///
 /// Allocates to hold a message only if it is larger than all before it: eight bytes for each word.
 /// With `form.exclusive` it allocates the marks for a message that meets the demands: one bit for
@@ -151,11 +172,12 @@ fn sift_each<S: WordSource, O: ByteOut, E: ByteOut>(
 /// - [`Cause::TooManyMessages`]: the stream has more than `settings.messages` messages.
 /// - [`Cause::Frame`]: the message can't be read within `settings.size`, see
 ///   [`FrameFault`](cap_frame::FrameFault).
-/// - [`Cause::Output`]: the message is accepted, and `out` failed as its frame was written or
-///   flushed. It took a prefix of the frame, or all of it.
+/// - [`Cause::Output`]: `out` failed, and nothing was read after that. The message is accepted, and
+///   `out` took a prefix of its frame, or all of it. Or it is refused and the message before it was
+///   accepted, and a flush of the frames before it failed. Its line wasn't written.
 /// - [`Cause::Memory`]: with `form.exclusive` alone. The message meets the demands, and the
 ///   allocation of the marks failed. Nothing was written for it.
-pub fn run_filter<S: WordSource, O: ByteOut, E: ByteOut>(
+pub fn run_filter<S: Peek, O: ByteOut, E: ByteOut>(
     alloc: Global,
     source: &mut S,
     out: &mut O,

@@ -15,6 +15,25 @@ use cap_words::{ByteOut, OutFault, write_all};
 /// How many bytes the packed text of the longest table has at most: ten for each word.
 const PACKED_TABLE_BYTES: usize = TABLE_BYTES / 8 * 10;
 
+/// The buffers that the parts of a frame are written from. They may hold anything.
+#[derive(Drop)]
+pub(crate) struct FrameBuffers {
+    table: [u8; TABLE_BYTES],
+    packed_table: [u8; PACKED_TABLE_BYTES],
+    part: [u8; PART_BYTES],
+}
+
+impl FrameBuffers {
+    /// Buffers that hold zeros.
+    pub(crate) fn new() -> FrameBuffers {
+        FrameBuffers {
+            table: [0; TABLE_BYTES],
+            packed_table: [0; PACKED_TABLE_BYTES],
+            part: [0; PART_BYTES],
+        }
+    }
+}
+
 /// Writes bytes, at least one.
 fn write_first<O: ByteOut>(out: &mut O, bytes: &[u8]) -> Result<(), OutFault>
     requires { 0 < length bytes.now }
@@ -33,12 +52,15 @@ fn write_more<O: ByteOut>(out: &mut O, bytes: &[u8]) -> Result<(), OutFault>
 
 /// Writes the table: how many segments there are, their sizes, and zero padding (encoding:
 /// Serialization Over a Stream).
-fn write_table<O: ByteOut, M: Segments>(out: &mut O, message: &M) -> Result<(), OutFault>
+fn write_table<O: ByteOut, M: Segments>(
+    out: &mut O,
+    message: &M,
+    table: &mut [u8; TABLE_BYTES],
+) -> Result<(), OutFault>
     ensures { Writes O.ByteOut out.old out.new result
         (plain_text (table_of (M.segments message.now))) }
 {
-    let mut table = [0; TABLE_BYTES];
-    let count = table_into(message, &mut table);
+    let count = table_into(message, table);
     write_first(out, &table[..count])
 }
 
@@ -49,7 +71,11 @@ fn write_contents<'b, O: ByteOut>(out: &mut O, message: &ByteView<'b>) -> Result
         Writes O.ByteOut before out.new result (text ++ plain_text (joined m)) }
 {
     'segments: for s in 0..message.count() {
-        if let Err(fault) = write_more(out, message.segment(s)) {
+        let Some(bytes) = message.segment(s) else {
+            // The segment exists.
+            unreachable!()
+        };
+        if let Err(fault) = write_more(out, bytes) {
             return Err(fault);
         }
     }
@@ -65,25 +91,29 @@ fn write_contents<'b, O: ByteOut>(out: &mut O, message: &ByteView<'b>) -> Result
 pub(crate) fn write_frame<'b, O: ByteOut>(
     out: &mut O,
     message: &ByteView<'b>,
+    buffers: &mut FrameBuffers,
 ) -> Result<(), OutFault>
     ensures { let m = ⟦<ByteView<'b> as Segments>⟧.segments message.now in
         Writes O.ByteOut out.old out.new result (plain_text (frame_text m)) }
 {
-    match write_table(out, message) {
+    match write_table(out, message, &mut buffers.table) {
         Ok(()) => write_contents(out, message),
         Err(fault) => Err(fault),
     }
 }
 
 /// Writes the packed text of the table.
-fn write_packed_table<O: ByteOut, M: Segments>(out: &mut O, message: &M) -> Result<(), OutFault>
+fn write_packed_table<O: ByteOut, M: Segments>(
+    out: &mut O,
+    message: &M,
+    table: &mut [u8; TABLE_BYTES],
+    text: &mut [u8; PACKED_TABLE_BYTES],
+) -> Result<(), OutFault>
     ensures { Writes O.ByteOut out.old out.new result
         (pack_text (table_of (M.segments message.now))) }
 {
-    let mut table = [0; TABLE_BYTES];
-    let count = table_into(message, &mut table);
-    let mut text = [0; PACKED_TABLE_BYTES];
-    let length = pack_into(&table[..count], &mut text);
+    let count = table_into(message, table);
+    let length = pack_into(&table[..count], text);
     write_first(out, &text[..length])
 }
 
@@ -112,14 +142,18 @@ fn write_packed_more<O: ByteOut>(
 fn write_packed_contents<'b, O: ByteOut>(
     out: &mut O,
     message: &ByteView<'b>,
+    part: &mut [u8; PART_BYTES],
 ) -> Result<(), OutFault>
     ensures { let m = ⟦<ByteView<'b> as Segments>⟧.segments message.now in
         (before : O) (text : List ℕ) → Wrote O.ByteOut before out.old text →
         Writes O.ByteOut before out.new result (text ++ flat_map pack_text m) }
 {
-    let mut part = [0; PART_BYTES];
     'texts: for s in 0..message.count() {
-        if let Err(fault) = write_packed_more(out, message.segment(s), &mut part) {
+        let Some(bytes) = message.segment(s) else {
+            // The segment exists.
+            unreachable!()
+        };
+        if let Err(fault) = write_packed_more(out, bytes, part) {
             return Err(fault);
         }
     }
@@ -135,12 +169,14 @@ fn write_packed_contents<'b, O: ByteOut>(
 pub(crate) fn write_packed_frame<'b, O: ByteOut>(
     out: &mut O,
     message: &ByteView<'b>,
+    buffers: &mut FrameBuffers,
 ) -> Result<(), OutFault>
     ensures { let m = ⟦<ByteView<'b> as Segments>⟧.segments message.now in
         Writes O.ByteOut out.old out.new result (packed_frame m) }
 {
-    match write_packed_table(out, message) {
-        Ok(()) => write_packed_contents(out, message),
+    let (table, text) = (&mut buffers.table, &mut buffers.packed_table);
+    match write_packed_table(out, message, table, text) {
+        Ok(()) => write_packed_contents(out, message, &mut buffers.part),
         Err(fault) => Err(fault),
     }
 }

@@ -3,14 +3,15 @@
 ghost use Rattle.cap_run.specs.Filtering.{Logged, TellsIn, WantsInForm, frame_in};
 ghost use Rattle.cap_run.specs.Sifting.{Judges, Sifts, objection_text};
 ghost use Rattle.cap_run.specs.Demanding.{TellsMarked};
+ghost use Rattle.cap_run.specs.Running.{Appended};
 ghost use Rattle.cap_run.specs.Vetting.{WantsMarks};
 ghost use Rattle.cap_spec.specs.Tree.{Tree};
-ghost use Rattle.cap_text.specs.Writing.{Writes};
+ghost use Rattle.cap_text.specs.Writing.{Stopped, Writes};
 ghost use Rattle.cap_vet.specs.Reports.{IsReport};
 ghost use Rattle.cap_vet.specs.Vettings.{message_of, report_of};
-ghost use Rattle.std.specs.Prelude.{◌++◌, List, ℕ};
+ghost use Rattle.std.specs.Prelude.{◌++◌, ◌≡◌, [], IfErr, IsTrue, List, OnOk, false, ℕ};
 
-use crate::engines::passing::{write_frame, write_packed_frame};
+use crate::engines::passing::{FrameBuffers, write_frame, write_packed_frame};
 use crate::engines::stream::Counted;
 use crate::settings::FilterForm;
 use cap_frame::{ByteView, Segments};
@@ -120,24 +121,76 @@ fn note<E: ByteOut>(
 }
 
 /// Writes the frame of a message, plain or packed.
-fn write_in<'b, O: ByteOut>(out: &mut O, message: &ByteView<'b>, pack: bool) -> Result<(), OutFault>
+fn write_in<'b, O: ByteOut>(
+    out: &mut O,
+    message: &ByteView<'b>,
+    pack: bool,
+    buffers: &mut FrameBuffers,
+) -> Result<(), OutFault>
     ensures { let m = ⟦<ByteView<'b> as Segments>⟧.segments message.now in
         Writes O.ByteOut out.old out.new result (frame_in pack m) }
 {
     if pack {
-        return write_packed_frame(out, message);
+        return write_packed_frame(out, message, buffers);
     }
-    write_frame(out, message)
+    write_frame(out, message, buffers)
 }
 
-/// Writes the frame of a message, plain or packed, and flushes it.
-fn pass_on<'b, O: ByteOut>(out: &mut O, message: &ByteView<'b>, pack: bool) -> Result<(), OutFault>
+/// Writes the frame of a message, plain or packed, and flushes it unless it may wait.
+fn pass_on<'b, O: ByteOut>(
+    out: &mut O,
+    message: &ByteView<'b>,
+    pack: bool,
+    wait: bool,
+    buffers: &mut FrameBuffers,
+) -> Result<(), OutFault>
     ensures { let m = ⟦<ByteView<'b> as Segments>⟧.segments message.now in
         Writes O.ByteOut out.old out.new result (frame_in pack m) }
 {
-    match write_in(out, message, pack) {
+    match write_in(out, message, pack, buffers) {
+        Ok(()) if wait => Ok(()),
         Ok(()) => out.flush(),
         Err(fault) => Err(fault),
+    }
+}
+
+/// Flushes the frames that wait for it, if there are any.
+fn flush_waiting<O: ByteOut>(out: &mut O, waits: bool) -> Result<(), OutFault>
+    ensures ok { OnOk result (Appended O.ByteOut out.old out.new []) }
+    ensures err { IfErr result (λ fault.
+        IsTrue waits × Stopped O.ByteOut out.old out.new fault []) }
+{
+    if waits {
+        return out.flush();
+    }
+    Ok(())
+}
+
+/// What is kept from one message to the next, beside the message.
+#[derive(Drop)]
+pub(crate) struct Passage {
+    /// What frames are written from.
+    buffers: FrameBuffers,
+    /// The page for a line.
+    page: Page,
+    /// Whether the log has failed.
+    pub(crate) failed: bool,
+    /// Whether the message that was sifted last was accepted, and its frame waits for a flush.
+    pub(crate) waits: bool,
+}
+
+impl Passage {
+    /// Nothing was written yet.
+    pub(crate) fn new() -> Passage
+        ensures failed { result.failed ≡ false }
+        ensures waits { result.waits ≡ false }
+    {
+        Passage {
+            buffers: FrameBuffers::new(),
+            page: Page::new(),
+            failed: false,
+            waits: false,
+        }
     }
 }
 
@@ -171,39 +224,54 @@ impl Sieve {
         }
     }
 
-    /// Vets a message. Its frame is written and flushed if it is accepted. Otherwise its line is
-    /// written to the log and flushed, unless the log has failed.
+    /// Vets a message. Its frame is written if it is accepted, and flushed unless it may wait.
+    /// Otherwise the frames that wait are flushed. Then its line is written to the log and flushed,
+    /// unless the log has failed.
     ///
     /// # Errors
     ///
     /// The log took nothing.
     ///
-    /// - [`Cause::Output`]: the message is accepted and the output failed. It took a prefix of the
-    ///   frame.
+    /// - [`Cause::Output`]: the output failed. The message is accepted, and the output took a prefix
+    ///   of its frame. Or it is refused, and frames that waited weren't flushed.
     /// - [`Cause::Memory`]: an allocation failed. The output took nothing.
     pub(crate) fn sift<'b, O: ByteOut, E: ByteOut>(
         &self,
-        page: &mut Page,
+        passage: &mut Passage,
         out: &mut O,
         log: &mut E,
-        failed: &mut bool,
+        wait: bool,
         number: u32,
         message: &ByteView<'b>,
     ) -> Result<Counted, Cause>
         ensures { let m = ⟦<ByteView<'b> as Segments>⟧.segments message.now in
             let v = self.now in Sifts O.ByteOut E.ByteOut v.form.pack
             (TellsIn v.form v.demands v.limits) (WantsInForm v.form v.demands v.limits) number m
-            out.old out.new log.old log.new failed.old failed.new result }
+            out.old out.new log.old log.new passage.old.failed passage.new.failed
+            passage.old.waits passage.new.waits result }
     {
         match self.judge(message) {
-            Ok(None) => match pass_on(out, message, self.form.pack) {
-                Ok(()) => Ok(Counted::Accepted),
+            Ok(None) => match pass_on(out, message, self.form.pack, wait, &mut passage.buffers) {
+                Ok(()) => {
+                    passage.waits = wait;
+                    Ok(Counted::Accepted)
+                }
                 Err(fault) => Err(Cause::Output(fault)),
             },
-            Ok(Some(objection)) => {
-                *failed = note(page, log, *failed, number, &objection);
-                Ok(Counted::Refused)
-            }
+            Ok(Some(objection)) => match flush_waiting(out, passage.waits) {
+                Ok(()) => {
+                    passage.waits = false;
+                    passage.failed = note(
+                        &mut passage.page,
+                        log,
+                        passage.failed,
+                        number,
+                        &objection,
+                    );
+                    Ok(Counted::Refused)
+                }
+                Err(fault) => Err(Cause::Output(fault)),
+            },
             Err(cause) => Err(cause),
         }
     }

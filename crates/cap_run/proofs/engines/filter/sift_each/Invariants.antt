@@ -7,4 +7,4 @@ abbrev pub invariant-loop-number : goal.invariant-loop-number
 invariant-loop-number g l =
     let v = l.sieve in
     Sieving g.S.WordSource g.O.ByteOut g.E.ByteOut v.form (TellsIn v.form v.demands v.limits) (WantsInForm v.form v.demands v.limits)
-    (limit_of l.settings.size) l.fn.source l.source l.fn.out l.out l.fn.log l.log l.outcome l.number l.room.failed
+    (limit_of l.settings.size) l.fn.source l.source l.fn.out l.out l.fn.log l.log l.outcome l.number l.room.passage.failed l.room.passage.waits

@@ -14,7 +14,8 @@ returns-in-Ok-clause-some g c = λ counted e.
     let same : c.in-Ok.counted ≡ counted = cc in
     subst (λ (k : Counted). SiftsNext g.S.WordSource g.O.ByteOut g.E.ByteOut v.form.pack
     (TellsIn v.form v.demands v.limits) (WantsInForm v.form v.demands v.limits) (limit_of c.args.size) c.args.number
-    c.args.source.now c.read_into.new.source c.args.out.now c.sift.new.out c.args.log.now c.sift.new.log c.args.room.now.failed c.sift.new.failed
+    c.args.source.now c.read_into.new.source c.args.out.now c.sift.new.out c.args.log.now c.sift.new.log
+    c.args.room.now.passage.failed c.sift.new.passage.failed c.args.room.now.passage.waits c.sift.new.passage.waits
     (Ok k)) same (
       _,
       reads_named g.S.WordSource (limit_of c.args.size) c.args.source.now c.read_into.new.source _ r c.in-Ok-true.ensures.read.next.works,
@@ -27,12 +28,14 @@ returns-in-Err-sift-clause-err g c =
     let r = c.in-Ok-true.ensures.read.message (cc) in
     sift_stopped g.S.WordSource g.O.ByteOut g.E.ByteOut v.form.pack
     (TellsIn v.form v.demands v.limits) (WantsInForm v.form v.demands v.limits) (limit_of c.args.size) c.args.number
-    c.args.source.now c.read_into.new.source c.args.out.now c.sift.new.out c.args.log.now c.sift.new.log c.args.room.now.failed c.sift.new.failed
+    c.args.source.now c.read_into.new.source c.args.out.now c.sift.new.out c.args.log.now c.sift.new.log
+    c.args.room.now.passage.failed c.sift.new.passage.failed c.args.room.now.passage.waits c.sift.new.passage.waits
     c.in-Err-sift.cause (
       _,
       reads_named g.S.WordSource (limit_of c.args.size) c.args.source.now c.read_into.new.source
           _ r c.in-Ok-true.ensures.read.next.works,
       subst (λ (m : List (List ℕ)). Sifts g.O.ByteOut g.E.ByteOut v.form.pack (TellsIn v.form v.demands v.limits)
           (WantsInForm v.form v.demands v.limits) c.args.number m c.args.out.now c.sift.new.out c.args.log.now c.sift.new.log
-          c.args.room.now.failed c.sift.new.failed (Err c.in-Err-sift.cause)) c.view-message.ensures c.in-Err-sift.ensures,
+          c.args.room.now.passage.failed c.sift.new.passage.failed c.args.room.now.passage.waits c.sift.new.passage.waits
+          (Err c.in-Err-sift.cause)) c.view-message.ensures c.in-Err-sift.ensures,
     )

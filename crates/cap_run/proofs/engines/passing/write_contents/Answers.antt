@@ -15,7 +15,7 @@ returns-in-Err g c = λ before text h.
     left_stops g.O.ByteOut before c.segments.out c.write_more.new.out text (plain_text (joined m)) (plain_text (joined (drop s m)))
     (plain_text (segment_of m s)) (plain_text (joined (drop (s + 1) m))) c.in-Err.fault (contents_from m s (omega arith))
     (c.segments.invariant before text h)
-    (λ t w. subst (λ (bs : List ℕ). Stopped g.O.ByteOut before c.write_more.new.out c.in-Err.fault (t ++ bs)) c.segment.ensures.text
+    (λ t w. subst (λ (bs : List ℕ). Stopped g.O.ByteOut before c.write_more.new.out c.in-Err.fault (t ++ bs)) c.in-Some.ensures.text
     (c.in-Err.ensures before t w))
 
 pub segments-preserved : goal.segments-preserved
@@ -25,5 +25,5 @@ segments-preserved g c = λ before text h.
     left_less g.O.ByteOut before c.segments.out c.write_more.new.out text (plain_text (joined m)) (plain_text (joined (drop s m)))
     (plain_text (segment_of m s)) (plain_text (joined (drop (s + 1) m))) (contents_from m s (omega arith))
     (c.segments.invariant before text h)
-    (λ t w. subst (λ (bs : List ℕ). Wrote g.O.ByteOut before c.write_more.new.out (t ++ bs)) c.segment.ensures.text
-    (c.in_default.ensures before t w))
+    (λ t w. subst (λ (bs : List ℕ). Wrote g.O.ByteOut before c.write_more.new.out (t ++ bs)) c.in-Some.ensures.text
+    (c.in_default-write_more.ensures before t w))

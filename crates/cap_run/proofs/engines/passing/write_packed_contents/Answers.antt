@@ -14,7 +14,7 @@ returns-in-Err g c = λ before text h.
     left_stops g.O.ByteOut before c.texts.out c.write_packed_more.new.out text (flat_map pack_text m) (flat_map pack_text (drop s m))
     (pack_text (segment_of m s)) (flat_map pack_text (drop (s + 1) m)) c.in-Err.fault (texts_from m s (omega arith))
     (c.texts.invariant before text h)
-    (λ t w. subst (λ (ws : List ℕ). Stopped g.O.ByteOut before c.write_packed_more.new.out c.in-Err.fault (t ++ pack_text ws)) c.segment.ensures.words
+    (λ t w. subst (λ (ws : List ℕ). Stopped g.O.ByteOut before c.write_packed_more.new.out c.in-Err.fault (t ++ pack_text ws)) c.in-Some.ensures.words
     (c.in-Err.ensures before t w))
 
 pub texts-preserved : goal.texts-preserved
@@ -24,5 +24,5 @@ texts-preserved g c = λ before text h.
     left_less g.O.ByteOut before c.texts.out c.write_packed_more.new.out text (flat_map pack_text m) (flat_map pack_text (drop s m))
     (pack_text (segment_of m s)) (flat_map pack_text (drop (s + 1) m)) (texts_from m s (omega arith))
     (c.texts.invariant before text h)
-    (λ t w. subst (λ (ws : List ℕ). Wrote g.O.ByteOut before c.write_packed_more.new.out (t ++ pack_text ws)) c.segment.ensures.words
-    (c.in_default.ensures before t w))
+    (λ t w. subst (λ (ws : List ℕ). Wrote g.O.ByteOut before c.write_packed_more.new.out (t ++ pack_text ws)) c.in-Some.ensures.words
+    (c.in_default-write_packed_more.ensures before t w))
