@@ -44,6 +44,7 @@ import header
 import nodes
 import ranges
 import strict
+import tables
 import unpacking
 from amount import cases
 
@@ -190,9 +191,11 @@ def made_up(chance):
 
 
 def streams(chance):
-    """What is compared: the samples, the fronts of one of them, lies in tables, and many messages."""
+    """What is compared: the samples, messages that use a word twice or nearly so, the fronts of one sample, lies in
+    tables, and many messages."""
     whole = samples()
     yield b"".join(whole)
+    yield b"".join([*(bytes.fromhex(stream) for stream, _ in tables.USED_TWICE), *tables.two_lists()])
     small = min(whole, key=len)
     for end in range(len(small) + 1):
         yield whole[0] + small[:end]

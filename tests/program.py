@@ -396,6 +396,18 @@ for table in (tables.VERDICTS, tables.OTHER_LIMITS, tables.ENDS, tables.MESSAGES
 for table in (tables.LEVELS, tables.NESTED, tables.LEVELS_WITH_A_POINTER_LEFT, tables.OVERLAPS, tables.DUMPS, tables.GETS, tables.LADDER,
               tables.BEHIND_A_REFUSAL, tables.COPY_ENDS, demands.ROWS, filtering.WHOLE, filtering.FORMS):
     rows(table, also_packed=True)
+def overlaps(stream, overlap):
+    """An accepted message, and what `vet --exclusive` writes of it: the overlap, or what `vet` writes."""
+    text, err, status = run([PROGRAM, "vet"], input=stream, stdout=subprocess.PIPE)
+    compare("capvet vet accepts a message", (b"message 0: accepted ", b"", 0), (text[:20], err, status))
+    wanted = text if overlap is None else f"message 0: refused Overlap at {overlap}\n"
+    case("vet --exclusive", wanted, status=0 if overlap is None else 1, stdin=stream)
+
+
+for stream, overlap in tables.USED_TWICE:
+    overlaps(word(stream), overlap)
+for stream, (*_, overlap) in zip(tables.two_lists(), tables.TWO_LISTS, strict=True):
+    overlaps(stream, overlap)
 for stream, exclusive, plain in tables.EXCLUSIVES:
     for command, verdict in ("vet", plain), ("vet --exclusive", exclusive):
         row = (command, stream, f"message 0: {verdict}\n", "", 1 if verdict.startswith("refused") else 0)
@@ -535,6 +547,28 @@ def in_sips(command, stream, wanted, status, most):
         compare(f"capvet {command}, in sips of {most} bytes", (encoded(wanted), b"", status), (out, err, ran.returncode))
 
 
+def edged(kind, first, run):
+    """A message of two segments, one of `first` words and one of three. Its root is null, and the words after it are of
+    one kind up to word `run` of both segments together. `kind` has the bytes of such a word."""
+    words = [bytes(8)] + [kind if place < run else word("0201000000000000") for place in range(1, first + 3)]
+    return struct.pack("<IIII", 1, first, 3, 0) + b"".join(words)
+
+
+def runs_about_edges():
+    """Packed messages whose runs of words end about a segment's end, or go on past the piece of a buffer that is
+    prepared first. Their frames are passed on, also where few bytes come at once."""
+    for kind in bytes(8), FULL, b"\x8a" * 4 + b"\0" + b"\x8a" * 3:
+        stream = b"".join(edged(kind, first, run) for first in (1, 2, 63, 64, 65, 255, 256, 257, 300)
+                          for run in range(first - 1, first + 4))
+        case("filter --packed", stream, stdin=packed(stream))
+        for most in 1, 10:
+            in_sips("filter --packed", packed(stream), stream, 0, most)
+        stream = edged(kind, 17_300, 17_100)
+        case("filter --packed", stream, stdin=packed(stream))
+        for most in 1, 3, 7, 8, 9:
+            in_sips("filter --packed", packed(stream), stream, 0, most)
+
+
 def many_messages():
     """300 messages, of which each second one is refused, at once and in sips."""
     stream = (word("0000000000000000") + framed("0000000001000000", "2a00000000000000")) * 150
@@ -548,15 +582,18 @@ def many_messages():
 
 
 def tagged_sips():
-    """The packed streams of the tables, a byte at a time."""
+    """The packed streams and texts of the tables, a byte at a time."""
     for row in tables.PACKED_STREAMS:
         if not row.err:
             in_sips(row.words, word(row.stream), row.out, row.status, 1)
+    for plain, text in tables.SPELLINGS:
+        in_sips("unpack", word(text), word(plain), 0, 1)
 
 
 long_runs()
 cut_texts()
 long_messages()
+runs_about_edges()
 many_messages()
 tagged_sips()
 

@@ -4,6 +4,7 @@ Streams are in hexadecimal digits, in words as far as they have such, and texts 
 texts were written from docs/output.md, and those of a wrong command line are the library clap's. Nothing here was
 computed by the program.
 """
+import struct
 from typing import NamedTuple
 
 word = bytes.fromhex
@@ -313,6 +314,68 @@ EXCLUSIVES = (
      "refused DepthLimit at 0:0 pointers 65", "refused DepthLimit at 0:0 pointers 65"),
     ("0000000000000000", "refused NoRoot at 0:0 pointers 0", "refused NoRoot at 0:0 pointers 0"),
 )
+
+# Messages that `vet` accepts, and the first pointer that overlaps, if one does.
+USED_TWICE = (
+    # two structs, the second on the last word of the first, and after it
+    ("0000000005000000 0000000000000200 0400000002000000 0400000001000000 0100000000000000 0200000000000000",
+     "0:2 pointers 3"),
+    ("0000000006000000 0000000000000200 0400000002000000 0800000001000000 0100000000000000 0200000000000000 "
+     "0300000000000000", None),
+    # a list of one struct, and a struct on its element, on its tag, and after the list
+    ("0000000005000000 0000000000000200 050000000f000000 0400000001000000 0400000001000000 0700000000000000",
+     "0:2 pointers 3"),
+    ("0000000005000000 0000000000000200 050000000f000000 0000000001000000 0400000001000000 0700000000000000",
+     "0:2 pointers 3"),
+    ("0000000006000000 0000000000000200 050000000f000000 0800000001000000 0400000001000000 0700000000000000 "
+     "0800000000000000", None),
+    # a struct, and a list of one struct whose element lies on it
+    ("0000000005000000 0000000000000200 0800000001000000 010000000f000000 0400000001000000 0700000000000000",
+     "0:2 pointers 3"),
+    # two pointers to one pad of null, and of a capability
+    ("0000000004000000 0000000000000200 1a00000000000000 1a00000000000000 0000000000000000", "0:2 pointers 3"),
+    ("0000000004000000 0000000000000200 1a00000000000000 1a00000000000000 0300000005000000", "0:2 pointers 3"),
+    # two structs without words at one place, and one list of elements without bits for two pointers
+    ("0000000003000000 0000000000000200 fcffffff00000000 f8ffffff00000000", None),
+    ("0000000003000000 0000000000000200 0500000018000000 0100000018000000", None),
+    # words that no pointer uses
+    ("0000000004000000 0000000001000000 2a00000000000000 2b00000000000000 2c00000000000000", None),
+    # a struct that is reached through a pad of one word, before a segment without words
+    ("0200000001000000 0200000000000000 0200000001000000 0000000001000000 2a00000000000000", None),
+    # a struct on the first word of its pad, on the second, and on the root word
+    ("0200000001000000 0200000000000000 0600000001000000 0200000001000000 0000000001000000", "0:0 pointers 1"),
+    ("0200000001000000 0200000000000000 0600000001000000 0a00000001000000 0000000001000000", "0:0 pointers 1"),
+    ("0200000001000000 0200000000000000 0600000001000000 0200000000000000 0000000001000000", "0:0 pointers 1"),
+    # the last word of a segment, and the first of the next
+    ("0200000004000000 0200000000000000 0000000000000200 0400000001000000 0200000001000000 0700000000000000 "
+     "0000000001000000 0900000000000000", None),
+)
+
+# Lists of words, by two pointer words and a count of words, of which the second begins after the first or on its last
+# word. Their marks are in one number or in several.
+TWO_LISTS = (
+    (0x000001e500000005, 0x00000015000000f1, 62, None),
+    (0x000001e500000005, 0x00000015000000ed, 61, "0:2 pointers 3"),
+    (0x000001ed00000005, 0x00000015000000f5, 63, None),
+    (0x000001ed00000005, 0x00000015000000f1, 62, "0:2 pointers 3"),
+    (0x000001f500000005, 0x00000015000000f9, 64, None),
+    (0x000001f500000005, 0x00000015000000f5, 63, "0:2 pointers 3"),
+    (0x000001fd00000005, 0x00000015000000fd, 65, None),
+    (0x000001fd00000005, 0x00000015000000f9, 64, "0:2 pointers 3"),
+    (0x000003ed00000005, 0x00000015000001f5, 127, None),
+    (0x000003ed00000005, 0x00000015000001f1, 126, "0:2 pointers 3"),
+    (0x000003f500000005, 0x00000015000001f9, 128, None),
+    (0x000003f500000005, 0x00000015000001f5, 127, "0:2 pointers 3"),
+    (0x000005f500000005, 0x00000015000002f9, 192, None),
+    (0x000005f500000005, 0x00000015000002f5, 191, "0:2 pointers 3"),
+)
+
+
+def two_lists():
+    """The messages of these lists: a struct of their two pointers, and so many words of zeros."""
+    for first, second, count, _ in TWO_LISTS:
+        yield struct.pack("<IIQQQ", 0, 3 + count, 2 << 48, first, second) + bytes(8 * count)
+
 
 # Messages of a struct on the root word, of none, and of a null root.
 OVERLAPS = (

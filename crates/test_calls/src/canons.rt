@@ -58,7 +58,6 @@ fn in_each_way(
 ) -> Result<(), Fail> {
     let forms = Forms::of(alloc, spelled)?;
     answers(rt, alloc, &forms.several, spelled, wanted)?;
-    answers(rt, alloc, &forms.buffer.view(), spelled, wanted)?;
     match forms.lent() {
         Some(message) => answers(rt, alloc, &message, spelled, wanted),
         None => Ok(()),

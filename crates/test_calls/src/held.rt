@@ -1,9 +1,6 @@
 //! Words and messages for tests.
 
-use cap_frame::{
-    ByteMessage, OneSegment, Segments, SizeLimit, WordMessage, read_byte_message, write_message,
-};
-use cap_words::{PlainSink, PlainWords, SliceIn, VecOut};
+use cap_frame::{OneSegment, WordMessage};
 use std::alloc::Global;
 use std::test::Fail;
 
@@ -38,24 +35,11 @@ pub(crate) fn repeated(
     Ok(spelled)
 }
 
-/// The same message in one buffer.
-pub(crate) fn in_one_buffer<M: Segments>(alloc: Global, message: &M) -> Result<ByteMessage, Fail> {
-    let mut sink = PlainSink::new(VecOut::new(alloc));
-    write_message(&mut sink, message)?;
-    let output = sink.into_inner();
-    let mut source = PlainWords::new(SliceIn::new(output.bytes()));
-    let limit = SizeLimit::new(268435456).ok_or("no limit")?;
-    match read_byte_message(alloc, &mut source, limit)? {
-        Some(held) => Ok(held),
-        None => Err("no message".into()),
-    }
-}
-
-/// One message, held in each way.
+/// One message, with a vector for each segment, and with its only segment borrowed. The program and the
+/// calls from C hold messages in one buffer.
 #[derive(Drop)]
 pub(crate) struct Forms {
     pub(crate) several: WordMessage,
-    pub(crate) buffer: ByteMessage,
     // The words of the one segment, where there is one.
     alone: Option<Vec<u64>>,
 }
@@ -68,16 +52,11 @@ impl Forms {
             segments.push(words(alloc, segment)?)?;
         }
         let several = WordMessage::new(segments).ok_or("no message")?;
-        let buffer = in_one_buffer(alloc, &several)?;
         let alone = match spelled {
             [segment] => Some(words(alloc, segment)?),
             _ => None,
         };
-        Ok(Forms {
-            several,
-            buffer,
-            alone,
-        })
+        Ok(Forms { several, alone })
     }
 
     /// The message of one segment over borrowed words, if it has one segment.

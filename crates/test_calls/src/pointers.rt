@@ -135,7 +135,6 @@ fn is_found(
 ) -> Result<(), Fail> {
     let forms = Forms::of(alloc, spelled)?;
     same_of(rt, &spelled, at_root(rt, &forms.several), wanted);
-    same_of(rt, &spelled, at_root(rt, &forms.buffer.view()), wanted);
     if let Some(message) = forms.lent() {
         same_of(rt, &spelled, at_root(rt, &message), wanted);
     }

@@ -1,10 +1,10 @@
 //! A message that is read at a path.
 
-use super::held::in_one_buffer;
-use crate::same::same;
-use cap_frame::{OneSegment, Segments, WordMessage};
+use crate::same::{same, same_of};
+use cap_frame::{SegmentTables, SizeLimit, WordMessage, front_of};
 use cap_read::{read, read_bytes};
 use cap_vet::{Kind, Limits, Place, Reason, Step};
+use std::alloc::{AllocError, Global};
 use std::process::Abort;
 use std::test::Fail;
 
@@ -16,113 +16,209 @@ fn a_struct_in_another_segment(rt: HostRuntime) -> Result<(), Fail> {
     segments.push(vec![in alloc; 0x0000000100000002]?)?;
     segments.push(vec![in alloc; 0x0000000100000000, 42]?)?;
     let message = WordMessage::new(segments).ok_or("no message")?;
-    reads_struct(&rt, &message)?;
-    reads_struct(&rt, &in_one_buffer(alloc, &message)?.view())
-}
-
-fn reads_struct<M: Segments>(rt: &impl Abort, message: &M) -> Result<(), Fail> {
     let limits = Limits::new(2, 1).ok_or("no limits")?;
-    let Ok(reading) = read(message, limits, &[]) else {
+    let Ok(reading) = read(&message, limits, &[]) else {
         return Err("refused".into());
     };
-    same(rt, (reading.report.charge, reading.report.depth), (2, 1));
-    let view = reading.view.ok_or("no node")?;
+    same(&rt, (reading.report.charge, reading.report.depth), (2, 1));
     let kind = Kind::Struct {
         data_words: 1,
         pointers: 0,
     };
-    same(rt, view.kind(), kind);
+    same(&rt, reading.view.ok_or("no node")?.kind(), kind);
     let place = Place {
         segment: 1,
         start: 1,
         words: 1,
     };
-    same(rt, reading.place, Some(place));
-    let Ok(nothing) = read(message, limits, &[Step::Ptr(0)]) else {
+    same(&rt, reading.place, Some(place));
+    let Ok(nothing) = read(&message, limits, &[Step::Ptr(0)]) else {
         return Err("refused".into());
     };
-    assert!(rt; nothing.view.is_none());
-    same(rt, nothing.place, None);
-    Ok(())
-}
-
-#[test]
-fn a_message_past_its_limit(rt: HostRuntime) -> Result<(), Fail> {
-    let segment = [0x0000000100000000, 42];
-    let message = OneSegment::new(&segment).ok_or("no message")?;
-    is_past_its_limit(&rt, &message)?;
-    is_past_its_limit(&rt, &in_one_buffer(rt.alloc(), &message)?.view())
-}
-
-fn is_past_its_limit<M: Segments>(rt: &impl Abort, message: &M) -> Result<(), Fail> {
-    let limits = Limits::new(0, 1).ok_or("no limits")?;
-    let Err(refusal) = read(message, limits, &[]) else {
+    assert!(rt; nothing.view.is_none() && nothing.place.is_none());
+    let none = Limits::new(1, 1).ok_or("no limits")?;
+    let Err(refusal) = read(&message, none, &[]) else {
         return Err("accepted".into());
     };
-    same(rt, (refusal.segment, refusal.word), (0, 0));
-    same(rt, refusal.reason, Reason::WordLimit);
+    same(&rt, (refusal.word, refusal.reason), (0, Reason::WordLimit));
     Ok(())
 }
+
+// The words at a path, or the word of a refusal, and why.
+type Wanted = Result<&'static [u64], (u32, Reason)>;
+
+// The words of a framed message, a word limit, and paths with what is there. Each word is written from its
+// first byte on.
+type Row = (&'static [u64], u64, &'static [(&'static [Step], Wanted)]);
+
+// The bytes of words.
+fn spelled(alloc: Global, words: &[u64]) -> Result<Vec<u8>, AllocError> {
+    let mut bytes = Vec::new(alloc);
+    for word in words {
+        bytes.extend_from_slice(&word.to_be_bytes())?;
+    }
+    Ok(bytes)
+}
+
+// Each path of a framed message leads to the bytes of these words, or has this refusal.
+fn has_bytes(
+    rt: &impl Abort,
+    alloc: Global,
+    frame: &[u8],
+    most: u64,
+    wanted: &[(&[Step], Wanted)],
+) -> Result<(), Fail> {
+    let size = SizeLimit::new(9).ok_or("no limit")?;
+    let Ok(Some(framed)) = front_of(frame, size) else {
+        return Err("no message".into());
+    };
+    let mut tables = SegmentTables::new();
+    let message = framed.view(&mut tables);
+    let limits = Limits::new(most, 10).ok_or("no limits")?;
+    for (path, words) in wanted {
+        match (read_bytes(&message, limits, path), *words) {
+            (Ok(bytes), Ok(words)) => {
+                same_of(rt, path, bytes, spelled(alloc, words)?.as_slice());
+            }
+            (Err(refusal), Err(refused)) => {
+                same_of(rt, path, (refusal.word, refusal.reason), refused);
+            }
+            _ => return Err("another answer".into()),
+        }
+    }
+    Ok(())
+}
+
+static PLACES: [Row; 10] = [
+    // Null, a capability, and a struct without words at its own place.
+    (&[0x0000000001000000, 0], 0, &[(&[], Ok(&[]))]),
+    (
+        &[0x0000000001000000, 0x0300000005000000],
+        0,
+        &[(&[], Ok(&[]))],
+    ),
+    (
+        &[0x0000000001000000, 0xfcffffff00000000],
+        0,
+        &[(&[], Ok(&[]))],
+    ),
+    // A struct of one data word and two pointers: to one word, and to three bits, whose other bits are
+    // shown as they are.
+    (
+        &[
+            0x0000000006000000,
+            0x0000000001000200,
+            0x0102030405060708,
+            0x0400000001000000,
+            0x0500000019000000,
+            0xfffefdfcfbfaf9f8,
+            0x8899aabbccddeeff,
+        ],
+        9,
+        &[
+            (
+                &[],
+                Ok(&[0x0102030405060708, 0x0400000001000000, 0x0500000019000000]),
+            ),
+            (&[Step::Ptr(0)], Ok(&[0xfffefdfcfbfaf9f8])),
+            (&[Step::Ptr(1)], Ok(&[0x8899aabbccddeeff])),
+            (&[Step::Ptr(2)], Ok(&[])),
+        ],
+    ),
+    // Two structs of one word in a list with a tag and a surplus word.
+    (
+        &[
+            0x0000000005000000,
+            0x010000001f000000,
+            0x0800000001000000,
+            0x0500000000000000,
+            0x0600000000000000,
+            0xff00000000000000,
+        ],
+        9,
+        &[
+            (
+                &[],
+                Ok(&[
+                    0x0800000001000000,
+                    0x0500000000000000,
+                    0x0600000000000000,
+                    0xff00000000000000,
+                ]),
+            ),
+            (&[Step::Item(0)], Ok(&[0x0500000000000000])),
+            (&[Step::Item(1)], Ok(&[0x0600000000000000])),
+        ],
+    ),
+    // The second of them of zeros, and a list of three bits, whose other bits are shown.
+    (
+        &[
+            0x0000000005000000,
+            0x010000001f000000,
+            0x0800000001000000,
+            0x0500000000000000,
+            0,
+            0xff00000000000000,
+        ],
+        9,
+        &[(&[Step::Item(1)], Ok(&[0]))],
+    ),
+    (
+        &[0x0000000002000000, 0x0100000019000000, 0xffffffffffffffff],
+        9,
+        &[(&[], Ok(&[0xffffffffffffffff]))],
+    ),
+    // A struct in the last of four segments, reached through a landing pad of two words in the second.
+    (
+        &[
+            0x0300000001000000,
+            0x0200000000000000,
+            0x0200000000000000,
+            0x0600000001000000,
+            0x0a00000003000000,
+            0x0000000001000000,
+            0x0700000000000000,
+            0x2a00000000000000,
+        ],
+        9,
+        &[(&[], Ok(&[0x2a00000000000000]))],
+    ),
+    // A charge past the limit, at the second pointer.
+    (
+        &[
+            0x0000000004000000,
+            0x0000000001000100,
+            0x0102030405060708,
+            0x0000000001000000,
+            0x2a00000000000000,
+        ],
+        2,
+        &[(&[Step::Ptr(0)], Err((2, Reason::WordLimit)))],
+    ),
+    // A fault beside the path: the second pointer leads past the end of the segment.
+    (
+        &[
+            0x0000000005000000,
+            0x0000000001000200,
+            0x0700000000000000,
+            0x0400000001000000,
+            0x0400000001000000,
+            0x2a00000000000000,
+        ],
+        100,
+        &[
+            (&[], Err((3, Reason::OutOfSegment))),
+            (&[Step::Ptr(0)], Err((3, Reason::OutOfSegment))),
+            (&[Step::Ptr(1)], Err((3, Reason::OutOfSegment))),
+        ],
+    ),
+];
 
 #[test]
 fn the_bytes_at_paths(rt: HostRuntime) -> Result<(), Fail> {
-    let alloc = rt.alloc();
-    // A struct of one data word and a pointer to a struct of one word.
-    let segment = [
-        0x0001000100000000,
-        0x0807060504030201,
-        0x0000000100000000,
-        42,
-    ];
-    let message = OneSegment::new(&segment).ok_or("no message")?;
-    let held = in_one_buffer(alloc, &message)?;
-    let limits = Limits::new(3, 2).ok_or("no limits")?;
-    let below = &[Step::Ptr(0)];
-    let root = [1, 2, 3, 4, 5, 6, 7, 8, 0, 0, 0, 0, 1, 0, 0, 0];
-    let Ok(bytes) = read_bytes(&held.view(), limits, &[]) else {
-        return Err("refused".into());
-    };
-    same(&rt, bytes, root.as_slice());
-    let Ok(bytes) = read_bytes(&held.view(), limits, below) else {
-        return Err("refused".into());
-    };
-    same(&rt, bytes, [42, 0, 0, 0, 0, 0, 0, 0].as_slice());
-    let Ok(bytes) = read_bytes(&held.view(), limits, &[Step::Ptr(1)]) else {
-        return Err("refused".into());
-    };
-    same(&rt, bytes.len(), 0);
-    let low = Limits::new(2, 2).ok_or("no limits")?;
-    let Err(refusal) = read_bytes(&held.view(), low, below) else {
-        return Err("accepted".into());
-    };
-    same(&rt, (refusal.word, refusal.reason), (2, Reason::WordLimit));
-    Ok(())
-}
-
-#[test]
-fn a_fault_beside_the_path(rt: HostRuntime) -> Result<(), Fail> {
-    // A struct of one data word and two pointers: one to a struct of one word, and one that leads
-    // past the end of the segment.
-    let segment = [
-        0x0002000100000000,
-        7,
-        0x0000000100000004,
-        0x0000000100000004,
-        42,
-    ];
-    let message = OneSegment::new(&segment).ok_or("no message")?;
-    let held = in_one_buffer(rt.alloc(), &message)?;
-    let limits = Limits::new(100, 10).ok_or("no limits")?;
-    for path in [[].as_slice(), &[Step::Ptr(0)], &[Step::Ptr(1)]] {
-        let Err(refusal) = read_bytes(&held.view(), limits, path) else {
-            return Err("accepted".into());
-        };
-        same(
-            &rt,
-            (refusal.word, refusal.reason),
-            (3, Reason::OutOfSegment),
-        );
-        same(&rt, refusal.pointers, 3);
+    for (frame, most, wanted) in &PLACES {
+        let bytes = spelled(rt.alloc(), *frame)?;
+        has_bytes(&rt, rt.alloc(), &bytes, *most, *wanted)?;
     }
     Ok(())
 }

@@ -1,6 +1,5 @@
 //! Verdicts of messages that are known from outside.
 
-mod bytes;
 mod charges;
 mod exclusives;
 mod nodes;
@@ -11,7 +10,7 @@ use self::Verdict::{Accepted, Refused, WithCaps};
 use super::held::{Forms, cloned};
 use crate::same::{same, same_of};
 use cap_frame::{OneSegment, Segments};
-use cap_vet::{Limits, Reason, Refusal, Report, vet};
+use cap_vet::{Kind, Limits, Reason, Refusal, Report, vet, vet_exclusive};
 use std::alloc::Global;
 use std::process::Abort;
 use std::test::Fail;
@@ -79,12 +78,6 @@ fn has_verdict(
         rt,
         &(spelled, limits),
         verdict_of(rt, &forms.several, limits),
-        answer,
-    );
-    same_of(
-        rt,
-        &(spelled, limits),
-        verdict_of(rt, &forms.buffer.view(), limits),
         answer,
     );
     if let Some(message) = forms.lent() {
@@ -576,15 +569,20 @@ fn the_bounds_of_limits(rt: HostRuntime) {
 }
 
 #[test]
-fn an_accepted_message_is_copied(rt: HostRuntime) -> Result<(), Fail> {
+fn what_a_verdict_gives_is_copied(rt: HostRuntime) -> Result<(), Fail> {
     let segment = [0];
     let message = OneSegment::new(&segment).ok_or("no message")?;
     let limits = Limits::new(0, 0).ok_or("no limits")?;
     let Ok(vetted) = vet(&message, limits) else {
         return Err("refused".into());
     };
-    let copied = vetted;
-    same(&rt, cloned(&vetted)?.report(), vetted.report());
-    same(&rt, Ok(copied.report()), Accepted(0, 0, 1).answer());
+    let wanted = Accepted(0, 0, 1).answer();
+    same(&rt, Ok(cloned(&vetted)?.report()), wanted);
+    let node = cloned(&vetted.root())?;
+    same(&rt, cloned(&node.view())?.kind(), Kind::Null);
+    let Ok(exclusive) = vet_exclusive(rt.alloc(), &message, limits) else {
+        return Err("not exclusive".into());
+    };
+    same(&rt, Ok(cloned(&exclusive)?.into_vetted().report()), wanted);
     Ok(())
 }

@@ -99,12 +99,6 @@ fn is_charged(
         charged(&forms.several, words, depth, path),
         wanted,
     );
-    same_of(
-        rt,
-        &path,
-        charged(&forms.buffer.view(), words, depth, path),
-        wanted,
-    );
     if let Some(message) = forms.lent() {
         same_of(rt, &path, charged(&message, words, depth, path), wanted);
     }
@@ -263,20 +257,6 @@ fn view_at<'a, M: Segments>(
     }
 }
 
-#[test]
-fn the_data_of_an_element(rt: HostRuntime) -> Result<(), Fail> {
-    let forms = Forms::of(rt.alloc(), ELEMENTS)?;
-    let path = &[Step::Item(1)];
-    same(
-        &rt,
-        view_at(&forms.buffer.view(), 4, path)?.data_word(0),
-        Some(0),
-    );
-    let message = forms.lent().ok_or("no message")?;
-    same(&rt, view_at(&message, 4, path)?.data_word(0), Some(0));
-    Ok(())
-}
-
 fn shows_values<M: Segments>(
     rt: &impl Abort,
     view: View<'_, M>,
@@ -349,22 +329,8 @@ static VALUES: [(&[u64], &[u64], &[u64]); 9] = [
 fn values_of_each_size(rt: HostRuntime) -> Result<(), Fail> {
     for (spelled, elements, list_words) in &VALUES {
         let forms = Forms::of(rt.alloc(), &[*spelled])?;
-        let buffer = forms.buffer.view();
-        shows_values(
-            &rt,
-            view_at(&buffer, u64::MAX, &[])?,
-            spelled,
-            elements,
-            list_words,
-        );
-        let message = forms.lent().ok_or("no message")?;
-        shows_values(
-            &rt,
-            view_at(&message, u64::MAX, &[])?,
-            spelled,
-            elements,
-            list_words,
-        );
+        let view = view_at(&forms.several, u64::MAX, &[])?;
+        shows_values(&rt, view, spelled, elements, list_words);
     }
     Ok(())
 }
@@ -373,9 +339,10 @@ fn values_of_each_size(rt: HostRuntime) -> Result<(), Fail> {
 fn the_data_of_a_struct(rt: HostRuntime) -> Result<(), Fail> {
     let spelled = &[0x0000000002000000, 0x0102030405060708, 0x80];
     let forms = Forms::of(rt.alloc(), &[spelled])?;
-    shows_data(&rt, view_at(&forms.buffer.view(), u64::MAX, &[])?);
-    let message = forms.lent().ok_or("no message")?;
-    shows_data(&rt, view_at(&message, u64::MAX, &[])?);
+    shows_data(&rt, view_at(&forms.several, u64::MAX, &[])?);
+    let forms = Forms::of(rt.alloc(), ELEMENTS)?;
+    let view = view_at(&forms.several, 4, &[Step::Item(1)])?;
+    same(&rt, view.data_word(0), Some(0));
     Ok(())
 }
 

@@ -1,9 +1,9 @@
 //! Nodes and places of messages that are known from outside.
 
 use self::Wanted::{Bare, Nothing, Object};
-use crate::held::{Forms, cloned, words};
-use crate::same::{same, same_of};
-use cap_frame::{OneSegment, Segments};
+use crate::held::Forms;
+use crate::same::same_of;
+use cap_frame::Segments;
 use cap_vet::{Kind, Limits, Node, Place, Step, Vetted, vet};
 use std::alloc::Global;
 use std::process::Abort;
@@ -78,7 +78,6 @@ fn look_at<M: Segments>(rt: &impl Abort, message: &M, rows: Rows) -> Result<(), 
 fn look(rt: &impl Abort, alloc: Global, spelled: &[&[u64]], rows: Rows) -> Result<(), Fail> {
     let forms = Forms::of(alloc, spelled)?;
     look_at(rt, &forms.several, rows)?;
-    look_at(rt, &forms.buffer.view(), rows)?;
     match forms.lent() {
         Some(message) => look_at(rt, &message, rows),
         None => Ok(()),
@@ -246,23 +245,4 @@ fn look_through(rt: &impl Abort, alloc: Global, messages: &[Message]) -> Result<
 fn nodes_of_known_messages(rt: HostRuntime) -> Result<(), Fail> {
     look_through(&rt, rt.alloc(), &STRUCTS)?;
     look_through(&rt, rt.alloc(), &LISTS)
-}
-
-#[test]
-fn nodes_and_views_are_copied(rt: HostRuntime) -> Result<(), Fail> {
-    let segment = words(rt.alloc(), &[0x0000000001000000, 0x2a00000000000000])?;
-    let message = OneSegment::new(&segment).ok_or("no message")?;
-    let limits = Limits::new(1, 1).ok_or("no limits")?;
-    let Ok(vetted) = vet(&message, limits) else {
-        return Err("refused".into());
-    };
-    let node = vetted.root();
-    let copied = node;
-    let wanted = Object(ONE_WORD, 0, 1, 1).seen();
-    same(&rt, seen(Some(cloned(&node)?)), wanted);
-    same(&rt, seen(Some(copied)), wanted);
-    let view = node.view();
-    let copied = view;
-    same(&rt, cloned(&view)?.kind(), copied.kind());
-    Ok(())
 }

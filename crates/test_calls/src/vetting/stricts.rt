@@ -25,7 +25,6 @@ fn has_fault(
 ) -> Result<(), Fail> {
     let forms = Forms::of(alloc, spelled)?;
     same_of(rt, &spelled, fault(rt, &forms.several)?, wanted);
-    same_of(rt, &spelled, fault(rt, &forms.buffer.view())?, wanted);
     if let Some(message) = forms.lent() {
         same_of(rt, &spelled, fault(rt, &message)?, wanted);
     }
