@@ -3,7 +3,7 @@
 use crate::same::same_of;
 use crate::whole::{job, run_over};
 use cap_cmd::{Job, run_job};
-use cap_words::{FromRead, FromWrite, VecOut};
+use cap_words::{BufferedIn, FromRead, FromWrite, VecOut};
 use std::alloc::Global;
 use std::io::ErrorKind;
 use std::process::Abort;
@@ -21,27 +21,34 @@ struct Ran {
     err: VecOut,
 }
 
+// The input has a buffer where `buffered` says so.
 fn run_in_pieces(
     alloc: Global,
     job: &Job,
     bytes: &[u8],
+    buffered: bool,
     most: usize,
     reading: Fault,
     writing: Fault,
-) -> Ran {
+) -> Result<Ran, Fail> {
     let mut reader = Reader::new(bytes, most, reading);
     let out = FromWrite::new(Writer::new(alloc, most, writing));
     let mut err = VecOut::new(alloc);
-    let (status, out) = run_job(alloc, job, FromRead::new(&mut reader), out, &mut err);
+    let (status, out) = if buffered {
+        let input = BufferedIn::new(alloc, &mut reader)?;
+        run_job(alloc, job, input, out, &mut err)
+    } else {
+        run_job(alloc, job, FromRead::new(&mut reader), out, &mut err)
+    };
     let writer = out.into_inner();
-    Ran {
+    Ok(Ran {
         status,
         given: bytes.len().saturating_sub(reader.rest.len()),
         reads: reader.calls,
         taken: writer.taken,
         writes: writer.calls,
         err,
-    }
+    })
 }
 
 impl Ran {
@@ -233,21 +240,23 @@ fn expect_read_faults<R: AllocGlobal + Abort>(
     row: &Row,
     job: &Job,
     bytes: &[u8],
+    buffered: bool,
     most: usize,
     kind: ErrorKind,
     reads: u32,
-) {
+) -> Result<(), Fail> {
     for at in 1..=reads {
         let reading = Fault {
             at,
             kind: Some(kind),
         };
-        let ran = run_in_pieces(rt.alloc(), job, bytes, most, reading, HONEST);
+        let ran = run_in_pieces(rt.alloc(), job, bytes, buffered, most, reading, HONEST)?;
         same_of(rt, &row.command, ran.reads, at);
         let before = run_over(rt.alloc(), job, &bytes[..ran.given.min(bytes.len())]);
         let line = line_of(row, ran.given).as_bytes();
         ran.expect(rt, row.command, before.out.bytes(), line, 3);
     }
+    Ok(())
 }
 
 // The line of a read that fails after `given` bytes.
@@ -271,11 +280,11 @@ fn expect_write_faults<R: AllocGlobal + Abort>(
     most: usize,
     kind: Option<ErrorKind>,
     honest: &Ran,
-) {
+) -> Result<(), Fail> {
     let mut least = 0;
     for at in 1..=honest.writes {
         let writing = Fault { at, kind };
-        let ran = run_in_pieces(rt.alloc(), job, bytes, most, HONEST, writing);
+        let ran = run_in_pieces(rt.alloc(), job, bytes, false, most, HONEST, writing)?;
         same_of(rt, &row.command, ran.writes, at);
         let len = ran.taken.len();
         assert!(rt;
@@ -287,14 +296,21 @@ fn expect_write_faults<R: AllocGlobal + Abort>(
         let front = &honest.taken.as_slice()[..len.min(honest.taken.len())];
         ran.expect(rt, row.command, front, b"capvet: output failed\n", 3);
     }
+    Ok(())
 }
 
 // A row over devices that never fail, and then over each that fails.
-fn expect_row<R: AllocGlobal + Abort>(rt: &R, row: &Row, most: usize) -> Result<(), Fail> {
+fn expect_row<R: AllocGlobal + Abort>(
+    rt: &R,
+    row: &Row,
+    most: usize,
+    buffered: bool,
+) -> Result<(), Fail> {
     let bytes = hex::decode(rt.alloc(), row.stream)?;
+    let bytes = bytes.as_slice();
     let job = job(rt.alloc(), row.command, row.options)?;
-    let whole = run_over(rt.alloc(), &job, bytes.as_slice());
-    let ran = run_in_pieces(rt.alloc(), &job, bytes.as_slice(), most, HONEST, HONEST);
+    let whole = run_over(rt.alloc(), &job, bytes);
+    let ran = run_in_pieces(rt.alloc(), &job, bytes, buffered, most, HONEST, HONEST)?;
     assert!(rt; !ran.taken.is_empty(), "{}", row.command);
     ran.expect(
         rt,
@@ -304,10 +320,13 @@ fn expect_row<R: AllocGlobal + Abort>(rt: &R, row: &Row, most: usize) -> Result<
         whole.status,
     );
     for kind in &READ_FAULTS {
-        expect_read_faults(rt, row, &job, bytes.as_slice(), most, *kind, ran.reads);
+        expect_read_faults(rt, row, &job, bytes, buffered, most, *kind, ran.reads)?;
+    }
+    if buffered {
+        return Ok(());
     }
     for kind in &WRITE_FAULTS {
-        expect_write_faults(rt, row, &job, bytes.as_slice(), most, *kind, &ran);
+        expect_write_faults(rt, row, &job, bytes, most, *kind, &ran)?;
     }
     Ok(())
 }
@@ -316,8 +335,9 @@ fn expect_row<R: AllocGlobal + Abort>(rt: &R, row: &Row, most: usize) -> Result<
 fn each_call_of_a_device_fails_in_turn(rt: HostRuntime) -> Result<(), Fail> {
     for row in &ROWS {
         for most in PIECES {
-            expect_row(&rt, row, most)?;
+            expect_row(&rt, row, most, false)?;
         }
+        expect_row(&rt, row, 3, true)?;
     }
     Ok(())
 }

@@ -1,10 +1,9 @@
 //! Framed messages, read in each way and written, of bytes that are known from outside.
 
-use crate::same::{same, same_of};
+use crate::same::same;
 use crate::steps::part;
 use cap_frame::{
-    ByteMessage, FrameFault, OneSegment, Outline, Segments, SizeLimit, WordMessage,
-    read_byte_message, read_into, read_message, read_outline, write_message,
+    FrameFault, OneSegment, Segments, SizeLimit, read_byte_message, read_message, write_message,
 };
 use cap_words::{
     PlainSink, PlainWords, SliceIn, SourceFault, VecOut, WordSink, WordSource, bytes_of,
@@ -44,25 +43,6 @@ fn is_message<M: Segments>(message: &M, want: &[&[u64]]) -> bool {
     true
 }
 
-// It is the outline of these segments.
-fn is_outline(outline: &Outline, want: &[&[u64]]) -> bool {
-    if outline.count() as usize != want.len() || outline.sizes().len() != want.len() {
-        return false;
-    }
-    let mut words: u64 = 0;
-    for (size, segment) in outline.sizes().iter().zip(want) {
-        if *size as usize != segment.len() {
-            return false;
-        }
-        words = words.saturating_add(u64::from(*size));
-    }
-    let root = match want.first() {
-        Some(words) => words.first().copied(),
-        None => None,
-    };
-    outline.words() == words && outline.root() == root
-}
-
 // The segments of a message, none, or a fault.
 type Wanted<'a> = Result<Option<&'a [&'a [u64]]>, FrameFault>;
 
@@ -99,42 +79,6 @@ fn expect_buffer<S: WordSource>(
         (Ok(None), Ok(None)) => {}
         (Err(fault), Err(wanted)) => same(rt, fault, wanted),
         _ => assert!(rt; false, "another answer in a buffer"),
-    }
-}
-
-// The same where a buffer is used again. Where there is no message, nothing is left of one before.
-fn expect_held<S: WordSource>(
-    rt: &impl Abort,
-    alloc: Global,
-    source: &mut S,
-    limit: SizeLimit,
-    held: &mut ByteMessage,
-    want: Wanted<'_>,
-) {
-    let answer = read_into(alloc, source, limit, held);
-    same(rt, answer, want.map(|segments| segments.is_some()));
-    match want {
-        Ok(Some(segments)) => assert!(rt; is_message(&held.view(), segments), "held"),
-        _ => assert!(rt;
-            is_message(&held.view(), &[&[]]),
-            "nothing is left in the buffer"
-        ),
-    }
-}
-
-// The same where the outline alone is kept.
-fn expect_outline<S: WordSource>(
-    rt: &impl Abort,
-    source: &mut S,
-    limit: SizeLimit,
-    outline: &mut Outline,
-    want: Wanted<'_>,
-) {
-    let answer = read_outline(source, limit, outline);
-    same(rt, answer, want.map(|segments| segments.is_some()));
-    match want {
-        Ok(Some(segments)) => assert!(rt; is_outline(outline, segments), "the outline"),
-        _ => assert!(rt; is_outline(outline, &[]), "nothing is left of an outline"),
     }
 }
 
@@ -209,40 +153,30 @@ static CASES: [Case<'static>; 13] = [
     ),
 ];
 
-// Each way to read a message gives the same, and after it the source goes on in the same way.
+// Each way to read a message gives the same, and after it the source goes on in the same way. `tests/program.py`
+// reads messages into a buffer that is used again, and outlines.
 fn expect_each_way(
     rt: &impl Abort,
     alloc: Global,
     bytes: &[u8],
-    held: &mut ByteMessage,
-    outline: &mut Outline,
-    (_, _, limit, want, then): &Case<'_>,
-) -> Result<(), Fail> {
-    let limit = SizeLimit::new(*limit).ok_or("a limit")?;
+    limit: SizeLimit,
+    want: Wanted<'_>,
+    then: Result<Option<u64>, SourceFault>,
+) {
     let mut source = PlainWords::new(SliceIn::new(bytes));
-    expect_vectors(rt, alloc, &mut source, limit, *want);
-    same(rt, source.next(), *then);
+    expect_vectors(rt, alloc, &mut source, limit, want);
+    same(rt, source.next(), then);
     let mut source = PlainWords::new(SliceIn::new(bytes));
-    expect_buffer(rt, alloc, &mut source, limit, *want);
-    same(rt, source.next(), *then);
-    let mut source = PlainWords::new(SliceIn::new(bytes));
-    expect_held(rt, alloc, &mut source, limit, held, *want);
-    same(rt, source.next(), *then);
-    let mut source = PlainWords::new(SliceIn::new(bytes));
-    expect_outline(rt, &mut source, limit, outline, *want);
-    same(rt, source.next(), *then);
-    fronts::expect_front_of(rt, bytes, limit, *want);
-    Ok(())
+    expect_buffer(rt, alloc, &mut source, limit, want);
+    same(rt, source.next(), then);
 }
 
 #[test]
 fn messages_are_read(rt: HostRuntime) -> Result<(), Fail> {
-    let mut held = ByteMessage::blank(rt.alloc());
-    let mut outline = Outline::new();
-    for case in &CASES {
-        let bytes = plain(rt.alloc(), case.0)?;
-        let front = part(&bytes, 0, case.1);
-        expect_each_way(&rt, rt.alloc(), front, &mut held, &mut outline, case)?;
+    for (words, len, limit, want, then) in &CASES {
+        let bytes = plain(rt.alloc(), *words)?;
+        let limit = SizeLimit::new(*limit).ok_or("a limit")?;
+        expect_each_way(&rt, rt.alloc(), part(&bytes, 0, *len), limit, *want, *then);
     }
     Ok(())
 }
@@ -297,26 +231,5 @@ fn messages_are_written(rt: HostRuntime) -> Result<(), Fail> {
     let mut sink = PlainSink::new(VecOut::new(rt.alloc()));
     write_three(rt.alloc(), &mut source, &mut sink)?;
     same(&rt, sink.into_inner().bytes(), want.as_slice());
-    Ok(())
-}
-
-#[test]
-fn sizes_are_bounded(rt: HostRuntime) -> Result<(), Fail> {
-    let alloc = rt.alloc();
-    same(&rt, SizeLimit::new(268_435_457), None);
-    let most = SizeLimit::new(268_435_456).ok_or("a limit")?;
-    same(&rt, most.words(), 268_435_456);
-    assert!(rt; WordMessage::new(Vec::new(alloc)).is_none(), "no segment");
-    for (count, is_some) in [(1u32, true), (512, true), (513, false)] {
-        let mut segments = Vec::new(alloc);
-        for _ in 0..count {
-            segments.push(Vec::new(alloc))?;
-        }
-        same_of(&rt, &count, WordMessage::new(segments).is_some(), is_some);
-    }
-    assert!(rt;
-        is_message(&OneSegment::new(&[1, 2]).ok_or("a message")?, &[&[1, 2]]),
-        "one"
-    );
     Ok(())
 }

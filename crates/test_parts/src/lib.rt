@@ -7,8 +7,6 @@ mod broken_off;
 #[cfg(test)]
 mod devices;
 #[cfg(test)]
-mod edges;
-#[cfg(test)]
 mod ends;
 #[cfg(test)]
 mod frames;

@@ -29,8 +29,6 @@ pub(crate) enum Takes {
     AtHand(bool),
     // The buffer's length, and the bytes that are given.
     Ready(usize, usize, usize),
-    // The buffer's length, whether it is filled, and its first bytes.
-    Fill(usize, Result<bool, SourceFault>, usize, usize),
 }
 
 // A call of a sink of words.
@@ -98,10 +96,6 @@ pub(crate) fn take_by<S: WordSource>(
             Takes::AtHand(wanted) => same_of(rt, &at, source.is_at_hand(), *wanted),
             Takes::Ready(size, from, len) => {
                 same_of(rt, &at, source.ready(front(room, *size)), *len);
-                same_of(rt, &at, part(room, 0, *len), part(text, *from, *len));
-            }
-            Takes::Fill(size, wanted, from, len) => {
-                same_of(rt, &at, source.fill(front(room, *size)), *wanted);
                 same_of(rt, &at, part(room, 0, *len), part(text, *from, *len));
             }
         }

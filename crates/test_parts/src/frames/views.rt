@@ -1,7 +1,7 @@
 //! Views of bytes that are known from outside.
 
 use super::{is_message, plain};
-use crate::same::same;
+use crate::same::{same, same_of};
 use crate::steps::part;
 use cap_frame::{
     ByteMessage, ByteView, SegmentTables, Segments, SizeLimit, WordMessage, front_of, write_message,
@@ -10,22 +10,6 @@ use cap_words::{PlainSink, VecOut};
 use std::alloc::Global;
 use std::process::Abort;
 use std::test::Fail;
-
-// The bytes of each part of segment `s`, whose words these are.
-fn has_parts(alloc: Global, view: &ByteView<'_>, s: u32, words: &[u64]) -> Result<bool, Fail> {
-    if s >= view.count() || view.len(s) as usize != words.len() {
-        return Ok(false);
-    }
-    for start in 0..=view.len(s) {
-        for count in 0..=view.len(s) - start {
-            let part = &words[start as usize..(start + count) as usize];
-            if view.bytes(s, start, count) != plain(alloc, part)?.as_slice() {
-                return Ok(false);
-            }
-        }
-    }
-    Ok(true)
-}
 
 // The message of these segments, in vectors.
 pub(super) fn held_of(alloc: Global, segments: &[&[u64]]) -> Result<WordMessage, Fail> {
@@ -36,28 +20,6 @@ pub(super) fn held_of(alloc: Global, segments: &[&[u64]]) -> Result<WordMessage,
         held.push(segment)?;
     }
     Ok(WordMessage::new(held).ok_or("a message")?)
-}
-
-// The view shows these segments, as the same message in vectors does, and the bytes of each part of
-// them.
-fn shows(
-    rt: &impl Abort,
-    alloc: Global,
-    view: &ByteView<'_>,
-    segments: &[&[u64]],
-) -> Result<(), Fail> {
-    assert!(rt; is_message(view, segments), "the segments");
-    let message = held_of(alloc, segments)?;
-    assert!(rt; is_message(&message, segments), "in vectors");
-    let mut s = 0u32;
-    for words in segments {
-        assert!(rt;
-            has_parts(alloc, view, s, words)?,
-            "the bytes of segment {s}"
-        );
-        s = s.saturating_add(1);
-    }
-    Ok(())
 }
 
 // Bytes that are none of a message.
@@ -86,8 +48,10 @@ fn shows_in_front(
         return Err("no message in front".into());
     };
     let mut tables = SegmentTables::new();
-    let view = framed.view(&mut tables);
-    shows(rt, alloc, &view, segments)?;
+    assert!(rt;
+        is_message(&framed.view(&mut tables), segments),
+        "the segments"
+    );
     let whole = part(&bytes, 0, framed.length());
     let contents = part(whole, table_len(segments.len()), whole.len());
     same(rt, framed.contents(), contents);
@@ -118,10 +82,37 @@ fn segments_in_a_buffer(rt: HostRuntime) -> Result<(), Fail> {
             shows_in_front(&rt, rt.alloc(), *segments, part(&LEFT, 0, left))?;
         }
     }
-    let alloc = rt.alloc();
-    let bytes = plain(alloc, WORDS)?;
+    let blank = ByteMessage::blank(rt.alloc());
+    assert!(rt; is_message(&blank.view(), &[&[]]), "a blank message");
+    Ok(())
+}
+
+// Parts of the words: where each begins, how many words it has, and its bytes.
+static PARTS: [(u32, u32, &[u8]); 5] = [
+    (0, 0, &[]),
+    (0, 1, &[1, 2, 3, 4, 5, 6, 7, 8]),
+    (
+        1,
+        2,
+        &[
+            0, 0, 0, 0, 0, 0, 0, 0, 255, 255, 255, 255, 255, 255, 255, 255,
+        ],
+    ),
+    (2, 1, &[255; 8]),
+    (3, 0, &[]),
+];
+
+#[test]
+fn parts_of_a_segment(rt: HostRuntime) -> Result<(), Fail> {
+    let bytes = plain(rt.alloc(), WORDS)?;
     let mut size = [0];
     let view = ByteView::of_words(&bytes, &mut size).ok_or("a view")?;
-    shows(&rt, alloc, &view, &[WORDS])?;
-    shows(&rt, alloc, &ByteMessage::blank(alloc).view(), &[&[]])
+    assert!(rt; is_message(&view, &[WORDS]), "without a table");
+    for (start, count, part) in &PARTS {
+        // the view has these words, as the line before shows
+        if view.count() == 1 && *start <= view.len(0) && *count <= view.len(0) - *start {
+            same_of(&rt, start, view.bytes(0, *start, *count), *part);
+        }
+    }
+    Ok(())
 }
