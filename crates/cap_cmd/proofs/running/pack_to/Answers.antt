@@ -12,12 +12,12 @@ returns g c =
       ended = last;
       begins = record {
         empty = new.empty;
-        taken = new.starts;
-        closed = new.open;
+        taken = new.taken;
+        closed = new.closed;
         spent = new.spent;
-        failures = new.failures first ∙ ap (λ o. g.O.ByteOut.failures o) new.output;
+        failures = new.shows_failures first ∙ ap (λ o. g.O.ByteOut.failures o) new.output;
       };
       puts = c.run_pack-answer.ensures;
       gives = subst (GivesOutput g.O.ByteOut _ last) (sym c.into_inner.ensures)
-          (record { taken = new.taken last; spent = new.when_spent last; failures = new.failures last });
+          (record { taken = new.shows_taken last; spent = new.when_spent last; failures = new.shows_failures last });
     }
