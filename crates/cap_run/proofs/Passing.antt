@@ -90,11 +90,6 @@ module _ {O : Type 0} (g : output.Ghosts O) where
       ∙ (append_assoc text l.done (front ++ less) ∙ ap (λ (t : List ℕ). text ++ t) (sym whole)) in
       subst (Stopped g old new fault) same (stopped_more g old new fault ((text ++ l.done) ++ front) less (s (text ++ l.done) l.wrote))
 
--- a list as long as none is none
-pub none_of : (xs : List ℕ) → length xs ≡ 0 → xs ≡ []
-none_of [] e = refl
-none_of (x ∷ xs) e = absurd (omega (arith, e))
-
 -- the bytes of segments, from the next one on
 pub contents_from : (m : List (List ℕ)) (s : ℕ) → s < length m
     → plain_text (joined (drop s m)) ≡ plain_text (segment_of m s) ++ plain_text (joined (drop (s + 1) m))

@@ -68,27 +68,6 @@ module _ {O : Type 0} (g : output.Ghosts O) where
     appended = s.appended;
   }
 
-  -- a log that failed stays as it is
-  pub logged_failed : (first old : O) (text line : List ℕ) (failed : Bool) → failed ≡ true → Logged g first old text failed
-      → Logged g first old (text ++ line) true
-  logged_failed first old text line false e l = absurd (false≢true e)
-  logged_failed first old text line true e (fault, s) = (
-    fault,
-    record {
-      fails = s.fails;
-      part = s.part;
-      rest = s.rest ++ line;
-      whole = ap (λ (t : List ℕ). t ++ line) s.whole ∙ append_assoc s.part s.rest line;
-      appended = s.appended;
-    },
-  )
-
-  -- a line more was written
-  pub logged_more : (first old new : O) (text line : List ℕ) (failed : Bool) → failed ≡ false → Logged g first old text failed
-      → Wrote g old new line → Logged g first new (text ++ line) false
-  logged_more first old new text line false e l w = appended_more g first old new text line l w
-  logged_more first old new text line true e l w = absurd (false≢true (sym e))
-
   -- or the log failed in it
   pub logged_stops : (first old new : O) (text line : List ℕ) (failed : Bool) (fault : OutFault) → failed ≡ false
       → Logged g first old text failed → Stopped g old new fault line → Logged g first new (text ++ line) true
@@ -104,11 +83,6 @@ judges_as tells others wants needs m (Ok (Some objection)) h k j = λ n. h n (ob
 judges_as tells others wants needs m (Err cause) h k j = (j.0, k j.1)
 
 module _ (form : FilterForm) (demands : Demands) (limits : Limits) (m : List (List ℕ)) where
-  -- a message that doesn't meet the demands is refused
-  pub judges_unmet : (refusal : StrictRefusal) → IsDemandFault demands m (words_of limits) (depth_of limits) refusal
-      → Judges (TellsIn form demands limits) (WantsInForm form demands limits) m (Ok (Some (Unmet refusal)))
-  judges_unmet refusal f = λ n. inr (record { fault = refusal; is_fault = f; line = refl; counts = refl })
-
   -- one that meets them is accepted
   pub judges_met : (report : Report) → form.exclusive ≡ false → IsStrictUnder demands m (words_of limits) (depth_of limits)
       → IsAccepted m (words_under demands m (words_of limits)) (depth_of limits) report
@@ -161,12 +135,6 @@ module _ {O E : Type 0} (go : output.Ghosts O) (ge : output.Ghosts E) (pack : Bo
       → Appended go before after [] → LogsMore ge old new failed fails said
       → Sifts go ge pack verdict wants n m before after old new failed fails waits false (Ok was_refused)
   sifts_refused before after old new failed fails waits said v a l = ([], said, (said, v, refl), (said, v, refl), a, l, λ e. absurd (false≢true e))
-
-  -- an allocation failed
-  pub sifts_without : (out : O) (log : E) (failed waits stays : Bool) (cause : Cause) → (cause ≡ no_marks) × wants m
-      → Sifts go ge pack verdict wants n m out out log log failed failed waits stays (Err cause)
-  sifts_without out log failed waits stays cause (e, w) =
-      subst (λ (c : Cause). Sifts go ge pack verdict wants n m out out log log failed failed waits stays (Err c)) (sym e) (w, refl, (refl, refl))
 
 module _ {S O E : Type 0} (gs : source.Ghosts S) (go : output.Ghosts O) (ge : output.Ghosts E) (pack : Bool) (verdict : Tells)
     (wants : List (List ℕ) → Type 0) (limit n : ℕ) (old new : S) (before after : O) (first last : E) (failed fails waits stays : Bool) where
