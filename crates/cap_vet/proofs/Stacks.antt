@@ -3,7 +3,7 @@ use Rattle.std.proofs.Common.{◌≡◌, ℕ, ◌+◌, ◌≤◌, List, [], ◌�
 use Rattle.std.specs.Option.{option_to_list}
 use Rattle.std.specs.List.{AllByRecursion}
 use Rattle.std.proofs.lemmas.List.{map-append, reverse-append, length-append, length-map}
-use Rattle.cap_spec.specs.Following.{Leads, extra, to_cap, to_null}
+use Rattle.cap_spec.specs.Following.{Leads, extra, near, to_cap, to_null}
 use Rattle.cap_spec.specs.Messages.{HasWord}
 use Rattle.cap_spec.specs.Paths.{Costs, Reaches}
 use Rattle.cap_spec.specs.Pointers.{extent}
@@ -15,13 +15,15 @@ use Rattle.cap_vet.specs.PointerRuns.{RunIn, IsRest, LevelIs, OptionIn, all_spot
 use Rattle.cap_vet.specs.Looking.{FrameRises, IsLooked, object_children}
 use Rattle.cap_vet.specs.Turning.{added, run_below}
 use Rattle.cap_vet.specs.Limits.{depth_of, words_of}
-use Rattle.cap_vet.specs.Turns.{GoesOn, HasVisited, IsAt, IsWalking}
+use Rattle.cap_vet.specs.Turns.{GoesOn, GoesOnBelow, HasVisited, IsAt, IsWalking}
+use Rattle.cap_vet.specs.WalkSteps.{Continues, GoesOnWith, runs_left}
 use Rattle.cap_vet.specs.Walking.{AreNull, IsLookedAt, IsNext, AreStacked, Progress, Walks, work_left, work_next}
 use Rattle.cap_vet.specs.declared.walk.pointer_run.PointerRun.{PointerRun}
 use Rattle.cap_vet.specs.declared.limits.Limits.{Limits}
 use Rattle.cap_vet.specs.declared.walk.looking.Looked.{Looked}
 use Rattle.cap_vet.specs.declared.walk.looking.Looked.TheVariants as looked
 use Rattle.cap_vet.specs.declared.report.Report.{Report}
+use Rattle.cap_vet.specs.declared.walk.walking.Next.{Next}
 use Rattle.cap_spec.proofs.Bytes.Lists.{reverse-more}
 use Rattle.cap_spec.proofs.Paths.Walks.{one_reached}
 use Rattle.cap_vet.proofs.Objects.{object-brings, object_places-children}
@@ -37,17 +39,17 @@ inside-more m None runs h l = l
 inside-more m (Some r) runs h l = (h, l)
 
 -- what is left of a run is as high as it
-stacked-rest : (depth level : ℕ) (r : Option PointerRun) (runs : List PointerRun) → length runs + 2 ≤ level → level ≤ depth + 1 → LevelIs level r
+stacked-rest : (depth level : ℕ) (r : Option PointerRun) (runs : List PointerRun) → length runs + 1 ≤ level → level ≤ depth + 1 → LevelIs level r
     → AreStacked depth runs → AreStacked depth (option_to_list r ++ runs)
 stacked-rest depth level None runs h u k s = s
 stacked-rest depth level (Some r) runs h u k s = (omega (arith, k), omega (arith, k), s)
 
-high-rest : (level : ℕ) (r : Option PointerRun) (runs : List PointerRun) → length runs + 2 ≤ level → length (option_to_list r ++ runs) + 1 ≤ level
+high-rest : (level : ℕ) (r : Option PointerRun) (runs : List PointerRun) → length runs + 1 ≤ level → length (option_to_list r ++ runs) ≤ level
 high-rest level None runs h = omega arith
 high-rest level (Some r) runs h = omega arith
 
 -- and what is below a word is higher
-stacked-below : (depth level : ℕ) (r : Option PointerRun) (runs : List PointerRun) → length runs + 1 ≤ level → FrameRises level depth r
+stacked-below : (depth level : ℕ) (r : Option PointerRun) (runs : List PointerRun) → length runs ≤ level → FrameRises level depth r
     → AreStacked depth runs → AreStacked depth (option_to_list r ++ runs)
 stacked-below depth level None runs h l s = s
 stacked-below depth level (Some r) runs h l s = (omega (arith, l.0), l.1, s)
@@ -230,3 +232,21 @@ pub known_past : (m : List (List ℕ)) (K : List (List Step) → Type 0) (nulls 
     → AreNull m nulls → K seen → K (nulls ++ seen)
 known_past m K [] seen pass h k = k
 known_past m K (p ∷ nulls) seen pass ((level, s, w, r, has), h) k = pass (nulls ++ seen) p level s w r has (known_past m K nulls seen pass h k)
+
+-- A step goes on with what the turn at the first word of the run leaves.
+pub steps_on : (m : List (List ℕ)) (limits : Limits) (runs : List PointerRun) (f : PointerRun) (report after : Report)
+    (K L : List (List Step) → Type 0) (below : Option PointerRun) (next : Next) (items : List PointerRun) (new : PointerRun)
+    → IsWalking m limits (runs ++ f ∷ []) report K
+    → ((rs : List PointerRun) → IsAt m limits f.segment f.at f.level rs report K → GoesOnBelow m limits rs below report after L)
+    → Continues next runs f below items new → GoesOnWith m limits next runs f report items new after L
+steps_on m limits runs f report after K L below next items new w turn c =
+    let at = next_at m limits runs f c.rest report K w c.is_rest in
+    turned m limits runs ((runs ++ option_to_list c.rest) ++ option_to_list below) (runs_left next items new) f c.rest report after L
+    c.is_rest c.runs (turn (runs ++ option_to_list c.rest) at)
+
+-- A null word was looked at, with nothing below it.
+pub null_visited : (m : List (List ℕ)) (limits : Limits) (s w level : ℕ) (runs : List PointerRun) (report : Report)
+    (n : IsNext m (words_of limits) (depth_of limits) s w level runs report) → HasWord m s w 0
+    → HasVisited m limits s w level runs report n None (added report s w (looked.Null 0))
+null_visited m limits s w level runs report n null =
+    visited m limits s w level runs report (looked.Null 0) n (near 0 null (omega arith) refl refl, omega (arith, n.progress.within))

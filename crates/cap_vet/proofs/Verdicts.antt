@@ -13,9 +13,9 @@ use Rattle.cap_spec.specs.declared.Reason.{Reason}
 use Rattle.cap_spec.specs.declared.Reason.TheVariants.{NoRoot}
 use Rattle.cap_spec.specs.declared.Step.{Step}
 use Rattle.cap_vet.specs.Trails.{Ahead, IsTrail}
-use Rattle.cap_vet.specs.PointerRuns.{place_of}
+use Rattle.cap_vet.specs.PointerRuns.{place_of, root_run}
 use Rattle.cap_vet.specs.Limits.{depth_of, words_of}
-use Rattle.cap_vet.specs.Turns.{IsAt}
+use Rattle.cap_vet.specs.Turns.{IsWalking}
 use Rattle.cap_vet.specs.Walking.{IsFirstOf, IsNext, Progress, Walks}
 use Rattle.cap_vet.specs.declared.walk.pointer_run.PointerRun.{PointerRun}
 use Rattle.cap_vet.specs.declared.limits.Limits.{Limits}
@@ -189,8 +189,20 @@ starts m words depth report some root e1 e2 e3 e4 e5 =
       low = omega arith;
     }
 
-pub begins_at : (m : List (List ℕ)) (limits : Limits) (report : Report) (K : List (List Step) → Type 0) → 0 < length m → 0 < length (segment_of m 0)
-    → report.charge ≡ 0 → report.depth ≡ 0 → report.pointers ≡ 0 → report.caps ≡ 0 → report.first_cap ≡ None → K [] → IsAt m limits 0 0 1 [] report K
+pub begins : (m : List (List ℕ)) (limits : Limits) (report : Report) (K : List (List Step) → Type 0) → 0 < length m → 0 < length (segment_of m 0)
+    → report.charge ≡ 0 → report.depth ≡ 0 → report.pointers ≡ 0 → report.caps ≡ 0 → report.first_cap ≡ None → K []
+    → IsWalking m limits (root_run ∷ []) report K
 unfolding starts
-begins_at m limits report K some root e1 e2 e3 e4 e5 k =
-    record { next = starts m (words_of limits) (depth_of limits) report some root e1 e2 e3 e4 e5; known = k }
+begins m limits report K some root e1 e2 e3 e4 e5 k =
+    let n = starts m (words_of limits) (depth_of limits) report some root e1 e2 e3 e4 e5 in
+    record {
+      seen = n.seen;
+      ahead = n.a ∷ n.ahead;
+      walks = record {
+        progress = n.progress;
+        places = refl;
+        inside = (record { exists = some; some = omega arith; each = λ h. absurd (omega arith); inside = omega (arith, root) }, tt);
+        stacked = (omega arith, omega arith, tt);
+      };
+      known = k;
+    }

@@ -27,3 +27,4 @@ pub mod Turning
 pub mod Turns
 pub mod Vettings
 pub mod Walking
+pub mod WalkSteps

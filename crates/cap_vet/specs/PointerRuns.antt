@@ -59,3 +59,7 @@ pub record IsRest (f : PointerRun) (rest : Option PointerRun) : Type 0 where
   pub words : spots f ≡ (f.segment, f.at, f.level) ∷ option_spots rest
   pub inside : (m : List (List ℕ)) → RunIn m f → OptionIn m rest
   pub level : LevelIs f.level rest
+
+-- the run of the root word alone
+abbrev pub root_run : PointerRun
+root_run = record { segment = 0; at = 0; left = 1; more = 0; data_words = 0; pointers = 0; level = 1 }

@@ -1,10 +1,9 @@
 -- What is known of a walk, and of what its turn knows, between two pointer words (profile).
-use Rattle.std.specs.Prelude.{ℕ, ◌<◌, ◌∷◌, ◌++◌, IsFalse, List, Option}
+use Rattle.std.specs.Prelude.{ℕ, ◌<◌, ◌∷◌, ◌++◌, List, Option}
 use Rattle.std.specs.Option.{option_to_list}
 use Rattle.cap_spec.specs.Faults.{IsRefused}
 use Rattle.cap_spec.specs.declared.Step.{Step}
 use Rattle.cap_vet.specs.Limits.{depth_of, words_of}
-use Rattle.cap_vet.specs.Looking.{IsNotLax}
 use Rattle.cap_vet.specs.Trails.{Ahead}
 use Rattle.cap_vet.specs.Walking.{IsNext, Walks, work_left, work_next}
 use Rattle.cap_vet.specs.declared.walk.pointer_run.PointerRun.{PointerRun}
@@ -12,7 +11,6 @@ use Rattle.cap_vet.specs.declared.limits.Limits.{Limits}
 use Rattle.cap_vet.specs.declared.report.Report.{Report}
 use Rattle.cap_vet.specs.declared.walk.turn.Stopped.{Stopped}
 use Rattle.cap_vet.specs.declared.walk.turn.Stopped.TheVariants.{Refused, ByTurn}
-use Rattle.cap_vet.specs.declared.walk.visiting.Visited.{Visited}
 
 -- The walk has come this far, and K holds of the paths that it has looked at.
 pub record IsWalking (m : List (List ℕ)) (limits : Limits) (runs : List PointerRun) (report : Report) (K : List (List Step) → Type 0) : Type 0 where
@@ -37,11 +35,10 @@ pub record HasVisited (m : List (List ℕ)) (limits : Limits) (s w level : ℕ) 
   pub walks : Walks m (words_of limits) (depth_of limits) (runs ++ option_to_list below) after (n.a.path ∷ n.seen) later
   pub less : work_left (words_of limits) (runs ++ option_to_list below) after < work_next (words_of limits) runs before
 
--- The next word was looked at, and this was found.
-pub record IsVisited (m : List (List ℕ)) (limits : Limits) (s w level : ℕ) (before after : Report) (v : Visited) : Type 0 where
-  pub visited : (runs : List PointerRun) (n : IsNextIn m limits s w level runs before)
-      → HasVisited m limits s w level runs before n v.below after
-  pub strict : IsFalse v.may_be_lax → IsNotLax m s w
+-- the next word was looked at, and below it is this run
+abbrev pub IsVisited : List (List ℕ) → Limits → ℕ → ℕ → ℕ → Report → Report → Option PointerRun → Type 0
+IsVisited m limits s w level before after below =
+    (runs : List PointerRun) (n : IsNextIn m limits s w level runs before) → HasVisited m limits s w level runs before n below after
 
 -- The walk goes on, and less than this is left of it.
 pub record GoesOn (m : List (List ℕ)) (limits : Limits) (runs : List PointerRun) (report : Report) (K : List (List Step) → Type 0) (left : ℕ) : Type 0 where

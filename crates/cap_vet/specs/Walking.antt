@@ -16,7 +16,7 @@ use Rattle.cap_vet.specs.declared.report.Report.{Report}
 -- each run's level is higher than there are runs below it
 abbrev pub AreStacked : ℕ → List PointerRun → Type 0
 AreStacked depth [] = ⊤
-AreStacked depth (f ∷ runs) = (length runs + 2 ≤ f.level) × (f.level ≤ depth + 1) × AreStacked depth runs
+AreStacked depth (f ∷ runs) = (length runs + 1 ≤ f.level) × (f.level ≤ depth + 1) × AreStacked depth runs
 
 -- the path leads to a capability from this word
 abbrev pub LeadsToCap : List (List ℕ) → List Step → ℕ → ℕ → Type 0
@@ -65,7 +65,7 @@ pub record IsNext (m : List (List ℕ)) (words depth s w level : ℕ) (runs : Li
   pub places : map place_of ahead ≡ all_spots (reverse runs)
   pub inside : AllByRecursion (RunIn m) (reverse runs)
   pub stacked : AreStacked depth (reverse runs)
-  pub high : length (reverse runs) + 1 ≤ level
+  pub high : length (reverse runs) ≤ level
   pub low : level ≤ depth + 1
 
 -- how much is left of a walk: it falls at each turn

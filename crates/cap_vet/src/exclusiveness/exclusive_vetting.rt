@@ -23,6 +23,7 @@ use crate::exclusiveness::uses::near_use;
 use crate::limits::Limits;
 use crate::nodes::place::Place;
 use crate::nodes::vetted::Vetted;
+use crate::report::Report;
 use crate::walk::turn::{Stopped, Turn};
 use crate::walk::vetting::vet;
 use crate::walk::walking::walk;
@@ -212,8 +213,9 @@ fn mark_all<M: Segments>(
     if !marks.mark_words(0, 0, 1) {
         unreachable!();
     }
-    match walk(message, limits, &mut marks) {
-        Ok(_) => Ok(()),
+    let mut report = Report::default();
+    match walk(message, limits, &mut marks, &mut report) {
+        Ok(()) => Ok(()),
         Err(Stopped::ByTurn(overlap)) => Err(overlap),
         // The message is accepted.
         Err(Stopped::Refused(_)) => unreachable!(),

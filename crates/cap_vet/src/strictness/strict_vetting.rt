@@ -10,6 +10,7 @@ ghost use Rattle.std.specs.Prelude.{Err, ◌≡◌, IfErr, IfOk, IsOk};
 
 use crate::limits::Limits;
 use crate::nodes::vetted::Vetted;
+use crate::report::Report;
 use crate::strictness::strict::Strict;
 use crate::strictness::strict_turn::LaxSearch;
 use crate::walk::turn::Stopped;
@@ -48,11 +49,12 @@ pub fn vet_strict<'m, M: Segments>(
         IsStrictFault m (words_of limits) (depth_of limits) r → result ≡ Err r }
 {
     let mut search = LaxSearch { first: None };
-    let report = match walk(message, &limits, &mut search) {
-        Ok(report) => report,
+    let mut report = Report::default();
+    match walk(message, &limits, &mut search, &mut report) {
+        Ok(()) => {}
         Err(Stopped::Refused(refusal)) => return Err(StrictRefusal::Refused(refusal)),
         Err(Stopped::ByTurn(never)) => match never {},
-    };
+    }
     if message.count() > MOST_SEGMENTS {
         return Err(StrictRefusal::ManySegments);
     }

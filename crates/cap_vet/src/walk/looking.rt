@@ -191,7 +191,7 @@ fn row_within(
         IfSome result (IsLooked m (words_of limits.now) (depth_of limits.now) spent s w level) }
 {
     let cost = u64::from(pads) + u64::from(row.words);
-    if level > limits.depth() || cost > limits.words() - spent {
+    if level > limits.depth() || spent + cost > limits.words() {
         return None;
     }
     let frame = row_frame(segment, row.pointers_start, row.pointer_count, level + 1);
@@ -209,7 +209,7 @@ fn target_within(limits: &Limits, spent: u64, target: &Target, level: u32) -> Op
         IfSome result (IsLooked m (words_of limits.now) (depth_of limits.now) spent s w level) }
 {
     let deepest = level + levels_taken(&target.shape);
-    if deepest > limits.depth() || target.charge > limits.words() - spent {
+    if deepest > limits.depth() || spent + target.charge > limits.words() {
         return None;
     }
     Some(Looked::Object(target.charge, deepest, frame_of(target, level)))

@@ -13,6 +13,7 @@ ghost use Rattle.std.specs.Prelude.{Err, ◌≡◌, ◌≤◌, IfErr, IfOk, IsOk
 use crate::limits::Limits;
 use crate::nodes::place::Place;
 use crate::nodes::vetted::Vetted;
+use crate::report::Report;
 use crate::walk::turn::{Stopped, Turn};
 use crate::walk::walking::walk;
 use cap_frame::Segments;
@@ -55,11 +56,13 @@ pub fn vet<'m, M: Segments>(message: &'m M, limits: Limits) -> Result<Vetted<'m,
         IfOk result (λ v. let r = report_of v in
         (r.charge ≡ c) × (r.depth ≡ d) × (r.pointers ≡ pointer_count t)) }
 {
-    match walk(message, &limits, &mut Plain) {
-        Ok(report) => Ok(Vetted { message, report }),
-        Err(Stopped::Refused(refusal)) => Err(refusal),
+    let mut report = Report::default();
+    match walk(message, &limits, &mut Plain, &mut report) {
+        Ok(()) => {}
+        Err(Stopped::Refused(refusal)) => return Err(refusal),
         Err(Stopped::ByTurn(never)) => match never {},
     }
+    Ok(Vetted { message, report })
 }
 
 // A walk that only counts.

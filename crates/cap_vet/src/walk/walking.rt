@@ -1,38 +1,53 @@
 //! The walk: one pointer word a turn, in preorder.
 
+ghost use Rattle.cap_spec.specs.Messages.{IsMessage};
 ghost use Rattle.cap_spec.specs.declared.Step.{Step};
-ghost use Rattle.cap_vet.specs.PointerRuns.{kept};
 ghost use Rattle.cap_vet.specs.Passing.{Passes};
-ghost use Rattle.cap_vet.specs.Turns.{GoesOnBelow, IsAt, IsStopped, IsWalking};
+ghost use Rattle.cap_vet.specs.PointerRuns.{RunIn, kept, root_run};
 ghost use Rattle.cap_vet.specs.Trails.{Ahead};
+ghost use Rattle.cap_vet.specs.Turns.{GoesOnBelow, IsAt, IsStopped, IsWalking};
 ghost use Rattle.cap_vet.specs.Walking.{Walks};
+ghost use Rattle.cap_vet.specs.WalkSteps.{Continues, GoesOnWith, LeavesRoom};
 ghost use Rattle.std.specs.Option.{option_to_list};
-ghost use Rattle.std.specs.Prelude.{◌+◌, ◌++◌, ◌<◌, ◌≡◌, ◌≤◌, ◌^◌, [], ◌∷◌, IfErr, IfNone, IfOk, IfSome, List, length, ℕ};
+ghost use Rattle.std.specs.Prelude.{◌++◌, ◌<◌, ◌≡◌, ◌≤◌, [], ◌∷◌, IfErr, IfNone, IfOk, IfSome, IsFalse, IsTrue, List, length, ℕ};
 
 use crate::limits::Limits;
 use crate::report::Report;
+use crate::walk::far_looking::looked_near;
+use crate::walk::looking::Looked;
 use crate::walk::pointer_run::PointerRun;
 use crate::walk::turn::{Stopped, Turn};
-use crate::walk::visiting::{Visited, visit};
+use crate::walk::visiting::{add, visit};
 use arrayvec::ArrayVec;
 use cap_frame::Segments;
 use cap_spec::{Reason, Refusal};
 
 /// The pointer words still to be looked at after those of the current run, the next ones last.
-/// Each object on the way down that has some left has one run. 256 are enough for the deepest
+/// Each object on the way down that has some left has one run. 257 are enough for the deepest
 /// walk.
 pub(crate) type Stack<const N: usize> = ArrayVec<PointerRun, N>;
 
-/// Walks a message from its root, and takes a turn at each pointer word. The report is of the whole
-/// walk.
+/// What comes after a turn.
+enum Next {
+    /// A pointer word, the first of the current run.
+    More,
+    /// The same, where the stack is full.
+    Full,
+    /// Nothing.
+    Done,
+}
+
+/// Walks a message from its root, and takes a turn at each pointer word but null ones. The report
+/// is of the whole walk.
 pub(crate) fn walk<M: Segments, T: Turn>(
     message: &M,
     limits: &Limits,
     turn: &mut T,
-) -> Result<Report, Stopped<T::Stop>>
+    report: &mut Report,
+) -> Result<(), Stopped<T::Stop>>
     requires { T.knows turn.old (M.segments message.now) [] }
     ensures ok { let m = M.segments message.now in
-        IfOk result (λ report. IsWalking m limits.now [] report (T.knows turn.new m)) }
+        IfOk result (λ _. IsWalking m limits.now [] report.new (T.knows turn.new m)) }
     ensures err { let m = M.segments message.now in
         IfErr result (IsStopped m limits.now (T.stops m)) }
 {
@@ -44,34 +59,30 @@ pub(crate) fn walk<M: Segments, T: Turn>(
             pointers: 0,
         }));
     }
-    let mut report = Report::default();
-    match turn_at(message, limits, turn, &mut report, 0, 0, 1) {
-        Ok(Some(run)) => walk_below(message, limits, turn, run, report),
-        Ok(None) => Ok(report),
+    *report = Report::default();
+    // Each message initializes its runs, so a walk begins with few of them.
+    let mut stack: Stack<8> = Stack::new();
+    let mut run = root();
+    match walk_on(message, limits, turn, &mut stack, &mut run, report) {
+        Ok(true) => Ok(()),
+        Ok(false) => walk_deep(message, limits, turn, &stack, &mut run, report),
         Err(stopped) => Err(stopped),
     }
 }
 
-// Goes on below the root. Each message initializes its runs, so a walk begins with few of them.
-fn walk_below<M: Segments, T: Turn>(
-    message: &M,
-    limits: &Limits,
-    turn: &mut T,
-    run: PointerRun,
-    mut report: Report,
-) -> Result<Report, Stopped<T::Stop>>
-    requires { let m = M.segments message.now in
-        IsWalking m limits.now (run ∷ []) report (T.knows turn.old m) }
-    ensures ok { let m = M.segments message.now in
-        IfOk result (λ report. IsWalking m limits.now [] report (T.knows turn.new m)) }
-    ensures err { let m = M.segments message.now in
-        IfErr result (IsStopped m limits.now (T.stops m)) }
+// The root word alone.
+#[inline(always)]
+fn root() -> PointerRun
+    ensures { result ≡ root_run }
 {
-    let mut stack: Stack<8> = Stack::new();
-    match walk_on(message, limits, turn, &mut stack, run, &mut report) {
-        Ok(None) => Ok(report),
-        Ok(Some(run)) => walk_deep(message, limits, turn, &stack, run, report),
-        Err(stopped) => Err(stopped),
+    PointerRun {
+        segment: 0,
+        at: 0,
+        left: 1,
+        more: 0,
+        data_words: 0,
+        pointers: 0,
+        level: 1,
     }
 }
 
@@ -83,80 +94,169 @@ fn walk_deep<M: Segments, T: Turn>(
     limits: &Limits,
     turn: &mut T,
     few: &Stack<8>,
-    run: PointerRun,
-    mut report: Report,
-) -> Result<Report, Stopped<T::Stop>>
+    run: &mut PointerRun,
+    report: &mut Report,
+) -> Result<(), Stopped<T::Stop>>
     requires { let m = M.segments message.now in
-        IsWalking m limits.now (few.now.items ++ run ∷ []) report (T.knows turn.old m) }
+        IsWalking m limits.now (few.now.items ++ run.old ∷ []) report.old (T.knows turn.old m) }
     ensures ok { let m = M.segments message.now in
-        IfOk result (λ report. IsWalking m limits.now [] report (T.knows turn.new m)) }
+        IfOk result (λ _. IsWalking m limits.now [] report.new (T.knows turn.new m)) }
     ensures err { let m = M.segments message.now in
         IfErr result (IsStopped m limits.now (T.stops m)) }
 {
-    let mut stack: Stack<256> = Stack::new();
+    let mut stack: Stack<257> = Stack::new();
     if stack.try_extend_from_slice(few.as_slice()).is_err() {
         unreachable!();
     }
-    match walk_on(message, limits, turn, &mut stack, run, &mut report) {
-        Ok(None) => Ok(report),
-        Ok(Some(_)) => unreachable!(),
+    match walk_on(message, limits, turn, &mut stack, run, report) {
+        Ok(true) => Ok(()),
+        Ok(false) => unreachable!(),
         Err(stopped) => Err(stopped),
     }
 }
 
 // Goes on with the words of this run and those of the stack until no pointer word is left, the
-// walk is stopped, or the stack is full. If it is full, the result is the run to go on with. The
-// current run is beside the stack, so that a word with nothing below it costs no push and no pop.
+// walk is stopped, or the stack is full. `true` if no word is left. If the stack is full, the walk
+// has to go on with the run. The current run is beside the stack, so that a word with nothing below
+// it costs no push and no pop.
+#[inline(always)]
 fn walk_on<M: Segments, T: Turn, const N: usize>(
     message: &M,
     limits: &Limits,
     turn: &mut T,
     stack: &mut Stack<N>,
-    mut run: PointerRun,
-    report: &mut Report,
-) -> Result<Option<PointerRun>, Stopped<T::Stop>>
-    requires room { (length stack.old.items < N) × (N ≤ 256) }
+    first: &mut PointerRun,
+    counts: &mut Report,
+) -> Result<bool, Stopped<T::Stop>>
+    requires room { (length stack.old.items < N) × (N ≤ 257) }
     requires walking { let m = M.segments message.now in
-        IsWalking m limits.now (stack.old.items ++ run ∷ []) report.old (T.knows turn.old m) }
-    ensures done { let m = M.segments message.now in
-        IfOk result (λ left. IfNone left
-        (IsWalking m limits.now [] report.new (T.knows turn.new m))) }
-    ensures full { let m = M.segments message.now in IfOk result (λ left. IfSome left (λ f.
+        IsWalking m limits.now (stack.old.items ++ first.old ∷ []) counts.old (T.knows turn.old m) }
+    ensures done { let m = M.segments message.now in IfOk result (λ done. IsTrue done →
+        IsWalking m limits.now [] counts.new (T.knows turn.new m)) }
+    ensures full { let m = M.segments message.now in IfOk result (λ done. IsFalse done →
         (length stack.new.items ≡ N)
-        × IsWalking m limits.now (stack.new.items ++ f ∷ []) report.new (T.knows turn.new m))) }
+        × IsWalking m limits.now (stack.new.items ++ first.new ∷ []) counts.new
+        (T.knows turn.new m)) }
     ensures err { let m = M.segments message.now in
         IfErr result (IsStopped m limits.now (T.stops m)) }
 {
+    // Nothing outside of the loop has these, so they stay in registers.
+    let limits = *limits;
+    let mut run = *first;
+    let mut report = *counts;
     'walk: loop {
-        let (s, w, level) = (run.segment, run.at, run.level);
-        let is_null = message.word(s, w) == 0;
-        match turn_at(message, limits, turn, report, s, w, level) {
-            Ok(Some(below)) => {
-                let more = run.advance();
-                push_kept(stack, more, run);
-                if stack.is_full() {
-                    return Ok(Some(below));
-                }
-                run = below;
-            }
-            Ok(None) => {
-                if !run.advance() {
-                    match stack.pop() {
-                        Some(below) => run = below,
-                        None => return Ok(None),
+        let is_null = message.word(run.segment, run.at) == 0;
+        match turn_near(
+            message,
+            &limits,
+            turn,
+            &mut report,
+            run.segment,
+            run.at,
+            run.level,
+        ) {
+            Some(Ok(below)) => match go_on(stack, &mut run, below) {
+                Next::More => {
+                    if is_null {
+                        pass_nulls(message, &mut run, &mut report);
                     }
-                } else if is_null {
-                    pass_nulls(message, &mut run, report);
                 }
-            }
-            Err(stopped) => return Err(stopped),
+                Next::Full => {
+                    *first = run;
+                    *counts = report;
+                    return Ok(false);
+                }
+                Next::Done => {
+                    *counts = report;
+                    return Ok(true);
+                }
+            },
+            Some(Err(stop)) => return Err(Stopped::ByTurn(stop)),
+            None => match turn_other(message, &limits, turn, stack, &mut run, &mut report) {
+                Ok(Next::More) => {}
+                Ok(Next::Full) => {
+                    *first = run;
+                    *counts = report;
+                    return Ok(false);
+                }
+                Ok(Next::Done) => {
+                    *counts = report;
+                    return Ok(true);
+                }
+                Err(stopped) => return Err(stopped),
+            },
         }
     }
 }
 
-// Looks at the next pointer word, and takes the turn there. Gives the run of its object's pointers.
+// Takes the turn at a word where `turn_near` returns nothing, and goes on after it. It works on
+// copies, so that the values of the loop have no address outside of it.
 #[inline(always)]
-fn turn_at<M: Segments, T: Turn>(
+fn turn_other<M: Segments, T: Turn, const N: usize>(
+    message: &M,
+    limits: &Limits,
+    turn: &mut T,
+    stack: &mut Stack<N>,
+    run: &mut PointerRun,
+    report: &mut Report,
+) -> Result<Next, Stopped<T::Stop>>
+    requires room { (length stack.old.items < N) × (N ≤ 257) }
+    requires walking { let m = M.segments message.now in
+        IsWalking m limits.now (stack.old.items ++ run.old ∷ []) report.old (T.knows turn.old m) }
+    ensures ok { let m = M.segments message.now in
+        IfOk result (λ next. GoesOnWith m limits.now next stack.old.items run.old report.old
+        stack.new.items run.new report.new (T.knows turn.new m)) }
+    ensures room { IfOk result (λ next. LeavesRoom next (length stack.new.items) N) }
+    ensures err { let m = M.segments message.now in
+        IfErr result (IsStopped m limits.now (T.stops m)) }
+{
+    let limits = *limits;
+    let mut at = *run;
+    let mut counts = *report;
+    let next = turn_far(message, &limits, turn, stack, &mut at, &mut counts);
+    *run = at;
+    *report = counts;
+    next
+}
+
+// The same, and not inlined: few words need it, and only these may be such as common readers reject.
+#[cold]
+#[inline(never)]
+fn turn_far<M: Segments, T: Turn, const N: usize>(
+    message: &M,
+    limits: &Limits,
+    turn: &mut T,
+    stack: &mut Stack<N>,
+    run: &mut PointerRun,
+    report: &mut Report,
+) -> Result<Next, Stopped<T::Stop>>
+    requires room { (length stack.old.items < N) × (N ≤ 257) }
+    requires walking { let m = M.segments message.now in
+        IsWalking m limits.now (stack.old.items ++ run.old ∷ []) report.old (T.knows turn.old m) }
+    ensures ok { let m = M.segments message.now in
+        IfOk result (λ next. GoesOnWith m limits.now next stack.old.items run.old report.old
+        stack.new.items run.new report.new (T.knows turn.new m)) }
+    ensures room { IfOk result (λ next. LeavesRoom next (length stack.new.items) N) }
+    ensures err { let m = M.segments message.now in
+        IfErr result (IsStopped m limits.now (T.stops m)) }
+{
+    let (s, w) = (run.segment, run.at);
+    let used = turn.before(message, s, w);
+    let below = match visit(message, limits, report, s, w, run.level) {
+        Ok(below) => below,
+        Err(refusal) => return Err(Stopped::Refused(refusal)),
+    };
+    match turn.after(message, s, w, used, true, report.pointers) {
+        Ok(()) => Ok(go_on(stack, run, below)),
+        Err(stop) => Err(Stopped::ByTurn(stop)),
+    }
+}
+
+// Looks at the next pointer word, and takes the turn there. Gives the run of its object's pointers.
+// Returns a result only of words that `look_near` or `look_over_pad` has one of, and of null, at
+// which no turn is taken. Otherwise it changes nothing.
+#[inline(always)]
+fn turn_near<M: Segments, T: Turn>(
     message: &M,
     limits: &Limits,
     turn: &mut T,
@@ -164,27 +264,31 @@ fn turn_at<M: Segments, T: Turn>(
     s: u32,
     w: u32,
     level: u32,
-) -> Result<Option<PointerRun>, Stopped<T::Stop>>
+) -> Option<Result<Option<PointerRun>, T::Stop>>
     requires { let m = M.segments message.now in
         (runs : List PointerRun)
         × IsAt m limits.now s w level runs report.old (T.knows turn.old m) }
     ensures ok { let m = M.segments message.now in
         (runs : List PointerRun) → IsAt m limits.now s w level runs report.old (T.knows turn.old m) →
-        IfOk result (λ b. GoesOnBelow m limits.now runs b report.old report.new
-        (T.knows turn.new m)) }
+        IfSome result (λ r. IfOk r (λ b. GoesOnBelow m limits.now runs b report.old report.new
+        (T.knows turn.new m))) }
     ensures err { let m = M.segments message.now in
-        IfErr result (IsStopped m limits.now (T.stops m)) }
+        IfSome result (λ r. IfErr r (T.stops m)) }
+    ensures none { IfNone result ((report.new ≡ report.old) × (turn.new ≡ turn.old)) }
 {
-    // The words that the pointer uses are looked up before the visit, and used after it. If nothing
-    // is written in between, both take its fields from the word once.
+    if message.word(s, w) == 0 {
+        return Some(Ok(add(report, s, w, Looked::Null(0))));
+    }
     let used = turn.before(message, s, w);
-    let (below, may_be_lax) = match visit(message, limits, report, s, w, level) {
-        Ok(Visited { below, may_be_lax }) => (below, may_be_lax),
-        Err(refusal) => return Err(Stopped::Refused(refusal)),
-    };
-    match turn.after(message, s, w, used, may_be_lax, report.pointers) {
-        Ok(()) => Ok(below),
-        Err(stop) => Err(Stopped::ByTurn(stop)),
+    match looked_near(message, limits, report.charge, s, w, level) {
+        None => None,
+        Some(looked) => {
+            let below = add(report, s, w, looked);
+            match turn.after(message, s, w, used, false, report.pointers) {
+                Ok(()) => Some(Ok(below)),
+                Err(stop) => Some(Err(stop)),
+            }
+        }
     }
 }
 
@@ -208,10 +312,47 @@ fn pass_nulls<M: Segments>(message: &M, run: &mut PointerRun, report: &mut Repor
     }
 }
 
+// Goes on after the first word of the run, first with the run below that word.
+#[inline(always)]
+fn go_on<const N: usize>(
+    stack: &mut Stack<N>,
+    run: &mut PointerRun,
+    below: Option<PointerRun>,
+) -> Next
+    requires room { (length stack.old.items < N) × (N ≤ 257) }
+    requires inside { (m : List (List ℕ)) × IsMessage m × RunIn m run.old }
+    ensures runs { Continues result stack.old.items run.old below stack.new.items run.new }
+    ensures room { LeavesRoom result (length stack.new.items) N }
+{
+    match below {
+        Some(below) => {
+            let more = run.advance();
+            push_kept(stack, more, *run);
+            *run = below;
+            if stack.is_full() {
+                return Next::Full;
+            }
+            Next::More
+        }
+        None => {
+            if run.advance() {
+                return Next::More;
+            }
+            match stack.pop() {
+                Some(below) => {
+                    *run = below;
+                    Next::More
+                }
+                None => Next::Done,
+            }
+        }
+    }
+}
+
 // One more run, where something is left of it.
 #[inline(always)]
 fn push_kept<const N: usize>(stack: &mut Stack<N>, more: bool, run: PointerRun)
-    requires few { N ≤ 256 }
+    requires few { N ≤ 257 }
     requires room { length (stack.old.items ++ option_to_list (kept more run)) ≤ N }
     ensures { stack.new.items ≡ stack.old.items ++ option_to_list (kept more run) }
 {

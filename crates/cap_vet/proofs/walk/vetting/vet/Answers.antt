@@ -6,27 +6,28 @@ use Rattle.cap_spec.proofs.Verdicts.Refusals.{refused_justified, tree_not_refuse
 use Rattle.cap_vet.proofs.Verdicts.{accepted_at_end, vetted_within}
 use Rattle.cap_vet.proofs.walk.vetting.vet.Goals as goal
 
-pub returns-in-Ok-clause-ok : goal.returns-in-Ok-clause-ok
-returns-in-Ok-clause-ok g c = let w = c.in-Ok.ensures.ok in accepted_at_end _ _ _ _ w.seen w.ahead w.walks
+pub returns-clause-ok : goal.returns-clause-ok
+returns-clause-ok g c = let w = c.in-Ok.ensures.ok in accepted_at_end _ _ _ _ w.seen w.ahead w.walks
 
-pub returns-in-Ok-clause-refuses : goal.returns-in-Ok-clause-refuses
-returns-in-Ok-clause-refuses g c = λ r h.
+pub returns-clause-refuses : goal.returns-clause-refuses
+returns-clause-refuses g c = λ r h.
     let w = c.in-Ok.ensures.ok in
     let a = accepted_at_end _ _ _ _ w.seen w.ahead w.walks in
     absurd (tree_not_refused _ a.0 _ _ _ _ r a.1.denotes a.1.within a.1.shallow h)
 
-pub returns-in-Ok-clause-one : goal.returns-in-Ok-clause-one
-returns-in-Ok-clause-one g c = λ t charge d h.
+pub returns-clause-one : goal.returns-clause-one
+returns-clause-one g c = λ t charge d h.
     let w = c.in-Ok.ensures.ok in
     let a = accepted_at_end _ _ _ _ w.seen w.ahead w.walks in
     let same = one_tree _ 0 0 a.0 t _ _ charge d a.1.denotes h in
     (same.charge, same.depth, a.1.pointers ∙ ap pointer_count same.part)
 
 pub returns-in-Err-Refused-clause-err : goal.returns-in-Err-Refused-clause-err
-returns-in-Err-Refused-clause-err g c = rw c.in-Err-Refused.field-0-is at c.in-Err-Refused.ensures.err
+returns-in-Err-Refused-clause-err g c = rw c.in-Err-Refused.field-0-is (rw c.in-Err-Refused.field-0-is at c.in-Err-Refused.ensures.err)
 
 pub returns-in-Err-Refused-clause-justified : goal.returns-in-Err-Refused-clause-justified
-returns-in-Err-Refused-clause-justified g c = refused_justified _ _ _ _ (rw c.in-Err-Refused.field-0-is at c.in-Err-Refused.ensures.err)
+returns-in-Err-Refused-clause-justified g c = rw c.in-Err-Refused.field-0-is
+    (refused_justified _ _ _ c.in-Err-Refused.refusal (rw c.in-Err-Refused.field-0-is at c.in-Err-Refused.ensures.err))
 
 pub returns-in-Err-Refused-clause-accepts : goal.returns-in-Err-Refused-clause-accepts
 returns-in-Err-Refused-clause-accepts g c = λ t charge d h e f.
@@ -34,7 +35,8 @@ returns-in-Err-Refused-clause-accepts g c = λ t charge d h e f.
 
 pub returns-in-Err-Refused-clause-refuses : goal.returns-in-Err-Refused-clause-refuses
 returns-in-Err-Refused-clause-refuses g c = λ r h.
-    ap Err (one_refusal _ _ _ c.in-Err-Refused.refusal r (rw c.in-Err-Refused.field-0-is at c.in-Err-Refused.ensures.err) h)
+    ap Err (rw c.in-Err-Refused.field-0-is (one_refusal _ _ _ c.in-Err-Refused.refusal r
+    (rw c.in-Err-Refused.field-0-is at c.in-Err-Refused.ensures.err) h))
 
 pub invariant_of-result : goal.invariant_of-result
 invariant_of-result g c =

@@ -1,0 +1,54 @@
+use Rattle.std.proofs.Common.{◌∷◌, ◌++◌, inr, arith, rules}
+use Rattle.std.specs.Option.{option_to_list}
+use Rattle.cap_spec.specs.Messages.{IsMessage}
+use Rattle.cap_vet.proofs.Frames.{has_rest}
+use Rattle.cap_vet.proofs.Passing.{topmost_in}
+use Rattle.cap_vet.proofs.Stacks.{looked_at, next_at, steps_on}
+use Rattle.cap_vet.proofs.walk.walking.turn_far.Goals as goal
+
+pub before-used-requires-clause-exists : goal.before-used-requires-clause-exists
+before-used-requires-clause-exists g c = (topmost_in _ _ _ c.args.stack.now.items c.args.run.now c.args.report.now _ _ c.requires.walking.walks).exists
+
+pub before-used-requires-clause-inside : goal.before-used-requires-clause-inside
+before-used-requires-clause-inside g c =
+    let f = topmost_in _ _ _ c.args.stack.now.items c.args.run.now c.args.report.now _ _ c.requires.walking.walks in
+    omega (arith, f.some, f.inside)
+
+pub visit-requires : goal.visit-requires
+visit-requires g c =
+    let f = topmost_in _ _ _ c.args.stack.now.items c.args.run.now c.args.report.now _ _ c.requires.walking.walks in
+    let rest = has_rest c.args.run.now f.some in
+    record { next = (c.args.stack.now.items ++ option_to_list rest.0, (next_at _ _ c.args.stack.now.items c.args.run.now _ _ _ c.requires.walking rest.1).next) }
+
+pub after-requires-clause-known : goal.after-requires-clause-known
+after-requires-clause-known g c =
+    let f = topmost_in _ _ _ c.args.stack.now.items c.args.run.now c.args.report.now _ _ c.requires.walking.walks in
+    let rest = has_rest c.args.run.now f.some in
+    let at = next_at _ _ c.args.stack.now.items c.args.run.now _ _ _ c.requires.walking rest.1 in
+    let n = at.next in
+    let on = c.in-Ok.ensures.ok (c.args.stack.now.items ++ option_to_list rest.0) n in
+    (n.seen, n.a, looked_at _ _ _ _ _ _ _ _ _ _ _ n on.walks, at.known)
+
+pub go_on-requires : goal.go_on-requires
+go_on-requires g c =
+    let m = g.M.Segments.segments c.args.message.now in
+    let message : IsMessage m = search rules in (
+      search rules,
+      (c.requires.room, (m, message, topmost_in _ _ _ c.args.stack.now.items c.args.run.now c.args.report.now _ _ c.requires.walking.walks)),
+    )
+
+pub returns-in-Ok-after-clause-ok : goal.returns-in-Ok-after-clause-ok
+returns-in-Ok-after-clause-ok g c =
+    steps_on _ _ c.args.stack.now.items c.args.run.now c.args.report.now c.visit.new.report _ _ c.in-Ok.below c.go_on.result c.go_on.new.stack.items
+    c.go_on.new.run c.requires.walking (λ runs at.
+    let n = at.next in
+    let on = c.in-Ok.ensures.ok runs n in
+    let known = c.in-Ok-after.ensures.ok n.seen n.a (looked_at _ _ _ _ _ _ _ _ _ _ _ n on.walks) at.known in
+    record { walking = record { seen = n.a.path ∷ n.seen; ahead = on.later; walks = on.walks; known = known }; less = on.less })
+    c.go_on.ensures.runs
+
+pub returns-in-Err-clause-err : goal.returns-in-Err-clause-err
+returns-in-Err-clause-err g c = inr c.in-Err.ensures.err
+
+pub after-requires-clause-strict : goal.after-requires-clause-strict
+after-requires-clause-strict g c = λ f. absurd (cc f)

@@ -1,0 +1,37 @@
+-- What a walk goes on with after one pointer word (profile).
+use Rattle.std.specs.Prelude.{ℕ, ◌<◌, ◌≡◌, List, [], ◌∷◌, ◌++◌, Option, ⊤}
+use Rattle.std.specs.Option.{option_to_list}
+use Rattle.cap_spec.specs.declared.Step.{Step}
+use Rattle.cap_vet.specs.Limits.{words_of}
+use Rattle.cap_vet.specs.PointerRuns.{IsRest}
+use Rattle.cap_vet.specs.Turns.{GoesOn}
+use Rattle.cap_vet.specs.Walking.{work_left}
+use Rattle.cap_vet.specs.declared.limits.Limits.{Limits}
+use Rattle.cap_vet.specs.declared.report.Report.{Report}
+use Rattle.cap_vet.specs.declared.walk.pointer_run.PointerRun.{PointerRun}
+use Rattle.cap_vet.specs.declared.walk.walking.Next.{Next}
+use Rattle.cap_vet.specs.declared.walk.walking.Next.TheVariants.{More, Full, Done}
+
+-- the runs that are left: those of the stack and the current one, or none
+abbrev pub runs_left : Next → List PointerRun → PointerRun → List PointerRun
+runs_left More items run = items ++ run ∷ []
+runs_left Full items run = items ++ run ∷ []
+runs_left Done items run = []
+
+-- whether a stack of n runs, of at most so many, has room for one more
+abbrev pub LeavesRoom : Next → ℕ → ℕ → Type 0
+LeavesRoom More n most = n < most
+LeavesRoom Full n most = n ≡ most
+LeavesRoom Done n most = ⊤
+
+-- After the first word of a run the run below it is left, and then what comes after that word.
+pub record Continues (next : Next) (before : List PointerRun) (old : PointerRun) (below : Option PointerRun) (after : List PointerRun) (new : PointerRun) : Type 0 where
+  pub rest : Option PointerRun
+  pub is_rest : IsRest old rest
+  pub runs : (before ++ option_to_list rest) ++ option_to_list below ≡ runs_left next after new
+
+-- The walk goes on with what is left, and less of it than before.
+abbrev pub GoesOnWith : List (List ℕ) → Limits → Next → List PointerRun → PointerRun → Report → List PointerRun → PointerRun → Report
+    → (List (List Step) → Type 0) → Type 0
+GoesOnWith m limits next before old report after new counted K =
+    GoesOn m limits (runs_left next after new) counted K (work_left (words_of limits) (before ++ old ∷ []) report)
