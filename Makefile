@@ -110,3 +110,4 @@ bench:
 	python3 bench/bench.py
 	python3 bench/in_process.py
 	python3 bench/amplified.py
+	python3 bench/nodes.py
