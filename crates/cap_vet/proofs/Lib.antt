@@ -19,6 +19,7 @@ mod FoundLists
 mod Keeping
 mod Founds
 mod NodeSteps
+mod NearFound
 mod Shown
 mod Stepping
 mod NodeTrees
@@ -28,6 +29,8 @@ mod PathLax
 mod Charging
 mod PathEnds
 mod PathWays
+mod ElementWays
+mod Somewhere
 mod StepsGiven
 pub mod PathFaults
 mod Bits

@@ -13,7 +13,8 @@ use Rattle.cap_vet.specs.Charging.{Arrives, EndsEarly}
 use Rattle.cap_vet.specs.Demands.{words_under}
 use Rattle.cap_vet.specs.PathDemands.{IsPathFault, MeetsOnPath}
 use Rattle.cap_vet.specs.PathStrictness.{HasNoFaultBy, IsFaultBy}
-use Rattle.cap_vet.specs.PathWays.{GivesAfter, IsGiven, IsWay}
+use Rattle.cap_vet.specs.PathWays.{GivesAfter, IsGiven}
+use Rattle.cap_vet.specs.Ways.{IsWay}
 use Rattle.cap_vet.specs.declared.nodes.charged.Arrival.{Arrival}
 use Rattle.cap_vet.specs.declared.demands.Demands.{Demands}
 use Rattle.cap_vet.specs.declared.nodes.found.Found.{Found}
@@ -131,7 +132,7 @@ done_steps first done steps more e f =
     ap (λ (ss : List Step). first ++ ss) (sym (e ∙ ap (λ (ss : List Step). done ++ ss) f ∙ append-nil done))
 
 -- After the first steps the path gives what it gives as a whole.
-pub given_after : {M : Type 0} {g : segments.Ghosts M} (m : List (List ℕ)) (start : PathStart M) (step : Step) (rest : List Step) (way : Way)
+pub given_after : {M : Type 0} {g : segments.Ghosts M} (m : List (List ℕ)) (start : PathStart M g) (step : Step) (rest : List Step) (way : Way)
     (result : Result (Option (View M g)) StrictRefusal)
     → ((words depth : ℕ) (path : List Step) → IsWay m (words_under start.demands m words) depth path way
     → IsGiven start.demands m words depth path result)

@@ -142,3 +142,17 @@ element_inside m (word s w) f n d p i h e lt =
     let some : (i + 1) * (d + p) ≤ n * (d + p) = mul-le-mul_right (d + p) (omega (arith, lt)) in
     omega (arith, some, all, y.3.words, extent_structs y.1 y.3.kind y.3.code, h.inside)
 element_inside m (element t' b' ds ps) f n d p i h e lt = absurd (as_kind m (element t' b' ds ps) f (Structs n d p) h e)
+
+-- and so do all of them together
+pub elements_inside : (m : List (List ℕ)) (a : Spot) (f : Found) (n d p : ℕ) → IsFound m a f → f.kind ≡ Structs n d p
+    → f.place.start + 1 + n * (d + p) ≤ length (segment_of m f.place.segment)
+elements_inside m (word s w) f n d p h e =
+    let y = as_kind m (word s w) f (Structs n d p) h e in
+    let fits = y.3.finds.sits.composite (y.3.kind, y.3.code) in
+    let z : fits.0 ≡ y.2 = one_word m f.place.segment f.place.start fits.0 y.2 fits.1 y.3.has_tag in
+    let room : middle y.2 * (data_size y.2 + pointer_size y.2) ≤ list_size y.1 = subst
+    (λ u. middle u * (data_size u + pointer_size u) ≤ list_size y.1) z fits.2.1 in
+    let all : n * (d + p) ≤ list_size y.1 = equal_product n (middle y.2) d (data_size y.2) p (pointer_size y.2)
+    (list_size y.1) y.3.count y.3.data_words y.3.pointers room in
+    omega (arith, all, y.3.words, extent_structs y.1 y.3.kind y.3.code, h.inside)
+elements_inside m (element t' b' ds ps) f n d p h e = absurd (as_kind m (element t' b' ds ps) f (Structs n d p) h e)

@@ -1,6 +1,6 @@
 -- What was found at a spot (profile).
 use Rattle.std.specs.Prelude.{ℕ, ◌+◌, ◌<◌, ◌≤◌, List, length, Option, None, Some}
-use Rattle.cap_spec.specs.Messages.{segment_of}
+use Rattle.cap_spec.specs.Messages.{IsMessage, segment_of}
 use Rattle.cap_spec.specs.Pointers.{list_words}
 use Rattle.cap_spec.specs.Arriving.{StandsAs}
 use Rattle.cap_spec.specs.Paths.{Goes, Spot}
@@ -37,6 +37,10 @@ pub record IsFound (m : List (List ℕ)) (a : Spot) (f : Found) : Type 0 where
   pub exists : f.place.segment < length m
   pub inside : f.place.start + f.place.words ≤ length (segment_of m f.place.segment)
   pub own : own_words f.kind ≤ f.place.words
+
+-- it is found in some message
+abbrev pub IsSomewhere : Found → Type 0
+IsSomewhere f = ∥ ((m : List (List ℕ)) × (a : Spot) × IsMessage m × IsFound m a f) ∥₁
 
 -- the answer says where a step leads from what was found
 abbrev pub IsStep : Found → Step → Option Kept → Type 0

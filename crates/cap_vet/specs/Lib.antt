@@ -10,6 +10,7 @@ pub mod Looking
 pub mod Marks
 pub mod MarkSteps
 pub mod Nodes
+pub mod NearFinding
 pub mod NullMarks
 pub mod Owing
 pub mod Passing
@@ -28,3 +29,4 @@ pub mod Turns
 pub mod Vettings
 pub mod Walking
 pub mod WalkSteps
+pub mod Ways

@@ -1,33 +1,23 @@
--- Where a path leads in a message that needn't be vetted, and what is given for it (profile).
-use Rattle.std.specs.Prelude.{ℕ, ◌≡◌, ◌∷◌, ◌++◌, List, Option, Result, IfErr, IfNone, IfOk, IfSome, ⊤}
+-- What is given for a path in a message that needn't be vetted, by where it leads (profile).
+use Rattle.std.specs.Prelude.{ℕ, ◌≡◌, ◌+◌, ◌-◌, [], ◌∷◌, ◌++◌, List, length, Option, Some, Result, Ok, IfErr, IfNone, IfOk, IfSome}
 use Rattle.cap_frame.specs.declared.segments.Segments as segments
 use Rattle.cap_spec.specs.Arriving.{ArrivesAt}
-use Rattle.cap_spec.specs.Getting.{IsRefusedOnPath}
-use Rattle.cap_spec.specs.Paths.{Spot}
 use Rattle.cap_spec.specs.declared.Kind.{Kind}
+use Rattle.cap_spec.specs.declared.Kind.TheVariants.{Structs}
 use Rattle.cap_spec.specs.declared.Step.{Step}
+use Rattle.cap_spec.specs.declared.Step.TheVariants.{Item, Ptr}
 use Rattle.cap_spec.specs.declared.StrictRefusal.{StrictRefusal}
-use Rattle.cap_vet.specs.Charging.{Arrives, EndsEarly}
 use Rattle.cap_vet.specs.Demands.{words_under}
-use Rattle.cap_vet.specs.Finding.{IsFound}
 use Rattle.cap_vet.specs.Handles.{kept_place, view_kind}
 use Rattle.cap_vet.specs.PathDemands.{IsPathFault, MeetsOnPath}
+use Rattle.cap_vet.specs.PathStrictness.{HasNoFaultBy}
+use Rattle.cap_vet.specs.Ways.{IsWay}
 use Rattle.cap_vet.specs.declared.demands.Demands.{Demands}
+use Rattle.cap_vet.specs.declared.nodes.charged.Arrival.{Arrival}
+use Rattle.cap_vet.specs.declared.nodes.struct_elements.StructElements.{StructElements}
 use Rattle.cap_vet.specs.declared.nodes.path_start.PathStart.{PathStart}
 use Rattle.cap_vet.specs.declared.nodes.view.View.{View}
-use Rattle.cap_vet.specs.declared.nodes.way.Way.{Way}
-use Rattle.cap_vet.specs.declared.nodes.way.Way.TheVariants.{To, Nowhere, Refused}
-
--- The path arrives at something, or at nothing, or is refused.
-abbrev pub IsWay : List (List ℕ) → ℕ → ℕ → List Step → Way → Type 0
-IsWay m words depth path (To at) = (spot : Spot) × Arrives m words depth path spot at
-IsWay m words depth path (Nowhere at) = EndsEarly m words depth path at
-IsWay m words depth path (Refused refusal) = IsRefusedOnPath m words depth path refusal
-
--- A way to something leads to a spot of the message.
-abbrev pub HasFound : List (List ℕ) → Way → Type 0
-HasFound m (To at) = (spot : Spot) × IsFound m spot at.found
-HasFound m _ = ⊤
+use Rattle.cap_vet.specs.declared.nodes.way.Way.TheVariants.{To}
 
 -- A path gives what is at it, if its pointers meet the demands, and else why they don't (profile).
 pub record IsGiven {M : Type 0} {g : segments.Ghosts M} (demands : Demands) (m : List (List ℕ)) (words depth : ℕ)
@@ -39,20 +29,44 @@ pub record IsGiven {M : Type 0} {g : segments.Ghosts M} (demands : Demands) (m :
   pub err : IfErr result (IsPathFault demands m words depth path)
 
 -- the message of a start
-abbrev pub start_message : {M : Type 0} → PathStart M → M
+abbrev pub start_message : {M : Type 0} {g : segments.Ghosts M} → PathStart M g → M
 start_message start = start.message.now
 
+-- the message of some elements
+abbrev pub elements_message : {M : Type 0} {g : segments.Ghosts M} → StructElements M g → M
+elements_message e = e.message.now
+
 -- These are the first steps of some paths in a message, under these demands and within these limits.
-pub record IsStart {M : Type 0} (demands : Demands) (m : List (List ℕ)) (words depth : ℕ) (first : List Step)
-    (start : PathStart M) : Type 0 where
+pub record IsStart {M : Type 0} {g : segments.Ghosts M} (demands : Demands) (m : List (List ℕ)) (words depth : ℕ) (first : List Step)
+    (start : PathStart M g) : Type 0 where
   pub under : start.demands ≡ demands
   pub limit : start.words ≡ words_under demands m words
   pub deepest : start.depth ≡ depth
   pub way : IsWay m start.words start.depth first start.way
 
 -- After the first steps, a path that goes on with this step and these others gives this.
-abbrev pub GivesAfter : {M : Type 0} {g : segments.Ghosts M} → List (List ℕ) → PathStart M → Step → List Step
+abbrev pub GivesAfter : {M : Type 0} {g : segments.Ghosts M} → List (List ℕ) → PathStart M g → Step → List Step
     → Result (Option (View M g)) StrictRefusal → Type 0
 GivesAfter m start step rest result =
     (demands : Demands) (words depth : ℕ) (first : List Step) → IsStart demands m words depth first start
     → IsGiven demands m words depth (first ++ step ∷ rest) result
+
+-- The first steps lead to the list of structs of these elements, without a fault.
+pub record AreElements {M : Type 0} {g : segments.Ghosts M} (m : List (List ℕ)) (start : PathStart M g) (e : StructElements M g)
+    : Type 0 where
+  pub at : Arrival
+  pub way : start.way ≡ To at
+  pub strict : HasNoFaultBy start.demands (length m) at.lax
+  pub kind : at.found.kind ≡ Structs e.count e.data_words e.pointers
+  pub segment : e.segment ≡ at.found.place.segment
+  pub first : e.first ≡ at.found.place.start + 1
+  pub left : e.left ≡ start.words - at.spent
+  pub level : e.level ≡ at.level + 2
+  pub depth : e.depth ≡ start.depth
+
+-- Element i of the list, and what pointer j of it leads to, is what paths from there give.
+abbrev pub GivesElement : {M : Type 0} {g : segments.Ghosts M} → List (List ℕ) → StructElements M g → ℕ → View M g → Type 0
+GivesElement {M} {g} m e i v = (start : PathStart M g) → AreElements m start e → GivesAfter m start (Item i) [] (Ok (Some v))
+
+abbrev pub GivesPointer : {M : Type 0} {g : segments.Ghosts M} → List (List ℕ) → StructElements M g → ℕ → ℕ → View M g → Type 0
+GivesPointer {M} {g} m e i j v = (start : PathStart M g) → AreElements m start e → GivesAfter m start (Item i) (Ptr j ∷ []) (Ok (Some v))

@@ -26,6 +26,7 @@ pub use nodes::node::Node;
 pub use nodes::path_start::PathStart;
 pub use nodes::place::Place;
 pub use nodes::step_source::StepSource;
+pub use nodes::struct_elements::StructElements;
 pub use nodes::vetted::Vetted;
 pub use nodes::view::View;
 pub use report::Report;

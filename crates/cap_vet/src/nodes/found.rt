@@ -3,9 +3,9 @@
 ghost use Rattle.cap_ptr.specs.Shapes.{FindsTarget, IsFollowed};
 ghost use Rattle.cap_spec.specs.Following.{Wrong};
 ghost use Rattle.cap_spec.specs.Messages.{IsMessage, segment_of};
-ghost use Rattle.cap_spec.specs.Paths.{Spot as Where, word};
+ghost use Rattle.cap_spec.specs.Paths.{word};
 ghost use Rattle.cap_spec.specs.declared.Reason.{Reason};
-ghost use Rattle.cap_vet.specs.Finding.{IsFound, IsStep, element_of, kind_of_shape};
+ghost use Rattle.cap_vet.specs.Finding.{IsFound, IsSomewhere, IsStep, element_of, kind_of_shape};
 ghost use Rattle.std.specs.Prelude.{◌<◌, ◌≡◌, List, length, ℕ};
 
 use crate::nodes::place::Place;
@@ -53,7 +53,7 @@ impl Found {
     /// Where a step leads from there.
     #[inline(always)]
     pub(crate) fn step(&self, step: Step) -> Option<Spot>
-        requires { (m : List (List ℕ)) × (a : Where) × IsMessage m × IsFound m a self.now }
+        requires { IsSomewhere self.now }
         ensures { IsStep self.now step result }
     {
         match step {
@@ -65,7 +65,7 @@ impl Found {
     // The pointer of a struct.
     #[inline(always)]
     fn pointer(&self, i: u16) -> Option<Spot>
-        requires { (m : List (List ℕ)) × (a : Where) × IsMessage m × IsFound m a self.now }
+        requires { IsSomewhere self.now }
         ensures { IsStep self.now (Step.Ptr i) result }
     {
         let Kind::Struct {
@@ -87,7 +87,7 @@ impl Found {
     // The element of a list of pointers or of structs.
     #[inline(always)]
     fn item(&self, i: u32) -> Option<Spot>
-        requires { (m : List (List ℕ)) × (a : Where) × IsMessage m × IsFound m a self.now }
+        requires { IsSomewhere self.now }
         ensures { IsStep self.now (Step.Item i) result }
     {
         match self.kind {
@@ -140,9 +140,9 @@ pub(crate) fn found_of(followed: Followed) -> Found
     }
 }
 
-// The object that a pointer word leads to.
+/// The object that a pointer word leads to.
 #[inline(always)]
-fn object(target: Target) -> Found
+pub(crate) fn object(target: Target) -> Found
     ensures { (m : List (List ℕ)) (s w : ℕ) →
         FindsTarget m s w target → IsFound m (word s w) result }
 {

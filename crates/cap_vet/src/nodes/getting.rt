@@ -10,12 +10,13 @@ ghost use Rattle.cap_vet.specs.Demands.{words_under};
 ghost use Rattle.cap_vet.specs.Handles.{kept_place, view_kind, view_message};
 ghost use Rattle.cap_vet.specs.Limits.{depth_of, words_of};
 ghost use Rattle.cap_vet.specs.PathDemands.{IsPathFault, MeetsOnPath};
-ghost use Rattle.cap_vet.specs.PathWays.{HasFound, IsGiven, IsWay};
+ghost use Rattle.cap_vet.specs.PathWays.{IsGiven};
+ghost use Rattle.cap_vet.specs.Ways.{HasFound, IsSomeWay, IsWay, SomeArrives};
 ghost use Rattle.std.specs.Prelude.{◌++◌, ◌≡◌, Err, IfErr, IfNone, IfOk, IfSome, IsOk, List, ℕ};
 
 use crate::demands::{Demands, limits_under};
 use crate::limits::Limits;
-use crate::nodes::charged::{Arrival, at_root};
+use crate::nodes::charged::{Arrival, at_root, at_root_near};
 use crate::nodes::step_source::StepSource;
 use crate::nodes::view::View;
 use crate::nodes::way::Way;
@@ -111,7 +112,49 @@ pub(crate) fn follow_path<M: Segments, S: StepSource + Copy>(
 ) -> Way
     ensures way { (steps : List Step) → S.gives path steps →
         IsWay (M.segments message.now) words depth steps result }
-    ensures found { HasFound (M.segments message.now) result }
+    ensures leads { IsSomeWay (M.segments message.now) words depth result }
+{
+    // Most paths arrive somewhere by such looks alone, which need no memory.
+    match follow_near(message, words, depth, path) {
+        Some(at) => Way::To(at),
+        None => follow_any(message, words, depth, path),
+    }
+}
+
+// Follows a path from the root, if a look at each pointer on it shows where that leads.
+#[inline(always)]
+fn follow_near<M: Segments, S: StepSource + Copy>(
+    message: &M,
+    words: u64,
+    depth: u32,
+    path: S,
+) -> Option<Arrival>
+    ensures way { (steps : List Step) → S.gives path steps →
+        IfSome result (λ at. IsWay (M.segments message.now) words depth steps (Way.To at)) }
+    ensures leads { IfSome result (SomeArrives (M.segments message.now) words depth) }
+{
+    let mut at = at_root_near(message, words, depth)?;
+    let mut left = path;
+    while let Some(step) = left.next_step() {
+        match at.step_near(message, words, depth, step) {
+            Some(next) => at = next,
+            None => return None,
+        }
+    }
+    Some(at)
+}
+
+// Follows any path from the root as far as it leads.
+#[inline(never)]
+fn follow_any<M: Segments, S: StepSource + Copy>(
+    message: &M,
+    words: u64,
+    depth: u32,
+    path: S,
+) -> Way
+    ensures way { (steps : List Step) → S.gives path steps →
+        IsWay (M.segments message.now) words depth steps result }
+    ensures leads { IsSomeWay (M.segments message.now) words depth result }
 {
     match at_root(message, words, depth) {
         Ok(root) => along(message, words, depth, root, path),
@@ -128,12 +171,11 @@ pub(crate) fn along<M: Segments, S: StepSource + Copy>(
     from: Arrival,
     rest: S,
 ) -> Way
-    requires arrived { let m = M.segments message.now in
-        (first : List Step) × (a : Where) × Arrives m words depth first a from }
+    requires arrived { SomeArrives (M.segments message.now) words depth from }
     ensures way { let m = M.segments message.now in
         (first steps : List Step) (a : Where) → Arrives m words depth first a from →
         S.gives rest steps → IsWay m words depth (first ++ steps) result }
-    ensures found { HasFound (M.segments message.now) result }
+    ensures leads { IsSomeWay (M.segments message.now) words depth result }
 {
     let mut left = rest;
     let mut at = from;

@@ -1,20 +1,20 @@
 //! The first steps that several paths have in common.
 
 ghost use Rattle.cap_spec.specs.declared.Step.{Step};
-ghost use Rattle.cap_vet.specs.Handles.{view_message};
 ghost use Rattle.cap_vet.specs.Limits.{depth_of, words_of};
-ghost use Rattle.cap_vet.specs.PathWays.{GivesAfter, IsStart, start_message};
-ghost use Rattle.cap_vet.specs.declared.demands.Demands.{Demands};
-ghost use Rattle.std.specs.Prelude.{◌≡◌, ⊤, IfOk, IfSome, List, ℕ};
+ghost use Rattle.cap_vet.specs.Ways.{IsSomeWay};
+ghost use Rattle.std.specs.Prelude.{◌≡◌, ⊤, List};
 
 use crate::demands::{Demands, limits_under};
 use crate::limits::Limits;
 use crate::nodes::getting::{along, follow_path, given};
 use crate::nodes::step_source::StepSource;
+use crate::nodes::struct_elements::StructElements;
 use crate::nodes::view::View;
 use crate::nodes::way::Way;
+use crate::strictness::path_strictness::strict_fault;
 use cap_frame::Segments;
-use cap_spec::{Step, StrictRefusal};
+use cap_spec::{Kind, Step, StrictRefusal};
 use std::alloc::AllocError;
 
 /// The first steps of several paths in a message that needn't be vetted, and where they lead
@@ -26,6 +26,7 @@ pub struct PathStart<'m, M: Segments> {
     words: u64,
     depth: u32,
     way: Way,
+    ghost leads: { IsSomeWay (M.segments message.now) words depth way },
 }
 
 impl<'m, M: Segments> Clone for PathStart<'m, M> {
@@ -41,6 +42,10 @@ impl<'m, M: Segments> Clone for PathStart<'m, M> {
 impl<'m, M: Segments> Copy for PathStart<'m, M> {}
 
 impl<'m, M: Segments> PathStart<'m, M> {
+    ghost use Rattle.cap_vet.specs.Handles.{view_message};
+    ghost use Rattle.cap_vet.specs.PathWays.{AreElements, GivesAfter, IsStart, elements_message, start_message};
+    ghost use Rattle.std.specs.Prelude.{IfOk, IfSome};
+
     /// Follows the first steps of several paths. The limits and demands are those of
     /// [`crate::get_with`], and apply to each of the paths by itself. Allocates nothing.
     pub fn new<S: StepSource + Copy>(
@@ -66,6 +71,40 @@ impl<'m, M: Segments> PathStart<'m, M> {
         }
     }
 
+    /// The elements of the list of structs that the first steps lead to. `None` if they lead to none,
+    /// or if a pointer on them isn't strict where that is demanded. Allocates nothing.
+    pub fn elements(&self) -> Option<StructElements<'m, M>>
+        ensures elements { let m = M.segments (start_message self.now) in
+            IfSome result (AreElements m self.now) }
+        ensures message { IfSome result (λ e. elements_message e ≡ start_message self.now) }
+    {
+        let Way::To(at) = self.way else {
+            return None;
+        };
+        let Kind::Structs {
+            count,
+            data_words,
+            pointers,
+        } = at.found.kind
+        else {
+            return None;
+        };
+        match strict_fault(self.message, self.demands, at.lax) {
+            Some(_) => None,
+            None => Some(StructElements {
+                message: self.message,
+                segment: at.found.place.segment,
+                first: at.found.place.start + 1,
+                count,
+                data_words,
+                pointers,
+                left: self.words - at.spent,
+                level: at.level + 2,
+                depth: self.depth,
+            }),
+        }
+    }
+
     /// Goes on with one step more and then with the `rest`, and gives what [`crate::get_with`] gives
     /// for the path of all the steps. Allocates nothing.
     ///
@@ -78,9 +117,6 @@ impl<'m, M: Segments> PathStart<'m, M> {
         step: Step,
         rest: S,
     ) -> Result<Option<View<'m, M>>, StrictRefusal>
-        requires { let m = M.segments (start_message self.now) in
-            (demands : Demands) × (words depth : ℕ) × (first : List Step)
-            × IsStart demands m words depth first self.now }
         ensures given { let m = M.segments (start_message self.now) in
             (steps : List Step) → S.gives rest steps → GivesAfter m self.now step steps result }
         ensures message { IfOk result (λ o. IfSome o (λ v.

@@ -114,3 +114,8 @@ returns-in-Err-step-clause-unchanged g c = c.loop-step.invariant.kept
 
 pub returns-clause-none : goal.returns-clause-none
 returns-clause-none g c = tt
+
+pub step-requires-clause-arrived : goal.step-requires-clause-arrived
+step-requires-clause-arrived g c =
+    let h = c.loop-step.invariant.arrived in
+    ∣ (take c.loop-step.step-index c.args.path.now, h.0, h.1) ∣₁

@@ -1,11 +1,12 @@
 -- The path is followed step by step.
 use Rattle.std.proofs.Common.{◌∙◌, ◌++◌, ◌∷◌, [], List, ap, arith, refl, subst, sym, append_assoc, append-nil}
+use Rattle.std.proofs.Math.Logic.{∥∥₁_map}
 use Rattle.cap_spec.specs.declared.Step.{Step}
 use Rattle.cap_vet.specs.Charging.{Arrives}
-use Rattle.cap_vet.specs.PathWays.{IsWay}
+use Rattle.cap_vet.specs.Ways.{IsWay}
 use Rattle.cap_vet.specs.declared.nodes.way.Way.TheVariants.{To, Nowhere, Refused}
-use Rattle.cap_vet.proofs.Charging.{arrives_low}
 use Rattle.cap_vet.proofs.PathWays.{all_steps, done_steps, step_nowhere, step_refused}
+use Rattle.cap_vet.proofs.Somewhere.{arrival_few, arrival_levels}
 use Rattle.cap_vet.proofs.StepsGiven.{no_step_given, step_given}
 use Rattle.cap_vet.proofs.nodes.getting.along.Goals as goal
 
@@ -19,25 +20,17 @@ loop-step-init g c =
 
 pub step-requires-clause-arrived : goal.step-requires-clause-arrived
 step-requires-clause-arrived g c =
-    let r = c.requires.arrived in
     let h = c.loop-step.invariant in
-    let x = h.1 r.0 r.1 r.2 in
-    (r.0 ++ h.0, x.0, x.1)
+    ∥∥₁_map c.requires.arrived (λ r. let x = h.1 r.0 r.1 r.2 in (r.0 ++ h.0, x.0, x.1))
 
 pub step-requires-clause-levels : goal.step-requires-clause-levels
 step-requires-clause-levels g c =
-    let r = c.requires.arrived in
-    let h = c.loop-step.invariant in
-    let x = h.1 r.0 r.1 r.2 in
-    let l = (arrives_low _ _ _ (r.0 ++ h.0) x.0 _ x.1).0 in
+    let l = arrival_levels _ _ _ c.loop-step.at (step-requires-clause-arrived g c) in
     omega (arith, l)
 
 pub step-requires-clause-few : goal.step-requires-clause-few
 step-requires-clause-few g c =
-    let r = c.requires.arrived in
-    let h = c.loop-step.invariant in
-    let x = h.1 r.0 r.1 r.2 in
-    let l = (arrives_low _ _ _ (r.0 ++ h.0) x.0 _ x.1).1 in
+    let l = arrival_few _ _ _ c.loop-step.at (step-requires-clause-arrived g c) in
     omega (arith, l)
 
 pub loop-step-preserved : goal.loop-step-preserved
@@ -91,8 +84,29 @@ returns-clause-way g c = λ first steps a arrives left.
     let none = no_step_given g.S.StepSource.gives c.loop-step.left c.next_step.new.self c.next_step.result k.0 c.in_default.is c.next_step.ensures.some k.2 in
     subst (λ (ss : List Step). IsWay m c.args.words c.args.depth ss (To c.loop-step.at)) (done_steps first h.0 steps k.0 k.1 none) (x.0, x.1)
 
-pub returns-clause-found : goal.returns-clause-found
-returns-clause-found g c =
-    let r = c.requires.arrived in
-    let x = c.loop-step.invariant.1 r.0 r.1 r.2 in
-    (x.0, x.1.found)
+pub returns-clause-leads : goal.returns-clause-leads
+returns-clause-leads g c =
+    let h = c.loop-step.invariant in
+    ∥∥₁_map c.requires.arrived (λ r. (r.0 ++ h.0, h.1 r.0 r.1 r.2))
+
+pub returns-in-Ok-None-clause-leads : goal.returns-in-Ok-None-clause-leads
+returns-in-Ok-None-clause-leads g c =
+    let m = g.M.Segments.segments c.args.message.now in
+    let h = c.loop-step.invariant in
+    let step = c.in-Some.step in
+    ∥∥₁_map c.requires.arrived (λ r.
+    let x = h.1 r.0 r.1 r.2 in
+    let none = rw c.in-Ok-None.field-0-is at (c.in-Ok-None.ensures.none (r.0 ++ h.0) x.0 x.1) in
+    ((r.0 ++ h.0) ++ step ∷ [], step_nowhere m c.args.words c.args.depth (r.0 ++ h.0) [] step x.0 c.loop-step.at x.1 none))
+
+pub returns-in-Err-clause-leads : goal.returns-in-Err-clause-leads
+returns-in-Err-clause-leads g c =
+    let m = g.M.Segments.segments c.args.message.now in
+    let h = c.loop-step.invariant in
+    let step = c.in-Some.step in
+    ∥∥₁_map c.requires.arrived (λ r.
+    let x = h.1 r.0 r.1 r.2 in (
+      (r.0 ++ h.0) ++ step ∷ [],
+      step_refused m c.args.words c.args.depth (r.0 ++ h.0) [] step c.in-Err.refusal
+          (c.in-Err.ensures.err (r.0 ++ h.0) x.0 x.1),
+    ))

@@ -1,13 +1,9 @@
--- A path is followed from the root on.
-use Rattle.std.proofs.Common.{[]}
-use Rattle.cap_spec.specs.Paths.{word}
+-- A look at each pointer shows the way, or else the path is followed.
+use Rattle.std.proofs.Math.Logic.{∥∥₁_map}
 use Rattle.cap_vet.proofs.nodes.getting.follow_path.Goals as goal
 
-pub along-requires : goal.along-requires
-along-requires g c = record { arrived = ([], word 0 0, c.in-Ok.ensures.ok) }
+pub returns-in-Some-clause-way : goal.returns-in-Some-clause-way
+returns-in-Some-clause-way g c = λ steps left. c.in-Some.ensures.way steps left
 
-pub returns-in-Ok-clause-way : goal.returns-in-Ok-clause-way
-returns-in-Ok-clause-way g c = λ steps left. c.along.ensures.way [] steps (word 0 0) c.in-Ok.ensures.ok left
-
-pub returns-in-Err-clause-way : goal.returns-in-Err-clause-way
-returns-in-Err-clause-way g c = λ steps left. c.in-Err.ensures.err steps
+pub returns-in-Some-clause-leads : goal.returns-in-Some-clause-leads
+returns-in-Some-clause-leads g c = ∥∥₁_map c.in-Some.ensures.leads (λ r. (r.0, (r.1, r.2)))

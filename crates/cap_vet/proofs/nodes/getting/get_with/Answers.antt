@@ -1,7 +1,11 @@
 -- What is given for the path is given where it leads.
 use Rattle.std.proofs.Common.{◌∙◌}
 use Rattle.cap_vet.proofs.PathWays.{given_accepts, given_refuses, way_as}
+use Rattle.cap_vet.proofs.Somewhere.{way_found}
 use Rattle.cap_vet.proofs.nodes.getting.get_with.Goals as goal
+
+pub given-requires : goal.given-requires
+given-requires g c = record { found = way_found _ _ _ _ c.follow_path-way.ensures.leads }
 
 pub returns-clause-meets : goal.returns-clause-meets
 returns-clause-meets g c = λ steps left.

@@ -5,6 +5,7 @@ use Rattle.cap_spec.specs.Paths.{word, element}
 use Rattle.cap_ptr.specs.Shapes.{charge_of}
 use Rattle.cap_vet.proofs.Charging.{arrives_element, arrives_word, fault_word}
 use Rattle.cap_vet.proofs.Looks.{followed_costs, followed_shallow}
+use Rattle.cap_vet.proofs.Somewhere.{arrival_somewhere, arrival_within, step_exists, step_inside}
 use Rattle.cap_vet.proofs.nodes.charged.Arrival.step.Goals as goal
 
 pub returns-in-None-clause-none : goal.returns-in-None-clause-none
@@ -43,3 +44,28 @@ returns-in-Some-Element-clause-some g c = λ path a h.
       arrives_element m _ _ path a c.args.self.now _ c.args.step e.segment e.start e.data_words e.pointers h goes.0 goes.1.0 goes.1.1
           c.element.ensures level refl refl refl,
     )
+
+pub step-requires : goal.step-requires
+step-requires g c =
+    let m = g.M.Segments.segments c.args.message.now in
+    let message : IsMessage m = search rules in
+    arrival_somewhere m _ _ c.args.self.now c.requires.arrived message
+
+pub follow_within-requires-clause-exists : goal.follow_within-requires-clause-exists
+follow_within-requires-clause-exists g c =
+    step_exists _ _ _ c.args.self.now c.requires.arrived c.args.step _ _ (rw c.in-Some-Word.field-0-is at c.in-Some-Word.ensures)
+
+pub follow_within-requires-clause-inside : goal.follow_within-requires-clause-inside
+follow_within-requires-clause-inside g c =
+    step_inside _ _ _ c.args.self.now c.requires.arrived c.args.step _ _ (rw c.in-Some-Word.field-0-is at c.in-Some-Word.ensures)
+
+pub first_lax-requires-clause-exists : goal.first_lax-requires-clause-exists
+first_lax-requires-clause-exists g c =
+    step_exists _ _ _ c.args.self.now c.requires.arrived c.args.step _ _ (rw c.in-Some-Word.field-0-is at c.in-Some-Word.ensures)
+
+pub first_lax-requires-clause-inside : goal.first_lax-requires-clause-inside
+first_lax-requires-clause-inside g c =
+    step_inside _ _ _ c.args.self.now c.requires.arrived c.args.step _ _ (rw c.in-Some-Word.field-0-is at c.in-Some-Word.ensures)
+
+pub overflow_sub-left : goal.overflow_sub-left
+overflow_sub-left g c = let l = arrival_within _ _ _ c.args.self.now c.requires.arrived in omega (arith, l)

@@ -1,3 +1,5 @@
+use Rattle.std.proofs.Common.{rules}
+use Rattle.cap_spec.specs.Messages.{IsMessage}
 use Rattle.cap_vet.proofs.NodeSteps.{next_node, no_part, part_stands}
 use Rattle.cap_vet.proofs.nodes.node.Node.child.Goals as goal
 
@@ -17,3 +19,9 @@ returns-in_err-next-clause-none g c = rw c.from_residual.ensures (c.in_err-next.
 
 pub returns-in_err-next-clause-part : goal.returns-in_err-next-clause-part
 returns-in_err-next-clause-part g c = rw c.from_residual.ensures (λ t h. no_part _ _ _ t (c.in_err-next.ensures _ _ c.found.ensures) h)
+
+pub step-requires : goal.step-requires
+step-requires g c =
+    let m = g.M.Segments.segments c.args.self.now.message.now in
+    let message : IsMessage m = search rules in
+    ∣ (m, _, message, c.found.ensures) ∣₁

@@ -1,23 +1,44 @@
 -- The path goes on from the first steps.
-use Rattle.std.proofs.Common.{◌++◌, ◌∷◌, [], subst, sym}
-use Rattle.cap_vet.specs.PathWays.{IsWay}
+use Rattle.std.proofs.Common.{◌++◌, ◌∷◌, [], arith, subst, sym}
+use Rattle.std.proofs.Math.Logic.{∥∥₁_map}
+use Rattle.cap_vet.specs.Ways.{HasFound, IsWay}
 use Rattle.cap_vet.specs.declared.nodes.way.Way.{Way}
 use Rattle.cap_vet.proofs.PathWays.{given_after, nowhere_longer, refused_longer, step_nowhere, step_on, step_refused}
+use Rattle.cap_vet.proofs.Somewhere.{arrival_few, arrival_levels, way_arrives, way_found}
 use Rattle.cap_vet.proofs.nodes.path_start.PathStart.get.Goals as goal
 use Rattle.cap_vet.proofs.nodes.path_start.PathStart.get.Goals.{in-To+in-Ok-Some, in-To+in-Ok-None, in-To+in-Err, in-Nowhere, in-Refused}
 
 pub step-requires-clause-arrived : goal.step-requires-clause-arrived
-step-requires-clause-arrived g c =
-    let r = c.requires in
-    let h = rw c.in-To.is at r.4.way in
-    (r.3, h.0, h.1)
+step-requires-clause-arrived g c = way_arrives _ _ _ _ c.in-To.at c.args.self.now.leads c.in-To.is
+
+pub step-requires-clause-levels : goal.step-requires-clause-levels
+step-requires-clause-levels g c =
+    let l = arrival_levels _ _ _ c.in-To.at (step-requires-clause-arrived g c) in
+    omega (arith, l)
+
+pub step-requires-clause-few : goal.step-requires-clause-few
+step-requires-clause-few g c =
+    let l = arrival_few _ _ _ c.in-To.at (step-requires-clause-arrived g c) in
+    omega (arith, l)
 
 pub along-requires : goal.along-requires
-along-requires g c =
-    let r = c.requires in
-    let h = rw c.in-To.is at r.4.way in
-    let next = rw c.in-Ok-Some.field-0-is at (c.in-Ok-Some.ensures.some r.3 h.0 h.1) in
-    record { arrived = (r.3 ++ c.args.step ∷ [], next.0, next.1) }
+along-requires g c = record {
+  arrived = ∥∥₁_map (way_arrives _ _ _ _ c.in-To.at c.args.self.now.leads c.in-To.is) (λ r.
+      let next = rw c.in-Ok-Some.field-0-is at (c.in-Ok-Some.ensures.some r.0 r.1 r.2) in
+      (r.0 ++ c.args.step ∷ [], next.0, next.1));
+}
+
+pub given-requires : goal.given-requires
+given-requires g c =
+    let start = c.args.self.now in
+    let m = g.M.Segments.segments start.message.now in
+    elim c.match-self.branch [
+      | in-To+in-Ok-Some w ↦ record { found = subst (λ (x : Way). HasFound m x) (sym w.way'-is) (way_found m start.words start.depth _ w.along.ensures.leads) }
+      | in-To+in-Ok-None w ↦ record { found = subst (λ (x : Way). HasFound m x) (sym w.way'-is) tt }
+      | in-To+in-Err w ↦ record { found = subst (λ (x : Way). HasFound m x) (sym w.way'-is) tt }
+      | in-Nowhere w ↦ record { found = subst (λ (x : Way). HasFound m x) (sym w.way'-is) tt }
+      | in-Refused w ↦ record { found = subst (λ (x : Way). HasFound m x) (sym w.way'-is) tt }
+    ]
 
 pub returns-clause-given : goal.returns-clause-given
 returns-clause-given g c = λ steps left.

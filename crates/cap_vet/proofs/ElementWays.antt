@@ -1,0 +1,118 @@
+-- Paths that go on at the elements of a list of structs.
+use Rattle.std.proofs.Common.{◌≡◌, ℕ, ◌+◌, ◌-◌, ◌*◌, ◌<◌, ◌≤◌, ◌^◌, List, [], ◌∷◌, ◌++◌, Ok, Some, None, Option, append_assoc, length, refl, subst, sym, ◌∙◌, ap, arith}
+use Rattle.std.proofs.Math.Nat.{mul-le-mul_right}
+use Rattle.cap_frame.specs.declared.segments.Segments as segments
+use Rattle.cap_spec.specs.Denoting.{element_levels}
+use Rattle.cap_spec.specs.Faults.{IsDeepAt}
+use Rattle.cap_spec.specs.Messages.{IsMessage, segment_of}
+use Rattle.cap_spec.specs.Paths.{Goes, Spot, word, element}
+use Rattle.cap_spec.specs.declared.Kind.TheVariants.{Struct, Structs}
+use Rattle.cap_spec.specs.declared.Step.{Step}
+use Rattle.cap_spec.specs.declared.Step.TheVariants.{Item, Ptr}
+use Rattle.cap_vet.specs.Charging.{Arrives}
+use Rattle.cap_vet.specs.Demands.{words_under}
+use Rattle.cap_vet.specs.Finding.{element_of}
+use Rattle.cap_vet.specs.NearFinding.{FindsNear}
+use Rattle.cap_vet.specs.PathStrictness.{AddsPointer, HasNoFaultBy}
+use Rattle.cap_vet.specs.PathWays.{AreElements, GivesAfter, IsStart}
+use Rattle.cap_vet.specs.Looking.{IsNotLax}
+use Rattle.cap_vet.specs.Ways.{IsWay, SomeArrives}
+use Rattle.cap_vet.specs.declared.demands.Demands.{Demands}
+use Rattle.cap_vet.specs.declared.nodes.charged.Arrival.{Arrival}
+use Rattle.cap_vet.specs.declared.nodes.found.Found.{Found}
+use Rattle.cap_vet.specs.declared.nodes.path_start.PathStart.{PathStart}
+use Rattle.cap_vet.specs.declared.nodes.struct_elements.StructElements.{StructElements}
+use Rattle.cap_vet.specs.declared.nodes.view.View.{View}
+use Rattle.cap_vet.specs.declared.nodes.way.Way.{Way}
+use Rattle.cap_vet.specs.declared.nodes.way.Way.TheVariants.{To}
+use Rattle.cap_vet.specs.declared.strictness.strict_turn.LaxPointer.{LaxPointer}
+use Rattle.cap_vet.proofs.Charging.{arrives_element, arrives_word}
+use Rattle.cap_vet.proofs.PathWays.{something_given, way_as}
+use Rattle.cap_vet.proofs.Stepping.{element_goes, pointer_goes}
+
+-- a pointer that isn't lax changes nothing
+pub adds_strict : (m : List (List ℕ)) (s w n : ℕ) (lax : Option LaxPointer) → IsNotLax m s w → AddsPointer m s w n lax lax
+adds_strict m s w n None strict = strict
+adds_strict m s w n (Some first) strict = refl
+
+-- what the path to element i arrives at, from the list at `at`
+abbrev element_spot : {M : Type 0} {g : segments.Ghosts M} → StructElements M g → ℕ → Spot
+element_spot e i = element e.segment (e.first + i * (e.data_words + e.pointers)) e.data_words e.pointers
+
+abbrev element_arrival : {M : Type 0} {g : segments.Ghosts M} → Arrival → StructElements M g → ℕ → Arrival
+element_arrival at e i =
+    record {
+      found = element_of e.segment (e.first + i * (e.data_words + e.pointers)) e.data_words e.pointers;
+      level = at.level + 1;
+      spent = at.spent;
+      pointers = at.pointers;
+      lax = at.lax;
+    }
+
+-- and what the path to a pointer of it arrives at
+abbrev pointer_arrival : Arrival → Found → ℕ → Arrival
+pointer_arrival at f cost =
+    record { found = f; level = at.level + 1; spent = at.spent + cost; pointers = at.pointers + 1; lax = at.lax }
+
+module _ {M : Type 0} {g : segments.Ghosts M} (m : List (List ℕ)) (start : PathStart M g) (e : StructElements M g) (v : View M g)
+    (are : AreElements m start e) (exists : e.segment < length m) (i : ℕ) (lt : i < e.count)
+    (inside : e.first + i * (e.data_words + e.pointers) + e.data_words + e.pointers ≤ length (segment_of m e.segment)) where
+  element_arrives : (first : List Step) → IsWay m start.words start.depth first start.way
+      → Arrives m start.words start.depth (first ++ Item i ∷ []) (element_spot e i) (element_arrival are.at e i)
+  element_arrives first way =
+      let there : IsWay m start.words start.depth first (To are.at) =
+      subst (λ (x : Way). IsWay m start.words start.depth first x) are.way way in
+      let goes : Goes m there.0 (Item i) (element_spot e i) =
+      rw (are.segment, are.first) (element_goes m there.0 are.at.found e.count e.data_words e.pointers i there.1.found are.kind lt) in
+      arrives_element m start.words start.depth first there.0 are.at (element_arrival are.at e i) (Item i) e.segment
+          (e.first + i * (e.data_words + e.pointers)) e.data_words e.pointers there.1 goes exists inside refl refl refl refl refl
+
+  -- A path on that arrives where the view is, without a lax pointer more, gives the view.
+  gives : (rest : List Step) (a : Spot) (at : Arrival) → at.lax ≡ are.at.lax → v.found ≡ at.found
+      → ((first : List Step) → IsWay m start.words start.depth first start.way
+      → Arrives m start.words start.depth (first ++ Item i ∷ rest) a at)
+      → GivesAfter m start (Item i) rest (Ok (Some v))
+  gives rest a at lax found leads = λ demands words depth first is.
+      let path = first ++ Item i ∷ rest in
+      let way : IsWay m (words_under demands m words) depth path (To at) =
+      way_as m _ _ _ _ path (To at) is.limit is.deepest (a, leads first is.way) in
+      let none : HasNoFaultBy demands (length m) at.lax =
+      subst (λ (o : Option LaxPointer). HasNoFaultBy demands (length m) o) (sym lax)
+          (subst (λ (d : Demands). HasNoFaultBy d (length m) are.at.lax) is.under are.strict) in
+      something_given demands m words depth path at v found way none
+
+  pub element_given : v.found ≡ element_of e.segment (e.first + i * (e.data_words + e.pointers)) e.data_words e.pointers
+      → GivesAfter m start (Item i) [] (Ok (Some v))
+  element_given found =
+      gives [] (element_spot e i) (element_arrival are.at e i) refl found (λ first way. element_arrives first way)
+
+  -- From an element its pointer arrives there.
+  pointer_arrives : (j w cost : ℕ) → j < e.pointers → w ≡ e.first + i * (e.data_words + e.pointers) + e.data_words + j
+      → FindsNear m e.left e.depth e.segment w e.level v.found cost
+      → (first : List Step) → IsWay m start.words start.depth first start.way
+      → Arrives m start.words start.depth (first ++ Item i ∷ Ptr j ∷ []) (word e.segment w)
+      (pointer_arrival (element_arrival are.at e i) v.found cost)
+  pointer_arrives j w cost few is near first way =
+      let at = element_arrival are.at e i in
+      let a = element_arrives first way in
+      let goes = pointer_goes m (element_spot e i) at.found e.data_words e.pointers j w a.found refl few is in
+      let level : e.level ≡ at.level + 1 = omega (arith, are.level) in
+      let shallow : IsDeepAt m start.depth e.segment w (at.level + 1) → ⊥ =
+      subst (λ x. IsDeepAt m x e.segment w (at.level + 1) → ⊥) are.depth (subst (λ x. IsDeepAt m e.depth e.segment w x → ⊥) level near.shallow) in
+      subst (λ (p : List Step). Arrives m start.words start.depth p (word e.segment w) (pointer_arrival at v.found cost))
+      (append_assoc first (Item i ∷ []) (Ptr j ∷ []))
+      (arrives_word m start.words start.depth (first ++ Item i ∷ []) (element_spot e i) at (Ptr j) e.segment w cost v.found at.lax a goes
+      near.found near.costs (omega (arith, near.within, are.left)) shallow (adds_strict m e.segment w (at.pointers + 1) at.lax near.strict))
+
+  pub pointer_given : (j w cost : ℕ) → j < e.pointers → w ≡ e.first + i * (e.data_words + e.pointers) + e.data_words + j
+      → FindsNear m e.left e.depth e.segment w e.level v.found cost
+      → GivesAfter m start (Item i) (Ptr j ∷ []) (Ok (Some v))
+  pointer_given j w cost few is near =
+      gives (Ptr j ∷ []) (word e.segment w) (pointer_arrival (element_arrival are.at e i) v.found cost) refl refl
+      (λ first way. pointer_arrives j w cost few is near first way)
+
+-- Each element lies among the words of all of them.
+pub element_within : (first n d p i last : ℕ) → first + n * (d + p) ≤ last → i < n → first + i * (d + p) + d + p ≤ last
+element_within first n d p i last inside lt =
+    let some : (i + 1) * (d + p) ≤ n * (d + p) = mul-le-mul_right (d + p) (omega (arith, lt)) in
+    omega (arith, some, inside)
