@@ -24,7 +24,7 @@ path_parts (s ∷ steps) (suc v) k d l =
 
 -- After the first steps the path gives what it gives as a whole.
 pub given_path : {M : Type 0} {g : segments.Ghosts M} (demands : Demands) (m n : List (List ℕ)) (words depth : ℕ) (first rest path : List Step)
-    (step : Step) (start : PathStart M) (r : Result (Option (View M g)) StrictRefusal) → n ≡ m → IsStart demands m words depth first start
+    (step : Step) (start : PathStart M g) (r : Result (Option (View M g)) StrictRefusal) → n ≡ m → IsStart demands m words depth first start
     → path ≡ first ++ step ∷ rest → GivesAfter n start step rest r → IsGiven demands m words depth path r
 given_path demands m n words depth first rest path step start r e is f given =
     subst (λ (x : List (List ℕ)). IsGiven demands x words depth path r) e

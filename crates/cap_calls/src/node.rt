@@ -79,22 +79,8 @@ impl CallNode {
             Kind::Struct {
                 data_words,
                 pointers,
-            } => CallNode {
-                kind: 1,
-                data_words: u32::from(data_words),
-                pointers: u32::from(pointers),
-                offset: before,
-                length: 8 * u64::from(data_words),
-                ..CallNode::none()
-            },
-            Kind::Scalars { code, count } => CallNode {
-                kind: 2,
-                element: u32::from(code),
-                count,
-                offset: before,
-                length: (u64::from(element_bits(code)) * u64::from(count) + 7) / 8,
-                ..CallNode::none()
-            },
+            } => CallNode::of_struct(data_words, pointers, before),
+            Kind::Scalars { code, count } => CallNode::of_values(code, count, before),
             Kind::Pointers { count } => CallNode {
                 kind: 3,
                 element: 6,
@@ -107,6 +93,36 @@ impl CallNode {
                 data_words,
                 pointers,
             } => CallNode::of_structs(count, data_words, pointers, before),
+        }
+    }
+
+    // Of a struct. Its pointers come after its data words.
+    #[inline(always)]
+    fn of_struct(data_words: u16, pointers: u16, before: u64) -> CallNode
+        ensures { result ≡ kind_node (Kind.Struct data_words pointers) before }
+    {
+        CallNode {
+            kind: 1,
+            data_words: u32::from(data_words),
+            pointers: u32::from(pointers),
+            offset: before,
+            length: 8 * u64::from(data_words),
+            ..CallNode::none()
+        }
+    }
+
+    // Of a list of values. The bits past the last of them don't count.
+    #[inline(always)]
+    fn of_values(code: u8, count: u32, before: u64) -> CallNode
+        ensures { result ≡ kind_node (Kind.Scalars code count) before }
+    {
+        CallNode {
+            kind: 2,
+            element: u32::from(code),
+            count,
+            offset: before,
+            length: (u64::from(element_bits(code)) * u64::from(count) + 7) / 8,
+            ..CallNode::none()
         }
     }
 

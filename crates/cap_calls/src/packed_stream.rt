@@ -2,7 +2,7 @@
 
 ghost use Rattle.cap_calls.specs.PackedStreams.{Gives, IsRest, Leads, words_to_come};
 ghost use Rattle.cap_calls.specs.UnpackingMessages.{bytes_needed};
-ghost use Rattle.std.specs.Prelude.{◌+◌, ◌<◌, ◌≡◌, ◌≢◌, ◌≤◌, [], ◌∷◌, IfNone, IfSome, drop, false, length, true};
+ghost use Rattle.std.specs.Prelude.{◌+◌, ◌<◌, ◌≡◌, ◌≢◌, ◌≤◌, [], ◌∷◌, IfNone, IfSome, drop, false, length, slice_index, true};
 
 use cap_pack::lanes::scatter;
 use cap_words::{bytes_of, word_of};
@@ -43,45 +43,76 @@ fn head_of(bytes: &[u8]) -> Option<Head>
         return None;
     }
     match bytes[0] {
-        0 => {
-            if bytes.len() < 2 {
-                return None;
-            }
-            Some(Head {
-                length: 2,
-                word: 0,
-                zeros: u32::from(bytes[1]),
-                literal: 0,
-            })
-        }
-        0xff => {
-            if bytes.len() < 10 {
-                return None;
-            }
-            let mut word = [0; 8];
-            word.copy_from_slice(&bytes[1..9]);
-            Some(Head {
-                length: 10,
-                word: word_of(&word),
-                zeros: 0,
-                literal: u32::from(bytes[9]),
-            })
-        }
-        tag => {
-            let length = 1 + tag.count_ones() as usize;
-            if bytes.len() < length {
-                return None;
-            }
-            let mut present = [0; 8];
-            present[..length - 1].copy_from_slice(&bytes[1..length]);
-            Some(Head {
-                length,
-                word: scatter(tag, &present),
-                zeros: 0,
-                literal: 0,
-            })
-        }
+        0 => zeros_head(bytes),
+        0xff => literal_head(bytes),
+        tag => marked_head(bytes, tag),
     }
+}
+
+// The same of a tag of no bytes, which the number of more words of zeros follows.
+fn zeros_head(bytes: &[u8]) -> Option<Head>
+    requires some { 0 < length bytes.now }
+    requires tag { slice_index bytes.now 0 ≡ 0 }
+    ensures leads { IfSome result (λ h.
+        Leads 0 0 bytes.now (h.word ∷ []) h.length h.zeros h.literal) }
+    ensures left { IfSome result (λ h. IsRest h.zeros h.literal) }
+    ensures none { IfNone result (words_to_come 0 0 bytes.now ≡ []) }
+{
+    if bytes.len() < 2 {
+        return None;
+    }
+    Some(Head {
+        length: 2,
+        word: 0,
+        zeros: u32::from(bytes[1]),
+        literal: 0,
+    })
+}
+
+// Of a tag of all bytes, after whose word the number of more words as they are follows.
+fn literal_head(bytes: &[u8]) -> Option<Head>
+    requires some { 0 < length bytes.now }
+    requires tag { slice_index bytes.now 0 ≡ 255 }
+    ensures leads { IfSome result (λ h.
+        Leads 0 0 bytes.now (h.word ∷ []) h.length h.zeros h.literal) }
+    ensures left { IfSome result (λ h. IsRest h.zeros h.literal) }
+    ensures none { IfNone result (words_to_come 0 0 bytes.now ≡ []) }
+{
+    if bytes.len() < 10 {
+        return None;
+    }
+    let mut word = [0; 8];
+    word.copy_from_slice(&bytes[1..9]);
+    Some(Head {
+        length: 10,
+        word: word_of(&word),
+        zeros: 0,
+        literal: u32::from(bytes[9]),
+    })
+}
+
+// Of any other tag, which its word's bytes other than 0 follow.
+fn marked_head(bytes: &[u8], tag: u8) -> Option<Head>
+    requires some { 0 < length bytes.now }
+    requires tag { slice_index bytes.now 0 ≡ tag }
+    requires marked { (tag ≢ 0) × (tag ≢ 255) }
+    ensures leads { IfSome result (λ h.
+        Leads 0 0 bytes.now (h.word ∷ []) h.length h.zeros h.literal) }
+    ensures left { IfSome result (λ h. IsRest h.zeros h.literal) }
+    ensures none { IfNone result (words_to_come 0 0 bytes.now ≡ []) }
+{
+    let length = 1 + tag.count_ones() as usize;
+    if bytes.len() < length {
+        return None;
+    }
+    let mut present = [0; 8];
+    present[..length - 1].copy_from_slice(&bytes[1..length]);
+    Some(Head {
+        length,
+        word: scatter(tag, &present),
+        zeros: 0,
+        literal: 0,
+    })
 }
 
 // Zero words of a run, as many as there are and the buffer has space for.

@@ -1,15 +1,13 @@
 //! The call for the node at a path.
 
 ghost use Rattle.cap_calls.specs.CallFrames.{AreLimits};
-ghost use Rattle.cap_calls.specs.NodeCalls.{Gets, GetsFirst, TellsGet, TellsPath, bad_path_found, path_found};
+ghost use Rattle.cap_calls.specs.NodeCalls.{GetsFirst, TellsGet, TellsPath, bad_path_found, path_found};
 ghost use Rattle.cap_calls.specs.declared.answer.Answer.{Answer};
 ghost use Rattle.cap_calls.specs.declared.node.CallNode.{CallNode};
 ghost use Rattle.cap_calls.specs.declared.report.CallReport.{CallReport};
-ghost use Rattle.cap_frame.specs.declared.view.ByteView.{ByteView};
 ghost use Rattle.cap_path.specs.PathSteps.{AreLeft};
 ghost use Rattle.cap_spec.specs.declared.Step.{Step};
-ghost use Rattle.cap_vet.specs.Limits.{depth_of, words_of};
-ghost use Rattle.std.specs.Prelude.{◌≡◌, Decides, List, ℕ};
+ghost use Rattle.std.specs.Prelude.{◌≡◌, Decides, List, slice_set, ℕ};
 
 use crate::answer::Answer;
 use crate::found::Found;
@@ -125,29 +123,30 @@ impl<'t> Call for Getting<'t> {
         demands: Demands,
         out: &mut [CallNode],
     ) -> Found {
-        let (found, node) = at_path(view, limits, demands, self.steps);
-        if !out.is_empty() {
-            out[0] = node;
+        match get_with(view, limits, demands, self.steps) {
+            Ok(Some(at)) => {
+                put_first(out, CallNode::of(&at, view.count()));
+                path_answer(Answer::Good)
+            }
+            Ok(None) => {
+                put_first(out, CallNode::none());
+                path_answer(Answer::NoNode)
+            }
+            Err(refusal) => {
+                put_first(out, CallNode::none());
+                Found::refused(refusal)
+            }
         }
-        found
     }
 }
 
-// What is found of the path of these steps, and the node there.
-fn at_path<'b>(
-    view: &ByteView<'b>,
-    limits: Limits,
-    demands: Demands,
-    steps: PathSteps<'_>,
-) -> (Found, CallNode)
-    ensures { let m = ⟦<ByteView<'b> as Segments>⟧.segments view.now in
-        (path : List Step) → AreLeft steps.entry path →
-        Gets path result.1 demands m (words_of limits) (depth_of limits) result.0 }
+// Puts a node into the first of some nodes, if there is one.
+#[inline(always)]
+fn put_first(out: &mut [CallNode], node: CallNode)
+    ensures { out.new ≡ slice_set out.old 0 node }
 {
-    match get_with(view, limits, demands, steps) {
-        Ok(Some(at)) => (path_answer(Answer::Good), CallNode::of(&at, view.count())),
-        Ok(None) => (path_answer(Answer::NoNode), CallNode::none()),
-        Err(refusal) => (Found::refused(refusal), CallNode::none()),
+    if !out.is_empty() {
+        out[0] = node;
     }
 }
 

@@ -240,36 +240,51 @@ fn stop_of(rest: &[u8], given: Given, stage: Stage, state: Unpacking) -> Stop
     };
     match stage {
         Stage::Open { wanted } => open_stop(rest, given, wanted, stop),
-        Stage::Whole { segments } => Stop {
-            answer: Answer::Good,
-            required: given.written,
-            state: Unpacking {
-                written: 0,
-                ..stop.state
-            },
-            report: CallReport {
-                length: given.written as u64,
-                segments,
-                ..stop.report
-            },
-            ..stop
+        Stage::Whole { segments } => whole_stop(given.written, segments, stop),
+        Stage::TooMany { count } => refused_stop(Answer::TooManySegments, count, stop),
+        Stage::TooLarge { words } => refused_stop(Answer::TooLarge, words, stop),
+    }
+}
+
+// After a whole message of this many bytes and segments.
+fn whole_stop(bytes: usize, segments: u32, stop: Stop) -> Stop
+    ensures { result ≡ record stop {
+      answer = Answer.Good;
+      required = bytes;
+      state = record stop.state { written = 0 };
+      report = record stop.report { length = bytes; segments = segments };
+    } }
+{
+    Stop {
+        answer: Answer::Good,
+        required: bytes,
+        state: Unpacking {
+            written: 0,
+            ..stop.state
         },
-        Stage::TooMany { count } => Stop {
-            answer: Answer::TooManySegments,
-            report: CallReport {
-                detail: count,
-                ..stop.report
-            },
-            ..stop
+        report: CallReport {
+            length: bytes as u64,
+            segments,
+            ..stop.report
         },
-        Stage::TooLarge { words } => Stop {
-            answer: Answer::TooLarge,
-            report: CallReport {
-                detail: words,
-                ..stop.report
-            },
-            ..stop
+        ..stop
+    }
+}
+
+// At a message that is refused, for this many segments or words.
+fn refused_stop(answer: Answer, detail: u64, stop: Stop) -> Stop
+    ensures { result ≡ record stop {
+      answer = answer;
+      report = record stop.report { detail = detail };
+    } }
+{
+    Stop {
+        answer,
+        report: CallReport {
+            detail,
+            ..stop.report
         },
+        ..stop
     }
 }
 

@@ -16,18 +16,19 @@ pub returns-in-Whole-clause-stops : goal.returns-in-Whole-clause-stops
 returns-in-Whole-clause-stops c = λ limit size held e.
     let t = subst (λ (s : Stage). IsEnd limit size held c.args.rest.now c.args.given s) c.in-Whole.is e in
     let m = t.is_stage.0 in
-    whole m (subst (λ (k : ℕ). IsFront limit held m k) (t.exact m t.is_stage.1 t.is_stage.2) t.is_stage.2) refl (sym t.long) refl
+    rw c.whole_stop.ensures
+    (whole m (subst (λ (k : ℕ). IsFront limit held m k) (t.exact m t.is_stage.1 t.is_stage.2) t.is_stage.2) refl (sym t.long) refl
     (ap₂ (λ (n k : ℕ). record c.none.result { length = n; segments = k }) (sym t.long) t.is_stage.3
-    ∙ ap (λ (x : CallReport). record x { length = length held; segments = length m }) c.none.ensures)
+    ∙ ap (λ (x : CallReport). record x { length = length held; segments = length m }) c.none.ensures))
 
 pub returns-in-TooMany-clause-stops : goal.returns-in-TooMany-clause-stops
 returns-in-TooMany-clause-stops c = λ limit size held e.
     let t = subst (λ (s : Stage). IsEnd limit size held c.args.rest.now c.args.given s) c.in-TooMany.is e in
-    too_many c.in-TooMany.count t.is_stage refl refl (sym t.long)
-    (ap (λ (x : CallReport). record x { detail = c.in-TooMany.count }) c.none.ensures)
+    rw c.refused_stop.ensures (too_many c.in-TooMany.count t.is_stage refl refl (sym t.long)
+    (ap (λ (x : CallReport). record x { detail = c.in-TooMany.count }) c.none.ensures))
 
 pub returns-in-TooLarge-clause-stops : goal.returns-in-TooLarge-clause-stops
 returns-in-TooLarge-clause-stops c = λ limit size held e.
     let t = subst (λ (s : Stage). IsEnd limit size held c.args.rest.now c.args.given s) c.in-TooLarge.is e in
-    too_large c.in-TooLarge.words t.is_stage refl refl (sym t.long)
-    (ap (λ (x : CallReport). record x { detail = c.in-TooLarge.words }) c.none.ensures)
+    rw c.refused_stop-in-TooLarge.ensures (too_large c.in-TooLarge.words t.is_stage refl refl (sym t.long)
+    (ap (λ (x : CallReport). record x { detail = c.in-TooLarge.words }) c.none.ensures))

@@ -1,9 +1,8 @@
 -- One node more is got, or the range ends.
-use Rattle.std.proofs.Common.{ℕ, ◌≡◌, ◌∙◌, ◌++◌, ◌∷◌, ap, arith, length, refl, subst, sym}
+use Rattle.std.proofs.Common.{ℕ, ◌≡◌, ◌∙◌, ◌++◌, ◌∷◌, ap, arith, length, refl, sym}
 use Rattle.cap_frame.specs.Bytes.{cut}
 use Rattle.cap_frame.specs.declared.view.ByteView.{ByteView}
 use Rattle.cap_spec.specs.declared.Step.{Step}
-use Rattle.cap_vet.specs.PathWays.{IsStart}
 use Rattle.cap_calls.specs.CallFindings.{refused_found}
 use Rattle.cap_calls.specs.CallNodes.{kind_node, offset_of}
 use Rattle.cap_calls.specs.NodeCalls.{a_node, no_meeting, no_node, path_found}
@@ -18,18 +17,6 @@ pub nodes-init : goal.nodes-init
 nodes-init c =
     let self = c.args.self.now in
     none_so_far (λ k. path_after self.steps.now self.varying k) _ _ _ _ _
-
-pub get-requires : goal.get-requires
-get-requires c =
-    let first = path_after c.parts.result.0.rest.now 0 0 in
-    let is = c.new-start.ensures.start first refl in (
-      c.args.demands,
-      c.args.limits.words,
-      c.args.limits.depth,
-      first,
-      subst (λ (v : ByteView). IsStart c.args.demands (cut v.sizes.now v.bytes.now) c.args.limits.words c.args.limits.depth first c.new-start.result)
-          (sym c.new-start.ensures.message) is,
-    )
 
 pub returns-in-Ok-None : goal.returns-in-Ok-None
 returns-in-Ok-None c =
