@@ -1,3 +1,4 @@
+mod Afters
 mod Agreeing
 mod Buffers
 mod CheckWalks

@@ -7,6 +7,7 @@ pub mod Filling
 pub mod FirstWords
 pub mod Found
 pub mod InPlace
+pub mod Kept
 pub mod Laying
 pub mod Objects
 pub mod Roots

@@ -27,6 +27,8 @@ pub(crate) fn append_own<M: CopySource, T: CopyOutput>(message: &M, object: &Obj
         → OwnAppended (T.words copy.old) (T.words copy.new) tree }
     ensures capacity { T.capacity copy.new ≡ T.capacity copy.old }
     ensures borrow { T.borrow copy.new ≡ T.borrow copy.old }
+    ensures after { (n : ℕ) → length (T.words copy.new) ≤ n →
+        T.after copy.new n ≡ T.after copy.old n }
 {
     match *object {
         Object::Null | Object::Cap { .. } => {}
@@ -58,6 +60,8 @@ fn append_tagged<M: CopySource, T: CopyOutput>(message: &M, part: &Part, count: 
         → OwnAppended (T.words copy.old) (T.words copy.new) tree }
     ensures capacity { T.capacity copy.new ≡ T.capacity copy.old }
     ensures borrow { T.borrow copy.new ≡ T.borrow copy.old }
+    ensures after { (n : ℕ) → length (T.words copy.new) ≤ n →
+        T.after copy.new n ≡ T.after copy.old n }
 {
     copy.push(tag_word(count, part.data_left, part.pointers_left));
     append_structs(message, part, count, copy);
@@ -77,6 +81,8 @@ fn append_struct<M: CopySource, T: CopyOutput>(message: &M, part: &Part, copy: &
         T.words copy.new ≡ T.words copy.old ++ part_words m part.now }
     ensures capacity { T.capacity copy.new ≡ T.capacity copy.old }
     ensures borrow { T.borrow copy.new ≡ T.borrow copy.old }
+    ensures after { (n : ℕ) → length (T.words copy.new) ≤ n →
+        T.after copy.new n ≡ T.after copy.old n }
 {
     if part.data_left == part.data_words {
         let count = part.data_left + part.pointers_left;
@@ -102,6 +108,8 @@ fn append_structs<M: CopySource, T: CopyOutput>(message: &M, part: &Part, count:
         ≡ T.words copy.old ++ parts_words (M.segments message.now) part.now count }
     ensures capacity { T.capacity copy.new ≡ T.capacity copy.old }
     ensures borrow { T.borrow copy.new ≡ T.borrow copy.old }
+    ensures after { (n : ℕ) → length (T.words copy.new) ≤ n →
+        T.after copy.new n ≡ T.after copy.old n }
 {
     let left = part.data_left + part.pointers_left;
     if left == part.data_words + part.pointers {
@@ -135,6 +143,8 @@ fn append_values<M: CopySource, T: CopyOutput>(
         ≡ T.words copy.old ++ scalar_words code (values_of m segment start code count) }
     ensures capacity { T.capacity copy.new ≡ T.capacity copy.old }
     ensures borrow { T.borrow copy.new ≡ T.borrow copy.old }
+    ensures after { (n : ℕ) → length (T.words copy.new) ≤ n →
+        T.after copy.new n ≡ T.after copy.old n }
 {
     if words == 0 {
         return;

@@ -7,13 +7,16 @@ ghost use Rattle.std.specs.Prelude.{◌≡◌, List, Result, ℕ};
 
 use crate::fault::{CanonFault, RoomFault};
 use crate::length::canonical_len;
+use crate::over::fits_any;
 use crate::source::CopySource;
-use crate::word_bytes::fill;
+use crate::word_bytes::{fill, fill_front};
 use cap_vet::Vetted;
 
 /// Writes the canonical copy of a message at the start of `out` as bytes, eight a word, the lowest
 /// byte first, and returns how many these are (encoding: Canonicalization, 64-bit Words). The bytes
-/// of `out` after the copy stay as they were. Allocates nothing.
+/// of `out` after the copy stay as they were. Allocates nothing. The length of the copy isn't
+/// computed first if `out` has eight bytes for each word of the charge and eight more, because every
+/// copy fits these.
 ///
 /// # Errors
 ///
@@ -38,6 +41,9 @@ fn fill_start<M: CopySource>(v: &Vetted<'_, M>, out: &mut [u8]) -> Result<usize,
     ensures { TellsRoom (M.segments (message_of v.now)) out.old result out.new }
 {
     let report = v.report();
+    if fits_any(&report, out.len()) {
+        return Ok(8 * fill_front(v.message(), report.depth, out));
+    }
     let words = match canonical_len(v) {
         Ok(words) => words,
         Err(CanonFault::HasCapability { segment, word }) => {

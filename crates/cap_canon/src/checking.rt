@@ -13,7 +13,7 @@ ghost use Rattle.cap_spec.specs.Scalars.{scalar_words};
 ghost use Rattle.cap_spec.specs.Messages.{segment_of};
 ghost use Rattle.cap_spec.specs.Tree.{Tree};
 ghost use Rattle.cap_vet.specs.Vettings.{message_of};
-ghost use Rattle.std.specs.Prelude.{◌+◌, ◌<◌, ◌^◌, ◌↔◌, ◌≡◌, ◌≢◌, ◌≤◌, IsTrue, length, ⊤, ℕ};
+ghost use Rattle.std.specs.Prelude.{[], ◌+◌, ◌<◌, ◌^◌, ◌↔◌, ◌≡◌, ◌≢◌, ◌≤◌, IsTrue, length, ⊤, ℕ};
 
 use crate::objects::{Object, read_range};
 use crate::run::PointerPlace;
@@ -61,7 +61,7 @@ impl Pass for Checking {
 
     ghost stopped = { λ m u. segment_of m 0 ≢ layout u };
 
-    ghost kept = { λ _. (0, 0, 0) };
+    ghost kept = { λ _ _. record { capacity = 0; borrow = 0; name = 0; after = [] } };
 
     #[inline(always)]
     fn visit<M: Segments>(

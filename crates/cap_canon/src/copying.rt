@@ -87,6 +87,8 @@ pub(crate) fn copy_into<M: CopySource, T: CopyOutput>(message: &M, depth: u32, c
     ensures words { ForTrimmed (M.segments message.now) (λ u. T.words copy.new ≡ layout u) }
     ensures capacity { T.capacity copy.new ≡ T.capacity copy.old }
     ensures borrow { T.borrow copy.new ≡ T.borrow copy.old }
+    ensures after { ForTrimmed (M.segments message.now) (λ u. let n = length (layout u) in
+        T.after copy.new n ≡ T.after copy.old n) }
 {
     copy.push(0);
     let mut copying = Copying {
@@ -114,7 +116,12 @@ impl<S: CopySource, T: CopyOutput> Pass for Copying<'_, S, T> {
 
     ghost stopped = { λ _ _. ⊥ };
 
-    ghost kept = { λ s. (T.capacity s.output.now, T.borrow s.output.now, s.output.ghost_name) };
+    ghost kept = { λ s u. record {
+      capacity = T.capacity s.output.now;
+      borrow = T.borrow s.output.now;
+      name = s.output.ghost_name;
+      after = T.after s.output.now (length (layout u));
+    } };
 
     #[inline(always)]
     fn visit<M: Segments>(
@@ -151,6 +158,8 @@ fn lay<M: CopySource, T: CopyOutput>(
         → length (T.words copy.new) ≡ end + own_size tree }
     ensures capacity { T.capacity copy.new ≡ T.capacity copy.old }
     ensures borrow { T.borrow copy.new ≡ T.borrow copy.old }
+    ensures after { (n : ℕ) → length (T.words copy.new) ≤ n →
+        T.after copy.new n ≡ T.after copy.old n }
 {
     copy.set(slot, pointer_word(end - slot - 1, object));
     append_own(message, object, copy);

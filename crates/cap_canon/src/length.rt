@@ -5,7 +5,7 @@ ghost use Rattle.cap_spec.specs.Canonical.{layout};
 ghost use Rattle.cap_spec.specs.Copies.{HasCopy};
 ghost use Rattle.cap_spec.specs.Paths.{IsFirstCap};
 ghost use Rattle.cap_vet.specs.Vettings.{message_of, report_of};
-ghost use Rattle.std.specs.Prelude.{◌+◌, ◌≡◌, ◌≤◌, IfErr, IfOk, List, length, ⊤, ℕ};
+ghost use Rattle.std.specs.Prelude.{[], ◌+◌, ◌≡◌, ◌≤◌, IfErr, IfOk, List, length, ⊤, ℕ};
 
 use crate::fault::CanonFault;
 use crate::objects::Object;
@@ -63,7 +63,7 @@ impl Pass for Counting {
 
     ghost stopped = { λ _ _. ⊥ };
 
-    ghost kept = { λ _. (0, 0, 0) };
+    ghost kept = { λ _ _. record { capacity = 0; borrow = 0; name = 0; after = [] } };
 
     #[inline(always)]
     fn visit<M: Segments>(

@@ -2,6 +2,7 @@
 //! whether a message is its own copy.
 #![tactic(auto)]
 
+mod appended;
 mod appending;
 mod buffer;
 mod bytes;

@@ -6,6 +6,7 @@ ghost use Rattle.cap_spec.specs.Plain.{plain_words};
 ghost use Rattle.cap_vet.specs.Vettings.{message_of, report_of};
 ghost use Rattle.std.specs.Prelude.{◌*◌, ◌+◌, ◌≡◌, ◌≤◌, ◌↔◌, [], IfErr, IfOk, IsTrue, None, length, take};
 
+use crate::appended::copy_within;
 use crate::fault::CanonFault;
 use crate::length::canonical_len;
 use crate::source::CopySource;
@@ -19,7 +20,8 @@ use std::alloc::{AllocError, Global};
 ///
 /// Allocates only if the copy has more bytes than the buffer: the buffer is freed, and one of just
 /// the length of the copy allocated. Its length isn't computed first if the buffer has eight bytes
-/// for each word of the charge and eight more, because every copy fits these.
+/// for each word of the charge and eight more, because every copy fits these. An empty buffer gets
+/// capacity for so many if the first segment has them too.
 ///
 /// # Errors
 ///
@@ -34,6 +36,57 @@ pub fn canonical_over<M: CopySource>(
     ensures tells { let m = M.segments (message_of v.now) in
         TellsOver m buffer.old.items result buffer.new.items }
     // What was written is the copy, within the buffer.
+    ensures ok { let m = M.segments (message_of v.now) in IfOk result (λ count.
+        HasCopy m (plain_words (take count buffer.new.items))) }
+    ensures within { IfOk result (λ count. count ≤ length buffer.new.items) }
+    ensures few { IfOk result (λ count. count ≤ 8 * ((report_of v.now).charge + 1)) }
+{
+    if buffer.is_empty() && fits_segment(v) {
+        return fill_empty(alloc, v, buffer);
+    }
+    fill_over(alloc, v, buffer)
+}
+
+// Whether a message has a copy, which needs no more words than its first segment has.
+fn fits_segment<M: CopySource>(v: &Vetted<'_, M>) -> bool
+    ensures { IsTrue result → (report_of v.now).first_cap ≡ None }
+{
+    let report = v.report();
+    report.first_cap.is_none() && report.charge < u64::from(v.message().len(0))
+}
+
+// The same over an empty buffer, which gets capacity for every copy of a message with this charge.
+fn fill_empty<M: CopySource>(
+    alloc: Global,
+    v: &Vetted<'_, M>,
+    buffer: &mut Vec<u8>,
+) -> Result<usize, CanonFault>
+    requires empty { buffer.old.items ≡ [] }
+    requires no_cap { (report_of v.now).first_cap ≡ None }
+    ensures tells { let m = M.segments (message_of v.now) in
+        TellsOver m buffer.old.items result buffer.new.items }
+    ensures ok { let m = M.segments (message_of v.now) in IfOk result (λ count.
+        HasCopy m (plain_words (take count buffer.new.items))) }
+    ensures within { IfOk result (λ count. count ≤ length buffer.new.items) }
+    ensures few { IfOk result (λ count. count ≤ 8 * ((report_of v.now).charge + 1)) }
+{
+    let report = v.report();
+    let most = report.charge as usize + 1;
+    let Ok(bytes) = copy_within(alloc, v.message(), report.depth, most) else {
+        return Err(CanonFault::Memory);
+    };
+    *buffer = bytes;
+    Ok(buffer.len())
+}
+
+// The same over any buffer.
+fn fill_over<M: CopySource>(
+    alloc: Global,
+    v: &Vetted<'_, M>,
+    buffer: &mut Vec<u8>,
+) -> Result<usize, CanonFault>
+    ensures tells { let m = M.segments (message_of v.now) in
+        TellsOver m buffer.old.items result buffer.new.items }
     ensures ok { let m = M.segments (message_of v.now) in IfOk result (λ count.
         HasCopy m (plain_words (take count buffer.new.items))) }
     ensures within { IfOk result (λ count. count ≤ length buffer.new.items) }
@@ -72,8 +125,8 @@ fn make_enough<M: CopySource>(
     }
 }
 
-// Whether a message with this report has a copy, and every such copy fits into `len` bytes.
-fn fits_any(report: &Report, len: usize) -> bool
+/// Whether a message with this report has a copy, and every such copy fits into `len` bytes.
+pub(crate) fn fits_any(report: &Report, len: usize) -> bool
     requires { report.now.charge ≤ 268435456 }
     ensures { IsTrue result
         ↔ (report.now.first_cap ≡ None) × (8 * (report.now.charge + 1) ≤ len) }

@@ -2,6 +2,7 @@
 
 ghost use Rattle.cap_canon.specs.CopyTurns.{IsTurn, TurnKeeps, TurnStops};
 ghost use Rattle.cap_canon.specs.InPlace.{StandsIn};
+ghost use Rattle.cap_canon.specs.Kept.{Kept};
 ghost use Rattle.cap_canon.specs.Laying.{Due};
 ghost use Rattle.cap_canon.specs.Roots.{ForTrimmed, HasTree};
 ghost use Rattle.cap_spec.specs.Canonical.{layout};
@@ -25,8 +26,8 @@ pub(crate) trait Pass {
     // Holds of a message and that tree if the pass stopped.
     ghost stopped: { List (List ℕ) → Tree → Type 0 };
 
-    // What no turn changes.
-    ghost kept: { Self → ℕ × ℕ × ℕ };
+    // What no turn in a walk over this trimmed tree changes.
+    ghost kept: { Self → Tree → Kept };
 
     /// Takes a turn: the pointer word at `place` leads to `object`, and a copy has the words of the
     /// object itself from `end` on. Returns whether the walk goes on.
@@ -45,7 +46,10 @@ pub(crate) trait Pass {
         ensures in_place { IsTrue result → in_place → StandsIn end object.now }
         ensures stops { let m = M.segments message.now in result ≡ false
             → TurnStops m in_place object.now place end (state self.old m) (stopped m) }
-        ensures kept { kept self.new ≡ kept self.old };
+        ensures kept { let m = M.segments message.now in (whole tree : Tree) (due : List Due) →
+            IsTurn m in_place whole object.now place end tree due →
+            state self.old m whole end (record { slot = place.slot; tree = tree } ∷ due) →
+            kept self.new whole ≡ kept self.old whole };
 }
 
 /// Walks a message of this depth. Returns how many words its canonical copy has, or `None` if the
@@ -57,7 +61,8 @@ pub(crate) fn walk<M: Segments, P: Pass>(message: &M, depth: u32, pass: &mut P) 
     ensures done { let m = M.segments message.now in IfSome result (λ end.
         ForTrimmed m (λ u. (end ≡ length (layout u)) × P.state pass.new m u end [])) }
     ensures stopped { let m = M.segments message.now in IfNone result (ForTrimmed m (P.stopped m)) }
-    ensures kept { P.kept pass.new ≡ P.kept pass.old }
+    ensures kept { ForTrimmed (M.segments message.now) (λ u.
+        P.kept pass.new u ≡ P.kept pass.old u) }
 {
     if depth <= 8 {
         return walk_within::<M, P, 8>(message, depth, pass);
@@ -81,7 +86,8 @@ fn walk_within<M: Segments, P: Pass, const N: usize>(
     ensures done { let m = M.segments message.now in IfSome result (λ end.
         ForTrimmed m (λ u. (end ≡ length (layout u)) × P.state pass.new m u end [])) }
     ensures stopped { let m = M.segments message.now in IfNone result (ForTrimmed m (P.stopped m)) }
-    ensures kept { P.kept pass.new ≡ P.kept pass.old }
+    ensures kept { ForTrimmed (M.segments message.now) (λ u.
+        P.kept pass.new u ≡ P.kept pass.old u) }
 {
     let mut stack: Stack<N> = Stack::new();
     let mut place = PointerPlace {

@@ -8,7 +8,7 @@ ghost use Rattle.cap_spec.specs.Messages.{segment_of};
 ghost use Rattle.cap_spec.specs.Plain.{plain_text, plain_words};
 ghost use Rattle.cap_spec.specs.Words.{IsWord};
 ghost use Rattle.std.specs.List.{AllByRecursion};
-ghost use Rattle.std.specs.Prelude.{◌*◌, ◌+◌, ◌++◌, ◌/◌, ◌<◌, ◌≡◌, ◌≤◌, [], List, length, slice_set, take, ℕ};
+ghost use Rattle.std.specs.Prelude.{◌*◌, ◌+◌, ◌++◌, ◌/◌, ◌<◌, ◌≡◌, ◌≤◌, [], List, drop, length, slice_set, take, ℕ};
 
 use crate::copying::copy_into;
 use crate::objects::read_range;
@@ -40,6 +40,8 @@ pub(crate) fn fill_front<M: CopySource>(message: &M, depth: u32, out: &mut [u8])
         ForTrimmed m (λ u. first_words (length (layout u)) out.new ≡ layout u) }
     ensures text { let m = M.segments message.now in
         ForTrimmed m (λ u. take (8 * length (layout u)) out.new ≡ plain_text (layout u)) }
+    ensures after { let m = M.segments message.now in ForTrimmed m (λ u.
+        let n = 8 * length (layout u) in drop n out.new ≡ drop n out.old) }
 {
     write_words(message, depth, out)
 }
@@ -53,6 +55,8 @@ fn write_words<M: CopySource>(message: &M, depth: u32, out: &mut [u8]) -> usize
         ForTrimmed m (λ u. result ≡ length (layout u)) }
     ensures words { let m = M.segments message.now in
         ForTrimmed m (λ u. first_words (length (layout u)) out.new ≡ layout u) }
+    ensures after { let m = M.segments message.now in ForTrimmed m (λ u.
+        let n = 8 * length (layout u) in drop n out.new ≡ drop n out.old) }
 {
     let mut copy = WordBytes::over(out);
     copy_into(message, depth, &mut copy);
@@ -76,6 +80,8 @@ impl<'b> WordBytes<'b> {
             ≡ length bytes.old / 8 }
         ensures borrow { ⟦<WordBytes<'b> as CopyOutput>⟧.borrow result
             ≡ bytes.entry.ghost_name }
+        ensures after { (n : ℕ) → ⟦<WordBytes<'b> as CopyOutput>⟧.after result n
+            ≡ drop (8 * n) bytes.old }
     {
         WordBytes { bytes, count: 0 }
     }
@@ -88,6 +94,8 @@ impl CopyOutput for WordBytes<'_> {
 
     ghost borrow = { λ s. s.bytes.ghost_name };
 
+    ghost after = { λ s n. drop (8 * n) s.bytes.now };
+
     fn push(&mut self, word: u64) {
         write_word(self.bytes, self.count, word);
         self.count += 1;
@@ -98,67 +106,26 @@ impl CopyOutput for WordBytes<'_> {
     }
 
     fn append_from<M: CopySource>(&mut self, message: &M, segment: u32, start: u32, count: u32) {
-        read_range(message, segment, start, count);
-        write_from(self.bytes, self.count, message, segment, start, count);
-        self.count += count as usize;
+        match message.row(segment, start, count) {
+            Some(row) => {
+                read_range(message, segment, start, count);
+                write_row(self.bytes, self.count, row);
+                self.count += count as usize;
+            }
+            None => self.append_each(message, segment, start, count),
+        }
     }
 }
 
-// Writes a word in place of the one with this number.
+/// Writes a word in place of the one with this number.
 #[inline(always)]
-fn write_word(bytes: &mut [u8], number: usize, word: u64)
+pub(crate) fn write_word(bytes: &mut [u8], number: usize, word: u64)
     requires { 8 * number + 8 ≤ length bytes.old }
     ensures len { length bytes.new ≡ length bytes.old }
     ensures words { plain_words bytes.new ≡ slice_set (plain_words bytes.old) number word }
+    ensures after { (n : ℕ) → number < n → drop (8 * n) bytes.new ≡ drop (8 * n) bytes.old }
 {
     bytes[8 * number..8 * number + 8].copy_from_slice(&bytes_of(word));
-}
-
-// Writes words of a segment in place of as many words, from the one with this number on. The caller
-// makes sure that they are words.
-#[inline(always)]
-fn write_from<M: CopySource>(
-    bytes: &mut [u8],
-    number: usize,
-    message: &M,
-    segment: u32,
-    start: u32,
-    count: u32,
-)
-    requires exists { segment < length (M.segments message.now) }
-    requires inside { start + count ≤ length (segment_of (M.segments message.now) segment) }
-    requires capacity { 8 * (number + count) ≤ length bytes.old }
-    requires are_words { let m = M.segments message.now in
-        AllByRecursion IsWord (words_from m segment start count) }
-    ensures len { length bytes.new ≡ length bytes.old }
-    ensures words { let m = M.segments message.now in first_words (number + count) bytes.new
-        ≡ first_words number bytes.old ++ words_from m segment start count }
-{
-    match message.row(segment, start, count) {
-        Some(row) => write_row(bytes, number, row),
-        None => write_each(bytes, number, message, segment, start, count),
-    }
-}
-
-// The same, word by word.
-fn write_each<M: Segments>(
-    bytes: &mut [u8],
-    number: usize,
-    message: &M,
-    segment: u32,
-    start: u32,
-    count: u32,
-)
-    requires exists { segment < length (M.segments message.now) }
-    requires inside { start + count ≤ length (segment_of (M.segments message.now) segment) }
-    requires capacity { 8 * (number + count) ≤ length bytes.old }
-    ensures len { length bytes.new ≡ length bytes.old }
-    ensures words { let m = M.segments message.now in first_words (number + count) bytes.new
-        ≡ first_words number bytes.old ++ words_from m segment start count }
-{
-    'words: for k in 0..count {
-        write_word(bytes, number + k as usize, message.word(segment, start + k));
-    }
 }
 
 // Writes the bytes of words in a row in place of those of as many words, from the one with this
@@ -170,6 +137,8 @@ fn write_row(bytes: &mut [u8], number: usize, row: &[u8])
     ensures words { (words : List ℕ) → AllByRecursion IsWord words → row.now ≡ plain_text words
         → first_words (number + length words) bytes.new
         ≡ first_words number bytes.old ++ words }
+    ensures after { (n : ℕ) → 8 * number + length row.now ≤ 8 * n →
+        drop (8 * n) bytes.new ≡ drop (8 * n) bytes.old }
 {
     bytes[8 * number..8 * number + row.len()].copy_from_slice(row);
 }

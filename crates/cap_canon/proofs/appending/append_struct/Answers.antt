@@ -1,5 +1,6 @@
 use Rattle.std.proofs.Common.{◌∙◌, ◌+◌, ◌++◌, ap}
 use Rattle.cap_spec.specs.Denoting.{words_from}
+use Rattle.cap_canon.proofs.Afters.{fewer_before}
 use Rattle.cap_canon.proofs.Ranges.{words_split}
 use Rattle.cap_canon.proofs.appending.append_struct.Goals as goal
 
@@ -9,3 +10,6 @@ returns-then-part-clause-words g c =
     let x = c.args.part.now in
     let row = ap (λ k. words_from m x.segment x.start x.data_left ++ words_from m x.segment (x.start + k) x.pointers_left) c.if-part.true in
     c.append_from.ensures.words ∙ ap (λ xs. g.T.CopyOutput.words c.args.copy.now ++ xs) (words_split m x.segment x.start x.data_left x.pointers_left ∙ row)
+
+pub returns-clause-after : goal.returns-clause-after
+returns-clause-after g c = λ n h. c.append_from-3.ensures.after n h ∙ c.append_from-2.ensures.after n (fewer_before _ _ _ n c.append_from-3.ensures.words h)

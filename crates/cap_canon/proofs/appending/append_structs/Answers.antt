@@ -1,6 +1,7 @@
 use Rattle.std.proofs.Common.{◌≡◌, ◌∙◌, ◌*◌, ◌++◌, ap, sym, arith}
 use Rattle.cap_spec.specs.Denoting.{words_from}
 use Rattle.cap_canon.specs.Filling.{elements_from}
+use Rattle.cap_canon.proofs.Afters.{fewer_before}
 use Rattle.cap_canon.proofs.Ranges.{elements_whole}
 use Rattle.cap_canon.proofs.Structs.{struct_inside, structs_more}
 use Rattle.cap_canon.proofs.appending.append_structs.Goals as goal
@@ -29,4 +30,5 @@ elements-preserved g c =
           c.elements-test.true c.requires.fewer inside c.append_struct.ensures.words (omega (arith, c.append_struct.ensures.capacity)) e.invariant.far;
       capacity = c.append_struct.ensures.capacity ∙ e.invariant.capacity;
       borrow = c.append_struct.ensures.borrow ∙ e.invariant.borrow;
+      after = λ n h. c.append_struct.ensures.after n h ∙ e.invariant.after n (fewer_before _ _ _ n c.append_struct.ensures.words h);
     }

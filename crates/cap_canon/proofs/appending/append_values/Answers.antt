@@ -1,6 +1,7 @@
 use Rattle.std.proofs.Common.{◌≡◌, ◌∙◌, ◌+◌, ◌-◌, ◌++◌, [], ◌∷◌, ap, sym, arith, append_assoc}
 use Rattle.cap_spec.specs.Denoting.{words_from}
 use Rattle.cap_spec.specs.Pointers.{list_words}
+use Rattle.cap_canon.proofs.Afters.{fewer_before}
 use Rattle.cap_canon.proofs.Ranges.{values_laid}
 use Rattle.cap_canon.proofs.appending.append_values.Goals as goal
 
@@ -15,3 +16,6 @@ returns-clause-words g c =
     ∙ (append_assoc (g.T.CopyOutput.words c.args.copy.now) (words_from m c.args.segment c.args.start before) (c.last_word.result ∷ [])
     ∙ ap (λ xs. g.T.CopyOutput.words c.args.copy.now ++ xs) (ap (λ x. words_from m c.args.segment c.args.start before ++ x ∷ []) c.last_word.ensures
     ∙ sym laid)))
+
+pub returns-clause-after : goal.returns-clause-after
+returns-clause-after g c = λ n h. c.push.ensures.after n h ∙ c.append_from.ensures.after n (fewer_before _ _ _ n c.push.ensures.words h)

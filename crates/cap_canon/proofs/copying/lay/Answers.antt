@@ -1,5 +1,6 @@
 use Rattle.std.proofs.Common.{◌∙◌, ap, arith, length}
 use Rattle.std.proofs.lemmas.List.{length-set}
+use Rattle.cap_canon.proofs.Afters.{fewer_before}
 use Rattle.cap_canon.proofs.CopyWalks.{agrees_more, length_more}
 use Rattle.cap_canon.proofs.copying.lay.Goals as goal
 
@@ -26,3 +27,9 @@ append_own-requires g c =
       c.requires.is.4,
       omega (arith, l, c.requires.ends.0, c.requires.is.5, c.set.ensures.capacity),
     )
+
+pub returns-clause-after : goal.returns-clause-after
+returns-clause-after g c = λ n h.
+    (let r = c.requires.is in
+    let app = c.append_own.ensures.own r.0 r.1 r.2 r.3 r.4 in
+    c.append_own.ensures.after n h ∙ c.set.ensures.after n (fewer_before _ _ _ n app.appended h))

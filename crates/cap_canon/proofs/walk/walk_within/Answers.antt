@@ -1,4 +1,4 @@
-use Rattle.std.proofs.Common.{rules, ◌∙◌, ◌≤◌, ◌+◌, ◌++◌, List, sym, subst, length, [], refl}
+use Rattle.std.proofs.Common.{rules, ◌≡◌, ◌∙◌, ◌≤◌, ◌+◌, ◌++◌, List, sym, subst, length, [], refl}
 use Rattle.std.proofs.lemmas.Bool.{eqb-true}
 use Rattle.std.proofs.lemmas.List.{nil_from_length}
 use Rattle.cap_spec.specs.Messages.{IsMessage}
@@ -18,7 +18,7 @@ walk-init g c =
     let h = c.requires.tree in
     let state = g.P.Pass.state c.args.pass.now in
     let turn = first_turn m g.P.Pass.in_place state c.args.depth is h (c.requires.start h.tree h.charge c.args.depth h.denotes) in
-    record { turn = rw c.new-stack.ensures turn; kept = refl }
+    record { turn = rw c.new-stack.ensures turn; kept = λ t x d h. refl }
 
 pub visit-requires : goal.visit-requires
 visit-requires g c =
@@ -108,5 +108,34 @@ walk-preserved g c =
       turn = next_turn m in_place (g.P.Pass.state w.pass) (g.P.Pass.state c.visit.new.self) c.args.depth w.stack.items
           c.take_next-place.new.stack.items w.place c.take_next-place.result
           w.end c.enter-end.result k e.0 taken there so_far;
-      kept = c.visit.ensures.kept ∙ w.invariant.kept;
+      kept = λ t x d h.
+          (let same = one_tree m 0 0 k.root t k.charge c.args.depth x d k.denotes h in
+          subst (λ u. g.P.Pass.kept c.visit.new.self (trim u) ≡ g.P.Pass.kept w.pass (trim u)) same.part
+          (c.visit.ensures.kept (trim k.root) k.tree k.due turn k.so_far) ∙ w.invariant.kept t x d h);
     }
+
+pub returns-then-is_empty-clause-kept : goal.returns-then-is_empty-clause-kept
+returns-then-is_empty-clause-kept g c =
+    let m = g.M.Segments.segments c.args.message.now in
+    let w = c.walk in
+    let k = w.invariant.turn in
+    let met = this_met m g.P.Pass.in_place (g.P.Pass.state w.pass) c.args.depth w.stack.items w.place w.end
+    c.object_at-object.result k c.object_at-object.ensures in
+    let turn = this_turn m g.P.Pass.in_place (g.P.Pass.state w.pass) c.args.depth w.stack.items w.place w.end c.object_at-object.result k met in
+    λ t x d h.
+    (let same = one_tree m 0 0 k.root t k.charge c.args.depth x d k.denotes h in
+    subst (λ u. g.P.Pass.kept c.visit.new.self (trim u) ≡ g.P.Pass.kept w.pass (trim u)) same.part
+    (c.visit.ensures.kept (trim k.root) k.tree k.due turn k.so_far) ∙ w.invariant.kept t x d h)
+
+pub returns-then-not-visit-clause-kept : goal.returns-then-not-visit-clause-kept
+returns-then-not-visit-clause-kept g c =
+    let m = g.M.Segments.segments c.args.message.now in
+    let w = c.walk in
+    let k = w.invariant.turn in
+    let met = this_met m g.P.Pass.in_place (g.P.Pass.state w.pass) c.args.depth w.stack.items w.place w.end
+    c.object_at-object.result k c.object_at-object.ensures in
+    let turn = this_turn m g.P.Pass.in_place (g.P.Pass.state w.pass) c.args.depth w.stack.items w.place w.end c.object_at-object.result k met in
+    λ t x d h.
+    (let same = one_tree m 0 0 k.root t k.charge c.args.depth x d k.denotes h in
+    subst (λ u. g.P.Pass.kept c.visit.new.self (trim u) ≡ g.P.Pass.kept w.pass (trim u)) same.part
+    (c.visit.ensures.kept (trim k.root) k.tree k.due turn k.so_far) ∙ w.invariant.kept t x d h)

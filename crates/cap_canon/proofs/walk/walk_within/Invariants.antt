@@ -1,4 +1,5 @@
 use Rattle.std.proofs.Common.{◌≡◌, ◌+◌, ◌-◌}
+use Rattle.cap_canon.specs.Roots.{ForTrimmed}
 use Rattle.cap_canon.specs.StillToLay.{work_left}
 use Rattle.cap_canon.proofs.Walks.{AtTurn}
 use Rattle.cap_canon.proofs.walk.walk_within.Given as goal
@@ -6,7 +7,7 @@ use Rattle.cap_canon.proofs.walk.walk_within.Given as goal
 abbrev pub invariant-walk : goal.invariant-walk
 invariant-walk g l = record {
   turn : AtTurn (g.M.Segments.segments l.message) g.P.Pass.in_place (g.P.Pass.state l.pass) l.depth l.stack.items l.place l.end;
-  kept : g.P.Pass.kept l.pass ≡ g.P.Pass.kept l.initial.pass;
+  kept : ForTrimmed (g.M.Segments.segments l.message) (λ u. g.P.Pass.kept l.pass u ≡ g.P.Pass.kept l.initial.pass u);
 }
 
 abbrev pub decreases-walk : goal.decreases-walk

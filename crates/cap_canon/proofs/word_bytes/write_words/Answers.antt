@@ -17,3 +17,9 @@ returns-clause-words g c = λ t x d h.
     let all : first_words (length (layout (trim t))) copy.bytes.now ≡ layout (trim t) =
     counted copy.count copy.bytes.now (layout (trim t)) copy.inside (c.copy_into.ensures.words t x d h) in
     search (rules, all)
+
+pub returns-clause-after : goal.returns-clause-after
+returns-clause-after g c = λ t x d h.
+    let n = length (layout (trim t)) in
+    let all = c.copy_into.ensures.after t x d h ∙ c.over-copy.ensures.after n in
+    search (rules, all)

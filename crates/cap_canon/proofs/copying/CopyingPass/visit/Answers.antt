@@ -1,6 +1,7 @@
-use Rattle.std.proofs.Common.{ap₂, arith, subst, sym}
+use Rattle.std.proofs.Common.{arith, length, subst, sym}
 use Rattle.cap_spec.specs.Canonical.{layout}
 use Rattle.cap_canon.specs.Objects.{IsObject}
+use Rattle.cap_canon.proofs.Afters.{kept_so}
 use Rattle.cap_canon.proofs.copying.CopyingPass.visit.Goals as goal
 
 pub lay-requires-clause-ends : goal.lay-requires-clause-ends
@@ -29,4 +30,10 @@ returns-clause-goes_on g c = λ _ whole tree due turn k.
     ))
 
 pub returns-clause-kept : goal.returns-clause-kept
-returns-clause-kept g c = ap₂ (λ a b. (a, b, c.args.self.now.output.ghost_name)) c.lay.ensures.capacity c.lay.ensures.borrow
+returns-clause-kept g c = λ whole tree due turn k.
+    (let m = g.S.Segments.segments c.args.self.now.source.now in
+    let is : IsObject m turn.meets.d c.args.place.segment c.args.place.word tree c.args.object.now =
+    subst (λ n. IsObject n turn.meets.d c.args.place.segment c.args.place.word tree c.args.object.now) (sym k.0) turn.meets.is in
+    let long = c.lay.ensures.ends turn.meets.d c.args.place.segment c.args.place.word tree is in
+    let after = c.lay.ensures.after (length (layout whole)) (omega (arith, long, turn.inside)) in
+    kept_so _ _ _ _ c.args.self.now.output.ghost_name _ _ c.lay.ensures.capacity c.lay.ensures.borrow after)

@@ -21,3 +21,10 @@ invariant_of-self c =
     let self = c.args.self.now in
     let few = first_words_count self.count self.bytes.now (omega arith) in
     record { inside = omega (arith, few, words_exact self.bytes.now, c.write_word.ensures.len) }
+
+pub returns-clause-after : goal.returns-clause-after
+returns-clause-after c = λ n h.
+    (let self = c.args.self.now in
+    let few = first_words_count self.count self.bytes.now (omega arith) in
+    let long = first_words_count (self.count + 1) c.write_word.new.bytes (omega (arith, few, words_exact self.bytes.now, c.write_word.ensures.len)) in
+    c.write_word.ensures.after n (omega (arith, long, h)))

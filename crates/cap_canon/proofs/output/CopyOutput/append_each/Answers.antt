@@ -3,8 +3,9 @@ use Rattle.std.specs.List.{AllByRecursion}
 use Rattle.cap_spec.specs.Denoting.{words_from}
 use Rattle.cap_spec.specs.Words.{IsWord}
 use Rattle.cap_spec.proofs.Bytes.Lists.{all_append}
+use Rattle.cap_canon.proofs.Afters.{fewer_before}
 use Rattle.cap_canon.proofs.Ranges.{range_more}
-use Rattle.cap_canon.proofs.output.CopyOutput.append_from.Goals as goal
+use Rattle.cap_canon.proofs.output.CopyOutput.append_each.Goals as goal
 
 pub words-preserved : goal.words-preserved
 words-preserved g c =
@@ -17,6 +18,7 @@ words-preserved g c =
           ∙ (append_assoc old front (c.word.result ∷ []) ∙ ap (λ xs. old ++ xs) (sym more)));
       capacity = c.push.ensures.capacity ∙ c.words.invariant.capacity;
       borrow = c.push.ensures.borrow ∙ c.words.invariant.borrow;
+      after = λ n h. c.push.ensures.after n h ∙ c.words.invariant.after n (fewer_before _ _ _ n c.push.ensures.words h);
       are_words = subst (λ (xs : List ℕ). AllByRecursion IsWord xs) (sym more)
           (all_append IsWord front (c.word.result ∷ []) c.words.invariant.are_words (small, tt));
     }

@@ -8,7 +8,7 @@ use Rattle.cap_canon.specs.CopyOvers.{TellsOver}
 use Rattle.cap_canon.proofs.Copies.{has_tree}
 use Rattle.cap_canon.proofs.FirstWords.{written_back}
 use Rattle.cap_canon.proofs.Overs.{copy_ok, enough_for, tells_err, tells_ok, within_ok}
-use Rattle.cap_canon.proofs.over.canonical_over.Goals as goal
+use Rattle.cap_canon.proofs.over.fill_over.Goals as goal
 
 pub returns-in-Err-clause-tells : goal.returns-in-Err-clause-tells
 returns-in-Err-clause-tells g c =
