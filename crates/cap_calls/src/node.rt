@@ -32,7 +32,7 @@ pub struct CallNode {
 
 impl CallNode {
     ghost use Rattle.cap_calls.specs.CallNodes.{kind_node, none_node, offset_of};
-    ghost use Rattle.cap_vet.specs.Handles.{kept_place, view_kind, view_message};
+    ghost use Rattle.cap_vet.specs.Views.{kept_place, view_kind, view_message};
     ghost use Rattle.std.specs.Prelude.{◌<◌, ◌^◌, ◌≡◌, length};
 
     // With nothing in it, as of null.

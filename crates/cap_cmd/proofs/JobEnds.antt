@@ -17,7 +17,7 @@ use Rattle.cap_vet.specs.declared.demands.Demands.{Demands}
 use Rattle.cap_spec.specs.Packing.{pack_text}
 use Rattle.cap_spec.specs.Plain.{plain_text}
 use Rattle.cap_run.specs.Canons.{copies_of}
-use Rattle.cap_run.specs.Copying.{Copied, CopiesAll}
+use Rattle.cap_run.specs.Transcoding.{Transcoded, TranscodesAll}
 use Rattle.cap_run.specs.Engines.{TellsStream}
 use Rattle.cap_run.specs.Filtering.{FiltersStream, Passes, TellsIn, WantsInForm}
 use Rattle.cap_run.specs.declared.settings.FilterForm.{FilterForm}
@@ -36,8 +36,8 @@ use Rattle.cap_text.specs.declared.fault.CopyFault.TheVariants.{TooManyWords, So
 use Rattle.cap_text.specs.declared.fault.RunFault.{RunFault}
 use Rattle.cap_run.specs.declared.settings.Outcome.{Outcome}
 use Rattle.cap_run.specs.declared.settings.Settings.{Settings}
-use Rattle.cap_cmd.specs.Statuses.{cause_status, copy_status, frame_status, outcome_status, run_status}
-use Rattle.cap_cmd.specs.Jobs.{CanonsInput, CanonsTo, CopiesInput, CopiesTo, DoesJob, DoesTask}
+use Rattle.cap_cmd.specs.Statuses.{cause_status, transcode_status, frame_status, outcome_status, run_status}
+use Rattle.cap_cmd.specs.Jobs.{CanonsInput, CanonsTo, TranscodesInput, TranscodesTo, DoesJob, DoesTask}
 use Rattle.cap_cmd.specs.Jobs.{TellsInput, WritesAll, input_is_cut, input_words}
 use Rattle.cap_cmd.specs.declared.job.Job.{Job}
 use Rattle.cap_cmd.specs.declared.job.Task.{Task}
@@ -53,8 +53,8 @@ kept_appends (Some xs) (Some ys) text k = k
 module _ {S K : Type 0} (gs : source.Ghosts S) (gk : sink.Ghosts K) (at_once most : ℕ)
     (old new : S) (before after : K) where
   -- a copy with the status of success put all words
-  copied_all : (r : Result ℕ CopyFault) → copy_status r ≡ 0 → Copied gs gk at_once most old new before after r
-      → (put : List ℕ) × CopiesAll gs gk most old new before after put
+  copied_all : (r : Result ℕ CopyFault) → transcode_status r ≡ 0 → Transcoded gs gk at_once most old new before after r
+      → (put : List ℕ) × TranscodesAll gs gk most old new before after put
   copied_all (Ok n) e c = (c.0, c.2)
   copied_all (Err TooManyWords) e c = absurd (cc)
   copied_all (Err (Source (source_truncated byte))) e c = absurd (cc)
@@ -132,9 +132,9 @@ module _ {S O K : Type 0} (gs : source.Ghosts S) (go : output.Ghosts O) (s : Set
     (gk : sink.Ghosts K) where
   -- all words were copied
   all_copied : (text : List ℕ → List ℕ) (at_once : ℕ) (before after : O) (r : Result ℕ CopyFault)
-      → copy_status r ≡ 0
-      → CopiesTo gs go gk text at_once old new before after r
-      → CopiesInput text (gs.words old) (gs.is_cut old) (go.written before) (go.written after)
+      → transcode_status r ≡ 0
+      → TranscodesTo gs go gk text at_once old new before after r
+      → TranscodesInput text (gs.words old) (gs.is_cut old) (go.written before) (go.written after)
   all_copied text at_once before after r e p =
       let k = copied_all gs gk at_once most_words old new p.begun p.ended r e p.puts.copied in
       let kept = subst (λ (o : Option (List ℕ)). Keeps o (gk.taken p.ended)) (p.begins.empty k.0) k.1.finishes.finished in

@@ -25,7 +25,7 @@ use Rattle.cap_run.specs.Canons.{AreCanonised, Canonised, MakesCopiesUnder, cano
 use Rattle.cap_run.specs.Canons.{copies_of}
 use Rattle.cap_run.specs.Demanding.{TellsCheckUnder, TellsDumpUnder, TellsExclusiveUnder}
 use Rattle.cap_run.specs.Demanding.{TellsGetUnder, TellsVerdictUnder, WantsMarksUnder}
-use Rattle.cap_run.specs.Engines.{CopiesWords, ShowsStream, TellsStream}
+use Rattle.cap_run.specs.Engines.{TranscodesWords, ShowsStream, TellsStream}
 use Rattle.cap_run.specs.Engines.{most_packed_at_once, most_unpacked_at_once, most_words}
 use Rattle.cap_run.specs.Filtering.{FiltersStream, Passes, TellsIn, WantsInForm}
 use Rattle.cap_text.specs.FaultLines.{copy_fault_line, run_fault_line}
@@ -37,7 +37,7 @@ use Rattle.cap_text.specs.declared.fault.RunFault.{RunFault}
 use Rattle.cap_run.specs.declared.settings.FilterForm.{FilterForm}
 use Rattle.cap_run.specs.declared.settings.Outcome.{Outcome}
 use Rattle.cap_run.specs.declared.settings.Settings.{Settings}
-use Rattle.cap_cmd.specs.Statuses.{copy_status, run_status}
+use Rattle.cap_cmd.specs.Statuses.{transcode_status, run_status}
 use Rattle.cap_cmd.specs.declared.job.Job.{Job}
 use Rattle.cap_cmd.specs.declared.job.Task.{Task}
 use Rattle.cap_cmd.specs.declared.job.Task.TheVariants.{Segments, Vet, Filter, Dump, Get, Check}
@@ -119,9 +119,9 @@ module _ {S O K : Type 0} (gs : source.Ghosts S) (go : output.Ghosts O) (gk : si
       (limit_of s.size) s.messages first last begun ended answer)
 
   -- an engine puts words to a sink over an output
-  abbrev pub CopiesTo : (List ℕ → List ℕ) → ℕ → S → S → O → O → Result ℕ CopyFault → Type 0
-  CopiesTo text at_once first last before after answer = PutsTo go gk text before after
-      (λ begun ended. CopiesWords gs gk at_once most_words first last begun ended answer)
+  abbrev pub TranscodesTo : (List ℕ → List ℕ) → ℕ → S → S → O → O → Result ℕ CopyFault → Type 0
+  TranscodesTo text at_once first last before after answer = PutsTo go gk text before after
+      (λ begun ended. TranscodesWords gs gk at_once most_words first last begun ended answer)
 
 module _ {E : Type 0} (ge : output.Ghosts E) where
   -- The line of a fault was written, or a prefix of it if this output failed. Without a fault
@@ -143,7 +143,7 @@ module _ {E : Type 0} (ge : output.Ghosts E) where
 
   -- the answer of an engine over words
   abbrev pub ReportsCopy : Result ℕ CopyFault → E → E → ℕ → Type 0
-  ReportsCopy = Reports copy_status copy_fault_line
+  ReportsCopy = Reports transcode_status copy_fault_line
 
 module _ {S E : Type 0} where
   -- An engine left its source at `last` and gave an answer, which is reported.
@@ -200,10 +200,10 @@ module _ {S O E P U : Type 0} (gs : source.Ghosts S) (go : output.Ghosts O) (ge 
   DoesTask Canon s demands first before after = Runs
       (λ last answer. CanonsTo gs go gu s demands first last before after answer) (ReportsRun ge)
   DoesTask Pack s demands first before after = Runs (λ last answer.
-      CopiesTo gs go gp pack_text most_packed_at_once first last before after answer)
+      TranscodesTo gs go gp pack_text most_packed_at_once first last before after answer)
       (ReportsCopy ge)
   DoesTask Unpack s demands first before after = Runs (λ last answer.
-      CopiesTo gs go gu plain_text most_unpacked_at_once first last before after answer)
+      TranscodesTo gs go gu plain_text most_unpacked_at_once first last before after answer)
       (ReportsCopy ge)
 
 module _ {I S O E P U : Type 0} (gi : input.Ghosts I) (gs : source.Ghosts S) (go : output.Ghosts O)
@@ -245,7 +245,7 @@ pub record CanonsInput (s : Settings) (demands : Demands) (words : Option (List 
   pub appended : Appends before after (plain_text (copies_of cs))
 
 -- The text of all words was written, and none is cut short.
-pub record CopiesInput (text : List ℕ → List ℕ) (words : Option (List ℕ)) (is_cut : Bool)
+pub record TranscodesInput (text : List ℕ → List ℕ) (words : Option (List ℕ)) (is_cut : Bool)
     (before after : Option (List ℕ)) : Type 0 where
   pub own : List ℕ
   pub all : OnSome words ((words ≡ Some own) × (is_cut ≡ false))
@@ -269,5 +269,5 @@ WritesAll (Get path) s demands =
 WritesAll Check s demands =
     TellsInput (TellsCheckUnder demands (words_of s.limits) (depth_of s.limits)) s
 WritesAll Canon s demands = CanonsInput s demands
-WritesAll Pack s demands = CopiesInput pack_text
-WritesAll Unpack s demands = CopiesInput plain_text
+WritesAll Pack s demands = TranscodesInput pack_text
+WritesAll Unpack s demands = TranscodesInput plain_text

@@ -57,8 +57,8 @@ source_status source_device = 3
 source_status source_spent = 3
 
 -- 0 where all words were copied
-abbrev pub copy_status : Result ℕ CopyFault → ℕ
-copy_status (Ok words) = 0
-copy_status (Err TooManyWords) = 1
-copy_status (Err (copy_source fault)) = source_status fault
-copy_status (Err (copy_output fault)) = 3
+abbrev pub transcode_status : Result ℕ CopyFault → ℕ
+transcode_status (Ok words) = 0
+transcode_status (Err TooManyWords) = 1
+transcode_status (Err (copy_source fault)) = source_status fault
+transcode_status (Err (copy_output fault)) = 3

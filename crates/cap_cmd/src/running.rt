@@ -1,6 +1,6 @@
 //! Doing a job: its engine is run over an input, an output and an output for faults.
 
-ghost use Rattle.cap_cmd.specs.Jobs.{CanonsTo, CopiesTo, DoesJob, DoesTask, ReportsCopy, ReportsRun, WritesAll, input_is_cut, input_words, reads_packed};
+ghost use Rattle.cap_cmd.specs.Jobs.{CanonsTo, TranscodesTo, DoesJob, DoesTask, ReportsCopy, ReportsRun, WritesAll, input_is_cut, input_words, reads_packed};
 ghost use Rattle.cap_run.specs.Engines.{most_packed_at_once, most_unpacked_at_once};
 ghost use Rattle.cap_spec.specs.Packing.{pack_text};
 ghost use Rattle.cap_spec.specs.Plain.{plain_text};
@@ -71,7 +71,7 @@ fn canon_to<S: WordSource, O: ByteOut>(
 
 /// Packs words to an output, and returns what the engine answered.
 fn pack_to<S: WordSource, O: ByteOut>(source: &mut S, out: O) -> (Result<u64, CopyFault>, O)
-    ensures { CopiesTo S.WordSource O.ByteOut ⟦<Packer<O> as WordSink>⟧ pack_text
+    ensures { TranscodesTo S.WordSource O.ByteOut ⟦<Packer<O> as WordSink>⟧ pack_text
         most_packed_at_once source.old source.new out result.1 result.0 }
 {
     let mut sink = Packer::new(out);
@@ -81,7 +81,7 @@ fn pack_to<S: WordSource, O: ByteOut>(source: &mut S, out: O) -> (Result<u64, Co
 
 /// Writes words to an output as they are, and returns what the engine answered.
 fn unpack_to<S: WordSource, O: ByteOut>(source: &mut S, out: O) -> (Result<u64, CopyFault>, O)
-    ensures { CopiesTo S.WordSource O.ByteOut ⟦<PlainSink<O> as WordSink>⟧ plain_text
+    ensures { TranscodesTo S.WordSource O.ByteOut ⟦<PlainSink<O> as WordSink>⟧ plain_text
         most_unpacked_at_once source.old source.new out result.1 result.0 }
 {
     let mut sink = PlainSink::new(out);

@@ -1,7 +1,7 @@
 //! The exit statuses: 0 if all is well, 1 for what the input is, and 3 for a failed device or if
 //! memory ran out.
 
-ghost use Rattle.cap_cmd.specs.Statuses.{cause_status, copy_status, run_status};
+ghost use Rattle.cap_cmd.specs.Statuses.{cause_status, transcode_status, run_status};
 ghost use Rattle.std.specs.Prelude.{◌≡◌};
 
 use cap_canon::CanonFault;
@@ -48,7 +48,7 @@ pub(crate) fn stream_status(answer: &Result<Outcome, RunFault>) -> u8
 
 /// The exit status of a copy's answer: 0 where all words were copied.
 pub(crate) fn words_status(answer: &Result<u64, CopyFault>) -> u8
-    ensures { result ≡ copy_status answer.now }
+    ensures { result ≡ transcode_status answer.now }
 {
     match answer {
         Ok(_) => 0,

@@ -15,7 +15,7 @@ use Rattle.cap_spec.specs.declared.Step.{Step}
 use Rattle.cap_spec.proofs.Pointers.Following.{one_lead}
 use Rattle.cap_spec.proofs.Trees.OneTree.{one_tree}
 use Rattle.cap_spec.proofs.Paths.Walks.{one_coming}
-use Rattle.cap_vet.specs.Handles.{bytes_of_place}
+use Rattle.cap_vet.specs.Views.{bytes_of_place}
 use Rattle.cap_vet.specs.Reports.{IsReport}
 use Rattle.cap_vet.specs.declared.nodes.place.Place.{Place}
 use Rattle.cap_vet.specs.declared.report.Report.{Report}

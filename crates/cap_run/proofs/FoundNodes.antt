@@ -4,7 +4,7 @@ use Rattle.cap_frame.specs.declared.segments.Segments as segments
 use Rattle.cap_spec.specs.Standing.{DenotesAt}
 use Rattle.cap_spec.specs.Texts.{get_text}
 use Rattle.cap_spec.specs.Tree.{Tree}
-use Rattle.cap_vet.specs.Handles.{node_message, node_spot}
+use Rattle.cap_vet.specs.Views.{node_message, node_spot}
 use Rattle.cap_vet.specs.declared.nodes.node.Node.{Node}
 
 module _ {M : Type 0} (g : segments.Ghosts M) where

@@ -11,10 +11,10 @@ use Rattle.cap_words.specs.declared.sinks.WordSink as sink
 use Rattle.cap_words.specs.declared.sources.SourceFault.{SourceFault}
 use Rattle.cap_words.specs.declared.sources.SourceFault.TheVariants.{Truncated, Device, Spent}
 use Rattle.cap_words.specs.declared.sources.WordSource as source
-use Rattle.cap_run.specs.Copying.{Gives, GivesNone, StopsMidway}
+use Rattle.cap_run.specs.Transcoding.{Gives, GivesNone, StopsMidway}
 use Rattle.cap_run.specs.Handed.{HandsOver}
-use Rattle.cap_run.specs.PuttingEnds.{Copies}
-use Rattle.cap_run.proofs.Copying.{fills_both, fills_none, gives_both, gives_none}
+use Rattle.cap_run.specs.PuttingEnds.{Transcodes}
+use Rattle.cap_run.proofs.Transcoding.{fills_both, fills_none, gives_both, gives_none}
 use Rattle.cap_run.proofs.Making.{halts_behind}
 
 module _ {S : Type 0} (gs : source.Ghosts S) where
@@ -57,12 +57,12 @@ module _ {S : Type 0} (gs : source.Ghosts S) where
 
 module _ {S K : Type 0} (gs : source.Ghosts S) (gk : sink.Ghosts K) where
   -- nothing yet
-  pub copies_start : (s : S) (k : K) → Copies gs gk s s k k 0
+  pub copies_start : (s : S) (k : K) → Transcodes gs gk s s k k 0
   copies_start s k = record { own = []; many = refl; gives = gives_none gs s; fills = fills_none gk k }
 
   -- some words, and then others
-  pub copies_both : (old now new : S) (before between after : K) (n m : ℕ) → Copies gs gk old now before between n
-      → Copies gs gk now new between after m → Copies gs gk old new before after (n + m)
+  pub copies_both : (old now new : S) (before between after : K) (n m : ℕ) → Transcodes gs gk old now before between n
+      → Transcodes gs gk now new between after m → Transcodes gs gk old new before after (n + m)
   copies_both old now new before between after n m c d = record {
     own = c.own ++ d.own;
     many = let a = c.many in let b = d.many in omega (arith, length-append c.own d.own);
@@ -72,7 +72,7 @@ module _ {S K : Type 0} (gs : source.Ghosts S) (gk : sink.Ghosts K) where
 
   -- the output failed behind words that were put
   pub stops_midway : (at_once most n rest : ℕ) (old now new : S) (before between after : K) (out : OutFault)
-      → Copies gs gk old now before between n → HandsOver gs gk rest now new between after out → rest ≤ at_once
+      → Transcodes gs gk old now before between n → HandsOver gs gk rest now new between after out → rest ≤ at_once
       → n + rest ≤ most
       → StopsMidway gs gk at_once most old new before after out
   stops_midway at_once most n rest old now new before between after out c h once room = record {

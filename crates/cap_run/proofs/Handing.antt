@@ -5,7 +5,7 @@ use Rattle.cap_spec.specs.Plain.{plain_words}
 use Rattle.cap_words.specs.Sinks.{WasPut}
 use Rattle.cap_words.specs.declared.sinks.WordSink as sink
 use Rattle.cap_spec.proofs.Bytes.Plain.{words_exact}
-use Rattle.cap_run.specs.Copying.{Fills}
+use Rattle.cap_run.specs.Transcoding.{Fills}
 use Rattle.std.proofs.Common.{◌+◌, false, sym}
 
 -- the table of one segment is one word

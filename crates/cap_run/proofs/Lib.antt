@@ -1,6 +1,6 @@
 pub mod CanonEnds
-pub mod Copying
-pub mod CopyEnds
+pub mod Transcoding
+pub mod TranscodeEnds
 pub mod Demanding
 pub mod FilterEnds
 pub mod FoundNodes

@@ -1,4 +1,4 @@
--- Copies that are put one after the other.
+-- Transcodes that are put one after the other.
 use Rattle.std.proofs.Common.{◌≡◌, ◌∙◌, ℕ, ◌+◌, ◌<◌, true, inr, Result, Ok, Err}
 use Rattle.std.proofs.Common.{List, [], ◌∷◌, ◌++◌, refl, sym, ap, subst, arith, append_assoc, append-nil, length, length-append}
 use Rattle.std.proofs.lemmas.Bool.{false≢true}
@@ -20,9 +20,9 @@ use Rattle.cap_vet.specs.declared.demands.Demands.{Demands}
 use Rattle.cap_canon.specs.CopyOvers.{TellsOver, grown, has_capability, no_memory, over}
 use Rattle.cap_canon.specs.declared.fault.CanonFault.{CanonFault}
 use Rattle.cap_canon.specs.declared.fault.CanonFault.TheVariants.{HasCapability, Memory}
-use Rattle.cap_canon.proofs.Copies.{cap_no_copy}
+use Rattle.cap_canon.proofs.Transcodes.{cap_no_copy}
 use Rattle.cap_run.specs.Canons.{CanonEnds, Canonised, HasNoCopy, IsCanonised, canonised, copies_of}
-use Rattle.cap_run.specs.Copying.{Fills}
+use Rattle.cap_run.specs.Transcoding.{Fills}
 use Rattle.cap_run.specs.Making.{CopiesSoFar, CopyStops, Made, Making, NextStops, StopsMaking}
 use Rattle.cap_run.specs.Making.{is_unfinished, refused_cause}
 use Rattle.cap_run.specs.Running.{EndStops}
@@ -31,7 +31,7 @@ use Rattle.std.specs.Prelude.{IfErr, OnOk}
 use Rattle.cap_text.specs.declared.fault.Cause.{Cause}
 use Rattle.cap_text.specs.declared.fault.Cause.TheVariants.{TooManyMessages, Frame, Output, Refused, NotStrict, Canon}
 use Rattle.cap_text.specs.declared.fault.Cause.TheVariants.{Memory as no_marks}
-use Rattle.cap_run.proofs.Copying.{fills_both, fills_none, spoils_last}
+use Rattle.cap_run.proofs.Transcoding.{fills_both, fills_none, spoils_last}
 use Rattle.cap_run.proofs.Streams.{reads_both, reads_none}
 
 -- equal faults, whatever the results would be

@@ -3,7 +3,7 @@
 use Rattle.std.specs.Prelude.{ℕ, ◌≡◌, ◌<◌, ◌≤◌, ◌⊎◌, false, List, [], ◌∷◌, ◌++◌, length, map, sum}
 use Rattle.std.specs.Prelude.{Some, Result, Ok, Err, IfOk, IfErr}
 use Rattle.std.specs.List.{AllByRecursion, flat_map}
-use Rattle.cap_spec.specs.Copies.{HasCopy}
+use Rattle.cap_spec.specs.Transcodes.{HasCopy}
 use Rattle.cap_spec.specs.Frames.{Stream, frame_text, sizes_of}
 use Rattle.cap_spec.specs.Paths.{IsFirstCap}
 use Rattle.cap_spec.specs.declared.StrictRefusal.TheVariants.{Refused as bad}
@@ -19,7 +19,7 @@ use Rattle.cap_vet.specs.declared.demands.Demands.{Demands}
 use Rattle.cap_vet.specs.declared.report.Report.{Report}
 use Rattle.cap_canon.specs.declared.fault.CanonFault.{CanonFault}
 use Rattle.cap_canon.specs.declared.fault.CanonFault.TheVariants.{HasCapability, Memory}
-use Rattle.cap_run.specs.Copying.{Finishes, Spoils}
+use Rattle.cap_run.specs.Transcoding.{Finishes, Spoils}
 use Rattle.cap_run.specs.Demanding.{IsNotStrict, IsStrictUnder, no_demands}
 use Rattle.cap_run.specs.Running.{Settled}
 use Rattle.cap_run.specs.Streams.{EndsStream, ReadsAll, ReadsStream}

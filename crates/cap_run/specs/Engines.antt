@@ -10,7 +10,7 @@ use Rattle.cap_words.specs.declared.sinks.WordSink as sink
 use Rattle.cap_words.specs.declared.sources.SourceFault.TheVariants.{Truncated}
 use Rattle.cap_words.specs.declared.sources.WordSource as source
 use Rattle.cap_frame.specs.declared.fault.FrameFault.TheVariants.{Memory}
-use Rattle.cap_run.specs.Copying.{Copied, CopySettled, Finishes}
+use Rattle.cap_run.specs.Transcoding.{Transcoded, TranscodeSettled, Finishes}
 use Rattle.cap_run.specs.Running.{Appended, RunStops, Settled}
 use Rattle.cap_run.specs.Streams.{ReadsAll, ReadsStream}
 use Rattle.cap_run.specs.Telling.{Tells, TellsEach, TellsSegments, Told, WantsNone, messages_of}
@@ -78,20 +78,20 @@ module _ {S O : Type 0} (gs : source.Ghosts S) (go : output.Ghosts O) where
 
 module _ {S K : Type 0} (gs : source.Ghosts S) (gk : sink.Ghosts K) where
   -- What an engine does that copies at most `most` words, in pieces of at most `at_once` words.
-  pub record CopiesWords (at_once most : ℕ) (old new : S) (before after : K)
+  pub record TranscodesWords (at_once most : ℕ) (old new : S) (before after : K)
       (answer : Result ℕ CopyFault) : Type 0 where
-    pub copied : Copied gs gk at_once most old new before after answer
+    pub copied : Transcoded gs gk at_once most old new before after answer
     -- And the other way round, if the words are known. There are at most `most`, and the input
     -- isn't cut.
     pub whole : (own : List ℕ) → gs.words old ≡ Some own → gs.is_cut old ≡ false
         → length own ≤ most →
-        CopySettled answer ((answer ≡ Ok (length own)) × Finishes gk before after own)
+        TranscodeSettled answer ((answer ≡ Ok (length own)) × Finishes gk before after own)
     -- The input ends inside a word after them.
     pub cut_short : (own : List ℕ) → gs.words old ≡ Some own → gs.is_cut old ≡ true
         → length own ≤ most →
-        CopySettled answer ((byte : ℕ) × (answer ≡ Err (Source (Truncated byte)))
+        TranscodeSettled answer ((byte : ℕ) × (answer ≡ Err (Source (Truncated byte)))
         × (drop (length own) (gs.places old) ≡ byte ∷ [])
         × Finishes gk before after own)
     -- There are too many.
     pub many : (own : List ℕ) → gs.words old ≡ Some own → most < length own →
-        CopySettled answer ((answer ≡ Err TooManyWords) × Finishes gk before after (take most own))
+        TranscodeSettled answer ((answer ≡ Err TooManyWords) × Finishes gk before after (take most own))

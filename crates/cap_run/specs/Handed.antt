@@ -6,7 +6,7 @@ use Rattle.cap_words.specs.declared.ends.OutFault.{OutFault}
 use Rattle.cap_words.specs.declared.sources.WordSource as source
 use Rattle.cap_words.specs.declared.sinks.WordSink as sink
 use Rattle.cap_frame.specs.Putting.{Halts}
-use Rattle.cap_run.specs.Copying.{Gives}
+use Rattle.cap_run.specs.Transcoding.{Gives}
 
 module _ {S K : Type 0} (gs : source.Ghosts S) (gk : sink.Ghosts K) where
   -- Some words were read, at most `most`, and the output failed as they were put.

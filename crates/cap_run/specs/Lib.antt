@@ -1,6 +1,6 @@
 pub mod Canons
 pub mod Checking
-pub mod Copying
+pub mod Transcoding
 pub mod Demanding
 pub mod Engines
 pub mod Filtering

@@ -16,7 +16,7 @@ use Rattle.cap_vet.specs.declared.demands.Demands.{Demands}
 use Rattle.cap_vet.specs.declared.report.Report.{Report}
 use Rattle.cap_run.specs.Canons.{AreCanonised, CanonEnds, CanonStops, Canonised, HasNoCopy}
 use Rattle.cap_run.specs.Canons.{IsCanonised, StopsInCopy, canonised, copies_of}
-use Rattle.cap_run.specs.Copying.{Fills, Finishes}
+use Rattle.cap_run.specs.Transcoding.{Fills, Finishes}
 use Rattle.cap_run.specs.Demanding.{IsNotStrict, IsStrictUnder}
 use Rattle.cap_run.specs.Streams.{ReadsStream}
 use Rattle.cap_text.specs.declared.fault.Cause.{Cause}

@@ -6,7 +6,7 @@ use Rattle.cap_words.specs.declared.ends.OutFault.{OutFault}
 use Rattle.cap_words.specs.declared.sources.WordSource as source
 use Rattle.cap_words.specs.declared.sinks.WordSink as sink
 use Rattle.cap_frame.specs.Putting.{Halts}
-use Rattle.cap_run.specs.Copying.{Fills, Gives, GivesNone, StopsMidway}
+use Rattle.cap_run.specs.Transcoding.{Fills, Gives, GivesNone, StopsMidway}
 use Rattle.cap_run.specs.Streams.{EndsStream}
 use Rattle.cap_text.specs.declared.fault.CopyFault.{CopyFault}
 use Rattle.cap_text.specs.declared.fault.CopyFault.TheVariants.{TooManyWords, Source, Output}
@@ -20,7 +20,7 @@ is_open (Err (Output fault)) = false
 
 module _ {S K : Type 0} (gs : source.Ghosts S) (gk : sink.Ghosts K) where
   -- n words were read and put.
-  pub record Copies (old new : S) (before after : K) (n : ℕ) : Type 0 where
+  pub record Transcodes (old new : S) (before after : K) (n : ℕ) : Type 0 where
     pub own : List ℕ
     pub many : length own ≡ n
     pub gives : Gives gs old new own
@@ -40,10 +40,10 @@ module _ {S K : Type 0} (gs : source.Ghosts S) (gk : sink.Ghosts K) where
   -- output failed, the sink isn't finished.
   abbrev pub StopsPutting : ℕ → ℕ → S → S → K → K → Result ℕ CopyFault → Type 0
   StopsPutting at_once most old new before after (Ok n) =
-      (mid : S) × (n ≤ most) × Copies old mid before after n × EndsStream gs mid new
+      (mid : S) × (n ≤ most) × Transcodes old mid before after n × EndsStream gs mid new
   StopsPutting at_once most old new before after (Err TooManyWords) =
-      (mid : S) × (word : ℕ) × Copies old mid before after most × Gives gs mid new (word ∷ [])
+      (mid : S) × (word : ℕ) × Transcodes old mid before after most × Gives gs mid new (word ∷ [])
   StopsPutting at_once most old new before after (Err (Source fault)) =
-      (mid : S) × (n : ℕ) × (n ≤ most) × Copies old mid before after n × GivesNone gs mid new fault
+      (mid : S) × (n : ℕ) × (n ≤ most) × Transcodes old mid before after n × GivesNone gs mid new fault
   StopsPutting at_once most old new before after (Err (Output fault)) =
       StopsMidway gs gk at_once most old new before after fault

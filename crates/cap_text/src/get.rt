@@ -4,7 +4,7 @@ ghost use Rattle.cap_text.specs.Writing.{Writes};
 ghost use Rattle.cap_spec.specs.Standing.{DenotesAt};
 ghost use Rattle.cap_spec.specs.Texts.{get_text};
 ghost use Rattle.cap_spec.specs.Tree.{Tree};
-ghost use Rattle.cap_vet.specs.Handles.{node_message, node_spot};
+ghost use Rattle.cap_vet.specs.Views.{node_message, node_spot};
 ghost use Rattle.std.specs.Prelude.{IfNone, IfSome, None, Some};
 
 use crate::node::put_named;

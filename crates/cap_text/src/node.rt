@@ -6,7 +6,7 @@ ghost use Rattle.cap_spec.specs.Showing.{kind_of, words_of_own};
 ghost use Rattle.cap_spec.specs.Standing.{DenotesAt};
 ghost use Rattle.cap_spec.specs.Texts.{hex, label, own_text, word_lines};
 ghost use Rattle.cap_spec.specs.Tree.{Tree};
-ghost use Rattle.cap_vet.specs.Handles.{node_message, node_spot, shown};
+ghost use Rattle.cap_vet.specs.Views.{node_message, node_spot, shown};
 ghost use Rattle.std.specs.Prelude.{◌*◌, ◌+◌, ◌++◌, ◌<◌, ◌≡◌, ◌≤◌, ◌∷◌, [], length, replicate};
 
 use crate::output::make_room;

@@ -8,7 +8,7 @@ ghost use Rattle.cap_spec.specs.Denoting.{Denotes};
 ghost use Rattle.cap_spec.specs.Standing.{DenotesAt};
 ghost use Rattle.cap_spec.specs.Texts.{child_lines, dump_text};
 ghost use Rattle.cap_spec.specs.Tree.{Tree};
-ghost use Rattle.cap_vet.specs.Handles.{node_message, node_spot};
+ghost use Rattle.cap_vet.specs.Views.{node_message, node_spot};
 ghost use Rattle.cap_vet.specs.Vettings.{message_of, report_of};
 ghost use Rattle.std.specs.Prelude.{◌+◌, ◌++◌, ◌<◌, ◌≡◌, ◌≤◌, ℕ};
 

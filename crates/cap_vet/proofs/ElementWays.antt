@@ -65,7 +65,7 @@ module _ {M : Type 0} {g : segments.Ghosts M} (m : List (List ℕ)) (start : Pat
       let goes : Goes m there.0 (Item i) (element_spot e i) =
       rw (are.segment, are.first) (element_goes m there.0 are.at.found e.count e.data_words e.pointers i there.1.found are.kind lt) in
       arrives_element m start.words start.depth first there.0 are.at (element_arrival are.at e i) (Item i) e.segment
-          (e.first + i * (e.data_words + e.pointers)) e.data_words e.pointers there.1 goes exists inside refl refl refl refl refl
+      (e.first + i * (e.data_words + e.pointers)) e.data_words e.pointers there.1 goes exists inside refl refl refl refl refl
 
   -- A path on that arrives where the view is, without a lax pointer more, gives the view.
   gives : (rest : List Step) (a : Spot) (at : Arrival) → at.lax ≡ are.at.lax → v.found ≡ at.found
@@ -78,7 +78,7 @@ module _ {M : Type 0} {g : segments.Ghosts M} (m : List (List ℕ)) (start : Pat
       way_as m _ _ _ _ path (To at) is.limit is.deepest (a, leads first is.way) in
       let none : HasNoFaultBy demands (length m) at.lax =
       subst (λ (o : Option LaxPointer). HasNoFaultBy demands (length m) o) (sym lax)
-          (subst (λ (d : Demands). HasNoFaultBy d (length m) are.at.lax) is.under are.strict) in
+      (subst (λ (d : Demands). HasNoFaultBy d (length m) are.at.lax) is.under are.strict) in
       something_given demands m words depth path at v found way none
 
   pub element_given : v.found ≡ element_of e.segment (e.first + i * (e.data_words + e.pointers)) e.data_words e.pointers

@@ -6,13 +6,13 @@ mod Elements
 mod Owing
 mod Counting
 mod Steps
-mod Frames
+mod Runs
 mod Objects
 mod Turning
 mod Stacks
 mod Passing
 mod Verdicts
-mod ObjectFrames
+mod ObjectRuns
 mod Looks
 mod Near
 mod FoundLists

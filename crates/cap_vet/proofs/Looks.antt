@@ -16,7 +16,7 @@ use Rattle.cap_ptr.specs.declared.shapes.Target.{Target}
 use Rattle.cap_ptr.specs.declared.shapes.Followed.{Followed}
 use Rattle.cap_ptr.specs.declared.shapes.Followed.TheVariants as followed
 use Rattle.cap_vet.specs.PointerRuns.{OptionIn, option_spots}
-use Rattle.cap_vet.specs.Looking.{FrameRises, LooksObject, deepest_of, object_places}
+use Rattle.cap_vet.specs.Looking.{RunRises, LooksObject, deepest_of, object_places}
 use Rattle.cap_vet.specs.Levels.{levels_of}
 use Rattle.cap_vet.specs.declared.walk.pointer_run.PointerRun.{PointerRun}
 use Rattle.cap_vet.proofs.Steps.{cap_no_object, null_no_object}
@@ -66,11 +66,11 @@ followed_past m words depth spent s w level f h shallow past room =
     is_past (charge_of f) refl (followed_shallow m depth s w level f h shallow) (followed_costs m s w f h) (omega arith)
 
 -- an object within the limits
-pub looks_object : (m : List (List ℕ)) (words depth spent s w level q tag below : ℕ) (x : Target) (frame : Option PointerRun) → FindsTargetBy m s w q tag x
+pub looks_object : (m : List (List ℕ)) (words depth spent s w level q tag below : ℕ) (x : Target) (run : Option PointerRun) → FindsTargetBy m s w q tag x
     → below ≡ levels_of x.shape → level + levels_of x.shape ≤ depth → x.charge ≤ words - spent → spent ≤ words
-    → option_spots frame ≡ object_places q tag x.segment x.start level → OptionIn m frame → FrameRises level depth frame
-    → LooksObject m words depth spent s w level x.charge (level + below) frame x.pads x.segment x.start q tag
-looks_object m words depth spent s w level q tag below x frame f e shallow within room places inside rises = record {
+    → option_spots run ≡ object_places q tag x.segment x.start level → OptionIn m run → RunRises level depth run
+    → LooksObject m words depth spent s w level x.charge (level + below) run x.pads x.segment x.start q tag
+looks_object m words depth spent s w level q tag below x run f e shallow within room places inside rises = record {
   finds = f.finds;
   tagged = tagged_of m s w q tag x f;
   charge = f.object.charge;

@@ -13,7 +13,7 @@ use Rattle.cap_ptr.specs.Rows.{FindsRow, HasPointers}
 use Rattle.cap_ptr.specs.declared.near.Row.{Row}
 use Rattle.cap_ptr.proofs.NearObjects.{pointers-no_extra, pointers-plain}
 use Rattle.cap_vet.specs.PointerRuns.{LevelIs, OptionIn, option_spots, row_places}
-use Rattle.cap_vet.specs.Looking.{FrameRises, IsLooked, object_places}
+use Rattle.cap_vet.specs.Looking.{RunRises, IsLooked, object_places}
 use Rattle.cap_vet.specs.declared.walk.pointer_run.PointerRun.{PointerRun}
 use Rattle.cap_vet.specs.declared.walk.looking.Looked.TheVariants.{Object}
 
@@ -41,7 +41,7 @@ near_levels q n (inl (k, e)) = rw k refl
 near_levels q n (inr (inl (k, c, e))) = rw (k, c) refl
 near_levels q n (inr (inr (k, some, few, e))) = rw (k, seven_not q few) refl
 
-near_rises : (level depth : ℕ) (frame : Option PointerRun) → level ≤ depth → LevelIs (level + 1) frame → FrameRises level depth frame
+near_rises : (level depth : ℕ) (run : Option PointerRun) → level ≤ depth → LevelIs (level + 1) run → RunRises level depth run
 near_rises level depth None h e = tt
 near_rises level depth (Some f) h e = (omega (arith, e), omega (arith, e))
 
@@ -60,11 +60,11 @@ finds_over : (m : List (List ℕ)) (s w k t at b q : ℕ) → StandsFor m s w k 
 finds_over m s w k t at b q stands f = record { leads = stands.leads (to_object t (pos b) q) (says_own m t at q (pos b) f.leads); sits = f.sits }
 
 -- such an object within the limits
-pub looks_row : (m : List (List ℕ)) (words depth spent s w level k t at q : ℕ) (r : Row) (frame : Option PointerRun) → FindsRow m t at q r
+pub looks_row : (m : List (List ℕ)) (words depth spent s w level k t at q : ℕ) (r : Row) (run : Option PointerRun) → FindsRow m t at q r
     → StandsFor m s w k t at q → level ≤ depth → k + r.words ≤ words - spent → spent ≤ words
-    → option_spots frame ≡ row_places (level + 1) t r.pointers_start r.pointer_count → OptionIn m frame → LevelIs (level + 1) frame
-    → IsLooked m words depth spent s w level (Object (k + r.words) level frame)
-looks_row m words depth spent s w level k t at q r frame f stands shallow charge within places inside here =
+    → option_spots run ≡ row_places (level + 1) t r.pointers_start r.pointer_count → OptionIn m run → LevelIs (level + 1) run
+    → IsLooked m words depth spent s w level (Object (k + r.words) level run)
+looks_row m words depth spent s w level k t at q r run f stands shallow charge within places inside here =
     let plain = pointers-plain q r.pointer_count f.pointers in (
       k,
       t,
@@ -80,6 +80,6 @@ looks_row m words depth spent s w level k t at q r frame f stands shallow charge
         shallow = shallow;
         places = places ∙ near_places q r.start r.pointers_start r.pointer_count level t f.pointers (omega (arith, f.pointers_last, f.words));
         inside = inside;
-        rises = near_rises level depth frame shallow here;
+        rises = near_rises level depth run shallow here;
       },
     )

@@ -16,13 +16,13 @@ use Rattle.cap_spec.proofs.Trees.Charges.{extent_struct, extent_pointers, extent
 use Rattle.cap_spec.proofs.Trees.Finding.{one_object}
 use Rattle.cap_spec.proofs.Frames.Messages.{one_word}
 use Rattle.cap_vet.specs.Trails.{Ahead, row, element_rows}
-use Rattle.cap_vet.specs.Owing.{AreNear}
-use Rattle.cap_vet.specs.PointerRuns.{place_of, row_places, element_places}
+use Rattle.cap_vet.specs.Owing.{AreInLevels}
+use Rattle.cap_vet.specs.PointerRuns.{pointer_word_of, row_places, element_places}
 use Rattle.cap_vet.specs.Looking.{object_places, object_children}
 use Rattle.cap_vet.proofs.Children.{no_children, pointers_children, struct_children}
 use Rattle.cap_vet.proofs.Counting.{Counts}
 use Rattle.cap_vet.proofs.Elements.{structs_children}
-use Rattle.cap_vet.proofs.Frames.{places-elements, places-row}
+use Rattle.cap_vet.proofs.Runs.{places-elements, places-row}
 use Rattle.cap_vet.proofs.Steps.{pointers-counts, scalars-counts, struct-counts, structs-counts}
 use Rattle.cap_vet.proofs.Trails.{AreChildren}
 
@@ -36,29 +36,29 @@ length-elements base level t b ds ps i (suc n) =
     let e = length-append (row (base ++ Item i ∷ []) level Ptr t (b + ds) 0 ps) (element_rows base level t (b + ds + ps) ds ps (i + 1) n) in
     omega (arith, e, length-row (base ++ Item i ∷ []) level Ptr t (b + ds) 0 ps, length-elements base level t (b + ds + ps) ds ps (i + 1) n)
 
-near-row : (base : List Step) (depth level : ℕ) (step : ℕ → Step) (t b i n : ℕ) → 1 ≤ level → level ≤ depth + 1 → AreNear depth (row base level step t b i n)
+near-row : (base : List Step) (depth level : ℕ) (step : ℕ → Step) (t b i n : ℕ) → 1 ≤ level → level ≤ depth + 1 → AreInLevels depth (row base level step t b i n)
 near-row base depth level step t b i zero h k = tt
 near-row base depth level step t b i (suc n) h k = (h, k, near-row base depth level step t (b + 1) (i + 1) n h k)
 
-pub near-append : (depth : ℕ) (xs ys : List Ahead) → AreNear depth xs → AreNear depth ys → AreNear depth (xs ++ ys)
+pub near-append : (depth : ℕ) (xs ys : List Ahead) → AreInLevels depth xs → AreInLevels depth ys → AreInLevels depth (xs ++ ys)
 near-append depth [] ys h k = k
 near-append depth (a ∷ xs) ys h k = (h.0, h.1, near-append depth xs ys h.2 k)
 
-near-elements : (base : List Step) (depth level t b ds ps i n : ℕ) → 1 ≤ level → level ≤ depth + 1 → AreNear depth (element_rows base level t b ds ps i n)
+near-elements : (base : List Step) (depth level t b ds ps i n : ℕ) → 1 ≤ level → level ≤ depth + 1 → AreInLevels depth (element_rows base level t b ds ps i n)
 near-elements base depth level t b ds ps i zero h k = tt
 near-elements base depth level t b ds ps i (suc n) h k =
     near-append depth (row (base ++ Item i ∷ []) level Ptr t (b + ds) 0 ps) (element_rows base level t (b + ds + ps) ds ps (i + 1) n)
     (near-row (base ++ Item i ∷ []) depth level Ptr t (b + ds) 0 ps h k) (near-elements base depth level t (b + ds + ps) ds ps (i + 1) n h k)
 
 -- the pointers of the elements of a list are near where the elements are the deepest
-near-structs : (base : List Step) (low level t b ds ps n : ℕ) → AreNear (max low (level + element_levels n))
+near-structs : (base : List Step) (low level t b ds ps n : ℕ) → AreInLevels (max low (level + element_levels n))
     (element_rows base (level + (element_levels 1 + 1)) t b ds ps 0 n)
 near-structs base low level t b ds ps zero = tt
 near-structs base low level t b ds ps (suc n) = near-elements base (max low (level + element_levels 1))
     (level + (element_levels 1 + 1)) t b ds ps 0 (suc n) (omega arith) (omega arith)
 
 -- what is near stays so where the walk goes deeper
-pub near-deeper : (depth deeper : ℕ) (xs : List Ahead) → depth ≤ deeper → AreNear depth xs → AreNear deeper xs
+pub near-deeper : (depth deeper : ℕ) (xs : List Ahead) → depth ≤ deeper → AreInLevels depth xs → AreInLevels deeper xs
 near-deeper depth deeper [] h k = tt
 near-deeper depth deeper (a ∷ xs) h k = (k.0, omega (arith, k.1), near-deeper depth deeper xs h k.2)
 
@@ -66,9 +66,9 @@ near-deeper depth deeper (a ∷ xs) h k = (k.0, omega (arith, k.1), near-deeper 
 pub record Brings (m : List (List ℕ)) (a : Ahead) (q tag t b cost low deep : ℕ) : Type 0 where
   pub children : AreChildren m a.path (object_children a.path q tag t b a.level)
   pub counts : Counts m a (object_children a.path q tag t b a.level) cost low (max low deep) 0
-  pub places : map place_of (object_children a.path q tag t b a.level) ≡ object_places q tag t b a.level
+  pub places : map pointer_word_of (object_children a.path q tag t b a.level) ≡ object_places q tag t b a.level
   pub few : length (object_children a.path q tag t b a.level) ≤ cost
-  pub near : AreNear (max low deep) (object_children a.path q tag t b a.level)
+  pub near : AreInLevels (max low deep) (object_children a.path q tag t b a.level)
 
 -- one cost and one depth in place of equal ones
 counts-at : (m : List (List ℕ)) (a : Ahead) (children : List Ahead) (cost cost' low low' low'' caps : ℕ) → cost ≡ cost'
@@ -207,13 +207,13 @@ object-brings m a k t b q tag low r f tagged = elim (cases_of m a.segment a.word
 ]
 
 -- the children stand at the object's pointer words
-pub object_places-children : (base : List Step) (q tag t b level : ℕ) → map place_of (object_children base q tag t b level) ≡ object_places q tag t b level
+pub object_places-children : (base : List Step) (q tag t b level : ℕ) → map pointer_word_of (object_children base q tag t b level) ≡ object_places q tag t b level
 object_places-children base q tag t b level = by_kind (eqb_tells (kind q) 0) (eqb_tells (code q) 6) (eqb_tells (code q) 7)
   where
     by_kind : (((kind q == 0) ≡ true) × (kind q ≡ 0)) ⊎ (((kind q == 0) ≡ false) × (kind q ≡ 0 → ⊥))
         → (((code q == 6) ≡ true) × (code q ≡ 6)) ⊎ (((code q == 6) ≡ false) × (code q ≡ 6 → ⊥))
         → (((code q == 7) ≡ true) × (code q ≡ 7)) ⊎ (((code q == 7) ≡ false) × (code q ≡ 7 → ⊥))
-        → map place_of (object_children base q tag t b level) ≡ object_places q tag t b level
+        → map pointer_word_of (object_children base q tag t b level) ≡ object_places q tag t b level
     by_kind (inl h) i j = rw h.0 (places-row base (level + 1) Ptr t (b + data_size q) 0 (pointer_size q))
     by_kind (inr h) (inl i) j = rw (h.0, i.0) (places-row base (level + 1) Item t b 0 (list_size q))
     by_kind (inr h) (inr i) (inl j) = rw (h.0, i.0, j.0)

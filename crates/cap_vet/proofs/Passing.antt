@@ -7,14 +7,14 @@ use Rattle.cap_spec.specs.Messages.{HasWord}
 use Rattle.cap_spec.specs.declared.Step.{Step}
 use Rattle.cap_vet.specs.Looking.{IsLooked}
 use Rattle.cap_vet.specs.Turning.{added}
-use Rattle.cap_vet.specs.PointerRuns.{RunIn, IsRest, all_spots, element_places, place_of, row_places, spots}
+use Rattle.cap_vet.specs.PointerRuns.{RunIn, IsRest, all_spots, element_places, pointer_word_of, row_places, spots}
 use Rattle.cap_vet.specs.Passing.{Passes}
 use Rattle.cap_vet.specs.Trails.{Ahead}
 use Rattle.cap_vet.specs.Walking.{Walks, work_left}
 use Rattle.cap_vet.specs.declared.walk.pointer_run.PointerRun.{PointerRun}
 use Rattle.cap_vet.specs.declared.walk.looking.Looked.TheVariants.{Null}
 use Rattle.cap_vet.specs.declared.report.Report.{Report}
-use Rattle.cap_vet.proofs.Frames.{rest_of_row}
+use Rattle.cap_vet.proofs.Runs.{rest_of_row}
 use Rattle.cap_vet.proofs.Stacks.{next_seen, walks_on, work_smaller}
 
 -- behind the first of several words in a row
@@ -65,12 +65,12 @@ pub topmost_few : (m : List (List ℕ)) (words depth : ℕ) (runs : List Pointer
     → Walks m words depth (runs ++ f ∷ []) r seen ahead
     → r.pointers + f.left ≤ r.charge + 1
 topmost_few m words depth runs f r seen ahead w =
-    let places : map place_of ahead ≡ spots f ++ all_spots (reverse runs) = rw (reverse-append runs (f ∷ [])) at w.places in
+    let places : map pointer_word_of ahead ≡ spots f ++ all_spots (reverse runs) = rw (reverse-append runs (f ∷ [])) at w.places in
     let row = row_places f.level f.segment f.at f.left in
     let others = element_places f.level f.segment (f.at + f.left) f.data_words f.pointers f.more in
     let a : length (spots f ++ all_spots (reverse runs)) ≡ length (row ++ others) + length (all_spots (reverse runs)) =
     length-append (row ++ others) (all_spots (reverse runs)) in
     let b : length (row ++ others) ≡ length row + length others = length-append row others in
-    let n : length (map place_of ahead) ≡ length ahead = length-map ahead place_of in
-    let e : length (map place_of ahead) ≡ length (spots f ++ all_spots (reverse runs)) = ap length places in
+    let n : length (map pointer_word_of ahead) ≡ length ahead = length-map ahead pointer_word_of in
+    let e : length (map pointer_word_of ahead) ≡ length (spots f ++ all_spots (reverse runs)) = ap length places in
     omega (arith, w.progress.bound, a, b, n, e, row_length f.level f.segment f.at f.left)

@@ -5,7 +5,7 @@ use Rattle.cap_spec.specs.Arriving.{StandsAs, StandsElement}
 use Rattle.cap_spec.specs.Paths.{Spot, Stands, word, element}
 use Rattle.cap_spec.specs.declared.Kind.{Kind}
 use Rattle.cap_spec.specs.declared.Kind.TheVariants.{Null, Cap, Struct, Scalars, Pointers, Structs}
-use Rattle.cap_vet.specs.Handles.{place_of_kind}
+use Rattle.cap_vet.specs.Views.{place_of_kind}
 use Rattle.cap_vet.specs.declared.nodes.place.Place.{Place}
 use Rattle.cap_vet.proofs.Steps.{cap_no_object, null_no_object}
 

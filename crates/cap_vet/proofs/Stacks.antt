@@ -11,8 +11,8 @@ use Rattle.cap_spec.specs.Denoting.{Finds}
 use Rattle.cap_spec.specs.Verdicts.{levels_below}
 use Rattle.cap_spec.specs.declared.Step.{Step}
 use Rattle.cap_vet.specs.Trails.{Ahead}
-use Rattle.cap_vet.specs.PointerRuns.{RunIn, IsRest, LevelIs, OptionIn, all_spots, option_spots, place_of, spots}
-use Rattle.cap_vet.specs.Looking.{FrameRises, IsLooked, object_children}
+use Rattle.cap_vet.specs.PointerRuns.{RunIn, IsRest, LevelIs, OptionIn, all_spots, option_spots, pointer_word_of, spots}
+use Rattle.cap_vet.specs.Looking.{RunRises, IsLooked, object_children}
 use Rattle.cap_vet.specs.Turning.{added, run_below}
 use Rattle.cap_vet.specs.Limits.{depth_of, words_of}
 use Rattle.cap_vet.specs.Turns.{GoesOn, GoesOnBelow, HasVisited, IsAt, IsWalking}
@@ -49,7 +49,7 @@ high-rest level None runs h = omega arith
 high-rest level (Some r) runs h = omega arith
 
 -- and what is below a word is higher
-stacked-below : (depth level : ℕ) (r : Option PointerRun) (runs : List PointerRun) → length runs ≤ level → FrameRises level depth r
+stacked-below : (depth level : ℕ) (r : Option PointerRun) (runs : List PointerRun) → length runs ≤ level → RunRises level depth r
     → AreStacked depth runs → AreStacked depth (option_to_list r ++ runs)
 stacked-below depth level None runs h l s = s
 stacked-below depth level (Some r) runs h l s = (omega (arith, l.0), l.1, s)
@@ -61,7 +61,7 @@ pub next_seen : (m : List (List ℕ)) (words depth : ℕ) (runs : List PointerRu
     → (n : IsNext m words depth f.segment f.at f.level (runs ++ option_to_list r) report) × (n.seen ≡ seen)
 next_seen m words depth runs f r report seen aheads w rest =
     let e : reverse (runs ++ f ∷ []) ≡ f ∷ reverse runs = reverse-append runs (f ∷ []) in
-    let places : map place_of aheads ≡ spots f ++ all_spots (reverse runs) = rw e at w.places in
+    let places : map pointer_word_of aheads ≡ spots f ++ all_spots (reverse runs) = rw e at w.places in
     let inside : AllByRecursion (RunIn m) (f ∷ reverse runs) = rw e at w.inside in
     let stacked : AreStacked depth (f ∷ reverse runs) = rw e at w.stacked in
     let more = reverse-more runs r in
@@ -131,8 +131,8 @@ walks_on m words depth s w level runs report (looked.Object cost deep below) t (
     report.first_cap t.seen t.a t.ahead t.progress own o.tagged within shallow in
     let e : k + extent q + extra q tag ≡ cost = sym o.charge in
     let g : t.a.level + levels_below q tag ≡ deep = omega (arith, o.deepest, t.leads_to) in
-    let places : map place_of (children ++ t.ahead) ≡ option_spots below ++ all_spots (reverse runs) =
-    map-append place_of children t.ahead ∙ rw (object_places-children t.a.path q tag u b t.a.level, t.leads_to, o.places, t.places) refl in
+    let places : map pointer_word_of (children ++ t.ahead) ≡ option_spots below ++ all_spots (reverse runs) =
+    map-append pointer_word_of children t.ahead ∙ rw (object_places-children t.a.path q tag u b t.a.level, t.leads_to, o.places, t.places) refl in
     let more = reverse-more runs below in (
       children ++ t.ahead,
       record {
@@ -152,10 +152,10 @@ few_below m words depth s w level runs report (looked.Cap cost) t (h, within) = 
 few_below m words depth s w level runs report (looked.Object cost deep below) t (k, u, b, q, tag, o) =
     let own : Finds m t.a.segment t.a.word k u b q = rw (t.segment, t.at) o.finds in
     let brings = object-brings m t.a k u b q tag report.depth t.progress.trail.ahead_reached.0 own o.tagged in
-    let e : option_spots below ≡ map place_of (object_children t.a.path q tag u b t.a.level) =
+    let e : option_spots below ≡ map pointer_word_of (object_children t.a.path q tag u b t.a.level) =
     o.places ∙ rw (← t.leads_to) (sym (object_places-children t.a.path q tag u b t.a.level)) in
     let n : length (option_spots below) ≡ length (object_children t.a.path q tag u b t.a.level) =
-    ap length e ∙ length-map (object_children t.a.path q tag u b t.a.level) place_of in
+    ap length e ∙ length-map (object_children t.a.path q tag u b t.a.level) pointer_word_of in
     (omega (arith, n, brings.few, o.charge), o.within)
 
 -- so the work that is left falls

@@ -15,7 +15,7 @@ use Rattle.cap_spec.specs.declared.Step.TheVariants.{Ptr, Item}
 use Rattle.cap_spec.proofs.Paths.Walks.{one_reached}
 use Rattle.cap_vet.specs.Trails.{Ahead, Falls}
 use Rattle.cap_vet.specs.Owing.{IsCount}
-use Rattle.cap_vet.specs.PointerRuns.{Place, place_of}
+use Rattle.cap_vet.specs.PointerRuns.{PointerWord, pointer_word_of}
 use Rattle.cap_vet.specs.Walking.{IsFirstOf, LeadsToCap, Progress}
 use Rattle.std.proofs.lemmas.List.{append-nil}
 use Rattle.std.proofs.lemmas.Bool.Decides.{eqb_tells}
@@ -34,20 +34,20 @@ use Rattle.cap_vet.proofs.Trails.{falls-step, trail-step}
 use Rattle.cap_vet.specs.Looking.{object_children}
 
 -- the word ahead that stands at a place
-pub record Next (x : Place) (places : List Place) (aheads : List Ahead) : Type 0 where
+pub record Next (x : PointerWord) (places : List PointerWord) (aheads : List Ahead) : Type 0 where
   pub a : Ahead
   pub ahead : List Ahead
   pub whole : aheads ≡ a ∷ ahead
   pub segment : a.segment ≡ x.0
   pub word : a.word ≡ x.1
   pub level : a.level ≡ x.2
-  pub rest : map place_of ahead ≡ places
+  pub rest : map pointer_word_of ahead ≡ places
 
-pub next_ahead : (x : Place) (places : List Place) (aheads : List Ahead) → map place_of aheads ≡ x ∷ places → Next x places aheads
+pub next_ahead : (x : PointerWord) (places : List PointerWord) (aheads : List Ahead) → map pointer_word_of aheads ≡ x ∷ places → Next x places aheads
 next_ahead x places [] e = absurd (let h : [] ≡ x ∷ places = e in cc)
 next_ahead x places (a ∷ ahead) e =
-    let here : place_of a ≡ x = cc in
-    let later : map place_of ahead ≡ places = cc in record {
+    let here : pointer_word_of a ≡ x = cc in
+    let later : map pointer_word_of ahead ≡ places = cc in record {
       a = a;
       ahead = ahead;
       whole = refl;

@@ -13,7 +13,7 @@ use Rattle.cap_spec.specs.declared.Reason.{Reason}
 use Rattle.cap_spec.specs.declared.Reason.TheVariants.{NoRoot}
 use Rattle.cap_spec.specs.declared.Step.{Step}
 use Rattle.cap_vet.specs.Trails.{Ahead, IsTrail}
-use Rattle.cap_vet.specs.PointerRuns.{place_of, root_run}
+use Rattle.cap_vet.specs.PointerRuns.{pointer_word_of, root_run}
 use Rattle.cap_vet.specs.Limits.{depth_of, words_of}
 use Rattle.cap_vet.specs.Turns.{IsWalking}
 use Rattle.cap_vet.specs.Walking.{IsFirstOf, IsNext, Progress, Walks}
@@ -71,9 +71,9 @@ first_fault m words depth s w level runs report v t h =
     }
 
 -- where no word is ahead, none is left on the runs
-pub none_ahead : (ahead : List Ahead) → map place_of ahead ≡ [] → ahead ≡ []
+pub none_ahead : (ahead : List Ahead) → map pointer_word_of ahead ≡ [] → ahead ≡ []
 none_ahead [] e = refl
-none_ahead (a ∷ ahead) e = absurd (let h : place_of a ∷ map place_of ahead ≡ [] = e in cc)
+none_ahead (a ∷ ahead) e = absurd (let h : pointer_word_of a ∷ map pointer_word_of ahead ≡ [] = e in cc)
 
 -- all that a path reaches was looked at
 all_seen : (m : List (List ℕ)) (seen : List (List Step)) (q : List Step) (level s w : ℕ) → IsTrail m seen [] → Reaches m q level s w → IsOneOf q seen

@@ -3,7 +3,7 @@ pub mod Charging
 pub mod Demands
 pub mod Exclusives
 pub mod Finding
-pub mod Handles
+pub mod Views
 pub mod Levels
 pub mod Limits
 pub mod Looking

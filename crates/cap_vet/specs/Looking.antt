@@ -15,13 +15,13 @@ use Rattle.cap_ptr.specs.declared.shapes.Followed.{Followed}
 use Rattle.cap_ptr.specs.declared.shapes.Followed.TheVariants as followed
 use Rattle.cap_vet.specs.Levels.{levels_of}
 use Rattle.cap_vet.specs.Trails.{Ahead, row, element_rows}
-use Rattle.cap_vet.specs.PointerRuns.{Place, row_places, element_places, option_spots, OptionIn}
+use Rattle.cap_vet.specs.PointerRuns.{PointerWord, row_places, element_places, option_spots, OptionIn}
 use Rattle.cap_vet.specs.declared.walk.pointer_run.PointerRun.{PointerRun}
 use Rattle.cap_vet.specs.declared.walk.looking.Looked.{Looked}
 use Rattle.cap_vet.specs.declared.walk.looking.Looked.TheVariants.{Null, Cap, Object}
 
 -- the pointer words of the object of shape q at t:b, of this level
-abbrev pub object_places : ℕ → ℕ → ℕ → ℕ → ℕ → List Place
+abbrev pub object_places : ℕ → ℕ → ℕ → ℕ → ℕ → List PointerWord
 object_places q tag t b level =
     if kind q == 0 then row_places (level + 1) t (b + data_size q) (pointer_size q) else
     (if code q == 6 then row_places (level + 1) t b (list_size q) else
@@ -34,10 +34,10 @@ object_children base q tag t b level =
     (if code q == 6 then row base (level + 1) Item t b 0 (list_size q) else
     (if code q == 7 then element_rows base (level + (element_levels 1 + 1)) t (b + 1) (data_size tag) (pointer_size tag) 0 (middle tag) else []))
 
--- the words of the frame lead to levels above this one, and to none past the limit
-abbrev pub FrameRises : ℕ → ℕ → Option PointerRun → Type 0
-FrameRises level depth None = ⊤
-FrameRises level depth (Some f) = (level + 1 ≤ f.level) × (f.level ≤ depth + 1)
+-- the words of the run lead to levels above this one, and to none past the limit
+abbrev pub RunRises : ℕ → ℕ → Option PointerRun → Type 0
+RunRises level depth None = ⊤
+RunRises level depth (Some f) = (level + 1 ≤ f.level) × (f.level ≤ depth + 1)
 
 -- the word at t:b takes the place of the pointer word at s:w, over k pads, if it is that of an object
 abbrev pub MayStandFor : List (List ℕ) → ℕ → ℕ → ℕ → ℕ → ℕ → Type 0
@@ -51,22 +51,22 @@ IsObjectWord m s w = (q : ℕ) → HasWord m s w q → (kind q < 2) × (q ≢ 0)
 abbrev pub IsNotLax : List (List ℕ) → ℕ → ℕ → Type 0
 IsNotLax m s w = (what : Lax) → ¬ IsLaxAt m s w what
 
--- An object is found, which keeps to the limits. Its pointer words are those of the frame.
-pub record LooksObject (m : List (List ℕ)) (words depth spent s w level cost deep : ℕ) (frame : Option PointerRun) (k t b q tag : ℕ) : Type 0 where
+-- An object is found, which keeps to the limits. Its pointer words are those of the run.
+pub record LooksObject (m : List (List ℕ)) (words depth spent s w level cost deep : ℕ) (run : Option PointerRun) (k t b q tag : ℕ) : Type 0 where
   pub finds : Finds m s w k t b q
   pub tagged : IsComposite q → HasWord m t b tag
   pub charge : cost ≡ k + extent q + extra q tag
   pub within : spent + cost ≤ words
   pub deepest : deep ≡ level + levels_below q tag
   pub shallow : deep ≤ depth
-  pub places : option_spots frame ≡ object_places q tag t b level
-  pub inside : OptionIn m frame
-  pub rises : FrameRises level depth frame
+  pub places : option_spots run ≡ object_places q tag t b level
+  pub inside : OptionIn m run
+  pub rises : RunRises level depth run
 
 abbrev pub IsLooked : List (List ℕ) → ℕ → ℕ → ℕ → ℕ → ℕ → ℕ → Looked → Type 0
 IsLooked m words depth spent s w level (Null cost) = Leads m s w cost to_null × (spent + cost ≤ words)
 IsLooked m words depth spent s w level (Cap cost) = ((i : ℕ) × Leads m s w cost (to_cap i)) × (spent + cost ≤ words)
-IsLooked m words depth spent s w level (Object cost deep frame) = (k t b q tag : ℕ) × LooksObject m words depth spent s w level cost deep frame k t b q tag
+IsLooked m words depth spent s w level (Object cost deep run) = (k t b q tag : ℕ) × LooksObject m words depth spent s w level cost deep run k t b q tag
 
 -- the deepest level that an object of this level takes, and 0 if there is none
 abbrev pub deepest_of : ℕ → Followed → ℕ

@@ -32,6 +32,6 @@ pub record IsCount (m : List (List ℕ)) (counted : Counted) (ahead : List Ahead
       × Completes m counted charge top pointers caps t d
 
 -- no level ahead is more than one below the deepest so far
-abbrev pub AreNear : ℕ → List Ahead → Type 0
-AreNear depth [] = ⊤
-AreNear depth (a ∷ rest) = (1 ≤ a.level) × (a.level ≤ depth + 1) × AreNear depth rest
+abbrev pub AreInLevels : ℕ → List Ahead → Type 0
+AreInLevels depth [] = ⊤
+AreInLevels depth (a ∷ rest) = (1 ≤ a.level) × (a.level ≤ depth + 1) × AreInLevels depth rest

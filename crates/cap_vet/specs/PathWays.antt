@@ -8,7 +8,7 @@ use Rattle.cap_spec.specs.declared.Step.{Step}
 use Rattle.cap_spec.specs.declared.Step.TheVariants.{Item, Ptr}
 use Rattle.cap_spec.specs.declared.StrictRefusal.{StrictRefusal}
 use Rattle.cap_vet.specs.Demands.{words_under}
-use Rattle.cap_vet.specs.Handles.{kept_place, view_kind}
+use Rattle.cap_vet.specs.Views.{kept_place, view_kind}
 use Rattle.cap_vet.specs.PathDemands.{IsPathFault, MeetsOnPath}
 use Rattle.cap_vet.specs.PathStrictness.{HasNoFaultBy}
 use Rattle.cap_vet.specs.Ways.{IsWay}

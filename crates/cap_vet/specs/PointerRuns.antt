@@ -6,33 +6,33 @@ use Rattle.cap_vet.specs.Trails.{Ahead}
 use Rattle.cap_vet.specs.declared.walk.pointer_run.PointerRun.{PointerRun}
 
 -- a pointer word: its segment, its word, and the level of what it leads to
-abbrev pub Place : Type 0
-Place = ℕ × ℕ × ℕ
+abbrev pub PointerWord : Type 0
+PointerWord = ℕ × ℕ × ℕ
 
 -- the place of a word ahead
-abbrev pub place_of : Ahead → Place
-place_of a = (a.segment, a.word, a.level)
+abbrev pub pointer_word_of : Ahead → PointerWord
+pointer_word_of a = (a.segment, a.word, a.level)
 
 -- n pointer words in a row
-abbrev pub row_places : ℕ → ℕ → ℕ → ℕ → List Place
+abbrev pub row_places : ℕ → ℕ → ℕ → ℕ → List PointerWord
 row_places level t b zero = []
 row_places level t b (suc n) = (t, b, level) ∷ row_places level t (b + 1) n
 
 -- those of n elements of ds data words and ps pointers
-abbrev pub element_places : ℕ → ℕ → ℕ → ℕ → ℕ → ℕ → List Place
+abbrev pub element_places : ℕ → ℕ → ℕ → ℕ → ℕ → ℕ → List PointerWord
 element_places level t b ds ps zero = []
 element_places level t b ds ps (suc n) = row_places level t (b + ds) ps ++ element_places level t (b + ds + ps) ds ps n
 
 -- the pointer words of a run
-abbrev pub spots : PointerRun → List Place
+abbrev pub spots : PointerRun → List PointerWord
 spots f = row_places f.level f.segment f.at f.left ++ element_places f.level f.segment (f.at + f.left) f.data_words f.pointers f.more
 
-abbrev pub option_spots : Option PointerRun → List Place
+abbrev pub option_spots : Option PointerRun → List PointerWord
 option_spots None = []
 option_spots (Some f) = spots f
 
 -- the pointer words of runs, the topmost first
-abbrev pub all_spots : List PointerRun → List Place
+abbrev pub all_spots : List PointerRun → List PointerWord
 all_spots runs = flat_map spots runs
 
 -- the run, where something is left of it

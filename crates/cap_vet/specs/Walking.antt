@@ -8,8 +8,8 @@ use Rattle.cap_spec.specs.Verdicts.{CostOf}
 use Rattle.cap_spec.specs.Faults.{AreShallow}
 use Rattle.cap_spec.specs.declared.Step.{Step}
 use Rattle.cap_vet.specs.Trails.{Ahead, IsTrail}
-use Rattle.cap_vet.specs.Owing.{AreNear, IsCount}
-use Rattle.cap_vet.specs.PointerRuns.{RunIn, all_spots, place_of}
+use Rattle.cap_vet.specs.Owing.{AreInLevels, IsCount}
+use Rattle.cap_vet.specs.PointerRuns.{RunIn, all_spots, pointer_word_of}
 use Rattle.cap_vet.specs.declared.walk.pointer_run.PointerRun.{PointerRun}
 use Rattle.cap_vet.specs.declared.report.Report.{Report}
 
@@ -34,7 +34,7 @@ pub record Progress (m : List (List ℕ)) (words depth : ℕ) (charge deepest po
     × ℕ)) (seen : List (List Step)) (ahead : List Ahead) : Type 0 where
   pub trail : IsTrail m seen ahead
   pub count : IsCount m record { charge = charge; depth = deepest; pointers = pointers; caps = caps } ahead
-  pub near : AreNear deepest ahead
+  pub near : AreInLevels deepest ahead
   pub within : charge ≤ words
   pub shallow : deepest ≤ depth
   pub costs : CostOf m seen charge
@@ -47,7 +47,7 @@ pub record Progress (m : List (List ℕ)) (words depth : ℕ) (charge deepest po
 -- The words of the runs are ahead, the topmost run's first, and those that were looked at are in the report.
 pub record Walks (m : List (List ℕ)) (words depth : ℕ) (runs : List PointerRun) (report : Report) (seen : List (List Step)) (ahead : List Ahead) : Type 0 where
   pub progress : Progress m words depth report.charge report.depth report.pointers report.caps report.first_cap seen ahead
-  pub places : map place_of ahead ≡ all_spots (reverse runs)
+  pub places : map pointer_word_of ahead ≡ all_spots (reverse runs)
   pub inside : AllByRecursion (RunIn m) (reverse runs)
   pub stacked : AreStacked depth (reverse runs)
 
@@ -62,7 +62,7 @@ pub record IsNext (m : List (List ℕ)) (words depth s w level : ℕ) (runs : Li
   pub leads_to : a.level ≡ level
   pub exists : s < length m
   pub within : w < length (segment_of m s)
-  pub places : map place_of ahead ≡ all_spots (reverse runs)
+  pub places : map pointer_word_of ahead ≡ all_spots (reverse runs)
   pub inside : AllByRecursion (RunIn m) (reverse runs)
   pub stacked : AreStacked depth (reverse runs)
   pub high : length (reverse runs) ≤ level

@@ -1,7 +1,7 @@
 //! The engine that puts the canonical copy of each message to a sink.
 
 ghost use Rattle.cap_run.specs.Canons.{IsCanonised, MakesCopies, MakesCopiesUnder};
-ghost use Rattle.cap_run.specs.Copying.{Fills};
+ghost use Rattle.cap_run.specs.Transcoding.{Fills};
 ghost use Rattle.cap_run.specs.Making.{CopyStops, Made, Making, NextStops, PutsNext, is_unfinished};
 ghost use Rattle.cap_run.specs.Making.{refused_cause};
 ghost use Rattle.cap_run.specs.Streams.{EndsStream};

@@ -1,9 +1,9 @@
 //! The engines that put the words of one encoding in another. They don't look at framing.
 
-ghost use Rattle.cap_run.specs.Copying.{Copied};
-ghost use Rattle.cap_run.specs.Engines.{CopiesWords, most_packed_at_once, most_unpacked_at_once};
+ghost use Rattle.cap_run.specs.Transcoding.{Transcoded};
+ghost use Rattle.cap_run.specs.Engines.{TranscodesWords, most_packed_at_once, most_unpacked_at_once};
 ghost use Rattle.cap_run.specs.Handed.{HandsOver};
-ghost use Rattle.cap_run.specs.PuttingEnds.{Copies, StopsPutting, is_open};
+ghost use Rattle.cap_run.specs.PuttingEnds.{Transcodes, StopsPutting, is_open};
 ghost use Rattle.std.specs.Prelude.{◌*◌, ◌/◌, ◌≡◌, ◌≤◌, IfErr, IfOk, length};
 
 use crate::fault::output_fault;
@@ -27,7 +27,7 @@ fn put_ready<S: WordSource, K: WordSink>(
 ) -> Result<u64, OutFault>
     ensures few { IfOk result (λ n. 8 * n ≤ length room.old) }
     ensures ok { IfOk result
-        (Copies S.WordSource K.WordSink source.old source.new sink.old sink.new) }
+        (Transcodes S.WordSource K.WordSink source.old source.new sink.old sink.new) }
     ensures err { IfErr result (HandsOver S.WordSource K.WordSink (length room.old / 8)
         source.old source.new sink.old sink.new) }
 {
@@ -100,7 +100,7 @@ fn transcode<S: WordSource, K: WordSink>(
     room: &mut [u8],
 ) -> Result<u64, CopyFault>
     requires { 8 ≤ length room.old }
-    ensures { Copied S.WordSource K.WordSink (length room.old / 8) words
+    ensures { Transcoded S.WordSource K.WordSink (length room.old / 8) words
         source.old source.new sink.old sink.new result }
 {
     let answer = put_words(source, sink, words, room);
@@ -137,7 +137,7 @@ pub fn run_pack<S: WordSource, O: ByteOut>(
     sink: &mut Packer<O>,
     words: u64,
 ) -> Result<u64, CopyFault>
-    ensures { CopiesWords S.WordSource ⟦<Packer<O> as WordSink>⟧ most_packed_at_once words
+    ensures { TranscodesWords S.WordSource ⟦<Packer<O> as WordSink>⟧ most_packed_at_once words
         source.old source.new sink.old sink.new result }
 {
     transcode(source, sink, words, &mut [0; ROOM_TO_PACK])
@@ -167,7 +167,7 @@ pub fn run_unpack<S: WordSource, K: WordSink>(
     sink: &mut K,
     words: u64,
 ) -> Result<u64, CopyFault>
-    ensures { CopiesWords S.WordSource K.WordSink most_unpacked_at_once words
+    ensures { TranscodesWords S.WordSource K.WordSink most_unpacked_at_once words
         source.old source.new sink.old sink.new result }
 {
     transcode(source, sink, words, &mut [0; ROOM_TO_UNPACK])

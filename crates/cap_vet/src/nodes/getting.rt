@@ -7,7 +7,7 @@ ghost use Rattle.cap_spec.specs.declared.Step.{Step};
 ghost use Rattle.cap_spec.specs.declared.StrictRefusal.{StrictRefusal};
 ghost use Rattle.cap_vet.specs.Charging.{Arrives};
 ghost use Rattle.cap_vet.specs.Demands.{words_under};
-ghost use Rattle.cap_vet.specs.Handles.{kept_place, view_kind, view_message};
+ghost use Rattle.cap_vet.specs.Views.{kept_place, view_kind, view_message};
 ghost use Rattle.cap_vet.specs.Limits.{depth_of, words_of};
 ghost use Rattle.cap_vet.specs.PathDemands.{IsPathFault, MeetsOnPath};
 ghost use Rattle.cap_vet.specs.PathWays.{IsGiven};

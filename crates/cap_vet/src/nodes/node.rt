@@ -42,7 +42,7 @@ impl<'m, M: Segments> Node<'m, M> {
     ghost use Rattle.cap_spec.specs.Standing.{DenotesAt};
     ghost use Rattle.cap_spec.specs.Tree.{Tree, part_at};
     ghost use Rattle.cap_vet.specs.Finding.{IsFound};
-    ghost use Rattle.cap_vet.specs.Handles.{kept_place, node_message, node_spot, shown, view_kind, view_message, view_place};
+    ghost use Rattle.cap_vet.specs.Views.{kept_place, node_message, node_spot, shown, view_kind, view_message, view_place};
     ghost use Rattle.std.specs.Prelude.{IfNone, IfSome, MatchOption, Some, None, ℕ};
 
     // What is at the node's spot. Following its pointer can't fail. It and its callers are inlined,

@@ -42,7 +42,7 @@ impl<'m, M: Segments> Clone for PathStart<'m, M> {
 impl<'m, M: Segments> Copy for PathStart<'m, M> {}
 
 impl<'m, M: Segments> PathStart<'m, M> {
-    ghost use Rattle.cap_vet.specs.Handles.{view_message};
+    ghost use Rattle.cap_vet.specs.Views.{view_message};
     ghost use Rattle.cap_vet.specs.PathWays.{AreElements, GivesAfter, IsStart, elements_message, start_message};
     ghost use Rattle.std.specs.Prelude.{IfOk, IfSome};
 

@@ -44,7 +44,7 @@ impl<'m, M: Segments> Clone for StructElements<'m, M> {
 impl<'m, M: Segments> Copy for StructElements<'m, M> {}
 
 impl<'m, M: Segments> StructElements<'m, M> {
-    ghost use Rattle.cap_vet.specs.Handles.{view_message};
+    ghost use Rattle.cap_vet.specs.Views.{view_message};
     ghost use Rattle.cap_vet.specs.PathWays.{GivesElement, GivesPointer, elements_message};
     ghost use Rattle.std.specs.Prelude.{IfSome};
 

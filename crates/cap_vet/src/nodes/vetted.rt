@@ -35,7 +35,7 @@ impl<'m, M: Segments> Vetted<'m, M> {
     ghost use Rattle.cap_spec.specs.Paths.{Comes, Spot as Where};
     ghost use Rattle.cap_spec.specs.Standing.{DenotesAt};
     ghost use Rattle.cap_spec.specs.Tree.{Tree, node_at};
-    ghost use Rattle.cap_vet.specs.Handles.{node_message, node_spot};
+    ghost use Rattle.cap_vet.specs.Views.{node_message, node_spot};
     ghost use Rattle.cap_vet.specs.Vettings.{message_of, report_of};
     ghost use Rattle.std.specs.Prelude.{IfNone, IfSome, MatchOption, None, Some, [], ℕ};
 

@@ -42,7 +42,7 @@ impl<'m, M: Segments> View<'m, M> {
     ghost use Rattle.cap_spec.specs.Pointers.{list_words};
     ghost use Rattle.cap_spec.specs.Scalars.{scalar_words};
     ghost use Rattle.cap_spec.specs.Showing.{bit_of, byte_of, count_of, data_word_of, kind_of, scalar_of, words_of_own};
-    ghost use Rattle.cap_vet.specs.Handles.{kept_place, shown, view_kind, view_message, view_place};
+    ghost use Rattle.cap_vet.specs.Views.{kept_place, shown, view_kind, view_message, view_place};
     ghost use Rattle.cap_vet.specs.Taken.{start_of};
     ghost use Rattle.std.specs.Prelude.{◌^◌, IfSome, slice_get};
 
@@ -202,7 +202,7 @@ impl<'m, M: Segments> View<'m, M> {
 }
 
 impl<'m, 'b> View<'m, ByteView<'b>> {
-    ghost use Rattle.cap_vet.specs.Handles.{bytes_of_place, view_message, view_place};
+    ghost use Rattle.cap_vet.specs.Views.{bytes_of_place, view_message, view_place};
 
     /// The bytes of the words of its [`place`](View::place), unchanged. A tag, surplus words and
     /// the bits past the last value of a list are included. Empty for null and a capability.

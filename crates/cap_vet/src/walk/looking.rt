@@ -13,7 +13,7 @@ ghost use Rattle.std.specs.Prelude.{◌+◌, ◌-◌, ◌<◌, ◌^◌, ◌≡�
 use crate::limits::Limits;
 use crate::walk::lists::struct_list;
 use crate::walk::pointer_run::PointerRun;
-use crate::walk::targets::{frame_of, levels_taken, row_frame};
+use crate::walk::targets::{levels_taken, row_run, run_of};
 use cap_frame::Segments;
 use cap_ptr::{Followed, Reason, Row, Target, follow, kind, middle, near_row};
 
@@ -96,7 +96,7 @@ pub(crate) fn look<M: Segments>(
         Followed::Cap { pads, .. } => Ok(Looked::Cap(u64::from(pads))),
         Followed::Target(target) => {
             let deepest = level + levels_taken(&target.shape);
-            Ok(Looked::Object(target.charge, deepest, frame_of(&target, level)))
+            Ok(Looked::Object(target.charge, deepest, run_of(&target, level)))
         }
     }
 }
@@ -194,8 +194,8 @@ fn row_within(
     if level > limits.depth() || spent + cost > limits.words() {
         return None;
     }
-    let frame = row_frame(segment, row.pointers_start, row.pointer_count, level + 1);
-    Some(Looked::Object(cost, level, frame))
+    let run = row_run(segment, row.pointers_start, row.pointer_count, level + 1);
+    Some(Looked::Object(cost, level, run))
 }
 
 // This target of a pointer word. Returns a result only if it is within the limits.
@@ -212,5 +212,5 @@ fn target_within(limits: &Limits, spent: u64, target: &Target, level: u32) -> Op
     if deepest > limits.depth() || spent + target.charge > limits.words() {
         return None;
     }
-    Some(Looked::Object(target.charge, deepest, frame_of(target, level)))
+    Some(Looked::Object(target.charge, deepest, run_of(target, level)))
 }

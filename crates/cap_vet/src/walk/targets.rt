@@ -4,7 +4,7 @@ ghost use Rattle.cap_ptr.specs.Shapes.{FindsTargetBy};
 ghost use Rattle.cap_spec.specs.Denoting.{element_levels};
 ghost use Rattle.cap_spec.specs.Messages.{IsMessage, segment_of};
 ghost use Rattle.cap_vet.specs.PointerRuns.{LevelIs, OptionIn, option_spots, row_places};
-ghost use Rattle.cap_vet.specs.Looking.{FrameRises, object_places};
+ghost use Rattle.cap_vet.specs.Looking.{RunRises, object_places};
 ghost use Rattle.cap_vet.specs.Levels.{levels_of};
 ghost use Rattle.std.specs.Prelude.{◌+◌, ◌<◌, ◌^◌, ◌≡◌, ◌≤◌, List, ℕ, length};
 
@@ -34,7 +34,7 @@ pub(crate) fn levels_taken(shape: &Shape) -> u32
 
 // The pointer words of an object of this level.
 #[inline(always)]
-pub(crate) fn frame_of(target: &Target, level: u32) -> Option<PointerRun>
+pub(crate) fn run_of(target: &Target, level: u32) -> Option<PointerRun>
     requires found { (m : List (List ℕ)) × (s w q tag : ℕ) × IsMessage m
         × FindsTargetBy m s w q tag target.now }
     requires level { level < 2 ^ 31 }
@@ -44,7 +44,7 @@ pub(crate) fn frame_of(target: &Target, level: u32) -> Option<PointerRun>
     ensures inside { (m : List (List ℕ)) (s w q tag : ℕ) →
         FindsTargetBy m s w q tag target.now → OptionIn m result }
     ensures rises { (depth : ℕ) → level + levels_of target.now.shape ≤ depth →
-        FrameRises level depth result }
+        RunRises level depth result }
 {
     match target.shape {
         Shape::Struct {
@@ -52,10 +52,10 @@ pub(crate) fn frame_of(target: &Target, level: u32) -> Option<PointerRun>
             pointers,
         } => {
             let at = target.start + u32::from(data_words);
-            row_frame(target.segment, at, u32::from(pointers), level + 1)
+            row_run(target.segment, at, u32::from(pointers), level + 1)
         }
         Shape::Scalars { .. } => None,
-        Shape::Pointers { count } => row_frame(target.segment, target.start, count, level + 1),
+        Shape::Pointers { count } => row_run(target.segment, target.start, count, level + 1),
         Shape::Structs {
             count,
             data_words,
@@ -80,7 +80,7 @@ pub(crate) fn frame_of(target: &Target, level: u32) -> Option<PointerRun>
 
 // The pointer words of a struct or of a list of pointers, which are in one row.
 #[inline(always)]
-pub(crate) fn row_frame(segment: u32, at: u32, left: u32, level: u32) -> Option<PointerRun>
+pub(crate) fn row_run(segment: u32, at: u32, left: u32, level: u32) -> Option<PointerRun>
     ensures places { option_spots result ≡ row_places level segment at left }
     ensures inside { (m : List (List ℕ)) → segment < length m →
         at + left ≤ length (segment_of m segment) → OptionIn m result }

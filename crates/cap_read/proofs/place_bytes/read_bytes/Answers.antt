@@ -4,7 +4,7 @@ use Rattle.std.specs.Prelude.{MatchOption}
 use Rattle.cap_frame.specs.Bytes.{cut}
 use Rattle.cap_frame.specs.declared.view.ByteView.{ByteView}
 use Rattle.cap_spec.specs.Paths.{Comes, Spot, Stands}
-use Rattle.cap_vet.specs.Handles.{bytes_of_place, node_spot, view_place}
+use Rattle.cap_vet.specs.Views.{bytes_of_place, node_spot, view_place}
 use Rattle.cap_vet.specs.declared.nodes.place.Place.{Place}
 use Rattle.cap_read.proofs.Placing.{bytes_there, no_bytes_there, no_place}
 use Rattle.cap_read.proofs.place_bytes.read_bytes.Goals as goal

@@ -6,7 +6,7 @@ use Rattle.cap_spec.specs.Paths.{Comes, Spot, Stands}
 use Rattle.cap_spec.specs.Showing.{own_of}
 use Rattle.cap_spec.specs.Standing.{DenotesAt}
 use Rattle.cap_spec.specs.Tree.{Tree, node_at}
-use Rattle.cap_vet.specs.Handles.{node_spot, shown, view_place}
+use Rattle.cap_vet.specs.Views.{node_spot, shown, view_place}
 use Rattle.cap_vet.specs.declared.nodes.place.Place.{Place}
 use Rattle.cap_read.proofs.Placing.{node_read, nothing_read}
 use Rattle.cap_read.proofs.reading.read.Goals as goal

@@ -1,6 +1,6 @@
 use Rattle.std.proofs.Common.{[], append-nil, subst, sym}
 use Rattle.cap_spec.specs.Texts.{word_lines}
-use Rattle.cap_vet.specs.Handles.{shown}
+use Rattle.cap_vet.specs.Views.{shown}
 use Rattle.cap_text.specs.Dumping.{word_letter_of}
 use Rattle.cap_text.specs.Paging.{Added}
 use Rattle.cap_text.proofs.Nodes.{no_words}

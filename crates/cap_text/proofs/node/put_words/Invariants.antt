@@ -1,7 +1,7 @@
 use Rattle.std.proofs.Common.{◌-◌, length, drop}
 use Rattle.cap_spec.specs.Showing.{words_of_own}
 use Rattle.cap_spec.specs.Texts.{word_lines}
-use Rattle.cap_vet.specs.Handles.{shown}
+use Rattle.cap_vet.specs.Views.{shown}
 use Rattle.cap_text.proofs.Paging.{Left}
 use Rattle.cap_text.proofs.node.put_words.Given as goal
 

@@ -2,8 +2,8 @@ use Rattle.std.proofs.Common.{[], ◌∷◌, List, ℕ, subst, sym, arith}
 use Rattle.cap_spec.specs.Plain.{plain_words}
 use Rattle.cap_frame.specs.Putting.{Halts}
 use Rattle.cap_frame.proofs.Putting.{halts_before, halts_of}
-use Rattle.cap_run.specs.Copying.{Fills}
-use Rattle.cap_run.proofs.Copying.{fills_both}
+use Rattle.cap_run.specs.Transcoding.{Fills}
+use Rattle.cap_run.proofs.Transcoding.{fills_both}
 use Rattle.cap_run.proofs.Handing.{fills_of, frame_of_bytes}
 use Rattle.cap_run.proofs.Making.{halts_behind}
 use Rattle.cap_run.proofs.engines.canon.put_framed.Goals as goal

@@ -1,7 +1,7 @@
 use Rattle.std.proofs.Common.{take, arith, subst, sym}
 use Rattle.cap_spec.specs.Plain.{plain_words}
 use Rattle.cap_frame.specs.Putting.{Halts}
-use Rattle.cap_run.specs.PuttingEnds.{Copies}
+use Rattle.cap_run.specs.PuttingEnds.{Transcodes}
 use Rattle.cap_run.proofs.Handed.{copies_start, gives_ready}
 use Rattle.cap_run.proofs.Handing.{fills_of}
 use Rattle.cap_frame.proofs.Putting.{halts_of}
@@ -12,7 +12,7 @@ pub returns-then-count-eq0-clause-ok : goal.returns-then-count-eq0-clause-ok
 returns-then-count-eq0-clause-ok g c =
     let k = c.args.sink.now in
     let same = c.ready-count.ensures.none (omega arith) in
-    subst (λ s. Copies g.S.WordSource g.K.WordSink c.args.source.now s k k 0) (sym same) (copies_start g.S.WordSource g.K.WordSink c.args.source.now k)
+    subst (λ s. Transcodes g.S.WordSource g.K.WordSink c.args.source.now s k k 0) (sym same) (copies_start g.S.WordSource g.K.WordSink c.args.source.now k)
 
 pub returns-in-Ok-clause-ok : goal.returns-in-Ok-clause-ok
 returns-in-Ok-clause-ok g c =

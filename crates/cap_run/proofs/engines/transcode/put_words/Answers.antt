@@ -2,10 +2,10 @@ use Rattle.std.proofs.Common.{[], ◌∷◌, ◌*◌, ◌+◌, ◌≡◌, arith,
 use Rattle.std.proofs.lemmas.List.{length-take-le}
 use Rattle.cap_frame.specs.Putting.{Halts}
 use Rattle.cap_frame.proofs.Putting.{halts_of}
-use Rattle.cap_run.proofs.Copying.{copied_stopped, copies_more, copies_stops, gives_one}
+use Rattle.cap_run.proofs.Transcoding.{copied_stopped, copies_more, copies_stops, gives_one}
 use Rattle.cap_run.proofs.Handed.{copies_both, copies_start, gives_no_next, stops_midway}
 use Rattle.cap_run.proofs.Handing.{fills_of}
-use Rattle.cap_run.specs.PuttingEnds.{Copies}
+use Rattle.cap_run.specs.PuttingEnds.{Transcodes}
 use Rattle.cap_run.proofs.engines.transcode.put_words.Goals as goal
 
 pub loop-put-init : goal.loop-put-init
@@ -85,7 +85,7 @@ returns-in-Ok-Some-next g c =
     (rw c.in-Ok-Some-next.field-0-is at c.in-Ok-Some-next.ensures.word) c.in-Ok-Some-next.ensures.ok in (
       c.loop-put.source,
       c.in-Ok-Some-next.field-0-0,
-      subst (Copies g.S.WordSource g.K.WordSink c.args.source.now c.loop-put.source c.args.sink.now c.loop-put.sink) all c.loop-put.invariant.copies,
+      subst (Transcodes g.S.WordSource g.K.WordSink c.args.source.now c.loop-put.source c.args.sink.now c.loop-put.sink) all c.loop-put.invariant.copies,
       gives,
     )
 

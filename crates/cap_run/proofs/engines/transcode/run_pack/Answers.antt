@@ -1,4 +1,4 @@
-use Rattle.cap_run.proofs.CopyEnds.{copies_words}
+use Rattle.cap_run.proofs.TranscodeEnds.{copies_words}
 use Rattle.cap_run.proofs.engines.transcode.run_pack.Goals as goal
 
 pub returns : goal.returns

@@ -4,9 +4,9 @@ use Rattle.cap_vet.proofs.walk.looking.row_within.Goals as goal
 
 pub returns : goal.returns
 returns c = λ m s w at q f stands.
-    let frame = c.row_frame-frame in
-    rw (c.from.ensures, c.from-2.ensures) (looks_row m _ _ c.args.spent s w c.args.level c.args.pads c.args.segment at q c.args.row.now frame.result f stands
+    let run = c.row_run-run in
+    rw (c.from.ensures, c.from-2.ensures) (looks_row m _ _ c.args.spent s w c.args.level c.args.pads c.args.segment at q c.args.row.now run.result f stands
     (omega (arith, c.if-level-depth.false, c.depth.ensures.value))
     (omega (arith, c.if-spent-cost.false, c.words.ensures.value, c.from.ensures, c.from-2.ensures))
-    c.requires.spent frame.ensures.places
-    (frame.ensures.inside m f.finds.sits.exists (row_inside m c.args.segment at q c.args.row.now f)) frame.ensures.level)
+    c.requires.spent run.ensures.places
+    (run.ensures.inside m f.finds.sits.exists (row_inside m c.args.segment at q c.args.row.now f)) run.ensures.level)

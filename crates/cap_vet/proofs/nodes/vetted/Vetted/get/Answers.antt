@@ -4,7 +4,7 @@ use Rattle.std.proofs.lemmas.List.{take_all, take_more}
 use Rattle.cap_spec.specs.Paths.{Comes, Goes, Spot}
 use Rattle.cap_spec.specs.declared.Step.TheVariants.{Ptr}
 use Rattle.cap_spec.proofs.Paths.Arrivals.{coming_to_node}
-use Rattle.cap_vet.specs.Handles.{node_spot}
+use Rattle.cap_vet.specs.Views.{node_spot}
 use Rattle.cap_vet.specs.Vettings.{message_of}
 use Rattle.cap_vet.proofs.NodeSteps.{comes_nowhere, comes_on, no_node}
 use Rattle.cap_vet.proofs.nodes.vetted.Vetted.get.Goals as goal

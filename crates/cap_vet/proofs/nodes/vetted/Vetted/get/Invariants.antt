@@ -1,6 +1,6 @@
 use Rattle.std.proofs.Common.{◌≡◌, ℕ, take}
 use Rattle.cap_spec.specs.Paths.{Comes}
-use Rattle.cap_vet.specs.Handles.{node_message, node_spot}
+use Rattle.cap_vet.specs.Views.{node_message, node_spot}
 use Rattle.cap_vet.specs.Vettings.{message_of}
 use Rattle.cap_vet.proofs.nodes.vetted.Vetted.get.Given as goal
 

@@ -1,5 +1,5 @@
 use Rattle.std.proofs.Common.{arith, ◌≡◌}
-use Rattle.cap_vet.proofs.Frames.{rest_of_elements, rest_of_last, rest_of_row}
+use Rattle.cap_vet.proofs.Runs.{rest_of_elements, rest_of_last, rest_of_row}
 use Rattle.cap_vet.proofs.walk.pointer_run.PointerRun.advance.Goals as goal
 
 pub returns-then-self-gt1 : goal.returns-then-self-gt1

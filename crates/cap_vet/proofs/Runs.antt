@@ -1,11 +1,11 @@
--- The pointer words of a frame, word by word.
+-- The pointer words of a run, word by word.
 use Rattle.std.proofs.Common.{◌≡◌, ℕ, zero, suc, ◌+◌, ◌-◌, ◌*◌, ◌<◌, ◌≤◌, List, [], ◌∷◌, ◌++◌, length, map, refl, ap, ◌∙◌, arith, Option, None, Some}
 use Rattle.std.proofs.lemmas.List.{map-append}
 use Rattle.cap_spec.specs.Messages.{segment_of}
 use Rattle.cap_spec.specs.declared.Step.{Step}
 use Rattle.cap_spec.specs.declared.Step.TheVariants.{Ptr, Item}
 use Rattle.cap_vet.specs.Trails.{row, element_rows}
-use Rattle.cap_vet.specs.PointerRuns.{place_of, row_places, element_places, IsRest}
+use Rattle.cap_vet.specs.PointerRuns.{pointer_word_of, row_places, element_places, IsRest}
 use Rattle.cap_vet.specs.declared.walk.pointer_run.PointerRun.{PointerRun}
 
 -- behind the first of several words in a row
@@ -69,13 +69,13 @@ pub has_rest : (f : PointerRun) → 0 < f.left → (rest : Option PointerRun) ×
 has_rest f some = has_rest_of f.segment f.at f.left f.more f.data_words f.pointers f.level some
 
 -- where a row of words stands
-pub places-row : (base : List Step) (level : ℕ) (step : ℕ → Step) (t b i n : ℕ) → map place_of (row base level step t b i n) ≡ row_places level t b n
+pub places-row : (base : List Step) (level : ℕ) (step : ℕ → Step) (t b i n : ℕ) → map pointer_word_of (row base level step t b i n) ≡ row_places level t b n
 places-row base level step t b i zero = refl
 places-row base level step t b i (suc n) = ap (λ u. (t, b, level) ∷ u) (places-row base level step t (b + 1) (i + 1) n)
 
 -- where the rows of elements stand
-pub places-elements : (base : List Step) (level t b ds ps i n : ℕ) → map place_of (element_rows base level t b ds ps i n) ≡ element_places level t b ds ps n
+pub places-elements : (base : List Step) (level t b ds ps i n : ℕ) → map pointer_word_of (element_rows base level t b ds ps i n) ≡ element_places level t b ds ps n
 places-elements base level t b ds ps i zero = refl
 places-elements base level t b ds ps i (suc n) =
-    map-append place_of (row (base ++ Item i ∷ []) level Ptr t (b + ds) 0 ps) (element_rows base level t (b + ds + ps) ds ps (i + 1) n)
+    map-append pointer_word_of (row (base ++ Item i ∷ []) level Ptr t (b + ds) 0 ps) (element_rows base level t (b + ds + ps) ds ps (i + 1) n)
     ∙ rw (places-row (base ++ Item i ∷ []) level Ptr t (b + ds) 0 ps, places-elements base level t (b + ds + ps) ds ps (i + 1) n) refl

@@ -14,8 +14,8 @@ use Rattle.cap_words.specs.declared.sources.WordSource as source
 use Rattle.cap_frame.proofs.Taking.{takes_none, takes_one, takes_both}
 use Rattle.cap_frame.specs.Putting.{Blames, Halts}
 use Rattle.cap_frame.proofs.Putting.{begins_kept, blames_later}
-use Rattle.cap_run.specs.Copying.{Copied, Fills, Finishes, Gives, Spoils, StopsFinishing, StopsMidway}
-use Rattle.cap_run.specs.PuttingEnds.{Copies, StopsAt, StopsPutting, is_open}
+use Rattle.cap_run.specs.Transcoding.{Transcoded, Fills, Finishes, Gives, Spoils, StopsFinishing, StopsMidway}
+use Rattle.cap_run.specs.PuttingEnds.{Transcodes, StopsAt, StopsPutting, is_open}
 use Rattle.cap_text.specs.declared.fault.CopyFault.{CopyFault}
 use Rattle.cap_text.specs.declared.fault.CopyFault.TheVariants.{TooManyWords, Source, Output}
 use Rattle.cap_run.proofs.Streams.{all_taken}
@@ -108,8 +108,8 @@ module _ {K : Type 0} (gk : sink.Ghosts K) where
 
 module _ {S K : Type 0} (gs : source.Ghosts S) (gk : sink.Ghosts K) where
   -- one more word was read and put
-  pub copies_more : (old now new : S) (before between after : K) (n word : ℕ) → Copies gs gk old now before between n → Gives gs now new (word ∷ [])
-      → Fills gk between after (word ∷ []) → Copies gs gk old new before after (n + 1)
+  pub copies_more : (old now new : S) (before between after : K) (n word : ℕ) → Transcodes gs gk old now before between n → Gives gs now new (word ∷ [])
+      → Fills gk between after (word ∷ []) → Transcodes gs gk old new before after (n + 1)
   copies_more old now new before between after n word c g f = record {
     own = c.own ++ word ∷ [];
     many = length-append c.own (word ∷ []) ∙ ap (λ k. k + 1) c.many;
@@ -118,7 +118,7 @@ module _ {S K : Type 0} (gs : source.Ghosts S) (gk : sink.Ghosts K) where
   }
 
   -- one more word was read, and couldn't be put
-  pub copies_stops : (most : ℕ) (old now new : S) (before between after : K) (n word : ℕ) (out : OutFault) → n < most → Copies gs gk old now before between n
+  pub copies_stops : (most : ℕ) (old now new : S) (before between after : K) (n word : ℕ) (out : OutFault) → n < most → Transcodes gs gk old now before between n
       → Gives gs now new (word ∷ []) → Halts gk between after (word ∷ []) (sink_fault_of out) → StopsAt gs gk most old new before after out
   copies_stops most old now new before between after n word out less c g h = record {
     done = c.own;
@@ -135,7 +135,7 @@ module _ {S K : Type 0} (gs : source.Ghosts S) (gk : sink.Ghosts K) where
       → StopsPutting gs gk at_once most old new before between r
       → is_open r ≡ true → Keeps (gk.text between []) (gk.taken after) → (gk.closed between ≡ false)
       × (gk.closed after ≡ true) × (gk.failures after ≡ gk.failures between)
-      → Copied gs gk at_once most old new before after r
+      → Transcoded gs gk at_once most old new before after r
   copied_finished at_once most old new before between after (Ok n) s h k o =
       let c = s.2 in (
         c.own,
@@ -172,7 +172,7 @@ module _ {S K : Type 0} (gs : source.Ghosts S) (gk : sink.Ghosts K) where
 
   -- the output failed before the sink was finished
   pub copied_failed : (at_once most : ℕ) (old new : S) (before after : K) (r : Result ℕ CopyFault) → is_open r ≡ false
-      → StopsPutting gs gk at_once most old new before after r → Copied gs gk at_once most old new before after r
+      → StopsPutting gs gk at_once most old new before after r → Transcoded gs gk at_once most old new before after r
   copied_failed at_once most old new before after (Ok n) e s = absurd (false≢true (sym e))
   copied_failed at_once most old new before after (Err TooManyWords) e s = absurd (false≢true (sym e))
   copied_failed at_once most old new before after (Err (Source fault)) e s = absurd (false≢true (sym e))

@@ -1,6 +1,6 @@
 use Rattle.std.proofs.Common.{◌≡◌, ◌+◌, ◌<◌, ◌∙◌, arith, inl, inr}
-use Rattle.cap_vet.proofs.ObjectFrames.{start_fits, struct_places, struct_room, structs_empty, structs_inside, structs_places}
-use Rattle.cap_vet.proofs.walk.targets.frame_of.Goals as goal
+use Rattle.cap_vet.proofs.ObjectRuns.{start_fits, struct_places, struct_room, structs_empty, structs_inside, structs_places}
+use Rattle.cap_vet.proofs.walk.targets.run_of.Goals as goal
 
 pub returns-then-count-eq0-clause-places : goal.returns-then-count-eq0-clause-places
 returns-then-count-eq0-clause-places c = λ m s w q tag f.
@@ -16,12 +16,12 @@ overflow_add-result-in-Structs c =
 pub returns-in-Struct-clause-places : goal.returns-in-Struct-clause-places
 returns-in-Struct-clause-places c = λ m s w q tag f.
     let g = rw c.in-Struct.is at f in
-    c.row_frame.ensures.places ∙ struct_places m s w _ _ _ q tag _ _ _ _ _ _ c.args.level g (omega (arith, c.from.ensures)) c.from-in-Struct.ensures
+    c.row_run.ensures.places ∙ struct_places m s w _ _ _ q tag _ _ _ _ _ _ c.args.level g (omega (arith, c.from.ensures)) c.from-in-Struct.ensures
 
 pub returns-in-Struct-clause-inside : goal.returns-in-Struct-clause-inside
 returns-in-Struct-clause-inside c = λ m s w q tag f.
     let g = rw c.in-Struct.is at f in
-    c.row_frame.ensures.inside m g.finds.sits.exists (omega (arith, c.from.ensures, c.from-in-Struct.ensures, struct_room m s w _ _ _ q tag _ _ _ _ g))
+    c.row_run.ensures.inside m g.finds.sits.exists (omega (arith, c.from.ensures, c.from-in-Struct.ensures, struct_room m s w _ _ _ q tag _ _ _ _ g))
 
 pub returns-else-pointers-eq0-clause-places : goal.returns-else-pointers-eq0-clause-places
 returns-else-pointers-eq0-clause-places c = λ m s w q tag f.

@@ -9,15 +9,15 @@ use Rattle.cap_words.specs.declared.sources.WordSource as source
 use Rattle.cap_words.specs.declared.sources.SourceFault.TheVariants.{Truncated, Device, Spent}
 use Rattle.cap_words.specs.declared.sinks.WordSink as sink
 use Rattle.cap_frame.proofs.Converse.{known_still, same_some}
-use Rattle.cap_run.specs.Copying.{Copied, CopiesAll, CopiesMost, CopiesUntil, CopySettled, Finishes}
-use Rattle.cap_run.specs.Engines.{CopiesWords}
+use Rattle.cap_run.specs.Transcoding.{Transcoded, TranscodesAll, TranscodesMost, TranscodesUntil, TranscodeSettled, Finishes}
+use Rattle.cap_run.specs.Engines.{TranscodesWords}
 use Rattle.cap_text.specs.declared.fault.CopyFault.{CopyFault}
 use Rattle.cap_text.specs.declared.fault.CopyFault.TheVariants.{TooManyWords, Source, Output}
 use Rattle.cap_run.proofs.Settling.{on_known}
 
 module _ {S K : Type 0} (gs : source.Ghosts S) (gk : sink.Ghosts K) (at_once most : ℕ) (old new : S) (before after : K) (own : List ℕ) where
   -- known words that were all put
-  pub all_put : (put : List ℕ) → gs.words old ≡ Some own → (c : CopiesAll gs gk most old new before after put)
+  pub all_put : (put : List ℕ) → gs.words old ≡ Some own → (c : TranscodesAll gs gk most old new before after put)
       → (put ≡ own) × (gs.is_cut old ≡ false) × (length own ≤ most)
   all_put put w c =
       let all = on_known (gs.words old) own _ w c.all in
@@ -25,7 +25,7 @@ module _ {S K : Type 0} (gs : source.Ghosts S) (gk : sink.Ghosts K) (at_once mos
       (sym same, all.1, omega (arith, c.few, ap length same))
 
   -- where one word too many was read, there are more of them
-  pub most_put : gs.words old ≡ Some own → (c : CopiesMost gs gk most old new before after) → (most < length own) × (c.own ≡ take most own)
+  pub most_put : gs.words old ≡ Some own → (c : TranscodesMost gs gk most old new before after) → (most < length own) × (c.own ≡ take most own)
   most_put w c =
       let here = known_still own (c.own ++ c.word ∷ []) (gs.words new)
       (subst (λ (o : Option (List ℕ)). Consumes o (gs.words new) (c.own ++ c.word ∷ [])) w c.gives.takes.words) in
@@ -35,7 +35,7 @@ module _ {S K : Type 0} (gs : source.Ghosts S) (gk : sink.Ghosts K) (at_once mos
       )
 
   -- where the input ended inside a word, all of them were put
-  pub cut_put : (byte : ℕ) → gs.words old ≡ Some own → (c : CopiesUntil gs gk most old new before after (Truncated byte))
+  pub cut_put : (byte : ℕ) → gs.words old ≡ Some own → (c : TranscodesUntil gs gk most old new before after (Truncated byte))
       → (c.own ≡ own) × (gs.is_cut old ≡ true) × (length own ≤ most) × (drop (length own) (gs.places old) ≡ byte ∷ [])
   cut_put byte w c =
       let here = known_still own c.own (gs.words c.mid) (subst (λ (o : Option (List ℕ)). Consumes o (gs.words c.mid) c.own) w c.gives.takes.words) in
@@ -55,8 +55,8 @@ module _ {S K : Type 0} (gs : source.Ghosts S) (gk : sink.Ghosts K) (at_once mos
 
   -- all words, where there aren't too many and the input isn't cut
   pub copy_whole : (r : Result ℕ CopyFault) → gs.words old ≡ Some own → gs.is_cut old ≡ false → length own ≤ most
-      → Copied gs gk at_once most old new before after r
-      → CopySettled r ((r ≡ Ok (length own)) × Finishes gk before after own)
+      → Transcoded gs gk at_once most old new before after r
+      → TranscodeSettled r ((r ≡ Ok (length own)) × Finishes gk before after own)
   copy_whole (Ok n) w i l c =
       let t = all_put c.0 w c.2 in
       (ap (λ (k : ℕ). Ok k) (c.1 ∙ ap length t.0), subst (Finishes gk before after) t.0 c.2.finishes)
@@ -68,8 +68,8 @@ module _ {S K : Type 0} (gs : source.Ghosts S) (gk : sink.Ghosts K) (at_once mos
 
   -- and where it is cut, that fault behind them
   pub copy_cut : (r : Result ℕ CopyFault) → gs.words old ≡ Some own → gs.is_cut old ≡ true → length own ≤ most
-      → Copied gs gk at_once most old new before after r
-      → CopySettled r ((byte : ℕ) × (r ≡ Err (Source (Truncated byte))) × (drop (length own) (gs.places old) ≡ byte ∷ []) × Finishes gk before after own)
+      → Transcoded gs gk at_once most old new before after r
+      → TranscodeSettled r ((byte : ℕ) × (r ≡ Err (Source (Truncated byte))) × (drop (length own) (gs.places old) ≡ byte ∷ []) × Finishes gk before after own)
   copy_cut (Ok n) w i l c = absurd (let t = all_put c.0 w c.2 in let e = t.1 in cc)
   copy_cut (Err TooManyWords) w i l c = absurd (let t = most_put w c in omega (arith, t.0, l))
   copy_cut (Err (Source (Truncated byte))) w i l c = let t = cut_put byte w c in (byte, refl, t.3, subst (Finishes gk before after) t.0 c.finishes)
@@ -78,8 +78,8 @@ module _ {S K : Type 0} (gs : source.Ghosts S) (gk : sink.Ghosts K) (at_once mos
   copy_cut (Err (Output fault)) w i l c = tt
 
   -- and where there are too many, the first of them and that fault
-  pub copy_many : (r : Result ℕ CopyFault) → gs.words old ≡ Some own → most < length own → Copied gs gk at_once most old new before after r
-      → CopySettled r ((r ≡ Err TooManyWords) × Finishes gk before after (take most own))
+  pub copy_many : (r : Result ℕ CopyFault) → gs.words old ≡ Some own → most < length own → Transcoded gs gk at_once most old new before after r
+      → TranscodeSettled r ((r ≡ Err TooManyWords) × Finishes gk before after (take most own))
   copy_many (Ok n) w l c = absurd (let t = all_put c.0 w c.2 in omega (arith, t.2, l))
   copy_many (Err TooManyWords) w l c = let t = most_put w c in (refl, subst (Finishes gk before after) t.1 c.finishes)
   copy_many (Err (Source (Truncated byte))) w l c = absurd (let t = cut_put byte w c in omega (arith, t.2, l))
@@ -90,7 +90,7 @@ module _ {S K : Type 0} (gs : source.Ghosts S) (gk : sink.Ghosts K) (at_once mos
 module _ {S K : Type 0} (gs : source.Ghosts S) (gk : sink.Ghosts K) where
   -- how a copy ends says what it answers where the words are known
   pub copies_words : (at_once most : ℕ) (old new : S) (before after : K) (r : Result ℕ CopyFault)
-      → Copied gs gk at_once most old new before after r → CopiesWords gs gk at_once most old new before after r
+      → Transcoded gs gk at_once most old new before after r → TranscodesWords gs gk at_once most old new before after r
   copies_words at_once most old new before after r c = record {
     copied = c;
     whole = λ own w i l. copy_whole gs gk at_once most old new before after own r w i l c;

@@ -69,7 +69,7 @@ module _ {K : Type 0} (gk : sink.Ghosts K) where
 
 module _ {S K : Type 0} (gs : source.Ghosts S) (gk : sink.Ghosts K) where
   -- The source was read to its end, and its words are exactly those that were put.
-  pub record CopiesAll (most : ℕ) (old new : S) (before after : K) (own : List ℕ) : Type 0 where
+  pub record TranscodesAll (most : ℕ) (old new : S) (before after : K) (own : List ℕ) : Type 0 where
     pub few : length own ≤ most
     pub all : OnSome (gs.words old) ((gs.words old ≡ Some own) × (gs.is_cut old ≡ false))
     pub ended : gs.ended new ≡ true
@@ -77,7 +77,7 @@ module _ {S K : Type 0} (gs : source.Ghosts S) (gk : sink.Ghosts K) where
     pub finishes : Finishes gk before after own
 
   -- One word more than the most was read, and those before it were put.
-  pub record CopiesMost (most : ℕ) (old new : S) (before after : K) : Type 0 where
+  pub record TranscodesMost (most : ℕ) (old new : S) (before after : K) : Type 0 where
     pub own : List ℕ
     pub word : ℕ
     pub many : length own ≡ most
@@ -85,7 +85,7 @@ module _ {S K : Type 0} (gs : source.Ghosts S) (gk : sink.Ghosts K) where
     pub finishes : Finishes gk before after own
 
   -- The source returned this error after the words that were put.
-  pub record CopiesUntil (most : ℕ) (old new : S) (before after : K)
+  pub record TranscodesUntil (most : ℕ) (old new : S) (before after : K)
       (fault : SourceFault) : Type 0 where
     pub own : List ℕ
     pub mid : S
@@ -124,21 +124,21 @@ module _ {S K : Type 0} (gs : source.Ghosts S) (gk : sink.Ghosts K) where
     pub spoils : Spoils gk before after own fault
 
   -- what each result says of a copy of at most `most` words, in pieces of at most `at_once` words
-  abbrev pub Copied : ℕ → ℕ → S → S → K → K → Result ℕ CopyFault → Type 0
-  Copied at_once most old new before after (Ok n) = (own : List ℕ) × (n ≡ length own)
-      × CopiesAll most old new before after own
-  Copied at_once most old new before after (Err TooManyWords) = CopiesMost most old new before after
-  Copied at_once most old new before after (Err (Source fault)) = CopiesUntil most old new before
+  abbrev pub Transcoded : ℕ → ℕ → S → S → K → K → Result ℕ CopyFault → Type 0
+  Transcoded at_once most old new before after (Ok n) = (own : List ℕ) × (n ≡ length own)
+      × TranscodesAll most old new before after own
+  Transcoded at_once most old new before after (Err TooManyWords) = TranscodesMost most old new before after
+  Transcoded at_once most old new before after (Err (Source fault)) = TranscodesUntil most old new before
       after fault
-  Copied at_once most old new before after (Err (Output fault)) = StopsMidway at_once most old new
+  Transcoded at_once most old new before after (Err (Output fault)) = StopsMidway at_once most old new
       before after fault
       ⊎ StopsFinishing most old new before after fault
 
 -- P, unless reading failed, the output failed, or the input was closed by an earlier error
-abbrev pub CopySettled : Result ℕ CopyFault → Type 0 → Type 0
-CopySettled (Ok n) P = P
-CopySettled (Err TooManyWords) P = P
-CopySettled (Err (Source (Truncated byte))) P = P
-CopySettled (Err (Source Device)) P = Unit {0}
-CopySettled (Err (Source Spent)) P = Unit {0}
-CopySettled (Err (Output fault)) P = Unit {0}
+abbrev pub TranscodeSettled : Result ℕ CopyFault → Type 0 → Type 0
+TranscodeSettled (Ok n) P = P
+TranscodeSettled (Err TooManyWords) P = P
+TranscodeSettled (Err (Source (Truncated byte))) P = P
+TranscodeSettled (Err (Source Device)) P = Unit {0}
+TranscodeSettled (Err (Source Spent)) P = Unit {0}
+TranscodeSettled (Err (Output fault)) P = Unit {0}

@@ -8,7 +8,7 @@ use Rattle.cap_spec.proofs.Frames.Messages.{short_segment}
 use Rattle.cap_spec.proofs.Trees.Charges.{extent_struct, extent_structs}
 use Rattle.cap_ptr.specs.Shapes.{FindsObject}
 use Rattle.cap_ptr.specs.declared.shapes.Shape.TheVariants.{Struct, Structs}
-use Rattle.cap_vet.specs.PointerRuns.{RunIn, Place, element_places, row_places, spots}
+use Rattle.cap_vet.specs.PointerRuns.{RunIn, PointerWord, element_places, row_places, spots}
 use Rattle.cap_vet.specs.Looking.{object_places}
 
 -- a struct's words lie inside its segment
@@ -38,7 +38,7 @@ no_pointers level t b ds (suc n) = no_pointers level t (b + ds + 0) ds n
 
 pub structs_empty : (m : List (List ℕ)) (s w k t b q tag n c size count d p level : ℕ)
     → FindsObject m s w k t b q tag n c (Structs size count d p) → (count ≡ 0) ⊎ (p ≡ 0)
-    → ◌≡◌ {A = List Place} [] (object_places q tag t b level)
+    → ◌≡◌ {A = List PointerWord} [] (object_places q tag t b level)
 structs_empty m s w k t b q tag n c size count d p level f (inl e) =
     let x : middle tag ≡ 0 = sym f.object.shape.count ∙ e in
     rw (f.object.shape.kind, f.object.shape.code, x) refl
@@ -54,7 +54,7 @@ structs_fit m s w k t b q tag n c size count d p f =
     let room : count * (d + p) ≤ list_size q = rw (f.object.shape.count, f.object.shape.data_words, f.object.shape.pointers) fits.1 in
     omega (arith, room, f.finds.sits.inside, extent_structs q f.object.shape.kind f.object.shape.code)
 
--- the frame of a list of structs
+-- the run of a list of structs
 pub structs_inside : (m : List (List ℕ)) (s w k t b q tag n c size count d p at left more ds ps level : ℕ)
     → FindsObject m s w k t b q tag n c (Structs size count d p)
     → at ≡ b + 1 + d → left ≡ p → more ≡ count - 1 → ds ≡ d → ps ≡ p → 0 < count → 0 < p
