@@ -1,5 +1,6 @@
 -- Bytes that are written after others, and the bytes of a frame.
-use Rattle.std.proofs.Common.{◌≡◌, ◌∙◌, ◌<◌, ◌+◌, ℕ, suc, Bool, false, true, List, [], ◌∷◌, ◌++◌, Result, Ok, Err, length, take, drop, refl, sym, ap, subst, Option, arith}
+use Rattle.std.proofs.Common.{◌≡◌, ◌∙◌, ◌<◌, ◌+◌, ℕ, suc, Bool, false, true, List, [], ◌∷◌}
+use Rattle.std.proofs.Common.{◌++◌, Result, Ok, Err, length, take, drop, refl, sym, ap, subst, Option, arith}
 use Rattle.std.proofs.Common.{◌-◌, ◌≤◌, append_assoc, append-nil, drop-drop, length-drop, take-append-drop, take_at}
 use Rattle.std.proofs.lemmas.List.{take_rest}
 use Rattle.std.specs.Prelude.{◌==◌, if◌then◌else◌, OnOk, OnErr, IsErrOf}

@@ -118,7 +118,8 @@ module _ {S K : Type 0} (gs : source.Ghosts S) (gk : sink.Ghosts K) where
   }
 
   -- one more word was read, and couldn't be put
-  pub copies_stops : (most : ℕ) (old now new : S) (before between after : K) (n word : ℕ) (out : OutFault) → n < most → Transcodes gs gk old now before between n
+  pub copies_stops : (most : ℕ) (old now new : S) (before between after : K) (n word : ℕ) (out : OutFault) → n < most
+      → Transcodes gs gk old now before between n
       → Gives gs now new (word ∷ []) → Halts gk between after (word ∷ []) (sink_fault_of out) → StopsAt gs gk most old new before after out
   copies_stops most old now new before between after n word out less c g h = record {
     done = c.own;

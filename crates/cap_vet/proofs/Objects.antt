@@ -36,7 +36,8 @@ length-elements base level t b ds ps i (suc n) =
     let e = length-append (row (base ++ Item i ∷ []) level Ptr t (b + ds) 0 ps) (element_rows base level t (b + ds + ps) ds ps (i + 1) n) in
     omega (arith, e, length-row (base ++ Item i ∷ []) level Ptr t (b + ds) 0 ps, length-elements base level t (b + ds + ps) ds ps (i + 1) n)
 
-near-row : (base : List Step) (depth level : ℕ) (step : ℕ → Step) (t b i n : ℕ) → 1 ≤ level → level ≤ depth + 1 → AreInLevels depth (row base level step t b i n)
+near-row : (base : List Step) (depth level : ℕ) (step : ℕ → Step) (t b i n : ℕ) → 1 ≤ level → level ≤ depth + 1
+    → AreInLevels depth (row base level step t b i n)
 near-row base depth level step t b i zero h k = tt
 near-row base depth level step t b i (suc n) h k = (h, k, near-row base depth level step t (b + 1) (i + 1) n h k)
 
@@ -207,7 +208,8 @@ object-brings m a k t b q tag low r f tagged = elim (cases_of m a.segment a.word
 ]
 
 -- the children stand at the object's pointer words
-pub object_places-children : (base : List Step) (q tag t b level : ℕ) → map pointer_word_of (object_children base q tag t b level) ≡ object_places q tag t b level
+pub object_places-children : (base : List Step) (q tag t b level : ℕ)
+    → map pointer_word_of (object_children base q tag t b level) ≡ object_places q tag t b level
 object_places-children base q tag t b level = by_kind (eqb_tells (kind q) 0) (eqb_tells (code q) 6) (eqb_tells (code q) 7)
   where
     by_kind : (((kind q == 0) ≡ true) × (kind q ≡ 0)) ⊎ (((kind q == 0) ≡ false) × (kind q ≡ 0 → ⊥))

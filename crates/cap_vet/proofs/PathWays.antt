@@ -1,5 +1,6 @@
 -- What is given for a path, by where it leads.
-use Rattle.std.proofs.Common.{ℕ, ◌≡◌, ◌∙◌, ◌≤◌, List, [], ◌∷◌, ◌++◌, Err, Ok, None, Option, Some, ap, append_assoc, append-nil, inl, inr, length, refl, subst, sym}
+use Rattle.std.proofs.Common.{ℕ, ◌≡◌, ◌∙◌, ◌≤◌, List, [], ◌∷◌, ◌++◌, Err, Ok, None}
+use Rattle.std.proofs.Common.{Option, Some, ap, append_assoc, append-nil, inl, inr, length, refl, subst, sym}
 use Rattle.std.specs.Prelude.{true, false, IsOk, Result}
 use Rattle.cap_frame.specs.declared.segments.Segments as segments
 use Rattle.cap_spec.specs.Arriving.{ArrivesAt}

@@ -74,7 +74,8 @@ places-row base level step t b i zero = refl
 places-row base level step t b i (suc n) = ap (λ u. (t, b, level) ∷ u) (places-row base level step t (b + 1) (i + 1) n)
 
 -- where the rows of elements stand
-pub places-elements : (base : List Step) (level t b ds ps i n : ℕ) → map pointer_word_of (element_rows base level t b ds ps i n) ≡ element_places level t b ds ps n
+pub places-elements : (base : List Step) (level t b ds ps i n : ℕ)
+    → map pointer_word_of (element_rows base level t b ds ps i n) ≡ element_places level t b ds ps n
 places-elements base level t b ds ps i zero = refl
 places-elements base level t b ds ps i (suc n) =
     map-append pointer_word_of (row (base ++ Item i ∷ []) level Ptr t (b + ds) 0 ps) (element_rows base level t (b + ds + ps) ds ps (i + 1) n)

@@ -25,7 +25,8 @@ LeavesRoom Full n most = n ≡ most
 LeavesRoom Done n most = ⊤
 
 -- After the first word of a run the run below it is left, and then what comes after that word.
-pub record Continues (next : Next) (before : List PointerRun) (old : PointerRun) (below : Option PointerRun) (after : List PointerRun) (new : PointerRun) : Type 0 where
+pub record Continues (next : Next) (before : List PointerRun) (old : PointerRun)
+    (below : Option PointerRun) (after : List PointerRun) (new : PointerRun) : Type 0 where
   pub rest : Option PointerRun
   pub is_rest : IsRest old rest
   pub runs : (before ++ option_to_list rest) ++ option_to_list below ≡ runs_left next after new

@@ -18,7 +18,12 @@ pub visit-requires : goal.visit-requires
 visit-requires g c =
     let f = topmost_in _ _ _ c.args.stack.now.items c.args.run.now c.args.report.now _ _ c.requires.walking.walks in
     let rest = has_rest c.args.run.now f.some in
-    record { next = (c.args.stack.now.items ++ option_to_list rest.0, (next_at _ _ c.args.stack.now.items c.args.run.now _ _ _ c.requires.walking rest.1).next) }
+    record {
+      next = (
+        c.args.stack.now.items ++ option_to_list rest.0,
+        (next_at _ _ c.args.stack.now.items c.args.run.now _ _ _ c.requires.walking rest.1).next,
+      );
+    }
 
 pub after-requires-clause-known : goal.after-requires-clause-known
 after-requires-clause-known g c =
