@@ -21,7 +21,7 @@ use std::alloc::{AllocError, Global};
 /// Allocates only if the copy has more bytes than the buffer: the buffer is freed, and one of just
 /// the length of the copy allocated. Its length isn't computed first if the buffer has eight bytes
 /// for each word of the charge and eight more, because every copy fits these. An empty buffer gets
-/// capacity for so many if the first segment has them too.
+/// this capacity if the first segment has as many words.
 ///
 /// # Errors
 ///

@@ -217,7 +217,8 @@ fn make_copies<S: WordSource, K: WordSink>(
 /// unless the output failed. It is closed after the call in any case.
 ///
 /// Allocates to hold a message only if it is larger than all before it, and to hold a copy only if
-/// it is longer than all before it. Both take eight bytes for each word.
+/// it is longer than all before it. Both take eight bytes for each word. The first copy may get
+/// capacity for as many words as the message has in its first segment.
 ///
 /// # Errors
 ///
