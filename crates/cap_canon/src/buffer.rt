@@ -2,14 +2,15 @@
 
 ghost use Rattle.cap_canon.specs.CopyRooms.{TellsRoom};
 ghost use Rattle.cap_canon.specs.declared.fault.RoomFault.{RoomFault};
+ghost use Rattle.cap_spec.specs.Copies.{HasCopy};
 ghost use Rattle.cap_vet.specs.Vettings.{message_of};
-ghost use Rattle.std.specs.Prelude.{◌≡◌, List, Result, ℕ};
+ghost use Rattle.std.specs.Prelude.{◌*◌, ◌≡◌, ◌≤◌, Err, IfErr, IfOk, List, Result, length, ℕ};
 
 use crate::fault::{CanonFault, RoomFault};
 use crate::length::canonical_len;
 use crate::over::fits_any;
 use crate::source::CopySource;
-use crate::word_bytes::{fill, fill_front};
+use crate::word_bytes::fill_front;
 use cap_vet::Vetted;
 
 /// Writes the canonical copy of a message at the start of `out` as bytes, eight a word, the lowest
@@ -40,9 +41,22 @@ pub fn canonical_into<M: CopySource>(v: &Vetted<'_, M>, out: &mut [u8]) -> Resul
 fn fill_start<M: CopySource>(v: &Vetted<'_, M>, out: &mut [u8]) -> Result<usize, RoomFault>
     ensures { TellsRoom (M.segments (message_of v.now)) out.old result out.new }
 {
-    let report = v.report();
-    if fits_any(&report, out.len()) {
-        return Ok(8 * fill_front(v.message(), report.depth, out));
+    if let Err(fault) = check_room(v, out.len()) {
+        return Err(fault);
+    }
+    let words = fill_front(v.message(), v.report().depth, out);
+    Ok(8 * words)
+}
+
+// Makes sure that a message has a copy, which fits into `len` bytes.
+fn check_room<M: CopySource>(v: &Vetted<'_, M>, len: usize) -> Result<(), RoomFault>
+    ensures ok { IfOk result (λ _. (words : List ℕ) × HasCopy (M.segments (message_of v.now)) words
+        × (8 * length words ≤ len)) }
+    ensures err { let m = M.segments (message_of v.now) in IfErr result (λ fault.
+        (old : List ℕ) → length old ≡ len → TellsRoom m old (Err fault) old) }
+{
+    if fits_any(&v.report(), len) {
+        return Ok(());
     }
     let words = match canonical_len(v) {
         Ok(words) => words,
@@ -51,10 +65,9 @@ fn fill_start<M: CopySource>(v: &Vetted<'_, M>, out: &mut [u8]) -> Result<usize,
         }
         Err(CanonFault::Memory) => unreachable!(),
     };
-    let count = 8 * words as usize;
-    if out.len() < count {
-        return Err(RoomFault::NoRoom { needed: count });
+    let needed = 8 * words as usize;
+    if len < needed {
+        return Err(RoomFault::NoRoom { needed });
     }
-    fill(v.message(), report.depth, &mut out[..count]);
-    Ok(count)
+    Ok(())
 }
