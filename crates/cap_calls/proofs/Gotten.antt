@@ -94,9 +94,3 @@ module _ (l : CallLimits) (bs : List ℕ) (path : List Step) (steps : PathSteps)
       let q = p path left in
       tells only (framed m x y g h
       (subst (λ (z : CallNode). Gets path z (demands_of l) m l.charge l.depth g) (sym (put_first old other nodes q.0 q.2)) q.1) e)
-
--- The limits are right if there is another reason why there is no frame.
-pub limits_by_cause : (l : CallLimits) (bs : List ℕ) (c : NoFrame) → HasNoFrame l bs c → (c ≡ BadLimits → ⊥) → AreLimits l
-limits_by_cause l bs BadLimits h other = absurd (other refl)
-limits_by_cause l bs NoMessage h other = h.0
-limits_by_cause l bs (Fault c) h other = h.0

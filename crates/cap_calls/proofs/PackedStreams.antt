@@ -221,10 +221,6 @@ pub head_zeros : (bytes : List ℕ) → 0 < length bytes → slice_index bytes 0
 head_zeros [] l e = absurd (omega (arith, l))
 head_zeros (x ∷ b) l e = let t : x ≡ 0 = e in ap (λ (k : ℕ). head_length (k ∷ b)) t
 
-pub head_plain : (bytes : List ℕ) → 0 < length bytes → slice_index bytes 0 ≡ 255 → head_length bytes ≡ 10
-head_plain [] l e = absurd (omega (arith, l))
-head_plain (x ∷ b) l e = let t : x ≡ 255 = e in ap (λ (k : ℕ). head_length (k ∷ b)) t
-
 pub head_marked : (bytes : List ℕ) (tag : ℕ) → 0 < length bytes → slice_index bytes 0 ≡ tag → tag ≢ 0 → tag ≢ 255
     → head_length bytes ≡ 1 + marks 8 tag
 head_marked [] tag l e z f = absurd (omega (arith, l))

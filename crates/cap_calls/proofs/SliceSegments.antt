@@ -23,10 +23,6 @@ part_is slices s h = get_or-map (λ (x : Bor (List ℕ)). x.now) slices s no_sli
 pub parts_count : (slices : List (Bor (List ℕ))) → length (bytes_of slices) ≡ length slices
 parts_count slices = length-map slices (λ (x : Bor (List ℕ)). x.now)
 
-pub no_parts : (slices : List (Bor (List ℕ))) → length slices ≡ 0 → bytes_of slices ≡ []
-no_parts [] e = refl
-no_parts (x ∷ xs) e = absurd (omega (arith, e))
-
 -- there are as many segments as slices
 pub count_is : (slices : List (Bor (List ℕ))) → length (segments_in (bytes_of slices)) ≡ length slices
 count_is slices = length-map (bytes_of slices) plain_words ∙ parts_count slices
@@ -73,13 +69,6 @@ sum_more parts s words more h w e t =
       total = omega (arith, e, t.total, next, one, size_is parts s h);
       whole = below_more (λ (i : ℕ). length (get_or parts i []) % 8 ≡ 0) s t.whole w;
     }
-
--- all
-pub sum_all : (parts : List (List ℕ)) (s words : ℕ) → length parts ≤ s → SumSoFar parts s words → words ≡ capped (words_in parts)
-sum_all parts s words h t =
-    let sizes = sizes_of (segments_in parts) in
-    let long : length sizes ≡ length parts = length-map (segments_in parts) (λ (ws : List ℕ). length ws) ∙ length-map parts plain_words in
-    t.total ∙ ap (λ (ns : List ℕ). capped (sum ns)) (take_all s sizes (omega (arith, long, h)))
 
 -- each of them is short enough for a segment if their sum is
 pub are_message : (slices : List (Bor (List ℕ))) → 1 ≤ length slices → length slices ≤ 512

@@ -21,7 +21,8 @@ pub trait Peek: WordSource {
 }
 
 impl<I: ByteIn> Peek for PlainWords<I> {
-    ghost ahead = { λ s. if ⟦<PlainWords<I> as WordSource>⟧.ended s || ⟦<PlainWords<I> as WordSource>⟧.failed s then [] else I.at_hand (input_of s) };
+    ghost ahead = { λ s. if ⟦<PlainWords<I> as WordSource>⟧.ended s
+        || ⟦<PlainWords<I> as WordSource>⟧.failed s then [] else I.at_hand (input_of s) };
 
     fn ahead(&self) -> &[u8] {
         self.held()

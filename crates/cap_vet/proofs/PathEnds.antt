@@ -118,14 +118,3 @@ pub fault_at : (demands : Demands) (m : List (List ℕ)) (words depth : ℕ) (pa
     → IsFaultBy demands (length m) at.lax fault → IsPathFault demands m words depth path fault
 fault_at demands m words depth path at found fault few e f =
     fault_by demands m words depth path at at.lax few refl (known m (words_under demands m words) depth path at found e) fault f
-
--- The limits by other names.
-pub ends_as : (m : List (List ℕ)) (w x d y : ℕ) (path : List Step) (at : Arrival) (found : Bool) → w ≡ x → d ≡ y
-    → EndsAt m w d path at found → EndsAt m x y path at found
-ends_as m w x d y path at found e f h =
-    subst (λ z. EndsAt m x z path at found) f (subst (λ z. EndsAt m z d path at found) e h)
-
-pub refused_as : (m : List (List ℕ)) (w x d y : ℕ) (path : List Step) (r : Refusal) → w ≡ x → d ≡ y
-    → IsRefusedOnPath m w d path r → IsRefusedOnPath m x y path r
-refused_as m w x d y path r e f h =
-    subst (λ z. IsRefusedOnPath m x z path r) f (subst (λ z. IsRefusedOnPath m z d path r) e h)
