@@ -1,7 +1,7 @@
 -- Segments that are separate slices.
 use Rattle.std.proofs.Common.{◌≡◌, ◌∙◌, ℕ, ◌+◌, ◌/◌, ◌%◌, ◌^◌, ◌<◌, ◌≤◌, List, [], ◌∷◌, length, take}
-use Rattle.std.proofs.Common.{sum, get_or, arith, ap, refl, subst, zero-add, Bor, below_more}
-use Rattle.std.proofs.lemmas.List.{get_or-map, get_or_default, length-map, take_all, take_more}
+use Rattle.std.proofs.Common.{sum, get_or, arith, ap, subst, zero-add, Bor, below_more}
+use Rattle.std.proofs.lemmas.List.{get_or-map, get_or_default, length-map, take_more}
 use Rattle.std.proofs.lemmas.List.Sums.{sum_by-append}
 use Rattle.cap_spec.specs.Frames.{sizes_of}
 use Rattle.cap_spec.specs.Messages.{IsMessage}

@@ -11,8 +11,7 @@ use Rattle.cap_words.specs.declared.ends.ByteOut as output
 use Rattle.cap_words.specs.declared.ends.OutFault.{OutFault}
 use Rattle.cap_words.specs.declared.sources.WordSource as source
 use Rattle.cap_frame.proofs.Converse.{same_some}
-use Rattle.cap_spec.specs.declared.StrictRefusal.{StrictRefusal}
-use Rattle.cap_vet.specs.Demands.{IsDemandFault, words_under}
+use Rattle.cap_vet.specs.Demands.{words_under}
 use Rattle.cap_vet.specs.Limits.{depth_of, words_of}
 use Rattle.cap_vet.specs.Reports.{IsAccepted}
 use Rattle.cap_vet.specs.declared.demands.Demands.{Demands}
@@ -34,12 +33,11 @@ use Rattle.cap_run.specs.Streams.{EndsStream, ReadsStream}
 use Rattle.cap_run.specs.Telling.{Tells, TellsEach, Told, messages_of, one_noncanonical, one_refused, outcome_of, texts_of}
 use Rattle.cap_run.specs.Vetting.{WantsMarks}
 use Rattle.cap_run.specs.declared.engines.sifting.Objection.{Objection}
-use Rattle.cap_run.specs.declared.engines.sifting.Objection.TheVariants.{Unmet}
 use Rattle.cap_run.specs.declared.engines.stream.Counted.{Counted}
 use Rattle.cap_run.specs.declared.engines.stream.Counted.TheVariants.{Accepted, NotCanonical, Refused as was_refused}
 use Rattle.cap_run.specs.declared.settings.FilterForm.{FilterForm}
 use Rattle.cap_run.specs.declared.settings.Outcome.{Outcome}
-use Rattle.cap_run.proofs.Going.{appended_more, appended_none, stops_in}
+use Rattle.cap_run.proofs.Going.{appended_none, stops_in}
 use Rattle.cap_run.proofs.Settling.{on_known, reads_front, settled_behind}
 use Rattle.cap_run.proofs.Streams.{reads_all, reads_both, reads_none}
 use Rattle.cap_run.proofs.Telling.{each-snoc, messages_of-snoc, noncanonical_in_le, outcome_of-snoc, refused_in_le, texts_of-snoc}

@@ -2,12 +2,11 @@
 use Rattle.std.proofs.Common.{ℕ, ◌-◌, ◌≤◌, ◌≡◌, List, ◌∷◌, ◌++◌, Option, None, Some, length, refl, subst, sym, arith}
 use Rattle.std.specs.Prelude.{Bool, true, false}
 use Rattle.cap_spec.specs.Arriving.{ArrivesAt}
-use Rattle.cap_spec.specs.Getting.{AreOnPath, Begins, Charges, IsRefusedOnPath}
+use Rattle.cap_spec.specs.Getting.{AreOnPath, Begins, Charges}
 use Rattle.cap_spec.specs.Paths.{Spot}
 use Rattle.cap_spec.specs.Strict.{IsLax}
 use Rattle.cap_spec.specs.declared.Kind.{Kind}
 use Rattle.cap_spec.specs.declared.Lax.{Lax}
-use Rattle.cap_spec.specs.declared.Refusal.{Refusal}
 use Rattle.cap_spec.specs.declared.Step.{Step}
 use Rattle.cap_spec.specs.declared.StrictRefusal.{StrictRefusal}
 use Rattle.cap_spec.specs.declared.StrictRefusal.TheVariants.{Refused, ManySegments, Pointer}
