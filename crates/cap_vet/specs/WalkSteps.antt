@@ -18,7 +18,7 @@ runs_left More items run = items ++ run ∷ []
 runs_left Full items run = items ++ run ∷ []
 runs_left Done items run = []
 
--- whether a stack of n runs, of at most so many, has room for one more
+-- whether a stack of n runs may take one more, if it may have this many at most
 abbrev pub LeavesRoom : Next → ℕ → ℕ → Type 0
 LeavesRoom More n most = n < most
 LeavesRoom Full n most = n ≡ most

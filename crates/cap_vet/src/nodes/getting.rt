@@ -114,7 +114,7 @@ pub(crate) fn follow_path<M: Segments, S: StepSource + Copy>(
         IsWay (M.segments message.now) words depth steps result }
     ensures leads { IsSomeWay (M.segments message.now) words depth result }
 {
-    // Most paths arrive somewhere by such looks alone, which need no memory.
+    // Such looks alone follow most paths, and they need no memory.
     match follow_near(message, words, depth, path) {
         Some(at) => Way::To(at),
         None => follow_any(message, words, depth, path),
