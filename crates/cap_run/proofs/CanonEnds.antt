@@ -3,7 +3,7 @@
 use Rattle.std.proofs.Common.{◌≡◌, ◌∙◌, ℕ, ◌≤◌, false, Some, Result, Ok, Err, List, [], ◌∷◌, ◌++◌, length, sum, IfErr, IfOk, refl, sym, ap, subst, arith}
 use Rattle.std.specs.List.{AllByRecursion}
 use Rattle.std.proofs.lemmas.List.{length-map}
-use Rattle.cap_spec.specs.Transcodes.{HasCopy}
+use Rattle.cap_spec.specs.Copies.{HasCopy}
 use Rattle.cap_spec.specs.Frames.{Stream, frame_text, sizes_of}
 use Rattle.cap_spec.proofs.Frames.FrameTexts.{one_stream}
 use Rattle.cap_spec.proofs.Bytes.Lists.{all_back}
@@ -18,7 +18,7 @@ use Rattle.cap_vet.specs.Demands.{words_under}
 use Rattle.cap_vet.specs.declared.demands.Demands.{Demands}
 use Rattle.cap_canon.specs.declared.fault.CanonFault.TheVariants.{HasCapability, Memory}
 use Rattle.cap_spec.proofs.Canonical.Transcodes.{one_copy}
-use Rattle.cap_canon.proofs.Transcodes.{cap_no_copy}
+use Rattle.cap_canon.proofs.Copies.{cap_no_copy}
 use Rattle.cap_run.specs.Canons.{AreCanonised, CanonStops, Canonised, IsCanonised, MakesCopiesUnder, canonised}
 use Rattle.cap_run.specs.Canons.{copies_of}
 use Rattle.cap_run.specs.Transcoding.{Finishes}

@@ -3,7 +3,7 @@
 use Rattle.std.specs.Prelude.{ℕ, ◌≡◌, ◌<◌, ◌≤◌, ◌⊎◌, false, List, [], ◌∷◌, ◌++◌, length, map, sum}
 use Rattle.std.specs.Prelude.{Some, Result, Ok, Err, IfOk, IfErr}
 use Rattle.std.specs.List.{AllByRecursion, flat_map}
-use Rattle.cap_spec.specs.Transcodes.{HasCopy}
+use Rattle.cap_spec.specs.Copies.{HasCopy}
 use Rattle.cap_spec.specs.Frames.{Stream, frame_text, sizes_of}
 use Rattle.cap_spec.specs.Paths.{IsFirstCap}
 use Rattle.cap_spec.specs.declared.StrictRefusal.TheVariants.{Refused as bad}

@@ -1,6 +1,6 @@
 -- What may be written of a message that is checked (profile).
 use Rattle.std.specs.Prelude.{ℕ, ◌≡◌, ◌↔◌, if◌then◌else◌, Bool, IsTrue, List}
-use Rattle.cap_spec.specs.Transcodes.{IsCanonical}
+use Rattle.cap_spec.specs.Copies.{IsCanonical}
 use Rattle.cap_spec.specs.Texts.{check_text}
 use Rattle.cap_vet.specs.Reports.{IsAccepted}
 use Rattle.cap_vet.specs.declared.report.Report.{Report}
