@@ -17,7 +17,7 @@ use Rattle.cap_frame.proofs.Converse.{same_some}
 use Rattle.cap_vet.specs.Demands.{words_under}
 use Rattle.cap_vet.specs.declared.demands.Demands.{Demands}
 use Rattle.cap_canon.specs.declared.fault.CanonFault.TheVariants.{HasCapability, Memory}
-use Rattle.cap_spec.proofs.Canonical.Transcodes.{one_copy}
+use Rattle.cap_spec.proofs.Canonical.Copies.{one_copy}
 use Rattle.cap_canon.proofs.Copies.{cap_no_copy}
 use Rattle.cap_run.specs.Canons.{AreCanonised, CanonStops, Canonised, IsCanonised, MakesCopiesUnder, canonised}
 use Rattle.cap_run.specs.Canons.{copies_of}
