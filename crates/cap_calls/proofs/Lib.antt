@@ -14,6 +14,7 @@ pub mod OneStop
 pub mod Packed
 pub mod PathCharges
 pub mod RangeGotten
+pub mod RangeNear
 pub mod RangePaths
 pub mod Segments
 pub mod SeparateSegments

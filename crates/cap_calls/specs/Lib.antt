@@ -15,6 +15,7 @@ pub mod PackCalls
 pub mod SegmentCalls
 pub mod SegmentsCalls
 pub mod RangeCalls
+pub mod RangeNear
 pub mod Slices
 pub mod PackedMessages
 pub mod PackedStreams

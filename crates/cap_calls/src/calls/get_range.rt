@@ -17,7 +17,7 @@ use crate::over::{Call, over};
 use crate::report::CallReport;
 use crate::step::CallStep;
 use cap_frame::{ByteView, Segments};
-use cap_vet::{Demands, Limits, PathStart, Step, StepSource};
+use cap_vet::{Demands, Limits, PathStart, Step, StepSource, StructElements};
 
 /// Follows paths of which one step varies in the message that bytes are, and reports the node at
 /// each. Node k is at the path whose step `varying` has its number and k more. The steps that lead
@@ -170,14 +170,79 @@ impl<'s> Call for GettingRange<'s> {
     ) -> Found {
         let (first, step, rest) = self.parts();
         let start = PathStart::new(view, limits, demands, first);
+        let near = Near::choose(&start, step, rest);
         'nodes: for k in 0..out.len() {
-            match start.get(step.after(k as u64), rest) {
-                Ok(Some(at)) => out[k] = CallNode::of(&at, view.count()),
-                Ok(None) => return stopped(path_answer(Answer::NoNode), k),
-                Err(refusal) => return stopped(Found::refused(refusal), k),
+            match near.node(k as u64, view.count()) {
+                Some(node) => out[k] = node,
+                None => match start.get(step.after(k as u64), rest) {
+                    Ok(Some(at)) => out[k] = CallNode::of(&at, view.count()),
+                    Ok(None) => return stopped(path_answer(Answer::NoNode), k),
+                    Err(refusal) => return stopped(Found::refused(refusal), k),
+                },
             }
         }
         stopped(path_answer(Answer::Good), out.len())
+    }
+}
+
+// How most nodes of a range are found: by their number alone, or by one pointer more.
+#[derive(Drop)]
+enum Near<'m, M: Segments> {
+    // The elements of this list of structs, from the one of this number on.
+    Elements(StructElements<'m, M>, u32),
+    // What this pointer of each of them leads to.
+    Pointers(StructElements<'m, M>, u32, u16),
+    // Each path has to be followed.
+    Unknown,
+}
+
+impl<'m, M: Segments> Near<'m, M> {
+    ghost use Rattle.cap_calls.specs.RangeNear.{HasCount, HasNodeAfter, IsNear};
+    ghost use Rattle.cap_calls.specs.declared.step.CallStep.{CallStep};
+    ghost use Rattle.cap_vet.specs.PathWays.{start_message};
+    ghost use Rattle.cap_vet.specs.declared.nodes.path_start.PathStart.{PathStart};
+    ghost use Rattle.std.specs.Prelude.{◌^◌};
+
+    // How to find the nodes after this start, at the step that varies and the others.
+    fn choose(start: &PathStart<'m, M>, step: CallStep, rest: FixedSteps<'_>) -> Near<'m, M>
+        ensures { IsNear (M.segments (start_message start.now)) start.now step rest.entry.rest.now
+            result }
+    {
+        if step.kind == 0 || rest.rest.len() > 1 {
+            return Near::Unknown;
+        }
+        let Some(list) = start.elements() else {
+            return Near::Unknown;
+        };
+        if rest.rest.is_empty() {
+            return Near::Elements(list, step.number);
+        }
+        match rest.rest[0].after(0) {
+            Step::Ptr(j) => Near::Pointers(list, step.number, j),
+            Step::Item(_) => Near::Unknown,
+        }
+    }
+
+    // The node of path `k`, if it is found so, in a frame of a message of this number of segments.
+    #[inline(always)]
+    fn node(&self, k: u64, segments: u32) -> Option<CallNode>
+        requires count { HasCount segments self.now }
+        requires low { k < 2 ^ 63 }
+        ensures { IfSome result (λ n. (m : List (List ℕ)) (start : PathStart M _)
+            (step : CallStep) (rest : List CallStep) → IsNear m start step rest self.now →
+            HasNodeAfter m start (step_after step k) (path_after rest 0 0) n) }
+    {
+        match self {
+            Near::Elements(list, number) => match list.element(u64::from(*number) + k) {
+                Some(view) => Some(CallNode::of(&view, segments)),
+                None => None,
+            },
+            Near::Pointers(list, number, j) => match list.pointer(u64::from(*number) + k, *j) {
+                Some(view) => Some(CallNode::of(&view, segments)),
+                None => None,
+            },
+            Near::Unknown => None,
+        }
     }
 }
 

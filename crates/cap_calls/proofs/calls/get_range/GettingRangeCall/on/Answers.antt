@@ -1,22 +1,30 @@
 -- One node more is got, or the range ends.
-use Rattle.std.proofs.Common.{ℕ, ◌≡◌, ◌∙◌, ◌++◌, ◌∷◌, ap, arith, length, refl, sym}
+use Rattle.std.proofs.Common.{ℕ, ◌<◌, ◌≡◌, ◌∙◌, ◌++◌, ◌∷◌, ap, arith, length, refl, sym}
 use Rattle.cap_frame.specs.Bytes.{cut}
 use Rattle.cap_frame.specs.declared.view.ByteView.{ByteView}
 use Rattle.cap_spec.specs.declared.Step.{Step}
 use Rattle.cap_calls.specs.CallFindings.{refused_found}
 use Rattle.cap_calls.specs.CallNodes.{kind_node, offset_of}
 use Rattle.cap_calls.specs.NodeCalls.{a_node, no_meeting, no_node, path_found}
-use Rattle.cap_calls.specs.RangeCalls.{path_after}
+use Rattle.cap_calls.specs.RangeCalls.{path_after, step_after}
 use Rattle.cap_calls.specs.declared.answer.Answer.TheVariants.{Good, NoNode}
 use Rattle.cap_calls.specs.declared.found.Found.{Found}
 use Rattle.cap_calls.proofs.RangeGotten.{more_so_far, none_so_far, nothing_not_good, range_full, range_stops, refused_not_good}
+use Rattle.cap_calls.proofs.RangeNear.{count_near, gets_near}
 use Rattle.cap_calls.proofs.RangePaths.{given_fault, given_node, given_nothing, given_path}
 use Rattle.cap_calls.proofs.calls.get_range.GettingRangeCall.on.Goals as goal
+use Rattle.cap_calls.proofs.calls.get_range.GettingRangeCall.on.Goals.{in-Some, in-None+in-Ok-Some}
 
 pub nodes-init : goal.nodes-init
 nodes-init c =
     let self = c.args.self.now in
     none_so_far (λ k. path_after self.steps.now self.varying k) _ _ _ _ _
+
+pub node-requires-clause-count : goal.node-requires-clause-count
+node-requires-clause-count c =
+    let start = c.new-start.result in
+    count_near (cut start.message.now.sizes.now start.message.now.bytes.now) start c.parts.result.1 c.parts.result.2.rest.now c.choose-near.result _
+    (c.count.ensures ∙ ap (λ (v : ByteView). length (cut v.sizes.now v.bytes.now)) (sym c.new-start.ensures.message)) c.choose-near.ensures
 
 pub returns-in-Ok-None : goal.returns-in-Ok-None
 returns-in-Ok-None c =
@@ -55,25 +63,38 @@ returns-in-Err c =
 pub nodes-preserved : goal.nodes-preserved
 nodes-preserved c =
     let self = c.args.self.now in
+    let start = c.new-start.result in
     let path = path_after self.steps.now self.varying c.nodes.k in
     let first = path_after c.parts.result.0.rest.now 0 0 in
     let rest = path_after c.parts.result.2.rest.now 0 0 in
+    let step = c.parts.result.1 in
     let m = cut c.args.view.now.sizes.now c.args.view.now.bytes.now in
-    let seen = ap (λ (v : ByteView). cut v.sizes.now v.bytes.now) c.new-start.ensures.message in
-    let whole = c.parts.ensures c.nodes.k ∙ ap (λ (s : Step). first ++ s ∷ rest) (sym c.after.ensures) in
-    let given = given_path c.args.demands m _ c.args.limits.words c.args.limits.depth first rest path c.after.result c.new-start.result
-    c.get.result seen (c.new-start.ensures.start first refl) whole (c.get.ensures.given rest refl) in
-    let at = c.in-Ok-Some.at in
-    let place = at.found.place in
-    let node = given_node c.args.demands m c.args.limits.words c.args.limits.depth path c.get.result c.in-Ok-Some.field-0 at
-    c.in-Ok-Some.is c.in-Ok-Some.field-0-is given in
-    let message = rw c.in-Ok-Some.field-0-is at c.in-Ok-Some.ensures.message in
-    more_so_far (λ k. path_after self.steps.now self.varying k) _ _ _ _ _ c.nodes.out _ c.nodes.k c.of.result c.nodes.invariant
-    (omega (arith, c.nodes-test.true, c.nodes.invariant.size))
-    (a_node at.found.kind place.segment place.start place.words node.0 node.1 refl
-    (c.of.ensures ∙ ap (λ (u : ByteView). kind_node at.found.kind (offset_of (cut u.sizes.now u.bytes.now) place.segment place.start))
-    (message ∙ c.new-start.ensures.message)))
-    refl
+    let n = cut start.message.now.sizes.now start.message.now.bytes.now in
+    let seen : n ≡ m = ap (λ (v : ByteView). cut v.sizes.now v.bytes.now) c.new-start.ensures.message in
+    let is = c.new-start.ensures.start first refl in
+    let lt : c.nodes.k < length c.nodes.out = omega (arith, c.nodes-test.true, c.nodes.invariant.size) in
+    elim c.match-node.branch [
+      | in-Some w ↦ (
+          let has = w.in-Some.ensures n start step c.parts.result.2.rest.now c.choose-near.ensures in
+          let gets = gets_near c.args.demands m n c.args.limits.words c.args.limits.depth first rest path (step_after step c.nodes.k) start
+          w.in-Some.node seen is (c.parts.ensures c.nodes.k) has in
+          more_so_far (λ k. path_after self.steps.now self.varying k) _ _ _ _ _ c.nodes.out _ c.nodes.k w.in-Some.node c.nodes.invariant
+          lt gets w.out-is)
+      | in-None+in-Ok-Some w ↦ (
+          let whole = c.parts.ensures c.nodes.k ∙ ap (λ (s : Step). first ++ s ∷ rest) (sym w.after.ensures) in
+          let given = given_path c.args.demands m n c.args.limits.words c.args.limits.depth first rest path w.after.result start
+          w.get.result seen is whole (w.get.ensures.given rest refl) in
+          let at = w.in-Ok-Some.at in
+          let place = at.found.place in
+          let node = given_node c.args.demands m c.args.limits.words c.args.limits.depth path w.get.result w.in-Ok-Some.field-0 at
+          w.in-Ok-Some.is w.in-Ok-Some.field-0-is given in
+          let message = rw w.in-Ok-Some.field-0-is at w.in-Ok-Some.ensures.message in
+          more_so_far (λ k. path_after self.steps.now self.varying k) _ _ _ _ _ c.nodes.out _ c.nodes.k w.of.result c.nodes.invariant lt
+          (a_node at.found.kind place.segment place.start place.words node.0 node.1 refl
+          (w.of.ensures ∙ ap (λ (u : ByteView). kind_node at.found.kind (offset_of (cut u.sizes.now u.bytes.now) place.segment place.start))
+          (message ∙ c.new-start.ensures.message)))
+          w.out-is)
+    ]
 
 pub returns : goal.returns
 returns c =
