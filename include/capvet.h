@@ -575,7 +575,8 @@ typedef struct capvet_step {
  * CAPVET_BAD_PATH: report->detail is the index of the first step of an unknown kind. If every kind is known,
  * it is step_count, and `varying` is not less than that.
  *
- * Cost: each path is followed from the root. For each path one step for each of its steps and each segment. */
+ * Cost: the steps before the varying one are followed once. For each path come the varying step, the steps
+ * after it, and each segment before the one of its node. */
 CAPVET_CALL((3, 9, 10))
 capvet_answer capvet_get_range(const uint8_t *bytes, size_t length, const capvet_limits *limits,
                                const capvet_step *steps, size_t step_count, size_t varying, capvet_node *nodes,

@@ -60,7 +60,7 @@ pub struct Nodes<'b, S> {
 /// ends at the first path that leads to nothing, after the last element or below a null pointer. Nothing is at a pointer
 /// from number 65535 on. After an error it ends too. To skip such a path, call again with a greater number in the step.
 ///
-/// It finds 16 nodes at a time, and keeps them: it has a size of about 1 KiB. Each path is followed from the root.
+/// It finds 16 nodes at a time, and keeps them: it has a size of about 1 KiB.
 ///
 /// # Errors
 ///
