@@ -71,8 +71,8 @@ impl<'m, M: Segments> PathStart<'m, M> {
         }
     }
 
-    /// The elements of the list of structs that the first steps lead to. `None` if they lead to none,
-    /// or if a pointer on them isn't strict where that is demanded. Allocates nothing.
+    /// The elements of the list of structs that the first steps lead to. `None` says nothing, and
+    /// [`PathStart::get`] then has to decide. Allocates nothing.
     pub fn elements(&self) -> Option<StructElements<'m, M>>
         ensures elements { let m = M.segments (start_message self.now) in
             IfSome result (AreElements m self.now) }

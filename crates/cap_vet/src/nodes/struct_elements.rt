@@ -49,7 +49,7 @@ impl<'m, M: Segments> StructElements<'m, M> {
     ghost use Rattle.std.specs.Prelude.{IfSome};
 
     /// Element `i`, as [`PathStart::get`](crate::PathStart::get) gives it for this step alone. `None`
-    /// past the last element.
+    /// says nothing: `PathStart::get` then has to decide. Allocates nothing.
     #[inline(always)]
     pub fn element(&self, i: u64) -> Option<View<'m, M>>
         ensures given { let m = M.segments (elements_message self.now) in
@@ -73,7 +73,8 @@ impl<'m, M: Segments> StructElements<'m, M> {
     }
 
     /// What pointer `j` of element `i` leads to, as [`PathStart::get`](crate::PathStart::get) gives
-    /// it for these two steps. Gives nothing where it takes more than a look at the pointer, and a tag.
+    /// it for these two steps. `None` says nothing: `PathStart::get` then has to decide. Allocates
+    /// nothing.
     #[inline(always)]
     pub fn pointer(&self, i: u64, j: u16) -> Option<View<'m, M>>
         ensures given { let m = M.segments (elements_message self.now) in
