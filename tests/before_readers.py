@@ -42,8 +42,8 @@ STRICT = ("-std=c++17", "-Wall", "-Wextra", "-Wpedantic", "-Wconversion", "-Werr
 CHECKED = ("-O0", "-g", "-fsanitize=address,undefined", "-fno-sanitize-recover=all")
 CARGO = ("--offline", "--quiet")
 MANY = cases(1_000, full=5_000)
-# The most instructions of a call to a server with vetting, as a part of those without.
-MOST = {"small": 1.03, "list": 1.15}
+# The most instructions of a call to a server with vetting, as a part of those without. A small one takes fewer.
+MOST = {"small": 1, "list": 1.15}
 # How many of the frames of valid calls come before a changed message.
 VALID = 9
 CALLED = """\
@@ -54,15 +54,16 @@ failed: remote exception: this call always fails
 """
 PROGRAMS = ("rpc_server", "rpc_client", "vetted", "rpc")
 # What tests/readers/rpc.cpp prints of each stream that reads file descriptors. Its limits are at least those that are
-# asked for, mostly 10 words and 3 levels. A message has libcapnp's own reader if that has these limits.
+# asked for, mostly 10 words and 3 levels. A message of several segments has libcapnp's own reader if that has them.
 REFUSED = "  onRefused {0}\n" + 3 * "  {0}; 0 open\n"
 FAILED = "  {0}; 2 open\n" + 2 * "  {0}; 0 open\n"
 READ = "  {}; 2 open\n  0 words, 0 files, limits {}; 0 open\n  ended; 0 open\n"
 STREAMS = {
     "null": READ.format("0 words, 2 files, limits 10 and 3", "10 and 3"),
-    "default limits": READ.format("0 words, 2 files, limits 8388608 and 64, own reader", "8388608 and 64, own reader"),
-    "default limits, two levels":
-        READ.format("2 words, 2 files, limits 8388608 and 5", "8388608 and 4, own reader"),
+    "default limits": READ.format("0 words, 2 files, limits 8388608 and 64", "8388608 and 64"),
+    "default limits, two segments":
+        READ.format("2 words, 2 files, limits 8388608 and 64, own reader", "8388608 and 64"),
+    "default limits, two levels": READ.format("2 words, 2 files, limits 8388608 and 5", "8388608 and 4"),
     "two levels": READ.format("2 words, 2 files, limits 10 and 5", "10 and 3"),
     "two levels, four readings": READ.format("2 words, 2 files, limits 32 and 5", "10 and 3"),
     "cycle": REFUSED.format("refused DepthLimit at 0:0 pointers 65"),
@@ -75,6 +76,13 @@ STREAMS = {
     "511 segments": READ.format("0 words, 2 files, limits 511 and 3", "10 and 3"),
     "512 segments": FAILED.format("expected segmentCount() < 512 [512 < 512]; Message has too many segments."),
 }
+# The same of messages that end too early, and of those that fit into the space that is passed.
+PARTS = """\
+  from 0 bytes on: 2 words; then ended; then ended;
+  from 1 bytes on: 2 words; then disconnected: Premature EOF.; then disconnected: Premature EOF.;
+  from 8 bytes on: 2 words; then {0}; then {0};
+""".format("disconnected: stream disconnected prematurely")
+SPACE = "  1 words there; 4 words there; 5 words elsewhere; 4 words there;\n"
 
 
 def run(command, seconds=3600, **how):
@@ -162,15 +170,26 @@ def attacked(name, program, count, folder):
     print(f"{name}: {dict(counts)}; " + ", ".join(line for line in lines if line.startswith("exceptions")))
 
 
+def wanted_of_streams():
+    """What is printed of each stream, by the line before."""
+    wanted = {}
+    for part, read in STREAMS.items():
+        read += "  the same buffer: 1\n  left open: 0\n"
+        not_read = read.replace("2 files", "0 files").replace("2 open", "0 open")
+        around = read.replace(", own reader", "")
+        wanted |= {f"{part}, files read": read, f"{part}, files not read": not_read, f"{part}, around": around}
+    for kind in ("files read", "files not read", "around"):
+        wanted |= {f"one segment in parts, {kind}": PARTS, f"two segments in parts, {kind}": PARTS}
+        wanted[f"scratch space, {kind}"] = SPACE
+    return wanted
+
+
 def streams(name, program):
     text, status = run([program, "streams"])
     compare(f"{name}, status", 0, status)
-    for part, read in STREAMS.items():
-        not_read = read.replace("2 files", "0 files").replace("2 open", "0 open")
-        kinds = {"files read": read, "files not read": not_read, "around": read.replace(", own reader", "")}
-        for kind, wanted in kinds.items():
-            got = re.search(rf"^{part}, {kind}\n((?:  .*\n)*)", text, re.M)
-            compare(f"{name}, {part}, {kind}", wanted + "  the same buffer: 1\n  left open: 0\n", got and got[1])
+    for part, wanted in wanted_of_streams().items():
+        got = re.search(rf"^{part}\n((?:  .*\n)*)", text, re.M)
+        compare(f"{name}, {part}", wanted, got and got[1])
 
 
 def instructions(command):
@@ -182,7 +201,7 @@ def instructions(command):
 
 
 def cost(program):
-    """A call to a server with vetting takes few instructions more than to one without."""
+    """A call to a server with vetting takes few instructions more than to one without, or fewer."""
     if missing("the cost of vetting in RPC", "valgrind"):
         return
     for kind, few, more in (("small", 300, 800), ("list", 2, 5)):
@@ -192,7 +211,7 @@ def cost(program):
             costs[server] = (counts[1] - counts[0]) / (more - few)
         ratios = {server: costs[server] / max(costs["without"], 1) for server in ("with", "around")}
         most = MOST[kind]
-        compare(f"a {kind} call takes at most {most} of the instructions", True, 1 <= ratios["with"] <= most)
+        compare(f"a {kind} call takes at most {most} of the instructions", True, 0.9 < ratios["with"] <= most)
         print(f"rpc: a {kind} call takes {ratios['with']:.4f} of the instructions with vetting, "
               f"and {ratios['around']:.4f} around another stream")
 

@@ -24,6 +24,7 @@
 #include <capnp/serialize.h>
 #include <capvet.h>
 #include <kj/array.h>
+#include <kj/async-io.h>
 #include <kj/exception.h>
 #include <kj/function.h>
 #include <kj/io.h>
@@ -144,15 +145,19 @@ inline Vetted vetted(kj::ArrayPtr<const kj::byte> bytes, const Options &options 
   kj::throwFatalException(exceptionOf(refusal));
 }
 
-/* The segments of a message that another reader holds, each asked for once. Most messages have one. */
+/* The segments of a message. Most messages have one. */
 class Segments {
  public:
+  /* Those that another reader holds. It is asked once for each. */
   explicit Segments(capnp::MessageReader &reader) : first(segmentOf(reader, 0)) {
     // (libcapnp gives none of a message whose segments are all empty, and it has no root like this one)
     if (first.bytes == nullptr) return;
     const auto second = segmentOf(reader, 1);
     if (second.bytes != nullptr) all = allOf(reader, first, second);
   }
+
+  /* One segment. */
+  explicit Segments(kj::ArrayPtr<const capnp::word> words) : first{words.asBytes().begin(), words.asBytes().size()} {}
 
   capvet_answer vet(const capvet_limits &limits, capvet_report &report) const {
     if (all.size() == 0) return capvet_vet_segments(&first, 1, &limits, &report);
@@ -188,17 +193,38 @@ class Segments {
   kj::Array<capvet_segment> all;
 };
 
-/* Reads a vetted message that another reader holds. */
+/* Reads a vetted message. Its words are those of another reader or of an array, which is kept as `Holder`. */
+template <typename Holder>
 class VettedMessageReader final : public capnp::MessageReader {
  public:
-  VettedMessageReader(kj::Own<capnp::MessageReader> holder, Segments segments, capnp::ReaderOptions options)
+  VettedMessageReader(Holder holder, Segments segments, capnp::ReaderOptions options)
       : capnp::MessageReader(options), holder(kj::mv(holder)), segments(kj::mv(segments)) {}
 
   kj::ArrayPtr<const capnp::word> getSegment(unsigned int id) override { return segments.get(id); }
 
  private:
-  kj::Own<capnp::MessageReader> holder;
+  Holder holder;
   Segments segments;
+};
+
+/* A stream with bytes before it that were read from it. */
+class RereadStream final : public kj::AsyncInputStream {
+ public:
+  RereadStream(kj::ArrayPtr<const kj::byte> first, kj::AsyncInputStream &rest) : first(first), rest(rest) {}
+
+  kj::Promise<size_t> tryRead(void *buffer, size_t least, size_t most) override {
+    const auto bytes = static_cast<kj::byte *>(buffer);
+    const size_t count = std::min(most, first.size());
+    std::copy_n(first.begin(), count, bytes);
+    first = first.slice(count, first.size());
+    if (count >= least) return count;
+    auto reading = rest.tryRead(bytes + count, least - count, most - count);
+    return reading.then([count](size_t length) { return count + length; });
+  }
+
+ private:
+  kj::ArrayPtr<const kj::byte> first;
+  kj::AsyncInputStream &rest;
 };
 
 /* A stream that vets each message that is read, before its reader gets it. Nothing is copied. Writing passes through.
@@ -207,13 +233,14 @@ class VettedMessageReader final : public capnp::MessageReader {
  * and this read and all later ones throw `exceptionOf` the refusal. The RPC system then sends the exception's
  * description to the peer, and closes the connection.
  *
- * libcapnp reads the frame, or the other stream that is passed does. It holds at most `limits.message_words` words, and
- * refuses by exceptions of its own what is larger, what is cut, and 512 or more segments. These end the stream too, but
+ * This reads the messages of one segment from a connection, and libcapnp those of several. If another stream of
+ * messages is passed, it reads them all. At most `limits.message_words` words are held of a message. What is larger,
+ * what is cut, and 512 or more segments are refused with libcapnp's exceptions. These end the stream too, but
  * `onRefused` isn't called. CAPVET_ALLOW_TRAILING has no effect.
  *
  * libcapnp's limits for a message are at least those that are passed to tryReadMessage (`receiveOptions` of
- * TwoPartyVatNetwork), and are raised to what the message needs. A message takes least time if `limits.message_words`
- * is the traversal limit that is passed, as by default: libcapnp's own reader then serves. */
+ * TwoPartyVatNetwork), and are raised to what the message needs. A message of several segments takes least time if
+ * `limits.message_words` is the traversal limit that is passed, as by default: libcapnp's own reader then serves. */
 class VettingStream final : public capnp::MessageStream {
  public:
   using OnRefused = kj::Function<void(const Refusal &)>;
@@ -226,7 +253,6 @@ class VettingStream final : public capnp::MessageStream {
   explicit VettingStream(kj::AsyncIoStream &connection, const Options &options = {}, OnRefused onRefused = ignore)
       : inner(kj::heap<capnp::AsyncIoMessageStream>(connection)),
         bytes(connection),
-        isKeepingReaders(true),
         options(options),
         onRefused(kj::mv(onRefused)) {}
 
@@ -234,42 +260,23 @@ class VettingStream final : public capnp::MessageStream {
   explicit VettingStream(kj::AsyncCapabilityStream &connection, const Options &options = {},
                          OnRefused onRefused = ignore)
       : inner(kj::heap<capnp::AsyncCapabilityMessageStream>(connection)),
-        isKeepingReaders(true),
+        bytes(connection),
+        files(connection),
         options(options),
         onRefused(kj::mv(onRefused)) {}
 
   /* The messages of any other stream, which has to outlive this. It takes longer: each message gets a reader of its
    * own, which asks the stream's reader for each segment once. */
   explicit VettingStream(capnp::MessageStream &inner, const Options &options = {}, OnRefused onRefused = ignore)
-      : inner(&inner, kj::NullDisposer::instance),
-        isKeepingReaders(false),
-        options(options),
-        onRefused(kj::mv(onRefused)) {}
+      : inner(&inner, kj::NullDisposer::instance), options(options), onRefused(kj::mv(onRefused)) {}
 
   kj::Promise<kj::Maybe<capnp::MessageReaderAndFds>> tryReadMessage(kj::ArrayPtr<kj::AutoCloseFd> fdSpace,
                                                                     capnp::ReaderOptions atLeast,
                                                                     kj::ArrayPtr<capnp::word> scratchSpace) override {
     KJ_IF_MAYBE(exception, ended) { return kj::cp(*exception); }
-    // (this limit of the reader bounds what it holds)
-    auto held = atLeast;
-    held.traversalLimitInWords = options.limits.message_words;
-    auto onFailed = [this](kj::Exception &&exception) -> Read { fail(kj::mv(exception)); };
-    KJ_IF_MAYBE(connection, bytes) {
-      // (the inner stream would add a promise of its own, which is dear for a small message)
-      auto onRead = [this, atLeast](kj::Maybe<kj::Own<capnp::MessageReader>> &&read) -> Read {
-        KJ_IF_MAYBE(reader, read) {
-          vet(*reader, nullptr, atLeast);
-          return capnp::MessageReaderAndFds{kj::mv(*reader), nullptr};
-        }
-        return nullptr;
-      };
-      return capnp::tryReadMessage(*connection, held, scratchSpace).then(kj::mv(onRead), kj::mv(onFailed));
-    }
-    auto onRead = [this, atLeast](Read &&read) -> Read {
-      KJ_IF_MAYBE(message, read) { vet(message->reader, message->fds, atLeast); }
-      return kj::mv(read);
-    };
-    return inner->tryReadMessage(fdSpace, held, scratchSpace).then(kj::mv(onRead), kj::mv(onFailed));
+    const Asked asked = {fdSpace, atLeast, scratchSpace};
+    KJ_IF_MAYBE(connection, bytes) { return readFrom(*connection, asked); }
+    return readFromInner(asked);
   }
 
   kj::Promise<void> writeMessage(kj::ArrayPtr<const int> fds,
@@ -287,29 +294,136 @@ class VettingStream final : public capnp::MessageStream {
  private:
   using Read = kj::Maybe<capnp::MessageReaderAndFds>;
 
+  // The arguments of a read.
+  struct Asked {
+    // (the space for file descriptors, and later those that came)
+    kj::ArrayPtr<kj::AutoCloseFd> fds;
+    capnp::ReaderOptions atLeast;
+    kj::ArrayPtr<capnp::word> scratch;
+  };
+
   static void ignore(const Refusal &) {}
 
-  // Vets a message. Its reader is replaced by one with the limits that it needs, unless it has these.
-  void vet(kj::Own<capnp::MessageReader> &reader, kj::ArrayPtr<kj::AutoCloseFd> fds, capnp::ReaderOptions atLeast) {
-    Segments segments(*reader);
+  // The options of libcapnp's own reader. This limit bounds what it holds.
+  capnp::ReaderOptions heldBy(capnp::ReaderOptions atLeast) const {
+    atLeast.traversalLimitInWords = options.limits.message_words;
+    return atLeast;
+  }
+
+  auto onFailed() {
+    return [this](kj::Exception &&exception) -> Read { fail(kj::mv(exception)); };
+  }
+
+  // Reads a message of another stream of messages.
+  kj::Promise<Read> readFromInner(const Asked &asked) {
+    auto onRead = [this, atLeast = asked.atLeast](Read &&read) -> Read {
+      KJ_IF_MAYBE(message, read) {
+        Segments segments(*message->reader);
+        const auto needed = neededFor(segments, message->fds, atLeast);
+        // (its reader may give each segment only once)
+        replace(message->reader, kj::mv(segments), needed);
+      }
+      return kj::mv(read);
+    };
+    return inner->tryReadMessage(asked.fds, heldBy(asked.atLeast), asked.scratch).then(kj::mv(onRead), onFailed());
+  }
+
+  // Reads a message of a connection. libcapnp makes more promises and buffers for one, and these take longer than
+  // vetting a small message.
+  kj::Promise<Read> readFrom(kj::AsyncInputStream &connection, Asked asked) {
+    KJ_IF_MAYBE(stream, files) {
+      auto onHead = [this, &connection, asked](kj::AsyncCapabilityStream::ReadResult read) mutable {
+        asked.fds = asked.fds.slice(0, read.capCount);
+        return readAfterHead(connection, read.byteCount, asked);
+      };
+      auto reading = stream->tryReadWithFds(head, sizeof head, sizeof head, asked.fds.begin(), asked.fds.size());
+      return reading.then(kj::mv(onHead), onFailed());
+    }
+    asked.fds = nullptr;
+    auto onHead = [this, &connection, asked](size_t length) { return readAfterHead(connection, length, asked); };
+    return connection.tryRead(head, sizeof head, sizeof head).then(kj::mv(onHead), onFailed());
+  }
+
+  // A number of the head: how many segments there are besides the first, or how many words the first has.
+  static uint32_t numberAt(const kj::byte *bytes) {
+    return bytes[0] | uint32_t{bytes[1]} << 8 | uint32_t{bytes[2]} << 16 | uint32_t{bytes[3]} << 24;
+  }
+
+  // Reads the rest of a message. libcapnp reads those of several segments. It also throws its exceptions of a head that
+  // is cut, and of a message that is too large.
+  kj::Promise<Read> readAfterHead(kj::AsyncInputStream &connection, size_t length, const Asked &asked) {
+    kj::Promise<Read> reading = nullptr;
+    auto read = [&]() {
+      const bool isOne = length == sizeof head && numberAt(head) == 0;
+      const bool isRead = isOne && numberAt(head + 4) <= options.limits.message_words;
+      reading = isRead ? readOne(connection, numberAt(head + 4), asked) : readAgain(connection, length, asked);
+    };
+    KJ_IF_MAYBE(exception, kj::runCatchingExceptions(read)) { fail(kj::mv(*exception)); }
+    return reading;
+  }
+
+  // Reads a segment of this many words, and vets the message that it is.
+  kj::Promise<Read> readOne(kj::AsyncInputStream &connection, size_t count, const Asked &asked) {
+    kj::Array<capnp::word> space;
+    auto words = asked.scratch;
+    if (words.size() < count) words = space = kj::heapArray<capnp::word>(count);
+    const size_t size = count * sizeof(capnp::word);
+    auto reading = connection.tryRead(words.begin(), size, size);
+    auto onRead = [this, words = words.slice(0, count), space = kj::mv(space), fds = asked.fds,
+                   atLeast = asked.atLeast](size_t length) mutable -> Read {
+      if (length < words.asBytes().size()) fail(cutException());
+      Segments segments(words);
+      const auto needed = neededFor(segments, fds, atLeast);
+      using Reader = VettedMessageReader<kj::Array<capnp::word>>;
+      return capnp::MessageReaderAndFds{kj::heap<Reader>(kj::mv(space), kj::mv(segments), needed), fds};
+    };
+    return reading.then(kj::mv(onRead), onFailed());
+  }
+
+  // As kj::AsyncInputStream::read throws it.
+  static kj::Exception cutException() {
+    auto description = kj::heapString("stream disconnected prematurely");
+    return kj::Exception(kj::Exception::Type::DISCONNECTED, __FILE__, __LINE__, kj::mv(description));
+  }
+
+  // Has libcapnp read a message whose head was read. Its reader serves if it has the limits that the message needs.
+  KJ_NOINLINE kj::Promise<Read> readAgain(kj::AsyncInputStream &connection, size_t length, const Asked &asked) {
+    auto stream = kj::heap<RereadStream>(kj::arrayPtr(head, length), connection);
+    auto onRead = [this, fds = asked.fds,
+                   atLeast = asked.atLeast](kj::Maybe<kj::Own<capnp::MessageReader>> &&read) -> Read {
+      KJ_IF_MAYBE(reader, read) {
+        Segments segments(**reader);
+        const auto needed = neededFor(segments, fds, atLeast);
+        if (!areEqual(needed, (*reader)->getOptions())) replace(*reader, kj::mv(segments), needed);
+        return capnp::MessageReaderAndFds{kj::mv(*reader), fds};
+      }
+      return nullptr;
+    };
+    auto reading = capnp::tryReadMessage(*stream, heldBy(asked.atLeast), asked.scratch).attach(kj::mv(stream));
+    return reading.then(kj::mv(onRead), onFailed());
+  }
+
+  // Vets the message of these segments, and gives the limits that it needs.
+  capnp::ReaderOptions neededFor(const Segments &segments, kj::ArrayPtr<kj::AutoCloseFd> fds,
+                                 capnp::ReaderOptions atLeast) {
     Refusal refusal;
     refusal.answer = segments.vet(options.limits, refusal.report);
     if (refusal.answer != CAPVET_OK) refuse(fds, refusal);
     const uint64_t words = refusal.report.length / sizeof(capnp::word);
-    const auto needed = readerOptions(refusal.report, words, options.readings, atLeast);
-    if (!isKeepingReaders || !areEqual(needed, reader->getOptions())) replace(reader, kj::mv(segments), needed);
+    return readerOptions(refusal.report, words, options.readings, atLeast);
   }
 
   static bool areEqual(const capnp::ReaderOptions &left, const capnp::ReaderOptions &right) {
     return left.traversalLimitInWords == right.traversalLimitInWords && left.nestingLimit == right.nestingLimit;
   }
 
-  // (these are apart, so that what a small message takes is close together)
-  KJ_NOINLINE static void replace(kj::Own<capnp::MessageReader> &reader, Segments &&segments,
-                                  capnp::ReaderOptions needed) {
-    reader = kj::heap<VettedMessageReader>(kj::mv(reader), kj::mv(segments), needed);
+  // Puts a reader of a vetted message before another.
+  static void replace(kj::Own<capnp::MessageReader> &reader, Segments &&segments, capnp::ReaderOptions needed) {
+    using Reader = VettedMessageReader<kj::Own<capnp::MessageReader>>;
+    reader = kj::heap<Reader>(kj::mv(reader), kj::mv(segments), needed);
   }
 
+  // (these are apart, so that what a small message takes is close together)
   [[noreturn]] KJ_NOINLINE void refuse(kj::ArrayPtr<kj::AutoCloseFd> fds, const Refusal &refusal) {
     for (auto &fd : fds) fd = nullptr;
     onRefused(refusal);
@@ -322,10 +436,12 @@ class VettingStream final : public capnp::MessageStream {
   }
 
   kj::Own<capnp::MessageStream> inner;
-  // (where the messages come from, if it has no file descriptors)
+  // (a connection, unless another stream of messages is passed)
   kj::Maybe<kj::AsyncInputStream &> bytes;
-  // (whether a reader of the inner stream gives a segment more than once: libcapnp's own do, and others needn't)
-  bool isKeepingReaders;
+  // (the same, if file descriptors are read from it)
+  kj::Maybe<kj::AsyncCapabilityStream &> files;
+  // (where the first two numbers of a frame are read to)
+  kj::byte head[8];
   Options options;
   OnRefused onRefused;
   kj::Maybe<kj::Exception> ended;

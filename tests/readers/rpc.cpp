@@ -3,7 +3,7 @@
 //     rpc same                      the results of calls by each server, over loopback
 //     rpc record                    the frames that a client sends for these calls, to standard output
 //     rpc attack FILE VALID         sends each message of FILE to a server with vetting, over loopback
-//     rpc streams                   file descriptors, refusals and limits of a stream, in process
+//     rpc streams                   file descriptors, refusals, limits and ends of a stream, in process
 //     rpc cost CALLS                the time of calls to each server, over a pipe in process
 //     rpc calls SERVER KIND CALLS   these calls alone, so that another program can count their instructions
 //
@@ -305,8 +305,14 @@ unsigned openFiles() {
   return count;
 }
 
+// Whether a reader is libcapnp's own.
+bool isOwn(capnp::MessageReader &reader) {
+  return dynamic_cast<capvet::VettedMessageReader<kj::Own<capnp::MessageReader>> *>(&reader) == nullptr &&
+         dynamic_cast<capvet::VettedMessageReader<kj::Array<capnp::word>> *>(&reader) == nullptr;
+}
+
 // A read of a stream: the words of its root, the file descriptors that came with it, its limits, and whether the reader
-// is libcapnp's own. Otherwise the exception.
+// is libcapnp's own. Otherwise the exception, with its type unless that is FAILED.
 std::string read(capnp::MessageStream &stream, kj::ArrayPtr<kj::AutoCloseFd> fds, capnp::ReaderOptions options,
                  kj::WaitScope &scope) {
   std::string text;
@@ -318,11 +324,14 @@ std::string read(capnp::MessageStream &stream, kj::ArrayPtr<kj::AutoCloseFd> fds
       auto limits = message->reader->getOptions();
       text = std::to_string(root.wordCount) + " words, " + std::to_string(message->fds.size()) + " files, limits " +
              std::to_string(limits.traversalLimitInWords) + " and " + std::to_string(limits.nestingLimit);
-      const bool is_own = dynamic_cast<capvet::VettedMessageReader *>(message->reader.get()) == nullptr;
-      text += is_own ? ", own reader" : "";
+      text += isOwn(*message->reader) ? ", own reader" : "";
     }
   });
-  KJ_IF_MAYBE(exception, failed) { text = exception->getDescription().cStr(); }
+  KJ_IF_MAYBE(exception, failed) {
+    const bool is_failed = exception->getType() == kj::Exception::Type::FAILED;
+    text = is_failed ? "" : kj::str(exception->getType(), ": ").cStr();
+    text += exception->getDescription().cStr();
+  }
   return text;
 }
 
@@ -331,17 +340,23 @@ enum class Files { READ, NOT_READ, AROUND };
 const Files KINDS[] = {Files::READ, Files::NOT_READ, Files::AROUND};
 const char *const KIND_NAMES[] = {"files read", "files not read", "around"};
 
+// A vetting stream of that kind over an end of a pipe, or around the stream of messages there.
+kj::Own<capvet::VettingStream> vettingBy(Files kind, kj::AsyncCapabilityStream &end, capnp::MessageStream &in,
+                                         capvet::Options options = {}) {
+  auto onRefused = [](auto &refusal) { printf("  onRefused %s\n", kj::str(refusal).cStr()); };
+  kj::AsyncIoStream &bytes = end;
+  return kind == Files::READ       ? kj::heap<capvet::VettingStream>(end, options, kj::mv(onRefused))
+         : kind == Files::NOT_READ ? kj::heap<capvet::VettingStream>(bytes, options, kj::mv(onRefused))
+                                   : kj::heap<capvet::VettingStream>(in, options, kj::mv(onRefused));
+}
+
 // Writes a message with two file descriptors to a pipe, and reads it by a vetting stream of that kind.
 void readBy(Files kind, kj::ArrayPtr<const kj::ArrayPtr<const capnp::word>> segments, capvet::Options options,
             capnp::ReaderOptions atLeast, kj::AsyncIoContext &io) {
   auto pipe = io.provider->newCapabilityPipe();
   auto &end = *pipe.ends[0];
   capnp::AsyncCapabilityMessageStream in(end), out(*pipe.ends[1]);
-  auto onRefused = [](auto &refusal) { printf("  onRefused %s\n", kj::str(refusal).cStr()); };
-  kj::AsyncIoStream &bytes = end;
-  auto vetting = kind == Files::READ       ? kj::heap<capvet::VettingStream>(end, options, kj::mv(onRefused))
-                 : kind == Files::NOT_READ ? kj::heap<capvet::VettingStream>(bytes, options, kj::mv(onRefused))
-                                           : kj::heap<capvet::VettingStream>(in, options, kj::mv(onRefused));
+  auto vetting = vettingBy(kind, end, in, options);
   const int files[] = {0, 1};
   // (written through, in one batch with a message after it)
   capvet::VettingStream writing(out);
@@ -373,6 +388,59 @@ void readOne(const char *name, kj::ArrayPtr<const kj::ArrayPtr<const capnp::word
   }
 }
 
+// The bytes of a frame.
+kj::Array<kj::byte> frameOf(kj::ArrayPtr<const kj::ArrayPtr<const capnp::word>> segments) {
+  auto words = capnp::messageToFlatArray(segments);
+  return kj::heapArray(words.asBytes());
+}
+
+// Reads a message that comes a byte at a time, and then a part of it that the stream ends in. Each length of a part
+// has one line, unless it is that of the length before.
+void readParts(const char *name, kj::ArrayPtr<const kj::ArrayPtr<const capnp::word>> segments, kj::AsyncIoContext &io) {
+  const auto frame = frameOf(segments);
+  for (auto kind : KINDS) {
+    printf("%s in parts, %s\n", name, KIND_NAMES[static_cast<int>(kind)]);
+    std::string last;
+    for (size_t length = 0; length < frame.size(); length++) {
+      auto pipe = io.provider->newCapabilityPipe();
+      capnp::AsyncCapabilityMessageStream in(*pipe.ends[0]);
+      auto vetting = vettingBy(kind, *pipe.ends[0], in);
+      auto reading = vetting->readMessage();
+      for (auto &byte : frame) {
+        KJ_ASSERT(!reading.poll(io.waitScope));
+        pipe.ends[1]->write(&byte, 1).wait(io.waitScope);
+      }
+      auto message = reading.wait(io.waitScope);
+      auto whole = message->getRoot<capnp::AnyPointer>().targetSize().wordCount;
+      pipe.ends[1]->write(frame.begin(), length).wait(io.waitScope);
+      pipe.ends[1]->shutdownWrite();
+      std::string text = std::to_string(whole) + " words;";
+      for (int at = 0; at < 2; at++) text += " then " + read(*vetting, nullptr, {}, io.waitScope) + ";";
+      if (text != last) printf("  from %zu bytes on: %s\n", length, text.c_str());
+      last = text;
+    }
+  }
+}
+
+// Reads messages into a scratch space of four words, if they fit.
+void readIntoScratch(kj::AsyncIoContext &io) {
+  const auto word = wordsOf({0}), four = wordsOf({0, 0, 0, 0}), five = wordsOf({0, 0, 0, 0, 0}), empty = wordsOf({});
+  for (auto kind : KINDS) {
+    printf("scratch space, %s\n ", KIND_NAMES[static_cast<int>(kind)]);
+    auto pipe = io.provider->newCapabilityPipe();
+    capnp::AsyncCapabilityMessageStream in(*pipe.ends[0]), out(*pipe.ends[1]);
+    auto vetting = vettingBy(kind, *pipe.ends[0], in);
+    auto space = kj::heapArray<capnp::word>(4);
+    for (auto segments : {std::vector<kj::ArrayPtr<const capnp::word>>{word}, {four}, {five}, {four, empty}}) {
+      out.writeMessage(nullptr, kj::arrayPtr(segments.data(), segments.size())).wait(io.waitScope);
+      auto reader = vetting->readMessage({}, space).wait(io.waitScope);
+      const auto first = reader->getSegment(0);
+      printf(" %zu words %s;", first.size(), first.begin() == space.begin() ? "there" : "elsewhere");
+    }
+    printf("\n");
+  }
+}
+
 int streams(kj::AsyncIoContext &io) {
   const auto null = wordsOf({0}), cycle = wordsOf({CYCLE});
   // (a struct of one word, which has one pointer to such a struct, and a segment without words)
@@ -386,6 +454,7 @@ int streams(kj::AsyncIoContext &io) {
   small.limits.message_words = 50;
   readOne("null", of({null}), options, io);
   readOne("default limits", of({null}), options, io, capnp::ReaderOptions());
+  readOne("default limits, two segments", of({deep, empty}), options, io, capnp::ReaderOptions());
   readOne("default limits, two levels", of({deep, empty}), options, io, {options.limits.message_words, 4});
   readOne("two levels", of({deep, empty}), options, io);
   readOne("two levels, four readings", of({deep, empty}), four, io);
@@ -396,6 +465,9 @@ int streams(kj::AsyncIoContext &io) {
   readOne("too large", of({large}), small, io);
   readOne("511 segments", of(Segments(511, null)), options, io);
   readOne("512 segments", of(Segments(512, null)), options, io);
+  readParts("one segment", of({deep}), io);
+  readParts("two segments", of({deep, null}), io);
+  readIntoScratch(io);
   return 0;
 }
 
