@@ -1,7 +1,7 @@
 -- The pointer words of an object, and how many words it has of its own.
 use Rattle.std.proofs.Common.{ℕ, zero, suc, ◌+◌, ◌-◌, ◌*◌, ◌<◌, ◌≤◌, ◌^◌, ◌⊎◌, inl, inr, List, [], ◌∷◌, ◌++◌, ◌≡◌, ap}
 use Rattle.std.proofs.Common.{refl, sym, subst, ◌∙◌, arith, length, reverse, Option, None, Some}
-use Rattle.std.specs.Option.{option_to_list}
+use Rattle.std.specs.Option.{IfSome, option_to_list}
 use Rattle.std.proofs.lemmas.List.{length-append, length-reverse}
 use Rattle.cap_spec.specs.Messages.{IsMessage}
 use Rattle.cap_spec.specs.Tree.{Tree, struct, Trees, none, more, tree_count}
@@ -184,13 +184,12 @@ row_deep m depth n t b a zero others due some h = absurd (omega (arith, some))
 row_deep m depth n t b a (suc left) others [] some h = absurd h
 row_deep m depth n t b a (suc left) others (x ∷ due) some h = omega (arith, h.1.5)
 
-pub room_below : (capacity : ℕ) (m : List (List ℕ)) (depth d : ℕ) (due : List Due) (runs : List CopyRun) (r : Option CopyRun) → depth ≤ capacity
-    → d + length runs ≤ depth → OptionFull r → AreOwed m depth (length runs + 1) (option_places r) due
-    → length (runs ++ option_to_list r) ≤ capacity
-room_below capacity m depth d due runs None le low full h = let l = length-append runs (option_to_list {X = CopyRun} None) in omega (arith, l, le, low)
-room_below capacity m depth d due runs (Some f) le low full h =
-    let l = length-append runs (f ∷ []) in
-    let n = row_deep m depth (length runs + 1) f.segment f.at f.slot f.left _ due full.some h in
+pub room_above : (capacity : ℕ) (m : List (List ℕ)) (depth : ℕ) (due : List Due) (runs : List CopyRun) (rest below : Option CopyRun) → depth ≤ capacity
+    → OptionFull below → AreOwed m depth (length (runs ++ option_to_list rest) + 1) (option_places below) due → IfSome below (λ _. length runs < capacity)
+room_above capacity m depth due runs rest None le full h = tt
+room_above capacity m depth due runs rest (Some f) le full h =
+    let l = length-append runs (option_to_list rest) in
+    let n = row_deep m depth (length (runs ++ option_to_list rest) + 1) f.segment f.at f.slot f.left _ due full.some h in
     omega (arith, l, le, n)
 
 -- the work grows by no more than the own words

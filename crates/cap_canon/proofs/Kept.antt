@@ -3,7 +3,7 @@ use Rattle.std.proofs.Common.{ℕ, zero, suc, ◌+◌, ◌<◌, List, [], ◌∷
 use Rattle.std.specs.List.{AllByRecursion}
 use Rattle.std.specs.Option.{option_to_list}
 use Rattle.cap_spec.proofs.Bytes.Lists.{all_append, all_back}
-use Rattle.cap_canon.specs.CopyRuns.{IsRest, all_places, further_places, option_places, place, places_of, row_places}
+use Rattle.cap_canon.specs.CopyRuns.{IsRest, all_places, first_place, further_places, option_places, places_of, row_places}
 use Rattle.cap_canon.specs.InPlace.{AreInPlace, IsInPlace}
 use Rattle.cap_canon.specs.declared.run.CopyRun.{CopyRun}
 use Rattle.cap_canon.specs.declared.run.PointerPlace.{PointerPlace}
@@ -42,11 +42,11 @@ entered_in_place runs r a b =
 
 -- the first word of the topmost run, and the rest
 pub taken_in_place : (runs : List CopyRun) (f : CopyRun) (r : Option CopyRun) → IsRest f r → AreInPlace (runs ++ f ∷ [])
-    → IsInPlace (place f.segment f.at f.slot) × AreInPlace (runs ++ option_to_list r)
+    → IsInPlace (first_place f) × AreInPlace (runs ++ option_to_list r)
 taken_in_place runs f r rest a =
     let both : AllByRecursion IsInPlace (all_places runs ++ all_places (f ∷ [])) =
     subst (λ ps. AllByRecursion IsInPlace ps) (all_places-append runs (f ∷ [])) a in
     let top : AllByRecursion IsInPlace (places_of f) = subst (λ ps. AllByRecursion IsInPlace ps) (option_all_places (Some f))
     (all_back IsInPlace (all_places runs) (all_places (f ∷ [])) both) in
-    let first : AllByRecursion IsInPlace (place f.segment f.at f.slot ∷ option_places r) = subst (λ ps. AllByRecursion IsInPlace ps) rest.words top in
+    let first : AllByRecursion IsInPlace (first_place f ∷ option_places r) = subst (λ ps. AllByRecursion IsInPlace ps) rest.words top in
     (first.0, entered_in_place runs r (all_front (all_places runs) (all_places (f ∷ [])) both) first.1)

@@ -9,7 +9,7 @@ use Rattle.cap_spec.proofs.Bytes.Lists.{reverse-more}
 use Rattle.cap_spec.proofs.Paths.Arrivals.{lead_word}
 use Rattle.cap_spec.proofs.Frames.Messages.{HasWord-inside, HasWord-segment}
 use Rattle.cap_spec.proofs.Trees.OneTree.{Formed, formed}
-use Rattle.cap_canon.specs.CopyRuns.{AreShort, IsFull, IsRest, OptionFull, all_places, option_places, place, places_of}
+use Rattle.cap_canon.specs.CopyRuns.{AreShort, IsFull, IsRest, OptionFull, all_places, first_place, option_places, places_of}
 use Rattle.cap_canon.specs.Laying.{Due, AreBefore, size_due}
 use Rattle.cap_canon.specs.StillToLay.{AreOwed, RunOwes, IsNext, IsWalking, Stacked, work_left}
 use Rattle.cap_canon.specs.declared.run.CopyRun.{CopyRun}
@@ -91,13 +91,16 @@ top_short m depth end runs f due w =
     let k = topmost m depth end runs f due w in
     (k.owes.full, owed_short m depth (length (reverse runs) + 1) end (places_of f) k.own w.message k.near k.before k.owes.owed)
 
+-- The first of the words that are due is at p, and is the next.
+abbrev pub Takes : List (List ℕ) → ℕ → PointerPlace → List CopyRun → ℕ → List Due → Type 0
+Takes m depth p runs end due = (tree : Tree) × (rest : List Due) × (due ≡ record { slot = p.slot; tree = tree } ∷ rest) × IsNext m depth p runs end tree rest
+
 -- The first word of the topmost run is the next to look at.
 first_owed : (m : List (List ℕ)) (depth n end : ℕ) (f : CopyRun) (r : Option CopyRun) (runs : List CopyRun) (own rest : List Due) → n ≡ length runs + 1
     → IsRest f r → IsMessage m
-    → AreOwed m depth n (place f.segment f.at f.slot ∷ option_places r) own → Stacked m depth (reverse runs) rest → AreBefore end (own ++ rest)
+    → AreOwed m depth n (first_place f ∷ option_places r) own → Stacked m depth (reverse runs) rest → AreBefore end (own ++ rest)
     → end + size_due (own ++ rest) ≤ 268435457
-    → (tree : Tree) × (later : List Due) × (own ++ rest ≡ record { slot = f.slot; tree = tree } ∷ later)
-    × IsNext m depth (place f.segment f.at f.slot) (runs ++ option_to_list r) end tree later
+    → Takes m depth (first_place f) (runs ++ option_to_list r) end (own ++ rest)
 first_owed m depth n end f r runs [] rest e is_rest is h s b small = absurd h
 first_owed m depth n end f r runs (x ∷ own) rest e is_rest is h s b small =
     let o = h.1 in
@@ -122,12 +125,10 @@ first_owed m depth n end f r runs (x ∷ own) rest e is_rest is h s b small =
     low (Some y) d le = let l = length-append runs (y ∷ []) in omega (arith, l, le, e)
 
 pub next_of : (m : List (List ℕ)) (depth end : ℕ) (runs : List CopyRun) (f : CopyRun) (r : Option CopyRun) (due : List Due)
-    → IsWalking m depth (runs ++ f ∷ []) end due → IsRest f r
-    → (tree : Tree) × (rest : List Due) × (due ≡ record { slot = f.slot; tree = tree } ∷ rest)
-    × IsNext m depth (place f.segment f.at f.slot) (runs ++ option_to_list r) end tree rest
+    → IsWalking m depth (runs ++ f ∷ []) end due → IsRest f r → Takes m depth (first_place f) (runs ++ option_to_list r) end due
 next_of m depth end runs f r due w is_rest =
     let k = topmost m depth end runs f due w in
-    let owed : AreOwed m depth (length (reverse runs) + 1) (place f.segment f.at f.slot ∷ option_places r) k.own =
+    let owed : AreOwed m depth (length (reverse runs) + 1) (first_place f ∷ option_places r) k.own =
     subst (λ ps. AreOwed m depth (length (reverse runs) + 1) ps k.own) is_rest.words k.owes.owed in
     let n = first_owed m depth (length (reverse runs) + 1) end f r runs k.own k.rest (omega (arith, length-reverse runs)) is_rest w.message owed k.stacked
     (subst (AreBefore end) k.all w.before)
@@ -141,8 +142,3 @@ next_work runs f r is_rest =
     let b : length (all_places (runs ++ f ∷ [])) ≡ length (all_places runs) + length (places_of f) = count_more runs (Some f) in
     let e : length (places_of f) ≡ suc (length (option_places r)) = ap length is_rest.words in
     omega (arith, a, b, e)
-
--- the stack has capacity for it
-pub next_fits : (capacity : ℕ) (m : List (List ℕ)) (depth end : ℕ) (p : PointerPlace) (runs : List CopyRun) (tree : Tree) (due : List Due) → depth ≤ capacity
-    → IsNext m depth p runs end tree due → length runs ≤ capacity
-next_fits capacity m depth end p runs tree due le n = omega (arith, n.owed.5, le)

@@ -2,7 +2,7 @@
 use Rattle.std.proofs.Common.{ℕ, zero, suc, ◌+◌, ◌-◌, ◌<◌, List, [], ◌∷◌, ◌++◌, ◌≡◌, ap, refl, sym, ◌∙◌, arith, length, Option, None, Some}
 use Rattle.std.specs.Option.{option_to_list}
 use Rattle.std.proofs.lemmas.List.{append-nil, append_assoc, length-append}
-use Rattle.cap_canon.specs.CopyRuns.{AreShort, IsFull, IsRest, IsShort, all_places, further_places, option_places, place, places_of, row_places}
+use Rattle.cap_canon.specs.CopyRuns.{AreShort, IsFull, IsRest, IsShort, all_places, further_places, option_places, place, places_of, root_run, row_places}
 use Rattle.cap_canon.specs.declared.run.CopyRun.{CopyRun}
 use Rattle.cap_canon.specs.declared.run.PointerPlace.{PointerPlace}
 
@@ -45,6 +45,27 @@ rest_of_elements s b a n (suc more) skip gap p e h full =
 pub rest_of_last : (s b a n more skip gap p : ℕ) → n ≡ 1 → more ≡ 0
     → IsRest record { segment = s; at = b; slot = a; left = n; more = more; skip = skip; gap = gap; pointers = p } None
 rest_of_last s b a n more skip gap p e f = record { words = rw (e, f) refl; full = tt }
+
+-- what is left of a run after its first word
+has_rest_of : (s b a n more skip gap p : ℕ)
+    → IsFull record { segment = s; at = b; slot = a; left = n; more = more; skip = skip; gap = gap; pointers = p }
+    → (rest : Option CopyRun) × IsRest record { segment = s; at = b; slot = a; left = n; more = more; skip = skip; gap = gap; pointers = p } rest
+has_rest_of s b a zero more skip gap p full = absurd (omega (arith, full.some))
+has_rest_of s b a (suc zero) zero skip gap p full = (None, rest_of_last s b a 1 0 skip gap p refl refl)
+has_rest_of s b a (suc zero) (suc more) skip gap p full = (_, rest_of_elements s b a 1 (suc more) skip gap p refl (omega arith) full)
+has_rest_of s b a (suc (suc n)) more skip gap p full = (_, rest_of_row s b a (suc (suc n)) more skip gap p (omega arith) full)
+
+pub has_rest : (f : CopyRun) → IsFull f → (rest : Option CopyRun) × IsRest f rest
+has_rest f full = has_rest_of f.segment f.at f.slot f.left f.more f.skip f.gap f.pointers full
+
+-- nothing is left after the root word
+pub root_rest : (rest : Option CopyRun) → IsRest root_run rest → rest ≡ None
+root_rest None h = refl
+root_rest (Some f) h =
+    let r = has_rest f h.full in
+    let some : length (places_of f) ≡ suc (length (option_places r.0)) = ap length r.1.words in
+    let one : 1 ≡ suc (length (places_of f)) = ap length h.words in
+    absurd (omega (arith, some, one))
 
 -- the second word of a row is one of 32 bits
 pub second_short : (s b a n : ℕ) (others : List PointerPlace) → 1 < n → AreShort (row_places s b a n ++ others) → IsShort (place s (b + 1) (a + 1))

@@ -1,7 +1,6 @@
 -- A walk over an accepted message, from turn to turn.
-use Rattle.std.proofs.Common.{ℕ, zero, suc, false, ◌+◌, ◌-◌, ◌<◌, ◌≤◌, List, [], ◌∷◌, ◌++◌, ◌≡◌, refl, sym, subst, arith, length}
-use Rattle.std.proofs.lemmas.Bool.{false≢true}
-use Rattle.std.specs.Prelude.{◌==◌}
+use Rattle.std.proofs.Common.{ℕ, ◌+◌, ◌-◌, ◌<◌, ◌≤◌, List, [], ◌∷◌, ◌++◌, ◌≡◌, Option, refl, sym, subst, arith, length}
+use Rattle.std.specs.Option.{option_to_list}
 use Rattle.cap_spec.specs.Messages.{IsMessage, segment_of}
 use Rattle.cap_spec.specs.Tree.{Tree}
 use Rattle.cap_spec.specs.Denoting.{Denotes}
@@ -13,18 +12,21 @@ use Rattle.cap_spec.proofs.Canonical.TreeMeasures.{Fits, Measured, measured}
 use Rattle.cap_spec.proofs.Canonical.TrimmedMeasures.{Trimmed, trimmed}
 use Rattle.cap_spec.proofs.Canonical.Placing.{stand_inside}
 use Rattle.cap_spec.proofs.Canonical.Sizes.{length-content, trimmed_size_charged}
-use Rattle.cap_canon.specs.CopyRuns.{place}
+use Rattle.cap_canon.specs.CopyRuns.{AreShort, IsFull, IsRest, first_place, place, places_of, root_run}
 use Rattle.cap_canon.specs.InPlace.{AreInPlace, IsInPlace}
 use Rattle.cap_canon.specs.Laying.{Due, Laid, own_size, below}
 use Rattle.cap_canon.specs.Objects.{IsObject}
 use Rattle.cap_canon.specs.Roots.{HasTree}
-use Rattle.cap_canon.specs.StillToLay.{IsNext, IsOwed, IsWalking, Meets, Takes}
+use Rattle.cap_canon.specs.StillToLay.{IsNext, IsOwed, IsWalking, Meets}
 use Rattle.cap_canon.specs.CopyTurns.{IsTurn}
 use Rattle.cap_canon.specs.declared.objects.Object.{Object}
 use Rattle.cap_canon.specs.declared.run.CopyRun.{CopyRun}
 use Rattle.cap_canon.specs.declared.run.PointerPlace.{PointerPlace}
+use Rattle.cap_canon.proofs.Kept.{taken_in_place}
 use Rattle.cap_canon.proofs.LaidSteps.{object_laid}
 use Rattle.cap_canon.proofs.Lengths.{size_below}
+use Rattle.cap_canon.proofs.Owing.{Takes, next_of, top_short}
+use Rattle.cap_canon.proofs.Runs.{root_rest}
 use Rattle.cap_canon.proofs.Whole.{layout_laid}
 
 -- what is owed fits the fields of words
@@ -59,7 +61,7 @@ pub record AtTurn (m : List (List ℕ)) (InPlace : Type 0) (state : List (List �
   pub so_far : state m (trim root) end (record { slot = p.slot; tree = tree } ∷ due)
 
 -- at the root
-pub first_turn : (m : List (List ℕ)) (InPlace : Type 0) (state : List (List ℕ) → Tree → ℕ → List Due → Type 0) (depth : ℕ) → IsMessage m → (k : HasTree m depth)
+first_turn : (m : List (List ℕ)) (InPlace : Type 0) (state : List (List ℕ) → Tree → ℕ → List Due → Type 0) (depth : ℕ) → IsMessage m → (k : HasTree m depth)
     → state m (trim k.tree) 1 (record { slot = 0; tree = trim k.tree } ∷ []) → AtTurn m InPlace state depth [] (place 0 0 0) 1
 first_turn m InPlace state depth is k so_far = record {
   root = k.tree;
@@ -81,7 +83,7 @@ first_turn m InPlace state depth is k so_far = record {
 }
 
 -- the object there
-pub this_met : (m : List (List ℕ)) (InPlace : Type 0) (state : List (List ℕ) → Tree → ℕ → List Due → Type 0) (depth : ℕ)
+this_met : (m : List (List ℕ)) (InPlace : Type 0) (state : List (List ℕ) → Tree → ℕ → List Due → Type 0) (depth : ℕ)
     (runs : List CopyRun) (p : PointerPlace) (end : ℕ)
     (object : Object) → (k : AtTurn m InPlace state depth runs p end)
     → ((t : Tree) (c d : ℕ) → Denotes m p.segment p.word t c d → IsObject m d p.segment p.word (trim t) object) → Meets m depth p runs end k.tree k.due object
@@ -89,7 +91,7 @@ this_met m InPlace state depth runs p end object k f =
     let o = k.next.owed in
     record { next = k.next; d = o.2; is = subst (λ u. IsObject m o.2 p.segment p.word u object) (sym o.4) (f o.0 o.1 o.2 o.3); levels = o.5 }
 
-pub this_turn : (m : List (List ℕ)) (InPlace : Type 0) (state : List (List ℕ) → Tree → ℕ → List Due → Type 0)
+this_turn : (m : List (List ℕ)) (InPlace : Type 0) (state : List (List ℕ) → Tree → ℕ → List Due → Type 0)
     (depth : ℕ) (runs : List CopyRun) (p : PointerPlace) (end : ℕ)
     (object : Object) → (k : AtTurn m InPlace state depth runs p end) → Meets m depth p runs end k.tree k.due object
     → IsTurn m InPlace (trim k.root) object p end k.tree k.due
@@ -116,7 +118,7 @@ turn_laid m InPlace state depth runs p end now k e =
     ((object_laid (layout (trim k.root)) end p.slot k.tree k.due fits).0 k.laid).2
 
 -- the next word
-pub next_turn : (m : List (List ℕ)) (InPlace : Type 0) (before state : List (List ℕ) → Tree → ℕ → List Due → Type 0) (depth : ℕ) (runs rest : List CopyRun)
+next_turn : (m : List (List ℕ)) (InPlace : Type 0) (before state : List (List ℕ) → Tree → ℕ → List Due → Type 0) (depth : ℕ) (runs rest : List CopyRun)
     (p q : PointerPlace) (end now : ℕ)
     → (k : AtTurn m InPlace before depth runs p end) → now ≡ end + own_size k.tree → Takes m depth q rest now (below end k.tree ++ k.due)
     → (InPlace → IsInPlace q × AreInPlace rest)
@@ -147,11 +149,55 @@ last_turn m InPlace before state depth runs p end now k e w so_far t c d h =
     (subst (λ n. state m (trim k.root) n (below end k.tree ++ k.due)) (sym e) so_far) in
     subst (λ u. (now ≡ length (layout (trim u))) × state m (trim u) now []) same.part (long, all)
 
--- what is left of a walk falls at each turn
-pub work_falls : (old next now end full own : ℕ) → next + 1 ≡ now → now ≤ old + own → end + own ≤ full → next + (full - (end + own)) < old + (full - end)
-work_falls old next now end full own e f g = omega (arith, e, f, g)
+-- A walk at the first word of a run, with other runs on the stack.
+pub record AtRun (m : List (List ℕ)) (InPlace : Type 0) (state : List (List ℕ) → Tree → ℕ → List Due → Type 0) (depth : ℕ) (runs : List CopyRun)
+    (run : CopyRun) (end : ℕ) : Type 0 where
+  pub full : IsFull run
+  pub short : AreShort (places_of run)
+  pub turn : (rest : Option CopyRun) → IsRest run rest → AtTurn m InPlace state depth (runs ++ option_to_list rest) (first_place run) end
 
--- a stack that isn't empty has a run
-pub some_left : (n : ℕ) → false ≡ (n == 0) → 0 < n
-some_left zero e = absurd (false≢true e)
-some_left (suc n) e = omega arith
+-- at the root
+pub first_run : (m : List (List ℕ)) (InPlace : Type 0) (state : List (List ℕ) → Tree → ℕ → List Due → Type 0) (depth : ℕ) → IsMessage m → (k : HasTree m depth)
+    → state m (trim k.tree) 1 (record { slot = 0; tree = trim k.tree } ∷ []) → AtRun m InPlace state depth [] root_run 1
+first_run m InPlace state depth is k so_far = record {
+  full = record { some = omega arith; each = λ h. absurd (omega (arith, h)) };
+  short = ((omega arith, omega arith), tt);
+  turn = λ rest r. subst (λ x. AtTurn m InPlace state depth (option_to_list x) (first_place root_run) 1) (sym (root_rest rest r))
+      (first_turn m InPlace state depth is k so_far);
+}
+
+-- The turn there, if this is left of the run after its first word.
+pub record TurnHere (m : List (List ℕ)) (InPlace : Type 0) (state : List (List ℕ) → Tree → ℕ → List Due → Type 0) (depth : ℕ) (runs : List CopyRun)
+    (p : PointerPlace) (end : ℕ) (object : Object) : Type 0 where
+  pub at : AtTurn m InPlace state depth runs p end
+  pub met : Meets m depth p runs end at.tree at.due object
+  pub turn : IsTurn m InPlace (trim at.root) object p end at.tree at.due
+
+pub turn_here : (m : List (List ℕ)) (InPlace : Type 0) (state : List (List ℕ) → Tree → ℕ → List Due → Type 0) (depth : ℕ) (runs : List CopyRun)
+    (run : CopyRun) (end : ℕ) (object : Object) → AtRun m InPlace state depth runs run end → (rest : Option CopyRun) → IsRest run rest
+    → ((t : Tree) (c d : ℕ) → Denotes m run.segment run.at t c d → IsObject m d run.segment run.at (trim t) object)
+    → TurnHere m InPlace state depth (runs ++ option_to_list rest) (first_place run) end object
+turn_here m InPlace state depth runs run end object k rest is_rest f =
+    let p = first_place run in
+    let all = runs ++ option_to_list rest in
+    let at = k.turn rest is_rest in
+    let met = this_met m InPlace state depth all p end object at f in
+    record { at = at; met = met; turn = this_turn m InPlace state depth all p end object at met }
+
+-- The runs after a turn, of which the current one comes last.
+pub next_run : (m : List (List ℕ)) (InPlace : Type 0) (before state : List (List ℕ) → Tree → ℕ → List Due → Type 0) (depth : ℕ) (runs after : List CopyRun)
+    (p : PointerPlace) (end now : ℕ) (new : CopyRun)
+    → (k : AtTurn m InPlace before depth runs p end) → now ≡ end + own_size k.tree → IsWalking m depth (after ++ new ∷ []) now (below end k.tree ++ k.due)
+    → (InPlace → AreInPlace (after ++ new ∷ []))
+    → state m (trim k.root) (end + own_size k.tree) (below end k.tree ++ k.due) → AtRun m InPlace state depth after new now
+next_run m InPlace before state depth runs after p end now new k e w in_place so_far =
+    let t = top_short m depth now after new (below end k.tree ++ k.due) w in record {
+      full = t.0;
+      short = t.1;
+      turn = λ r is_rest. next_turn m InPlace before state depth runs (after ++ option_to_list r) p (first_place new) end now k e
+          (next_of m depth now after new r (below end k.tree ++ k.due) w is_rest) (λ i. taken_in_place after new r is_rest (in_place i)) so_far;
+    }
+
+-- what is left of a walk falls at each turn
+pub work_falls : (old rest next end full own : ℕ) → rest + 1 ≡ old → next ≤ rest + own → end + own ≤ full → next + (full - (end + own)) < old + (full - end)
+work_falls old rest next end full own e f g = omega (arith, e, f, g)

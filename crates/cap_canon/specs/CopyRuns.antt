@@ -1,5 +1,5 @@
 -- The pointer words of a run, each with the word of the copy that it becomes (profile).
-use Rattle.std.specs.Prelude.{ℕ, zero, suc, ◌+◌, ◌<◌, ◌≡◌, ◌^◌, List, [], ◌∷◌, ◌++◌, Option, None, Some, ⊤}
+use Rattle.std.specs.Prelude.{ℕ, zero, suc, ◌+◌, ◌<◌, ◌≡◌, ◌^◌, Bool, if◌then◌else◌, List, [], ◌∷◌, ◌++◌, Option, None, Some, ⊤}
 use Rattle.std.specs.List.{AllByRecursion, flat_map}
 use Rattle.cap_canon.specs.declared.run.CopyRun.{CopyRun}
 use Rattle.cap_canon.specs.declared.run.PointerPlace.{PointerPlace}
@@ -28,6 +28,18 @@ option_places (Some f) = places_of f
 abbrev pub all_places : List CopyRun → List PointerPlace
 all_places runs = flat_map places_of runs
 
+-- the first pointer word of a run
+abbrev pub first_place : CopyRun → PointerPlace
+first_place f = place f.segment f.at f.slot
+
+-- the run of the root word alone
+abbrev pub root_run : CopyRun
+root_run = record { segment = 0; at = 0; slot = 0; left = 1; more = 0; skip = 0; gap = 0; pointers = 0 }
+
+-- a run, if something is left of it
+abbrev pub run_kept : Bool → CopyRun → Option CopyRun
+run_kept b f = if b then Some f else None
+
 -- there is a pointer word left in the run, and in each further element
 pub record IsFull (f : CopyRun) : Type 0 where
   pub some : 0 < f.left
@@ -46,5 +58,5 @@ AreShort places = AllByRecursion IsShort places
 
 -- what is left of a run after its first pointer word
 pub record IsRest (f : CopyRun) (rest : Option CopyRun) : Type 0 where
-  pub words : places_of f ≡ place f.segment f.at f.slot ∷ option_places rest
+  pub words : places_of f ≡ first_place f ∷ option_places rest
   pub full : OptionFull rest

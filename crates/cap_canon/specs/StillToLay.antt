@@ -1,10 +1,11 @@
 -- What a walk over an accepted message still has to lay (profile).
-use Rattle.std.specs.Prelude.{ℕ, ◌+◌, ◌<◌, ◌≤◌, ◌≡◌, List, [], ◌∷◌, ◌++◌, length, reverse, ⊤}
+use Rattle.std.specs.Prelude.{ℕ, ◌+◌, ◌<◌, ◌≤◌, ◌≡◌, Bool, if◌then◌else◌, List, [], ◌∷◌, ◌++◌, Option, length, reverse, ⊤}
+use Rattle.std.specs.Option.{option_to_list}
 use Rattle.cap_spec.specs.Messages.{IsMessage}
 use Rattle.cap_spec.specs.Denoting.{Denotes}
 use Rattle.cap_spec.specs.Tree.{Tree}
 use Rattle.cap_spec.specs.Canonical.{trim}
-use Rattle.cap_canon.specs.CopyRuns.{IsFull, places_of, all_places}
+use Rattle.cap_canon.specs.CopyRuns.{IsFull, IsRest, places_of, all_places}
 use Rattle.cap_canon.specs.Laying.{Due, AreBefore, below, own_size, size_due}
 use Rattle.cap_canon.specs.Objects.{IsObject}
 use Rattle.cap_canon.specs.declared.objects.Object.{Object}
@@ -48,10 +49,6 @@ pub record IsNext (m : List (List ℕ)) (depth : ℕ) (p : PointerPlace) (runs :
   pub before : AreBefore end due
   pub small : end + size_due (record { slot = p.slot; tree = tree } ∷ due) ≤ 268435457
 
--- The first of the words that are due is at p, and is the next.
-abbrev pub Takes : List (List ℕ) → ℕ → PointerPlace → List CopyRun → ℕ → List Due → Type 0
-Takes m depth p runs end due = (tree : Tree) × (rest : List Due) × (due ≡ record { slot = p.slot; tree = tree } ∷ rest) × IsNext m depth p runs end tree rest
-
 -- The next word leads to this object, of at most d levels.
 pub record Meets (m : List (List ℕ)) (depth : ℕ) (p : PointerPlace) (runs : List CopyRun) (end : ℕ) (tree : Tree) (due : List Due)
     (object : Object) : Type 0 where
@@ -60,11 +57,15 @@ pub record Meets (m : List (List ℕ)) (depth : ℕ) (p : PointerPlace) (runs : 
   pub is : IsObject m d p.segment p.word tree object
   pub levels : d + length runs ≤ depth
 
--- Runs with the pointer words of an object on top. The object's other words end there.
-abbrev pub Enters : List CopyRun → Object → ℕ → ℕ → List CopyRun → Type 0
-Enters old object end result new = (m : List (List ℕ)) (depth : ℕ) (p : PointerPlace) (tree : Tree) (due : List Due)
-    → Meets m depth p old end tree due object
-    → (result ≡ end + own_size tree) × IsWalking m depth new result (below end tree ++ due)
+-- the runs that are left: those of the stack and the current one, or none
+abbrev pub runs_left : Bool → List CopyRun → CopyRun → List CopyRun
+runs_left more runs run = if more then runs ++ run ∷ [] else []
+
+-- After the first word of a run the run below it is left, and then what comes after that word.
+pub record Continues (more : Bool) (before : List CopyRun) (old : CopyRun) (below : Option CopyRun) (after : List CopyRun) (new : CopyRun) : Type 0 where
+  pub rest : Option CopyRun
+  pub is_rest : IsRest old rest
+  pub runs : (before ++ option_to_list rest) ++ option_to_list below ≡ runs_left more after new
 
 -- how many pointer words the runs still have
 abbrev pub work_left : List CopyRun → ℕ

@@ -1,6 +1,6 @@
 //! A run of pointer words that a walk still has to look at.
 
-ghost use Rattle.cap_canon.specs.CopyRuns.{AreShort, IsFull, IsRest, places_of};
+ghost use Rattle.cap_canon.specs.CopyRuns.{AreShort, IsFull, IsRest, places_of, run_kept};
 
 /// A pointer word of the message, and the word of the copy that it becomes.
 #[derive(Clone, Copy)]
@@ -26,30 +26,26 @@ pub(crate) struct CopyRun {
 }
 
 impl CopyRun {
-    /// What is left after the first pointer word, if there is any.
+    /// Goes on after the first pointer word. `false` if nothing is left.
     #[inline(always)]
-    pub(crate) fn rest(self) -> Option<CopyRun>
-        requires full { IsFull self }
-        requires short { AreShort (places_of self) }
-        ensures { IsRest self result }
+    pub(crate) fn advance(&mut self) -> bool
+        requires full { IsFull self.old }
+        requires short { AreShort (places_of self.old) }
+        ensures { IsRest self.old (run_kept result self.new) }
     {
         if self.left > 1 {
-            return Some(CopyRun {
-                at: self.at + 1,
-                slot: self.slot + 1,
-                left: self.left - 1,
-                ..self
-            });
+            self.at += 1;
+            self.slot += 1;
+            self.left -= 1;
+            return true;
         }
         if self.more > 0 {
-            return Some(CopyRun {
-                at: self.at + 1 + self.skip,
-                slot: self.slot + 1 + self.gap,
-                left: self.pointers,
-                more: self.more - 1,
-                ..self
-            });
+            self.at = self.at + 1 + self.skip;
+            self.slot = self.slot + 1 + self.gap;
+            self.left = self.pointers;
+            self.more -= 1;
+            return true;
         }
-        None
+        false
     }
 }

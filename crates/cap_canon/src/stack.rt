@@ -1,84 +1,76 @@
 //! The pointer words that a walk still has to look at.
 
-ghost use Rattle.cap_canon.specs.CopyRuns.{OptionFull, option_places, row_places};
-ghost use Rattle.cap_canon.specs.InPlace.{AreInPlace, IsInPlace, StandsIn};
-ghost use Rattle.cap_canon.specs.Laying.{Due, below, own_size};
+ghost use Rattle.cap_canon.specs.CopyRuns.{AreShort, IsFull, OptionFull, option_places, places_of, row_places, run_kept};
+ghost use Rattle.cap_canon.specs.InPlace.{IsInPlace, StandsIn};
+ghost use Rattle.cap_canon.specs.Laying.{below, own_size};
 ghost use Rattle.cap_canon.specs.Objects.{IsObject, IsStructsObject};
-ghost use Rattle.cap_canon.specs.StillToLay.{AreOwed, Enters, IsWalking, Meets, Takes, work_left};
-ghost use Rattle.cap_canon.specs.declared.run.PointerPlace.{PointerPlace};
+ghost use Rattle.cap_canon.specs.StillToLay.{AreOwed, Continues};
 ghost use Rattle.cap_spec.specs.Messages.{IsMessage};
 ghost use Rattle.cap_spec.specs.Tree.{Tree};
 ghost use Rattle.std.specs.List.{AllByRecursion};
 ghost use Rattle.std.specs.Option.{option_to_list};
-ghost use Rattle.std.specs.Prelude.{◌+◌, ◌++◌, ◌≡◌, ◌≤◌, ◌<◌, List, length, ℕ};
+ghost use Rattle.std.specs.Prelude.{◌+◌, ◌++◌, ◌≡◌, ◌≤◌, ◌<◌, IfSome, List, length, ℕ};
 
 use crate::objects::{Object, Part};
-use crate::run::{CopyRun, PointerPlace};
+use crate::run::CopyRun;
 use arrayvec::ArrayVec;
 
-/// The pointer words still to be looked at, the next ones last: one run for each object on the
-/// way down that has some left. A walk to a depth of at most `N` has capacity for all of them.
+/// The pointer words still to be looked at after those of the current run, the next ones last: one
+/// run for each object on the way down that has some left. A walk to a depth of at most `N` has
+/// capacity for all of them.
 pub(crate) type Stack<const N: usize> = ArrayVec<CopyRun, N>;
 
-/// Takes the next pointer word.
+/// Goes on after the first word of the run, first with the run below that word. `false` if no word
+/// is left.
 #[inline(always)]
-pub(crate) fn take_next<const N: usize>(stack: &mut Stack<N>) -> PointerPlace
-    requires some { 0 < length stack.old.items }
-    requires walking { (m : List (List ℕ)) × (depth end : ℕ) × (due : List Due)
-        × IsWalking m depth stack.old.items end due × (depth ≤ N) × (N ≤ 256) }
-    ensures next { (m : List (List ℕ)) (depth end : ℕ) (due : List Due)
-        → IsWalking m depth stack.old.items end due
-        → Takes m depth result stack.new.items end due }
-    ensures work { work_left stack.new.items + 1 ≡ work_left stack.old.items }
-    ensures in_place { AreInPlace stack.old.items
-        → IsInPlace result × AreInPlace stack.new.items }
+pub(crate) fn go_on<const N: usize>(
+    stack: &mut Stack<N>,
+    run: &mut CopyRun,
+    below: Option<CopyRun>,
+) -> bool
+    requires few { N ≤ 256 }
+    requires capacity { IfSome below (λ _. length stack.old.items < N) }
+    requires full { IsFull run.old }
+    requires short { AreShort (places_of run.old) }
+    ensures { Continues result stack.old.items run.old below stack.new.items run.new }
 {
-    match stack.pop() {
-        None => unreachable!(),
-        Some(top) => {
-            push_some(stack, top.rest());
-            PointerPlace {
-                segment: top.segment,
-                word: top.at,
-                slot: top.slot,
+    match below {
+        Some(below) => {
+            let more = run.advance();
+            push_kept(stack, more, *run);
+            *run = below;
+            true
+        }
+        None => {
+            if run.advance() {
+                return true;
+            }
+            match stack.pop() {
+                Some(next) => {
+                    *run = next;
+                    true
+                }
+                None => false,
             }
         }
     }
 }
 
-/// Pushes the pointer words of an object on the stack, and returns where its own words end. They
-/// are laid from `end` on.
+// One more run, where something is left of it.
 #[inline(always)]
-pub(crate) fn enter<const N: usize>(stack: &mut Stack<N>, object: &Object, end: u32) -> u32
-    requires fits { (m : List (List ℕ)) × (depth : ℕ) × (p : PointerPlace) × (tree : Tree)
-        × (due : List Due) × Meets m depth p stack.old.items end tree due object.now
-        × (depth ≤ N) × (N ≤ 256) }
-    ensures walking { Enters stack.old.items object.now end result stack.new.items }
-    ensures work { (m : List (List ℕ)) (d s w : ℕ) (tree : Tree)
-        → IsObject m d s w tree object.now
-        → work_left stack.new.items ≤ work_left stack.old.items + own_size tree }
-    ensures in_place { AreInPlace stack.old.items → StandsIn end object.now
-        → AreInPlace stack.new.items }
-{
-    push_some(stack, run_of(object, end));
-    end + own_words(object)
-}
-
-// One more run, where there is one.
-#[inline(always)]
-fn push_some<const N: usize>(stack: &mut Stack<N>, run: Option<CopyRun>)
+fn push_kept<const N: usize>(stack: &mut Stack<N>, more: bool, run: CopyRun)
     requires few { N ≤ 256 }
-    requires capacity { length (stack.old.items ++ option_to_list run) ≤ N }
-    ensures { stack.new.items ≡ stack.old.items ++ option_to_list run }
+    requires capacity { length stack.old.items < N }
+    ensures { stack.new.items ≡ stack.old.items ++ option_to_list (run_kept more run) }
 {
-    if let Some(run) = run {
+    if more {
         stack.push(run);
     }
 }
 
-// The pointer words of an object. The object's own words are laid from `end` on.
+/// The pointer words of an object. The object's own words are laid from `end` on.
 #[inline(always)]
-fn run_of(object: &Object, end: u32) -> Option<CopyRun>
+pub(crate) fn run_of(object: &Object, end: u32) -> Option<CopyRun>
     requires { (m : List (List ℕ)) × (d s w : ℕ) × (tree : Tree) × IsMessage m
         × IsObject m d s w tree object.now
         × (end + own_size tree ≤ 268435457) }
@@ -155,9 +147,9 @@ fn row_run(segment: u32, at: u32, slot: u32, left: u32) -> Option<CopyRun>
     })
 }
 
-// How many words an object has of its own in the copy.
+/// How many words an object has of its own in the copy.
 #[inline(always)]
-fn own_words(object: &Object) -> u32
+pub(crate) fn own_words(object: &Object) -> u32
     requires { (m : List (List ℕ)) × (d s w : ℕ) × (tree : Tree)
         × IsObject m d s w tree object.now × (own_size tree ≤ 268435457) }
     ensures { (m : List (List ℕ)) (d s w : ℕ) (tree : Tree)

@@ -1,5 +1,6 @@
 //! The walk over an accepted message, in preorder: one pointer word a turn.
 
+ghost use Rattle.cap_canon.specs.CopyRuns.{root_run};
 ghost use Rattle.cap_canon.specs.CopyTurns.{IsTurn, TurnKeeps, TurnStops};
 ghost use Rattle.cap_canon.specs.InPlace.{StandsIn};
 ghost use Rattle.cap_canon.specs.Kept.{Kept};
@@ -10,8 +11,8 @@ ghost use Rattle.cap_spec.specs.Tree.{Tree};
 ghost use Rattle.std.specs.Prelude.{◌≡◌, ◌≤◌, [], ◌∷◌, IfNone, IfSome, IsTrue, List, false, length, ℕ};
 
 use crate::objects::{Object, object_at};
-use crate::run::PointerPlace;
-use crate::stack::{Stack, enter, take_next};
+use crate::run::{CopyRun, PointerPlace};
+use crate::stack::{Stack, go_on, own_words, run_of};
 use cap_frame::Segments;
 
 /// What a walk does at each object.
@@ -73,7 +74,8 @@ pub(crate) fn walk<M: Segments, P: Pass>(message: &M, depth: u32, pass: &mut P) 
     walk_within::<M, P, 256>(message, depth, pass)
 }
 
-// The same with capacity for `N` runs.
+// The same with capacity for `N` runs. The current run is beside the stack, so that a word with
+// nothing below it costs no push and no pop.
 fn walk_within<M: Segments, P: Pass, const N: usize>(
     message: &M,
     depth: u32,
@@ -90,21 +92,39 @@ fn walk_within<M: Segments, P: Pass, const N: usize>(
         P.kept pass.new u ≡ P.kept pass.old u) }
 {
     let mut stack: Stack<N> = Stack::new();
-    let mut place = PointerPlace {
-        segment: 0,
-        word: 0,
-        slot: 0,
-    };
+    let mut run = root();
     let mut end = 1;
     'walk: loop {
+        let place = PointerPlace {
+            segment: run.segment,
+            word: run.at,
+            slot: run.slot,
+        };
         let object = object_at(message, place.segment, place.word);
         if !pass.visit(message, &object, place, end) {
             return None;
         }
-        end = enter(&mut stack, &object, end);
-        if stack.is_empty() {
+        let below = run_of(&object, end);
+        end += own_words(&object);
+        if !go_on(&mut stack, &mut run, below) {
             return Some(end);
         }
-        place = take_next(&mut stack);
+    }
+}
+
+// The root word alone.
+#[inline(always)]
+fn root() -> CopyRun
+    ensures { result ≡ root_run }
+{
+    CopyRun {
+        segment: 0,
+        at: 0,
+        slot: 0,
+        left: 1,
+        more: 0,
+        skip: 0,
+        gap: 0,
+        pointers: 0,
     }
 }

@@ -1,14 +1,19 @@
-use Rattle.std.proofs.Common.{rules, ◌≡◌, ◌∙◌, ◌≤◌, ◌+◌, ◌++◌, List, sym, subst, length, [], refl}
-use Rattle.std.proofs.lemmas.Bool.{eqb-true}
-use Rattle.std.proofs.lemmas.List.{nil_from_length}
+use Rattle.std.proofs.Common.{rules, ◌≡◌, ◌∙◌, ◌≤◌, ◌+◌, ◌++◌, ◌∷◌, arith, List, ap, sym, subst, length, [], refl}
+use Rattle.std.specs.Option.{option_to_list}
 use Rattle.cap_spec.specs.Messages.{IsMessage}
 use Rattle.cap_spec.specs.Canonical.{trim}
 use Rattle.cap_spec.proofs.Trees.OneTree.{one_tree}
+use Rattle.cap_canon.specs.CopyRuns.{first_place}
+use Rattle.cap_canon.specs.InPlace.{AreInPlace}
 use Rattle.cap_canon.specs.Laying.{below, own_size}
-use Rattle.cap_canon.specs.StillToLay.{IsWalking, work_left}
+use Rattle.cap_canon.specs.StillToLay.{IsWalking, runs_left, work_left}
 use Rattle.cap_canon.specs.declared.run.CopyRun.{CopyRun}
+use Rattle.cap_canon.proofs.Entering.{entered, room_above, work_more}
+use Rattle.cap_canon.proofs.Kept.{entered_in_place}
 use Rattle.cap_canon.proofs.Lengths.{own_within}
-use Rattle.cap_canon.proofs.Walks.{first_turn, last_turn, next_turn, some_left, this_met, this_turn, work_falls}
+use Rattle.cap_canon.proofs.Owing.{next_work}
+use Rattle.cap_canon.proofs.Runs.{has_rest}
+use Rattle.cap_canon.proofs.Walks.{first_run, last_turn, next_run, turn_here, work_falls}
 use Rattle.cap_canon.proofs.walk.walk_within.Goals as goal
 
 pub walk-init : goal.walk-init
@@ -17,125 +22,160 @@ walk-init g c =
     let is : IsMessage m = search rules in
     let h = c.requires.tree in
     let state = g.P.Pass.state c.args.pass.now in
-    let turn = first_turn m g.P.Pass.in_place state c.args.depth is h (c.requires.start h.tree h.charge c.args.depth h.denotes) in
-    record { turn = rw c.new-stack.ensures turn; kept = λ t x d h. refl }
+    let at = first_run m g.P.Pass.in_place state c.args.depth is h (c.requires.start h.tree h.charge c.args.depth h.denotes) in
+    record { at = rw (c.new-stack.ensures, c.root-run.ensures) at; kept = λ t x d h. refl }
+
+pub object_at-object-requires : goal.object_at-object-requires
+object_at-object-requires g c =
+    let at = c.walk.invariant.at in
+    let r = has_rest c.walk.run at.full in
+    let o = (at.turn r.0 r.1).next.owed in
+    (o.0, o.1, o.2, o.3)
 
 pub visit-requires : goal.visit-requires
 visit-requires g c =
     let m = g.M.Segments.segments c.args.message.now in
     let w = c.walk in
-    let k = w.invariant.turn in
-    let met = this_met m g.P.Pass.in_place (g.P.Pass.state w.pass) c.args.depth w.stack.items w.place w.end
-    c.object_at-object.result k c.object_at-object.ensures in
-    let turn = this_turn m g.P.Pass.in_place (g.P.Pass.state w.pass) c.args.depth w.stack.items w.place w.end c.object_at-object.result k met in
-    (trim k.root, k.tree, k.due, turn, k.so_far)
+    let r = has_rest w.run w.invariant.at.full in
+    let h = turn_here m g.P.Pass.in_place (g.P.Pass.state w.pass) c.args.depth w.stack.items w.run w.end c.object_at-object.result w.invariant.at r.0 r.1
+    c.object_at-object.ensures in
+    (trim h.at.root, h.at.tree, h.at.due, h.turn, h.at.so_far)
 
 pub returns-then-not-visit-clause-stopped : goal.returns-then-not-visit-clause-stopped
 returns-then-not-visit-clause-stopped g c =
     let m = g.M.Segments.segments c.args.message.now in
     let w = c.walk in
-    let k = w.invariant.turn in
-    let met = this_met m g.P.Pass.in_place (g.P.Pass.state w.pass) c.args.depth w.stack.items w.place w.end
-    c.object_at-object.result k c.object_at-object.ensures in
-    let turn = this_turn m g.P.Pass.in_place (g.P.Pass.state w.pass) c.args.depth w.stack.items w.place w.end c.object_at-object.result k met in
-    λ t x d h.
-    (let same = one_tree m 0 0 k.root t k.charge c.args.depth x d k.denotes h in
-    subst (λ u. g.P.Pass.stopped m (trim u)) same.part (c.if-not-visit.ensures.stops refl (trim k.root) k.tree k.due turn k.so_far))
-
-pub enter-end-requires : goal.enter-end-requires
-enter-end-requires g c =
-    let m = g.M.Segments.segments c.args.message.now in
-    let w = c.walk in
-    let k = w.invariant.turn in
-    let met = this_met m g.P.Pass.in_place (g.P.Pass.state w.pass) c.args.depth w.stack.items w.place w.end
-    c.object_at-object.result k c.object_at-object.ensures in
-    (search rules, (m, c.args.depth, w.place, k.tree, k.due, met, c.requires.capacity.0, c.requires.capacity.1))
-
-pub returns-then-is_empty-clause-done : goal.returns-then-is_empty-clause-done
-returns-then-is_empty-clause-done g c =
-    let m = g.M.Segments.segments c.args.message.now in
-    let w = c.walk in
-    let k = w.invariant.turn in
-    let met = this_met m g.P.Pass.in_place (g.P.Pass.state w.pass) c.args.depth w.stack.items w.place w.end
-    c.object_at-object.result k c.object_at-object.ensures in
-    let turn = this_turn m g.P.Pass.in_place (g.P.Pass.state w.pass) c.args.depth w.stack.items w.place w.end c.object_at-object.result k met in
-    let e = c.enter-end.ensures.walking m c.args.depth w.place k.tree k.due met in
-    let none = nil_from_length c.enter-end.new.stack.items (eqb-true (length c.enter-end.new.stack.items) 0 (sym c.is_empty.ensures ∙ c.if-is_empty.true)) in
-    let walking : IsWalking m c.args.depth [] c.enter-end.result (below w.end k.tree ++ k.due) =
-    subst (λ (runs : List CopyRun). IsWalking m c.args.depth runs c.enter-end.result (below w.end k.tree ++ k.due)) none e.1 in
-    let so_far = c.if-not-visit.ensures.goes_on refl (trim k.root) k.tree k.due turn k.so_far in
-    last_turn m g.P.Pass.in_place (g.P.Pass.state w.pass) (g.P.Pass.state c.visit.new.self) c.args.depth w.stack.items
-    w.place w.end c.enter-end.result k e.0 walking so_far
-
-pub take_next-place-requires : goal.take_next-place-requires
-take_next-place-requires g c =
-    let m = g.M.Segments.segments c.args.message.now in
-    let w = c.walk in
-    let k = w.invariant.turn in
-    let met = this_met m g.P.Pass.in_place (g.P.Pass.state w.pass) c.args.depth w.stack.items w.place w.end
-    c.object_at-object.result k c.object_at-object.ensures in
-    let e = c.enter-end.ensures.walking m c.args.depth w.place k.tree k.due met in
-    let some = some_left (length c.enter-end.new.stack.items) (sym c.if-is_empty.false ∙ c.is_empty.ensures) in
-    (search rules, (some, (m, c.args.depth, c.enter-end.result, below w.end k.tree ++ k.due, e.1, c.requires.capacity.0, c.requires.capacity.1)))
-
-pub walk-smaller : goal.walk-smaller
-walk-smaller g c =
-    let m = g.M.Segments.segments c.args.message.now in
-    let w = c.walk in
-    let k = w.invariant.turn in
-    let met = this_met m g.P.Pass.in_place (g.P.Pass.state w.pass) c.args.depth w.stack.items w.place w.end
-    c.object_at-object.result k c.object_at-object.ensures in
-    let e = c.enter-end.ensures.walking m c.args.depth w.place k.tree k.due met in
-    let f = c.enter-end.ensures.work m met.d w.place.segment w.place.word k.tree met.is in
-    let full : w.end + own_size k.tree ≤ 268435457 = own_within w.end 268435457 k.tree k.due w.place.slot k.next.small in
-    rw e.0 (work_falls (work_left w.stack.items) (work_left c.take_next-place.new.stack.items)
-    (work_left c.enter-end.new.stack.items) w.end 268435457 (own_size k.tree)
-    c.take_next-place.ensures.work f full)
-
-pub walk-preserved : goal.walk-preserved
-walk-preserved g c =
-    let m = g.M.Segments.segments c.args.message.now in
-    let w = c.walk in
-    let k = w.invariant.turn in
-    let in_place = g.P.Pass.in_place in
-    let met = this_met m in_place (g.P.Pass.state w.pass) c.args.depth w.stack.items w.place w.end c.object_at-object.result k c.object_at-object.ensures in
-    let turn = this_turn m in_place (g.P.Pass.state w.pass) c.args.depth w.stack.items w.place w.end c.object_at-object.result k met in
-    let e = c.enter-end.ensures.walking m c.args.depth w.place k.tree k.due met in
-    let so_far = c.if-not-visit.ensures.goes_on refl (trim k.root) k.tree k.due turn k.so_far in
-    let taken = c.take_next-place.ensures.next m c.args.depth c.enter-end.result (below w.end k.tree ++ k.due) e.1 in
-    let there = λ (i : in_place). c.take_next-place.ensures.in_place
-    (c.enter-end.ensures.in_place (k.in_place i).1 (c.if-not-visit.ensures.in_place refl i)) in record {
-      turn = next_turn m in_place (g.P.Pass.state w.pass) (g.P.Pass.state c.visit.new.self) c.args.depth w.stack.items
-          c.take_next-place.new.stack.items w.place c.take_next-place.result
-          w.end c.enter-end.result k e.0 taken there so_far;
-      kept = λ t x d h.
-          (let same = one_tree m 0 0 k.root t k.charge c.args.depth x d k.denotes h in
-          subst (λ u. g.P.Pass.kept c.visit.new.self (trim u) ≡ g.P.Pass.kept w.pass (trim u)) same.part
-          (c.visit.ensures.kept (trim k.root) k.tree k.due turn k.so_far) ∙ w.invariant.kept t x d h);
-    }
-
-pub returns-then-is_empty-clause-kept : goal.returns-then-is_empty-clause-kept
-returns-then-is_empty-clause-kept g c =
-    let m = g.M.Segments.segments c.args.message.now in
-    let w = c.walk in
-    let k = w.invariant.turn in
-    let met = this_met m g.P.Pass.in_place (g.P.Pass.state w.pass) c.args.depth w.stack.items w.place w.end
-    c.object_at-object.result k c.object_at-object.ensures in
-    let turn = this_turn m g.P.Pass.in_place (g.P.Pass.state w.pass) c.args.depth w.stack.items w.place w.end c.object_at-object.result k met in
-    λ t x d h.
-    (let same = one_tree m 0 0 k.root t k.charge c.args.depth x d k.denotes h in
-    subst (λ u. g.P.Pass.kept c.visit.new.self (trim u) ≡ g.P.Pass.kept w.pass (trim u)) same.part
-    (c.visit.ensures.kept (trim k.root) k.tree k.due turn k.so_far) ∙ w.invariant.kept t x d h)
+    let r = has_rest w.run w.invariant.at.full in
+    let h = turn_here m g.P.Pass.in_place (g.P.Pass.state w.pass) c.args.depth w.stack.items w.run w.end c.object_at-object.result w.invariant.at r.0 r.1
+    c.object_at-object.ensures in
+    λ t x d k.
+    (let same = one_tree m 0 0 h.at.root t h.at.charge c.args.depth x d h.at.denotes k in
+    subst (λ u. g.P.Pass.stopped m (trim u)) same.part (c.if-not-visit.ensures.stops refl (trim h.at.root) h.at.tree h.at.due h.turn h.at.so_far))
 
 pub returns-then-not-visit-clause-kept : goal.returns-then-not-visit-clause-kept
 returns-then-not-visit-clause-kept g c =
     let m = g.M.Segments.segments c.args.message.now in
     let w = c.walk in
-    let k = w.invariant.turn in
-    let met = this_met m g.P.Pass.in_place (g.P.Pass.state w.pass) c.args.depth w.stack.items w.place w.end
-    c.object_at-object.result k c.object_at-object.ensures in
-    let turn = this_turn m g.P.Pass.in_place (g.P.Pass.state w.pass) c.args.depth w.stack.items w.place w.end c.object_at-object.result k met in
-    λ t x d h.
-    (let same = one_tree m 0 0 k.root t k.charge c.args.depth x d k.denotes h in
+    let r = has_rest w.run w.invariant.at.full in
+    let h = turn_here m g.P.Pass.in_place (g.P.Pass.state w.pass) c.args.depth w.stack.items w.run w.end c.object_at-object.result w.invariant.at r.0 r.1
+    c.object_at-object.ensures in
+    λ t x d k.
+    (let same = one_tree m 0 0 h.at.root t h.at.charge c.args.depth x d h.at.denotes k in
     subst (λ u. g.P.Pass.kept c.visit.new.self (trim u) ≡ g.P.Pass.kept w.pass (trim u)) same.part
-    (c.visit.ensures.kept (trim k.root) k.tree k.due turn k.so_far) ∙ w.invariant.kept t x d h)
+    (c.visit.ensures.kept (trim h.at.root) h.at.tree h.at.due h.turn h.at.so_far) ∙ w.invariant.kept t x d k)
+
+pub run_of-below-requires : goal.run_of-below-requires
+run_of-below-requires g c =
+    let m = g.M.Segments.segments c.args.message.now in
+    let w = c.walk in
+    let r = has_rest w.run w.invariant.at.full in
+    let h = turn_here m g.P.Pass.in_place (g.P.Pass.state w.pass) c.args.depth w.stack.items w.run w.end c.object_at-object.result w.invariant.at r.0 r.1
+    c.object_at-object.ensures in
+    (m, h.met.d, w.run.segment, w.run.at, h.at.tree, h.met.next.message, h.met.is, own_within w.end 268435457 h.at.tree h.at.due w.run.slot h.at.next.small)
+
+pub own_words-end-requires : goal.own_words-end-requires
+own_words-end-requires g c =
+    let m = g.M.Segments.segments c.args.message.now in
+    let w = c.walk in
+    let r = has_rest w.run w.invariant.at.full in
+    let h = turn_here m g.P.Pass.in_place (g.P.Pass.state w.pass) c.args.depth w.stack.items w.run w.end c.object_at-object.result w.invariant.at r.0 r.1
+    c.object_at-object.ensures in
+    let l : w.end + own_size h.at.tree ≤ 268435457 = own_within w.end 268435457 h.at.tree h.at.due w.run.slot h.at.next.small in
+    (m, h.met.d, w.run.segment, w.run.at, h.at.tree, h.met.is, omega (arith, l))
+
+pub overflow_add-end : goal.overflow_add-end
+overflow_add-end g c =
+    let m = g.M.Segments.segments c.args.message.now in
+    let w = c.walk in
+    let r = has_rest w.run w.invariant.at.full in
+    let h = turn_here m g.P.Pass.in_place (g.P.Pass.state w.pass) c.args.depth w.stack.items w.run w.end c.object_at-object.result w.invariant.at r.0 r.1
+    c.object_at-object.ensures in
+    let l : w.end + own_size h.at.tree ≤ 268435457 = own_within w.end 268435457 h.at.tree h.at.due w.run.slot h.at.next.small in
+    omega (arith, l, c.own_words-end.ensures m h.met.d w.run.segment w.run.at h.at.tree h.met.is)
+
+pub go_on-requires : goal.go_on-requires
+go_on-requires g c =
+    let m = g.M.Segments.segments c.args.message.now in
+    let w = c.walk in
+    let r = has_rest w.run w.invariant.at.full in
+    let h = turn_here m g.P.Pass.in_place (g.P.Pass.state w.pass) c.args.depth w.stack.items w.run w.end c.object_at-object.result w.invariant.at r.0 r.1
+    c.object_at-object.ensures in
+    let runs = w.stack.items ++ option_to_list r.0 in
+    let owed = c.run_of-below.ensures.owed m h.met.d w.run.segment w.run.at c.args.depth (length runs) h.at.tree h.met.is h.met.levels in
+    let room = room_above _ m c.args.depth (below w.end h.at.tree) w.stack.items r.0 c.run_of-below.result c.requires.capacity.0
+    c.run_of-below.ensures.full owed in
+    (search rules, (c.requires.capacity.1, (room, (w.invariant.at.full, w.invariant.at.short))))
+
+pub returns-then-not-go_on-clause-done : goal.returns-then-not-go_on-clause-done
+returns-then-not-go_on-clause-done g c =
+    let m = g.M.Segments.segments c.args.message.now in
+    let w = c.walk in
+    let on = c.go_on.ensures in
+    let h = turn_here m g.P.Pass.in_place (g.P.Pass.state w.pass) c.args.depth w.stack.items w.run w.end c.object_at-object.result w.invariant.at
+    on.rest on.is_rest c.object_at-object.ensures in
+    let runs = w.stack.items ++ option_to_list on.rest in
+    let e = ap (λ n. w.end + n) (c.own_words-end.ensures m h.met.d w.run.segment w.run.at h.at.tree h.met.is) in
+    let owed = c.run_of-below.ensures.owed m h.met.d w.run.segment w.run.at c.args.depth (length runs) h.at.tree h.met.is h.met.levels in
+    let all = entered m c.args.depth w.end (w.end + c.own_words-end.result) (first_place w.run) h.at.tree h.at.due runs c.run_of-below.result
+    c.object_at-object.result h.met e c.run_of-below.ensures.full owed in
+    let none = on.runs ∙ ap (λ b. runs_left b c.go_on.new.stack.items c.go_on.new.run) c.if-not-go_on.true in
+    let walking = subst (λ (fs : List CopyRun). IsWalking m c.args.depth fs (w.end + c.own_words-end.result) (below w.end h.at.tree ++ h.at.due)) none all in
+    let so_far = c.if-not-visit.ensures.goes_on refl (trim h.at.root) h.at.tree h.at.due h.turn h.at.so_far in
+    last_turn m g.P.Pass.in_place (g.P.Pass.state w.pass) (g.P.Pass.state c.visit.new.self) c.args.depth runs
+    (first_place w.run) w.end (w.end + c.own_words-end.result) h.at e walking so_far
+
+pub returns-then-not-go_on-clause-kept : goal.returns-then-not-go_on-clause-kept
+returns-then-not-go_on-clause-kept g c =
+    let m = g.M.Segments.segments c.args.message.now in
+    let w = c.walk in
+    let r = has_rest w.run w.invariant.at.full in
+    let h = turn_here m g.P.Pass.in_place (g.P.Pass.state w.pass) c.args.depth w.stack.items w.run w.end c.object_at-object.result w.invariant.at r.0 r.1
+    c.object_at-object.ensures in
+    λ t x d k.
+    (let same = one_tree m 0 0 h.at.root t h.at.charge c.args.depth x d h.at.denotes k in
+    subst (λ u. g.P.Pass.kept c.visit.new.self (trim u) ≡ g.P.Pass.kept w.pass (trim u)) same.part
+    (c.visit.ensures.kept (trim h.at.root) h.at.tree h.at.due h.turn h.at.so_far) ∙ w.invariant.kept t x d k)
+
+pub walk-smaller : goal.walk-smaller
+walk-smaller g c =
+    let m = g.M.Segments.segments c.args.message.now in
+    let w = c.walk in
+    let on = c.go_on.ensures in
+    let h = turn_here m g.P.Pass.in_place (g.P.Pass.state w.pass) c.args.depth w.stack.items w.run w.end c.object_at-object.result w.invariant.at
+    on.rest on.is_rest c.object_at-object.ensures in
+    let runs = w.stack.items ++ option_to_list on.rest in
+    let new = c.go_on.new in
+    let same = on.runs ∙ ap (λ b. runs_left b new.stack.items new.run) c.if-not-go_on.false in
+    let e = c.own_words-end.ensures m h.met.d w.run.segment w.run.at h.at.tree h.met.is in
+    let owed = c.run_of-below.ensures.owed m h.met.d w.run.segment w.run.at h.met.d 0 h.at.tree h.met.is (omega arith) in
+    let more = work_more m h.met.d w.run.segment w.run.at w.end h.at.tree c.object_at-object.result runs c.run_of-below.result h.met.is owed in
+    let less = subst (λ (fs : List CopyRun). work_left fs ≤ work_left runs + own_size h.at.tree) same more in
+    let full : w.end + own_size h.at.tree ≤ 268435457 = own_within w.end 268435457 h.at.tree h.at.due w.run.slot h.at.next.small in
+    rw e (work_falls (work_left (w.stack.items ++ w.run ∷ [])) (work_left runs) (work_left (new.stack.items ++ new.run ∷ [])) w.end 268435457
+    (own_size h.at.tree) (next_work w.stack.items w.run on.rest on.is_rest) less full)
+
+pub walk-preserved : goal.walk-preserved
+walk-preserved g c =
+    let m = g.M.Segments.segments c.args.message.now in
+    let w = c.walk in
+    let on = c.go_on.ensures in
+    let h = turn_here m g.P.Pass.in_place (g.P.Pass.state w.pass) c.args.depth w.stack.items w.run w.end c.object_at-object.result w.invariant.at
+    on.rest on.is_rest c.object_at-object.ensures in
+    let runs = w.stack.items ++ option_to_list on.rest in
+    let e = ap (λ n. w.end + n) (c.own_words-end.ensures m h.met.d w.run.segment w.run.at h.at.tree h.met.is) in
+    let owed = c.run_of-below.ensures.owed m h.met.d w.run.segment w.run.at c.args.depth (length runs) h.at.tree h.met.is h.met.levels in
+    let all = entered m c.args.depth w.end (w.end + c.own_words-end.result) (first_place w.run) h.at.tree h.at.due runs c.run_of-below.result
+    c.object_at-object.result h.met e c.run_of-below.ensures.full owed in
+    let new = c.go_on.new in
+    let same = on.runs ∙ ap (λ b. runs_left b new.stack.items new.run) c.if-not-go_on.false in
+    let walking = subst (λ (fs : List CopyRun). IsWalking m c.args.depth fs (w.end + c.own_words-end.result) (below w.end h.at.tree ++ h.at.due)) same all in
+    let so_far = c.if-not-visit.ensures.goes_on refl (trim h.at.root) h.at.tree h.at.due h.turn h.at.so_far in
+    let there = λ (i : g.P.Pass.in_place). subst (λ (fs : List CopyRun). AreInPlace fs) same
+    (entered_in_place runs c.run_of-below.result (h.at.in_place i).1 (c.run_of-below.ensures.in_place (c.if-not-visit.ensures.in_place refl i))) in record {
+      at = next_run m g.P.Pass.in_place (g.P.Pass.state w.pass) (g.P.Pass.state c.visit.new.self) c.args.depth runs new.stack.items
+          (first_place w.run) w.end (w.end + c.own_words-end.result) new.run h.at e walking there so_far;
+      kept = λ t x d k.
+          (let same = one_tree m 0 0 h.at.root t h.at.charge c.args.depth x d h.at.denotes k in
+          subst (λ u. g.P.Pass.kept c.visit.new.self (trim u) ≡ g.P.Pass.kept w.pass (trim u)) same.part
+          (c.visit.ensures.kept (trim h.at.root) h.at.tree h.at.due h.turn h.at.so_far) ∙ w.invariant.kept t x d k);
+    }

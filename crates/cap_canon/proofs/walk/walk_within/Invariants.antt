@@ -1,14 +1,14 @@
-use Rattle.std.proofs.Common.{◌≡◌, ◌+◌, ◌-◌}
+use Rattle.std.proofs.Common.{◌≡◌, ◌+◌, ◌-◌, ◌++◌, ◌∷◌, []}
 use Rattle.cap_canon.specs.Roots.{ForTrimmed}
 use Rattle.cap_canon.specs.StillToLay.{work_left}
-use Rattle.cap_canon.proofs.Walks.{AtTurn}
+use Rattle.cap_canon.proofs.Walks.{AtRun}
 use Rattle.cap_canon.proofs.walk.walk_within.Given as goal
 
 abbrev pub invariant-walk : goal.invariant-walk
 invariant-walk g l = record {
-  turn : AtTurn (g.M.Segments.segments l.message) g.P.Pass.in_place (g.P.Pass.state l.pass) l.depth l.stack.items l.place l.end;
+  at : AtRun (g.M.Segments.segments l.message) g.P.Pass.in_place (g.P.Pass.state l.pass) l.depth l.stack.items l.run l.end;
   kept : ForTrimmed (g.M.Segments.segments l.message) (λ u. g.P.Pass.kept l.pass u ≡ g.P.Pass.kept l.initial.pass u);
 }
 
 abbrev pub decreases-walk : goal.decreases-walk
-decreases-walk g l = work_left l.stack.items + (268435457 - l.end)
+decreases-walk g l = work_left (l.stack.items ++ l.run ∷ []) + (268435457 - l.end)
