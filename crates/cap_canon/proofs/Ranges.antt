@@ -1,6 +1,6 @@
 -- The words of ranges and of lists of values, as a copy appends them.
 use Rattle.std.proofs.Common.{ℕ, zero, suc, ◌+◌, ◌-◌, ◌*◌, ◌<◌, ◌≤◌, List, [], ◌∷◌, ◌++◌, ◌≡◌, ◌⊎◌, inl, inr, ap, ap₂}
-use Rattle.std.proofs.Common.{sym, subst, ◌∙◌, arith, length, take, drop, get_or, length-append}
+use Rattle.std.proofs.Common.{refl, sym, subst, ◌∙◌, arith, length, take, drop, get_or, length-append}
 use Rattle.std.specs.List.{AllByRecursion}
 use Rattle.std.proofs.Math.Seq.{take-add}
 use Rattle.std.proofs.lemmas.List.{drop-drop, same_lists, get_or-take, get_or-drop, get_or_append_left, get_or-append_right, get_or_default}
@@ -44,6 +44,15 @@ elements_whole m t b ds ps (suc n) =
 pub range_more : (m : List (List ℕ)) (t b n x : ℕ) → HasWord m t (b + n) x → words_from m t b (n + 1) ≡ words_from m t b n ++ x ∷ []
 range_more m t b n x h =
     words_split m t b n 1 ∙ ap (λ xs. words_from m t b n ++ xs) (range_is m t (b + n) 1 ∙ ap (take 1) (rest_at (segment_of m t) (b + n) x h))
+
+-- a range of no words, and one of one word
+pub range_none : (m : List (List ℕ)) (t b : ℕ) → words_from m t b 0 ≡ []
+range_none m t b = let e : b + 0 - b ≡ 0 = omega arith in rw e refl
+
+pub range_one : (m : List (List ℕ)) (t b x : ℕ) → HasWord m t b x → words_from m t b 1 ≡ x ∷ []
+range_one m t b x h =
+    let e : b + 0 ≡ b = omega arith in
+    range_more m t b 0 x (subst (λ w. HasWord m t w x) (sym e) h) ∙ ap (λ xs. xs ++ x ∷ []) (range_none m t b)
 
 -- a range stands in its segment
 pub range_stands : (m : List (List ℕ)) (t b n : ℕ) → b + n ≤ length (segment_of m t) → StandAt (segment_of m t) b (words_from m t b n)

@@ -3,11 +3,13 @@
 ghost use Rattle.cap_canon.specs.Filling.{OwnAppended, part_words, parts_words};
 ghost use Rattle.cap_canon.specs.Laying.{own_size};
 ghost use Rattle.cap_canon.specs.Objects.{IsFewer, IsObject, IsStructsObject};
-ghost use Rattle.cap_spec.specs.Denoting.{values_of};
+ghost use Rattle.cap_spec.specs.Denoting.{values_of, words_from};
 ghost use Rattle.cap_spec.specs.Messages.{segment_of};
 ghost use Rattle.cap_spec.specs.Pointers.{list_words};
 ghost use Rattle.cap_spec.specs.Scalars.{scalar_words};
 ghost use Rattle.cap_spec.specs.Tree.{Tree};
+ghost use Rattle.cap_spec.specs.Words.{IsWord};
+ghost use Rattle.std.specs.List.{AllByRecursion};
 ghost use Rattle.std.specs.Prelude.{◌+◌, ◌++◌, ◌*◌, ◌<◌, ◌≡◌, ◌≤◌, ◌^◌, length, ℕ};
 
 use crate::objects::{Object, Part};
@@ -86,12 +88,43 @@ fn append_struct<M: CopySource, T: CopyOutput>(message: &M, part: &Part, copy: &
 {
     if part.data_left == part.data_words {
         let count = part.data_left + part.pointers_left;
-        copy.append_from(message, part.segment, part.start, count);
+        append_row(message, part.segment, part.start, count, copy);
         return;
     }
     let pointers = part.start + part.data_words;
-    copy.append_from(message, part.segment, part.start, part.data_left);
-    copy.append_from(message, part.segment, pointers, part.pointers_left);
+    append_row(message, part.segment, part.start, part.data_left, copy);
+    append_row(message, part.segment, pointers, part.pointers_left, copy);
+}
+
+// Appends words in a row. One word is pushed, since a call that copies rows takes longer.
+#[inline(always)]
+fn append_row<M: CopySource, T: CopyOutput>(
+    message: &M,
+    segment: u32,
+    start: u32,
+    count: u32,
+    copy: &mut T,
+)
+    requires exists { segment < length (M.segments message.now) }
+    requires inside { start + count ≤ length (segment_of (M.segments message.now) segment) }
+    requires capacity { length (T.words copy.old) + count ≤ T.capacity copy.old }
+    ensures words { T.words copy.new
+        ≡ T.words copy.old ++ words_from (M.segments message.now) segment start count }
+    ensures capacity { T.capacity copy.new ≡ T.capacity copy.old }
+    ensures borrow { T.borrow copy.new ≡ T.borrow copy.old }
+    ensures after { (n : ℕ) → length (T.words copy.new) ≤ n →
+        T.after copy.new n ≡ T.after copy.old n }
+    ensures are_words { let m = M.segments message.now in
+        AllByRecursion IsWord (words_from m segment start count) }
+{
+    if count == 0 {
+        return;
+    }
+    if count == 1 {
+        copy.push(message.word(segment, start));
+        return;
+    }
+    copy.append_from(message, segment, start, count);
 }
 
 // Appends what is left of each of `count` structs in a row.
@@ -150,7 +183,7 @@ fn append_values<M: CopySource, T: CopyOutput>(
         return;
     }
     let before = words - 1;
-    copy.append_from(message, segment, start, before);
+    append_row(message, segment, start, before, copy);
     let last = message.word(segment, start + before);
     copy.push(last_word(code, count, words, last));
 }

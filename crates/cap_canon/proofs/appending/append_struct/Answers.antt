@@ -9,7 +9,7 @@ returns-then-part-clause-words g c =
     let m = g.M.Segments.segments c.args.message.now in
     let x = c.args.part.now in
     let row = ap (λ k. words_from m x.segment x.start x.data_left ++ words_from m x.segment (x.start + k) x.pointers_left) c.if-part.true in
-    c.append_from.ensures.words ∙ ap (λ xs. g.T.CopyOutput.words c.args.copy.now ++ xs) (words_split m x.segment x.start x.data_left x.pointers_left ∙ row)
+    c.append_row.ensures.words ∙ ap (λ xs. g.T.CopyOutput.words c.args.copy.now ++ xs) (words_split m x.segment x.start x.data_left x.pointers_left ∙ row)
 
 pub returns-clause-after : goal.returns-clause-after
-returns-clause-after g c = λ n h. c.append_from-3.ensures.after n h ∙ c.append_from-2.ensures.after n (fewer_before _ _ _ n c.append_from-3.ensures.words h)
+returns-clause-after g c = λ n h. c.append_row-3.ensures.after n h ∙ c.append_row-2.ensures.after n (fewer_before _ _ _ n c.append_row-3.ensures.words h)

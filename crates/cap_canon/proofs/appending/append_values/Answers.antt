@@ -11,11 +11,11 @@ returns-clause-words g c =
     let before = c.args.words - 1 in
     let some : list_words c.args.code c.args.count ≡ before + 1 = omega (arith, c.requires.words, c.if-words-eq0.false) in
     let laid = values_laid m c.args.segment c.args.start c.args.code c.args.count before c.word-last.result c.requires.code some
-    (omega (arith, c.requires.inside, c.if-words-eq0.false)) c.append_from.ensures.are_words c.word-last.ensures in
-    c.push.ensures.words ∙ (ap (λ xs. xs ++ c.last_word.result ∷ []) c.append_from.ensures.words
+    (omega (arith, c.requires.inside, c.if-words-eq0.false)) c.append_row.ensures.are_words c.word-last.ensures in
+    c.push.ensures.words ∙ (ap (λ xs. xs ++ c.last_word.result ∷ []) c.append_row.ensures.words
     ∙ (append_assoc (g.T.CopyOutput.words c.args.copy.now) (words_from m c.args.segment c.args.start before) (c.last_word.result ∷ [])
     ∙ ap (λ xs. g.T.CopyOutput.words c.args.copy.now ++ xs) (ap (λ x. words_from m c.args.segment c.args.start before ++ x ∷ []) c.last_word.ensures
     ∙ sym laid)))
 
 pub returns-clause-after : goal.returns-clause-after
-returns-clause-after g c = λ n h. c.push.ensures.after n h ∙ c.append_from.ensures.after n (fewer_before _ _ _ n c.push.ensures.words h)
+returns-clause-after g c = λ n h. c.push.ensures.after n h ∙ c.append_row.ensures.after n (fewer_before _ _ _ n c.push.ensures.words h)
