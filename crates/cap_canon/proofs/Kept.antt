@@ -6,7 +6,7 @@ use Rattle.cap_spec.proofs.Bytes.Lists.{all_append, all_back}
 use Rattle.cap_canon.specs.CopyRuns.{IsRest, all_places, first_place, further_places, option_places, places_of, row_places}
 use Rattle.cap_canon.specs.InPlace.{AreInPlace, IsInPlace}
 use Rattle.cap_canon.specs.declared.run.CopyRun.{CopyRun}
-use Rattle.cap_canon.specs.declared.run.PointerPlace.{PointerPlace}
+use Rattle.cap_canon.proofs.Ranges.{all_front}
 use Rattle.cap_canon.proofs.Runs.{all_places-append, option_all_places}
 
 -- words in a row
@@ -29,10 +29,6 @@ elements_in_place t b a left skip gap p n s e g =
     all_append IsInPlace (row_places t b a left) (further_places t (b + left) (a + left) skip gap p n)
     (row_in_place t b a left (λ some. (s, e))) (further_in_place t (b + left) (a + left) skip gap p n s (omega (arith, e)) g)
 
-all_front : (xs ys : List PointerPlace) → AllByRecursion IsInPlace (xs ++ ys) → AllByRecursion IsInPlace xs
-all_front [] ys a = tt
-all_front (x ∷ xs) ys a = (a.0, all_front xs ys a.1)
-
 -- one run more, where there is one
 pub entered_in_place : (runs : List CopyRun) (r : Option CopyRun) → AreInPlace runs → AllByRecursion IsInPlace (option_places r)
     → AreInPlace (runs ++ option_to_list r)
@@ -49,4 +45,4 @@ taken_in_place runs f r rest a =
     let top : AllByRecursion IsInPlace (places_of f) = subst (λ ps. AllByRecursion IsInPlace ps) (option_all_places (Some f))
     (all_back IsInPlace (all_places runs) (all_places (f ∷ [])) both) in
     let first : AllByRecursion IsInPlace (first_place f ∷ option_places r) = subst (λ ps. AllByRecursion IsInPlace ps) rest.words top in
-    (first.0, entered_in_place runs r (all_front (all_places runs) (all_places (f ∷ [])) both) first.1)
+    (first.0, entered_in_place runs r (all_front IsInPlace (all_places runs) (all_places (f ∷ [])) both) first.1)

@@ -54,6 +54,11 @@ range_one m t b x h =
     let e : b + 0 ≡ b = omega arith in
     range_more m t b 0 x (subst (λ w. HasWord m t w x) (sym e) h) ∙ ap (λ xs. xs ++ x ∷ []) (range_none m t b)
 
+-- what holds of all before others
+pub all_front : {A : Type 0} (P : A → Type 0) (xs ys : List A) → AllByRecursion P (xs ++ ys) → AllByRecursion P xs
+all_front P [] ys a = tt
+all_front P (x ∷ xs) ys a = (a.0, all_front P xs ys a.1)
+
 -- a range stands in its segment
 pub range_stands : (m : List (List ℕ)) (t b n : ℕ) → b + n ≤ length (segment_of m t) → StandAt (segment_of m t) b (words_from m t b n)
 range_stands m t b zero h = let e : b + 0 - b ≡ 0 = omega arith in rw e (omega (arith, h))

@@ -6,7 +6,7 @@ use Rattle.cap_spec.specs.Denoting.{Denotes}
 use Rattle.cap_spec.specs.Tree.{Tree}
 use Rattle.cap_spec.specs.Canonical.{trim}
 use Rattle.cap_canon.specs.CopyRuns.{IsFull, IsRest, places_of, all_places}
-use Rattle.cap_canon.specs.Laying.{Due, AreBefore, below, own_size, size_due}
+use Rattle.cap_canon.specs.Laying.{Due, AreBefore, size_due}
 use Rattle.cap_canon.specs.Objects.{IsObject}
 use Rattle.cap_canon.specs.declared.objects.Object.{Object}
 use Rattle.cap_canon.specs.declared.run.CopyRun.{CopyRun}

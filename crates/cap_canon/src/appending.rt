@@ -183,7 +183,12 @@ fn append_values<M: CopySource, T: CopyOutput>(
         return;
     }
     let before = words - 1;
-    append_row(message, segment, start, before, copy);
     let last = message.word(segment, start + before);
-    copy.push(last_word(code, count, words, last));
+    let kept = last_word(code, count, words, last);
+    if kept == last {
+        append_row(message, segment, start, words, copy);
+        return;
+    }
+    append_row(message, segment, start, before, copy);
+    copy.push(kept);
 }

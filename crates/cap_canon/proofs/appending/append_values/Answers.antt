@@ -1,9 +1,26 @@
-use Rattle.std.proofs.Common.{◌≡◌, ◌∙◌, ◌+◌, ◌-◌, ◌++◌, [], ◌∷◌, ap, sym, arith, append_assoc}
+use Rattle.std.proofs.Common.{◌≡◌, ◌∙◌, ◌+◌, ◌-◌, ◌++◌, [], ◌∷◌, List, ℕ, ap, sym, subst, arith, append_assoc}
+use Rattle.std.specs.List.{AllByRecursion}
 use Rattle.cap_spec.specs.Denoting.{words_from}
 use Rattle.cap_spec.specs.Pointers.{list_words}
+use Rattle.cap_spec.specs.Words.{IsWord}
 use Rattle.cap_canon.proofs.Afters.{fewer_before}
-use Rattle.cap_canon.proofs.Ranges.{values_laid}
+use Rattle.cap_canon.proofs.Ranges.{all_front, range_more, values_laid}
 use Rattle.cap_canon.proofs.appending.append_values.Goals as goal
+
+pub returns-then-kept-last-clause-words : goal.returns-then-kept-last-clause-words
+returns-then-kept-last-clause-words g c =
+    let m = g.M.Segments.segments c.args.message.now in
+    let before = c.args.words - 1 in
+    let front = words_from m c.args.segment c.args.start before in
+    let last = c.word-last.result in
+    let e : c.args.words ≡ before + 1 = omega (arith, c.if-words-eq0.false) in
+    let row = ap (λ n. words_from m c.args.segment c.args.start n) e ∙ range_more m c.args.segment c.args.start before last c.word-last.ensures in
+    let are = all_front IsWord front (last ∷ []) (subst (λ (xs : List ℕ). AllByRecursion IsWord xs) row c.append_row.ensures.are_words) in
+    let some : list_words c.args.code c.args.count ≡ before + 1 = omega (arith, c.requires.words, c.if-words-eq0.false) in
+    let laid = values_laid m c.args.segment c.args.start c.args.code c.args.count before last c.requires.code some
+    (omega (arith, c.requires.inside, c.if-words-eq0.false)) are c.word-last.ensures in
+    let same = ap (λ x. front ++ x ∷ []) (sym c.if-kept-last.true ∙ c.last_word-kept.ensures) in
+    c.append_row.ensures.words ∙ ap (λ xs. g.T.CopyOutput.words c.args.copy.now ++ xs) (row ∙ (same ∙ sym laid))
 
 pub returns-clause-words : goal.returns-clause-words
 returns-clause-words g c =
@@ -11,11 +28,11 @@ returns-clause-words g c =
     let before = c.args.words - 1 in
     let some : list_words c.args.code c.args.count ≡ before + 1 = omega (arith, c.requires.words, c.if-words-eq0.false) in
     let laid = values_laid m c.args.segment c.args.start c.args.code c.args.count before c.word-last.result c.requires.code some
-    (omega (arith, c.requires.inside, c.if-words-eq0.false)) c.append_row.ensures.are_words c.word-last.ensures in
-    c.push.ensures.words ∙ (ap (λ xs. xs ++ c.last_word.result ∷ []) c.append_row.ensures.words
-    ∙ (append_assoc (g.T.CopyOutput.words c.args.copy.now) (words_from m c.args.segment c.args.start before) (c.last_word.result ∷ [])
-    ∙ ap (λ xs. g.T.CopyOutput.words c.args.copy.now ++ xs) (ap (λ x. words_from m c.args.segment c.args.start before ++ x ∷ []) c.last_word.ensures
+    (omega (arith, c.requires.inside, c.if-words-eq0.false)) c.append_row-2.ensures.are_words c.word-last.ensures in
+    c.push.ensures.words ∙ (ap (λ xs. xs ++ c.last_word-kept.result ∷ []) c.append_row-2.ensures.words
+    ∙ (append_assoc (g.T.CopyOutput.words c.args.copy.now) (words_from m c.args.segment c.args.start before) (c.last_word-kept.result ∷ [])
+    ∙ ap (λ xs. g.T.CopyOutput.words c.args.copy.now ++ xs) (ap (λ x. words_from m c.args.segment c.args.start before ++ x ∷ []) c.last_word-kept.ensures
     ∙ sym laid)))
 
 pub returns-clause-after : goal.returns-clause-after
-returns-clause-after g c = λ n h. c.push.ensures.after n h ∙ c.append_row.ensures.after n (fewer_before _ _ _ n c.push.ensures.words h)
+returns-clause-after g c = λ n h. c.push.ensures.after n h ∙ c.append_row-2.ensures.after n (fewer_before _ _ _ n c.push.ensures.words h)
