@@ -1,5 +1,5 @@
 -- What is there already after the words of a copy.
-use Rattle.std.proofs.Common.{ℕ, ◌+◌, ◌*◌, ◌%◌, ◌≡◌, ◌≤◌, ◌∙◌, List, [], ◌∷◌, ◌++◌, ap, ap₂, sym, arith, length, take, drop, append-nil, length-append}
+use Rattle.std.proofs.Common.{ℕ, ◌%◌, ◌≡◌, ◌≤◌, ◌∙◌, List, [], ◌∷◌, ◌++◌, ap, ap₂, sym, arith, length, take, drop, append-nil, length-append}
 use Rattle.std.specs.List.{AllByRecursion}
 use Rattle.std.proofs.lemmas.List.{take-append-drop}
 use Rattle.cap_spec.specs.Plain.{plain_text, plain_words, word_bytes}

@@ -1,5 +1,5 @@
 -- A copy that is all that the buffer holds, or no memory.
-use Rattle.std.proofs.Common.{◌*◌, ◌+◌, ◌≡◌, ◌≤◌, ◌∙◌, Ok, ap, arith, length, refl, subst, sym, take}
+use Rattle.std.proofs.Common.{◌≡◌, ◌∙◌, Ok, ap, arith, length, refl, subst, sym, take}
 use Rattle.std.proofs.lemmas.List.{take_all}
 use Rattle.cap_spec.specs.Canonical.{layout, trim}
 use Rattle.cap_spec.specs.Copies.{HasCopy}
@@ -9,7 +9,7 @@ use Rattle.cap_spec.proofs.Canonical.Sizes.{layout_charged}
 use Rattle.cap_spec.proofs.Trees.OneTree.{one_tree}
 use Rattle.cap_vet.specs.Vettings.{message_of}
 use Rattle.cap_canon.specs.CopyOvers.{grown, no_memory}
-use Rattle.cap_canon.proofs.Copies.{has_copy, has_tree}
+use Rattle.cap_canon.proofs.Copies.{has_copy}
 use Rattle.cap_canon.proofs.over.fill_empty.Goals as goal
 
 pub copy_within-requires-clause-most : goal.copy_within-requires-clause-most

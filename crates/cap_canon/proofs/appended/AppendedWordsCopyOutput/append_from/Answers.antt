@@ -1,5 +1,4 @@
-use Rattle.std.proofs.Common.{◌≡◌, ◌≤◌, ◌+◌, ◌*◌, ◌%◌, ◌++◌, ◌∙◌, ap, arith, length, length-append}
-use Rattle.std.specs.Vec.{vec_capacity}
+use Rattle.std.proofs.Common.{◌≡◌, ◌*◌, ◌∙◌, ap, arith, length, length-append}
 use Rattle.cap_spec.specs.Denoting.{words_from}
 use Rattle.cap_spec.proofs.Bytes.Plain.{length_plain, words_exact}
 use Rattle.cap_spec.proofs.Trees.DenotedTrees.{range_length}

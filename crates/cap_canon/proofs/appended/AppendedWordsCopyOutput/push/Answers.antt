@@ -1,4 +1,4 @@
-use Rattle.std.proofs.Common.{◌≡◌, ◌++◌, ◌∙◌, ap, arith, length, rules}
+use Rattle.std.proofs.Common.{ap, arith, length, rules}
 use Rattle.cap_spec.proofs.Bytes.Plain.{words_exact}
 use Rattle.cap_canon.proofs.Afters.{word_joined}
 use Rattle.cap_canon.proofs.appended.AppendedWordsCopyOutput.push.Goals as goal
