@@ -24,7 +24,7 @@ PROGRAM = Path(sys.argv[1] if len(sys.argv) > 1 else TOP / "build/capvet").resol
 PAGES = ("README.md", "docs/guide.md", "docs/output.md", "docs/format.md")
 MARKDOWN = ("README.md", "CHANGELOG.md", "SECURITY.md", *(f"docs/{path.name}" for path in sorted((TOP / "docs").glob("*.md"))))
 TAGLINE = "untrusted Cap'n Proto messages without a schema"
-TAGGED = ("README.md", "docs/capvet.1", "docs/capvet.3", "include/capvet.h", "capvet.pc.in", "crates/cap_cmd/src/commands.rt",
+TAGGED = ("README.md", "docs/capvet.1", "docs/capvet.3", "include/capvet.h", "capvet.pc.in", "crates/cap_commands/src/commands.rt",
           "bindings/rust/Cargo.toml", "bindings/rust/src/lib.rs", "packaging/README.md", "packaging/debian/control",
           "bindings/go/capvet.go")
 LONGEST = 40

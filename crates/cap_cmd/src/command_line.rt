@@ -3,8 +3,8 @@
 ghost use Rattle.cap_run.specs.Engines.{most_messages};
 ghost use Rattle.std.specs.Prelude.{◌≡◌, IfOk, IfSome};
 
-use crate::commands::{DEFAULT_DEPTH, DEFAULT_WORDS, capvet_command};
 use crate::job::{Job, JobFault, Task};
+use cap_commands::{DEFAULT_DEPTH, DEFAULT_WORDS, capvet_command};
 use cap_frame::SizeLimit;
 use cap_run::{Demands, FilterForm, PathFault, Settings, Step, parse_path};
 use cap_vet::Limits;

@@ -3,8 +3,6 @@
 #![tactic(auto)]
 
 mod command_line;
-mod commands;
-mod help;
 mod job;
 mod running;
 mod status;

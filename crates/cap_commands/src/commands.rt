@@ -8,12 +8,12 @@ use clap::{Arg, ArgAction, Command, value_parser};
 use std::alloc::{AllocError, Global};
 
 /// The default of `--size` and of `--words`, in words.
-pub(crate) const DEFAULT_WORDS: u64 = 8388608;
+pub const DEFAULT_WORDS: u64 = 8388608;
 
 const DEFAULT_WORDS_TEXT: &str = "8388608";
 
 /// The default of `--depth`, in levels.
-pub(crate) const DEFAULT_DEPTH: u32 = 64;
+pub const DEFAULT_DEPTH: u32 = 64;
 
 const DEFAULT_DEPTH_TEXT: &str = "64";
 
@@ -227,7 +227,7 @@ fn command_of<'a>(alloc: Global, form: &Form) -> Result<Command<'a>, AllocError>
 }
 
 /// The program's command, with its subcommands.
-pub(crate) fn capvet_command<'a>(alloc: Global) -> Result<Command<'a>, AllocError> {
+pub fn capvet_command<'a>(alloc: Global) -> Result<Command<'a>, AllocError> {
     let mut command = Command::new(alloc, "capvet")
         .about("Checks untrusted Cap'n Proto messages without a schema")
         .version(VERSION)
