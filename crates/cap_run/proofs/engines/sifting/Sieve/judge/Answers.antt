@@ -1,4 +1,4 @@
-use Rattle.std.proofs.Common.{List, ap, subst, ℕ}
+use Rattle.std.proofs.Common.{List, ap, rules, subst, ℕ}
 use Rattle.cap_spec.specs.Tree.{Tree}
 use Rattle.cap_vet.specs.Demands.{words_under}
 use Rattle.cap_vet.specs.Limits.{depth_of, words_of}
@@ -27,3 +27,6 @@ returns-else-self g c =
     let v = c.args.self.now in
     let met = c.in-Ok.ensures.ok in
     judges_met v.form v.demands v.limits (g.M.Segments.segments c.args.message.now) (report_of c.in-Ok.vetted) c.if-self.false met.1.strict met.0
+
+pub returns-in-Err : goal.returns-in-Err
+returns-in-Err g c = search rules
